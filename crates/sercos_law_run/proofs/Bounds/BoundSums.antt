@@ -3,9 +3,9 @@ use Rattle.std.proofs.Common.{◌≡◌, ◌⊎◌, inl, inr, ℕ, zero, suc, �
 use Rattle.std.specs.List.{sum_by, sum}
 use Rattle.std.proofs.lemmas.Bool.{cases_eq}
 use Rattle.std.proofs.lemmas.List.Sums.{sum_by-cons}
-use Rattle.sercos_block.specs.Views.{DriveView}
-use Rattle.sercos_block.specs.Startup.{startup_of}
-use Rattle.sercos_law_run.specs.Bounds.Bounds.{listed, greatest, slowest, read_cycles, write_cycles, command_cycles, refusal_cycles, section_cycles, FewWrites, FewStatuses, IsStarted, IsRefusedEarly, IsRefusedLate, AreShort, IsReported, IsBackAtOnce, IsBackLater, AreSections, IsBelowGreatest}
+use Rattle.sercos_block.specs.Views.{DriveView, RingView}
+use Rattle.sercos_block.specs.Startup.{startup_bound, startup_of}
+use Rattle.sercos_law_run.specs.Bounds.Bounds.{listed, greatest, slowest, read_cycles, write_cycles, command_cycles, refusal_cycles, section_cycles, recovery_bound, FewWrites, FewStatuses, IsStarted, IsRefusedEarly, IsRefusedLate, AreShort, IsReported, IsBackAtOnce, IsBackLater, AreSections, IsBelowGreatest}
 
 -- Products over plain numbers, each by itself, so that everything else is linear.
 times_le : (p n k : ℕ) → n ≤ k → p * n ≤ p * k
@@ -109,8 +109,8 @@ greatest-middle : (f : DriveView → ℕ) (before after : List DriveView) (d : D
 greatest-middle f [] after d = refl
 greatest-middle f (e ∷ before) after d = let more = greatest-middle f before after d in omega (arith, more)
 
--- a section leaves 32 steps of a drive's part of the bound
-section_of : (b m t : ℕ) → (b + 1) * max (24 + 3 * m) (50 + m) + t + 32 * (b + 2) ≤ (b + 2) * (82 + 4 * m + 2 * t)
+-- a section leaves 32 steps, and 50 cycles, of a drive's part of the bound
+section_of : (b m t : ℕ) → (b + 1) * max (24 + 3 * m) (50 + m) + t + 32 * b + 114 ≤ (b + 2) * (82 + 4 * m + 2 * t)
 section_of b m t =
     let s = opened_startup b m t in
     let r = opened_reads b m in
@@ -122,18 +122,40 @@ section_of b m t =
     cases_max : (x y : ℕ) → (max x y ≡ x) ⊎ (max x y ≡ y)
     cases_max x y = elim (cases_eq (max x y) x) [ inl e ↦ inl e | inr ne ↦ inr (omega (arith, ne)) ]
 
-spared : (ring : List DriveView) → sum_by section_cycles ring + 32 * slowest ring ≤ sum_by startup_of ring
-spared [] = omega arith
-spared (d ∷ ring) =
+spared_some : (ring : List DriveView) → 1 ≤ length ring
+    → sum_by section_cycles ring + 32 * slowest ring + 114 ≤ sum_by startup_of ring
+spared_some [] some = absurd (omega (arith, some))
+spared_some (d ∷ []) some =
+    let one = section_of d.busy (listed d) d.command in omega (arith, one, sum_by-cons section_cycles d [], sum_by-cons startup_of d [])
+spared_some (d ∷ e ∷ ring) some =
     let one = section_of d.busy (listed d) d.command in
-    let more = spared ring in omega (arith, one, more, sum_by-cons section_cycles d ring, sum_by-cons startup_of d ring)
+    let more = spared_some (e ∷ ring) (omega arith) in
+    omega (arith, one, more, sum_by-cons section_cycles d (e ∷ ring), sum_by-cons startup_of d (e ∷ ring))
+
+spared_or_none : (ring : List DriveView) → ((sum_by section_cycles ring ≡ 0) × (slowest ring ≡ 0))
+    ⊎ (sum_by section_cycles ring + 32 * slowest ring + 114 ≤ sum_by startup_of ring)
+spared_or_none [] = inl (refl, refl)
+spared_or_none (d ∷ ring) = inr (spared_some (d ∷ ring) (omega arith))
+
+-- The sections of all drives but one, with a whole start-up and a refusal: that one leaves room for 140 cycles more.
+pub spared_back : (r : RingView) (before after : List DriveView) (d : DriveView) → r.drives ≡ before ++ d ∷ after → slowest r.drives ≤ 20
+    → sum_by section_cycles (before ++ after) + 140 + startup_bound r + 41 * (slowest r.drives + 2) ≤ recovery_bound r
+spared_back r before after d same slow = by (spared_or_none (before ++ after))
+  where
+    by : ((sum_by section_cycles (before ++ after) ≡ 0) × (slowest (before ++ after) ≡ 0))
+        ⊎ (sum_by section_cycles (before ++ after) + 32 * slowest (before ++ after) + 114 ≤ sum_by startup_of (before ++ after))
+        → sum_by section_cycles (before ++ after) + 140 + startup_bound r + 41 * (slowest r.drives + 2) ≤ recovery_bound r
+    by spared =
+        let shares = ap (sum_by startup_of) same ∙ sum_by-middle startup_of before after d in
+        let slowest_of = ap (greatest (λ x. x.busy)) same ∙ greatest-middle (λ x. x.busy) before after d in
+        let own = opened_startup d.busy (listed d) d.command in elim spared [
+          | inl none ↦ (let sum = none.0 in let still = none.1 in omega (arith, sum, still, shares, slowest_of, own, slow))
+          | inr some ↦ omega (arith, some, shares, slowest_of, own, slow)
+        ]
 
 pub is_back_later : IsBackLater
 is_back_later r before after d lost fall cycle same slow at late =
-    let sum = spared (before ++ after) in
-    let shares = ap (sum_by startup_of) same ∙ sum_by-middle startup_of before after d in
-    let slowest_of = ap (greatest (λ x. x.busy)) same ∙ greatest-middle (λ x. x.busy) before after d in
-    let own = opened_startup d.busy (listed d) d.command in omega (arith, sum, shares, slowest_of, own, slow, at, late)
+    let room = spared_back r before after d same slow in omega (arith, room, at, late)
 
 pub are_sections : AreSections
 are_sections d =

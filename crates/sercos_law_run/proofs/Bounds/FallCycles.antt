@@ -1,12 +1,14 @@
 -- In how many cycles a ring falls, if it does: what the sum over all drives but one says, and that this is within the fixed bound.
-use Rattle.std.proofs.Common.{◌≡◌, inl, inr, ℕ, ◌+◌, ◌*◌, ◌≤◌, List, [], ◌∷◌, ◌++◌, length, refl, sym, ap, ◌∙◌, subst, arith, length-append}
+use Rattle.std.proofs.Common.{◌≡◌, inl, inr, ℕ, zero, suc, ◌+◌, ◌*◌, ◌<◌, ◌≤◌, List, [], ◌∷◌, ◌++◌, length, refl, sym, ap, ◌∙◌, subst, arith, length-append}
+use Rattle.std.specs.Prelude.{slice_index_or}
 use Rattle.std.specs.List.{sum_by}
 use Rattle.std.proofs.lemmas.Bool.{cases_lt}
 use Rattle.std.proofs.lemmas.List.Sums.{sum_by-cons}
 use Rattle.sercos_block.specs.Startup.{startup_bound}
 use Rattle.sercos_block.specs.Views.{DriveView, RingView}
-use Rattle.sercos_law_run.specs.Bounds.Bounds.{fall_cycles, least, listed, recovery_bound, section_cycles, slowest}
-use Rattle.sercos_law_run.proofs.Bounds.BoundSums.{are_sections, is_back_later, sum_by-middle}
+use Rattle.sercos_law_run.specs.Bounds.Bounds.{fall_cycles, least, listed, recovery_bound, section_cycles, slowest, spared_cycles}
+use Rattle.sercos_law_run.specs.Journal.Runs.{no_drive}
+use Rattle.sercos_law_run.proofs.Bounds.BoundSums.{are_sections, spared_back, sum_by-middle}
 use Rattle.sercos_law_run.specs.Recovery.FallsInTime.{IsSpared}
 
 -- THE LEAST is that of one of the drives, and no other has less.
@@ -39,6 +41,14 @@ least_most f [] [] one = omega arith
 least_most f [] (d ∷ later) one = omega arith
 least_most f (d ∷ []) later one = let rest = least_most f [] later one in omega (arith, rest)
 least_most f (d ∷ e ∷ earlier) later one = let rest = least_most f (e ∷ earlier) later one in omega (arith, rest)
+
+pub least_at : (f : DriveView → ℕ) (drives : List DriveView) (k : ℕ) → k < length drives → least f drives ≤ f
+    (slice_index_or drives k no_drive)
+least_at f [] k there = absurd (omega (arith, there))
+least_at f (d ∷ []) zero there = omega arith
+least_at f (d ∷ []) (suc k) there = absurd (omega (arith, there))
+least_at f (d ∷ e ∷ drives) zero there = omega arith
+least_at f (d ∷ e ∷ drives) (suc k) there = let rest = least_at f (e ∷ drives) k (omega (arith, there)) in omega (arith, rest)
 
 -- A SECTION has some cycles.
 one_each : (b n : ℕ) → n ≤ (b + 1) * n
@@ -81,15 +91,17 @@ fall_room r some slow = by (has_least section_cycles r.drives some)
         let all = ap (λ (l : List DriveView). length l) x.are in
         let both = length-append x.earlier (x.one ∷ x.later) in omega (arith, sum, least_is, many, parts, all, both, slow)
 
--- The fixed bound is no less than that of a fall, a start-up and a refusal.
-pub fixed_room : (r : RingView) → 1 ≤ length r.drives → slowest r.drives ≤ 20 →
-    fall_cycles r + startup_bound r + 41 * (slowest r.drives + 2) ≤ recovery_bound r
-fixed_room r some slow = by (has_least section_cycles r.drives some)
+-- The fixed bound is no less than that of a fall, a start-up and a refusal: it leaves room for 72 cycles more.
+pub spared_room : (r : RingView) → 1 ≤ length r.drives → slowest r.drives ≤ 20 →
+    spared_cycles r + 140 + startup_bound r + 41 * (slowest r.drives + 2) ≤ recovery_bound r
+spared_room r some slow = by (has_least section_cycles r.drives some)
   where
-    by : HasLeast section_cycles r.drives → fall_cycles r + startup_bound r + 41 * (slowest r.drives + 2) ≤ recovery_bound r
+    by : HasLeast section_cycles r.drives → spared_cycles r + 140 + startup_bound r + 41 * (slowest r.drives + 2) ≤ recovery_bound r
     by x =
         let sum = ap (sum_by section_cycles) x.are ∙ sum_by-middle section_cycles x.earlier x.later x.one in
         let least_is = x.is in
-        let most = is_back_later r x.earlier x.later x.one 0 (67 + sum_by section_cycles (x.earlier ++ x.later))
-        (67 + sum_by section_cycles (x.earlier ++ x.later) + 1 + startup_bound r + 41 * (slowest r.drives + 2)) x.are slow (omega arith)
-        (omega arith) in omega (arith, sum, least_is, most)
+        let most = spared_back r x.earlier x.later x.one x.are slow in omega (arith, sum, least_is, most)
+
+pub fixed_room : (r : RingView) → 1 ≤ length r.drives → slowest r.drives ≤ 20 →
+    fall_cycles r + startup_bound r + 41 * (slowest r.drives + 2) ≤ recovery_bound r
+fixed_room r some slow = let room = spared_room r some slow in omega (arith, room)

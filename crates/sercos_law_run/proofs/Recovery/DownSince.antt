@@ -86,16 +86,17 @@ module _ (r : RingView) (jobs : List Job) (carry : Carry) (restarts : Restarts) 
     down_all (t ∷ cycles) rest run clear two k below down = (is_dead t (cycles ++ rest) run clear two.1 k below (down_all cycles rest run.0 clear.0 two.0 k below down)).ended
 
     -- no outcome comes of it
-    pub outcomes_stay : (cycles rest : List CycleView) → IsRun r jobs carry restarts (cycles ++ rest) → IsClear (cycles ++ rest) → AreUndisturbed r carry restarts cycles rest → NoneFalls r jobs carry restarts cycles rest
+    pub outcomes_stay : (cycles rest : List CycleView) → IsRun r jobs carry restarts (cycles ++ rest) → IsClear (cycles ++ rest)
+        → NeverRestarts restarts cycles rest → NoneFalls r jobs carry restarts cycles rest
         → AreInTwo r jobs carry restarts cycles rest → (k : ℕ) → k < length r.drives → IsDown r jobs carry restarts k rest
         → outcomes_in (epoch_begun (views_of r jobs carry restarts k (cycles ++ rest))) ≡ outcomes_in (epoch_begun (views_of r jobs carry restarts k rest))
-    outcomes_stay [] rest run clear calm stays two k below down = refl
-    outcomes_stay (t ∷ cycles) rest run clear calm stays two k below down =
+    outcomes_stay [] rest run clear quiet stays two k below down = refl
+    outcomes_stay (t ∷ cycles) rest run clear quiet stays two k below down =
         let v : View = view_of r jobs carry restarts k t (cycles ++ rest) in
         ap outcomes_in (begun_end r jobs carry restarts opened t (cycles ++ rest) run clear stays.1 k)
         ∙ quiet_outcomes v.heard v.begins v.master_restarts (epoch_begun (views_of r jobs carry restarts k (cycles ++ rest)))
-        (is_dead t (cycles ++ rest) run clear two.1 k below (down_all cycles rest run.0 clear.0 two.0 k below down)).heard ((calm_in r carry restarts t (cycles ++ rest) calm.1).stays 0 (omega arith))
-        ∙ outcomes_stay cycles rest run.0 clear.0 calm.0 stays.0 two.0 k below down
+        (is_dead t (cycles ++ rest) run clear two.1 k below (down_all cycles rest run.0 clear.0 two.0 k below down)).heard quiet.1
+        ∙ outcomes_stay cycles rest run.0 clear.0 quiet.0 stays.0 two.0 k below down
 
     -- the step at the end of the next cycle
     opens_at : (t : CycleView) (cycles rest : List CycleView) → IsRun r jobs carry restarts (t ∷ (cycles ++ rest)) → IsClear (t ∷ (cycles ++ rest)) → NoneFalls r jobs carry restarts (t ∷ cycles) rest → (k : ℕ)

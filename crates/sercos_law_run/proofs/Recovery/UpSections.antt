@@ -4,14 +4,17 @@ use Rattle.std.specs.Prelude.{is_some, slice_get}
 use Rattle.std.proofs.lemmas.Bool.{cases_eq, cases_lt, leb-true}
 use Rattle.sercos_step.specs.declared.request.Job.{Job}
 use Rattle.sercos_step.specs.declared.request.Outcome.{Outcome}
+use Rattle.sercos_step.specs.declared.request.Request.{Request}
 use Rattle.sercos_step.specs.Steps.{next_step}
 use Rattle.sercos_block.specs.Rules.{blocks_fault}
+use Rattle.sercos_block.specs.Stores.{store_of}
 use Rattle.sercos_block.specs.Views.{RingView}
 use Rattle.sercos_law_run.specs.Bounds.Bounds.{section_cycles}
 use Rattle.sercos_service_master.specs.Begun.{Begun, answers_in, open_in}
 use Rattle.sercos_service_master.specs.Calls.{begun_by}
 use Rattle.sercos_timing.specs.Views.{PlanView}
 use Rattle.sercos_trace.specs.Views.{CycleView}
+use Rattle.sercos_trace.specs.declared.events.Fall.{Fall}
 use Rattle.sercos_seat.specs.Agenda.{is_checked, is_read, reads_count}
 use Rattle.sercos_seat.specs.Channel.{outcomes_in}
 use Rattle.sercos_seat.specs.Ring.{known_of, member, tasks_for}
@@ -22,6 +25,7 @@ use Rattle.sercos_master.proofs.Followed.{not_longer}
 use Rattle.sercos_script.specs.Links.{Carry, Restarts}
 use Rattle.sercos_law_channel.specs.Handshake.Epochs.{epoch_begun}
 use Rattle.sercos_law_channel.specs.Handshake.Views.{View}
+use Rattle.sercos_law_channel.specs.Pace.Costs.{cost_in, cost_of}
 use Rattle.sercos_law_channel.specs.Pace.Stretches.{open_since}
 use Rattle.sercos_law_run.specs.Journal.Runs.{drive_at, middle, IsClear, IsRun}
 use Rattle.sercos_law_run.specs.Agenda.Tasks.{HasEndedAt}
@@ -32,20 +36,21 @@ use Rattle.sercos_law_run.specs.Held.Opened.{IsOpened}
 use Rattle.sercos_law_run.proofs.Held.Runs.{drive_got}
 use Rattle.sercos_law_run.specs.Undisturbed.Jobs.{jobs_of, AreAt}
 use Rattle.sercos_law_run.specs.Undisturbed.Sections.{AreInTwo}
+use Rattle.sercos_law_run.specs.Undisturbed.StartUps.{NoneFalls}
 use Rattle.sercos_law_run.specs.Undisturbed.ViewsSince.{views_since}
-use Rattle.sercos_law_run.proofs.Undisturbed.BehindRests.{Follow, follow_since}
-use Rattle.sercos_law_run.proofs.Undisturbed.Comes.{calm_in}
+use Rattle.sercos_law_run.specs.Tolerance.Losses.{GoesOn}
+use Rattle.sercos_law_run.proofs.Undisturbed.BehindRests.{Follow, follow_on}
 use Rattle.sercos_law_run.proofs.Undisturbed.InOrder.{in_order}
 use Rattle.sercos_law_run.proofs.Undisturbed.JobPlaces.{some_plan}
 use Rattle.sercos_law_run.proofs.Undisturbed.JobsBegun.{begun_now, few_now, places_now}
 use Rattle.sercos_law_run.proofs.Undisturbed.PassedCycles.{views_split}
 use Rattle.sercos_law_run.proofs.Undisturbed.PhaseTwo.{listed_all}
 use Rattle.sercos_law_run.specs.Recovery.Stretches.{IsDown, IsStretch}
-use Rattle.sercos_law_run.proofs.Recovery.DownSince.{in_two, not_down, outcomes_stay}
+use Rattle.sercos_law_run.proofs.Recovery.DownSince.{NeverRestarts, calm_quiet, in_two, not_down, outcomes_stay}
 use Rattle.sercos_law_run.proofs.Recovery.LateDown.{no_lower, phase_now}
 use Rattle.sercos_law_run.proofs.Recovery.ReadsInOrder.{reads_in_order}
 use Rattle.sercos_law_run.proofs.Recovery.SectionCosts.{reads_within, writes_within}
-use Rattle.sercos_law_run.proofs.Recovery.Stretches.{costs_again, costs_since, rest_clear, rest_runs, whole_all}
+use Rattle.sercos_law_run.proofs.Recovery.Stretches.{costs_again, costs_since, rest_clear, rest_runs}
 use Rattle.sercos_law_channel.proofs.Pace.JobCosts.{reads_cost, writes_cost}
 use Rattle.sercos_law_run.proofs.Agenda.Requests.{are_requests}
 use Rattle.sercos_law_run.proofs.Cited.{tasks_end}
@@ -118,19 +123,38 @@ module _ (r : RingView) (jobs : List Job) (carry : Carry) (restarts : Restarts) 
         let got : (o : Outcome) × (slice_get (outcomes now k) n ≡ Some o) = got_there (outcomes now k) n (omega (arith, some)) in
         ended_by t j run clear stays k below n (reads_count (member (known_of r) k)) got.0 (omega arith) (tasks_end (known_of r) (tasks_for (known_of r) jobs) (middle r carry restarts t.sent j) k n got.0 (inside k below) got.1)
 
-  -- the phase doesn't go down
-  pub no_lower_since : (t : CycleView) (cycles : List CycleView) (first : CycleView) (before : List CycleView) → IsRun r jobs carry restarts (t ∷ (cycles ++ first ∷ before)) → IsClear (t ∷ (cycles ++ first ∷ before))
-      → IsStretch r jobs carry restarts (t ∷ cycles) first before → (k : ℕ) → k < length r.drives → first.phase ≤ t.phase
-  no_lower_since t [] first before run clear stretch k below =
-      no_lower r jobs carry restarts opened t first before run clear stretch.first_stays ((calm_in r carry restarts t (first ∷ before) stretch.calm.1).stays 0 (omega arith)) k below
-  no_lower_since t (u ∷ cycles) first before run clear stretch k below =
-      let earlier = no_lower_since u cycles first before run.0 clear.0 (record { calm = stretch.calm.0; stays = stretch.stays.0; first_calm = stretch.first_calm; first_stays = stretch.first_stays }) k below in
-      let next = no_lower r jobs carry restarts opened t u (cycles ++ first ∷ before) run clear stretch.stays.0.1 ((calm_in r carry restarts t (u ∷ (cycles ++ first ∷ before)) stretch.calm.1).stays 0 (omega arith)) k below in
+  -- The phase doesn't go down,
+  pub no_lower_on : (t : CycleView) (cycles : List CycleView) (first : CycleView) (before : List CycleView)
+      → IsRun r jobs carry restarts (t ∷ (cycles ++ first ∷ before)) → IsClear (t ∷ (cycles ++ first ∷ before))
+      → fall_of (known_of r) (behind_mdt r jobs carry restarts first.sent before) ≡ None
+      → NoneFalls r jobs carry restarts cycles (first ∷ before) → NeverRestarts restarts (t ∷ cycles) (first ∷ before)
+      → (k : ℕ) → k < length r.drives → first.phase ≤ t.phase
+  no_lower_on t [] first before run clear first_stays stays quiet k below =
+      no_lower r jobs carry restarts opened t first before run clear first_stays quiet.1 k below
+  no_lower_on t (u ∷ cycles) first before run clear first_stays stays quiet k below =
+      let earlier = no_lower_on u cycles first before run.0 clear.0 first_stays stays.0 quiet.0 k below in
+      let next = no_lower r jobs carry restarts opened t u (cycles ++ first ∷ before) run clear stays.1 quiet.1 k below in
       omega (arith, earlier, next)
 
+  pub no_lower_since : (t : CycleView) (cycles : List CycleView) (first : CycleView) (before : List CycleView)
+      → IsRun r jobs carry restarts (t ∷ (cycles ++ first ∷ before)) → IsClear (t ∷ (cycles ++ first ∷ before))
+      → IsStretch r jobs carry restarts (t ∷ cycles) first before → (k : ℕ) → k < length r.drives → first.phase ≤ t.phase
+  no_lower_since t cycles first before run clear stretch k below =
+      no_lower_on t cycles first before run clear stretch.first_stays stretch.stays.0
+      (calm_quiet r carry restarts (t ∷ cycles) (first ∷ before) stretch.calm) k below
+
+  -- and its channels go on.
+  pub goes_on_since : (k : ℕ) (cycles before : List CycleView) → NoneFalls r jobs carry restarts cycles before
+      → NeverRestarts restarts cycles before → GoesOn (views_since r jobs carry restarts k cycles before)
+  goes_on_since k [] before stays quiet = tt
+  goes_on_since k (t ∷ cycles) before stays quiet =
+      (goes_on_since k cycles before stays.0 quiet.0, ap (λ (o : Option Fall). is_some o) stays.1, quiet.1)
+
+  -- WITHOUT A FALL OR A RESTART, whatever is lost
   module _ (t : CycleView) (cycles : List CycleView) (first : CycleView) (before : List CycleView)
       (run : IsRun r jobs carry restarts (t ∷ (cycles ++ first ∷ before))) (clear : IsClear (t ∷ (cycles ++ first ∷ before)))
-      (stretch : IsStretch r jobs carry restarts (t ∷ cycles) first before)
+      (first_stays : fall_of (known_of r) (behind_mdt r jobs carry restarts first.sent before) ≡ None)
+      (stays : NoneFalls r jobs carry restarts (t ∷ cycles) (first ∷ before)) (quiet : NeverRestarts restarts (t ∷ cycles) (first ∷ before))
       (two : AreInTwo r jobs carry restarts (t ∷ cycles) (first ∷ before)) (d : ℕ) (there : d < length r.drives)
       (down : IsDown r jobs carry restarts d (first ∷ before)) where
     abbrev newest : Past
@@ -152,83 +176,127 @@ module _ (r : RingView) (jobs : List Job) (carry : Carry) (restarts : Restarts) 
     was_low =
         let same = phase_now r jobs carry restarts first before first_run.1 in
         let is = in_two r jobs carry restarts opened t (cycles ++ first ∷ before) run two.1 in
-        let least = no_lower_since t cycles first before run clear stretch d there in omega (arith, same, is, least)
+        let least = no_lower_on t cycles first before run clear first_stays stays.0 quiet d there in omega (arith, same, is, least)
 
     -- nothing has come of the drive that is down
     same_outcomes : outcomes was d ≡ outcomes newest d
-    same_outcomes = outcomes_now first before first_run first_clear stretch.first_stays was_low d there
-        ∙ sym (outcomes_stay r jobs carry restarts opened (t ∷ cycles) (first ∷ before) run clear stretch.calm stretch.stays two d there down)
-        ∙ sym (outcomes_now t (cycles ++ first ∷ before) run clear stretch.stays.1 newest_low d there)
+    same_outcomes = outcomes_now first before first_run first_clear first_stays was_low d there
+        ∙ sym (outcomes_stay r jobs carry restarts opened (t ∷ cycles) (first ∷ before) run clear quiet stays two d there down)
+        ∙ sym (outcomes_now t (cycles ++ first ∷ before) run clear stays.1 newest_low d there)
 
     -- A DRIVE THAT IS UP
     module _ (k : ℕ) (below : k < length r.drives) (up : IsDown r jobs carry restarts k (first ∷ before) → ⊥) where
+      abbrev begun : List Begun
+      begun = epoch_begun (views_of r jobs carry restarts k (t ∷ (cycles ++ first ∷ before)))
+
+      -- the cycles in which a step to it is open
+      abbrev opens : ℕ
+      opens = open_since (views_since r jobs carry restarts k (t ∷ cycles) (first ∷ before))
+          (views_of r jobs carry restarts k (first ∷ before))
+
+      abbrev cost : Request → ℕ
+      cost = cost_of (drive_at r k).busy (drive_at r k).command (λ raw. 512) (store_of (drive_at r k))
+
       -- if it had begun more than its reads, it was read in the first cycle
-      read_if : reads_count (member (known_of r) k) < length (epoch_begun (views_of r jobs carry restarts k (t ∷ (cycles ++ first ∷ before)))) → is_read (member (known_of r) k) (outcomes was k) ≡ true
+      read_if : reads_count (member (known_of r) k) < length begun → is_read (member (known_of r) k) (outcomes was k) ≡ true
       read_if some = elim (cases_lt k d) [
-        | inl less ↦ read_before first before first_run first_clear stretch.first_stays was_low d there
-            (ap (is_read (member (known_of r) d)) same_outcomes ∙ all_read_if t (cycles ++ first ∷ before) run clear stretch.stays.1 newest_low k below some d there) k less
+        | inl less ↦ read_before first before first_run first_clear first_stays was_low d there
+            (ap (is_read (member (known_of r) d)) same_outcomes
+            ∙ all_read_if t (cycles ++ first ∷ before) run clear stays.1 newest_low k below some d there) k less
         | inr not_less ↦ elim (cases_eq d k) [
           | inl same ↦ absurd (up (subst (λ (i : ℕ). IsDown r jobs carry restarts i (first ∷ before)) same down))
           | inr other ↦
-              let same = ap (λ (l : List Begun). length l) (begun_now r jobs carry restarts opened t (cycles ++ first ∷ before) run clear stretch.stays.1 k below) in
-              all_read_if_checked first before first_run first_clear stretch.first_stays was_low d there
+              let same = ap (λ (l : List Begun). length l)
+              (begun_now r jobs carry restarts opened t (cycles ++ first ∷ before) run clear stays.1 k below) in
+              all_read_if_checked first before first_run first_clear first_stays was_low d there
               (ap (is_checked (member (known_of r) d)) same_outcomes
-              ∙ in_order (known_of r) (tasks_for (known_of r) jobs) (λ i. (are_requests (known_of r) jobs i).0) (middle r carry restarts t.sent (cycles ++ first ∷ before)) two.1.phase k (inside k below) (omega (arith, some, same)) d (omega (arith, not_less, other)))
-              k below
+              ∙ in_order (known_of r) (tasks_for (known_of r) jobs) (λ i. (are_requests (known_of r) jobs i).0)
+              (middle r carry restarts t.sent (cycles ++ first ∷ before)) two.1.phase k (inside k below) (omega (arith, some, same)) d
+              (omega (arith, not_less, other))) k below
         ]
       ]
 
       rules : blocks_fault [] (drive_at r k).blocks ≡ None
       rules = (ring_drive r k (drive_at r k) opened.valid (drive_got r k below)).blocks
 
-      places : AreAt (jobs_of (known_of r) newest.plan k) (epoch_begun (views_of r jobs carry restarts k (t ∷ (cycles ++ first ∷ before))))
-      places = places_now r jobs carry restarts opened t (cycles ++ first ∷ before) run clear stretch.stays.1 k below (let low = newest_low in omega (arith, low))
+      places : AreAt (jobs_of (known_of r) newest.plan k) begun
+      places = places_now r jobs carry restarts opened t (cycles ++ first ∷ before) run clear stays.1 k below
+          (let low = newest_low in omega (arith, low))
+
+      going : GoesOn (views_since r jobs carry restarts k (t ∷ cycles) (first ∷ before))
+      going = goes_on_since k (t ∷ cycles) (first ∷ before) stays quiet
+
+      -- what its requests cost, where so many cycles are lost
+      module _ (lost : ℕ) (all_cost : opens ≤ cost_in cost begun + lost)
+          (recent_cost : (recent old : List Begun) → begun ≡ recent ++ old → open_in old ≡ None → length (answers_in old) ≤ length (answers_in (epoch_begun (views_of r jobs carry restarts k (first ∷ before)))) → opens ≤ cost_in cost recent + lost)
+        where
+          -- THE READS alone
+          reads_most : length begun ≤ reads_count (member (known_of r) k) → opens ≤ section_cycles (drive_at r k) + lost
+          reads_most few =
+              let most = reads_within (λ raw. 512) (drive_at r k) rules (reads_cost (drive_at r k).busy) (known_of r) newest.plan k begun
+              (member_is r k) places few in omega (arith, all_cost, most)
+
+          -- THE WRITES alone
+          writes_most : (newer old : List Begun) × (epoch_begun (views_of r jobs carry restarts k (first ∷ before)) ≡ newer ++ old)
+              × (length old ≡ reads_count (member (known_of r) k)) × (open_in old ≡ None) → opens ≤ section_cycles (drive_at r k) + lost
+          writes_most (newer, old, is, long, rests) =
+              let split = views_split r jobs carry restarts k (t ∷ cycles) (first ∷ before) in
+              let recently : Follow old begun = subst (λ (l : List View). Follow old (epoch_begun l)) (sym split)
+              (follow_on (views_since r jobs carry restarts k (t ∷ cycles) (first ∷ before))
+              (views_of r jobs carry restarts k (first ∷ before)) old going rests (newer, is)) in
+              let few = recent_cost recently.0 old recently.1 rests
+              (subst (λ (l : List Begun). length (answers_in old) ≤ length (answers_in l)) (sym is) (answers_more newer old)) in
+              let most = writes_within (λ raw. 512) (drive_at r k) rules (writes_cost (drive_at r k).busy) (known_of r) newest.plan k
+              recently.0 old (member_is r k) (subst (λ (l : List Begun). AreAt (jobs_of (known_of r) newest.plan k) l) recently.1 places) long
+              (subst (λ (l : List Begun). length l ≤ reads_count (member (known_of r) k) + 12) recently.1
+              (few_now r jobs carry restarts opened t (cycles ++ first ∷ before) run clear stays.1 k below newest_low)) in
+              omega (arith, few, most)
+
+          -- ONE SECTION at most
+          pub section_most : opens ≤ section_cycles (drive_at r k) + lost
+          section_most = elim (cases_lt (reads_count (member (known_of r) k)) (length begun)) [
+            | inl some ↦ writes_most (reads_ended first before first_run first_clear first_stays was_low k below (read_if some))
+            | inr few ↦ reads_most (omega (arith, few))
+          ]
+
+  -- IF NOTHING IS LOST
+  pub up_section : (cycles : List CycleView) (first : CycleView) (before : List CycleView)
+      → IsRun r jobs carry restarts (cycles ++ first ∷ before) → IsClear (cycles ++ first ∷ before)
+      → IsStretch r jobs carry restarts cycles first before → AreInTwo r jobs carry restarts cycles (first ∷ before) → (d : ℕ)
+      → d < length r.drives → IsDown r jobs carry restarts d (first ∷ before) → (k : ℕ) → k < length r.drives
+      → (IsDown r jobs carry restarts k (first ∷ before) → ⊥)
+      → open_since (views_since r jobs carry restarts k cycles (first ∷ before)) (views_of r jobs carry restarts k (first ∷ before))
+      ≤ section_cycles (drive_at r k)
+  up_section [] first before run clear stretch two d there down k below up = omega arith
+  up_section (t ∷ cycles) first before run clear stretch two d there down k below up =
+      let most = section_most t cycles first before run clear stretch.first_stays stretch.stays
+      (calm_quiet r carry restarts (t ∷ cycles) (first ∷ before) stretch.calm) two d there down k below up 0 all_cost recent_cost in
+      omega (arith, most)
+    where
+      all : List View
+      all = views_of r jobs carry restarts k (t ∷ (cycles ++ first ∷ before))
+
+      opens : ℕ
+      opens = open_since (views_since r jobs carry restarts k (t ∷ cycles) (first ∷ before))
+          (views_of r jobs carry restarts k (first ∷ before))
 
       never_down : IsDown r jobs carry restarts k (t ∷ (cycles ++ first ∷ before)) → ⊥
       never_down = not_down r jobs carry restarts opened (t ∷ cycles) first before run clear stretch two k below up
 
-      -- THE READS alone
-      reads_most : length (epoch_begun (views_of r jobs carry restarts k (t ∷ (cycles ++ first ∷ before)))) ≤ reads_count (member (known_of r) k)
-          → open_since (views_since r jobs carry restarts k (t ∷ cycles) (first ∷ before)) (views_of r jobs carry restarts k (first ∷ before)) ≤ section_cycles (drive_at r k)
-      reads_most few =
-          elim (costs_again r jobs carry restarts opened (t ∷ cycles) first before run clear stretch k below (λ raw. 512) (listed_all (views_of r jobs carry restarts k (t ∷ (cycles ++ first ∷ before))))) [
+      all_cost : opens ≤ cost_in (cost_of (drive_at r k).busy (drive_at r k).command (λ raw. 512) (store_of (drive_at r k)))
+          (epoch_begun all) + 0
+      all_cost =
+          elim (costs_again r jobs carry restarts opened (t ∷ cycles) first before run clear stretch k below (λ raw. 512) (listed_all all)) [
             | inl is_down ↦ absurd (never_down is_down)
-            | inr costs ↦
-                let open_few = costs.0 in
-                let most = reads_within (λ raw. 512) (drive_at r k) rules (reads_cost (drive_at r k).busy) (known_of r) newest.plan k (epoch_begun (views_of r jobs carry restarts k (t ∷ (cycles ++ first ∷ before)))) (member_is r k) places few in
-                omega (arith, open_few, most)
+            | inr costs ↦ (let few = costs.0 in omega (arith, few))
           ]
 
-      -- THE WRITES alone
-      writes_most : (newer old : List Begun) × (epoch_begun (views_of r jobs carry restarts k (first ∷ before)) ≡ newer ++ old) × (length old ≡ reads_count (member (known_of r) k)) × (open_in old ≡ None)
-          → open_since (views_since r jobs carry restarts k (t ∷ cycles) (first ∷ before)) (views_of r jobs carry restarts k (first ∷ before)) ≤ section_cycles (drive_at r k)
-      writes_most (newer, old, is, long, rests) =
-          let split = views_split r jobs carry restarts k (t ∷ cycles) (first ∷ before) in
-          let recently : Follow old (epoch_begun (views_of r jobs carry restarts k (t ∷ (cycles ++ first ∷ before)))) = subst (λ (l : List View). Follow old (epoch_begun l)) (sym split)
-          (follow_since (views_since r jobs carry restarts k (t ∷ cycles) (first ∷ before)) (views_of r jobs carry restarts k (first ∷ before)) old
-          (whole_all r jobs carry restarts opened (t ∷ cycles) (first ∷ before) run clear stretch.calm stretch.stays k below) rests (newer, is)) in
-          elim (costs_since r jobs carry restarts opened (t ∷ cycles) first before run clear stretch k below (λ raw. 512) recently.0 old
-          (listed_all (views_of r jobs carry restarts k (t ∷ (cycles ++ first ∷ before)))) recently.1 rests
-          (subst (λ (l : List Begun). length (answers_in old) ≤ length (answers_in l)) (sym is) (answers_more newer old))) [
+      recent_cost : (recent old : List Begun) → epoch_begun all ≡ recent ++ old → open_in old ≡ None
+          → length (answers_in old) ≤ length (answers_in (epoch_begun (views_of r jobs carry restarts k (first ∷ before))))
+          → opens ≤ cost_in (cost_of (drive_at r k).busy (drive_at r k).command (λ raw. 512) (store_of (drive_at r k))) recent + 0
+      recent_cost recent old split rests answered =
+          elim (costs_since r jobs carry restarts opened (t ∷ cycles) first before run clear stretch k below (λ raw. 512) recent old
+          (listed_all all) split rests answered) [
             | inl is_down ↦ absurd (never_down is_down)
-            | inr open_few ↦
-                let most = writes_within (λ raw. 512) (drive_at r k) rules (writes_cost (drive_at r k).busy) (known_of r) newest.plan k
-                recently.0 old (member_is r k) (subst (λ (l : List Begun). AreAt (jobs_of (known_of r) newest.plan k) l) recently.1 places)
-                long
-                (subst (λ (l : List Begun). length l ≤ reads_count (member (known_of r) k) + 12) recently.1 (few_now r jobs carry restarts opened t (cycles ++ first ∷ before) run clear stretch.stays.1 k below newest_low)) in
-                omega (arith, open_few, most)
+            | inr few ↦ omega (arith, few)
           ]
-
-      -- ONE SECTION at most
-      section_most : open_since (views_since r jobs carry restarts k (t ∷ cycles) (first ∷ before)) (views_of r jobs carry restarts k (first ∷ before)) ≤ section_cycles (drive_at r k)
-      section_most = elim (cases_lt (reads_count (member (known_of r) k)) (length (epoch_begun (views_of r jobs carry restarts k (t ∷ (cycles ++ first ∷ before)))))) [
-        | inl some ↦ writes_most (reads_ended first before first_run first_clear stretch.first_stays was_low k below (read_if some))
-        | inr few ↦ reads_most (omega (arith, few))
-      ]
-
-  pub up_section : (cycles : List CycleView) (first : CycleView) (before : List CycleView) → IsRun r jobs carry restarts (cycles ++ first ∷ before) → IsClear (cycles ++ first ∷ before) → IsStretch r jobs carry restarts cycles first before
-      → AreInTwo r jobs carry restarts cycles (first ∷ before) → (d : ℕ) → d < length r.drives → IsDown r jobs carry restarts d (first ∷ before) → (k : ℕ) → k < length r.drives → (IsDown r jobs carry restarts k (first ∷ before) → ⊥)
-      → open_since (views_since r jobs carry restarts k cycles (first ∷ before)) (views_of r jobs carry restarts k (first ∷ before)) ≤ section_cycles (drive_at r k)
-  up_section [] first before run clear stretch two d there down k below up = omega arith
-  up_section (t ∷ cycles) first before run clear stretch two d there down k below up =
-      section_most t cycles first before run clear stretch two d there down k below up

@@ -1,25 +1,27 @@
 -- What sparse faults cost: the cycles with an open step to a drive, by the cost of its requests and the disturbed cycles.
-use Rattle.std.proofs.Common.{◌≡◌, inl, inr, ℕ, ◌+◌, ◌*◌, ◌<◌, ◌≤◌, Bool, true, false, List, [], ◌∷◌, ◌++◌, length, Option, refl, sym, ap, ◌∙◌, subst, arith, if◌then◌else◌}
+use Rattle.std.proofs.Common.{◌≡◌, inl, inr, ℕ, ◌+◌, ◌*◌, ◌<◌, ◌≤◌, Bool, true, false, List, [], ◌∷◌, ◌++◌, length, Option, None, refl, sym, ap, ◌∙◌, subst, arith, if◌then◌else◌}
 use Rattle.std.specs.Prelude.{◌==◌, nat_le, is_some}
 use Rattle.std.proofs.lemmas.Bool.{cases_lt, cond-false, cond-true}
 use Rattle.std.proofs.lemmas.Bool.Decides.{nat_tests}
 use Rattle.sercos_step.specs.declared.request.Job.{Job}
+use Rattle.sercos_step.specs.declared.request.Request.{Request}
+use Rattle.sercos_step.proofs.AnswerCounts.{times_le}
 use Rattle.sercos_block.specs.Stores.{store_of}
 use Rattle.sercos_block.specs.Views.{RingView}
 use Rattle.sercos_trace.specs.Views.{CycleView}
 use Rattle.sercos_trace.specs.declared.events.Fall.{Fall}
 use Rattle.sercos_script.specs.Links.{Carry, Restarts}
-use Rattle.sercos_service_master.specs.Begun.{answers_in}
+use Rattle.sercos_service_master.specs.Begun.{Begun, answers_in, open_in}
 use Rattle.sercos_law_channel.specs.Handshake.Epochs.{epoch_begun, epoch_log}
 use Rattle.sercos_law_channel.specs.Handshake.Runs.{IsRun as IsViewRun}
 use Rattle.sercos_law_channel.specs.Handshake.Views.{View}
-use Rattle.sercos_law_channel.specs.Pace.Costs.{AreListed, cost_in, cost_of}
+use Rattle.sercos_law_channel.specs.Pace.Costs.{AreListed, AreTimed, cost_in, cost_of}
 use Rattle.sercos_law_channel.specs.Pace.Stretches.{open_since}
 use Rattle.sercos_law_channel.specs.Pace.Times.{one_more}
 use Rattle.sercos_law_run.specs.Journal.Runs.{drive_at, is_disturbed_in, IsClear, IsDisturbed, IsRun}
 use Rattle.sercos_law_run.specs.Views.RingViews.{view_of, views_of}
 use Rattle.sercos_law_run.specs.Held.Opened.{IsOpened}
-use Rattle.sercos_law_run.proofs.Held.Runs.{small}
+use Rattle.sercos_law_run.proofs.Held.Runs.{Stands, small}
 use Rattle.sercos_law_run.proofs.Headline.HeadlineRuns.{all_stand, first_store}
 use Rattle.sercos_law_run.specs.Undisturbed.Undisturbed.{IsUndisturbed}
 use Rattle.sercos_law_run.specs.Undisturbed.ViewsSince.{views_since}
@@ -33,7 +35,8 @@ use Rattle.sercos_law_run.specs.Tolerance.Losses.{GoesOn, cycles_for, disturbanc
 use Rattle.sercos_law_run.specs.Tolerance.Sparse.{AreSparse, IsSparse}
 use Rattle.sercos_law_run.proofs.Tolerance.Borne.{IsBase, IsBorne, borne_on, calm_or_not, rests, zero_is}
 use Rattle.sercos_law_run.proofs.Tolerance.Losses.{early_kept, takes_time_and_losses}
-use Rattle.sercos_law_channel.proofs.Cited.{in_cost}
+use Rattle.sercos_law_channel.proofs.Cited.{in_cost, says_shape}
+use Rattle.sercos_law_channel.proofs.Pace.CostRuns.{stays_in_cost_since}
 use Rattle.sercos_law_channel.proofs.Pace.TimedCommands.{comes_timed}
 
 -- What a disturbed cycle costs, and what of it is left for the next.
@@ -204,33 +207,58 @@ module _ (r : RingView) (jobs : List Job) (carry : Carry) (restarts : Restarts) 
         in
         (goes_since cycles before run.0 clear.0 starts sparse.0, ap (λ (o : Option Fall). is_some o) is.stays, is.goes_on)
 
-  -- THE CYCLES WITH AN OPEN STEP, by what was lost,
-  pub opens_if : (cycles before : List CycleView)
-      → IsRun r jobs carry restarts (cycles ++ before) → IsClear (cycles ++ before) → (k : ℕ) (longest : ℕ → ℕ) → k < length r.drives
-      → AreListed longest (views_of r jobs carry restarts k (cycles ++ before)) → GoesOn (views_since r jobs carry restarts k cycles before)
-      → open_since (views_since r jobs carry restarts k cycles before) (views_of r jobs carry restarts k before)
-      ≤ cost_in (cost_of (drive_at r k).busy (drive_at r k).command longest (store_of (drive_at r k)))
-      (epoch_begun (views_of r jobs carry restarts k (cycles ++ before)))
-      + lost_since (views_since r jobs carry restarts k cycles before) (views_of r jobs carry restarts k before)
-  opens_if cycles before run clear k longest below listed going =
-      let split = views_split r jobs carry restarts k cycles before in
-      let stands = all_stand r jobs carry restarts opened (cycles ++ before) run clear k below in
-      let follow = (commands_so r jobs carry restarts opened (cycles ++ before) run clear k below).follow in
-      let in_time = comes_timed (drive_at r k).command (views_of r jobs carry restarts k (cycles ++ before))
-      (are_carried (drive_at r k).command (first_commands r k) refl refl (views_of r jobs carry restarts k (cycles ++ before)) follow) in
-      let cost = in_cost (drive_at r k).busy (drive_at r k).command longest (store_of (drive_at r k))
-      (views_of r jobs carry restarts k (cycles ++ before))
-      (small r jobs carry restarts opened (first_store r jobs carry restarts opened) k below) stands.sees.run
-      stands.sound in_time listed in
-      let time = subst (λ (l : List View).
-      open_since (views_since r jobs carry restarts k cycles before) (views_of r jobs carry restarts k before)
-      + ((drive_at r k).busy + 1) * length (answers_in (epoch_begun (views_of r jobs carry restarts k before)))
-      ≤ ((drive_at r k).busy + 1) * length (epoch_log l)
-      + lost_since (views_since r jobs carry restarts k cycles before) (views_of r jobs carry restarts k before)) (sym split)
-      (takes_time_and_losses (drive_at r k).busy (views_since r jobs carry restarts k cycles before)
-      (views_of r jobs carry restarts k before) (runs_split r jobs carry restarts opened cycles before run clear k below)
-      going) in
-      omega (arith, cost, time)
+  -- A STRETCH of the run of one drive, as its channel goes on
+  module _ (cycles before : List CycleView) (run : IsRun r jobs carry restarts (cycles ++ before)) (clear : IsClear (cycles ++ before))
+      (k : ℕ) (longest : ℕ → ℕ) (below : k < length r.drives)
+      (listed : AreListed longest (views_of r jobs carry restarts k (cycles ++ before)))
+      (going : GoesOn (views_since r jobs carry restarts k cycles before)) where
+    abbrev its_cost : Request → ℕ
+    its_cost = cost_of (drive_at r k).busy (drive_at r k).command longest (store_of (drive_at r k))
+
+    stands : Stands r jobs carry restarts (cycles ++ before) k
+    stands = all_stand r jobs carry restarts opened (cycles ++ before) run clear k below
+
+    timed : AreTimed (drive_at r k).command (views_of r jobs carry restarts k (cycles ++ before))
+    timed =
+        let follow = (commands_so r jobs carry restarts opened (cycles ++ before) run clear k below).follow in
+        comes_timed (drive_at r k).command (views_of r jobs carry restarts k (cycles ++ before))
+        (are_carried (drive_at r k).command (first_commands r k) refl refl (views_of r jobs carry restarts k (cycles ++ before)) follow)
+
+    paced : open_since (views_since r jobs carry restarts k cycles before) (views_of r jobs carry restarts k before)
+        + ((drive_at r k).busy + 1) * length (answers_in (epoch_begun (views_of r jobs carry restarts k before)))
+        ≤ ((drive_at r k).busy + 1) * length (epoch_log (views_of r jobs carry restarts k (cycles ++ before)))
+        + lost_since (views_since r jobs carry restarts k cycles before) (views_of r jobs carry restarts k before)
+    paced = subst (λ (l : List View).
+        open_since (views_since r jobs carry restarts k cycles before) (views_of r jobs carry restarts k before)
+        + ((drive_at r k).busy + 1) * length (answers_in (epoch_begun (views_of r jobs carry restarts k before)))
+        ≤ ((drive_at r k).busy + 1) * length (epoch_log l)
+        + lost_since (views_since r jobs carry restarts k cycles before) (views_of r jobs carry restarts k before))
+        (sym (views_split r jobs carry restarts k cycles before))
+        (takes_time_and_losses (drive_at r k).busy (views_since r jobs carry restarts k cycles before)
+        (views_of r jobs carry restarts k before) (runs_split r jobs carry restarts opened cycles before run clear k below) going)
+
+    -- THE CYCLES WITH AN OPEN STEP, by what was lost and what its requests cost,
+    pub opens_if : open_since (views_since r jobs carry restarts k cycles before) (views_of r jobs carry restarts k before)
+        ≤ cost_in its_cost (epoch_begun (views_of r jobs carry restarts k (cycles ++ before)))
+        + lost_since (views_since r jobs carry restarts k cycles before) (views_of r jobs carry restarts k before)
+    opens_if =
+        let cost = in_cost (drive_at r k).busy (drive_at r k).command longest (store_of (drive_at r k))
+        (views_of r jobs carry restarts k (cycles ++ before))
+        (small r jobs carry restarts opened (first_store r jobs carry restarts opened) k below) stands.sees.run stands.sound timed listed in
+        let time = paced in omega (arith, cost, time)
+
+    -- or the recent ones, where those before them had ended before the stretch,
+    pub opens_recent_if : (recent old : List Begun) → epoch_begun (views_of r jobs carry restarts k (cycles ++ before)) ≡ recent ++ old
+        → open_in old ≡ None → length (answers_in old) ≤ length (answers_in (epoch_begun (views_of r jobs carry restarts k before)))
+        → open_since (views_since r jobs carry restarts k cycles before) (views_of r jobs carry restarts k before)
+        ≤ cost_in its_cost recent + lost_since (views_since r jobs carry restarts k cycles before) (views_of r jobs carry restarts k before)
+    opens_recent_if recent old is shut few =
+        let cost = stays_in_cost_since says_shape (drive_at r k).busy (drive_at r k).command longest (store_of (drive_at r k))
+        (small r jobs carry restarts opened (first_store r jobs carry restarts opened) k below)
+        (views_of r jobs carry restarts k (cycles ++ before)) recent old stands.sees.run stands.sound timed listed is shut in
+        let most = times_le ((drive_at r k).busy + 1) (length (answers_in old))
+        (length (answers_in (epoch_begun (views_of r jobs carry restarts k before)))) few in
+        let time = paced in omega (arith, cost, most, time)
 
   pub opens_so : (cycles before : List CycleView)
       → IsRun r jobs carry restarts (cycles ++ before) → IsClear (cycles ++ before) → Base before

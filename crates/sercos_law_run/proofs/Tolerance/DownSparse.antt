@@ -1,8 +1,7 @@
 -- How soon the ring falls while faults are sparse, if a drive is in phase 0.
 use Rattle.std.proofs.Common.{◌≡◌, inl, inr, ℕ, zero, suc, ◌+◌, ◌<◌, ◌≤◌, Bool, true, false, List, [], ◌∷◌, ◌++◌, length, Option, Some, refl, sym, ap, ◌∙◌, arith, eq-eqb, if◌then◌else◌, ◌⊎◌, None, length-append}
 use Rattle.std.specs.Prelude.{◌==◌, is_some}
-use Rattle.std.specs.List.{sum_by}
-use Rattle.std.proofs.lemmas.Bool.{cases_eq, cases_lt, cond-false, eqb-true, false≢true}
+use Rattle.std.proofs.lemmas.Bool.{cases_eq, cases_lt, cond-false, cond-true, eqb-true, false≢true}
 use Rattle.sercos_step.specs.declared.request.Job.{Job}
 use Rattle.sercos_block.specs.Views.{RingView}
 use Rattle.sercos_service_master.specs.Begun.{Begun, open_in}
@@ -15,7 +14,9 @@ use Rattle.sercos_law_channel.specs.Handshake.Epochs.{begun_in, epoch_begun}
 use Rattle.sercos_law_channel.specs.Handshake.Views.{standing}
 use Rattle.sercos_law_channel.specs.Pace.Ages.{age_in}
 use Rattle.sercos_law_channel.specs.Pace.Stretches.{open_since}
+use Rattle.sercos_law_run.specs.Bounds.Bounds.{section_cycles, spared_cycles}
 use Rattle.sercos_law_run.specs.Journal.Arrivals.{sum_below}
+use Rattle.sercos_law_run.proofs.Bounds.FallCycles.{least_at}
 use Rattle.sercos_law_run.specs.Journal.Runs.{drive_at, is_disturbed_in, IsClear, IsRun, looks_back, master_calls}
 use Rattle.sercos_law_run.specs.Views.RingViews.{behind_mdt, view_of, views_of}
 use Rattle.sercos_law_run.specs.Held.Opened.{IsOpened}
@@ -27,7 +28,7 @@ use Rattle.sercos_law_run.specs.Undisturbed.StopsLater.{StopsForTheCheck}
 use Rattle.sercos_law_run.specs.Undisturbed.Undisturbed.{IsUndisturbed}
 use Rattle.sercos_law_run.specs.Undisturbed.ViewsSince.{views_since}
 use Rattle.sercos_law_run.proofs.Undisturbed.JobsBegun.{begun_end}
-use Rattle.sercos_law_run.proofs.Undisturbed.PhaseTwo.{listed_all, section_two, sum_within}
+use Rattle.sercos_law_run.proofs.Undisturbed.PhaseTwo.{listed_all, sum_within}
 use Rattle.sercos_law_run.proofs.Undisturbed.Sections.{none_idle}
 use Rattle.sercos_law_run.proofs.Undisturbed.Small.{some_is}
 use Rattle.sercos_law_run.specs.Recovery.Stretches.{IsDown}
@@ -37,15 +38,16 @@ use Rattle.sercos_law_run.proofs.Recovery.LateDown.{falls_if_down, no_lower, not
 use Rattle.sercos_law_run.proofs.Recovery.Limits.{ages_to_limit, open_age}
 use Rattle.sercos_law_run.proofs.Recovery.Stretches.{stays_down_in, ages_down_in}
 use Rattle.sercos_law_run.proofs.Recovery.Turns.{opens_in_turn, works_in_turn}
-use Rattle.sercos_law_run.specs.Tolerance.Losses.{GoesOn, cycles_for, disturbances, is_lost, lost_since}
+use Rattle.sercos_law_run.proofs.Recovery.UpSections.{goes_on_since, section_most}
+use Rattle.sercos_law_run.specs.Tolerance.Losses.{cycles_for, disturbances, is_lost, lost_since}
 use Rattle.sercos_law_run.specs.Tolerance.Rises.{start_cost, start_costs}
 use Rattle.sercos_law_run.specs.Tolerance.Sparse.{AreSparse, IsSparse}
 use Rattle.sercos_law_run.proofs.Tolerance.Borne.{IsHeld, stays_if}
 use Rattle.sercos_law_run.proofs.Tolerance.CostsShared.{AreHeld, few_lost, kept_lost, sum_both, sum_most}
-use Rattle.sercos_law_run.proofs.Tolerance.CostsSparse.{opens_if}
+use Rattle.sercos_law_run.proofs.Tolerance.CostsSparse.{opens_if, opens_recent_if}
 use Rattle.sercos_law_run.proofs.Tolerance.NotYet.{same_for}
 use Rattle.sercos_law_run.proofs.Tolerance.Settles.{held_all}
-use Rattle.sercos_law_run.proofs.Tolerance.TwoLasts.{each_fits}
+use Rattle.sercos_law_run.proofs.Tolerance.ThreeLasts.{sum_split, without, without_mono}
 use Rattle.sercos_service_master.specs.Calls.{cycles_open}
 use Rattle.sercos_trace.specs.declared.events.Stop.{Stop}
 use Rattle.sercos_law_run.proofs.Undisturbed.NeverFalls.{busy_low}
@@ -158,12 +160,6 @@ module _ (r : RingView) (jobs : List Job) (carry : Carry) (restarts : Restarts) 
           stays,
     )
 
-    going_on : (k : ℕ) (cycles : List CycleView) → AreSparse r carry restarts cycles (f ∷ b)
-        → NoneFalls r jobs carry restarts cycles (f ∷ b) → GoesOn (views_since r jobs carry restarts k cycles (f ∷ b))
-    going_on k [] sparse stays = tt
-    going_on k (t ∷ cycles) sparse stays =
-        (going_on k cycles sparse.0 stays.0, ap (λ (o : Option Fall). is_some o) stays.1, sparse.1.goes_on 0 (omega arith))
-
     -- THE CYCLES OF PHASE 2, while the master stays_a_run on with it
     module _ (t : CycleView) (cycles : List CycleView) (run : IsRun r jobs carry restarts (t ∷ (cycles ++ f ∷ b)))
         (clear : IsClear (t ∷ (cycles ++ f ∷ b))) (sparse : AreSparse r carry restarts (t ∷ cycles) (f ∷ b))
@@ -189,14 +185,19 @@ module _ (r : RingView) (jobs : List Job) (carry : Carry) (restarts : Restarts) 
           (cycles ++ f ∷ b))))) (λ opens. other (some_is k its.0 (sym (opens_in_turn r jobs carry restarts opened t (cycles ++ f ∷ b) run
           clear at_two k below opens) ∙ its.2))))
 
+      abbrev kept : ℕ → ℕ
+      kept k = kept_lost r jobs carry restarts opened is_down (t ∷ cycles) (f ∷ b) k
+
+      -- one section of each drive that isn't in phase 0
+      abbrev sections : ℕ → ℕ
+      sections k = if is_down k then 0 else section_cycles (drive_at r k)
+
       each : (k : ℕ) → k < length r.drives
-          → opens_of (t ∷ cycles) (f ∷ b) k ≤ at_place its.0 64 k + (section_two (drive_at r k)
-          + kept_lost r jobs carry restarts opened is_down (t ∷ cycles) (f ∷ b) k)
+          → opens_of (t ∷ cycles) (f ∷ b) k ≤ at_place its.0 64 k + (sections k + kept k)
       each k below = by (is_down k) refl
         where
           by : (on : Bool) → is_down k ≡ on
-              → opens_of (t ∷ cycles) (f ∷ b) k ≤ at_place its.0 64 k + (section_two (drive_at r k)
-              + kept_lost r jobs carry restarts opened is_down (t ∷ cycles) (f ∷ b) k)
+              → opens_of (t ∷ cycles) (f ∷ b) k ≤ at_place its.0 64 k + (sections k + kept k)
           by true on =
               let is : IsDown r jobs carry restarts k (f ∷ b) = eqb-true (standing (views_of r jobs carry restarts k (f ∷ b))).ended 0 on in
               elim (cases_eq k its.0) [
@@ -207,25 +208,47 @@ module _ (r : RingView) (jobs : List Job) (carry : Carry) (restarts : Restarts) 
                 | inr other ↦ (let none = none_of_others k below other is in omega (arith, none))
               ]
           by false off =
-              let cost = opens_if r jobs carry restarts opened (t ∷ cycles) (f ∷ b) run clear k (λ raw. 512) below
-              (listed_all (views_of r jobs carry restarts k (t ∷ (cycles ++ f ∷ b)))) (going_on k (t ∷ cycles) sparse stays) in
-              let fits = each_fits r jobs carry restarts opened t (cycles ++ f ∷ b) run clear stays.1 (omega (arith, at_two)) k below in
-              let same : kept_lost r jobs carry restarts opened is_down (t ∷ cycles) (f ∷ b) k ≡
+              let up = (those k below off).1 in
+              let going = goes_on_since r jobs carry restarts opened k (t ∷ cycles) (f ∷ b) stays quiet in
+              let listed = listed_all (views_of r jobs carry restarts k (t ∷ (cycles ++ f ∷ b))) in
+              let most = section_most r jobs carry restarts opened t cycles f b run clear first.stays stays quiet goes_on d there down k below
+              up (lost_since (views_since r jobs carry restarts k (t ∷ cycles) (f ∷ b)) (views_of r jobs carry restarts k (f ∷ b)))
+              (opens_if r jobs carry restarts opened (t ∷ cycles) (f ∷ b) run clear k (λ raw. 512) below listed going)
+              (λ recent old is shut few. opens_recent_if r jobs carry restarts opened (t ∷ cycles) (f ∷ b) run clear k (λ raw. 512) below
+              listed going recent old is shut few) in
+              let section : sections k ≡ section_cycles (drive_at r k) = cond-false (is_down k) 0 _ off in
+              let same : kept k ≡
               lost_since (views_since r jobs carry restarts k (t ∷ cycles) (f ∷ b)) (views_of r jobs carry restarts k (f ∷ b)) =
               cond-false (is_down k) 0 _ off in
-              omega (arith, cost, fits, same)
+              omega (arith, most, section, same)
 
-      pub few_in_two : suc (length cycles) ≤ 64 + sum_by section_two r.drives + disturbances r carry restarts (t ∷ cycles) (f ∷ b)
+      -- the drive at place d has none
+      few_sections : sum_below (length r.drives) sections ≤ spared_cycles r
+      few_sections =
+          let split = sum_split (length r.drives) d sections there in
+          let none : sections d ≡ 0 = cond-true (is_down d) 0 _ (eq-eqb (standing (views_of r jobs carry restarts d (f ∷ b))).ended 0 down) in
+          let rest = sum_most (length r.drives) (without d sections) (without d (λ k. section_cycles (drive_at r k)))
+          (λ k below. without_mono d k sections (λ i. section_cycles (drive_at r i)) (fewer k)) in
+          let whole = sum_split (length r.drives) d (λ k. section_cycles (drive_at r k)) there in
+          let sums = sum_within (λ k. section_cycles (drive_at r k)) section_cycles r.drives (λ k low. omega arith) in
+          let least_is = least_at section_cycles r.drives d there in
+          omega (arith, split, none, rest, whole, sums, least_is)
+        where
+          fewer : (k : ℕ) → sections k ≤ section_cycles (drive_at r k)
+          fewer k = by (is_down k) refl
+            where
+              by : (on : Bool) → is_down k ≡ on → sections k ≤ section_cycles (drive_at r k)
+              by true on = let none : sections k ≡ 0 = cond-true (is_down k) 0 _ on in omega (arith, none)
+              by false off = let all : sections k ≡ section_cycles (drive_at r k) = cond-false (is_down k) 0 _ off in omega (arith, all)
+
+      pub few_in_two : suc (length cycles) ≤ 64 + spared_cycles r + disturbances r carry restarts (t ∷ cycles) (f ∷ b)
       few_in_two =
           let counted = none_idle r jobs carry restarts opened (t ∷ cycles) (f ∷ b) run clear goes_on in
-          let most = sum_most (length r.drives) (opens_of (t ∷ cycles) (f ∷ b)) (λ k. at_place its.0 64 k + (section_two (drive_at r k)
-          + kept_lost r jobs carry restarts opened is_down (t ∷ cycles) (f ∷ b) k)) each in
+          let most = sum_most (length r.drives) (opens_of (t ∷ cycles) (f ∷ b)) (λ k. at_place its.0 64 k + (sections k + kept k)) each in
           let one = one_at (length r.drives) its.0 64 in
-          let parts = sum_both (length r.drives) (at_place its.0 64) (λ k. section_two (drive_at r k)
-          + kept_lost r jobs carry restarts opened is_down (t ∷ cycles) (f ∷ b) k) in
-          let both = sum_both (length r.drives) (λ k. section_two (drive_at r k))
-          (kept_lost r jobs carry restarts opened is_down (t ∷ cycles) (f ∷ b)) in
-          let sums = sum_within (λ k. section_two (drive_at r k)) section_two r.drives (λ k low. omega arith) in
+          let parts = sum_both (length r.drives) (at_place its.0 64) (λ k. sections k + kept k) in
+          let both = sum_both (length r.drives) sections kept in
+          let sums = few_sections in
           let few = few_lost r jobs carry restarts opened is_down (λ k. IsUpAfter (f ∷ b) k) within (length (f ∷ b)) those (f ∷ b)
           nothing_lost t cycles run clear (held_from (t ∷ cycles) run clear sparse stays) sparse (omega (arith, at_two)) in
           omega (arith, counted, most, one, parts, both, sums, few)
@@ -274,7 +297,7 @@ module _ (r : RingView) (jobs : List Job) (carry : Carry) (restarts : Restarts) 
     pub falls_sparse : (cycles : List CycleView) → IsRun r jobs carry restarts (cycles ++ f ∷ b) → IsClear (cycles ++ f ∷ b)
         → AreSparse r carry restarts cycles (f ∷ b) → NoneFalls r jobs carry restarts cycles (f ∷ b)
         → (looks_back r jobs (master_calls r carry restarts (cycles ++ f ∷ b))).stop ≡ None
-        → length cycles ≤ 66 + sum_by section_two r.drives + start_costs r jobs carry restarts cycles (f ∷ b)
+        → length cycles ≤ 66 + spared_cycles r + start_costs r jobs carry restarts cycles (f ∷ b)
     falls_sparse [] run clear sparse stays none = omega arith
     falls_sparse (u ∷ []) run clear sparse stays none = omega arith
     falls_sparse (u ∷ t ∷ cycles) run clear sparse stays none = elim (cases_lt 2 u.phase) [
@@ -300,7 +323,7 @@ module _ (r : RingView) (jobs : List Job) (carry : Carry) (restarts : Restarts) 
         few_from : (w : CycleView) (l : List CycleView) → IsRun r jobs carry restarts (w ∷ (l ++ f ∷ b)) → IsClear (w ∷ (l ++ f ∷ b))
             → AreSparse r carry restarts (w ∷ l) (f ∷ b) → NoneFalls r jobs carry restarts (w ∷ l) (f ∷ b)
             → AreInTwo r jobs carry restarts (w ∷ l) (f ∷ b) → w.phase ≤ 2
-            → suc (length l) ≤ 64 + sum_by section_two r.drives + start_costs r jobs carry restarts (w ∷ l) (f ∷ b)
+            → suc (length l) ≤ 64 + spared_cycles r + start_costs r jobs carry restarts (w ∷ l) (f ∷ b)
         few_from w l run clear sparse stays goes_on low =
             let least = late_all w l run clear sparse stays.0 in
             let few = few_in_two w l run clear sparse stays (omega (arith, least, low)) goes_on in
@@ -309,7 +332,7 @@ module _ (r : RingView) (jobs : List Job) (carry : Carry) (restarts : Restarts) 
         few_then : (l : List CycleView) → IsRun r jobs carry restarts (t ∷ (l ++ f ∷ b)) → IsClear (t ∷ (l ++ f ∷ b))
             → AreSparse r carry restarts (t ∷ l) (f ∷ b) → NoneFalls r jobs carry restarts (t ∷ l) (f ∷ b) → t.phase ≤ 2
             → (behind_mdt r jobs carry restarts t.sent (l ++ f ∷ b)).stop ≡ None
-            → suc (suc (length l)) ≤ 66 + sum_by section_two r.drives + (start_costs r jobs carry restarts (t ∷ l) (f ∷ b)
+            → suc (suc (length l)) ≤ 66 + spared_cycles r + (start_costs r jobs carry restarts (t ∷ l) (f ∷ b)
             + start_cost r jobs carry restarts u (t ∷ (cycles ++ f ∷ b)))
         few_then [] run clear sparse stays low t_none = omega arith
         few_then (w ∷ l) run clear sparse stays low t_none =
@@ -340,7 +363,7 @@ module _ (r : RingView) (jobs : List Job) (carry : Carry) (restarts : Restarts) 
         → IsDown r jobs carry restarts k (f ∷ b)
         → is_some (open_in (epoch_begun (views_of r jobs carry restarts k (cycles ++ f ∷ b)))) ≡ true
         → age_in (views_of r jobs carry restarts k (cycles ++ f ∷ b)) ≤ a
-        → length cycles ≤ a + 66 + sum_by section_two r.drives + start_costs r jobs carry restarts cycles (f ∷ b)
+        → length cycles ≤ a + 66 + spared_cycles r + start_costs r jobs carry restarts cycles (f ∷ b)
     aged_few a [] run clear sparse stays k below is opens old = omega arith
     aged_few zero (u ∷ cycles) run clear sparse stays k below is opens old =
         let least = open_age (views_of r jobs carry restarts k (u ∷ (cycles ++ f ∷ b))) opens in absurd (omega (arith, least, old))
@@ -360,8 +383,8 @@ module _ (r : RingView) (jobs : List Job) (carry : Carry) (restarts : Restarts) 
         by : (o : Option Stop) → (behind_mdt r jobs carry restarts u.sent (cycles ++ f ∷ b)).stop ≡ o
             → (is_some (open_in (epoch_begun (views_of r jobs carry restarts k (cycles ++ f ∷ b)))) ≡ true
             → age_in (views_of r jobs carry restarts k (cycles ++ f ∷ b)) ≤ a
-            → length cycles ≤ a + 66 + sum_by section_two r.drives + start_costs r jobs carry restarts cycles (f ∷ b))
-            → suc (length cycles) ≤ suc a + 66 + sum_by section_two r.drives + (start_costs r jobs carry restarts cycles (f ∷ b)
+            → length cycles ≤ a + 66 + spared_cycles r + start_costs r jobs carry restarts cycles (f ∷ b))
+            → suc (length cycles) ≤ suc a + 66 + spared_cycles r + (start_costs r jobs carry restarts cycles (f ∷ b)
             + start_cost r jobs carry restarts u (cycles ++ f ∷ b))
         by None none next =
             let few = falls_sparse (u ∷ cycles) run clear sparse stays
@@ -384,7 +407,7 @@ module _ (r : RingView) (jobs : List Job) (carry : Carry) (restarts : Restarts) 
         → IsClear (g ∷ (cycles ++ f ∷ b)) → AreSparse r carry restarts (g ∷ cycles) (f ∷ b)
         → NoneFalls r jobs carry restarts cycles (f ∷ b)
         → is_some (fall_of (known_of r) (behind_mdt r jobs carry restarts g.sent (cycles ++ f ∷ b))) ≡ true
-        → length cycles ≤ 131 + sum_by section_two r.drives + start_costs r jobs carry restarts cycles (f ∷ b)
+        → length cycles ≤ 131 + spared_cycles r + start_costs r jobs carry restarts cycles (f ∷ b)
     fall_sparse g [] run clear sparse stays falls = omega arith
     fall_sparse g (u ∷ cycles) run clear sparse stays falls = elim (cases_lt 2 u.phase) [
       | inr low ↦ elim (some_above (λ k. cycles_open ((behind_mdt r jobs carry restarts g.sent (u ∷ (cycles ++ f ∷ b))).calls k)) 63
@@ -406,7 +429,7 @@ module _ (r : RingView) (jobs : List Job) (carry : Carry) (restarts : Restarts) 
 
         at_limit : (k : ℕ) → k < length r.drives
             → 63 < cycles_open ((behind_mdt r jobs carry restarts g.sent (u ∷ (cycles ++ f ∷ b))).calls k)
-            → suc (length cycles) ≤ 131 + sum_by section_two r.drives + start_costs r jobs carry restarts (u ∷ cycles) (f ∷ b)
+            → suc (length cycles) ≤ 131 + spared_cycles r + start_costs r jobs carry restarts (u ∷ cycles) (f ∷ b)
         at_limit k below above = elim (cases_lt 62 (age_in (views_of r jobs carry restarts k (u ∷ (cycles ++ f ∷ b))))) [
           | inr young ↦ absurd (let few = few_open r jobs carry restarts opened g (u ∷ (cycles ++ f ∷ b)) run clear k below
               (omega (arith, young)) in omega (arith, few, above))
@@ -432,7 +455,7 @@ module _ (r : RingView) (jobs : List Job) (carry : Carry) (restarts : Restarts) 
 
         by_third : (l : List CycleView) → IsRun r jobs carry restarts (u ∷ (l ++ f ∷ b)) → IsClear (u ∷ (l ++ f ∷ b))
             → AreSparse r carry restarts (u ∷ l) (f ∷ b) → NoneFalls r jobs carry restarts (u ∷ l) (f ∷ b) → 3 ≤ u.phase
-            → suc (length l) ≤ 131 + sum_by section_two r.drives + (start_costs r jobs carry restarts l (f ∷ b)
+            → suc (length l) ≤ 131 + spared_cycles r + (start_costs r jobs carry restarts l (f ∷ b)
             + start_cost r jobs carry restarts u (l ++ f ∷ b))
         by_third [] run clear sparse stays high = omega arith
         by_third (t ∷ l) run clear sparse stays high = elim (cases_lt 2 t.phase) [
@@ -450,7 +473,7 @@ module _ (r : RingView) (jobs : List Job) (carry : Carry) (restarts : Restarts) 
                 ]
 
             by_stop : (t.phase ≡ 2) × (u.phase ≡ 3) → (o : Option Stop) → (behind_mdt r jobs carry restarts t.sent (l ++ f ∷ b)).stop ≡ o
-                → suc (suc (length l)) ≤ 131 + sum_by section_two r.drives + (start_costs r jobs carry restarts (t ∷ l) (f ∷ b)
+                → suc (suc (length l)) ≤ 131 + spared_cycles r + (start_costs r jobs carry restarts (t ∷ l) (f ∷ b)
                 + start_cost r jobs carry restarts u (t ∷ (l ++ f ∷ b)))
             by_stop are None none =
                 let few = falls_sparse (t ∷ l) run.0 clear.0 sparse.0 stays.0

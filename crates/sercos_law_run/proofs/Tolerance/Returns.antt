@@ -1,7 +1,6 @@
 -- After the last faults that aren't sparse the ring returns in time, while sparse ones go on.
 use Rattle.std.proofs.Common.{◌≡◌, ◌⊎◌, inl, inr, ℕ, suc, ◌+◌, ◌*◌, ◌<◌, ◌≤◌, Bool, true, false, List, [], ◌∷◌, ◌++◌, length, Option, Some, None, refl, sym, ap, ◌∙◌, subst, arith, length-append}
 use Rattle.std.specs.Prelude.{is_some}
-use Rattle.std.specs.List.{sum_by}
 use Rattle.std.proofs.lemmas.Bool.{cases_eq, cases_lt, false≢true}
 use Rattle.sercos_step.specs.declared.request.Job.{Job}
 use Rattle.sercos_block.specs.Startup.{startup_bound}
@@ -12,7 +11,8 @@ use Rattle.sercos_seat.specs.Ring.{known_of, tasks_for}
 use Rattle.sercos_master.specs.Annals.{Past, fall_of}
 use Rattle.sercos_script.specs.Links.{Carry, Restarts}
 use Rattle.sercos_law_channel.specs.Pace.Passages.{IsUp}
-use Rattle.sercos_law_run.specs.Bounds.Bounds.{command_cycles, greatest, recovery_bound, slowest}
+use Rattle.sercos_law_run.specs.Bounds.Bounds.{recovery_bound, slowest, spared_cycles}
+use Rattle.sercos_law_run.proofs.Bounds.FallCycles.{spared_room}
 use Rattle.sercos_law_run.specs.Journal.Runs.{IsClear, IsDisturbed, IsRun, begins, looks_back, master_calls, middle}
 use Rattle.sercos_law_run.specs.Views.RingViews.{behind_mdt, view_of, views_of}
 use Rattle.sercos_law_run.specs.Held.Opened.{IsOpened}
@@ -21,12 +21,12 @@ use Rattle.sercos_law_run.specs.Undisturbed.StartUps.{NoneFalls, TellsNoFall}
 use Rattle.sercos_law_run.specs.Undisturbed.StopsLater.{IsRight}
 use Rattle.sercos_law_run.specs.Undisturbed.Undisturbed.{IsUndisturbed}
 use Rattle.sercos_law_run.proofs.Undisturbed.Answered.{tells_going}
-use Rattle.sercos_law_run.proofs.Undisturbed.InTime.{within_bound}
-use Rattle.sercos_law_run.proofs.Undisturbed.PhaseTwo.{section_two}
+use Rattle.sercos_law_run.proofs.Undisturbed.NeverFalls.{busy_low}
 use Rattle.sercos_law_run.proofs.Undisturbed.PhaseZero.{starts_at_fall, starts_at_restart}
 use Rattle.sercos_law_run.specs.Recovery.Stretches.{IsDown}
 use Rattle.sercos_law_run.proofs.Recovery.EarlyPhases.{up_in_one}
 use Rattle.sercos_law_run.proofs.Recovery.EpochStops.{same_start}
+use Rattle.sercos_law_run.proofs.Recovery.FallsInTime.{greatest_low}
 use Rattle.sercos_law_run.proofs.Recovery.FallsSoon.{down_or_up}
 use Rattle.sercos_law_run.proofs.Recovery.LateDown.{no_lower, phase_now}
 use Rattle.sercos_law_run.proofs.Recovery.Stretches.{rest_clear, rest_runs, stays_down_in, up_in, whole_at}
@@ -36,7 +36,6 @@ use Rattle.sercos_law_run.specs.Tolerance.Rises.{start_cost, start_costs}
 use Rattle.sercos_law_run.specs.Tolerance.Sparse.{AreSparse, IsSparse}
 use Rattle.sercos_law_run.proofs.Tolerance.Borne.{IsBase, borne_on, calm_or_not, zero_is, IsHeld}
 use Rattle.sercos_law_run.proofs.Tolerance.DownSparse.{falls_sparse, fall_sparse}
-use Rattle.sercos_law_run.proofs.Tolerance.Rises.{rises_sparse}
 use Rattle.sercos_law_run.proofs.Tolerance.Settles.{IsSettled, early_few, first_held, settles}
 use Rattle.sercos_trace.specs.declared.events.Stop.{Stop}
 use Rattle.sercos_law_run.proofs.Typed.Mdts.{phase_low}
@@ -191,6 +190,10 @@ module _ (r : RingView) (jobs : List Job) (carry : Carry) (restarts : Restarts) 
   some_drive : 0 < length r.drives
   some_drive = let some = (IsRing-is_ring r opened.valid).some in omega (arith, some)
 
+  -- all of this has room in the bound
+  room : spared_cycles r + 140 + startup_bound r + 41 * (slowest r.drives + 2) ≤ recovery_bound r
+  room = spared_room r some_drive (greatest_low (λ x. x.busy) 20 r.drives (λ k low. busy_low r k opened.valid low))
+
   abbrev Base : List CycleView → Type 0
   Base j = IsBase r jobs carry restarts opened j
 
@@ -206,11 +209,11 @@ module _ (r : RingView) (jobs : List Job) (carry : Carry) (restarts : Restarts) 
   -- IT IS SOON ENOUGH: without a stop at the end, and if the ring falls in the next cycle, the cycles are no more than this.
   record IsSoon (n : ℕ) (cycles rest : List CycleView) : Type 0 where
     none : (looks_back r jobs (master_calls r carry restarts (cycles ++ rest))).stop ≡ None
-        → length cycles ≤ n + sum_by section_two r.drives + start_costs r jobs carry restarts cycles rest
+        → length cycles ≤ n + spared_cycles r + start_costs r jobs carry restarts cycles rest
     falls : (g : CycleView) → IsRun r jobs carry restarts (g ∷ (cycles ++ rest)) → IsClear (g ∷ (cycles ++ rest))
         → IsSparse r carry restarts g (cycles ++ rest)
         → is_some (fall_of (known_of r) (behind_mdt r jobs carry restarts g.sent (cycles ++ rest))) ≡ true
-        → length cycles ≤ n + sum_by section_two r.drives + start_costs r jobs carry restarts cycles rest
+        → length cycles ≤ n + spared_cycles r + start_costs r jobs carry restarts cycles rest
 
   soon_if : (n : ℕ) (cycles rest : List CycleView) → length cycles ≤ n → IsSoon n cycles rest
   soon_if n cycles rest few = record { none = λ none. omega (arith, few); falls = λ g run clear sparse falls. omega (arith, few) }
@@ -536,212 +539,169 @@ module _ (r : RingView) (jobs : List Job) (carry : Carry) (restarts : Restarts) 
 
     -- FROM THE BOUND OF A RECOVERY ON, with some cycles more, the ring bears sparse faults from some cycle on, and long enough for a
     -- start-up; or no fall can come, nor have come, unless there is a stop.
-    module _ (tail : ℕ) where
-      record IsReturned (t : CycleView) (cycles : List CycleView) : Type 0 where
-        newer : List CycleView
-        since_then : List CycleView
-        is : cycles ++ lost ∷ before ≡ newer ++ since_then
-        base : Base since_then
-        sparse : AreSparse r carry restarts (t ∷ newer) since_then
-        long : startup_bound r + tail + start_costs r jobs carry restarts newer since_then ≤ length newer
+    record IsReturned (t : CycleView) (cycles : List CycleView) : Type 0 where
+      newer : List CycleView
+      since_then : List CycleView
+      is : cycles ++ lost ∷ before ≡ newer ++ since_then
+      base : Base since_then
+      sparse : AreSparse r carry restarts (t ∷ newer) since_then
+      long : startup_bound r + 41 * (slowest r.drives + 2) + start_costs r jobs carry restarts newer since_then ≤ length newer
 
-      returned : (t : CycleView) (cycles : List CycleView) → IsRun r jobs carry restarts (t ∷ (cycles ++ lost ∷ before))
-          → IsClear (t ∷ (cycles ++ lost ∷ before)) → AreSparse r carry restarts (t ∷ cycles) (lost ∷ before)
-          → length before + recovery_bound r + tail + start_costs r jobs carry restarts cycles (lost ∷ before)
-          ≤ length (cycles ++ lost ∷ before)
-          → IsReturned t cycles ⊎ IsSoon 134 cycles (lost ∷ before)
-      returned t cycles run clear sparse long = elim (fell_or_not r jobs carry restarts cycles (lost ∷ before) sparse.0) [
-        | inl stays ↦ without (stands_so cycles run.0 clear.0 sparse.0 stays)
-        | inr x ↦ inl (with_fall x (stands_so x.older (older_run x).0.0 (older_run x).1.0 x.sparse_then.0 x.stays))
-      ]
-        where
-          parts : length (cycles ++ lost ∷ before) ≡ length cycles + suc (length before)
-          parts = length-append cycles (lost ∷ before)
+    returned : (t : CycleView) (cycles : List CycleView) → IsRun r jobs carry restarts (t ∷ (cycles ++ lost ∷ before))
+        → IsClear (t ∷ (cycles ++ lost ∷ before)) → AreSparse r carry restarts (t ∷ cycles) (lost ∷ before)
+        → length before + recovery_bound r + start_costs r jobs carry restarts cycles (lost ∷ before)
+        ≤ length (cycles ++ lost ∷ before)
+        → IsReturned t cycles ⊎ IsSoon 134 cycles (lost ∷ before)
+    returned t cycles run clear sparse long = elim (fell_or_not r jobs carry restarts cycles (lost ∷ before) sparse.0) [
+      | inl stays ↦ without (stands_so cycles run.0 clear.0 sparse.0 stays)
+      | inr x ↦ inl (with_fall x (stands_so x.older (older_run x).0.0 (older_run x).1.0 x.sparse_then.0 x.stays))
+    ]
+      where
+        parts : length (cycles ++ lost ∷ before) ≡ length cycles + suc (length before)
+        parts = length-append cycles (lost ∷ before)
 
-          bound : 20 + 2 * length r.drives + sum_by section_two r.drives + greatest command_cycles r.drives ≤ startup_bound r
-          bound = within_bound r
+        without : StandsSo cycles → IsReturned t cycles ⊎ IsSoon 134 cycles (lost ∷ before)
+        without (Starts starts) = inl (record {
+          newer = cycles;
+          since_then = lost ∷ before;
+          is = refl;
+          base = inl starts;
+          sparse = sparse;
+          long = let some_room = room in omega (arith, parts, some_room, long);
+        })
+        without (Soon x) = inr x
+        without (Bears x) = inl (record {
+          newer = x.newer;
+          since_then = x.before;
+          is = x.is;
+          base = inr x.stood;
+          sparse = (x.sparse, subst (λ (l : List CycleView). IsSparse r carry restarts t l) x.is sparse.1);
+          long =
+              let same = sym parts ∙ ap (λ (l : List CycleView). length l) x.is ∙ length-append x.newer x.before in
+              let few = x.few in
+              let some_room = room in
+              let costs = x.costs in omega (arith, parts, same, few, costs, some_room, long);
+        })
 
-          without : StandsSo cycles → IsReturned t cycles ⊎ IsSoon 134 cycles (lost ∷ before)
-          without (Starts starts) = inl (record {
-            newer = cycles;
-            since_then = lost ∷ before;
-            is = refl;
-            base = inl starts;
-            sparse = sparse;
-            long = omega (arith, parts, long);
-          })
-          without (Soon x) = inr x
-          without (Bears x) = inl (record {
-            newer = x.newer;
-            since_then = x.before;
-            is = x.is;
-            base = inr x.stood;
-            sparse = (x.sparse, subst (λ (l : List CycleView). IsSparse r carry restarts t l) x.is sparse.1);
-            long =
-                let same = sym parts ∙ ap (λ (l : List CycleView). length l) x.is ∙ length-append x.newer x.before in
-                let few = x.few in
-                let costs = x.costs in omega (arith, parts, same, few, costs, long);
-          })
+        older_run : (x : IsFell r jobs carry restarts cycles (lost ∷ before))
+            → IsRun r jobs carry restarts (x.one ∷ (x.older ++ lost ∷ before)) × IsClear (x.one ∷ (x.older ++ lost ∷ before))
+        older_run x = (
+          rest_runs r jobs carry restarts x.newer (x.one ∷ (x.older ++ lost ∷ before))
+              (subst (λ (l : List CycleView). IsRun r jobs carry restarts l) x.is run.0),
+          rest_clear x.newer (x.one ∷ (x.older ++ lost ∷ before)) (subst (λ (l : List CycleView). IsClear l) x.is clear.0),
+        )
 
-          older_run : (x : IsFell r jobs carry restarts cycles (lost ∷ before))
-              → IsRun r jobs carry restarts (x.one ∷ (x.older ++ lost ∷ before)) × IsClear (x.one ∷ (x.older ++ lost ∷ before))
-          older_run x = (
-            rest_runs r jobs carry restarts x.newer (x.one ∷ (x.older ++ lost ∷ before))
-                (subst (λ (l : List CycleView). IsRun r jobs carry restarts l) x.is run.0),
-            rest_clear x.newer (x.one ∷ (x.older ++ lost ∷ before)) (subst (λ (l : List CycleView). IsClear l) x.is clear.0),
-          )
+        with_fall : (x : IsFell r jobs carry restarts cycles (lost ∷ before)) → StandsSo x.older → IsReturned t cycles
+        with_fall x (Starts starts) = absurd (never_falls x.one x.older x.older (lost ∷ before) (older_run x).0 (older_run x).1 refl
+            (inl starts) x.sparse_then.0 x.sparse_then.1 x.falls)
+        with_fall x (Bears s) = absurd (never_falls x.one x.older s.newer s.before (older_run x).0 (older_run x).1 s.is (inr s.stood)
+            s.sparse
+            x.sparse_then.1 x.falls)
+        with_fall x (Soon s) = record {
+          newer = x.newer;
+          since_then = x.one ∷ (x.older ++ lost ∷ before);
+          is = x.is;
+          base = inl (starts_at_fall r jobs carry restarts x.one (x.older ++ lost ∷ before) x.falls).0;
+          sparse = (x.sparse, subst (λ (l : List CycleView). IsSparse r carry restarts t l) x.is sparse.1);
+          long =
+              let few = s.falls x.one (older_run x).0 (older_run x).1 x.sparse_then.1 x.falls in
+              let counted = x.long in
+              let some_room = room in
+              let costs = x.costs in omega (arith, parts, few, some_room, counted, costs, long);
+        }
 
-          with_fall : (x : IsFell r jobs carry restarts cycles (lost ∷ before)) → StandsSo x.older → IsReturned t cycles
-          with_fall x (Starts starts) = absurd (never_falls x.one x.older x.older (lost ∷ before) (older_run x).0 (older_run x).1 refl
-              (inl starts) x.sparse_then.0 x.sparse_then.1 x.falls)
-          with_fall x (Bears s) = absurd (never_falls x.one x.older s.newer s.before (older_run x).0 (older_run x).1 s.is (inr s.stood)
-              s.sparse
-              x.sparse_then.1 x.falls)
-          with_fall x (Soon s) = record {
-            newer = x.newer;
-            since_then = x.one ∷ (x.older ++ lost ∷ before);
-            is = x.is;
-            base = inl (starts_at_fall r jobs carry restarts x.one (x.older ++ lost ∷ before) x.falls).0;
-            sparse = (x.sparse, subst (λ (l : List CycleView). IsSparse r carry restarts t l) x.is sparse.1);
-            long =
-                let few = s.falls x.one (older_run x).0 (older_run x).1 x.sparse_then.1 x.falls in
-                let counted = x.long in
-                let costs = x.costs in omega (arith, parts, few, bound, counted, costs, long);
-          }
-
-      -- A stop of phase 2 or later has its cause; before there is none.
-      cause_at : (t : CycleView) (j : List CycleView) (x : Stop) → IsRun r jobs carry restarts (t ∷ j) → IsClear (t ∷ j)
-          → (behind_mdt r jobs carry restarts t.sent j).stop ≡ Some x → StopsForCause r x
-      cause_at t j x run clear is = caused r jobs carry restarts t j x (elim (cases_lt t.phase 2) [
-        | inl low ↦ absurd (none_some x (sym (early_in r jobs carry restarts (middle r carry restarts t.sent j)
-            (let same = phase_now r jobs carry restarts t j run.1 in omega (arith, same, low))) ∙ is))
-        | inr late ↦ elim (cases_eq t.phase 2) [
-          | inl at_two ↦ elim (stops_in_two r jobs carry restarts t j x opened run clear at_two is) [
-            | inl plan ↦ inl plan
-            | inr cycle ↦ inr (inl cycle)
-          ]
-          | inr other ↦ elim (cases_eq t.phase 3) [
-            | inl at_three ↦ inr (inr (stops_in_three r jobs carry restarts t j x opened run clear at_three is))
-            | inr more_than ↦ absurd (none_some x (sym (never_stops_in_four r jobs carry restarts t j opened run clear
-                (let most = phase_low (known_of r) (tasks_for (known_of r) jobs) (begins r carry restarts j) in
-                let same = run.1.phase in omega (arith, late, other, more_than, most, same))) ∙ is))
-          ]
+    -- A stop of phase 2 or later has its cause; before there is none.
+    cause_at : (t : CycleView) (j : List CycleView) (x : Stop) → IsRun r jobs carry restarts (t ∷ j) → IsClear (t ∷ j)
+        → (behind_mdt r jobs carry restarts t.sent j).stop ≡ Some x → StopsForCause r x
+    cause_at t j x run clear is = caused r jobs carry restarts t j x (elim (cases_lt t.phase 2) [
+      | inl low ↦ absurd (none_some x (sym (early_in r jobs carry restarts (middle r carry restarts t.sent j)
+          (let same = phase_now r jobs carry restarts t j run.1 in omega (arith, same, low))) ∙ is))
+      | inr late ↦ elim (cases_eq t.phase 2) [
+        | inl at_two ↦ elim (stops_in_two r jobs carry restarts t j x opened run clear at_two is) [
+          | inl plan ↦ inl plan
+          | inr cycle ↦ inr (inl cycle)
         ]
-      ])
-
-      -- THE RING IS BACK, and tells no fall.
-      pub back_again : ((t : CycleView) (newer since_then : List CycleView) → IsRun r jobs carry restarts (t ∷ (newer ++ since_then))
-          → IsClear (t ∷ (newer ++ since_then)) → Base since_then → AreSparse r carry restarts (t ∷ newer) since_then
-          → startup_bound r + tail + start_costs r jobs carry restarts newer since_then ≤ length newer
-          → ((t.phase ≡ 4) × IsRight r)
-          ⊎ ((x : Stop) × ((behind_mdt r jobs carry restarts t.sent (newer ++ since_then)).stop ≡ Some x) × StopsForCause r x))
-          → (t : CycleView) (cycles : List CycleView) → IsRun r jobs carry restarts (t ∷ (cycles ++ lost ∷ before))
-          → IsClear (t ∷ (cycles ++ lost ∷ before)) → AreSparse r carry restarts (t ∷ cycles) (lost ∷ before)
-          → length before + recovery_bound r + tail + start_costs r jobs carry restarts cycles (lost ∷ before)
-          ≤ length (cycles ++ lost ∷ before)
-          → IsBack r t (cycles ++ lost ∷ before) × TellsNoFall t
-      back_again ends t cycles run clear sparse long = elim (returned t cycles run clear sparse long) [
-        | inl x ↦ from_base x
-        | inr soon ↦ with_soon soon (behind_mdt r jobs carry restarts t.sent (cycles ++ lost ∷ before)).stop refl
-            (fall_of (known_of r) (behind_mdt r jobs carry restarts t.sent (cycles ++ lost ∷ before))) refl
+        | inr other ↦ elim (cases_eq t.phase 3) [
+          | inl at_three ↦ inr (inr (stops_in_three r jobs carry restarts t j x opened run clear at_three is))
+          | inr more_than ↦ absurd (none_some x (sym (never_stops_in_four r jobs carry restarts t j opened run clear
+              (let most = phase_low (known_of r) (tasks_for (known_of r) jobs) (begins r carry restarts j) in
+              let same = run.1.phase in omega (arith, late, other, more_than, most, same))) ∙ is))
+        ]
       ]
-        where
-          on : restarts (length (cycles ++ lost ∷ before)) 0 ≡ false
-          on = sparse.1.goes_on 0 (omega arith)
+    ])
 
-          too_long : length cycles ≤ 134 + sum_by section_two r.drives + start_costs r jobs carry restarts cycles (lost ∷ before) → ⊥
-          too_long few =
-              let parts = length-append cycles (lost ∷ before) in
-              let bound = within_bound r in omega (arith, few, parts, bound, long)
+    -- THE RING IS BACK, and tells no fall.
+    pub back_again : (t : CycleView) (cycles : List CycleView) → IsRun r jobs carry restarts (t ∷ (cycles ++ lost ∷ before))
+        → IsClear (t ∷ (cycles ++ lost ∷ before)) → AreSparse r carry restarts (t ∷ cycles) (lost ∷ before)
+        → length before + recovery_bound r + start_costs r jobs carry restarts cycles (lost ∷ before)
+        ≤ length (cycles ++ lost ∷ before)
+        → IsBack r t (cycles ++ lost ∷ before) × TellsNoFall t
+    back_again t cycles run clear sparse long = elim (returned t cycles run clear sparse long) [
+      | inl x ↦ from_base x
+      | inr soon ↦ with_soon soon (behind_mdt r jobs carry restarts t.sent (cycles ++ lost ∷ before)).stop refl
+          (fall_of (known_of r) (behind_mdt r jobs carry restarts t.sent (cycles ++ lost ∷ before))) refl
+    ]
+      where
+        on : restarts (length (cycles ++ lost ∷ before)) 0 ≡ false
+        on = sparse.1.goes_on 0 (omega arith)
 
-          with_soon : IsSoon 134 cycles (lost ∷ before) → (o : Option Stop)
-              → (behind_mdt r jobs carry restarts t.sent (cycles ++ lost ∷ before)).stop ≡ o → (f : Option Fall)
-              → fall_of (known_of r) (behind_mdt r jobs carry restarts t.sent (cycles ++ lost ∷ before)) ≡ f
-              → IsBack r t (cycles ++ lost ∷ before) × TellsNoFall t
-          with_soon soon None none f falls = absurd (too_long (soon.none (none_before r jobs carry restarts t (cycles ++ lost ∷ before)
-              (same_start r jobs carry restarts (cycles ++ lost ∷ before) on) none)))
-          with_soon soon (Some x) stop (Some y) falls = absurd (too_long (soon.falls t run clear sparse.1
-              (ap (λ (o : Option Fall). is_some o) falls)))
-          with_soon soon (Some x) stop None stays = (
-            inr (
-              x,
-              stands_at r jobs carry restarts t (cycles ++ lost ∷ before) x run stays stop,
-              cause_at t (cycles ++ lost ∷ before) x run clear stop,
-            ),
-            tells_going r jobs carry restarts opened t (cycles ++ lost ∷ before) run clear on stays,
-          )
+        too_long : length cycles ≤ 134 + spared_cycles r + start_costs r jobs carry restarts cycles (lost ∷ before) → ⊥
+        too_long few =
+            let parts = length-append cycles (lost ∷ before) in
+            let some_room = room in omega (arith, few, parts, some_room, long)
 
-          from_base : IsReturned t cycles → IsBack r t (cycles ++ lost ∷ before) × TellsNoFall t
-          from_base x =
-              let run_is : IsRun r jobs carry restarts (t ∷ (x.newer ++ x.since_then)) =
-              subst (λ (l : List CycleView). IsRun r jobs carry restarts (t ∷ l)) x.is run in
-              let clear_is : IsClear (t ∷ (x.newer ++ x.since_then)) = subst (λ (l : List CycleView). IsClear (t ∷ l)) x.is clear in
-              let borne = borne_on r jobs carry restarts opened t x.newer x.since_then run_is clear_is x.base x.sparse in (
-                subst (λ (l : List CycleView). IsBack r t l) (sym x.is) (elim (ends t x.newer x.since_then run_is clear_is x.base x.sparse
-                    x.long) [
-                      | inl four ↦ inl four
-                      | inr stop ↦ inr (
-                        stop.0,
-                        stands_at r jobs carry restarts t (x.newer ++ x.since_then) stop.0 run_is borne.stays stop.1,
-                        stop.2,
-                      )
-                    ]),
-                tells_going r jobs carry restarts opened t (x.newer ++ x.since_then) run_is clear_is borne.goes_on borne.stays,
-              )
+        with_soon : IsSoon 134 cycles (lost ∷ before) → (o : Option Stop)
+            → (behind_mdt r jobs carry restarts t.sent (cycles ++ lost ∷ before)).stop ≡ o → (f : Option Fall)
+            → fall_of (known_of r) (behind_mdt r jobs carry restarts t.sent (cycles ++ lost ∷ before)) ≡ f
+            → IsBack r t (cycles ++ lost ∷ before) × TellsNoFall t
+        with_soon soon None none f falls = absurd (too_long (soon.none (none_before r jobs carry restarts t (cycles ++ lost ∷ before)
+            (same_start r jobs carry restarts (cycles ++ lost ∷ before) on) none)))
+        with_soon soon (Some x) stop (Some y) falls = absurd (too_long (soon.falls t run clear sparse.1
+            (ap (λ (o : Option Fall). is_some o) falls)))
+        with_soon soon (Some x) stop None stays = (
+          inr (
+            x,
+            stands_at r jobs carry restarts t (cycles ++ lost ∷ before) x run stays stop,
+            cause_at t (cycles ++ lost ∷ before) x run clear stop,
+          ),
+          tells_going r jobs carry restarts opened t (cycles ++ lost ∷ before) run clear on stays,
+        )
 
-  -- A RING THAT IS RIGHT needs no more cycles; any other 41 steps more of its slowest drive.
-  rises_back : IsRight r → (lost : CycleView) (before : List CycleView) → IsDisturbed r carry restarts lost before → (t : CycleView)
-      (cycles : List CycleView) → IsRun r jobs carry restarts (t ∷ (cycles ++ lost ∷ before))
-      → IsClear (t ∷ (cycles ++ lost ∷ before)) → AreSparse r carry restarts (t ∷ cycles) (lost ∷ before)
-      → length before + recovery_bound r + start_costs r jobs carry restarts cycles (lost ∷ before) ≤ length (cycles ++ lost ∷ before)
-      → (t.phase ≡ 4) × TellsNoFall t
-  rises_back right lost before disturbed t cycles run clear sparse long =
-      let back = back_again lost before disturbed 0 (λ v newer since_then run_v clear_v base sparse_v enough. inl (
-        rises_sparse r jobs carry restarts opened v newer since_then run_v clear_v base sparse_v right (omega (arith, enough)),
-        right,
-      )) t cycles run clear sparse (omega (arith, long)) in
-      (right_four r t (cycles ++ lost ∷ before) right back.0, back.1)
-
-  ends_back : (lost : CycleView) (before : List CycleView) → IsDisturbed r carry restarts lost before → (t : CycleView)
-      (cycles : List CycleView) → IsRun r jobs carry restarts (t ∷ (cycles ++ lost ∷ before))
-      → IsClear (t ∷ (cycles ++ lost ∷ before)) → AreSparse r carry restarts (t ∷ cycles) (lost ∷ before)
-      → length before + recovery_bound r + 41 * (slowest r.drives + 2) + start_costs r jobs carry restarts cycles (lost ∷ before)
-      ≤ length (cycles ++ lost ∷ before) → IsBack r t (cycles ++ lost ∷ before) × TellsNoFall t
-  ends_back lost before disturbed t cycles run clear sparse long =
-      back_again lost before disturbed (41 * (slowest r.drives + 2)) (λ v newer since_then run_v clear_v base sparse_v enough.
-      ends_so r jobs carry restarts opened v newer since_then run_v clear_v base sparse_v enough) t cycles run clear sparse
-      long
+        from_base : IsReturned t cycles → IsBack r t (cycles ++ lost ∷ before) × TellsNoFall t
+        from_base x =
+            let run_is : IsRun r jobs carry restarts (t ∷ (x.newer ++ x.since_then)) =
+            subst (λ (l : List CycleView). IsRun r jobs carry restarts (t ∷ l)) x.is run in
+            let clear_is : IsClear (t ∷ (x.newer ++ x.since_then)) = subst (λ (l : List CycleView). IsClear (t ∷ l)) x.is clear in
+            let borne = borne_on r jobs carry restarts opened t x.newer x.since_then run_is clear_is x.base x.sparse in (
+              subst (λ (l : List CycleView). IsBack r t l) (sym x.is) (elim (ends_so r jobs carry restarts opened t x.newer x.since_then run_is
+                  clear_is x.base x.sparse x.long) [
+                    | inl four ↦ inl four
+                    | inr stop ↦ inr (
+                      stop.0,
+                      stands_at r jobs carry restarts t (x.newer ++ x.since_then) stop.0 run_is borne.stays stop.1,
+                      stop.2,
+                    )
+                  ]),
+              tells_going r jobs carry restarts opened t (x.newer ++ x.since_then) run_is clear_is borne.goes_on borne.stays,
+            )
 
   -- RECOVERY WHILE SPARSE FAULTS GO ON
   pub returns_sparse : Tolerates → (t : CycleView) (j : List CycleView) → IsRun r jobs carry restarts (t ∷ j) → IsClear (t ∷ j)
       → ReturnsSparse r jobs carry restarts t j
   returns_sparse tolerates t j run clear = record {
-    once = λ cycles before lost is sparse fallen. once_sparse tolerates r jobs carry restarts t j opened run clear cycles before lost is
-        sparse
-        fallen;
-    rises = λ cycles before lost is sparse disturbed right long. (rises_now cycles before lost is sparse disturbed right long).0;
-    tells = λ cycles before lost is sparse disturbed right long. (rises_now cycles before lost is sparse disturbed right long).1;
-    back = λ cycles before lost is sparse disturbed long. subst (λ (l : List CycleView). IsBack r t l) (sym is)
-        (ends_now cycles before lost is sparse disturbed long).0;
-    tells_back = λ cycles before lost is sparse disturbed long. (ends_now cycles before lost is sparse disturbed long).1;
+    once = λ cycles before lost is sparse fallen.
+        once_sparse tolerates r jobs carry restarts t j opened run clear cycles before lost is sparse fallen;
+    back = λ cycles before lost is sparse disturbed long. (now cycles before lost is sparse disturbed long).0;
+    rises = λ cycles before lost is sparse disturbed right long. right_four r t j right (now cycles before lost is sparse disturbed long).0;
+    tells = λ cycles before lost is sparse disturbed long. (now cycles before lost is sparse disturbed long).1;
   }
     where
-      rises_now : (cycles before : List CycleView) (lost : CycleView) → j ≡ cycles ++ lost ∷ before
-          → AreSparse r carry restarts (t ∷ cycles) (lost ∷ before) → IsDisturbed r carry restarts lost before → IsRight r
+      now : (cycles before : List CycleView) (lost : CycleView) → j ≡ cycles ++ lost ∷ before
+          → AreSparse r carry restarts (t ∷ cycles) (lost ∷ before) → IsDisturbed r carry restarts lost before
           → length before + recovery_bound r + start_costs r jobs carry restarts cycles (lost ∷ before) ≤ length j
-          → (t.phase ≡ 4) × TellsNoFall t
-      rises_now cycles before lost is sparse disturbed right long = rises_back right lost before disturbed t cycles
-          (subst (λ (l : List CycleView). IsRun r jobs carry restarts (t ∷ l)) is run)
+          → IsBack r t j × TellsNoFall t
+      now cycles before lost is sparse disturbed long = subst (λ (l : List CycleView). IsBack r t l × TellsNoFall t) (sym is)
+          (back_again lost before disturbed t cycles (subst (λ (l : List CycleView). IsRun r jobs carry restarts (t ∷ l)) is run)
           (subst (λ (l : List CycleView). IsClear (t ∷ l)) is clear) sparse
           (subst (λ (l : List CycleView). length before + recovery_bound r + start_costs r jobs carry restarts cycles (lost ∷ before)
-          ≤ length l) is long)
-
-      ends_now : (cycles before : List CycleView) (lost : CycleView) → (is : j ≡ cycles ++ lost ∷ before)
-          → AreSparse r carry restarts (t ∷ cycles) (lost ∷ before) → IsDisturbed r carry restarts lost before
-          → length before + recovery_bound r + 41 * (slowest r.drives + 2) + start_costs r jobs carry restarts cycles (lost ∷ before)
-          ≤ length j → IsBack r t (cycles ++ lost ∷ before) × TellsNoFall t
-      ends_now cycles before lost is sparse disturbed long = ends_back lost before disturbed t cycles
-          (subst (λ (l : List CycleView). IsRun r jobs carry restarts (t ∷ l)) is run)
-          (subst (λ (l : List CycleView). IsClear (t ∷ l)) is clear) sparse
-          (subst (λ (l : List CycleView). length before + recovery_bound r + 41 * (slowest r.drives + 2)
-          + start_costs r jobs carry restarts cycles (lost ∷ before) ≤ length l) is long)
+          ≤ length l) is long))

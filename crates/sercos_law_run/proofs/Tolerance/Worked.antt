@@ -200,8 +200,8 @@ stopless_is_rejected : (t lost : CycleView) (cycles before : List CycleView) →
     (record t { phase = 3 }) (cycles ++ lost ∷ before)
     → AreSparse ring (carried 1 again) (restarts_at again) (record t { phase = 3 } ∷ cycles) (lost ∷ before)
     → IsDisturbed ring (carried 1 again) (restarts_at again) lost before
-    → length before + recovery_bound ring + 41 * (slowest ring.drives + 2)
-    + start_costs ring [] (carried 1 again) (restarts_at again) cycles (lost ∷ before) ≤ length (cycles ++ lost ∷ before)
+    → length before + recovery_bound ring + start_costs ring [] (carried 1 again) (restarts_at again) cycles (lost ∷ before)
+    ≤ length (cycles ++ lost ∷ before)
     → ((x : Stop) → StandsAt x (record t { phase = 3 } ∷ (cycles ++ lost ∷ before)) → ⊥) → ⊥
 stopless_is_rejected t lost cycles before is sparse disturbed long never = elim (is.back cycles before lost refl sparse disturbed long) [
   | inl four ↦ (let same : 3 ≡ 4 = four.0 in omega (arith, same))

@@ -87,10 +87,13 @@ least f [] = 0
 least f (d ∷ []) = f d
 least f (d ∷ e ∷ drives) = min (f d) (least f (e ∷ drives))
 
--- In how many cycles after the last disturbed one a ring falls, if it falls at all: a section of each drive but one, for which that of the
--- drive with the least isn't counted, and 68 cycles more.
+-- a section of each drive but one, for which that of the drive with the least isn't counted
+abbrev pub spared_cycles : RingView → ℕ
+spared_cycles r = sum_by section_cycles r.drives - least section_cycles r.drives
+
+-- In how many cycles after the last disturbed one a ring falls, if it falls at all: these, and 68 more.
 abbrev pub fall_cycles : RingView → ℕ
-fall_cycles r = 68 + (sum_by section_cycles r.drives - least section_cycles r.drives)
+fall_cycles r = 68 + spared_cycles r
 
 -- .. and in how many phase 4 is commanded, if the ring is right: a whole start-up follows the fall
 abbrev pub return_cycles : RingView → ℕ
