@@ -2,7 +2,7 @@
 """Checks on random rings what is said of a ring under sparse faults (docs/PROTOCOL.md, 'What a ring bears'), with the numbers
 that tools/ring-bears prints of each ring.
 
-Each seed makes a ring document by the generator of compare.py, without its script, and then two scripts. The first is sparse:
+Each seed makes a ring document by the generator of compare.py, without its script, and then three scripts. The first is sparse:
 in phase 0 any cycles, in 1 and 2 at most one of any three in a row, in 3 and 4 at most one of any two, up to the last cycle. A
 disturbed cycle loses one telegram or several. Some scripts are periodic, as dense as that allows, some are at random, some hit
 one kind of telegram alone; some are greedy: each disturbed cycle loses the one telegram that delays the ring most. Of each run:
@@ -15,7 +15,10 @@ one kind of telegram alone; some are greedy: each disturbed cycle loses the one 
   a fault, also if that hits no telegram;
 - the i-th request of a drive ends within i times the cycles of one, from phase 4 on.
 
-The second script hits any cycles and stations up to a cycle F, restarts among it, and is sparse, or empty, from then on:
+Another script keeps, in phases 1 and 2, one of the limits that ring-bears calls likely, as densely as it allows, and is sparse in 3 and
+4: nothing falls under it, and no request is broken.
+
+The last script hits any cycles and stations up to a cycle F, restarts among it, and is sparse, or empty, from then on:
 
 - the ring falls at most once after F;
 - it is in phase 4, or at a stop, within the bound of a recovery after F, with the costs since F;
@@ -76,6 +79,7 @@ class Promised:
         self.requests = {int(drive): int(cycles) for drives, cycles in
                          re.findall(r"request +to drives? ([\d, ]+): the i-th ends within i \* (\d+) cycles", told) for drive in drives.split(",")}
         self.comes_up = re.search(r"started +phase 4 in cycle", told) is not None
+        self.calm_of, self.disturbed, self.in_a_row = numbers(r"two calm in a row of any (\d+) or at most (\d+) disturbed of any 64; with (\d+) ATs")
 
 
 class Run:
@@ -176,6 +180,36 @@ def sparse_script(program: str, plain: str, script: Script, cycles: int) -> None
     script.faults = script.faults[:MOST_FAULTS]
 
 
+def likely_pattern(script: Script, promised: Promised) -> tuple[str, list[str], list[int]]:
+    """One of the limits that are likely: its name, the kinds of telegrams that are lost, and which cycles of a row of them are disturbed."""
+    row = 40 * promised.calm_of
+    limit = script.random.choice(["two calm in a row", "some of any 64", "lost in a row"])
+    if limit == "two calm in a row":
+        # the disturbed ones alternate with calm ones, of which two in a row begin in each row of as many cycles less one
+        period = (promised.calm_of - 2) // 2 * 2 + 1
+        return limit, ["mst", "own", "at", "mdt"], [cycle for cycle in range(row) if cycle % period % 2 == 0 and cycle % period != period - 1]
+    if limit == "some of any 64":
+        return limit, ["mst", "own", "at", "mdt"], [cycle for cycle in range(row) if cycle % 64 % 2 == 0 and cycle % 64 < 2 * promised.disturbed]
+    return limit, [script.random.choice(["at", "mdt"])], list(range(promised.in_a_row))
+
+
+def likely_script(program: str, plain: str, script: Script, promised: Promised, cycles: int) -> str:
+    """Makes a script that keeps a limit which is likely in phases 1 and 2, and is sparse in 3 and 4; and gives its name."""
+    limit, kinds, disturbed = likely_pattern(script, promised)
+    script.kinds = kinds
+    phases = Run(program, plain).phases
+    first = next((cycle for cycle, phase in enumerate(phases) if phase >= 1), cycles) + script.random.randint(0, 2 * len(script.drives) + 200)
+    script.faults = [script.loss(first + cycle) for cycle in disturbed if first + cycle < cycles]
+    late = next((cycle for cycle, phase in enumerate(Run(program, plain + script.text()).phases) if phase >= 3), cycles)
+    # those of one telegram in a row are no limit where one of them is of phase 3, or right before it
+    script.faults = [fault for fault in script.faults if fault["cycle"] < late - 1]
+    script.last, script.kinds = late - 2, ["mst", "own", "at", "mdt"]
+    for cycle in range(late + 1, cycles):
+        script.disturb(cycle, 2)
+    script.faults = script.faults[:MOST_FAULTS]
+    return limit
+
+
 def greedy_script(program: str, plain: str, script: Script, cycles: int) -> None:
     """Makes a sparse script in which each disturbed cycle loses the one telegram that keeps the ring longest from phase 4."""
     cycle = next((cycle for cycle, phase in enumerate(Run(program, plain).phases) if phase >= 1), cycles)
@@ -267,6 +301,11 @@ class Judged:
             elif latest < len(run.phases):
                 self.wrong.append(f"request {number} isn't reported by cycle {latest}")
 
+    def judge_likely(self, run: Run) -> None:
+        """What is right under a script that keeps a limit which is likely."""
+        self.wrong += [" ".join(words) for words in run.lines if words[0] == "fall" or words[-1] == "broken"]
+        self.wrong += [f"the run ends with {run.lines[-1:]}"] * (not run.ends_clear())
+
     def judge_return(self, run: Run, script: Script, promised: Promised, last: int) -> None:
         """What is right after the last cycle that isn't sparse."""
         self.wrong += [f"the run ends with {run.lines[-1:]}"] * (not run.ends_clear())
@@ -304,6 +343,12 @@ def checked(program: str, seed: int) -> Judged:
     judged.judge_sparse(run, script, promised, document)
     kind = "greedy" if is_greedy else "/".join(script.kinds) + (" periodic" if script.density == 1 else "")
     judged.occurred.add(f"phase {max(run.phases, default=0)} with {kind}")
+    likely, before = Script(seed + 2, order), len(judged.wrong)
+    limit = likely_script(program, plain, likely, promised, cycles)
+    judged.judge_likely(Run(program, plain + likely.text()))
+    if len(judged.wrong) > before:
+        judged.texts.append(plain + likely.text())
+    judged.occurred.add(f"likely, {limit}")
     if promised.recovery <= 3000:
         broken, last = Script(seed + 1, order), random.Random(seed).randint(1, promised.start + 50)
         broken.break_up(random.Random(seed + 1).randint(max(last - 60, 0), last), last)
