@@ -14,10 +14,11 @@ use Rattle.std.specs.Option.{option_or}
 use Rattle.sercos_seat.specs.Channel.{Report}
 use Rattle.sercos_seat.specs.Ring.{Known, Task, member, tasks_for}
 use Rattle.sercos_telegram.specs.Faults.{at_fault}
-use Rattle.sercos_master.specs.Annals.{Call, HearMst, HearAt, Mdt, End, Restart, Past, Turn, past, after_at_of, is_awaited, is_taken, wanted_len, after_taken, place_of, after_mdt, settled, begins, with_begin, ready_to_send, is_sent_to, addressed_in, after_end, fall_of, has_lost_mst, has_lost_at, is_at_limit, is_done, is_done_in, next_phase, goes_on, new_epoch, still_waiting}
+use Rattle.sercos_master.specs.Annals.{Call, HearMst, HearAt, Mdt, End, Restart, Past, Turn, past, is_awaited, is_taken, wanted_len, place_of, after_mdt, settled, begins, with_begin, ready_to_send, is_sent_to, addressed_in, after_end, fall_of, has_lost_mst, has_lost_at, is_at_limit, is_done_in, next_phase, goes_on, new_epoch, still_waiting}
 use Rattle.sercos_master.specs.Any.{Closes}
 use Rattle.sercos_master.specs.Kept.{CoreView, CoreStandsFor, IsIn}
 use Rattle.sercos_master.specs.Reports.{AreOpen, HasRestarted, closing_told, events_told, with_broken, with_reports}
+use Rattle.sercos_master.proofs.Keeping.{going, past_keeps}
 use Rattle.sercos_master.proofs.Configured.{Leaves, leaves, at_phase}
 use Rattle.sercos_master.proofs.Rings.{begins_late, ends_falling, ends_going_on, no_fall, none_from}
 use Rattle.sercos_master.proofs.Told.{reports_length}
@@ -41,14 +42,6 @@ none_taken s p k content is = ap (λ b. b && (not (p.now.heard k) && is_none (at
     awaits : is_awaited p k ≡ false
     awaits = rw is refl
 
-closes_at : (s : Known) (place : Option ℕ) (content : List ℕ) (p : Past) → ClosingIn0 p → ClosingIn0 (after_at_of s place content p)
-closes_at s None content p before = before
-closes_at s (Some k) content p before = by (is_taken s p k content) refl
-  where
-    by : (t : Bool) → is_taken s p k content ≡ t → ClosingIn0 (if t then after_taken k content p else p)
-    by false e = before
-    by true e = λ in_0. absurd (false≢true (sym (none_taken s p k content in_0) ∙ e))
-
 none_sent : (p : Past) (addressed : Option ℕ) (k : ℕ) → p.now.phase ≡ 0 → is_sent_to p addressed k ≡ false
 none_sent p addressed k in_0 = rw in_0 refl
 
@@ -68,21 +61,19 @@ closes_mdt s p before in_0 =
       quiet = λ k. ap (λ report. report k) l.report ∙ c.quiet k;
     }
 
-closes_end : (s : Known) (p : Past) → ClosingIn0 p → ClosingIn0 (after_end s p)
-closes_end s p before = by (is_some (fall_of s p)) (is_done s p)
-  where
-    by : (falls done : Bool) → ClosingIn0 (if falls then new_epoch (p.cycle + 1) (still_waiting p) else goes_on (if done then p.now.phase + 1 else p.now.phase) p)
-    by true done in_0 = record { before = refl; silent = λ k. refl; quiet = λ k. refl }
-    by false true in_0 = absurd (omega (arith, in_0))
-    by false false in_0 = record { before = in_0; silent = λ k. ap (option_map (λ age. age + 1)) ((before in_0).silent k); quiet = λ k. refl }
-
 closes : (s : Known) (requests : ℕ → List Task) (h : List Call) → ClosingIn0 (past s requests h)
-closes s requests [] in_0 = record { before = refl; silent = λ k. refl; quiet = λ k. refl }
-closes s requests (HearMst content ∷ h) in_0 = let c = closes s requests h in_0 in record { before = c.before; silent = c.silent; quiet = c.quiet }
-closes s requests (HearAt content ∷ h) in_0 = closes_at s (place_of s (slice_index content 0)) content (past s requests h) (closes s requests h) in_0
-closes s requests (Mdt ∷ h) in_0 = closes_mdt s (past s requests h) (closes s requests h) in_0
-closes s requests (End ∷ h) in_0 = closes_end s (past s requests h) (closes s requests h) in_0
-closes s requests (Restart ∷ h) in_0 = record { before = refl; silent = λ k. refl; quiet = λ k. refl }
+closes s requests = past_keeps ClosingIn0 s requests (record {
+  first = λ in_0. record { before = refl; silent = λ k. refl; quiet = λ k. refl };
+  mst = λ h whole before in_0. let c = before in_0 in record { before = c.before; silent = c.silent; quiet = c.quiet };
+  taken = λ h k content inside is before in_0. absurd (false≢true (sym (none_taken s (past s requests h) k content in_0) ∙ is));
+  mdt = λ h. closes_mdt s (past s requests h);
+  on = λ h done is. goes (past s requests h) done;
+  new = λ h cycle before in_0. record { before = refl; silent = λ k. refl; quiet = λ k. refl };
+})
+  where
+    goes : (p : Past) (done : Bool) → ClosingIn0 p → ClosingIn0 (going done p)
+    goes p true before in_0 = absurd (omega (arith, in_0))
+    goes p false before in_0 = record { before = in_0; silent = λ k. ap (option_map (λ age. age + 1)) ((before in_0).silent k); quiet = λ k. refl }
 
 -- so nothing is lost, and nothing waits
 kept_mst : (t : Turn) (turns : List Turn) → phase_before turns ≡ 0 → has_lost_mst (t ∷ turns) ≡ false

@@ -1,10 +1,9 @@
 -- What was begun on a channel in an epoch followed its agenda: each task was the next one after the outcomes of those begun before,
 -- which had all ended, those of the start-up without error.
 use Rattle.std.proofs.Common.{◌≡◌, ◌⊎◌, inl, inr, ℕ, zero, suc, ◌+◌, ◌<◌, ◌≤◌, Bool, true, false, List, [], ◌∷◌, ◌++◌, length, refl, sym, ap, ◌∙◌, subst, arith, if◌then◌else◌, length-append}
-use Rattle.std.specs.Prelude.{◌==◌, ◌&&◌, not, nat_le, Option, Some, None, Result, Ok, Err, is_some, is_none, map, slice_get, slice_index}
+use Rattle.std.specs.Prelude.{Option, Some, None, is_some, is_none, map, slice_get}
 use Rattle.std.specs.Option.{option_or}
 use Rattle.std.proofs.lemmas.Bool.{cases_eq, false≢true}
-use Rattle.std.proofs.lemmas.Bool.Decides.{nat_tests}
 use Rattle.sercos_telegram.specs.declared.words.Status.{Status}
 use Rattle.sercos_telegram.specs.Words.{status_of}
 use Rattle.sercos_telegram.specs.Spells.{word_at}
@@ -15,24 +14,22 @@ use Rattle.sercos_step.specs.declared.step.Answer.{Answer}
 use Rattle.sercos_step.specs.declared.step.Step.{Step}
 use Rattle.sercos_step.specs.Steps.{is_whole, answer_words, result_of, outcome_of, next_step}
 use Rattle.sercos_step.proofs.Ends.{has_next}
-use Rattle.sercos_timing.specs.Order.{record_bytes}
 use Rattle.sercos_timing.specs.Views.{PlanView}
-use Rattle.sercos_plan.specs.Views.{ChainView}
-use Rattle.sercos_plan.specs.ChainOf.{planned}
 use Rattle.sercos_service_master.specs.Begun.{Begun, open_in, answers_it, answer_in, with_answer}
 use Rattle.sercos_service_master.specs.Calls.{Hear, begun_by}
 use Rattle.sercos_service_master.specs.Calls as channel
 use Rattle.sercos_trace.specs.declared.events.Stop.{Stop}
-use Rattle.sercos_trace.specs.declared.events.Stop.TheVariants as stop
 use Rattle.sercos_seat.specs.Ring.{Known, Task, member, startup}
-use Rattle.sercos_seat.specs.Agenda.{agenda, reads, reads_count, writes, is_checked, wishes_given, last_long_stop, asked_by, stop_of_task}
-use Rattle.sercos_seat.specs.Channel.{with_outcome, outcomes_in, last_outcome, trouble_by, of_phase}
+use Rattle.sercos_seat.specs.Agenda.{agenda, reads, reads_count, writes, is_checked, asked_by, stop_of_task}
+use Rattle.sercos_seat.specs.Channel.{with_outcome, outcomes_in, last_outcome, trouble_by}
 use Rattle.sercos_seat.proofs.Gets.{get_map, get_left, get_right, get_none, length_map, length_append}
 use Rattle.sercos_seat.proofs.Agendas.{reads_length, ended_there}
-use Rattle.sercos_master.specs.Annals.{Call, HearMst, HearAt, Mdt, End, Restart, Past, past, outcomes, all_checked, with_at, is_idle, is_taken, after_taken, after_at_of, place_of, trouble, first_trouble, first_trouble_from, with_stop, is_plan_due, with_plan, planned_by, with_due_plan, settled, has_turn, next_task, with_task, with_begin, begun, ready_to_send, is_sent_to, addressed_in, after_mdt, fall_of, next_phase, goes_on, new_epoch, still_waiting, hearing}
+use Rattle.sercos_master.specs.Annals.{Call, Past, past, outcomes, all_checked, is_idle, after_taken, trouble, first_trouble, first_trouble_from, settled, with_task, with_begin, begun, ready_to_send, is_sent_to, addressed_in, after_mdt, begins}
 use Rattle.sercos_master.specs.Kept.{CoreView, IsIn}
 use Rattle.sercos_master.specs.Written.{IsWritten, AreWritten, HoldsPlan}
+use Rattle.sercos_master.proofs.Keeping.{begins_next, channel_keeps, past_keeps, settled_keeps}
 use Rattle.sercos_master.proofs.Configured.{Leaves, each_passes, leaves}
+use Rattle.std.proofs.lemmas.Option.{none-some, same_Some}
 
 -- a transfer without an outcome has a next step
 abbrev pub HasNext : Type 0
@@ -91,24 +88,10 @@ hears s k plan waiting status word calls tasks all = by (answers_it (begun_by ca
     by true = answered s k plan waiting (answer_in status word) (begun_by calls) tasks all
     by false = all
 
-at_follows : (s : Known) (place : Option ℕ) (content : List ℕ) (p : Past) (k : ℕ) → Followed s p k → Followed s (after_at_of s place content p) k
-at_follows s None content p k all = all
-at_follows s (Some i) content p k all = by (is_taken s p i content)
-  where
-    one : (identifies : Bool) → AllFollow s k p.plan (p.waiting k) (begun_by (hearing identifies k content p).calls) (p.tasks k)
-    one true = all
-    one false = hears s k p.plan (p.waiting k) (status_of (word_at content 1)) (word_at content 3) (p.calls k) (p.tasks k) all
-
-    here : Followed s (after_taken i content p) k
-    here = elim (cases_eq k i) [
-      | inl is ↦ subst (λ n. AllFollow s k p.plan (p.waiting k) (begun_by (with_at n (hearing (p.now.phase == 1) n content p).calls p.calls k)) (p.tasks k)) is
-          (let t : (k == k) ≡ true = grind (arith, nat_tests) in rw t (one (p.now.phase == 1)))
-      | inr n ↦ let f : (k == i) ≡ false = grind (arith, nat_tests, n) in rw f all
-    ]
-
-    by : (t : Bool) → Followed s (if t then after_taken i content p else p) k
-    by true = here
-    by false = all
+taken_follows : (s : Known) (i : ℕ) (content : List ℕ) (p : Past) (k : ℕ) → Followed s p k → Followed s (after_taken i content p) k
+taken_follows s i content p k all = channel_keeps (λ calls. AllFollow s k p.plan (p.waiting k) (begun_by calls)
+    (p.tasks k)) i k content p all
+    (λ same. hears s k p.plan (p.waiting k) (status_of (word_at content 1)) (word_at content 3) (p.calls k) (p.tasks k) all)
 
 -- THE ANSWERS ARE LOOKED AT.
 pub settles : (s : Known) (p : Past) → Leaves (settled s p) p
@@ -121,44 +104,8 @@ settled_follows s p k all =
 
 -- where there is no stop then, no channel's newest outcome is a trouble
 pub no_stop_before : (s : Known) (p : Past) → (settled s p).stop ≡ None → first_trouble s p ≡ None
-no_stop_before s p none = by (first_trouble s p) refl
-  where
-    some≢none : {A : Type 0} {x : A} → Some x ≡ None → ⊥
-    some≢none e = cc
-
-    stop_stays : (x : Option Stop) (q : Past) → (with_stop x q).stop ≡ None → q.stop ≡ None
-    stop_stays None q e = e
-    stop_stays (Some x) q e = which q.stop refl e
-      where
-        which : (o : Option Stop) → q.stop ≡ o → (if is_some o then q else record q { now = record q.now { stops = true }; stop = Some x }).stop ≡ None → q.stop ≡ None
-        which None f e = f
-        which (Some y) f e = e
-
-    due_stays : (q : Past) → (with_due_plan s q).stop ≡ None → q.stop ≡ None
-    due_stays q = which (is_plan_due s q)
-      where
-        plan : (r : Result PlanView ChainView) → (with_plan r q).stop ≡ None → q.stop ≡ None
-        plan (Ok made) e = e
-        plan (Err chain) e = stop_stays (Some (stop.NoFit chain)) q e
-
-        fits : (b : Bool) → (if b then with_plan (planned (wishes_given s (outcomes q))) q else with_stop (last_long_stop s.drives 0 (outcomes q)) q).stop ≡ None → q.stop ≡ None
-        fits true e = plan (planned (wishes_given s (outcomes q))) e
-        fits false e = stop_stays (last_long_stop s.drives 0 (outcomes q)) q e
-
-        which : (b : Bool) → (if b then planned_by s q else q).stop ≡ None → q.stop ≡ None
-        which true e = fits (nat_le (record_bytes (wishes_given s (outcomes q)).drives) 2047) e
-        which false e = e
-
-    kept : (with_stop (first_trouble s p) p).stop ≡ None
-    kept = due_stays (with_stop (first_trouble s p) p) none
-
-    by : (x : Option Stop) → first_trouble s p ≡ x → first_trouble s p ≡ None
-    by None e = e
-    by (Some x) e = absurd (stops p.stop refl (subst (λ o. (with_stop o p).stop ≡ None) e kept))
-      where
-        stops : (o : Option Stop) → p.stop ≡ o → (if is_some o then p else record p { now = record p.now { stops = true }; stop = Some x }).stop ≡ None → ⊥
-        stops None f e = some≢none e
-        stops (Some y) f e = some≢none (sym f ∙ e)
+no_stop_before s p = settled_keeps (λ q. q.stop ≡ None → first_trouble s p ≡ None) s p (λ rests. rests.untroubled)
+    (λ x free brings none. absurd (none-some x (sym none))) (λ plan makes none. makes.untroubled)
 
 pub none_troubled : (s : Known) (p : Past) (k n j : ℕ) → first_trouble_from s p k n ≡ None → k ≤ j → j < k + n → trouble s p j ≡ None
 none_troubled s p k zero j e low high = absurd (omega (arith, low, high))
@@ -228,36 +175,23 @@ ended_well has s p k all idle quiet = by (begun_by (p.calls k)) (p.tasks k) idle
     by (b ∷ older) (t ∷ tasks) idle quiet = ends_complete (member s k).address b older t tasks idle has quiet
 
 begun_follows : HasNext → (s : Known) (p : Past) (k : ℕ) → (p.stop ≡ None → trouble s p k ≡ None) → Followed s p k → Followed s (begun s p) k
-begun_follows has s p k quiet all = by (is_none p.stop) (is_idle p k) (has_turn s p k) refl refl
+begun_follows has s p k quiet all = by (begins s p k) refl
   where
-    none_is : {A : Type 0} (o : Option A) → is_none o ≡ true → o ≡ None
-    none_is None e = refl
-    none_is (Some x) e = absurd (false≢true e)
-
-    one : is_none p.stop ≡ true → is_idle p k ≡ true → (o : Option Task) → next_task s p k ≡ o → AllFollow s k p.plan (p.waiting k) (begun_by (with_begin (of_phase p.now.phase o) (p.calls k))) (with_task (of_phase p.now.phase o) (p.tasks k))
-    one free idle None e = all
-    one free idle (Some t) e = which (t.phase == p.now.phase)
-      where
-        which : (b : Bool) → AllFollow s k p.plan (p.waiting k) (begun_by (with_begin (if b then Some t else None) (p.calls k))) (with_task (if b then Some t else None) (p.tasks k))
-        which false = all
-        which true = (
+    by : (o : Option Task) → begins s p k ≡ o → AllFollow s k p.plan (p.waiting k) (begun_by (with_begin o (p.calls k)))
+        (with_task o (p.tasks k))
+    by None is = all
+    by (Some t) is =
+        let b = begins_next s p k t is in (
           all,
           record {
             asks = refl;
             by_then = p.plan;
             same = inr refl;
-            next = e;
-            ended = all_ended has s k p.plan (p.waiting k) (begun_by (p.calls k)) (p.tasks k) all idle;
-            well = ended_well has s p k all idle (quiet (none_is p.stop free));
+            next = b.next;
+            ended = all_ended has s k p.plan (p.waiting k) (begun_by (p.calls k)) (p.tasks k) all b.idle;
+            well = ended_well has s p k all b.idle (quiet b.unstopped);
           },
         )
-
-    by : (free idle turn : Bool) → is_none p.stop ≡ free → is_idle p k ≡ idle →
-        AllFollow s k p.plan (p.waiting k) (begun_by (with_begin (if free && (idle && turn) then of_phase p.now.phase (next_task s p k) else None) (p.calls k))) (with_task (if free && (idle && turn) then of_phase p.now.phase (next_task s p k) else None) (p.tasks k))
-    by true true true free idle = one free idle (next_task s p k) refl
-    by true true false free idle = all
-    by true false turn free idle = all
-    by false idle turn free is = all
 
 mdt_follows : HasNext → (s : Known) (p : Past) (k : ℕ) → k < length s.drives → Followed s p k → Followed s (after_mdt s p) k
 mdt_follows has s p k within all = by (is_sent_to (ready_to_send s p) (addressed_in s (ready_to_send s p)) k)
@@ -277,16 +211,14 @@ mdt_follows has s p k within all = by (is_sent_to (ready_to_send s p) (addressed
 
 -- AFTER ANY CALLS
 pub followed : HasNext → (s : Known) (requests : ℕ → List Task) (h : List Call) (k : ℕ) → k < length s.drives → Followed s (past s requests h) k
-followed has s requests [] k within = tt
-followed has s requests (HearMst content ∷ h) k within = followed has s requests h k within
-followed has s requests (HearAt content ∷ h) k within = at_follows s (place_of s (slice_index content 0)) content (past s requests h) k (followed has s requests h k within)
-followed has s requests (Mdt ∷ h) k within = mdt_follows has s (past s requests h) k within (followed has s requests h k within)
-followed has s requests (End ∷ h) k within = by (is_some (fall_of s (past s requests h))) (followed has s requests h k within)
-  where
-    by : (falls : Bool) → Followed s (past s requests h) k → Followed s (if falls then new_epoch ((past s requests h).cycle + 1) (still_waiting (past s requests h)) else goes_on (next_phase s (past s requests h)) (past s requests h)) k
-    by true all = tt
-    by false all = all
-followed has s requests (Restart ∷ h) k within = tt
+followed has s requests h k within = past_keeps (λ p. Followed s p k) s requests (record {
+  first = tt;
+  mst = λ h whole all. all;
+  taken = λ h i content inside is. taken_follows s i content (past s requests h) k;
+  mdt = λ h. mdt_follows has s (past s requests h) k within;
+  on = λ h done is all. all;
+  new = λ h cycle all. tt;
+}) h
 
 -- THE WRITES. What was begun at a place, with another task after it, has ended without error, if it is of the start-up.
 record FoundAt (s : Known) (k : ℕ) (plan : Option PlanView) (waiting : List Task) (begun : List Begun) (j : ℕ) : Type 0 where
@@ -330,10 +262,7 @@ unplanned_at : (s : Known) (k i : ℕ) (waiting : List Task) (all : List Outcome
 unplanned_at s k i waiting all t long e =
     let l = startup_reads s k in
     let a = length_append (map (startup 2) (reads (member s k))) [] in
-    none≢some (sym (get_none (map (startup 2) (reads (member s k)) ++ []) (length all) (omega (arith, l, a, long))) ∙ e)
-  where
-    none≢some : {A : Type 0} {x : A} → None ≡ Some x → ⊥
-    none≢some e = cc
+    none-some _ (sym (get_none (map (startup 2) (reads (member s k)) ++ []) (length all) (omega (arith, l, a, long))) ∙ e)
 
 write_at : (s : Known) (k i : ℕ) (plan : PlanView) (waiting : List Task) (all : List Outcome) (t : Task) → i < 11 → length all ≡ reads_count (member s k) + i →
     slice_get (agenda s (Some plan) waiting k all) (length all) ≡ Some t → (t.number ≡ None) × (slice_get (writes s plan k) i ≡ Some t.request)
@@ -345,16 +274,10 @@ write_at s k i plan waiting all t below long e =
     by (slice_get (writes s plan k) i) refl (sym (get_map (startup 2) (writes s plan k) i) ∙ (sym second ∙ (sym first ∙ e)))
   where
     by : (o : Option Request) → slice_get (writes s plan k) i ≡ o → Rattle.std.specs.Prelude.option_map (startup 2) (slice_get (writes s plan k) i) ≡ Some t → (t.number ≡ None) × (slice_get (writes s plan k) i ≡ Some t.request)
-    by None f e = absurd (none≢some (sym (ap (Rattle.std.specs.Prelude.option_map (startup 2)) f) ∙ e))
-      where
-        none≢some : {A : Type 0} {x : A} → None ≡ Some x → ⊥
-        none≢some e = cc
+    by None f e = absurd (none-some _ (sym (ap (Rattle.std.specs.Prelude.option_map (startup 2)) f) ∙ e))
     by (Some r) f e =
-        let same : startup 2 r ≡ t = inside (sym (ap (Rattle.std.specs.Prelude.option_map (startup 2)) f) ∙ e) in
+        let same : startup 2 r ≡ t = same_Some _ _ (sym (ap (Rattle.std.specs.Prelude.option_map (startup 2)) f) ∙ e) in
         (ap (λ x. x.number) (sym same), f ∙ ap (λ x. Some x.request) same)
-      where
-        inside : {A : Type 0} {a b : A} → Some a ≡ Some b → a ≡ b
-        inside e = cc
 
 written_at : HasNext → (s : Known) (requests : ℕ → List Task) (h : List Call) (k i : ℕ) → k < length s.drives → i < 11 → is_checked (member s k) (outcomes (past s requests h) k) ≡ true →
     (plan : PlanView) × ((past s requests h).plan ≡ Some plan) × IsWritten s k plan (begun_by ((past s requests h).calls k)) i
@@ -394,10 +317,7 @@ are_written has s requests h some all =
     at k i within below = written_at has s requests h k i within below (each_passes (length s.drives) 0 (λ j. is_checked (member s j) (outcomes (past s requests h) j)) all k (omega arith) (omega (arith, within)))
 
     same_plan : {plan : PlanView} {k i : ℕ} → (past s requests h).plan ≡ Some plan → (other : PlanView) × ((past s requests h).plan ≡ Some other) × IsWritten s k other (begun_by ((past s requests h).calls k)) i → IsWritten s k plan (begun_by ((past s requests h).calls k)) i
-    same_plan {plan} {k} {i} is (other, also, written) = subst (λ q. IsWritten s k q (begun_by ((past s requests h).calls k)) i) (inside (sym also ∙ is)) written
-      where
-        inside : {A : Type 0} {a b : A} → Some a ≡ Some b → a ≡ b
-        inside e = cc
+    same_plan {plan} {k} {i} is (other, also, written) = subst (λ q. IsWritten s k q (begun_by ((past s requests h).calls k)) i) (same_Some _ _ (sym also ∙ is)) written
 
 -- the plan is kept then, also in the next phase
 pub holds_plan : {phase : ℕ} {v w : CoreView} (s : Known) (requests : ℕ → List Task) (h : List Call) → w.plan ≡ v.plan → IsIn phase v s (past s requests h) → all_checked s (past s requests h) ≡ true → HoldsPlan w s (past s requests h)

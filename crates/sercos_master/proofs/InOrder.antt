@@ -1,6 +1,7 @@
 -- A request that begins is the first one that still waits.
 use Rattle.std.proofs.Common.{◌≡◌, ℕ, zero, suc, ◌+◌, ◌<◌, ◌≤◌, Bool, true, false, List, [], ◌∷◌, ◌++◌, length, refl, sym, ap, ◌∙◌, subst, arith, if◌then◌else◌, length-append}
-use Rattle.std.specs.Prelude.{◌==◌, ◌&&◌, nat_lt, Option, Some, None, is_some, is_none, map, drop, slice_get, option_map, unwrap_or}
+use Rattle.std.proofs.lemmas.Option.{none-some}
+use Rattle.std.specs.Prelude.{◌==◌, nat_lt, Option, Some, None, is_some, map, drop, slice_get}
 use Rattle.std.proofs.lemmas.Bool.{false≢true}
 use Rattle.std.proofs.lemmas.Bool.Decides.{nat_tests}
 use Rattle.std.proofs.lemmas.List.{drop-drop}
@@ -18,13 +19,11 @@ use Rattle.sercos_seat.specs.Channel.{with_outcome, outcomes_in, of_phase, count
 use Rattle.sercos_seat.proofs.Gets.{get_none, length_map, length_append}
 use Rattle.sercos_seat.proofs.Agendas.{reads_length}
 use Rattle.sercos_seat.proofs.Queues.{ready_long, ready_stays, next_request, none_4}
-use Rattle.sercos_master.specs.Annals.{Call, HearMst, HearAt, Mdt, End, Restart, Past, past, outcomes, is_idle, has_turn, next_task, begins, settled, still_waiting, after_end, fall_of, next_phase, goes_on, new_epoch}
-use Rattle.sercos_master.proofs.Laws.{waiting_at, waiting_settled}
+use Rattle.sercos_master.specs.Annals.{Call, Past, past, outcomes, is_idle, next_task, begins, settled, still_waiting}
+use Rattle.sercos_master.proofs.Keeping.{begins_next, past_keeps}
+use Rattle.sercos_master.proofs.Laws.{waiting_settled}
 use Rattle.sercos_master.proofs.Followed.{HasNext, AllFollow, Followed, Follows, followed, settled_follows, all_ended}
 use Rattle.sercos_master.proofs.Configured.{leaves}
-
-none≢some : {A : Type 0} {x : A} → None ≡ Some x → ⊥
-none≢some e = cc
 
 inside : {A : Type 0} {a b : A} → Some a ≡ Some b → a ≡ b
 inside e = cc
@@ -37,7 +36,7 @@ abbrev AllTell : List Task → Type 0
 AllTell xs = (i : ℕ) (t : Task) → slice_get xs i ≡ Some t → Tells t
 
 tell_nil : AllTell []
-tell_nil i t e = absurd (none≢some e)
+tell_nil i t e = absurd (none-some _ e)
 
 tell_more : (x : Task) (xs : List Task) → Tells x → AllTell xs → AllTell (x ∷ xs)
 tell_more x xs one all zero t e = subst Tells (inside e) one
@@ -76,7 +75,7 @@ numbered_tell : (xs : List Task) → AreNumbered xs → AllTell xs
 numbered_tell xs all i t e = let n = all i t e in rw (n.0, n.1) refl
 
 pub tasks_numbered : (address i : ℕ) (jobs : List Job) → AreNumbered (tasks_from address i jobs)
-tasks_numbered address i [] = λ j t e. absurd (none≢some e)
+tasks_numbered address i [] = λ j t e. absurd (none-some _ e)
 tasks_numbered address i (job ∷ jobs) = by (job.drive == address) (tasks_numbered address (i + 1) jobs)
   where
     one_more : AreNumbered (tasks_from address (i + 1) jobs) → AreNumbered (request_task i job.request ∷ tasks_from address (i + 1) jobs)
@@ -117,7 +116,7 @@ none_yet s k plan waiting (b ∷ older) (t ∷ tasks) numbered all early = by (i
         rw (sym tells ∙ four) (before e)
       where
         not_four : (b : Bool) → (if b then Some t else None) ≡ None → b ≡ false
-        not_four true e = absurd (none≢some (sym e))
+        not_four true e = absurd (none-some _ (sym e))
         not_four false e = refl
 
 -- then each task is the next request
@@ -159,7 +158,7 @@ each_then s k plan waiting (b ∷ older) (t ∷ tasks) numbered all ended ready 
             unplanned all long next =
                 let l : length (map (startup 2) (reads (member s k))) ≡ reads_count (member s k) = length_map (startup 2) (reads (member s k)) ∙ reads_length (member s k) in
                 let a = length_append (map (startup 2) (reads (member s k))) [] in
-                none≢some (sym (get_none (map (startup 2) (reads (member s k)) ++ []) (length all) (omega (arith, l, a, long))) ∙ next)
+                none-some _ (sym (get_none (map (startup 2) (reads (member s k)) ++ []) (length all) (omega (arith, l, a, long))) ∙ next)
         go (Some p) next =
             let at : length (outcomes_in older) ≡ reads_count (member s k) + 13 + count_requests tasks = f.ended ∙ sym before in
             let is : slice_get waiting (count_requests tasks) ≡ Some t = sym (next_request s p waiting k (outcomes_in older) (count_requests tasks) e at) ∙ next in
@@ -174,7 +173,7 @@ each_then s k plan waiting (b ∷ older) (t ∷ tasks) numbered all ended ready 
         rw (sym tells ∙ four) (omega (arith, at, none))
       where
         not_four : (b : Bool) → (if b then Some t else None) ≡ None → b ≡ false
-        not_four true e = absurd (none≢some (sym e))
+        not_four true e = absurd (none-some _ (sym e))
         not_four false e = refl
 
 -- WHAT WAITS is what is left of the requests that the master was opened with.
@@ -182,25 +181,23 @@ drop_twice : (n m : ℕ) (xs : List Task) → drop n (drop m xs) ≡ drop (m + n
 drop_twice n m xs = drop-drop n m xs
 
 pub still_left : (s : Known) (requests : ℕ → List Task) (h : List Call) (k : ℕ) → (n : ℕ) × ((past s requests h).waiting k ≡ drop n (requests k))
-still_left s requests [] k = (0, refl)
-still_left s requests (HearMst content ∷ h) k = still_left s requests h k
-still_left s requests (HearAt content ∷ h) k =
-    let before = still_left s requests h k in
-    (before.0, ap (λ w. w k) (waiting_at s (Rattle.sercos_master.specs.Annals.place_of s (Rattle.std.specs.Prelude.slice_index content 0)) content (past s requests h)) ∙ before.1)
-still_left s requests (Mdt ∷ h) k = let before = still_left s requests h k in (before.0, ap (λ w. w k) (waiting_settled s (past s requests h)) ∙ before.1)
-still_left s requests (End ∷ h) k = by (is_some (fall_of s (past s requests h))) (still_left s requests h k)
-  where
-    by : (falls : Bool) → (n : ℕ) × ((past s requests h).waiting k ≡ drop n (requests k)) →
-        (n : ℕ) × ((if falls then new_epoch ((past s requests h).cycle + 1) (still_waiting (past s requests h)) else goes_on (next_phase s (past s requests h)) (past s requests h)).waiting k ≡ drop n (requests k))
-    by true before = (before.0 + count_requests ((past s requests h).tasks k), ap (drop (count_requests ((past s requests h).tasks k))) before.1 ∙ drop_twice (count_requests ((past s requests h).tasks k)) before.0 (requests k))
-    by false before = before
-still_left s requests (Restart ∷ h) k =
-    let before = still_left s requests h k in
-    (before.0 + count_requests ((past s requests h).tasks k), ap (drop (count_requests ((past s requests h).tasks k))) before.1 ∙ drop_twice (count_requests ((past s requests h).tasks k)) before.0 (requests k))
+still_left s requests h k = past_keeps (λ p. (n : ℕ) × (p.waiting k ≡ drop n (requests k))) s requests (record {
+  first = (0, refl);
+  mst = λ h whole before. before;
+  taken = λ h i content inside is before. before;
+  mdt = λ h before. (before.0, ap (λ w. w k) (waiting_settled s (past s requests h)) ∙ before.1);
+  on = λ h done is before. before;
+  new = λ h cycle before.
+      let n = count_requests ((past s requests h).tasks k) in
+      (before.0 + n, ap (drop n) before.1 ∙ drop_twice n before.0 (requests k));
+}) h
 
 pub first_waiting : HasNext → (s : Known) (jobs : List Job) (h : List Call) (k : ℕ) (t : Task) → k < length s.drives → begins s (settled s (past s (tasks_for s jobs) h)) k ≡ Some t → is_some t.number ≡ true →
     slice_get (still_waiting (past s (tasks_for s jobs) h) k) 0 ≡ Some t
-first_waiting has s jobs h k t within begin number = by (is_none q.stop) (is_idle q k) (has_turn s q k) refl refl begin
+first_waiting has s jobs h k t within begin number =
+    let b = begins_next s q k t begin in
+    let keeps = leaves s p in
+    get_dropped (count_requests (p.tasks k)) (p.waiting k) ∙ (sym (ap (λ w. slice_get (w k) (count_requests (p.tasks k))) (waiting_settled s p)) ∙ (sym (ap (λ ts. slice_get (q.waiting k) (count_requests (ts k))) keeps.tasks) ∙ one b.idle b.next))
   where
     p : Past
     p = past s (tasks_for s jobs) h
@@ -215,14 +212,6 @@ first_waiting has s jobs h k t within begin number = by (is_none q.stop) (is_idl
     numbered =
         let left = still_left s (tasks_for s jobs) h k in
         subst AreNumbered (sym (ap (λ w. w k) (waiting_settled s (past s (tasks_for s jobs) h)) ∙ left.1)) (dropped_numbered left.0 (tasks_for s jobs k) (tasks_numbered (member s k).address 1 jobs))
-
-    of_its : (phase : ℕ) (o : Option Task) → of_phase phase o ≡ Some t → o ≡ Some t
-    of_its phase None e = absurd (none≢some e)
-    of_its phase (Some u) e = which (u.phase == phase) e
-      where
-        which : (b : Bool) → (if b then Some u else None) ≡ Some t → Some u ≡ Some t
-        which true e = e
-        which false e = absurd (none≢some e)
 
     get_dropped : (n : ℕ) (xs : List Task) → slice_get (drop n xs) 0 ≡ slice_get xs n
     get_dropped zero xs = refl
@@ -239,7 +228,7 @@ first_waiting has s jobs h k t within begin number = by (is_none q.stop) (is_idl
         which false early =
             let tells : (t.phase == 4) ≡ is_some t.number = tell_agenda s q.plan (q.waiting k) k (outcomes q k) (numbered_tell (q.waiting k) numbered) (length (outcomes q k)) t next in
             let other : of_phase 4 (Some t) ≡ None = ap (of_phase 4) (sym next) ∙ none_4 s q.plan (q.waiting k) k (outcomes q k) early (length (outcomes q k)) in
-            absurd (none≢some (sym (ap (λ b. if b then Some t else None) (sym (tells ∙ number)) ∙ other)))
+            absurd (none-some _ (sym (ap (λ b. if b then Some t else None) (sym (tells ∙ number)) ∙ other)))
         which true ready = go q.plan refl
           where
             count : reads_count (member s k) + 13 + count_requests ((settled s (past s (tasks_for s jobs) h)).tasks k) ≡ length (begun_by ((settled s (past s (tasks_for s jobs) h)).calls k))
@@ -251,18 +240,7 @@ first_waiting has s jobs h k t within begin number = by (is_none q.stop) (is_idl
                 let a = length_append (map (startup 2) (reads (member s k))) [] in
                 let long = ready_long (member s k) (outcomes q k) ready in
                 let at : slice_get (map (startup 2) (reads (member s k)) ++ []) (length (outcomes q k)) ≡ Some t = subst (λ o. slice_get (agenda s o (q.waiting k) k (outcomes q k)) (length (outcomes q k)) ≡ Some t) none next in
-                absurd (none≢some (sym (get_none (map (startup 2) (reads (member s k)) ++ []) (length (outcomes q k)) (omega (arith, l, a, long))) ∙ at))
+                absurd (none-some _ (sym (get_none (map (startup 2) (reads (member s k)) ++ []) (length (outcomes q k)) (omega (arith, l, a, long))) ∙ at))
             go (Some plan) some =
                 let at : slice_get (agenda s (Some plan) (q.waiting k) k (outcomes q k)) (length (outcomes q k)) ≡ Some t = subst (λ o. slice_get (agenda s o (q.waiting k) k (outcomes q k)) (length (outcomes q k)) ≡ Some t) some next in
                 sym (next_request s plan (q.waiting k) k (outcomes q k) (count_requests (q.tasks k)) ready (ended ∙ sym count)) ∙ at
-
-    by : (free idle turn : Bool) → is_none (settled s (past s (tasks_for s jobs) h)).stop ≡ free → is_idle (settled s (past s (tasks_for s jobs) h)) k ≡ idle →
-        (if free && (idle && turn) then of_phase (settled s (past s (tasks_for s jobs) h)).now.phase (next_task s (settled s (past s (tasks_for s jobs) h)) k) else None) ≡ Some t →
-        slice_get (still_waiting (past s (tasks_for s jobs) h) k) 0 ≡ Some t
-    by true true true free idle e =
-        let is = one idle (of_its q.now.phase (next_task s q k) e) in
-        let keeps = leaves s (past s (tasks_for s jobs) h) in
-        get_dropped (count_requests (p.tasks k)) (p.waiting k) ∙ (sym (ap (λ w. slice_get (w k) (count_requests (p.tasks k))) (waiting_settled s p)) ∙ (sym (ap (λ ts. slice_get (q.waiting k) (count_requests (ts k))) keeps.tasks) ∙ is))
-    by true true false free idle e = absurd (none≢some e)
-    by true false turn free idle e = absurd (none≢some e)
-    by false idle turn free is e = absurd (none≢some e)

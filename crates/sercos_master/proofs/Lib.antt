@@ -7,6 +7,7 @@ pub mod Wishes
 pub mod Sent
 pub mod Told
 pub mod Openings
+pub mod Keeping
 pub mod Laws
 pub mod Configured
 pub mod Closing

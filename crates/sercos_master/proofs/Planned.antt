@@ -1,7 +1,7 @@
 -- Where there is a plan, it is the plan of what was read in this epoch.
 use Rattle.std.proofs.Common.{◌≡◌, ℕ, zero, suc, ◌+◌, ◌<◌, ◌≤◌, Bool, true, false, not, List, [], ◌∷◌, ◌++◌, length, take, drop, refl, sym, ap, ap₂, ◌∙◌, subst, arith, if◌then◌else◌, length-append}
-use Rattle.std.specs.Prelude.{◌==◌, nat_le, Option, Some, None, Result, Ok, Err, is_some, is_none, slice_get, slice_index}
-use Rattle.std.proofs.lemmas.Bool.{and_parts, leb-true, le-leb}
+use Rattle.std.specs.Prelude.{nat_le, Option, Some, None, Ok, is_none, slice_get}
+use Rattle.std.proofs.lemmas.Bool.{leb-true, le-leb}
 use Rattle.std.proofs.lemmas.Option.{get_or_from_slice_get}
 use Rattle.std.proofs.lemmas.List.{take-append-le, drop-append-le, length-drop}
 use Rattle.sercos_step.specs.declared.request.Outcome.{Outcome}
@@ -9,16 +9,14 @@ use Rattle.sercos_timing.specs.Order.{record_bytes}
 use Rattle.sercos_timing.specs.Views.{PlanView, WishesView}
 use Rattle.sercos_timing.specs.declared.wishes.Wish.{Wish}
 use Rattle.sercos_timing.specs.declared.wishes.Times.{Times}
-use Rattle.sercos_plan.specs.Views.{ChainView}
 use Rattle.sercos_plan.specs.ChainOf.{planned}
 use Rattle.sercos_service_master.specs.Calls.{begun_by}
-use Rattle.sercos_trace.specs.declared.events.Stop.{Stop}
-use Rattle.sercos_trace.specs.declared.events.Stop.TheVariants as stop
 use Rattle.sercos_seat.specs.Ring.{Known, Task, MemberView, member, no_member}
-use Rattle.sercos_seat.specs.Agenda.{bytes_of, long_in, short_in, given, reads_count, is_read, words_given, at_attributes, mdt_attributes, times_given, wish_given, wishes_from, wishes_given, last_long_stop}
+use Rattle.sercos_seat.specs.Agenda.{bytes_of, long_in, short_in, given, reads_count, is_read, words_given, at_attributes, mdt_attributes, times_given, wish_given, wishes_from, wishes_given}
 use Rattle.sercos_seat.specs.Channel.{outcomes_in, with_outcome}
 use Rattle.sercos_seat.proofs.Seats.{before_end}
-use Rattle.sercos_master.specs.Annals.{Call, HearMst, HearAt, Mdt, End, Restart, Past, IsPlanned, first_from, outcomes, is_taken, after_taken, after_at_of, after_at, place_of, all_read, first_trouble, with_stop, is_plan_due, with_plan, planned_by, with_due_plan, settled, ready_to_send, after_mdt, fall_of, next_phase, goes_on, new_epoch, still_waiting, after_end, past}
+use Rattle.sercos_master.specs.Annals.{Call, Past, IsPlanned, first_from, outcomes, after_taken, all_read, settled, ready_to_send, after_mdt, past}
+use Rattle.sercos_master.proofs.Keeping.{came_back, going, past_keeps, settled_keeps, stopped}
 use Rattle.sercos_master.proofs.Configured.{leaves, begun_adds, mdt_adds, each_passes}
 pub use Rattle.sercos_master.proofs.Configured.{Adds, at_adds}
 
@@ -128,62 +126,28 @@ stays_planned s p q adds same is plan has =
       planned_is = ap planned after.1 ∙ before.planned_is;
     }
 
-at_planned : (s : Known) (content : List ℕ) (p : Past) → IsPlanned s p → IsPlanned s (after_at s content p)
-at_planned s content p is = by (place_of s (slice_index content 0))
-  where
-    by : (o : Option ℕ) → IsPlanned s (after_at_of s o content p)
-    by None = is
-    by (Some i) = which (is_taken s p i content)
-      where
-        which : (on : Bool) → IsPlanned s (if on then after_taken i content p else p)
-        which true = stays_planned s p (after_taken i content p) (at_adds i content p) refl is
-        which false = is
-
-stop_planned : (s : Known) (o : Option Stop) (p : Past) → IsPlanned s p → IsPlanned s (with_stop o p)
-stop_planned s None p is = is
-stop_planned s (Some x) p is = which (is_some p.stop)
-  where
-    which : (on : Bool) → IsPlanned s (if on then p else record p { now = record p.now { stops = true }; stop = Some x })
-    which true = is
-    which false = stays_planned s p (record p { now = record p.now { stops = true }; stop = Some x }) (λ j. (None, refl)) refl is
-
-due_planned : (s : Known) (p : Past) → IsPlanned s p → IsPlanned s (with_due_plan s p)
-due_planned s p is = which (is_plan_due s p) refl
-  where
-    made : all_read s p ≡ true → (on : Bool) → nat_le (record_bytes (wishes_given s (outcomes p)).drives) 2047 ≡ on → (r : Result PlanView ChainView) → planned (wishes_given s (outcomes p)) ≡ r →
-        IsPlanned s (if on then with_plan r p else with_stop (last_long_stop s.drives 0 (outcomes p)) p)
-    made all true fits (Ok plan) so = λ other has. let same : plan ≡ other = cc in record { read = all; fits = fits; planned_is = so ∙ ap (λ (x : PlanView). Ok x) same }
-    made all true fits (Err chain) so = stop_planned s (Some (stop.NoFit chain)) p is
-    made all false fits r so = stop_planned s (last_long_stop s.drives 0 (outcomes p)) p is
-
-    which : (on : Bool) → is_plan_due s p ≡ on → IsPlanned s (if on then planned_by s p else p)
-    which false off = is
-    which true on =
-        let more = (and_parts (p.now.phase == 2) _ on).1 in
-        let two = (and_parts (is_none p.stop) _ more).1 in
-        made (and_parts (is_none p.plan) (all_read s p) two).1 (nat_le (record_bytes (wishes_given s (outcomes p)).drives) 2047) refl (planned (wishes_given s (outcomes p))) refl
+settled_planned : (s : Known) (p : Past) → IsPlanned s p → IsPlanned s (settled s p)
+settled_planned s p is = settled_keeps (IsPlanned s) s p (λ rests. is)
+    (λ x none brings. stays_planned s p (stopped x p) (λ j. (None, refl)) refl is)
+    (λ plan makes other has. let same : plan ≡ other = cc in let by = makes.by_reads in
+    record { read = by.read; fits = by.fits; planned_is = by.planned_is ∙ ap (λ (x : PlanView). Ok x) same })
 
 -- and so it is where the MDT is sent
 pub sent_planned : (s : Known) (p : Past) → IsPlanned s p → IsPlanned s (ready_to_send s p)
 sent_planned s p is =
-    stays_planned s (settled s p) (ready_to_send s p) (λ j. (None, begun_adds s (settled s p) j)) refl
-    (due_planned s (with_stop (first_trouble s p) p) (stop_planned s (first_trouble s p) p is))
+    stays_planned s (settled s p) (ready_to_send s p) (λ j. (None, begun_adds s (settled s p) j)) refl (settled_planned s p is)
 
 mdt_planned : (s : Known) (p : Past) → IsPlanned s p → IsPlanned s (after_mdt s p)
 mdt_planned s p is = stays_planned s (ready_to_send s p) (after_mdt s p) (λ j. (None, mdt_adds s p j ∙ sym (begun_adds s (settled s p) j ∙ ap (λ calls. outcomes_in (begun_by (calls j))) (leaves s p).calls))) refl (sent_planned s p is)
 
-end_planned : (s : Known) (p : Past) → IsPlanned s p → IsPlanned s (after_end s p)
-end_planned s p is = by (is_some (fall_of s p))
-  where
-    by : (fell : Bool) → IsPlanned s (if fell then new_epoch (p.cycle + 1) (still_waiting p) else goes_on (next_phase s p) p)
-    by true = λ plan has. absurd (cc)
-    by false = stays_planned s p (goes_on (next_phase s p) p) (λ j. (None, refl)) refl is
-
 -- after any calls
 pub is_planned : (s : Known) (requests : ℕ → List Task) (h : List Call) → IsPlanned s (past s requests h)
-is_planned s requests [] = λ plan has. absurd (cc)
-is_planned s requests (HearMst content ∷ h) = stays_planned s (past s requests h) (past s requests (HearMst content ∷ h)) (λ j. (None, refl)) refl (is_planned s requests h)
-is_planned s requests (HearAt content ∷ h) = at_planned s content (past s requests h) (is_planned s requests h)
-is_planned s requests (Mdt ∷ h) = mdt_planned s (past s requests h) (is_planned s requests h)
-is_planned s requests (End ∷ h) = end_planned s (past s requests h) (is_planned s requests h)
-is_planned s requests (Restart ∷ h) = λ plan has. absurd (cc)
+is_planned s requests = past_keeps (IsPlanned s) s requests (record {
+  first = λ plan has. absurd (cc);
+  mst = λ h whole is. stays_planned s (past s requests h) (came_back whole (past s requests h)) (λ j. (None, refl)) refl is;
+  taken = λ h k content inside taken is. stays_planned s (past s requests h) (after_taken k content (past s requests h))
+      (at_adds k content (past s requests h)) refl is;
+  mdt = λ h. mdt_planned s (past s requests h);
+  on = λ h done at is. stays_planned s (past s requests h) (going done (past s requests h)) (λ j. (None, refl)) refl is;
+  new = λ h cycle is plan has. absurd (cc);
+})

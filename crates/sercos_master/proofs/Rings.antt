@@ -1,6 +1,7 @@
 -- What the ring keeps tells what is looked back on, and what it begins.
-use Rattle.std.proofs.lemmas.Bool.{cases_eq, false≢true}
-use Rattle.std.proofs.Common.{inl, inr, ◌⊎◌, ◌≡◌, ℕ, zero, suc, ◌+◌, ◌<◌, ◌≤◌, ◌==◌, Bool, true, false, List, [], ◌∷◌, Option, Some, None, length, ap, subst, refl, sym, ◌∙◌, arith, if◌then◌else◌}
+use Rattle.std.proofs.lemmas.Bool.{cases_Bool, cases_eq, false≢true}
+use Rattle.std.proofs.lemmas.Option.{none-some, same_Some}
+use Rattle.std.proofs.Common.{inl, inr, ◌≡◌, ℕ, zero, suc, ◌+◌, ◌<◌, ◌≤◌, ◌==◌, Bool, true, false, List, [], ◌∷◌, Option, Some, None, length, ap, subst, refl, sym, ◌∙◌, arith, if◌then◌else◌}
 use Rattle.std.specs.Prelude.{◌%◌, ◌^◌, is_some, is_none, min, unwrap_or, nat_le, nat_lt, slice_index_or, option_map, not, ◌&&◌, ◌||◌}
 use Rattle.std.specs.List.{position}
 use Rattle.std.specs.Option.{option_or}
@@ -130,22 +131,17 @@ stuck v s p c e = found v s p (λ seat. nat_le 64 (cycles_kept seat)) (is_at_lim
     (λ i seat t. ap (nat_le 64) (count_kept seat (member s i) (seen_at p i) t)
     ∙ sym (limit_by_count p.now.phase (cycles_open (p.calls i)) p.now.addressed i (count_addressed i p.turns) e))
 
--- in phase 1 it is the drive that the MDT is to, if it was to it in 64 cycles before
-chosen : (b : Bool) → (b ≡ true) ⊎ (b ≡ false)
-chosen true = inl refl
-chosen false = inr refl
-
 pub none_from : (n k : ℕ) (test : ℕ → Bool) → ((j : ℕ) → k ≤ j → j < k + n → test j ≡ false) → first_from k n test ≡ None
 none_from zero k test none = refl
 none_from (suc n) k test none = rw (none k (omega arith) (omega arith)) (none_from n (k + 1) test (λ j low high. none j (omega (arith, low)) (omega (arith, high))))
 
 only_false : (test : ℕ → Bool) (i j : ℕ) → (test j ≡ true → j ≡ i) → (j ≡ i → ⊥) → test j ≡ false
-only_false test i j only n = elim (chosen (test j)) [ inl e ↦ absurd (n (only e)) | inr e ↦ e ]
+only_false test i j only n = elim (cases_Bool (test j)) [ inl e ↦ absurd (n (only e)) | inr e ↦ e ]
 
 first_only : (n k i : ℕ) (test : ℕ → Bool) → ((j : ℕ) → test j ≡ true → j ≡ i) → k ≤ i → i < k + n → first_from k n test ≡ (if test i then Some i else None)
 first_only zero k i test only low high = absurd (omega (arith, low, high))
 first_only (suc n) k i test only low high = elim (cases_eq k i) [
-  | inl same ↦ elim (chosen (test i)) [
+  | inl same ↦ elim (cases_Bool (test i)) [
     | inl e ↦ let h : test k ≡ true = rw same e in rw (h, e, same) refl
     | inr e ↦ let h : test k ≡ false = rw same e in rw (h, e) (none_from n (k + 1) test (λ j later high. only_false test i j (only j) (λ f. omega (arith, same, later, f))))
   ]
@@ -160,6 +156,7 @@ true_first : (a b : Bool) → (a && b) ≡ true → a ≡ true
 true_first true b e = refl
 true_first false b e = e
 
+-- in phase 1 it is the drive that the MDT is to, if it was to it in 64 cycles before
 pub waited : (s : Known) (p : Past) (i : ℕ) → p.now.phase ≡ 1 → p.now.addressed ≡ Some i → i < length s.drives →
     first_place s (is_at_limit p) ≡ (if nat_le 64 (min (count_addressed i p.turns) 64) then Some i else None)
 waited s p i one to within =
@@ -169,7 +166,7 @@ waited s p i one to within =
     only j e = is_that j i (true_first (j == i) (nat_le 64 (count_addressed j p.turns)) (rw (one, to) at e))
 
     enough : nat_le 64 (count_addressed i p.turns) ≡ nat_le 64 (min (count_addressed i p.turns) 64)
-    enough = elim (chosen (nat_le 64 (count_addressed i p.turns))) [
+    enough = elim (cases_Bool (nat_le 64 (count_addressed i p.turns))) [
       | inl e ↦ let f : nat_le 64 (min (count_addressed i p.turns) 64) ≡ true = grind (arith, nat_tests, e) in e ∙ sym f
       | inr e ↦ let f : nat_le 64 (min (count_addressed i p.turns) 64) ≡ false = grind (arith, nat_tests, e) in e ∙ sym f
     ]
@@ -245,7 +242,7 @@ pub no_fall : (s : Known) (p : Past) → has_lost_mst (p.now ∷ p.turns) ≡ fa
 no_fall s p e f g = rw (e, f, g) refl
 
 same_test : (i k : ℕ) → (k ≡ i → ⊥) → nat_lt k (i + 1) ≡ nat_lt k i
-same_test i k other = elim (chosen (nat_lt k i)) [
+same_test i k other = elim (cases_Bool (nat_lt k i)) [
   | inl e ↦ let f : nat_lt k (i + 1) ≡ true = grind (arith, nat_tests, e) in f ∙ sym e
   | inr e ↦ let f : nat_lt k (i + 1) ≡ false = grind (arith, nat_tests, e, other) in f ∙ sym e
 ]
@@ -270,7 +267,7 @@ waited_more p = by (p.now.phase == 1) p.now.addressed refl refl
     by true None e f = rw (e, f) refl
     by false None e f = rw (e, f) refl
     by false (Some k) e f = rw (e, f, e) refl
-    by true (Some k) e f = elim (chosen (is_place k (addressed_before p.turns))) [
+    by true (Some k) e f = elim (cases_Bool (is_place k (addressed_before p.turns))) [
       | inl same ↦
           let g : min (count_addressed k p.turns) 64 ≡ waited_row p.turns = count_same p.turns k same in
           let h : min (min (count_addressed k p.turns) 64 + 1) 64 ≡ min (count_addressed k p.turns + 1) 64 = omega arith in
@@ -404,21 +401,15 @@ begun_all v seats s p phase c is late no_stop count all = with_seats v seats v.a
     (λ k seat below. subst (SeatStandsFor (slice_index_or seats k seat) (member s k))
     (sym (seen_begun s p k ∙ ap (λ t. with_begun t (seen_at p k)) (begins_all s p k phase is late no_stop))) (all k seat below))
 
-none≢some : {A : Type 0} {x : A} → None ≡ Some x → ⊥
-none≢some e = cc
-
-some_same : {i k : ℕ} → Some i ≡ Some k → i ≡ k
-some_same e = cc
-
 -- STOPS. The first stop in ring order is that of the first drive that has one.
 abbrev at_place : (ℕ → Option Stop) → Option ℕ → Option Stop
 at_place trouble None = None
 at_place trouble (Some k) = trouble k
 
 first_passes : (n i k : ℕ) (test : ℕ → Bool) → first_from i n test ≡ Some k → test k ≡ true
-first_passes zero i k test e = absurd (none≢some e)
-first_passes (suc n) i k test e = elim (chosen (test i)) [
-  | inl t ↦ let same : i ≡ k = some_same (rw t at e) in rw (← same) t
+first_passes zero i k test e = absurd (none-some _ e)
+first_passes (suc n) i k test e = elim (cases_Bool (test i)) [
+  | inl t ↦ let same : i ≡ k = same_Some _ _ (rw t at e) in rw (← same) t
   | inr f ↦ first_passes n (i + 1) k test (rw f at e)
 ]
 
