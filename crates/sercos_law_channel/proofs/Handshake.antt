@@ -1,5 +1,6 @@
 pub mod HandshakeMoves
 pub mod TransferSteps
+pub mod StepTests
 pub mod StoredBytes
 pub mod QuietSteps
 pub mod AttributeReplies

@@ -2,6 +2,7 @@ pub mod OnTime
 pub mod OnTimeRuns
 pub mod LateMoves
 pub mod LateRuns
+pub mod InCycle
 pub mod EpochBegins
 pub mod WholeCycles
 pub mod AgeRuns

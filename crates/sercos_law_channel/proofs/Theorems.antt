@@ -9,7 +9,7 @@ pub use Rattle.sercos_law_channel.proofs.Handshake.PhaseMoves.{Down, Moves, Noth
 pub use Rattle.sercos_law_channel.proofs.Handshake.ProtectedWrites.{AreAllowed, added_bare, those_kept, those_since}
 pub use Rattle.sercos_law_channel.proofs.Handshake.RunFacts.{accepts_in_order, comes_to, stands_as_commanded}
 pub use Rattle.sercos_law_channel.proofs.Handshake.SettingReplies.{Allows, cancels_well}
-pub use Rattle.sercos_law_channel.proofs.Handshake.StoredValues.{all-drop, elsewhere, own_one}
+pub use Rattle.sercos_law_channel.proofs.Handshake.StoredValues.{flipped, newest_of}
 pub use Rattle.sercos_law_channel.proofs.Handshake.TransferSteps.{complete-outcome_of, goes_on-outcome_of, length-replies_of, length-steps_begun, length-steps_of, newest_step, without_newest}
 pub use Rattle.sercos_law_channel.proofs.Handshake.UnknownBlocks.{only_opening, refused_opening}
 pub use Rattle.sercos_law_channel.proofs.Handshake.WholeRuns.{HasReplies, answered_replies, entries_ago, entries_in_epochs, kept_same, written}

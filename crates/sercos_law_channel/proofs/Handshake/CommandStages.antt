@@ -1,5 +1,6 @@
 -- How far a transfer that sets a procedure command has come, and what it adds to the writes.
 use Rattle.std.proofs.Common.{◌≡◌, ℕ, suc, ◌<◌, Bool, true, false, not, ◌&&◌, List, [], ◌∷◌, ◌++◌, length, refl, ap, ap₂, sym, ◌∙◌, arith, if◌then◌else◌, length-append}
+use Rattle.std.proofs.lemmas.Bool.{cond_both}
 use Rattle.std.specs.Prelude.{◌==◌, nat_le, Option, Some, None, slice_get}
 use Rattle.std.proofs.lemmas.Bool.Decides.{nat_tests}
 use Rattle.sercos_idn.specs.declared.idn.Idn.{Idn}
@@ -29,11 +30,8 @@ pub data Poll (polled : List ℕ) (s : Step) : Type 0 where
   Cancels : s ≡ a_step true true 7 0 → ((x : ℕ) → length (polling (polled ++ x ∷ [])) ≡ suc (length polled)) → Poll polled s
 
 one_status : (status : ℕ) → length (polling (status ∷ [])) ≡ 2
-one_status status = by (status == 7)
-  where
-    by : (v : Bool) → suc (length (if v then a_step false true 1 0 ∷ [] else a_step true true 7 0 ∷ [])) ≡ 2
-    by true = refl
-    by false = refl
+one_status status = cond_both (status == 7) (a_step false true 1 0 ∷ []) (a_step true true 7 0 ∷ [])
+    (λ v. suc (length v) ≡ 2) (λ on. refl) (λ off. refl)
 
 poll_more : (status : ℕ) (polled : List ℕ) (s : Step) → (status == 7) ≡ true → Poll polled s → Poll (status ∷ polled) s
 poll_more status polled s seven (Reads is long) = Reads is (λ x. ap (λ (v : Bool). suc (length (if v then polling (polled ++ x ∷ []) else a_step true true 7 0 ∷ []))) seven ∙ ap suc (long x))

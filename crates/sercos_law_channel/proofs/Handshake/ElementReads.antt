@@ -1,8 +1,8 @@
 -- What a selection of an element copies is read as the element's bytes.
-use Rattle.std.proofs.Common.{◌≡◌, ℕ, zero, suc, ◌+◌, ◌*◌, ◌/◌, ◌%◌, ◌≤◌, ◌<◌, Bool, true, false, ◌&&◌, List, [], ◌∷◌, length, refl, ap, sym, ◌∙◌, arith, cond, if◌then◌else◌}
+use Rattle.std.proofs.Common.{◌≡◌, ℕ, zero, suc, ◌+◌, ◌*◌, ◌/◌, ◌%◌, ◌≤◌, ◌<◌, Bool, true, false, List, [], ◌∷◌, length, refl, ap, sym, ◌∙◌, arith, cond, if◌then◌else◌}
 use Rattle.std.specs.Prelude.{◌==◌, ◌||◌, Option, Some, None, is_none, option_map, unwrap_or}
 use Rattle.std.specs.List.{list_all}
-use Rattle.std.proofs.lemmas.Bool.{cond-false}
+use Rattle.std.proofs.lemmas.Bool.{and_parts, cond-false}
 use Rattle.std.proofs.lemmas.Bool.Decides.{nat_tests}
 use Rattle.sercos_model.specs.Bits.{AreBytes}
 use Rattle.sercos_model.proofs.FaultLemmas.{none_of-then}
@@ -40,22 +40,17 @@ record Keeps (c : Block) : Type 0 where
   most : is_max_len c.attribute c.max_len ≡ true
   value : is_len c (length c.value) ≡ true
 
-both : (u v : Bool) → (u && v) ≡ true → (u ≡ true) × (v ≡ true)
-both true true on = (refl, refl)
-both true false on = absurd (cc)
-both false v on = absurd (cc)
-
 keeps : (c : Block) → is_sound c ≡ true → Keeps c
 unfolding is_sound
 keeps c sound =
-    let a = both (is_text 60 c.name) _ sound in
-    let b = both (is_text 12 c.unit) _ a.1 in
-    let d = both (is_limit c.attribute c.min) _ b.1 in
-    let e = both (is_limit c.attribute c.max) _ d.1 in
-    let f = both (is_max_len c.attribute c.max_len) _ e.1 in
-    let g = both (is_step c) _ f.1 in
-    let h = both _ _ g.1 in
-    let i = both (is_len c (length c.value)) _ h.1 in record { name = a.0; unit = b.0; min = d.0; max = e.0; most = f.0; value = i.0 }
+    let a = and_parts (is_text 60 c.name) _ sound in
+    let b = and_parts (is_text 12 c.unit) _ a.1 in
+    let d = and_parts (is_limit c.attribute c.min) _ b.1 in
+    let e = and_parts (is_limit c.attribute c.max) _ d.1 in
+    let f = and_parts (is_max_len c.attribute c.max_len) _ e.1 in
+    let g = and_parts (is_step c) _ f.1 in
+    let h = and_parts _ _ g.1 in
+    let i = and_parts (is_len c (length c.value)) _ h.1 in record { name = a.0; unit = b.0; min = d.0; max = e.0; most = f.0; value = i.0 }
 
 -- the layout of an element from 2 to 7 of a block
 abbrev shape_in : ℕ → Length → Shape
@@ -118,7 +113,7 @@ found_sound raw [] c all found = absurd (cc)
 found_sound raw (d ∷ blocks) c all found = by (d.idn.raw == raw) (found_sound raw blocks c parts.1) found
   where
     parts : (is_sound d ≡ true) × (list_all is_sound blocks ≡ true)
-    parts = both (is_sound d) (list_all is_sound blocks) all
+    parts = and_parts (is_sound d) (list_all is_sound blocks) all
 
     by : (same : Bool) → (find_block raw blocks ≡ Some c → is_sound c ≡ true) → cond same (Some d) (find_block raw blocks) ≡ Some c → is_sound c ≡ true
     by true behind is = let e : d ≡ c = cc in ap is_sound (sym e) ∙ parts.0

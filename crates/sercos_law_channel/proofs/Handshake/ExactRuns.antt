@@ -1,5 +1,6 @@
 -- All transfers of a run are exact, through all epochs.
 use Rattle.std.proofs.Common.{◌≡◌, ◌⊎◌, inl, inr, ℕ, ◌+◌, Bool, true, false, List, [], ◌∷◌, ◌++◌, length, refl, sym, ap, ◌∙◌, subst, arith, if◌then◌else◌, append_assoc}
+use Rattle.std.proofs.lemmas.Bool.{cond_both}
 use Rattle.std.specs.Prelude.{Option, Some, None, IsSome, IfSome, is_some}
 use mathlib.Core.Bool.{beq}
 use Rattle.sercos_telegram.specs.declared.words.Status.{Status}
@@ -89,11 +90,8 @@ module _ (blocks : List Block) where
   answered_sound a (b ∷ past) sound = sound
 
   heard_sound : (status : Status) (word : ℕ) (begun : List Begun) → AreAllSound blocks begun → AreAllSound blocks (with_status status word begun)
-  heard_sound status word begun sound = by (answers_it begun status)
-    where
-      by : (v : Bool) → AreAllSound blocks (if v then with_answer (answer_in status word) begun else begun)
-      by true = answered_sound (answer_in status word) begun sound
-      by false = sound
+  heard_sound status word begun sound = cond_both (answers_it begun status) (with_answer (answer_in status word) begun) begun
+      (AreAllSound blocks) (λ on. answered_sound (answer_in status word) begun sound) (λ off. sound)
 
   bit_shown : (busy cycle : ℕ) (showing : CommandsView) (status : Status) (word : ℕ) (taken : List Taken) → shown_by status word ≡ channel_says busy cycle showing taken → status.ahs ≡ is_odd (log_of taken)
   bit_shown busy cycle showing status word taken says = ap (λ (s : Shown). s.ahs) says ∙ ahs-shown busy cycle (ahs taken) (change_in showing cycle) (log_of taken) ∙ ahs-log taken
@@ -118,11 +116,8 @@ module _ (blocks : List Block) where
   }
 
   taken_alike : (t : Taken) (taken : List Taken) → AreAlike t.blocks blocks → HaveBlocks blocks (log_of taken) → HaveBlocks blocks (log_of (t ∷ taken))
-  taken_alike t taken alike have = by (beq t.mhs (ahs taken))
-    where
-      by : (v : Bool) → HaveBlocks blocks (answered (if v then accepted taken else t ∷ accepted taken))
-      by true = have
-      by false = (have, alike)
+  taken_alike t taken alike have = cond_both (beq t.mhs (ahs taken)) (accepted taken) (t ∷ accepted taken)
+      (λ v. HaveBlocks blocks (answered v)) (λ on. have) (λ off. (have, alike))
 
   taken_epoch : (phase : ℕ) (t : Taken) (begun : List Begun) (taken : List Taken) → AreInStep begun (log_of taken) → said_in t ≡ master_says begun → t.phase ≡ phase → AreAlike t.blocks blocks → IsEpoch blocks phase begun taken → IsEpoch blocks phase begun (t ∷ taken)
   taken_epoch phase t begun taken h says at alike is = record {

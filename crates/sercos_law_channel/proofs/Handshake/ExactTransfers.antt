@@ -1,7 +1,7 @@
 -- What one transfer writes and reads, whether it is complete, refused, open or broken.
-use Rattle.std.proofs.Common.{◌≡◌, ℕ, ◌+◌, ◌≤◌, Bool, true, false, not, ◌&&◌, List, [], ◌∷◌, ◌++◌, map, drop, length, refl, sym, ap, ◌∙◌, subst, arith, if◌then◌else◌, length-append}
+use Rattle.std.proofs.Common.{◌≡◌, ℕ, ◌+◌, ◌≤◌, Bool, true, false, not, List, [], ◌∷◌, ◌++◌, map, drop, length, refl, sym, ap, ◌∙◌, subst, arith, if◌then◌else◌, length-append}
 use Rattle.std.specs.Prelude.{◌==◌, Option, Some, None, IfSome}
-use Rattle.std.proofs.lemmas.Bool.{leb-true, cond-true, cond-false, eqb-true}
+use Rattle.std.proofs.lemmas.Bool.{and_parts, cond-false, cond-true, eqb-true, leb-true}
 use Rattle.sercos_model.specs.Bits.{AreBytes}
 use Rattle.sercos_idn.specs.declared.attribute.Attribute.{Attribute}
 use Rattle.sercos_idn.specs.declared.code.Code.{Code}
@@ -135,17 +135,13 @@ module _ (laws : Laws) (blocks : List Block) (small : AreSmall blocks) where
   complete_long : (idn : Idn) (e : Entry) (entries : List Entry) (bytes : List ℕ) → outcome_of (request.Command idn) (replies_of (e ∷ entries)) ≡ Some (outcome.Complete bytes) → 2 ≤ length entries
   complete_long idn e entries bytes complete =
       let words = answer_words (replies_of entries) ++ e.answer.word ∷ [] in
-      let whole = (both (not e.answer.error) (is_whole (request.Command idn) words) (sym (complete-outcome_of (request.Command idn) e.answer (replies_of entries)) ∙ ap is_complete complete)).1 in
+      let whole = (and_parts (not e.answer.error) (is_whole (request.Command idn) words) (sym (complete-outcome_of (request.Command idn) e.answer (replies_of entries)) ∙ ap is_complete complete)).1 in
       let many : length (steps_of (request.Command idn) words) ≤ length words = leb-true (length (steps_of (request.Command idn) words)) (length words) whole in
       let more = one_long (drop 2 words) in
       let count : length words ≡ length (answer_words (replies_of entries)) + 1 = length-append (answer_words (replies_of entries)) (e.answer.word ∷ []) in
       let same = length-answer_words (replies_of entries) in
       let as_many = length-replies_of entries in
       omega arith
-    where
-      both : (a b : Bool) → (a && b) ≡ true → (a ≡ true) × (b ≡ true)
-      both true b on = (refl, on)
-      both false b on = absurd (cc)
 
   command_front : (idn : Idn) (e : Entry) (entries log : List Entry) (answers : List Answer) → IsTransfer (request.Command idn) blocks e entries log → is_complete (outcome_of (request.Command idn) (replies_of (e ∷ entries))) ≡ false →
       outcome_of (request.Command idn) answers ≡ None → Wrote blocks (with (request.Command idn) answers) (e ∷ entries) log

@@ -1,24 +1,23 @@
 -- The entries of a transfer are of one phase, since the master doesn't rise while a step is open.
-use Rattle.std.proofs.Common.{◌≡◌, ◌⊎◌, inl, inr, ⊎_elim, ℕ, suc, ◌+◌, ◌*◌, ◌≤◌, Bool, true, false, not, ◌&&◌, List, [], ◌∷◌, ◌++◌, length, drop, replicate, refl, sym, ap, ◌∙◌, subst, arith, if◌then◌else◌, length-append}
+use Rattle.std.proofs.Common.{◌≡◌, ◌⊎◌, inl, inr, ⊎_elim, ℕ, suc, ◌+◌, ◌≤◌, Bool, true, false, not, ◌&&◌, List, [], ◌∷◌, ◌++◌, length, drop, refl, sym, ap, ◌∙◌, subst, arith, if◌then◌else◌, length-append}
 use Rattle.std.specs.Prelude.{◌==◌, Option, Some, None, is_some, slice_get}
 use Rattle.std.specs.List.{list_all}
-use Rattle.std.proofs.lemmas.Bool.{not-true}
+use Rattle.std.proofs.lemmas.Bool.{cond_both, not-true}
 use Rattle.std.proofs.lemmas.Bool.Decides.{nat_tests}
 use mathlib.Core.Bool.{beq}
 use Rattle.sercos_telegram.specs.declared.words.Status.{Status}
 use Rattle.sercos_step.specs.declared.step.Step.{Step}
 use Rattle.sercos_step.specs.declared.step.Answer.{Answer}
-use Rattle.sercos_step.specs.declared.shape.Shape.{Shape}
-use Rattle.sercos_step.specs.declared.shape.Shape.TheVariants as shape
 use Rattle.sercos_step.specs.declared.request.Request.{Request}
 use Rattle.sercos_step.specs.declared.request.Request.TheVariants as request
-use Rattle.sercos_step.specs.Words.{shape_of, words_in_list, words_told}
-use Rattle.sercos_step.specs.Steps.{run, reading, writing, attribute_then, asks_attribute, polling, steps_of, answer_words, next_step}
+use Rattle.sercos_step.specs.Words.{shape_of, words_told}
+use Rattle.sercos_step.specs.Steps.{reading, writing, asks_attribute, polling, steps_of, answer_words, next_step}
 use Rattle.sercos_service_drive.specs.Log.{Taken, Entry, opens}
 use Rattle.sercos_service_master.specs.Begun.{Begun, step_at, with_step, steps_in, open_in, is_odd, mhs_in, answers_it, answer_in, with_answer, step_or_none, master_says}
 use Rattle.sercos_block.specs.declared.block.Block.{Block}
 use Rattle.sercos_law_channel.specs.Handshake.InStep.{Idle, Sent, Kept, AreInStep, replies_of, log_steps}
 use Rattle.sercos_law_channel.specs.Handshake.Transfers.{IsTransfer}
+use Rattle.sercos_law_channel.proofs.Handshake.StepTests.{attribute_passes, reading_passes, run_passes}
 use Rattle.sercos_law_channel.proofs.Handshake.TransferSteps.{all-slice_get, newest_step, without_newest}
 use Rattle.sercos_law_channel.specs.Handshake.Moves.{with_status, said_in, with_taken}
 use Rattle.sercos_law_channel.proofs.Handshake.HandshakeMoves.{parity, quiet_bit, said_bit, said_step, beq-self}
@@ -32,22 +31,6 @@ is_inner s = not (opens s)
 
 abbrev are_inner : List Step → Bool
 are_inner steps = list_all is_inner steps
-
-run_inner : (write : Bool) (e : ℕ) (words : List ℕ) → not (write && (e == 1)) ≡ true → are_inner (run write e words) ≡ true
-run_inner write e [] off = refl
-run_inner write e (word ∷ []) off = rw off refl
-run_inner write e (word ∷ next ∷ words) off = rw off (run_inner write e (next ∷ words) off)
-
-reading_inner : (s : Shape) (e : ℕ) (words : List ℕ) → are_inner (reading s e words) ≡ true
-reading_inner shape.One e words = refl
-reading_inner shape.Two e words = refl
-reading_inner shape.List e [] = refl
-reading_inner shape.List e (actual ∷ words) = run_inner false e (replicate (words_in_list actual) 0) refl
-
-attribute_inner : (rest : ℕ → List ℕ → List Step) (words : List ℕ) → ((word : ℕ) (after : List ℕ) → are_inner (rest word after) ≡ true) → are_inner (attribute_then rest words) ≡ true
-attribute_inner rest [] all = refl
-attribute_inner rest (low ∷ []) all = refl
-attribute_inner rest (low ∷ high ∷ words) all = all (low + 65536 * high) words
 
 polling_inner : (words : List ℕ) → are_inner (polling words) ≡ true
 polling_inner [] = refl
@@ -63,18 +46,18 @@ IsNamed (request.Read idn e) = Unit {0}
 IsNamed (request.Write idn e bytes) = 2 ≤ e
 IsNamed (request.Command idn) = Unit {0}
 
-chosen_inner : (v : Bool) (x y : List Step) → are_inner x ≡ true → are_inner y ≡ true → are_inner (if v then x else y) ≡ true
-chosen_inner true x y of_x of_y = of_x
-chosen_inner false x y of_x of_y = of_y
-
 not_one : (e : ℕ) → 2 ≤ e → not (true && (e == 1)) ≡ true
 not_one e two = grind (arith, nat_tests)
 
 rest_inner : (r : Request) (words : List ℕ) → IsNamed r → are_inner (drop 1 (steps_of r words)) ≡ true
-rest_inner (request.Read idn e) words named =
-    chosen_inner (asks_attribute e) _ _ (attribute_inner (λ attribute after. reading (shape_of e attribute) e after) (drop 1 words) (λ word after. reading_inner (shape_of e word) e after)) (reading_inner (shape_of e 0) e (drop 1 words))
-rest_inner (request.Write idn e bytes) words named =
-    chosen_inner (e == 7) _ _ (attribute_inner (λ attribute after. writing (shape_of 7 attribute) 7 bytes) (drop 1 words) (λ word after. run_inner true 7 (words_told (shape_of 7 word) bytes) refl)) (run_inner true e (words_told (shape_of e 0) bytes) (not_one e named))
+rest_inner (request.Read idn e) words named = cond_both (asks_attribute e) _ _ (λ l. are_inner l ≡ true)
+    (λ on. attribute_passes is_inner (λ attribute after. reading (shape_of e attribute) e after) (drop 1 words) (λ last word. refl)
+    (λ word after. reading_passes is_inner (shape_of e word) e after (λ last word. refl)))
+    (λ off. reading_passes is_inner (shape_of e 0) e (drop 1 words) (λ last word. refl))
+rest_inner (request.Write idn e bytes) words named = cond_both (e == 7) _ _ (λ l. are_inner l ≡ true)
+    (λ on. attribute_passes is_inner (λ attribute after. writing (shape_of 7 attribute) 7 bytes) (drop 1 words) (λ last word. refl)
+    (λ word after. run_passes is_inner true 7 (words_told (shape_of 7 word) bytes) (λ last word. refl)))
+    (λ off. run_passes is_inner true e (words_told (shape_of e 0) bytes) (λ last word. not_one e named))
 rest_inner (request.Command idn) words named = polling_inner (drop 2 words)
 
 get_drop : {A : Type 0} (xs : List A) (k : ℕ) (x : A) → slice_get xs (suc k) ≡ Some x → slice_get (drop 1 xs) k ≡ Some x
@@ -123,11 +106,10 @@ all_accepted begun log status (Sent step opened s a) bit takes = let off = quiet
 all_accepted begun log status (Kept e past opened is s a) bit takes = (ap is_some opened, s)
 
 pub heard_level : (phase : ℕ) (begun : List Begun) (log : List Entry) (status : Status) (word : ℕ) → AreInStep begun log → status.ahs ≡ is_odd log → IsLevel phase begun log → IsLevel phase (with_status status word begun) log
-heard_level phase begun log status word h bit l = by (answers_it begun status) refl
-  where
-    by : (v : Bool) → answers_it begun status ≡ v → IsLevel phase (if v then with_answer (answer_in status word) begun else begun) log
-    by false off = l
-    by true takes = let all = all_accepted begun log status h bit takes in record { steady = l.steady; level = λ some which. l.level all.0 (inr all.1) }
+heard_level phase begun log status word h bit l = cond_both (answers_it begun status) (with_answer (answer_in status word) begun) begun
+    (λ v. IsLevel phase v log)
+    (λ takes. let all = all_accepted begun log status h bit takes in record { steady = l.steady; level = λ some which. l.level all.0 (inr all.1) })
+    (λ off. l)
 
 pub no_longer : {A : Type 0} (x : A) (xs : List A) → x ∷ xs ≡ xs → ⊥
 no_longer x xs is = let long : suc (length xs) ≡ length xs = ap length is in omega arith

@@ -2,7 +2,7 @@
 use Rattle.std.proofs.Common.{◌≡◌, ℕ, Bool, true, false, not, ◌&&◌, List, [], ◌∷◌, length, refl, sym, ap, ◌∙◌, subst, arith, if◌then◌else◌}
 use Rattle.std.specs.Prelude.{◌==◌, Option, Some, None, IfSome, option_map, option_and_then}
 use Rattle.std.specs.Bool.{then_some}
-use Rattle.std.proofs.lemmas.Bool.{and_parts, cond-true, cond-false, eqb-true, not-true}
+use Rattle.std.proofs.lemmas.Bool.{and_parts, cond-false, cond-true, cond_both, eqb-true, not-true}
 use mathlib.Core.Bool.{beq}
 use Rattle.sercos_model.proofs.FaultLemmas.{none_of-or, none_of-then}
 use Rattle.sercos_step.specs.declared.step.Answer.{Answer}
@@ -133,11 +133,7 @@ added_free allowed blocks raw b t h w found fixed those alike is = which (w.raw 
         absurd (cc)
 
 those_in_phase : (blocks : List Block) (n : ℕ) (h : List Taken) → AreThose blocks h → AreThose blocks (kept_in_phase n h)
-those_in_phase blocks n h those = by (n == 0)
-  where
-    by : (v : Bool) → AreThose blocks (if v then [] else h)
-    by true = tt
-    by false = those
+those_in_phase blocks n h those = cond_both (n == 0) [] h (AreThose blocks) (λ on. tt) (λ off. those)
 
 those_unless : (blocks : List Block) (restarts : Bool) (h : List Taken) → AreThose blocks h → AreThose blocks (kept_unless restarts h)
 those_unless blocks true h those = tt

@@ -77,7 +77,7 @@ has-with_data raw other x bytes blocks has = by (has.block.idn.raw == other) ref
 other_list : (raw other : ℕ) (x bytes : List ℕ) (blocks : List Block) → (other == raw) ≡ false → HasValue raw x blocks → HasValue raw x (with_data other bytes blocks)
 other_list raw other x bytes blocks off has = subst (λ (y : List ℕ). HasValue raw y (with_data other bytes blocks)) (cond-false (other == raw) bytes x off) (has-with_data raw other x bytes blocks has)
 
-flipped : (n k : ℕ) → (n == k) ≡ false → (k == n) ≡ false
+pub flipped : (n k : ℕ) → (n == k) ≡ false → (k == n) ≡ false
 flipped n k off = which (k == n) refl
   where
     which : (v : Bool) → (k == n) ≡ v → (k == n) ≡ false
@@ -154,7 +154,7 @@ module _ (blocks : List Block) (older : List Begun) (b : Begun) (idn : Idn) (byt
   own_newest own others (Refused code refused none) = absurd (cc)
   own_newest own others (Broken later on given) = absurd (cc)
 
-  newest_of : (newer : List Begun) (entries : List Entry) (writes : List Write) → AreExact blocks (newer ++ b ∷ older) entries writes → GiveElsewhere idn.raw blocks newer → newest_to idn.raw writes ≡ Some (stored block bytes)
+  pub newest_of : (newer : List Begun) (entries : List Entry) (writes : List Write) → AreExact blocks (newer ++ b ∷ older) entries writes → GiveElsewhere idn.raw blocks newer → newest_to idn.raw writes ≡ Some (stored block bytes)
   newest_of [] entries writes (part, rest, own, others, of_entries, of_writes, exact, behind) away = ap (newest_to idn.raw) of_writes ∙ own_newest own others exact.writes
   newest_of (x ∷ newer) entries writes (part, rest, own, others, of_entries, of_writes, exact, behind) away =
       ap (newest_to idn.raw) of_writes ∙ elsewhere idn.raw own others (own_elsewhere idn.raw blocks x own exact.writes away.1) ∙ newest_of newer rest others behind away.0

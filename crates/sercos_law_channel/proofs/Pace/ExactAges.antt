@@ -72,7 +72,7 @@ module _ (busy : ℕ) where
               apart on off = let bad : true ≡ false = sym on ∙ off in cc
           never (Waits g rest were opened steps earlier late sum) =
               let here : epoch_log all ≡ g ∷ rest = sym stays ∙ sym (logged busy v all all clean) ∙ were in
-              let waiting : answers_in (epoch_begun (v ∷ all)) ≡ replies_of rest = one_waits 0 0 0 (epoch_begun (v ∷ all)) (epoch_log (v ∷ all)) (in_step busy (v ∷ all) run) g rest were opened steps in
+              let waiting : answers_in (epoch_begun (v ∷ all)) ≡ replies_of rest = one_waits (epoch_begun (v ∷ all)) (epoch_log (v ∷ all)) (in_step busy (v ∷ all) run) g rest were opened steps in
               let done : answers_in (epoch_begun all) ≡ g.answer ∷ replies_of rest = all_answered (in_step busy all (run_behind v all run)) ∙ ap replies_of here in
               let time_now : time_for busy (answers_in (epoch_begun (v ∷ all))) ≡ time_for busy (replies_of rest) = ap (time_for busy) waiting in
               let time_then : time_for busy (answers_in (epoch_begun all)) ≡ time_for busy (replies_of rest) + (busy + 1) = ap (time_for busy) done in

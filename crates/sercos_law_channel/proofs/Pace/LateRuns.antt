@@ -1,24 +1,25 @@
 -- In a stretch in which nothing is lost a channel is in time.
-use Rattle.std.proofs.Common.{◌≡◌, inl, inr, ℕ, suc, ◌+◌, ◌*◌, ◌<◌, ◌≤◌, Bool, true, false, List, [], ◌∷◌, ◌++◌, length, refl, sym, ap, ◌∙◌, subst, arith, if◌then◌else◌}
-use Rattle.std.specs.Prelude.{Option, Some, None, IfSome, is_some}
+use Rattle.std.proofs.Common.{◌≡◌, ℕ, suc, ◌+◌, ◌*◌, ◌<◌, ◌≤◌, Bool, true, false, List, [], ◌∷◌, ◌++◌, length, refl, sym, ap, ◌∙◌, subst, arith, if◌then◌else◌}
+use Rattle.std.specs.Prelude.{Option, is_some}
 use Rattle.std.proofs.lemmas.Bool.{cond-false}
 use mathlib.Core.Bool.{beq}
 use Rattle.sercos_step.specs.declared.step.Step.{Step}
 use Rattle.sercos_service_drive.specs.Log.{Taken, Entry}
 use Rattle.sercos_service_drive.specs.Replies.{reply_of, log_of}
-use Rattle.sercos_service_master.specs.Begun.{Begun, open_in, steps_in, answers_in, answers_it, is_odd}
-use Rattle.sercos_law_channel.specs.Handshake.InStep.{AreInStep, log_steps}
+use Rattle.sercos_service_master.specs.Begun.{Begun, open_in, steps_in, answers_in, is_odd}
+use Rattle.sercos_law_channel.specs.Handshake.InStep.{log_steps}
 use Rattle.sercos_law_channel.proofs.Handshake.HandshakeMoves.{log-taken}
-use Rattle.sercos_law_channel.specs.Handshake.Views.{Heard, View, standing, stood_in, record_in, processed_in, with_record}
-use Rattle.sercos_law_channel.specs.Handshake.Epochs.{with_heard, unless_restart, epoch_begun, begun_in, epoch_taken, taken_in_views, epoch_log, log_in}
-use Rattle.sercos_law_channel.specs.Handshake.Runs.{IsShown, IsRun}
+use Rattle.sercos_law_channel.specs.Handshake.Views.{View, processed_in, with_record}
+use Rattle.sercos_law_channel.specs.Handshake.Epochs.{epoch_begun, begun_in, epoch_taken, taken_in_views, epoch_log, log_in}
+use Rattle.sercos_law_channel.specs.Handshake.Runs.{IsRun}
 use Rattle.sercos_law_channel.specs.Pace.Times.{time_for, one_more}
 use Rattle.sercos_law_channel.specs.Pace.Stretches.{IsClean, open_since, spent_since, IsInTime, RestsNow, WaitsNow, ComesInTime, TakesTimeSince}
 use Rattle.sercos_law_channel.proofs.Handshake.PhaseMoves.{Processes, Nothing, Record, processes}
-use Rattle.sercos_law_channel.proofs.Handshake.EpochRuns.{joined, restarted, shown_of, heard_of, begun_of, said_of, in_step}
-use Rattle.sercos_law_channel.proofs.Handshake.HandshakeMoves.{quiet_none}
+use Rattle.sercos_law_channel.proofs.Handshake.EpochRuns.{in_step}
 use Rattle.sercos_law_channel.proofs.Pace.OnTimeRuns.{in_step_counts, waiting_counts, time_of}
-use Rattle.sercos_law_channel.proofs.Pace.LateMoves.{StartsLate, LateFree, LateNew, LateBusy, WorksLate, FreeLate, EndsLate, RestsLate, WaitsLate, any_start, new_late, heard_late, taken_late, silent_late, begun_late}
+use Rattle.sercos_law_channel.proofs.Pace.LateMoves.{InTime, any_start}
+use Rattle.sercos_law_channel.proofs.Pace.InCycle.{in_cycle}
+use Rattle.sercos_law_channel.proofs.Pace.OnTime.{Starts, StartsFree, StartsBusy, Ends, AtRest, Waiting}
 
 -- the records of the epoch came before now
 abbrev pub AreBefore : ℕ → List Taken → Type 0
@@ -51,66 +52,16 @@ head_before n (t ∷ h) are e past those = by (beq t.mhs (is_odd (log_of h))) re
     by false is same before = let first : t ≡ e.taken = cc in let less = are.1 in let c = ap (λ (x : Taken). x.cycle) first in omega arith
 
 module _ (busy : ℕ) where
-  going : {A : Type 0} (v : View) (xs : List A) → v.master_restarts ≡ false → unless_restart v xs ≡ xs
-  going v xs on = cond-false v.master_restarts [] xs on
-
-  -- after what is heard
-  heard_so : (v : View) (past : List View) (spent : ℕ) → IsRun busy (v ∷ past) → (o : Option Heard) → IfSome o (λ a. IsShown busy a v past) → AreInStep (with_heard o (unless_restart v (epoch_begun past))) (log_of (unless_restart v (epoch_taken past))) →
-      (is_some (open_in (unless_restart v (epoch_begun past))) ≡ true → is_some o ≡ true) →
-      StartsLate busy (length past) spent (unless_restart v (epoch_begun past)) (log_of (unless_restart v (epoch_taken past))) →
-      WorksLate busy (length past) spent (with_heard o (unless_restart v (epoch_begun past))) (log_of (unless_restart v (epoch_taken past)))
-  heard_so v past spent run None shown after hears (LateFree none is) = FreeLate none is
-  heard_so v past spent run None shown after hears (LateNew s opened more is) = let lost = hears (ap is_some opened) in absurd (cc)
-  heard_so v past spent run None shown after hears (LateBusy e log those opened all earlier soon sum) = let lost = hears (ap is_some opened) in absurd (cc)
-  heard_so v past spent run (Some a) shown after hears (LateFree none is) =
-      let off : answers_it (unless_restart v (epoch_begun past)) a.status ≡ false = quiet_none (unless_restart v (epoch_begun past)) a.status none in
-      subst (λ (l : List Begun). WorksLate busy (length past) spent l (log_of (unless_restart v (epoch_taken past)))) (sym (cond-false (answers_it (unless_restart v (epoch_begun past)) a.status) _ _ off)) (FreeLate none is)
-  heard_so v past spent run (Some a) shown after hears (LateNew s opened more is) = elim (shown_of busy v past run (joined busy past run.0) a shown) [
-    | inl none ↦ let free : open_in (unless_restart v (epoch_begun past)) ≡ None = ap open_in none in absurd (cc)
-    | inr says ↦ new_late busy (length past) spent v.showing a.status a.word (unless_restart v (epoch_begun past)) (unless_restart v (epoch_taken past)) says s opened more is
-  ]
-  heard_so v past spent run (Some a) shown after hears (LateBusy e log those opened all earlier soon sum) = elim (shown_of busy v past run (joined busy past run.0) a shown) [
-    | inl none ↦ let free : open_in (unless_restart v (epoch_begun past)) ≡ None = ap open_in none in absurd (cc)
-    | inr says ↦ heard_late busy (length past) spent v.showing a.status a.word (unless_restart v (epoch_begun past)) (unless_restart v (epoch_taken past)) says e log
-        (restarted busy v (epoch_begun past) (epoch_taken past) (in_step busy past run.0)) after those opened all earlier soon sum
-  ]
-
-  -- after the record
-  recorded : (v : View) (past : List View) (spent : ℕ) → IsRun busy (v ∷ past) → (is_some (open_in (begun_in v past)) ≡ true → is_some (processed_in v past) ≡ true) →
-      WorksLate busy (length past) spent (begun_in v past) (log_of (unless_restart v (epoch_taken past))) → EndsLate busy (length past) spent (begun_in v past) (log_in v past)
-  recorded v past spent run takes w = by (processes v past)
-    where
-      none_open : processed_in v past ≡ None → (o : Option Step) → (is_some o ≡ true → is_some (processed_in v past) ≡ true) → o ≡ None
-      none_open none None takes = refl
-      none_open none (Some s) takes = let lost = takes refl in absurd (cc)
-
-      by : Processes v past → EndsLate busy (length past) spent (begun_in v past) (log_in v past)
-      by (Nothing none) =
-          subst (λ (o : Option Taken). EndsLate busy (length past) spent (begun_in v past) (log_of (with_record o (unless_restart v (epoch_taken past))))) (sym none)
-          (silent_late busy (length past) spent (begun_in v past) (log_of (unless_restart v (epoch_taken past))) (none_open none (open_in (begun_in v past)) takes) w)
-      by (Record s got came two some) =
-          let t : Taken = record_in v (length past) (stood_in v (standing past)) s in
-          subst (λ (o : Option Taken). EndsLate busy (length past) spent (begun_in v past) (log_of (with_record o (unless_restart v (epoch_taken past))))) (sym some)
-          (subst (EndsLate busy (length past) spent (begun_in v past)) (sym (log-taken t (unless_restart v (epoch_taken past))))
-          (taken_late busy (length past) spent (begun_in v past) (log_of (unless_restart v (epoch_taken past))) t (reply_of t (log_of (unless_restart v (epoch_taken past)))) (said_of busy v past run.1.sent s got) refl w))
-
-  start_on : (r : Bool) (c spent : ℕ) (begun : List Begun) (taken : List Taken) → r ≡ false → StartsLate busy c spent begun (log_of taken) → StartsLate busy c spent (if r then [] else begun) (log_of (if r then [] else taken))
+  start_on : (r : Bool) (c spent : ℕ) (begun : List Begun) (taken : List Taken) → r ≡ false → Starts InTime busy c spent begun (log_of taken) → Starts InTime busy c spent (if r then [] else begun) (log_of (if r then [] else taken))
   start_on true c spent begun taken on is = absurd (cc)
   start_on false c spent begun taken on is = is
 
   -- one cycle
-  in_cycle : (v : View) (past : List View) (spent : ℕ) → IsRun busy (v ∷ past) → IsClean v past → StartsLate busy (length past) spent (epoch_begun past) (epoch_log past) → EndsLate busy (length past) spent (begun_in v past) (log_in v past)
-  in_cycle v past spent run clean before =
-      let taken = unless_restart v (epoch_taken past) in
-      let h0 = restarted busy v (epoch_begun past) (epoch_taken past) (in_step busy past run.0) in
-      let h1 = heard_of busy v past run (joined busy past run.0) v.heard run.1.heard h0 in
-      let h2 = begun_of busy v.begins (with_heard v.heard (unless_restart v (epoch_begun past))) taken run.1.begins h1 in
-      let start = start_on v.master_restarts (length past) spent (epoch_begun past) (epoch_taken past) clean.goes_on before in
-      let first = heard_so v past spent run v.heard run.1.heard h1 clean.undisturbed.hears start in
-      let second = begun_late busy (length past) spent v.begins (with_heard v.heard (unless_restart v (epoch_begun past))) (log_of taken) run.1.begins h1 h2 first in
-      recorded v past spent run clean.undisturbed.takes second
+  in_one : (v : View) (past : List View) (spent : ℕ) → IsRun busy (v ∷ past) → IsClean v past → Starts InTime busy (length past) spent (epoch_begun past) (epoch_log past) → Ends InTime busy (length past) spent (begun_in v past) (log_in v past)
+  in_one v past spent run clean before = in_cycle InTime (λ a b n less. omega (arith, less)) busy v past spent run clean.undisturbed
+      (start_on v.master_restarts (length past) spent (epoch_begun past) (epoch_taken past) clean.goes_on before)
 
-  after_cycle : (v : View) (cycles past : List View) → v.falls ≡ false → EndsLate busy (length (cycles ++ past)) (spent_since busy cycles past) (begun_in v (cycles ++ past)) (log_in v (cycles ++ past)) → IsInTime busy (v ∷ cycles) past
+  after_cycle : (v : View) (cycles past : List View) → v.falls ≡ false → Ends InTime busy (length (cycles ++ past)) (spent_since busy cycles past) (begun_in v (cycles ++ past)) (log_in v (cycles ++ past)) → IsInTime busy (v ∷ cycles) past
   after_cycle v cycles past on is = by is
     where
       begun : epoch_begun (v ∷ (cycles ++ past)) ≡ begun_in v (cycles ++ past)
@@ -122,24 +73,24 @@ module _ (busy : ℕ) where
       same : time_for busy (answers_in (epoch_begun (v ∷ (cycles ++ past)))) ≡ time_for busy (answers_in (begun_in v (cycles ++ past)))
       same = ap (λ (l : List Begun). time_for busy (answers_in l)) begun
 
-      by : EndsLate busy (length (cycles ++ past)) (spent_since busy cycles past) (begun_in v (cycles ++ past)) (log_in v (cycles ++ past)) → IsInTime busy (v ∷ cycles) past
-      by (RestsLate none is) =
+      by : Ends InTime busy (length (cycles ++ past)) (spent_since busy cycles past) (begun_in v (cycles ++ past)) (log_in v (cycles ++ past)) → IsInTime busy (v ∷ cycles) past
+      by (AtRest none is) =
           let spent : open_since (v ∷ cycles) past ≡ open_since cycles past = ap (λ (o : Option Step). one_more (is_some o) (open_since cycles past)) none in
           RestsNow (ap open_in begun ∙ none) (omega (arith, same))
-      by (WaitsLate e log those opened all earlier late sum) =
+      by (Waiting e log those opened all earlier late sum) =
           let spent : open_since (v ∷ cycles) past ≡ open_since cycles past + 1 = ap (λ (o : Option Step). one_more (is_some o) (open_since cycles past)) opened in
           WaitsNow e log (taken ∙ those) (ap open_in begun ∙ opened) (ap steps_in begun ∙ all ∙ ap log_steps (sym taken)) (omega arith) (omega arith) (omega (arith, same))
 
-  start_of : (cycles past : List View) → IsInTime busy cycles past → StartsLate busy (length (cycles ++ past)) (spent_since busy cycles past) (epoch_begun (cycles ++ past)) (epoch_log (cycles ++ past))
-  start_of cycles past (RestsNow none is) = LateFree none is
-  start_of cycles past (WaitsNow e log those opened all earlier late sum) = LateBusy e log those opened all earlier (omega arith) sum
+  start_of : (cycles past : List View) → IsInTime busy cycles past → Starts InTime busy (length (cycles ++ past)) (spent_since busy cycles past) (epoch_begun (cycles ++ past)) (epoch_log (cycles ++ past))
+  start_of cycles past (RestsNow none is) = StartsFree none is
+  start_of cycles past (WaitsNow e log those opened all earlier late sum) = StartsBusy e log those opened all earlier (λ due. omega arith) sum
 
   pub comes_in_time : ComesInTime busy
   comes_in_time v [] past run clean =
       let start = any_start busy (length past) (spent_since busy [] past) (epoch_begun past) (epoch_log past) (omega arith) (in_step busy past run.0) (head_before (length past) (epoch_taken past) (taken_before past)) in
-      after_cycle v [] past clean.1.stays (in_cycle v past (spent_since busy [] past) run clean.1 start)
+      after_cycle v [] past clean.1.stays (in_one v past (spent_since busy [] past) run clean.1 start)
   comes_in_time v (u ∷ cycles) past run clean =
-      after_cycle v (u ∷ cycles) past clean.1.stays (in_cycle v (u ∷ (cycles ++ past)) (spent_since busy (u ∷ cycles) past) run clean.1 (start_of (u ∷ cycles) past (comes_in_time u cycles past run.0 clean.0)))
+      after_cycle v (u ∷ cycles) past clean.1.stays (in_one v (u ∷ (cycles ++ past)) (spent_since busy (u ∷ cycles) past) run clean.1 (start_of (u ∷ cycles) past (comes_in_time u cycles past run.0 clean.0)))
 
   few : (n k : ℕ) → n ≤ k → (busy + 1) * n ≤ (busy + 1) * k
   few n k le = grind arith

@@ -1,7 +1,7 @@
--- If nothing is lost, each answer comes busy time and one cycle after its step.
-use Rattle.std.proofs.Common.{◌≡◌, ℕ, ◌+◌, ◌-◌, ◌<◌, ◌≤◌, Bool, true, false, not, ◌&&◌, List, [], ◌∷◌, refl, sym, ap, ap₂, ◌∙◌, subst, arith, if◌then◌else◌}
+-- If nothing is lost, each answer comes busy time and one cycle after its step, and in time if nothing is lost from some cycle on.
+use Rattle.std.proofs.Common.{◌≡◌, ℕ, ◌+◌, ◌-◌, ◌<◌, ◌≤◌, Bool, true, false, not, ◌&&◌, List, [], ◌∷◌, refl, sym, ap, ◌∙◌, subst, arith, if◌then◌else◌}
 use Rattle.std.specs.Prelude.{nat_le, Option, Some, None, IsSome, is_some}
-use Rattle.std.proofs.lemmas.Bool.{cond-true, cond-false, leb-true}
+use Rattle.std.proofs.lemmas.Bool.{and_right, both_ways, cond-true, cond-false, leb-true}
 use Rattle.std.proofs.lemmas.Bool.Decides.{nat_tests}
 use mathlib.Core.Bool.{beq}
 use Rattle.sercos_telegram.specs.declared.words.Status.{Status}
@@ -15,23 +15,45 @@ use Rattle.sercos_service_drive.specs.Says.{Shown, shown, channel_says, shown_by
 use Rattle.sercos_service_master.specs.Begun.{Begun, open_in, steps_in, answers_in, is_odd, answers_it, answer_in, with_answer, master_says, step_or_none}
 use Rattle.sercos_law_channel.specs.Handshake.InStep.{AreInStep, Idle, Sent, Kept, log_steps, replies_of}
 use Rattle.sercos_law_channel.specs.Handshake.Moves.{with_status, said_in, with_taken}
-use Rattle.sercos_law_channel.proofs.Handshake.HandshakeMoves.{said_bit, said_step, parity, parity_sent, ahs-log}
+use Rattle.sercos_law_channel.proofs.Handshake.HandshakeMoves.{ahs-shown, quiet_bit, said_bit, said_step, parity, parity_sent, ahs-log}
 use Rattle.sercos_law_channel.proofs.Handshake.OnePhase.{no_longer}
 use Rattle.sercos_law_channel.specs.Handshake.Epochs.{with_begun}
 use Rattle.sercos_law_channel.specs.Pace.Times.{time_for}
 
--- At a place in cycle c, with `spent` cycles of the epoch before it: no step is open; or one that the drive hasn't accepted; or one
--- that it has accepted and shows as busy.
-pub data Works (busy c spent : ℕ) (begun : List Begun) (log : List Entry) : Type 0 where
-  Free : open_in begun ≡ None → spent ≡ time_for busy (answers_in begun) → Works busy c spent begun log
-  New : (s : Step) → open_in begun ≡ Some s → steps_in begun ≡ s ∷ log_steps log → spent ≡ time_for busy (answers_in begun) → Works busy c spent begun log
-  Busy : (e : Entry) (past : List Entry) → log ≡ e ∷ past → open_in begun ≡ Some e.taken.step → steps_in begun ≡ log_steps log → e.taken.cycle ≤ c → c ≤ e.taken.cycle + busy → spent + e.taken.cycle ≡ time_for busy (answers_in begun) + c → Works busy c spent begun log
+-- At a place in cycle c, with `spent` cycles before it that `Fits` compares with the time for the answers: no step is open; or one that
+-- the drive hasn't accepted; or one that it has accepted and shows as busy.
+pub data Works (Fits : ℕ → ℕ → Type 0) (busy c spent : ℕ) (begun : List Begun) (log : List Entry) : Type 0 where
+  Free : open_in begun ≡ None → Fits spent (time_for busy (answers_in begun)) → Works Fits busy c spent begun log
+  New : (s : Step) → open_in begun ≡ Some s → steps_in begun ≡ s ∷ log_steps log → Fits spent (time_for busy (answers_in begun))
+      → Works Fits busy c spent begun log
+  Busy : (e : Entry) (past : List Entry) → log ≡ e ∷ past → open_in begun ≡ Some e.taken.step → steps_in begun ≡ log_steps log
+      → e.taken.cycle ≤ c → c ≤ e.taken.cycle + busy
+      → Fits (spent + e.taken.cycle) (time_for busy (answers_in begun) + c) → Works Fits busy c spent begun log
+
+-- at the end of the cycle
+pub data Ends (Fits : ℕ → ℕ → Type 0) (busy c spent : ℕ) (begun : List Begun) (after : List Entry) : Type 0 where
+  AtRest : open_in begun ≡ None → Fits spent (time_for busy (answers_in begun)) → Ends Fits busy c spent begun after
+  Waiting : (e : Entry) (past : List Entry) → after ≡ e ∷ past → open_in begun ≡ Some e.taken.step → steps_in begun ≡ log_steps after
+      → e.taken.cycle ≤ c → c ≤ e.taken.cycle + busy
+      → Fits (spent + e.taken.cycle) (time_for busy (answers_in begun) + c) → Ends Fits busy c spent begun after
+
+-- and at the start of one: the answer to a step that was accepted is in time, if the drive shows it now
+pub data Starts (Fits : ℕ → ℕ → Type 0) (busy c spent : ℕ) (begun : List Begun) (log : List Entry) : Type 0 where
+  StartsFree : open_in begun ≡ None → Fits spent (time_for busy (answers_in begun)) → Starts Fits busy c spent begun log
+  StartsNew : (s : Step) → open_in begun ≡ Some s → steps_in begun ≡ s ∷ log_steps log → Fits spent (time_for busy (answers_in begun))
+      → Starts Fits busy c spent begun log
+  StartsBusy : (e : Entry) (past : List Entry) → log ≡ e ∷ past → open_in begun ≡ Some e.taken.step → steps_in begun ≡ log_steps log
+      → e.taken.cycle < c
+      → (e.taken.cycle + (busy + 1) ≤ c → Fits spent (time_for busy (answers_in begun) + (busy + 1)))
+      → Fits (spent + e.taken.cycle) (time_for busy (answers_in begun) + c) → Starts Fits busy c spent begun log
 
 -- if every accepted step has its answer, none is busy
-settled : (busy c spent : ℕ) (begun : List Begun) (log : List Entry) → AreInStep begun log → answers_in begun ≡ replies_of log → spent ≡ time_for busy (answers_in begun) → Works busy c spent begun log
-settled busy c spent begun log (Idle none s a) all is = Free none is
-settled busy c spent begun log (Sent step opened s a) all is = New step opened s is
-settled busy c spent begun log (Kept e past opened those s a) all is = absurd (no_longer e.answer (replies_of past) (ap replies_of (sym those) ∙ sym all ∙ a))
+settled : (Fits : ℕ → ℕ → Type 0) (busy c spent : ℕ) (begun : List Begun) (log : List Entry) → AreInStep begun log
+    → answers_in begun ≡ replies_of log → Fits spent (time_for busy (answers_in begun)) → Works Fits busy c spent begun log
+settled Fits busy c spent begun log (Idle none s a) all is = Free none is
+settled Fits busy c spent begun log (Sent step opened s a) all is = New step opened s is
+settled Fits busy c spent begun log (Kept e past opened those s a) all is = absurd (no_longer e.answer (replies_of past)
+    (ap replies_of (sym those) ∙ sym all ∙ a))
 
 pub answered-answers : (a : Answer) (begun : List Begun) (s : Step) → open_in begun ≡ Some s → answers_in (with_answer a begun) ≡ a ∷ answers_in begun
 answered-answers a [] s opened = absurd (cc)
@@ -44,60 +66,72 @@ shown_busy busy c cycle is = let le = leb-true (c - cycle) busy is in omega arit
 shown_free : (busy c cycle : ℕ) → nat_le (c - cycle) busy ≡ false → cycle ≤ c → cycle + (busy + 1) ≤ c
 shown_free busy c cycle is before = grind (arith, nat_tests)
 
-module _ (busy c spent : ℕ) (begun : List Begun) (log : List Entry) (h : AreInStep begun log) where
-  -- a step that is open and accepted has no answer yet
-  pub one_waits : (e : Entry) (past : List Entry) → log ≡ e ∷ past → open_in begun ≡ Some e.taken.step → steps_in begun ≡ log_steps log → answers_in begun ≡ replies_of past
-  one_waits e past those opened all = by h
-    where
-      by : AreInStep begun log → answers_in begun ≡ replies_of past
-      by (Idle none s a) = absurd (cc)
-      by (Sent step at s a) = absurd (no_longer step (log_steps log) (sym s ∙ all))
-      by (Kept x rest at is s a) = let same : x ∷ rest ≡ e ∷ past = sym is ∙ those in let tail : rest ≡ past = cc in a ∙ ap replies_of tail
+-- a step that is open and accepted has no answer yet
+pub one_waits : (begun : List Begun) (log : List Entry) → AreInStep begun log → (e : Entry) (past : List Entry) → log ≡ e ∷ past
+    → open_in begun ≡ Some e.taken.step → steps_in begun ≡ log_steps log → answers_in begun ≡ replies_of past
+one_waits begun log (Idle none s a) e past those opened all = absurd (cc)
+one_waits begun log (Sent step at s a) e past those opened all = absurd (no_longer step (log_steps log) (sym s ∙ all))
+one_waits begun log (Kept x rest at is s a) e past those opened all = let same : x ∷ rest ≡ e ∷ past = sym is ∙ those in
+    let tail : rest ≡ past = cc in a ∙ ap replies_of tail
 
-  pub heard_works : (cycle : ℕ) (showing : CommandsView) (status : Status) (word : ℕ) (taken : List Taken) (e : Entry) (past : List Entry) → log ≡ log_of taken → AreInStep (with_status status word begun) log →
-      shown_by status word ≡ channel_says busy c showing taken → log ≡ e ∷ past → open_in begun ≡ Some e.taken.step → steps_in begun ≡ log_steps log → e.taken.cycle < c → c ≤ e.taken.cycle + (busy + 1) →
-      spent + e.taken.cycle ≡ time_for busy (answers_in begun) + c → Works busy c spent (with_status status word begun) log
-  heard_works cycle showing status word taken e past of after says those opened all earlier late sum =
-      by (nat_le (c - e.taken.cycle) busy) refl (says ∙ ap (shown busy c (ahs taken) (change_in showing c)) (sym of ∙ those))
-    where
-      quiet : answers_it begun status ≡ false → with_status status word begun ≡ begun
-      quiet off = cond-false (answers_it begun status) (with_answer (answer_in status word) begun) begun off
+never : (a b : Bool) → (a && (b && false)) ≡ false
+never true b = and_right b false refl
+never false b = refl
 
+same_bit : (b : Bool) → (true && (beq b b && not false)) ≡ true
+same_bit true = refl
+same_bit false = refl
+
+quiet : (status : Status) (word : ℕ) (begun : List Begun) → answers_it begun status ≡ false → with_status status word begun ≡ begun
+quiet status word begun off = cond-false (answers_it begun status) (with_answer (answer_in status word) begun) begun off
+
+-- a drive that shows that it is busy answers nothing
+busy_quiet : (status : Status) (begun : List Begun) → status.busy ≡ true → answers_it begun status ≡ false
+busy_quiet status begun on = ap (λ (b : Bool). is_some (open_in begun) && (beq status.ahs (is_odd (steps_in begun)) && not b)) on ∙ never
+    (is_some (open_in begun)) (beq status.ahs (is_odd (steps_in begun)))
+
+module _ (Fits : ℕ → ℕ → Type 0) (busy c spent : ℕ) (showing : CommandsView) (status : Status) (word : ℕ) (begun : List Begun)
+    (taken : List Taken) (says : shown_by status word ≡ channel_says busy c showing taken) where
+  bit : status.ahs ≡ is_odd (log_of taken)
+  bit = ap (λ (s : Shown). s.ahs) says ∙ ahs-shown busy c (ahs taken) (change_in showing c) (log_of taken) ∙ ahs-log taken
+
+  -- a step that the drive hasn't accepted stays open
+  pub new_works : (s : Step) → open_in begun ≡ Some s → steps_in begun ≡ s ∷ log_steps (log_of taken)
+      → Fits spent (time_for busy (answers_in begun)) → Works Fits busy c spent (with_status status word begun) (log_of taken)
+  new_works s opened more is =
+      let off : answers_it begun status ≡ false = quiet_bit begun (log_of taken) s status more bit opened in
+      subst (λ (l : List Begun). Works Fits busy c spent l (log_of taken)) (sym (quiet status word begun off)) (New s opened more is)
+
+  -- the master hears what the drive shows of an accepted step
+  pub heard_works : (e : Entry) (past : List Entry) → AreInStep begun (log_of taken)
+      → AreInStep (with_status status word begun) (log_of taken) → log_of taken ≡ e ∷ past → open_in begun ≡ Some e.taken.step
+      → steps_in begun ≡ log_steps (log_of taken) → e.taken.cycle < c →
+      (e.taken.cycle + (busy + 1) ≤ c → Fits spent (time_for busy (answers_in begun) + (busy + 1))) → Fits (spent + e.taken.cycle)
+      (time_for busy (answers_in begun) + c) → Works Fits busy c spent (with_status status word begun) (log_of taken)
+  heard_works e past before after those opened all earlier soon sum =
+      by (nat_le (c - e.taken.cycle) busy) refl (says ∙ ap (shown busy c (ahs taken) (change_in showing c)) those)
+    where
       by : (v : Bool) → nat_le (c - e.taken.cycle) busy ≡ v →
           shown_by status word ≡ (if v then record { ahs = ahs taken; busy = true; error = false; change = change_in showing c; word = 0 } else record { ahs = ahs taken; busy = false; error = e.answer.error; change = change_in showing c; word = e.answer.word }) →
-          Works busy c spent (with_status status word begun) log
+          Works Fits busy c spent (with_status status word begun) (log_of taken)
       by true is shows =
-          let on : status.busy ≡ true = ap (λ (s : Shown). s.busy) shows in
-          let off : answers_it begun status ≡ false = ap (λ (b : Bool). is_some (open_in begun) && (beq status.ahs (is_odd (steps_in begun)) && not b)) on ∙ none (is_some (open_in begun)) (beq status.ahs (is_odd (steps_in begun))) in
-          subst (λ (l : List Begun). Works busy c spent l log) (sym (quiet off)) (Busy e past those opened all (omega arith) (shown_busy busy c e.taken.cycle is) sum)
-        where
-          none : (a b : Bool) → (a && (b && false)) ≡ false
-          none true true = refl
-          none true false = refl
-          none false b = refl
+          subst (λ (l : List Begun). Works Fits busy c spent l (log_of taken))
+          (sym (quiet status word begun (busy_quiet status begun (ap (λ (s : Shown). s.busy) shows))))
+          (Busy e past those opened all (omega arith) (shown_busy busy c e.taken.cycle is) sum)
       by false is shows =
           let same : answer_in status word ≡ e.answer = ap (λ (s : Shown). (let a : Answer = record { error = s.error; word = s.word } in a)) shows in
-          let bit : status.ahs ≡ is_odd log = ap (λ (s : Shown). s.ahs) shows ∙ ahs-log taken ∙ ap (λ (l : List Entry). is_odd l) (sym of) in
           let free : status.busy ≡ false = ap (λ (s : Shown). s.busy) shows in
-          let takes : answers_it begun status ≡ true = rw (opened, bit, parity (steps_in begun) log all, free) (on (is_odd log)) in
+          let takes : answers_it begun status ≡ true = rw (opened, bit, parity (steps_in begun) (log_of taken) all, free)
+          (same_bit (is_odd (log_of taken))) in
           let with_one : with_status status word begun ≡ with_answer e.answer begun = cond-true (answers_it begun status) _ _ takes ∙ ap (λ (a : Answer). with_answer a begun) same in
           let answers : answers_in (with_status status word begun) ≡ e.answer ∷ answers_in begun = ap answers_in with_one ∙ answered-answers e.answer begun e.taken.step opened in
-          let whole : answers_in (with_status status word begun) ≡ replies_of log = answers ∙ ap (λ (l : List Answer). e.answer ∷ l) (one_waits e past those opened all) ∙ ap replies_of (sym those) in
-          let due = shown_free busy c e.taken.cycle is (omega arith) in
-          let time : spent ≡ time_for busy (answers_in begun) + (busy + 1) = omega arith in
-          settled busy c spent (with_status status word begun) log after whole (time ∙ ap (time_for busy) (sym answers))
-        where
-          on : (b : Bool) → (true && (beq b b && not false)) ≡ true
-          on true = refl
-          on false = refl
+          let whole : answers_in (with_status status word begun) ≡ replies_of (log_of taken) = answers
+          ∙ ap (λ (l : List Answer). e.answer ∷ l) (one_waits begun (log_of taken) before e past those opened all) ∙ ap replies_of
+          (sym those) in
+          settled Fits busy c spent (with_status status word begun) (log_of taken) after whole
+          (subst (Fits spent) (ap (time_for busy) (sym answers)) (soon (shown_free busy c e.taken.cycle is (omega arith))))
 
--- at the end of the cycle
-pub data EndsSo (busy c spent : ℕ) (begun : List Begun) (after : List Entry) : Type 0 where
-  RestsSo : open_in begun ≡ None → spent ≡ time_for busy (answers_in begun) → EndsSo busy c spent begun after
-  WaitsSo : (e : Entry) (past : List Entry) → after ≡ e ∷ past → open_in begun ≡ Some e.taken.step → steps_in begun ≡ log_steps after → e.taken.cycle ≤ c → c ≤ e.taken.cycle + busy →
-      spent + e.taken.cycle ≡ time_for busy (answers_in begun) + c → EndsSo busy c spent begun after
-
-module _ (busy c spent : ℕ) (begun : List Begun) (log : List Entry) where
+module _ (begun : List Begun) (log : List Entry) where
   -- a record that was sent before is dropped
   pub dropped : (t : Taken) (answer : Answer) → said_in t ≡ master_says begun → steps_in begun ≡ log_steps log → with_taken t answer log ≡ log
   dropped t answer says all = cond-true (beq t.mhs (is_odd log)) log _ (ap (λ (b : Bool). beq b (is_odd log)) (said_bit t begun says ∙ parity (steps_in begun) log all) ∙ same (is_odd log))
@@ -106,41 +140,55 @@ module _ (busy c spent : ℕ) (begun : List Begun) (log : List Entry) where
       same true = refl
       same false = refl
 
-  pub joins : (t : Taken) (answer : Answer) (s : Step) → said_in t ≡ master_says begun → steps_in begun ≡ s ∷ log_steps log → with_taken t answer log ≡ (record { taken = t; answer = answer }) ∷ log
-  joins t answer s says more = cond-false (beq t.mhs (is_odd log)) log _ (ap (λ (b : Bool). beq b (is_odd log)) (said_bit t begun says ∙ parity_sent (steps_in begun) s log more) ∙ other (is_odd log))
+  pub joins_log : (t : Taken) (answer : Answer) (s : Step) → said_in t ≡ master_says begun → steps_in begun ≡ s ∷ log_steps log
+      → with_taken t answer log ≡ (record { taken = t; answer = answer }) ∷ log
+  joins_log t answer s says more = cond-false (beq t.mhs (is_odd log)) log _
+      (ap (λ (b : Bool). beq b (is_odd log)) (said_bit t begun says ∙ parity_sent (steps_in begun) s log more) ∙ other (is_odd log))
     where
       other : (b : Bool) → beq (not b) b ≡ false
       other true = refl
       other false = refl
 
-  pub taken_works : (t : Taken) (answer : Answer) → said_in t ≡ master_says begun → t.cycle ≡ c → Works busy c spent begun log → EndsSo busy c spent begun (with_taken t answer log)
-  taken_works t answer says at (Free none is) = RestsSo none is
-  taken_works t answer says at (New s opened more is) =
-      let grown = joins t answer s says more in
-      let step : t.step ≡ s = said_step t begun says ∙ ap step_or_none opened in
-      WaitsSo (record { taken = t; answer = answer }) log grown (opened ∙ ap (λ (x : Step). Some x) (sym step)) (more ∙ ap (λ (x : Step). x ∷ log_steps log) (sym step) ∙ ap log_steps (sym grown)) (omega arith) (omega arith) (ap₂ (λ (n k : ℕ). n + k) is at)
-  taken_works t answer says at (Busy e past those opened all earlier late sum) =
-      let same = dropped t answer says all in
-      WaitsSo e past (same ∙ those) opened (all ∙ ap log_steps (sym same)) earlier late sum
+pub joins : (busy c spent : ℕ) (begun : List Begun) (log : List Entry) (t : Taken) (answer : Answer) (s : Step)
+    → said_in t ≡ master_says begun → steps_in begun ≡ s ∷ log_steps log
+    → with_taken t answer log ≡ (record { taken = t; answer = answer }) ∷ log
+joins busy c spent begun log = joins_log begun log
 
-  pub silent_works : open_in begun ≡ None → Works busy c spent begun log → EndsSo busy c spent begun log
-  silent_works none (Free x is) = RestsSo none is
+module _ (Fits : ℕ → ℕ → Type 0) (busy c spent : ℕ) (begun : List Begun) (log : List Entry) where
+  pub taken_works : ((a b n : ℕ) → Fits a b → Fits (a + n) (b + n)) → (t : Taken) (answer : Answer) → said_in t ≡ master_says begun
+      → t.cycle ≡ c → Works Fits busy c spent begun log → Ends Fits busy c spent begun (with_taken t answer log)
+  taken_works add t answer says at (Free none is) = AtRest none is
+  taken_works add t answer says at (New s opened more is) =
+      let grown = joins_log begun log t answer s says more in
+      let step : t.step ≡ s = said_step t begun says ∙ ap step_or_none opened in
+      Waiting (record { taken = t; answer = answer }) log grown (opened ∙ ap (λ (x : Step). Some x) (sym step))
+      (more ∙ ap (λ (x : Step). x ∷ log_steps log) (sym step) ∙ ap log_steps (sym grown)) (omega arith) (omega arith)
+      (subst (λ (n : ℕ). Fits (spent + t.cycle) (time_for busy (answers_in begun) + n)) at
+      (add spent (time_for busy (answers_in begun)) t.cycle is))
+  taken_works add t answer says at (Busy e past those opened all earlier late sum) =
+      let same = dropped begun log t answer says all in
+      Waiting e past (same ∙ those) opened (all ∙ ap log_steps (sym same)) earlier late sum
+
+  pub silent_works : open_in begun ≡ None → Works Fits busy c spent begun log → Ends Fits busy c spent begun log
+  silent_works none (Free x is) = AtRest none is
   silent_works none (New s opened more is) = absurd (cc)
   silent_works none (Busy e past those opened all earlier late sum) = absurd (cc)
 
-pub begun_works : (busy c spent : ℕ) (o : Option Request) (begun : List Begun) (log : List Entry) → (IsSome o → open_in begun ≡ None) → AreInStep begun log → AreInStep (with_begun o begun) log → Works busy c spent begun log → Works busy c spent (with_begun o begun) log
-begun_works busy c spent None begun log shut h after w = w
-begun_works busy c spent (Some r) begun log shut h after w = settled busy c spent ((record { request = r; answers = [] }) ∷ begun) log after (idle_answers h (shut refl)) (rests w)
-  where
-    idle_answers : AreInStep begun log → open_in begun ≡ None → answers_in begun ≡ replies_of log
-    idle_answers (Idle none s a) off = a
-    idle_answers (Sent step opened s a) off = absurd (cc)
-    idle_answers (Kept e past opened is s a) off = absurd (cc)
+  pub begun_works : (o : Option Request) → (IsSome o → open_in begun ≡ None) → AreInStep begun log → AreInStep (with_begun o begun) log
+      → Works Fits busy c spent begun log → Works Fits busy c spent (with_begun o begun) log
+  begun_works None shut h after w = w
+  begun_works (Some r) shut h after w = settled Fits busy c spent ((record { request = r; answers = [] }) ∷ begun) log after
+      (idle_answers h (shut refl)) (rests w)
+    where
+      idle_answers : AreInStep begun log → open_in begun ≡ None → answers_in begun ≡ replies_of log
+      idle_answers (Idle none s a) off = a
+      idle_answers (Sent step opened s a) off = absurd (cc)
+      idle_answers (Kept e past opened is s a) off = absurd (cc)
 
-    rests : Works busy c spent begun log → spent ≡ time_for busy (answers_in begun)
-    rests (Free none is) = is
-    rests (New s opened more is) = is
-    rests (Busy e past those opened all earlier late sum) = let off = shut refl in absurd (cc)
+      rests : Works Fits busy c spent begun log → Fits spent (time_for busy (answers_in begun))
+      rests (Free none is) = is
+      rests (New s opened more is) = is
+      rests (Busy e past those opened all earlier late sum) = let off = shut refl in absurd (cc)
 
 -- a status that is an answer shows that the drive is no longer busy
 pub late_answer : (busy c : ℕ) (showing : CommandsView) (status : Status) (word : ℕ) (begun : List Begun) (taken : List Taken) (e : Entry) (past : List Entry) → shown_by status word ≡ channel_says busy c showing taken → log_of taken ≡ e ∷ past →
@@ -151,16 +199,4 @@ late_answer busy c showing status word begun taken e past says those takes earli
         shown_by status word ≡ (if v then record { ahs = ahs taken; busy = true; error = false; change = change_in showing c; word = 0 } else record { ahs = ahs taken; busy = false; error = e.answer.error; change = change_in showing c; word = e.answer.word }) →
         e.taken.cycle + (busy + 1) ≤ c
     by false is shows = shown_free busy c e.taken.cycle is (omega arith)
-    by true is shows =
-        let on : status.busy ≡ true = ap (λ (s : Shown). s.busy) shows in
-        let off : answers_it begun status ≡ false = ap (λ (b : Bool). is_some (open_in begun) && (beq status.ahs (is_odd (steps_in begun)) && not b)) on ∙ none (is_some (open_in begun)) (beq status.ahs (is_odd (steps_in begun))) in
-        absurd (both (answers_it begun status) takes off)
-      where
-        none : (a b : Bool) → (a && (b && false)) ≡ false
-        none true true = refl
-        none true false = refl
-        none false b = refl
-
-        both : (v : Bool) → v ≡ true → v ≡ false → ⊥
-        both true on off = cc
-        both false on off = cc
+    by true is shows = absurd (both_ways (answers_it begun status) (busy_quiet status begun (ap (λ (s : Shown). s.busy) shows)) takes)

@@ -1,7 +1,7 @@
 -- A start-up worked out from the definitions: every telegram comes, and the channel never idles in phase 2.
 use Rattle.std.proofs.Common.{◌≡◌, inr, ℕ, zero, suc, ◌^◌, ◌<◌, ◌≤◌, Bool, true, false, not, ◌&&◌, ◌||◌, List, [], ◌∷◌, ◌++◌, replicate, length, refl, ap, arith, if◌then◌else◌}
 use Rattle.std.specs.Prelude.{◌==◌, Some, None, IfSome, is_some}
-use Rattle.std.proofs.lemmas.Bool.{and_parts, eqb-true}
+use Rattle.std.proofs.lemmas.Bool.{and_parts, eqb-true, not-true}
 use Rattle.sercos_model.specs.Bits.{AreBytes}
 use Rattle.sercos_telegram.specs.declared.words.Status.{Status}
 use Rattle.sercos_idn.specs.declared.attribute.Attribute.{Attribute}
@@ -103,10 +103,6 @@ abbrev tests_whole : View → List View → Bool
 tests_whole v past =
     v.mst_comes && (v.mdt_comes && (not v.drive_restarts && (not v.master_restarts && (not v.falls && (is_some v.sent && (v.checked && (is_some v.heard || (stood_in v (standing past) == 0))))))))
 
-off : (b : Bool) → not b ≡ true → b ≡ false
-off true is = absurd (cc)
-off false is = refl
-
 heard_up : (b : Bool) (n : ℕ) → (b || (n == 0)) ≡ true → 1 ≤ n → b ≡ true
 heard_up true n is up = refl
 heard_up false n is up = let zero = eqb-true n 0 is in absurd (omega arith)
@@ -122,9 +118,9 @@ whole_by v past is =
     let g = and_parts v.checked _ f.1 in (
       record {
         mst = a.0;
-        drive = off v.drive_restarts c.0;
-        master = off v.master_restarts d.0;
-        stays = off v.falls e.0;
+        drive = not-true v.drive_restarts c.0;
+        master = not-true v.master_restarts d.0;
+        stays = not-true v.falls e.0;
         sends = λ some. f.0;
         joint = λ late. f.0;
         mdt = λ sent up. b.0;
