@@ -7,6 +7,7 @@ pub mod Sound
 pub mod Laid
 pub mod Agreed
 pub mod Extended
+pub mod Processed
 pub mod StoreOf
 pub mod Runs
 pub mod OpenedLemmas

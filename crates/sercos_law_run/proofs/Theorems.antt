@@ -26,6 +26,8 @@ pub use Rattle.sercos_law_run.proofs.Held.OpenedLemmas.{IsSound, all_at, all_dro
 pub use Rattle.sercos_law_run.proofs.Held.Rests.{rests_so}
 pub use Rattle.sercos_law_run.proofs.Held.Runs.{AllStand, IsPlannedIn, alike_so, drive_got, got_inside, holding, kept_at_mst, phase_same, rules, s_known, small}
 pub use Rattle.sercos_law_run.proofs.Held.StoreOf.{store_of_so}
+pub use Rattle.sercos_law_run.proofs.Headline.ApartCycles.{sender_phase}
+pub use Rattle.sercos_law_run.proofs.Headline.ApartRuns.{Sends, ends_at_0, sent_by}
 pub use Rattle.sercos_law_run.proofs.Headline.AtLengths.{carried_length}
 pub use Rattle.sercos_law_run.proofs.Headline.HeadlineRuns.{all_stand, first_store, keeps_all, spelled_in, stored_in}
 pub use Rattle.sercos_law_run.proofs.Undisturbed.StaysClear.{stays_clear}

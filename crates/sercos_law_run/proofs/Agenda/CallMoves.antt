@@ -1,25 +1,20 @@
 -- With each call of the master each channel goes by moves.
-use Rattle.std.proofs.Common.{◌≡◌, inl, inr, ℕ, ◌+◌, ◌<◌, ◌≤◌, Bool, true, false, not, ◌&&◌, List, [], ◌∷◌, length, refl, sym, ap, ap₂, ◌∙◌, subst, arith, if◌then◌else◌}
-use Rattle.std.specs.Prelude.{◌==◌, nat_le, Option, Some, None, Result, Ok, Err, is_some, is_none, slice_index}
-use Rattle.std.proofs.lemmas.Bool.{and_parts, or_cases, eqb-true, eq-eqb, leb-true, not-true, cases_eq}
+use Rattle.std.proofs.Common.{◌≡◌, inl, inr, ℕ, ◌<◌, Bool, true, false, not, ◌&&◌, List, [], ◌∷◌, length, refl, sym, ap, ap₂, ◌∙◌, subst, arith, if◌then◌else◌}
+use Rattle.std.specs.Prelude.{◌==◌, Option, Some, None, is_none, slice_index}
+use Rattle.std.proofs.lemmas.Bool.{and_parts, eqb-true, eq-eqb, not-true, cases_eq}
 use Rattle.sercos_telegram.specs.Words.{status_of}
 use Rattle.sercos_telegram.specs.Spells.{word_at}
 use Rattle.sercos_telegram.specs.Faults.{at_fault}
-use Rattle.sercos_timing.specs.Order.{record_bytes}
-use Rattle.sercos_timing.specs.Views.{PlanView}
-use Rattle.sercos_plan.specs.Views.{ChainView}
-use Rattle.sercos_plan.specs.ChainOf.{planned}
 use Rattle.sercos_service_master.specs.Calls as channel
 use Rattle.sercos_service_master.specs.Calls.{begun_by, Send}
 use Rattle.sercos_service_master.specs.Begun.{Begun}
-use Rattle.sercos_trace.specs.declared.events.Stop.{Stop}
-use Rattle.sercos_trace.specs.declared.events.Stop.TheVariants as stop
-use Rattle.sercos_seat.specs.Channel.{is_place, last_outcome, trouble_by, of_phase}
+use Rattle.sercos_seat.specs.Channel.{last_outcome, trouble_by}
 use Rattle.sercos_seat.specs.Ring.{Known, Task, member}
-use Rattle.sercos_seat.specs.Agenda.{wishes_given, last_long_stop, is_checked, is_ready}
-use Rattle.sercos_master.specs.Annals.{is_done_in, is_closed, all_identified, all_checked, all_ready, in_turn, with_plan, Call, HearMst, HearAt, Mdt, End, Restart, Past, outcomes, is_idle, is_awaited, wanted_len, is_taken, after_taken, after_at_of, after_at, place_of, first_trouble, is_plan_due, all_read, has_turn, next_task, is_done, fall_of, goes_on, new_epoch, still_waiting, after_end, with_stop, planned_by, with_due_plan, settled, begins, with_begin, with_task, begun, sent_to, is_sent_to, addressed_in, ready_to_send, past, hearing}
+use Rattle.sercos_seat.specs.Agenda.{is_checked, is_ready}
+use Rattle.sercos_master.specs.Annals.{is_done_in, is_closed, all_identified, all_checked, all_ready, Call, HearMst, HearAt, Mdt, End, Restart, Past, outcomes, is_awaited, wanted_len, after_taken, after_at, place_of, is_done, after_end, settled, begins, with_begin, with_task, begun, sent_to, is_sent_to, addressed_in, ready_to_send, past, hearing}
 use Rattle.sercos_master.proofs.Followed.{none_troubled, no_stop_before, settles}
 use Rattle.sercos_master.proofs.Configured.{each_passes}
+use Rattle.sercos_master.proofs.Keeping.{at_keeps, begins_next, end_keeps, settled_keeps}
 use Rattle.sercos_law_run.specs.Agenda.Channels.{CallsAreMoves, GoesByMoves, AreMoves, newest, Channel, channel_at, new_channel, IsNextTask, IsDoneWith, Steps, Stays, Identifies, Hears, Plans, Begins, Moves, Within, Ends, Falls}
 
 same_place : (k : ℕ) → (k == k) ≡ true
@@ -74,52 +69,15 @@ module _ (s : Known) (k : ℕ) where
       away other = ap put (off_place other)
 
   pub at_moves : (content : List ℕ) (p : Past) → Steps s k (channel_at p k) (channel_at (after_at s content p) k)
-  at_moves content p = by (place_of s (slice_index content 0))
-    where
-      by : (o : Option ℕ) → Steps s k (channel_at p k) (channel_at (after_at_of s o content p) k)
-      by None = Stays refl
-      by (Some i) = which (is_taken s p i content) refl
-        where
-          which : (on : Bool) → is_taken s p i content ≡ on → Steps s k (channel_at p k) (channel_at (if on then after_taken i content p else p) k)
-          which true on =
-              let more = (and_parts (is_awaited p i) (not (p.now.heard i) && is_none (at_fault (member s i).address (wanted_len s p i) content)) on).1 in
-              taken_moves i content p (not-true (p.now.heard i) (and_parts (not (p.now.heard i)) _ more).0)
-          which false off = Stays refl
+  at_moves content p = at_keeps (λ q. Steps s k (channel_at p k) (channel_at q k)) s (place_of s (slice_index content 0)) content p
+      (Stays refl) (λ i place on.
+      let more = (and_parts (is_awaited p i) (not (p.now.heard i) && is_none (at_fault (member s i).address (wanted_len s p i) content)) on).1 in
+      taken_moves i content p (not-true (p.now.heard i) (and_parts (not (p.now.heard i)) _ more).0))
 
   -- what is looked for when the MDT is due
-  pub stop_same : (o : Option Stop) (p : Past) → channel_at (with_stop o p) k ≡ channel_at p k
-  stop_same None p = refl
-  stop_same (Some x) p = which (is_some p.stop)
-    where
-      which : (on : Bool) → channel_at (if on then p else record p { now = record p.now { stops = true }; stop = Some x }) k ≡ channel_at p k
-      which true = refl
-      which false = refl
-
-  none_of : {A : Type 0} (o : Option A) → is_none o ≡ true → o ≡ None
-  none_of None on = refl
-  none_of (Some x) on = absurd (cc)
-
-  pub due_moves : (p : Past) → Steps s k (channel_at p k) (channel_at (with_due_plan s p) k)
-  due_moves p = which (is_plan_due s p) refl
-    where
-      result : (r : Result PlanView ChainView) → p.plan ≡ None → p.now.phase ≡ 2 → Steps s k (channel_at p k) (channel_at (with_plan r p) k)
-      result (Ok plan) none two = Plans plan none two refl
-      result (Err chain) none two = Stays (stop_same (Some (stop.NoFit chain)) p)
-
-      made : p.plan ≡ None → p.now.phase ≡ 2 → Steps s k (channel_at p k) (channel_at (planned_by s p) k)
-      made none two = fits (nat_le (record_bytes (wishes_given s (outcomes p)).drives) 2047)
-        where
-          fits : (on : Bool) → Steps s k (channel_at p k) (channel_at (if on then with_plan (planned (wishes_given s (outcomes p))) p else with_stop (last_long_stop s.drives 0 (outcomes p)) p) k)
-          fits true = result (planned (wishes_given s (outcomes p))) none two
-          fits false = Stays (stop_same (last_long_stop s.drives 0 (outcomes p)) p)
-
-      which : (on : Bool) → is_plan_due s p ≡ on → Steps s k (channel_at p k) (channel_at (if on then planned_by s p else p) k)
-      which false off = Stays refl
-      which true on =
-          let parts = and_parts (p.now.phase == 2) _ on in
-          let more = and_parts (is_none p.stop) _ parts.1 in
-          let two = and_parts (is_none p.plan) (all_read s p) more.1 in
-          made (none_of p.plan two.0) (eqb-true p.now.phase 2 parts.0)
+  pub settled_moves : (p : Past) → Steps s k (channel_at p k) (channel_at (settled s p) k)
+  settled_moves p = settled_keeps (λ q. Steps s k (channel_at p k) (channel_at q k)) s p (λ rests. Stays refl) (λ x none brings. Stays refl)
+      (λ plan makes. Plans plan makes.none makes.two refl)
 
   module _ (there : k < length s.drives) where
     -- what is begun, after the answers of the cycle are looked at
@@ -129,38 +87,17 @@ module _ (s : Known) (k : ℕ) where
         q : Past
         q = settled s p
 
-        task : (o : Option Task) (t : Task) → of_phase (settled s p).now.phase o ≡ Some t → (o ≡ Some t) × (t.phase ≡ (settled s p).now.phase)
-        task None t got = absurd (cc)
-        task (Some u) t got = which (u.phase == (settled s p).now.phase) refl got
-          where
-            which : (v : Bool) → (u.phase == (settled s p).now.phase) ≡ v → (if v then Some u else None) ≡ Some t → (Some u ≡ Some t) × (t.phase ≡ (settled s p).now.phase)
-            which true on got = let same : u ≡ t = cc in (got, ap (λ (x : Task). x.phase) (sym same) ∙ eqb-true u.phase (settled s p).now.phase on)
-            which false off got = absurd (cc)
-
-        turn_two : has_turn s (settled s p) k ≡ true → 2 ≤ (settled s p).now.phase
-        turn_two turn = elim (or_cases (nat_le 3 (settled s p).now.phase) (((settled s p).now.phase == 2) && is_place k (in_turn s (settled s p))) turn) [
-          | inl late ↦ let three = leb-true 3 (settled s p).now.phase late in omega (arith, three)
-          | inr same ↦ let two = eqb-true (settled s p).now.phase 2 (and_parts ((settled s p).now.phase == 2) _ same).0 in omega (arith, two)
-        ]
-
         next : (t : Task) → begins s (settled s p) k ≡ Some t → IsNextTask s k (channel_at (settled s p) k) t
-        next t is = which (is_none (settled s p).stop && (is_idle (settled s p) k && has_turn s (settled s p) k)) refl is
-          where
-            which : (v : Bool) → (is_none (settled s p).stop && (is_idle (settled s p) k && has_turn s (settled s p) k)) ≡ v → (if v then of_phase (settled s p).now.phase (next_task s (settled s p) k) else None) ≡ Some t →
-                IsNextTask s k (channel_at (settled s p) k) t
-            which false off got = absurd (cc)
-            which true on got =
-                let so = task (next_task s (settled s p) k) t got in
-                let parts = and_parts (is_none (settled s p).stop) _ on in
-                let free = and_parts (is_idle (settled s p) k) (has_turn s (settled s p) k) parts.1 in
-                let none = none_troubled s p 0 (length s.drives) k (no_stop_before s p (none_of (settled s p).stop parts.0)) (omega arith) (omega (arith, there)) in
-                let same = settles s p in record {
-                  two = turn_two free.1;
-                  idle = free.0;
-                  next = so.0;
-                  in_phase = so.1;
-                  well = ap₂ (λ (l : List Task) (c : List channel.Call). trouble_by (member s k).address l (last_outcome (begun_by c))) (ap (λ (f : ℕ → List Task). f k) same.tasks) (ap (λ (f : ℕ → List channel.Call). f k) same.calls) ∙ none;
-                }
+        next t is =
+            let b = begins_next s (settled s p) k t is in
+            let none = none_troubled s p 0 (length s.drives) k (no_stop_before s p b.unstopped) (omega arith) (omega (arith, there)) in
+            let same = settles s p in record {
+              two = b.late;
+              idle = b.idle;
+              next = b.next;
+              in_phase = b.in_phase;
+              well = ap₂ (λ (l : List Task) (c : List channel.Call). trouble_by (member s k).address l (last_outcome (begun_by c))) (ap (λ (f : ℕ → List Task). f k) same.tasks) (ap (λ (f : ℕ → List channel.Call). f k) same.calls) ∙ none;
+            }
 
         set : Option Task → Channel
         set o = record {
@@ -206,12 +143,8 @@ module _ (s : Known) (k : ℕ) where
             by false false false false e f g h done = absurd (cc)
 
     pub end_moves : (p : Past) → Moves s k (channel_at p k) (channel_at (after_end s p) k)
-    end_moves p = by (is_some (fall_of s p)) (is_done s p) refl
-      where
-        by : (fell done : Bool) → is_done s p ≡ done → Moves s k (channel_at p k) (channel_at (if fell then new_epoch (p.cycle + 1) (still_waiting p) else goes_on (if done then p.now.phase + 1 else p.now.phase) p) k)
-        by true done is = Falls refl
-        by false true is = Ends true (λ up. end_done p is) refl
-        by false false is = Ends false (λ up. absurd (cc)) refl
+    end_moves p = end_keeps (λ q. Moves s k (channel_at p k) (channel_at q k)) s p (Falls refl)
+        (λ done is. Ends done (λ up. end_done p (is ∙ up)) refl)
 
     -- so each call is moves
     pub call_moves : (requests : ℕ → List Task) (call : Call) (h : List Call) → GoesByMoves s k (channel_at (past s requests h) k) (channel_at (past s requests (call ∷ h)) k)
@@ -219,8 +152,7 @@ module _ (s : Known) (k : ℕ) where
     call_moves requests (HearAt content) h = (channel_at (past s requests (HearAt content ∷ h)) k ∷ [], (tt, Within (at_moves content (past s requests h))), refl)
     call_moves requests Mdt h =
         let p = past s requests h in
-        let first : Steps s k (channel_at p k) (channel_at (settled s p) k) = subst (λ (c : Channel). Steps s k c (channel_at (settled s p) k)) (stop_same (first_trouble s p) p) (due_moves (with_stop (first_trouble s p) p)) in
-        (channel_at (begun s (settled s p)) k ∷ channel_at (settled s p) k ∷ [], ((tt, Within first), Within (begun_moves p)), sent_same (addressed_in s (ready_to_send s p)) (ready_to_send s p))
+        (channel_at (begun s (settled s p)) k ∷ channel_at (settled s p) k ∷ [], ((tt, Within (settled_moves p)), Within (begun_moves p)), sent_same (addressed_in s (ready_to_send s p)) (ready_to_send s p))
     call_moves requests End h = (channel_at (past s requests (End ∷ h)) k ∷ [], (tt, end_moves (past s requests h)), refl)
     call_moves requests Restart h = (channel_at (past s requests (Restart ∷ h)) k ∷ [], (tt, Falls refl), refl)
 

@@ -1,8 +1,9 @@
 -- In phase 2 at most one channel has an open transfer.
 use Rattle.std.proofs.Common.{◌≡◌, inl, inr, ℕ, zero, suc, ◌+◌, ◌<◌, ◌≤◌, Bool, true, false, not, ◌&&◌, List, [], ◌∷◌, length, refl, sym, ap, ap₂, ◌∙◌, subst, arith, if◌then◌else◌}
-use Rattle.std.specs.Prelude.{◌==◌, nat_le, Option, Some, None, is_some, is_none, slice_index}
+use Rattle.std.specs.Prelude.{◌==◌, Option, Some, None, is_some, is_none}
 use Rattle.std.specs.Option.{option_or}
-use Rattle.std.proofs.lemmas.Bool.{and_parts, or_cases, eqb-true, eq-eqb, leb-true, cases_eq}
+use Rattle.std.proofs.lemmas.Bool.{and_parts, both_ways, eqb-true, eq-eqb, cases_eq}
+use Rattle.std.proofs.lemmas.Option.{same_Some}
 use mathlib.Core.Bool.{beq}
 use Rattle.sercos_telegram.specs.declared.words.Status.{Status}
 use Rattle.sercos_telegram.specs.Words.{status_of}
@@ -19,11 +20,12 @@ use Rattle.sercos_law_channel.specs.Handshake.Moves.{with_status}
 use Rattle.sercos_seat.proofs.Channels.{going_on}
 use Rattle.sercos_seat.specs.Ring.{Known, Task, member}
 use Rattle.sercos_seat.specs.Agenda.{is_read, is_checked}
-use Rattle.sercos_seat.specs.Channel.{with_outcome, outcomes_in, is_place, of_phase}
+use Rattle.sercos_seat.specs.Channel.{with_outcome, outcomes_in}
 use Rattle.sercos_seat.specs.Seats.{AreWaiting}
 use Rattle.sercos_master.proofs.Laws.{all_waiting}
 use Rattle.sercos_master.proofs.Configured.{mdt_adds, leaves}
-use Rattle.sercos_master.specs.Annals.{Call, HearMst, HearAt, Mdt, End, Restart, Past, first_from, outcomes, is_idle, is_taken, after_taken, after_at_of, after_at, place_of, in_turn, has_turn, next_task, begins, with_begin, settled, begun, is_sent_to, addressed_in, ready_to_send, after_mdt, fall_of, is_done, goes_on, new_epoch, still_waiting, past, hearing}
+use Rattle.sercos_master.proofs.Keeping.{begins_next, going, past_keeps}
+use Rattle.sercos_master.specs.Annals.{Call, Past, first_from, outcomes, is_idle, after_taken, in_turn, begins, with_begin, settled, begun, is_sent_to, addressed_in, ready_to_send, after_mdt, past, hearing}
 use Rattle.sercos_master.proofs.Followed.{HasNext}
 use Rattle.sercos_law_run.specs.Agenda.Channels.{outcome_in}
 use Rattle.sercos_law_run.specs.Agenda.Tasks.{IsTask, OfReads, OfWrites, Checks3, Lists3, Checks4, Lists4, OfWaiting, AreBegunTasks}
@@ -125,10 +127,6 @@ module _ (s : Known) where
       q : Past
       q = after_taken i content p
 
-      both : (v : Bool) → v ≡ true → v ≡ false → ⊥
-      both true on off = cc
-      both false on off = cc
-
       same_all : begun_by ((after_taken i content p).calls i) ≡ begun_by (p.calls i) → in_turn s (after_taken i content p) ≡ Some k
       same_all here = turn_same s p (after_taken i content p) (λ j. each j) ∙ have k there two (ap (λ (l : List Begun). is_none (open_in l)) (sym (at k)) ∙ opens)
         where
@@ -154,7 +152,7 @@ module _ (s : Known) where
             where
               was : (v : Bool) → is_idle p i ≡ v → is_idle (after_taken i content p) i ≡ false → is_idle p i ≡ false
               was false is on = is
-              was true is on = absurd (both (is_idle (after_taken i content p) i) (ap (λ (l : List Begun). is_none (open_in l)) (here ∙ idle_hears status word (begun_by (p.calls i)) is) ∙ is) on)
+              was true is on = absurd (both_ways (is_idle (after_taken i content p) i) on (ap (λ (l : List Begun). is_none (open_in l)) (here ∙ idle_hears status word (begun_by (p.calls i)) is) ∙ is))
 
           which : (o : Option Outcome) → outcome_in (begun_by (p.calls i)) status word ≡ o → in_turn s (after_taken i content p) ≡ Some k
           which None none = turn_same s p (after_taken i content p) (λ j. each j) ∙ have k there two (before k opens)
@@ -169,36 +167,13 @@ module _ (s : Known) where
               let was = was_open (open_in (begun_by (p.calls i))) (so.was_open on) in
               let mine = have i inside two was in
               let its = have k there two (before k opens) in
-              let same : i ≡ k = one i k (sym mine ∙ its) in
+              let same : i ≡ k = same_Some i k (sym mine ∙ its) in
               let closed : is_idle (after_taken i content p) i ≡ true = ap (λ (l : List Begun). is_none (open_in l)) here ∙ so.closes on in
-              absurd (both (is_idle (after_taken i content p) k) (subst (λ (m : ℕ). is_idle (after_taken i content p) m ≡ true) same closed) opens)
+              absurd (both_ways (is_idle (after_taken i content p) k) opens (subst (λ (m : ℕ). is_idle (after_taken i content p) m ≡ true) same closed))
             where
-              one : (a b : ℕ) → Some a ≡ Some b → a ≡ b
-              one a b e = cc
-
               was_open : (x : Option Step) → is_some x ≡ true → is_none x ≡ false
               was_open None on = absurd (cc)
               was_open (Some x) on = refl
-
-  -- a place that is found is one of the ring
-  from_inside : (n k : ℕ) (test : ℕ → Bool) (i : ℕ) → first_from k n test ≡ Some i → i < k + n
-  from_inside zero k test i is = absurd (cc)
-  from_inside (suc n) k test i is = by (test k) is (from_inside n (k + 1) test i)
-    where
-      by : (v : Bool) → (if v then Some k else first_from (k + 1) n test) ≡ Some i → (first_from (k + 1) n test ≡ Some i → i < (k + 1) + n) → i < k + suc n
-      by true is more = let same : k ≡ i = cc in omega arith
-      by false is more = let less = more is in omega arith
-
-  at_turn : (content : List ℕ) (p : Past) → AllHaveTurn p → AllHaveTurn (after_at s content p)
-  at_turn content p have = by (place_of s (slice_index content 0)) refl
-    where
-      by : (o : Option ℕ) → place_of s (slice_index content 0) ≡ o → AllHaveTurn (after_at_of s o content p)
-      by None is = have
-      by (Some i) is = which (is_taken s p i content)
-        where
-          which : (on : Bool) → AllHaveTurn (if on then after_taken i content p else p)
-          which true = let less = from_inside (length s.drives) 0 (λ k. (member s k).address == slice_index content 0) i is in taken_turn i content p (omega arith) have
-          which false = have
 
   -- the MDT
   pub send_same : (on : Bool) (calls : List channel.Call) → begun_by (if on then Send ∷ calls else calls) ≡ begun_by calls
@@ -219,21 +194,8 @@ module _ (s : Known) where
 
       by : (o : Option Task) → begins s (settled s p) k ≡ o → is_none (open_in (begun_by (with_begin o ((settled s p).calls k)))) ≡ false → in_turn s (after_mdt s p) ≡ Some k
       by None none opens = turn_same s p (after_mdt s p) (λ j. mdt_adds s p j) ∙ have k there phase (ap (λ (calls : ℕ → List channel.Call). is_none (open_in (begun_by (calls k)))) (sym all) ∙ opens)
-      by (Some t) some opens = turn_same s p (after_mdt s p) (λ j. mdt_adds s p j) ∙ sym settled_turn ∙ which (is_none (settled s p).stop && (is_idle (settled s p) k && has_turn s (settled s p) k)) refl some
-        where
-          place : (o : Option ℕ) → is_place k o ≡ true → o ≡ Some k
-          place None on = absurd (cc)
-          place (Some i) on = ap (λ (n : ℕ). Some n) (sym (eqb-true k i on))
-
-          which : (v : Bool) → (is_none (settled s p).stop && (is_idle (settled s p) k && has_turn s (settled s p) k)) ≡ v → (if v then of_phase (settled s p).now.phase (next_task s (settled s p) k) else None) ≡ Some t → in_turn s (settled s p) ≡ Some k
-          which false off got = absurd (cc)
-          which true on got =
-              let more = (and_parts (is_none (settled s p).stop) _ on).1 in
-              let turn = (and_parts (is_idle (settled s p) k) _ more).1 in
-              elim (or_cases (nat_le 3 (settled s p).now.phase) (((settled s p).now.phase == 2) && is_place k (in_turn s (settled s p))) turn) [
-                | inl late ↦ let three = leb-true 3 (settled s p).now.phase late in absurd (omega arith)
-                | inr same ↦ place (in_turn s (settled s p)) (and_parts ((settled s p).now.phase == 2) _ same).1
-              ]
+      by (Some t) some opens = turn_same s p (after_mdt s p) (λ j. mdt_adds s p j) ∙ sym settled_turn ∙
+          (begins_next s (settled s p) k t some).turn two
 
   -- In phases 0 and 1 nothing was begun.
   task_two : (k : ℕ) (plan : Option PlanView) (waiting : List Task) (outcomes : List Outcome) (t : Task) → AreWaiting waiting → IsTask s k plan waiting outcomes t → 2 ≤ t.phase
@@ -256,25 +218,18 @@ module _ (s : Known) where
         let p = past s requests h in
         none_begun k p.plan (p.waiting k) p.now.phase (begun_by (p.calls k)) (p.tasks k) (all_waiting s requests h are k) (begun_tasks s k has_next there requests h) low
 
-    end_turn : (h : List Call) → AllHaveTurn (past s requests h) → AllHaveTurn (past s requests (End ∷ h))
-    end_turn h have k there = by (is_some (fall_of s (past s requests h))) (is_done s (past s requests h))
-      where
-        p : Past
-        p = past s requests h
-
-        both : (v : Bool) → v ≡ true → v ≡ false → ⊥
-        both true on off = cc
-        both false on off = cc
-
-        by : (fell done : Bool) → HasTurn s (if fell then new_epoch (p.cycle + 1) (still_waiting p) else goes_on (if done then p.now.phase + 1 else p.now.phase) p) k
-        by true done = λ two opens. absurd (omega (arith, two))
-        by false false = λ two opens. turn_same s p (goes_on p.now.phase p) (λ j. refl) ∙ have k there two opens
-        by false true = λ two opens. let idle : is_idle p k ≡ true = ap (λ (l : List Begun). is_none (open_in l)) (none_early h k there (omega (arith, two))) in absurd (both (is_idle p k) idle opens)
+    goes_turn : (h : List Call) (done : Bool) → AllHaveTurn (past s requests h) → AllHaveTurn (going done (past s requests h))
+    goes_turn h false have k there two opens = turn_same s (past s requests h) (going false (past s requests h)) (λ j. refl)
+        ∙ have k there two opens
+    goes_turn h true have k there two opens = absurd (both_ways (is_idle (past s requests h) k) opens
+        (ap (λ (l : List Begun). is_none (open_in l)) (none_early h k there (omega (arith, two)))))
 
     pub all_in_turn : (h : List Call) → AllHaveTurn (past s requests h)
-    all_in_turn [] k there = λ two opens. absurd (omega (arith, two))
-    all_in_turn (HearMst content ∷ h) k there = all_in_turn h k there
-    all_in_turn (HearAt content ∷ h) k there = at_turn content (past s requests h) (all_in_turn h) k there
-    all_in_turn (Mdt ∷ h) k there = mdt_turn (past s requests h) (all_in_turn h) k there
-    all_in_turn (End ∷ h) k there = end_turn h (all_in_turn h) k there
-    all_in_turn (Restart ∷ h) k there = λ two opens. absurd (omega (arith, two))
+    all_in_turn = past_keeps AllHaveTurn s requests (record {
+      first = λ k there two opens. absurd (omega (arith, two));
+      mst = λ h whole have. have;
+      taken = λ h i content inside is. taken_turn i content (past s requests h) inside;
+      mdt = λ h. mdt_turn (past s requests h);
+      on = λ h done is. goes_turn h done;
+      new = λ h cycle have k there two opens. absurd (omega (arith, two));
+    })

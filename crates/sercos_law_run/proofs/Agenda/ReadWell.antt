@@ -1,29 +1,26 @@
 -- If there is a plan, all reads are complete.
-use Rattle.std.proofs.Common.{◌≡◌, inl, inr, ℕ, ◌+◌, ◌<◌, ◌≤◌, Bool, true, false, List, [], ◌∷◌, ◌++◌, length, refl, sym, ap, ap₂, ◌∙◌, subst, arith, if◌then◌else◌, length-append}
-use Rattle.std.specs.Prelude.{◌==◌, nat_le, Option, Some, None, Result, Ok, Err, is_some, is_none, slice_get, slice_index}
-use Rattle.std.proofs.lemmas.Option.{slice_get_within}
-use Rattle.std.proofs.lemmas.Bool.{and_parts, false≢true, leb-true, cases_eq}
+use Rattle.std.proofs.Common.{◌≡◌, inl, inr, ℕ, ◌<◌, ◌≤◌, true, List, [], ◌∷◌, ◌++◌, length, refl, sym, ap, ap₂, ◌∙◌, arith, length-append}
+use Rattle.std.specs.Prelude.{Option, Some, None, slice_get}
+use Rattle.std.proofs.lemmas.Option.{same_Some, slice_get_within}
+use Rattle.std.proofs.lemmas.Bool.{leb-true, cases_eq}
 use Rattle.sercos_step.specs.declared.request.Outcome.{Outcome}
 use Rattle.sercos_step.specs.declared.request.Outcome.TheVariants as outcome
 use Rattle.sercos_step.specs.Steps.{outcome_of}
-use Rattle.sercos_timing.specs.Order.{record_bytes}
 use Rattle.sercos_timing.specs.Views.{PlanView}
-use Rattle.sercos_plan.specs.Views.{ChainView}
 use Rattle.sercos_plan.specs.ChainOf.{planned}
 use Rattle.sercos_service_master.specs.Calls as channel
 use Rattle.sercos_service_master.specs.Begun.{Begun}
 use Rattle.sercos_service_master.specs.Calls.{begun_by}
 use Rattle.sercos_law_channel.proofs.Theorems.{IsRefused, Ends as TransferEnds, GoesOn, IsWhole, ends_so}
-use Rattle.sercos_trace.specs.declared.events.Stop.{Stop}
-use Rattle.sercos_trace.specs.declared.events.Stop.TheVariants as stop
 use Rattle.sercos_seat.proofs.Gets.{get_left, get_right}
 use Rattle.sercos_seat.specs.Ring.{Known, Task, member}
-use Rattle.sercos_seat.specs.Agenda.{is_read, reads_count, wishes_given, last_long_stop}
+use Rattle.sercos_seat.specs.Agenda.{is_read, reads_count}
 use Rattle.sercos_seat.specs.Channel.{with_outcome, outcomes_in, last_outcome, trouble_by}
 use Rattle.sercos_master.proofs.Planned.{Adds, at_adds}
 use Rattle.sercos_master.proofs.Followed.{none_troubled, HasNext}
 use Rattle.sercos_master.proofs.Configured.{each_passes, mdt_adds, leaves}
-use Rattle.sercos_master.specs.Annals.{Call, HearMst, HearAt, Mdt, End, Restart, Past, outcomes, trouble, is_taken, after_taken, after_at_of, after_at, place_of, all_read, first_trouble, with_stop, is_plan_due, with_plan, planned_by, with_due_plan, settled, after_mdt, fall_of, next_phase, goes_on, new_epoch, still_waiting, after_end, past}
+use Rattle.sercos_master.proofs.Keeping.{past_keeps, settled_keeps}
+use Rattle.sercos_master.specs.Annals.{Call, Past, outcomes, trouble, after_taken, all_read, first_trouble, settled, after_mdt, past}
 use Rattle.sercos_law_run.specs.Agenda.Tasks.{HasBegunTasks, EndsTasks, HasEndedAt, IsTask, OfReads, OfWrites, Checks3, Lists3, Checks4, Lists4, OfWaiting, HasEndedWell, AreBegunTasks}
 use Rattle.sercos_law_run.specs.Agenda.Reads.{AreReadWell}
 use Rattle.sercos_law_run.proofs.Agenda.WritesDone.{some_at}
@@ -46,16 +43,13 @@ module _ (s : Known) (k : ℕ) (plan : Option PlanView) (waiting : List Task) (p
       by (Some y) some got more = elim (cases_eq j (length (outcomes_in older))) [
         | inl at ↦
             let long = are.1.ended in
-            let same : y ≡ o = one y o (sym (last_is (outcomes_in older) y j at) ∙ got) in
+            let same : y ≡ o = same_Some y o (sym (last_is (outcomes_in older) y j at) ∙ got) in
             record { newer = []; one = b; older = older; task = t; tasks = tasks; split = refl; place = omega arith; ended = some ∙ ap (λ (z : Outcome). Some z) same; is = are.1 }
         | inr other ↦
             let less = slice_get_within (outcomes_in older ++ y ∷ []) j o got in
             let many = length-append (outcomes_in older) (y ∷ []) in
             after (more (sym (get_left (outcomes_in older) (y ∷ []) j (omega (arith, less, many, other))) ∙ got))
       ]
-        where
-          one : (a c : Outcome) → Some a ≡ Some c → a ≡ c
-          one a c e = cc
 
   -- The newest is complete, if it has ended and is of the start-up.
   abbrev pub IsWellIfEnded : List Begun → List Task → Type 0
@@ -116,75 +110,22 @@ module _ (s : Known) (k : ℕ) (plan : Option PlanView) (waiting : List Task) (p
 settled_same : (s : Known) (p : Past) (j : ℕ) → outcomes (after_mdt s p) j ≡ outcomes (settled s p) j
 settled_same s p j = mdt_adds s p j ∙ sym (ap (λ (calls : ℕ → List channel.Call). outcomes_in (begun_by (calls j))) (leaves s p).calls)
 
-stop_same : (s : Known) (o : Option Stop) (p : Past) (k : ℕ) → outcomes (with_stop o p) k ≡ outcomes p k
-stop_same s None p k = refl
-stop_same s (Some x) p k = which (is_some p.stop)
-  where
-    which : (on : Bool) → outcomes (if on then p else record p { now = record p.now { stops = true }; stop = Some x }) k ≡ outcomes p k
-    which true = refl
-    which false = refl
-
-no_stop : (o : Option Stop) (p : Past) → is_none (with_stop o p).stop ≡ true → o ≡ None
-no_stop None p none = refl
-no_stop (Some x) p none = absurd (by p.stop refl none)
-  where
-    by : (old : Option Stop) → p.stop ≡ old → is_none (if is_some old then p else record p { now = record p.now { stops = true }; stop = Some x }).stop ≡ true → ⊥
-    by None is none = false≢true none
-    by (Some y) is none = false≢true (sym (ap is_none is) ∙ none)
-
 module _ (s : Known) where
+  abbrev pub AllComplete : Past → Type 0
+  AllComplete p = (k : ℕ) → k < length s.drives → (j : ℕ) → j < reads_count (member s k) → (bytes : List ℕ) × (slice_get (outcomes p k) j ≡ Some (outcome.Complete bytes))
+
   -- where outcomes come at the end alone, the first stay
-  stays_well : (p q : Past) → Adds p q → q.plan ≡ p.plan → AreReadWell s p → AreReadWell s q
-  stays_well p q adds same is plan has k there j early =
-      let before = is plan (sym same ∙ has) k there j early in
+  pub stay_complete : (p q : Past) → Adds p q → AllComplete p → AllComplete q
+  stay_complete p q adds all k there j early =
+      let before = all k there j early in
       (before.0, ap (λ (l : List Outcome). slice_get l j) (adds k).1 ∙ kept (adds k).0 (outcome.Complete before.0) before.1)
     where
       kept : (o : Option Outcome) (x : Outcome) → slice_get (outcomes p k) j ≡ Some x → slice_get (with_outcome o (outcomes p k)) j ≡ Some x
       kept None x got = got
       kept (Some y) x got = get_left (outcomes p k) (y ∷ []) j (slice_get_within (outcomes p k) j x got) ∙ got
 
-  at_well : (content : List ℕ) (p : Past) → AreReadWell s p → AreReadWell s (after_at s content p)
-  at_well content p is = by (place_of s (slice_index content 0))
-    where
-      by : (o : Option ℕ) → AreReadWell s (after_at_of s o content p)
-      by None = is
-      by (Some i) = which (is_taken s p i content)
-        where
-          which : (on : Bool) → AreReadWell s (if on then after_taken i content p else p)
-          which true = stays_well p (after_taken i content p) (at_adds i content p) refl is
-          which false = is
-
-  stop_well : (o : Option Stop) (p : Past) → AreReadWell s p → AreReadWell s (with_stop o p)
-  stop_well None p is = is
-  stop_well (Some x) p is = which (is_some p.stop)
-    where
-      which : (on : Bool) → AreReadWell s (if on then p else record p { now = record p.now { stops = true }; stop = Some x })
-      which true = is
-      which false = is
-
-  abbrev pub AllComplete : Past → Type 0
-  AllComplete p = (k : ℕ) → k < length s.drives → (j : ℕ) → j < reads_count (member s k) → (bytes : List ℕ) × (slice_get (outcomes p k) j ≡ Some (outcome.Complete bytes))
-
-  due_well : (p : Past) → (all_read s p ≡ true → is_none p.stop ≡ true → AllComplete p) → AreReadWell s p → AreReadWell s (with_due_plan s p)
-  due_well p each is = which (is_plan_due s p) refl
-    where
-      result : (r : Result PlanView ChainView) → all_read s p ≡ true → is_none p.stop ≡ true → AreReadWell s (with_plan r p)
-      result (Ok plan) all none = λ other has. each all none
-      result (Err chain) all none = stop_well (Some (stop.NoFit chain)) p is
-
-      made : all_read s p ≡ true → is_none p.stop ≡ true → AreReadWell s (planned_by s p)
-      made all none = fits (nat_le (record_bytes (wishes_given s (outcomes p)).drives) 2047)
-        where
-          fits : (on : Bool) → AreReadWell s (if on then with_plan (planned (wishes_given s (outcomes p))) p else with_stop (last_long_stop s.drives 0 (outcomes p)) p)
-          fits true = result (planned (wishes_given s (outcomes p))) all none
-          fits false = stop_well (last_long_stop s.drives 0 (outcomes p)) p is
-
-      which : (on : Bool) → is_plan_due s p ≡ on → AreReadWell s (if on then planned_by s p else p)
-      which false off = is
-      which true on =
-          let more = (and_parts (p.now.phase == 2) _ on).1 in
-          let two = and_parts (is_none p.stop) _ more in
-          made (and_parts (is_none p.plan) (all_read s p) two.1).1 two.0
+  stays_well : (p q : Past) → Adds p q → q.plan ≡ p.plan → AreReadWell s p → AreReadWell s q
+  stays_well p q adds same is plan has = stay_complete p q adds (is plan (sym same ∙ has))
 
   -- a read that ended without a stop is complete
   complete_at : (p : Past) (k j : ℕ) → HasBegunTasks s p k → trouble s p k ≡ None → j < reads_count (member s k) → reads_count (member s k) ≤ length (outcomes p k) → (bytes : List ℕ) × (slice_get (outcomes p k) j ≡ Some (outcome.Complete bytes))
@@ -201,36 +142,28 @@ module _ (s : Known) where
       by : (o : Outcome) × (slice_get (outcomes p k) j ≡ Some o) → (bytes : List ℕ) × (slice_get (outcomes p k) j ≡ Some (outcome.Complete bytes))
       by (o, got) = whole o got (well o got)
 
-  -- no stop comes of the answers, so they are complete
-  pub complete : (p : Past) → ((k : ℕ) → k < length s.drives → HasBegunTasks s p k) → all_read s (with_stop (first_trouble s p) p) ≡ true → is_none (with_stop (first_trouble s p) p).stop ≡ true → AllComplete (with_stop (first_trouble s p) p)
+  -- where no stop comes of the answers, they are complete
+  pub complete : (p : Past) → ((k : ℕ) → k < length s.drives → HasBegunTasks s p k) → all_read s p ≡ true → first_trouble s p ≡ None
+      → AllComplete p
   complete p are all none k there j early =
-      subst (λ (l : List Outcome). (bytes : List ℕ) × (slice_get l j ≡ Some (outcome.Complete bytes))) (sym (stop_same s (first_trouble s p) p k))
-      (complete_at p k j (are k there) (none_troubled s p 0 (length s.drives) k (no_stop (first_trouble s p) p none) (omega arith) (omega (arith, there))) early (leb-true (reads_count (member s k)) (length (outcomes p k)) read))
-    where
-      read : is_read (member s k) (outcomes p k) ≡ true
-      read =
-          subst (λ (l : List Outcome). is_read (member s k) l ≡ true) (stop_same s (first_trouble s p) p k)
-          (each_passes (length s.drives) 0 (λ i. is_read (member s i) (outcomes (with_stop (first_trouble s p) p) i)) all k (omega arith) (omega (arith, there)))
+      let read = each_passes (length s.drives) 0 (λ i. is_read (member s i) (outcomes p i)) all k (omega arith) (omega (arith, there)) in
+      complete_at p k j (are k there) (none_troubled s p 0 (length s.drives) k none (omega arith) (omega (arith, there))) early (leb-true (reads_count (member s k)) (length (outcomes p k)) read)
 
   mdt_well : (p : Past) → ((k : ℕ) → k < length s.drives → HasBegunTasks s p k) → AreReadWell s p → AreReadWell s (after_mdt s p)
-  mdt_well p are is =
-      stays_well (settled s p) (after_mdt s p) (λ j. (None, settled_same s p j)) refl
-      (due_well (with_stop (first_trouble s p) p) (complete p are) (stop_well (first_trouble s p) p is))
-
-  end_well : (p : Past) → AreReadWell s p → AreReadWell s (after_end s p)
-  end_well p is = by (is_some (fall_of s p))
-    where
-      by : (fell : Bool) → AreReadWell s (if fell then new_epoch (p.cycle + 1) (still_waiting p) else goes_on (next_phase s p) p)
-      by true = λ plan has. absurd (cc)
-      by false = stays_well p (goes_on (next_phase s p) p) (λ j. (None, refl)) refl is
+  mdt_well p are is = stays_well (settled s p) (after_mdt s p) (λ j. (None, settled_same s p j)) refl
+      (settled_keeps (AreReadWell s) s p (λ rests. is) (λ x none brings. is)
+      (λ plan makes other has. complete p are makes.by_reads.read makes.untroubled))
 
   pub are_read_well : HasNext → (requests : ℕ → List Task) (h : List Call) → AreReadWell s (past s requests h)
-  are_read_well has requests [] = λ plan is. absurd (cc)
-  are_read_well has requests (HearMst content ∷ h) = stays_well (past s requests h) (past s requests (HearMst content ∷ h)) (λ j. (None, refl)) refl (are_read_well has requests h)
-  are_read_well has requests (HearAt content ∷ h) = at_well content (past s requests h) (are_read_well has requests h)
-  are_read_well has requests (Mdt ∷ h) = mdt_well (past s requests h) (λ k there. begun_tasks s k has there requests h) (are_read_well has requests h)
-  are_read_well has requests (End ∷ h) = end_well (past s requests h) (are_read_well has requests h)
-  are_read_well has requests (Restart ∷ h) = λ plan is. absurd (cc)
+  are_read_well has requests = past_keeps (AreReadWell s) s requests (record {
+    first = λ plan is. absurd (cc);
+    mst = λ h whole is. is;
+    taken = λ h k content inside taken is. stays_well (past s requests h) (after_taken k content (past s requests h))
+        (at_adds k content (past s requests h)) refl is;
+    mdt = λ h. mdt_well (past s requests h) (λ k there. begun_tasks s k has there requests h);
+    on = λ h done at is. is;
+    new = λ h cycle before plan is. absurd (cc);
+  })
 
 pub ends_tasks : HasNext → EndsTasks
 ends_tasks has_next s requests h k j o there got =

@@ -15,13 +15,14 @@ use Rattle.sercos_seat.specs.Channel.{broken_number, numbered, Report, report_of
 use Rattle.sercos_seat.specs.Ring.{Known, Task, member}
 use Rattle.sercos_seat.specs.Agenda.{reads_count, is_ready}
 use Rattle.sercos_master.proofs.Followed.{HasNext, not_longer}
-use Rattle.sercos_master.specs.Annals.{Restart, Call, HearMst, HearAt, Mdt, End, Past, first_trouble, with_stop, settled, begun, addressed_in, ready_to_send, fall_of, goes_on, next_phase, new_epoch, still_waiting, past}
+use Rattle.sercos_master.proofs.Keeping.{end_keeps}
+use Rattle.sercos_master.specs.Annals.{Restart, Call, HearMst, HearAt, Mdt, End, Past, settled, begun, addressed_in, ready_to_send, fall_of, goes_on, next_phase, new_epoch, still_waiting, past}
 use Rattle.sercos_law_run.specs.Agenda.Reported.{task_numbers, IsAtStart, RestartsAtStart, TellsInOrder, broken_in, AreNumbered, with_told, told_at_end, told, with_number, after_told, still_to_tell}
 use Rattle.sercos_law_run.specs.Agenda.Channels.{Ends, Channel, channel_at, hearing, beginning, Steps, Stays, Identifies, Hears, Plans, Begins, Moves, Within, Falls}
 use Rattle.sercos_law_run.specs.Agenda.Tasks.{IsTask, OfReads, OfWrites, Checks3, Lists3, Checks4, Lists4, OfWaiting, AreBegunTasks}
 use Rattle.sercos_law_run.proofs.Agenda.Requests.{numbered_drop}
 use Rattle.sercos_law_run.proofs.Agenda.AgendaTasks.{is_task}
-use Rattle.sercos_law_run.proofs.Agenda.CallMoves.{at_moves, due_moves, begun_moves, sent_same, stop_same, always}
+use Rattle.sercos_law_run.proofs.Agenda.CallMoves.{at_moves, settled_moves, begun_moves, sent_same, always}
 use Rattle.sercos_law_run.proofs.Agenda.TaskRuns.{tasks_step, all_ended}
 
 drop_get : (tasks : List Task) (j : ℕ) (t : Task) → slice_get tasks j ≡ Some t → task_numbers (drop j tasks) ≡ t.number ∷ task_numbers (drop (suc j) tasks)
@@ -216,15 +217,12 @@ module _ (has_next : HasNext) (s : Known) (k : ℕ) where
     mdt_tells : (h : List Call) → still_to_tell (channel_at (past s requests (Mdt ∷ h)) k) ≡ still_to_tell (channel_at (past s requests h) k)
     mdt_tells h =
         let p = past s requests h in
-        let one = stop_same s k (first_trouble s p) p in
-        let c1 = channel_at (with_stop (first_trouble s p) p) k in
+        let c1 = channel_at p k in
         let c2 = channel_at (settled s p) k in
-        let c3 = channel_at (begun s (settled s p)) k in
-        let t1 : IsTelling c1 = subst IsTelling (sym one) (telling h) in
-        let m2 = due_moves s k (with_stop (first_trouble s p) p) in
-        let t2 : IsTelling c2 = telling_step c1 c2 (Within m2) t1 in
+        let m2 = settled_moves s k p in
         ap still_to_tell (sent_same s k there (addressed_in s (ready_to_send s p)) (ready_to_send s p))
-        ∙ step_tells c2 c3 (begun_moves s k there p) t2 ∙ step_tells c1 c2 m2 t1 ∙ ap still_to_tell one
+        ∙ step_tells c2 (channel_at (begun s (settled s p)) k) (begun_moves s k there p) (telling_step c1 c2 (Within m2) (telling h))
+        ∙ step_tells c1 c2 m2 (telling h)
 
     with_both : (r : Option Report) (reports : List Report) (rest : List (Option ℕ)) → after_told (with_told r reports) rest ≡ after_told reports (with_number r rest)
     with_both None reports rest = refl
@@ -236,14 +234,7 @@ module _ (has_next : HasNext) (s : Known) (k : ℕ) where
     fresh (HearMst content ∷ h) none = fresh h none
     fresh (HearAt content ∷ h) none = absurd none
     fresh (Mdt ∷ h) none = absurd none
-    fresh (End ∷ h) none = by (is_some (fall_of s (past s requests h)))
-      where
-        p : Past
-        p = past s requests h
-
-        by : (fell : Bool) → (channel_at (if fell then new_epoch (p.cycle + 1) (still_waiting p) else goes_on (next_phase s p) p) k).report ≡ None
-        by true = refl
-        by false = refl
+    fresh (End ∷ h) none = end_keeps (λ q. (channel_at q k).report ≡ None) s (past s requests h) refl (λ done is. refl)
     fresh (Restart ∷ h) none = refl
 
     restart_tells : (h : List Call) → IsAtStart h → after_told (told s requests k (Restart ∷ h)) (still_to_tell (channel_at (past s requests (Restart ∷ h)) k)) ≡ after_told (told s requests k h) (still_to_tell (channel_at (past s requests h) k))

@@ -1,4 +1,5 @@
 -- The cause of each kind of stop.
+use Rattle.std.proofs.lemmas.Option.{same_Some}
 use Rattle.std.proofs.Common.{◌≡◌, ◌⊎◌, inl, inr, ℕ, zero, suc, ◌+◌, ◌<◌, Bool, true, false, not, ◌&&◌, List, [], ◌∷◌, ◌++◌, map, take, length, refl, sym, ap, ap₂, ◌∙◌, subst, arith, if◌then◌else◌}
 use Rattle.std.specs.Prelude.{◌==◌, Option, Some, None, Err, is_some, is_none, option_map, slice_get, unwrap_or}
 use Rattle.std.specs.List.{list_all}
@@ -42,9 +43,6 @@ pub data Says (address : ℕ) (r : Request) (o : Outcome) (x : Stop) : Type 0 wh
   Says127 : (i : Idn) → (bytes : List ℕ) → r ≡ request.Read i 7 → i.raw ≡ 21 → o ≡ outcome.Complete bytes → x ≡ stop.Check127 address (record { items = take 64 (idns_in bytes) }) → Says address r o x
   Says128 : (i : Idn) → (bytes : List ℕ) → r ≡ request.Read i 7 → i.raw ≡ 22 → o ≡ outcome.Complete bytes → x ≡ stop.Check128 address (record { items = take 64 (idns_in bytes) }) → Says address r o x
 
-some_one : {A : Type 0} {x y : A} → Some x ≡ Some y → x ≡ y
-some_one e = cc
-
 -- what a stop names
 abbrev drive_in : Stop → ℕ
 drive_in (stop.NoFit chain) = 0
@@ -61,20 +59,20 @@ list_in (stop.Check127 address list) = list.items
 list_in (stop.Check128 address list) = list.items
 
 pub says_so : (address : ℕ) (r : Request) (o : Outcome) (x : Stop) → stop_by address (asked_by r) o ≡ Some x → Says address r o x
-says_so address r (outcome.Refused code) x is = SaysRefused code refl (sym (some_one is))
+says_so address r (outcome.Refused code) x is = SaysRefused code refl (sym (same_Some _ _ is))
 says_so address r outcome.Broken x is = absurd (cc)
 says_so address (request.Write i e bytes) (outcome.Complete given_bytes) x is = absurd (cc)
 says_so address (request.Command i) (outcome.Complete given_bytes) x is = absurd (cc)
 says_so address (request.Read i e) (outcome.Complete bytes) x is = by (e == 3) (e == 7) refl refl is
   where
     attribute : (o : Option ℕ) → len_said (long_in bytes) ≡ o → e ≡ 3 → (if is_none o then Some (stop.BadConfig address i (long_in bytes)) else None) ≡ Some x → Says address (request.Read i e) (outcome.Complete bytes) x
-    attribute None none three is = SaysBad i bytes (ap (request.Read i) three) refl none (sym (some_one is))
+    attribute None none three is = SaysBad i bytes (ap (request.Read i) three) refl none (sym (same_Some _ _ is))
     attribute (Some n) some three is = absurd (cc)
 
     lists : (a b : Bool) → (i.raw == 21) ≡ a → (i.raw == 22) ≡ b → e ≡ 7 → (if a then Some (stop.Check127 address (record { items = take 64 (idns_in bytes) })) else (if b then Some (stop.Check128 address (record { items = take 64 (idns_in bytes) })) else None)) ≡ Some x →
         Says address (request.Read i e) (outcome.Complete bytes) x
-    lists true b one two seven is = Says127 i bytes (ap (request.Read i) seven) (eqb-true i.raw 21 one) refl (sym (some_one is))
-    lists false true one two seven is = Says128 i bytes (ap (request.Read i) seven) (eqb-true i.raw 22 two) refl (sym (some_one is))
+    lists true b one two seven is = Says127 i bytes (ap (request.Read i) seven) (eqb-true i.raw 21 one) refl (sym (same_Some _ _ is))
+    lists false true one two seven is = Says128 i bytes (ap (request.Read i) seven) (eqb-true i.raw 22 two) refl (sym (same_Some _ _ is))
     lists false false one two seven is = absurd (cc)
 
     by : (a b : Bool) → (e == 3) ≡ a → (e == 7) ≡ b → (if a then attribute_stop address i (long_in bytes) else (if b then list_stop address i.raw bytes else None)) ≡ Some x → Says address (request.Read i e) (outcome.Complete bytes) x
@@ -91,7 +89,7 @@ element_asked (request.Command i) = 0
 not_in : (n : ℕ) (xs : List ℕ) (j x : ℕ) → list_all (λ (m : ℕ). not (m == n)) xs ≡ true → slice_get xs j ≡ Some x → x ≡ n → ⊥
 not_in n [] j x all got is = absurd (cc)
 not_in n (y ∷ xs) zero x all got is =
-    let same : y ≡ x = some_one got in
+    let same : y ≡ x = same_Some _ _ got in
     let off : (y == n) ≡ false = not-true (y == n) (and_parts (not (y == n)) _ all).0 in
     let on : (y == n) ≡ true = eq-eqb y n (same ∙ is) in absurd (cc)
 not_in n (y ∷ xs) (suc j) x all got is = not_in n xs j x (and_parts (not (y == n)) _ all).1 got is
@@ -176,8 +174,8 @@ module _ (has_next : HasNext) (s : Known) (requests : ℕ → List Task) (h : Li
   no_fit_cause chain is = by (stop_has_cause s requests h (stop.NoFit chain) is)
     where
       by : StopsFor s (past s requests h) (stop.NoFit chain) → (all_read s (past s requests h) ≡ true) × (planned (wishes_given s (outcomes (past s requests h))) ≡ Err chain)
-      by (OfPlan other same all made) = let one : chain ≡ other = cc in (all, made ∙ ap (λ (x : ChainView). Err x) (sym one))
-      by (OfLength address i word other long) = absurd (cc)
+      by (OfPlan other same whole all made) = let one : chain ≡ other = cc in (all, made ∙ ap (λ (x : ChainView). Err x) (sym one))
+      by (OfLength address i word other whole long) = absurd (cc)
       by (OfTask k b older t tasks o there begun tasks_are number ended says) = said (says_so (member s k).address t.request o (stop.NoFit chain) says)
         where
           said : Says (member s k).address t.request o (stop.NoFit chain) → (all_read s (past s requests h) ≡ true) × (planned (wishes_given s (outcomes (past s requests h))) ≡ Err chain)
@@ -191,8 +189,8 @@ module _ (has_next : HasNext) (s : Known) (requests : ℕ → List Task) (h : Li
   refused_cause address i code is = by (stop_has_cause s requests h (stop.Refused address i code) is)
     where
       by : StopsFor s (past s requests h) (stop.Refused address i code) → HasRefused s (past s requests h) address i code
-      by (OfPlan other same all made) = absurd (cc)
-      by (OfLength place j word other long) = absurd (cc)
+      by (OfPlan other same whole all made) = absurd (cc)
+      by (OfLength place j word other whole long) = absurd (cc)
       by (OfTask k b older t tasks o there begun tasks_are number ended says) = said (says_so (member s k).address t.request o (stop.Refused address i code) says)
         where
           said : Says (member s k).address t.request o (stop.Refused address i code) → HasRefused s (past s requests h) address i code
@@ -214,8 +212,8 @@ module _ (has_next : HasNext) (s : Known) (requests : ℕ → List Task) (h : Li
   bad_config_cause address i word is = by (stop_has_cause s requests h (stop.BadConfig address i word) is)
     where
       by : StopsFor s (past s requests h) (stop.BadConfig address i word) → IsBadAttribute s (past s requests h) address i word ⊎ AreTooLong s (past s requests h) (stop.BadConfig address i word)
-      by (OfPlan other same all made) = absurd (cc)
-      by (OfLength place j other_word same long) = inr long
+      by (OfPlan other same whole all made) = absurd (cc)
+      by (OfLength place j other_word same whole long) = inr long
       by (OfTask k b older t tasks o there begun tasks_are number ended says) = said (says_so (member s k).address t.request o (stop.BadConfig address i word) says)
         where
           said : Says (member s k).address t.request o (stop.BadConfig address i word) → IsBadAttribute s (past s requests h) address i word ⊎ AreTooLong s (past s requests h) (stop.BadConfig address i word)
@@ -277,8 +275,8 @@ module _ (has_next : HasNext) (s : Known) (requests : ℕ → List Task) (h : Li
     check127_cause address list is = by (stop_has_cause s requests h (stop.Check127 address (record { items = list })) is)
       where
         by : StopsFor s (past s requests h) (stop.Check127 address (record { items = list })) → HasFailedCheck s (past s requests h) 11 address list
-        by (OfPlan chain other all made) = absurd (cc)
-        by (OfLength place i word other long) = absurd (cc)
+        by (OfPlan chain other whole all made) = absurd (cc)
+        by (OfLength place i word other whole long) = absurd (cc)
         by (OfTask k b older t tasks o there begun tasks_are number ended says) = said (says_so (member s k).address t.request o (stop.Check127 address (record { items = list })) says)
           where
             are : AreBegunTasks s k (past s requests h).plan ((past s requests h).waiting k) (past s requests h).now.phase (b ∷ older) (t ∷ tasks)
@@ -305,8 +303,8 @@ module _ (has_next : HasNext) (s : Known) (requests : ℕ → List Task) (h : Li
     check128_cause address list is = by (stop_has_cause s requests h (stop.Check128 address (record { items = list })) is)
       where
         by : StopsFor s (past s requests h) (stop.Check128 address (record { items = list })) → HasFailedCheck s (past s requests h) 12 address list
-        by (OfPlan chain other all made) = absurd (cc)
-        by (OfLength place i word other long) = absurd (cc)
+        by (OfPlan chain other whole all made) = absurd (cc)
+        by (OfLength place i word other whole long) = absurd (cc)
         by (OfTask k b older t tasks o there begun tasks_are number ended says) = said (says_so (member s k).address t.request o (stop.Check128 address (record { items = list })) says)
           where
             are : AreBegunTasks s k (past s requests h).plan ((past s requests h).waiting k) (past s requests h).now.phase (b ∷ older) (t ∷ tasks)

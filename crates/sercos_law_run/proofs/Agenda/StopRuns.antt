@@ -1,15 +1,17 @@
 -- After any calls a stop has its cause.
-use Rattle.std.proofs.Common.{◌≡◌, inl, inr, ℕ, zero, suc, ◌+◌, ◌<◌, Bool, true, false, ◌&&◌, List, [], ◌∷◌, ◌++◌, length, refl, sym, ap, ◌∙◌, subst, arith, if◌then◌else◌, ap₂}
-use Rattle.std.specs.Prelude.{◌==◌, nat_le, Option, Some, None, Result, Ok, Err, is_some, is_none, option_map, slice_index, slice_get}
+use Rattle.std.proofs.Common.{◌≡◌, ℕ, suc, ◌+◌, ◌<◌, Bool, true, false, ◌&&◌, List, [], ◌∷◌, ◌++◌, length, refl, sym, ap, ◌∙◌, subst, arith, if◌then◌else◌, ap₂}
+use Rattle.std.specs.Prelude.{nat_le, Option, Some, None, Err, is_some, is_none, option_map, slice_get}
 use Rattle.std.specs.List.{filter, last_or}
-use Rattle.std.specs.Option.{option_or}
-use Rattle.std.proofs.lemmas.Option.{get_or_from_slice_get, slice_get_within}
-use Rattle.std.proofs.lemmas.Bool.{leb-true, and_parts, cases_eq}
+use Rattle.std.proofs.lemmas.Option.{get_or_from_slice_get, same_Some, slice_get_within}
+use Rattle.std.proofs.lemmas.Bool.{leb-true}
+use Rattle.sercos_telegram.specs.Words.{status_of}
+use Rattle.sercos_telegram.specs.Spells.{word_at}
 use Rattle.sercos_idn.specs.declared.idn.Idn.{Idn}
 use Rattle.sercos_step.specs.declared.request.Outcome.{Outcome}
 use Rattle.sercos_step.specs.Steps.{outcome_of, next_step}
+use Rattle.sercos_step.proofs.Ends.{has_next}
 use Rattle.sercos_timing.specs.Order.{record_bytes}
-use Rattle.sercos_timing.specs.Views.{PlanView, WishesView}
+use Rattle.sercos_timing.specs.Views.{WishesView}
 use Rattle.sercos_plan.specs.Views.{ChainView}
 use Rattle.sercos_plan.specs.ChainOf.{planned}
 use Rattle.sercos_service_master.specs.Begun.{Begun, open_in}
@@ -20,18 +22,22 @@ use Rattle.sercos_seat.specs.Agenda.{is_read, reads_count, stop_by, asked_by, wi
 use Rattle.sercos_seat.specs.Ring.{no_member, Known, Task, MemberView, member}
 use Rattle.sercos_seat.specs.Channel.{with_outcome, outcomes_in, last_outcome, trouble_by, of_phase}
 use Rattle.sercos_master.proofs.Configured.{each_passes}
+use Rattle.sercos_master.proofs.Keeping.{Brings, OfTrouble, OfChain, OfRecords, came_back, channel_keeps, going, made, past_keeps, settled_keeps, stopped}
 use Rattle.sercos_master.proofs.Planned.{Adds, part_before, asks_same, at_adds}
-use Rattle.sercos_master.specs.Annals.{Call, HearMst, HearAt, Mdt, End, Restart, Past, outcomes, is_idle, trouble, first_trouble_from, first_trouble, is_taken, after_taken, after_at_of, after_at, place_of, all_read, with_stop, is_plan_due, with_plan, planned_by, with_due_plan, settled, has_turn, next_task, begins, with_begin, with_task, is_sent_to, addressed_in, ready_to_send, after_mdt, fall_of, next_phase, goes_on, new_epoch, still_waiting, after_end, past}
+use Rattle.sercos_master.specs.Annals.{Call, Past, outcomes, is_idle, trouble, after_taken, all_read, settled, has_turn, next_task, begins, with_begin, with_task, is_sent_to, addressed_in, ready_to_send, after_mdt, past}
 use Rattle.sercos_law_run.specs.Agenda.Stops.{AreTooLong}
-use Rattle.sercos_law_run.proofs.Agenda.OneTurn.{AtHears, SameAt, HeardAt, idle_hears, elsewhere_same, here_hears, send_same}
+use Rattle.sercos_law_run.specs.Agenda.Tasks.{HasBegunTasks}
+use Rattle.sercos_law_run.proofs.Agenda.ReadWell.{AllComplete, complete, stay_complete}
+use Rattle.sercos_law_run.proofs.Agenda.TaskRuns.{begun_tasks}
+use Rattle.sercos_law_run.proofs.Agenda.OneTurn.{idle_hears, send_same}
 
--- A stop is what the outcome of a task of the start-up brought, the newest of its channel; or no plan fits what was read; or the
--- records are too long for an MDT by what was read.
+-- A stop is what the outcome of a task of the start-up brought, the newest of its channel; or all reads are complete, and no plan
+-- fits what was read, or the records are too long for an MDT by it.
 pub data StopsFor (s : Known) (p : Past) (x : Stop) : Type 0 where
   OfTask : (k : ℕ) → (b : Begun) → (older : List Begun) → (t : Task) → (tasks : List Task) → (o : Outcome) → k < length s.drives → begun_by (p.calls k) ≡ b ∷ older → p.tasks k ≡ t ∷ tasks → t.number ≡ None →
       outcome_of b.request b.answers ≡ Some o → stop_by (member s k).address (asked_by t.request) o ≡ Some x → StopsFor s p x
-  OfPlan : (chain : ChainView) → x ≡ stop.NoFit chain → all_read s p ≡ true → planned (wishes_given s (outcomes p)) ≡ Err chain → StopsFor s p x
-  OfLength : (address : ℕ) → (i : Idn) → (word : ℕ) → x ≡ stop.BadConfig address i word → AreTooLong s p x → StopsFor s p x
+  OfPlan : (chain : ChainView) → x ≡ stop.NoFit chain → AllComplete s p → all_read s p ≡ true → planned (wishes_given s (outcomes p)) ≡ Err chain → StopsFor s p x
+  OfLength : (address : ℕ) → (i : Idn) → (word : ℕ) → x ≡ stop.BadConfig address i word → AllComplete s p → AreTooLong s p x → StopsFor s p x
 
 abbrev pub StopHasCause : Known → Past → Type 0
 StopHasCause s p = (x : Stop) → p.stop ≡ Some x → StopsFor s p x
@@ -48,10 +54,7 @@ long_bad drives k all x is = by (last_or None (filter has_four_bytes (entries_fr
     by : (o : Option RecordEntry) → option_map stop_of_entry o ≡ Some x
         → (address : ℕ) × (i : Idn) × (word : ℕ) × (x ≡ stop.BadConfig address i word)
     by None is = absurd (cc)
-    by (Some e) is = let same : stop_of_entry e ≡ x = one is in (e.address, e.idn, e.word, sym same)
-      where
-        one : Some (stop_of_entry e) ≡ Some x → stop_of_entry e ≡ x
-        one same = cc
+    by (Some e) is = (e.address, e.idn, e.word, sym (same_Some (stop_of_entry e) x is))
 
 -- what is the last value of four bytes stays, if outcomes come after the reads alone
 attributes_stay : (d : MemberView) (all : List Outcome) (o : Option Outcome) → is_read d all ≡ true → mdt_attributes d (with_outcome o all) ≡ mdt_attributes d all
@@ -87,8 +90,8 @@ module _ (s : Known) where
       StopsFor s p x → StopsFor s q x
   moved p q x same tasks_same adds (OfTask k b older t tasks o there begun begun_tasks number ended is) =
       OfTask k b older t tasks o there (same k (ended_idle (begun_by (p.calls k)) b older o begun ended) ∙ begun) (tasks_same k ∙ begun_tasks) number ended is
-  moved p q x same tasks_same adds (OfPlan chain is all made) = let after = asks_same s p q adds all in OfPlan chain is after.0 (ap planned after.1 ∙ made)
-  moved p q x same tasks_same adds (OfLength address i word is (all, long, last)) = let after = asks_same s p q adds all in OfLength address i word is (after.0, ap (λ (w : WishesView). nat_le (record_bytes w.drives) 2047) after.1 ∙ long, longs_after s p q adds all ∙ last)
+  moved p q x same tasks_same adds (OfPlan chain is whole all made) = let after = asks_same s p q adds all in OfPlan chain is (stay_complete s p q adds whole) after.0 (ap planned after.1 ∙ made)
+  moved p q x same tasks_same adds (OfLength address i word is whole (all, long, last)) = let after = asks_same s p q adds all in OfLength address i word is (stay_complete s p q adds whole) (after.0, ap (λ (w : WishesView). nat_le (record_bytes w.drives) 2047) after.1 ∙ long, longs_after s p q adds all ∙ last)
 
   has_moved : (p q : Past) → ((k : ℕ) → is_idle p k ≡ true → begun_by (q.calls k) ≡ begun_by (p.calls k)) → ((k : ℕ) → q.tasks k ≡ p.tasks k) → ((j : ℕ) → (o : Option Outcome) × (outcomes q j ≡ with_outcome o (outcomes p j))) → q.stop ≡ p.stop →
       StopHasCause s p → StopHasCause s q
@@ -98,47 +101,11 @@ module _ (s : Known) where
   taken_has : (i : ℕ) (content : List ℕ) (p : Past) → StopHasCause s p → StopHasCause s (after_taken i content p)
   taken_has i content p has = has_moved p (after_taken i content p) (λ k idle. kept k idle) (λ k. refl) (λ j. at_adds i content p j) refl has
     where
-      here : is_idle p i ≡ true → AtHears p (after_taken i content p) i → begun_by ((after_taken i content p).calls i) ≡ begun_by (p.calls i)
-      here idle (SameAt same) = same
-      here idle (HeardAt status word same) = same ∙ idle_hears status word (begun_by (p.calls i)) idle
-
       kept : (k : ℕ) → is_idle p k ≡ true → begun_by ((after_taken i content p).calls k) ≡ begun_by (p.calls k)
-      kept k idle = elim (cases_eq k i) [
-        | inl same ↦ subst (λ (n : ℕ). begun_by ((after_taken i content p).calls n) ≡ begun_by (p.calls n)) (sym same) (here (subst (λ (n : ℕ). is_idle p n ≡ true) same idle) (here_hears i content p))
-        | inr other ↦ elsewhere_same i k content p other
-      ]
-
-  at_has : (content : List ℕ) (p : Past) → StopHasCause s p → StopHasCause s (after_at s content p)
-  at_has content p has = by (place_of s (slice_index content 0))
-    where
-      by : (o : Option ℕ) → StopHasCause s (after_at_of s o content p)
-      by None = has
-      by (Some i) = which (is_taken s p i content)
-        where
-          which : (on : Bool) → StopHasCause s (if on then after_taken i content p else p)
-          which true = taken_has i content p has
-          which false = has
+      kept k idle = channel_keeps (λ calls. begun_by calls ≡ begun_by (p.calls k)) i k content p refl
+          (λ same. idle_hears (status_of (word_at content 1)) (word_at content 3) (begun_by (p.calls k)) idle)
 
   -- a stop that comes
-  stop_has : (o : Option Stop) (p : Past) → ((x : Stop) → o ≡ Some x → StopsFor s p x) → StopHasCause s p → StopHasCause s (with_stop o p)
-  stop_has None p cause has = has
-  stop_has (Some y) p cause has = which (is_some p.stop)
-    where
-      same : (x : Stop) → Some y ≡ Some x → StopsFor s p x
-      same x is = cause x is
-
-      which : (on : Bool) → StopHasCause s (if on then p else record p { now = record p.now { stops = true }; stop = Some y })
-      which true = has
-      which false = λ x is. moved p (record p { now = record p.now { stops = true }; stop = Some y }) x (λ k idle. refl) (λ k. refl) (λ j. (None, refl)) (same x is)
-
-  pub found : (p : Past) (n k : ℕ) (x : Stop) → first_trouble_from s p k n ≡ Some x → (i : ℕ) × (i < k + n) × (trouble s p i ≡ Some x)
-  found p zero k x is = absurd (cc)
-  found p (suc n) k x is = by (trouble s p k) refl is (found p n (k + 1) x)
-    where
-      by : (o : Option Stop) → trouble s p k ≡ o → option_or o (first_trouble_from s p (k + 1) n) ≡ Some x → (first_trouble_from s p (k + 1) n ≡ Some x → (i : ℕ) × (i < (k + 1) + n) × (trouble s p i ≡ Some x)) → (i : ℕ) × (i < k + suc n) × (trouble s p i ≡ Some x)
-      by None none is more = let m = more is in let less = m.1 in (m.0, omega arith, m.2)
-      by (Some y) some is more = (k, omega arith, some ∙ is)
-
   of_trouble : (p : Past) (k : ℕ) (x : Stop) → k < length s.drives → trouble s p k ≡ Some x → StopsFor s p x
   of_trouble p k x there is = by (p.tasks k) (begun_by (p.calls k)) refl refl is
     where
@@ -155,38 +122,21 @@ module _ (s : Known) where
           ended None none is = absurd (cc)
           ended (Some o) some is = numbered o t.number refl some is
 
-  due_has : (p : Past) → StopHasCause s p → StopHasCause s (with_due_plan s p)
-  due_has p has = which (is_plan_due s p) refl
+  settled_has : (p : Past) → ((k : ℕ) → k < length s.drives → HasBegunTasks s p k) → StopHasCause s p → StopHasCause s (settled s p)
+  settled_has p are has = settled_keeps (StopHasCause s) s p (λ rests. has)
+      (λ y none brings x is. moved p (stopped y p) x (λ k idle. refl) (λ k. refl) (λ j. (None, refl))
+      (subst (StopsFor s p) (same_Some y x is) (of_what y brings)))
+      (λ plan makes. has_moved p (made plan p) (λ k idle. refl) (λ k. refl) (λ j. (None, refl)) refl has)
     where
-      result : (r : Result PlanView ChainView) → planned (wishes_given s (outcomes p)) ≡ r → all_read s p ≡ true → StopHasCause s (with_plan r p)
-      result (Ok plan) made all = has_moved p (with_plan (Ok plan) p) (λ k idle. refl) (λ k. refl) (λ j. (None, refl)) refl has
-      result (Err chain) made all = stop_has (Some (stop.NoFit chain)) p (λ x is. let same : stop.NoFit chain ≡ x = one (stop.NoFit chain) x is in OfPlan chain (sym same) all made) has
-        where
-          one : (a c : Stop) → Some a ≡ Some c → a ≡ c
-          one a c e = cc
-
-      made : all_read s p ≡ true → StopHasCause s (planned_by s p)
-      made all = fits (nat_le (record_bytes (wishes_given s (outcomes p)).drives) 2047) refl
-        where
-          fits : (on : Bool) → nat_le (record_bytes (wishes_given s (outcomes p)).drives) 2047 ≡ on → StopHasCause s (if on then with_plan (planned (wishes_given s (outcomes p))) p else with_stop (last_long_stop s.drives 0 (outcomes p)) p)
-          fits true short = result (planned (wishes_given s (outcomes p))) refl all
-          fits false long = stop_has (last_long_stop s.drives 0 (outcomes p)) p (λ x is. let bad = long_bad s.drives 0 (outcomes p) x is in OfLength bad.0 bad.1 bad.2 bad.3 (all, long, is)) has
-
-      which : (on : Bool) → is_plan_due s p ≡ on → StopHasCause s (if on then planned_by s p else p)
-      which false off = has
-      which true on =
-          let more = (and_parts (p.now.phase == 2) _ on).1 in
-          let two = (and_parts (is_none p.stop) _ more).1 in
-          made (and_parts (is_none p.plan) (all_read s p) two).1
-
-  settled_has : (p : Past) → StopHasCause s p → StopHasCause s (settled s p)
-  settled_has p has =
-      due_has (with_stop (first_trouble s p) p)
-      (stop_has (first_trouble s p) p (λ x is. let f = found p (length s.drives) 0 x is in let less = f.1 in of_trouble p f.0 x (omega arith) f.2) has)
+      of_what : (x : Stop) → Brings s p x → StopsFor s p x
+      of_what x (OfTrouble k there is) = of_trouble p k x there is
+      of_what x (OfChain chain is none all fails) = OfPlan chain is (complete s p are all none) all fails
+      of_what x (OfRecords none all long is) = let bad = long_bad s.drives 0 (outcomes p) x is in OfLength bad.0 bad.1 bad.2 bad.3
+          (complete s p are all none) (all, long, is)
 
   -- after a stop nothing begins
-  mdt_has : (p : Past) → StopHasCause s p → StopHasCause s (after_mdt s p)
-  mdt_has p has x is = moved (settled s p) (after_mdt s p) x (λ k idle. begun_same k) (λ k. tasks_same k) (λ j. (None, ap outcomes_in (begun_same j))) (settled_has p has x is)
+  mdt_has : (p : Past) → ((k : ℕ) → k < length s.drives → HasBegunTasks s p k) → StopHasCause s p → StopHasCause s (after_mdt s p)
+  mdt_has p are has x is = moved (settled s p) (after_mdt s p) x (λ k idle. begun_same k) (λ k. tasks_same k) (λ j. (None, ap outcomes_in (begun_same j))) (settled_has p are has x is)
     where
       stopped : is_none (settled s p).stop ≡ false
       stopped = ap is_none is
@@ -202,17 +152,13 @@ module _ (s : Known) where
       tasks_same : (k : ℕ) → (after_mdt s p).tasks k ≡ (settled s p).tasks k
       tasks_same k = ap (λ (t : Option Task). with_task t ((settled s p).tasks k)) (none k)
 
-  end_has : (p : Past) → StopHasCause s p → StopHasCause s (after_end s p)
-  end_has p has = by (is_some (fall_of s p))
-    where
-      by : (fell : Bool) → StopHasCause s (if fell then new_epoch (p.cycle + 1) (still_waiting p) else goes_on (next_phase s p) p)
-      by true = λ x is. absurd (cc)
-      by false = has_moved p (goes_on (next_phase s p) p) (λ k idle. refl) (λ k. refl) (λ j. (None, refl)) refl has
-
   pub stop_has_cause : (requests : ℕ → List Task) (h : List Call) → StopHasCause s (past s requests h)
-  stop_has_cause requests [] = λ x is. absurd (cc)
-  stop_has_cause requests (HearMst content ∷ h) = has_moved (past s requests h) (past s requests (HearMst content ∷ h)) (λ k idle. refl) (λ k. refl) (λ j. (None, refl)) refl (stop_has_cause requests h)
-  stop_has_cause requests (HearAt content ∷ h) = at_has content (past s requests h) (stop_has_cause requests h)
-  stop_has_cause requests (Mdt ∷ h) = mdt_has (past s requests h) (stop_has_cause requests h)
-  stop_has_cause requests (End ∷ h) = end_has (past s requests h) (stop_has_cause requests h)
-  stop_has_cause requests (Restart ∷ h) = λ x is. absurd (cc)
+  stop_has_cause requests = past_keeps (StopHasCause s) s requests (record {
+    first = λ x is. absurd (cc);
+    mst = λ h whole. has_moved (past s requests h) (came_back whole (past s requests h)) (λ k idle. refl) (λ k. refl)
+        (λ j. (None, refl)) refl;
+    taken = λ h k content inside is. taken_has k content (past s requests h);
+    mdt = λ h. mdt_has (past s requests h) (λ k there. begun_tasks s k has_next there requests h);
+    on = λ h done is. has_moved (past s requests h) (going done (past s requests h)) (λ k idle. refl) (λ k. refl) (λ j. (None, refl)) refl;
+    new = λ h cycle before x is. absurd (cc);
+  })

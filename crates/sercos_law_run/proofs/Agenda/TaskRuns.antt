@@ -1,6 +1,7 @@
 -- After any calls the tasks of a channel are those of the agenda, each begun where all before it had ended, those of the start-up
 -- without error.
 use Rattle.std.proofs.Common.{◌≡◌, ◌⊎◌, inl, inr, ℕ, suc, ◌+◌, ◌<◌, ◌≤◌, Bool, true, false, List, [], ◌∷◌, length, refl, sym, ap, ap₂, ◌∙◌, subst, arith, if◌then◌else◌, length-append}
+use Rattle.std.proofs.lemmas.Bool.{cond_both}
 use Rattle.std.specs.Prelude.{Option, Some, None, is_some, is_none}
 use Rattle.sercos_telegram.specs.declared.words.Status.{Status}
 use Rattle.sercos_step.specs.declared.step.Step.{Step}
@@ -29,11 +30,10 @@ module _ (s : Known) (k : ℕ) where
 
   heard_tasks : (plan : Option PlanView) (waiting : List Task) (phase : ℕ) (status : Status) (word : ℕ) (begun : List Begun) (tasks : List Task) → AreBegunTasks s k plan waiting phase begun tasks →
       AreBegunTasks s k plan waiting phase (with_status status word begun) tasks
-  heard_tasks plan waiting phase status word begun tasks are = by (answers_it begun status)
-    where
-      by : (v : Bool) → AreBegunTasks s k plan waiting phase (if v then with_answer (answer_in status word) begun else begun) tasks
-      by true = answered_tasks plan waiting phase (answer_in status word) begun tasks are
-      by false = are
+  heard_tasks plan waiting phase status word begun tasks are = cond_both (answers_it begun status)
+      (with_answer (answer_in status word) begun) begun
+      (λ v. AreBegunTasks s k plan waiting phase v tasks)
+      (λ on. answered_tasks plan waiting phase (answer_in status word) begun tasks are) (λ off. are)
 
   -- a plan that comes, and a phase that goes up
   planned_tasks : (plan : PlanView) (waiting : List Task) (phase : ℕ) (begun : List Begun) (tasks : List Task) → AreBegunTasks s k None waiting phase begun tasks → AreBegunTasks s k (Some plan) waiting phase begun tasks

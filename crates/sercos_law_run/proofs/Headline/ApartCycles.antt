@@ -74,9 +74,9 @@ module _ (r : RingView) (jobs : List Job) (carry : Carry) (restarts : Restarts) 
     (first : (k : ℕ) → k < length r.drives → IsStore (store_of (drive_at r k))) (t : CycleView) (j : List CycleView)
     (next : IsNext r jobs carry restarts t j) (clear : t.unseen ≡ 0) (spelled : IsSpelled r jobs carry restarts t j)
     (stored : (k : ℕ) → k < length r.drives → IsStored (drive_at r k) (blocks_in (drive_at r k) (after_mst r carry restarts t.sent j k)))
-    (all : AllStand r jobs carry restarts j) (framed : AreFramed r jobs carry restarts t j) where
-  -- a drive that sends stands in the stands_as_commanded phase
-  sender_phase : (k : ℕ) → k < length r.drives → (s : Said) → Sends (drive_at r k) r.rate (after_mst r carry restarts t.sent j k) s → phase_in (after_mst r carry restarts t.sent j k) ≡ t.phase
+    (all : AllStand r jobs carry restarts j) where
+  -- a drive that sends stands in the commanded phase
+  pub sender_phase : (k : ℕ) → k < length r.drives → (s : Said) → Sends (drive_at r k) (after_mst r carry restarts t.sent j k) s → phase_in (after_mst r carry restarts t.sent j k) ≡ t.phase
   sender_phase k below s sending =
       let kept = kept_at_mst r jobs carry restarts opened first t j next clear spelled stored all k below in
       let comes : (view_of r jobs carry restarts k t j).mst_comes ≡ true = sym kept.got ∙ sending.got in
@@ -93,11 +93,11 @@ module _ (r : RingView) (jobs : List Job) (carry : Carry) (restarts : Restarts) 
   placed = placed_below (length r.drives) (drive_at r) r.rate (given_mst carry restarts t.sent j)
 
   -- an AT by its place
-  sending_of : (x : Placed) → IsPlaced (length r.drives) (drive_at r) r.rate (given_mst carry restarts t.sent j) x → Sends (drive_at r x.place) r.rate (after_mst r carry restarts t.sent j x.place) x.says
+  sending_of : (x : Placed) → IsPlaced (length r.drives) (drive_at r) r.rate (given_mst carry restarts t.sent j) x → Sends (drive_at r x.place) (after_mst r carry restarts t.sent j x.place) x.says
   sending_of x (low, says) = sent_by (drive_at r x.place) r.rate (after_mst r carry restarts t.sent j x.place) x.says says
 
   -- with the plan
-  module _ (late : 3 ≤ (at_start r jobs carry restarts j).now.phase) (plan : PlanView)
+  module _ (framed : AreFramed r jobs carry restarts t j) (late : 3 ≤ (at_start r jobs carry restarts j).now.phase) (plan : PlanView)
       (planned : IsPlannedIn r jobs carry restarts t j plan) where
     late_mdt : 3 ≤ (behind_mdt r jobs carry restarts t.sent j).now.phase
     late_mdt = subst (λ n. 3 ≤ n) (sym (phase_same r jobs carry restarts opened first t j next clear spelled stored all)) late
@@ -146,10 +146,10 @@ module _ (r : RingView) (jobs : List Job) (carry : Carry) (restarts : Restarts) 
     framed_at : (x : Placed) → IsPlaced (length r.drives) (drive_at r) r.rate (given_mst carry restarts t.sent j) x → length (frame_of x.says.content) ≤ wire_bits (1 + carried_len (store_in_cycle r carry restarts t j x.place) 16)
     framed_at x is =
         let sending = sending_of x is in
-        let (word, info, spelled_so) = sending.content in
+        let spelled_so = sending.content in
         let bits = framed.ats x.says.content (record { place = x.place; says = x.says; inside = is.0; said = is.1; content_is = refl }) in
         let carried = carried_length (cycle_in (after_mst r carry restarts t.sent j x.place)) (phase_in (after_mst r carry restarts t.sent j x.place)) (store_in_cycle r carry restarts t j x.place) (stored x.place is.0).0 (phase_of x is) in
-        let fields_long = fields_length word info (values_in (cycle_in (after_mst r carry restarts t.sent j x.place)) (phase_in (after_mst r carry restarts t.sent j x.place)) (blocks_in (drive_at r x.place) (after_mst r carry restarts t.sent j x.place))) in
+        let fields_long = fields_length sending.word sending.info (values_in (cycle_in (after_mst r carry restarts t.sent j x.place)) (phase_in (after_mst r carry restarts t.sent j x.place)) (blocks_in (drive_at r x.place) (after_mst r carry restarts t.sent j x.place))) in
         let whole : length x.says.content ≡ 1 + carried_len (store_in_cycle r carry restarts t j x.place) 16 = ap (λ (l : List ℕ). length l) spelled_so ∙ omega (arith, carried, fields_long) in
         subst (λ (n : ℕ). length (frame_of x.says.content) ≤ wire_bits n) whole bits
 
@@ -173,7 +173,7 @@ module _ (r : RingView) (jobs : List Job) (carry : Carry) (restarts : Restarts) 
       mst_kind = refl;
       mst_end = ends_at_0 (mst_next r jobs carry restarts j).bits;
       are_ats = ats_sent (wishes_of r) r.rate (length r.drives) (drive_at r) (given_mst carry restarts t.sent j) placed (are_placed (length r.drives) (drive_at r) r.rate (given_mst carry restarts t.sent j)) (λ x is.
-          let (word, info, spelled_so) = (sending_of x is).content in
+          let spelled_so = (sending_of x is).content in
           let wide = wishes_count r in
           let low = is.0 in
           (ap (λ (l : List ℕ). slice_index l 0) spelled_so ∙ sym (ap (λ (w : Wish). w.address) (wish_is r x.place (drive_at r x.place) (drive_got r x.place low))), omega (arith, low, wide)));
@@ -194,8 +194,8 @@ module _ (r : RingView) (jobs : List Job) (carry : Carry) (restarts : Restarts) 
   some : 0 < length r.drives
   some = let most = (s_known r jobs carry restarts opened first).some in let count = members_count r in omega (arith, most, count)
 
-  pub apart_in : AreApartIn r carry restarts t j
-  apart_in late =
+  pub apart_in : AreFramed r jobs carry restarts t j → AreApartIn r carry restarts t j
+  apart_in framed late =
       let early : 3 ≤ (at_start r jobs carry restarts j).now.phase = subst (λ n. 3 ≤ n) next.phase late in
       let (plan, planned, holds) = holding r jobs carry restarts opened first t j next clear spelled stored all early 0 some in
-      apart_with early plan planned
+      apart_with framed early plan planned

@@ -56,14 +56,16 @@ pub slots_ordered : (rate : ℕ) → (rate ≡ 2) ⊎ (rate ≡ 4) ⊎ (rate ≡
 slots_ordered rate is [] are = λ i j d low within. absurd (omega (arith, within))
 slots_ordered rate is (a ∷ others) (behind, are) = AllPairs-cons IsSentBefore (slot_of rate a) (map (slot_of rate) others) (slots_behind rate is a others behind) (slots_ordered rate is others are)
 
--- WHAT A DRIVE SENDS in phases 3 and 4
-pub record Sends (d : DriveView) (rate : ℕ) (past : List Moment) (s : Said) : Type 0 where
+-- WHAT A DRIVE SENDS
+pub record Sends (d : DriveView) (past : List Moment) (s : Said) : Type 0 where
   pub got : has_mst past ≡ true
   pub stands : 1 ≤ phase_in past
   pub start : s.start ≡ start_in (phase_in past) (blocks_in d past)
-  pub content : (word info : ℕ) × (s.content ≡ d.address ∷ fields word info (values_in (cycle_in past) (phase_in past) (blocks_in d past)))
+  pub word : ℕ
+  pub info : ℕ
+  pub content : s.content ≡ d.address ∷ fields word info (values_in (cycle_in past) (phase_in past) (blocks_in d past))
 
-pub sent_by : (d : DriveView) (rate : ℕ) (past : List Moment) (s : Said) → said_in d rate past ≡ Some s → Sends d rate past s
+pub sent_by : (d : DriveView) (rate : ℕ) (past : List Moment) (s : Said) → said_in d rate past ≡ Some s → Sends d past s
 sent_by d rate past s is = by (sends past) refl is
   where
     shows : Shown
@@ -72,11 +74,11 @@ sent_by d rate past s is = by (sends past) refl is
     what : Said
     what = said d.address (cycle_in past) (phase_in past) (blocks_in d past) (channel_says d.busy (cycle_in past) (commands_in d rate past) (taken_in past))
 
-    by : (b : Bool) → sends past ≡ b → (if b then Some what else None) ≡ Some s → Sends d rate past s
+    by : (b : Bool) → sends past ≡ b → (if b then Some what else None) ≡ Some s → Sends d past s
     by true sent is =
         let same : what ≡ s = ap (λ (o : Option Said). unwrap_or o what) is in
         let (got, stands) = sends_so (has_mst past) (has_taken past) (phase_in past) sent in
-        subst (λ x. Sends d rate past x) same (record { got = got; stands = stands; start = refl; content = (shown_word shows, shows.word, refl) })
+        subst (λ x. Sends d past x) same (record { got = got; stands = stands; start = refl; word = shown_word shows; info = shows.word; content = refl })
     by false sent is = cc
 
 -- the ATs that are sent in these slots

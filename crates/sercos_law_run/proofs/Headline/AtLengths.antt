@@ -1,5 +1,6 @@
 -- An AT is as long as the list in its drive's store says.
 use Rattle.std.proofs.Common.{◌≡◌, ℕ, ◌+◌, ◌*◌, ◌%◌, Bool, true, false, not, ◌&&◌, List, [], ◌∷◌, length, Option, Some, None, refl, ◌∙◌, ap, arith, if◌then◌else◌, length-append}
+use Rattle.std.proofs.lemmas.Bool.{cond_both}
 use Rattle.std.specs.Prelude.{◌==◌, nat_le, option_and_then, unwrap_or}
 use Rattle.std.specs.List.{sum_by, flat_map}
 use Rattle.std.specs.Int.{to_le_bytes}
@@ -33,11 +34,11 @@ value_len count most item false single is = grind (arith, nat_tests, is)
 
 data_length : (cycle : ℕ) (b : Block) → is_list b.attribute.length ≡ false → is_len b (length b.value) ≡ true → length (data_in cycle b) ≡ item_len b.attribute.length
 unfolding data_in
-data_length cycle b single is = by (b.step == 0)
-  where
-    by : (still : Bool) → length (if still then b.value else bytes_for b.attribute ((bits_in b.attribute b.value + b.step * cycle) % number_end b.attribute.length)) ≡ item_len b.attribute.length
-    by true = value_len (length b.value) b.max_len (item_len b.attribute.length) (is_list b.attribute.length) single is
-    by false = number_length b.attribute.length _ single
+data_length cycle b single is = cond_both (b.step == 0) b.value
+    (bytes_for b.attribute ((bits_in b.attribute b.value + b.step * cycle) % number_end b.attribute.length))
+    (λ v. length v ≡ item_len b.attribute.length)
+    (λ on. value_len (length b.value) b.max_len (item_len b.attribute.length) (is_list b.attribute.length) single is)
+    (λ off. number_length b.attribute.length _ single)
 
 not_list : (a b : Bool) → (not a && b) ≡ true → a ≡ false
 not_list false b is = refl

@@ -3,7 +3,7 @@ use Rattle.std.proofs.Common.{◌≡◌, ℕ, zero, suc, ◌<◌, ◌≤◌, Boo
 use Rattle.std.specs.Prelude.{◌==◌, nat_le, slice_get, is_some, is_none, OnErr}
 use Rattle.std.specs.List.{list_any}
 use Rattle.std.proofs.lemmas.Bool.{eq-eqb, false≢true, le-leb}
-use Rattle.std.proofs.lemmas.Option.{get_or_from_slice_get, slice_get_within}
+use Rattle.std.proofs.lemmas.Option.{get_or_from_slice_get, same_Some, slice_get_within}
 use Rattle.sercos_idn.specs.declared.idn.Idn.{Idn}
 use Rattle.sercos_step.specs.declared.request.Request.{Request}
 use Rattle.sercos_step.specs.declared.request.Request.TheVariants as request
@@ -26,12 +26,12 @@ use Rattle.sercos_service_master.specs.Calls.{begun_by}
 use Rattle.sercos_trace.specs.declared.events.Stop.{Stop}
 use Rattle.sercos_trace.specs.declared.events.Stop.TheVariants as stop
 use Rattle.sercos_seat.specs.Agenda.{idn, declared_times, reads, reads_count, asked_by, stop_by, long_in, len_said, attribute_stop, wishes_given}
-use Rattle.sercos_seat.specs.Channel.{with_outcome, outcomes_in, trouble_by, last_outcome}
+use Rattle.sercos_seat.specs.Channel.{with_outcome, outcomes_in}
 use Rattle.sercos_seat.specs.Ring.{Task, MemberView, member, member_of, known_of, tasks_for}
 use Rattle.sercos_seat.proofs.Agendas.{reads_length}
 use Rattle.sercos_law_run.specs.Start.Answers.{IsAnswer, AreAnswers}
 use Rattle.sercos_law_run.proofs.Start.CheckPasses.{ring_drive}
-use Rattle.sercos_master.specs.Annals.{Call, Past, outcomes, trouble}
+use Rattle.sercos_master.specs.Annals.{Call, Past, outcomes}
 use Rattle.sercos_script.specs.Links.{carried_clean, never_restarts}
 use Rattle.sercos_law_channel.specs.Handshake.Views.{View}
 use Rattle.sercos_law_channel.specs.Handshake.Epochs.{epoch_begun}
@@ -52,15 +52,11 @@ use Rattle.sercos_law_run.specs.Held.Opened.{IsOpened}
 use Rattle.sercos_law_run.specs.Held.Stored.{AreStored}
 use Rattle.sercos_law_run.proofs.Held.AnsweredRuns.{is_read_request, as_read, read_of, read_answers, answered_by, entries_stored}
 use Rattle.sercos_law_run.proofs.Held.Runs.{drive_got, wishes_so}
-use Rattle.sercos_law_run.proofs.Headline.StopReads.{StopsSo, OfOutcome, WithReads, stops_so}
 use Rattle.sercos_block.proofs.TypeLemmas.{types}
 use Rattle.sercos_law_channel.proofs.Cited.{runs_exact}
 use Rattle.sercos_law_run.proofs.Cited.{begins_tasks, left_of, tasks_end}
 use Rattle.sercos_law_run.proofs.Start.AnswerLemmas.{no_attribute_stops, typed_have_factors}
 use Rattle.sercos_law_run.proofs.Start.WellLemmas.{ring_is_valid}
-
-one_request : (x y : Request) → Some x ≡ Some y → x ≡ y
-one_request x y e = cc
 
 any_at : (xs : List Idn) (n : ℕ) (i : Idn) (raw : ℕ) → slice_get xs n ≡ Some i → i.raw ≡ raw → list_any (λ (c : Idn). c.raw == raw) xs ≡ true
 any_at [] n i raw got is = absurd (cc)
@@ -124,7 +120,7 @@ module _ (r : RingView) (jobs : List Job) (opened : IsOpened r jobs)
           let stands = all k below in
           let rules = (ring_drive r k (drive_at r k) opened.valid (drive_got r k below)).blocks in
           let place : length (outcomes_in at.older) ≡ n = at.is.ended ∙ at.place in
-          let one : y ≡ x = one_request y x (sym found ∙ ap (slice_get (reads (member (known_of r) k))) place ∙ got) in
+          let one : y ≡ x = same_Some y x (sym found ∙ ap (slice_get (reads (member (known_of r) k))) place ∙ got) in
           let is = is_read_request (member (known_of r) k) n x got in
           let (i, e, is_read, other) = as_read x is in
           let asks : at.one.request ≡ request.Read i e = at.is.asks ∙ ap (λ (t : Task). t.request) same ∙ one ∙ is_read in
@@ -218,40 +214,16 @@ module _ (r : RingView) (jobs : List Job) (opened : IsOpened r jobs)
       by (Says127 i bytes asks raw complete other) = false≢true (sym (ap is_of_plan other) ∙ of)
       by (Says128 i bytes asks raw complete other) = false≢true (sym (ap is_of_plan other) ∙ of)
 
-  no_trouble : (x : Stop) → is_of_plan x ≡ true → (k : ℕ) → k < length r.drives → trouble (known_of r) now k ≡ Some x → ⊥
-  no_trouble x of k below is = by (now.tasks k) (begun_by (now.calls k)) refl refl is
-    where
-      by : (tasks : List Task) (begun : List Begun) → now.tasks k ≡ tasks → begun_by (now.calls k) ≡ begun → trouble_by (member (known_of r) k).address tasks (last_outcome begun) ≡ Some x → ⊥
-      by [] begun ts bs is = cc
-      by (t ∷ tasks) [] ts bs is = cc
-      by (t ∷ tasks) (b ∷ older) ts bs is = outcome_so (outcome_of b.request b.answers) refl is
-        where
-          numbered : (o : Outcome) (n : Option ℕ) → t.number ≡ n → outcome_of b.request b.answers ≡ Some o → (if is_some n then None else stop_by (member (known_of r) k).address (asked_by t.request) o) ≡ Some x → ⊥
-          numbered o None none some is = no_task x of k b older t tasks o below bs ts none some is
-          numbered o (Some i) none some is = cc
-
-          outcome_so : (o : Option Outcome) → outcome_of b.request b.answers ≡ o → trouble_by (member (known_of r) k).address (t ∷ tasks) o ≡ Some x → ⊥
-          outcome_so None none is = cc
-          outcome_so (Some o) some is = numbered o t.number refl some is
-
-  -- At such a stop all reads are complete.
-  whole_at : (x : Stop) → is_of_plan x ≡ true → now.stop ≡ Some x → AllComplete (known_of r) now
-  whole_at x of is = by (stops_so (known_of r) (tasks_for (known_of r) jobs) h x is)
-    where
-      by : StopsSo (known_of r) now x → AllComplete (known_of r) now
-      by (OfOutcome k there brought) = absurd (no_trouble x of k (place_outside k there) brought)
-      by (WithReads whole) = whole
-
   -- With `NoFit` the stop has the chain of what the ring asks.
   pub no_plan_made : (chain : ChainView) → now.stop ≡ Some (stop.NoFit chain) → planned (wishes_of r) ≡ Err chain
   no_plan_made chain is = by (stop_has_cause (known_of r) (tasks_for (known_of r) jobs) h (stop.NoFit chain) is)
     where
       by : StopsFor (known_of r) now (stop.NoFit chain) → planned (wishes_of r) ≡ Err chain
       by (OfTask k b older t tasks o there begun tasks_are number ended brought) = absurd (no_task (stop.NoFit chain) refl k b older t tasks o (place_outside k there) begun tasks_are number ended brought)
-      by (OfPlan other same read made) =
+      by (OfPlan other same whole read made) =
           let one : chain ≡ other = cc in
-          sym (ap planned (asked (whole_at (stop.NoFit chain) refl is))) ∙ made ∙ ap (λ (c : ChainView). Err c) (sym one)
-      by (OfLength address i word same long) = absurd (cc)
+          sym (ap planned (asked whole)) ∙ made ∙ ap (λ (c : ChainView). Err c) (sym one)
+      by (OfLength address i word same whole long) = absurd (cc)
 
   pub no_fit : (chain : ChainView) → now.stop ≡ Some (stop.NoFit chain) → NoneFits (wishes_of r)
   no_fit chain is = subst (λ (q : Result PlanView ChainView). OnErr q (NoneFits (wishes_of r))) (no_plan_made chain is) (planned_none (wishes_of r) valid_wishes (planned (wishes_of r)) refl)
@@ -261,8 +233,8 @@ module _ (r : RingView) (jobs : List Job) (opened : IsOpened r jobs)
     where
       by : StopsFor (known_of r) now (stop.BadConfig address i word) → ⊥
       by (OfTask k b older t tasks o there begun tasks_are number ended brought) = no_task (stop.BadConfig address i word) refl k b older t tasks o (place_outside k there) begun tasks_are number ended brought
-      by (OfPlan other same read made) = cc
-      by (OfLength place c v same long) =
-          let asks = asked (whole_at (stop.BadConfig address i word) refl is) in
+      by (OfPlan other same whole read made) = cc
+      by (OfLength place c v same whole long) =
+          let asks = asked whole in
           let most : record_bytes (wishes_of r).drives ≤ 2047 = valid_wishes.drives.mdt_len in
           false≢true (sym long.1 ∙ ap (λ (w : WishesView). nat_le (record_bytes w.drives) 2047) asks ∙ le-leb (record_bytes (wishes_of r).drives) 2047 most)

@@ -1,5 +1,6 @@
 -- If there is a plan, a drive has answered the first reads as it has its elements.
 use Rattle.std.proofs.Common.{◌≡◌, ℕ, zero, suc, ◌<◌, Bool, true, false, not, ◌&&◌, List, [], ◌∷◌, ◌++◌, length, Option, Some, None, refl, sym, ap, ◌∙◌, subst, arith, if◌then◌else◌, append_assoc}
+use Rattle.std.proofs.lemmas.Bool.{cond_both}
 use Rattle.std.specs.Prelude.{◌==◌, slice_get, option_map, unwrap_or}
 use Rattle.std.specs.Option.{option_or}
 use mathlib.Core.Bool.{beq}
@@ -44,7 +45,7 @@ use Rattle.sercos_law_run.proofs.Agenda.AgendaTasks.{mapped}
 use Rattle.sercos_law_run.specs.Views.RingViews.{views_of}
 use Rattle.sercos_law_run.proofs.Views.ViewRuns.{Sees}
 use Rattle.sercos_law_run.specs.Held.Stored.{IsStored, AreStored}
-use Rattle.std.proofs.lemmas.Option.{slice_get_within}
+use Rattle.std.proofs.lemmas.Option.{same_Some, slice_get_within}
 use Rattle.sercos_law_channel.proofs.Cited.{runs_exact}
 use Rattle.sercos_law_run.proofs.Cited.{reads_well, tasks_end}
 
@@ -119,11 +120,8 @@ is_read_request m (suc (suc (suc (suc (suc (suc j)))))) r got = let (i, there, i
 
 -- the step of a built-in block without one stays 0
 kept_step : (b : Block) → (kept b).step ≡ b.step
-kept_step b = by (is_fixed b && not (is_given b.idn.raw))
-  where
-    by : (t : Bool) → (if t then b else record b { value = [] }).step ≡ b.step
-    by true = refl
-    by false = refl
+kept_step b = cond_both (is_fixed b && not (is_given b.idn.raw)) b (record b { value = [] })
+    (λ v. v.step ≡ b.step) (λ on. refl) (λ off. refl)
 
 map_step : (o : Option Block) → option_map (λ (b : Block). b.step) (option_map kept o) ≡ option_map (λ (b : Block). b.step) o
 map_step None = refl
@@ -138,10 +136,7 @@ no_step d blocks raw b rules stored built found =
     let same : option_map (λ (b : Block). b.step) (find_block raw blocks) ≡ Some 0 =
     sym (map_step (find_block raw blocks)) ∙ ap (option_map (λ (b : Block). b.step)) (same_kept raw d blocks stored) ∙ map_step (find_block raw (store_of d))
     ∙ ap (option_map (λ (b : Block). b.step)) (find_store_of raw d rules) ∙ built_first (find_block raw (built_in d)) (find_block raw d.blocks) 0 built in
-    one b.step 0 (sym (ap (option_map (λ (b : Block). b.step)) found) ∙ same)
-  where
-    one : (m n : ℕ) → Some m ≡ Some n → m ≡ n
-    one m n e = cc
+    same_Some b.step 0 (sym (ap (option_map (λ (b : Block). b.step)) found) ∙ same)
 
 -- so what was read is the element
 time_read : (cycle : ℕ) (b : Block) → b.step ≡ 0 → element_in 7 cycle b ≡ unwrap_or (element_of b 7) []
@@ -173,9 +168,6 @@ answered_by d (r ∷ requests) (o ∷ all) each =
     let same : x ≡ o = cc in
     (subst (λ (y : Outcome). IsAnswer d r y) same is, answered_by d requests all (λ j y there. each (suc j) y there))
 
-request_at : (x y : Request) → Some x ≡ Some y → x ≡ y
-request_at x y e = cc
-
 pub as_read : (r : Request) → IsRead r → (i : Idn) × (e : ℕ) × (r ≡ request.Read i e) × ((e == 1) ≡ false)
 as_read r (Time raw built is) = (idn raw, 7, is, refl)
 as_read r (Attribute i is) = (i, 3, is, refl)
@@ -206,7 +198,7 @@ reads_answered r jobs carry restarts k j blocks plan below small rules sees soun
             → IsTask (known_of r) k at.is.by_then ((looks_back r jobs (master_calls r carry restarts j)).waiting k) (outcomes_in at.older) at.task → IsAnswer (drive_at r k) x (outcome.Complete bytes)
         by n x got early bytes at (OfReads y less found same) =
             let place : length (outcomes_in at.older) ≡ n = at.is.ended ∙ at.place in
-            let one : y ≡ x = request_at y x (sym found ∙ ap (slice_get (reads (member (known_of r) k))) place ∙ got) in
+            let one : y ≡ x = same_Some y x (sym found ∙ ap (slice_get (reads (member (known_of r) k))) place ∙ got) in
             let is = is_read_request (member (known_of r) k) n x got in
             let (i, e, is_read, other) = as_read x is in
             let asks : at.one.request ≡ request.Read i e = at.is.asks ∙ ap (λ (t : Task). t.request) same ∙ one ∙ is_read in

@@ -1,7 +1,7 @@
 -- Within a cycle outcomes only come to those that are there.
-use Rattle.std.proofs.Common.{◌≡◌, ℕ, Bool, true, false, List, [], ◌∷◌, ◌++◌, Option, Some, None, refl, sym, ap, ◌∙◌, subst, if◌then◌else◌}
+use Rattle.std.proofs.Common.{◌≡◌, ℕ, true, false, List, [], ◌∷◌, ◌++◌, Option, Some, None, refl, sym, ap, ◌∙◌, subst}
 use Rattle.std.specs.Prelude.{is_some}
-use Rattle.std.proofs.lemmas.Bool.{and_parts}
+use Rattle.std.proofs.lemmas.Bool.{and_parts, cond_both}
 use Rattle.sercos_telegram.specs.declared.words.Status.{Status}
 use Rattle.sercos_step.specs.declared.request.Request.{Request}
 use Rattle.sercos_step.specs.declared.request.Outcome.{Outcome}
@@ -34,11 +34,9 @@ answered_more a (b ∷ older) waits =
     (outcome_of b.request (a ∷ b.answers), sym (ap (λ (o : Option Outcome). with_outcome (outcome_of b.request (a ∷ b.answers)) (with_outcome o (outcomes_in older))) none))
 
 status_more : (status : Status) (word : ℕ) (begun : List Begun) → Extends (outcomes_in begun) (outcomes_in (with_status status word begun))
-status_more status word begun = by (answers_it begun status) refl
-  where
-    by : (t : Bool) → answers_it begun status ≡ t → Extends (outcomes_in begun) (outcomes_in (if t then with_answer (answer_in status word) begun else begun))
-    by true is = answered_more (answer_in status word) begun (and_parts (is_some (open_in begun)) _ is).0
-    by false is = (None, refl)
+status_more status word begun = cond_both (answers_it begun status) (with_answer (answer_in status word) begun) begun
+    (λ v. Extends (outcomes_in begun) (outcomes_in v))
+    (λ is. answered_more (answer_in status word) begun (and_parts (is_some (open_in begun)) _ is).0) (λ is. (None, refl))
 
 pub heard_more : (o : Option Heard) (begun : List Begun) → Extends (outcomes_in begun) (outcomes_in (with_heard o begun))
 heard_more None begun = (None, refl)

@@ -30,7 +30,7 @@ use Rattle.sercos_law_run.specs.Views.RingViews.{at_start, behind_mdt, view_of, 
 use Rattle.sercos_law_run.proofs.Views.ViewRuns.{Sees, command_below}
 use Rattle.sercos_law_run.specs.Held.Held.{AreHeld, AreProtected, HoldsThePlan, IsHeld}
 use Rattle.sercos_law_run.proofs.Held.PlanStays.{end_plan, plan_kept}
-use Rattle.std.proofs.lemmas.Option.{slice_get_within}
+use Rattle.std.proofs.lemmas.Option.{same_Some, slice_get_within}
 use Rattle.sercos_law_channel.proofs.Cited.{written_stays}
 use Rattle.sercos_law_channel.proofs.Handshake.ProtectedWrites.{stays_protected}
 use Rattle.sercos_law_run.proofs.Agenda.WritesDone.{writes_data}
@@ -52,9 +52,6 @@ protected_at blocks (n ∷ numbers) zero raw are got b found = let same : n ≡ 
 protected_at blocks (n ∷ numbers) (suc i) raw are got b found = protected_at blocks numbers i raw are.1 got b found
 
 -- a request of a plan's writes, as a write of operation data
-same_request : (r x : Request) → Some r ≡ Some x → r ≡ x
-same_request r x e = cc
-
 eleven : (s : Known) (plan : PlanView) (k : ℕ) → length (writes s plan k) ≡ 11
 eleven s plan k = refl
 
@@ -68,7 +65,7 @@ each_write s plan k blocks own each = held_by blocks own (writes s plan k) one
         let less = slice_get_within (writes s plan k) i r got in
         let long = eleven s plan k in
         let (w, bytes, there, number) = writes_data s plan k i (omega (arith, less, long)) in
-        subst (λ (x : Request). IsHeld blocks own x) (same_request (request.Write w 7 bytes) r (sym there ∙ got)) (each i w bytes there number)
+        subst (λ (x : Request). IsHeld blocks own x) (same_Some (request.Write w 7 bytes) r (sym there ∙ got)) (each i w bytes there number)
 
 module _ (r : RingView) (jobs : List Job) (carry : Carry) (restarts : Restarts)
     (waits : (i : ℕ) → AreWaiting (tasks_for (known_of r) jobs i)) (k : ℕ) (below : k < length (known_of r).drives) (blocks : List Block)

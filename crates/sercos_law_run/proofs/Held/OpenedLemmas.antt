@@ -1,6 +1,7 @@
 -- A ring may be opened with requests that keep the rules of requests.
 use Rattle.std.proofs.Common.{◌≡◌, ℕ, drop, zero, suc, ◌+◌, ◌<◌, Bool, true, false, ◌&&◌, ◌||◌, List, [], ◌∷◌, length, Option, Some, None, refl, sym, ◌∙◌, ap, subst, arith, if◌then◌else◌}
-use Rattle.std.specs.Prelude.{◌==◌, not, slice_get, slice_index_or, IfSome, option_map}
+use Rattle.std.proofs.lemmas.Bool.{not-false}
+use Rattle.std.specs.Prelude.{◌==◌, slice_get, slice_index_or, IfSome, option_map}
 use Rattle.std.specs.List.{All, list_any}
 use Rattle.std.proofs.lemmas.Bool.Decides.{nat_tests}
 use Rattle.std.proofs.lemmas.List.Elements.{All-cons}
@@ -62,11 +63,7 @@ no_other test (d ∷ drives) (suc k) below none = no_other test drives k (omega 
 
 command_by : (o : Option Block) → is_no_command (option_map (λ (b : Block). b.attribute) o) ≡ false → IfSome o (λ b. b.attribute.command ≡ true)
 command_by None e = tt
-command_by (Some b) e = by b.attribute.command e
-  where
-    by : (c : Bool) → not c ≡ false → c ≡ true
-    by true e = refl
-    by false e = sym e
+command_by (Some b) e = not-false b.attribute.command e
 
 command_of : (r : RingView) (k raw : ℕ) → is_ring r ≡ true → k < length r.drives → has_other_data (drive_at r k).address raw r.drives ≡ false
     → IfSome (find_block raw (store_of (drive_at r k))) (λ b. b.attribute.command ≡ true)

@@ -1,6 +1,7 @@
 -- Through a run of a ring in which nothing is unseen: each drive and its channel are a run of views, the requests are sound, and in
 -- phases 3 and 4 each drive holds the plan.
-use Rattle.std.proofs.Common.{◌≡◌, ℕ, zero, suc, ◌+◌, ◌^◌, ◌<◌, ◌≤◌, Bool, true, false, not, ◌&&◌, List, [], ◌∷◌, map, length, drop, Option, Some, None, refl, sym, ◌∙◌, ap, ap₂, subst, arith, if◌then◌else◌}
+use Rattle.std.proofs.Common.{◌≡◌, ℕ, zero, suc, ◌+◌, ◌<◌, ◌≤◌, Bool, true, false, not, ◌&&◌, List, [], ◌∷◌, map, length, Option, Some, None, refl, sym, ◌∙◌, ap, ap₂, subst, arith, if◌then◌else◌}
+use Rattle.std.proofs.lemmas.Option.{same_Some}
 use Rattle.std.specs.Prelude.{slice_get, slice_index_or, IfSome, option_map}
 use Rattle.sercos_idn.specs.declared.attribute.Attribute.{Attribute}
 use Rattle.sercos_step.specs.declared.request.Request.{Request}
@@ -25,7 +26,6 @@ use Rattle.sercos_seat.specs.Channel.{outcomes_in}
 use Rattle.sercos_seat.specs.Ring.{MemberView, Task, member, member_of, known_of, tasks_for, IsKnown}
 use Rattle.sercos_law_run.specs.Start.StartUp.{IsStoreOf, is_given, kept, start_up, Holds}
 use Rattle.sercos_law_run.specs.Start.Answers.{AreAnswers, HaveFactors}
-use Rattle.sercos_law_run.specs.Start.Held as held
 use Rattle.sercos_law_run.specs.Start.Later.{AreProtectedLater}
 use Rattle.sercos_law_run.proofs.Start.CheckPasses.{ring_drive}
 use Rattle.sercos_master.specs.Annals.{Past, IsPlanned, outcomes, begins, settled, is_done}
@@ -116,12 +116,9 @@ guarded_so : (blocks : List Block) (values : List (ℕ × List ℕ)) → AreProt
 guarded_so blocks [] are = tt
 guarded_so blocks (v ∷ values) are = (λ b found. one are.0.0 b are.0.1 are.0.3 are.0.4 found, guarded_so blocks values are.1)
   where
-    attribute : {a c : Attribute} → Some a ≡ Some c → a ≡ c
-    attribute e = cc
-
     one : (a : Attribute) (b : Block) → option_map (λ (x : Block). x.attribute) (find_block v.0 blocks) ≡ Some a → a.protect3 ≡ true → a.protect4 ≡ true → find_block v.0 blocks ≡ Some b → (is_protected b.attribute 3 ≡ true) × (is_protected b.attribute 4 ≡ true)
     one a b has three four found =
-        let same : b.attribute ≡ a = attribute (sym (ap (option_map (λ (x : Block). x.attribute)) found) ∙ has) in
+        let same : b.attribute ≡ a = same_Some _ _ (sym (ap (option_map (λ (x : Block). x.attribute)) found) ∙ has) in
         (ap (λ (c : Attribute). c.protect3) same ∙ three, ap (λ (c : Attribute). c.protect4) same ∙ four)
 
 -- the drive's blocks are those of the cycle before

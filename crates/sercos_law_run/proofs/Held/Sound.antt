@@ -1,5 +1,6 @@
 -- Each request that the master begins is one that a transfer takes.
 use Rattle.std.proofs.Common.{◌≡◌, ℕ, zero, suc, List, [], ◌∷◌, drop, Option, Some, None, refl, sym, ap, ◌∙◌, subst}
+use Rattle.std.proofs.lemmas.Option.{same_Some}
 use Rattle.std.specs.Prelude.{slice_get}
 use Rattle.sercos_idn.specs.declared.idn.Idn.{Idn}
 use Rattle.sercos_idn.specs.Attributes.{attribute_of}
@@ -37,9 +38,6 @@ check_128 : (d : DriveView) → blocks_fault [] d.blocks ≡ None → IsSound (s
 unfolding built_in attribute_of
 check_128 d rules = rw (find_store_of 128 d rules) refl
 
-one_request : (r x : Request) → Some r ≡ Some x → r ≡ x
-one_request r x e = cc
-
 -- what a task sets
 sets_so : (s : Known) (k : ℕ) (by_then : Option PlanView) (waiting : List Task) (outs : List Outcome) (t : Task) (d : DriveView)
     → blocks_fault [] d.blocks ≡ None → ((j : ℕ) (x : Task) → slice_get waiting j ≡ Some x → IsSound (store_of d) x.request)
@@ -51,7 +49,7 @@ sets_so s k by_then waiting outs t d rules waits (OfReads r less found is) i set
     by (Attribute x e) = let wrong : request.Read x 3 ≡ request.Command i = sym e ∙ sym (ap (λ (y : Task). y.request) is) ∙ sets in absurd (cc)
 sets_so s k by_then waiting outs t d rules waits (OfWrites p n r planned less at found is) i sets =
     let (w, bytes, got, number) = writes_data s p k n less in
-    let wrong : request.Write w 7 bytes ≡ request.Command i = one_request (request.Write w 7 bytes) r (sym got ∙ found) ∙ sym (ap (λ (x : Task). x.request) is) ∙ sets in
+    let wrong : request.Write w 7 bytes ≡ request.Command i = same_Some (request.Write w 7 bytes) r (sym got ∙ found) ∙ sym (ap (λ (x : Task). x.request) is) ∙ sets in
     absurd (cc)
 sets_so s k by_then waiting outs t d rules waits (Checks3 p planned at is) i sets =
     subst (λ q. IsSound (store_of d) q) (sym (ap (λ (x : Task). x.request) is) ∙ sets) (check_127 d rules)

@@ -1,8 +1,8 @@
 -- The station of a drive is found by its address, since no two drives have one address.
-use Rattle.std.proofs.Common.{◌≡◌, ℕ, suc, zero, ◌+◌, ◌<◌, ◌≤◌, nat_le, Bool, true, false, not, ◌&&◌, ◌||◌, List, [], ◌∷◌, ◌++◌, length, Option, Some, None, refl, sym, ◌∙◌, ap, subst, arith, if◌then◌else◌}
+use Rattle.std.proofs.Common.{◌≡◌, ℕ, suc, zero, ◌+◌, ◌<◌, ◌≤◌, nat_le, Bool, true, false, ◌&&◌, ◌||◌, List, [], ◌∷◌, ◌++◌, length, Option, Some, None, refl, sym, ◌∙◌, ap, subst, arith, if◌then◌else◌}
 use Rattle.std.specs.Prelude.{slice_index, slice_index_or, ◌==◌, unwrap_or, is_none}
 use Rattle.std.specs.List.{list_any}
-use Rattle.std.proofs.lemmas.Bool.{eq-eqb, leb-true}
+use Rattle.std.proofs.lemmas.Bool.{eq-eqb, leb-true, not-true}
 use Rattle.std.proofs.lemmas.List.Folds.{list_any-append}
 use Rattle.sercos_block.specs.Views.{DriveView, RingView}
 use Rattle.sercos_block.specs.Rings.{has_address, has_blocks, is_drive, are_drives, has_drives, is_ring}
@@ -19,10 +19,6 @@ first_true false b is = is
 second_true : (a b : Bool) → (a && b) ≡ true → b ≡ true
 second_true true b is = is
 second_true false b is = cc
-
-not_false : (a : Bool) → not a ≡ true → a ≡ false
-not_false false is = refl
-not_false true is = cc
 
 or_first : (a b : Bool) → (a || b) ≡ false → a ≡ false
 or_first false b is = refl
@@ -42,7 +38,7 @@ shorter a before d none =
 not_before : (before drives : List DriveView) (k : ℕ) → are_drives before drives ≡ true → k < length drives → has_address (slice_index_or drives k no_drive).address before ≡ false
 unfolding are_drives is_drive
 not_before before [] k are below = absurd (omega arith)
-not_before before (d ∷ drives) zero are below = not_false _ (first_true _ _ (first_true _ _ are))
+not_before before (d ∷ drives) zero are below = not-true _ (first_true _ _ (first_true _ _ are))
 not_before before (d ∷ drives) (suc k) are below =
     (shorter (slice_index_or drives k no_drive).address before d (not_before (before ++ d ∷ []) drives k (second_true _ _ are) (omega arith))).0
 

@@ -99,7 +99,7 @@ module _ (r : RingView) (jobs : List Job) (numbered : (i : ℕ) → AreNumbered 
     never_127 j sees sound well = never_so (master_calls r carry restarts j) (λ k. views_of r jobs carry restarts k j) (λ k below.
         let see = sees k below in
         let set = well k below in
-        record { run = see.run; sound = sound k below; follow = set.set.follow; well = set.well; commands = set.commands; begun_are = see.master.begun_are })
+        record { run = see.run; sound = sound k below; follow = set.follow; well = set.well; commands = set.commands; begun_are = see.master.begun_are })
 
     -- .. and in a cycle, also if the master falls at its end
     pub never_127_in : (t : CycleView) (j : List CycleView) → ((k : ℕ) → k < length r.drives → Sees r jobs carry restarts k (t ∷ j))
@@ -112,8 +112,8 @@ module _ (r : RingView) (jobs : List Job) (numbered : (i : ℕ) → AreNumbered 
         record {
           run = (see.run.0, next_still (drive_at r k).busy (view_of r jobs carry restarts k t j) (views_of r jobs carry restarts k j) see.run.1);
           sound = sound k below;
-          follow = set.set.follow;
-          well = (set.well.0, keeps_settings (stays (view_of r jobs carry restarts k t j)) (views_of r jobs carry restarts k j) set.set.follow, set.well.2);
+          follow = set.follow;
+          well = (set.well.0, keeps_settings (stays (view_of r jobs carry restarts k t j)) (views_of r jobs carry restarts k j) set.follow, set.well.2);
           commands = set.commands;
           begun_are = begun k below;
         })

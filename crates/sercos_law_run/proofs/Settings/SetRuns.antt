@@ -2,7 +2,7 @@
 use Rattle.std.proofs.Common.{◌≡◌, ℕ, Bool, true, false, not, List, [], ◌∷◌, ◌++◌, refl, sym, ap, ◌∙◌, if◌then◌else◌}
 use Rattle.std.specs.Prelude.{◌==◌, Option, Some, None, is_some}
 use Rattle.std.specs.Int.{w16, from_le_bytes}
-use Rattle.std.proofs.lemmas.Bool.{eqb-true, eq-eqb}
+use Rattle.std.proofs.lemmas.Bool.{cond_both, eq-eqb, eqb-true}
 use Rattle.sercos_block.specs.declared.block.Block.{Block}
 use Rattle.sercos_block.specs.Stores.{with_data}
 use Rattle.sercos_command.specs.declared.commands.SetCommand.{SetCommand}
@@ -31,18 +31,13 @@ find_last raw (x ∷ set) s on = by (x.idn.raw == raw) (find_last raw set s on)
     by false more = more
 
 kept_with : (raw : ℕ) (s : SetCommand) (set : List SetCommand) → is_some (find_set raw set) ≡ true → is_some (find_set raw (with_set s set)) ≡ true
-kept_with raw s set on = by (is_some (find_set s.idn.raw set))
-  where
-    by : (v : Bool) → is_some (find_set raw (if v then set else set ++ s ∷ [])) ≡ true
-    by true = on
-    by false = find_append raw set s on
+kept_with raw s set on = cond_both (is_some (find_set s.idn.raw set)) set (set ++ s ∷ [])
+    (λ v. is_some (find_set raw v) ≡ true) (λ has. on) (λ off. find_append raw set s on)
 
 set_with : (raw : ℕ) (s : SetCommand) (set : List SetCommand) → s.idn.raw ≡ raw → is_some (find_set raw (with_set s set)) ≡ true
-set_with raw s set same = by (is_some (find_set s.idn.raw set)) refl
-  where
-    by : (v : Bool) → is_some (find_set s.idn.raw set) ≡ v → is_some (find_set raw (if v then set else set ++ s ∷ [])) ≡ true
-    by true on = ap (λ (n : ℕ). is_some (find_set n set)) (sym same) ∙ on
-    by false off = find_last raw set s (eq-eqb s.idn.raw raw same)
+set_with raw s set same = cond_both (is_some (find_set s.idn.raw set)) set (set ++ s ∷ [])
+    (λ v. is_some (find_set raw v) ≡ true)
+    (λ on. ap (λ (n : ℕ). is_some (find_set n set)) (sym same) ∙ on) (λ off. find_last raw set s (eq-eqb s.idn.raw raw same))
 
 kept_without : (raw other : ℕ) (set : List SetCommand) → (other == raw) ≡ false → is_some (find_set raw set) ≡ true → is_some (find_set raw (without other set)) ≡ true
 kept_without raw other [] off on = absurd (cc)

@@ -3,7 +3,7 @@
 use Rattle.std.proofs.Common.{◌≡◌, ◌⊎◌, inl, inr, ℕ, zero, suc, ◌-◌, ◌<◌, ◌≤◌, Bool, true, false, not, ◌&&◌, ◌||◌, List, [], ◌∷◌, ◌++◌, length, refl, sym, ap, ap₂, ◌∙◌, subst, arith, if◌then◌else◌, length-append}
 use Rattle.std.specs.Prelude.{◌==◌, Option, Some, None, is_some, slice_index}
 use Rattle.std.specs.List.{list_all}
-use Rattle.std.proofs.lemmas.Bool.{and_parts, eqb-true, leb-true}
+use Rattle.std.proofs.lemmas.Bool.{and_parts, cond_both, eqb-true, leb-true}
 use Rattle.std.proofs.lemmas.Bool.Decides.{nat_tests}
 use Rattle.sercos_idn.specs.declared.idn.Idn.{Idn}
 use Rattle.sercos_step.specs.declared.step.Answer.{Answer}
@@ -34,11 +34,8 @@ append_well [] s all well = ap (λ (v : Bool). v && true) well
 append_well (x ∷ set) s all well = let parts = and_parts (is_well_set x) _ all in ap₂ (λ (a b : Bool). a && b) parts.0 (append_well set s parts.1 well)
 
 with_set_well : (s : SetCommand) (set : List SetCommand) → list_all is_well_set set ≡ true → is_well_set s ≡ true → list_all is_well_set (with_set s set) ≡ true
-with_set_well s set all well = by (is_some (find_set s.idn.raw set))
-  where
-    by : (v : Bool) → list_all is_well_set (if v then set else set ++ s ∷ []) ≡ true
-    by true = all
-    by false = append_well set s all well
+with_set_well s set all well = cond_both (is_some (find_set s.idn.raw set)) set (set ++ s ∷ [])
+    (λ v. list_all is_well_set v ≡ true) (λ on. all) (λ off. append_well set s all well)
 
 write_well : (raw value cycle : ℕ) (blocks : List Block) (c : CommandsView) → are_well_set c ≡ true → (raw ≡ 127 → (value == 0) ≡ false → ends_well c.rate 127 blocks ≡ true) → are_well_set (with_write raw value cycle blocks c) ≡ true
 unfolding with_write

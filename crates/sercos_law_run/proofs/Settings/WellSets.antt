@@ -33,7 +33,9 @@ use Rattle.sercos_law_run.proofs.Views.Received.{Agrees}
 use Rattle.sercos_law_run.proofs.Views.ViewRuns.{Sees, at_mst, sees_next}
 use Rattle.sercos_law_run.specs.Views.Spelled.{IsSpelled}
 use Rattle.sercos_law_run.specs.Settings.WellSet.{HaveStores, AreSetWell}
-use Rattle.sercos_law_run.proofs.Settings.SettingsRuns.{IsSetSo, set_first, set_next, keeps_settings}
+use Rattle.sercos_law_run.proofs.Settings.SettingsRuns.{keeps_settings, settings_follow}
+use Rattle.sercos_law_run.specs.Settings.SetByWrites.{SettingsFollow}
+use Rattle.sercos_law_run.proofs.Undisturbed.CommandRuns.{AreCommandsSo, commands_first, commands_next, first_commands}
 use Rattle.sercos_law_run.proofs.Settings.SetsWell.{sets_well}
 
 -- S-0-0127 is a procedure command of each drive
@@ -49,12 +51,13 @@ is_command_127 d blocks none is =
 -- What holds of the drive at a place after a journal: its settings are those of its views, each check for phase 3 was set well, and
 -- S-0-0127 is a procedure command in each cycle.
 pub record IsWellSet (r : RingView) (jobs : List Job) (carry : Carry) (restarts : Restarts) (k : ℕ) (j : List CycleView) : Type 0 where
-  pub set : IsSetSo r jobs carry restarts k j
+  pub set : AreCommandsSo r jobs carry restarts k j
+  pub follow : SettingsFollow (views_of r jobs carry restarts k j)
   pub well : AreSetWell (views_of r jobs carry restarts k j)
   pub commands : HaveStores (λ blocks. is_command blocks 127 ≡ true) (views_of r jobs carry restarts k j)
 
 pub well_first : (r : RingView) (jobs : List Job) (carry : Carry) (restarts : Restarts) (k : ℕ) → IsWellSet r jobs carry restarts k []
-well_first r jobs carry restarts k = record { set = set_first r jobs carry restarts k; well = tt; commands = tt }
+well_first r jobs carry restarts k = record { set = commands_first r jobs carry restarts k; follow = tt; well = tt; commands = tt }
 
 module _ (r : RingView) (jobs : List Job) (carry : Carry) (restarts : Restarts) (valid : is_ring r ≡ true) (wishes : IsValid (wishes_of r))
     (waits : (i : ℕ) → AreWaiting (tasks_for (known_of r) jobs i)) (t : CycleView) (j : List CycleView)
@@ -72,13 +75,15 @@ module _ (r : RingView) (jobs : List Job) (carry : Carry) (restarts : Restarts) 
   well_next =
       let here = at_mst r jobs carry restarts valid t j next clear spelled k below sees agrees rests in
       let after = sees_next r jobs carry restarts valid t j next clear spelled k below sees agrees rests in
-      let set = set_next r jobs carry restarts valid t j next clear spelled k below sees agrees rests before.set in
+      let set = commands_next r jobs carry restarts valid t j next clear spelled k below sees agrees rests before.set in
+      let follow = settings_follow (first_commands r k) (views_of r jobs carry restarts k (t ∷ j)) refl set.follow in
       let rules = (ring_drive r k (drive_at r k) valid (slice_get-get_or r.drives k _ below)).blocks in
       record {
         set = set;
+        follow = follow;
         well = (
           before.well,
-          keeps_settings (view_of r jobs carry restarts k t j) (views_of r jobs carry restarts k j) set.follow,
+          keeps_settings (view_of r jobs carry restarts k t j) (views_of r jobs carry restarts k j) follow,
           sets_well r jobs carry restarts valid wishes waits k below small t j sees after sound store is_of here.blocks fits,
         );
         commands = (before.commands, is_command_127 (drive_at r k) (view_of r jobs carry restarts k t j).blocks rules is_of);

@@ -3,7 +3,7 @@ use Rattle.std.proofs.Common.{◌≡◌, ℕ, zero, suc, ◌+◌, ◌<◌, ◌�
 use Rattle.std.specs.Prelude.{nat_le, min, is_some, is_none, option_map, slice_index, unwrap_or}
 use Rattle.std.specs.Bool.{then_some}
 use Rattle.std.specs.Option.{option_or}
-use Rattle.std.proofs.lemmas.Bool.{and_parts, false≢true}
+use Rattle.std.proofs.lemmas.Bool.{and_parts, false_from_ne_true, false≢true, not-true}
 use Rattle.std.proofs.lemmas.Bool.Decides.{nat_tests}
 use Rattle.sercos_telegram.specs.Faults.{at_fault, head_fault}
 use Rattle.sercos_telegram.specs.declared.layout.Layout.{Layout}
@@ -18,7 +18,7 @@ use Rattle.sercos_service_master.specs.Calls as channel
 use Rattle.sercos_seat.specs.Agenda.{at_len}
 use Rattle.sercos_seat.specs.Channel.{is_place, outcomes_in}
 use Rattle.sercos_seat.specs.Ring.{Known, MemberView, known_of, member}
-use Rattle.sercos_master.specs.Annals.{Past, Turn, Call, after_at, after_at_of, after_taken, count_addressed, fall_at, fall_of, first_from, first_place, goes_on, has_lost_at, has_lost_mst, is_at_limit, is_done, is_mst, is_taken, new_epoch, next_phase, outcomes, place_of, still_waiting}
+use Rattle.sercos_master.specs.Annals.{Past, Turn, Call, after_at, after_at_of, after_taken, count_addressed, fall_at, fall_of, first_place, goes_on, has_lost_at, has_lost_mst, is_at_limit, is_done, is_mst, is_taken, new_epoch, next_phase, outcomes, place_of, still_waiting}
 use Rattle.sercos_master.specs.Reports.{restart_told}
 use Rattle.sercos_trace.specs.Views.{CycleView, EventsView}
 use Rattle.sercos_trace.specs.declared.events.Fall.{Fall}
@@ -32,7 +32,7 @@ use Rattle.sercos_law_run.specs.Held.Opened.{IsOpened}
 use Rattle.sercos_law_run.specs.Stations.Falls.{AreTo, FallsHaveCause, HasCause, Identification, IsLate, IsOpenFor, MissesAt, MissesMst, MstComesFirst, NoneReads, NoneReadsIn, Step, comes_back}
 use Rattle.sercos_law_run.proofs.Undisturbed.Addressed.{place_found}
 use Rattle.sercos_law_run.proofs.Undisturbed.NoFalls.{heard_mdt}
-use Rattle.sercos_law_run.proofs.Undisturbed.StaysUp.{found_passes}
+use Rattle.sercos_master.proofs.Keeping.{first_found}
 use Rattle.sercos_law_run.proofs.Views.MasterSame.{SameTurn, begun_cycle, turn_mdt}
 use Rattle.sercos_law_run.proofs.Views.Members.{member_is, members_count}
 use Rattle.sercos_law_run.proofs.Views.ViewRuns.{started}
@@ -155,16 +155,12 @@ unread s k content q found late none =
     high : nat_le 3 q.now.phase ≡ true
     high = grind (arith, nat_tests, late)
 
-    not_so : (b : Bool) → (b ≡ true → ⊥) → b ≡ false
-    not_so true never = absurd (never refl)
-    not_so false never = refl
-
     same_place : (k == k) ≡ true
     same_place = grind (arith, nat_tests)
 
     by : (b : Bool) → is_taken s q k content ≡ b → (if b then after_taken k content q else q).now.heard k ≡ false → reads ≡ false
     by true is none = absurd (false≢true (sym none ∙ rw same_place refl))
-    by false is none = not_so reads (λ good. false≢true (sym is ∙ taken good))
+    by false is none = false_from_ne_true reads (λ good. false≢true (sym is ∙ taken good))
       where
         taken : reads ≡ true → is_taken s q k content ≡ true
         taken good = rw (high, none) good
@@ -333,10 +329,6 @@ module _ (r : RingView) (jobs : List Job) (carry : Carry) (restarts : Restarts) 
       → MissesMst carry t j
   mst_lost t j run lost = by (behind_mdt r jobs carry restarts t.sent j).turns refl lost
     where
-      not_so : (b : Bool) → not b ≡ true → b ≡ false
-      not_so true e = absurd (false≢true e)
-      not_so false e = refl
-
       by : (turns : List Turn) → (behind_mdt r jobs carry restarts t.sent j).turns ≡ turns
           → has_lost_mst ((behind_mdt r jobs carry restarts t.sent j).now ∷ turns) ≡ true → MissesMst carry t j
       by [] is lost = absurd (false≢true lost)
@@ -346,11 +338,11 @@ module _ (r : RingView) (jobs : List Job) (carry : Carry) (restarts : Restarts) 
           let before = turn_before t j b rest is in
           let older_next : IsNext r jobs carry restarts before.before before.older = (subst (λ (i : List CycleView). IsRun r jobs carry restarts i) before.follows run.0).1 in
           record {
-            now = sym (whole_at t j run.1) ∙ not_so (behind_mdt r jobs carry restarts t.sent j).now.whole now;
+            now = sym (whole_at t j run.1) ∙ not-true (behind_mdt r jobs carry restarts t.sent j).now.whole now;
             before = before.before;
             older = before.older;
             follows = before.follows;
-            lost = sym (whole_at before.before before.older older_next) ∙ ap (λ (x : Turn). x.whole) (sym before.turn) ∙ not_so b.whole then_;
+            lost = sym (whole_at before.before before.older older_next) ∙ ap (λ (x : Turn). x.whole) (sym before.turn) ∙ not-true b.whole then_;
             phase = let same = ap (λ (x : Turn). x.phase) before.turn ∙ phase_at before.before before.older older_next in grind (arith, nat_tests, up, same);
           }
 
@@ -359,10 +351,6 @@ module _ (r : RingView) (jobs : List Job) (carry : Carry) (restarts : Restarts) 
       → MissesAt r jobs carry restarts t j (member (known_of r) k).address
   at_lost t j k below run lost = by (behind_mdt r jobs carry restarts t.sent j).turns refl lost
     where
-      not_so : (b : Bool) → not b ≡ true → b ≡ false
-      not_so true e = absurd (false≢true e)
-      not_so false e = refl
-
       by : (turns : List Turn) → (behind_mdt r jobs carry restarts t.sent j).turns ≡ turns
           → has_lost_at k ((behind_mdt r jobs carry restarts t.sent j).now ∷ turns) ≡ true
           → MissesAt r jobs carry restarts t j (member (known_of r) k).address
@@ -379,11 +367,11 @@ module _ (r : RingView) (jobs : List Job) (carry : Carry) (restarts : Restarts) 
             place = k;
             inside = below;
             address_is = ap (λ (m : MemberView). m.address) (sym (member_is r k));
-            now = none_at t j k below run.1 (grind (arith, nat_tests, up, no_lower, phase_now)) (not_so ((behind_mdt r jobs carry restarts t.sent j).now.heard k) now);
+            now = none_at t j k below run.1 (grind (arith, nat_tests, up, no_lower, phase_now)) (not-true ((behind_mdt r jobs carry restarts t.sent j).now.heard k) now);
             before = before.before;
             older = before.older;
             follows = before.follows;
-            lost = none_at before.before before.older k below older_next (grind (arith, nat_tests, up, phase_then)) (ap (λ (x : Turn). x.heard k) (sym before.turn) ∙ not_so (b.heard k) then_);
+            lost = none_at before.before before.older k below older_next (grind (arith, nat_tests, up, phase_then)) (ap (λ (x : Turn). x.heard k) (sym before.turn) ∙ not-true (b.heard k) then_);
             phase = grind (arith, nat_tests, up, phase_then);
           }
 
@@ -428,17 +416,9 @@ module _ (r : RingView) (jobs : List Job) (carry : Carry) (restarts : Restarts) 
       let lost : has_lost_mst ((behind_mdt r jobs carry restarts t.sent (u ∷ older)).now ∷ (behind_mdt r jobs carry restarts t.sent (u ∷ older)).turns) ≡ true =
       rw (found.1, high, whole, before) refl in rw lost refl
 
-  inside : (k n i : ℕ) (test : ℕ → Bool) → first_from k n test ≡ Some i → i < k + n
-  inside k zero i test e = cc
-  inside k (suc n) i test e = by (test k) e (inside (k + 1) n i test)
-    where
-      by : (b : Bool) → (if b then Some k else first_from (k + 1) n test) ≡ Some i → (first_from (k + 1) n test ≡ Some i → i < k + 1 + n)
-          → i < k + suc n
-      by true e more = let same : k ≡ i = cc in omega (arith, same)
-      by false e more = let low = more e in omega (arith, low)
-
   placed : (k : ℕ) (test : ℕ → Bool) → first_place (known_of r) test ≡ Some k → (k < length r.drives) × (test k ≡ true)
-  placed k test is = let low = inside 0 (length (known_of r).drives) k test is in let count = members_count r in (omega (arith, low, count), found_passes 0 (length (known_of r).drives) k test is)
+  placed k test is = let first = first_found 0 (length (known_of r).drives) k test is in let low = first.below in
+      let count = members_count r in (omega (arith, low, count), first.passes)
 
   caused : (t : CycleView) (j : List CycleView) → IsRun r jobs carry restarts (t ∷ j) → (f : Fall)
       → fall_of (known_of r) (behind_mdt r jobs carry restarts t.sent j) ≡ Some f → HasCause r jobs carry restarts t j f

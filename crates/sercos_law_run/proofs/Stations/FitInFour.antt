@@ -1,12 +1,10 @@
 -- In phase 4 no block of a drive has operation data outside its limits.
 use Rattle.std.proofs.Common.{◌≡◌, ℕ, ◌≤◌, ◌==◌, nat_lt, Bool, true, false, cond, not, ◌&&◌, ◌||◌, List, [], ◌∷◌, map, length, Option, Some, None, IfSome, refl, sym, ◌∙◌, ap, ap₂, subst, arith, if◌then◌else◌}
 use Rattle.std.specs.Prelude.{option_map}
-use Rattle.std.specs.Bool.{then_some}
 use Rattle.std.specs.List.{list_all, filter}
-use Rattle.std.specs.Option.{option_or}
 use Rattle.std.proofs.lemmas.Bool.{and_parts, false≢true}
 use Rattle.std.proofs.lemmas.Bool.Decides.{nat_tests}
-use Rattle.sercos_model.proofs.FaultLemmas.{none_of-or, none_of-then}
+use Rattle.sercos_model.proofs.FaultLemmas.{none_of-or}
 use Rattle.sercos_idn.specs.declared.attribute.Attribute.{Attribute}
 use Rattle.sercos_idn.specs.Attributes.{attribute_of}
 use Rattle.sercos_idn.specs.Codes.{attribute_fault}
@@ -14,13 +12,14 @@ use Rattle.sercos_block.specs.declared.block.Block.{Block}
 use Rattle.sercos_block.specs.Blocks.{is_number}
 use Rattle.sercos_block.specs.Rules.{blocks_fault}
 use Rattle.sercos_block.specs.Rings.{attribute_in, row_in, built_in_attribute, block_attribute}
-use Rattle.sercos_block.specs.Stores.{find_block, with_data, write_fault, data_fault, put_fault, is_short, is_long, is_invalid, is_below, is_above, are_ascending}
+use Rattle.sercos_block.specs.Stores.{find_block, with_data, write_fault, data_fault, put_fault, is_below, is_above, are_ascending}
 use Rattle.sercos_block.specs.Views.{DriveView}
 use Rattle.sercos_block.proofs.PutLemmas.{with_data-nowhere}
 use Rattle.sercos_command.specs.Checks.{is_outside, unfit_for_phase_4}
 use Rattle.sercos_command.proofs.History.{is_passed-kept}
 use Rattle.sercos_drive.specs.Moments.{calls_in}
 use Rattle.sercos_drive.specs.Annals.{has_passed}
+use Rattle.sercos_law_run.proofs.Undisturbed.OwnInside.{within}
 use Rattle.sercos_law_run.specs.Stations.Fit.{FitInFour}
 use Rattle.sercos_law_run.proofs.Start.BlockFinds.{same_attribute}
 use Rattle.sercos_law_run.proofs.Start.KeptLemmas.{above_none}
@@ -74,26 +73,11 @@ inside_written raw bytes (b ∷ blocks) up fine inside =
         rw (with_data-nowhere blocks raw bytes (above_none b.idn.raw raw blocks under above), fine) others
     by false e above here others fine more = rw here (more fine others)
 
-below_same : (b : Block) (bytes : List ℕ) (limit : Option ℕ) → is_below (record b { value = bytes }) bytes limit ≡ is_below b bytes limit
-below_same b bytes None = refl
-below_same b bytes (Some limit) = refl
-
-above_same : (b : Block) (bytes : List ℕ) (limit : Option ℕ) → is_above (record b { value = bytes }) bytes limit ≡ is_above b bytes limit
-above_same b bytes None = refl
-above_same b bytes (Some limit) = refl
-
 -- An accepted write is inside the limits.
 accepted : (o : Option Block) (phase : ℕ) (bytes : List ℕ) → put_fault o phase bytes ≡ None
     → IfSome o (λ (b : Block). is_outside (record b { value = bytes }) ≡ false)
-unfolding data_fault
 accepted None phase bytes fine = tt
-accepted (Some b) phase bytes fine =
-    let (_, value) = none_of-or (write_fault (Some b) phase) (data_fault b bytes) fine in
-    let (_, long) = none_of-or (then_some (is_short b bytes) 0x7002) (option_or (then_some (is_long b bytes) 0x7003) (option_or (then_some (is_invalid b bytes) 0x7008) (option_or (then_some (is_below b bytes b.min) 0x7006) (then_some (is_above b bytes b.max) 0x7007)))) value in
-    let (_, invalid) = none_of-or (then_some (is_long b bytes) 0x7003) (option_or (then_some (is_invalid b bytes) 0x7008) (option_or (then_some (is_below b bytes b.min) 0x7006) (then_some (is_above b bytes b.max) 0x7007))) long in
-    let (_, limits) = none_of-or (then_some (is_invalid b bytes) 0x7008) (option_or (then_some (is_below b bytes b.min) 0x7006) (then_some (is_above b bytes b.max) 0x7007)) invalid in
-    let (below, above) = none_of-or (then_some (is_below b bytes b.min) 0x7006) (then_some (is_above b bytes b.max) 0x7007) limits in
-    ap₂ (λ (x y : Bool). x || y) (below_same b bytes b.min ∙ none_of-then (is_below b bytes b.min) 0x7006 below) (above_same b bytes b.max ∙ none_of-then (is_above b bytes b.max) 0x7007 above)
+accepted (Some b) phase bytes fine = within b bytes (none_of-or (write_fault (Some b) phase) (data_fault b bytes) fine).1
 
 -- So is a list, which has none.
 list_inside : (b : Block) (bytes : List ℕ) → is_number b.attribute ≡ false → is_outside (record b { value = bytes }) ≡ false

@@ -10,16 +10,16 @@ use Rattle.sercos_block.specs.Views.{DriveView}
 use Rattle.sercos_command.specs.Settings.{CommandsView, find_set, is_command, with_lists, ends_well}
 use Rattle.sercos_command.specs.Calls.{Call, Wrote, Other, Reset}
 use Rattle.sercos_command.specs.Kept.{settings, passed_so_far}
-use Rattle.sercos_service_drive.specs.Log.{Taken, taken_record}
 use Rattle.sercos_service_drive.specs.Writes.{Write, AreThose, added_on, setting_in, blocks_with, calls_with}
 use Rattle.sercos_service_drive.proofs.AllowedWrites.{allowed}
 use Rattle.sercos_drive.specs.declared.hearing.Told.{Told}
 use Rattle.sercos_drive.specs.Heard.{DriveCall, Mst, Mdt, Restart, mst_got, mdt_got}
-use Rattle.sercos_drive.specs.Moments.{Moment, phase_in, cycle_in, has_mst, has_missed, taken_in, blocks_in, blocks_after, commands_in, calls_in, calls_after, with_reset}
+use Rattle.sercos_drive.specs.Moments.{Moment, phase_in, has_mst, has_missed, taken_in, blocks_in, blocks_after, commands_in, calls_in, calls_after, with_reset}
 use Rattle.sercos_drive.specs.Annals.{annals, has_passed, processed_in, stands_in, ends_in, takes}
 use Rattle.sercos_drive.proofs.RecordLemmas.{phase_below}
 use Rattle.sercos_law_run.proofs.Start.LaterLemmas.{after_check, still_ascending}
 use Rattle.sercos_law_run.proofs.Start.KeptLemmas.{writes_keep}
+use Rattle.sercos_law_run.proofs.Held.Processed.{processed_keeps, taken_at}
 use Rattle.sercos_law_run.proofs.Held.StoreOf.{IsOf, store_of_so}
 use Rattle.sercos_law_run.proofs.Cited.{handed_those}
 
@@ -158,7 +158,7 @@ module _ (d : DriveView) (rate check top : ℕ) (P : List Block → Type 0) (fou
       → Holds d rate check top P (calls_in past) (phase_in past) (blocks_in d past)
       → Holds d rate check top P (with_reset (ends_in told past) (calls_after (processed_in d rate told past) (taken_in past) (calls_in past))) (ends_in told past)
       (blocks_after (processed_in d rate told past) (taken_in past) (blocks_in d past))
-  at_mdt past told below is are before = by told
+  at_mdt past told below is are before = left (phase_in past) (ends_in told past) _ _ (ends_low told) at
     where
       ends_low : (told : Option Told) → ends_in told past ≤ phase_in past
       ends_low told = low (nat_le 3 (phase_in past) && (not (takes told past) && has_missed past))
@@ -167,19 +167,12 @@ module _ (d : DriveView) (rate check top : ℕ) (P : List Block → Type 0) (fou
           low true = omega arith
           low false = omega arith
 
-      by : (told : Option Told)
-          → Holds d rate check top P (with_reset (ends_in told past) (calls_after (processed_in d rate told past) (taken_in past) (calls_in past))) (ends_in told past)
+      at : Holds d rate check top P (calls_after (processed_in d rate told past) (taken_in past) (calls_in past)) (phase_in past)
           (blocks_after (processed_in d rate told past) (taken_in past) (blocks_in d past))
-      by None = left (phase_in past) (ends_in None past) (calls_in past) (blocks_in d past) (ends_low None) before
-      by (Some t) = left (phase_in past) (ends_in (Some t) past) _ _ (ends_low (Some t)) (which (has_mst past && nat_le 2 (phase_in past)))
-        where
-          one : Taken
-          one = taken_record (cycle_in past) (phase_in past) t.control t.info (blocks_in d past) (commands_in d rate past)
-
-          which : (b : Bool)
-              → Holds d rate check top P (calls_after (if b then Some one else None) (taken_in past) (calls_in past)) (phase_in past) (blocks_after (if b then Some one else None) (taken_in past) (blocks_in d past))
-          which true = recorded (blocks_in d past) (calls_in past) (phase_in past) (added_on one (taken_in past)) (commands_in d rate past) is below (allowed one (taken_in past) are) before
-          which false = before
+      at = processed_keeps (λ o. Holds d rate check top P (calls_after o (taken_in past) (calls_in past)) (phase_in past)
+          (blocks_after o (taken_in past) (blocks_in d past))) d rate told past before (λ t.
+          let one = taken_at d rate past t in
+          recorded (blocks_in d past) (calls_in past) (phase_in past) (added_on one (taken_in past)) (commands_in d rate past) is below (allowed one (taken_in past) are) before)
 
   -- SO IT IS whatever the drive is given.
   pub holds_at : (h : List DriveCall) → are_ascending (store_of d) ≡ true

@@ -1,8 +1,8 @@
 -- What a drive's lists of invalid operation data contain.
 use Rattle.std.proofs.Common.{◌≡◌, ℕ, ◌==◌, Bool, true, false, not, ◌&&◌, List, [], ◌∷◌, Option, Some, None, IfSome, refl, sym, ◌∙◌, subst, arith, if◌then◌else◌}
-use Rattle.std.specs.Prelude.{nat_le, option_map, unwrap_or}
+use Rattle.std.specs.Prelude.{option_map, unwrap_or}
 use Rattle.std.specs.Bool.{then_some}
-use Rattle.std.proofs.lemmas.Bool.{false≢true}
+use Rattle.std.proofs.lemmas.Bool.{cond_both, false≢true}
 use Rattle.std.proofs.lemmas.Bool.Decides.{nat_tests}
 use Rattle.sercos_model.proofs.FaultLemmas.{none_of-or, none_of-then}
 use Rattle.sercos_idn.specs.Attributes.{attribute_of}
@@ -21,18 +21,18 @@ use Rattle.sercos_command.specs.Settings.{CommandsView, is_command, with_write, 
 use Rattle.sercos_command.specs.Calls.{Call, Wrote, Other, Reset, is_set}
 use Rattle.sercos_command.specs.Kept.{settings}
 use Rattle.sercos_command.proofs.History.{is_none-settings}
-use Rattle.sercos_service_drive.specs.Log.{Taken, taken_record}
-use Rattle.sercos_service_drive.specs.Writes.{Write, AreThose, added_on, setting_in, blocks_with, commands_with, calls_with}
+use Rattle.sercos_service_drive.specs.Writes.{Write, added_on, setting_in, blocks_with, commands_with, calls_with}
 use Rattle.sercos_service_drive.proofs.AllowedWrites.{allowed}
 use Rattle.sercos_drive.specs.declared.hearing.Told.{Told}
 use Rattle.sercos_drive.specs.Heard.{DriveCall, Mst, Mdt, Restart, mst_got, mdt_got}
-use Rattle.sercos_drive.specs.Moments.{Moment, phase_in, cycle_in, has_mst, taken_in, blocks_in, blocks_after, commands_in, commands_after, calls_in, calls_after, with_reset, reset_in}
+use Rattle.sercos_drive.specs.Moments.{Moment, phase_in, taken_in, blocks_in, blocks_after, commands_in, commands_after, calls_in, calls_after, with_reset, reset_in}
 use Rattle.sercos_drive.specs.Annals.{annals, processed_in, stands_in, ends_in}
 use Rattle.sercos_law_run.specs.Start.StartUp.{IsStoreOf}
 use Rattle.sercos_law_run.specs.Stations.Lists.{found_for_3, found_for_4, ListsAreFound}
 use Rattle.sercos_law_run.proofs.Start.BlockFinds.{find_built_in, find_store_of, same_attribute}
 use Rattle.sercos_law_run.proofs.Start.LaterLemmas.{has_of}
 use Rattle.sercos_law_run.proofs.Start.KeptLemmas.{stays, writes_hold, writes_keep}
+use Rattle.sercos_law_run.proofs.Held.Processed.{processed_keeps, taken_at}
 use Rattle.sercos_law_run.proofs.Held.StoreOf.{IsOf, store_of_so}
 use Rattle.sercos_law_run.proofs.Stations.FitInThree.{IsLater, later_by}
 use Rattle.sercos_law_run.proofs.Cited.{handed_those}
@@ -70,26 +70,17 @@ pub are_set : (d : DriveView) (rate : ℕ) (h : List DriveCall)
 are_set d rate [] = (refl, refl)
 are_set d rate (Restart ∷ h) = ((are_set d rate h).0, refl)
 are_set d rate (Mst cycle content ∷ h) = set_reset rate (stands_in d rate cycle (mst_got content) (annals d rate h)) _ _ (are_set d rate h)
-are_set d rate (Mdt content ∷ h) = set_reset rate (ends_in told past) _ _ (by told (are_set d rate h))
+are_set d rate (Mdt content ∷ h) = set_reset rate (ends_in told past) _ _ (processed_keeps
+    (λ o. AreSet rate (commands_after o (taken_in past) (commands_in d rate past))
+    (calls_after o (taken_in past) (calls_in past))) d rate told past (are_set d rate h)
+    (λ t. set_write rate (added_on (taken_at d rate past t) (taken_in past)) (blocks_in d past) (commands_in d rate past) (calls_in past)
+    (are_set d rate h)))
   where
     past : List Moment
     past = annals d rate h
 
     told : Option Told
     told = mdt_got d.address (phase_in past) (blocks_in d past) content
-
-    by : (told : Option Told) → AreSet rate (commands_in d rate past) (calls_in past)
-        → AreSet rate (commands_after (processed_in d rate told past) (taken_in past) (commands_in d rate past)) (calls_after (processed_in d rate told past) (taken_in past) (calls_in past))
-    by None are = are
-    by (Some t) are = which (has_mst past && nat_le 2 (phase_in past))
-      where
-        one : Taken
-        one = taken_record (cycle_in past) (phase_in past) t.control t.info (blocks_in d past) (commands_in d rate past)
-
-        which : (b : Bool)
-            → AreSet rate (commands_after (if b then Some one else None) (taken_in past) (commands_in d rate past)) (calls_after (if b then Some one else None) (taken_in past) (calls_in past))
-        which true = set_write rate (added_on one (taken_in past)) (blocks_in d past) (commands_in d rate past) (calls_in past) are
-        which false = are
 
 -- A block that is protected in each phase is never written.
 record IsLocked (d : DriveView) (raw : ℕ) : Type 0 where
@@ -183,11 +174,7 @@ module _ (d : DriveView) (rate : ℕ) (none : blocks_fault [] d.blocks ≡ None)
       by false = written
 
   kept_by : (phase : ℕ) (calls : List Call) (blocks : List Block) → Contain calls blocks → Contain (with_reset phase calls) blocks
-  kept_by phase calls blocks has = by (phase == 0)
-    where
-      by : (zero : Bool) → Contain (if zero then Reset ∷ calls else calls) blocks
-      by true = has
-      by false = has
+  kept_by phase calls blocks has = cond_both (phase == 0) (Reset ∷ calls) calls (λ v. Contain v blocks) (λ on. has) (λ off. has)
 
   opened : (raw : ℕ)
       → data_at (store_of d) raw ≡ unwrap_or (option_map (λ (b : Block). b.value) (option_or (option_map (built_in_block d) (row_in built_ins raw)) (find_block raw d.blocks))) []
@@ -202,27 +189,17 @@ module _ (d : DriveView) (rate : ℕ) (none : blocks_fault [] d.blocks ≡ None)
   contain_at [] up = opening
   contain_at (Restart ∷ h) up = contain_at h up
   contain_at (Mst cycle content ∷ h) up = kept_by (stands_in d rate cycle (mst_got content) (annals d rate h)) (calls_in (annals d rate h)) (blocks_in d (annals d rate h)) (contain_at h up)
-  contain_at (Mdt content ∷ h) up = kept_by (ends_in told past) (calls_after (processed_in d rate told past) (taken_in past) (calls_in past)) (blocks_after (processed_in d rate told past) (taken_in past) (blocks_in d past)) (by told (handed_those d rate h) (store_of_so d rate h up) (contain_at h up))
+  contain_at (Mdt content ∷ h) up = kept_by (ends_in told past) (calls_after (processed_in d rate told past) (taken_in past) (calls_in past)) (blocks_after (processed_in d rate told past) (taken_in past) (blocks_in d past)) (processed_keeps
+      (λ o. Contain (calls_after o (taken_in past) (calls_in past)) (blocks_after o (taken_in past) (blocks_in d past))) d rate told past
+      (contain_at h up) (λ t.
+      let one = taken_at d rate past t in
+      recorded (blocks_in d past) (calls_in past) (phase_in past) (added_on one (taken_in past)) (commands_in d rate past) (store_of_so d rate h up) (allowed one (taken_in past) (handed_those d rate h)) (are_set d rate h) (contain_at h up)))
     where
       past : List Moment
       past = annals d rate h
 
       told : Option Told
       told = mdt_got d.address (phase_in past) (blocks_in d past) content
-
-      by : (told : Option Told) → AreThose (blocks_in d past) (taken_in past) → IsOf d (blocks_in d past)
-          → Contain (calls_in past) (blocks_in d past)
-          → Contain (calls_after (processed_in d rate told past) (taken_in past) (calls_in past)) (blocks_after (processed_in d rate told past) (taken_in past) (blocks_in d past))
-      by None are is has = has
-      by (Some t) are is has = which (has_mst past && nat_le 2 (phase_in past))
-        where
-          one : Taken
-          one = taken_record (cycle_in past) (phase_in past) t.control t.info (blocks_in d past) (commands_in d rate past)
-
-          which : (b : Bool)
-              → Contain (calls_after (if b then Some one else None) (taken_in past) (calls_in past)) (blocks_after (if b then Some one else None) (taken_in past) (blocks_in d past))
-          which true = recorded (blocks_in d past) (calls_in past) (phase_in past) (added_on one (taken_in past)) (commands_in d rate past) is (allowed one (taken_in past) are) (are_set d rate h) has
-          which false = has
 
 pub lists_are_found : ListsAreFound
 lists_are_found d rate h none store = contain_at d rate none h store.ascending

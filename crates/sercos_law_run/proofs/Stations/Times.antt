@@ -1,8 +1,8 @@
 -- What an empty list of the check for phase 3 says of a store, in times and places.
-use Rattle.std.proofs.Common.{◌≡◌, ℕ, ◌+◌, ◌-◌, ◌%◌, ◌==◌, nat_lt, Bool, true, false, not, ◌||◌, List, [], refl, sym, arith}
+use Rattle.std.proofs.Common.{◌≡◌, ℕ, ◌+◌, ◌-◌, ◌%◌, ◌==◌, nat_lt, Bool, true, false, not, ◌||◌, List, [], refl, arith}
 use Rattle.std.specs.Prelude.{nat_le}
 use Rattle.std.specs.List.{list_all}
-use Rattle.std.proofs.lemmas.Bool.{false≢true}
+use Rattle.std.proofs.lemmas.Bool.{not-false}
 use Rattle.std.proofs.lemmas.Bool.Decides.{nat_tests}
 use Rattle.sercos_idn.specs.declared.idn.Idn.{Idn}
 use Rattle.sercos_timing.specs.Valid.{is_cycle}
@@ -14,10 +14,6 @@ use Rattle.sercos_law_run.specs.Stations.Fit.{EmptyKeepsTimes}
 unnamed : (raw : ℕ) (broken : Bool) (rest : List Idn) → named raw broken rest ≡ [] → (broken ≡ false) × (rest ≡ [])
 unnamed raw true rest e = cc
 unnamed raw false rest e = (refl, e)
-
-is_so : (b : Bool) → not b ≡ false → b ≡ true
-is_so true e = refl
-is_so false e = absurd (false≢true (sym e))
 
 pub empty_keeps_times : EmptyKeepsTimes
 unfolding unfit_for_phase_3 breaks_1 breaks_2 breaks_6 breaks_7 breaks_8 breaks_9 breaks_10 breaks_15 breaks_list breaks_89
@@ -36,10 +32,10 @@ empty_keeps_times rate blocks e =
     let (b89, _) = unnamed 89 (breaks_89 rate blocks) _ r24 in
     let (no_2, one) = either_none (n 2 == 0) ((n 1 == 0) || not (n 1 % n 2 == 0)) b1 in
     let (no_1, whole) = either_none (n 1 == 0) (not (n 1 % n 2 == 0)) one in
-    let multiple = is_so (n 1 % n 2 == 0) whole in
+    let multiple = not-false (n 1 % n 2 == 0) whole in
     let (no_8, inside) = either_none (n 8 == 0) (nat_lt (n 2) (n 8)) b8 in
     let (no_9, within) = either_none (n 9 == 0) (nat_lt (n 10) (n 9 + carried_len blocks 24 - 1)) b9 in
-    let seven = is_so (n 15 == 7) b15 in
+    let seven = not-false (n 15 == 7) b15 in
     let place : nat_le 1 (n 9) ≡ true = grind (arith, nat_tests, no_9) in
     let ends : nat_le (n 9 + carried_len blocks 24) (n 10 + 1) ≡ true = grind (arith, nat_tests, no_9, within) in
     record {
@@ -49,8 +45,8 @@ empty_keeps_times rate blocks e =
       feedback = grind (arith, nat_tests, b7);
       lies = rw (place, ends) refl;
       room = grind (arith, nat_tests, b10);
-      cycle = is_so (is_cycle (n 2)) b2;
+      cycle = not-false (is_cycle (n 2)) b2;
       control = (grind (arith, nat_tests, no_2), grind (arith, nat_tests, no_1), grind (arith, nat_tests, multiple));
       kind = grind (arith, nat_tests, seven);
-      numbers = (is_so (list_all (is_cyclic blocks) (idns_at blocks 16)) b16, is_so (list_all (is_cyclic blocks) (idns_at blocks 24)) b24);
+      numbers = (not-false (list_all (is_cyclic blocks) (idns_at blocks 16)) b16, not-false (list_all (is_cyclic blocks) (idns_at blocks 24)) b24);
     }

@@ -1,5 +1,6 @@
 -- What is small in a cycle: the number of unseen arrivals, and the lists of its plan.
 use Rattle.std.proofs.Common.{◌≡◌, ℕ, zero, suc, ◌+◌, ◌≤◌, Bool, true, false, if◌then◌else◌, List, [], ◌∷◌, length, slice_index, Option, Some, None, IfSome, Result, Ok, Err, refl, sym, ap, subst, ◌∙◌, arith}
+use Rattle.std.proofs.lemmas.Bool.{cond_both}
 use Rattle.std.specs.Option.{option_or}
 use Rattle.std.proofs.lemmas.List.{length-map}
 use Rattle.std.proofs.lemmas.List.FromFn.{length-map-range_with_len}
@@ -112,11 +113,8 @@ or_each r (Some plan) other each none = each
 
 -- what a restart adds is no plan
 restart_plan : (r : RingView) (jobs : List Job) (restarts : Restarts) (cycle : ℕ) (h : List Call) → (restart_events r jobs restarts cycle h).plan ≡ None
-restart_plan r jobs restarts cycle h = by (restarts cycle 0)
-  where
-    by : (b : Bool) → (if b then restart_told (known_of r) (looks_back r jobs h) no_events else no_events).plan ≡ None
-    by true = refl
-    by false = refl
+restart_plan r jobs restarts cycle h = cond_both (restarts cycle 0) (restart_told (known_of r) (looks_back r jobs h) no_events) no_events
+    (λ v. v.plan ≡ None) (λ on. refl) (λ off. refl)
 
 plan_each : (r : RingView) (jobs : List Job) (carry : Carry) (restarts : Restarts) (t : CycleView) (j : List CycleView)
     → ((s : Known) (requests : ℕ → List Task) (h : List Call) → IsPlanned s (past s requests h)) → IsNext r jobs carry restarts t j → HasEach r t.events.plan

@@ -1,5 +1,6 @@
 -- Counts, cycle by cycle.
-use Rattle.std.proofs.Common.{◌≡◌, ℕ, ◌+◌, ◌<◌, ◌≤◌, Bool, true, false, [], if◌then◌else◌, is_some, refl, arith}
+use Rattle.std.proofs.Common.{◌≡◌, ℕ, ◌+◌, ◌<◌, ◌≤◌, [], is_some, refl, arith}
+use Rattle.std.proofs.lemmas.Bool.{cond_both}
 use Rattle.sercos_trace.specs.Views.{CycleView}
 use Rattle.sercos_trace.specs.declared.record.Totals.{Totals}
 use Rattle.sercos_law_run.specs.Totals.Totals.{totals_of, falls_in}
@@ -31,11 +32,7 @@ few_next t m k f g falls = record {
 }
 
 fell_once : (m : CycleView) → falls_in m ≤ 1
-fell_once m = by (is_some m.events.fall)
-  where
-    by : (b : Bool) → (if b then 1 else 0) ≤ 1
-    by true = omega arith
-    by false = omega arith
+fell_once m = cond_both (is_some m.events.fall) 1 0 (λ (v : ℕ). v ≤ 1) (λ on. omega arith) (λ off. omega arith)
 
 pub few_more : (t : Totals) (m : CycleView) (n : ℕ) → AreFew t n → IsFew m → AreFew (with_cycle t m) (n + 1)
 few_more t m n f g = few_next t m n f g (fell_once m)

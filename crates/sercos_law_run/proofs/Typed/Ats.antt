@@ -3,7 +3,7 @@ use Rattle.std.proofs.Common.{inl, ◌≡◌, ℕ, suc, ◌+◌, ◌*◌, ◌%�
 use Rattle.std.specs.Prelude.{option_and_then}
 use Rattle.std.specs.List.{flat_map}
 use Rattle.std.proofs.lemmas.List.Concat.{flat_map-cons}
-use Rattle.std.proofs.lemmas.Bool.{and_parts}
+use Rattle.std.proofs.lemmas.Bool.{and_parts, cond_both, not-true}
 use Rattle.std.specs.Int.{to_le_bytes}
 use Rattle.sercos_model.specs.Bits.{AreBytes}
 use Rattle.sercos_model.proofs.BitLemmas.{AreBytes-append}
@@ -70,23 +70,19 @@ item_few List1 = omega arith
 item_few List2 = omega arith
 item_few List4 = omega arith
 
-not_true : (b : Bool) → not b ≡ true → b ≡ false
-not_true false is = refl
-not_true true is = cc
-
 data_long : (cycle : ℕ) (b : Block) → is_list b.attribute.length ≡ false → is_sound b ≡ true → length (data_in cycle b) ≤ 4
 unfolding data_in
-data_long cycle b single sound = by (b.step == 0)
-  where
-    by : (still : Bool) → length (if still then b.value else bytes_for b.attribute ((bits_in b.attribute b.value + b.step * cycle) % number_end b.attribute.length)) ≤ 4
-    by true = let same = value_len b single sound in let few = item_few b.attribute.length in omega (arith, same, few)
-    by false = number_long b.attribute.length _
+data_long cycle b single sound = cond_both (b.step == 0) b.value
+    (bytes_for b.attribute ((bits_in b.attribute b.value + b.step * cycle) % number_end b.attribute.length))
+    (λ v. length v ≤ 4)
+    (λ on. let same = value_len b single sound in let few = item_few b.attribute.length in omega (arith, same, few))
+    (λ off. number_long b.attribute.length _)
 
 block_value : (cycle : ℕ) (b : Block) → is_sound b ≡ true → AreBytes b.value → IsValue (unwrap_or (bytes_in_cycle cycle b) [])
 block_value cycle b sound are = by (is_number b.attribute) refl
   where
     by : (number : Bool) → is_number b.attribute ≡ number → IsValue (unwrap_or (if number then Some (data_in cycle b) else None) [])
-    by true is = record { are = data_bytes cycle b are; few = data_long cycle b (not_true _ (and_parts (not (is_list b.attribute.length)) (not b.attribute.command) is).0) sound }
+    by true is = record { are = data_bytes cycle b are; few = data_long cycle b (not-true _ (and_parts (not (is_list b.attribute.length)) (not b.attribute.command) is).0) sound }
     by false is = no_value
 
 value_so : (cycle : ℕ) (blocks : List Block) (idn : Idn) → IsStore blocks → IsValue (value_in cycle blocks idn)

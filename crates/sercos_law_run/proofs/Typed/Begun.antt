@@ -1,5 +1,6 @@
 -- Each request that the master begins is typed.
-use Rattle.std.proofs.Common.{◌≡◌, ℕ, zero, suc, ◌+◌, ◌*◌, ◌<◌, ◌≤◌, ◌==◌, Bool, true, false, ◌&&◌, List, [], ◌∷◌, ◌++◌, map, length, drop, Option, Some, None, IfSome, is_none, is_some, refl, sym, subst, arith, if◌then◌else◌}
+use Rattle.std.proofs.Common.{◌≡◌, ℕ, zero, suc, ◌+◌, ◌*◌, ◌<◌, ◌≤◌, ◌==◌, Bool, true, false, List, [], ◌∷◌, ◌++◌, map, length, drop, Option, Some, None, IfSome, refl, sym, subst, arith, if◌then◌else◌}
+use Rattle.std.proofs.lemmas.Bool.{cond_both}
 use Rattle.std.specs.Prelude.{slice_index, slice_get}
 use Rattle.std.proofs.lemmas.List.Elements.{All-head, All-tail}
 use Rattle.sercos_idn.specs.declared.idn.Idn.{Idn}
@@ -18,9 +19,10 @@ use Rattle.sercos_service_master.specs.Calls.{Hear, begun_by}
 use Rattle.sercos_service_master.specs.Calls as channel
 use Rattle.sercos_seat.specs.Ring.{Known, IsKnown, MemberView, Task, member, startup, request_task, tasks_from, tasks_for}
 use Rattle.sercos_seat.specs.Agenda.{after_reads, bytes_of, idn, declared_times, reads, reads_count, writes_word, writes_list, writes, ended_well, checking, agenda}
-use Rattle.sercos_seat.specs.Channel.{count_requests, of_phase}
-use Rattle.sercos_master.specs.Annals.{Call, HearMst, HearAt, Mdt, End, Restart, Past, IsPlanned, past, outcomes, is_idle, is_taken, after_taken, after_at_of, place_of, settled, has_turn, next_task, begins, with_begin, ready_to_send, is_sent_to, addressed_in, after_mdt, fall_of, next_phase, goes_on, new_epoch, still_waiting, hearing}
+use Rattle.sercos_seat.specs.Channel.{count_requests}
+use Rattle.sercos_master.specs.Annals.{Call, Mdt, Past, IsPlanned, past, outcomes, after_taken, settled, begins, with_begin, ready_to_send, is_sent_to, addressed_in, after_mdt, new_epoch, still_waiting}
 use Rattle.sercos_master.proofs.Followed.{settles}
+use Rattle.sercos_master.proofs.Keeping.{begins_next, channel_keeps, past_keeps}
 use Rattle.sercos_law_run.specs.Typed.Typed.{IsTypedRequest, AreTypedJobs}
 use Rattle.sercos_law_run.proofs.Typed.Words.{AreWords, bytes_of_words}
 use Rattle.sercos_law_run.proofs.Typed.Steps.{AreBegun}
@@ -168,42 +170,27 @@ answered a [] are = tt
 answered a (b ∷ past) are = are
 
 hears : (status : Status) (word : ℕ) (calls : List channel.Call) → AreBegun (begun_by calls) → AreBegun (begun_by (Hear status word ∷ calls))
-hears status word calls are = by (answers_it (begun_by calls) status)
-  where
-    by : (b : Bool) → AreBegun (if b then with_answer (answer_in status word) (begun_by calls) else begun_by calls)
-    by true = answered (answer_in status word) (begun_by calls) are
-    by false = are
+hears status word calls are = cond_both (answers_it (begun_by calls) status) (with_answer (answer_in status word) (begun_by calls))
+    (begun_by calls)
+    AreBegun (λ on. answered (answer_in status word) (begun_by calls) are) (λ off. are)
 
-at_so : (s : Known) (place : Option ℕ) (content : List ℕ) (p : Past) → IsTypedPast p → IsTypedPast (after_at_of s place content p)
-at_so s None content p are = are
-at_so s (Some i) content p are = by (is_taken s p i content)
-  where
-    one : (identifies : Bool) (k : ℕ) → AreBegun (begun_by (hearing identifies k content p).calls)
-    one true k = are.begun k
-    one false k = hears (status_of (word_at content 1)) (word_at content 3) (p.calls k) (are.begun k)
-
-    here : (k : ℕ) (same : Bool) → AreBegun (begun_by (if same then (hearing (p.now.phase == 1) i content p).calls else p.calls k))
-    here k true = one (p.now.phase == 1) i
-    here k false = are.begun k
-
-    by : (t : Bool) → IsTypedPast (if t then after_taken i content p else p)
-    by true = record { waiting = are.waiting; begun = λ k. here k (k == i) }
-    by false = are
+taken_so : (i : ℕ) (content : List ℕ) (p : Past) → IsTypedPast p → IsTypedPast (after_taken i content p)
+taken_so i content p are = record {
+  waiting = are.waiting;
+  begun = λ k. channel_keeps (λ calls. AreBegun (begun_by calls)) i k content p (are.begun k)
+      (λ same. hears (status_of (word_at content 1)) (word_at content 3) (p.calls k) (are.begun k));
+}
 
 begins_so : (s : Known) (q : Past) (k : ℕ) → IsTimed s → IsMember (member s k) → AreNumbers q.plan k → IsTypedPast q → AreBegun (begun_by (with_begin (begins s q k) (q.calls k)))
-begins_so s q k timed is numbers are = by (is_none q.stop && (is_idle q k && has_turn s q k))
+begins_so s q k timed is numbers are = by (begins s q k) refl
   where
-    one : (o : Option Task) → IfSome o (λ t. IsTypedRequest t.request) → AreBegun (begun_by (with_begin (of_phase q.now.phase o) (q.calls k)))
-    one None typed = are.begun k
-    one (Some t) typed = which (t.phase == q.now.phase)
-      where
-        which : (b : Bool) → AreBegun (begun_by (with_begin (if b then Some t else None) (q.calls k)))
-        which true = (typed, are.begun k)
-        which false = are.begun k
-
-    by : (b : Bool) → AreBegun (begun_by (with_begin (if b then of_phase q.now.phase (next_task s q k) else None) (q.calls k)))
-    by true = one (next_task s q k) (task_there (agenda s q.plan (q.waiting k) k (outcomes q k)) (length (outcomes q k)) (agenda_so s q.plan (q.waiting k) k (outcomes q k) timed is numbers (are.waiting k)))
-    by false = are.begun k
+    by : (o : Option Task) → begins s q k ≡ o → AreBegun (begun_by (with_begin o (q.calls k)))
+    by None some = are.begun k
+    by (Some t) some = (
+      subst (λ (o : Option Task). IfSome o (λ t. IsTypedRequest t.request)) (begins_next s q k t some).next
+          (task_there (agenda s q.plan (q.waiting k) k (outcomes q k)) (length (outcomes q k)) (agenda_so s q.plan (q.waiting k) k (outcomes q k) timed is numbers (are.waiting k))),
+      are.begun k,
+    )
 
 mdt_so : (s : Known) (p : Past) → IsTimed s → ((k : ℕ) → IsMember (member s k)) → ((k : ℕ) → AreNumbers (settled s p).plan k) → IsTypedPast p → IsTypedPast (after_mdt s p)
 mdt_so s p timed is numbers are = record { waiting = settles_so.waiting; begun = λ k. by k (is_sent_to (ready_to_send s p) (addressed_in s (ready_to_send s p)) k) }
@@ -229,14 +216,11 @@ new_so : (cycle : ℕ) (p : Past) → IsTypedPast p → IsTypedPast (new_epoch c
 new_so cycle p are = record { waiting = λ k. tasks_drop (count_requests (p.tasks k)) (p.waiting k) (are.waiting k); begun = λ k. tt }
 
 pub typed_past : (s : Known) → IsKnown s → IsTimed s → ((k : ℕ) → IsMember (member s k)) → (requests : ℕ → List Task) → ((h : List Call) → IsPlanned s (past s requests h)) → ((k : ℕ) → AreTasks (requests k)) → (h : List Call) → IsTypedPast (past s requests h)
-typed_past s known timed is requests planned are [] = record { waiting = are; begun = λ k. tt }
-typed_past s known timed is requests planned are (HearMst content ∷ h) = let before = typed_past s known timed is requests planned are h in record { waiting = before.waiting; begun = before.begun }
-typed_past s known timed is requests planned are (HearAt content ∷ h) = at_so s (place_of s (slice_index content 0)) content (past s requests h) (typed_past s known timed is requests planned are h)
-typed_past s known timed is requests planned are (Mdt ∷ h) =
-    mdt_so s (past s requests h) timed is (λ k. numbers_so s (past s requests (Mdt ∷ h)) k known (planned (Mdt ∷ h))) (typed_past s known timed is requests planned are h)
-typed_past s known timed is requests planned are (End ∷ h) = by (is_some (fall_of s (past s requests h))) (typed_past s known timed is requests planned are h)
-  where
-    by : (falls : Bool) → IsTypedPast (past s requests h) → IsTypedPast (if falls then new_epoch ((past s requests h).cycle + 1) (still_waiting (past s requests h)) else goes_on (next_phase s (past s requests h)) (past s requests h))
-    by true before = new_so ((past s requests h).cycle + 1) (past s requests h) before
-    by false before = record { waiting = before.waiting; begun = before.begun }
-typed_past s known timed is requests planned are (Restart ∷ h) = new_so (past s requests h).cycle (past s requests h) (typed_past s known timed is requests planned are h)
+typed_past s known timed is requests planned are = past_keeps IsTypedPast s requests (record {
+  first = record { waiting = are; begun = λ k. tt };
+  mst = λ h whole before. record { waiting = before.waiting; begun = before.begun };
+  taken = λ h k content inside is. taken_so k content (past s requests h);
+  mdt = λ h. mdt_so s (past s requests h) timed is (λ k. numbers_so s (past s requests (Mdt ∷ h)) k known (planned (Mdt ∷ h)));
+  on = λ h done is before. record { waiting = before.waiting; begun = before.begun };
+  new = λ h cycle. new_so cycle (past s requests h);
+})

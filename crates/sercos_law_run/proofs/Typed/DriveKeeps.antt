@@ -2,7 +2,7 @@
 use Rattle.std.proofs.Common.{◌≡◌, ℕ, zero, suc, ◌+◌, ◌<◌, ◌≤◌, ◌==◌, nat_le, Bool, true, false, ◌&&◌, List, [], ◌∷◌, ◌++◌, length, Option, Some, None, IfSome, is_none, slice_index_or, refl, sym, subst, arith, if◌then◌else◌}
 use Rattle.std.specs.Prelude.{option_and_then}
 use Rattle.std.specs.List.{list_all}
-use Rattle.std.proofs.lemmas.Bool.{leb-true, and_parts}
+use Rattle.std.proofs.lemmas.Bool.{and_parts, cond_both, leb-true}
 use Rattle.sercos_model.specs.Bits.{AreBytes}
 use Rattle.sercos_model.proofs.BitLemmas.{AreBytes-bytes_of}
 use Rattle.sercos_hdlc.specs.Reason.{reason_of, content_of, plain}
@@ -77,11 +77,7 @@ IsHeard content = IfSome content AreBytes
 
 read_bytes : (bits : List Bool) → IsHeard (content_in bits)
 unfolding content_in
-read_bytes bits = by (is_none (reason_of bits))
-  where
-    by : (read : Bool) → IsHeard (if read then Some (content_of (plain bits)) else None)
-    by true = AreBytes-bytes_of _
-    by false = tt
+read_bytes bits = cond_both (is_none (reason_of bits)) (Some (content_of (plain bits))) None IsHeard (λ on. AreBytes-bytes_of _) (λ off. tt)
 
 pub heard_bytes : (carry : Carry) (p : Passage) (content : List ℕ) → IsHeard (heard carry p content)
 heard_bytes carry p content = by (arrival carry p content)
@@ -121,11 +117,8 @@ told_there content place are = (control_element (word_at content place), read_wo
 
 single_told : (address : ℕ) (content : List ℕ) → AreBytes content → IsTold (single_in address content)
 unfolding single_in
-single_told address content are = by (is_none (single_fault address content))
-  where
-    by : (b : Bool) → IsTold (if b then Some (told_at content 1) else None)
-    by true = told_there content 1 are
-    by false = tt
+single_told address content are = cond_both (is_none (single_fault address content)) (Some (told_at content 1)) None
+    IsTold (λ on. told_there content 1 are) (λ off. tt)
 
 joint_told : (blocks : List Block) (content : List ℕ) → AreBytes content → IsTold (joint_in blocks content)
 unfolding joint_in
@@ -137,11 +130,8 @@ joint_told blocks content are = by (lies_within (number_at blocks 10) (number_at
 
 got_told : (address phase : ℕ) (blocks : List Block) (content : Option (List ℕ)) → IsHeard content → IsTold (mdt_got address phase blocks content)
 got_told address phase blocks None are = tt
-got_told address phase blocks (Some content) are = by (nat_le 3 phase)
-  where
-    by : (late : Bool) → IsTold (if late then joint_in blocks content else single_in address content)
-    by true = joint_told blocks content are
-    by false = single_told address content are
+got_told address phase blocks (Some content) are = cond_both (nat_le 3 phase) (joint_in blocks content) (single_in address content)
+    IsTold (λ on. joint_told blocks content are) (λ off. single_told address content are)
 
 -- WHAT IS KEPT after any calls
 -- each write that a record adds was allowed
@@ -149,11 +139,7 @@ abbrev pub AreAllowed : Type 0
 AreAllowed = (t : Taken) (h : List Taken) → AreThose t.blocks h → IfSome (added_on t h) (λ w. put_fault (find_block w.raw t.blocks) t.phase w.bytes ≡ None)
 
 phase_taken : (phase : ℕ) (h : List Taken) → AreTaken h → AreTaken (in_phase phase h)
-phase_taken phase h are = by (phase == 0)
-  where
-    by : (zero : Bool) → AreTaken (if zero then [] else h)
-    by true = tt
-    by false = are
+phase_taken phase h are = cond_both (phase == 0) [] h AreTaken (λ on. tt) (λ off. are)
 
 processed : (d : DriveView) (rate : ℕ) (told : Option Told) (past : List Moment) → IsTold told → IsStore (blocks_in d past) → IfSome (processed_in d rate told past) (λ t. IsTaken t × (t.blocks ≡ blocks_in d past))
 processed d rate None past is store = tt

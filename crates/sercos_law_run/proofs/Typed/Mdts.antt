@@ -1,55 +1,23 @@
 -- MST and MDT are whole: bytes, and no more than a telegram has.
-use Rattle.std.proofs.Common.{◌≡◌, inl, inr, ℕ, zero, suc, ◌+◌, ◌<◌, ◌≤◌, ◌==◌, Bool, true, false, List, [], ◌∷◌, length, Option, Some, None, is_some, slice_index_or, refl, sym, ◌∙◌, ap, subst, arith, if◌then◌else◌, length-append}
-use Rattle.std.specs.Prelude.{nat_le, slice_index, option_map}
+use Rattle.std.proofs.Common.{◌≡◌, ℕ, zero, suc, ◌+◌, ◌<◌, ◌≤◌, ◌==◌, Bool, true, false, List, [], ◌∷◌, length, Option, Some, None, is_some, slice_index_or, refl, sym, ◌∙◌, ap, subst, arith, if◌then◌else◌, length-append}
+use Rattle.std.specs.Prelude.{nat_le, option_map}
 use Rattle.std.specs.List.{All}
-use Rattle.std.proofs.lemmas.Bool.{cases_eq}
 use Rattle.std.proofs.lemmas.List.Elements.{All-head, All-tail}
 use Rattle.sercos_model.specs.Bits.{AreBytes}
 use Rattle.sercos_model.proofs.BitLemmas.{AreBytes-append, AreBytes-take}
 use Rattle.sercos_telegram.specs.Spells.{all_drives, mst_content}
 use Rattle.sercos_timing.specs.Views.{PlanView}
 use Rattle.sercos_service_master.specs.Begun.{Said}
-use Rattle.sercos_seat.specs.Ring.{Known, IsKnown, MemberView, Task, member, no_member}
+use Rattle.sercos_seat.specs.Ring.{Known, IsKnown, MemberView, member, no_member}
 use Rattle.sercos_seat.specs.Agenda.{len_or_none, mdt_attributes}
 use Rattle.sercos_seat.specs.Records.{word_said, value_said, values_said}
 use Rattle.sercos_seat.proofs.Sends.{fields_length}
-use Rattle.sercos_master.specs.Annals.{Call, HearMst, HearAt, Mdt, End, Restart, Past, IsPlanned, past, outcomes, is_taken, after_taken, after_at_of, place_of, is_done_in, fall_of, next_phase, goes_on, new_epoch, still_waiting}
+use Rattle.sercos_master.specs.Annals.{Past, IsPlanned, outcomes}
 use Rattle.sercos_master.specs.Kept.{seen_at, records_upto}
 use Rattle.sercos_master.specs.Says.{Sent, said_to, record_to, records_from, idle, single, joint, mdt_said}
-use Rattle.sercos_master.proofs.Configured.{leaves}
+pub use Rattle.sercos_master.proofs.Configured.{phase_low}
 use Rattle.sercos_master.proofs.Sent.{fits_planned}
 use Rattle.sercos_law_run.proofs.Typed.Ats.{IsContent, fields_bytes, address_bytes}
-
--- THE PHASE that is commanded is at most 4
-goes_low : (s : Known) (p : Past) (phase : ℕ) → phase ≤ 4 → (if is_done_in phase s p then phase + 1 else phase) ≤ 4
-goes_low s p phase low = elim (cases_eq phase 4) [
-  | inl e ↦ rw e (omega arith)
-  | inr other ↦ by other (is_done_in phase s p)
-]
-  where
-    by : (phase ≡ 4 → ⊥) → (b : Bool) → (if b then phase + 1 else phase) ≤ 4
-    by other true = omega (arith, low, other)
-    by other false = low
-
-at_phase : (s : Known) (place : Option ℕ) (content : List ℕ) (p : Past) → p.now.phase ≤ 4 → (after_at_of s place content p).now.phase ≤ 4
-at_phase s None content p low = low
-at_phase s (Some i) content p low = by (is_taken s p i content)
-  where
-    by : (b : Bool) → (if b then after_taken i content p else p).now.phase ≤ 4
-    by true = low
-    by false = low
-
-pub phase_low : (s : Known) (requests : ℕ → List Task) (h : List Call) → (past s requests h).now.phase ≤ 4
-phase_low s requests [] = omega arith
-phase_low s requests (HearMst content ∷ h) = phase_low s requests h
-phase_low s requests (HearAt content ∷ h) = at_phase s (place_of s (slice_index content 0)) content (past s requests h) (phase_low s requests h)
-phase_low s requests (Mdt ∷ h) = subst (λ (n : ℕ). n ≤ 4) (sym (leaves s (past s requests h)).phase) (phase_low s requests h)
-phase_low s requests (End ∷ h) = by (is_some (fall_of s (past s requests h))) (phase_low s requests h)
-  where
-    by : (falls : Bool) → (past s requests h).now.phase ≤ 4 → (if falls then new_epoch ((past s requests h).cycle + 1) (still_waiting (past s requests h)) else goes_on (next_phase s (past s requests h)) (past s requests h)).now.phase ≤ 4
-    by true low = omega arith
-    by false low = goes_low s (past s requests h) (past s requests h).now.phase low
-phase_low s requests (Restart ∷ h) = omega arith
 
 pub mst_whole : (phase : ℕ) → phase ≤ 4 → IsContent (mst_content phase)
 unfolding AreBytes

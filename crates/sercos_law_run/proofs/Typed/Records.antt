@@ -1,5 +1,6 @@
 -- The records that a drive took: their elements and words fit, and their blocks are a store. So what they write are bytes.
 use Rattle.std.proofs.Common.{ℕ, zero, suc, ◌<◌, ◌==◌, Bool, true, false, not, ◌&&◌, List, [], ◌∷◌, drop, take, Option, Some, None, IfSome, option_map, if◌then◌else◌}
+use Rattle.std.proofs.lemmas.Bool.{cond_both}
 use Rattle.std.specs.Prelude.{option_and_then, slice_index}
 use mathlib.Core.Bool.{beq}
 use Rattle.sercos_model.specs.Bits.{AreBytes}
@@ -57,11 +58,10 @@ words_drop (suc n) (word ∷ words) are = words_drop n words are.1
 
 bytes_so : (b : Block) (words : List ℕ) → AreWords words → AreBytes (bytes_written b words)
 unfolding bytes_written
-bytes_so b words are = by (is_list b.attribute.length)
-  where
-    by : (list : Bool) → AreBytes (if list then take (slice_index words 0) (bytes_in (drop 2 words)) else bytes_in words)
-    by true = AreBytes-take (slice_index words 0) (bytes_in (drop 2 words)) (bytes_of_words (drop 2 words) (words_drop 2 words are))
-    by false = bytes_of_words words are
+bytes_so b words are = cond_both (is_list b.attribute.length) (take (slice_index words 0) (bytes_in (drop 2 words))) (bytes_in words)
+    AreBytes
+    (λ on. AreBytes-take (slice_index words 0) (bytes_in (drop 2 words)) (bytes_of_words (drop 2 words) (words_drop 2 words are)))
+    (λ off. bytes_of_words words are)
 
 -- what a record adds are bytes
 pub added_bytes : (t : Taken) (h : List Taken) → t.step.word < 65536 → AreTaken h → IfSome (added_on t h) (λ w. AreBytes w.bytes)

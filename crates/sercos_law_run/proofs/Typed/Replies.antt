@@ -5,7 +5,7 @@ use Rattle.std.specs.Int.{w32, to_le_bytes}
 use Rattle.std.specs.Bool.{then_some}
 use Rattle.std.specs.Option.{option_or}
 use Rattle.std.specs.List.{list_all}
-use Rattle.std.proofs.lemmas.Bool.{and_parts}
+use Rattle.std.proofs.lemmas.Bool.{and_parts, cond_both}
 use Rattle.std.proofs.lemmas.Bool.Decides.{nat_tests}
 use Rattle.sercos_model.specs.Bits.{AreBytes}
 use Rattle.sercos_idn.specs.Attributes.{attribute_word}
@@ -92,11 +92,9 @@ number_bytes a n = by a.length
 
 pub data_bytes : (cycle : ℕ) (b : Block) → AreBytes b.value → AreBytes (data_in cycle b)
 unfolding data_in
-data_bytes cycle b are = by (b.step == 0)
-  where
-    by : (still : Bool) → AreBytes (if still then b.value else bytes_for b.attribute ((bits_in b.attribute b.value + b.step * cycle) % number_end b.attribute.length))
-    by true = are
-    by false = number_bytes b.attribute _
+data_bytes cycle b are = cond_both (b.step == 0) b.value
+    (bytes_for b.attribute ((bits_in b.attribute b.value + b.step * cycle) % number_end b.attribute.length))
+    AreBytes (λ on. are) (λ off. number_bytes b.attribute _)
 
 limit_words : (a : Attribute) (o : Option ℕ) → AreBytes (unwrap_or (option_map (bytes_for a) o) [])
 unfolding AreBytes
@@ -166,11 +164,8 @@ missing_so e None low = omega arith
 missing_so e (Some b) low = code_if (is_none (element_of b e)) (0x1000 * e + 1) (omega (arith, low))
 
 read_code : (raw : ℕ) (t : Taken) → IsTaken t → IsCode (read_cause raw t)
-read_code raw t is = by (t.step.element == 1)
-  where
-    by : (status : Bool) → IsCode (if status then None else read_fault (find_block raw t.blocks) t.step.element)
-    by true = tt
-    by false = missing_so t.step.element (find_block raw t.blocks) is.element
+read_code raw t is = cond_both (t.step.element == 1) None (read_fault (find_block raw t.blocks) t.step.element)
+    IsCode (λ on. tt) (λ off. missing_so t.step.element (find_block raw t.blocks) is.element)
 
 -- THE REPLY
 reply_so : (raw : ℕ) (t : Taken) (run : List Taken) → IsTaken t → AreTaken run → (reply_on raw t run).word < 65536

@@ -1,5 +1,5 @@
 -- What is said in the next cycle of a typed ring is spelled.
-use Rattle.std.proofs.Common.{◌≡◌, ℕ, ◌<◌, ◌+◌, ◌≤◌, Bool, true, List, length, None, refl, sym, ap, subst, arith}
+use Rattle.std.proofs.Common.{ℕ, ◌+◌, List, refl, sym, ap, subst, arith}
 use Rattle.sercos_hdlc.specs.Stuffed.{frame_of}
 use Rattle.sercos_drive.specs.Moments.{cycle_in, commands_in, taken_in}
 use Rattle.sercos_seat.specs.Ring.{Known, IsKnown, known_of, tasks_for}

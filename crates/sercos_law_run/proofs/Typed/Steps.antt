@@ -1,5 +1,6 @@
 -- The steps of a typed request fit into a record.
 use Rattle.std.proofs.Common.{ℕ, zero, suc, ◌+◌, ◌*◌, ◌<◌, ◌==◌, Bool, true, false, List, [], ◌∷◌, length, replicate, drop, None, arith, if◌then◌else◌}
+use Rattle.std.proofs.lemmas.Bool.{cond_both}
 use Rattle.std.specs.Prelude.{slice_get, is_some}
 use Rattle.sercos_model.specs.Bits.{AreBytes}
 use Rattle.sercos_step.specs.declared.step.Step.{Step}
@@ -93,8 +94,7 @@ AreBegun (b ∷ past) = IsTypedRequest b.request × AreBegun past
 
 pub says : (past : List Begun) → AreBegun past → IsSayable (master_says past)
 says [] are = (omega arith, omega arith)
-says (b ∷ past) are = by (is_some (outcome_of b.request b.answers))
-  where
-    by : (ended : Bool) → IsStep (step_or_none (if ended then None else next_step b.request b.answers))
-    by true = (omega arith, omega arith)
-    by false = step_there (steps_of b.request (answer_words b.answers)) (length (answer_words b.answers)) (all_steps b.request (answer_words b.answers) are.0)
+says (b ∷ past) are = cond_both (is_some (outcome_of b.request b.answers)) None (next_step b.request b.answers)
+    (λ v. IsStep (step_or_none v))
+    (λ on. (omega arith, omega arith))
+    (λ off. step_there (steps_of b.request (answer_words b.answers)) (length (answer_words b.answers)) (all_steps b.request (answer_words b.answers) are.0))

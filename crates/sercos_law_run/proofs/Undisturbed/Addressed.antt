@@ -1,7 +1,7 @@
 -- To which drive an MDT is, and that the drive gets of it what it is told.
 use Rattle.std.proofs.Common.{◌≡◌, inl, inr, ℕ, zero, suc, ◌+◌, ◌<◌, ◌≤◌, Bool, true, false, not, ◌&&◌, ◌||◌, List, [], ◌∷◌, length, Option, Some, None, refl, sym, ◌∙◌, ap, arith, if◌then◌else◌}
 use Rattle.std.specs.Prelude.{◌==◌, nat_le, is_some, is_none, option_map}
-use Rattle.std.proofs.lemmas.Bool.{cases_eq, and_from, eqb-true, false≢true, cond-true, cond-false}
+use Rattle.std.proofs.lemmas.Bool.{and_from, cases_eq, cond-false, cond-true, eqb-true, false≢true, not-true}
 use Rattle.std.proofs.lemmas.Bool.Decides.{nat_tests}
 use Rattle.sercos_timing.specs.Views.{PlanView}
 use Rattle.sercos_block.specs.declared.block.Block.{Block}
@@ -64,10 +64,6 @@ place_so k (Some i) is = ap (λ (n : ℕ). Some n) (sym (eqb-true k i is))
 pub place_some : (k : ℕ) (o : Option ℕ) → o ≡ Some k → is_place k o ≡ true
 place_some k o is = let same : (k == k) ≡ true = grind (arith, nat_tests) in ap (is_place k) is ∙ same
 
-not_true : (a : Bool) → not a ≡ true → a ≡ false
-not_true false is = refl
-not_true true is = cc
-
 -- PHASE 2. Sending changes nothing of what a channel has begun.
 idle_same : (s : Known) (p : Past) (k : ℕ) → is_idle (after_mdt s p) k ≡ is_idle (ready_to_send s p) k
 idle_same s p k = by (is_sent_to (ready_to_send s p) (addressed_in s (ready_to_send s p)) k) ((ready_to_send s p).calls k)
@@ -86,7 +82,7 @@ addressed_open s p k below turns two opens =
     let q = ready_to_send s p in
     let one = finds 0 (length s.drives) k (λ i. not (is_idle q i)) (omega arith) (omega (arith, below)) (ap (λ (b : Bool). not b) (sym (idle_same s p k) ∙ opens)) in
     let high = one.below in
-    let other : is_idle (after_mdt s p) one.place ≡ false = idle_same s p one.place ∙ not_true (is_idle q one.place) one.passes in
+    let other : is_idle (after_mdt s p) one.place ≡ false = idle_same s p one.place ∙ not-true (is_idle q one.place) one.passes in
     let here : in_turn s (after_mdt s p) ≡ Some k = turns k below two opens in
     let there : in_turn s (after_mdt s p) ≡ Some one.place = turns one.place (omega (arith, high)) two other in
     addressed_two s q two ∙ one.found ∙ sym there ∙ here

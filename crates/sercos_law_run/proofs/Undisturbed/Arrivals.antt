@@ -1,7 +1,7 @@
 -- In an undisturbed cycle each telegram arrives as it was sent.
-use Rattle.std.proofs.Common.{◌≡◌, inl, inr, ℕ, zero, suc, ◌+◌, ◌<◌, Bool, true, false, not, ◌||◌, List, [], ◌∷◌, length, Option, Some, None, refl, ◌∙◌, ap, arith}
+use Rattle.std.proofs.Common.{◌≡◌, inl, inr, ℕ, zero, suc, ◌+◌, ◌<◌, Bool, true, false, not, List, [], ◌∷◌, length, Option, Some, None, refl, ◌∙◌, ap, arith}
 use Rattle.std.specs.Prelude.{slice_index, option_and_then}
-use Rattle.std.proofs.lemmas.Bool.{cases_eq}
+use Rattle.std.proofs.lemmas.Bool.{cases_eq, or_parts}
 use Rattle.sercos_hdlc.specs.Stuffed.{frame_of}
 use Rattle.sercos_telegram.specs.declared.layout.Kind.TheVariants as kinds
 use Rattle.sercos_block.specs.Views.{DriveView, RingView}
@@ -16,10 +16,6 @@ use Rattle.sercos_law_run.specs.Journal.Runs.{station_of, contents, disturbs_mst
 use Rattle.sercos_law_run.proofs.Journal.ClearLemmas.{same_bits}
 use Rattle.sercos_law_run.proofs.Views.Members.{AreSaid}
 use Rattle.sercos_law_run.specs.Views.Spelled.{IsSaid, IsWhole}
-
-or_parts : (a b : Bool) → (a || b) ≡ false → (a ≡ false) × (b ≡ false)
-or_parts true b none = cc
-or_parts false b none = (refl, none)
 
 pub not_false : (a : Bool) → not a ≡ false → a ≡ true
 not_false true is = refl

@@ -1,21 +1,21 @@
 -- What a block of a drive keeps through a run: it is so at opening, and each accepted write and each list of a check leaves it so.
 use Rattle.std.proofs.Common.{◌≡◌, ℕ, Bool, true, false, not, ◌&&◌, List, [], ◌∷◌, Option, Some, None, refl, sym, ap, ◌∙◌, subst, arith, if◌then◌else◌}
-use Rattle.std.specs.Prelude.{◌==◌, nat_le, is_none, IfSome, cond}
+use Rattle.std.specs.Prelude.{◌==◌, is_none, IfSome, cond}
 use Rattle.std.proofs.lemmas.Bool.Decides.{nat_tests}
 use Rattle.sercos_block.specs.Stores.{find_block, with_data, store_of, put_fault, are_ascending}
 use Rattle.sercos_block.specs.Views.{DriveView}
 use Rattle.sercos_block.specs.declared.block.Block.{Block}
 use Rattle.sercos_command.specs.Checks.{unfit_for_phase_3, unfit_for_phase_4, list_bytes}
 use Rattle.sercos_command.specs.Settings.{CommandsView, find_set, is_command, with_lists}
-use Rattle.sercos_service_drive.specs.Log.{Taken, taken_record}
-use Rattle.sercos_service_drive.specs.Writes.{Write, AreThose, added_on, setting_in, blocks_with}
-use Rattle.sercos_drive.specs.declared.hearing.Told.{Told}
+use Rattle.sercos_service_drive.specs.Writes.{Write, added_on, setting_in, blocks_with}
 use Rattle.sercos_drive.specs.Heard.{DriveCall, Mst, Mdt, Restart, mdt_got}
-use Rattle.sercos_drive.specs.Moments.{phase_in, cycle_in, has_mst, taken_in, blocks_in, blocks_after, commands_in}
-use Rattle.sercos_drive.specs.Annals.{annals, processed_in}
+use Rattle.sercos_drive.specs.Moments.{phase_in, taken_in, blocks_in, blocks_after, commands_in}
+use Rattle.sercos_drive.specs.Annals.{annals}
 use Rattle.sercos_law_run.specs.Start.StartUp.{IsStoreOf}
 use Rattle.sercos_law_run.proofs.Start.KeptLemmas.{writes_keep}
-use Rattle.sercos_law_run.proofs.Held.StoreOf.{IsOf, store_of_so}
+use Rattle.std.proofs.lemmas.Option.{same_Some}
+use Rattle.sercos_law_run.proofs.Held.Processed.{processed_keeps, taken_at}
+use Rattle.sercos_law_run.proofs.Held.StoreOf.{store_of_so}
 use Rattle.sercos_law_run.proofs.Cited.{handed_those}
 use Rattle.sercos_service_drive.proofs.AllowedWrites.{allowed}
 
@@ -29,9 +29,6 @@ written_at n raw bytes such [] to_it is c found = absurd (cc)
 written_at n raw bytes such (b ∷ blocks) to_it is c found =
     by (b.idn.raw == raw) (b.idn.raw == n) refl refl (λ other. written_at n raw bytes such blocks (λ same c found. to_it same c (found_first false other ∙ found)) (λ c found. is c (found_first false other ∙ found))) c found
   where
-    is_it : (x c : Block) → Some x ≡ Some c → x ≡ c
-    is_it x c e = cc
-
     unfolded : (x y : Bool) → (b.idn.raw == raw) ≡ x → (b.idn.raw == n) ≡ y
         → find_block n (with_data raw bytes (b ∷ blocks)) ≡ cond y (Some (if x then record b { value = bytes } else b)) (find_block n (with_data raw bytes blocks))
     unfolded true y of_raw of_n = rw of_raw (ap (λ (v : Bool). cond v (Some (record b { value = bytes })) (find_block n (with_data raw bytes blocks))) of_n)
@@ -43,8 +40,8 @@ written_at n raw bytes such (b ∷ blocks) to_it is c found =
     by : (x y : Bool) → (b.idn.raw == raw) ≡ x → (b.idn.raw == n) ≡ y → ((b.idn.raw == n) ≡ false → IsAt n such (with_data raw bytes blocks)) → (c : Block) → find_block n (with_data raw bytes (b ∷ blocks)) ≡ Some c → such c
     by true true of_raw of_n rest c found =
         let number : raw ≡ n = grind (arith, nat_tests, of_raw, of_n) in
-        subst such (is_it (record b { value = bytes }) c (sym (unfolded true true of_raw of_n) ∙ found)) (to_it number b (found_first true of_n))
-    by false true of_raw of_n rest c found = subst such (is_it b c (sym (unfolded false true of_raw of_n) ∙ found)) (is b (found_first true of_n))
+        subst such (same_Some (record b { value = bytes }) c (sym (unfolded true true of_raw of_n) ∙ found)) (to_it number b (found_first true of_n))
+    by false true of_raw of_n rest c found = subst such (same_Some b c (sym (unfolded false true of_raw of_n) ∙ found)) (is b (found_first true of_n))
     by true false of_raw of_n rest c found = rest of_n c (sym (unfolded true false of_raw of_n) ∙ found)
     by false false of_raw of_n rest c found = rest of_n c (sym (unfolded false false of_raw of_n) ∙ found)
 
@@ -83,17 +80,11 @@ module _ (d : DriveView) (n : ℕ) (such : Block → Type 0) (stays : Stays d n 
   stays_at rate (Mst cycle content ∷ h) ascending = stays_at rate h ascending
   stays_at rate (Restart ∷ h) ascending = stays_at rate h ascending
   stays_at rate (Mdt content ∷ h) ascending =
-      by (mdt_got d.address (phase_in (annals d rate h)) (blocks_in d (annals d rate h)) content) (handed_those d rate h) (store_of_so d rate h ascending) (stays_at rate h ascending)
-    where
-      by : (told : Option Told) → AreThose (blocks_in d (annals d rate h)) (taken_in (annals d rate h)) → IsOf d (blocks_in d (annals d rate h)) → IsAt n such (blocks_in d (annals d rate h))
-          → IsAt n such (blocks_after (processed_in d rate told (annals d rate h)) (taken_in (annals d rate h)) (blocks_in d (annals d rate h)))
-      by None are before is = is
-      by (Some t) are before is = which (has_mst (annals d rate h) && nat_le 2 (phase_in (annals d rate h)))
-        where
-          one : Taken
-          one = taken_record (cycle_in (annals d rate h)) (phase_in (annals d rate h)) t.control t.info (blocks_in d (annals d rate h)) (commands_in d rate (annals d rate h))
-
-          which : (b : Bool) → IsAt n such (blocks_after (if b then Some (taken_record (cycle_in (annals d rate h)) (phase_in (annals d rate h)) t.control t.info (blocks_in d (annals d rate h)) (commands_in d rate (annals d rate h))) else None)
-              (taken_in (annals d rate h)) (blocks_in d (annals d rate h)))
-          which true = next (blocks_in d (annals d rate h)) (added_on one (taken_in (annals d rate h))) (commands_in d rate (annals d rate h)) (phase_in (annals d rate h)) before.1 before.0 (allowed one (taken_in (annals d rate h)) are) is
-          which false = is
+      let past = annals d rate h in
+      let before = store_of_so d rate h ascending in
+      let is = stays_at rate h ascending in
+      processed_keeps (λ o. IsAt n such (blocks_after o (taken_in past) (blocks_in d past))) d rate
+      (mdt_got d.address (phase_in past) (blocks_in d past) content) past is (λ t.
+      let one = taken_at d rate past t in
+      next (blocks_in d past) (added_on one (taken_in past)) (commands_in d rate past) (phase_in past) before.1 before.0
+      (allowed one (taken_in past) (handed_those d rate h)) is)

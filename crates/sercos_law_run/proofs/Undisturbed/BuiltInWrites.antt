@@ -1,5 +1,6 @@
 -- As long as phase 4 was never commanded, built-in blocks alone were written.
 use Rattle.std.proofs.Common.{◌≡◌, ℕ, zero, suc, ◌<◌, ◌≤◌, Bool, true, false, List, [], ◌∷◌, ◌++◌, length, map, drop, Option, Some, None, refl, sym, ap, ◌∙◌, subst, arith, if◌then◌else◌}
+use Rattle.std.proofs.lemmas.Option.{same_Some}
 use Rattle.std.specs.Prelude.{◌==◌, slice_get}
 use Rattle.sercos_step.specs.declared.request.Job.{Job}
 use Rattle.sercos_step.specs.declared.request.Request.{Request}
@@ -107,16 +108,10 @@ AllBuiltIn (n ∷ numbers) = (is_built_in n ≡ true) × AllBuiltIn numbers
 start_built : (i raw : ℕ) → slice_get start_numbers i ≡ Some raw → is_built_in raw ≡ true
 start_built i raw got = by start_numbers i (refl, (refl, (refl, (refl, (refl, (refl, (refl, (refl, (refl, (refl, (refl, tt))))))))))) got
   where
-    number_is : {x y : ℕ} → Some x ≡ Some y → x ≡ y
-    number_is e = cc
-
     by : (numbers : List ℕ) (i : ℕ) → AllBuiltIn numbers → slice_get numbers i ≡ Some raw → is_built_in raw ≡ true
     by [] i all got = absurd (cc)
-    by (n ∷ numbers) zero all got = ap is_built_in (sym (number_is got)) ∙ all.0
+    by (n ∷ numbers) zero all got = ap is_built_in (sym (same_Some _ _ got)) ∙ all.0
     by (n ∷ numbers) (suc i) all got = by numbers i all.1 got
-
-same_some : (x y : Request) → Some x ≡ Some y → x ≡ y
-same_some x y e = cc
 
 task_built : (s : Known) (k : ℕ) (by_then : Option PlanView) (waiting : List Task) (outs : List Outcome) (t : Task) → AreWaiting waiting → t.phase ≤ 3 → IsTask s k by_then waiting outs t → is_built t.request ≡ true
 task_built s k by_then waiting outs t wait early (OfReads r less got is) = ap (λ (x : Task). is_built x.request) is ∙ by (is_read_request (member s k) (length outs) r got)
@@ -126,7 +121,7 @@ task_built s k by_then waiting outs t wait early (OfReads r less got is) = ap (�
     by (Attribute i same) = ap is_built same
 task_built s k by_then waiting outs t wait early (OfWrites p i r has less at got is) =
     let (named, bytes, there, number) = writes_data s p k i less in
-    ap (λ (x : Task). is_built x.request) is ∙ ap is_built (same_some r (request.Write named 7 bytes) (sym got ∙ there)) ∙ start_built i named.raw number
+    ap (λ (x : Task). is_built x.request) is ∙ ap is_built (same_Some r (request.Write named 7 bytes) (sym got ∙ there)) ∙ start_built i named.raw number
 task_built s k by_then waiting outs t wait early (Checks3 p has at is) = ap (λ (x : Task). is_built x.request) is
 task_built s k by_then waiting outs t wait early (Lists3 at failed is) = ap (λ (x : Task). is_built x.request) is
 task_built s k by_then waiting outs t wait early (Checks4 at well is) = ap (λ (x : Task). is_built x.request) is

@@ -1,5 +1,6 @@
 -- A procedure command that is set when an MDT comes was set at the end of the cycle before, and runs for the drive's time.
 use Rattle.std.proofs.Common.{◌≡◌, ℕ, Bool, true, false, List, [], ◌∷◌, Option, Some, None, refl, ap, ◌∙◌, subst, if◌then◌else◌}
+use Rattle.std.proofs.lemmas.Bool.{cond_both}
 use Rattle.std.specs.Prelude.{◌==◌}
 use Rattle.sercos_block.specs.declared.block.Block.{Block}
 use Rattle.sercos_block.specs.Stores.{with_data}
@@ -19,11 +20,9 @@ none_some o x is some = cc
 time_written : (o : Option Write) (blocks : List Block) (c : CommandsView) → (commands_with o blocks c).time ≡ c.time
 unfolding with_write
 time_written None blocks c = refl
-time_written (Some w) blocks c = by (is_command blocks w.raw)
-  where
-    by : (is : Bool) → (if is then with_write w.raw (setting_in w) w.cycle (with_data w.raw w.bytes blocks) c else without_checks c).time ≡ c.time
-    by true = refl
-    by false = refl
+time_written (Some w) blocks c = cond_both (is_command blocks w.raw)
+    (with_write w.raw (setting_in w) w.cycle (with_data w.raw w.bytes blocks) c) (without_checks c)
+    (λ v. v.time ≡ c.time) (λ on. refl) (λ off. refl)
 
 time_reset : (is : Bool) (c : CommandsView) → (if is then without_settings c else c).time ≡ c.time
 time_reset true c = refl

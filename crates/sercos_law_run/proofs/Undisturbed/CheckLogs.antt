@@ -1,7 +1,7 @@
 -- In a log that ends with a complete check, whose status was 3, the check counts as passed. Each list has its newest item first.
 use Rattle.std.proofs.Common.{◌≡◌, ℕ, ◌+◌, ◌≤◌, Bool, true, false, not, List, [], ◌∷◌, ◌++◌, map, refl, sym, ap, ◌∙◌, subst, arith, if◌then◌else◌}
 use Rattle.std.specs.Prelude.{◌==◌, nat_le, Option, Some, None, is_some}
-use Rattle.std.proofs.lemmas.Bool.{and_parts, not-true, eq-eqb, leb-true}
+use Rattle.std.proofs.lemmas.Bool.{and_parts, cond_both, eq-eqb, leb-true, not-true}
 use Rattle.sercos_block.specs.declared.block.Block.{Block}
 use Rattle.sercos_block.specs.Stores.{with_data}
 use Rattle.sercos_command.specs.declared.commands.SetCommand.{SetCommand}
@@ -43,11 +43,8 @@ set_last raw (x ∷ set) s none same = by (x.idn.raw == raw) none (λ n. set_las
     by false none more = more none
 
 unset_with : (raw : ℕ) (set : List SetCommand) (s : SetCommand) → find_set raw set ≡ None → (s.idn.raw == raw) ≡ false → find_set raw (with_set s set) ≡ None
-unset_with raw set s none other = by (is_some (find_set s.idn.raw set))
-  where
-    by : (v : Bool) → find_set raw (if v then set else set ++ s ∷ []) ≡ None
-    by true = none
-    by false = unset_last raw set s none other
+unset_with raw set s none other = cond_both (is_some (find_set s.idn.raw set)) set (set ++ s ∷ [])
+    (λ v. find_set raw v ≡ None) (λ on. none) (λ off. unset_last raw set s none other)
 
 set_with : (raw : ℕ) (set : List SetCommand) (s : SetCommand) → find_set raw set ≡ None → s.idn.raw ≡ raw → find_set raw (with_set s set) ≡ Some s
 set_with raw set s none same =

@@ -1,7 +1,7 @@
 -- What arrives in an undisturbed cycle is what was sent.
-use Rattle.std.proofs.Common.{◌≡◌, inl, inr, ℕ, zero, suc, ◌+◌, ◌<◌, ◌≤◌, ◌||◌, Bool, true, false, not, List, [], ◌∷◌, length, Option, Some, None, refl, sym, subst, arith}
+use Rattle.std.proofs.Common.{◌≡◌, inl, inr, ℕ, zero, suc, ◌+◌, ◌<◌, ◌≤◌, ◌||◌, Bool, true, false, List, [], ◌∷◌, length, Option, Some, None, refl, sym, subst, arith}
 use Rattle.std.specs.Prelude.{◌==◌, slice_index, option_and_then}
-use Rattle.std.proofs.lemmas.Bool.{cases_eq, false≢true}
+use Rattle.std.proofs.lemmas.Bool.{cases_eq, false≢true, not-false}
 use Rattle.std.proofs.lemmas.Bool.Decides.{nat_tests}
 use Rattle.sercos_hdlc.specs.Stuffed.{frame_of}
 use Rattle.sercos_telegram.specs.declared.layout.Kind.TheVariants as kinds
@@ -56,17 +56,13 @@ calm_in r carry restarts t j is =
       mdt = none_below (length r.drives) (disturbs_mdt carry (length j) (mdt_in t.sent)) mdt;
     }
 
-not_true : (b : Bool) → not b ≡ false → b ≡ true
-not_true true e = refl
-not_true false e = cc
-
 -- a telegram
 pub comes : (carry : Carry) (p : Passage) (content : List ℕ) → IsWhole content → disturbed_at carry p content ≡ false → heard carry p content ≡ Some content
 comes carry p content whole calm = by (arrival carry p content) calm
   where
     by : (o : Option (List Bool)) → is_disturbed (frame_of content) o ≡ false → option_and_then content_in o ≡ Some content
     by None off = absurd (false≢true (sym off))
-    by (Some came) on = rw (same_bits came (frame_of content) (not_true _ on)) whole
+    by (Some came) on = rw (same_bits came (frame_of content) (not-false _ on)) whole
 
 -- one of the ATs
 pub calm_at : (r : RingView) (carry : Carry) (cycle : ℕ) (at : List ℕ) (ats : List (List ℕ)) → IsAmong at ats → disturbs_ats r carry cycle ats ≡ false → disturbed_at carry (passage cycle kinds.At (station_of r (slice_index at 0)) 0) at ≡ false

@@ -1,6 +1,6 @@
 -- The procedure commands of a drive stand for the calls on them, through all cycles of a run. So what is kept of a check tells whether it
 -- counts as passed.
-use Rattle.std.proofs.Common.{◌≡◌, ℕ, suc, ◌+◌, ◌≤◌, ◌==◌, nat_le, Bool, true, false, ◌&&◌, List, [], ◌∷◌, length, Option, Some, None, refl, ◌∙◌, arith, ap, sym, if◌then◌else◌}
+use Rattle.std.proofs.Common.{◌≡◌, ℕ, suc, ◌+◌, ◌≤◌, ◌==◌, Bool, true, false, List, [], ◌∷◌, length, Option, Some, None, refl, ◌∙◌, arith, ap, sym, if◌then◌else◌}
 use Rattle.std.specs.Prelude.{IfSome}
 use Rattle.std.proofs.lemmas.Bool.{le-leb}
 use mathlib.Core.Bool.{beq}
@@ -10,12 +10,13 @@ use Rattle.sercos_block.specs.Views.{DriveView, RingView}
 use Rattle.sercos_command.specs.Settings.{CommandsView, is_command, is_from, with_write, without_checks, without_settings}
 use Rattle.sercos_command.specs.Calls.{Call, Wrote, Other, Reset, newest}
 use Rattle.sercos_command.specs.Kept.{CommandsStandFor}
-use Rattle.sercos_service_drive.specs.Log.{Taken, ahs, taken_record}
+use Rattle.sercos_service_drive.specs.Log.{Taken, ahs}
 use Rattle.sercos_service_drive.specs.Replies.{reply_of, log_of}
 use Rattle.sercos_service_drive.specs.Writes.{Write, setting_in, added_by, adds, added_on, commands_with, calls_with}
 use Rattle.sercos_drive.specs.declared.hearing.Told.{Told}
 use Rattle.sercos_drive.specs.Heard.{DriveCall, mdt_got}
-use Rattle.sercos_drive.specs.Moments.{Moment, phase_in, cycle_in, has_mst, taken_in, blocks_in, commands_after, calls_after, reset_in, commands_in, with_reset, calls_in}
+use Rattle.sercos_drive.specs.Moments.{Moment, phase_in, cycle_in, taken_in, blocks_in, commands_after, calls_after, reset_in, commands_in, with_reset, calls_in}
+use Rattle.sercos_law_run.proofs.Held.Processed.{processed_keeps, taken_at}
 use Rattle.sercos_drive.specs.Annals.{annals, has_passed, processed_in, ends_in}
 use Rattle.sercos_trace.specs.Views.{CycleView}
 use Rattle.sercos_script.specs.Links.{Carry, Restarts}
@@ -69,19 +70,15 @@ Keeps d rate past cycle = StandBy (commands_in d rate past) rate d.command (call
 
 keeps_record : (d : DriveView) (rate : ℕ) (told : Option Told) (past : List Moment) (cycle : ℕ) → cycle_in past ≡ cycle → Keeps d rate past cycle
     → StandBy (commands_after (processed_in d rate told past) (taken_in past) (commands_in d rate past)) rate d.command (calls_after (processed_in d rate told past) (taken_in past) (calls_in past)) cycle
-keeps_record d rate None past cycle now s = s
-keeps_record d rate (Some told) past cycle now s = by (has_mst past && nat_le 2 (phase_in past))
+keeps_record d rate told past cycle now s = processed_keeps
+    (λ o. StandBy (commands_after o (taken_in past) (commands_in d rate past)) rate d.command
+    (calls_after o (taken_in past) (calls_in past)) cycle) d rate told past s (λ t.
+    let one = taken_at d rate past t in
+    with_one (added_on one (taken_in past)) (blocks_in d past) (commands_in d rate past) rate d.command (calls_in past) cycle (at (added_on one (taken_in past)) (record_cycle one (taken_in past))) s)
   where
-    t : Taken
-    t = taken_record (cycle_in past) (phase_in past) told.control told.info (blocks_in d past) (commands_in d rate past)
-
     at : (o : Option Write) → IfSome o (λ w. w.cycle ≡ cycle_in past) → IfSome o (λ w. w.cycle ≡ cycle)
     at None is = tt
     at (Some w) is = is ∙ now
-
-    by : (v : Bool) → StandBy (commands_after (if v then Some t else None) (taken_in past) (commands_in d rate past)) rate d.command (calls_after (if v then Some t else None) (taken_in past) (calls_in past)) cycle
-    by true = with_one (added_on t (taken_in past)) (blocks_in d past) (commands_in d rate past) rate d.command (calls_in past) cycle (at (added_on t (taken_in past)) (record_cycle t (taken_in past))) s
-    by false = s
 
 keeps_restart : (d : DriveView) (rate : ℕ) (restarts : Bool) (calls : List DriveCall) (cycle : ℕ) → Keeps d rate (annals d rate calls) cycle → Keeps d rate (annals d rate (with_restart restarts calls)) cycle
 keeps_restart d rate true calls cycle s = record { stand = stands_reset refl rate d.command (calls_in (annals d rate calls)) s.stand; order = s.order }

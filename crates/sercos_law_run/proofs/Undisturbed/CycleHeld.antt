@@ -1,5 +1,6 @@
 -- In phases 3 and 4 the cycle time lies within the limits of each drive, and a plan fits what the ring asks.
 use Rattle.std.proofs.Common.{◌≡◌, ◌⊎◌, inl, inr, ℕ, ◌+◌, ◌*◌, ◌/◌, ◌%◌, ◌<◌, ◌≤◌, Bool, true, false, List, [], ◌∷◌, length, Option, Some, None, refl, sym, ap, ◌∙◌, subst, arith, if◌then◌else◌}
+use Rattle.std.proofs.lemmas.Option.{same_Some}
 use Rattle.std.specs.Prelude.{nat_lt, unwrap_or, option_map}
 use Rattle.std.specs.Bool.{then_some}
 use Rattle.std.specs.Int.{w16, to_le_bytes}
@@ -81,14 +82,11 @@ writable_stays d rules = record {
 }
 
 -- neither of the codes for what is fixed or protected is one for a limit
-one_code : (a b : ℕ) → Some a ≡ Some b → a ≡ b
-one_code a b e = cc
-
 within_limits : (fixed protected low high : Bool) → option_or {T = ℕ} (option_or {T = ℕ} (then_some fixed 0x7004) (then_some protected 0x7005)) None ≡ (if low then Some 0x7006 else (if high then Some 0x7007 else None)) → (low ≡ false) × (high ≡ false)
-within_limits true protected true high is = let same : 0x7004 ≡ 0x7006 = one_code 0x7004 0x7006 is in absurd (omega (arith, same))
-within_limits true protected false true is = let same : 0x7004 ≡ 0x7007 = one_code 0x7004 0x7007 is in absurd (omega (arith, same))
-within_limits false true true high is = let same : 0x7005 ≡ 0x7006 = one_code 0x7005 0x7006 is in absurd (omega (arith, same))
-within_limits false true false true is = let same : 0x7005 ≡ 0x7007 = one_code 0x7005 0x7007 is in absurd (omega (arith, same))
+within_limits true protected true high is = let same : 0x7004 ≡ 0x7006 = same_Some 0x7004 0x7006 is in absurd (omega (arith, same))
+within_limits true protected false true is = let same : 0x7004 ≡ 0x7007 = same_Some 0x7004 0x7007 is in absurd (omega (arith, same))
+within_limits false true true high is = let same : 0x7005 ≡ 0x7006 = same_Some 0x7005 0x7006 is in absurd (omega (arith, same))
+within_limits false true false true is = let same : 0x7005 ≡ 0x7007 = same_Some 0x7005 0x7007 is in absurd (omega (arith, same))
 within_limits false false true high is = absurd (cc)
 within_limits false false false true is = absurd (cc)
 within_limits fixed protected false false is = (refl, refl)

@@ -1,33 +1,32 @@
 -- In phase 2, where a drive's writes have begun, the check for phase 3 of each drive before it in the ring has ended well.
-use Rattle.std.proofs.Common.{◌≡◌, inl, inr, ℕ, zero, suc, ◌+◌, ◌<◌, ◌≤◌, Bool, true, false, not, ◌&&◌, List, [], ◌∷◌, length, Option, Some, None, refl, sym, ap, ◌∙◌, subst, arith, if◌then◌else◌}
-use Rattle.std.specs.Prelude.{◌==◌, nat_le, is_none, is_some}
+use Rattle.std.proofs.Common.{◌≡◌, inl, inr, ℕ, ◌+◌, ◌<◌, ◌≤◌, Bool, true, false, not, List, [], ◌∷◌, length, Option, Some, None, refl, sym, ap, ◌∙◌, subst, arith, if◌then◌else◌}
 use Rattle.std.specs.Option.{option_or}
-use Rattle.std.proofs.lemmas.Bool.{and_parts, cases_eq, cases_lt, false≢true, or_cases, leb-true, le-leb}
+use Rattle.std.proofs.lemmas.Bool.{cases_lt, false≢true, le-leb}
 use Rattle.sercos_telegram.specs.declared.words.Status.{Status}
+use Rattle.sercos_telegram.specs.Words.{status_of}
+use Rattle.sercos_telegram.specs.Spells.{word_at}
 use Rattle.sercos_step.specs.declared.request.Request.{Request}
 use Rattle.sercos_step.specs.declared.request.Outcome.{Outcome}
 use Rattle.sercos_service_master.specs.Begun.{Begun, answers_it, answer_in, with_answer}
 use Rattle.sercos_service_master.specs.Calls.{begun_by}
 use Rattle.sercos_service_master.specs.Calls as channel
 use Rattle.sercos_seat.specs.Agenda.{reads_count, is_read, is_checked, ended_well}
-use Rattle.sercos_seat.specs.Channel.{is_place, of_phase, outcomes_in, with_outcome}
+use Rattle.sercos_seat.specs.Channel.{outcomes_in, with_outcome}
 use Rattle.sercos_seat.specs.Ring.{Known, MemberView, Task, member}
 use Rattle.sercos_seat.specs.Seats.{AreWaiting}
 use Rattle.sercos_seat.proofs.Agendas.{ended_there}
 use Rattle.sercos_seat.proofs.Seats.{before_end}
-use Rattle.sercos_master.specs.Annals.{Call, HearMst, HearAt, Mdt, End, Restart, Past, outcomes, first_from, first_place, is_idle, after_taken, settled, in_turn, has_turn, next_task, begins, fall_of, is_done, goes_on, new_epoch, still_waiting, past}
+use Rattle.sercos_master.specs.Annals.{Call, Mdt, Past, outcomes, first_from, first_place, after_taken, settled, in_turn, begins, past}
 use Rattle.sercos_master.proofs.Configured.{mdt_adds, leaves}
+use Rattle.sercos_master.proofs.Keeping.{begins_next, channel_keeps, first_found, going, past_keeps}
 use Rattle.sercos_master.proofs.Planned.{at_adds}
 use Rattle.sercos_law_channel.specs.Handshake.Epochs.{with_begun}
 use Rattle.sercos_law_channel.specs.Handshake.Moves.{with_status}
 use Rattle.sercos_law_run.specs.Agenda.Tasks.{AreBegunTasks}
-use Rattle.sercos_law_run.proofs.Agenda.OneTurn.{AtHears, SameAt, HeardAt, elsewhere_same, here_hears}
 use Rattle.sercos_law_run.specs.Views.RingViews.{request_of}
 use Rattle.sercos_law_run.proofs.Undisturbed.Arrivals.{not_false}
 use Rattle.sercos_law_run.proofs.Undisturbed.StaysUp.{found_passes}
-use Rattle.sercos_law_run.proofs.Undisturbed.Addressed.{place_so}
 use Rattle.sercos_law_run.proofs.Views.MasterSame.{begun_so, turn_mdt}
-use Rattle.sercos_law_run.proofs.Undisturbed.AfterAt.{after_at_so}
 use Rattle.sercos_law_run.proofs.Undisturbed.Small.{some_is}
 use Rattle.sercos_law_run.proofs.Cited.{begins_none, begins_tasks}
 
@@ -47,40 +46,16 @@ same_count status word begun = by (answers_it begun status) begun
 
 -- an AT leaves the number of requests of each channel
 pub at_leaves_count : (i : ℕ) (content : List ℕ) (p : Past) (k : ℕ) → length (begun_by ((after_taken i content p).calls k)) ≡ length (begun_by (p.calls k))
-at_leaves_count i content p k = elim (cases_eq k i) [
-  | inl same ↦ subst (λ (n : ℕ). length (begun_by ((after_taken i content p).calls n)) ≡ length (begun_by (p.calls n))) (sym same) (heard (here_hears i content p))
-  | inr other ↦ ap (λ (l : List Begun). length l) (elsewhere_same i k content p other)
-]
-  where
-    heard : AtHears p (after_taken i content p) i → length (begun_by ((after_taken i content p).calls i)) ≡ length (begun_by (p.calls i))
-    heard (SameAt same) = ap (λ (l : List Begun). length l) same
-    heard (HeardAt status word same) = ap (λ (l : List Begun). length l) same ∙ same_count status word (begun_by (p.calls i))
+at_leaves_count i content p k = channel_keeps (λ calls. length (begun_by calls) ≡ length (begun_by (p.calls k))) i k content p refl
+    (λ same. same_count (status_of (word_at content 1)) (word_at content 3) (begun_by (p.calls k)))
 
 -- up to phase 2 a request begins only where its drive has its turn
 pub begins_in_turn : (s : Known) (p : Past) (k : ℕ) (t : Task) → p.now.phase ≤ 2 → begins s p k ≡ Some t → in_turn s p ≡ Some k
-begins_in_turn s p k t low some = by (is_none p.stop && (is_idle p k && has_turn s p k)) refl some
-  where
-    by : (v : Bool) → (is_none p.stop && (is_idle p k && has_turn s p k)) ≡ v → (if v then of_phase p.now.phase (next_task s p k) else None) ≡ Some t → in_turn s p ≡ Some k
-    by false off got = absurd (cc)
-    by true on got =
-        let rest = (and_parts (is_none p.stop) _ on).1 in
-        let has = (and_parts (is_idle p k) _ rest).1 in
-        elim (or_cases (nat_le 3 p.now.phase) ((p.now.phase == 2) && is_place k (in_turn s p)) has) [
-          | inl late ↦ let three = leb-true 3 p.now.phase late in absurd (omega (arith, three, low))
-          | inr same ↦ place_so k (in_turn s p) (and_parts (p.now.phase == 2) _ same).1
-        ]
+begins_in_turn s p k t low some = let next = begins_next s p k t some in let late = next.late in next.turn (omega (arith, low, late))
 
 -- THE FIRST PLACE: those before it fail the test.
 pub before_first : (k n : ℕ) (test : ℕ → Bool) (i : ℕ) → first_from k n test ≡ Some i → (j : ℕ) → k ≤ j → j < i → test j ≡ false
-before_first k zero test i found j from low = absurd (cc)
-before_first k (suc n) test i found j from low = by (test k) refl found (λ rest more. before_first (k + 1) n test i rest j more low)
-  where
-    by : (b : Bool) → test k ≡ b → (if b then Some k else first_from (k + 1) n test) ≡ Some i → (first_from (k + 1) n test ≡ Some i → k + 1 ≤ j → test j ≡ false) → test j ≡ false
-    by true here is next = let same = some_is k i is in absurd (omega (arith, same, from, low))
-    by false here is next = elim (cases_eq j k) [
-      | inl same ↦ ap test same ∙ here
-      | inr other ↦ next is (omega (arith, from, other))
-    ]
+before_first k n test i found = (first_found k n i test found).before
 
 -- a drive that has been read and has its turn comes after drives that are checked
 turn_after : (s : Known) (p : Past) (k : ℕ) → in_turn s p ≡ Some k → is_read (member s k) (outcomes p k) ≡ true → (j : ℕ) → j < k → is_checked (member s j) (outcomes p j) ≡ true
@@ -151,19 +126,17 @@ module _ (s : Known) (requests : ℕ → List Task) (waits : (j : ℕ) → AreWa
           turn = begins_in_turn s (settled s (past s requests h)) k t (let same = (leaves s (past s requests h)).phase in let is_two = before in omega (arith, same, is_two)) some
 
   -- THE END OF A CYCLE
-  end_order : (h : List Call) → AreInOrder (past s requests h) → AreInOrder (past s requests (End ∷ h))
-  end_order h have = by (is_some (fall_of s (past s requests h))) (is_done s (past s requests h))
-    where
-      by : (fell done : Bool) → AreInOrder (if fell then new_epoch ((past s requests h).cycle + 1) (still_waiting (past s requests h)) else goes_on (if done then (past s requests h).now.phase + 1 else (past s requests h).now.phase) (past s requests h))
-      by true done two k there more j low = absurd (omega (arith, two))
-      by false false two k there more j low = have two k there more j low
-      by false true two k there more j low =
-          let none = ap (λ (l : List Begun). length l) (begins_none s requests h k waits there (omega (arith, two))) in absurd (omega (arith, none, more))
+  goes_order : (h : List Call) (done : Bool) → AreInOrder (past s requests h) → AreInOrder (going done (past s requests h))
+  goes_order h false have two k there more j low = have two k there more j low
+  goes_order h true have two k there more j low =
+      let none = ap (λ (l : List Begun). length l) (begins_none s requests h k waits there (omega (arith, two))) in absurd (omega (arith, none, more))
 
   pub in_order : (h : List Call) → AreInOrder (past s requests h)
-  in_order [] = λ two k there more j low. absurd (omega (arith, two))
-  in_order (HearMst content ∷ h) = in_order h
-  in_order (HearAt content ∷ h) = after_at_so AreInOrder s content (past s requests h) (in_order h) (λ i. taken_order i content (past s requests h) (in_order h))
-  in_order (Mdt ∷ h) = mdt_order h (in_order h)
-  in_order (End ∷ h) = end_order h (in_order h)
-  in_order (Restart ∷ h) = λ two k there more j low. absurd (omega (arith, two))
+  in_order = past_keeps AreInOrder s requests (record {
+    first = λ two k there more j low. absurd (omega (arith, two));
+    mst = λ h whole have. have;
+    taken = λ h i content inside is. taken_order i content (past s requests h);
+    mdt = mdt_order;
+    on = λ h done is. goes_order h done;
+    new = λ h cycle have two k there more j low. absurd (omega (arith, two));
+  })

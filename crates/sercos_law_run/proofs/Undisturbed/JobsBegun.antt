@@ -1,7 +1,7 @@
 -- In each cycle up to phase 3 the requests that were begun have the places of a start-up's; and if all reads have ended and there is no
 -- stop, the master has made the plan.
 use Rattle.std.proofs.Common.{◌≡◌, ℕ, ◌+◌, ◌<◌, ◌≤◌, true, false, List, [], ◌∷◌, ◌++◌, length, Option, Some, None, sym, ap, ◌∙◌, subst, arith, append_assoc, if◌then◌else◌}
-use Rattle.std.specs.Prelude.{◌==◌, nat_le, is_none, is_some, slice_get}
+use Rattle.std.specs.Prelude.{◌==◌, nat_le, is_some, slice_get}
 use Rattle.std.proofs.lemmas.Bool.{le-leb}
 use Rattle.sercos_idn.specs.declared.idn.Idn.{Idn}
 use Rattle.sercos_step.specs.declared.request.Job.{Job}
@@ -19,12 +19,13 @@ use Rattle.sercos_service_master.specs.Begun.{Begun}
 use Rattle.sercos_service_master.specs.Calls.{begun_by}
 use Rattle.sercos_trace.specs.Views.{CycleView}
 use Rattle.sercos_trace.specs.declared.events.Fall.{Fall}
-use Rattle.sercos_trace.specs.declared.events.Stop.{Stop}
 use Rattle.sercos_seat.specs.Agenda.{reads, reads_count, wishes_given}
 use Rattle.sercos_seat.specs.Ring.{MemberView, known_of, member, member_of, tasks_for}
 use Rattle.sercos_seat.proofs.Agendas.{reads_length}
-use Rattle.sercos_master.specs.Annals.{Past, outcomes, all_read, first_trouble, with_stop, fall_of}
+use Rattle.sercos_master.specs.Annals.{Past, outcomes, all_read, fall_of}
 use Rattle.sercos_master.proofs.Laws.{jobs_waiting}
+use Rattle.sercos_master.proofs.Configured.{mdt_adds}
+use Rattle.sercos_master.proofs.Followed.{no_stop_before}
 use Rattle.sercos_script.specs.Links.{Carry, Restarts}
 use Rattle.sercos_law_channel.specs.Handshake.Epochs.{epoch_begun, begun_in}
 use Rattle.sercos_law_channel.specs.Handshake.Views.{View}
@@ -47,7 +48,7 @@ use Rattle.sercos_law_run.proofs.Headline.HeadlineRuns.{all_stand, first_store, 
 use Rattle.sercos_law_run.proofs.Headline.WellRuns.{AllWell, all_well}
 use Rattle.sercos_law_run.specs.Undisturbed.Jobs.{jobs_of, AreAt}
 use Rattle.sercos_law_run.proofs.Undisturbed.JobPlaces.{Give3, begun_at, few_in_two, reading}
-use Rattle.sercos_law_run.proofs.Undisturbed.PlanMade.{looked_adds, no_stop_looked, plan_made, read_same}
+use Rattle.sercos_law_run.proofs.Undisturbed.PlanMade.{plan_made, read_same}
 use Rattle.sercos_law_run.proofs.Undisturbed.Small.{some_is}
 use Rattle.sercos_law_run.proofs.Settings.NoCheck127.{next_still, stays}
 use Rattle.std.proofs.lemmas.Option.{slice_get_within}
@@ -91,7 +92,7 @@ module _ (r : RingView) (jobs : List Job) (carry : Carry) (restarts : Restarts) 
         checks_give_3 (drive_at r k).busy (store_of (drive_at r k))
         (stays (view_of r jobs carry restarts k t j) ∷ views_of r jobs carry restarts k j)
         (stands.sees.run.0, next_still (drive_at r k).busy (view_of r jobs carry restarts k t j) (views_of r jobs carry restarts k j) stands.sees.run.1)
-        stands.sound set.set.follow set.well set.commands newer older b bytes split asks whole
+        stands.sound set.follow set.well set.commands newer older b bytes split asks whole
 
     pub tasks_then : (k : ℕ) → k < length r.drives → AreBegunTasks (known_of r) k now.plan (now.waiting k) now.now.phase (begun_of k) (now.tasks k)
     tasks_then k below = subst (λ (l : List Begun). AreBegunTasks (known_of r) k now.plan (now.waiting k) now.now.phase l (now.tasks k)) (begun_then k below) (begins_tasks (known_of r) (tasks_for (known_of r) jobs) (middle r carry restarts t.sent j) k (inside k below))
@@ -183,9 +184,9 @@ module _ (r : RingView) (jobs : List Job) (carry : Carry) (restarts : Restarts) 
     pub complete_now : now.stop ≡ None → all_read (known_of r) now ≡ true → AreComplete
     complete_now none read k there n early =
         let q = behind_ats r jobs carry restarts t.sent j in
-        let adds = looked_adds (known_of r) q in
+        let adds = mdt_adds (known_of r) q in
         let looked = complete (known_of r) q (λ i low. begins_tasks (known_of r) (tasks_for (known_of r) jobs) (at_calls r carry (length j) (ats_in t.sent) (own_mst carry (length j) (mst_in t.sent) (begin_calls restarts (length j) (master_calls r carry restarts j)))) i low)
-        (sym (read_same (known_of r) now (with_stop (first_trouble (known_of r) q) q) adds) ∙ read) (ap (λ (o : Option Stop). is_none o) (no_stop_looked (known_of r) q none)) k there n early in
+        (sym (read_same (known_of r) now q adds) ∙ read) (no_stop_before (known_of r) q none) k there n early in
         (looked.0, ap (λ (l : List Outcome). slice_get l n) (adds k) ∙ looked.1)
 
     pub planned_now : now.now.phase ≡ 2 → now.stop ≡ None → all_read (known_of r) now ≡ true → is_some now.plan ≡ true

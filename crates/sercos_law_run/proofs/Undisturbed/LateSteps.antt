@@ -1,5 +1,6 @@
 -- The newest step of a request that is begun in phase 3 or later was accepted in such a phase.
 use Rattle.std.proofs.Common.{◌≡◌, inl, inr, ℕ, ◌+◌, ◌<◌, ◌≤◌, Bool, true, false, List, [], ◌∷◌, length, Option, Some, None, refl, sym, ap, ◌∙◌, subst, arith, if◌then◌else◌, length-append}
+use Rattle.std.proofs.lemmas.Option.{none-some}
 use Rattle.std.specs.Prelude.{is_some}
 use Rattle.std.proofs.lemmas.Bool.{cases_lt}
 use mathlib.Core.Bool.{beq}
@@ -68,9 +69,6 @@ heard_head (Some a) begun one older is = by (answers_it begun a.status) begun is
     by true [] is = absurd (nothing_there one older is)
     by true (b ∷ rest) is = record { first = b; split = ap (λ (l : List Begun). b ∷ l) (first_is _ one rest older is).1 }
 
-none_open : (s : Step) → None ≡ Some s → ⊥
-none_open s e = cc
-
 -- the drive has accepted no more steps than were begun
 few_accepted : (begun : List Begun) (log : List Entry) → AreInStep begun log → length log ≤ length (steps_in begun)
 few_accepted begun log (Idle none steps answers) = let same = ap (λ (l : List Step). length l) steps in let all = length-steps_of log in omega (arith, same, all)
@@ -90,8 +88,8 @@ older_fewer one older log rest e (Idle none steps answers) ended some is =
     let parts = length-append (steps_begun one.request one.answers) (steps_in older) in
     let all = length-steps_of log in
     let long = ap (λ (l : List Entry). length l) is in omega (arith, same, parts, all, long, some)
-older_fewer one older log rest e (Sent s open_is steps answers) ended some is = absurd (none_open s (sym ended ∙ open_is))
-older_fewer one older log rest e (Kept x before open_is split steps answers) ended some is = absurd (none_open x.taken.step (sym ended ∙ open_is))
+older_fewer one older log rest e (Sent s open_is steps answers) ended some is = absurd (none-some s (sym ended ∙ open_is))
+older_fewer one older log rest e (Kept x before open_is split steps answers) ended some is = absurd (none-some x.taken.step (sym ended ∙ open_is))
 
 -- The newest accepted step is one of the newest request, if the log is longer than the steps of the others. Then it was accepted in this
 -- phase or a later one, if n requests or more came before it.

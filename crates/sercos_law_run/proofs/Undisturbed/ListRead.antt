@@ -1,6 +1,7 @@
 -- A complete read of block 22 comes after a complete check for phase 4: so it finds what is so of the blocks since the check was set. Each
 -- list has its newest item first.
 use Rattle.std.proofs.Common.{◌≡◌, inl, inr, ℕ, ◌^◌, ◌<◌, Bool, true, false, not, List, [], ◌∷◌, ◌++◌, length, Some, None, refl, sym, ap, ap₂, ◌∙◌, subst, arith, if◌then◌else◌, append_assoc}
+use Rattle.std.proofs.lemmas.Bool.{cond_both}
 use Rattle.std.specs.Prelude.{◌==◌, is_some}
 use Rattle.sercos_idn.specs.Codes.{is_list}
 use Rattle.sercos_step.specs.declared.request.Request.{Request}
@@ -81,11 +82,8 @@ stored_at d (x ∷ front) e rest have = stored_at d front e rest have.0
 -- WHAT IS READ is the operation data, if that has no step.
 pub data_read : (cycle : ℕ) (b : Block) → data_in cycle b ≡ b.value → element_in 7 cycle b ≡ b.value
 unfolding element_of
-data_read cycle b still = by (not (is_list b.attribute.length))
-  where
-    by : (v : Bool) → (if v then data_in cycle b else b.value) ≡ b.value
-    by true = still
-    by false = refl
+data_read cycle b still = cond_both (not (is_list b.attribute.length)) (data_in cycle b) b.value
+    (λ v. v ≡ b.value) (λ on. still) (λ off. refl)
 
 -- A read found a block with these bytes in a store of the drive of which this is so.
 pub record IsListRead (d : DriveView) (such : List Block → Type 0) (bytes : List ℕ) : Type 0 where

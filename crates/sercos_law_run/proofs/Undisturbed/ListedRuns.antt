@@ -181,9 +181,9 @@ module _ (r : RingView) (jobs : List Job) (carry : Carry) (restarts : Restarts) 
 
   says_list : (t : CycleView) (j : List CycleView) → IsRun r jobs carry restarts (t ∷ j) → IsClear (t ∷ j) → Say (λ s. HasList (own_bytes (drive_at r k)) (view_of r jobs carry restarts k t j).blocks) (view_of r jobs carry restarts k t j).commands
   says_list t [] run clear = λ s found.
-      let empty = keeps_settings (view_of r jobs carry restarts k t []) [] (wells r jobs carry restarts opened (t ∷ []) run clear k below).set.follow in
+      let empty = keeps_settings (view_of r jobs carry restarts k t []) [] (wells r jobs carry restarts opened (t ∷ []) run clear k below).follow in
       absurd (none_some s (sym (ap (find_set 128) empty) ∙ found))
-  says_list t (u ∷ j) run clear = by (says_list u j run.0 clear.0) (keeps_settings (view_of r jobs carry restarts k t (u ∷ j)) (views_of r jobs carry restarts k (u ∷ j)) (wells r jobs carry restarts opened (t ∷ u ∷ j) run clear k below).set.follow)
+  says_list t (u ∷ j) run clear = by (says_list u j run.0 clear.0) (keeps_settings (view_of r jobs carry restarts k t (u ∷ j)) (views_of r jobs carry restarts k (u ∷ j)) (wells r jobs carry restarts opened (t ∷ u ∷ j) run clear k below).follow)
     where
       v : View
       v = view_of r jobs carry restarts k t (u ∷ j)
@@ -225,7 +225,7 @@ module _ (r : RingView) (jobs : List Job) (carry : Carry) (restarts : Restarts) 
       read : IsListRead (drive_at r k) (HasList (own_bytes (drive_at r k))) bytes
       read = list_read (drive_at r k).busy (drive_at r k) (HasList (own_bytes (drive_at r k))) views
           (stands.sees.run.0, next_still (drive_at r k).busy (view_of r jobs carry restarts k t j) (views_of r jobs carry restarts k j) stands.sees.run.1)
-          stands.sound stands.stored (wells r jobs carry restarts opened (t ∷ j) run clear k below).set.follow
+          stands.sound stands.stored (wells r jobs carry restarts opened (t ∷ j) run clear k below).follow
           (have_commands (drive_at r k) views rules stands.stored)
           (have_since (HasList (own_bytes (drive_at r k))) views (kept_so (t ∷ j) run clear)) (list_4 (drive_at r k))
           (found_list (drive_at r k) rules) factor newer older b c bytes status split asks complete sets_it ended

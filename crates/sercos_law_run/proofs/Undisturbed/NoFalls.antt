@@ -1,50 +1,21 @@
 -- Where the ring doesn't fall at the end of a cycle.
-use Rattle.std.proofs.Common.{◌≡◌, ℕ, zero, suc, ◌+◌, ◌<◌, ◌≤◌, Bool, true, false, not, ◌&&◌, List, [], ◌∷◌, length, Option, Some, None, Result, Ok, Err, refl, sym, ◌∙◌, ap, arith, if◌then◌else◌}
-use Rattle.std.specs.Prelude.{◌==◌, nat_le, is_some}
+use Rattle.std.proofs.Common.{◌≡◌, ℕ, ◌+◌, ◌<◌, ◌≤◌, Bool, true, false, not, ◌&&◌, List, [], ◌∷◌, length, Option, Some, None, refl, sym, ◌∙◌, ap, arith, if◌then◌else◌}
+use Rattle.std.specs.Prelude.{◌==◌, nat_le}
 use Rattle.std.specs.Option.{option_or}
 use Rattle.std.proofs.lemmas.Bool.{false≢true}
 use Rattle.std.proofs.lemmas.Bool.Decides.{nat_tests}
 use Rattle.sercos_service_master.specs.Calls.{cycles_open}
-use Rattle.sercos_timing.specs.Order.{record_bytes}
-use Rattle.sercos_timing.specs.Views.{PlanView}
-use Rattle.sercos_plan.specs.Views.{ChainView}
-use Rattle.sercos_plan.specs.ChainOf.{planned}
-use Rattle.sercos_trace.specs.declared.events.Stop.{Stop}
-use Rattle.sercos_trace.specs.declared.events.Stop.TheVariants as stop
 use Rattle.sercos_trace.specs.declared.events.Fall.TheVariants as fall
-use Rattle.sercos_seat.specs.Agenda.{wishes_given, last_long_stop}
 use Rattle.sercos_seat.specs.Channel.{is_place}
 use Rattle.sercos_seat.specs.Ring.{Known, Task}
-use Rattle.sercos_master.specs.Annals.{Past, Turn, Call, HearMst, HearAt, Mdt, End, Restart, past, outcomes, first_from, first_place, with_stop, with_plan, planned_by, with_due_plan, is_plan_due, first_trouble, after_mdt, has_lost_mst, has_lost_at, count_addressed, is_at_limit, fall_at, fall_of, is_done, next_phase, goes_on, new_epoch, still_waiting, after_end}
-use Rattle.sercos_law_run.proofs.Views.MasterSame.{SameTurn, turn_mdt}
-use Rattle.sercos_law_run.proofs.Undisturbed.AfterAt.{after_at_so}
+use Rattle.sercos_master.specs.Annals.{Past, Turn, Call, past, first_from, first_place, after_mdt, has_lost_mst, has_lost_at, count_addressed, is_at_limit, fall_at, fall_of}
+use Rattle.sercos_master.proofs.Configured.{leaves}
+use Rattle.sercos_master.proofs.Keeping.{past_keeps}
+use Rattle.sercos_master.proofs.Rings.{none_from as none_first}
 
 -- WHAT WAS HEARD stays when the answers are looked at and the MDT goes.
-heard_stop : (x : Option Stop) (p : Past) → (with_stop x p).now.heard ≡ p.now.heard
-heard_stop None p = refl
-heard_stop (Some x) p = by (is_some p.stop)
-  where
-    by : (t : Bool) → (if t then p else record p { now = record p.now { stops = true }; stop = Some x }).now.heard ≡ p.now.heard
-    by true = refl
-    by false = refl
-
-heard_plan : (r : Result PlanView ChainView) (p : Past) → (with_plan r p).now.heard ≡ p.now.heard
-heard_plan (Ok plan) p = refl
-heard_plan (Err chain) p = heard_stop (Some (stop.NoFit chain)) p
-
-heard_due : (s : Known) (p : Past) → (with_due_plan s p).now.heard ≡ p.now.heard
-heard_due s p = by (is_plan_due s p)
-  where
-    made : (fits : Bool) → (if fits then with_plan (planned (wishes_given s (outcomes p))) p else with_stop (last_long_stop s.drives 0 (outcomes p)) p).now.heard ≡ p.now.heard
-    made true = heard_plan (planned (wishes_given s (outcomes p))) p
-    made false = heard_stop (last_long_stop s.drives 0 (outcomes p)) p
-
-    by : (t : Bool) → (if t then planned_by s p else p).now.heard ≡ p.now.heard
-    by true = made (nat_le (record_bytes (wishes_given s (outcomes p)).drives) 2047)
-    by false = refl
-
 pub heard_mdt : (s : Known) (p : Past) → (after_mdt s p).now.heard ≡ p.now.heard
-heard_mdt s p = heard_due s (with_stop (first_trouble s p) p) ∙ heard_stop (first_trouble s p) p
+heard_mdt s p = (leaves s p).heard
 
 -- THE PHASE never goes down within an epoch.
 abbrev pub IsNoLower : ℕ → List Turn → Type 0
@@ -57,33 +28,24 @@ HasRisen p = IsNoLower p.now.phase p.turns
 no_lower : (phase now : ℕ) (turns before : List Turn) → now ≡ phase → turns ≡ before → IsNoLower phase before → IsNoLower now turns
 no_lower phase now turns before is are risen = rw (is, are) risen
 
-risen_end : (s : Known) (p : Past) → HasRisen (after_end s p)
-risen_end s p = by (is_some (fall_of s p))
-  where
-    least : (done : Bool) → p.now.phase ≤ (if done then p.now.phase + 1 else p.now.phase)
-    least true = omega arith
-    least false = omega arith
-
-    by : (falls : Bool) → HasRisen (if falls then new_epoch (p.cycle + 1) (still_waiting p) else goes_on (next_phase s p) p)
-    by true = tt
-    by false = least (is_done s p)
+no_less : (done : Bool) (n : ℕ) → n ≤ (if done then n + 1 else n)
+no_less true n = omega arith
+no_less false n = omega arith
 
 pub has_risen : (s : Known) (requests : ℕ → List Task) (h : List Call) → HasRisen (past s requests h)
-has_risen s requests [] = tt
-has_risen s requests (HearMst content ∷ h) = has_risen s requests h
-has_risen s requests (HearAt content ∷ h) = after_at_so HasRisen s content (past s requests h) (has_risen s requests h) (λ k. has_risen s requests h)
-has_risen s requests (Mdt ∷ h) =
-    let same : SameTurn (after_mdt s (past s requests h)) (past s requests h) = turn_mdt s (past s requests h) in
-    no_lower (past s requests h).now.phase (after_mdt s (past s requests h)).now.phase (after_mdt s (past s requests h)).turns (past s requests h).turns same.phase_is same.turns_are (has_risen s requests h)
-has_risen s requests (End ∷ h) = risen_end s (past s requests h)
-has_risen s requests (Restart ∷ h) = tt
+has_risen s requests = past_keeps HasRisen s requests (record {
+  first = tt;
+  mst = λ h whole risen. risen;
+  taken = λ h k content inside is risen. risen;
+  mdt = λ h risen. let p = past s requests h in let l = leaves s p in no_lower p.now.phase (after_mdt s p).now.phase
+      (after_mdt s p).turns p.turns l.phase l.turns risen;
+  on = λ h done is risen. no_less done (past s requests h).now.phase;
+  new = λ h cycle risen. tt;
+})
 
 -- NO PLACE passes a test that none passes.
 pub none_from : (k n : ℕ) (test : ℕ → Bool) → ((i : ℕ) → k ≤ i → i < k + n → test i ≡ false) → first_from k n test ≡ None
-none_from k zero test each = refl
-none_from k (suc n) test each =
-    let no : test k ≡ false = each k (omega arith) (omega arith) in
-    rw no (none_from (k + 1) n test (λ i low high. each i (omega (arith, low)) (omega (arith, high))))
+none_from k n = none_first n k
 
 -- The parts of a fall.
 never : (a : Bool) → (a && false) ≡ false

@@ -1,8 +1,9 @@
 -- As long as built-in blocks alone are written to a drive, those of its own that are outside their limits are the same as at opening; so
 -- if a check for phase 4 is set that ends well, there are none.
 use Rattle.std.proofs.Common.{◌≡◌, ℕ, suc, arith, Bool, true, false, not, ◌&&◌, List, [], ◌∷◌, ◌++◌, length, filter, Option, Some, None, refl, sym, ap, ◌∙◌, if◌then◌else◌, subst}
-use Rattle.std.specs.Prelude.{◌==◌, nat_le, is_none, is_some, cond}
-use Rattle.std.proofs.lemmas.Bool.{false≢true, eqb-true}
+use Rattle.std.specs.Prelude.{◌==◌, is_none, is_some, cond}
+use Rattle.std.proofs.lemmas.Bool.{cond_both, false≢true, eqb-true}
+use Rattle.sercos_law_run.proofs.Held.Processed.{processed_keeps, taken_at}
 use Rattle.std.proofs.lemmas.Bool.Decides.{nat_tests}
 use Rattle.sercos_block.specs.BuiltIns.{is_built_in}
 use Rattle.sercos_block.specs.Stores.{with_data, store_of}
@@ -11,11 +12,11 @@ use Rattle.sercos_block.specs.declared.block.Block.{Block}
 use Rattle.sercos_command.specs.Checks.{is_outside, unfit_for_phase_4}
 use Rattle.sercos_command.specs.Settings.{CommandsView, find_set, without, with_set, is_command, ends_well, with_lists, with_write, without_checks, without_settings}
 use Rattle.sercos_command.specs.declared.commands.SetCommand.{SetCommand}
-use Rattle.sercos_service_drive.specs.Log.{Taken, taken_record}
+use Rattle.sercos_service_drive.specs.Log.{Taken}
 use Rattle.sercos_service_drive.specs.Writes.{Write, added_on, with_added, setting_in, blocks_with, commands_with}
 use Rattle.sercos_drive.specs.declared.hearing.Told.{Told}
 use Rattle.sercos_drive.specs.Heard.{DriveCall, Mst, Mdt, Restart, mst_got, mdt_got}
-use Rattle.sercos_drive.specs.Moments.{phase_in, cycle_in, has_mst, taken_in, writes_in, blocks_in, blocks_after, commands_in, commands_after, reset_in, write_in}
+use Rattle.sercos_drive.specs.Moments.{Moment, phase_in, taken_in, writes_in, blocks_in, blocks_after, commands_in, commands_after, reset_in, write_in}
 use Rattle.sercos_drive.specs.Annals.{annals, stands_in, processed_in, ends_in}
 use Rattle.sercos_law_run.specs.Start.Kept.{is_own_outside}
 use Rattle.sercos_law_run.proofs.Start.OwnLemmas.{own_stay}
@@ -160,15 +161,17 @@ own_written d w blocks c built own = record { same = own_stay w c blocks built �
 
 -- A RESET sets nothing.
 says_reset : (d : DriveView) (phase : ℕ) (c : CommandsView) → SaysOwn d c → SaysOwn d (reset_in phase c)
-says_reset d phase c says = by (phase == 0)
-  where
-    by : (x : Bool) → SaysOwn d (if x then without_settings c else c)
-    by true = λ s found well. absurd (cc)
-    by false = says
+says_reset d phase c says = cond_both (phase == 0) (without_settings c) c (SaysOwn d) (λ on s found well. absurd (cc)) (λ off. says)
 
 behind : (o : Option Write) (writes : List Write) → AreBuiltIn (with_added o writes) → AreBuiltIn writes
 behind None writes are = are
 behind (Some w) writes are = are.0
+
+-- what a record that is processed leaves so
+abbrev IsAfter : DriveView → ℕ → List Moment → Option Taken → Type 0
+IsAfter d rate past o = AreBuiltIn (with_added (write_in o (taken_in past)) (writes_in past)) → IsOwn d (blocks_in d past)
+    (commands_in d rate past)
+    → IsOwn d (blocks_after o (taken_in past) (blocks_in d past)) (commands_after o (taken_in past) (commands_in d rate past))
 
 -- WHATEVER A DRIVE IS GIVEN
 pub own_so : (d : DriveView) (rate : ℕ) (h : List DriveCall) → AreBuiltIn (writes_in (annals d rate h)) → IsOwn d (blocks_in d (annals d rate h)) (commands_in d rate (annals d rate h))
@@ -178,25 +181,21 @@ own_so d rate (Mst cycle content ∷ h) are =
     record { same = own.same; says = says_reset d (stands_in d rate cycle (mst_got content) (annals d rate h)) (commands_in d rate (annals d rate h)) own.says }
 own_so d rate (Restart ∷ h) are = let own = own_so d rate h are in record { same = own.same; says = λ s found well. absurd (cc) }
 own_so d rate (Mdt content ∷ h) are =
-    let own = by told are (own_so d rate h (behind (write_in (processed_in d rate told (annals d rate h)) (taken_in (annals d rate h))) (writes_in (annals d rate h)) are)) in
-    record { same = own.same; says = says_reset d (ends_in told (annals d rate h)) (commands_after (processed_in d rate told (annals d rate h)) (taken_in (annals d rate h)) (commands_in d rate (annals d rate h))) own.says }
+    let own = by are (own_so d rate h (behind (write_in (processed_in d rate told past) (taken_in past)) (writes_in past) are)) in
+    record { same = own.same; says = says_reset d (ends_in told past) (commands_after (processed_in d rate told past) (taken_in past) (commands_in d rate past)) own.says }
   where
+    past : List Moment
+    past = annals d rate h
+
     told : Option Told
-    told = mdt_got d.address (phase_in (annals d rate h)) (blocks_in d (annals d rate h)) content
+    told = mdt_got d.address (phase_in past) (blocks_in d past) content
 
-    by : (o : Option Told) → AreBuiltIn (with_added (write_in (processed_in d rate o (annals d rate h)) (taken_in (annals d rate h))) (writes_in (annals d rate h))) → IsOwn d (blocks_in d (annals d rate h)) (commands_in d rate (annals d rate h))
-        → IsOwn d (blocks_after (processed_in d rate o (annals d rate h)) (taken_in (annals d rate h)) (blocks_in d (annals d rate h))) (commands_after (processed_in d rate o (annals d rate h)) (taken_in (annals d rate h)) (commands_in d rate (annals d rate h)))
-    by None are own = own
-    by (Some t) are own = which (has_mst (annals d rate h) && nat_le 2 (phase_in (annals d rate h))) are
-      where
-        one : Taken
-        one = taken_record (cycle_in (annals d rate h)) (phase_in (annals d rate h)) t.control t.info (blocks_in d (annals d rate h)) (commands_in d rate (annals d rate h))
+    one_write : (w : Option Write) → AreBuiltIn (with_added w (writes_in past)) → IsOwn d (blocks_in d past) (commands_in d rate past)
+        → IsOwn d (blocks_with w (commands_in d rate past) (blocks_in d past))
+        (commands_with w (blocks_in d past) (commands_in d rate past))
+    one_write None are own = own
+    one_write (Some w) are own = own_written d w (blocks_in d past) (commands_in d rate past) are.1 own
 
-        one_write : (w : Option Write) → AreBuiltIn (with_added w (writes_in (annals d rate h))) → IsOwn d (blocks_with w (commands_in d rate (annals d rate h)) (blocks_in d (annals d rate h))) (commands_with w (blocks_in d (annals d rate h)) (commands_in d rate (annals d rate h)))
-        one_write None are = own
-        one_write (Some w) are = own_written d w (blocks_in d (annals d rate h)) (commands_in d rate (annals d rate h)) are.1 own
-
-        which : (b : Bool) → AreBuiltIn (with_added (write_in (if b then Some one else None) (taken_in (annals d rate h))) (writes_in (annals d rate h)))
-            → IsOwn d (blocks_after (if b then Some one else None) (taken_in (annals d rate h)) (blocks_in d (annals d rate h))) (commands_after (if b then Some one else None) (taken_in (annals d rate h)) (commands_in d rate (annals d rate h)))
-        which true are = one_write (added_on one (taken_in (annals d rate h))) are
-        which false are = own
+    by : IsAfter d rate past (processed_in d rate told past)
+    by = processed_keeps (IsAfter d rate past) d rate told past (λ are own. own)
+        (λ t. one_write (added_on (taken_at d rate past t) (taken_in past)))

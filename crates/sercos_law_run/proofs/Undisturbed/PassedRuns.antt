@@ -33,7 +33,7 @@ use Rattle.sercos_law_run.specs.Views.RingViews.{behind_mdt, view_of, views_of}
 use Rattle.sercos_law_run.proofs.Views.Members.{members_count}
 use Rattle.sercos_law_run.proofs.Views.ViewRuns.{command_below, views_count}
 use Rattle.sercos_law_run.specs.Held.Opened.{IsOpened}
-use Rattle.sercos_law_run.proofs.Held.Runs.{drive_got, small, phase_same, agrees, rests, begun_then}
+use Rattle.sercos_law_run.proofs.Held.Runs.{drive_got, small, phase_same, begun_then}
 use Rattle.sercos_law_run.proofs.Settings.WellSets.{is_command_127}
 use Rattle.sercos_law_run.proofs.Headline.HeadlineRuns.{first_store, stored_in, spelled_in, all_stand}
 use Rattle.sercos_law_channel.specs.Pace.Passages.{IsPassed}
@@ -42,7 +42,8 @@ use Rattle.sercos_law_run.proofs.Undisturbed.CheckLogs.{PassesIfSet, StaysIfCanc
 use Rattle.sercos_law_run.proofs.Undisturbed.CheckTasks.{IsCheckNewest, check_127, check_128}
 use Rattle.sercos_law_run.proofs.Undisturbed.CheckedViews.{check_counts}
 use Rattle.sercos_law_run.proofs.Undisturbed.CommandCalls.{keeps_before, counts_127, counts_128}
-use Rattle.sercos_law_run.proofs.Undisturbed.CommandRuns.{first_commands, AreCommandsSo, commands_first, commands_next}
+use Rattle.sercos_law_run.proofs.Undisturbed.CommandRuns.{first_commands, AreCommandsSo}
+use Rattle.sercos_law_run.proofs.Undisturbed.JobsBegun.{wells}
 use Rattle.sercos_law_run.proofs.Undisturbed.WellGiven.{is_command_128}
 use Rattle.sercos_law_channel.proofs.Cited.{transfers}
 use Rattle.sercos_law_run.proofs.Cited.{begins_tasks}
@@ -80,15 +81,7 @@ stays_below passed busy n c v past next follow some phase ended before = by stoo
 module _ (r : RingView) (jobs : List Job) (carry : Carry) (restarts : Restarts) (opened : IsOpened r jobs) where
   -- the procedure commands of each drive
   pub commands_so : (j : List CycleView) → IsRun r jobs carry restarts j → IsClear j → (k : ℕ) → k < length r.drives → AreCommandsSo r jobs carry restarts k j
-  commands_so [] run clear k below = commands_first r jobs carry restarts k
-  commands_so (t ∷ j) (run, next) (before, clear) k below =
-      let first = first_store r jobs carry restarts opened in
-      let spelled = spelled_in r jobs carry restarts opened t j next in
-      let stored = stored_in r jobs carry restarts opened t j in
-      let all = all_stand r jobs carry restarts opened j run before in
-      commands_next r jobs carry restarts opened.valid t j next clear spelled k below (all k below).sees
-      (agrees r jobs carry restarts opened first t j next clear spelled stored all k below)
-      (rests r jobs carry restarts opened first t j next clear spelled stored all k below) (commands_so j run before k below)
+  commands_so j run clear k below = (wells r jobs carry restarts opened j run clear k below).set
 
   module _ (t : CycleView) (j : List CycleView) (run : IsRun r jobs carry restarts (t ∷ j)) (clear : IsClear (t ∷ j)) (k : ℕ)
       (below : k < length r.drives) where

@@ -1,7 +1,7 @@
 -- How long phases 0 and 1 last in an undisturbed epoch.
-use Rattle.std.proofs.Common.{◌≡◌, ℕ, zero, suc, ◌+◌, ◌<◌, ◌≤◌, Bool, true, false, not, List, [], ◌∷◌, ◌++◌, length, Some, None, refl, sym, ◌∙◌, ap, subst, arith, if◌then◌else◌}
+use Rattle.std.proofs.Common.{◌≡◌, ℕ, zero, suc, ◌+◌, ◌<◌, ◌≤◌, Bool, true, false, not, List, [], ◌∷◌, ◌++◌, length, Some, None, refl, sym, ◌∙◌, ap, subst, arith}
 use Rattle.std.specs.Prelude.{◌==◌, nat_lt, is_some}
-use Rattle.std.proofs.lemmas.Bool.{false≢true}
+use Rattle.std.proofs.lemmas.Bool.{cond_both, false≢true}
 use Rattle.std.proofs.lemmas.Bool.Decides.{nat_tests}
 use Rattle.sercos_step.specs.declared.request.Job.{Job}
 use Rattle.sercos_block.specs.Views.{RingView}
@@ -38,11 +38,8 @@ awaits_last (suc i) k (t ∷ turns) (one, to) other = let off : (k == i) ≡ fal
 
 -- at the end of a cycle nothing is heard of the next
 fresh_end : (s : Known) (k : ℕ) (p : Past) → (after_end s p).now.heard k ≡ false
-fresh_end s k p = by (is_some (fall_of s p))
-  where
-    by : (falls : Bool) → (if falls then new_epoch (p.cycle + 1) (still_waiting p) else goes_on (next_phase s p) p).now.heard k ≡ false
-    by true = refl
-    by false = refl
+fresh_end s k p = cond_both (is_some (fall_of s p)) (new_epoch (p.cycle + 1) (still_waiting p)) (goes_on (next_phase s p) p)
+    (λ v. v.now.heard k ≡ false) (λ on. refl) (λ off. refl)
 
 pub fresh_at : (r : RingView) (jobs : List Job) (carry : Carry) (restarts : Restarts) (k : ℕ) (j : List CycleView) → (looks_back r jobs (master_calls r carry restarts j)).now.heard k ≡ false
 fresh_at r jobs carry restarts k [] = refl

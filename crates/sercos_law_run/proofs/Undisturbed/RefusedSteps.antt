@@ -3,7 +3,7 @@
 use Rattle.std.proofs.Common.{◌≡◌, ℕ, ◌+◌, ◌*◌, Bool, true, false, ◌&&◌, List, [], ◌∷◌, ◌++◌, length, Option, Some, None, refl, sym, ap, ap₂, ◌∙◌, if◌then◌else◌}
 use Rattle.std.specs.Prelude.{◌==◌, is_some, is_none, option_map, slice_get, slice_index}
 use Rattle.std.specs.Bool.{then_some}
-use Rattle.std.proofs.lemmas.Bool.{cond-true, cond-false}
+use Rattle.std.proofs.lemmas.Bool.{cond-false, cond-true, cond_both}
 use Rattle.sercos_idn.specs.declared.idn.Idn.{Idn}
 use Rattle.sercos_step.specs.declared.request.Request.{Request}
 use Rattle.sercos_step.specs.declared.request.Request.TheVariants as request
@@ -106,11 +106,8 @@ module _ (idn : Idn) (bytes : List ℕ) (b : Block) (said : shape_of 7 (low_of b
 -- A READ of the attribute or of operation data
 read_free : (o : Option Block) (b : Block) (e : ℕ) → ((c : Block) → is_none (element_of c e) ≡ false) → option_map without_data o ≡ Some (without_data b) → (if e == 1 then None else read_fault o e) ≡ None
 read_free None b e there same = absurd (cc)
-read_free (Some c) b e there same = by (e == 1)
-  where
-    by : (x : Bool) → (if x then None else then_some (is_none (element_of c e)) (0x1000 * e + 1)) ≡ None
-    by true = refl
-    by false = rw (there c) refl
+read_free (Some c) b e there same = cond_both (e == 1) None (then_some (is_none (element_of c e)) (0x1000 * e + 1))
+    (λ v. v ≡ None) (λ on. refl) (λ off. rw (there c) refl)
 
 always_3 : (c : Block) → is_none (element_of c 3) ≡ false
 unfolding element_of

@@ -1,5 +1,5 @@
 -- How an undisturbed start-up ends.
-use Rattle.std.proofs.Common.{◌≡◌, ◌⊎◌, inl, inr, ℕ, ◌+◌, ◌*◌, ◌<◌, ◌≤◌, true, false, List, [], ◌∷◌, ◌++◌, length, Option, Some, None, refl, sym, ap, ◌∙◌, subst, arith}
+use Rattle.std.proofs.Common.{◌≡◌, ◌⊎◌, inl, inr, ◌+◌, ◌*◌, ◌<◌, ◌≤◌, true, List, [], ◌∷◌, ◌++◌, length, Option, Some, None, refl, sym, ap, ◌∙◌, subst, arith}
 use Rattle.std.specs.Prelude.{is_some}
 use Rattle.std.proofs.lemmas.Bool.{cases_eq, false≢true}
 use Rattle.sercos_step.specs.declared.request.Job.{Job}
@@ -8,7 +8,6 @@ use Rattle.sercos_block.specs.Views.{RingView}
 use Rattle.sercos_law_run.specs.Bounds.Bounds.{slowest}
 use Rattle.sercos_trace.specs.Views.{CycleView}
 use Rattle.sercos_trace.specs.declared.events.Stop.{Stop}
-use Rattle.std.specs.List.{list_any}
 use Rattle.sercos_step.specs.declared.request.Outcome.{Outcome}
 use Rattle.sercos_seat.specs.Agenda.{is_ready, reads_count}
 use Rattle.sercos_seat.specs.Ring.{known_of, member, tasks_for}
@@ -30,7 +29,6 @@ use Rattle.sercos_law_run.proofs.Undisturbed.OwnFit.{own_fits}
 use Rattle.sercos_law_run.proofs.Undisturbed.PhaseCounts.{end_kept}
 use Rattle.sercos_law_run.proofs.Undisturbed.PhaseRuns.{next_phase_is}
 use Rattle.sercos_law_run.proofs.Undisturbed.PhasesRise.{late_in}
-use Rattle.sercos_law_channel.proofs.Pace.CallAges.{none_late}
 use Rattle.sercos_law_run.proofs.Undisturbed.Cited.{is_ready_if_ended, never_stops_in_four, stops_in_three, stops_in_two}
 
 module _ (r : RingView) (jobs : List Job) (carry : Carry) (restarts : Restarts) (opened : IsOpened r jobs) (t : CycleView)

@@ -1,6 +1,6 @@
 -- In an undisturbed epoch the ring doesn't fall at the end of a cycle, if no step is open too long and each drive is heard in phases 3
 -- and 4.
-use Rattle.std.proofs.Common.{◌≡◌, ℕ, zero, suc, ◌+◌, ◌<◌, ◌≤◌, ◌||◌, Bool, true, false, not, ◌&&◌, List, [], ◌∷◌, ◌++◌, length, Option, Some, None, refl, sym, ◌∙◌, ap, subst, arith, if◌then◌else◌}
+use Rattle.std.proofs.Common.{◌≡◌, ℕ, ◌+◌, ◌<◌, ◌≤◌, ◌||◌, Bool, true, false, not, ◌&&◌, List, [], ◌∷◌, ◌++◌, length, Option, Some, None, refl, sym, ◌∙◌, ap, subst, arith, if◌then◌else◌}
 use Rattle.std.specs.Prelude.{◌==◌, nat_le, is_some, IsSome, option_map, unwrap_or, min}
 use Rattle.std.proofs.lemmas.Bool.{false≢true}
 use Rattle.std.proofs.lemmas.Bool.Decides.{nat_tests}
@@ -14,6 +14,7 @@ use Rattle.sercos_drive.specs.Moments.{phase_in}
 use Rattle.sercos_trace.specs.Views.{CycleView}
 use Rattle.sercos_seat.specs.Channel.{is_place}
 use Rattle.sercos_seat.specs.Ring.{Known, known_of, tasks_for}
+use Rattle.sercos_master.proofs.Keeping.{first_found}
 use Rattle.sercos_master.specs.Annals.{Past, Turn, first_from, first_place, has_identified, is_identified, count_addressed, is_idle, addressed_in, ready_to_send, after_mdt, fall_of}
 use Rattle.sercos_script.specs.Links.{Carry, Restarts}
 use Rattle.sercos_law_channel.specs.Handshake.Views.{Heard, View}
@@ -87,12 +88,7 @@ begun_none busy empty v past (run, next) early =
 
 -- THE DRIVE THAT IS ADDRESSED in phase 1 isn't identified.
 pub found_passes : (k n i : ℕ) (test : ℕ → Bool) → first_from k n test ≡ Some i → test i ≡ true
-found_passes k zero i test found = cc
-found_passes k (suc n) i test found = by (test k) refl found (λ rest. found_passes (k + 1) n i test rest)
-  where
-    by : (b : Bool) → test k ≡ b → (if b then Some k else first_from (k + 1) n test) ≡ Some i → (first_from (k + 1) n test ≡ Some i → test i ≡ true) → test i ≡ true
-    by true passes found next = let same : k ≡ i = cc in subst (λ (n : ℕ). test n ≡ true) same passes
-    by false off found next = next found
+found_passes k n i test found = (first_found k n i test found).passes
 
 first_of : (s : Known) (q : Past) → q.now.phase ≡ 1 → addressed_in s q ≡ first_place s (λ k. not (is_identified q k))
 first_of s q one = let is : (q.now.phase == 1) ≡ true = grind (arith, nat_tests, one) in

@@ -1,22 +1,17 @@
 -- Each stop was told in the record of a cycle of the run, so it is there for its cause.
-use Rattle.std.proofs.Common.{◌≡◌, ◌⊎◌, inl, inr, ◌+◌, Bool, true, false, List, [], ◌∷◌, length, Option, Some, None, Result, Ok, Err, refl, sym, ap, ◌∙◌, subst, if◌then◌else◌}
-use Rattle.std.specs.Prelude.{is_some, nat_le}
+use Rattle.std.proofs.Common.{◌≡◌, ◌⊎◌, inl, inr, ◌+◌, Bool, true, false, List, [], ◌∷◌, length, Option, Some, None, refl, sym, ap, ◌∙◌, subst, if◌then◌else◌}
+use Rattle.std.specs.Prelude.{is_some}
 use Rattle.std.specs.Option.{option_or}
 use Rattle.std.proofs.lemmas.Bool.{false≢true}
 use Rattle.sercos_step.specs.declared.request.Job.{Job}
-use Rattle.sercos_timing.specs.Order.{record_bytes}
-use Rattle.sercos_timing.specs.Views.{PlanView}
-use Rattle.sercos_plan.specs.ChainOf.{planned}
-use Rattle.sercos_plan.specs.Views.{ChainView}
 use Rattle.sercos_block.specs.Views.{RingView}
 use Rattle.sercos_trace.specs.Views.{CycleView, EventsView}
 use Rattle.sercos_trace.specs.declared.events.Fall.{Fall}
 use Rattle.sercos_trace.specs.declared.events.Stop.{Stop}
-use Rattle.sercos_trace.specs.declared.events.Stop.TheVariants as stop
-use Rattle.sercos_seat.specs.Agenda.{last_long_stop, wishes_given}
 use Rattle.sercos_seat.specs.Ring.{Known, known_of}
-use Rattle.sercos_master.specs.Annals.{Past, outcomes, first_trouble, with_stop, with_plan, is_plan_due, planned_by, after_mdt, fall_of, is_done, still_waiting, new_epoch, goes_on, after_end}
+use Rattle.sercos_master.specs.Annals.{Past, after_mdt, fall_of, is_done, still_waiting, new_epoch, goes_on, after_end}
 use Rattle.sercos_master.specs.Reports.{stop_told, restart_told}
+use Rattle.sercos_master.proofs.Keeping.{settled_keeps}
 use Rattle.sercos_script.specs.Links.{Carry, Restarts}
 use Rattle.sercos_law_run.specs.Journal.Records.{mst_in, ats_in}
 use Rattle.sercos_law_run.specs.Journal.Runs.{own_mst, begins, master_calls, looks_back, no_events, IsNext, IsRun, IsClear}
@@ -34,34 +29,12 @@ use Rattle.sercos_law_run.proofs.Undisturbed.Small.{none_some}
 abbrev IsTold : Past → Type 0
 IsTold p = is_some p.stop ≡ true → p.now.stops ≡ true
 
-stop_is_told : (o : Option Stop) (p : Past) → IsTold p → IsTold (with_stop o p)
-stop_is_told None p told = told
-stop_is_told (Some x) p told = by (is_some p.stop)
-  where
-    by : (on : Bool) → IsTold (if on then p else record p { now = record p.now { stops = true }; stop = Some x })
-    by true = told
-    by false = λ some. refl
-
-plan_is_told : (made : Result PlanView ChainView) (p : Past) → IsTold p → IsTold (with_plan made p)
-plan_is_told (Ok plan) p told = told
-plan_is_told (Err chain) p told = stop_is_told (Some (stop.NoFit chain)) p told
-
-planned_is_told : (s : Known) (p : Past) → IsTold p → IsTold (planned_by s p)
-planned_is_told s p told = by (nat_le (record_bytes (wishes_given s (outcomes p)).drives) 2047)
-  where
-    by : (fits : Bool) → IsTold (if fits then with_plan (planned (wishes_given s (outcomes p))) p else with_stop (last_long_stop s.drives 0 (outcomes p)) p)
-    by true = plan_is_told (planned (wishes_given s (outcomes p))) p told
-    by false = stop_is_told (last_long_stop s.drives 0 (outcomes p)) p told
-
 mdt_is_told : (s : Known) (p : Past) → p.stop ≡ None → IsTold (after_mdt s p)
-mdt_is_told s p none = by (is_plan_due s (with_stop (first_trouble s p) p))
+mdt_is_told s p none = settled_keeps IsTold s p (λ rests some. absurd (not_yet some)) (λ x free brings some. refl)
+    (λ plan makes some. absurd (not_yet some))
   where
-    looked : IsTold (with_stop (first_trouble s p) p)
-    looked = stop_is_told (first_trouble s p) p (λ some. absurd (false≢true (sym (ap (λ (o : Option Stop). is_some o) none) ∙ some)))
-
-    by : (due : Bool) → IsTold (if due then planned_by s (with_stop (first_trouble s p) p) else with_stop (first_trouble s p) p)
-    by true = planned_is_told s (with_stop (first_trouble s p) p) looked
-    by false = looked
+    not_yet : is_some p.stop ≡ true → ⊥
+    not_yet some = false≢true (sym (ap (λ (o : Option Stop). is_some o) none) ∙ some)
 
 -- a ring that falls has no stop
 fallen_stop : (s : Known) (p : Past) (f : Fall) → fall_of s p ≡ Some f → (after_end s p).stop ≡ None

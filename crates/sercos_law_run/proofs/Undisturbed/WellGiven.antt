@@ -153,9 +153,9 @@ module _ (r : RingView) (jobs : List Job) (carry : Carry) (restarts : Restarts) 
     (below : k < length r.drives) (none : list_any is_outside (drive_at r k).blocks ≡ false) where
   says_at : (t : CycleView) (j : List CycleView) → IsRun r jobs carry restarts (t ∷ j) → IsClear (t ∷ j) → Say IsWell (view_of r jobs carry restarts k t j).commands
   says_at t [] run clear = λ s found.
-      let empty = keeps_settings (view_of r jobs carry restarts k t []) [] (wells r jobs carry restarts opened (t ∷ []) run clear k below).set.follow in
+      let empty = keeps_settings (view_of r jobs carry restarts k t []) [] (wells r jobs carry restarts opened (t ∷ []) run clear k below).follow in
       let both : None ≡ Some s = sym (ap (find_set 128) empty) ∙ found in absurd (cc)
-  says_at t (u ∷ j) run clear = by (says_at u j run.0 clear.0) (keeps_settings (view_of r jobs carry restarts k t (u ∷ j)) (views_of r jobs carry restarts k (u ∷ j)) (wells r jobs carry restarts opened (t ∷ u ∷ j) run clear k below).set.follow)
+  says_at t (u ∷ j) run clear = by (says_at u j run.0 clear.0) (keeps_settings (view_of r jobs carry restarts k t (u ∷ j)) (views_of r jobs carry restarts k (u ∷ j)) (wells r jobs carry restarts opened (t ∷ u ∷ j) run clear k below).follow)
     where
       v : View
       v = view_of r jobs carry restarts k t (u ∷ j)
@@ -183,6 +183,6 @@ module _ (r : RingView) (jobs : List Job) (carry : Carry) (restarts : Restarts) 
       checks_give_3 (drive_at r k).busy (store_of (drive_at r k))
       (stays (view_of r jobs carry restarts k t j) ∷ views_of r jobs carry restarts k j)
       (stands.sees.run.0, next_still (drive_at r k).busy (view_of r jobs carry restarts k t j) (views_of r jobs carry restarts k j) stands.sees.run.1)
-      stands.sound (wells r jobs carry restarts opened (t ∷ j) run clear k below).set.follow
+      stands.sound (wells r jobs carry restarts opened (t ∷ j) run clear k below).follow
       (entries_say (Say IsWell) (stays (view_of r jobs carry restarts k t j) ∷ views_of r jobs carry restarts k j) (views_say (t ∷ j) run clear))
       (have_commands (drive_at r k) (views_of r jobs carry restarts k (t ∷ j)) rules stands.stored)

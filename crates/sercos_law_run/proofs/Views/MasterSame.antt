@@ -1,27 +1,20 @@
 -- What the master keeps of a channel is what the views of its cycles give.
-use Rattle.std.proofs.Common.{◌≡◌, inl, inr, ℕ, ◌+◌, ◌<◌, ◌≤◌, Bool, true, false, not, ◌&&◌, ◌||◌, List, [], ◌∷◌, Option, Some, None, refl, sym, ◌∙◌, ap, ap₂, subst, arith, if◌then◌else◌}
-use Rattle.std.specs.Prelude.{◌==◌, nat_le, is_some, is_none, IsSome, IfSome, slice_index, Result, Ok, Err}
-use Rattle.std.proofs.lemmas.Bool.{and_parts, cases_eq, false≢true, leb-true}
+use Rattle.std.proofs.Common.{◌≡◌, inl, inr, ℕ, ◌+◌, ◌<◌, ◌≤◌, Bool, true, false, not, ◌&&◌, List, [], ◌∷◌, Option, Some, None, refl, sym, ◌∙◌, ap, ap₂, subst, arith, if◌then◌else◌}
+use Rattle.std.specs.Prelude.{◌==◌, is_some, is_none, IsSome, IfSome, slice_index}
+use Rattle.std.proofs.lemmas.Bool.{and_parts, cases_eq, false≢true, leb-true, not-true}
 use Rattle.std.proofs.lemmas.Bool.Decides.{nat_tests}
 use Rattle.sercos_telegram.specs.Words.{status_of}
 use Rattle.sercos_telegram.specs.Spells.{word_at}
 use Rattle.sercos_step.specs.declared.request.Request.{Request}
-use Rattle.sercos_step.specs.declared.step.Step.{Step}
 use Rattle.sercos_service_master.specs.Begun.{Begun, Said, open_in, master_says}
-use Rattle.sercos_service_master.specs.Calls.{Hear, Send, EndCycle, begun_by}
+use Rattle.sercos_service_master.specs.Calls.{Hear, Send, begun_by}
 use Rattle.sercos_service_master.specs.Calls as channel
-use Rattle.sercos_timing.specs.Order.{record_bytes}
-use Rattle.sercos_timing.specs.Views.{PlanView}
-use Rattle.sercos_plan.specs.Views.{ChainView}
-use Rattle.sercos_plan.specs.ChainOf.{planned}
-use Rattle.sercos_trace.specs.declared.events.Stop.{Stop}
-use Rattle.sercos_trace.specs.declared.events.Stop.TheVariants as stop
-use Rattle.sercos_seat.specs.Agenda.{wishes_given, last_long_stop}
-use Rattle.sercos_seat.specs.Channel.{Report, of_phase}
+use Rattle.sercos_seat.specs.Channel.{Report}
 use Rattle.sercos_seat.specs.Ring.{Known, Task}
-use Rattle.sercos_master.specs.Annals.{Past, Turn, outcomes, with_at, place_of, is_taken, after_taken, after_at_of, after_at, is_idle, has_turn, next_task, begins, with_begin, begun, settled, with_stop, with_plan, planned_by, is_plan_due, with_due_plan, first_trouble, sent_to, is_sent_to, addressed_in, ready_to_send, after_mdt, fall_of, is_done, is_done_in, next_phase, goes_on, new_epoch, still_waiting, after_end, after_restart, is_awaited}
+use Rattle.sercos_master.specs.Annals.{Past, with_at, place_of, is_taken, after_taken, after_at_of, after_at, begins, with_begin, begun, settled, is_sent_to, addressed_in, ready_to_send, after_mdt, fall_of, is_done, is_done_in, next_phase, goes_on, new_epoch, still_waiting, after_end, after_restart, is_awaited}
 use Rattle.sercos_master.specs.Annals as master
 use Rattle.sercos_master.proofs.Configured.{leaves}
+use Rattle.sercos_master.proofs.Keeping.{begins_next, none_of}
 use Rattle.sercos_law_channel.specs.Handshake.Views.{Heard, View}
 use Rattle.sercos_law_channel.specs.Handshake.Epochs.{command, command_in, whole_row, with_heard, with_begun, unless_restart, epoch_begun, begun_in}
 use Rattle.sercos_law_channel.specs.Handshake.Runs.{IsShown, IsNext}
@@ -123,40 +116,8 @@ pub record SameTurn (q p : Past) : Type 0 where
   pub whole_is : q.now.whole ≡ p.now.whole
   pub turns_are : q.turns ≡ p.turns
 
-turn_same : (p : Past) → SameTurn p p
-turn_same p = record { phase_is = refl; whole_is = refl; turns_are = refl }
-
-turn_stop : (x : Option Stop) (p : Past) → SameTurn (with_stop x p) p
-turn_stop None p = turn_same p
-turn_stop (Some x) p = by (is_some p.stop)
-  where
-    by : (t : Bool) → SameTurn (if t then p else record p { now = record p.now { stops = true }; stop = Some x }) p
-    by true = turn_same p
-    by false = record { phase_is = refl; whole_is = refl; turns_are = refl }
-
-turn_plan : (r : Result PlanView ChainView) (p : Past) → SameTurn (with_plan r p) p
-turn_plan (Ok plan) p = record { phase_is = refl; whole_is = refl; turns_are = refl }
-turn_plan (Err chain) p = turn_stop (Some (stop.NoFit chain)) p
-
-turn_due : (s : Known) (p : Past) → SameTurn (with_due_plan s p) p
-turn_due s p = by (is_plan_due s p)
-  where
-    made : (fits : Bool) → SameTurn (if fits then with_plan (planned (wishes_given s (outcomes p))) p else with_stop (last_long_stop s.drives 0 (outcomes p)) p) p
-    made true = turn_plan (planned (wishes_given s (outcomes p))) p
-    made false = turn_stop (last_long_stop s.drives 0 (outcomes p)) p
-
-    by : (t : Bool) → SameTurn (if t then planned_by s p else p) p
-    by true = made (nat_le (record_bytes (wishes_given s (outcomes p)).drives) 2047)
-    by false = turn_same p
-
-turn_settled : (s : Known) (p : Past) → SameTurn (settled s p) p
-turn_settled s p =
-    let a : SameTurn (settled s p) (with_stop (first_trouble s p) p) = turn_due s (with_stop (first_trouble s p) p) in
-    let b : SameTurn (with_stop (first_trouble s p) p) p = turn_stop (first_trouble s p) p in
-    record { phase_is = a.phase_is ∙ b.phase_is; whole_is = a.whole_is ∙ b.whole_is; turns_are = a.turns_are ∙ b.turns_are }
-
 pub turn_mdt : (s : Known) (p : Past) → SameTurn (after_mdt s p) p
-turn_mdt s p = let a = turn_settled s p in record { phase_is = a.phase_is; whole_is = a.whole_is; turns_are = a.turns_are }
+turn_mdt s p = let l = leaves s p in record { phase_is = l.phase; whole_is = l.whole; turns_are = l.turns }
 
 pub begun_so : (s : Known) (p : Past) (k : ℕ) → begun_by ((after_mdt s p).calls k) ≡ with_begun (request_of (begins s (settled s p) k)) (begun_by (p.calls k))
 begun_so s p k =
@@ -178,27 +139,16 @@ pub record MayBegin (p : Past) (k : ℕ) : Type 0 where
   pub idle : open_in (begun_by (p.calls k)) ≡ None
 
 pub may_begin : (s : Known) (p : Past) (k : ℕ) → IsSome (request_of (begins s (settled s p) k)) → MayBegin p k
-may_begin s p k = by (is_none q.stop) (is_idle q k) (has_turn s q k) refl refl
+may_begin s p k = by (begins s (settled s p) k) refl
   where
-    q : Past
-    q = settled s p
-
-    none_is : (o : Option Step) → is_none o ≡ true → o ≡ None
-    none_is None e = refl
-    none_is (Some x) e = absurd (false≢true e)
-
-    late : (n : ℕ) (b : Bool) → (nat_le 3 n || ((n == 2) && b)) ≡ true → 2 ≤ n
-    late n true turn = grind (arith, nat_tests, turn)
-    late n false turn = grind (arith, nat_tests, turn)
-
-    by : (free idle turn : Bool) → is_idle q k ≡ idle → has_turn s q k ≡ turn → IsSome (request_of (if free && (idle && turn) then of_phase q.now.phase (next_task s q k) else None)) → MayBegin p k
-    by true true true rests turn some = record {
-      late = subst (λ n. 2 ≤ n) (turn_settled s p).phase_is (late q.now.phase _ turn);
-      idle = none_is _ (ap (λ (c : ℕ → List channel.Call). is_none (open_in (begun_by (c k)))) (sym (leaves s p).calls) ∙ rests);
-    }
-    by true true false idle turn some = absurd (false≢true some)
-    by true false turn idle what some = absurd (false≢true some)
-    by false idle turn rests what some = absurd (false≢true some)
+    by : (o : Option Task) → begins s (settled s p) k ≡ o → IsSome (request_of o) → MayBegin p k
+    by None is some = absurd (false≢true some)
+    by (Some t) is some =
+        let next = begins_next s (settled s p) k t is in
+        record {
+          late = subst (λ n. 2 ≤ n) (leaves s p).phase next.late;
+          idle = none_of _ (ap (λ (c : ℕ → List channel.Call). is_none (open_in (begun_by (c k)))) (sym (leaves s p).calls) ∙ next.idle);
+        }
 
 -- THE CYCLE. What the master looks back on before its MST, after it, after the ATs and after the MDT gives a view of the channel.
 pub record IsLed (s : Known) (k : ℕ) (such : List ℕ → Type 0) (v : View) (p1 p2 p3 p4 : Past) : Type 0 where
@@ -249,10 +199,6 @@ row_next v p row whole zero stands turns = rw (whole, zero, stands, turns) (by v
     by true = refl
     by false = refl
 
-not_true : (b : Bool) → not b ≡ true → b ≡ false
-not_true false e = refl
-not_true true e = absurd (false≢true e)
-
 pub done_below : (n : ℕ) (s : Known) (p : Past) → is_done_in n s p ≡ true → n < 4
 done_below n s p done = grind (arith, nat_tests, done)
 
@@ -286,7 +232,7 @@ next_led s k such busy v past p1 p2 p3 p4 same led shown rests =
     done up = (both up).1
 
     stands : v.rises ≡ true → v.falls ≡ false
-    stands up = led.falls ∙ not_true _ (both up).0
+    stands up = led.falls ∙ not-true _ (both up).0
 
     told : (o : Option Said) → o ≡ told_to p4 k → begun_by (p4.calls k) ≡ begun_in v past → IfSome o (λ x. x ≡ master_says (begun_in v past))
     told o is all = by (is_told p4 k) o is

@@ -1,5 +1,5 @@
 -- The drives of a ring by their places and addresses, and whose AT a content is.
-use Rattle.std.proofs.Common.{◌≡◌, ◌⊎◌, inl, inr, ℕ, zero, suc, ◌+◌, ◌<◌, ◌≤◌, Bool, true, false, List, [], ◌∷◌, length, Option, Some, None, refl, sym, ◌∙◌, ap, subst, arith, if◌then◌else◌, map}
+use Rattle.std.proofs.Common.{◌≡◌, ◌⊎◌, inl, inr, ℕ, zero, suc, ◌+◌, ◌<◌, Bool, true, false, List, [], ◌∷◌, length, Option, Some, None, refl, sym, ◌∙◌, ap, subst, arith, if◌then◌else◌, map}
 use Rattle.std.specs.Prelude.{nat_lt, slice_index, slice_index_or}
 use Rattle.std.proofs.lemmas.Bool.Decides.{nat_tests}
 use Rattle.sercos_telegram.specs.declared.layout.Kind.TheVariants as kinds
@@ -8,7 +8,8 @@ use Rattle.sercos_block.specs.Rings.{is_ring}
 use Rattle.sercos_drive.specs.Heard.{DriveCall}
 use Rattle.sercos_drive.specs.Says.{Said, drive_says}
 use Rattle.sercos_seat.specs.Ring.{MemberView, member, member_of, no_member, known_of}
-use Rattle.sercos_master.specs.Annals.{first_from, place_of}
+use Rattle.sercos_master.proofs.Keeping.{IsFirst, first_found}
+use Rattle.sercos_master.specs.Annals.{place_of}
 use Rattle.sercos_script.specs.declared.link.Passage.{Passage}
 use Rattle.sercos_script.specs.Links.{Carry}
 use Rattle.sercos_law_run.specs.Journal.Arrivals.{heard, passage, unseen_at}
@@ -33,21 +34,6 @@ length_map (d ∷ drives) = ap suc (length_map drives)
 pub members_count : (r : RingView) → length (known_of r).drives ≡ length r.drives
 members_count r = length_map r.drives
 
--- the place that is found passes the test
-record IsFirst (k n i : ℕ) (test : ℕ → Bool) : Type 0 where
-  from : k ≤ i
-  below : i < k + n
-  passes : test i ≡ true
-
-first_passes : (k n i : ℕ) (test : ℕ → Bool) → first_from k n test ≡ Some i → IsFirst k n i test
-first_passes k zero i test found = cc
-first_passes k (suc n) i test found = by (test k) refl found (λ rest. first_passes (k + 1) n i test rest)
-  where
-    by : (b : Bool) → test k ≡ b → (if b then Some k else first_from (k + 1) n test) ≡ Some i → (first_from (k + 1) n test ≡ Some i → IsFirst (k + 1) n i test) → IsFirst k (suc n) i test
-    by true passes found next = let same : k ≡ i = cc in record { from = omega (arith, same); below = omega (arith, same); passes = subst (λ j. test j ≡ true) same passes }
-    by false fails found next = let more = next found in let low = more.from in let high = more.below in
-        record { from = omega (arith, low); below = omega (arith, high); passes = more.passes }
-
 -- no two drives have one address
 pub same_drive : (r : RingView) (i k : ℕ) → is_ring r ≡ true → i < length r.drives → k < length r.drives → (drive_at r i).address ≡ (drive_at r k).address → i ≡ k
 same_drive r i k valid low high same =
@@ -59,7 +45,7 @@ same_drive r i k valid low high same =
 -- the master finds the drive at whose place an address is
 pub place_is : (r : RingView) (i k : ℕ) → is_ring r ≡ true → i < length r.drives → place_of (known_of r) (drive_at r i).address ≡ Some k → i ≡ k
 place_is r i k valid low found =
-    let first : IsFirst 0 (length (known_of r).drives) k _ = first_passes 0 (length (known_of r).drives) k _ found in
+    let first : IsFirst 0 (length (known_of r).drives) k _ = first_found 0 (length (known_of r).drives) k _ found in
     let high = first.below in
     let count = members_count r in
     let same : (member (known_of r) k).address ≡ (drive_at r i).address = (let p = first.passes in grind (arith, nat_tests, p)) in
