@@ -1,7 +1,7 @@
 -- The telegrams of phases 0 to 2 keep the rules.
 use Rattle.std.proofs.Common.{◌≡◌, ℕ, ◌*◌, ◌<◌, ◌≤◌, ◌==◌, nat_lt, nat_le, Bool, true, false, not, ◌&&◌, ◌||◌, if◌then◌else◌, List, [], ◌∷◌, length, Option, Some, None, refl, sym, ◌∙◌, ap, subst, arith}
 use Rattle.std.specs.Prelude.{slice_index}
-use Rattle.std.proofs.lemmas.Bool.{eq-eqb}
+use Rattle.std.proofs.lemmas.Bool.{and_from, eq-eqb}
 use Rattle.std.proofs.lemmas.Bool.Decides.{nat_tests}
 use Rattle.sercos_timing.specs.Limits.{early_at, early_mdt}
 use Rattle.sercos_timing.specs.Views.{WishesView}
@@ -43,9 +43,6 @@ is_early phase some low = record { some = grind (arith, nat_tests, some); low = 
 at_order : (a b c : Bool) → a ≡ true → b ≡ true → c ≡ false → (cycle : ℕ) → ((cycle == cycle) && (b && not c)) ≡ true
 at_order a b c ka kb kc cycle = rw (eq-eqb cycle cycle refl, kb, kc) refl
 
-both : (a b : Bool) → a ≡ true → b ≡ true → (a && b) ≡ true
-both a b ka kb = rw (ka, kb) refl
-
 fresh : (a b : Bool) → b ≡ false → not (a && b) ≡ true
 fresh a b none = ap (λ (x : Bool). not (a && x)) none ∙ ap not (and_false a)
 
@@ -71,7 +68,7 @@ module _ (w : WishesView) (rate : ℕ) (c : Command) (mst : List ℕ) (same : w.
   at_ruled done s is starts others =
       let later = later_start w rate (rate * s.start) mst done (each_map (λ (x : Said). x.start ≡ early_at) (λ (x : Said). rate * x.start ≤ rate * s.start) (λ x e. let f : x.start ≡ s.start = e ∙ sym is.start in subst (λ (n : ℕ). rate * x.start ≤ rate * n) f (omega arith)) done starts) in
       none_broken _ _ _ _ _ _ _ _ _
-      (both _ _ (at_order true _ _ refl later (no_mdt_seen rate mst done) c.cycle) (fresh (nat_lt 0 (length s.content)) _ (none_from rate (slice_index s.content 0) mst done others)))
+      (and_from _ _ (at_order true _ _ refl later (no_mdt_seen rate mst done) c.cycle) (fresh (nat_lt 0 (length s.content)) _ (none_from rate (slice_index s.content 0) mst done others)))
       (frame_kept s.content (framed_5 s.content is.long))
       (early_layout _ _ _ _ _ tests.some tests.low (eq-eqb (length s.content) 5 is.long) is.drive)
       refl

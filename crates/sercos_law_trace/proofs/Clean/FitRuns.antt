@@ -1,5 +1,6 @@
 -- The numbers of the telegrams of a run fit the fields of their lines, whatever arrives.
 use Rattle.std.proofs.Common.{◌≡◌, ◌⊎◌, inl, inr, ℕ, pos, zero, suc, ◌+◌, ◌*◌, ◌<◌, ◌≤◌, ◌==◌, Bool, true, false, List, [], ◌∷◌, ◌++◌, length, Option, Some, None, option_map, unwrap_or, refl, sym, subst, arith, if◌then◌else◌}
+use Rattle.std.proofs.lemmas.Bool.{cond_both}
 use Rattle.std.specs.Prelude.{nat_le, slice_index}
 use Rattle.std.specs.List.{All}
 use Rattle.std.proofs.lemmas.List.Elements.{All-nil, All-cons}
@@ -27,13 +28,12 @@ use Rattle.sercos_script.specs.Links.{Carry, Restarts}
 use Rattle.sercos_law_run.specs.Held.Opened.{IsOpened}
 use Rattle.sercos_law_run.specs.Journal.Runs.{drive_at, given_mst, begins, middle, said_below, start_before, sent_at, sent_mst, sent_mdt, ats_said, IsRun}
 use Rattle.sercos_law_run.specs.Views.RingViews.{at_start, behind_mdt, after_mst}
-use Rattle.sercos_law_run.proofs.Theorems.{IsContent, address_of, at_content, mdt_whole, mst_whole, phase_low, plan_words, s_known, first_store}
+use Rattle.sercos_law_run.proofs.Theorems.{sent_by, IsContent, address_of, at_content, mdt_whole, mst_whole, phase_low, plan_words, s_known, first_store}
 use Rattle.sercos_replay.specs.Traced.{FitsLine}
 use Rattle.sercos_law_trace.specs.Clean.Ruled.{RunsFitLines}
 use Rattle.sercos_law_trace.proofs.Clean.RuleLemmas.{mdt_at}
 use Rattle.sercos_law_trace.proofs.Clean.SaidLemmas.{each_said}
 use Rattle.sercos_law_trace.proofs.Clean.SeenLemmas.{Each}
-use Rattle.sercos_law_trace.proofs.Clean.SenderLemmas.{sent_by}
 use Rattle.sercos_hdlc.proofs.FramingLemmas.{length-IsFrame}
 use Rattle.sercos_law_run.proofs.Cited.{is_framed}
 use Rattle.sercos_law_run.proofs.Typed.Spelled.{keeps_within}
@@ -74,11 +74,8 @@ number_low blocks raw store = by (find_block raw blocks) refl
     by (Some b) is = word_low b.value (types blocks raw b store is).1
 
 at_low : (phase : ℕ) (blocks : List Block) → IsStore blocks → start_in phase blocks < 65536
-at_low phase blocks store = by (nat_le 3 phase)
-  where
-    by : (late : Bool) → (if late then number_at blocks 6 else 300) < 65536
-    by true = number_low blocks 6 store
-    by false = omega arith
+at_low phase blocks store = cond_both (nat_le 3 phase) (number_at blocks 6) 300
+    (λ v. v < 65536) (λ on. number_low blocks 6 store) (λ off. omega arith)
 
 mdt_low : (s : Known) (p : Past) (m : Sent) → IsKnown s → IsPlanned s p → mdt_said s p ≡ Some m → m.start < 65536
 mdt_low s p m known planned said = first (p.now.phase == 1) said

@@ -3,7 +3,7 @@ use Rattle.std.proofs.Common.{◌≡◌, ℕ, ℤ, pos, ◌+◌, ◌*◌, ◌≤
 use Rattle.std.specs.Prelude.{slice_index}
 use Rattle.std.specs.List.{list_all, find}
 use Rattle.std.specs.Int.Signed.{le_z}
-use Rattle.std.proofs.lemmas.Bool.{eq-eqb, le-leb}
+use Rattle.std.proofs.lemmas.Bool.{and_from, eq-eqb, le-leb}
 use Rattle.std.proofs.lemmas.Bool.Decides.{nat_tests}
 use Rattle.sercos_hdlc.specs.Stuffed.{frame_of}
 use Rattle.sercos_telegram.specs.Faults.{joint_fault}
@@ -16,8 +16,9 @@ use Rattle.sercos_check.specs.declared.marks.Command.{Command}
 use Rattle.sercos_check.specs.Seen.{is_drive, wish_for, mark_of, is_at_of}
 use Rattle.sercos_check.specs.Rules.{is_after_gap, is_after_mark, is_after_transition}
 use Rattle.sercos_law_run.specs.Journal.Runs.{start_before, sent_at, sent_mst}
+use Rattle.sercos_law_run.proofs.Theorems.{ends_at_0}
 use Rattle.sercos_law_trace.proofs.Clean.RuleLemmas.{none_broken, broken_by, seen_of, mdt_at, AreRuled, newest_by}
-use Rattle.sercos_law_trace.proofs.Clean.SeenLemmas.{Each, EachAfter, each_map, and_false, not_asked, asked, no_mdt_seen, HasOther, none_from, later_start, IsFramed, frame_kept, ends_at_0}
+use Rattle.sercos_law_trace.proofs.Clean.SeenLemmas.{Each, EachAfter, each_map, and_false, not_asked, asked, no_mdt_seen, HasOther, none_from, later_start, IsFramed, frame_kept}
 
 -- the drive's slave, and the end of its AT
 abbrev pub slave_by : WishesView → Said → ℕ
@@ -69,9 +70,6 @@ is_late phase late = record { some = grind (arith, nat_tests, late); not_early =
 order : (b c : Bool) → b ≡ true → c ≡ false → (cycle : ℕ) → ((cycle == cycle) && (b && not c)) ≡ true
 order b c kb kc cycle = rw (eq-eqb cycle cycle refl, kb, kc) refl
 
-both : (a b : Bool) → a ≡ true → b ≡ true → (a && b) ≡ true
-both a b ka kb = rw (ka, kb) refl
-
 fresh : (a b : Bool) → b ≡ false → not (a && b) ≡ true
 fresh a b none = ap (λ (x : Bool). not (a && x)) none ∙ ap not (and_false a)
 
@@ -118,7 +116,7 @@ module _ (w : WishesView) (rate : ℕ) (c : Command) (mst : List ℕ) (late : 3 
       let later = later_start w rate (rate * s.start) mst done (each_map (IsBefore w rate s) (λ (x : Said). rate * x.start ≤ rate * s.start) (starts_before s) done are) in
       let others = each_map (IsBefore w rate s) (HasOther (slice_index s.content 0)) (λ x before. before.other) done are in
       none_broken _ _ _ _ _ _ _ _ _
-      (both _ _ (order _ _ later (no_mdt_seen rate mst done) c.cycle) (fresh (nat_lt 0 (length s.content)) _ (none_from rate (slice_index s.content 0) mst done others)))
+      (and_from _ _ (order _ _ later (no_mdt_seen rate mst done) c.cycle) (fresh (nat_lt 0 (length s.content)) _ (none_from rate (slice_index s.content 0) mst done others)))
       (frame_kept s.content is.framed)
       (at_layout _ _ _ _ _ tests.some tests.not_early (eq-eqb (length s.content) ((wish_for w (slice_index s.content 0)).at_len + 1) is.long) is.drive)
       refl
@@ -135,7 +133,7 @@ module _ (w : WishesView) (rate : ℕ) (c : Command) (mst : List ℕ) (late : 3 
   transition_kept : (done : List Said) (start : ℕ) → Each (IsBeforeMdt w rate start) done → list_all (is_after_transition w (pos start)) (seen_of rate (sent_mst mst) done) ≡ true
   transition_kept [] start are = refl
   transition_kept (x ∷ done) start are =
-      both _ _ (le-leb (end_at rate x + w.rate * (wish_for w (slice_index x.content 0)).times.tatmt) start are.0.receive) (transition_kept done start are.1)
+      and_from _ _ (le-leb (end_at rate x + w.rate * (wish_for w (slice_index x.content 0)).times.tatmt) start are.0.receive) (transition_kept done start are.1)
 
   mdt_ruled : (done : List Said) (m : Sent) → IsLateMdt w rate m → Each (IsBeforeMdt w rate (rate * m.start)) done → broken_by w (Some c) (seen_of rate (sent_mst mst) done) c.cycle (mdt_at rate m) ≡ None
   mdt_ruled done m is are =

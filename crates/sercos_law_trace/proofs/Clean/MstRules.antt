@@ -9,8 +9,9 @@ use Rattle.sercos_check.specs.declared.marks.Command.{Command}
 use Rattle.sercos_check.specs.Seen.{Told, command_before, phase_of, in_cycle}
 use Rattle.sercos_check.specs.Rules.{is_next_cycle, is_next_phase, broken_rule}
 use Rattle.sercos_law_run.specs.Journal.Runs.{start_before, sent_mst}
+use Rattle.sercos_law_run.proofs.Theorems.{ends_at_0}
 use Rattle.sercos_law_trace.proofs.Clean.RuleLemmas.{none_broken, broken_by}
-use Rattle.sercos_law_trace.proofs.Clean.SeenLemmas.{not_asked, frame_kept, ends_at_0}
+use Rattle.sercos_law_trace.proofs.Clean.SeenLemmas.{not_asked, frame_kept}
 
 mst_layout : (phase : ℕ) → phase ≤ 4 → is_none (mst_fault (mst_content phase)) ≡ true
 unfolding mst_fault head_fault

@@ -1,5 +1,6 @@
 -- The numbers of moves, plans, falls and totals fit the fields of their lines.
 use Rattle.std.proofs.Common.{◌≡◌, ℕ, zero, suc, ◌+◌, ◌*◌, ◌<◌, ◌≤◌, ◌==◌, nat_lt, Bool, true, false, List, [], ◌∷◌, ◌++◌, length, reverse, Option, Some, None, is_some, slice_index_or, refl, sym, ◌∙◌, ap, subst, arith, if◌then◌else◌}
+use Rattle.std.proofs.lemmas.Bool.{cond_both}
 use Rattle.std.specs.Prelude.{slice_index}
 use Rattle.std.specs.List.{All}
 use Rattle.std.specs.Option.{option_or}
@@ -182,11 +183,7 @@ totals_fit t n low few =
     (tt, (tt, (tt, (tt, (omega (arith, a, low), (tt, (tt, (tt, (tt, (tt, (tt, (tt, (omega (arith, b), (tt, (tt, (tt, (tt, (tt, (tt, (tt, (tt, (tt, (tt, (omega (arith, c, low), (tt, (tt, (tt, (tt, (tt, (tt, (tt, (tt, (tt, (omega (arith, d, low), (tt, (tt, (tt, (tt, (tt, (tt, (tt, (tt, (omega (arith, e, low), (tt, (tt, (tt, (tt, (tt, (tt, (tt, (omega (arith, f, low), (tt, (tt, (tt, (tt, (tt, (tt, (tt, (tt, (omega (arith, g), tt))))))))))))))))))))))))))))))))))))))))))))))))))))))))))))
 
 falls_few : (t : CycleView) → falls_in t ≤ 1
-falls_few t = by (is_some t.events.fall)
-  where
-    by : (b : Bool) → (if b then 1 else 0) ≤ 1
-    by true = omega arith
-    by false = omega arith
+falls_few t = cond_both (is_some t.events.fall) 1 0 (λ (v : ℕ). v ≤ 1) (λ on. omega arith) (λ off. omega arith)
 
 abbrev TotalsGrow : Type 0
 TotalsGrow = (cycles : List CycleView) (made : CycleView) → totals_of (cycles ++ made ∷ []) ≡ with_cycle (totals_of cycles) made

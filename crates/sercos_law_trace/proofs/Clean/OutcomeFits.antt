@@ -1,5 +1,6 @@
 -- The outcomes that a cycle reports fit the fields of their lines.
 use Rattle.std.proofs.Common.{◌≡◌, inl, inr, ℕ, zero, suc, ◌+◌, ◌-◌, ◌*◌, ◌<◌, ◌≤◌, ◌==◌, nat_lt, Bool, true, false, ◌&&◌, List, [], ◌∷◌, ◌++◌, length, drop, min, Option, Some, None, is_some, is_none, refl, sym, ◌∙◌, ap, subst, arith, if◌then◌else◌}
+use Rattle.std.proofs.lemmas.Bool.{cond_both}
 use Rattle.std.specs.Prelude.{slice_index, slice_get, option_and_then}
 use Rattle.std.specs.List.{All}
 use Rattle.std.proofs.lemmas.List.Elements.{All-nil, All-cons, All-head, All-tail}
@@ -30,9 +31,10 @@ use Rattle.sercos_trace.specs.Kinds.{template_of}
 use Rattle.sercos_trace.specs.Views.{EventsView, CycleView}
 use Rattle.sercos_seat.specs.Channel.{Report, number_in, broken_number}
 use Rattle.sercos_seat.specs.Ring.{Known, Task, known_of, tasks_from, tasks_for, request_task, member}
-use Rattle.sercos_master.specs.Annals.{Call, HearMst, HearAt, Mdt, End, Restart, Past, past, is_taken, after_taken, after_at_of, place_of, settled, begins, with_begin, ready_to_send, is_sent_to, addressed_in, after_mdt, fall_of, next_phase, goes_on, new_epoch, still_waiting, is_idle, hearing}
+use Rattle.sercos_master.specs.Annals.{Call, HearMst, HearAt, Mdt, End, Restart, Past, past, after_taken, place_of, settled, begins, with_begin, ready_to_send, is_sent_to, addressed_in, after_mdt, fall_of, is_idle}
 use Rattle.sercos_master.specs.Reports.{inserted, with_report, with_reports, broken, with_broken, outcomes_told, restart_told}
 use Rattle.sercos_master.proofs.Followed.{settles}
+use Rattle.sercos_master.proofs.Keeping.{at_keeps, channel_keeps, end_keeps}
 use Rattle.sercos_script.specs.declared.link.Passage.{Passage}
 use Rattle.sercos_script.specs.Links.{Carry, Restarts}
 use Rattle.sercos_law_run.specs.Agenda.Reported.{IsReportOf}
@@ -74,11 +76,7 @@ ats_heard r carry cycle (at ∷ ats) h are = ats_heard r carry cycle ats _ (by (
     by (Some content) is = (heard_bytes carry (passage cycle kinds.At (station_of r (slice_index at 0)) 0) at content is, are)
 
 begun_heard : (restarts : Restarts) (cycle : ℕ) (h : List Call) → AreHeard h → AreHeard (begin_calls restarts cycle h)
-begun_heard restarts cycle h are = by (restarts cycle 0)
-  where
-    by : (b : Bool) → AreHeard (if b then Restart ∷ h else h)
-    by true = are
-    by false = are
+begun_heard restarts cycle h are = cond_both (restarts cycle 0) (Restart ∷ h) h AreHeard (λ on. are) (λ off. are)
 
 module _ (r : RingView) (carry : Carry) (restarts : Restarts) where
   all_heard : (j : List CycleView) → AreHeard (master_calls r carry restarts j)
@@ -96,21 +94,8 @@ AreTold (Send ∷ calls) = AreTold calls
 AreTold (Hear status word ∷ calls) = (word < 65536) × AreTold calls
 AreTold (EndCycle ∷ calls) = AreTold calls
 
-at_told : (s : Known) (place : Option ℕ) (content : List ℕ) (p : Past) → AreBytes content → ((k : ℕ) → AreTold (p.calls k)) → (k : ℕ) → AreTold ((after_at_of s place content p).calls k)
-at_told s None content p bytes are k = are k
-at_told s (Some i) content p bytes are k = by (is_taken s p i content)
-  where
-    one : (identifies : Bool) → AreTold (hearing identifies i content p).calls
-    one true = are i
-    one false = (read_word content 3 bytes, are i)
-
-    here : (same : Bool) → AreTold (if same then (hearing (p.now.phase == 1) i content p).calls else p.calls k)
-    here true = one (p.now.phase == 1)
-    here false = are k
-
-    by : (t : Bool) → AreTold ((if t then after_taken i content p else p).calls k)
-    by true = here (k == i)
-    by false = are k
+taken_told : (i : ℕ) (content : List ℕ) (p : Past) (k : ℕ) → AreBytes content → ((k : ℕ) → AreTold (p.calls k)) → AreTold ((after_taken i content p).calls k)
+taken_told i content p k bytes are = channel_keeps AreTold i k content p (are k) (λ same. (read_word content 3 bytes, are k))
 
 mdt_told : (s : Known) (p : Past) → ((k : ℕ) → AreTold (p.calls k)) → (k : ℕ) → AreTold ((after_mdt s p).calls k)
 mdt_told s p are k = by (is_sent_to (ready_to_send s p) (addressed_in s (ready_to_send s p)) k)
@@ -129,13 +114,12 @@ mdt_told s p are k = by (is_sent_to (ready_to_send s p) (addressed_in s (ready_t
 pub all_told : (s : Known) (requests : ℕ → List Task) (h : List Call) → AreHeard h → (k : ℕ) → AreTold ((past s requests h).calls k)
 all_told s requests [] are k = tt
 all_told s requests (HearMst content ∷ h) are k = all_told s requests h are k
-all_told s requests (HearAt content ∷ h) are k = at_told s (place_of s (slice_index content 0)) content (past s requests h) are.0 (all_told s requests h are.1) k
+all_told s requests (HearAt content ∷ h) are k =
+    let before = all_told s requests h are.1 in
+    at_keeps (λ p. AreTold (p.calls k)) s (place_of s (slice_index content 0)) content (past s requests h) (before k)
+    (λ i place is. taken_told i content (past s requests h) k are.0 before)
 all_told s requests (Mdt ∷ h) are k = mdt_told s (past s requests h) (all_told s requests h are) k
-all_told s requests (End ∷ h) are k = by (is_some (fall_of s (past s requests h))) (all_told s requests h are k)
-  where
-    by : (falls : Bool) → AreTold ((past s requests h).calls k) → AreTold ((if falls then new_epoch ((past s requests h).cycle + 1) (still_waiting (past s requests h)) else goes_on (next_phase s (past s requests h)) (past s requests h)).calls k)
-    by true before = tt
-    by false before = before
+all_told s requests (End ∷ h) are k = end_keeps (λ p. AreTold (p.calls k)) s (past s requests h) tt (λ done is. all_told s requests h are k)
 all_told s requests (Restart ∷ h) are k = tt
 
 -- WHAT WAS BEGUN has answers of words, each of which came while its transfer went on.

@@ -1,5 +1,5 @@
 -- The telegrams of a run keep the rules, by induction over its cycles.
-use Rattle.std.proofs.Common.{◌≡◌, ◌⊎◌, inl, inr, ℕ, zero, suc, ◌+◌, ◌<◌, ◌≤◌, ◌==◌, nat_le, Bool, true, false, ◌||◌, if◌then◌else◌, List, [], ◌∷◌, ◌++◌, length, Option, Some, None, is_some, refl, sym, ◌∙◌, ap, subst, arith}
+use Rattle.std.proofs.Common.{◌≡◌, inl, inr, ℕ, zero, suc, ◌+◌, ◌<◌, ◌≤◌, ◌==◌, nat_le, Bool, true, false, ◌||◌, if◌then◌else◌, List, [], ◌∷◌, ◌++◌, length, Option, Some, None, is_some, refl, sym, ◌∙◌, ap, subst, arith}
 use Rattle.std.specs.Prelude.{slice_index}
 use Rattle.std.proofs.lemmas.Bool.{eq-eqb}
 use Rattle.std.proofs.lemmas.Bool.Decides.{nat_tests}
@@ -22,14 +22,13 @@ use Rattle.sercos_master.specs.Annals.{Past, ready_to_send, fall_of, is_done, af
 use Rattle.sercos_master.specs.Annals as master
 use Rattle.sercos_master.specs.Says.{Sent, mdt_said}
 use Rattle.sercos_script.specs.Links.{Carry, Restarts}
-use Rattle.sercos_law_channel.specs.Handshake.Views.{standing, stood_in}
 use Rattle.sercos_law_run.specs.Slots.Sending.{IsApart}
 use Rattle.sercos_check.specs.declared.marks.Command.{Command}
 use Rattle.sercos_check.specs.Seen.{command_before, is_drive, wish_for}
 use Rattle.sercos_check.specs.Rules.{is_next_cycle, is_next_phase}
 use Rattle.sercos_law_run.specs.Journal.Runs.{drive_at, given_mst, master_calls, begins, middle, looks_back, said_below, ats_said, sent_mst, sent_mdt, IsNext, IsRun, IsClear}
-use Rattle.sercos_law_run.specs.Views.RingViews.{at_start, behind_ats, behind_mdt, after_mst, view_of, views_of}
-use Rattle.sercos_law_run.proofs.Theorems.{same_drive, members_count, address_of, IsContent, at_content, phase_low, mdt_whole, AllStand, IsPlannedIn, s_known, phase_same, holding, rules, kept_at_mst, carried_length, first_store, stored_in, spelled_in, all_stand, keeps_all}
+use Rattle.sercos_law_run.specs.Views.RingViews.{at_start, behind_ats, behind_mdt, after_mst}
+use Rattle.sercos_law_run.proofs.Theorems.{Sends, sender_phase, sent_by, same_drive, members_count, address_of, IsContent, at_content, phase_low, mdt_whole, AllStand, IsPlannedIn, s_known, phase_same, holding, rules, carried_length, first_store, stored_in, spelled_in, all_stand, keeps_all}
 use Rattle.sercos_law_run.specs.Held.Opened.{IsOpened}
 use Rattle.sercos_law_run.specs.Headline.Cycles.{takes_part, store_in_cycle}
 use Rattle.sercos_law_trace.specs.Clean.Ruled.{told_after, told_in, KeepRules, RunsKeepRules}
@@ -40,8 +39,7 @@ use Rattle.sercos_law_trace.proofs.Clean.EarlyRules.{IsEarlyAt, IsEarlyIf, early
 use Rattle.sercos_law_trace.proofs.Clean.LateRules.{IsBefore, IsLateAt, late_ruled}
 use Rattle.sercos_law_trace.proofs.Clean.SlotRules.{before, early_enough, before_last, last_late, sends_one}
 use Rattle.sercos_law_trace.proofs.Clean.MstRules.{mst_ruled}
-use Rattle.sercos_law_trace.proofs.Clean.SenderLemmas.{Sends, sent_by, own_address, early_said, addressed_inside, early_mdt_said, none_in_zero}
-use Rattle.sercos_law_channel.proofs.Handshake.RunFacts.{stands_as_commanded}
+use Rattle.sercos_law_trace.proofs.Clean.SenderLemmas.{own_address, early_said, addressed_inside, early_mdt_said, none_in_zero}
 use Rattle.sercos_law_run.proofs.Start.Lengths.{are_as_long}
 use Rattle.sercos_law_run.proofs.Typed.Spelled.{keeps_within}
 use Rattle.sercos_master.proofs.Planned.{is_planned}
@@ -147,18 +145,8 @@ module _ (r : RingView) (jobs : List Job) (carry : Carry) (restarts : Restarts) 
     sends_at k s says = sent_by (drive_at r k) r.rate (after_mst r carry restarts t.sent j k) s says
 
     -- a drive that sends stands in the commanded phase
-    sender_phase : (k : ℕ) → k < length r.drives → (s : Said) → Sends (drive_at r k) (after_mst r carry restarts t.sent j k) s → phase_in (after_mst r carry restarts t.sent j k) ≡ t.phase
-    sender_phase k below s sending =
-        let kept = kept_at_mst r jobs carry restarts opened (first_store r jobs carry restarts opened) t j next clear.1 (spelled_in r jobs carry restarts opened t j next) (stored_in r jobs carry restarts opened t j) all k below in
-        let comes : (view_of r jobs carry restarts k t j).mst_comes ≡ true = sym kept.got ∙ sending.got in
-        let up = sending.stands in
-        by (stands_as_commanded (view_of r jobs carry restarts k t j) (views_of r jobs carry restarts k j) comes) kept.ended up
-      where
-        by : (stood_in (view_of r jobs carry restarts k t j) (standing (views_of r jobs carry restarts k j)) ≡ 0) ⊎ (stood_in (view_of r jobs carry restarts k t j) (standing (views_of r jobs carry restarts k j)) ≡ t.phase)
-            → phase_in (after_mst r carry restarts t.sent j k) ≡ stood_in (view_of r jobs carry restarts k t j) (standing (views_of r jobs carry restarts k j)) → 1 ≤ phase_in (after_mst r carry restarts t.sent j k)
-            → phase_in (after_mst r carry restarts t.sent j k) ≡ t.phase
-        by (inl none) is up = absurd (omega (arith, none, is, up))
-        by (inr same) is up = is ∙ same
+    phase_of : (k : ℕ) → k < length r.drives → (s : Said) → Sends (drive_at r k) (after_mst r carry restarts t.sent j k) s → phase_in (after_mst r carry restarts t.sent j k) ≡ t.phase
+    phase_of = sender_phase r jobs carry restarts opened (first_store r jobs carry restarts opened) t j next clear.1 (spelled_in r jobs carry restarts opened t j next) (stored_in r jobs carry restarts opened t j) all
 
     others : EachPair IsOther ats
     others = pairs_said (length r.drives) (drive_at r) r.rate (given_mst carry restarts t.sent j) (λ i k low high same. same_drive r i k opened.valid low high same)
@@ -171,7 +159,7 @@ module _ (r : RingView) (jobs : List Job) (carry : Carry) (restarts : Restarts) 
     zero_ruled : t.phase ≡ 0 → AreRuled (wishes_of r) r.rate (command_at t.cycle (mst_content phase)) (sent_mst (mst_content phase)) [] ats mdt
     zero_ruled zero_is = nothing_ruled (wishes_of r) r.rate (command_at t.cycle (mst_content phase)) (sent_mst (mst_content phase)) ats mdt
         (each_said (λ (s : Said). ⊥) (length r.drives) (drive_at r) r.rate (given_mst carry restarts t.sent j) (λ k below s says.
-        let sending = sends_at k s says in let same = sender_phase k below s sending in let up = sending.stands in absurd (omega (arith, same, up, zero_is))))
+        let sending = sends_at k s says in let same = phase_of k below s sending in let up = sending.stands in absurd (omega (arith, same, up, zero_is))))
         (none_in_zero (known_of r) (behind_mdt r jobs carry restarts t.sent j) (mdt_phase ∙ zero_is))
 
     -- PHASES 1 AND 2
@@ -182,7 +170,7 @@ module _ (r : RingView) (jobs : List Job) (carry : Carry) (restarts : Restarts) 
     early : 1 ≤ t.phase → t.phase < 3 → AreRuled (wishes_of r) r.rate (command_at t.cycle (mst_content phase)) (sent_mst (mst_content phase)) [] ats mdt
     early some low = early_ruled (wishes_of r) r.rate (command_at t.cycle (mst_content phase)) (mst_content phase) (rate_is r) (subst (λ (n : ℕ). 1 ≤ n) next.phase some) (subst (λ (n : ℕ). n < 3) next.phase low) ats mdt
         (each_said (IsEarlyAt (wishes_of r)) (length r.drives) (drive_at r) r.rate (given_mst carry restarts t.sent j) (λ k below s says.
-        let sending = sends_at k s says in early_said r k (after_mst r carry restarts t.sent j k) s below sending (subst (λ (n : ℕ). n < 3) (sym (sender_phase k below s sending)) low)))
+        let sending = sends_at k s says in early_said r k (after_mst r carry restarts t.sent j k) s below sending (subst (λ (n : ℕ). n < 3) (sym (phase_of k below s sending)) low)))
         (all_after IsOther ats others)
         (early_mdt_in some low)
 
@@ -205,7 +193,7 @@ module _ (r : RingView) (jobs : List Job) (carry : Carry) (restarts : Restarts) 
       long_at k below s sending =
           let past : List Moment = after_mst r carry restarts t.sent j k in
           let stored = stored_in r jobs carry restarts opened t j k below in
-          let phase_is = sender_phase k below s sending in
+          let phase_is = phase_of k below s sending in
           let up : nat_le 3 (phase_in past) ≡ true = late_so (phase_in past) t.phase phase_is late in
           let carried = carried_length (cycle_in past) (phase_in past) (blocks_in (drive_at r k) past) stored.0 up in
           let fields_long = fields_length sending.word sending.info (values_in (cycle_in past) (phase_in past) (blocks_in (drive_at r k) past)) in

@@ -1,5 +1,5 @@
 -- What a checker finds among the telegrams of a cycle so far.
-use Rattle.std.proofs.Common.{◌≡◌, ℕ, pos, zero, suc, ◌-◌, ◌*◌, ◌<◌, ◌≤◌, ◌+ℤ◌, ◌==◌, nat_lt, nat_le, Bool, true, false, not, ◌&&◌, ◌||◌, List, [], ◌∷◌, length, refl, ap, arith}
+use Rattle.std.proofs.Common.{◌≡◌, ℕ, pos, zero, suc, ◌-◌, ◌*◌, ◌<◌, ◌≤◌, ◌==◌, nat_lt, nat_le, Bool, true, false, not, ◌&&◌, ◌||◌, List, [], ◌∷◌, length, refl, ap, arith}
 use Rattle.std.specs.Prelude.{slice_index}
 use Rattle.std.specs.Int.Signed.{le_z}
 use Rattle.std.specs.Ordering.{int_eq}
@@ -110,11 +110,3 @@ frame_kept content is =
 
 pub same_start : (a b : ℕ) → a ≡ b → int_eq (pos a) (pos b) ≡ true
 same_start a b is = (Decides-int_eq (pos a) (pos b)).1 (ap pos is)
-
--- an MST ends at 0
-pub ends_at_0 : (n : ℕ) → start_before n +ℤ pos n ≡ pos 0
-ends_at_0 zero = refl
-ends_at_0 (suc n) =
-    let less : nat_lt (suc n) (suc n) ≡ false = grind (arith, nat_tests) in
-    let none : suc n - suc n ≡ 0 = omega arith in
-    rw (less, none) refl

@@ -1,50 +1,26 @@
 -- What drives and master send in each phase.
-use Rattle.std.proofs.Common.{◌≡◌, ℕ, zero, suc, ◌+◌, ◌<◌, ◌≤◌, ◌==◌, nat_le, Bool, true, false, not, if◌then◌else◌, List, [], ◌∷◌, length, Option, Some, None, option_map, unwrap_or, refl, ◌∙◌, ap, subst, arith}
+use Rattle.std.proofs.Common.{◌≡◌, ℕ, ◌+◌, ◌<◌, ◌≤◌, ◌==◌, nat_le, Bool, true, false, not, if◌then◌else◌, List, [], ◌∷◌, length, Option, Some, None, option_map, refl, ◌∙◌, ap, arith}
 use Rattle.std.specs.Prelude.{slice_index}
 use Rattle.std.proofs.lemmas.Bool.Decides.{nat_tests}
 use Rattle.sercos_telegram.specs.Spells.{fields}
 use Rattle.sercos_block.specs.Rings.{wishes_of}
 use Rattle.sercos_block.specs.Views.{DriveView, RingView}
-use Rattle.sercos_drive.specs.Moments.{Moment, phase_in, cycle_in, has_mst, has_taken, blocks_in, commands_in, taken_in}
-use Rattle.sercos_drive.specs.Says.{Said, said, said_in, sends, shown_word, values_in, start_in}
-use Rattle.sercos_service_drive.specs.Says.{Shown, channel_says}
+use Rattle.sercos_drive.specs.Moments.{Moment, phase_in, cycle_in, blocks_in}
+use Rattle.sercos_drive.specs.Says.{Said, said, values_in}
 use Rattle.sercos_service_master.specs.Begun.{Said as Told}
 use Rattle.sercos_seat.specs.Ring.{Known, MemberView, known_of}
 use Rattle.sercos_seat.proofs.Sends.{fields_length}
 use Rattle.sercos_seat.specs.Records.{word_said}
-use Rattle.sercos_master.specs.Annals.{Past, first_from, first_place, is_idle, is_identified, addressed_in}
+use Rattle.sercos_master.specs.Annals.{Past, first_place, is_idle, is_identified, addressed_in}
 use Rattle.sercos_master.specs.Says.{said_to, idle, single, joint, mdt_said}
 use Rattle.sercos_law_run.specs.Journal.Runs.{drive_at}
-use Rattle.sercos_law_run.proofs.Theorems.{member_is, sends_so}
+use Rattle.sercos_master.proofs.Keeping.{first_found}
+use Rattle.sercos_law_run.proofs.Theorems.{Sends, member_is}
 use Rattle.sercos_check.specs.Seen.{is_drive}
 use Rattle.sercos_law_trace.proofs.Clean.SaidLemmas.{drive_there}
 use Rattle.sercos_law_trace.proofs.Clean.EarlyRules.{IsEarlyAt, IsEarlyMdt, IsEarlyIf}
 
 -- WHAT A DRIVE SENDS
-pub record Sends (d : DriveView) (past : List Moment) (s : Said) : Type 0 where
-  pub got : has_mst past ≡ true
-  pub stands : 1 ≤ phase_in past
-  pub start : s.start ≡ start_in (phase_in past) (blocks_in d past)
-  pub word : ℕ
-  pub info : ℕ
-  pub content : s.content ≡ d.address ∷ fields word info (values_in (cycle_in past) (phase_in past) (blocks_in d past))
-
-pub sent_by : (d : DriveView) (rate : ℕ) (past : List Moment) (s : Said) → said_in d rate past ≡ Some s → Sends d past s
-sent_by d rate past s is = by (sends past) refl is
-  where
-    shows : Shown
-    shows = channel_says d.busy (cycle_in past) (commands_in d rate past) (taken_in past)
-
-    what : Said
-    what = said d.address (cycle_in past) (phase_in past) (blocks_in d past) (channel_says d.busy (cycle_in past) (commands_in d rate past) (taken_in past))
-
-    by : (b : Bool) → sends past ≡ b → (if b then Some what else None) ≡ Some s → Sends d past s
-    by true sent is =
-        let same : what ≡ s = ap (λ (o : Option Said). unwrap_or o what) is in
-        let (got, stands) = sends_so (has_mst past) (has_taken past) (phase_in past) sent in
-        subst (λ x. Sends d past x) same (record { got = got; stands = stands; start = refl; word = shown_word shows; info = shows.word; content = refl })
-    by false sent is = cc
-
 pub own_address : (d : DriveView) (past : List Moment) (s : Said) → Sends d past s → slice_index s.content 0 ≡ d.address
 own_address d past s is = ap (λ (l : List ℕ). slice_index l 0) is.content
 
@@ -60,14 +36,6 @@ early_said r k past s below is low =
     }
 
 -- WHAT THE MASTER SENDS in phases 1 and 2: an MDT to a drive of the ring
-first_inside : (k n i : ℕ) (test : ℕ → Bool) → first_from k n test ≡ Some i → i < k + n
-first_inside k zero i test found = cc
-first_inside k (suc n) i test found = by (test k) found (λ rest. first_inside (k + 1) n i test rest)
-  where
-    by : (b : Bool) → (if b then Some k else first_from (k + 1) n test) ≡ Some i → (first_from (k + 1) n test ≡ Some i → i < k + 1 + n) → i < k + suc n
-    by true found next = let same : k ≡ i = cc in omega (arith, same)
-    by false found next = let more = next found in omega (arith, more)
-
 pub addressed_inside : (s : Known) (p : Past) (i : ℕ) → addressed_in s p ≡ Some i → i < length s.drives
 addressed_inside s p i is = first (p.now.phase == 1) is
   where
@@ -75,11 +43,11 @@ addressed_inside s p i is = first (p.now.phase == 1) is
     zero_less n low = omega (arith, low)
 
     second : (b : Bool) → (if b then first_place s (λ k. not (is_idle p k)) else None) ≡ Some i → i < length s.drives
-    second true is = zero_less (length s.drives) (first_inside 0 (length s.drives) i _ is)
+    second true is = zero_less (length s.drives) (first_found 0 (length s.drives) i _ is).below
     second false is = cc
 
     first : (b : Bool) → (if b then first_place s (λ k. not (is_identified p k)) else (if p.now.phase == 2 then first_place s (λ k. not (is_idle p k)) else None)) ≡ Some i → i < length s.drives
-    first true is = zero_less (length s.drives) (first_inside 0 (length s.drives) i _ is)
+    first true is = zero_less (length s.drives) (first_found 0 (length s.drives) i _ is).below
     first false is = second (p.now.phase == 2) is
 
 single_early : (r : RingView) (said : Told) (k : ℕ) → k < length r.drives → IsEarlyMdt (wishes_of r) (single (known_of r) said k)

@@ -1,5 +1,6 @@
 -- What is told of each request of a run that is undisturbed and long enough: an outcome, and not a broken one.
 use Rattle.std.proofs.Common.{◌≡◌, inl, inr, ℕ, zero, suc, ◌+◌, ◌*◌, ◌<◌, ◌≤◌, ◌==◌, Bool, true, false, if◌then◌else◌, List, [], ◌∷◌, ◌++◌, length, Some, None, option_map, refl, sym, ap, ◌∙◌, subst, arith}
+use Rattle.std.proofs.lemmas.Option.{none-some, same_Some}
 use Rattle.std.specs.Prelude.{slice_get}
 use Rattle.std.specs.List.{filter, find}
 use Rattle.std.proofs.Math.Nat.{mul-le-mul_right}
@@ -22,9 +23,6 @@ use Rattle.sercos_backup.specs.Tracking.{told_of}
 use Rattle.sercos_law_trace.specs.Told.Told.{told_in}
 use Rattle.sercos_law_trace.proofs.Told.ToldLemmas.{told_cut, told_more}
 
-none≢some : {A : Type 0} {x : A} → None ≡ Some x → ⊥
-none≢some e = cc
-
 -- the requests to the drive with an address
 abbrev are_to : ℕ → List Job → List Job
 are_to address jobs = filter (λ (job : Job). job.drive == address) jobs
@@ -38,7 +36,7 @@ record IsTaskOf (address number : ℕ) (jobs : List Job) (n : ℕ) : Type 0 wher
   few : place < length (are_to address jobs)
 
 task_at : (address number n : ℕ) (jobs : List Job) (job : Job) → slice_get jobs n ≡ Some job → job.drive ≡ address → IsTaskOf address number jobs n
-task_at address number n [] job there to = absurd (none≢some there)
+task_at address number n [] job there to = absurd (none-some _ there)
 task_at address number zero (x ∷ jobs) job there to =
     let same : x ≡ job = cc in
     let drive : x.drive ≡ address = ap (λ (y : Job). y.drive) same ∙ to in
@@ -150,15 +148,12 @@ told_whole r jobs carry restarts run n k job starts right long calm there below 
     let four = up.rises (long_enough _ _ _ _ long made.count) right in
     let mine : slice_get (tasks_for (known_of r) jobs k) task.place ≡ Some task.task = subst (λ (a : ℕ). slice_get (tasks_from a 1 jobs) task.place ≡ Some task.task) (sym (ap (λ (m : MemberView). m.address) (member_is r k))) task.there in
     let told = up.reports four k task.place task.task below mine (enough _ _ _ _ _ _ task.few long made.count) in
-    let number : told.0 ≡ 1 + n = same_number (sym told.1 ∙ task.is) in
+    let number : told.0 ≡ 1 + n = same_Some _ _ (sym told.1 ∙ task.is) in
     let have : HaveTold run (1 + n) = subst (λ (j : List CycleView). HaveTold j (1 + n)) (sym made.is) (subst (HaveTold (made.one ∷ made.before)) number told.2) in
     let has = has_told run (1 + n) have in
     let got = found (told_in run) (1 + n) has.0 has.1 in
     record { told_so = got.0; is = got.1; unbroken = λ broken. never (got.1 ∙ ap Some broken) }
   where
-    same_number : {a b : ℕ} → Some a ≡ Some b → a ≡ b
-    same_number e = cc
-
     never : told_of (told_in run) (1 + n) ≡ Some outcome.Broken → ⊥
     never e =
         let cut = told_cut run (1 + n) outcome.Broken e in

@@ -1,5 +1,6 @@
 -- The steps that a drive accepted in a run, and the transfers that they are parts of.
 use Rattle.std.proofs.Common.{◌≡◌, ◌⊎◌, inl, inr, ℕ, ◌==◌, Bool, true, false, if◌then◌else◌, List, [], ◌∷◌, ◌++◌, length, Option, Some, None, refl, sym, ap, subst, ◌∙◌, append_assoc}
+use Rattle.std.proofs.lemmas.Bool.{cond_both}
 use Rattle.std.specs.Prelude.{nat_le, ◌&&◌}
 use mathlib.Core.Bool.{beq}
 use Rattle.sercos_step.specs.declared.request.Job.{Job}
@@ -124,11 +125,8 @@ newest_or (Some t) h entries e has = by (beq t.mhs (ahs h)) has
 
 pub one_more : (processed : Option Taken) (h : List Taken) (entries : List Entry) (e : Entry) → HasAccepted e entries → HasAccepted e (accepted_of processed h entries)
 one_more None h entries e has = has
-one_more (Some t) h entries e has = by (beq t.mhs (ahs h))
-  where
-    by : (b : Bool) → HasAccepted e (if b then entries else (record { taken = t; answer = reply_of t (log_of h) }) ∷ entries)
-    by true = has
-    by false = inr has
+one_more (Some t) h entries e has = cond_both (beq t.mhs (ahs h)) entries ((record { taken = t; answer = reply_of t (log_of h) }) ∷ entries)
+    (HasAccepted e) (λ on. has) (λ off. inr has)
 
 pub record IsAcceptedIn (r : RingView) (carry : Carry) (restarts : Restarts) (k : ℕ) (run : List CycleView) (e : Entry) : Type 0 where
   pub newer : List CycleView

@@ -1,6 +1,7 @@
 -- In phase 4 nothing is written to a block that is write protected in phase 4: so no request that is begun in phase 4 ends as a complete
 -- write to it.
 use Rattle.std.proofs.Common.{◌≡◌, ℕ, ◌+◌, ◌≤◌, ◌==◌, Bool, true, false, List, [], ◌∷◌, ◌++◌, length, map, Option, Some, None, refl, sym, ap, ◌∙◌, subst, arith, if◌then◌else◌, length-append}
+use Rattle.std.proofs.lemmas.Option.{none-some}
 use Rattle.std.specs.Prelude.{is_some}
 use Rattle.std.proofs.lemmas.Bool.{and_parts, eqb-true}
 use Rattle.std.proofs.lemmas.Bool.Decides.{nat_tests}
@@ -48,9 +49,6 @@ abbrev pub HaveEnded : List Begun → Type 0
 HaveEnded [] = Unit {0}
 HaveEnded (b ∷ begun) = HaveEnded begun × ((o : Outcome) × (outcome_of b.request b.answers ≡ Some o))
 
-none≢some : {A : Type 0} {x : A} → None ≡ Some x → ⊥
-none≢some e = cc
-
 count_append : (raw : ℕ) (xs ys : List Write) → count_writes raw (xs ++ ys) ≡ count_writes raw xs + count_writes raw ys
 count_append raw [] ys = omega arith
 count_append raw (x ∷ xs) ys = let more = count_append raw xs ys in omega (arith, more)
@@ -71,7 +69,7 @@ own_same : (raw : ℕ) (blocks : List Block) (b : Begun) (own : List Write) (o :
     → count_writes raw own ≡ count_given raw (given_if (outcome_of b.request b.answers) (given_by blocks b.request))
 own_same raw blocks b own o ended (Complete bytes complete has is) = ap (count_given raw) is ∙ sym (ap (λ (x : Option Outcome). count_given raw (given_if x (given_by blocks b.request))) complete)
 own_same raw blocks b own o ended (Refused code refused none) = ap (count_writes raw) none ∙ sym (ap (λ (x : Option Outcome). count_given raw (given_if x (given_by blocks b.request))) refused)
-own_same raw blocks b own o ended (Broken later on is) = absurd (none≢some (sym on ∙ ended))
+own_same raw blocks b own o ended (Broken later on is) = absurd (none-some _ (sym on ∙ ended))
 
 exact_least : (raw : ℕ) (blocks : List Block) (begun : List Begun) (entries : List Entry) (writes : List Write) → AreExact blocks begun entries writes → count_complete raw blocks begun ≤ count_writes raw writes
 exact_least raw blocks [] entries writes exact = omega arith

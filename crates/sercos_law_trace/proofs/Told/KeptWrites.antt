@@ -1,8 +1,9 @@
 -- A complete write of operation data is kept, if no later request writes to its block: the start-up doesn't write it either.
 use Rattle.std.proofs.Common.{◌≡◌, ◌⊎◌, inl, inr, ℕ, zero, suc, ◌+◌, ◌<◌, ◌==◌, Bool, true, false, not, ◌||◌, if◌then◌else◌, List, [], ◌∷◌, ◌++◌, length, Option, Some, None, refl, sym, ap, subst, ◌∙◌, arith}
+use Rattle.std.proofs.lemmas.Option.{none-some, same_Some}
 use Rattle.std.specs.Prelude.{IfSome, option_map, nat_lt, drop, map, is_some, unwrap_or, slice_get, slice_index}
 use Rattle.std.specs.List.{list_all, list_any}
-use Rattle.std.proofs.lemmas.Bool.{cond-true, eq-eqb, eqb-true}
+use Rattle.std.proofs.lemmas.Bool.{cond-true}
 use Rattle.std.proofs.lemmas.Bool.Decides.{nat_tests}
 use Rattle.sercos_idn.specs.declared.idn.Idn.{Idn}
 use Rattle.sercos_step.specs.declared.request.Request.{Request}
@@ -17,7 +18,7 @@ use Rattle.sercos_block.specs.Views.{RingView}
 use Rattle.sercos_command.specs.Checks.{data_at}
 use Rattle.sercos_service_drive.specs.Replies.{data_in}
 use Rattle.sercos_service_drive.specs.Writes.{AreAlike, without_data}
-use Rattle.sercos_law_channel.proofs.Theorems.{find-alike}
+use Rattle.sercos_law_channel.proofs.Theorems.{flipped, find-alike}
 use Rattle.sercos_block.specs.Blocks.{is_fixed}
 use Rattle.sercos_drive.specs.Moments.{blocks_in}
 use Rattle.sercos_drive.specs.Annals.{annals}
@@ -74,9 +75,6 @@ pub record KeptLaws : Type 0 where
   pub stores : (r : RingView) (jobs : List Job) (carry : Carry) (restarts : Restarts) (j : List CycleView) (k : ℕ) → IsOpened r jobs → IsRun r jobs carry restarts j → IsClear j → k < length r.drives
       → blocks_in (drive_at r k) (annals (drive_at r k) r.rate (given_before carry restarts j k)) ≡ store_in (store_of (drive_at r k)) (views_of r jobs carry restarts k j)
 
-none≢some : {A : Type 0} {x : A} → None ≡ Some x → ⊥
-none≢some e = cc
-
 -- A request that doesn't write to a block gives nothing to its number.
 pub gives_elsewhere : (raw : ℕ) (blocks : List Block) (q : Request) → writes_to raw q ≡ false → Elsewhere raw blocks q
 gives_elsewhere raw blocks (request.Read idn e) away = refl
@@ -90,7 +88,7 @@ gives_elsewhere raw blocks (request.Command idn) away = rw away refl
 
 -- THE START-UP writes to none but its own blocks.
 any_not : (raw : ℕ) (xs : List ℕ) (i y : ℕ) → list_any (λ (n : ℕ). n == raw) xs ≡ false → slice_get xs i ≡ Some y → (y == raw) ≡ false
-any_not raw [] i y none got = absurd (none≢some got)
+any_not raw [] i y none got = absurd (none-some _ got)
 any_not raw (x ∷ xs) zero y none got = let same : x ≡ y = cc in subst (λ (z : ℕ). (z == raw) ≡ false) same (first (x == raw) _ none)
   where
     first : (a b : Bool) → (a || b) ≡ false → a ≡ false
@@ -105,11 +103,8 @@ any_not raw (x ∷ xs) (suc i) y none got = any_not raw xs i y (second (x == raw
 start_at : (raw : ℕ) (i y : ℕ) → is_start raw ≡ false → slice_get all_start i ≡ Some y → (y == raw) ≡ false
 start_at raw i y none got = any_not raw all_start i y none got
 
-one_request : (r x : Request) → Some r ≡ Some x → r ≡ x
-one_request r x e = cc
-
 map_got : {A B : Type 0} (f : A → B) (xs : List A) (i : ℕ) (y : B) → slice_get (map f xs) i ≡ Some y → (x : A) × (f x ≡ y)
-map_got f [] i y got = absurd (none≢some got)
+map_got f [] i y got = absurd (none-some _ got)
 map_got f (x ∷ xs) zero y got = (x, cc)
 map_got f (x ∷ xs) (suc i) y got = map_got f xs i y got
 
@@ -135,7 +130,7 @@ startup_elsewhere : (s : Known) (k : ℕ) (by_then : Option PlanView) (waiting :
 startup_elsewhere s k by_then waiting outs t raw none (OfReads r less found is) = inl (ap (λ (x : Task). writes_to raw x.request) is ∙ reading_elsewhere raw r (reads_read (member s k) _ r found))
 startup_elsewhere s k by_then waiting outs t raw none (OfWrites p n r planned less at found is) =
     let (w, bytes, got, number) = writes_data s p k n less in
-    let same : r ≡ request.Write w 7 bytes = one_request r (request.Write w 7 bytes) (sym found ∙ got) in
+    let same : r ≡ request.Write w 7 bytes = same_Some r (request.Write w 7 bytes) (sym found ∙ got) in
     inl (ap (λ (x : Task). writes_to raw x.request) is ∙ ap (writes_to raw) same ∙ start_at raw (suc (suc (suc (suc n)))) w.raw none number)
 startup_elsewhere s k by_then waiting outs t raw none (Checks3 p planned at is) = inl (ap (λ (x : Task). writes_to raw x.request) is ∙ start_at raw 2 127 none refl)
 startup_elsewhere s k by_then waiting outs t raw none (Lists3 at failed is) = inl (ap (λ (x : Task). writes_to raw x.request) is)
@@ -312,14 +307,7 @@ module _ (laws : KeptLaws) (r : RingView) (jobs : List Job) (carry : Carry) (res
 
 -- AT THE END
 plain_so : (raw : ℕ) → is_start raw ≡ false → is_plain raw ≡ true
-plain_so raw none = rw (flipped raw 21 (start_at raw 0 21 none refl), flipped raw 22 (start_at raw 1 22 none refl)) refl
-  where
-    flipped : (raw k : ℕ) → (k == raw) ≡ false → (raw == k) ≡ false
-    flipped raw k off = which (raw == k) refl
-      where
-        which : (v : Bool) → (raw == k) ≡ v → (raw == k) ≡ false
-        which false is = is
-        which true is = let on : (k == raw) ≡ true = eq-eqb k raw (sym (eqb-true raw k is)) in absurd (cc)
+plain_so raw none = rw (flipped 21 raw (start_at raw 0 21 none refl), flipped 22 raw (start_at raw 1 22 none refl)) refl
 
 -- a block that may be written doesn't change by itself
 still_block : (b : Block) → is_fixed b ≡ false → (b.step == 0) ≡ true
@@ -361,7 +349,7 @@ module _ (laws : KeptLaws) (r : RingView) (jobs : List Job) (carry : Carry) (res
     where
       free : (fixed : Bool) → is_fixed b ≡ fixed → newest_to idn.raw (all_writes (views_of r jobs carry restarts k (t ∷ j))) ≡ Some (stored b bytes) → is_fixed b ≡ false
       free false is written = is
-      free true is written = absurd (none≢some (sym (laws.fixed (store_of (drive_at r k)) (views_of r jobs carry restarts k (t ∷ j)) idn.raw b (laws.sound r jobs carry restarts (t ∷ j) k opened run clear below) found is) ∙ written))
+      free true is written = absurd (none-some _ (sym (laws.fixed (store_of (drive_at r k)) (views_of r jobs carry restarts k (t ∷ j)) idn.raw b (laws.sound r jobs carry restarts (t ∷ j) k opened run clear below) found is) ∙ written))
 
   in_store_of : (run : List CycleView) → 0 < length run → IsRun r jobs carry restarts run → IsClear run → IsWrittenLast (store_of (drive_at r k)) (all_begun (views_of r jobs carry restarts k run)) idn bytes
       → (b : Block) → find_block idn.raw (store_of (drive_at r k)) ≡ Some b → (c : Block) × (find_block idn.raw (blocks_in (drive_at r k) (annals (drive_at r k) r.rate (given_before carry restarts run k))) ≡ Some c) × ((cycle : ℕ) → data_in cycle c ≡ stored b bytes)

@@ -1,8 +1,8 @@
 -- The last write to a block, from cycle to cycle and through all epochs.
-use Rattle.std.proofs.Common.{◌≡◌, ℕ, Bool, true, false, not, List, [], ◌∷◌, ◌++◌, map, Option, Some, None, refl, sym, ap, ◌∙◌, subst, if◌then◌else◌, append_assoc}
+use Rattle.std.proofs.Common.{◌≡◌, ℕ, Bool, true, false, not, List, [], ◌∷◌, ◌++◌, Option, Some, None, refl, sym, ap, ◌∙◌, subst, if◌then◌else◌, append_assoc}
 use Rattle.std.specs.Prelude.{◌==◌, is_some, IfSome}
 use Rattle.std.specs.List.{list_all}
-use Rattle.std.proofs.lemmas.Bool.{and_parts}
+use Rattle.std.proofs.lemmas.Bool.{and_parts, cond_both}
 use Rattle.sercos_idn.specs.declared.idn.Idn.{Idn}
 use Rattle.sercos_step.specs.declared.request.Request.{Request}
 use Rattle.sercos_step.specs.declared.request.Request.TheVariants as request
@@ -19,32 +19,16 @@ use Rattle.sercos_law_channel.specs.Handshake.Transfers.{stored}
 use Rattle.sercos_law_channel.specs.Handshake.Views.{Heard, View}
 use Rattle.sercos_law_channel.specs.Handshake.Epochs.{with_heard, with_begun, unless_restart, epoch_begun, begun_in}
 use Rattle.sercos_law_channel.specs.Handshake.WholeRun.{leaving, begun_ago, all_begun}
-use Rattle.sercos_law_channel.specs.Handshake.Exact.{Given, given_of, written_to, given_by, AreWrites, Complete, Refused, Broken, AreExact}
+use Rattle.sercos_law_channel.specs.Handshake.Exact.{Given, given_by, Complete, AreExact}
 use Rattle.sercos_law_channel.specs.Handshake.Values.{newest_to, GiveElsewhere}
 use Rattle.sercos_law_run.specs.Agenda.Writes.{IsWrittenLast}
-use Rattle.sercos_law_channel.proofs.Theorems.{elsewhere, all-drop, own_one}
+use Rattle.sercos_law_channel.proofs.Theorems.{newest_of}
 
 -- a request gives nothing to the number
 abbrev pub Elsewhere : ℕ → List Block → Request → Type 0
 Elsewhere raw blocks r = list_all (λ (g : Given). not (g.raw == raw)) (given_by blocks r) ≡ true
 
--- The newest write.
-own_elsewhere : (raw : ℕ) (blocks : List Block) (b : Begun) (own : List Write) → AreWrites blocks b own → Elsewhere raw blocks b.request → list_all (λ (g : Given). not (g.raw == raw)) (map given_of own) ≡ true
-own_elsewhere raw blocks b own (Complete bytes complete has is) all = ap (list_all (λ (g : Given). not (g.raw == raw))) is ∙ all
-own_elsewhere raw blocks b own (Refused code refused none) all = ap (λ (l : List Write). list_all (λ (g : Given). not (g.raw == raw)) (map given_of l)) none
-own_elsewhere raw blocks b own (Broken later on is) all = ap (list_all (λ (g : Given). not (g.raw == raw))) is ∙ all-drop raw later (given_by blocks b.request) all
-
-module _ (blocks : List Block) (older : List Begun) (b : Begun) (idn : Idn) (bytes whole : List ℕ) (block : Block) (is : b.request ≡ request.Write idn 7 bytes) (complete : outcome_of b.request b.answers ≡ Some (outcome.Complete whole)) (found : find_block idn.raw blocks ≡ Some block) where
-  own_newest : (own others : List Write) → AreWrites blocks b own → newest_to idn.raw (own ++ others) ≡ Some (stored block bytes)
-  own_newest own others (Complete x y has given) = own_one idn.raw (stored block bytes) own others (given ∙ ap (given_by blocks) is ∙ ap (written_to idn.raw bytes) found)
-  own_newest own others (Refused code refused none) = absurd (cc)
-  own_newest own others (Broken later on given) = absurd (cc)
-
-  newest_of : (newer : List Begun) (entries : List Entry) (writes : List Write) → AreExact blocks (newer ++ b ∷ older) entries writes → GiveElsewhere idn.raw blocks newer → newest_to idn.raw writes ≡ Some (stored block bytes)
-  newest_of [] entries writes (part, rest, own, others, of_entries, of_writes, exact, behind) away = ap (newest_to idn.raw) of_writes ∙ own_newest own others exact.writes
-  newest_of (x ∷ newer) entries writes (part, rest, own, others, of_entries, of_writes, exact, behind) away =
-      ap (newest_to idn.raw) of_writes ∙ elsewhere idn.raw own others (own_elsewhere idn.raw blocks x own exact.writes away.1) ∙ newest_of newer rest others behind away.0
-
+-- the newest write
 pub newest_last : (blocks : List Block) (begun : List Begun) (idn : Idn) (bytes : List ℕ) (block : Block) (entries : List Entry) (writes : List Write) → find_block idn.raw blocks ≡ Some block → AreExact blocks begun entries writes
     → IsWrittenLast blocks begun idn bytes → newest_to idn.raw writes ≡ Some (stored block bytes)
 newest_last blocks begun idn bytes block entries writes found exact last =
@@ -95,11 +79,9 @@ module _ (blocks : List Block) (idn : Idn) (bytes : List ℕ) where
 
   last_heard : (h : Option Heard) (xs rest : List Begun) → Last (xs ++ rest) → Last (with_heard h xs ++ rest)
   last_heard None xs rest last = last
-  last_heard (Some h) xs rest last = by (answers_it xs h.status) refl
-    where
-      by : (b : Bool) → answers_it xs h.status ≡ b → Last ((if b then with_answer (answer_in h.status h.word) xs else xs) ++ rest)
-      by true on = last_answer (answer_in h.status h.word) xs rest (and_parts (is_some (open_in xs)) _ on).0 last
-      by false off = last
+  last_heard (Some h) xs rest last = cond_both (answers_it xs h.status) (with_answer (answer_in h.status h.word) xs) xs
+      (λ v. Last (v ++ rest))
+      (λ on. last_answer (answer_in h.status h.word) xs rest (and_parts (is_some (open_in xs)) _ on).0 last) (λ off. last)
 
   both_begun : (falls : Bool) (xs ago : List Begun) → (if falls then [] else xs) ++ leaving falls xs ago ≡ xs ++ ago
   both_begun true xs ago = refl

@@ -1,5 +1,7 @@
 -- Which requests still wait after a request has ended, and which were begun after it.
 use Rattle.std.proofs.Common.{◌≡◌, inl, inr, ℕ, zero, suc, ◌+◌, ◌<◌, ◌≤◌, Bool, true, false, List, [], ◌∷◌, ◌++◌, length, Option, Some, None, refl, sym, ap, ◌∙◌, subst, arith, if◌then◌else◌}
+use Rattle.std.proofs.lemmas.Bool.{cond_both}
+use Rattle.std.proofs.lemmas.Option.{none-some}
 use Rattle.std.specs.Prelude.{drop, is_some, slice_get}
 use Rattle.std.proofs.lemmas.List.{drop-drop}
 use Rattle.sercos_step.specs.declared.request.Outcome.{Outcome}
@@ -17,9 +19,6 @@ use Rattle.sercos_law_run.proofs.Theorems.{count_so}
 use Rattle.sercos_master.proofs.Laws.{get_dropped}
 use Rattle.sercos_law_trace.proofs.Told.FewTasks.{ready_more}
 
-none≢some : {A : Type 0} {x : A} → None ≡ Some x → ⊥
-none≢some e = cc
-
 -- THE NUMBERS of the requests to a drive ascend.
 pub record IsAbove (n : ℕ) (t : Task) : Type 0 where
   pub number : ℕ
@@ -27,7 +26,7 @@ pub record IsAbove (n : ℕ) (t : Task) : Type 0 where
   pub above : n < number
 
 at_least : (i : ℕ) (tasks : List Task) (b : ℕ) (u : Task) → Ascend i tasks → slice_get tasks b ≡ Some u → (y : ℕ) × (u.number ≡ Some y) × (i ≤ y)
-at_least i [] b u are got = absurd (none≢some got)
+at_least i [] b u are got = absurd (none-some _ got)
 at_least i (t ∷ tasks) zero u (n, is, low, rest) got = let same : t ≡ u = cc in (n, ap (λ (x : Task). x.number) (sym same) ∙ is, low)
 at_least i (t ∷ tasks) (suc b) u (n, is, low, rest) got = let (y, named, least) = at_least (n + 1) tasks b u rest got in (y, named, omega (arith, low, least))
 
@@ -35,7 +34,7 @@ one_number : (o : Option ℕ) (x y : ℕ) → o ≡ Some x → o ≡ Some y → 
 one_number o x y a b = let e : Some x ≡ Some y = sym a ∙ b in cc
 
 pub later_above : (i : ℕ) (tasks : List Task) (a b n : ℕ) (t u : Task) → Ascend i tasks → slice_get tasks a ≡ Some t → slice_get tasks b ≡ Some u → a < b → t.number ≡ Some n → IsAbove n u
-later_above i [] a b n t u are first second less named = absurd (none≢some first)
+later_above i [] a b n t u are first second less named = absurd (none-some _ first)
 later_above i (x ∷ tasks) zero zero n t u are first second less named = absurd (omega (arith, less))
 later_above i (x ∷ tasks) zero (suc b) n t u (m, is, low, rest) first second less named =
     let same : x ≡ t = cc in
@@ -57,11 +56,9 @@ abbrev pub still : Channel → List Task
 still c = drop (count_requests c.tasks) c.waiting
 
 above_begin : (n : ℕ) (t : Task) (c : Channel) → AreAbove n (still c) → AreAbove n (still (beginning t c))
-above_begin n t c are = by (is_some t.number)
-  where
-    by : (b : Bool) → AreAbove n (drop (if b then count_requests c.tasks + 1 else count_requests c.tasks) c.waiting)
-    by true = subst (AreAbove n) (drop-drop 1 (count_requests c.tasks) c.waiting) (above_drop n 1 (still c) are)
-    by false = are
+above_begin n t c are = cond_both (is_some t.number) (count_requests c.tasks + 1) (count_requests c.tasks)
+    (λ v. AreAbove n (drop v c.waiting))
+    (λ on. subst (AreAbove n) (drop-drop 1 (count_requests c.tasks) c.waiting) (above_drop n 1 (still c) are)) (λ off. are)
 
 above_step : (s : Known) (k n : ℕ) (c d : Channel) → Steps s k c d → AreAbove n (still c) → AreAbove n (still d)
 above_step s k n c d (Stays is) are = subst (λ (x : Channel). AreAbove n (still x)) (sym is) are
@@ -115,12 +112,12 @@ module _ (s : Known) (k : ℕ) (plan : Option PlanView) (waiting : List Task) (p
     ready : is_ready (member s k) outcomes ≡ true
 
   numbered_waited : (by_then : Option PlanView) (outcomes : List Outcome) (t : Task) (n : ℕ) → IsTask s k by_then waiting outcomes t → t.number ≡ Some n → Waited outcomes t
-  numbered_waited by_then outcomes t n (OfReads r less got same) number = absurd (none≢some (sym (ap (λ (x : Task). x.number) same) ∙ number))
-  numbered_waited by_then outcomes t n (OfWrites p i r planned less at got same) number = absurd (none≢some (sym (ap (λ (x : Task). x.number) same) ∙ number))
-  numbered_waited by_then outcomes t n (Checks3 p planned at same) number = absurd (none≢some (sym (ap (λ (x : Task). x.number) same) ∙ number))
-  numbered_waited by_then outcomes t n (Lists3 at checked same) number = absurd (none≢some (sym (ap (λ (x : Task). x.number) same) ∙ number))
-  numbered_waited by_then outcomes t n (Checks4 at checked same) number = absurd (none≢some (sym (ap (λ (x : Task). x.number) same) ∙ number))
-  numbered_waited by_then outcomes t n (Lists4 at ready same) number = absurd (none≢some (sym (ap (λ (x : Task). x.number) same) ∙ number))
+  numbered_waited by_then outcomes t n (OfReads r less got same) number = absurd (none-some _ (sym (ap (λ (x : Task). x.number) same) ∙ number))
+  numbered_waited by_then outcomes t n (OfWrites p i r planned less at got same) number = absurd (none-some _ (sym (ap (λ (x : Task). x.number) same) ∙ number))
+  numbered_waited by_then outcomes t n (Checks3 p planned at same) number = absurd (none-some _ (sym (ap (λ (x : Task). x.number) same) ∙ number))
+  numbered_waited by_then outcomes t n (Lists3 at checked same) number = absurd (none-some _ (sym (ap (λ (x : Task). x.number) same) ∙ number))
+  numbered_waited by_then outcomes t n (Checks4 at checked same) number = absurd (none-some _ (sym (ap (λ (x : Task). x.number) same) ∙ number))
+  numbered_waited by_then outcomes t n (Lists4 at ready same) number = absurd (none-some _ (sym (ap (λ (x : Task). x.number) same) ∙ number))
   numbered_waited by_then outcomes t n (OfWaiting j at ready got) number = record { place = j; got = got; at = at; ready = ready }
 
   late_waited : (by_then : Option PlanView) (outcomes : List Outcome) (t : Task) → IsTask s k by_then waiting outcomes t → reads_count (member s k) + 13 < length outcomes → Waited outcomes t

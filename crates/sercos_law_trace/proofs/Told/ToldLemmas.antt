@@ -1,5 +1,6 @@
 -- From what is told of a request to the request that was begun.
 use Rattle.std.proofs.Common.{◌≡◌, inl, inr, ℕ, zero, suc, ◌+◌, ◌==◌, Bool, true, false, if◌then◌else◌, List, [], ◌∷◌, ◌++◌, length, reverse, Option, Some, None, option_map, refl, sym, ap, ◌∙◌, arith, append-nil}
+use Rattle.std.proofs.lemmas.Option.{none-some}
 use Rattle.std.specs.Prelude.{slice_get}
 use Rattle.std.specs.List.{find, flat_map}
 use Rattle.std.specs.Option.{option_or}
@@ -24,12 +25,9 @@ use Rattle.sercos_backup.specs.Tracking.{told_of}
 use Rattle.sercos_law_trace.specs.Told.Told.{told_in}
 use Rattle.sercos_backup.proofs.TrackLemmas.{map_or}
 
-none≢some : {A : Type 0} {x : A} → None ≡ Some x → ⊥
-none≢some e = cc
-
 -- An outcome that is told stands in the events of a cycle.
 found_in : (xs : List (ℕ × Outcome)) (n : ℕ) (o : Outcome) → told_of xs n ≡ Some o → HasOutcome xs n o
-found_in [] n o e = absurd (none≢some e)
+found_in [] n o e = absurd (none-some _ e)
 found_in (x ∷ xs) n o e = by (x.0 == n) refl e (found_in xs n o)
   where
     by : (b : Bool) → (x.0 == n) ≡ b → option_map (λ (y : ℕ × Outcome). y.1) (if b then Some x else find (λ (y : ℕ × Outcome). y.0 == n) xs) ≡ Some o
@@ -55,7 +53,7 @@ pub record IsToldIn (run : List CycleView) (n : ℕ) (o : Outcome) : Type 0 wher
   pub told : HasOutcome one.events.outcomes n o
 
 pub told_cut : (run : List CycleView) (n : ℕ) (o : Outcome) → told_of (told_in run) n ≡ Some o → IsToldIn run n o
-told_cut [] n o e = absurd (none≢some e)
+told_cut [] n o e = absurd (none-some _ e)
 told_cut (m ∷ j) n o e = by (told_of (told_in j) n) refl (sym (ap (λ t. told_of t n) (told_more m j) ∙ told_append (told_in j) m.events.outcomes n) ∙ e) (told_cut j n o)
   where
     by : (x : Option Outcome) → told_of (told_in j) n ≡ x → option_or x (told_of m.events.outcomes n) ≡ Some o → (told_of (told_in j) n ≡ Some o → IsToldIn j n o) → IsToldIn (m ∷ j) n o
@@ -123,12 +121,12 @@ ended_so s k plan waiting phase (b ∷ older) (t ∷ tasks) x (inr of) are =
 
 -- A task with a number waited.
 pub has_waited : (s : Known) (k : ℕ) (plan : Option PlanView) (waiting : List Task) (outcomes : List Outcome) (t : Task) (n : ℕ) → IsTask s k plan waiting outcomes t → t.number ≡ Some n → (j : ℕ) × (slice_get waiting j ≡ Some t)
-has_waited s k plan waiting outcomes t n (OfReads r less got same) number = absurd (none≢some (sym (ap (λ (x : Task). x.number) same) ∙ number))
-has_waited s k plan waiting outcomes t n (OfWrites p i r planned less at got same) number = absurd (none≢some (sym (ap (λ (x : Task). x.number) same) ∙ number))
-has_waited s k plan waiting outcomes t n (Checks3 p planned at same) number = absurd (none≢some (sym (ap (λ (x : Task). x.number) same) ∙ number))
-has_waited s k plan waiting outcomes t n (Lists3 at checked same) number = absurd (none≢some (sym (ap (λ (x : Task). x.number) same) ∙ number))
-has_waited s k plan waiting outcomes t n (Checks4 at checked same) number = absurd (none≢some (sym (ap (λ (x : Task). x.number) same) ∙ number))
-has_waited s k plan waiting outcomes t n (Lists4 at ready same) number = absurd (none≢some (sym (ap (λ (x : Task). x.number) same) ∙ number))
+has_waited s k plan waiting outcomes t n (OfReads r less got same) number = absurd (none-some _ (sym (ap (λ (x : Task). x.number) same) ∙ number))
+has_waited s k plan waiting outcomes t n (OfWrites p i r planned less at got same) number = absurd (none-some _ (sym (ap (λ (x : Task). x.number) same) ∙ number))
+has_waited s k plan waiting outcomes t n (Checks3 p planned at same) number = absurd (none-some _ (sym (ap (λ (x : Task). x.number) same) ∙ number))
+has_waited s k plan waiting outcomes t n (Lists3 at checked same) number = absurd (none-some _ (sym (ap (λ (x : Task). x.number) same) ∙ number))
+has_waited s k plan waiting outcomes t n (Checks4 at checked same) number = absurd (none-some _ (sym (ap (λ (x : Task). x.number) same) ∙ number))
+has_waited s k plan waiting outcomes t n (Lists4 at ready same) number = absurd (none-some _ (sym (ap (λ (x : Task). x.number) same) ∙ number))
 has_waited s k plan waiting outcomes t n (OfWaiting j at ready got) number = (j, got)
 
 -- The task with a number is the request with that number.
@@ -144,7 +142,7 @@ one_later : {address i : ℕ} {first : Job} {jobs : List Job} {t : Task} {n : �
 one_later is = let at = is.at in record { place = suc is.place; at = omega (arith, at); job = is.job; there = is.there; drive = is.drive; same = is.same }
 
 pub request_of : (address i : ℕ) (jobs : List Job) (j : ℕ) (t : Task) (n : ℕ) → slice_get (tasks_from address i jobs) j ≡ Some t → t.number ≡ Some n → IsRequestOf address i jobs t n
-request_of address i [] j t n there number = absurd (none≢some there)
+request_of address i [] j t n there number = absurd (none-some _ there)
 request_of address i (job ∷ jobs) j t n there number = by (job.drive == address) refl j there (λ k later. request_of address (i + 1) jobs k t n later number)
   where
     here : (j : ℕ) → job.drive ≡ address → slice_get (request_task i job.request ∷ tasks_from address (i + 1) jobs) j ≡ Some t
