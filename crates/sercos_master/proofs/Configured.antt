@@ -147,7 +147,7 @@ stays_ready d all o e =
     rw (stays_well (reads_count d + 11) all o both.0, stays_well (reads_count d + 12) all o both.1) refl
 
 -- at all drives
-all_pass : (n k : ℕ) (test : ℕ → Bool) → ((j : ℕ) → k ≤ j → j < k + n → test j ≡ true) → is_none (first_from k n (λ j. not (test j))) ≡ true
+pub all_pass : (n k : ℕ) (test : ℕ → Bool) → ((j : ℕ) → k ≤ j → j < k + n → test j ≡ true) → is_none (first_from k n (λ j. not (test j))) ≡ true
 all_pass zero k test each = refl
 all_pass (suc n) k test each = rw (each k (omega arith) (omega arith)) (all_pass n (k + 1) test (λ j low high. each j (omega (arith, low)) (omega (arith, high))))
 

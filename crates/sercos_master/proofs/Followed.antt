@@ -3,7 +3,7 @@
 use Rattle.std.proofs.Common.{◌≡◌, ◌⊎◌, inl, inr, ℕ, zero, suc, ◌+◌, ◌<◌, ◌≤◌, Bool, true, false, List, [], ◌∷◌, ◌++◌, length, refl, sym, ap, ◌∙◌, subst, arith, if◌then◌else◌, length-append}
 use Rattle.std.specs.Prelude.{Option, Some, None, is_some, is_none, map, slice_get}
 use Rattle.std.specs.Option.{option_or}
-use Rattle.std.proofs.lemmas.Bool.{cases_eq, false≢true}
+use Rattle.std.proofs.lemmas.Bool.{cases_eq}
 use Rattle.sercos_telegram.specs.declared.words.Status.{Status}
 use Rattle.sercos_telegram.specs.Words.{status_of}
 use Rattle.sercos_telegram.specs.Spells.{word_at}
@@ -11,7 +11,6 @@ use Rattle.sercos_step.specs.declared.request.Request.{Request}
 use Rattle.sercos_step.specs.declared.request.Outcome.{Outcome}
 use Rattle.sercos_step.specs.declared.request.Outcome.TheVariants as outcome
 use Rattle.sercos_step.specs.declared.step.Answer.{Answer}
-use Rattle.sercos_step.specs.declared.step.Step.{Step}
 use Rattle.sercos_step.specs.Steps.{is_whole, answer_words, result_of, outcome_of, next_step}
 use Rattle.sercos_step.proofs.Ends.{has_next}
 use Rattle.sercos_timing.specs.Views.{PlanView}
@@ -27,7 +26,7 @@ use Rattle.sercos_seat.proofs.Agendas.{reads_length, ended_there}
 use Rattle.sercos_master.specs.Annals.{Call, Past, past, outcomes, all_checked, is_idle, after_taken, trouble, first_trouble, first_trouble_from, settled, with_task, with_begin, begun, ready_to_send, is_sent_to, addressed_in, after_mdt, begins}
 use Rattle.sercos_master.specs.Kept.{CoreView, IsIn}
 use Rattle.sercos_master.specs.Written.{IsWritten, AreWritten, HoldsPlan}
-use Rattle.sercos_master.proofs.Keeping.{begins_next, channel_keeps, past_keeps, settled_keeps}
+use Rattle.sercos_master.proofs.Keeping.{begins_next, channel_keeps, never_both, past_keeps, settled_keeps}
 use Rattle.sercos_master.proofs.Configured.{Leaves, each_passes, leaves}
 use Rattle.std.proofs.lemmas.Option.{none-some, same_Some}
 
@@ -116,6 +115,11 @@ none_troubled s p k (suc n) j e low high = by (trouble s p k) refl e (λ rest ot
     by (Some x) f e rest = absurd (cc)
 
 -- A TASK BEGINS.
+-- a request without an outcome has an open step
+pub never_idle : HasNext → (b : Begun) (older : List Begun) → is_none (open_in (b ∷ older)) ≡ true → outcome_of b.request b.answers ≡ None → ⊥
+never_idle has b older idle none = never_both (next_step b.request b.answers) (has b.request b.answers (ap is_some none))
+    (subst (λ (o : Option Outcome). is_none (if is_some o then None else next_step b.request b.answers) ≡ true) none idle)
+
 -- an idle channel's requests have all ended
 pub all_ended : HasNext → (s : Known) (k : ℕ) (plan : Option PlanView) (waiting : List Task) (begun : List Begun) (tasks : List Task) → AllFollow s k plan waiting begun tasks →
     is_none (open_in begun) ≡ true → length (outcomes_in begun) ≡ length begun
@@ -125,24 +129,13 @@ all_ended has s k plan waiting (b ∷ older) (t ∷ tasks) all idle = by (outcom
   where
     by : (o : Option Outcome) → outcome_of b.request b.answers ≡ o → length (with_outcome o (outcomes_in older)) ≡ suc (length older)
     by (Some o) e = let l = length-append (outcomes_in older) (o ∷ []) in let f = all.1.ended in omega (arith, l, f)
-    by None e =
-        let goes_on : is_some (next_step b.request b.answers) ≡ true = has b.request b.answers (ap is_some e) in
-        let none : is_none (next_step b.request b.answers) ≡ true = subst (λ o. is_none (if is_some o then None else next_step b.request b.answers) ≡ true) e idle in
-        absurd (some_none (next_step b.request b.answers) goes_on none)
-      where
-        some_none : (o : Option Step) → is_some o ≡ true → is_none o ≡ true → ⊥
-        some_none None e f = false≢true e
-        some_none (Some x) e f = false≢true f
+    by None e = absurd (never_idle has b older idle e)
 
 -- an outcome of the start-up that brings no stop is complete
 ends_complete : (address : ℕ) (b : Begun) (older : List Begun) (t : Task) (tasks : List Task) → is_none (open_in (b ∷ older)) ≡ true → HasNext →
     trouble_by address (t ∷ tasks) (outcome_of b.request b.answers) ≡ None → t.number ≡ None → (bytes : List ℕ) × (outcome_of b.request b.answers ≡ Some (outcome.Complete bytes))
 ends_complete address b older t tasks idle has quiet startup = by (outcome_of b.request b.answers) refl
   where
-    some_none : (o : Option Step) → is_some o ≡ true → is_none o ≡ true → ⊥
-    some_none None e f = false≢true e
-    some_none (Some x) e f = false≢true f
-
     never_broken : (r : Request) (h : List Answer) → outcome_of r h ≡ Some outcome.Broken → ⊥
     never_broken r [] e = cc
     never_broken r (a ∷ h) e = which a.error (is_whole r (answer_words h ++ a.word ∷ [])) e
@@ -161,10 +154,7 @@ ends_complete address b older t tasks idle has quiet startup = by (outcome_of b.
         some≢none : {A : Type 0} {x : A} → Some x ≡ None → ⊥
         some≢none e = cc
     by (Some outcome.Broken) e = absurd (never_broken b.request b.answers e)
-    by None e =
-        let goes_on : is_some (next_step b.request b.answers) ≡ true = has b.request b.answers (ap is_some e) in
-        let none : is_none (next_step b.request b.answers) ≡ true = subst (λ o. is_none (if is_some o then None else next_step b.request b.answers) ≡ true) e idle in
-        absurd (some_none (next_step b.request b.answers) goes_on none)
+    by None e = absurd (never_idle has b older idle e)
 
 ended_well : HasNext → (s : Known) (p : Past) (k : ℕ) → Followed s p k → is_idle p k ≡ true → trouble s p k ≡ None → HasEndedWell (begun_by (p.calls k)) (p.tasks k)
 ended_well has s p k all idle quiet = by (begun_by (p.calls k)) (p.tasks k) idle quiet

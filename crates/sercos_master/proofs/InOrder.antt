@@ -21,7 +21,7 @@ use Rattle.sercos_seat.proofs.Agendas.{reads_length}
 use Rattle.sercos_seat.proofs.Queues.{ready_long, ready_stays, next_request, none_4}
 use Rattle.sercos_master.specs.Annals.{Call, Past, past, outcomes, is_idle, next_task, begins, settled, still_waiting}
 use Rattle.sercos_master.proofs.Keeping.{begins_next, past_keeps}
-use Rattle.sercos_master.proofs.Laws.{waiting_settled}
+use Rattle.sercos_master.proofs.Laws.{get_dropped, waiting_settled}
 use Rattle.sercos_master.proofs.Followed.{HasNext, AllFollow, Followed, Follows, followed, settled_follows, all_ended}
 use Rattle.sercos_master.proofs.Configured.{leaves}
 
@@ -92,6 +92,10 @@ dropped_numbered (suc n) [] all = all
 dropped_numbered (suc n) (x ∷ xs) all = dropped_numbered n xs (λ i t e. all (suc i) t e)
 
 -- THE REQUESTS BEGUN, by the number of requests and jobs begun on the channel.
+not_four : (t : Task) (b : Bool) → (if b then Some t else None) ≡ None → b ≡ false
+not_four t true e = absurd (none-some _ (sym e))
+not_four t false e = refl
+
 -- until both checks have ended well there are none
 none_yet : (s : Known) (k : ℕ) (plan : Option PlanView) (waiting : List Task) (begun : List Begun) (tasks : List Task) → AreNumbered waiting → AllFollow s k plan waiting begun tasks →
     is_ready (member s k) (outcomes_in begun) ≡ false → count_requests tasks ≡ 0
@@ -112,12 +116,8 @@ none_yet s k plan waiting (b ∷ older) (t ∷ tasks) numbered all early = by (i
     by false e before =
         let tells : (t.phase == 4) ≡ is_some t.number = tell_agenda s f.by_then waiting k (outcomes_in older) (numbered_tell waiting numbered) (length (outcomes_in older)) t f.next in
         let other : of_phase 4 (Some t) ≡ None = ap (of_phase 4) (sym f.next) ∙ none_4 s f.by_then waiting k (outcomes_in older) e (length (outcomes_in older)) in
-        let four : (t.phase == 4) ≡ false = not_four (t.phase == 4) other in
+        let four : (t.phase == 4) ≡ false = not_four t (t.phase == 4) other in
         rw (sym tells ∙ four) (before e)
-      where
-        not_four : (b : Bool) → (if b then Some t else None) ≡ None → b ≡ false
-        not_four true e = absurd (none-some _ (sym e))
-        not_four false e = refl
 
 -- then each task is the next request
 each_then : (s : Known) (k : ℕ) (plan : Option PlanView) (waiting : List Task) (begun : List Begun) (tasks : List Task) → AreNumbered waiting → AllFollow s k plan waiting begun tasks →
@@ -168,18 +168,11 @@ each_then s k plan waiting (b ∷ older) (t ∷ tasks) numbered all ended ready 
         let at : length older ≡ reads_count (member s k) + 12 = one_more (outcome_of b.request b.answers) ended ready e in
         let tells : (t.phase == 4) ≡ is_some t.number = tell_agenda s f.by_then waiting k (outcomes_in older) (numbered_tell waiting numbered) (length (outcomes_in older)) t f.next in
         let other : of_phase 4 (Some t) ≡ None = ap (of_phase 4) (sym f.next) ∙ none_4 s f.by_then waiting k (outcomes_in older) e (length (outcomes_in older)) in
-        let four : (t.phase == 4) ≡ false = not_four (t.phase == 4) other in
+        let four : (t.phase == 4) ≡ false = not_four t (t.phase == 4) other in
         let none : count_requests tasks ≡ 0 = none_yet s k plan waiting older tasks numbered all.0 e in
         rw (sym tells ∙ four) (omega (arith, at, none))
-      where
-        not_four : (b : Bool) → (if b then Some t else None) ≡ None → b ≡ false
-        not_four true e = absurd (none-some _ (sym e))
-        not_four false e = refl
 
 -- WHAT WAITS is what is left of the requests that the master was opened with.
-drop_twice : (n m : ℕ) (xs : List Task) → drop n (drop m xs) ≡ drop (m + n) xs
-drop_twice n m xs = drop-drop n m xs
-
 pub still_left : (s : Known) (requests : ℕ → List Task) (h : List Call) (k : ℕ) → (n : ℕ) × ((past s requests h).waiting k ≡ drop n (requests k))
 still_left s requests h k = past_keeps (λ p. (n : ℕ) × (p.waiting k ≡ drop n (requests k))) s requests (record {
   first = (0, refl);
@@ -189,7 +182,7 @@ still_left s requests h k = past_keeps (λ p. (n : ℕ) × (p.waiting k ≡ drop
   on = λ h done is before. before;
   new = λ h cycle before.
       let n = count_requests ((past s requests h).tasks k) in
-      (before.0 + n, ap (drop n) before.1 ∙ drop_twice n before.0 (requests k));
+      (before.0 + n, ap (drop n) before.1 ∙ drop-drop n before.0 (requests k));
 }) h
 
 pub first_waiting : HasNext → (s : Known) (jobs : List Job) (h : List Call) (k : ℕ) (t : Task) → k < length s.drives → begins s (settled s (past s (tasks_for s jobs) h)) k ≡ Some t → is_some t.number ≡ true →
@@ -197,7 +190,9 @@ pub first_waiting : HasNext → (s : Known) (jobs : List Job) (h : List Call) (k
 first_waiting has s jobs h k t within begin number =
     let b = begins_next s q k t begin in
     let keeps = leaves s p in
-    get_dropped (count_requests (p.tasks k)) (p.waiting k) ∙ (sym (ap (λ w. slice_get (w k) (count_requests (p.tasks k))) (waiting_settled s p)) ∙ (sym (ap (λ ts. slice_get (q.waiting k) (count_requests (ts k))) keeps.tasks) ∙ one b.idle b.next))
+    let n = count_requests (p.tasks k) in
+    let zero_is : n + 0 ≡ n = omega arith in
+    (get_dropped n (p.waiting k) 0 ∙ ap (slice_get (p.waiting k)) zero_is) ∙ (sym (ap (λ w. slice_get (w k) (count_requests (p.tasks k))) (waiting_settled s p)) ∙ (sym (ap (λ ts. slice_get (q.waiting k) (count_requests (ts k))) keeps.tasks) ∙ one b.idle b.next))
   where
     p : Past
     p = past s (tasks_for s jobs) h
@@ -212,11 +207,6 @@ first_waiting has s jobs h k t within begin number =
     numbered =
         let left = still_left s (tasks_for s jobs) h k in
         subst AreNumbered (sym (ap (λ w. w k) (waiting_settled s (past s (tasks_for s jobs) h)) ∙ left.1)) (dropped_numbered left.0 (tasks_for s jobs k) (tasks_numbered (member s k).address 1 jobs))
-
-    get_dropped : (n : ℕ) (xs : List Task) → slice_get (drop n xs) 0 ≡ slice_get xs n
-    get_dropped zero xs = refl
-    get_dropped (suc n) [] = refl
-    get_dropped (suc n) (x ∷ xs) = get_dropped n xs
 
     one : is_idle (settled s (past s (tasks_for s jobs) h)) k ≡ true → next_task s (settled s (past s (tasks_for s jobs) h)) k ≡ Some t → slice_get ((settled s (past s (tasks_for s jobs) h)).waiting k) (count_requests ((settled s (past s (tasks_for s jobs) h)).tasks k)) ≡ Some t
     one idle next = which (is_ready (member s k) (outcomes q k)) refl

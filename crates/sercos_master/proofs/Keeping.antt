@@ -101,6 +101,10 @@ pub none_of : {A : Type 0} (o : Option A) → is_none o ≡ true → o ≡ None
 none_of None on = refl
 none_of (Some x) on = absurd (cc)
 
+pub never_both : {A : Type 0} (o : Option A) → is_some o ≡ true → is_none o ≡ true → ⊥
+never_both None on off = cc
+never_both (Some x) on off = cc
+
 pub trouble_found : (s : Known) (p : Past) (n k : ℕ) (x : Stop) → first_trouble_from s p k n ≡ Some x
     → (i : ℕ) × (i < k + n) × (trouble s p i ≡ Some x)
 trouble_found s p zero k x is = absurd (cc)
@@ -124,14 +128,10 @@ pub settled_keeps : (P : Past → Type 0) (s : Known) (p : Past) → (Rests s p 
     → P (settled s p)
 settled_keeps P s p rests stops plans = by (first_trouble s p) refl p.stop refl
   where
-    both : (o : Option Stop) → is_some o ≡ true → is_none o ≡ true → ⊥
-    both None on off = cc
-    both (Some x) on off = cc
-
     -- after a stop no plan is due
     after_stop : (q : Past) → is_some q.stop ≡ true → P q → P (with_due_plan s q)
     after_stop q some rest = cond_both (is_plan_due s q) (planned_by s q) q P
-        (λ on. absurd (both q.stop some (and_parts (is_none q.stop) _ (and_parts (q.now.phase == 2) _ on).1).0)) (λ off. rest)
+        (λ on. absurd (never_both q.stop some (and_parts (is_none q.stop) _ (and_parts (q.now.phase == 2) _ on).1).0)) (λ off. rest)
 
     newly : (x : Stop) → p.stop ≡ None → P (stopped x p) → P (with_stop (Some x) p)
     newly x free is = subst (λ (o : Option Stop). P (if is_some o then p else stopped x p)) (sym free) is

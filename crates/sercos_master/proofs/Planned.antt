@@ -1,8 +1,8 @@
 -- Where there is a plan, it is the plan of what was read in this epoch.
-use Rattle.std.proofs.Common.{◌≡◌, ℕ, zero, suc, ◌+◌, ◌<◌, ◌≤◌, Bool, true, false, not, List, [], ◌∷◌, ◌++◌, length, take, drop, refl, sym, ap, ap₂, ◌∙◌, subst, arith, if◌then◌else◌, length-append}
-use Rattle.std.specs.Prelude.{nat_le, Option, Some, None, Ok, is_none, slice_get}
+use Rattle.std.proofs.Common.{◌≡◌, ℕ, suc, ◌+◌, ◌<◌, ◌≤◌, true, List, [], ◌∷◌, ◌++◌, length, take, drop, refl, sym, ap, ap₂, ◌∙◌, subst, arith, length-append}
+use Rattle.std.specs.Prelude.{nat_le, Option, Some, None, Ok, slice_get}
 use Rattle.std.proofs.lemmas.Bool.{leb-true, le-leb}
-use Rattle.std.proofs.lemmas.Option.{get_or_from_slice_get}
+use Rattle.std.proofs.lemmas.Option.{get_or_from_slice_get, slice_get_within}
 use Rattle.std.proofs.lemmas.List.{take-append-le, drop-append-le, length-drop}
 use Rattle.sercos_step.specs.declared.request.Outcome.{Outcome}
 use Rattle.sercos_timing.specs.Order.{record_bytes}
@@ -15,9 +15,9 @@ use Rattle.sercos_seat.specs.Ring.{Known, Task, MemberView, member, no_member}
 use Rattle.sercos_seat.specs.Agenda.{bytes_of, long_in, short_in, given, reads_count, is_read, words_given, at_attributes, mdt_attributes, times_given, wish_given, wishes_from, wishes_given}
 use Rattle.sercos_seat.specs.Channel.{outcomes_in, with_outcome}
 use Rattle.sercos_seat.proofs.Seats.{before_end}
-use Rattle.sercos_master.specs.Annals.{Call, Past, IsPlanned, first_from, outcomes, after_taken, all_read, settled, ready_to_send, after_mdt, past}
+use Rattle.sercos_master.specs.Annals.{Call, Past, IsPlanned, outcomes, after_taken, all_read, settled, ready_to_send, after_mdt, past}
 use Rattle.sercos_master.proofs.Keeping.{came_back, going, past_keeps, settled_keeps, stopped}
-use Rattle.sercos_master.proofs.Configured.{leaves, begun_adds, mdt_adds, each_passes}
+use Rattle.sercos_master.proofs.Configured.{leaves, all_pass, begun_adds, mdt_adds, each_passes}
 pub use Rattle.sercos_master.proofs.Configured.{Adds, at_adds}
 
 -- AN OUTCOME AFTER THE READS changes nothing of what they gave.
@@ -78,30 +78,11 @@ wishes_same (d ∷ drives) k f g same =
     ap₂ (λ (w : Wish) (ws : List Wish). w ∷ ws) first
     (wishes_same drives (k + 1) f g (λ j e got. let n : k + suc j ≡ (k + 1) + j = omega arith in subst (λ (m : ℕ). wish_given e (g m) ≡ wish_given e (f m)) n (same (suc j) e got)))
 
--- each place passes where each that passed passes
-from_passes_too : (n k : ℕ) (f g : ℕ → Bool) → ((j : ℕ) → f j ≡ true → g j ≡ true) → is_none (first_from k n (λ j. not (f j))) ≡ true → is_none (first_from k n (λ j. not (g j))) ≡ true
-from_passes_too zero k f g more none = refl
-from_passes_too (suc n) k f g more none = by (f k) (g k) refl refl none (from_passes_too n (k + 1) f g more)
-  where
-    both : (v : Bool) → v ≡ true → v ≡ false → ⊥
-    both true on off = cc
-    both false on off = cc
-
-    by : (a b : Bool) → f k ≡ a → g k ≡ b → is_none (if not a then Some k else first_from (k + 1) n (λ j. not (f j))) ≡ true →
-        (is_none (first_from (k + 1) n (λ j. not (f j))) ≡ true → is_none (first_from (k + 1) n (λ j. not (g j))) ≡ true) → is_none (if not b then Some k else first_from (k + 1) n (λ j. not (g j))) ≡ true
-    by true true on its none rest = rest none
-    by true false on its none rest = absurd (both (g k) (more k on) its)
-    by false b on its none rest = absurd (cc)
-
-got_below : {A : Type 0} (xs : List A) (i : ℕ) (x : A) → slice_get xs i ≡ Some x → i < length xs
-got_below [] i x got = absurd (cc)
-got_below (y ∷ xs) zero x got = omega arith
-got_below (y ∷ xs) (suc i) x got = let less = got_below xs i x got in omega arith
-
 -- where outcomes come after the reads alone, these stay, and what the ring asks
 pub asks_same : (s : Known) (p q : Past) → Adds p q → all_read s p ≡ true → (all_read s q ≡ true) × (wishes_given s (outcomes q) ≡ wishes_given s (outcomes p))
 asks_same s p q adds all = (
-  from_passes_too (length s.drives) 0 (λ k. is_read (member s k) (outcomes p k)) (λ k. is_read (member s k) (outcomes q k)) (λ j on. ap (is_read (member s j)) (adds j).1 ∙ read_stays (member s j) (outcomes p j) (adds j).0 on) all,
+  all_pass (length s.drives) 0 (λ k. is_read (member s k) (outcomes q k)) (λ j low high. ap (is_read (member s j)) (adds j).1
+      ∙ read_stays (member s j) (outcomes p j) (adds j).0 (each_passes (length s.drives) 0 (λ k. is_read (member s k) (outcomes p k)) all j low high)),
   ap asked (wishes_same s.drives 0 (outcomes p) (outcomes q) (λ j d got. each j d got)),
 )
   where
@@ -111,7 +92,7 @@ asks_same s p q adds all = (
     each : (j : ℕ) (d : MemberView) → slice_get s.drives j ≡ Some d → wish_given d (outcomes q (0 + j)) ≡ wish_given d (outcomes p (0 + j))
     each j d got =
         let zero_is : 0 + j ≡ j = omega arith in
-        let below = got_below s.drives j d got in
+        let below = slice_get_within s.drives j d got in
         let passes : is_read (member s j) (outcomes p j) ≡ true = each_passes (length s.drives) 0 (λ k. is_read (member s k) (outcomes p k)) all j (omega arith) (omega (arith, below)) in
         let read : is_read d (outcomes p j) ≡ true = subst (λ (m : MemberView). is_read m (outcomes p j) ≡ true) (get_or_from_slice_get s.drives j d no_member got) passes in
         subst (λ (n : ℕ). wish_given d (outcomes q n) ≡ wish_given d (outcomes p n)) (sym zero_is) (ap (wish_given d) (adds j).1 ∙ wish_stays d (outcomes p j) (adds j).0 read)

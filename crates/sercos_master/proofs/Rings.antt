@@ -1,6 +1,5 @@
 -- What the ring keeps tells what is looked back on, and what it begins.
 use Rattle.std.proofs.lemmas.Bool.{cases_Bool, cases_eq, false≢true}
-use Rattle.std.proofs.lemmas.Option.{none-some, same_Some}
 use Rattle.std.proofs.Common.{inl, inr, ◌≡◌, ℕ, zero, suc, ◌+◌, ◌<◌, ◌≤◌, ◌==◌, Bool, true, false, List, [], ◌∷◌, Option, Some, None, length, ap, subst, refl, sym, ◌∙◌, arith, if◌then◌else◌}
 use Rattle.std.specs.Prelude.{◌%◌, ◌^◌, is_some, is_none, min, unwrap_or, nat_le, nat_lt, slice_index_or, option_map, not, ◌&&◌, ◌||◌}
 use Rattle.std.specs.List.{position}
@@ -15,6 +14,8 @@ use Rattle.sercos_trace.specs.declared.events.Stop.{Stop}
 use Rattle.sercos_trace.specs.declared.events.Fall.TheVariants as fall
 use Rattle.sercos_seat.specs.Ring.{Known, MemberView, Task, member}
 use Rattle.sercos_seat.specs.Agenda.{wishes_given, last_long_stop, is_read, is_checked, is_ready, reads_count}
+use Rattle.sercos_master.proofs.Keeping.{first_found}
+pub use Rattle.sercos_master.proofs.Keeping.{none_of as no_stop}
 use Rattle.sercos_master.specs.Annals.{all_read, with_due_plan, planned_by, with_plan, Past, Turn, first_from, first_place, outcomes, is_idle, is_identified, in_turn, has_turn, begins, is_done, is_at_limit, trouble, first_trouble, first_trouble_from, with_stop, new_epoch, still_waiting, after_end, next_phase, goes_on, whole_row, addressed_before, has_lost_mst, fall_of, count_addressed, next_task, with_task, with_begin, begun, has_lost_at}
 use Rattle.sercos_seat.specs.Channel.{is_place, of_phase}
 use Rattle.sercos_seat.specs.Seats.{Seen, SeatView, SeatStandsFor, forgotten, ended_in, cycles_kept, has_read, with_begun, begun_task}
@@ -406,13 +407,6 @@ abbrev at_place : (ℕ → Option Stop) → Option ℕ → Option Stop
 at_place trouble None = None
 at_place trouble (Some k) = trouble k
 
-first_passes : (n i k : ℕ) (test : ℕ → Bool) → first_from i n test ≡ Some k → test k ≡ true
-first_passes zero i k test e = absurd (none-some _ e)
-first_passes (suc n) i k test e = elim (cases_Bool (test i)) [
-  | inl t ↦ let same : i ≡ k = same_Some _ _ (rw t at e) in rw (← same) t
-  | inr f ↦ first_passes n (i + 1) k test (rw f at e)
-]
-
 one_trouble : (s : Known) (p : Past) (n k : ℕ) (o : Option Stop) → trouble s p k ≡ o →
     first_trouble_from s p (k + 1) n ≡ at_place (trouble s p) (first_from (k + 1) n (λ i. is_some (trouble s p i))) →
     first_trouble_from s p k (suc n) ≡ at_place (trouble s p) (first_from k (suc n) (λ i. is_some (trouble s p i)))
@@ -472,7 +466,7 @@ stop_found v s p k seat w c none within there is taken =
         not_first n i e f = false≢true (ap is_some (sym e) ∙ passes n i f)
           where
             passes : (n i : ℕ) → first_from i n (λ j. is_some (trouble s p j)) ≡ Some k → is_some (trouble s p k) ≡ true
-            passes n i f = first_passes n i k (λ j. is_some (trouble s p j)) f
+            passes n i f = (first_found i n k (λ j. is_some (trouble s p j)) f).passes
     by (Some x) e there here stop_is first =
         rw (first, e, none) (record {
           rate_is = c.rate_is;
@@ -640,7 +634,3 @@ planned_well s p e = rw e refl
 
 pub planned_badly : (s : Known) (p : Past) → nat_le (record_bytes (wishes_given s (outcomes p)).drives) 2047 ≡ false → planned_by s p ≡ with_stop (last_long_stop s.drives 0 (outcomes p)) p
 planned_badly s p e = rw e refl
-
-pub no_stop : {A : Type 0} (o : Option A) → is_none o ≡ true → o ≡ None
-no_stop None e = refl
-no_stop (Some x) e = absurd (false≢true e)
