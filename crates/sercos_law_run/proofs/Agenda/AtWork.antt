@@ -26,7 +26,7 @@ use Rattle.sercos_seat.proofs.Agendas.{not_checked, reads_length, next_2, next_3
 use Rattle.sercos_seat.proofs.Queues.{next_request}
 use Rattle.sercos_master.specs.Annals.{Call, Past, first_from, first_place, outcomes, is_idle, trouble, all_read, all_checked, settled, in_turn, has_turn, next_task, begins, with_begin, with_task, is_sent_to, still_waiting, addressed_in, ready_to_send, after_mdt, past}
 use Rattle.sercos_master.proofs.Configured.{leaves, mdt_adds, configured, ready}
-use Rattle.sercos_master.proofs.Followed.{HasNext, none_troubled, no_stop_before, settles}
+use Rattle.sercos_master.proofs.Followed.{HasNext, never_idle, none_troubled, no_stop_before, settles}
 use Rattle.sercos_master.proofs.InOrder.{still_left}
 use Rattle.sercos_master.proofs.Laws.{all_waiting, waiting_settled}
 use Rattle.sercos_law_run.specs.Agenda.Tasks.{IsTask, OfReads, OfWrites, Checks3, Lists3, Checks4, Lists4, OfWaiting, HasBegunTasks, AreBegunTasks}
@@ -71,16 +71,10 @@ fresh has_next r older = by (next_step r []) (has_next r [] refl)
 has_outcome : HasNext → (b : Begun) (older : List Begun) → is_none (open_in (b ∷ older)) ≡ true → (o : Outcome) × (outcome_of b.request b.answers ≡ Some o) × (((bytes : List ℕ) × (o ≡ outcome.Complete bytes)) ⊎ ((t : Task) (tasks : List Task) (address : ℕ) → t.number ≡ None → is_none (trouble_by address (t ∷ tasks) (Some o)) ≡ false))
 has_outcome has_next b older idle = by (ends_so b.request b.answers)
   where
-    both : (x : Option Step) → is_some x ≡ true → is_none x ≡ true → ⊥
-    both None some none = false≢true some
-    both (Some y) some none = false≢true none
-
     by : TransferEnds b.request b.answers → (o : Outcome) × (outcome_of b.request b.answers ≡ Some o) × (((bytes : List ℕ) × (o ≡ outcome.Complete bytes)) ⊎ ((t : Task) (tasks : List Task) (address : ℕ) → t.number ≡ None → is_none (trouble_by address (t ∷ tasks) (Some o)) ≡ false))
     by (IsWhole bytes is) = (outcome.Complete bytes, is, inl (bytes, refl))
     by (IsRefused code is) = (outcome.Refused code, is, inr (λ t tasks address number. rw number refl))
-    by (GoesOn on) =
-        let open_so : is_none (next_step b.request b.answers) ≡ true = subst (λ (o : Option Outcome). is_none (if is_some o then None else next_step b.request b.answers) ≡ true) on idle in
-        absurd (both (next_step b.request b.answers) (has_next b.request b.answers (ap is_some on)) open_so)
+    by (GoesOn on) = absurd (never_idle has_next b older idle on)
 
 -- a list for a failed check brings a stop, whatever its outcome is
 list_stops : (raw phase : ℕ) (tasks : List Task) (address : ℕ) (o : Outcome) → (raw ≡ 21) ⊎ (raw ≡ 22) →

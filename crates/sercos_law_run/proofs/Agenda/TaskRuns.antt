@@ -4,7 +4,6 @@ use Rattle.std.proofs.Common.{◌≡◌, ◌⊎◌, inl, inr, ℕ, suc, ◌+◌,
 use Rattle.std.proofs.lemmas.Bool.{cond_both}
 use Rattle.std.specs.Prelude.{Option, Some, None, is_some, is_none}
 use Rattle.sercos_telegram.specs.declared.words.Status.{Status}
-use Rattle.sercos_step.specs.declared.step.Step.{Step}
 use Rattle.sercos_step.specs.declared.step.Answer.{Answer}
 use Rattle.sercos_step.specs.declared.request.Outcome.{Outcome}
 use Rattle.sercos_step.specs.declared.request.Outcome.TheVariants as outcome
@@ -16,6 +15,7 @@ use Rattle.sercos_law_channel.specs.Handshake.Moves.{with_status}
 use Rattle.sercos_seat.specs.Ring.{Known, Task, member}
 use Rattle.sercos_seat.specs.Channel.{with_outcome, outcomes_in, last_outcome, trouble_by}
 use Rattle.sercos_master.specs.Annals.{Call, past}
+use Rattle.sercos_master.proofs.Keeping.{never_both}
 use Rattle.sercos_master.proofs.Followed.{HasNext}
 use Rattle.sercos_law_run.specs.Agenda.Channels.{Ends, Channel, channel_at, Stays, Identifies, Hears, Plans, Begins, Moves, Within, Falls}
 use Rattle.sercos_law_run.specs.Agenda.Tasks.{HasEndedWell, AreBegunTasks}
@@ -55,10 +55,6 @@ module _ (s : Known) (k : ℕ) where
       (later_tasks plan waiting phase later less older tasks are.0, record { asks = are.1.asks; by_then = are.1.by_then; same = are.1.same; task = are.1.task; ended = are.1.ended; well = are.1.well; quiet = are.1.quiet; early = let e = are.1.early in omega (arith, e, less) })
 
   module _ (has_next : HasNext) where
-    both : (x : Option Step) → is_some x ≡ true → is_none x ≡ true → ⊥
-    both None on off = cc
-    both (Some y) on off = cc
-
     -- where no step is open all have ended
     pub all_ended : (plan : Option PlanView) (waiting : List Task) (phase : ℕ) (begun : List Begun) (tasks : List Task) → AreBegunTasks s k plan waiting phase begun tasks → is_none (open_in begun) ≡ true → length (outcomes_in begun) ≡ length begun
     all_ended plan waiting phase [] tasks are idle = refl
@@ -66,7 +62,7 @@ module _ (s : Known) (k : ℕ) where
     all_ended plan waiting phase (b ∷ older) (t ∷ tasks) are idle = by (outcome_of b.request b.answers) refl idle
       where
         by : (o : Option Outcome) → outcome_of b.request b.answers ≡ o → is_none (if is_some o then None else next_step b.request b.answers) ≡ true → length (with_outcome o (outcomes_in older)) ≡ suc (length older)
-        by None none idle = absurd (both (next_step b.request b.answers) (has_next b.request b.answers (ap is_some none)) idle)
+        by None none idle = absurd (never_both (next_step b.request b.answers) (has_next b.request b.answers (ap is_some none)) idle)
         by (Some o) some idle = let one = length-append (outcomes_in older) (o ∷ []) in let same = are.1.ended in omega arith
 
     -- and those of the start-up without error, where the newest brought no stop
@@ -79,7 +75,7 @@ module _ (s : Known) (k : ℕ) where
         by number (IsWhole bytes is) = (bytes, is)
         by number (GoesOn on) =
             let open_so : is_none (next_step b.request b.answers) ≡ true = subst (λ (o : Option Outcome). is_none (if is_some o then None else next_step b.request b.answers) ≡ true) on idle in
-            absurd (both (next_step b.request b.answers) (has_next b.request b.answers (ap is_some on)) open_so)
+            absurd (never_both (next_step b.request b.answers) (has_next b.request b.answers (ap is_some on)) open_so)
         by number (IsRefused code refused) =
             let stopped = ap₂ (λ (o : Option Outcome) (n : Option ℕ). trouble_by address ((record t { number = n }) ∷ tasks) o) (sym refused) (sym number) ∙ none in absurd (cc)
 
