@@ -36,8 +36,7 @@ first_found k (suc n) i test found = by (test k) refl found (first_found (k + 1)
         let same : k ≡ i = same_Some k i found in
         record {
           from = omega (arith, same);
-          below = omega
-              (arith, same);
+          below = omega (arith, same);
           passes = subst (λ j. test j ≡ true) same passes;
           before = λ j low high. absurd (omega (arith, same, low, high));
         }
@@ -51,8 +50,7 @@ first_found k (suc n) i test found = by (test k) refl found (first_found (k + 1)
           passes = more.passes;
           before = λ j from less. elim (cases_eq j k) [
             | inl same ↦ ap test same ∙ fails
-            | inr other ↦ more.before j
-                (omega (arith, from, other)) less
+            | inr other ↦ more.before j (omega (arith, from, other)) less
           ];
         }
 
@@ -273,8 +271,8 @@ past_keeps P s requests keeps (HearMst content ∷ h) = keeps.mst h (is_mst (pas
 past_keeps P s requests keeps (HearAt content ∷ h) =
     let before = past_keeps P s requests keeps h in
     at_keeps P s (place_of s (slice_index content 0)) content (past s requests h) before (λ k place is. keeps.taken h k content
-    (let less = (first_found 0 (length s.drives) k (λ i. (member s i).address == slice_index content 0) place).below in omega
-    (arith, less)) is before)
+    (let less = (first_found 0 (length s.drives) k (λ i. (member s i).address == slice_index content 0) place).below in
+    omega (arith, less)) is before)
 past_keeps P s requests keeps (Mdt ∷ h) = keeps.mdt h (past_keeps P s requests keeps h)
 past_keeps P s requests keeps (End ∷ h) =
     let before = past_keeps P s requests keeps h in
