@@ -26,4 +26,5 @@ pub use law::{ring_law, store_law};
 pub use ring::{cycles_of, drives_of, has_address, has_other_data};
 pub use setup::{DriveSetup, RingSetup};
 pub use store::Store;
+pub use stored::Stored;
 pub use value::{bits_in, bytes_for, is_number, number_end};

@@ -1,16 +1,18 @@
 // A data block in the region of a store.
-ghost use Rattle.std.specs.Prelude.{◌≡◌, ◌+◌, ◌≤◌, length, option_map, IfSome};
+ghost use Rattle.std.specs.Prelude.{◌≡◌, ◌+◌, ◌≤◌, length, option_map, Some, None, IfSome, MatchResult};
 ghost use Rattle.sercos_block.specs.Blocks.{bytes_for, element_of};
+ghost use Rattle.sercos_block.specs.Stores.{write_fault};
 ghost use Rattle.sercos_block.specs.Regions.{part_of, limit_bits, block_of, IsWithin};
 
 use crate::entry::{Entry, Limit, Part};
+use crate::write::write_fault;
 use sercos_idn::element::{ATTRIBUTE, MAXIMUM, MINIMUM, NAME, UNIT};
-use sercos_idn::{Attribute, Idn};
+use sercos_idn::{Attribute, Code, Idn};
 use std::marker::Model;
 
-// A data block: the entry of it, and the region in which its bytes are. Contracts see the block.
+/// A data block in a store: its entry, and the region in which its bytes are. Contracts see the block.
 #[derive(Drop)]
-pub(crate) struct Stored<'a> {
+pub struct Stored<'a> {
     region: &'a [u8],
     entry: &'a Entry,
 }
@@ -79,8 +81,8 @@ impl<'a> Stored<'a> {
         self.entry.idn
     }
 
-    // The attribute.
-    pub(crate) fn attribute(&self) -> Attribute
+    /// Returns the attribute, element 3.
+    pub fn attribute(&self) -> Attribute
         ensures { result ≡ self.now.attribute }
     {
         self.entry.attribute
@@ -100,8 +102,8 @@ impl<'a> Stored<'a> {
         self.entry.max.map(|limit| limit.bits)
     }
 
-    // The most bytes of the list; 0 if the operation data is not a list.
-    pub(crate) fn max_len(&self) -> u16
+    /// Returns the most bytes of the list; 0 if the operation data is not a list.
+    pub fn max_len(&self) -> u16
         ensures { result ≡ self.now.max_len }
     {
         self.entry.max_len
@@ -114,8 +116,8 @@ impl<'a> Stored<'a> {
         self.entry.fixed
     }
 
-    // Returns how much the number grows in each cycle.
-    pub(crate) fn step(&self) -> u32
+    /// Returns how much the number grows in each cycle; 0 if there is no step.
+    pub fn step(&self) -> u32
         ensures { result ≡ self.now.step }
     {
         self.entry.step
@@ -136,9 +138,23 @@ impl<'a> Stored<'a> {
         bytes_of(self.region, &self.entry.value)
     }
 
-    // The bytes of an element from 2 to 7, if there is one.
+    /// Returns `Ok` if the operation data can be written in a phase, 2 to 4; otherwise the first error that applies: 0x7004, the
+    /// block is fixed or has a step; 0x7005, it is write protected in this phase.
+    pub fn may_write(&self, phase: u8) -> Result<(), Code>
+        requires { (2 ≤ phase) × (phase ≤ 4) }
+        ensures { MatchResult result
+            (λ _. write_fault (Some self.now) phase ≡ None)
+            (λ code. write_fault (Some self.now) phase ≡ Some code.raw) }
+    {
+        match write_fault(self, phase) {
+            Some(code) => Err(code),
+            None => Ok(()),
+        }
+    }
+
+    /// Returns the bytes of an element, 2 to 7, if the block has it: at most 1024.
     #[tactic(auto, unfolding(crate::specs::Blocks::element_of))]
-    pub(crate) fn element(&self, element: u8) -> Option<&'a [u8]>
+    pub fn element(&self, element: u8) -> Option<&'a [u8]>
         ensures value { option_map (λ b. b.now) result ≡ element_of self.now element }
         ensures bound { IfSome result (λ b. length b.now ≤ 1024) }
     {
