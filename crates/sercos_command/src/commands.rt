@@ -89,7 +89,7 @@ impl Commands {
     }
 
     // A write to a command: the commands and the blocks after it.
-    #[tactic(auto, unfolding(crate::specs::Settings::with_write, crate::specs::Settings::with_lists))]
+    #[tactic(auto, using(crate::proofs::SetLemmas::has_room), unfolding(crate::specs::Settings::with_write, crate::specs::Settings::with_lists))]
     fn take(&mut self, idn: Idn, value: u16, cycle: u32, store: &mut Store)
         requires value { (value ≡ to_cancel) ⊎ (value ≡ to_set) }
         requires set { are_commands_of store.old self.old ≡ true }
@@ -103,7 +103,6 @@ impl Commands {
         if self.has(idn) {
             return;
         }
-        self.show_room(store);
         let well = run(self.rate, idn, store);
         self.set(idn, cycle, well);
     }
@@ -122,16 +121,6 @@ impl Commands {
         ensures stands { (rate time : ℕ) (h : List Call) → CommandsStandFor self.old rate time h → newest h ≤ cycle → CommandsStandFor self.new rate time (Wrote idn.raw value cycle store.old ∷ h) }
     {
         self.take(idn, value, cycle, store);
-    }
-
-    // There is room for one more command.
-    #[tactic(auto, using(crate::proofs::SetLemmas::has_room))]
-    fn show_room(&self, store: &Store)
-        requires { are_commands_of store.now self.now ≡ true }
-        ensures { length self.now.set < 64 }
-    {
-        let _set = self.set.as_slice();
-        let _count = store.count();
     }
 
     // Returns whether a command is set.

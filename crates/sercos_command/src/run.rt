@@ -1,6 +1,6 @@
 // What a command does when it is set.
 ghost use Rattle.std.specs.Prelude.{◌≡◌, ◌≤◌, ◌==◌, ◌⊎◌, if◌then◌else◌, length};
-ghost use Rattle.sercos_block.specs.Stores.{with_data};
+ghost use Rattle.sercos_block.specs.Stores.{with_data, IsStore};
 ghost use Rattle.sercos_command.specs.Checks.{unfit_for_phase_3, unfit_for_phase_4, list_bytes};
 ghost use Rattle.sercos_command.specs.Settings.{ends_well};
 
@@ -30,6 +30,7 @@ fn give(store: &mut Store, list: Idn, unfit: &[Idn]) -> bool
     requires few { length unfit.now ≤ 64 }
     ensures well { result ≡ (length unfit.now == 0) }
     ensures blocks { store.new ≡ with_data list.raw (list_bytes unfit.now) store.old }
+    ensures store { IsStore store.old }
 {
     let bytes = list_bytes(unfit);
     store.set_list(list, bytes.as_slice());
@@ -41,6 +42,7 @@ pub(crate) fn run(rate: u8, idn: Idn, store: &mut Store) -> bool
     ensures well { result ≡ ends_well rate idn.raw store.old }
     ensures blocks { store.new ≡ (if idn.raw == 127 then with_data 21 (list_bytes (unfit_for_phase_3 rate store.old)) store.old
         else (if idn.raw == 128 then with_data 22 (list_bytes (unfit_for_phase_4 store.old)) store.old else store.old)) }
+    ensures store { IsStore store.old }
 {
     if idn == PHASE_3_CHECK {
         let unfit = check127(rate, store);
