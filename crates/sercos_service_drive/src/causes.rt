@@ -1,12 +1,11 @@
 // Why a word of operation data is refused before the value is whole.
-ghost use Rattle.std.specs.Prelude.{◌≡◌, ◌≤◌, ◌+◌, ◌%◌, ◌==◌, nat_lt, nat_le, not, ◌&&◌, ◌||◌, option_map};
+ghost use Rattle.std.specs.Prelude.{◌≡◌, ◌≤◌, ◌+◌, ◌%◌, ◌==◌, nat_lt, nat_le, not, ◌&&◌, ◌||◌, option_map, Some};
 ghost use Rattle.sercos_idn.specs.Codes.{is_list, item_len};
-ghost use Rattle.sercos_block.specs.Stores.{find_block};
 ghost use Rattle.sercos_service_drive.specs.Replies.{words_by};
 ghost use Rattle.sercos_service_drive.specs.Partial.{length_cause, place_cause};
 
-use sercos_block::Store;
-use sercos_idn::{Attribute, Code, Idn};
+use sercos_block::Stored;
+use sercos_idn::{Attribute, Code};
 
 // Returns how many words the operation data has, where the first of them is known.
 fn words_by(attribute: &Attribute, first: u16) -> u32
@@ -61,21 +60,17 @@ fn length_cause(
 
 // The first cause against a word of the operation data of a block, by its place and what the block is.
 pub(crate) fn place_cause(
-    store: &Store,
-    idn: Idn,
+    block: &Stored<'_>,
     phase: u8,
     last: bool,
     count: u32,
     first: u16,
 ) -> Option<Code>
     requires { (2 ≤ phase) × (phase ≤ 4) }
-    ensures { option_map (λ code. code.raw) result ≡ place_cause (find_block idn.raw store.now) phase last count first }
+    ensures { option_map (λ code. code.raw) result ≡ place_cause (Some block.now) phase last count first }
 {
-    if let Err(code) = store.may_write(idn, phase) {
+    if let Err(code) = block.may_write(phase) {
         return Some(code);
     }
-    match store.attribute(idn) {
-        Ok(attribute) => length_cause(&attribute, store.max_len(idn), last, count, first),
-        Err(code) => Some(code),
-    }
+    length_cause(&block.attribute(), block.max_len(), last, count, first)
 }

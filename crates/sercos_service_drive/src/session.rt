@@ -1,6 +1,5 @@
 // What the drive keeps between the steps of the service channel.
 ghost use Rattle.std.specs.Prelude.{◌≡◌, ℕ, ◌+◌, ◌/◌, ◌%◌, ◌≤◌, ◌<◌, ◌==◌, ◌&&◌, [], ◌∷◌, ◌++◌, List, length, take, drop, slice_index, min, if◌then◌else◌, true, false, Bool, Option, Some, None, is_some, option_map};
-ghost use Rattle.sercos_idn.specs.Codes.{is_list};
 ghost use Rattle.sercos_step.specs.Words.{bytes_in, words_of};
 ghost use Rattle.sercos_block.specs.declared.block.Block.{Block};
 ghost use Rattle.sercos_block.specs.Stores.{find_block};
@@ -159,16 +158,6 @@ fn written(bytes: &[u8], list: bool, count: u16) -> &[u8]
     &items[..items.len().min(usize::from(count))]
 }
 
-// Returns whether the operation data of a block is a list.
-fn is_list(store: &Store, idn: Idn) -> bool
-    ensures { (b : Block) → find_block idn.raw store.now ≡ Some b → result ≡ is_list b.attribute.length }
-{
-    match store.attribute(idn) {
-        Ok(attribute) => attribute.length.is_list(),
-        Err(_) => false,
-    }
-}
-
 // Appends a word, the low byte first, if there is room.
 fn push_word(buffer: &mut Buffer, word: u16)
     ensures { length buffer.old ≤ 1026 → buffer.new ≡ buffer.old ++ (word % 256) ∷ (word / 256) ∷ [] }
@@ -176,14 +165,6 @@ fn push_word(buffer: &mut Buffer, word: u16)
     if buffer.len() + 2 <= CAPACITY {
         buffer.push_word_within(word);
     }
-}
-
-// Appends a word to the others of a run, where its block has room for it.
-fn keep_word(buffer: &mut Buffer, word: u16, store: &Store, idn: Idn)
-    ensures { (b : Block) (words : List ℕ) → find_block idn.raw store.now ≡ Some b → buffer.old ≡ bytes_in words → IsStarted b words → buffer.new ≡ bytes_in (words ++ word ∷ []) }
-{
-    let _most = store.max_len(idn);
-    push_word(buffer, word);
 }
 
 // Writes a word of operation data in a phase, 2 to 4, where the buffer has the words of the run before it. The code is the
@@ -206,16 +187,18 @@ fn write_word(
         IsWord idn.raw cycle phase b last (words ++ word ∷ []) (option_map (λ code. code.raw) result) buffer.new store.old store.new commands.old commands.new }
     ensures set { are_commands_of store.new commands.new ≡ true }
 {
-    let _most = store.max_len(idn);
+    let Some(block) = store.find(idn) else {
+        return Some(Code::NO_IDN);
+    };
     let first = first_word(buffer, place, word);
-    if let Some(code) = place_cause(store, idn, phase, last, u32::from(place) + 1, first) {
+    if let Some(code) = place_cause(&block, phase, last, u32::from(place) + 1, first) {
         return Some(code);
     }
-    keep_word(buffer, word, store, idn);
+    let list = block.attribute().length.is_list();
+    push_word(buffer, word);
     if !last {
         return None;
     }
-    let list = is_list(store, idn);
     write_data(
         idn,
         written(buffer.as_slice(), list, first),
