@@ -19,7 +19,7 @@ use Rattle.sercos_law_channel.specs.Handshake.Transfers.{stored}
 use Rattle.sercos_law_channel.specs.Handshake.Views.{Heard, View}
 use Rattle.sercos_law_channel.specs.Handshake.Epochs.{with_heard, with_begun, unless_restart, epoch_begun, begun_in}
 use Rattle.sercos_law_channel.specs.Handshake.WholeRun.{leaving, begun_ago, all_begun}
-use Rattle.sercos_law_channel.specs.Handshake.Exact.{Given, given_by, Complete, AreExact}
+use Rattle.sercos_law_channel.specs.Handshake.Exact.{Given, given_by, AreExact}
 use Rattle.sercos_law_channel.specs.Handshake.Values.{newest_to, GiveElsewhere}
 use Rattle.sercos_law_run.specs.Agenda.Writes.{IsWrittenLast}
 use Rattle.sercos_law_channel.proofs.Theorems.{newest_of}
