@@ -208,8 +208,10 @@ fn respond<S: Source, K: Sink, L: BitLink>(
 ///
 /// Of each run that `run` traces and `gen` sums, up to the first undetected damage, regardless of losses and restarts: if no cycle after a
 /// fall is disturbed, the ring starts up again; and from twice the bound of a start-up and 200 cycles after the last disturbed one on,
-/// phase 4 is commanded, or the master is at a stop for its cause. No damage is undetected if the script has no flip and `link` changes
-/// nothing, or is harmless after cuts: it makes no other frame of a frame or of the beginning of one.
+/// phase 4 is commanded, or the master is at a stop for its cause. While disturbed cycles are sparse the ring doesn't fall; and after others
+/// it falls at most once, and is back by the same bound and what the disturbed cycles since cost a start-up. No damage is undetected if the
+/// script has no flip and `link` changes nothing, or is harmless after cuts: it makes no other frame of a frame or of the beginning of one.
+/// Whatever arrives, each drive's data are fit for its phase, each drive moves for its causes alone, and each fall has its cause.
 ///
 /// If no damage is undetected in a run, what `run` wrote of it is clean: `check` finds no fault and no violation in it.
 ///

@@ -7,4 +7,5 @@ pub mod Phases
 pub mod Cycles
 pub mod Lists
 pub mod Senders
+pub mod Limits
 pub mod Falls

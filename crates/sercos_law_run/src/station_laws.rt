@@ -32,8 +32,8 @@ pub fn phase_law()
     ensures drops { DropsByCause }
 {}
 
-/// What `fit_law` says of the times and the limits, and `phase_law` of the phase, holds of each drive of a ring in each cycle, after the
-/// MST's place and after the MDT's, over every link and whatever arrives, undetected damage too. As long as nothing was undetected, in a cycle commanded 0, 1 or 2 at most one AT is sent: by
+/// What `fit_law` says of the times and the limits, and `phase_law` of the phase, holds of each drive of a ring in each cycle, before the
+/// MST's place, where it may restart, after it, and after the MDT's place, over every link and whatever arrives, undetected damage too. As long as nothing was undetected, in a cycle commanded 0, 1 or 2 at most one AT is sent: by
 /// the drive that the MDT of the cycle before was addressed to, and none with phase 0.
 pub fn station_law()
     ensures plain { AlwaysPlain }
@@ -44,8 +44,8 @@ pub fn station_law()
 
 /// A fall that a ring reports has its cause, over every link and whatever arrives. `MstLost`: the own MST didn't come back
 /// as it was sent in this cycle, nor in the one before, of phase 1 to 4. `AtLost`: in this cycle and in the one before, of phase 3 or 4, no
-/// AT that arrived reads as that drive's. `StepLimit`: in phase 1 the MDT was to that drive in this cycle and in the 64 before it; later
-/// a step to it was sent 64 cycles ago or more, and no answer has been taken since. `Restart`: the master restarts in this cycle.
+/// AT that arrived reads as that drive's. `StepLimit`: in phase 1 the MDT was to that drive in this cycle and in the 64 before it, and no
+/// longer; later a step to it was first sent 64 cycles ago, and no answer has been taken since. `Restart`: the master restarts in this cycle.
 /// And if phase 1 or a later one is commanded, the cause of `MstLost` makes the ring fall, and is the one that is reported.
 pub fn fall_law()
     ensures causes { FallsHaveCause }

@@ -34,8 +34,7 @@ ghost use Rattle.sercos_law_run.specs.Tolerance.TwoLasts.{TwoSparse};
 /// answer is lost one more. Cycles in which nothing is disturbed are sparse, and those of which at most one of any three in a row is. And
 /// after faults that aren't sparse: at most one fall comes after the last cycle that isn't, and no request is reported as broken after that
 /// fall; and from twice the bound of a start-up and 200 cycles after it on, and what the disturbed cycles since cost a start-up, phase 4 is
-/// commanded if the ring is right; in any ring, from 41 steps of the slowest drive later on, phase 4 is commanded, or the master is at a
-/// stop for its cause. From then on no fall is reported any more, nor a request as broken.
+/// commanded, or the master is at a stop for its cause, and no fall is reported any more, nor a request as broken.
 pub fn tolerance_law()
     ensures calm { CalmIsSparse }
     ensures spaced { OneOfThreeIsSparse }

@@ -287,8 +287,8 @@ impl<L: BitLink> Ring<L> {
     /// disturbed one is disturbed then, in 3 and 4 not the one before. From the second cycle on each drive is in the commanded phase, or
     /// one below it in that phase's first cycle; a step is answered at most busy time and four cycles after it was first sent; and if
     /// nothing is in its way, phase 4 comes within `startup_bound` and the costs of the disturbed cycles, and stays. After faults that
-    /// aren't sparse, at most one fall comes while sparse ones go on; and if nothing is in its way, phase 4 is commanded from
-    /// `recovery_bound` and these costs on; else the master is at a stop for its cause, 41 steps of the slowest drive later at most.
+    /// aren't sparse, at most one fall comes while sparse ones go on; and from `recovery_bound` and these costs on phase 4 is commanded, or
+    /// the master is at a stop for its cause.
     ///
     /// Whatever arrives, undetected damage too: in phases 3 and 4 each drive's data keep its T1min, TATMT and T4min, its data record
     /// lies within the MDT, and in phase 4 the data keep their limits too; each drive rises, and goes to phase 0, for its causes alone; and a fall that is reported

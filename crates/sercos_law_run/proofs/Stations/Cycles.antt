@@ -6,7 +6,7 @@ use Rattle.sercos_block.specs.Views.{DriveView}
 use Rattle.sercos_drive.specs.Heard.{DriveCall}
 use Rattle.sercos_law_run.specs.Journal.Runs.{drive_at, given_mst, given_mdt}
 use Rattle.sercos_law_run.specs.Typed.Keeps.{KeepsAlways}
-use Rattle.sercos_law_run.specs.Stations.Cycles.{ArePlain, AlwaysPlain}
+use Rattle.sercos_law_run.specs.Stations.Cycles.{ArePlain, AlwaysPlain, given_start}
 use Rattle.sercos_law_run.proofs.Start.CheckPasses.{ring_drive}
 use Rattle.sercos_law_run.proofs.Held.Runs.{drive_got}
 use Rattle.sercos_law_run.proofs.Stations.FitInThree.{fit_in_three}
@@ -28,6 +28,7 @@ pub always_plain : KeepsAlways → AlwaysPlain
 always_plain always r jobs carry restarts t j opened k below =
     let none = (ring_drive r k (drive_at r k) opened.valid (drive_got r k below)).blocks in
     let store = (always r carry restarts [] k opened.valid opened.typed below).store in (
+      are_plain (drive_at r k) r.rate (given_start carry restarts j k) none store,
       are_plain (drive_at r k) r.rate (given_mst carry restarts t.sent j k) none store,
       are_plain (drive_at r k) r.rate (given_mdt carry restarts t.sent j k) none store,
     )

@@ -1,5 +1,5 @@
 -- Why a ring falls, by what arrived at the master in its last cycles.
-use Rattle.std.proofs.Common.{◌≡◌, ℕ, zero, suc, ◌+◌, ◌<◌, ◌≤◌, ◌==◌, Bool, true, false, not, ◌&&◌, List, [], ◌∷◌, length, Option, Some, None, refl, sym, ◌∙◌, ap, subst, arith, if◌then◌else◌}
+use Rattle.std.proofs.Common.{◌≡◌, ℕ, zero, suc, ◌+◌, ◌<◌, ◌≤◌, ◌==◌, Bool, true, false, not, ◌&&◌, List, [], ◌∷◌, length, Option, Some, None, refl, sym, ◌∙◌, ap, subst, arith, eq-eqb, if◌then◌else◌}
 use Rattle.std.specs.Prelude.{nat_le, min, is_some, is_none, option_map, slice_index, unwrap_or}
 use Rattle.std.specs.Bool.{then_some}
 use Rattle.std.specs.Option.{option_or}
@@ -12,12 +12,12 @@ use Rattle.sercos_step.specs.declared.request.Outcome.{Outcome}
 use Rattle.sercos_telegram.specs.declared.layout.Kind.TheVariants as kinds
 use Rattle.sercos_step.specs.declared.request.Job.{Job}
 use Rattle.sercos_block.specs.Views.{RingView}
-use Rattle.sercos_service_master.specs.Begun.{answers_it, open_in}
+use Rattle.sercos_service_master.specs.Begun.{answer_in, answers_it, open_in, with_answer}
 use Rattle.sercos_service_master.specs.Calls.{Begin, Send, Hear, EndCycle, age_of, begun_by, cycles_open}
 use Rattle.sercos_service_master.specs.Calls as channel
 use Rattle.sercos_seat.specs.Agenda.{at_len}
 use Rattle.sercos_seat.specs.Channel.{is_place, outcomes_in}
-use Rattle.sercos_seat.specs.Ring.{Known, MemberView, known_of, member}
+use Rattle.sercos_seat.specs.Ring.{Known, MemberView, known_of, member, tasks_for}
 use Rattle.sercos_master.specs.Annals.{Past, Turn, Call, after_at, after_at_of, after_taken, count_addressed, fall_at, fall_of, first_place, goes_on, has_lost_at, has_lost_mst, is_at_limit, is_done, is_mst, is_taken, new_epoch, next_phase, outcomes, place_of, still_waiting}
 use Rattle.sercos_master.specs.Reports.{restart_told}
 use Rattle.sercos_trace.specs.Views.{CycleView, EventsView}
@@ -26,16 +26,37 @@ use Rattle.sercos_trace.specs.declared.events.Fall.TheVariants.{MstLost, AtLost,
 use Rattle.sercos_script.specs.Links.{Carry, Restarts}
 use Rattle.sercos_law_run.specs.Journal.Arrivals.{heard, passage}
 use Rattle.sercos_law_run.specs.Journal.Records.{mst_in, ats_in}
-use Rattle.sercos_law_run.specs.Journal.Runs.{IsRun, IsNext, at_calls, begins, drive_at, looks_back, master_calls, no_events, own_mst, station_of, with_at}
+use Rattle.sercos_law_run.specs.Journal.Runs.{IsRun, IsNext, at_calls, begins, drive_at, looks_back, master_calls, middle, no_events, own_mst, station_of, with_at}
 use Rattle.sercos_law_run.specs.Views.RingViews.{at_start, behind_ats, behind_mdt, behind_mst}
 use Rattle.sercos_law_run.specs.Held.Opened.{IsOpened}
-use Rattle.sercos_law_run.specs.Stations.Falls.{AreTo, FallsHaveCause, HasCause, Identification, IsLate, IsOpenFor, MissesAt, MissesMst, MstComesFirst, NoneReads, NoneReadsIn, Step, comes_back}
+use Rattle.sercos_law_run.specs.Stations.Falls.{AreTo, FallsHaveCause, HasCause, Identification, IsLate, IsOpenFor, MissesAt, MissesMst, MstComesFirst, NoneReads, NoneReadsIn, Step, comes_back, was_sent}
+use Rattle.sercos_law_run.proofs.Stations.Limits.{IsWithin, within}
 use Rattle.sercos_law_run.proofs.Undisturbed.Addressed.{place_found}
 use Rattle.sercos_law_run.proofs.Undisturbed.NoFalls.{heard_mdt}
 use Rattle.sercos_master.proofs.Keeping.{first_found}
 use Rattle.sercos_law_run.proofs.Views.MasterSame.{SameTurn, begun_cycle, turn_mdt}
 use Rattle.sercos_law_run.proofs.Views.Members.{member_is, members_count}
 use Rattle.sercos_law_run.proofs.Views.ViewRuns.{started}
+
+-- Without an age no record was sent for the open step.
+never_sent : (h : List channel.Call) → is_some (open_in (begun_by h)) ≡ true → age_of h ≡ None → was_sent h ≡ false
+never_sent [] waits none = refl
+never_sent (Begin r ∷ h) waits none = refl
+never_sent (Send ∷ h) waits none =
+    let some : Some (unwrap_or (age_of h) 0) ≡ None = sym (ap (λ (b : Bool). if b then Some (unwrap_or (age_of h) 0) else None) waits) ∙ none in
+    absurd (cc)
+never_sent (EndCycle ∷ h) waits none = never_sent h waits (by (age_of h) none)
+  where
+    by : (o : Option ℕ) → option_map (λ age. age + 1) o ≡ None → o ≡ None
+    by None none = refl
+    by (Some n) none = absurd (cc)
+never_sent (Hear status word ∷ h) waits none = by (answers_it (begun_by h) status) waits none (never_sent h)
+  where
+    by : (answers : Bool) → is_some (open_in (if answers then with_answer (answer_in status word) (begun_by h) else begun_by h)) ≡ true
+        → (if answers then None else age_of h) ≡ None
+        → (is_some (open_in (begun_by h)) ≡ true → age_of h ≡ None → was_sent h ≡ false) → (not answers && was_sent h) ≡ false
+    by true waits none before = refl
+    by false waits none before = before waits none
 
 -- A STEP is open for as many cycles as its age has.
 abbrev IsOpenAt : List channel.Call → Type 0
@@ -51,7 +72,7 @@ open_for (EndCycle ∷ h) n e = by (age_of h) refl e (open_for h)
     by (Some m) is e more =
         let since = more m is in
         let next : m + 1 ≡ n = cc in
-        record { newer = EndCycle ∷ since.newer; older = since.older; split = ap (λ (c : List channel.Call). EndCycle ∷ c) since.split; waits = since.waits; same = since.same; count = ap (λ (m : ℕ). m + 1) since.count ∙ next }
+        record { newer = EndCycle ∷ since.newer; older = since.older; split = ap (λ (c : List channel.Call). EndCycle ∷ c) since.split; waits = since.waits; first = since.first; same = since.same; count = ap (λ (m : ℕ). m + 1) since.count ∙ next }
 open_for (Hear status word ∷ h) n e = by (answers_it (begun_by h) status) refl e (open_for h)
   where
     by : (answers : Bool) → answers_it (begun_by h) status ≡ answers → (if answers then None else age_of h) ≡ Some n → IsOpenAt h
@@ -59,24 +80,27 @@ open_for (Hear status word ∷ h) n e = by (answers_it (begun_by h) status) refl
     by true is e more = cc
     by false is e more =
         let since = more n e in
-        record { newer = Hear status word ∷ since.newer; older = since.older; split = ap (λ (c : List channel.Call). Hear status word ∷ c) since.split; waits = since.waits; same = rw is since.same; count = since.count }
+        record { newer = Hear status word ∷ since.newer; older = since.older; split = ap (λ (c : List channel.Call). Hear status word ∷ c) since.split; waits = since.waits; first = since.first; same = rw is since.same; count = since.count }
 open_for (Send ∷ h) n e = by (is_some (open_in (begun_by h))) refl (age_of h) refl e (open_for h)
   where
     by : (waits : Bool) → is_some (open_in (begun_by h)) ≡ waits → (o : Option ℕ) → age_of h ≡ o
         → (if waits then Some (unwrap_or o 0) else None) ≡ Some n → IsOpenAt h → IsOpenFor (Send ∷ h) n
     by false is o age e more = cc
-    by true is None age e more = let zero : 0 ≡ n = cc in record { newer = []; older = h; split = refl; waits = is; same = refl; count = zero }
+    by true is None age e more = let zero : 0 ≡ n = cc in record { newer = []; older = h; split = refl; waits = is; first = never_sent h is age; same = refl; count = zero }
     by true is (Some m) age e more =
         let since = more m age in
         let same : m ≡ n = cc in
-        record { newer = Send ∷ since.newer; older = since.older; split = ap (λ (c : List channel.Call). Send ∷ c) since.split; waits = since.waits; same = since.same; count = since.count ∙ same }
+        record { newer = Send ∷ since.newer; older = since.older; split = ap (λ (c : List channel.Call). Send ∷ c) since.split; waits = since.waits; first = since.first; same = since.same; count = since.count ∙ same }
 
-late_step : (h : List channel.Call) → nat_le 64 (cycles_open h) ≡ true → (n : ℕ) × (64 ≤ n) × IsOpenFor h n
-late_step h late = by (age_of h) refl late
+late_step : (h : List channel.Call) → nat_le 64 (cycles_open h) ≡ true → ((n : ℕ) → age_of h ≡ Some n → n ≤ 64) → IsOpenFor h 64
+late_step h late few = by (age_of h) refl late
   where
-    by : (o : Option ℕ) → age_of h ≡ o → nat_le 64 (min (unwrap_or o 0) 64) ≡ true → (n : ℕ) × (64 ≤ n) × IsOpenFor h n
+    by : (o : Option ℕ) → age_of h ≡ o → nat_le 64 (min (unwrap_or o 0) 64) ≡ true → IsOpenFor h 64
     by None is late = absurd (false≢true late)
-    by (Some n) is late = (n, grind (arith, nat_tests, late), open_for h n is)
+    by (Some n) is late =
+        let most = few n is in
+        let least : 64 ≤ n = grind (arith, nat_tests, late) in
+        open_for h 64 (is ∙ ap Some (omega (arith, most, least)))
 
 -- AN IDENTIFICATION goes to one drive.
 place_is_so : (k : ℕ) (o : Option ℕ) → is_place k o ≡ true → o ≡ Some k
@@ -93,8 +117,18 @@ are_to k (suc n) (t ∷ turns) many = by ((t.phase == 1) && is_place k t.address
     by true is many more = let (one, to) = and_parts (t.phase == 1) (is_place k t.addressed) is in (grind (arith, nat_tests, one), place_is_so k t.addressed to, more (omega (arith, many)))
     by false is many more = absurd (omega (arith, many))
 
-late_so : (p : Past) (k : ℕ) → is_at_limit p k ≡ true → IsLate p k
-late_so p k limit = by (p.now.phase == 1) refl limit
+-- .. and to no other in so many cycles
+no_more : (k n : ℕ) (turns : List Turn) → AreTo k n turns → n ≤ count_addressed k turns
+no_more k zero turns are = omega arith
+no_more k (suc n) [] are = absurd are
+no_more k (suc n) (t ∷ turns) are =
+    let rest = no_more k n turns are.2 in
+    let to : is_place k t.addressed ≡ true = ap (is_place k) are.1 ∙ eq-eqb k k refl in
+    let on : ((t.phase == 1) && is_place k t.addressed) ≡ true = rw (are.0, to) refl in
+    let one = ap (λ (b : Bool). if b then count_addressed k turns + 1 else 0) on in omega (arith, rest, one)
+
+late_so : (p : Past) (k : ℕ) → IsWithin p k → is_at_limit p k ≡ true → IsLate p k
+late_so p k within limit = by (p.now.phase == 1) refl limit
   where
     by : (b : Bool) → (p.now.phase == 1) ≡ b
         → (if b then is_place k p.now.addressed && nat_le 64 (count_addressed k p.turns) else nat_le 64 (cycles_open (p.calls k))) ≡ true
@@ -102,8 +136,10 @@ late_so p k limit = by (p.now.phase == 1) refl limit
     by true one limit =
         let (to, many) = and_parts (is_place k p.now.addressed) (nat_le 64 (count_addressed k p.turns)) limit in
         let is : p.now.phase ≡ 1 = grind (arith, nat_tests, one) in
+        let few = within.few in
         Identification is (is, place_is_so k p.now.addressed to, are_to k 64 p.turns (grind (arith, nat_tests, many)))
-    by false one limit = let (n, most, since) = late_step (p.calls k) limit in Step n most since
+        (λ are. let more = no_more k 65 p.turns are.2 in omega (arith, few, more))
+    by false one limit = Step (late_step (p.calls k) limit within.aged.1)
 
 -- THE ATS of a cycle, as the master takes them. A place from which none was taken has its channel as before.
 record AtsLeave (k : ℕ) (q p : Past) : Type 0 where
@@ -427,6 +463,10 @@ module _ (r : RingView) (jobs : List Job) (carry : Carry) (restarts : Restarts) 
       p : Past
       p = behind_mdt r jobs carry restarts t.sent j
 
+      within_so : (k : ℕ) → k < length r.drives → IsWithin p k
+      within_so k below = let count = members_count r in
+          within (known_of r) (tasks_for (known_of r) jobs) k (omega (arith, below, count)) (middle r carry restarts t.sent j)
+
       by : (m : Bool) → has_lost_mst (p.now ∷ p.turns) ≡ m → (a : Option ℕ)
           → first_place (known_of r) (λ k. has_lost_at k (p.now ∷ p.turns)) ≡ a → (l : Option ℕ)
           → first_place (known_of r) (is_at_limit p) ≡ l
@@ -440,7 +480,7 @@ module _ (r : RingView) (jobs : List Job) (carry : Carry) (restarts : Restarts) 
       by false lost None at (Some k) late is =
           let same : StepLimit (member (known_of r) k).address ≡ f = cc in
           let (below, passes) = placed k (is_at_limit p) late in
-          subst (HasCause r jobs carry restarts t j) same (record { place = k; inside = below; address_is = ap (λ (m : MemberView). m.address) (sym (member_is r k)); late = late_so p k passes })
+          subst (HasCause r jobs carry restarts t j) same (record { place = k; inside = below; address_is = ap (λ (m : MemberView). m.address) (sym (member_is r k)); late = late_so p k (within_so k below) passes })
       by false lost None at None late is = cc
 
 pub falls_have_cause : FallsHaveCause

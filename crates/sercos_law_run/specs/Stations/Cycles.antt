@@ -1,5 +1,5 @@
 -- What each drive of a ring keeps in a cycle, by what arrived at it, over every link.
-use Rattle.std.specs.Prelude.{◌≡◌, ◌⊎◌, ◌↔◌, ℕ, ◌<◌, ◌≤◌, List, [], ◌∷◌, length}
+use Rattle.std.specs.Prelude.{◌≡◌, ◌⊎◌, ◌↔◌, ℕ, ◌+◌, ◌<◌, ◌≤◌, List, [], ◌∷◌, length}
 use Rattle.sercos_step.specs.declared.request.Job.{Job}
 use Rattle.sercos_block.specs.Views.{DriveView, RingView}
 use Rattle.sercos_command.specs.Checks.{unfit_for_phase_4}
@@ -7,7 +7,7 @@ use Rattle.sercos_drive.specs.Heard.{DriveCall}
 use Rattle.sercos_drive.specs.Annals.{phase_at, store_at}
 use Rattle.sercos_trace.specs.Views.{CycleView}
 use Rattle.sercos_script.specs.Links.{Carry, Restarts}
-use Rattle.sercos_law_run.specs.Journal.Runs.{drive_at, given_mst, given_mdt}
+use Rattle.sercos_law_run.specs.Journal.Runs.{drive_at, given_before, given_mst, given_mdt, with_restart}
 use Rattle.sercos_law_run.specs.Held.Opened.{IsOpened}
 use Rattle.sercos_law_run.specs.Stations.Fit.{KeepsTimes}
 use Rattle.sercos_law_run.specs.Stations.Phases.{IsByMst, Rises, Drops}
@@ -25,12 +25,15 @@ abbrev pub ArePlain : DriveView → ℕ → List DriveCall → Type 0
 ArePlain d rate [] = Unit {0}
 ArePlain d rate (call ∷ h) = IsPlain d rate call h
 
--- So it is of each drive of a cycle, after the MST's place and after the MDT's. A restart is before the MST's place, and the drive is in
--- phase 0 there.
+-- the calls of a drive before the MST's place of a cycle: a restart is one of them
+abbrev pub given_start : Carry → Restarts → List CycleView → ℕ → List DriveCall
+given_start carry restarts j k = with_restart (restarts (length j) (k + 1)) (given_before carry restarts j k)
+
+-- So it is of each drive of a cycle: before the MST's place, also after a restart there; after the MST's place; and after the MDT's.
 abbrev pub DrivesArePlain : RingView → Carry → Restarts → CycleView → List CycleView → Type 0
 DrivesArePlain r carry restarts t j =
-    (k : ℕ) → k < length r.drives → ArePlain (drive_at r k) r.rate (given_mst carry restarts t.sent j k)
-    × ArePlain (drive_at r k) r.rate (given_mdt carry restarts t.sent j k)
+    (k : ℕ) → k < length r.drives → ArePlain (drive_at r k) r.rate (given_start carry restarts j k)
+    × ArePlain (drive_at r k) r.rate (given_mst carry restarts t.sent j k) × ArePlain (drive_at r k) r.rate (given_mdt carry restarts t.sent j k)
 
 -- Whatever arrives, undetected damage too.
 abbrev pub AlwaysPlain : Type 0

@@ -1,11 +1,11 @@
 -- Why a ring falls: by what arrived at the master in its last cycles, or what is open on a channel, over every link. Each list has its newest item first.
-use Rattle.std.specs.Prelude.{◌≡◌, ℕ, zero, suc, ◌+◌, ◌<◌, ◌≤◌, Bool, true, false, List, [], ◌∷◌, ◌++◌, length, Some, is_some, slice_index}
+use Rattle.std.specs.Prelude.{◌≡◌, ℕ, zero, suc, ◌+◌, ◌<◌, ◌≤◌, Bool, true, false, not, ◌&&◌, List, [], ◌∷◌, ◌++◌, length, Some, is_some, slice_index}
 use Rattle.sercos_telegram.specs.Faults.{at_fault}
 use Rattle.sercos_telegram.specs.declared.layout.Kind.TheVariants as kinds
 use Rattle.sercos_step.specs.declared.request.Job.{Job}
 use Rattle.sercos_block.specs.Views.{RingView}
-use Rattle.sercos_service_master.specs.Begun.{open_in}
-use Rattle.sercos_service_master.specs.Calls.{Call, Send, EndCycle, begun_by}
+use Rattle.sercos_service_master.specs.Begun.{answers_it, open_in}
+use Rattle.sercos_service_master.specs.Calls.{Call, Begin, Send, Hear, EndCycle, begun_by}
 use Rattle.sercos_seat.specs.Agenda.{at_len}
 use Rattle.sercos_seat.specs.Ring.{known_of, member}
 use Rattle.sercos_master.specs.Annals.{Past, Turn, is_mst, outcomes}
@@ -64,12 +64,21 @@ cycles_in [] = 0
 cycles_in (EndCycle ∷ h) = cycles_in h + 1
 cycles_in (call ∷ h) = cycles_in h
 
--- The open step of a channel was sent n cycles ago, perhaps not for the first time; since then no answer was taken and no request begun.
+-- whether a record was sent in these calls of a channel since its newest request, or since the newest answer to it
+abbrev pub was_sent : List Call → Bool
+was_sent [] = false
+was_sent (Begin r ∷ h) = false
+was_sent (Send ∷ h) = true
+was_sent (Hear status word ∷ h) = not (answers_it (begun_by h) status) && was_sent h
+was_sent (EndCycle ∷ h) = was_sent h
+
+-- The open step of a channel was first sent n cycles ago; since then no answer was taken and no request begun.
 pub record IsOpenFor (h : List Call) (n : ℕ) : Type 0 where
   pub newer : List Call
   pub older : List Call
   pub split : h ≡ newer ++ Send ∷ older
   pub waits : is_some (open_in (begun_by older)) ≡ true
+  pub first : was_sent older ≡ false
   pub same : begun_by h ≡ begun_by older
   pub count : cycles_in newer ≡ n
 
@@ -79,11 +88,11 @@ AreTo k zero turns = Unit {0}
 AreTo k (suc n) [] = ⊥
 AreTo k (suc n) (t ∷ turns) = (t.phase ≡ 1) × (t.addressed ≡ Some k) × AreTo k n turns
 
--- StepLimit: in phase 1 the MDT was to the drive in this cycle and in the 64 before it; later its open step was sent 64 or more
--- cycles ago.
+-- StepLimit: in phase 1 the MDT was to the drive in this cycle and in the 64 before it, and not in the one before these; later its open
+-- step was first sent 64 cycles ago.
 pub data IsLate (p : Past) (k : ℕ) : Type 0 where
-  Identification : p.now.phase ≡ 1 → AreTo k 65 (p.now ∷ p.turns) → IsLate p k
-  Step : (n : ℕ) → 64 ≤ n → IsOpenFor (p.calls k) n → IsLate p k
+  Identification : p.now.phase ≡ 1 → AreTo k 65 (p.now ∷ p.turns) → (AreTo k 66 (p.now ∷ p.turns) → ⊥) → IsLate p k
+  Step : IsOpenFor (p.calls k) 64 → IsLate p k
 
 pub record HasNoAnswer (r : RingView) (jobs : List Job) (carry : Carry) (restarts : Restarts) (t : CycleView) (j : List CycleView)
     (address : ℕ) : Type 0 where
