@@ -180,6 +180,22 @@ def sparse_script(program: str, plain: str, script: Script, cycles: int) -> None
     script.faults = script.faults[:MOST_FAULTS]
 
 
+def sparse_since(program: str, longer: str, script: Script, last: int, cycles: int) -> None:
+    """Makes a script go on with sparse faults after its last cycle: periodic ones, as dense as that allows, or random ones."""
+    script.density = script.random.choice([1.0, 1.0, 0.5, 0.1, 0.02])
+    before = list(script.faults)
+    for cycle in range(last + 1, cycles):
+        script.disturb(cycle, 3)
+    # where phase 3 or 4 is commanded from then on, every second cycle may be disturbed
+    phases = Run(program, longer + script.text()).phases
+    late = max((cycle + 1 for cycle, phase in enumerate(phases) if phase < 3), default=0)
+    if last < late < len(phases):
+        script.faults = before + [fault for fault in script.faults[len(before):] if fault["cycle"] < late]
+        script.last = max(fault["cycle"] for fault in script.faults)
+        for cycle in range(late, cycles):
+            script.disturb(cycle, 2)
+
+
 def likely_pattern(script: Script, promised: Promised) -> tuple[str, list[str], list[int]]:
     """One of the limits that are likely: its name, the kinds of telegrams that are lost, and which cycles of a row of them are disturbed."""
     row = 40 * promised.calm_of
@@ -353,12 +369,11 @@ def checked(program: str, seed: int) -> Judged:
         broken, last = Script(seed + 1, order), random.Random(seed).randint(1, promised.start + 50)
         broken.break_up(random.Random(seed + 1).randint(max(last - 60, 0), last), last)
         length = last + promised.recovery + promised.stop + 100
+        longer = re.sub(r"(?m)^cycles = \d+", f"cycles = {length}", plain, count=1)
         if seed % 2:
-            broken.density = broken.random.choice([0.5, 0.1, 0.02])
-            for cycle in range(last + 3, length):
-                broken.disturb(cycle, 3)
+            sparse_since(program, longer, broken, last, length)
         broken.faults = broken.faults[:MOST_FAULTS]
-        judged.texts.append(re.sub(r"(?m)^cycles = \d+", f"cycles = {length}", plain, count=1) + broken.text())
+        judged.texts.append(longer + broken.text())
         before = len(judged.wrong)
         judged.judge_return(Run(program, judged.texts[1]), broken, promised, last)
         judged.texts = judged.texts if len(judged.wrong) > before else judged.texts[:1]
