@@ -7,9 +7,9 @@ use Rattle.std.proofs.lemmas.List.Sums.{take_while-cons}
 use Rattle.std.proofs.Math.Bool.{and_comm, or-true}
 use Rattle.sercos_idn.specs.Commands.{to_cancel}
 use Rattle.sercos_command.specs.declared.commands.SetCommand.{SetCommand}
-use Rattle.sercos_command.specs.Settings.{find_set, without, with_set, ends_well, has_ended, are_distinct}
-use Rattle.sercos_command.specs.Calls.{Call, Wrote, Other, Reset, CommandWrite, writes_to_command, set_by, is_set, setting_by, setting_of, leaves_check, passes_check, is_passed, commands_in, is_ended, change_of}
-use Rattle.sercos_command.specs.Kept.{settings, passed_so_far}
+use Rattle.sercos_command.specs.Settings.{ends_well, has_ended}
+use Rattle.sercos_command.specs.Calls.{CommandCall, Wrote, Other, Reset, CommandWrite, writes_to_command, set_by, is_set, setting_by, setting_of, spares_check, passes_check, is_passed, CommandHistory, command_numbers, has_command_ended, change_in}
+use Rattle.sercos_command.specs.Kept.{find_set, without, with_set, are_distinct, settings, passed_so_far}
 use Rattle.sercos_command.proofs.SetLemmas.{distinct_without, distinct_appended}
 
 -- THE SETTINGS. After a cancel
@@ -82,7 +82,7 @@ last-cons x (y ∷ xs) = some y xs (Some x)
     some y [] o = refl
     some y (z ∷ xs) o = some z xs o
 
-pub find-settings : (rate raw : ℕ) (h : List Call) → find_set raw (settings rate h) ≡ setting_of rate raw h
+pub find-settings : (rate raw : ℕ) (h : List CommandCall) → find_set raw (settings rate h) ≡ setting_of rate raw h
 find-settings rate raw [] = refl
 find-settings rate raw (Reset ∷ h) = refl
 find-settings rate raw (Other cycle ∷ h) = find-settings rate raw h
@@ -134,7 +134,7 @@ find-settings rate raw (Wrote other value cycle blocks ∷ h) = by (value == to_
             kept None = refl
             kept (Some t) = refl
 
-pub is_none-settings : (rate raw : ℕ) (h : List Call) → is_none (find_set raw (settings rate h)) ≡ not (is_set raw h)
+pub is_none-settings : (rate raw : ℕ) (h : List CommandCall) → is_none (find_set raw (settings rate h)) ≡ not (is_set raw h)
 is_none-settings rate raw h = ap is_none (find-settings rate raw h) ∙ by (set_by raw h)
   where
     by : (o : Option CommandWrite) → is_none (option_map (setting_by rate raw) o) ≡ not (is_some o)
@@ -151,7 +151,7 @@ any-later f a zero = refl
 any-later f a (suc n) = let next : suc a + 1 ≡ suc (a + 1) = omega arith in rw (next, any-later f (a + 1) n) refl
 
 -- so it is of a list with one call more
-passed-more : (rate time check cycle : ℕ) (call : Call) (h : List Call) → is_passed rate time check (call ∷ h) cycle
+passed-more : (rate time check cycle : ℕ) (call : CommandCall) (h : List CommandCall) → is_passed rate time check (call ∷ h) cycle
     ≡ (passes_check rate time check cycle [] (call ∷ h)
     || list_any (λ k. passes_check rate time check cycle (call ∷ take k h) (drop k h)) (range_with_len 0 (length h)))
 passed-more rate time check cycle call h =
@@ -166,7 +166,7 @@ undone true true false d = refl
 undone true false c d = refl
 undone false b c d = refl
 
-undoes : (rate time check cycle : ℕ) (call : Call) → ((end : ℕ) → leaves_check check end call ≡ false) → (since before : List Call)
+undoes : (rate time check cycle : ℕ) (call : CommandCall) → ((end : ℕ) → spares_check check end call ≡ false) → (since before : List CommandCall)
     → passes_check rate time check cycle (call ∷ since) before ≡ false
 undoes rate time check cycle call ends since [] = refl
 undoes rate time check cycle call ends since (Reset ∷ before) = refl
@@ -179,22 +179,22 @@ none-any f none [] = refl
 none-any f none (x ∷ xs) = rw (none x, none-any f none xs) refl
 
 -- a later call that leaves each check, and a cancel, which leaves those that have ended
-left : (rate time check cycle : ℕ) (call : Call) → ((end : ℕ) → leaves_check check end call ≡ true) → (since before : List Call)
+left : (rate time check cycle : ℕ) (call : CommandCall) → ((end : ℕ) → spares_check check end call ≡ true) → (since before : List CommandCall)
     → passes_check rate time check cycle (call ∷ since) before ≡ passes_check rate time check cycle since before
 left rate time check cycle call stays since [] = refl
 left rate time check cycle call stays since (Reset ∷ before) = refl
 left rate time check cycle call stays since (Other other ∷ before) = refl
 left rate time check cycle call stays since (Wrote raw value at blocks ∷ before) = rw (stays (at + time)) refl
 
-cancelled : (rate time check cycle end : ℕ) (call : Call) → ((n : ℕ) → leaves_check check n call ≡ nat_le n end)
-    → (since before : List Call)
+cancelled : (rate time check cycle end : ℕ) (call : CommandCall) → ((n : ℕ) → spares_check check n call ≡ nat_le n end)
+    → (since before : List CommandCall)
     → passes_check rate time check cycle (call ∷ since) before ≡ passes_check rate time check (min cycle end) since before
 cancelled rate time check cycle end call stays since [] = refl
 cancelled rate time check cycle end call stays since (Reset ∷ before) = refl
 cancelled rate time check cycle end call stays since (Other other ∷ before) = refl
 cancelled rate time check cycle end call stays since (Wrote raw value at blocks ∷ before) =
     rw (stays (at + time)) (ap (λ (b : Bool). (raw == check) && (not (value == to_cancel) && (not (is_set check before) && b)))
-    (both (list_all (leaves_check check (at + time)) since)))
+    (both (list_all (spares_check check (at + time)) since)))
   where
     both : (rest : Bool) → (nat_le (at + time) cycle && ((nat_le (at + time) end && rest) && ends_well rate check blocks))
         ≡ (nat_le (at + time) (min cycle end) && (rest && ends_well rate check blocks))
@@ -202,7 +202,7 @@ cancelled rate time check cycle end call stays since (Wrote raw value at blocks 
     both false = grind (arith, nat_tests)
 
 -- THE RECURSION is what the calls say.
-pub is_passed-kept : (rate time check : ℕ) (h : List Call) (cycle : ℕ) → is_passed rate time check h cycle
+pub is_passed-kept : (rate time check : ℕ) (h : List CommandCall) (cycle : ℕ) → is_passed rate time check h cycle
     ≡ passed_so_far rate time check h cycle
 is_passed-kept rate time check [] cycle = refl
 is_passed-kept rate time check (Reset ∷ h) cycle =
@@ -215,14 +215,14 @@ is_passed-kept rate time check (Wrote raw value c blocks ∷ h) cycle =
     passed-more rate time check cycle (Wrote raw value c blocks) h ∙ by (raw == check) (value == to_cancel) refl refl
     (is_passed-kept rate time check h cycle) (is_passed-kept rate time check h (min cycle c))
   where
-    one : Call
+    one : CommandCall
     one = Wrote raw value c blocks
 
     since : ℕ → Bool
     since k = passes_check rate time check cycle (one ∷ take k h) (drop k h)
 
     stays : (same cancels : Bool) → (raw == check) ≡ same → (value == to_cancel) ≡ cancels → (same && cancels) ≡ false → (end : ℕ)
-        → leaves_check check end one ≡ true
+        → spares_check check end one ≡ true
     stays same cancels e f not_both end = rw (e, f) (by same cancels not_both)
       where
         by : (same cancels : Bool) → (same && cancels) ≡ false → (not (same && cancels) || nat_le end c) ≡ true
@@ -251,7 +251,7 @@ is_passed-kept rate time check (Wrote raw value c blocks ∷ h) cycle =
         (λ k. left rate time check cycle one (stays true false e f refl) (take k h) (drop k h)) (range_with_len 0 (length h)) ∙ now))
 
 -- THE CHANGE BIT
-distinct_settings : (rate : ℕ) (h : List Call) → are_distinct (settings rate h) ≡ true
+distinct_settings : (rate : ℕ) (h : List CommandCall) → are_distinct (settings rate h) ≡ true
 unfolding are_distinct
 distinct_settings rate [] = refl
 distinct_settings rate (Reset ∷ h) = refl
@@ -326,7 +326,7 @@ any_number time cycle set (raw ∷ numbers) any = by (ended_by time cycle (find_
     by false e any more = more any
 
 -- a command that is set was written to
-was_written : (test : ℕ → Bool) (raw : ℕ) (h : List Call) → is_set raw h ≡ true → test raw ≡ true → list_any test (commands_in h) ≡ true
+was_written : (test : ℕ → Bool) (raw : ℕ) (h : List CommandCall) → is_set raw h ≡ true → test raw ≡ true → list_any test (command_numbers h) ≡ true
 was_written test raw [] set is = absurd (false≢true set)
 was_written test raw (Reset ∷ h) set is = absurd (false≢true set)
 was_written test raw (Other cycle ∷ h) set is = was_written test raw h set is
@@ -335,8 +335,8 @@ was_written test raw (Wrote other value cycle blocks ∷ h) set is = by (other =
     by : (same : Bool) → (other == raw) ≡ same
         → is_some (last_or None (take_while (λ w. not (w.value == to_cancel))
         (cond same (record { value = value; cycle = cycle; blocks = blocks } ∷ writes_to_command raw h) (writes_to_command raw h)))) ≡ true
-        → (is_set raw h ≡ true → list_any test (commands_in h) ≡ true)
-        → (test other || list_any test (commands_in h)) ≡ true
+        → (is_set raw h ≡ true → list_any test (command_numbers h) ≡ true)
+        → (test other || list_any test (command_numbers h)) ≡ true
     by true e set more = let same : other ≡ raw = grind (arith, nat_tests, e) in rw same (rw is refl)
     by false e set more = rw (more set) (or-true (test other))
 
@@ -345,17 +345,19 @@ same_tests true b one two = sym (one refl)
 same_tests false true one two = two refl
 same_tests false false one two = refl
 
-pub change-settings : (rate time : ℕ) (h : List Call) (cycle : ℕ) → list_any (has_ended time cycle) (settings rate h)
-    ≡ change_of rate time h cycle
-change-settings rate time h cycle =
-    same_tests (list_any (has_ended time cycle) (settings rate h)) (change_of rate time h cycle)
-    (λ any. let (raw, is) = found_ended time cycle (settings rate h) (distinct_settings rate h) any in
-    let ended : is_ended rate time h cycle raw ≡ true = rw find-settings at is in
-    was_written (is_ended rate time h cycle) raw h (set_if raw (set_by raw h) ended) ended)
-    (λ any. any_number time cycle (settings rate h) (commands_in h)
-    (sym (any-same (is_ended rate time h cycle) (λ raw. ended_by time cycle (find_set raw (settings rate h)))
-    (λ raw. ap (ended_by time cycle) (sym (find-settings rate raw h))) (commands_in h)) ∙ any))
+pub change-settings : (c : CommandHistory) (cycle : ℕ) → list_any (has_ended c.time cycle) (settings c.rate c.calls) ≡ change_in c cycle
+change-settings c cycle =
+    same_tests (list_any (has_ended c.time cycle) set) (change_in c cycle)
+    (λ any. let (raw, is) = found_ended c.time cycle set (distinct_settings c.rate c.calls) any in
+    let ended : has_command_ended c raw cycle ≡ true = rw find-settings at is in
+    was_written (λ raw. has_command_ended c raw cycle) raw c.calls (set_if raw (set_by raw c.calls) ended) ended)
+    (λ any. any_number c.time cycle set (command_numbers c.calls)
+    (sym (any-same (λ raw. has_command_ended c raw cycle) (λ raw. ended_by c.time cycle (find_set raw set))
+    (λ raw. ap (ended_by c.time cycle) (sym (find-settings c.rate raw c.calls))) (command_numbers c.calls)) ∙ any))
   where
-    set_if : (raw : ℕ) (o : Option CommandWrite) → ended_by time cycle (option_map (setting_by rate raw) o) ≡ true → is_some o ≡ true
+    set : List SetCommand
+    set = settings c.rate c.calls
+
+    set_if : (raw : ℕ) (o : Option CommandWrite) → ended_by c.time cycle (option_map (setting_by c.rate raw) o) ≡ true → is_some o ≡ true
     set_if raw None is = absurd (false≢true is)
     set_if raw (Some w) is = refl

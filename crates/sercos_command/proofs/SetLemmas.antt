@@ -6,7 +6,8 @@ use Rattle.std.proofs.lemmas.Bool.Decides.{nat_tests}
 use Rattle.sercos_block.specs.declared.block.Block.{Block}
 use Rattle.sercos_block.specs.Stores.{find_block, with_data, IsStore}
 use Rattle.sercos_command.specs.declared.commands.SetCommand.{SetCommand}
-use Rattle.sercos_command.specs.Settings.{find_set, without, with_set, is_command, are_distinct}
+use Rattle.sercos_command.specs.Settings.{is_command}
+use Rattle.sercos_command.specs.Kept.{find_set, without, with_set, are_distinct}
 
 -- a command that isn't set isn't, once another is cancelled or set
 unset_without : (raw other : ℕ) (set : List SetCommand) → is_none (find_set raw set) ≡ true → is_none (find_set raw (without other set)) ≡ true

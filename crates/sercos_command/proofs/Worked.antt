@@ -8,8 +8,7 @@ use Rattle.sercos_block.specs.BuiltIns.{built_in}
 use Rattle.sercos_timing.specs.Valid.{is_cycle}
 use Rattle.sercos_block.specs.Stores.{inserted, with_own, store_of, with_data}
 use Rattle.sercos_command.specs.Checks.{number_at, idns_at, carried_len, breaks_1, breaks_2, breaks_6, breaks_7, breaks_8, breaks_9, breaks_10, breaks_15, breaks_list, breaks_89, unfit_for_phase_3, unfit_for_phase_4, list_bytes}
-use Rattle.sercos_command.specs.Settings.{CommandsView, with_lists}
-use Rattle.sercos_command.specs.Calls.{Call, Wrote, Other, Reset, setting_of, status_of, change_of, is_passed}
+use Rattle.sercos_command.specs.Calls.{CommandCall, Wrote, Other, Reset, CommandHistory, setting_of, status_in, change_in, with_check_list, is_passed}
 
 abbrev idn : ℕ → Idn
 idn raw = record { raw = raw }
@@ -86,36 +85,37 @@ outside = refl
 abbrev three : List Idn → List Block
 three found = block 22 0x70550001 None None (list_bytes found) ∷ block 101 0x00110001 (Some 10) (Some 100) (200 ∷ 0 ∷ []) ∷ block 128 0x50090001 None None (0 ∷ 0 ∷ []) ∷ []
 
-abbrev none_set : CommandsView
-none_set = record { rate = 4; time = 5; set = []; passed_127 = None; passed_128 = None }
+-- the commands of a drive of which each runs for five cycles
+abbrev after : List CommandCall → CommandHistory
+after calls = record { rate = 4; time = 5; calls = calls }
 
-listed : with_lists none_set 128 3 (three []) ≡ three (idn 101 ∷ [])
-unfolding with_lists unfit_for_phase_4 attribute_of
+listed : with_check_list (after []) 128 3 (three []) ≡ three (idn 101 ∷ [])
+unfolding with_check_list unfit_for_phase_4 attribute_of
 listed = refl
 
 -- a command that runs for five cycles is set in cycle 109, again in cycle 112, and cancelled in cycle 116
-abbrev set : List Call
+abbrev set : List CommandCall
 set = Wrote 401 3 112 [] ∷ Wrote 401 3 109 [] ∷ []
 
-abbrev cancelled : List Call
+abbrev cancelled : List CommandCall
 cancelled = Wrote 401 0 116 [] ∷ set
 
-runs : status_of 4 5 set 401 113 ≡ 7
+runs : status_in (after set) 401 113 ≡ 7
 runs = refl
 
-ends : status_of 4 5 set 401 114 ≡ 3
+ends : status_in (after set) 401 114 ≡ 3
 ends = refl
 
-stands : change_of 4 5 set 113 ≡ false
+stands : change_in (after set) 113 ≡ false
 stands = refl
 
-changes : change_of 4 5 set 114 ≡ true
+changes : change_in (after set) 114 ≡ true
 changes = refl
 
-cancels : change_of 4 5 cancelled 116 ≡ false
+cancels : change_in (after cancelled) 116 ≡ false
 cancels = refl
 
-unset : status_of 4 5 cancelled 401 116 ≡ 0
+unset : status_in (after cancelled) 401 116 ≡ 0
 unset = refl
 
 -- set in cycle 118 and again in cycle 120 after that, it has been set since cycle 118
@@ -127,10 +127,10 @@ set_no_more : setting_of 4 401 (Reset ∷ set) ≡ None
 set_no_more = refl
 
 -- the check for phase 3 is set in cycle 95, and cancelled in a later one
-abbrev checked : ℕ → List Call
+abbrev checked : ℕ → List CommandCall
 checked cycle = Wrote 127 0 cycle [] ∷ Wrote 127 3 95 (planned 10 (51 ∷ 0 ∷ [])) ∷ []
 
-abbrev is_checked : List Call → ℕ → Bool
+abbrev is_checked : List CommandCall → ℕ → Bool
 is_checked h cycle = is_passed 4 5 127 h cycle
 
 passes : map (λ cycle. is_checked (checked 100) cycle) (98 ∷ 99 ∷ 100 ∷ []) ≡ false ∷ false ∷ true ∷ []
@@ -150,9 +150,9 @@ restarted : is_checked (Reset ∷ checked 100) 101 ≡ false
 restarted = refl
 
 -- a check that finds something ends with an error, and doesn't pass
-abbrev failed : List Call
+abbrev failed : List CommandCall
 failed = Wrote 127 3 95 (planned 9 (51 ∷ 0 ∷ [])) ∷ []
 
-ends_badly : (status_of 4 5 failed 127 100 ≡ 15) × (is_checked failed 100 ≡ false)
+ends_badly : (status_in (after failed) 127 100 ≡ 15) × (is_checked failed 100 ≡ false)
 unfolding store_of with_own inserted built_in attribute_of is_cycle number_at idns_at carried_len breaks_1 breaks_2 breaks_6 breaks_7 breaks_8 breaks_9 breaks_10 breaks_15 breaks_list breaks_89 unfit_for_phase_3
 ends_badly = (refl, refl)

@@ -37,69 +37,69 @@ is_cyclic blocks idn = is_some (cyclic_len blocks idn.raw)
 unfoldable pub carried_len : List Block → ℕ → ℕ
 carried_len blocks list = 4 + sum_by (λ (idn : Idn). unwrap_or (cyclic_len blocks idn.raw) 0) (idns_at blocks list)
 
--- The rules of the check for phase 3, by the number of the block that breaks them. 1 is the control unit cycle time, 2 the
+-- What the check for phase 3 finds unfit, by the number of the block. 1 is the control unit cycle time, 2 the
 -- cycle time, 3 T1min, 4 TATMT, 5 T4min, 6 T1, 7 T4, 8 T3, 9 the position of the data record, 10 the length of the MDT, 15
 -- the telegram type, 16 and 24 the lists of what AT and MDT carry, and 89 T2.
 
--- the control unit cycle time is a positive multiple of the cycle time
+-- the cycle time is 0, or the control unit cycle time is 0 or not a multiple of it
 unfoldable pub breaks_1 : List Block → Bool
 breaks_1 blocks = (number_at blocks 2 == 0) || ((number_at blocks 1 == 0) || not (number_at blocks 1 % number_at blocks 2 == 0))
 
--- the cycle time is one of this profile
+-- the cycle time is none of this profile
 unfoldable pub breaks_2 : List Block → Bool
 breaks_2 blocks = not (is_cycle (number_at blocks 2))
 
--- the drive can send at T1
+-- T1 is below T1min
 unfoldable pub breaks_6 : List Block → Bool
 breaks_6 blocks = nat_lt (number_at blocks 6) (number_at blocks 3)
 
--- after T4 there is the drive's time until the end of the cycle
+-- T4 and T4min together pass the end of the cycle
 unfoldable pub breaks_7 : List Block → Bool
 breaks_7 blocks = nat_lt (number_at blocks 2) (number_at blocks 7 + number_at blocks 5)
 
--- T3 lies in the cycle
+-- T3 is 0, or passes the end of the cycle
 unfoldable pub breaks_8 : List Block → Bool
 breaks_8 blocks = (number_at blocks 8 == 0) || nat_lt (number_at blocks 2) (number_at blocks 8)
 
--- the data record lies in the MDT
+-- the position of the data record is 0, or the record that begins there passes the end of the MDT
 unfoldable pub breaks_9 : List Block → Bool
 breaks_9 blocks = (number_at blocks 9 == 0) || nat_lt (number_at blocks 10) (number_at blocks 9 + carried_len blocks 24 - 1)
 
--- the MDT has room for the two words of a record
+-- the MDT has no room for the two words of a record
 unfoldable pub breaks_10 : List Block → Bool
 breaks_10 blocks = nat_lt (number_at blocks 10) 4
 
--- telegrams are of type 7
+-- the telegram type is another than 7
 unfoldable pub breaks_15 : List Block → Bool
 breaks_15 blocks = not (number_at blocks 15 == 7)
 
--- what a telegram carries are numbers
+-- the list names an identifier number that the drive does not have, or that is a list or a procedure command
 unfoldable pub breaks_list : ℕ → List Block → Bool
 breaks_list list blocks = not (list_all (is_cyclic blocks) (idns_at blocks list))
 
--- the drive has its time between its AT, at the longest that it can be on the link, and T2
+-- from the end of the AT, at the longest that it can be on the link, to T2 there is less than TATMT
 unfoldable pub breaks_89 : ℕ → List Block → Bool
 breaks_89 rate blocks =
     nat_lt (rate * number_at blocks 89) (rate * number_at blocks 6 + wire_bits (1 + carried_len blocks 16) + rate * number_at blocks 4)
 
--- an identifier number, where its rule is broken
-abbrev pub named : ℕ → Bool → List Idn → List Idn
-named raw broken rest = if broken then (record { raw = raw }) ∷ rest else rest
+-- an identifier number, where it is unfit
+abbrev pub listed_if : ℕ → Bool → List Idn → List Idn
+listed_if raw broken rest = if broken then (record { raw = raw }) ∷ rest else rest
 
 -- the blocks whose operation data isn't fit for phase 3, ascending
 unfoldable pub unfit_for_phase_3 : ℕ → List Block → List Idn
 unfit_for_phase_3 rate blocks =
-    named 1 (breaks_1 blocks)
-    (named 2 (breaks_2 blocks)
-    (named 6 (breaks_6 blocks)
-    (named 7 (breaks_7 blocks)
-    (named 8 (breaks_8 blocks)
-    (named 9 (breaks_9 blocks)
-    (named 10 (breaks_10 blocks)
-    (named 15 (breaks_15 blocks)
-    (named 16 (breaks_list 16 blocks)
-    (named 24 (breaks_list 24 blocks)
-    (named 89 (breaks_89 rate blocks) []))))))))))
+    listed_if 1 (breaks_1 blocks)
+    (listed_if 2 (breaks_2 blocks)
+    (listed_if 6 (breaks_6 blocks)
+    (listed_if 7 (breaks_7 blocks)
+    (listed_if 8 (breaks_8 blocks)
+    (listed_if 9 (breaks_9 blocks)
+    (listed_if 10 (breaks_10 blocks)
+    (listed_if 15 (breaks_15 blocks)
+    (listed_if 16 (breaks_list 16 blocks)
+    (listed_if 24 (breaks_list 24 blocks)
+    (listed_if 89 (breaks_89 rate blocks) []))))))))))
 
 -- the operation data lies below the minimum or above the maximum
 abbrev pub is_outside : Block → Bool

@@ -1,10 +1,17 @@
 -- What is set, and what its data status is, in other words. Each list of calls has its newest call first.
-use Rattle.std.specs.Prelude.{◌≡◌, ◌≢◌, ◌↔◌, ℕ, ◌+◌, ◌<◌, ◌≤◌, true, false, List, ◌∷◌, Some}
+use Rattle.std.specs.Prelude.{◌≡◌, ◌≢◌, ◌↔◌, ℕ, ◌+◌, ◌<◌, ◌≤◌, ◌==◌, Bool, true, false, not, List, [], ◌∷◌, ◌++◌, Some}
+use Rattle.std.specs.List.{list_all}
+use Rattle.sercos_idn.specs.Commands.{to_cancel}
 use Rattle.sercos_command.specs.Settings.{ends_well}
-use Rattle.sercos_command.specs.Calls.{Call, CommandWrite, writes_to_command, set_by, is_set, status_of}
+use Rattle.sercos_command.specs.Calls.{CommandCall, CommandWrite, writes_to_command, set_by, is_set, CommandHistory, status_in}
+
+-- there is no write, or the newest is a 0
+abbrev pub is_cancelled : List CommandWrite → Bool
+is_cancelled [] = true
+is_cancelled (w ∷ writes) = w.value == to_cancel
 
 -- The newest write to a command since phase 0 isn't 0.
-pub record IsSet (raw : ℕ) (h : List Call) : Type 0 where
+pub record IsSet (raw : ℕ) (h : List CommandCall) : Type 0 where
   pub newest : CommandWrite
   pub before : List CommandWrite
   pub writes : writes_to_command raw h ≡ newest ∷ before
@@ -12,16 +19,28 @@ pub record IsSet (raw : ℕ) (h : List Call) : Type 0 where
 
 -- A command is set exactly then.
 abbrev pub SetByNewest : Type 0
-SetByNewest = (raw : ℕ) (h : List Call) → (is_set raw h ≡ true) ↔ IsSet raw h
+SetByNewest = (raw : ℕ) (h : List CommandCall) → (is_set raw h ≡ true) ↔ IsSet raw h
 
--- The data status of a command that was set in a cycle is 7 for `time` cycles, and then 3 if it ended well, or 15.
-pub record HasStatus (rate time : ℕ) (h : List Call) (raw : ℕ) (w : CommandWrite) (cycle : ℕ) : Type 0 where
-  pub runs : cycle < w.cycle + time → status_of rate time h raw cycle ≡ 7
-  pub ends : w.cycle + time ≤ cycle → ends_well rate raw w.blocks ≡ true → status_of rate time h raw cycle ≡ 3
-  pub fails : w.cycle + time ≤ cycle → ends_well rate raw w.blocks ≡ false → status_of rate time h raw cycle ≡ 15
+-- A command was set by this write: neither it nor a later write to the command is 0, and before it there was none, or a 0.
+pub record IsSetFirst (raw : ℕ) (h : List CommandCall) (w : CommandWrite) : Type 0 where
+  pub later : List CommandWrite
+  pub earlier : List CommandWrite
+  pub writes : writes_to_command raw h ≡ later ++ w ∷ earlier
+  pub none_later : list_all (λ (x : CommandWrite). not (x.value == to_cancel)) later ≡ true
+  pub value : w.value ≢ 0
+  pub none_before : is_cancelled earlier ≡ true
+
+abbrev pub SetByFirst : Type 0
+SetByFirst = (raw : ℕ) (h : List CommandCall) (w : CommandWrite) → set_by raw h ≡ Some w → IsSetFirst raw h w
+
+-- The data status of a command that was set in a cycle is 7 for the drive's command time, and then 3 if it ended well, or 15.
+pub record HasStatus (c : CommandHistory) (raw : ℕ) (w : CommandWrite) (cycle : ℕ) : Type 0 where
+  pub runs : cycle < w.cycle + c.time → status_in c raw cycle ≡ 7
+  pub ends : w.cycle + c.time ≤ cycle → ends_well c.rate raw w.blocks ≡ true → status_in c raw cycle ≡ 3
+  pub fails : w.cycle + c.time ≤ cycle → ends_well c.rate raw w.blocks ≡ false → status_in c raw cycle ≡ 15
 
 -- So it is of each; that of one that isn't set is 0.
 abbrev pub StatusSays : Type 0
-StatusSays = (rate time : ℕ) (h : List Call) (raw cycle : ℕ)
-    → (is_set raw h ≡ false → status_of rate time h raw cycle ≡ 0)
-    × ((w : CommandWrite) → set_by raw h ≡ Some w → HasStatus rate time h raw w cycle)
+StatusSays = (c : CommandHistory) (raw cycle : ℕ)
+    → (is_set raw c.calls ≡ false → status_in c raw cycle ≡ 0)
+    × ((w : CommandWrite) → set_by raw c.calls ≡ Some w → HasStatus c raw w cycle)

@@ -1,6 +1,6 @@
 // The two checks.
 ghost use Rattle.std.specs.Prelude.{◌≡◌, ◌≤◌, ◌<◌, ◌+◌, ◌++◌, [], length};
-ghost use Rattle.sercos_command.specs.Checks.{named, unfit_for_phase_3, unfit_for_phase_4};
+ghost use Rattle.sercos_command.specs.Checks.{listed_if, unfit_for_phase_3, unfit_for_phase_4};
 
 use crate::carried::breaks_list;
 use crate::rules::{
@@ -17,7 +17,7 @@ use sercos_idn::Idn;
 // Adds an identifier number to a list where its rule is broken.
 fn add_if(unfit: &mut ArrayVec<Idn, 64>, idn: Idn, broken: bool)
     requires { length unfit.old.items < 64 }
-    ensures items { unfit.new.items ≡ unfit.old.items ++ named idn.raw broken [] }
+    ensures items { unfit.new.items ≡ unfit.old.items ++ listed_if idn.raw broken [] }
     ensures few { length unfit.new.items ≤ length unfit.old.items + 1 }
 {
     if broken {

@@ -2,9 +2,9 @@
 ghost use Rattle.std.specs.Prelude.{◌≡◌, ℕ, ◌==◌, ◌<◌, ◌≤◌, ◌⊎◌, List, [], ◌∷◌, length, None, true, is_some};
 ghost use Rattle.sercos_idn.specs.Commands.{to_cancel, to_set};
 ghost use Rattle.sercos_block.specs.declared.block.Block.{Block};
-ghost use Rattle.sercos_command.specs.Settings.{find_set, is_command, ends_well, status_in, change_in, is_from, with_write, without_checks, without_settings, with_lists, are_commands_of};
-ghost use Rattle.sercos_command.specs.Calls.{Call, Wrote, Other, Reset, newest, is_passed, status_of, change_of};
-ghost use Rattle.sercos_command.specs.Kept.{CommandsStandFor};
+ghost use Rattle.sercos_command.specs.Settings.{is_command, ends_well};
+ghost use Rattle.sercos_command.specs.Calls.{Wrote, Other, Reset, CommandHistory, with_call, is_passed, status_in, change_in, with_check_list};
+ghost use Rattle.sercos_command.specs.Kept.{newest_cycle, find_set, with_write, without_checks, without_settings, with_check_list_kept, are_commands_of, CommandsStandFor};
 
 use crate::passed::{after_cancel, after_setting, is_from};
 use crate::run::run;
@@ -27,8 +27,8 @@ pub struct SetCommand {
     pub well: bool,
 }
 
-/// The procedure commands of a drive. Contracts see the commands that are set, and from which cycles on the two checks
-/// count as passed.
+/// The procedure commands of a drive. Contracts say what it answers by the calls on them: writes to commands, writes to other operation
+/// data, and phase 0.
 #[derive(Drop)]
 pub struct Commands {
     rate: u8,
@@ -40,7 +40,7 @@ pub struct Commands {
 
 impl Model for Commands {
     ghost use Rattle.std.specs.Prelude.{◌≡◌, true};
-    ghost use Rattle.sercos_command.specs.Settings.{CommandsView, are_distinct};
+    ghost use Rattle.sercos_command.specs.Kept.{CommandsView, are_distinct};
 
     ghost Value = { CommandsView };
 
@@ -51,10 +51,10 @@ impl Model for Commands {
 
 impl Commands {
     /// Returns the commands of a drive in a ring of a rate, in Mbit/s, each of which runs for `time` cycles. No command is set.
-    #[tactic(auto, unfolding(crate::specs::Settings::are_distinct))]
+    #[tactic(auto, unfolding(crate::specs::Kept::are_distinct))]
     pub fn new(rate: u8, time: u16) -> Commands
-        ensures view { result ≡ record { rate = rate; time = time; set = []; passed_127 = None; passed_128 = None } }
-        ensures stands { CommandsStandFor result rate time [] }
+        ensures stands { CommandsStandFor result (record { rate = rate; time = time; calls = [] }) }
+        ensures none { result.set ≡ [] }
     {
         Commands {
             rate,
@@ -66,7 +66,7 @@ impl Commands {
     }
 
     // Takes a cancel of a command.
-    #[tactic(auto, using(crate::proofs::SetLemmas::distinct_without), unfolding(crate::specs::Settings::with_write))]
+    #[tactic(auto, using(crate::proofs::SetLemmas::distinct_without), unfolding(crate::specs::Kept::with_write))]
     fn cancel(&mut self, idn: Idn, cycle: u32)
         ensures { (blocks : List Block) → self.new ≡ with_write idn.raw to_cancel cycle blocks self.old }
     {
@@ -76,7 +76,7 @@ impl Commands {
     }
 
     // Takes a setting of a command that isn't set.
-    #[tactic(auto, using(crate::proofs::SetLemmas::distinct_appended), unfolding(crate::specs::Settings::with_write))]
+    #[tactic(auto, using(crate::proofs::SetLemmas::distinct_appended), unfolding(crate::specs::Kept::with_write))]
     fn set(&mut self, idn: Idn, cycle: u32, well: bool)
         requires new { find_set idn.raw self.old.set ≡ None }
         requires room { length self.old.set < 64 }
@@ -89,12 +89,12 @@ impl Commands {
     }
 
     // A write to a command: the commands and the blocks after it.
-    #[tactic(auto, using(crate::proofs::SetLemmas::has_room), unfolding(crate::specs::Settings::with_write, crate::specs::Settings::with_lists))]
+    #[tactic(auto, using(crate::proofs::SetLemmas::has_room), unfolding(crate::specs::Kept::with_write, crate::specs::Kept::with_check_list_kept))]
     fn take(&mut self, idn: Idn, value: u16, cycle: u32, store: &mut Store)
         requires value { (value ≡ to_cancel) ⊎ (value ≡ to_set) }
         requires set { are_commands_of store.old self.old ≡ true }
         ensures view { self.new ≡ with_write idn.raw value cycle store.old self.old }
-        ensures blocks { store.new ≡ with_lists self.old idn.raw value store.old }
+        ensures blocks { store.new ≡ with_check_list_kept self.old idn.raw value store.old }
     {
         if value == CANCEL {
             self.cancel(idn, cycle);
@@ -115,10 +115,10 @@ impl Commands {
         requires command { is_command store.old idn.raw ≡ true }
         requires value { (value ≡ to_cancel) ⊎ (value ≡ to_set) }
         requires set { are_commands_of store.old self.old ≡ true }
-        ensures view { self.new ≡ with_write idn.raw value cycle store.old self.old }
-        ensures blocks { store.new ≡ with_lists self.old idn.raw value store.old }
+        ensures stands { (c : CommandHistory) → CommandsStandFor self.old c → newest_cycle c.calls ≤ cycle →
+            CommandsStandFor self.new (with_call (Wrote idn.raw value cycle store.old) c) }
+        ensures blocks { (c : CommandHistory) → CommandsStandFor self.old c → store.new ≡ with_check_list c idn.raw value store.old }
         ensures set { are_commands_of store.new self.new ≡ true }
-        ensures stands { (rate time : ℕ) (h : List Call) → CommandsStandFor self.old rate time h → newest h ≤ cycle → CommandsStandFor self.new rate time (Wrote idn.raw value cycle store.old ∷ h) }
     {
         self.take(idn, value, cycle, store);
     }
@@ -132,8 +132,8 @@ impl Commands {
 
     /// A write to other operation data than that of a command, in a cycle: no check counts as passed any more.
     pub fn written(&mut self, cycle: u32)
-        ensures view { self.new ≡ without_checks self.old }
-        ensures stands { (rate time : ℕ) (h : List Call) → CommandsStandFor self.old rate time h → newest h ≤ cycle → CommandsStandFor self.new rate time (Other cycle ∷ h) }
+        ensures stands { (c : CommandHistory) → CommandsStandFor self.old c → newest_cycle c.calls ≤ cycle → CommandsStandFor self.new (with_call (Other cycle) c) }
+        ensures same { self.new.set ≡ self.old.set }
     {
         self.forget_checks();
     }
@@ -147,10 +147,10 @@ impl Commands {
     }
 
     /// Phase 0: no command is set any more, and no check counts as passed.
-    #[tactic(auto, unfolding(crate::specs::Settings::are_distinct))]
+    #[tactic(auto, unfolding(crate::specs::Kept::are_distinct))]
     pub fn reset(&mut self)
-        ensures view { self.new ≡ without_settings self.old }
-        ensures stands { (rate time : ℕ) (h : List Call) → CommandsStandFor self.old rate time h → CommandsStandFor self.new rate time (Reset ∷ h) }
+        ensures stands { (c : CommandHistory) → CommandsStandFor self.old c → CommandsStandFor self.new (with_call Reset c) }
+        ensures none { self.new.set ≡ [] }
     {
         self.set.clear();
         self.forget_checks();
@@ -160,8 +160,7 @@ impl Commands {
     /// cycle in which it was set and below that of its end.
     #[tactic(auto, using(crate::proofs::CallLemmas::status_stands))]
     pub fn status(&self, idn: Idn, cycle: u32) -> u16
-        ensures view { result ≡ status_in self.now idn.raw cycle }
-        ensures stands { (rate time : ℕ) (h : List Call) → CommandsStandFor self.now rate time h → result ≡ status_of rate time h idn.raw cycle }
+        ensures { (c : CommandHistory) → CommandsStandFor self.now c → result ≡ status_in c idn.raw cycle }
     {
         status_by(find_set(self.set.as_slice(), idn), self.time, cycle)
     }
@@ -169,24 +168,21 @@ impl Commands {
     /// Returns the change bit of procedure commands in a cycle: whether some command that is set has ended.
     #[tactic(auto, using(crate::proofs::CallLemmas::change_stands))]
     pub fn change(&self, cycle: u32) -> bool
-        ensures view { result ≡ change_in self.now cycle }
-        ensures stands { (rate time : ℕ) (h : List Call) → CommandsStandFor self.now rate time h → result ≡ change_of rate time h cycle }
+        ensures { (c : CommandHistory) → CommandsStandFor self.now c → result ≡ change_in c cycle }
     {
         any_ended(self.set.as_slice(), self.time, cycle)
     }
 
     /// Returns whether the check for phase 3, S-0-0127, counts as passed in a cycle, not before that of the newest call.
     pub fn passed127(&self, cycle: u32) -> bool
-        ensures view { result ≡ is_from self.now.passed_127 cycle }
-        ensures stands { (rate time : ℕ) (h : List Call) → CommandsStandFor self.now rate time h → newest h ≤ cycle → result ≡ is_passed rate time 127 h cycle }
+        ensures { (c : CommandHistory) → CommandsStandFor self.now c → newest_cycle c.calls ≤ cycle → result ≡ is_passed c.rate c.time 127 c.calls cycle }
     {
         is_from(self.passed_127, cycle)
     }
 
     /// Returns whether the check for phase 4, S-0-0128, counts as passed in a cycle, not before that of the newest call.
     pub fn passed128(&self, cycle: u32) -> bool
-        ensures view { result ≡ is_from self.now.passed_128 cycle }
-        ensures stands { (rate time : ℕ) (h : List Call) → CommandsStandFor self.now rate time h → newest h ≤ cycle → result ≡ is_passed rate time 128 h cycle }
+        ensures { (c : CommandHistory) → CommandsStandFor self.now c → newest_cycle c.calls ≤ cycle → result ≡ is_passed c.rate c.time 128 c.calls cycle }
     {
         is_from(self.passed_128, cycle)
     }

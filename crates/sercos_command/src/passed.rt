@@ -1,6 +1,6 @@
 // From which cycle on a check counts as passed.
 ghost use Rattle.std.specs.Prelude.{◌≡◌, ◌==◌, ◌&&◌, if◌then◌else◌};
-ghost use Rattle.sercos_command.specs.Settings.{is_from, from_setting, from_cancel};
+ghost use Rattle.sercos_command.specs.Kept.{is_from, from_setting, from_cancel};
 
 use sercos_idn::Idn;
 

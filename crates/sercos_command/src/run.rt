@@ -2,7 +2,7 @@
 ghost use Rattle.std.specs.Prelude.{◌≡◌, ◌≤◌, ◌==◌, ◌⊎◌, if◌then◌else◌, length};
 ghost use Rattle.sercos_block.specs.Stores.{with_data, IsStore};
 ghost use Rattle.sercos_command.specs.Checks.{unfit_for_phase_3, unfit_for_phase_4, list_bytes};
-ghost use Rattle.sercos_command.specs.Settings.{ends_well};
+ghost use Rattle.sercos_command.specs.Settings.{ends_well, with_list_of};
 
 use crate::check::{check127, check128};
 use sercos_bits::ByteList;
@@ -40,8 +40,7 @@ fn give(store: &mut Store, list: Idn, unfit: &[Idn]) -> bool
 // Runs a command, and returns whether it ends well.
 pub(crate) fn run(rate: u8, idn: Idn, store: &mut Store) -> bool
     ensures well { result ≡ ends_well rate idn.raw store.old }
-    ensures blocks { store.new ≡ (if idn.raw == 127 then with_data 21 (list_bytes (unfit_for_phase_3 rate store.old)) store.old
-        else (if idn.raw == 128 then with_data 22 (list_bytes (unfit_for_phase_4 store.old)) store.old else store.old)) }
+    ensures blocks { store.new ≡ with_list_of rate idn.raw store.old }
     ensures store { IsStore store.old }
 {
     if idn == PHASE_3_CHECK {

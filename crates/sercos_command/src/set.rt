@@ -1,7 +1,8 @@
 // The commands that are set.
 ghost use Rattle.std.specs.Prelude.{◌≡◌, ◌<◌, ◌++◌, [], ◌∷◌, length, is_some, true, None};
 ghost use Rattle.std.specs.List.{list_any};
-ghost use Rattle.sercos_command.specs.Settings.{find_set, without, has_ended, status_by, are_distinct, are_commands_of};
+ghost use Rattle.sercos_command.specs.Settings.{has_ended, status_by};
+ghost use Rattle.sercos_command.specs.Kept.{find_set, without};
 
 use crate::commands::SetCommand;
 use arrayvec::ArrayVec;

@@ -2,7 +2,8 @@
 ghost use Rattle.std.specs.Prelude.{◌≡◌, ℕ, List};
 ghost use Rattle.sercos_block.specs.declared.block.Block.{Block};
 ghost use Rattle.sercos_block.specs.Stores.{with_data};
-ghost use Rattle.sercos_command.specs.Settings.{CommandsView, is_command, are_commands_of};
+ghost use Rattle.sercos_command.specs.Settings.{is_command};
+ghost use Rattle.sercos_command.specs.Kept.{CommandsView, are_commands_of};
 
 use sercos_block::Store;
 use sercos_idn::Idn;

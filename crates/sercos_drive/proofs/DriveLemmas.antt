@@ -4,40 +4,37 @@ use mathlib.Core.Bool.{beq}
 use Rattle.sercos_block.specs.declared.block.Block.{Block}
 use Rattle.sercos_block.specs.Views.{DriveView}
 use Rattle.sercos_block.specs.Stores.{find_block, with_data}
-use Rattle.sercos_command.specs.Settings.{CommandsView, is_command}
-use Rattle.sercos_command.specs.Calls.{Call, Wrote, Other, Reset, newest}
-use Rattle.sercos_command.specs.Kept.{CommandsStandFor}
+use Rattle.sercos_command.specs.Settings.{is_command}
+use Rattle.sercos_command.specs.Calls.{CommandCall, Wrote, Other, Reset, CommandHistory}
+use Rattle.sercos_command.specs.Kept.{newest_cycle, CommandsView, CommandsStandFor}
 use Rattle.sercos_service_drive.specs.Log.{Taken, ahs, taken_record, open_idn, run_before, in_order as words_in_order}
 use Rattle.sercos_service_drive.specs.Replies.{bytes_written, reply_of, log_of}
-use Rattle.sercos_service_drive.specs.Writes.{Write, with_added, setting_in, blocks_with, commands_with, calls_with, takes_effect, written_by, adds, added_on, AreAlike, AreThose}
+use Rattle.sercos_service_drive.specs.Writes.{Write, with_added, command_value, blocks_with, commands_with, calls_with, takes_effect, written_by, adds, added_on, AreAlike, AreThose}
 use Rattle.sercos_service_drive.specs.Kept.{ChannelView, ChannelStandsFor}
 use Rattle.sercos_drive.specs.declared.hearing.Told.{Told}
 use Rattle.sercos_drive.specs.Heard.{DriveCall, Mst, Mdt, Restart, mst_got, mdt_got}
-use Rattle.sercos_drive.specs.Moments.{Moment, AtMst, AtRestart, phase_in, cycle_in, has_mst, has_missed, in_phase, with_record, write_in, taken_in, writes_in, blocks_in, commands_in, calls_in, blocks_after, commands_after, calls_after, with_reset, reset_in}
+use Rattle.sercos_drive.specs.Moments.{Moment, AtMst, AtRestart, phase_in, cycle_in, has_mst, has_missed, unless_phase_0, with_record, write_in, taken_in, writes_in, blocks_in, commands_in, calls_in, blocks_after, calls_after, with_reset}
 use Rattle.sercos_drive.specs.Annals.{stands_in, takes, processed_in, ends_in, mdt_moment, annals}
 use Rattle.sercos_drive.specs.Kept.{DriveState, counted, KeepsMoments}
 use Rattle.sercos_drive.specs.declared.slot.Slot.{Slot}
 use Rattle.sercos_drive.specs.Slots.{slot_of}
-use Rattle.sercos_drive.specs.Steps.{goes_to, processed_by, counted_with, ends_with, IsEntered, IsProcessed}
+use Rattle.sercos_drive.specs.Steps.{commands_after, goes_to, processed_by, counted_with, ends_with, IsEntered, IsProcessed}
 
-newest-with_reset : (phase : ℕ) (calls : List Call) → newest (with_reset phase calls) ≡ newest calls
+newest-with_reset : (phase : ℕ) (calls : List CommandCall) → newest_cycle (with_reset phase calls) ≡ newest_cycle calls
 newest-with_reset phase calls = by (phase == 0)
   where
-    by : (zero : Bool) → newest (cond zero (Reset ∷ calls) calls) ≡ newest calls
+    by : (zero : Bool) → newest_cycle (cond zero (Reset ∷ calls) calls) ≡ newest_cycle calls
     by true = refl
     by false = refl
 
 -- The phase after the MST's place.
 pub goes_to-stands_in : (v : DriveState) (d : DriveView) (rate cycle : ℕ) (got : Option ℕ) (past : List Moment) → KeepsMoments v d rate past → cycle_in past ≤ cycle
-    → goes_to v cycle got ≡ stands_in d rate cycle got past
+    → goes_to v (commands_in d rate past) cycle got ≡ stands_in d rate cycle got past
 goes_to-stands_in v d rate cycle None past k later = rw (k.got_is, k.phase_is) refl
-goes_to-stands_in v d rate cycle (Some phase) past k later =
-    let order = k.in_order in
-    let now : newest (calls_in past) ≤ cycle = omega (arith, order, later) in
-    rw (k.phase_is, k.calls_are.passed_127_is cycle now, k.calls_are.passed_128_is cycle now) refl
+goes_to-stands_in v d rate cycle (Some phase) past k later = rw k.phase_is refl
 
 pub keeps-mst : (v w : DriveState) (d : DriveView) (rate cycle : ℕ) (got : Option ℕ) (past : List Moment) → KeepsMoments v d rate past → cycle_in past ≤ cycle
-    → IsEntered (record v { cycle = cycle; got = is_some got }) w (goes_to v cycle got)
+    → IsEntered (record v { cycle = cycle; got = is_some got }) w (goes_to v (commands_in d rate past) cycle got)
     → KeepsMoments w d rate (AtMst cycle (is_some got) (stands_in d rate cycle got past) ∷ past)
 keeps-mst v w d rate cycle got past k later entered = by (rw (goes_to-stands_in v d rate cycle got past k later) at entered)
   where
@@ -51,10 +48,9 @@ keeps-mst v w d rate cycle got past k later entered = by (rw (goes_to-stands_in 
       missed_is = ap (λ (x : DriveState). x.missed) e.same ∙ k.missed_is;
       writes_is = ap (λ (x : DriveState). x.writes) e.same ∙ k.writes_is;
       channel_is = e.channel d.busy (taken_in past) k.channel_is;
-      commands_is = ap (λ (x : DriveState). x.commands) e.same ∙ ap (reset_in (stands_in d rate cycle got past)) k.commands_is;
+      commands_are = e.commands (commands_in d rate past) k.commands_are;
       blocks_is = ap (λ (x : DriveState). x.blocks) e.same ∙ k.blocks_is;
       slot_is = ap (λ (x : DriveState). x.slot) e.same ∙ k.slot_is ∙ sym (ap (λ (x : DriveState). slot_of x.blocks) e.same);
-      calls_are = e.calls rate d.command (calls_in past) k.calls_are;
       in_order = let order = k.in_order in rw (newest-with_reset (stands_in d rate cycle got past) (calls_in past)) (omega (arith, order, later));
     }
 
@@ -70,17 +66,16 @@ keeps-restart v w d rate past k e = record {
   missed_is = ap (λ (x : DriveState). x.missed) e.same;
   writes_is = ap (λ (x : DriveState). x.writes) e.same ∙ k.writes_is;
   channel_is = e.channel d.busy (taken_in past) k.channel_is;
-  commands_is = ap (λ (x : DriveState). x.commands) e.same ∙ ap (reset_in 0) k.commands_is;
+  commands_are = e.commands (commands_in d rate past) k.commands_are;
   blocks_is = ap (λ (x : DriveState). x.blocks) e.same ∙ k.blocks_is;
   slot_is = ap (λ (x : DriveState). x.slot) e.same ∙ k.slot_is ∙ sym (ap (λ (x : DriveState). slot_of x.blocks) e.same);
-  calls_are = e.calls rate d.command (calls_in past) k.calls_are;
   in_order = k.in_order;
 }
 
 -- The record of an MDT.
-pub processed_by-in : (v : DriveState) (d : DriveView) (rate : ℕ) (told : Option Told) (past : List Moment) → KeepsMoments v d rate past → processed_by v told ≡ processed_in d rate told past
+pub processed_by-in : (v : DriveState) (d : DriveView) (rate : ℕ) (told : Option Told) (past : List Moment) → KeepsMoments v d rate past → processed_by v (commands_in d rate past) told ≡ processed_in d rate told past
 processed_by-in v d rate None past k = refl
-processed_by-in v d rate (Some told) past k = rw (k.got_is, k.phase_is, k.cycle_is, k.blocks_is, k.commands_is) refl
+processed_by-in v d rate (Some told) past k = rw (k.got_is, k.phase_is, k.cycle_is, k.blocks_is) refl
 
 counted_with-length : (r : Option Taken) (h : List Taken) (writes : List Write) (n : ℕ) → n ≡ counted (length writes)
     → counted_with (write_in r h) n ≡ counted (length (with_added (write_in r h) writes))
@@ -90,34 +85,33 @@ counted_with-length r h writes n is = by (write_in r h)
     by None = is
     by (Some w) = rw is (grind arith)
 
-newest-calls_with : (w : Option Write) (blocks : List Block) (calls : List Call) (cycle : ℕ) → newest calls ≤ cycle → IfSome w (λ x. x.cycle ≤ cycle) → newest (calls_with w blocks calls) ≤ cycle
+newest-calls_with : (w : Option Write) (blocks : List Block) (calls : List CommandCall) (cycle : ℕ) → newest_cycle calls ≤ cycle → IfSome w (λ x. x.cycle ≤ cycle) → newest_cycle (calls_with w blocks calls) ≤ cycle
 newest-calls_with None blocks calls cycle le is = le
 newest-calls_with (Some w) blocks calls cycle le is = by (is_command blocks w.raw)
   where
-    by : (command : Bool) → newest (cond command (Wrote w.raw (setting_in w) w.cycle (with_data w.raw w.bytes blocks)) (Other w.cycle) ∷ calls) ≤ cycle
+    by : (command : Bool) → newest_cycle (cond command (Wrote w.raw (command_value w) w.cycle (with_data w.raw w.bytes blocks)) (Other w.cycle) ∷ calls) ≤ cycle
     by true = is
     by false = is
 
 -- What a channel makes of a record.
-pub processed_one : (v : DriveState) (channel : ChannelView) (commands : CommandsView) (blocks : List Block) (slot : Slot) (added : Bool) (busy : ℕ) (t : Taken) (h : List Taken)
-    → t.blocks ≡ v.blocks → t.commands ≡ v.commands
+pub processed_one : (v : DriveState) (channel : ChannelView) (commands : CommandsView) (blocks : List Block) (slot : Slot) (added : Bool) (busy : ℕ) (c : CommandHistory) (t : Taken) (h : List Taken)
+    → t.blocks ≡ v.blocks
     → added ≡ is_some (added_on t h)
     → blocks ≡ blocks_with (added_on t h) t.commands t.blocks
-    → commands ≡ commands_with (added_on t h) t.blocks t.commands
+    → CommandsStandFor commands (commands_with (added_on t h) t.blocks c)
     → ChannelStandsFor channel busy (t ∷ h)
-    → ((rate time : ℕ) (c : List Call) → CommandsStandFor v.commands rate time c → newest c ≤ v.cycle → CommandsStandFor commands rate time (calls_with (added_on t h) t.blocks c))
     → slot ≡ (if added then slot_of blocks else v.slot)
-    → IsProcessed v (record v { channel = channel; commands = commands; blocks = blocks; slot = slot; writes = if added then counted (v.writes + 1) else v.writes }) busy (Some t) h
-processed_one v channel commands blocks slot added busy t h old_blocks old_commands added_is blocks_is commands_is stands calls slot_is = record {
-  same = rw (added_is, blocks_is, commands_is) (by (added_on t h));
+    → IsProcessed v (record v { channel = channel; commands = commands; blocks = blocks; slot = slot; writes = if added then counted (v.writes + 1) else v.writes }) busy c (Some t) h
+processed_one v channel commands blocks slot added busy c t h old_blocks added_is blocks_is commands_are stands slot_is = record {
+  same = rw (added_is, blocks_is) (by (added_on t h));
   slot = λ before. slots (added_on t h) added_is blocks_is before;
   channel = stands;
-  calls = calls;
+  commands = commands_are;
 }
   where
     by : (w : Option Write)
-        → record v { channel = channel; commands = commands_with w t.blocks t.commands; blocks = blocks_with w t.commands t.blocks; slot = slot; writes = if is_some w then counted (v.writes + 1) else v.writes }
-        ≡ record v { writes = counted_with w v.writes; channel = channel; commands = commands_with w t.blocks t.commands; blocks = blocks_with w t.commands t.blocks; slot = slot }
+        → record v { channel = channel; commands = commands; blocks = blocks_with w t.commands t.blocks; slot = slot; writes = if is_some w then counted (v.writes + 1) else v.writes }
+        ≡ record v { writes = counted_with w v.writes; channel = channel; commands = commands; blocks = blocks_with w t.commands t.blocks; slot = slot }
     by None = refl
     by (Some w) = refl
 
@@ -125,8 +119,8 @@ processed_one v channel commands blocks slot added busy t h old_blocks old_comma
     slots None none same before = slot_is ∙ ap (λ (b : Bool). if b then slot_of blocks else v.slot) none ∙ before ∙ ap slot_of (sym (same ∙ old_blocks))
     slots (Some w) some same before = slot_is ∙ ap (λ (b : Bool). if b then slot_of blocks else v.slot) some
 
-pub not_processed : (v : DriveState) (busy : ℕ) (h : List Taken) → ChannelStandsFor v.channel busy h → IsProcessed v v busy None h
-not_processed v busy h stands = record { same = refl; slot = λ before. before; channel = stands; calls = λ rate time c stood le. stood }
+pub not_processed : (v : DriveState) (busy : ℕ) (c : CommandHistory) (h : List Taken) → ChannelStandsFor v.channel busy h → CommandsStandFor v.commands c → IsProcessed v v busy c None h
+not_processed v busy c h stands commands = record { same = refl; slot = λ before. before; channel = stands; commands = commands }
 
 -- The cycle of a write is that of its step.
 added-cycle : (t : Taken) (h : List Taken) → IfSome (added_on t h) (λ w. w.cycle ≤ t.cycle)
@@ -149,15 +143,15 @@ added-cycle t h = on (beq t.mhs (ahs h))
     on true = tt
     on false = effect (takes_effect (record { taken = t; answer = reply_of t (log_of h) }))
 
-newest-after : (d : DriveView) (rate : ℕ) (told : Option Told) (past : List Moment) → newest (calls_in past) ≤ cycle_in past
-    → newest (calls_after (processed_in d rate told past) (taken_in past) (calls_in past)) ≤ cycle_in past
+newest-after : (d : DriveView) (rate : ℕ) (told : Option Told) (past : List Moment) → newest_cycle (calls_in past) ≤ cycle_in past
+    → newest_cycle (calls_after (processed_in d rate told past) (taken_in past) (calls_in past)) ≤ cycle_in past
 newest-after d rate None past order = order
 newest-after d rate (Some told) past order = by (has_mst past && nat_le 2 (phase_in past))
   where
     t : Taken
     t = taken_record (cycle_in past) (phase_in past) told.control told.info (blocks_in d past) (commands_in d rate past)
 
-    by : (b : Bool) → newest (calls_after (cond b (Some t) None) (taken_in past) (calls_in past)) ≤ cycle_in past
+    by : (b : Bool) → newest_cycle (calls_after (cond b (Some t) None) (taken_in past) (calls_in past)) ≤ cycle_in past
     by true = newest-calls_with (added_on t (taken_in past)) (blocks_in d past) (calls_in past) (cycle_in past) order (added-cycle t (taken_in past))
     by false = order
 
@@ -168,7 +162,7 @@ ends : (p q : ℕ) (a b m n : Bool) → p ≡ q → a ≡ b → m ≡ n → (if 
 ends p q a b m n number flag missed = rw (number, flag, missed) refl
 
 pub keeps-mdt : (v w x : DriveState) (d : DriveView) (rate : ℕ) (told : Option Told) (past : List Moment) → KeepsMoments v d rate past
-    → IsProcessed v w d.busy (processed_by v told) (taken_in past)
+    → IsProcessed v w d.busy (commands_in d rate past) (processed_by v (commands_in d rate past) told) (taken_in past)
     → (took : Bool) → took ≡ (v.got && (nat_le 1 v.phase && is_some told))
     → IsEntered (record w { took = took; missed = nat_le 3 w.phase && not took }) x (ends_with w took)
     → KeepsMoments x d rate (mdt_moment d rate told past ∷ past)
@@ -185,7 +179,7 @@ keeps-mdt v w x d rate told past k processed took took_is entered =
     same_took : took ≡ takes told past
     same_took = rw (k.got_is, k.phase_is) at took_is
 
-    by : (r : Option Taken) → processed_in d rate told past ≡ r → IsProcessed v w d.busy r (taken_in past)
+    by : (r : Option Taken) → processed_in d rate told past ≡ r → IsProcessed v w d.busy (commands_in d rate past) r (taken_in past)
         → (end : ℕ) → ends_in told past ≡ end → IsEntered (record w { took = took; missed = nat_le 3 w.phase && not took }) x end
         → KeepsMoments x d rate (mdt_moment d rate told past ∷ past)
     by r r_is p end end_is e = rw (r_is, end_is) (record {
@@ -197,10 +191,9 @@ keeps-mdt v w x d rate told past k processed took took_is entered =
       missed_is = ap (λ (y : DriveState). y.missed) e.same ∙ misses _ _ _ _ phase same_took;
       writes_is = ap (λ (y : DriveState). y.writes) e.same ∙ ap (λ (y : DriveState). y.writes) p.same ∙ counted_with-length r (taken_in past) (writes_in past) v.writes k.writes_is;
       channel_is = e.channel d.busy (with_record r (taken_in past)) p.channel;
-      commands_is = ap (λ (y : DriveState). y.commands) e.same ∙ ap (reset_in end) (ap (λ (y : DriveState). y.commands) p.same ∙ ap (commands_after r (taken_in past)) k.commands_is);
+      commands_are = e.commands (commands_after r (taken_in past) (commands_in d rate past)) p.commands;
       blocks_is = ap (λ (y : DriveState). y.blocks) e.same ∙ ap (λ (y : DriveState). y.blocks) p.same ∙ ap (blocks_after r (taken_in past)) k.blocks_is;
       slot_is = ap (λ (y : DriveState). y.slot) e.same ∙ p.slot k.slot_is ∙ sym (ap (λ (y : DriveState). slot_of y.blocks) e.same);
-      calls_are = e.calls rate d.command (calls_after r (taken_in past) (calls_in past)) (p.calls rate d.command (calls_in past) k.calls_are (rw k.cycle_is k.in_order));
       in_order = rw (newest-with_reset end (calls_after r (taken_in past) (calls_in past))) (rw r_is at (newest-after d rate told past k.in_order));
     })
 
@@ -213,13 +206,13 @@ told_is v d rate content past k = rw (k.address_is, k.phase_is, k.blocks_is) ref
 
 -- a write changes the operation data of blocks alone
 abbrev pub StaysAlike : Type 0
-StaysAlike = (w : Option Write) (c : CommandsView) (blocks : List Block) → AreAlike (blocks_with w c blocks) blocks
+StaysAlike = (w : Option Write) (c : CommandHistory) (blocks : List Block) → AreAlike (blocks_with w c blocks) blocks
 
 AreThose-alike : (blocks others : List Block) (h : List Taken) → AreAlike blocks others → AreThose blocks h → AreThose others h
 AreThose-alike blocks others [] same those = tt
 AreThose-alike blocks others (t ∷ h) same those = (those.0 ∙ same, AreThose-alike blocks others h same those.1)
 
-AreThose-in_phase : (phase : ℕ) (blocks : List Block) (h : List Taken) → AreThose blocks h → AreThose blocks (in_phase phase h)
+AreThose-in_phase : (phase : ℕ) (blocks : List Block) (h : List Taken) → AreThose blocks h → AreThose blocks (unless_phase_0 phase h)
 AreThose-in_phase phase blocks h those = by (phase == 0)
   where
     by : (zero : Bool) → AreThose blocks (cond zero [] h)

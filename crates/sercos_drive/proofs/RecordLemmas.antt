@@ -13,7 +13,7 @@ use Rattle.sercos_service_drive.specs.Log.{Taken, taken_record}
 use Rattle.sercos_drive.specs.declared.hearing.Told.{Told}
 use Rattle.sercos_drive.specs.Heard.{DriveCall, Mst, Mdt, Restart, mst_in, mst_got, mdt_got}
 use Rattle.sercos_drive.specs.Moments.{Moment, AtMdt, phase_in, cycle_in, has_mst, has_missed, blocks_in, commands_in}
-use Rattle.sercos_drive.specs.Annals.{has_passed, stands_in, takes, ends_in, mdt_moment, annals, phase_at}
+use Rattle.sercos_drive.specs.Annals.{may_rise, stands_in, takes, ends_in, mdt_moment, annals, phase_at}
 use Rattle.sercos_drive.specs.Laws.{WereHanded}
 
 pub mst_below : (content : List ℕ) → IfSome (mst_in content) (λ p. p ≤ 4)
@@ -37,7 +37,7 @@ either_below false p q one other = other
 pub stands_below : (d : DriveView) (rate cycle : ℕ) (got : Option ℕ) (past : List Moment) → IfSome got (λ p. p ≤ 4) → phase_in past ≤ 4 → stands_in d rate cycle got past ≤ 4
 stands_below d rate cycle None past got below = either_below (has_mst past) (phase_in past) 0 below (omega arith)
 stands_below d rate cycle (Some phase) past got below =
-    either_below (phase == phase_in past) phase _ got (either_below ((phase == phase_in past + 1) && has_passed d rate cycle phase past) phase 0 got (omega arith))
+    either_below (phase == phase_in past) phase _ got (either_below ((phase == phase_in past + 1) && may_rise d rate cycle phase past) phase 0 got (omega arith))
 
 -- no phase is above 4
 pub phase_below : (d : DriveView) (rate : ℕ) (h : List DriveCall) → phase_at d rate h ≤ 4

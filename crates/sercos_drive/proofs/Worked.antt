@@ -12,7 +12,7 @@ use Rattle.sercos_timing.specs.Valid.{is_cycle}
 use Rattle.sercos_block.specs.Stores.{inserted, with_own, store_of}
 use Rattle.sercos_block.specs.Views.{DriveView}
 use Rattle.sercos_command.specs.Checks.{number_at, idns_at, carried_len, data_at, breaks_1, breaks_2, breaks_6, breaks_7, breaks_8, breaks_9, breaks_10, breaks_15, breaks_list, breaks_89, unfit_for_phase_3, unfit_for_phase_4}
-use Rattle.sercos_command.specs.Settings.{with_write, with_lists}
+use Rattle.sercos_command.specs.Calls.{with_check_list}
 use Rattle.sercos_service_drive.specs.Replies.{data_in, element_words, bytes_written, write_cause}
 use Rattle.sercos_service_drive.specs.Writes.{Write}
 use Rattle.sercos_telegram.specs.Faults.{head_fault, mst_fault}
@@ -155,24 +155,24 @@ words_said (AtRestart ∷ past) words = words_said past words
 
 -- ten cycles of phase 0, two of phase 1, 83 of phase 2, five of phase 3, and phase 4 from cycle 100 on
 phases : all_phases (annals drive 4 running) ≡ replicate 6 4 ++ replicate 5 3 ++ replicate 83 2 ++ replicate 2 1 ++ replicate 10 0
-unfolding element_of built_in is_cycle inserted with_own store_of number_at idns_at carried_len breaks_1 breaks_2 breaks_6 breaks_7 breaks_8 breaks_9 breaks_10 breaks_15 breaks_list breaks_89 unfit_for_phase_3 unfit_for_phase_4 with_write with_lists data_in element_words bytes_written write_cause head_fault mst_fault word_bytes word_at fields control_of attribute_of mst_in single_in joint_in value_in
+unfolding element_of built_in is_cycle inserted with_own store_of number_at idns_at carried_len breaks_1 breaks_2 breaks_6 breaks_7 breaks_8 breaks_9 breaks_10 breaks_15 breaks_list breaks_89 unfit_for_phase_3 unfit_for_phase_4 with_check_list data_in element_words bytes_written write_cause head_fault mst_fault word_bytes word_at fields control_of attribute_of mst_in single_in joint_in value_in
 phases = refl
 
 -- addressed in cycle 10, the drive sends in 11; the opening of cycle 12 is answered in 13; in 10 and 12 it sends nothing
 silent_in_10 : drive_says drive 4 (Mst 10 (Some (255 ∷ 1 ∷ [])) ∷ quiet 0 10 0 []) ≡ None
-unfolding element_of built_in is_cycle inserted with_own store_of number_at idns_at carried_len breaks_1 breaks_2 breaks_6 breaks_7 breaks_8 breaks_9 breaks_10 breaks_15 breaks_list breaks_89 unfit_for_phase_3 unfit_for_phase_4 with_write with_lists data_in element_words bytes_written write_cause head_fault mst_fault word_bytes word_at fields control_of attribute_of mst_in single_in joint_in value_in
+unfolding element_of built_in is_cycle inserted with_own store_of number_at idns_at carried_len breaks_1 breaks_2 breaks_6 breaks_7 breaks_8 breaks_9 breaks_10 breaks_15 breaks_list breaks_89 unfit_for_phase_3 unfit_for_phase_4 with_check_list data_in element_words bytes_written write_cause head_fault mst_fault word_bytes word_at fields control_of attribute_of mst_in single_in joint_in value_in
 silent_in_10 = refl
 
 says_in_11 : drive_says drive 4 (Mst 11 (Some (255 ∷ 1 ∷ [])) ∷ in_cycle 10 1 (Some (1 ∷ 0 ∷ 0 ∷ 0 ∷ 0 ∷ [])) (quiet 0 10 0 [])) ≡ Some (record { start = 300; content = 1 ∷ 0 ∷ 0 ∷ 0 ∷ 0 ∷ [] })
-unfolding element_of built_in is_cycle inserted with_own store_of number_at idns_at carried_len breaks_1 breaks_2 breaks_6 breaks_7 breaks_8 breaks_9 breaks_10 breaks_15 breaks_list breaks_89 unfit_for_phase_3 unfit_for_phase_4 with_write with_lists data_in element_words bytes_written write_cause head_fault mst_fault word_bytes word_at fields control_of attribute_of mst_in single_in joint_in value_in
+unfolding element_of built_in is_cycle inserted with_own store_of number_at idns_at carried_len breaks_1 breaks_2 breaks_6 breaks_7 breaks_8 breaks_9 breaks_10 breaks_15 breaks_list breaks_89 unfit_for_phase_3 unfit_for_phase_4 with_check_list data_in element_words bytes_written write_cause head_fault mst_fault word_bytes word_at fields control_of attribute_of mst_in single_in joint_in value_in
 says_in_11 = refl
 
 silent_in_12 : drive_says drive 4 (Mst 12 (Some (255 ∷ 2 ∷ [])) ∷ addressed) ≡ None
-unfolding element_of built_in is_cycle inserted with_own store_of number_at idns_at carried_len breaks_1 breaks_2 breaks_6 breaks_7 breaks_8 breaks_9 breaks_10 breaks_15 breaks_list breaks_89 unfit_for_phase_3 unfit_for_phase_4 with_write with_lists data_in element_words bytes_written write_cause head_fault mst_fault word_bytes word_at fields control_of attribute_of mst_in single_in joint_in value_in
+unfolding element_of built_in is_cycle inserted with_own store_of number_at idns_at carried_len breaks_1 breaks_2 breaks_6 breaks_7 breaks_8 breaks_9 breaks_10 breaks_15 breaks_list breaks_89 unfit_for_phase_3 unfit_for_phase_4 with_check_list data_in element_words bytes_written write_cause head_fault mst_fault word_bytes word_at fields control_of attribute_of mst_in single_in joint_in value_in
 silent_in_12 = refl
 
 says_in_13 : drive_says drive 4 (Mst 13 (Some (255 ∷ 2 ∷ [])) ∷ in_cycle 12 2 (Some (1 ∷ 15 ∷ 0 ∷ 3 ∷ 0 ∷ [])) addressed) ≡ Some (record { start = 300; content = 1 ∷ 1 ∷ 0 ∷ 0 ∷ 0 ∷ [] })
-unfolding element_of built_in is_cycle inserted with_own store_of number_at idns_at carried_len breaks_1 breaks_2 breaks_6 breaks_7 breaks_8 breaks_9 breaks_10 breaks_15 breaks_list breaks_89 unfit_for_phase_3 unfit_for_phase_4 with_write with_lists data_in element_words bytes_written write_cause head_fault mst_fault word_bytes word_at fields control_of attribute_of mst_in single_in joint_in value_in
+unfolding element_of built_in is_cycle inserted with_own store_of number_at idns_at carried_len breaks_1 breaks_2 breaks_6 breaks_7 breaks_8 breaks_9 breaks_10 breaks_15 breaks_list breaks_89 unfit_for_phase_3 unfit_for_phase_4 with_check_list data_in element_words bytes_written write_cause head_fault mst_fault word_bytes word_at fields control_of attribute_of mst_in single_in joint_in value_in
 says_in_13 = refl
 
 -- the replies to a read and a write of a number of two bytes, and to a write of a list
@@ -191,17 +191,17 @@ words_of_start : words_said (annals drive 4 configured) [] ≡
     ++ (0 ∷ 1 ∷ 0x22 ∷ 0 ∷ 1 ∷ 0x22 ∷ [])
     ++ taken_up ++ taken_up ++ taken_up ++ taken_up ++ taken_up ++ taken_up ++ taken_up ++ taken_up
     ++ listed ++ listed ++ taken_up ++ (0 ∷ 0 ∷ 3 ∷ 0 ∷ [])
-unfolding element_of built_in is_cycle inserted with_own store_of number_at idns_at carried_len breaks_1 breaks_2 breaks_6 breaks_7 breaks_8 breaks_9 breaks_10 breaks_15 breaks_list breaks_89 unfit_for_phase_3 unfit_for_phase_4 with_write with_lists data_in element_words bytes_written write_cause head_fault mst_fault word_bytes word_at fields control_of attribute_of mst_in single_in joint_in value_in
+unfolding element_of built_in is_cycle inserted with_own store_of number_at idns_at carried_len breaks_1 breaks_2 breaks_6 breaks_7 breaks_8 breaks_9 breaks_10 breaks_15 breaks_list breaks_89 unfit_for_phase_3 unfit_for_phase_4 with_check_list data_in element_words bytes_written write_cause head_fault mst_fault word_bytes word_at fields control_of attribute_of mst_in single_in joint_in value_in
 words_of_start = refl
 
 -- The data of S-0-0051 is selected in cycle 103, and both words are of that cycle, 65530; the feedback values are of their own
 -- cycle: 65540 in 104, 65550 in 105.
 says_in_104 : drive_says drive 4 (Mst 104 (Some (255 ∷ 4 ∷ [])) ∷ asked_in 4 100 1 (opens 51 ++ ask 56 0 ∷ []) checked) ≡ Some (record { start = 10; content = 1 ∷ 0 ∷ 0 ∷ 0xfa ∷ 0xff ∷ 4 ∷ 0 ∷ 1 ∷ 0 ∷ [] })
-unfolding element_of built_in is_cycle inserted with_own store_of number_at idns_at carried_len breaks_1 breaks_2 breaks_6 breaks_7 breaks_8 breaks_9 breaks_10 breaks_15 breaks_list breaks_89 unfit_for_phase_3 unfit_for_phase_4 with_write with_lists data_in element_words bytes_written write_cause head_fault mst_fault word_bytes word_at fields control_of attribute_of mst_in single_in joint_in value_in
+unfolding element_of built_in is_cycle inserted with_own store_of number_at idns_at carried_len breaks_1 breaks_2 breaks_6 breaks_7 breaks_8 breaks_9 breaks_10 breaks_15 breaks_list breaks_89 unfit_for_phase_3 unfit_for_phase_4 with_check_list data_in element_words bytes_written write_cause head_fault mst_fault word_bytes word_at fields control_of attribute_of mst_in single_in joint_in value_in
 says_in_104 = refl
 
 says_in_105 : drive_says drive 4 (Mst 105 (Some (255 ∷ 4 ∷ [])) ∷ asked_in 4 100 1 (opens 51 ++ ask 56 0 ∷ ask 60 0 ∷ []) checked) ≡ Some (record { start = 10; content = 1 ∷ 1 ∷ 0 ∷ 0 ∷ 0 ∷ 14 ∷ 0 ∷ 1 ∷ 0 ∷ [] })
-unfolding element_of built_in is_cycle inserted with_own store_of number_at idns_at carried_len breaks_1 breaks_2 breaks_6 breaks_7 breaks_8 breaks_9 breaks_10 breaks_15 breaks_list breaks_89 unfit_for_phase_3 unfit_for_phase_4 with_write with_lists data_in element_words bytes_written write_cause head_fault mst_fault word_bytes word_at fields control_of attribute_of mst_in single_in joint_in value_in
+unfolding element_of built_in is_cycle inserted with_own store_of number_at idns_at carried_len breaks_1 breaks_2 breaks_6 breaks_7 breaks_8 breaks_9 breaks_10 breaks_15 breaks_list breaks_89 unfit_for_phase_3 unfit_for_phase_4 with_check_list data_in element_words bytes_written write_cause head_fault mst_fault word_bytes word_at fields control_of attribute_of mst_in single_in joint_in value_in
 says_in_105 = refl
 
 -- the phases to which the drive goes at an MST of each phase from 0 to 4
@@ -211,65 +211,65 @@ moves cycle past = map (λ phase. stands_in drive 4 cycle (Some phase) past) (0 
 -- from each phase from 0 to 4, where no check is passed
 moves_unchecked : map (λ phase. moves 8 (AtMst 7 true phase ∷ [])) (0 ∷ 1 ∷ 2 ∷ 3 ∷ 4 ∷ []) ≡
     (0 ∷ 1 ∷ 0 ∷ 0 ∷ 0 ∷ []) ∷ (0 ∷ 1 ∷ 2 ∷ 0 ∷ 0 ∷ []) ∷ (0 ∷ 0 ∷ 2 ∷ 0 ∷ 0 ∷ []) ∷ (0 ∷ 0 ∷ 0 ∷ 3 ∷ 0 ∷ []) ∷ (0 ∷ 0 ∷ 0 ∷ 0 ∷ 4 ∷ []) ∷ []
-unfolding element_of built_in is_cycle inserted with_own store_of number_at idns_at carried_len breaks_1 breaks_2 breaks_6 breaks_7 breaks_8 breaks_9 breaks_10 breaks_15 breaks_list breaks_89 unfit_for_phase_3 unfit_for_phase_4 with_write with_lists data_in element_words bytes_written write_cause head_fault mst_fault word_bytes word_at fields control_of attribute_of mst_in single_in joint_in value_in
+unfolding element_of built_in is_cycle inserted with_own store_of number_at idns_at carried_len breaks_1 breaks_2 breaks_6 breaks_7 breaks_8 breaks_9 breaks_10 breaks_15 breaks_list breaks_89 unfit_for_phase_3 unfit_for_phase_4 with_check_list data_in element_words bytes_written write_cause head_fault mst_fault word_bytes word_at fields control_of attribute_of mst_in single_in joint_in value_in
 moves_unchecked = refl
 
 -- from phase 2 with check 127 passed, and from phase 3 with check 128 passed
 moves_from_2 : moves 95 (annals drive 4 configured) ≡ 0 ∷ 0 ∷ 2 ∷ 3 ∷ 0 ∷ []
-unfolding element_of built_in is_cycle inserted with_own store_of number_at idns_at carried_len breaks_1 breaks_2 breaks_6 breaks_7 breaks_8 breaks_9 breaks_10 breaks_15 breaks_list breaks_89 unfit_for_phase_3 unfit_for_phase_4 with_write with_lists data_in element_words bytes_written write_cause head_fault mst_fault word_bytes word_at fields control_of attribute_of mst_in single_in joint_in value_in
+unfolding element_of built_in is_cycle inserted with_own store_of number_at idns_at carried_len breaks_1 breaks_2 breaks_6 breaks_7 breaks_8 breaks_9 breaks_10 breaks_15 breaks_list breaks_89 unfit_for_phase_3 unfit_for_phase_4 with_check_list data_in element_words bytes_written write_cause head_fault mst_fault word_bytes word_at fields control_of attribute_of mst_in single_in joint_in value_in
 moves_from_2 = refl
 
 moves_from_3 : moves 100 (annals drive 4 checked) ≡ 0 ∷ 0 ∷ 0 ∷ 3 ∷ 4 ∷ []
-unfolding element_of built_in is_cycle inserted with_own store_of number_at idns_at carried_len breaks_1 breaks_2 breaks_6 breaks_7 breaks_8 breaks_9 breaks_10 breaks_15 breaks_list breaks_89 unfit_for_phase_3 unfit_for_phase_4 with_write with_lists data_in element_words bytes_written write_cause head_fault mst_fault word_bytes word_at fields control_of attribute_of mst_in single_in joint_in value_in
+unfolding element_of built_in is_cycle inserted with_own store_of number_at idns_at carried_len breaks_1 breaks_2 breaks_6 breaks_7 breaks_8 breaks_9 breaks_10 breaks_15 breaks_list breaks_89 unfit_for_phase_3 unfit_for_phase_4 with_check_list data_in element_words bytes_written write_cause head_fault mst_fault word_bytes word_at fields control_of attribute_of mst_in single_in joint_in value_in
 moves_from_3 = refl
 
 -- without an MST in 122 and 123 the drive still stands in phase 4 in 122, and in 0 in 123, before the MDT's place
 misses_one : phase_at drive 4 (Mst 122 None ∷ idle 4 0 22 100 checked) ≡ 4
-unfolding element_of built_in is_cycle inserted with_own store_of number_at idns_at carried_len breaks_1 breaks_2 breaks_6 breaks_7 breaks_8 breaks_9 breaks_10 breaks_15 breaks_list breaks_89 unfit_for_phase_3 unfit_for_phase_4 with_write with_lists data_in element_words bytes_written write_cause head_fault mst_fault word_bytes word_at fields control_of attribute_of mst_in single_in joint_in value_in
+unfolding element_of built_in is_cycle inserted with_own store_of number_at idns_at carried_len breaks_1 breaks_2 breaks_6 breaks_7 breaks_8 breaks_9 breaks_10 breaks_15 breaks_list breaks_89 unfit_for_phase_3 unfit_for_phase_4 with_check_list data_in element_words bytes_written write_cause head_fault mst_fault word_bytes word_at fields control_of attribute_of mst_in single_in joint_in value_in
 misses_one = refl
 
 misses_two : phase_at drive 4 (Mst 123 None ∷ Mdt None ∷ Mst 122 None ∷ idle 4 0 22 100 checked) ≡ 0
-unfolding element_of built_in is_cycle inserted with_own store_of number_at idns_at carried_len breaks_1 breaks_2 breaks_6 breaks_7 breaks_8 breaks_9 breaks_10 breaks_15 breaks_list breaks_89 unfit_for_phase_3 unfit_for_phase_4 with_write with_lists data_in element_words bytes_written write_cause head_fault mst_fault word_bytes word_at fields control_of attribute_of mst_in single_in joint_in value_in
+unfolding element_of built_in is_cycle inserted with_own store_of number_at idns_at carried_len breaks_1 breaks_2 breaks_6 breaks_7 breaks_8 breaks_9 breaks_10 breaks_15 breaks_list breaks_89 unfit_for_phase_3 unfit_for_phase_4 with_check_list data_in element_words bytes_written write_cause head_fault mst_fault word_bytes word_at fields control_of attribute_of mst_in single_in joint_in value_in
 misses_two = refl
 
 -- without an MDT in 100 it stays in phase 4, and without one in 101 too it ends that cycle in 0
 lacks_one : phase_at drive 4 (quiet 4 1 100 checked) ≡ 4
-unfolding element_of built_in is_cycle inserted with_own store_of number_at idns_at carried_len breaks_1 breaks_2 breaks_6 breaks_7 breaks_8 breaks_9 breaks_10 breaks_15 breaks_list breaks_89 unfit_for_phase_3 unfit_for_phase_4 with_write with_lists data_in element_words bytes_written write_cause head_fault mst_fault word_bytes word_at fields control_of attribute_of mst_in single_in joint_in value_in
+unfolding element_of built_in is_cycle inserted with_own store_of number_at idns_at carried_len breaks_1 breaks_2 breaks_6 breaks_7 breaks_8 breaks_9 breaks_10 breaks_15 breaks_list breaks_89 unfit_for_phase_3 unfit_for_phase_4 with_check_list data_in element_words bytes_written write_cause head_fault mst_fault word_bytes word_at fields control_of attribute_of mst_in single_in joint_in value_in
 lacks_one = refl
 
 lacks_two : phase_at drive 4 (quiet 4 2 100 checked) ≡ 0
-unfolding element_of built_in is_cycle inserted with_own store_of number_at idns_at carried_len breaks_1 breaks_2 breaks_6 breaks_7 breaks_8 breaks_9 breaks_10 breaks_15 breaks_list breaks_89 unfit_for_phase_3 unfit_for_phase_4 with_write with_lists data_in element_words bytes_written write_cause head_fault mst_fault word_bytes word_at fields control_of attribute_of mst_in single_in joint_in value_in
+unfolding element_of built_in is_cycle inserted with_own store_of number_at idns_at carried_len breaks_1 breaks_2 breaks_6 breaks_7 breaks_8 breaks_9 breaks_10 breaks_15 breaks_list breaks_89 unfit_for_phase_3 unfit_for_phase_4 with_check_list data_in element_words bytes_written write_cause head_fault mst_fault word_bytes word_at fields control_of attribute_of mst_in single_in joint_in value_in
 lacks_two = refl
 
 -- A write of S-0-0024 is opened in phase 2, and its first word is accepted; the next word comes in phase 3, in an MDT to all
 -- drives. It is refused with 0x7005, and the list stays.
 refused_in_98 : drive_says drive 4 (Mst 98 (Some (255 ∷ 3 ∷ [])) ∷ asked_in 3 97 1 (ask 58 0 ∷ []) (asked_2 95 1 (ask 14 24 ∷ ask 58 2 ∷ []) configured)) ≡
     Some (record { start = 10; content = 1 ∷ 5 ∷ 0 ∷ 0x05 ∷ 0x70 ∷ 200 ∷ 255 ∷ 0 ∷ 0 ∷ [] })
-unfolding element_of built_in is_cycle inserted with_own store_of number_at idns_at carried_len breaks_1 breaks_2 breaks_6 breaks_7 breaks_8 breaks_9 breaks_10 breaks_15 breaks_list breaks_89 unfit_for_phase_3 unfit_for_phase_4 with_write with_lists data_in element_words bytes_written write_cause head_fault mst_fault word_bytes word_at fields control_of attribute_of mst_in single_in joint_in value_in
+unfolding element_of built_in is_cycle inserted with_own store_of number_at idns_at carried_len breaks_1 breaks_2 breaks_6 breaks_7 breaks_8 breaks_9 breaks_10 breaks_15 breaks_list breaks_89 unfit_for_phase_3 unfit_for_phase_4 with_check_list data_in element_words bytes_written write_cause head_fault mst_fault word_bytes word_at fields control_of attribute_of mst_in single_in joint_in value_in
 refused_in_98 = refl
 
 list_stays : data_at (store_at drive 4 (asked_in 3 97 1 (ask 58 0 ∷ []) (asked_2 95 1 (ask 14 24 ∷ ask 58 2 ∷ []) configured))) 24 ≡ 47 ∷ 0 ∷ []
-unfolding element_of built_in is_cycle inserted with_own store_of number_at idns_at carried_len breaks_1 breaks_2 breaks_6 breaks_7 breaks_8 breaks_9 breaks_10 breaks_15 breaks_list breaks_89 unfit_for_phase_3 unfit_for_phase_4 with_write with_lists data_in element_words bytes_written write_cause head_fault mst_fault word_bytes word_at fields control_of attribute_of mst_in single_in joint_in value_in
+unfolding element_of built_in is_cycle inserted with_own store_of number_at idns_at carried_len breaks_1 breaks_2 breaks_6 breaks_7 breaks_8 breaks_9 breaks_10 breaks_15 breaks_list breaks_89 unfit_for_phase_3 unfit_for_phase_4 with_check_list data_in element_words bytes_written write_cause head_fault mst_fault word_bytes word_at fields control_of attribute_of mst_in single_in joint_in value_in
 list_stays = refl
 
 -- The writes: the plan, the settings and cancels of the two checks, and the two of S-0-0047. After a restart the drive is in
 -- phase 0 and sends nothing, and the writes and the data blocks stay.
 all_writes : map (λ (w : Write). w.raw) (writes_at drive 4 written) ≡ 47 ∷ 47 ∷ 128 ∷ 128 ∷ 127 ∷ 127 ∷ 89 ∷ 24 ∷ 16 ∷ 15 ∷ 10 ∷ 9 ∷ 8 ∷ 7 ∷ 6 ∷ 2 ∷ 1 ∷ []
-unfolding element_of built_in is_cycle inserted with_own store_of number_at idns_at carried_len breaks_1 breaks_2 breaks_6 breaks_7 breaks_8 breaks_9 breaks_10 breaks_15 breaks_list breaks_89 unfit_for_phase_3 unfit_for_phase_4 with_write with_lists data_in element_words bytes_written write_cause head_fault mst_fault word_bytes word_at fields control_of attribute_of mst_in single_in joint_in value_in
+unfolding element_of built_in is_cycle inserted with_own store_of number_at idns_at carried_len breaks_1 breaks_2 breaks_6 breaks_7 breaks_8 breaks_9 breaks_10 breaks_15 breaks_list breaks_89 unfit_for_phase_3 unfit_for_phase_4 with_check_list data_in element_words bytes_written write_cause head_fault mst_fault word_bytes word_at fields control_of attribute_of mst_in single_in joint_in value_in
 all_writes = refl
 
 restarted : phase_at drive 4 (Restart ∷ written) ≡ 0
-unfolding element_of built_in is_cycle inserted with_own store_of number_at idns_at carried_len breaks_1 breaks_2 breaks_6 breaks_7 breaks_8 breaks_9 breaks_10 breaks_15 breaks_list breaks_89 unfit_for_phase_3 unfit_for_phase_4 with_write with_lists data_in element_words bytes_written write_cause head_fault mst_fault word_bytes word_at fields control_of attribute_of mst_in single_in joint_in value_in
+unfolding element_of built_in is_cycle inserted with_own store_of number_at idns_at carried_len breaks_1 breaks_2 breaks_6 breaks_7 breaks_8 breaks_9 breaks_10 breaks_15 breaks_list breaks_89 unfit_for_phase_3 unfit_for_phase_4 with_check_list data_in element_words bytes_written write_cause head_fault mst_fault word_bytes word_at fields control_of attribute_of mst_in single_in joint_in value_in
 restarted = refl
 
 silent_after_restart : drive_says drive 4 (Mst 110 (Some (255 ∷ 4 ∷ [])) ∷ Restart ∷ written) ≡ None
-unfolding element_of built_in is_cycle inserted with_own store_of number_at idns_at carried_len breaks_1 breaks_2 breaks_6 breaks_7 breaks_8 breaks_9 breaks_10 breaks_15 breaks_list breaks_89 unfit_for_phase_3 unfit_for_phase_4 with_write with_lists data_in element_words bytes_written write_cause head_fault mst_fault word_bytes word_at fields control_of attribute_of mst_in single_in joint_in value_in
+unfolding element_of built_in is_cycle inserted with_own store_of number_at idns_at carried_len breaks_1 breaks_2 breaks_6 breaks_7 breaks_8 breaks_9 breaks_10 breaks_15 breaks_list breaks_89 unfit_for_phase_3 unfit_for_phase_4 with_check_list data_in element_words bytes_written write_cause head_fault mst_fault word_bytes word_at fields control_of attribute_of mst_in single_in joint_in value_in
 silent_after_restart = refl
 
 writes_stay : map (λ (w : Write). w.bytes) (writes_at drive 4 (Restart ∷ written)) ≡ (2 ∷ 0 ∷ 0 ∷ 0 ∷ []) ∷ (1 ∷ 0 ∷ 0 ∷ 0 ∷ []) ∷ map (λ (w : Write). w.bytes) (writes_at drive 4 checked)
-unfolding element_of built_in is_cycle inserted with_own store_of number_at idns_at carried_len breaks_1 breaks_2 breaks_6 breaks_7 breaks_8 breaks_9 breaks_10 breaks_15 breaks_list breaks_89 unfit_for_phase_3 unfit_for_phase_4 with_write with_lists data_in element_words bytes_written write_cause head_fault mst_fault word_bytes word_at fields control_of attribute_of mst_in single_in joint_in value_in
+unfolding element_of built_in is_cycle inserted with_own store_of number_at idns_at carried_len breaks_1 breaks_2 breaks_6 breaks_7 breaks_8 breaks_9 breaks_10 breaks_15 breaks_list breaks_89 unfit_for_phase_3 unfit_for_phase_4 with_check_list data_in element_words bytes_written write_cause head_fault mst_fault word_bytes word_at fields control_of attribute_of mst_in single_in joint_in value_in
 writes_stay = refl
 
 data_stays : data_at (store_at drive 4 (Restart ∷ written)) 47 ≡ 2 ∷ 0 ∷ 0 ∷ 0 ∷ []
-unfolding element_of built_in is_cycle inserted with_own store_of number_at idns_at carried_len breaks_1 breaks_2 breaks_6 breaks_7 breaks_8 breaks_9 breaks_10 breaks_15 breaks_list breaks_89 unfit_for_phase_3 unfit_for_phase_4 with_write with_lists data_in element_words bytes_written write_cause head_fault mst_fault word_bytes word_at fields control_of attribute_of mst_in single_in joint_in value_in
+unfolding element_of built_in is_cycle inserted with_own store_of number_at idns_at carried_len breaks_1 breaks_2 breaks_6 breaks_7 breaks_8 breaks_9 breaks_10 breaks_15 breaks_list breaks_89 unfit_for_phase_3 unfit_for_phase_4 with_check_list data_in element_words bytes_written write_cause head_fault mst_fault word_bytes word_at fields control_of attribute_of mst_in single_in joint_in value_in
 data_stays = refl

@@ -11,8 +11,8 @@ use Rattle.sercos_drive.specs.Heard.{DriveCall, Mst, Mdt, Restart, mst_got, mdt_
 use Rattle.sercos_drive.specs.Moments.{Moment, AtMst, AtMdt, AtRestart, phase_in, cycle_in, has_mst, has_missed, taken_in, writes_in, blocks_in, commands_in, calls_in}
 
 -- whether a rise to this phase is allowed: up to phase 2 always, to phase 3 if check 127 is passed, to phase 4 if check 128 is
-abbrev pub has_passed : DriveView → ℕ → ℕ → ℕ → List Moment → Bool
-has_passed d rate cycle phase past =
+abbrev pub may_rise : DriveView → ℕ → ℕ → ℕ → List Moment → Bool
+may_rise d rate cycle phase past =
     nat_le phase 2
     || (if phase == 3 then is_passed rate d.command 127 (calls_in past) cycle else is_passed rate d.command 128 (calls_in past) cycle)
 
@@ -23,7 +23,7 @@ abbrev pub stands_in : DriveView → ℕ → ℕ → Option ℕ → List Moment 
 stands_in d rate cycle None past = if has_mst past then phase_in past else 0
 stands_in d rate cycle (Some phase) past =
     if phase == phase_in past then phase
-    else (if (phase == phase_in past + 1) && has_passed d rate cycle phase past then phase else 0)
+    else (if (phase == phase_in past + 1) && may_rise d rate cycle phase past then phase else 0)
 
 -- an MDT that was got is taken if this cycle's MST was got and the phase isn't 0
 abbrev pub takes : Option Told → List Moment → Bool

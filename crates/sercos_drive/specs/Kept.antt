@@ -2,9 +2,7 @@
 use Rattle.std.specs.Prelude.{◌≡◌, ℕ, ◌^◌, ◌-◌, ◌≤◌, Bool, List, length, min}
 use Rattle.sercos_block.specs.declared.block.Block.{Block}
 use Rattle.sercos_block.specs.Views.{DriveView}
-use Rattle.sercos_command.specs.Settings.{CommandsView}
-use Rattle.sercos_command.specs.Calls.{newest}
-use Rattle.sercos_command.specs.Kept.{CommandsStandFor}
+use Rattle.sercos_command.specs.Kept.{newest_cycle, CommandsView, CommandsStandFor}
 use Rattle.sercos_service_drive.specs.Kept.{ChannelView, ChannelStandsFor}
 use Rattle.sercos_drive.specs.Heard.{DriveCall}
 use Rattle.sercos_drive.specs.Moments.{Moment, phase_in, cycle_in, has_mst, has_taken, has_missed, taken_in, writes_in, blocks_in, commands_in, calls_in}
@@ -39,13 +37,12 @@ pub record KeepsMoments (v : DriveState) (d : DriveView) (rate : ℕ) (past : Li
   pub missed_is : v.missed ≡ has_missed past
   pub writes_is : v.writes ≡ counted (length (writes_in past))
   pub channel_is : ChannelStandsFor v.channel d.busy (taken_in past)
-  pub commands_is : v.commands ≡ commands_in d rate past
+  pub commands_are : CommandsStandFor v.commands (commands_in d rate past)
   pub blocks_is : v.blocks ≡ blocks_in d past
   -- what was read of the blocks is what they contain
   pub slot_is : v.slot ≡ slot_of v.blocks
-  pub calls_are : CommandsStandFor v.commands rate d.command (calls_in past)
   -- no call on the procedure commands was for a later cycle
-  pub in_order : newest (calls_in past) ≤ cycle_in past
+  pub in_order : newest_cycle (calls_in past) ≤ cycle_in past
 
 -- The drive stands for these calls since it was opened with this setup, in a ring of this rate.
 abbrev pub DriveStandsFor : DriveState → DriveView → ℕ → List DriveCall → Type 0

@@ -3,10 +3,9 @@ use Rattle.std.specs.Prelude.{ℕ, ◌==◌, nat_le, Bool, false, not, ◌&&◌,
 use Rattle.sercos_block.specs.declared.block.Block.{Block}
 use Rattle.sercos_block.specs.Views.{DriveView}
 use Rattle.sercos_block.specs.Stores.{store_of}
-use Rattle.sercos_command.specs.Settings.{CommandsView, without_settings}
-use Rattle.sercos_command.specs.Calls.{Call, Reset}
+use Rattle.sercos_command.specs.Calls.{CommandCall, Reset, CommandHistory}
 use Rattle.sercos_service_drive.specs.Log.{Taken}
-use Rattle.sercos_service_drive.specs.Writes.{Write, with_added, added_on, blocks_with, commands_with, calls_with}
+use Rattle.sercos_service_drive.specs.Writes.{Write, with_added, added_on, blocks_with, calls_with}
 
 -- At the MST's place of a cycle: whether the MST was got, and the drive's phase after it. At the MDT's place: whether an
 -- MDT was taken, its record if it was processed, and the phase afterwards. A restart.
@@ -35,7 +34,8 @@ has_mst (AtMst cycle got phase ∷ past) = got
 has_mst (AtMdt took processed phase ∷ past) = has_mst past
 has_mst (AtRestart ∷ past) = false
 
--- whether an MDT was taken at the newest MDT's place; a restart forgets it
+-- Whether an MDT was taken at the newest MDT's place; a restart forgets it. Phase 0 needs no case: in it none is taken, so the MDT's
+-- place of its cycle clears it.
 abbrev pub has_taken : List Moment → Bool
 has_taken [] = false
 has_taken (AtMst cycle got phase ∷ past) = has_taken past
@@ -51,8 +51,8 @@ has_missed (AtMdt took processed phase ∷ past) = nat_le 3 (phase_in past) && n
 has_missed (AtRestart ∷ past) = false
 
 -- phase 0 empties a list
-abbrev pub in_phase : {A : Type 0} → ℕ → List A → List A
-in_phase phase xs = if phase == 0 then [] else xs
+abbrev pub unless_phase_0 : {A : Type 0} → ℕ → List A → List A
+unless_phase_0 phase xs = if phase == 0 then [] else xs
 
 abbrev pub with_record : Option Taken → List Taken → List Taken
 with_record None h = h
@@ -61,8 +61,8 @@ with_record (Some t) h = t ∷ h
 -- the records that were processed since the drive was last in phase 0
 abbrev pub taken_in : List Moment → List Taken
 taken_in [] = []
-taken_in (AtMst cycle got phase ∷ past) = in_phase phase (taken_in past)
-taken_in (AtMdt took processed phase ∷ past) = in_phase phase (with_record processed (taken_in past))
+taken_in (AtMst cycle got phase ∷ past) = unless_phase_0 phase (taken_in past)
+taken_in (AtMdt took processed phase ∷ past) = unless_phase_0 phase (with_record processed (taken_in past))
 taken_in (AtRestart ∷ past) = []
 
 -- the write that a record adds, if there is one
@@ -77,16 +77,12 @@ writes_in (AtMst cycle got phase ∷ past) = writes_in past
 writes_in (AtMdt took processed phase ∷ past) = with_added (write_in processed (taken_in past)) (writes_in past)
 writes_in (AtRestart ∷ past) = writes_in past
 
--- the blocks, the procedure commands and the calls on these after a record
+-- the blocks and the calls on the procedure commands after a record
 abbrev pub blocks_after : Option Taken → List Taken → List Block → List Block
 blocks_after None h blocks = blocks
 blocks_after (Some t) h blocks = blocks_with (added_on t h) t.commands t.blocks
 
-abbrev pub commands_after : Option Taken → List Taken → CommandsView → CommandsView
-commands_after None h commands = commands
-commands_after (Some t) h commands = commands_with (added_on t h) t.blocks t.commands
-
-abbrev pub calls_after : Option Taken → List Taken → List Call → List Call
+abbrev pub calls_after : Option Taken → List Taken → List CommandCall → List CommandCall
 calls_after None h calls = calls
 calls_after (Some t) h calls = calls_with (added_on t h) t.blocks calls
 
@@ -97,22 +93,16 @@ blocks_in d (AtMst cycle got phase ∷ past) = blocks_in d past
 blocks_in d (AtMdt took processed phase ∷ past) = blocks_after processed (taken_in past) (blocks_in d past)
 blocks_in d (AtRestart ∷ past) = blocks_in d past
 
--- the procedure commands; in phase 0 none is set, and no check is passed
-abbrev pub reset_in : ℕ → CommandsView → CommandsView
-reset_in phase commands = if phase == 0 then without_settings commands else commands
-
-abbrev pub commands_in : DriveView → ℕ → List Moment → CommandsView
-commands_in d rate [] = record { rate = rate; time = d.command; set = []; passed_127 = None; passed_128 = None }
-commands_in d rate (AtMst cycle got phase ∷ past) = reset_in phase (commands_in d rate past)
-commands_in d rate (AtMdt took processed phase ∷ past) = reset_in phase (commands_after processed (taken_in past) (commands_in d rate past))
-commands_in d rate (AtRestart ∷ past) = without_settings (commands_in d rate past)
-
 -- the calls on the procedure commands: settings and cancels, writes of other operation data, and phase 0
-abbrev pub with_reset : ℕ → List Call → List Call
+abbrev pub with_reset : ℕ → List CommandCall → List CommandCall
 with_reset phase calls = if phase == 0 then Reset ∷ calls else calls
 
-abbrev pub calls_in : List Moment → List Call
+abbrev pub calls_in : List Moment → List CommandCall
 calls_in [] = []
 calls_in (AtMst cycle got phase ∷ past) = with_reset phase (calls_in past)
 calls_in (AtMdt took processed phase ∷ past) = with_reset phase (calls_after processed (taken_in past) (calls_in past))
 calls_in (AtRestart ∷ past) = Reset ∷ calls_in past
+
+-- the procedure commands of the drive, in a ring of a rate
+abbrev pub commands_in : DriveView → ℕ → List Moment → CommandHistory
+commands_in d rate past = record { rate = rate; time = d.command; calls = calls_in past }

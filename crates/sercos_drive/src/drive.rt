@@ -4,19 +4,18 @@ ghost use Rattle.std.specs.Option.{option_copied};
 ghost use Rattle.sercos_block.specs.Views.{DriveView};
 ghost use Rattle.sercos_block.specs.Rules.{blocks_fault};
 ghost use Rattle.sercos_telegram.specs.Spells.{at_content};
-ghost use Rattle.sercos_command.specs.Settings.{is_from, are_commands_of};
-ghost use Rattle.sercos_command.specs.Calls.{Call, newest};
-ghost use Rattle.sercos_command.specs.Kept.{CommandsStandFor};
+ghost use Rattle.sercos_command.specs.Calls.{CommandHistory};
+ghost use Rattle.sercos_command.specs.Kept.{newest_cycle, CommandsStandFor};
 ghost use Rattle.sercos_service_drive.specs.Log.{Taken, taken_record};
 ghost use Rattle.sercos_service_drive.specs.Writes.{AreThose};
 ghost use Rattle.sercos_service_drive.specs.Kept.{ChannelStandsFor};
 ghost use Rattle.sercos_drive.specs.Heard.{DriveCall, Mst, Mdt, Restart, mdt_got};
-ghost use Rattle.sercos_drive.specs.Moments.{in_phase, reset_in, with_reset};
+ghost use Rattle.sercos_drive.specs.Moments.{unless_phase_0};
 ghost use Rattle.sercos_drive.specs.Annals.{cycle_at, phase_at, writes_at, store_at};
 ghost use Rattle.sercos_drive.specs.Says.{Said, start_in, values_in, drive_says};
 ghost use Rattle.sercos_drive.specs.Kept.{counted, DriveStandsFor};
 ghost use Rattle.sercos_drive.specs.Slots.{slot_of};
-ghost use Rattle.sercos_drive.specs.Steps.{goes_to, record_by, processed_by, ends_with, IsEntered, IsProcessed};
+ghost use Rattle.sercos_drive.specs.Steps.{may_rise_by, goes_to, record_by, processed_by, ends_with, IsEntered, IsProcessed};
 
 use crate::feedback::push_feedback;
 use crate::hearing::{Told, mdt_got, mst_got};
@@ -56,7 +55,7 @@ pub struct Drive {
 
 impl Model for Drive {
     ghost use Rattle.std.specs.Prelude.{◌≡◌, ◌≤◌, true};
-    ghost use Rattle.sercos_command.specs.Settings.{are_commands_of};
+    ghost use Rattle.sercos_command.specs.Kept.{are_commands_of};
     ghost use Rattle.sercos_drive.specs.Kept.{DriveState};
 
     ghost Value = { DriveState };
@@ -119,7 +118,7 @@ impl Drive {
 
     // Returns whether the check for a rise to this phase is passed in a cycle.
     fn has_passed(&self, cycle: u32, phase: u8) -> bool
-        ensures { result ≡ (nat_le phase 2 || (if phase == 3 then is_from self.now.commands.passed_127 cycle else is_from self.now.commands.passed_128 cycle)) }
+        ensures { (c : CommandHistory) → CommandsStandFor self.now.commands c → newest_cycle c.calls ≤ cycle → result ≡ may_rise_by c cycle phase }
     {
         phase <= 2
             || if phase == 3 {
@@ -132,7 +131,7 @@ impl Drive {
     // Returns the phase of the drive after the MST's place of a cycle, with the phase that the MST commands, if one was got.
     fn stands_in(&self, cycle: u32, commanded: Option<u8>) -> u8
         requires { IfSome commanded (λ phase. phase ≤ 4) }
-        ensures value { result ≡ goes_to self.now cycle commanded }
+        ensures value { (c : CommandHistory) → CommandsStandFor self.now.commands c → newest_cycle c.calls ≤ cycle → result ≡ goes_to self.now c cycle commanded }
         ensures bound { result ≤ 4 }
     {
         match commanded {
@@ -271,8 +270,8 @@ impl Drive {
     // Hands a record to the service channel, in phases 2 to 4.
     fn process(&mut self, told: &Told)
         requires { 2 ≤ self.old.phase }
-        ensures { (busy : ℕ) (h : List Taken) → ChannelStandsFor self.old.channel busy h → AreThose self.old.blocks h →
-            IsProcessed self.old self.new busy (Some (record_by self.old told.now)) h }
+        ensures { (busy : ℕ) (h : List Taken) (c : CommandHistory) → ChannelStandsFor self.old.channel busy h → AreThose self.old.blocks h →
+            CommandsStandFor self.old.commands c → newest_cycle c.calls ≤ self.old.cycle → IsProcessed self.old self.new busy c (Some (record_by self.old c told.now)) h }
     {
         let added = self.channel.take(
             self.cycle,
@@ -295,8 +294,8 @@ impl Drive {
 
     // Notes the MDT's place with the record of an MDT, if there is one that is to be processed.
     fn process_if(&mut self, told: Option<Told>)
-        ensures { (busy : ℕ) (h : List Taken) → ChannelStandsFor self.old.channel busy h → AreThose self.old.blocks h →
-            IsProcessed self.old self.new busy (processed_by self.old told) h }
+        ensures { (busy : ℕ) (h : List Taken) (c : CommandHistory) → ChannelStandsFor self.old.channel busy h → AreThose self.old.blocks h →
+            CommandsStandFor self.old.commands c → newest_cycle c.calls ≤ self.old.cycle → IsProcessed self.old self.new busy c (processed_by self.old c told) h }
     {
         if let Some(told) = told {
             if self.processes() {

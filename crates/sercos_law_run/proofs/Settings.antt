@@ -1,3 +1,4 @@
+pub mod Histories
 pub mod WellRuns
 pub mod SetRuns
 pub mod SetKept
@@ -5,7 +6,6 @@ pub mod SetInEpoch
 pub mod SetAtPoll
 pub mod CheckGives3
 pub mod CheckRuns
-pub mod RateStays
 pub mod SettingsRuns
 pub mod Givers
 pub mod SetInTwo

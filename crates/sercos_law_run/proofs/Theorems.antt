@@ -30,7 +30,7 @@ pub use Rattle.sercos_law_run.proofs.Headline.ApartCycles.{sender_phase}
 pub use Rattle.sercos_law_run.proofs.Headline.ApartRuns.{Sends, ends_at_0, sent_by}
 pub use Rattle.sercos_law_run.proofs.Headline.AtLengths.{carried_length}
 pub use Rattle.sercos_law_run.proofs.Headline.HeadlineRuns.{all_stand, first_store, keeps_all, spelled_in, stored_in}
-pub use Rattle.sercos_law_run.proofs.Undisturbed.StaysClear.{stays_clear}
+pub use Rattle.sercos_law_run.proofs.Undisturbed.Arriving.StaysClear.{stays_clear}
 pub use Rattle.sercos_law_run.proofs.Totals.Bounds.{unseen_few}
 pub use Rattle.sercos_law_run.proofs.Totals.CountLemmas.{few_more, none_counted, none_few, room_for}
 pub use Rattle.sercos_law_run.proofs.Totals.TotalsLemmas.{totals_more}

@@ -8,12 +8,11 @@ ghost use Rattle.sercos_law_run.specs.Stations.Senders.{SendsAlone};
 
 use crate::typed_laws::typed_law;
 
-/// In phases 3 and 4 the check for phase 3 finds nothing in the drive's store, whatever the drive was handed and
-/// whatever was written to it, and in phase 4 no block has operation data outside its limits. A store in which the check finds nothing
-/// keeps these times: T1 is at least T1min; from the end of the drive's AT, as long as it can be, to T2 there is TATMT; T3 lies in the
-/// cycle, and T4 with T4min; the data record lies within the MDT, so in phases 3 and 4 a drive gets its record of each MDT that reads.
-/// S-0-0021 and S-0-0022 contain what their check found when it was last
-/// set while it wasn't, and nothing before.
+/// In phases 3 and 4 the check for phase 3 finds nothing in the drive's store, whatever the drive was handed and whatever was written to
+/// it, and in phase 4 no block has operation data outside its limits. A store in which the check finds nothing keeps these times: T1 is at
+/// least T1min; from the end of the drive's AT, as long as it can be, to T2 there is TATMT; T3 lies in the cycle, and T4 with T4min; the
+/// data record lies within the MDT, so in phases 3 and 4 a drive gets its record of each MDT that reads. S-0-0021 and S-0-0022 contain what
+/// their check found when it was last set while it wasn't, and nothing before.
 pub fn fit_law()
     ensures times { EmptyKeepsTimes }
     ensures three { FitInThree }
@@ -22,10 +21,10 @@ pub fn fit_law()
     ensures lists { ListsAreFound }
 {}
 
-/// On the phase of a drive, whatever the drive was handed. If it isn't 0, it is that of the MST that the drive got in
-/// this cycle, or of the one in the cycle before if it got none in this one. It rises by one at a time, by an MST of the next phase, and
-/// into 3 and 4 only if the check for that phase counts as passed. It goes to 0 exactly for these causes: an MST of a phase that the drive
-/// can't take; no MST for the second time in a row; in phases 3 and 4 no MDT for the second time in a row; a restart.
+/// On the phase of a drive, whatever the drive was handed. If it isn't 0, it is that of the MST that the drive got in this cycle, or of the
+/// one in the cycle before if it got none in this one. It rises by one at a time, by an MST of the next phase, and into 3 and 4 only if the
+/// check for that phase counts as passed. It goes to 0 exactly for these causes: an MST of a phase that the drive can't take; no MST for
+/// the second time in a row; in phases 3 and 4 no MDT for the second time in a row; a restart.
 pub fn phase_law()
     ensures stands { StandsByMst }
     ensures rises { RisesByOne }
@@ -33,8 +32,9 @@ pub fn phase_law()
 {}
 
 /// What `fit_law` says of the times and the limits, and `phase_law` of the phase, holds of each drive of a ring in each cycle, before the
-/// MST's place, where it may restart, after it, and after the MDT's place, over every link and whatever arrives, undetected damage too. As long as nothing was undetected, in a cycle commanded 0, 1 or 2 at most one AT is sent: by
-/// the drive that the MDT of the cycle before was addressed to, and none with phase 0.
+/// MST's place, where it may restart, after it, and after the MDT's place, over every link and whatever arrives, undetected damage too. As
+/// long as nothing was undetected, in a cycle commanded 0, 1 or 2 at most one AT is sent: by the drive that the MDT of the cycle before was
+/// addressed to, and none with phase 0.
 pub fn station_law()
     ensures plain { AlwaysPlain }
     ensures alone { SendsAlone }
@@ -42,11 +42,11 @@ pub fn station_law()
     typed_law();
 }
 
-/// A fall that a ring reports has its cause, over every link and whatever arrives. `MstLost`: the own MST didn't come back
-/// as it was sent in this cycle, nor in the one before, of phase 1 to 4. `AtLost`: in this cycle and in the one before, of phase 3 or 4, no
-/// AT that arrived reads as that drive's. `StepLimit`: in phase 1 the MDT was to that drive in this cycle and in the 64 before it, and no
-/// longer; later a step to it was first sent 64 cycles ago, and no answer has been taken since. `Restart`: the master restarts in this cycle.
-/// And if phase 1 or a later one is commanded, the cause of `MstLost` makes the ring fall, and is the one that is reported.
+/// A fall that a ring reports has its cause, over every link and whatever arrives. `MstLost`: the own MST didn't come back as it was sent
+/// in this cycle, nor in the one before, both of phase 1 to 4. `AtLost`: in this cycle and in the one before, both of phase 3 or 4, no AT
+/// that arrived reads as that drive's. `StepLimit`: in phase 1 the MDT was to that drive in this cycle and in the 64 before it, and no
+/// longer; later a step to it was first sent 64 cycles ago, and no answer has been taken since. `Restart`: the master restarts in this
+/// cycle. And the cause of `MstLost` makes the ring fall, and is the one that is reported.
 pub fn fall_law()
     ensures causes { FallsHaveCause }
     ensures first { MstComesFirst }

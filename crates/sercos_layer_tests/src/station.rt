@@ -1,6 +1,6 @@
 // A drive as its service channel sees it: the channel, the data blocks and the procedure commands.
 ghost use Rattle.std.specs.Prelude.{◌≡◌, ◌≤◌, true};
-ghost use Rattle.sercos_command.specs.Settings.{are_commands_of};
+ghost use Rattle.sercos_command.specs.Kept.{are_commands_of};
 
 use crate::blocks::opened;
 use sercos_block::{DriveSetup, Store};

@@ -6,10 +6,11 @@ use mathlib.Core.Bool.{beq}
 use Rattle.sercos_model.proofs.FaultLemmas.{none_of-or}
 use Rattle.sercos_block.specs.declared.block.Block.{Block}
 use Rattle.sercos_block.specs.Stores.{find_block, with_data, put_fault}
-use Rattle.sercos_command.specs.Settings.{CommandsView, is_command, with_lists}
+use Rattle.sercos_command.specs.Settings.{is_command}
+use Rattle.sercos_command.specs.Calls.{CommandHistory, with_check_list}
 use Rattle.sercos_service_drive.specs.Log.{Taken, Entry, ahs, accepted, open_idn, run_before, in_order}
 use Rattle.sercos_service_drive.specs.Replies.{answer_by, bytes_written, write_cause, write_cause_in, reply_of, answered, log_of}
-use Rattle.sercos_service_drive.specs.Writes.{Write, without_data, AreAlike, AreThose, written_by, with_added, writes_of, setting_in, blocks_with, adds, added_on}
+use Rattle.sercos_service_drive.specs.Writes.{Write, without_data, AreAlike, AreThose, written_by, with_added, writes_of, command_value, blocks_with, adds, added_on}
 use Rattle.sercos_service_drive.specs.Kept.{IsMidway}
 use Rattle.sercos_service_drive.specs.Partial.{IsStarted, place_cause}
 use Rattle.sercos_service_drive.proofs.WordLemmas.{cause_is, has_passed, goes_on}
@@ -33,8 +34,8 @@ data_alike raw bytes (b ∷ blocks) = by (b.idn.raw == raw) ∙ ap (λ (rest : L
     by true = refl
     by false = refl
 
-lists_alike : (c : CommandsView) (raw value : ℕ) (blocks : List Block) → AreAlike (with_lists c raw value blocks) blocks
-unfolding with_lists
+lists_alike : (c : CommandHistory) (raw value : ℕ) (blocks : List Block) → AreAlike (with_check_list c raw value blocks) blocks
+unfolding with_check_list
 lists_alike c raw value blocks = by _ (raw == 127) (raw == 128) _ _
   where
     by : (sets first second : Bool) (one other : List ℕ) → AreAlike (cond sets (cond first (with_data 21 one blocks) (cond second (with_data 22 other blocks) blocks)) blocks) blocks
@@ -43,12 +44,12 @@ lists_alike c raw value blocks = by _ (raw == 127) (raw == 128) _ _
     by true false false one other = refl
     by false first second one other = refl
 
-pub alike : (w : Option Write) (c : CommandsView) (blocks : List Block) → AreAlike (blocks_with w c blocks) blocks
+pub alike : (w : Option Write) (c : CommandHistory) (blocks : List Block) → AreAlike (blocks_with w c blocks) blocks
 alike None c blocks = refl
 alike (Some w) c blocks = by (is_command blocks w.raw)
   where
-    by : (command : Bool) → AreAlike (cond command (with_lists c w.raw (setting_in w) (with_data w.raw w.bytes blocks)) (with_data w.raw w.bytes blocks)) blocks
-    by true = lists_alike c w.raw (setting_in w) (with_data w.raw w.bytes blocks) ∙ data_alike w.raw w.bytes blocks
+    by : (command : Bool) → AreAlike (cond command (with_check_list c w.raw (command_value w) (with_data w.raw w.bytes blocks)) (with_data w.raw w.bytes blocks)) blocks
+    by true = lists_alike c w.raw (command_value w) (with_data w.raw w.bytes blocks) ∙ data_alike w.raw w.bytes blocks
     by false = data_alike w.raw w.bytes blocks
 
 pub those_moved : (blocks others : List Block) (h : List Taken) → AreAlike others blocks → AreThose blocks h → AreThose others h

@@ -7,7 +7,7 @@ use Rattle.sercos_telegram.specs.declared.words.Status.{Status}
 use Rattle.sercos_step.specs.declared.step.Answer.{Answer}
 use Rattle.sercos_block.specs.declared.block.Block.{Block}
 use Rattle.sercos_block.specs.Stores.{find_block}
-use Rattle.sercos_command.specs.Settings.{CommandsView, change_in}
+use Rattle.sercos_command.specs.Calls.{CommandHistory, change_in}
 use Rattle.sercos_service_drive.specs.declared.channel.Last.{Last}
 use Rattle.sercos_service_drive.specs.Log.{Taken, Entry, ahs, accepted, open_idn, run_before, in_order}
 use Rattle.sercos_service_drive.specs.Replies.{answer_by, bytes_written, write_cause_in, reply_at, reply_of, answered, log_of}
@@ -83,7 +83,7 @@ effect_adds t log answer is = rw is (by (t.step.write && ((t.step.element == 7) 
 
 -- What is shown.
 
-module _ (v : ChannelView) (busy cycle : ℕ) (commands : CommandsView) (h : List Taken) (stood : ChannelStandsFor v busy h) where
+module _ (v : ChannelView) (busy cycle : ℕ) (commands : CommandHistory) (h : List Taken) (stood : ChannelStandsFor v busy h) where
   pub shows_none : v.last ≡ None → channel_says busy cycle commands h ≡ record { ahs = v.ahs; busy = false; error = false; change = change_in commands cycle; word = 0 }
   shows_none none = rw (← stood.ahs_is) (by (log_of h) (sym stood.last_is ∙ none))
     where

@@ -6,11 +6,10 @@ use Rattle.sercos_idn.specs.Codes.{is_list}
 use Rattle.sercos_step.specs.Words.{words_of, bytes_in}
 use Rattle.sercos_block.specs.declared.block.Block.{Block}
 use Rattle.sercos_block.specs.Stores.{put_fault}
-use Rattle.sercos_command.specs.Settings.{CommandsView}
-use Rattle.sercos_command.specs.Calls.{Call, newest}
-use Rattle.sercos_command.specs.Kept.{CommandsStandFor}
+use Rattle.sercos_command.specs.Calls.{CommandHistory}
+use Rattle.sercos_command.specs.Kept.{newest_cycle, CommandsView, CommandsStandFor}
 use Rattle.sercos_service_drive.specs.Replies.{bytes_written}
-use Rattle.sercos_service_drive.specs.Writes.{Write, unless, blocks_with, commands_with, calls_with}
+use Rattle.sercos_service_drive.specs.Writes.{Write, unless, blocks_with, commands_with}
 use Rattle.sercos_service_drive.specs.Partial.{place_cause, IsStarted, IsEffect, IsWord, write_by}
 use Rattle.sercos_step.proofs.ReadWords.{bytes_in-append}
 use Rattle.sercos_service_drive.proofs.WordLemmas.{length-bytes_in, written-is, room, cause_is, has_passed, goes_on}
@@ -50,7 +49,7 @@ pub written_at : (b : Block) (words : List ℕ) {list : Bool} {first : ℕ} {byt
 written_at b words {list} is l f s same = is ∙ rw (s, same, f) (written-is b words list l)
 
 no_effect : (cycle : ℕ) (blocks : List Block) (commands : CommandsView) → IsEffect None cycle blocks blocks commands commands
-no_effect cycle blocks commands = record { blocks_is = refl; commands_is = refl; calls = λ rate time h stood later. stood }
+no_effect cycle blocks commands = record { blocks_are = λ c stood. refl; commands_are = λ c stood later. stood }
 
 refused_effect : (last : Bool) (code cycle : ℕ) (w : Write) (blocks : List Block) (commands : CommandsView) → IsEffect (write_by last (Some code) w) cycle blocks blocks commands commands
 refused_effect true code cycle w blocks commands = no_effect cycle blocks commands
@@ -84,19 +83,18 @@ module _ (raw cycle phase : ℕ) (b : Block) (words : List ℕ) (word : ℕ) (st
   pub last_word : (last : Bool) (code : Option ℕ) (buffer bytes : List ℕ) (blocks blocks' : List Block) (commands commands' : CommandsView) → last ≡ true
       → None ≡ place_cause (Some b) phase last (length (words ++ word ∷ [])) (slice_index (words ++ word ∷ []) 0) → buffer ≡ bytes_in (words ++ word ∷ [])
       → bytes ≡ bytes_written b (words ++ word ∷ []) → code ≡ put_fault (Some b) phase bytes
-      → blocks' ≡ blocks_with (unless (put_fault (Some b) phase bytes) (record { cycle = cycle; raw = raw; bytes = bytes })) commands blocks
-      → commands' ≡ commands_with (unless (put_fault (Some b) phase bytes) (record { cycle = cycle; raw = raw; bytes = bytes })) blocks commands
-      → ((rate time : ℕ) (h : List Call) → CommandsStandFor commands rate time h → newest h ≤ cycle
-      → CommandsStandFor commands' rate time (calls_with (unless (put_fault (Some b) phase bytes) (record { cycle = cycle; raw = raw; bytes = bytes })) blocks h))
+      → ((c : CommandHistory) → CommandsStandFor commands c
+      → blocks' ≡ blocks_with (unless (put_fault (Some b) phase bytes) (record { cycle = cycle; raw = raw; bytes = bytes })) c blocks)
+      → ((c : CommandHistory) → CommandsStandFor commands c → newest_cycle c.calls ≤ cycle
+      → CommandsStandFor commands' (commands_with (unless (put_fault (Some b) phase bytes) (record { cycle = cycle; raw = raw; bytes = bytes })) blocks c))
       → IsWord raw cycle phase b last (words ++ word ∷ []) code buffer blocks blocks' commands commands'
-  last_word false code buffer bytes blocks blocks' commands commands' on is same put fault blocks_are commands_are calls_are = cc
-  last_word true code buffer bytes blocks blocks' commands commands' on is same put fault blocks_are commands_are calls_are = record {
+  last_word false code buffer bytes blocks blocks' commands commands' on is same put fault blocks_are commands_are = cc
+  last_word true code buffer bytes blocks blocks' commands commands' on is same put fault blocks_are commands_are = record {
     code_is = fault ∙ rw put (sym (cause_is b phase true words word started ∙ rw (← is) refl));
     buffer_is = λ none. same;
     midway = λ none off. cc;
     effect = record {
-      blocks_is = blocks_are ∙ rw (fault, put) refl;
-      commands_is = commands_are ∙ rw (fault, put) refl;
-      calls = λ rate time h stood later. rw (fault, ← put) (calls_are rate time h stood later);
+      blocks_are = λ c stood. rw (fault, ← put) (blocks_are c stood);
+      commands_are = λ c stood later. rw (fault, ← put) (commands_are c stood later);
     };
   }

@@ -15,7 +15,7 @@ use Rattle.sercos_step.specs.Words.{words_of, bytes_in}
 use Rattle.sercos_block.specs.declared.block.Block.{Block}
 use Rattle.sercos_block.specs.Blocks.{bits_in, is_fixed, is_protected}
 use Rattle.sercos_block.specs.Stores.{is_short, is_long, is_invalid, is_below, is_above, write_fault, data_fault, put_fault}
-use Rattle.sercos_service_drive.specs.Replies.{words_by, words_wanted, bytes_written, selects, ends_early, is_over, is_uneven, is_no_setting, write_cause}
+use Rattle.sercos_service_drive.specs.Replies.{words_by, words_wanted, bytes_written, is_first_word, ends_early, is_over, is_uneven, is_no_command_value, write_cause}
 use Rattle.sercos_service_drive.specs.Kept.{IsMidway}
 use Rattle.sercos_service_drive.specs.Partial.{length_cause, place_cause, IsStarted}
 
@@ -41,7 +41,7 @@ written-is b ws list is = rw (is, drop-bytes_in ws) refl
 
 -- The causes.
 
-fixed_at : (selects fixed : Bool) → (selects ≡ false → fixed ≡ false) → (selects && fixed) ≡ fixed
+fixed_at : (is_first_word fixed : Bool) → (is_first_word ≡ false → fixed ≡ false) → (is_first_word && fixed) ≡ fixed
 fixed_at true fixed h = refl
 fixed_at false fixed h = sym (h refl)
 
@@ -165,7 +165,7 @@ list_len ws first h =
 pub record IsWhole (b : Block) (words : List ℕ) : Type 0 where
   pub long_enough : is_short b (bytes_written b words) ≡ false
   pub short_enough : is_long b (bytes_written b words) ≡ false
-  pub valid : is_invalid b (bytes_written b words) ≡ is_no_setting b true words
+  pub valid : is_invalid b (bytes_written b words) ≡ is_no_command_value b true words
 
 not_command : (a : Attribute) → is_list a.length ≡ true → a.command ≡ false
 not_command a list = by a.command refl
@@ -209,11 +209,11 @@ whole b phase before w started passed = by (is_list b.attribute.length) refl
         (length (bytes_written b words) % item_len b.attribute.length == 0) list (rw count most) (rw count (even b phase true before w started passed list)) (not_command b.attribute list) in
         record { long_enough = short; short_enough = long; valid = valid }
 
-started_fixed : (b : Block) (before : List ℕ) (w : ℕ) → IsStarted b before → selects (before ++ w ∷ []) ≡ false → is_fixed b ≡ false
+started_fixed : (b : Block) (before : List ℕ) (w : ℕ) → IsStarted b before → is_first_word (before ++ w ∷ []) ≡ false → is_fixed b ≡ false
 started_fixed b [] w started sel = cc
 started_fixed b (v ∷ before) w started sel = started.writable
 
-no_setting_at : (b : Block) (last : Bool) (words : List ℕ) → last ≡ false → is_no_setting b last words ≡ false
+no_setting_at : (b : Block) (last : Bool) (words : List ℕ) → last ≡ false → is_no_command_value b last words ≡ false
 no_setting_at b last words off = rw off (by b.attribute.command)
   where
     by : (c : Bool) → (c && false) ≡ false
@@ -233,14 +233,14 @@ pub cause_is : (b : Block) (phase : ℕ) (last : Bool) (before : List ℕ) (w : 
 unfolding write_cause length_cause
 cause_is b phase last before w started =
     let words : List ℕ = before ++ w ∷ [] in
-    rw (fixed_at (selects words) (is_fixed b) (started_fixed b before w started))
-    (by_tests (is_fixed b) (is_protected b.attribute phase) (ends_early b last words) (is_over b last words) (is_uneven b words) last (is_no_setting b last words)
+    rw (fixed_at (is_first_word words) (is_fixed b) (started_fixed b before w started))
+    (by_tests (is_fixed b) (is_protected b.attribute phase) (ends_early b last words) (is_over b last words) (is_uneven b words) last (is_no_command_value b last words)
     (is_below b (bytes_written b words) b.min) (is_above b (bytes_written b words) b.max) (put_fault (Some b) phase (bytes_written b words))
     (no_setting_at b last words)
     (λ on f p a o u.
     let passed : HasPassed b phase true words = record { writable = f; allowed = p; late = rw on at a; within = rw on at o; even = u } in
     let all = whole b phase before w started passed in
-    put_whole b phase (bytes_written b words) (is_no_setting b last words) f p all.long_enough all.short_enough (rw on all.valid)))
+    put_whole b phase (bytes_written b words) (is_no_command_value b last words) f p all.long_enough all.short_enough (rw on all.valid)))
 
 over_by : (list sel : Bool) (most first count wanted : ℕ) → ((list && (sel && nat_lt most first)) || (true && nat_le wanted count)) ≡ false → count < wanted
 over_by true true most first count wanted h = by (nat_lt most first) h
@@ -255,7 +255,7 @@ over_by false sel most first count wanted h = grind (arith, nat_tests)
 pub goes_on : (b : Block) (phase : ℕ) (before : List ℕ) (w : ℕ) → IsStarted b before → HasPassed b phase false (before ++ w ∷ []) → IsMidway b (before ++ w ∷ [])
 goes_on b phase before w started passed = record {
   writable = passed.writable;
-  more = over_by (is_list b.attribute.length) (selects (before ++ w ∷ [])) b.max_len (slice_index (before ++ w ∷ []) 0) (length (before ++ w ∷ [])) (words_wanted b (slice_index (before ++ w ∷ []) 0)) passed.within;
+  more = over_by (is_list b.attribute.length) (is_first_word (before ++ w ∷ [])) b.max_len (slice_index (before ++ w ∷ []) 0) (length (before ++ w ∷ [])) (words_wanted b (slice_index (before ++ w ∷ []) 0)) passed.within;
   fits = fits b phase false before w started passed;
   even = even b phase false before w started passed;
 }

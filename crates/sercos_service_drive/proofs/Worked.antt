@@ -5,7 +5,7 @@ use Rattle.sercos_step.specs.declared.step.Step.{Step}
 use Rattle.sercos_step.specs.Steps.{a_step}
 use Rattle.sercos_block.specs.declared.block.Block.{Block}
 use Rattle.sercos_block.specs.Blocks.{element_of}
-use Rattle.sercos_command.specs.Settings.{CommandsView}
+use Rattle.sercos_command.specs.Calls.{CommandHistory, Wrote}
 use Rattle.sercos_service_drive.specs.Log.{Taken, Entry}
 use Rattle.sercos_service_drive.specs.Replies.{answered, log_of, data_in, element_words, write_cause, bytes_written}
 use Rattle.sercos_service_drive.specs.Writes.{writes_of}
@@ -26,7 +26,7 @@ a_block raw word low high value max_len fixed step = record {
   fails = false;
 }
 
--- S-0-0006, S-0-0047, S-0-0051 (64500, growing by 10), S-0-0127, P-0-0010 (10 to 100), P-0-0011 (a list of at most 8 bytes)
+-- S-0-0006, S-0-0047, S-0-0051 (64500, growing by 10), S-0-0127, P-0-0016 (10 to 100), P-0-0017 (a list of at most 8 bytes), P-0-0018 (a command)
 abbrev pub blocks : List Block
 blocks =
     a_block 6 0x60110001 None None (10 ∷ 0 ∷ []) 0 false 0
@@ -35,10 +35,11 @@ blocks =
     ∷ a_block 127 0x60090001 None None (0 ∷ 0 ∷ []) 0 false 0
     ∷ a_block 32784 0x00110001 (Some 10) (Some 100) (50 ∷ 0 ∷ []) 0 false 0
     ∷ a_block 32785 0x00150001 None None [] 8 false 0
+    ∷ a_block 32786 0x00090001 None None (0 ∷ 0 ∷ []) 0 false 0
     ∷ []
 
-abbrev pub commands : CommandsView
-commands = record { rate = 4; time = 5; set = (record { idn = record { raw = 127 }; cycle = 100; well = true }) ∷ []; passed_127 = None; passed_128 = None }
+abbrev pub commands : CommandHistory
+commands = record { rate = 4; time = 5; calls = Wrote 32786 3 100 [] ∷ [] }
 
 abbrev taken : ℕ → ℕ → Bool → Step → Taken
 taken cycle phase mhs step = record { cycle = cycle; phase = phase; mhs = mhs; step = step; blocks = blocks; commands = commands }
@@ -149,8 +150,8 @@ to_maximum = refl
 closed : words (reads 102 7 true ∷ reads 101 0 true ∷ opens 100 51 ∷ []) ≡ 1 ∷ 0 ∷ 0 ∷ []
 closed = refl
 
--- the data status while the command runs, and when it has ended well
-status : words (reads 105 1 true ∷ reads 104 1 true ∷ opens 100 127 ∷ []) ≡ 3 ∷ 7 ∷ 0 ∷ []
+-- the data status while a command runs, and when it has ended well
+status : words (reads 105 1 true ∷ reads 104 1 true ∷ opens 100 32786 ∷ []) ≡ 3 ∷ 7 ∷ 0 ∷ []
 status = refl
 
 -- a list of two items is written at its last word, and not before

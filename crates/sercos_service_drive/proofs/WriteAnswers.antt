@@ -3,7 +3,7 @@ use Rattle.std.proofs.Common.{◌≡◌, ℕ, ◌+◌, ◌*◌, ◌==◌, Bool, 
 use Rattle.sercos_step.specs.Words.{bytes_in}
 use Rattle.sercos_block.specs.declared.block.Block.{Block}
 use Rattle.sercos_block.specs.Stores.{find_block}
-use Rattle.sercos_command.specs.Settings.{CommandsView}
+use Rattle.sercos_command.specs.Kept.{CommandsView}
 use Rattle.sercos_service_drive.specs.Log.{Taken, Entry, opens, open_idn, run_before, in_order}
 use Rattle.sercos_service_drive.specs.Replies.{good, refused, answer_by, bytes_written, write_cause, write_cause_in, reply_of}
 use Rattle.sercos_service_drive.specs.Writes.{Write, without_data, AreAlike, adds}
@@ -229,5 +229,5 @@ module _ (v : SessionView) (t : Taken) (log : List Entry) (raw : ℕ) (stood : S
       by : (o : Option Block) → find_block raw t.blocks ≡ o → IsEffect (adds t log) t.cycle t.blocks blocks' commands commands'
       by None e =
           let (_, same, still) = absent e in
-          rw (absent_adds v t log raw stood open_is writes seven e, same, still) (record { blocks_is = refl; commands_is = refl; calls = λ rate time h stands later. stands })
+          rw (absent_adds v t log raw stood open_is writes seven e, same, still) (record { blocks_are = λ c stands. refl; commands_are = λ c stands later. stands })
       by (Some b) e = effect v t log raw stood open_is writes seven b e buffer' blocks' commands commands' code (word_of b e)

@@ -1,4 +1,4 @@
--- What a drive accepted of the records that it took, and how its steps hang together. Each list has its newest item first.
+-- What a drive accepted of the records that it processed, and how its steps hang together. Each list has its newest item first.
 use Rattle.std.specs.Prelude.{ℕ, ◌==◌, Bool, false, not, ◌&&◌, if◌then◌else◌, List, [], ◌∷◌, Option, Some, None}
 use mathlib.Core.Bool.{beq}
 use Rattle.sercos_telegram.specs.declared.words.Control.{Control}
@@ -6,7 +6,7 @@ use Rattle.sercos_idn.specs.Elements.{identifier_element}
 use Rattle.sercos_step.specs.declared.step.Step.{Step}
 use Rattle.sercos_step.specs.declared.step.Answer.{Answer}
 use Rattle.sercos_block.specs.declared.block.Block.{Block}
-use Rattle.sercos_command.specs.Settings.{CommandsView}
+use Rattle.sercos_command.specs.Calls.{CommandHistory}
 
 -- A record that the drive processed in a cycle, in a phase: its handshake bit and its step, with the blocks and the
 -- procedure commands before it.
@@ -16,17 +16,17 @@ pub record Taken : Type 0 where
   pub mhs : Bool
   pub step : Step
   pub blocks : List Block
-  pub commands : CommandsView
+  pub commands : CommandHistory
 
-abbrev pub taken : ℕ → ℕ → Bool → Step → List Block → CommandsView → Taken
+abbrev pub taken : ℕ → ℕ → Bool → Step → List Block → CommandHistory → Taken
 taken cycle phase mhs step blocks commands = record { cycle = cycle; phase = phase; mhs = mhs; step = step; blocks = blocks; commands = commands }
 
 -- a record as it is handed in: a control word and an information word
-abbrev pub taken_record : ℕ → ℕ → Control → ℕ → List Block → CommandsView → Taken
+abbrev pub taken_record : ℕ → ℕ → Control → ℕ → List Block → CommandHistory → Taken
 taken_record cycle phase control info blocks commands =
     taken cycle phase control.mhs (record { write = control.write; last = control.last; element = control.element; word = info }) blocks commands
 
--- AHS is the bit of the last record that was taken
+-- AHS is the bit of the last record that was processed
 abbrev pub ahs : List Taken → Bool
 ahs [] = false
 ahs (t ∷ h) = t.mhs
@@ -53,7 +53,7 @@ open_idn (e ∷ log) =
     else (if e.taken.step.element == 0 then None else open_idn log)
 
 -- A run is an unbroken row of steps with the same write bit and the same element, which no last word and no error ended.
--- These are the steps of the run that a step with this write bit and element, no opening and not of element 0, goes on.
+-- These are the steps of a run before the next one, which has this write bit and this element, and neither opens nor has element 0.
 abbrev pub run_before : Bool → ℕ → List Entry → List Taken
 run_before write element [] = []
 run_before write element (e ∷ log) =

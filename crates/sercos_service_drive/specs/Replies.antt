@@ -11,7 +11,7 @@ use Rattle.sercos_step.specs.Words.{words_of, bytes_in}
 use Rattle.sercos_block.specs.declared.block.Block.{Block}
 use Rattle.sercos_block.specs.Blocks.{number_end, bits_in, bytes_for, element_of, is_fixed, is_protected}
 use Rattle.sercos_block.specs.Stores.{find_block, read_fault, is_below, is_above}
-use Rattle.sercos_command.specs.Settings.{CommandsView, status_in}
+use Rattle.sercos_command.specs.Calls.{CommandHistory, status_in}
 use Rattle.sercos_service_drive.specs.Log.{Taken, Entry, accepted, opens, open_idn, run_before, selection, in_order}
 
 abbrev pub good : ℕ → Answer
@@ -46,7 +46,7 @@ element_words e cycle b =
     else words_of (unwrap_or (element_of b e) [])))
 
 -- what a selection of an element copies in a cycle: the data status, or the words of the element at that moment
-abbrev pub words_at : ℕ → ℕ → ℕ → List Block → CommandsView → List ℕ
+abbrev pub words_at : ℕ → ℕ → ℕ → List Block → CommandHistory → List ℕ
 words_at raw e cycle blocks commands =
     if e == identifier_element then status_in commands raw cycle ∷ [] else unwrap_or (option_map (element_words e cycle) (find_block raw blocks)) []
 
@@ -62,8 +62,8 @@ read_cause raw t = missing raw t.step.element t.blocks
 
 -- Writing of operation data. The words are those of the run, this step's among them.
 
-abbrev pub selects : List ℕ → Bool
-selects words = length words == 1
+abbrev pub is_first_word : List ℕ → Bool
+is_first_word words = length words == 1
 
 -- how many words are written, where the first of them is known
 abbrev pub words_by : Attribute → ℕ → ℕ
@@ -83,16 +83,16 @@ ends_early b last words = last && nat_lt (length words) (words_wanted b (slice_i
 -- a list's length is above the greatest, at its first word; or the word that must be the last isn't
 abbrev pub is_over : Block → Bool → List ℕ → Bool
 is_over b last words =
-    (is_list b.attribute.length && (selects words && nat_lt b.max_len (slice_index words 0)))
+    (is_list b.attribute.length && (is_first_word words && nat_lt b.max_len (slice_index words 0)))
     || (not last && nat_le (words_wanted b (slice_index words 0)) (length words))
 
 -- a list's length is not a number of whole items, at its first word
 abbrev pub is_uneven : Block → List ℕ → Bool
-is_uneven b words = is_list b.attribute.length && (selects words && not (slice_index words 0 % item_len b.attribute.length == 0))
+is_uneven b words = is_list b.attribute.length && (is_first_word words && not (slice_index words 0 % item_len b.attribute.length == 0))
 
 -- a procedure command is written with a number that neither cancels nor sets it, at the last word
-abbrev pub is_no_setting : Block → Bool → List ℕ → Bool
-is_no_setting b last words =
+abbrev pub is_no_command_value : Block → Bool → List ℕ → Bool
+is_no_command_value b last words =
     b.attribute.command && (last && not ((bits_in b.attribute (bytes_written b words) == to_cancel) || (bits_in b.attribute (bytes_written b words) == to_set)))
 
 -- The first cause for which a step that writes a word of operation data is refused: the block is fixed (0x7004), at the
@@ -101,11 +101,11 @@ is_no_setting b last words =
 -- (0x7008); the number is below the minimum (0x7006) or above the maximum (0x7007), at the last word.
 unfoldable pub write_cause : Block → ℕ → Bool → List ℕ → Option ℕ
 write_cause b phase last words =
-    option_or (then_some (selects words && is_fixed b) 0x7004)
+    option_or (then_some (is_first_word words && is_fixed b) 0x7004)
     (option_or (then_some (is_protected b.attribute phase) 0x7005)
     (option_or (then_some (ends_early b last words) 0x7002)
     (option_or (then_some (is_over b last words) 0x7003)
-    (option_or (then_some (is_uneven b words || is_no_setting b last words) 0x7008)
+    (option_or (then_some (is_uneven b words || is_no_command_value b last words) 0x7008)
     (option_or (then_some (last && is_below b (bytes_written b words) b.min) 0x7006)
     (then_some (last && is_above b (bytes_written b words) b.max) 0x7007))))))
 
@@ -143,6 +143,6 @@ abbrev pub answered : List Taken → List Entry
 answered [] = []
 answered (t ∷ h) = record { taken = t; answer = reply_of t (answered h) } ∷ answered h
 
--- what a drive accepted of the records that it took, with the replies
+-- what a drive accepted of the records that it processed, with the replies
 abbrev pub log_of : List Taken → List Entry
 log_of h = answered (accepted h)

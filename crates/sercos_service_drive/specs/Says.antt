@@ -1,7 +1,7 @@
 -- What a drive sends after the records that it processed.
 use Rattle.std.specs.Prelude.{ℕ, ◌-◌, nat_le, Bool, true, false, if◌then◌else◌, List, [], ◌∷◌}
 use Rattle.sercos_telegram.specs.declared.words.Status.{Status}
-use Rattle.sercos_command.specs.Settings.{CommandsView, change_in}
+use Rattle.sercos_command.specs.Calls.{CommandHistory, change_in}
 use Rattle.sercos_service_drive.specs.Log.{Taken, Entry, ahs}
 use Rattle.sercos_service_drive.specs.Replies.{log_of}
 
@@ -22,7 +22,7 @@ shown busy cycle bit change (e ∷ log) =
     then record { ahs = bit; busy = true; error = false; change = change; word = 0 }
     else record { ahs = bit; busy = false; error = e.answer.error; change = change; word = e.answer.word }
 
-abbrev pub channel_says : ℕ → ℕ → CommandsView → List Taken → Shown
+abbrev pub channel_says : ℕ → ℕ → CommandHistory → List Taken → Shown
 channel_says busy cycle commands h = shown busy cycle (ahs h) (change_in commands cycle) (log_of h)
 
 -- what a status and an information word show

@@ -5,8 +5,8 @@ use mathlib.Core.Bool.{beq}
 use Rattle.sercos_idn.specs.Elements.{data_element}
 use Rattle.sercos_block.specs.declared.block.Block.{Block}
 use Rattle.sercos_block.specs.Stores.{find_block, with_data}
-use Rattle.sercos_command.specs.Settings.{CommandsView, is_command, with_write, with_lists, without_checks}
-use Rattle.sercos_command.specs.Calls.{Call, Wrote, Other}
+use Rattle.sercos_command.specs.Settings.{is_command}
+use Rattle.sercos_command.specs.Calls.{CommandCall, Wrote, Other, CommandHistory, with_check_list}
 use Rattle.sercos_service_drive.specs.Log.{Taken, Entry, ahs, open_idn, run_before, in_order}
 use Rattle.sercos_service_drive.specs.Replies.{bytes_written, reply_of, log_of}
 
@@ -43,26 +43,26 @@ abbrev pub adds : Taken → List Entry → Option Write
 adds t log = added_by (record { taken = t; answer = reply_of t log }) log
 
 -- what is written to a procedure command
-abbrev pub setting_in : Write → ℕ
-setting_in w = from_le_bytes w16 w.bytes
+abbrev pub command_value : Write → ℕ
+command_value w = from_le_bytes w16 w.bytes
 
 -- The blocks after a write: that block has the bytes as operation data; and a check that is set writes its list.
-abbrev pub blocks_with : Option Write → CommandsView → List Block → List Block
+abbrev pub blocks_with : Option Write → CommandHistory → List Block → List Block
 blocks_with None c blocks = blocks
 blocks_with (Some w) c blocks =
-    if is_command blocks w.raw then with_lists c w.raw (setting_in w) (with_data w.raw w.bytes blocks) else with_data w.raw w.bytes blocks
+    if is_command blocks w.raw then with_check_list c w.raw (command_value w) (with_data w.raw w.bytes blocks) else with_data w.raw w.bytes blocks
 
--- the procedure commands after a write
-abbrev pub commands_with : Option Write → List Block → CommandsView → CommandsView
-commands_with None blocks c = c
-commands_with (Some w) blocks c =
-    if is_command blocks w.raw then with_write w.raw (setting_in w) w.cycle (with_data w.raw w.bytes blocks) c else without_checks c
+-- what a write is for the procedure commands, with the blocks before it
+abbrev pub call_of : Write → List Block → CommandCall
+call_of w blocks = if is_command blocks w.raw then Wrote w.raw (command_value w) w.cycle (with_data w.raw w.bytes blocks) else Other w.cycle
 
--- what a write is for the procedure commands
-abbrev pub calls_with : Option Write → List Block → List Call → List Call
+-- the calls on the procedure commands after a write, and the procedure commands
+abbrev pub calls_with : Option Write → List Block → List CommandCall → List CommandCall
 calls_with None blocks h = h
-calls_with (Some w) blocks h =
-    (if is_command blocks w.raw then Wrote w.raw (setting_in w) w.cycle (with_data w.raw w.bytes blocks) else Other w.cycle) ∷ h
+calls_with (Some w) blocks h = call_of w blocks ∷ h
+
+abbrev pub commands_with : Option Write → List Block → CommandHistory → CommandHistory
+commands_with w blocks c = record { rate = c.rate; time = c.time; calls = calls_with w blocks c.calls }
 
 -- Two stores have the same blocks, but for their operation data.
 abbrev pub without_data : Block → Block

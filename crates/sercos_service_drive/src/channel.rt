@@ -1,11 +1,10 @@
 // The drive's end of a channel.
 ghost use Rattle.std.specs.Prelude.{◌≡◌, ℕ, ◌≤◌, ◌-◌, nat_le, List, [], ◌∷◌, ◌<◌, ◌==◌, ◌&&◌, not, true, is_some};
 ghost use Rattle.sercos_idn.specs.Elements.{data_element};
-ghost use Rattle.sercos_command.specs.Settings.{are_commands_of};
-ghost use Rattle.sercos_command.specs.Calls.{Call, newest};
-ghost use Rattle.sercos_command.specs.Kept.{CommandsStandFor};
+ghost use Rattle.sercos_command.specs.Calls.{CommandHistory};
+ghost use Rattle.sercos_command.specs.Kept.{newest_cycle, are_commands_of, CommandsStandFor};
 ghost use Rattle.sercos_service_drive.specs.Log.{Taken, taken_record};
-ghost use Rattle.sercos_service_drive.specs.Writes.{AreThose, added_on, blocks_with, commands_with, calls_with};
+ghost use Rattle.sercos_service_drive.specs.Writes.{AreThose, added_on, blocks_with, commands_with};
 ghost use Rattle.sercos_service_drive.specs.Says.{channel_says, shown_by};
 ghost use Rattle.sercos_service_drive.specs.Kept.{ChannelStandsFor};
 
@@ -100,19 +99,16 @@ impl DriveChannel {
     ) -> bool
         requires phase { (2 ≤ phase) × (phase ≤ 4) }
         requires set { are_commands_of store.old commands.old ≡ true }
-        ensures stands { (busy : ℕ) (h : List Taken) → ChannelStandsFor self.old busy h → AreThose store.old h →
-            ChannelStandsFor self.new busy (taken_record cycle phase control.now info store.old commands.old ∷ h) }
-        ensures those { (busy : ℕ) (h : List Taken) → ChannelStandsFor self.old busy h → AreThose store.old h →
-            AreThose store.new (taken_record cycle phase control.now info store.old commands.old ∷ h) }
-        ensures added { (busy : ℕ) (h : List Taken) → ChannelStandsFor self.old busy h → AreThose store.old h →
-            result ≡ is_some (added_on (taken_record cycle phase control.now info store.old commands.old) h) }
-        ensures blocks { (busy : ℕ) (h : List Taken) → ChannelStandsFor self.old busy h → AreThose store.old h →
-            store.new ≡ blocks_with (added_on (taken_record cycle phase control.now info store.old commands.old) h) commands.old store.old }
-        ensures commands { (busy : ℕ) (h : List Taken) → ChannelStandsFor self.old busy h → AreThose store.old h →
-            commands.new ≡ commands_with (added_on (taken_record cycle phase control.now info store.old commands.old) h) store.old commands.old }
-        ensures calls { (busy : ℕ) (h : List Taken) → ChannelStandsFor self.old busy h → AreThose store.old h →
-            (rate time : ℕ) (calls : List Call) → CommandsStandFor commands.old rate time calls → newest calls ≤ cycle →
-            CommandsStandFor commands.new rate time (calls_with (added_on (taken_record cycle phase control.now info store.old commands.old) h) store.old calls) }
+        ensures stands { (busy : ℕ) (h : List Taken) (c : CommandHistory) → ChannelStandsFor self.old busy h → AreThose store.old h → CommandsStandFor commands.old c →
+            ChannelStandsFor self.new busy (taken_record cycle phase control.now info store.old c ∷ h) }
+        ensures those { (busy : ℕ) (h : List Taken) (c : CommandHistory) → ChannelStandsFor self.old busy h → AreThose store.old h → CommandsStandFor commands.old c →
+            AreThose store.new (taken_record cycle phase control.now info store.old c ∷ h) }
+        ensures added { (busy : ℕ) (h : List Taken) (c : CommandHistory) → ChannelStandsFor self.old busy h → AreThose store.old h → CommandsStandFor commands.old c →
+            result ≡ is_some (added_on (taken_record cycle phase control.now info store.old c) h) }
+        ensures blocks { (busy : ℕ) (h : List Taken) (c : CommandHistory) → ChannelStandsFor self.old busy h → AreThose store.old h → CommandsStandFor commands.old c →
+            store.new ≡ blocks_with (added_on (taken_record cycle phase control.now info store.old c) h) c store.old }
+        ensures commands { (busy : ℕ) (h : List Taken) (c : CommandHistory) → ChannelStandsFor self.old busy h → AreThose store.old h → CommandsStandFor commands.old c →
+            newest_cycle c.calls ≤ cycle → CommandsStandFor commands.new (commands_with (added_on (taken_record cycle phase control.now info store.old c) h) store.old c) }
         ensures set { are_commands_of store.new commands.new ≡ true }
     {
         if control.mhs == self.ahs {
@@ -128,7 +124,8 @@ impl DriveChannel {
     /// Returns what an AT of a cycle shows: the bits of the status word and the information word. As long as the last step is no older than
     /// the busy time, it is busy; then it has the reply to that step.
     pub fn say(&self, cycle: u32, commands: &Commands) -> (Status, u16)
-        ensures shown { (busy : ℕ) (h : List Taken) → ChannelStandsFor self.now busy h → shown_by result.0 result.1 ≡ channel_says busy cycle commands.now h }
+        ensures shown { (busy : ℕ) (h : List Taken) (c : CommandHistory) → ChannelStandsFor self.now busy h → CommandsStandFor commands.now c →
+            shown_by result.0 result.1 ≡ channel_says busy cycle c h }
         ensures cyclic { result.0.cyclic ≡ 0 }
     {
         let change = commands.change(cycle);

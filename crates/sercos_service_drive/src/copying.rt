@@ -3,6 +3,8 @@ ghost use Rattle.std.specs.Prelude.{◌≡◌, ◌≤◌, [], ◌∷◌, length,
 ghost use Rattle.sercos_step.specs.Words.{words_of};
 ghost use Rattle.sercos_block.specs.declared.block.Block.{Block};
 ghost use Rattle.sercos_block.specs.Blocks.{element_of};
+ghost use Rattle.sercos_command.specs.Calls.{CommandHistory};
+ghost use Rattle.sercos_command.specs.Kept.{CommandsStandFor};
 ghost use Rattle.sercos_service_drive.specs.Replies.{list_words, element_words, data_in, words_at, missing};
 
 use crate::data::push_data;
@@ -85,7 +87,8 @@ pub(crate) fn copy_element(
 ) -> Result<(), Code>
     requires { (1 ≤ element) × (element ≤ 7) }
     ensures { MatchResult result
-        (λ _. (missing idn.raw element store.now ≡ None) × (words_of buffer.new ≡ words_at idn.raw element cycle store.now commands.now))
+        (λ _. (missing idn.raw element store.now ≡ None)
+        × ((c : CommandHistory) → CommandsStandFor commands.now c → words_of buffer.new ≡ words_at idn.raw element cycle store.now c))
         (λ code. missing idn.raw element store.now ≡ Some code.raw) }
 {
     if element == IDENTIFIER {

@@ -2,7 +2,7 @@
 ghost use Rattle.std.specs.Prelude.{◌≡◌, List, ◌∷◌, Option, None, IfSome};
 ghost use Rattle.sercos_block.specs.declared.block.Block.{Block};
 ghost use Rattle.sercos_block.specs.Stores.{find_block, put_fault};
-ghost use Rattle.sercos_command.specs.Settings.{CommandsView};
+ghost use Rattle.sercos_command.specs.Calls.{CommandHistory};
 ghost use Rattle.sercos_service_drive.specs.Log.{Taken};
 ghost use Rattle.sercos_service_drive.specs.Replies.{log_of};
 ghost use Rattle.sercos_service_drive.specs.Writes.{Write, AreAlike, AreThose, with_added, writes_of, blocks_with, added_on};
@@ -12,6 +12,6 @@ ghost use Rattle.sercos_service_drive.specs.Writes.{Write, AreAlike, AreThose, w
 /// blocks except for their operation data.
 pub fn writes_law()
     ensures grows { (t : Taken) (h : List Taken) → writes_of (log_of (t ∷ h)) ≡ with_added (added_on t h) (writes_of (log_of h)) }
-    ensures alike { (w : Option Write) (c : CommandsView) (blocks : List Block) → AreAlike (blocks_with w c blocks) blocks }
+    ensures alike { (w : Option Write) (c : CommandHistory) (blocks : List Block) → AreAlike (blocks_with w c blocks) blocks }
     ensures allowed { (t : Taken) (h : List Taken) → AreThose t.blocks h → IfSome (added_on t h) (λ w. put_fault (find_block w.raw t.blocks) t.phase w.bytes ≡ None) }
 {}

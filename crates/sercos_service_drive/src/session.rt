@@ -3,7 +3,8 @@ ghost use Rattle.std.specs.Prelude.{◌≡◌, ℕ, ◌+◌, ◌/◌, ◌%◌, �
 ghost use Rattle.sercos_step.specs.Words.{bytes_in, words_of};
 ghost use Rattle.sercos_block.specs.declared.block.Block.{Block};
 ghost use Rattle.sercos_block.specs.Stores.{find_block};
-ghost use Rattle.sercos_command.specs.Settings.{are_commands_of};
+ghost use Rattle.sercos_command.specs.Calls.{CommandHistory};
+ghost use Rattle.sercos_command.specs.Kept.{are_commands_of, CommandsStandFor};
 ghost use Rattle.sercos_service_drive.specs.Log.{Taken, taken, Entry, opens, open_idn};
 ghost use Rattle.sercos_service_drive.specs.Replies.{good, refused, words_at, missing};
 ghost use Rattle.sercos_service_drive.specs.Writes.{adds};
@@ -115,7 +116,8 @@ fn select(
 ) -> Option<Code>
     requires { (1 ≤ element) × (element ≤ 7) }
     ensures code { option_map (λ code. code.raw) result ≡ (if place == 0 then missing idn.raw element store.now else None) }
-    ensures copy { place ≡ 0 → missing idn.raw element store.now ≡ None → words_of buffer.new ≡ words_at idn.raw element cycle store.now commands.now }
+    ensures copy { (c : CommandHistory) → CommandsStandFor commands.now c → place ≡ 0 → missing idn.raw element store.now ≡ None →
+        words_of buffer.new ≡ words_at idn.raw element cycle store.now c }
     ensures same { (place == 0) ≡ false → buffer.new ≡ buffer.old }
 {
     if place != 0 {
@@ -272,8 +274,8 @@ impl Session {
     ) -> Answer
         requires element { (1 ≤ step.element) × (step.element ≤ 7) }
         requires read { step.write ≡ false }
-        ensures { (phase : ℕ) (mhs : Bool) (log : List Entry) → SessionStandsFor self.old log → open_idn log ≡ Some idn.raw →
-            IsAnswered self.new (taken cycle phase mhs step store.now commands.now) log result }
+        ensures { (phase : ℕ) (mhs : Bool) (log : List Entry) (c : CommandHistory) → SessionStandsFor self.old log → CommandsStandFor commands.now c →
+            open_idn log ≡ Some idn.raw → IsAnswered self.new (taken cycle phase mhs step store.now c) log result }
     {
         let place = place_in(self.selection, false, step.element);
         if let Some(code) = select(
@@ -305,10 +307,10 @@ impl Session {
         requires write { step.write ≡ true }
         requires phase { (2 ≤ phase) × (phase ≤ 4) }
         requires set { are_commands_of store.old commands.old ≡ true }
-        ensures answered { (mhs : Bool) (log : List Entry) → SessionStandsFor self.old log → open_idn log ≡ Some idn.raw → GoesWith store.old (run_of log) →
-            IsAnswered self.new (taken cycle phase mhs step store.old commands.old) log result }
-        ensures effect { (mhs : Bool) (log : List Entry) → SessionStandsFor self.old log → open_idn log ≡ Some idn.raw → GoesWith store.old (run_of log) →
-            IsEffect (adds (taken cycle phase mhs step store.old commands.old) log) cycle store.old store.new commands.old commands.new }
+        ensures answered { (mhs : Bool) (log : List Entry) (c : CommandHistory) → SessionStandsFor self.old log → open_idn log ≡ Some idn.raw →
+            GoesWith store.old (run_of log) → IsAnswered self.new (taken cycle phase mhs step store.old c) log result }
+        ensures effect { (mhs : Bool) (log : List Entry) (c : CommandHistory) → SessionStandsFor self.old log → open_idn log ≡ Some idn.raw →
+            GoesWith store.old (run_of log) → IsEffect (adds (taken cycle phase mhs step store.old c) log) cycle store.old store.new commands.old commands.new }
         ensures set { are_commands_of store.new commands.new ≡ true }
     {
         if step.element != DATA {
@@ -347,10 +349,10 @@ impl Session {
         requires element { step.element < 8 }
         requires phase { (2 ≤ phase) × (phase ≤ 4) }
         requires set { are_commands_of store.old commands.old ≡ true }
-        ensures answered { (mhs : Bool) (log : List Entry) → SessionStandsFor self.old log → GoesWith store.old (run_of log) →
-            IsAnswered self.new (taken cycle phase mhs step store.old commands.old) log result }
-        ensures effect { (mhs : Bool) (log : List Entry) → SessionStandsFor self.old log → GoesWith store.old (run_of log) →
-            IsEffect (adds (taken cycle phase mhs step store.old commands.old) log) cycle store.old store.new commands.old commands.new }
+        ensures answered { (mhs : Bool) (log : List Entry) (c : CommandHistory) → SessionStandsFor self.old log → CommandsStandFor commands.old c →
+            GoesWith store.old (run_of log) → IsAnswered self.new (taken cycle phase mhs step store.old c) log result }
+        ensures effect { (mhs : Bool) (log : List Entry) (c : CommandHistory) → SessionStandsFor self.old log → GoesWith store.old (run_of log) →
+            IsEffect (adds (taken cycle phase mhs step store.old c) log) cycle store.old store.new commands.old commands.new }
         ensures set { are_commands_of store.new commands.new ≡ true }
     {
         if opens(step) {

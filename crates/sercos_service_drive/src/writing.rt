@@ -3,10 +3,10 @@ ghost use Rattle.std.specs.Prelude.{◌≡◌, ℕ, ◌≤◌, ◌==◌, ◌⊎�
 ghost use Rattle.std.specs.Int.{w16, from_le_bytes};
 ghost use Rattle.sercos_idn.specs.Commands.{to_cancel, to_set};
 ghost use Rattle.sercos_block.specs.Stores.{find_block, put_fault};
-ghost use Rattle.sercos_command.specs.Settings.{is_command, with_write, with_lists, without_checks, are_commands_of};
-ghost use Rattle.sercos_command.specs.Calls.{Call, Wrote, Other, newest};
-ghost use Rattle.sercos_command.specs.Kept.{CommandsStandFor};
-ghost use Rattle.sercos_service_drive.specs.Writes.{unless, blocks_with, commands_with, calls_with};
+ghost use Rattle.sercos_command.specs.Settings.{is_command};
+ghost use Rattle.sercos_command.specs.Calls.{Wrote, Other, CommandHistory, with_call, with_check_list};
+ghost use Rattle.sercos_command.specs.Kept.{newest_cycle, are_commands_of, CommandsStandFor};
+ghost use Rattle.sercos_service_drive.specs.Writes.{unless, blocks_with, commands_with};
 
 use sercos_bits::byte_at;
 use sercos_block::Store;
@@ -32,10 +32,10 @@ fn tell(
     requires command { command ≡ true → is_command store.old idn.raw ≡ true }
     requires setting { command ≡ true → (from_le_bytes w16 bytes.now ≡ to_cancel) ⊎ (from_le_bytes w16 bytes.now ≡ to_set) }
     requires set { are_commands_of store.old commands.old ≡ true }
-    ensures blocks { store.new ≡ (if command then with_lists commands.old idn.raw (from_le_bytes w16 bytes.now) store.old else store.old) }
-    ensures commands { commands.new ≡ (if command then with_write idn.raw (from_le_bytes w16 bytes.now) cycle store.old commands.old else without_checks commands.old) }
-    ensures calls { (rate time : ℕ) (h : List Call) → CommandsStandFor commands.old rate time h → newest h ≤ cycle →
-        CommandsStandFor commands.new rate time ((if command then Wrote idn.raw (from_le_bytes w16 bytes.now) cycle store.old else Other cycle) ∷ h) }
+    ensures blocks { (c : CommandHistory) → CommandsStandFor commands.old c →
+        store.new ≡ (if command then with_check_list c idn.raw (from_le_bytes w16 bytes.now) store.old else store.old) }
+    ensures commands { (c : CommandHistory) → CommandsStandFor commands.old c → newest_cycle c.calls ≤ cycle →
+        CommandsStandFor commands.new (with_call (if command then Wrote idn.raw (from_le_bytes w16 bytes.now) cycle store.old else Other cycle) c) }
     ensures set { are_commands_of store.new commands.new ≡ true }
 {
     if command {
@@ -58,10 +58,10 @@ pub(crate) fn write_data(
     requires phase { (2 ≤ phase) × (phase ≤ 4) }
     requires set { are_commands_of store.old commands.old ≡ true }
     ensures fault { option_map (λ code. code.raw) result ≡ put_fault (find_block idn.raw store.old) phase bytes.now }
-    ensures blocks { store.new ≡ blocks_with (unless (put_fault (find_block idn.raw store.old) phase bytes.now) (record { cycle = cycle; raw = idn.raw; bytes = bytes.now })) commands.old store.old }
-    ensures commands { commands.new ≡ commands_with (unless (put_fault (find_block idn.raw store.old) phase bytes.now) (record { cycle = cycle; raw = idn.raw; bytes = bytes.now })) store.old commands.old }
-    ensures calls { (rate time : ℕ) (h : List Call) → CommandsStandFor commands.old rate time h → newest h ≤ cycle →
-        CommandsStandFor commands.new rate time (calls_with (unless (put_fault (find_block idn.raw store.old) phase bytes.now) (record { cycle = cycle; raw = idn.raw; bytes = bytes.now })) store.old h) }
+    ensures blocks { (c : CommandHistory) → CommandsStandFor commands.old c →
+        store.new ≡ blocks_with (unless (put_fault (find_block idn.raw store.old) phase bytes.now) (record { cycle = cycle; raw = idn.raw; bytes = bytes.now })) c store.old }
+    ensures commands { (c : CommandHistory) → CommandsStandFor commands.old c → newest_cycle c.calls ≤ cycle →
+        CommandsStandFor commands.new (commands_with (unless (put_fault (find_block idn.raw store.old) phase bytes.now) (record { cycle = cycle; raw = idn.raw; bytes = bytes.now })) store.old c) }
     ensures set { are_commands_of store.new commands.new ≡ true }
 {
     stored_law();

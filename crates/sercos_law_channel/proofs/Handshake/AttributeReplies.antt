@@ -12,7 +12,7 @@ use Rattle.sercos_step.specs.Steps.{a_step}
 use Rattle.sercos_block.specs.declared.block.Block.{Block}
 use Rattle.sercos_block.specs.Blocks.{element_of}
 use Rattle.sercos_block.specs.Stores.{find_block, read_fault}
-use Rattle.sercos_command.specs.Settings.{status_in}
+use Rattle.sercos_command.specs.Calls.{status_in}
 use Rattle.sercos_service_drive.specs.Log.{Taken, Entry, open_idn, run_before, selection}
 use Rattle.sercos_service_drive.specs.Replies.{good, answer_by, element_words, copy, read_cause, reply_on, reply_at, reply_of}
 use Rattle.sercos_service_drive.specs.Writes.{AreAlike, without_data}

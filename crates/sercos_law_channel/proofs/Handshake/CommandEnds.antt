@@ -14,7 +14,7 @@ use Rattle.sercos_step.specs.Words.{bytes_in}
 use Rattle.sercos_step.specs.Steps.{a_step, polling, steps_of, outcome_of, answer_words, is_whole, result_of}
 use Rattle.sercos_block.specs.declared.block.Block.{Block}
 use Rattle.sercos_block.specs.Stores.{find_block}
-use Rattle.sercos_command.specs.Settings.{find_set, status_in}
+use Rattle.sercos_command.specs.Calls.{setting_of, status_in}
 use Rattle.sercos_service_drive.specs.Log.{Taken, Entry, open_idn, run_before}
 use Rattle.sercos_service_drive.specs.Replies.{answer_by, copy, read_cause, reply_of}
 use Rattle.sercos_law_channel.specs.Handshake.InStep.{replies_of}
@@ -154,7 +154,7 @@ module _ (idn : Idn) (blocks : List Block) (b : Block) (found : find_block idn.r
           let poll = is_poll d o past log (omega arith) was on.1 in
           let free = last_ends false 1 o (past ++ log) (command_last o past log (without_newest (request.Command idn) blocks log d o past was)) in
           let word : d.answer.word ≡ status_in d.taken.commands idn.raw d.taken.cycle = ap (λ (a : Answer). a.word) was.replies.1 ∙ poll_word idn.raw d.taken ((o ∷ past) ++ log) poll.0 poll.1 free in
-          let small = status_small d.taken.commands.time d.taken.cycle (find_set idn.raw d.taken.commands.set) in (
+          let small = status_small d.taken.commands.time d.taken.cycle (setting_of d.taken.commands.rate idn.raw d.taken.commands.calls) in (
             e,
             d,
             o ∷ past,

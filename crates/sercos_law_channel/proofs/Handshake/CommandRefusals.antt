@@ -19,7 +19,7 @@ use Rattle.sercos_service_drive.specs.Replies.{answer_by, copy, reply_of}
 use Rattle.sercos_service_drive.specs.Writes.{Write, AreAlike, writes_of}
 use Rattle.sercos_law_channel.specs.Handshake.InStep.{replies_of}
 use Rattle.sercos_law_channel.specs.Handshake.Transfers.{IsTransfer, is_complete}
-use Rattle.sercos_law_channel.specs.Handshake.CommandTransfers.{RefusedAddsNothing, AreProtected, second_of, set_by, cancelled_by}
+use Rattle.sercos_law_channel.specs.Handshake.CommandTransfers.{RefusedAddsNothing, AreProtected, second_of, added_by_setting, cancelled_by}
 use Rattle.sercos_law_channel.proofs.Handshake.AttributeReplies.{reply-read}
 use Rattle.sercos_law_channel.proofs.Handshake.TransferSteps.{newest_step, without_newest, goes_on-outcome_of}
 use Rattle.sercos_law_channel.proofs.Handshake.SettingReplies.{Allows, set_allows, cancels_well}
@@ -99,13 +99,13 @@ module _ (idn : Idn) (blocks : List Block) (b : Block) (found : find_block idn.r
 
     -- where the newest is refused, nothing is set
     none_set : (e : Entry) (entries log : List Entry) → IsTransfer asked blocks e entries log → (is_protected b.attribute e.taken.phase ≡ true → AreProtected b.attribute entries) → e.answer.error ≡ true →
-        set_by idn.raw (second_of (e ∷ entries)) ≡ []
+        added_by_setting idn.raw (second_of (e ∷ entries)) ≡ []
     none_set e entries log is stays off = by (newest_step asked blocks log e entries is) (stage_before idn b blocks found e entries log is).0
       where
         by : slice_get (steps_of asked (answer_words (replies_of entries))) (length (answer_words (replies_of entries))) ≡ Some e.taken.step →
-            Stage idn b (answer_words (replies_of entries)) entries (entries ++ log) → set_by idn.raw (second_of (e ∷ entries)) ≡ []
-        by next (AtOpening those words) = ap (λ (l : List Entry). set_by idn.raw (second_of (e ∷ l))) those
-        by next (AtSetting o w those words opened free) = ap (λ (l : List Entry). set_by idn.raw (second_of (e ∷ l))) those ∙ cond-true e.answer.error [] _ off
+            Stage idn b (answer_words (replies_of entries)) entries (entries ++ log) → added_by_setting idn.raw (second_of (e ∷ entries)) ≡ []
+        by next (AtOpening those words) = ap (λ (l : List Entry). added_by_setting idn.raw (second_of (e ∷ l))) those
+        by next (AtSetting o w those words opened free) = ap (λ (l : List Entry). added_by_setting idn.raw (second_of (e ∷ l))) those ∙ cond-true e.answer.error [] _ off
         by next (AtPoll d o past w v polled those words opened free two) =
             let well = poll_well e d o past entries log polled those is opened free stays (next_poll idn b (answer_words (replies_of entries)) e.taken.step w v polled words next) in absurd (cc)
 

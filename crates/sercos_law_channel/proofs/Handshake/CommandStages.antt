@@ -17,7 +17,7 @@ use Rattle.sercos_service_drive.specs.Replies.{reply_of}
 use Rattle.sercos_service_drive.specs.Writes.{Write, AreAlike, writes_of}
 use Rattle.sercos_law_channel.specs.Handshake.InStep.{replies_of}
 use Rattle.sercos_law_channel.specs.Handshake.Transfers.{IsTransfer, is_complete}
-use Rattle.sercos_law_channel.specs.Handshake.CommandTransfers.{SetsAndCancels, setting, second_of, set_by, cancelled_by}
+use Rattle.sercos_law_channel.specs.Handshake.CommandTransfers.{SetsAndCancels, setting, second_of, added_by_setting, cancelled_by}
 use Rattle.sercos_law_channel.proofs.Handshake.TransferSteps.{newest_step, without_newest, complete-outcome_of, goes_on-outcome_of, adds_none, effect_by}
 use Rattle.sercos_law_channel.proofs.Handshake.SettingReplies.{two_bytes, set_allows}
 use Rattle.sercos_law_channel.proofs.Handshake.UnknownBlocks.{writes_nowhere, only_opening}
@@ -121,7 +121,7 @@ module _ (idn : Idn) (b : Block) where
 
     -- what it adds to the writes
     abbrev AddsBy : List ℕ → Entry → List Entry → List Entry → List Write → Type 0
-    AddsBy words e entries all before = writes_of (e ∷ all) ≡ cancelled_by idn.raw (not e.answer.error && is_whole asked (words ++ e.answer.word ∷ [])) e ++ (set_by idn.raw (second_of (e ∷ entries)) ++ before)
+    AddsBy words e entries all before = writes_of (e ∷ all) ≡ cancelled_by idn.raw (not e.answer.error && is_whole asked (words ++ e.answer.word ∷ [])) e ++ (added_by_setting idn.raw (second_of (e ∷ entries)) ++ before)
 
     not_cancelled : (error whole : Bool) (e : Entry) (writes : List Write) → whole ≡ false → cancelled_by idn.raw (not error && whole) e ++ writes ≡ writes
     not_cancelled true whole e writes off = refl
@@ -139,10 +139,10 @@ module _ (idn : Idn) (b : Block) where
         e.answer ≡ reply_of e.taken all → AreAlike e.taken.blocks blocks → AddsBy words e entries all (writes_of all)
     adds_setting words e entries all o w those is opened before step reply alike =
         by e.answer.error refl
-        ∙ ap (λ (l : List Entry). set_by idn.raw (second_of (e ∷ l)) ++ writes_of all) (sym those)
-        ∙ sym (not_cancelled e.answer.error (is_whole asked (words ++ e.answer.word ∷ [])) e (set_by idn.raw (second_of (e ∷ entries)) ++ writes_of all) (whole_two words w e.answer.word is))
+        ∙ ap (λ (l : List Entry). added_by_setting idn.raw (second_of (e ∷ l)) ++ writes_of all) (sym those)
+        ∙ sym (not_cancelled e.answer.error (is_whole asked (words ++ e.answer.word ∷ [])) e (added_by_setting idn.raw (second_of (e ∷ entries)) ++ writes_of all) (whole_two words w e.answer.word is))
       where
-        by : (v : Bool) → e.answer.error ≡ v → writes_of (e ∷ all) ≡ set_by idn.raw (Some e) ++ writes_of all
+        by : (v : Bool) → e.answer.error ≡ v → writes_of (e ∷ all) ≡ added_by_setting idn.raw (Some e) ++ writes_of all
         by true off =
             adds_none e all (effect_by (a_step true true 7 3) e step ∙ ap not off)
             ∙ ap (λ (v : Bool). (if v then [] else setting idn.raw 3 e ∷ []) ++ writes_of all) (sym off)
@@ -168,23 +168,23 @@ module _ (idn : Idn) (b : Block) where
             ∙ ap₂ (λ (v whole : Bool). cancelled_by idn.raw (not v && whole) e ++ writes_of all) (sym well) (sym (whole_cancels words w v polled e.answer.word is (long e.answer.word)))
 
     adds : (words : List ℕ) (e : Entry) (entries all : List Entry) (before : List Write) → Stage idn b words entries all → slice_get (steps_of asked words) (length words) ≡ Some e.taken.step →
-        e.answer ≡ reply_of e.taken all → AreAlike e.taken.blocks blocks → writes_of all ≡ set_by idn.raw (second_of entries) ++ before → AddsBy words e entries all before
+        e.answer ≡ reply_of e.taken all → AreAlike e.taken.blocks blocks → writes_of all ≡ added_by_setting idn.raw (second_of entries) ++ before → AddsBy words e entries all before
     adds words e entries all before (AtOpening those is) next reply alike same =
         adds_none e all (effect_by (opening idn) e (next_opening words e.taken.step is next))
-        ∙ same ∙ ap (λ (l : List Entry). set_by idn.raw (second_of l) ++ before) those ∙ ap (λ (l : List Entry). set_by idn.raw (second_of (e ∷ l)) ++ before) (sym those)
-        ∙ sym (not_cancelled e.answer.error (is_whole asked (words ++ e.answer.word ∷ [])) e (set_by idn.raw (second_of (e ∷ entries)) ++ before) (whole_one words e.answer.word is))
+        ∙ same ∙ ap (λ (l : List Entry). added_by_setting idn.raw (second_of l) ++ before) those ∙ ap (λ (l : List Entry). added_by_setting idn.raw (second_of (e ∷ l)) ++ before) (sym those)
+        ∙ sym (not_cancelled e.answer.error (is_whole asked (words ++ e.answer.word ∷ [])) e (added_by_setting idn.raw (second_of (e ∷ entries)) ++ before) (whole_one words e.answer.word is))
     adds words e entries all before (AtSetting o w those is opened free) next reply alike same =
         adds_setting words e entries all o w those is opened free (next_setting words e.taken.step w is next) reply alike
-        ∙ ap (λ (l : List Write). cancelled_by idn.raw (not e.answer.error && is_whole asked (words ++ e.answer.word ∷ [])) e ++ (set_by idn.raw (second_of (e ∷ entries)) ++ l))
-        (same ∙ ap (λ (l : List Entry). set_by idn.raw (second_of l) ++ before) those)
+        ∙ ap (λ (l : List Write). cancelled_by idn.raw (not e.answer.error && is_whole asked (words ++ e.answer.word ∷ [])) e ++ (added_by_setting idn.raw (second_of (e ∷ entries)) ++ l))
+        (same ∙ ap (λ (l : List Entry). added_by_setting idn.raw (second_of l) ++ before) those)
     adds words e entries all before (AtPoll d o past w v polled those is opened free two) next reply alike same =
         adds_poll words e all w v polled is opened free two (next_poll words e.taken.step w v polled is next) alike
         ∙ ap (λ (l : List Write). cancelled_by idn.raw (not e.answer.error && is_whole asked (words ++ e.answer.word ∷ [])) e ++ l)
-        (same ∙ ap (λ (x : Option Entry). set_by idn.raw x ++ before) (second_stays e entries d o past those))
+        (same ∙ ap (λ (x : Option Entry). added_by_setting idn.raw x ++ before) (second_stays e entries d o past those))
 
     -- the entries before the newest
     pub stage_before : (e : Entry) (entries log : List Entry) → IsTransfer asked blocks e entries log →
-        Stage idn b (answer_words (replies_of entries)) entries (entries ++ log) × (writes_of (entries ++ log) ≡ set_by idn.raw (second_of entries) ++ writes_of log)
+        Stage idn b (answer_words (replies_of entries)) entries (entries ++ log) × (writes_of (entries ++ log) ≡ added_by_setting idn.raw (second_of entries) ++ writes_of log)
     stage_before e [] log is = (AtOpening refl refl, refl)
     stage_before e (d ∷ entries) log is =
         let was = without_newest asked blocks log e d entries is in
@@ -193,26 +193,26 @@ module _ (idn : Idn) (b : Block) where
         let on = goes_on-outcome_of asked d.answer (replies_of entries) is.goes_on in (
           grows (answer_words (replies_of entries)) d entries (entries ++ log) before.0 next was.replies.1 was.alike.1 on.0 on.1,
           adds (answer_words (replies_of entries)) d entries (entries ++ log) (writes_of log) before.0 next was.replies.1 was.alike.1 before.1
-              ∙ not_cancelled d.answer.error (is_whole asked (answer_words (replies_of entries) ++ d.answer.word ∷ [])) d (set_by idn.raw (second_of (d ∷ entries)) ++ writes_of log) on.1,
+              ∙ not_cancelled d.answer.error (is_whole asked (answer_words (replies_of entries) ++ d.answer.word ∷ [])) d (added_by_setting idn.raw (second_of (d ∷ entries)) ++ writes_of log) on.1,
         )
 
     sets_found : (e : Entry) (entries log : List Entry) → IsTransfer asked blocks e entries log →
-        writes_of ((e ∷ entries) ++ log) ≡ cancelled_by idn.raw (is_complete (outcome_of asked (replies_of (e ∷ entries)))) e ++ (set_by idn.raw (second_of (e ∷ entries)) ++ writes_of log)
+        writes_of ((e ∷ entries) ++ log) ≡ cancelled_by idn.raw (is_complete (outcome_of asked (replies_of (e ∷ entries)))) e ++ (added_by_setting idn.raw (second_of (e ∷ entries)) ++ writes_of log)
     sets_found e entries log is =
         let before = stage_before e entries log is in
         let next = newest_step asked blocks log e entries is in
         adds (answer_words (replies_of entries)) e entries (entries ++ log) (writes_of log) before.0 next is.replies.1 is.alike.1 before.1
-        ∙ ap (λ (v : Bool). cancelled_by idn.raw v e ++ (set_by idn.raw (second_of (e ∷ entries)) ++ writes_of log)) (sym (complete-outcome_of asked e.answer (replies_of entries)))
+        ∙ ap (λ (v : Bool). cancelled_by idn.raw v e ++ (added_by_setting idn.raw (second_of (e ∷ entries)) ++ writes_of log)) (sym (complete-outcome_of asked e.answer (replies_of entries)))
 
 -- an opening alone is no setting, and completes nothing
 sets_nowhere : (idn : Idn) (blocks : List Block) (e : Entry) (entries log : List Entry) → find_block idn.raw blocks ≡ None → IsTransfer (request.Command idn) blocks e entries log →
-    writes_of ((e ∷ entries) ++ log) ≡ cancelled_by idn.raw (is_complete (outcome_of (request.Command idn) (replies_of (e ∷ entries)))) e ++ (set_by idn.raw (second_of (e ∷ entries)) ++ writes_of log)
+    writes_of ((e ∷ entries) ++ log) ≡ cancelled_by idn.raw (is_complete (outcome_of (request.Command idn) (replies_of (e ∷ entries)))) e ++ (added_by_setting idn.raw (second_of (e ∷ entries)) ++ writes_of log)
 sets_nowhere idn blocks e entries log none is =
     let only = only_opening (request.Command idn) blocks e entries log none is in
     let incomplete : is_complete (outcome_of (request.Command idn) (replies_of (e ∷ entries))) ≡ false =
     ap (λ (l : List Entry). is_complete (outcome_of (request.Command idn) (replies_of (e ∷ l)))) only.0 ∙ complete-outcome_of (request.Command idn) e.answer [] ∙ and-false (not e.answer.error) in
     writes_nowhere (request.Command idn) blocks e entries log none is
-    ∙ ap₂ (λ (v : Bool) (l : List Entry). cancelled_by idn.raw v e ++ (set_by idn.raw (second_of (e ∷ l)) ++ writes_of log)) (sym incomplete) (sym only.0)
+    ∙ ap₂ (λ (v : Bool) (l : List Entry). cancelled_by idn.raw v e ++ (added_by_setting idn.raw (second_of (e ∷ l)) ++ writes_of log)) (sym incomplete) (sym only.0)
   where
     and-false : (v : Bool) → (v && false) ≡ false
     and-false true = refl
@@ -222,6 +222,6 @@ pub sets_and_cancels : SetsAndCancels
 sets_and_cancels idn blocks e entries log is = by (find_block idn.raw blocks) refl
   where
     by : (o : Option Block) → find_block idn.raw blocks ≡ o →
-        writes_of ((e ∷ entries) ++ log) ≡ cancelled_by idn.raw (is_complete (outcome_of (request.Command idn) (replies_of (e ∷ entries)))) e ++ (set_by idn.raw (second_of (e ∷ entries)) ++ writes_of log)
+        writes_of ((e ∷ entries) ++ log) ≡ cancelled_by idn.raw (is_complete (outcome_of (request.Command idn) (replies_of (e ∷ entries)))) e ++ (added_by_setting idn.raw (second_of (e ∷ entries)) ++ writes_of log)
     by None none = sets_nowhere idn blocks e entries log none is
     by (Some b) found = sets_found idn b blocks found e entries log is

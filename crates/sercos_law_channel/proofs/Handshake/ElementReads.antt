@@ -20,7 +20,8 @@ use Rattle.sercos_block.specs.Blocks.{element_of, bits_in, number_end}
 use Rattle.sercos_block.specs.Rules.{is_text, is_limit, is_max_len, is_step}
 use Rattle.sercos_block.specs.Stores.{find_block, read_fault, is_sound, is_len, IsStore}
 use Rattle.sercos_command.specs.declared.commands.SetCommand.{SetCommand}
-use Rattle.sercos_command.specs.Settings.{status_by, status_in, find_set, has_ended}
+use Rattle.sercos_command.specs.Settings.{has_ended, status_by}
+use Rattle.sercos_command.specs.Calls.{setting_of, status_in}
 use Rattle.sercos_service_drive.specs.Log.{Taken, Entry}
 use Rattle.sercos_service_drive.specs.Replies.{data_in, element_words, words_at, missing}
 use Rattle.sercos_service_drive.specs.Writes.{without_data}
@@ -154,7 +155,7 @@ module _ (typed : (blocks : List Block) (raw : ℕ) (b : Block) → IsStore bloc
   copied_read : (raw e : ℕ) (b c : Block) (t : Taken) → 1 ≤ e → e ≤ 7 → shape_of 7 (low_of b + 65536 * high_of b) ≡ shape_by b.attribute.length → find_block raw t.blocks ≡ Some c → without_data c ≡ without_data b →
       missing raw e t.blocks ≡ None → (2 ≤ e → IsStore t.blocks) → read_from (shape_read e b) (words_of_it raw e t) ≡ bytes_at raw e c t
   copied_read raw zero b c t low high said found alike there store = absurd (omega arith)
-  copied_read raw (suc zero) b c t low high said found alike there store = status_read (status_in t.commands raw t.cycle) (status_small t.commands.time t.cycle (find_set raw t.commands.set))
+  copied_read raw (suc zero) b c t low high said found alike there store = status_read (status_in t.commands raw t.cycle) (status_small t.commands.time t.cycle (setting_of t.commands.rate raw t.commands.calls))
   copied_read raw (suc (suc n)) b c t low high said found alike there store =
       let more : 2 ≤ suc (suc n) = omega arith in
       let other = no_status (suc (suc n)) more in

@@ -7,7 +7,7 @@ use Rattle.sercos_telegram.specs.declared.words.Status.{Status}
 use Rattle.sercos_step.specs.declared.step.Answer.{Answer}
 use Rattle.sercos_step.specs.declared.request.Request.{Request}
 use Rattle.sercos_block.specs.declared.block.Block.{Block}
-use Rattle.sercos_command.specs.Settings.{CommandsView, change_in}
+use Rattle.sercos_command.specs.Calls.{CommandHistory, change_in}
 use Rattle.sercos_service_drive.specs.Says.{Shown, channel_says, shown_by}
 use Rattle.sercos_service_drive.specs.Log.{Taken, Entry, ahs, accepted}
 use Rattle.sercos_service_drive.specs.Replies.{reply_of, answered, log_of}
@@ -93,10 +93,10 @@ module _ (blocks : List Block) where
   heard_sound status word begun sound = cond_both (answers_it begun status) (with_answer (answer_in status word) begun) begun
       (AreAllSound blocks) (λ on. answered_sound (answer_in status word) begun sound) (λ off. sound)
 
-  bit_shown : (busy cycle : ℕ) (showing : CommandsView) (status : Status) (word : ℕ) (taken : List Taken) → shown_by status word ≡ channel_says busy cycle showing taken → status.ahs ≡ is_odd (log_of taken)
+  bit_shown : (busy cycle : ℕ) (showing : CommandHistory) (status : Status) (word : ℕ) (taken : List Taken) → shown_by status word ≡ channel_says busy cycle showing taken → status.ahs ≡ is_odd (log_of taken)
   bit_shown busy cycle showing status word taken says = ap (λ (s : Shown). s.ahs) says ∙ ahs-shown busy cycle (ahs taken) (change_in showing cycle) (log_of taken) ∙ ahs-log taken
 
-  heard_epoch : (phase busy cycle : ℕ) (showing : CommandsView) (a : Heard) (begun : List Begun) (taken : List Taken) → AreInStep begun (log_of taken) →
+  heard_epoch : (phase busy cycle : ℕ) (showing : CommandHistory) (a : Heard) (begun : List Begun) (taken : List Taken) → AreInStep begun (log_of taken) →
       (begun ≡ []) ⊎ (shown_by a.status a.word ≡ channel_says busy cycle showing taken) → IsEpoch blocks phase begun taken → IsEpoch blocks phase (with_heard (Some a) begun) taken
   heard_epoch phase busy cycle showing a begun taken h (inl none) is = subst (λ (b : List Begun). IsEpoch blocks phase b taken) (sym (ap (with_heard (Some a)) none ∙ sym none)) is
   heard_epoch phase busy cycle showing a begun taken h (inr says) is = record {

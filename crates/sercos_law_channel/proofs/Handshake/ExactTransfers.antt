@@ -20,7 +20,7 @@ use Rattle.sercos_service_master.specs.Begun.{Begun}
 use Rattle.sercos_law_channel.specs.Handshake.InStep.{replies_of}
 use Rattle.sercos_law_channel.specs.Handshake.Parts.{IsRow, IsPart, Unsent, Heard, Unheard}
 use Rattle.sercos_law_channel.specs.Handshake.Transfers.{AreReplies, HaveBlocks, IsTransfer, stored, is_complete, WritesOnce}
-use Rattle.sercos_law_channel.specs.Handshake.CommandTransfers.{AreProtected, setting, second_of, set_by, cancelled_by, idn_of}
+use Rattle.sercos_law_channel.specs.Handshake.CommandTransfers.{AreProtected, setting, second_of, added_by_setting, cancelled_by, idn_of}
 use Rattle.sercos_law_channel.specs.Handshake.ReadTransfers.{ReadsOnce, entry_behind, IsReadAt}
 use Rattle.sercos_law_channel.proofs.Handshake.UnknownBlocks.{writes_nowhere}
 use Rattle.sercos_law_channel.proofs.Handshake.QuietSteps.{writes_nothing}
@@ -116,7 +116,7 @@ module _ (laws : Laws) (blocks : List Block) (small : AreSmall blocks) where
 
   -- a setting of a procedure command
 
-  given_front : (idn : Idn) (o : Option Entry) → (later : ℕ) × (map given_of (set_by idn.raw o) ≡ drop later (given_by blocks (request.Command idn)))
+  given_front : (idn : Idn) (o : Option Entry) → (later : ℕ) × (map given_of (added_by_setting idn.raw o) ≡ drop later (given_by blocks (request.Command idn)))
   given_front idn None = (2, refl)
   given_front idn (Some x) = by x.answer.error
     where
@@ -126,7 +126,7 @@ module _ (laws : Laws) (blocks : List Block) (small : AreSmall blocks) where
 
   -- after two answers without error it is set
   is_set : (idn : Idn) (d : Entry) (entries : List Entry) → AreAnswers (request.Command idn) (replies_of (d ∷ entries)) → outcome_of (request.Command idn) (replies_of (d ∷ entries)) ≡ None → 1 ≤ length entries →
-      map given_of (set_by idn.raw (second_of (d ∷ entries))) ≡ gives idn.raw (3 ∷ 0 ∷ []) ∷ []
+      map given_of (added_by_setting idn.raw (second_of (d ∷ entries))) ≡ gives idn.raw (3 ∷ 0 ∷ []) ∷ []
   is_set idn d [] are on long = absurd (omega arith)
   is_set idn d (o ∷ []) are on long =
       ap (λ (v : Bool). map given_of (if v then [] else setting idn.raw 3 d ∷ [])) (goes_on-outcome_of (request.Command idn) d.answer (replies_of (o ∷ [])) on).0
@@ -147,20 +147,20 @@ module _ (laws : Laws) (blocks : List Block) (small : AreSmall blocks) where
       outcome_of (request.Command idn) answers ≡ None → Wrote blocks (with (request.Command idn) answers) (e ∷ entries) log
   command_front idn e entries log answers is off on =
       let front = given_front idn (second_of (e ∷ entries)) in record {
-        own = set_by idn.raw (second_of (e ∷ entries));
-        adds = sets_and_cancels idn blocks e entries log is ∙ ap (λ (v : Bool). cancelled_by idn.raw v e ++ (set_by idn.raw (second_of (e ∷ entries)) ++ writes_of log)) off;
+        own = added_by_setting idn.raw (second_of (e ∷ entries));
+        adds = sets_and_cancels idn blocks e entries log is ∙ ap (λ (v : Bool). cancelled_by idn.raw v e ++ (added_by_setting idn.raw (second_of (e ∷ entries)) ++ writes_of log)) off;
         writes = Broken front.0 on front.1;
       }
 
   command_whole : (idn : Idn) (e : Entry) (entries log : List Entry) (bytes : List ℕ) → IsTransfer (request.Command idn) blocks e entries log → outcome_of (request.Command idn) (replies_of (e ∷ entries)) ≡ Some (outcome.Complete bytes) →
       (own : List Write) × (writes_of ((e ∷ entries) ++ log) ≡ own ++ writes_of log) × (map given_of own ≡ given_by blocks (request.Command idn))
   command_whole idn e entries log bytes is complete = (
-    setting idn.raw 0 e ∷ set_by idn.raw (second_of (e ∷ entries)),
-    sets_and_cancels idn blocks e entries log is ∙ ap (λ (v : Bool). cancelled_by idn.raw v e ++ (set_by idn.raw (second_of (e ∷ entries)) ++ writes_of log)) (ap is_complete complete),
+    setting idn.raw 0 e ∷ added_by_setting idn.raw (second_of (e ∷ entries)),
+    sets_and_cancels idn blocks e entries log is ∙ ap (λ (v : Bool). cancelled_by idn.raw v e ++ (added_by_setting idn.raw (second_of (e ∷ entries)) ++ writes_of log)) (ap is_complete complete),
     ap (λ (l : List Given). gives idn.raw (0 ∷ 0 ∷ []) ∷ l) (by entries is (complete_long idn e entries bytes complete)),
   )
     where
-      by : (entries : List Entry) → IsTransfer (request.Command idn) blocks e entries log → 2 ≤ length entries → map given_of (set_by idn.raw (second_of (e ∷ entries))) ≡ gives idn.raw (3 ∷ 0 ∷ []) ∷ []
+      by : (entries : List Entry) → IsTransfer (request.Command idn) blocks e entries log → 2 ≤ length entries → map given_of (added_by_setting idn.raw (second_of (e ∷ entries))) ≡ gives idn.raw (3 ∷ 0 ∷ []) ∷ []
       by [] is two = absurd (omega arith)
       by (d ∷ []) is two = absurd (omega arith)
       by (d ∷ o ∷ past) is two = is_set idn d (o ∷ past) is.in_turn is.goes_on (omega arith)

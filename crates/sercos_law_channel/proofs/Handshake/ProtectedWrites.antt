@@ -10,7 +10,7 @@ use Rattle.sercos_block.specs.declared.block.Block.{Block}
 use Rattle.sercos_block.specs.Blocks.{is_fixed, is_protected}
 use Rattle.sercos_block.specs.Stores.{find_block, write_fault, data_fault, put_fault}
 use Rattle.sercos_service_drive.specs.Log.{Taken, Entry, ahs, opens, open_idn, run_before, in_order}
-use Rattle.sercos_service_drive.specs.Replies.{answer_by, selects, bytes_written, write_cause, write_cause_in, reply_at, reply_of, log_of}
+use Rattle.sercos_service_drive.specs.Replies.{answer_by, is_first_word, bytes_written, write_cause, write_cause_in, reply_at, reply_of, log_of}
 use Rattle.sercos_service_drive.specs.Writes.{Write, AreAlike, AreThose, without_data, written_by, with_added, adds, added_on}
 use Rattle.sercos_service_drive.proofs.AllowedWrites.{those_moved}
 use Rattle.sercos_law_channel.proofs.Handshake.AttributeReplies.{find-alike}
@@ -34,7 +34,7 @@ no_cause (Some code) well = absurd (cc)
 
 bare : (b : Block) (phase : ℕ) (last : Bool) (words : List ℕ) → write_cause b phase last words ≡ None → is_protected b.attribute phase ≡ false
 unfolding write_cause
-bare b phase last words none = none_of-then (is_protected b.attribute phase) 0x7005 (none_of-or (then_some (is_protected b.attribute phase) 0x7005) _ (none_of-or (then_some (selects words && is_fixed b) 0x7004) _ none).1).0
+bare b phase last words none = none_of-then (is_protected b.attribute phase) 0x7005 (none_of-or (then_some (is_protected b.attribute phase) 0x7005) _ (none_of-or (then_some (is_first_word words && is_fixed b) 0x7004) _ none).1).0
 
 bare_in : (o : Option Block) (phase : ℕ) (last : Bool) (words : List ℕ) (b : Block) → option_map without_data o ≡ Some (without_data b) → write_cause_in o phase last words ≡ None → is_protected b.attribute phase ≡ false
 bare_in None phase last words b same none = absurd (cc)

@@ -17,7 +17,7 @@ use Rattle.sercos_block.specs.declared.block.Block.{Block}
 use Rattle.sercos_block.specs.Blocks.{is_number, bits_in, meant, is_fixed, is_protected}
 use Rattle.sercos_block.specs.Stores.{find_block, is_below, is_above}
 use Rattle.sercos_service_drive.specs.Log.{Taken, Entry, opens, open_idn, run_before}
-use Rattle.sercos_service_drive.specs.Replies.{answer_by, selects, ends_early, is_over, is_uneven, is_no_setting, bytes_written, write_cause, write_cause_in, reply_of, reply_at}
+use Rattle.sercos_service_drive.specs.Replies.{answer_by, is_first_word, ends_early, is_over, is_uneven, is_no_command_value, bytes_written, write_cause, write_cause_in, reply_of, reply_at}
 use Rattle.sercos_service_drive.specs.Writes.{AreAlike, without_data}
 use Rattle.sercos_service_drive.proofs.AllowedWrites.{no_cause}
 use Rattle.sercos_law_channel.proofs.Handshake.AttributeReplies.{find-alike}
@@ -39,12 +39,12 @@ pub record Allows (b : Block) (phase : ℕ) : Type 0 where
 allows : (b : Block) (phase : ℕ) → write_cause b phase true (3 ∷ []) ≡ None → Allows b phase
 unfolding write_cause
 allows b phase none =
-    let first = none_of-or (then_some (selects (3 ∷ []) && is_fixed b) 0x7004) _ none in
+    let first = none_of-or (then_some (is_first_word (3 ∷ []) && is_fixed b) 0x7004) _ none in
     let second = none_of-or (then_some (is_protected b.attribute phase) 0x7005) _ first.1 in
     let third = none_of-or (then_some (ends_early b true (3 ∷ [])) 0x7002) _ second.1 in
     record {
       two = two_wanted b.attribute.length b refl (none_of-then (ends_early b true (3 ∷ [])) 0x7002 third.0);
-      loose = none_of-then (selects (3 ∷ []) && is_fixed b) 0x7004 first.0;
+      loose = none_of-then (is_first_word (3 ∷ []) && is_fixed b) 0x7004 first.0;
       bare = none_of-then (is_protected b.attribute phase) 0x7005 second.0;
     }
 
@@ -103,7 +103,7 @@ in_time l b is two = rw (is, two) refl
 no_longer : (b : Block) → b.attribute.length ≡ len.Two → is_over b true (0 ∷ []) ≡ false
 no_longer b two = rw two refl
 
-is_setting : (b : Block) → b.attribute.length ≡ len.Two → (is_uneven b (0 ∷ []) || is_no_setting b true (0 ∷ [])) ≡ false
+is_setting : (b : Block) → b.attribute.length ≡ len.Two → (is_uneven b (0 ∷ []) || is_no_command_value b true (0 ∷ [])) ≡ false
 unfolding bytes_written
 is_setting b two = rw two (and-false b.attribute.command)
   where
@@ -134,7 +134,7 @@ cancel_free b phase command a =
     (or_none _ _ (then_none (is_protected b.attribute phase) 0x7005 a.bare)
     (or_none _ _ (then_none (ends_early b true (0 ∷ [])) 0x7002 (in_time b.attribute.length b refl a.two))
     (or_none _ _ (then_none (is_over b true (0 ∷ [])) 0x7003 (no_longer b a.two))
-    (or_none _ _ (then_none (is_uneven b (0 ∷ []) || is_no_setting b true (0 ∷ [])) 0x7008 (is_setting b a.two))
+    (or_none _ _ (then_none (is_uneven b (0 ∷ []) || is_no_command_value b true (0 ∷ [])) 0x7008 (is_setting b a.two))
     (or_none _ _ (then_none (is_below b (bytes_written b (0 ∷ [])) b.min) 0x7006 (below_none b (bytes_written b (0 ∷ [])) b.min number))
     (then_none (is_above b (bytes_written b (0 ∷ [])) b.max) 0x7007 (above_none b (bytes_written b (0 ∷ [])) b.max number)))))))
 

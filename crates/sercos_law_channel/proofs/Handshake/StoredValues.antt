@@ -1,6 +1,6 @@
 -- What a block holds is what was written to it last.
 use Rattle.std.proofs.Common.{◌≡◌, ℕ, Bool, true, false, not, ◌&&◌, List, [], ◌∷◌, ◌++◌, map, drop, zero, suc, refl, sym, ap, ◌∙◌, subst, if◌then◌else◌, append_assoc}
-use Rattle.std.specs.Prelude.{◌==◌, Option, Some, None, is_none, option_map, unwrap_or}
+use Rattle.std.specs.Prelude.{◌==◌, Option, Some, None, option_map, unwrap_or}
 use Rattle.std.specs.List.{list_all}
 use Rattle.std.proofs.lemmas.Bool.{and_parts, cond-true, cond-false, eqb-true, eq-eqb, not-true}
 use Rattle.sercos_idn.specs.declared.idn.Idn.{Idn}
@@ -10,9 +10,10 @@ use Rattle.sercos_step.specs.Steps.{outcome_of}
 use Rattle.sercos_block.specs.declared.block.Block.{Block}
 use Rattle.sercos_block.specs.Stores.{find_block, with_value, with_data}
 use Rattle.sercos_command.specs.Checks.{list_bytes, unfit_for_phase_3, unfit_for_phase_4}
-use Rattle.sercos_command.specs.Settings.{CommandsView, find_set, is_command, with_lists}
+use Rattle.sercos_command.specs.Settings.{is_command}
+use Rattle.sercos_command.specs.Calls.{is_set, CommandHistory, with_check_list}
 use Rattle.sercos_service_drive.specs.Log.{Entry}
-use Rattle.sercos_service_drive.specs.Writes.{Write, with_added, setting_in, blocks_with}
+use Rattle.sercos_service_drive.specs.Writes.{Write, with_added, command_value, blocks_with}
 use Rattle.sercos_service_master.specs.Begun.{Begun}
 use Rattle.sercos_law_channel.specs.Handshake.Transfers.{stored}
 use Rattle.sercos_law_channel.specs.Handshake.Views.{View, processed_in, kept_in}
@@ -84,9 +85,9 @@ flipped n k off = which (k == n) refl
     which false is = is
     which true is = let on : (n == k) ≡ true = eq-eqb n k (sym (eqb-true k n is)) in absurd (cc)
 
-has-with_lists : (raw : ℕ) (x : List ℕ) (c : CommandsView) (r value : ℕ) (blocks : List Block) → is_plain raw ≡ true → HasValue raw x blocks → HasValue raw x (with_lists c r value blocks)
-unfolding with_lists
-has-with_lists raw x c r value blocks plain has = by (not (value == 0) && is_none (find_set r c.set)) (r == 127) (r == 128)
+has-with_lists : (raw : ℕ) (x : List ℕ) (c : CommandHistory) (r value : ℕ) (blocks : List Block) → is_plain raw ≡ true → HasValue raw x blocks → HasValue raw x (with_check_list c r value blocks)
+unfolding with_check_list
+has-with_lists raw x c r value blocks plain has = by (not (value == 0) && not (is_set r c.calls)) (r == 127) (r == 128)
   where
     parts : ((raw == 21) ≡ false) × ((raw == 22) ≡ false)
     parts = let both = and_parts (not (raw == 21)) (not (raw == 22)) plain in (not-true (raw == 21) both.0, not-true (raw == 22) both.1)
@@ -97,7 +98,7 @@ has-with_lists raw x c r value blocks plain has = by (not (value == 0) && is_non
     by true false false = has
     by false first second = has
 
-has-blocks_with : (raw : ℕ) (b : List ℕ) (o : Option Write) (c : CommandsView) (blocks : List Block) (writes : List Write) → is_plain raw ≡ true → HasValue raw (unwrap_or (newest_to raw writes) b) blocks →
+has-blocks_with : (raw : ℕ) (b : List ℕ) (o : Option Write) (c : CommandHistory) (blocks : List Block) (writes : List Write) → is_plain raw ≡ true → HasValue raw (unwrap_or (newest_to raw writes) b) blocks →
     HasValue raw (unwrap_or (newest_to raw (with_added o writes)) b) (blocks_with o c blocks)
 has-blocks_with raw b None c blocks writes plain has = has
 has-blocks_with raw b (Some w) c blocks writes plain has =
@@ -110,8 +111,8 @@ has-blocks_with raw b (Some w) c blocks writes plain has =
     after : HasValue raw (if w.raw == raw then w.bytes else unwrap_or (newest_to raw writes) b) (with_data w.raw w.bytes blocks)
     after = has-with_data raw w.raw (unwrap_or (newest_to raw writes) b) w.bytes blocks has
 
-    by : (v : Bool) → HasValue raw (if w.raw == raw then w.bytes else unwrap_or (newest_to raw writes) b) (if v then with_lists c w.raw (setting_in w) (with_data w.raw w.bytes blocks) else with_data w.raw w.bytes blocks)
-    by true = has-with_lists raw (if w.raw == raw then w.bytes else unwrap_or (newest_to raw writes) b) c w.raw (setting_in w) (with_data w.raw w.bytes blocks) plain after
+    by : (v : Bool) → HasValue raw (if w.raw == raw then w.bytes else unwrap_or (newest_to raw writes) b) (if v then with_check_list c w.raw (command_value w) (with_data w.raw w.bytes blocks) else with_data w.raw w.bytes blocks)
+    by true = has-with_lists raw (if w.raw == raw then w.bytes else unwrap_or (newest_to raw writes) b) c w.raw (command_value w) (with_data w.raw w.bytes blocks) plain after
     by false = after
 
 has_newest : (blocks : List Block) (past : List View) (raw : ℕ) (b : Block) → is_plain raw ≡ true → find_block raw blocks ≡ Some b → HasValue raw (unwrap_or (newest_to raw (all_writes past)) b.value) (store_in blocks past)

@@ -11,7 +11,7 @@ use Rattle.sercos_step.specs.declared.step.Step.{Step}
 use Rattle.sercos_step.specs.declared.step.Answer.{Answer}
 use Rattle.sercos_step.specs.Steps.{a_step, outcome_of}
 use Rattle.sercos_block.specs.declared.block.Block.{Block}
-use Rattle.sercos_command.specs.Settings.{CommandsView}
+use Rattle.sercos_command.specs.Calls.{CommandHistory}
 use Rattle.sercos_service_drive.specs.Log.{Entry}
 use Rattle.sercos_service_drive.specs.Replies.{good, refused, bytes_written, write_cause}
 use Rattle.sercos_service_drive.specs.Writes.{writes_of}
@@ -43,8 +43,8 @@ attribute command = record {
 abbrev block : Bool → Option ℕ → Block
 block command min = record { idn = record { raw = 1 }; attribute = attribute command; name = None; unit = None; min = min; max = None; value = 0 ∷ 0 ∷ []; max_len = 0; fixed = false; step = 0; fails = false }
 
-abbrev commands : CommandsView
-commands = record { rate = 2; time = 3; set = []; passed_127 = None; passed_128 = None }
+abbrev commands : CommandHistory
+commands = record { rate = 2; time = 3; calls = [] }
 
 abbrev asked : Request
 asked = request.Command (record { raw = 1 })

@@ -15,7 +15,7 @@ use Rattle.sercos_step.specs.Steps.{a_step, outcome_of}
 use Rattle.sercos_block.specs.declared.block.Block.{Block}
 use Rattle.sercos_block.specs.Blocks.{element_of}
 use Rattle.sercos_block.specs.Stores.{IsStore, are_ascending, is_sound, is_typed}
-use Rattle.sercos_command.specs.Settings.{CommandsView}
+use Rattle.sercos_command.specs.Calls.{CommandHistory}
 use Rattle.sercos_service_drive.specs.Log.{Taken, Entry}
 use Rattle.sercos_service_drive.specs.Replies.{good, data_in, element_words}
 use Rattle.sercos_law_channel.specs.Handshake.InStep.{replies_of}
@@ -45,8 +45,8 @@ number = record {
 abbrev block : Block
 block = record { idn = record { raw = 51 }; attribute = number; name = None; unit = None; min = None; max = None; value = 0xf4 ∷ 0xfb ∷ 0 ∷ 0 ∷ []; max_len = 0; fixed = false; step = 10; fails = false }
 
-abbrev commands : CommandsView
-commands = record { rate = 2; time = 3; set = []; passed_127 = None; passed_128 = None }
+abbrev commands : CommandHistory
+commands = record { rate = 2; time = 3; calls = [] }
 
 abbrev asked : Request
 asked = request.Read (record { raw = 51 }) 7

@@ -16,7 +16,7 @@ use Rattle.sercos_step.specs.declared.step.Step.{Step}
 use Rattle.sercos_step.specs.Steps.{a_step, outcome_of}
 use Rattle.sercos_block.specs.declared.block.Block.{Block}
 use Rattle.sercos_block.specs.Blocks.{element_of}
-use Rattle.sercos_command.specs.Settings.{CommandsView}
+use Rattle.sercos_command.specs.Calls.{CommandHistory}
 use Rattle.sercos_service_drive.specs.Log.{Entry}
 use Rattle.sercos_service_drive.specs.Writes.{Write}
 use Rattle.sercos_service_drive.specs.Replies.{good, data_in, element_words, bytes_written, write_cause}
@@ -51,8 +51,8 @@ number = record {
 abbrev block : ℕ → ℕ → Block
 block low high = record { idn = record { raw = 1 }; attribute = number; name = None; unit = None; min = None; max = None; value = low ∷ high ∷ []; max_len = 0; fixed = false; step = 0; fails = false }
 
-abbrev commands : CommandsView
-commands = record { rate = 2; time = 3; set = []; passed_127 = None; passed_128 = None }
+abbrev commands : CommandHistory
+commands = record { rate = 2; time = 3; calls = [] }
 
 abbrev status : Status
 status = record { ahs = false; busy = false; error = false; change = false; cyclic = 0; cyclic_low = refl; cyclic_apart = apart }

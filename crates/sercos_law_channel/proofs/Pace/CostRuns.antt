@@ -11,7 +11,7 @@ use Rattle.sercos_step.proofs.Ends.{has_next}
 use Rattle.sercos_step.proofs.AnswerCounts.{times_le}
 use Rattle.sercos_block.specs.declared.block.Block.{Block}
 use Rattle.sercos_block.specs.Stores.{find_block}
-use Rattle.sercos_command.specs.Settings.{status_in}
+use Rattle.sercos_command.specs.Calls.{status_in}
 use Rattle.sercos_service_drive.specs.Log.{Taken, Entry, accepted}
 use Rattle.sercos_service_drive.specs.Replies.{reply_of, log_of}
 use Rattle.sercos_service_drive.specs.Writes.{Write, writes_of}

@@ -1,7 +1,7 @@
 -- In a stretch in which nothing is lost, whatever went before, the answers come in time.
 use Rattle.std.proofs.Common.{◌≡◌, ℕ, ◌+◌, ◌<◌, ◌≤◌, List, ◌∷◌, Some, arith}
 use Rattle.sercos_telegram.specs.declared.words.Status.{Status}
-use Rattle.sercos_command.specs.Settings.{CommandsView}
+use Rattle.sercos_command.specs.Calls.{CommandHistory}
 use Rattle.sercos_service_drive.specs.Log.{Taken, Entry}
 use Rattle.sercos_service_drive.specs.Replies.{log_of}
 use Rattle.sercos_service_drive.specs.Says.{channel_says, shown_by}
@@ -26,7 +26,7 @@ any_start busy c spent begun log is (Sent step opened s a) earlier = StartsNew s
 any_start busy c spent begun log is (Kept e past opened those s a) earlier = let less = earlier e past those in
     StartsBusy e past those opened s less (λ due. omega arith) (omega arith)
 
-pub heard_late : (busy c spent : ℕ) (showing : CommandsView) (status : Status) (word : ℕ) (begun : List Begun) (taken : List Taken)
+pub heard_late : (busy c spent : ℕ) (showing : CommandHistory) (status : Status) (word : ℕ) (begun : List Begun) (taken : List Taken)
     → shown_by status word ≡ channel_says busy c showing taken → (e : Entry) (past : List Entry) → AreInStep begun (log_of taken)
     → AreInStep (with_status status word begun) (log_of taken) →
     log_of taken ≡ e ∷ past → open_in begun ≡ Some e.taken.step → steps_in begun ≡ log_steps (log_of taken) → e.taken.cycle < c

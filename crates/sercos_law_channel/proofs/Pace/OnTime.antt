@@ -8,7 +8,7 @@ use Rattle.sercos_telegram.specs.declared.words.Status.{Status}
 use Rattle.sercos_step.specs.declared.step.Step.{Step}
 use Rattle.sercos_step.specs.declared.step.Answer.{Answer}
 use Rattle.sercos_step.specs.declared.request.Request.{Request}
-use Rattle.sercos_command.specs.Settings.{CommandsView, change_in}
+use Rattle.sercos_command.specs.Calls.{CommandHistory, change_in}
 use Rattle.sercos_service_drive.specs.Log.{Taken, Entry, ahs}
 use Rattle.sercos_service_drive.specs.Replies.{log_of}
 use Rattle.sercos_service_drive.specs.Says.{Shown, shown, channel_says, shown_by}
@@ -90,7 +90,7 @@ busy_quiet : (status : Status) (begun : List Begun) → status.busy ≡ true →
 busy_quiet status begun on = ap (λ (b : Bool). is_some (open_in begun) && (beq status.ahs (is_odd (steps_in begun)) && not b)) on ∙ never
     (is_some (open_in begun)) (beq status.ahs (is_odd (steps_in begun)))
 
-module _ (Fits : ℕ → ℕ → Type 0) (busy c spent : ℕ) (showing : CommandsView) (status : Status) (word : ℕ) (begun : List Begun)
+module _ (Fits : ℕ → ℕ → Type 0) (busy c spent : ℕ) (showing : CommandHistory) (status : Status) (word : ℕ) (begun : List Begun)
     (taken : List Taken) (says : shown_by status word ≡ channel_says busy c showing taken) where
   bit : status.ahs ≡ is_odd (log_of taken)
   bit = ap (λ (s : Shown). s.ahs) says ∙ ahs-shown busy c (ahs taken) (change_in showing c) (log_of taken) ∙ ahs-log taken
@@ -191,7 +191,7 @@ module _ (Fits : ℕ → ℕ → Type 0) (busy c spent : ℕ) (begun : List Begu
       rests (Busy e past those opened all earlier late sum) = let off = shut refl in absurd (cc)
 
 -- a status that is an answer shows that the drive is no longer busy
-pub late_answer : (busy c : ℕ) (showing : CommandsView) (status : Status) (word : ℕ) (begun : List Begun) (taken : List Taken) (e : Entry) (past : List Entry) → shown_by status word ≡ channel_says busy c showing taken → log_of taken ≡ e ∷ past →
+pub late_answer : (busy c : ℕ) (showing : CommandHistory) (status : Status) (word : ℕ) (begun : List Begun) (taken : List Taken) (e : Entry) (past : List Entry) → shown_by status word ≡ channel_says busy c showing taken → log_of taken ≡ e ∷ past →
     answers_it begun status ≡ true → e.taken.cycle < c → e.taken.cycle + (busy + 1) ≤ c
 late_answer busy c showing status word begun taken e past says those takes earlier = by (nat_le (c - e.taken.cycle) busy) refl (says ∙ ap (shown busy c (ahs taken) (change_in showing c)) those)
   where

@@ -3,7 +3,9 @@ use Rattle.std.proofs.Common.{◌≡◌, ℕ, ◌+◌, ◌≤◌, Bool, true, �
 use Rattle.std.specs.Prelude.{nat_le, Option, Some, None, is_none}
 use Rattle.std.proofs.lemmas.Bool.{cond-true, le-leb}
 use Rattle.sercos_block.specs.Stores.{with_data}
-use Rattle.sercos_command.specs.Settings.{CommandsView, find_set, ends_well, from_setting, from_cancel, with_write, without_checks}
+use Rattle.sercos_command.specs.Settings.{ends_well}
+use Rattle.sercos_command.specs.Calls.{Wrote, Other, with_call}
+use Rattle.sercos_command.specs.Kept.{find_set, from_setting, from_cancel, set_in, first_passed_in}
 use Rattle.sercos_law_channel.specs.Pace.Passes.{PassesBySetting, PassesLast, StaysPassed, StaysPassedLast}
 
 set_from : (end : ℕ) (o : Option ℕ) → (first : ℕ) × (from_setting end o ≡ Some first) × (first ≤ end)
@@ -17,33 +19,33 @@ both : (a b : Bool) (x y : Option ℕ) → a ≡ true → b ≡ true → (if a &
 both a b x y on well = ap₂ (λ (p q : Bool). if p && q then x else y) on well
 
 pub passes_by_setting : PassesBySetting
-unfolding with_write
 passes_by_setting c blocks cycle command unset well =
-    let from = set_from (cycle + c.time) c.passed_127 in (
+    let from = set_from (cycle + c.time) (first_passed_in 127 c) in (
       from.0,
-      ap (λ (b : Bool). (let k : CommandsView = if b then with_write 127 3 cycle (with_data 127 (3 ∷ 0 ∷ []) blocks) c else without_checks c in k.passed_127)) command
-          ∙ both (is_none (find_set 127 c.set)) (ends_well c.rate 127 (with_data 127 (3 ∷ 0 ∷ []) blocks)) (from_setting (cycle + c.time) c.passed_127) c.passed_127 (ap is_none unset) well
+      ap (λ (b : Bool). first_passed_in 127 (with_call (if b then Wrote 127 3 cycle (with_data 127 (3 ∷ 0 ∷ []) blocks) else Other cycle) c)) command
+          ∙ both (is_none (find_set 127 (set_in c))) (ends_well c.rate 127 (with_data 127 (3 ∷ 0 ∷ []) blocks)) (from_setting (cycle + c.time) (first_passed_in 127 c))
+          (first_passed_in 127 c) (ap is_none unset) well
           ∙ from.1,
       from.2,
     )
 
 pub passes_last : PassesLast
-unfolding with_write
 passes_last c blocks cycle command unset well =
-    let from = set_from (cycle + c.time) c.passed_128 in (
+    let from = set_from (cycle + c.time) (first_passed_in 128 c) in (
       from.0,
-      ap (λ (b : Bool). (let k : CommandsView = if b then with_write 128 3 cycle (with_data 128 (3 ∷ 0 ∷ []) blocks) c else without_checks c in k.passed_128)) command
-          ∙ both (is_none (find_set 128 c.set)) (ends_well c.rate 128 (with_data 128 (3 ∷ 0 ∷ []) blocks)) (from_setting (cycle + c.time) c.passed_128) c.passed_128 (ap is_none unset) well
+      ap (λ (b : Bool). first_passed_in 128 (with_call (if b then Wrote 128 3 cycle (with_data 128 (3 ∷ 0 ∷ []) blocks) else Other cycle) c)) command
+          ∙ both (is_none (find_set 128 (set_in c))) (ends_well c.rate 128 (with_data 128 (3 ∷ 0 ∷ []) blocks)) (from_setting (cycle + c.time) (first_passed_in 128 c))
+          (first_passed_in 128 c) (ap is_none unset) well
           ∙ from.1,
       from.2,
     )
 
 pub stays_passed : StaysPassed
-unfolding with_write
 stays_passed c blocks cycle first command is le =
-    ap (λ (b : Bool). (let k : CommandsView = if b then with_write 127 0 cycle (with_data 127 (0 ∷ 0 ∷ []) blocks) c else without_checks c in k.passed_127)) command ∙ kept_from cycle first c.passed_127 is le
+    ap (λ (b : Bool). first_passed_in 127 (with_call (if b then Wrote 127 0 cycle (with_data 127 (0 ∷ 0 ∷ []) blocks) else Other cycle) c)) command
+    ∙ kept_from cycle first (first_passed_in 127 c) is le
 
 pub stays_passed_last : StaysPassedLast
-unfolding with_write
 stays_passed_last c blocks cycle first command is le =
-    ap (λ (b : Bool). (let k : CommandsView = if b then with_write 128 0 cycle (with_data 128 (0 ∷ 0 ∷ []) blocks) c else without_checks c in k.passed_128)) command ∙ kept_from cycle first c.passed_128 is le
+    ap (λ (b : Bool). first_passed_in 128 (with_call (if b then Wrote 128 0 cycle (with_data 128 (0 ∷ 0 ∷ []) blocks) else Other cycle) c)) command
+    ∙ kept_from cycle first (first_passed_in 128 c) is le

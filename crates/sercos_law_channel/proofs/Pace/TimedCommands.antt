@@ -7,13 +7,16 @@ use mathlib.Core.Bool.{beq}
 use Rattle.sercos_block.specs.declared.block.Block.{Block}
 use Rattle.sercos_block.specs.Stores.{find_block, with_data}
 use Rattle.sercos_command.specs.declared.commands.SetCommand.{SetCommand}
-use Rattle.sercos_command.specs.Settings.{CommandsView, find_set, without, with_set, is_command, ends_well, has_ended, status_by, with_write}
+use Rattle.sercos_command.specs.Settings.{is_command, ends_well, has_ended, status_by}
+use Rattle.sercos_command.specs.Calls.{Wrote, Other, setting_of, CommandHistory, with_call}
+use Rattle.sercos_command.specs.Kept.{find_set, without, with_set, set_in}
 use Rattle.sercos_service_drive.specs.Log.{Taken, ahs, open_idn, run_before, in_order}
 use Rattle.sercos_service_drive.specs.Replies.{reply_of, log_of, bytes_written}
-use Rattle.sercos_service_drive.specs.Writes.{Write, takes_effect, written_by, with_added, adds, setting_in, commands_with, added_on}
+use Rattle.sercos_service_drive.specs.Writes.{Write, takes_effect, written_by, with_added, adds, command_value, commands_with, added_on}
 use Rattle.sercos_law_channel.specs.Handshake.Views.{View, standing, stood_in, record_in, processed_in, kept_in}
 use Rattle.sercos_law_channel.specs.Handshake.WholeRun.{write_of, all_writes}
 use Rattle.sercos_law_channel.specs.Pace.Costs.{newest_at, IsTimed, set_after, IsCarried, AreCarried, ComesTimed}
+use Rattle.sercos_command.proofs.History.{find-settings}
 use Rattle.sercos_law_channel.proofs.Handshake.PhaseMoves.{Processes, Nothing, Record, processes}
 
 -- each set command was set at the newest write to it or earlier, and that write came before a cycle
@@ -68,39 +71,39 @@ found_added raw (x ∷ set) n s found = by (x.idn.raw == raw) found (found_added
     by true found more = inl found
     by false found more = more found
 
-set_by_command : (c : CommandsView) (writes : List Write) (cycle value : ℕ) (blocks : List Block) (w : Write) → w.cycle ≡ cycle → AreSetBy c.set writes cycle →
-    AreSetBy (if value == 0 then without w.raw c.set else with_set (record { idn = record { raw = w.raw }; cycle = w.cycle; well = ends_well c.rate w.raw blocks }) c.set) (w ∷ writes) (suc cycle)
+set_by_command : (c : CommandHistory) (writes : List Write) (cycle value : ℕ) (blocks : List Block) (w : Write) → w.cycle ≡ cycle → AreSetBy (set_in c) writes cycle →
+    AreSetBy (if value == 0 then without w.raw (set_in c) else with_set (record { idn = record { raw = w.raw }; cycle = w.cycle; well = ends_well c.rate w.raw blocks }) (set_in c)) (w ∷ writes) (suc cycle)
 set_by_command c writes cycle value blocks w at are = by (value == 0)
   where
     n : SetCommand
     n = record { idn = record { raw = w.raw }; cycle = w.cycle; well = ends_well c.rate w.raw blocks }
 
-    old : AreSetBy c.set (w ∷ writes) (suc cycle)
-    old = with_write_more c.set writes cycle w at are
+    old : AreSetBy (set_in c) (w ∷ writes) (suc cycle)
+    old = with_write_more (set_in c) writes cycle w at are
 
-    added : (there : Bool) → AreSetBy (if there then c.set else c.set ++ n ∷ []) (w ∷ writes) (suc cycle)
+    added : (there : Bool) → AreSetBy (if there then set_in c else set_in c ++ n ∷ []) (w ∷ writes) (suc cycle)
     added true raw s found = old raw s found
-    added false raw s found = elim (found_added raw c.set n s found) [
+    added false raw s found = elim (found_added raw (set_in c) n s found) [
       | inl was ↦ old raw s was
       | inr (same, is) ↦
           let cycles = ap (λ (x : SetCommand). x.cycle) is in
           (w.cycle, cond-true (w.raw == raw) (Some w.cycle) (newest_at raw writes) same, omega (arith, cycles), omega (arith, at))
     ]
 
-    by : (zero : Bool) → AreSetBy (if zero then without w.raw c.set else with_set n c.set) (w ∷ writes) (suc cycle)
-    by true = λ raw s found. old raw s (found_without raw w.raw c.set s found)
-    by false = added (is_some (find_set w.raw c.set))
+    by : (zero : Bool) → AreSetBy (if zero then without w.raw (set_in c) else with_set n (set_in c)) (w ∷ writes) (suc cycle)
+    by true = λ raw s found. old raw s (found_without raw w.raw (set_in c) s found)
+    by false = added (is_some (find_set w.raw (set_in c)))
 
-set_by_write : (c : CommandsView) (writes : List Write) (cycle : ℕ) (blocks : List Block) (w : Write) → w.cycle ≡ cycle → AreSetBy c.set writes cycle → AreSetBy (commands_with (Some w) blocks c).set (w ∷ writes) (suc cycle)
-unfolding with_write
+set_by_write : (c : CommandHistory) (writes : List Write) (cycle : ℕ) (blocks : List Block) (w : Write) → w.cycle ≡ cycle → AreSetBy (set_in c) writes cycle → AreSetBy (set_in (commands_with (Some w) blocks c)) (w ∷ writes) (suc cycle)
 set_by_write c writes cycle blocks w at are = by (is_command blocks w.raw)
   where
-    by : (command : Bool) → AreSetBy (let k : CommandsView = if command then with_write w.raw (setting_in w) w.cycle (with_data w.raw w.bytes blocks) c else record c { passed_127 = None; passed_128 = None } in k.set) (w ∷ writes) (suc cycle)
-    by true = set_by_command c writes cycle (setting_in w) (with_data w.raw w.bytes blocks) w at are
-    by false = with_write_more c.set writes cycle w at are
+    by : (command : Bool) → AreSetBy (set_in (with_call (if command then Wrote w.raw (command_value w) w.cycle (with_data w.raw w.bytes blocks) else Other w.cycle) c)) (w ∷ writes) (suc cycle)
+    by true = set_by_command c writes cycle (command_value w) (with_data w.raw w.bytes blocks) w at are
+    by false = with_write_more (set_in c) writes cycle w at are
 
-set_by_any : (o : Option Write) (c : CommandsView) (writes : List Write) (cycle : ℕ) (blocks : List Block) → ((w : Write) → o ≡ Some w → w.cycle ≡ cycle) → AreSetBy c.set writes cycle → AreSetBy (commands_with o blocks c).set (with_added o writes) (suc cycle)
-set_by_any None c writes cycle blocks at are = later_set c.set writes cycle (suc cycle) (omega arith) are
+set_by_any : (o : Option Write) (c : CommandHistory) (writes : List Write) (cycle : ℕ) (blocks : List Block) → ((w : Write) → o ≡ Some w → w.cycle ≡ cycle) → AreSetBy (set_in c) writes cycle →
+    AreSetBy (set_in (commands_with o blocks c)) (with_added o writes) (suc cycle)
+set_by_any None c writes cycle blocks at are = later_set (set_in c) writes cycle (suc cycle) (omega arith) are
 set_by_any (Some w) c writes cycle blocks at are = set_by_write c writes cycle blocks w (at w refl) are
 
 -- a write is of the cycle of its record
@@ -132,13 +135,13 @@ written_now v past w is = by (processes v past)
         let t : Taken = record_in v (length past) (stood_in v (standing past)) s in
         cycle_of t (kept_in v past) w (sym (ap (λ (o : Option Taken). write_of o (kept_in v past)) some) ∙ is)
 
-carried_set : (time : ℕ) (v : View) (past : List View) → IsCarried time v past → AreSetBy (set_after past) (all_writes past) (length past) → AreSetBy v.commands.set (all_writes past) (length past)
+carried_set : (time : ℕ) (v : View) (past : List View) → IsCarried time v past → AreSetBy (set_after past) (all_writes past) (length past) → AreSetBy (set_in v.commands) (all_writes past) (length past)
 carried_set time v past is are raw s found = are raw s (is.carried raw s found)
 
-set_in : (time : ℕ) (past : List View) → AreCarried time past → AreSetBy (set_after past) (all_writes past) (length past)
-set_in time [] are = λ raw s found. absurd (cc)
-set_in time (v ∷ past) are =
-    set_by_any (write_of (processed_in v past) (kept_in v past)) v.commands (all_writes past) (length past) v.blocks (written_now v past) (carried_set time v past are.1 (set_in time past are.0))
+all_set_by : (time : ℕ) (past : List View) → AreCarried time past → AreSetBy (set_after past) (all_writes past) (length past)
+all_set_by time [] are = λ raw s found. absurd (cc)
+all_set_by time (v ∷ past) are =
+    set_by_any (write_of (processed_in v past) (kept_in v past)) v.commands (all_writes past) (length past) v.blocks (written_now v past) (carried_set time v past are.1 (all_set_by time past are.0))
 
 running : (time cycle : ℕ) (o : Option SetCommand) → status_by time o cycle ≡ 7 → (s : SetCommand) × (o ≡ Some s) × (cycle < s.cycle + time)
 running time cycle None seven = absurd (cc)
@@ -151,12 +154,12 @@ running time cycle (Some s) seven = by (has_ended time cycle s) s.well refl seve
 
 is_timed : (time : ℕ) (v : View) (past : List View) → IsCarried time v past → AreSetBy (set_after past) (all_writes past) (length past) → IsTimed time v past
 is_timed time v past is are raw seven =
-    let runs = running v.commands.time (length past) (find_set raw v.commands.set) seven in
-    let by_write = carried_set time v past is are raw runs.0 runs.1 in
+    let runs = running v.commands.time (length past) (setting_of v.commands.rate raw v.commands.calls) seven in
+    let by_write = carried_set time v past is are raw runs.0 (find-settings v.commands.rate raw v.commands.calls ∙ runs.1) in
     let late = runs.2 in
     let earlier = by_write.2 in
     let takes = is.takes in (by_write.0, by_write.1, omega (arith, late, earlier, takes))
 
 pub comes_timed : ComesTimed
 comes_timed time [] are = tt
-comes_timed time (v ∷ past) are = (comes_timed time past are.0, is_timed time v past are.1 (set_in time past are.0))
+comes_timed time (v ∷ past) are = (comes_timed time past are.0, is_timed time v past are.1 (all_set_by time past are.0))

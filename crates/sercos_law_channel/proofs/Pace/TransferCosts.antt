@@ -21,7 +21,7 @@ use Rattle.sercos_step.proofs.Ends.{read_ends, length-answer_words}
 use Rattle.sercos_step.proofs.AnswerCounts.{steps_most, get_below, polls_by, times_le, times_more}
 use Rattle.sercos_block.specs.declared.block.Block.{Block}
 use Rattle.sercos_block.specs.Stores.{find_block}
-use Rattle.sercos_command.specs.Settings.{status_in}
+use Rattle.sercos_command.specs.Calls.{status_in}
 use Rattle.sercos_service_drive.specs.Log.{Taken, Entry}
 use Rattle.sercos_service_drive.specs.Replies.{element_words, words_at, copy}
 use Rattle.sercos_service_drive.specs.Writes.{Write, writes_of, AreAlike, without_data}
@@ -30,7 +30,7 @@ use Rattle.sercos_law_channel.specs.Handshake.Transfers.{IsTransfer}
 use Rattle.sercos_law_channel.specs.Handshake.ReadTransfers.{entry_behind}
 use Rattle.sercos_law_channel.proofs.Handshake.AttributeReplies.{find-alike}
 use Rattle.sercos_law_channel.proofs.Handshake.ReadRows.{row}
-use Rattle.sercos_law_channel.specs.Handshake.CommandTransfers.{idn_of, setting, second_of, set_by}
+use Rattle.sercos_law_channel.specs.Handshake.CommandTransfers.{idn_of, setting, second_of, added_by_setting}
 use Rattle.sercos_law_channel.proofs.Handshake.TransferSteps.{newest_step, without_newest, goes_on-outcome_of, length-replies_of}
 use Rattle.sercos_law_channel.proofs.Handshake.UnknownBlocks.{only_opening}
 use Rattle.sercos_law_channel.proofs.Handshake.ReadStages.{low_of, high_of, Short, Long}
@@ -227,8 +227,8 @@ module _ (idn : Idn) (blocks : List Block) (b : Block) (found : find_block idn.r
   -- after its setting, that is the newest write to the command
   set_at : (e x : Entry) (entries : List Entry) → IsTransfer asked blocks e entries log → second_of entries ≡ Some x → newest_at idn.raw (writes_of (entries ++ log) ++ ago) ≡ Some x.taken.cycle
   set_at e x entries is those =
-      let adds : writes_of (entries ++ log) ≡ set_by idn.raw (second_of entries) ++ writes_of log = (command.stage_before idn b blocks found e entries log is).1 in
-      let set : set_by idn.raw (second_of entries) ≡ setting idn.raw 3 x ∷ [] = ap (set_by idn.raw) those ∙ cond-false x.answer.error [] (setting idn.raw 3 x ∷ []) (second_good e x entries is those) in
+      let adds : writes_of (entries ++ log) ≡ added_by_setting idn.raw (second_of entries) ++ writes_of log = (command.stage_before idn b blocks found e entries log is).1 in
+      let set : added_by_setting idn.raw (second_of entries) ≡ setting idn.raw 3 x ∷ [] = ap (added_by_setting idn.raw) those ∙ cond-false x.answer.error [] (setting idn.raw 3 x ∷ []) (second_good e x entries is those) in
       ap (λ (l : List Write). newest_at idn.raw (l ++ ago)) (adds ∙ ap (λ (l : List Write). l ++ writes_of log) set)
       ∙ cond-true (idn.raw == idn.raw) (Some x.taken.cycle) (newest_at idn.raw (writes_of log ++ ago)) (eq-eqb idn.raw idn.raw refl)
 

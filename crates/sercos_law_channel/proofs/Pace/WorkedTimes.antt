@@ -13,7 +13,8 @@ use Rattle.sercos_step.specs.declared.request.Request.{Request}
 use Rattle.sercos_step.specs.declared.request.Request.TheVariants as request
 use Rattle.sercos_block.specs.declared.block.Block.{Block}
 use Rattle.sercos_block.specs.Blocks.{element_of}
-use Rattle.sercos_command.specs.Settings.{CommandsView, find_set}
+use Rattle.sercos_command.specs.Calls.{CommandHistory}
+use Rattle.sercos_command.specs.Kept.{find_set, set_in}
 use Rattle.sercos_service_drive.specs.Replies.{element_words, bytes_written, write_cause}
 use Rattle.sercos_service_drive.specs.Writes.{AreAlike}
 use Rattle.sercos_service_master.specs.Begun.{answers_in}
@@ -53,8 +54,8 @@ number = record {
 abbrev block : Block
 block = record { idn = record { raw = 1 }; attribute = number; name = None; unit = None; min = None; max = None; value = 0 ∷ 0 ∷ []; max_len = 0; fixed = false; step = 0; fails = false }
 
-abbrev commands : CommandsView
-commands = record { rate = 2; time = 3; set = []; passed_127 = None; passed_128 = None }
+abbrev commands : CommandHistory
+commands = record { rate = 2; time = 3; calls = [] }
 
 abbrev status : Status
 status = record { ahs = false; busy = false; error = false; change = false; cyclic = 0; cyclic_low = refl; cyclic_apart = apart }
@@ -180,8 +181,8 @@ works_timed = comes_timed 3 (working 13) (carried wanting 13 start refl (carried
     carried c (suc n) more is are = (
       carried c n more is are,
       record {
-        takes = ap (λ (k : CommandsView). k.time) is;
-        carried = λ raw s found. let none : find_set raw c.commands.set ≡ None = ap (λ (k : CommandsView). find_set raw k.set) is in absurd (cc);
+        takes = ap (λ (k : CommandHistory). k.time) is;
+        carried = λ raw s found. let none : find_set raw (set_in c.commands) ≡ None = ap (λ (k : CommandHistory). find_set raw (set_in k)) is in absurd (cc);
       },
     )
 

@@ -4,7 +4,7 @@ use Rattle.std.specs.Prelude.{ℕ, nat_le, nat_lt, Bool, false, not, ◌&&◌, �
 use Rattle.sercos_telegram.specs.declared.words.Status.{Status}
 use Rattle.sercos_step.specs.declared.request.Request.{Request}
 use Rattle.sercos_block.specs.declared.block.Block.{Block}
-use Rattle.sercos_command.specs.Settings.{CommandsView}
+use Rattle.sercos_command.specs.Calls.{CommandHistory}
 use Rattle.sercos_service_drive.specs.Says.{Shown, channel_says}
 use Rattle.sercos_service_drive.specs.Writes.{AreAlike}
 use Rattle.sercos_service_master.specs.Begun.{Begun, Said, open_in, master_says}
@@ -21,14 +21,14 @@ pub record Choice : Type 0 where
   pub mst_comes : Bool
   pub whole : Bool
   pub checked : Bool
-  pub showing : CommandsView
+  pub showing : CommandHistory
   pub others : Status
   pub at_comes : Bool
   pub wants : Option Request
   pub sends : Bool
   pub mdt_comes : Bool
   pub blocks : List Block
-  pub commands : CommandsView
+  pub commands : CommandHistory
   pub falls : Bool
   pub rises : Bool
 

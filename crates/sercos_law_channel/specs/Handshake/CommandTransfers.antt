@@ -11,7 +11,7 @@ use Rattle.sercos_step.specs.Steps.{outcome_of}
 use Rattle.sercos_block.specs.declared.block.Block.{Block}
 use Rattle.sercos_block.specs.Blocks.{is_protected}
 use Rattle.sercos_block.specs.Stores.{find_block}
-use Rattle.sercos_command.specs.Settings.{status_in}
+use Rattle.sercos_command.specs.Calls.{status_in}
 use Rattle.sercos_service_drive.specs.Log.{Entry}
 use Rattle.sercos_service_drive.specs.Replies.{refused}
 use Rattle.sercos_service_drive.specs.Writes.{Write, writes_of}
@@ -29,9 +29,9 @@ second_of (e ∷ []) = None
 second_of (e ∷ d ∷ []) = Some e
 second_of (e ∷ d ∷ c ∷ entries) = second_of (d ∷ c ∷ entries)
 
-abbrev pub set_by : ℕ → Option Entry → List Write
-set_by raw None = []
-set_by raw (Some e) = if e.answer.error then [] else setting raw 3 e ∷ []
+abbrev pub added_by_setting : ℕ → Option Entry → List Write
+added_by_setting raw None = []
+added_by_setting raw (Some e) = if e.answer.error then [] else setting raw 3 e ∷ []
 
 -- the newest of them adds the cancel, if it completes the transfer
 abbrev pub cancelled_by : ℕ → Bool → Entry → List Write
@@ -42,7 +42,7 @@ cancelled_by raw complete e = if complete then setting raw 0 e ∷ [] else []
 abbrev pub SetsAndCancels : Type 0
 SetsAndCancels = (idn : Idn) (blocks : List Block) (e : Entry) (entries log : List Entry) → IsTransfer (request.Command idn) blocks e entries log →
     writes_of ((e ∷ entries) ++ log) ≡
-    cancelled_by idn.raw (is_complete (outcome_of (request.Command idn) (replies_of (e ∷ entries)))) e ++ (set_by idn.raw (second_of (e ∷ entries)) ++ writes_of log)
+    cancelled_by idn.raw (is_complete (outcome_of (request.Command idn) (replies_of (e ∷ entries)))) e ++ (added_by_setting idn.raw (second_of (e ∷ entries)) ++ writes_of log)
 
 -- the operation data is write protected in the phase of each of these entries
 abbrev pub AreProtected : Attribute → List Entry → Type 0

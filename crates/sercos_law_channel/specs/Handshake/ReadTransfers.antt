@@ -9,7 +9,7 @@ use Rattle.sercos_step.specs.Steps.{outcome_of, steps_before}
 use Rattle.sercos_block.specs.declared.block.Block.{Block}
 use Rattle.sercos_block.specs.Blocks.{element_of}
 use Rattle.sercos_block.specs.Stores.{find_block, IsStore}
-use Rattle.sercos_command.specs.Settings.{status_in}
+use Rattle.sercos_command.specs.Calls.{status_in}
 use Rattle.sercos_service_drive.specs.Log.{Taken, Entry}
 use Rattle.sercos_service_drive.specs.Replies.{data_in, read_cause}
 use Rattle.sercos_service_drive.specs.Writes.{without_data}

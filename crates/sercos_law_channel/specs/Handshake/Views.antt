@@ -3,7 +3,7 @@ use Rattle.std.specs.Prelude.{ℕ, ◌+◌, ◌==◌, nat_le, Bool, false, not, 
 use Rattle.sercos_telegram.specs.declared.words.Status.{Status}
 use Rattle.sercos_step.specs.declared.request.Request.{Request}
 use Rattle.sercos_block.specs.declared.block.Block.{Block}
-use Rattle.sercos_command.specs.Settings.{CommandsView}
+use Rattle.sercos_command.specs.Calls.{CommandHistory}
 use Rattle.sercos_service_drive.specs.Log.{Taken}
 use Rattle.sercos_service_master.specs.Begun.{Said}
 
@@ -25,7 +25,7 @@ pub record View : Type 0 where
   -- whether the drive's check for the commanded phase, 3 or 4, counts as passed
   pub checked : Bool
   -- its procedure commands at its AT, and what the master receives of that AT: nothing if none was sent, or it was lost
-  pub showing : CommandsView
+  pub showing : CommandHistory
   pub heard : Option Heard
   -- the request that the master begins
   pub begins : Option Request
@@ -34,7 +34,7 @@ pub record View : Type 0 where
   pub mdt_comes : Bool
   -- the drive's blocks and procedure commands when it arrives
   pub blocks : List Block
-  pub commands : CommandsView
+  pub commands : CommandHistory
   -- whether the master falls at the end of the cycle, or rises to the next phase
   pub falls : Bool
   pub rises : Bool

@@ -11,7 +11,8 @@ use Rattle.sercos_step.specs.Words.{shape_of, shape_by, words_told}
 use Rattle.sercos_block.specs.declared.block.Block.{Block}
 use Rattle.sercos_block.specs.Stores.{find_block}
 use Rattle.sercos_command.specs.declared.commands.SetCommand.{SetCommand}
-use Rattle.sercos_command.specs.Settings.{find_set, status_in}
+use Rattle.sercos_command.specs.Calls.{status_in}
+use Rattle.sercos_command.specs.Kept.{find_set, set_in}
 use Rattle.sercos_service_drive.specs.Log.{Entry}
 use Rattle.sercos_service_drive.specs.Writes.{Write, commands_with}
 use Rattle.sercos_service_master.specs.Begun.{Begun, answers_in}
@@ -48,11 +49,11 @@ AreTimed time (v ∷ past) = AreTimed time past × IsTimed time v past
 -- This holds if what is set when an MDT arrives was set at the end of the cycle before, and a command runs for `time` cycles.
 abbrev pub set_after : List View → List SetCommand
 set_after [] = []
-set_after (v ∷ past) = (commands_with (write_of (processed_in v past) (kept_in v past)) v.blocks v.commands).set
+set_after (v ∷ past) = set_in (commands_with (write_of (processed_in v past) (kept_in v past)) v.blocks v.commands)
 
 pub record IsCarried (time : ℕ) (v : View) (past : List View) : Type 0 where
   pub takes : v.commands.time ≡ time
-  pub carried : (raw : ℕ) (s : SetCommand) → find_set raw v.commands.set ≡ Some s → find_set raw (set_after past) ≡ Some s
+  pub carried : (raw : ℕ) (s : SetCommand) → find_set raw (set_in v.commands) ≡ Some s → find_set raw (set_after past) ≡ Some s
 
 abbrev pub AreCarried : ℕ → List View → Type 0
 AreCarried time [] = Unit {0}

@@ -25,7 +25,7 @@ use Rattle.sercos_law_run.specs.Undisturbed.ViewsSince.{views_since}
 use Rattle.sercos_law_run.proofs.Undisturbed.JobsBegun.{begun_end}
 use Rattle.sercos_law_run.proofs.Undisturbed.PhaseTwo.{shifted, sum_within}
 use Rattle.sercos_law_run.proofs.Undisturbed.Sections.{none_idle}
-use Rattle.sercos_law_run.proofs.Undisturbed.Small.{some_is}
+use Rattle.sercos_law_run.proofs.Undisturbed.Arriving.Small.{some_is}
 use Rattle.sercos_law_run.specs.Recovery.FallsInTime.{IsSpared}
 use Rattle.sercos_law_run.specs.Recovery.Stretches.{IsDown, IsStretch}
 use Rattle.sercos_law_run.proofs.Recovery.DownSince.{calm_quiet, down_all, in_two, never_open, open_at_most}

@@ -22,9 +22,9 @@ use Rattle.sercos_law_run.specs.Undisturbed.Sections.{AreInTwo, GoesOnInTwo}
 use Rattle.sercos_law_run.specs.Undisturbed.StartUps.{NoneFalls}
 use Rattle.sercos_law_run.specs.Undisturbed.Undisturbed.{AreUndisturbed}
 use Rattle.sercos_law_run.specs.Undisturbed.ViewsSince.{views_since}
-use Rattle.sercos_law_run.proofs.Undisturbed.Comes.{calm_in}
+use Rattle.sercos_law_run.proofs.Undisturbed.Arriving.Comes.{calm_in}
 use Rattle.sercos_law_run.proofs.Undisturbed.JobsBegun.{begun_end}
-use Rattle.sercos_law_run.proofs.Undisturbed.PassedCycles.{views_split}
+use Rattle.sercos_law_run.proofs.Undisturbed.Checks.PassedCycles.{views_split}
 use Rattle.sercos_law_run.specs.Recovery.Stretches.{IsDown, IsStretch, IsUpNow}
 use Rattle.sercos_law_run.proofs.Recovery.LateDown.{next_up, not_true, phase_now}
 use Rattle.sercos_law_run.proofs.Recovery.Limits.{open_age}

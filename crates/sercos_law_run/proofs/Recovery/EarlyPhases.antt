@@ -16,8 +16,8 @@ use Rattle.sercos_law_run.proofs.Views.Members.{members_count}
 use Rattle.sercos_law_run.specs.Held.Opened.{IsOpened}
 use Rattle.sercos_law_run.proofs.Headline.HeadlineRuns.{all_stand}
 use Rattle.sercos_law_run.specs.Undisturbed.Undisturbed.{IsUndisturbed}
-use Rattle.sercos_law_run.proofs.Undisturbed.Arrivals.{not_false}
-use Rattle.sercos_law_run.proofs.Undisturbed.Comes.{calm_in}
+use Rattle.sercos_law_run.proofs.Undisturbed.Arriving.Arrivals.{not_false}
+use Rattle.sercos_law_run.proofs.Undisturbed.Arriving.Comes.{calm_in}
 use Rattle.sercos_law_run.proofs.Undisturbed.Identified.{heard_next, phase_comes}
 use Rattle.sercos_law_run.proofs.Undisturbed.NoFalls.{heard_mdt, none_from}
 use Rattle.sercos_law_run.proofs.Undisturbed.PhaseCounts.{end_kept}

@@ -21,10 +21,10 @@ use Rattle.sercos_seat.specs.Seats.{AreWaiting}
 use Rattle.sercos_law_run.specs.Views.RingViews.{at_start, behind_mdt}
 use Rattle.sercos_law_run.proofs.Views.MasterSame.{begun_cycle, turn_mdt}
 use Rattle.sercos_law_run.proofs.Views.ViewRuns.{started}
-use Rattle.sercos_law_run.proofs.Undisturbed.AfterAt.{after_at_so}
+use Rattle.sercos_law_run.proofs.Undisturbed.Arriving.AfterAt.{after_at_so}
 use Rattle.sercos_law_run.proofs.Undisturbed.PhaseZero.{none_first}
-use Rattle.sercos_law_run.proofs.Undisturbed.StopsTold.{fresh}
-use Rattle.sercos_law_run.proofs.Undisturbed.StopStays.{stop_after, stop_kept}
+use Rattle.sercos_law_run.proofs.Undisturbed.Stops.StopsTold.{fresh}
+use Rattle.sercos_law_run.proofs.Undisturbed.Stops.StopStays.{stop_after, stop_kept}
 use Rattle.sercos_law_run.specs.Recovery.Recovers.{StandsAt}
 use Rattle.sercos_law_run.proofs.Recovery.EpochStops.{same_start}
 use Rattle.sercos_law_run.proofs.Recovery.LateDown.{phase_now}

@@ -20,12 +20,12 @@ use Rattle.sercos_law_run.specs.Undisturbed.EpochStarts.{StartsEpoch}
 use Rattle.sercos_law_run.specs.Undisturbed.StartUps.{NoneFalls}
 use Rattle.sercos_law_run.specs.Undisturbed.Undisturbed.{AreUndisturbed, IsUndisturbed}
 use Rattle.sercos_law_run.specs.Undisturbed.WholeRuns.{HasTold}
-use Rattle.sercos_law_run.proofs.Undisturbed.Comes.{calm_in}
+use Rattle.sercos_law_run.proofs.Undisturbed.Arriving.Comes.{calm_in}
 use Rattle.sercos_law_run.proofs.Undisturbed.PhaseZero.{in_zero}
-use Rattle.sercos_law_run.proofs.Undisturbed.Small.{none_some}
-use Rattle.sercos_law_run.proofs.Undisturbed.StopOnce.{at_stops, mdt_stops, none_new}
-use Rattle.sercos_law_run.proofs.Undisturbed.StopsTold.{ats_kept, fresh}
-use Rattle.sercos_law_run.proofs.Undisturbed.StopStays.{ats_same, mdt_stop, stop_after, stop_kept}
+use Rattle.sercos_law_run.proofs.Undisturbed.Arriving.Small.{none_some}
+use Rattle.sercos_law_run.proofs.Undisturbed.Stops.StopOnce.{at_stops, mdt_stops, none_new}
+use Rattle.sercos_law_run.proofs.Undisturbed.Stops.StopsTold.{ats_kept, fresh}
+use Rattle.sercos_law_run.proofs.Undisturbed.Stops.StopStays.{ats_same, mdt_stop, stop_after, stop_kept}
 
 module _ (r : RingView) (jobs : List Job) (carry : Carry) (restarts : Restarts) where
   pub same_start : (j : List CycleView) → restarts (length j) 0 ≡ false → at_start r jobs carry restarts j ≡ looks_back r jobs (master_calls r carry restarts j)

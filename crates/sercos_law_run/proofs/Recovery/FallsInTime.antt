@@ -14,10 +14,10 @@ use Rattle.sercos_law_run.specs.Journal.Runs.{looks_back, master_calls, no_drive
 use Rattle.sercos_law_run.specs.Views.RingViews.{at_start, behind_mdt}
 use Rattle.sercos_law_run.specs.Held.Opened.{IsOpened}
 use Rattle.sercos_law_run.specs.Undisturbed.Sections.{AreInTwo, GoesOnInTwo}
-use Rattle.sercos_law_run.proofs.Undisturbed.Comes.{calm_in}
+use Rattle.sercos_law_run.proofs.Undisturbed.Arriving.Comes.{calm_in}
 use Rattle.sercos_law_run.proofs.Undisturbed.JobsBegun.{planned_now}
 use Rattle.sercos_law_run.proofs.Undisturbed.PhaseCounts.{end_kept}
-use Rattle.sercos_law_run.proofs.Undisturbed.StopStays.{none_before, stop_after}
+use Rattle.sercos_law_run.proofs.Undisturbed.Stops.StopStays.{none_before, stop_after}
 use Rattle.sercos_law_run.specs.Recovery.FallsInTime.{IsSpared}
 use Rattle.sercos_law_run.specs.Recovery.Stretches.{IsDown, IsStretch}
 use Rattle.sercos_law_run.proofs.Recovery.BeforeFall.{few_within}

@@ -27,13 +27,13 @@ use Rattle.sercos_law_run.specs.Held.Opened.{IsOpened}
 use Rattle.sercos_law_run.proofs.Headline.HeadlineRuns.{all_stand}
 use Rattle.sercos_law_run.specs.Undisturbed.EpochStarts.{Falls}
 use Rattle.sercos_law_run.specs.Undisturbed.Undisturbed.{IsUndisturbed}
-use Rattle.sercos_law_run.proofs.Undisturbed.AfterAt.{after_at_so}
+use Rattle.sercos_law_run.proofs.Undisturbed.Arriving.AfterAt.{after_at_so}
 use Rattle.sercos_law_run.proofs.Undisturbed.ChannelsKept.{ats_leave}
-use Rattle.sercos_law_run.proofs.Undisturbed.Comes.{calm_in}
+use Rattle.sercos_law_run.proofs.Undisturbed.Arriving.Comes.{calm_in}
 use Rattle.sercos_law_run.proofs.Undisturbed.NoFalls.{heard_mdt}
-use Rattle.sercos_law_run.proofs.Undisturbed.PassedCycles.{passed_undisturbed}
+use Rattle.sercos_law_run.proofs.Undisturbed.Checks.PassedCycles.{passed_undisturbed}
 use Rattle.sercos_law_run.proofs.Undisturbed.PhaseCounts.{end_kept}
-use Rattle.sercos_law_run.proofs.Undisturbed.WholeIn.{whole_in}
+use Rattle.sercos_law_run.proofs.Undisturbed.Arriving.WholeIn.{whole_in}
 use Rattle.sercos_law_run.specs.Recovery.Stretches.{IsDown, IsStretch, IsUpNow}
 use Rattle.sercos_law_run.proofs.Recovery.Stretches.{stays_down_in}
 use Rattle.sercos_law_run.proofs.Recovery.UpNext.{phase_next, up_next}

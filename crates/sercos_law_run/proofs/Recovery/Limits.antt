@@ -28,7 +28,7 @@ use Rattle.sercos_law_run.proofs.Views.Members.{members_count}
 use Rattle.sercos_law_run.specs.Held.Opened.{IsOpened}
 use Rattle.sercos_law_run.proofs.Headline.HeadlineRuns.{all_stand}
 use Rattle.sercos_law_run.proofs.Undisturbed.ChannelsKept.{calls_now}
-use Rattle.sercos_law_run.proofs.Undisturbed.Sending.{sends_in}
+use Rattle.sercos_law_run.proofs.Undisturbed.Arriving.Sending.{sends_in}
 use Rattle.sercos_law_run.proofs.Recovery.LateDown.{found, not_one, not_true, phase_now}
 use Rattle.sercos_law_channel.proofs.Pace.CallAges.{ages_before_end}
 

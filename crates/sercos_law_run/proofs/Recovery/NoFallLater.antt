@@ -23,9 +23,9 @@ use Rattle.sercos_law_run.specs.Undisturbed.Undisturbed.{IsUndisturbed}
 use Rattle.sercos_law_run.proofs.Undisturbed.ChannelsKept.{calls_now}
 use Rattle.sercos_law_run.proofs.Undisturbed.NeverFalls.{busy_low}
 use Rattle.sercos_law_run.proofs.Undisturbed.NoFalls.{has_risen, heard_mdt, no_fall}
-use Rattle.sercos_law_run.proofs.Undisturbed.Sending.{sends_in}
+use Rattle.sercos_law_run.proofs.Undisturbed.Arriving.Sending.{sends_in}
 use Rattle.sercos_law_run.proofs.Undisturbed.StaysUp.{heard_then, whole_now}
-use Rattle.sercos_law_run.proofs.Undisturbed.WholeIn.{whole_in}
+use Rattle.sercos_law_run.proofs.Undisturbed.Arriving.WholeIn.{whole_in}
 use Rattle.sercos_law_run.specs.Recovery.Stretches.{IsDown, IsStretch}
 use Rattle.sercos_law_run.proofs.Recovery.AgesLater.{age_next, ages_later}
 use Rattle.sercos_law_run.proofs.Recovery.LateDown.{next_up, phase_now}

@@ -16,11 +16,11 @@ use Rattle.sercos_master.proofs.Planned.{at_adds}
 use Rattle.sercos_law_channel.specs.Handshake.Epochs.{with_begun}
 use Rattle.sercos_law_run.specs.Views.RingViews.{request_of}
 use Rattle.sercos_law_run.proofs.Views.MasterSame.{begun_so, turn_mdt}
-use Rattle.sercos_law_run.proofs.Undisturbed.AfterAt.{after_at_so}
+use Rattle.sercos_law_run.proofs.Undisturbed.Arriving.AfterAt.{after_at_so}
 use Rattle.sercos_law_run.proofs.Undisturbed.EpochCycles.{longer}
-use Rattle.sercos_law_run.proofs.Undisturbed.Arrivals.{not_false}
+use Rattle.sercos_law_run.proofs.Undisturbed.Arriving.Arrivals.{not_false}
 use Rattle.sercos_law_run.proofs.Undisturbed.InOrder.{at_leaves_count, before_first, begins_in_turn}
-use Rattle.sercos_law_run.proofs.Undisturbed.Small.{some_is}
+use Rattle.sercos_law_run.proofs.Undisturbed.Arriving.Small.{some_is}
 
 -- a drive that has been read stays so
 read_stays : (m : MemberView) (outs : List Outcome) (o : Option Outcome) → is_read m outs ≡ true → is_read m (with_outcome o outs) ≡ true

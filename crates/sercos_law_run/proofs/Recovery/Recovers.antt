@@ -26,11 +26,11 @@ use Rattle.sercos_law_run.specs.Undisturbed.StopsInTwo.{StopsForTheCycleTime, St
 use Rattle.sercos_law_run.specs.Undisturbed.StopsLater.{IsRight, StopsForTheCheck}
 use Rattle.sercos_law_run.specs.Undisturbed.Undisturbed.{AreUndisturbed, IsUndisturbed}
 use Rattle.sercos_law_run.proofs.Undisturbed.Answered.{tells_in}
-use Rattle.sercos_law_run.proofs.Undisturbed.Comes.{calm_in}
+use Rattle.sercos_law_run.proofs.Undisturbed.Arriving.Comes.{calm_in}
 use Rattle.sercos_law_run.proofs.Undisturbed.EpochCycles.{AreOn, IsCut, IsOn, cut, none_along, run_rest}
 use Rattle.sercos_law_run.proofs.Undisturbed.InTime.{within_bound}
-use Rattle.sercos_law_run.proofs.Undisturbed.Small.{first_is}
-use Rattle.sercos_law_run.proofs.Undisturbed.StopStays.{stop_after}
+use Rattle.sercos_law_run.proofs.Undisturbed.Arriving.Small.{first_is}
+use Rattle.sercos_law_run.proofs.Undisturbed.Stops.StopStays.{stop_after}
 use Rattle.sercos_law_run.proofs.Undisturbed.ToldInTime.{IsTold, beyond, left_first, left_in_epoch, left_in_time, numbers_long, told_since, told_there}
 use Rattle.sercos_law_run.proofs.Undisturbed.WholeRuns.{caused}
 use Rattle.sercos_law_run.specs.Recovery.FallsInTime.{IsSpared}

@@ -27,13 +27,13 @@ use Rattle.sercos_law_run.specs.Held.Opened.{IsOpened}
 use Rattle.sercos_law_run.specs.Undisturbed.StopsInTwo.{StopsForTheCycleTime, StopsForThePlan}
 use Rattle.sercos_law_run.specs.Undisturbed.StopsLater.{StopsForTheCheck}
 use Rattle.sercos_law_run.specs.Undisturbed.Undisturbed.{IsUndisturbed}
-use Rattle.sercos_law_run.proofs.Undisturbed.Comes.{calm_in}
+use Rattle.sercos_law_run.proofs.Undisturbed.Arriving.Comes.{calm_in}
 use Rattle.sercos_law_run.proofs.Undisturbed.JobsBegun.{begun_end}
 use Rattle.sercos_law_run.proofs.Undisturbed.NeverFalls.{busy_low}
 use Rattle.sercos_law_run.proofs.Undisturbed.NoFalls.{mst_kept, none_from}
-use Rattle.sercos_law_run.proofs.Undisturbed.Small.{some_is}
+use Rattle.sercos_law_run.proofs.Undisturbed.Arriving.Small.{some_is}
 use Rattle.sercos_law_run.proofs.Undisturbed.StaysUp.{whole_now}
-use Rattle.sercos_law_run.proofs.Undisturbed.StopStays.{stop_after, stop_kept}
+use Rattle.sercos_law_run.proofs.Undisturbed.Stops.StopStays.{stop_after, stop_kept}
 use Rattle.sercos_law_run.specs.Recovery.FallsInTime.{IsSpared}
 use Rattle.sercos_law_run.specs.Recovery.Stretches.{IsDown, IsStretch}
 use Rattle.sercos_law_run.proofs.Recovery.AgesLater.{ages_later}

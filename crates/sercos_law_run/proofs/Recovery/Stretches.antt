@@ -28,12 +28,12 @@ use Rattle.sercos_law_run.proofs.Headline.HeadlineRuns.{all_stand, first_store}
 use Rattle.sercos_law_run.specs.Undisturbed.StartUps.{NoneFalls}
 use Rattle.sercos_law_run.specs.Undisturbed.Undisturbed.{AreUndisturbed, IsUndisturbed}
 use Rattle.sercos_law_run.specs.Undisturbed.ViewsSince.{views_since}
-use Rattle.sercos_law_run.proofs.Undisturbed.Carried.{are_carried}
-use Rattle.sercos_law_run.proofs.Undisturbed.CommandRuns.{first_commands}
+use Rattle.sercos_law_run.proofs.Undisturbed.Checks.Carried.{are_carried}
+use Rattle.sercos_law_run.proofs.Undisturbed.Checks.CommandRuns.{first_commands}
 use Rattle.sercos_law_run.proofs.Undisturbed.NeverFalls.{runs_split, whole_then}
-use Rattle.sercos_law_run.proofs.Undisturbed.PassedCycles.{views_split}
-use Rattle.sercos_law_run.proofs.Undisturbed.PassedRuns.{commands_so}
-use Rattle.sercos_law_run.proofs.Undisturbed.WholeIn.{whole_in}
+use Rattle.sercos_law_run.proofs.Undisturbed.Checks.PassedCycles.{views_split}
+use Rattle.sercos_law_run.proofs.Undisturbed.Checks.PassedRuns.{commands_so}
+use Rattle.sercos_law_run.proofs.Undisturbed.Arriving.WholeIn.{whole_in}
 use Rattle.sercos_law_run.specs.Recovery.Stretches.{IsDown, IsStretch, IsUpNow}
 use Rattle.sercos_law_run.specs.Recovery.UpOrDown.{KeepsUp}
 use Rattle.sercos_law_channel.proofs.Cited.{rest_in_cost, rest_since}

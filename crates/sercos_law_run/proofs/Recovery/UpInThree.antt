@@ -35,17 +35,17 @@ use Rattle.sercos_law_run.specs.Undisturbed.Sections.{AreInThree}
 use Rattle.sercos_law_run.specs.Undisturbed.StopsLater.{IsRight}
 use Rattle.sercos_law_run.specs.Undisturbed.ViewsSince.{views_since}
 use Rattle.sercos_law_run.proofs.Undisturbed.BehindRests.{Follow, follow_since}
-use Rattle.sercos_law_run.proofs.Undisturbed.Comes.{calm_in}
+use Rattle.sercos_law_run.proofs.Undisturbed.Arriving.Comes.{calm_in}
 use Rattle.sercos_law_run.proofs.Undisturbed.JobsBegun.{begun_now, places_now, tasks_now}
 use Rattle.sercos_law_run.proofs.Undisturbed.JobsCost.{check_fits, list_fits}
 use Rattle.sercos_law_run.proofs.Undisturbed.NeverFalls.{busy_low}
-use Rattle.sercos_law_run.proofs.Undisturbed.PassedCycles.{views_split}
+use Rattle.sercos_law_run.proofs.Undisturbed.Checks.PassedCycles.{views_split}
 use Rattle.sercos_law_run.proofs.Undisturbed.PhaseCounts.{end_kept}
 use Rattle.sercos_law_run.proofs.Undisturbed.PhaseThree.{begun_few}
 use Rattle.sercos_law_run.proofs.Undisturbed.PhaseTwo.{listed_all}
 use Rattle.sercos_law_run.proofs.Undisturbed.Reached.{all_checked_in}
 use Rattle.sercos_law_run.proofs.Undisturbed.Sections.{never_idle}
-use Rattle.sercos_law_run.proofs.Undisturbed.ShortLists.{few_blocks, lists_short, longest_list}
+use Rattle.sercos_law_run.proofs.Undisturbed.Checks.ShortLists.{few_blocks, lists_short, longest_list}
 use Rattle.sercos_law_run.proofs.Undisturbed.Cited.{ReadyIfEnded}
 use Rattle.sercos_law_run.specs.Recovery.Stretches.{IsDown, IsStretch}
 use Rattle.sercos_law_run.proofs.Recovery.DownSince.{shorter, up_all}

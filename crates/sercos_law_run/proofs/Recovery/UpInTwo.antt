@@ -20,7 +20,7 @@ use Rattle.sercos_law_run.proofs.Undisturbed.JobsBegun.{few_now, places_now}
 use Rattle.sercos_law_run.proofs.Undisturbed.JobsCost.{two_fits}
 use Rattle.sercos_law_run.proofs.Undisturbed.PhaseTwo.{listed_all, section_two, sum_within}
 use Rattle.sercos_law_run.proofs.Undisturbed.Sections.{none_idle}
-use Rattle.sercos_law_run.proofs.Undisturbed.StopStays.{stop_after}
+use Rattle.sercos_law_run.proofs.Undisturbed.Stops.StopStays.{stop_after}
 use Rattle.sercos_law_run.specs.Recovery.Stretches.{IsDown, IsStretch}
 use Rattle.sercos_law_run.proofs.Recovery.DownSince.{not_down, shorter}
 use Rattle.sercos_law_run.proofs.Recovery.FallsInTime.{are_in_two}

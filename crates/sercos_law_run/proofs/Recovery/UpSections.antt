@@ -43,7 +43,7 @@ use Rattle.sercos_law_run.proofs.Undisturbed.BehindRests.{Follow, follow_on}
 use Rattle.sercos_law_run.proofs.Undisturbed.InOrder.{in_order}
 use Rattle.sercos_law_run.proofs.Undisturbed.JobPlaces.{some_plan}
 use Rattle.sercos_law_run.proofs.Undisturbed.JobsBegun.{begun_now, few_now, places_now}
-use Rattle.sercos_law_run.proofs.Undisturbed.PassedCycles.{views_split}
+use Rattle.sercos_law_run.proofs.Undisturbed.Checks.PassedCycles.{views_split}
 use Rattle.sercos_law_run.proofs.Undisturbed.PhaseTwo.{listed_all}
 use Rattle.sercos_law_run.specs.Recovery.Stretches.{IsDown, IsStretch}
 use Rattle.sercos_law_run.proofs.Recovery.DownSince.{NeverRestarts, calm_quiet, in_two, not_down, outcomes_stay}

@@ -14,7 +14,7 @@ use Rattle.sercos_service_drive.specs.Log.{Entry, open_idn, run_before}
 use Rattle.sercos_service_drive.specs.Writes.{with_added, written_by, writes_of}
 use Rattle.sercos_law_channel.specs.Handshake.InStep.{replies_of}
 use Rattle.sercos_law_channel.specs.Handshake.Transfers.{IsTransfer, is_complete}
-use Rattle.sercos_law_channel.specs.Handshake.CommandTransfers.{setting, second_of, set_by, cancelled_by, GivesStatus}
+use Rattle.sercos_law_channel.specs.Handshake.CommandTransfers.{setting, second_of, added_by_setting, cancelled_by, GivesStatus}
 use Rattle.sercos_law_channel.proofs.Theorems.{newest_step, without_newest, goes_on-outcome_of}
 use Rattle.sercos_law_channel.specs.Handshake.Values.{newest_to}
 use Rattle.sercos_law_channel.proofs.Handshake.CommandEnds.{ends_with_status}
@@ -51,7 +51,7 @@ module _ (idn : Idn) (blocks : List Block) where
       let was = without_newest (request.Command idn) blocks log e poll before is in
       let second = second_fine (request.Command idn) poll before is.in_turn is.goes_on long in
       ap (newest_to idn.raw) (sym (read_adds poll (before ++ log) reads) ∙ sets_and_cancels idn blocks poll before log was
-      ∙ ap₂ (λ (o : Option Outcome) (s : Option Entry). cancelled_by idn.raw (is_complete o) poll ++ (set_by idn.raw s ++ writes_of log)) is.goes_on second.1)
+      ∙ ap₂ (λ (o : Option Outcome) (s : Option Entry). cancelled_by idn.raw (is_complete o) poll ++ (added_by_setting idn.raw s ++ writes_of log)) is.goes_on second.1)
       ∙ ap (λ (v : Bool). newest_to idn.raw ((if v then [] else setting idn.raw 3 second.0 ∷ []) ++ writes_of log)) second.2
       ∙ ap (λ (v : Bool). if v then Some (3 ∷ 0 ∷ []) else newest_to idn.raw (writes_of log)) (eq-eqb idn.raw idn.raw refl)
 

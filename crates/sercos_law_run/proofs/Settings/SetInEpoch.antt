@@ -3,7 +3,8 @@ use Rattle.std.proofs.Common.{◌≡◌, ℕ, Bool, true, false, List, [], ◌�
 use Rattle.std.specs.Prelude.{◌==◌, Option, Some, is_some}
 use Rattle.std.specs.Int.{w16, from_le_bytes}
 use mathlib.Core.Bool.{beq}
-use Rattle.sercos_command.specs.Settings.{find_set, is_command}
+use Rattle.sercos_command.specs.Settings.{is_command}
+use Rattle.sercos_command.specs.Kept.{find_set, set_in}
 use Rattle.sercos_service_drive.specs.Log.{Taken, Entry, ahs, accepted}
 use Rattle.sercos_service_drive.specs.Replies.{answered, reply_of, log_of}
 use Rattle.sercos_service_drive.specs.Writes.{writes_of}
@@ -88,7 +89,7 @@ module _ (raw : ℕ) where
 
     -- so at an entry of the epoch's log
     pub set_at_entry : (past : List View) (newer : List Entry) (e : Entry) (behind : List Entry) (bytes : List ℕ) → IsRun busy past → SettingsFollow past → HaveStores (λ blocks. is_command blocks raw ≡ true) past →
-        epoch_log past ≡ newer ++ e ∷ behind → newest_to raw (writes_of behind) ≡ Some bytes → (from_le_bytes w16 bytes == 0) ≡ false → is_some (find_set raw e.taken.commands.set) ≡ true
+        epoch_log past ≡ newer ++ e ∷ behind → newest_to raw (writes_of behind) ≡ Some bytes → (from_le_bytes w16 bytes == 0) ≡ false → is_some (find_set raw (set_in e.taken.commands)) ≡ true
     set_at_entry past newer e behind bytes run follow have is newest off =
         let at = at_entry (epoch_taken past) newer e behind (epoch_set past run follow) (epoch_commands past have) is in
         set_by_writes raw at.kept e.taken.commands bytes at.set_by at.command (ap (λ (l : List Entry). newest_to raw (writes_of l)) at.log_is ∙ newest) off

@@ -6,9 +6,11 @@ use Rattle.std.proofs.lemmas.Bool.{cond_both, eq-eqb, eqb-true}
 use Rattle.sercos_block.specs.declared.block.Block.{Block}
 use Rattle.sercos_block.specs.Stores.{with_data}
 use Rattle.sercos_command.specs.declared.commands.SetCommand.{SetCommand}
-use Rattle.sercos_command.specs.Settings.{CommandsView, find_set, without, with_set, is_command, ends_well, with_write, without_checks}
+use Rattle.sercos_command.specs.Settings.{is_command, ends_well}
+use Rattle.sercos_command.specs.Calls.{Wrote, Other, CommandHistory, with_call}
+use Rattle.sercos_command.specs.Kept.{find_set, without, with_set, set_in}
 use Rattle.sercos_service_drive.specs.Replies.{log_of}
-use Rattle.sercos_service_drive.specs.Writes.{Write, with_added, added_on, setting_in, commands_with, writes_of}
+use Rattle.sercos_service_drive.specs.Writes.{Write, with_added, added_on, command_value, commands_with, writes_of}
 use Rattle.sercos_law_channel.specs.Handshake.Values.{newest_to}
 use Rattle.sercos_law_channel.proofs.Theorems.{written}
 use Rattle.sercos_law_run.specs.Settings.SetByWrites.{IsSetByWrites}
@@ -55,32 +57,30 @@ kept_without raw other (x ∷ set) off on = by (x.idn.raw == other) (x.idn.raw =
     by false false is_other is_raw on more = ap (λ (v : Bool). is_some (if v then Some x else find_set raw (without other set))) is_raw ∙ more on
 
 -- a write to another command, and a write that isn't 0
-write_other : (raw other value cycle : ℕ) (blocks : List Block) (c : CommandsView) → (other == raw) ≡ false → is_some (find_set raw c.set) ≡ true → is_some (find_set raw (with_write other value cycle blocks c).set) ≡ true
-unfolding with_write
+write_other : (raw other value cycle : ℕ) (blocks : List Block) (c : CommandHistory) → (other == raw) ≡ false → is_some (find_set raw (set_in c)) ≡ true → is_some (find_set raw (set_in (with_call (Wrote other value cycle blocks) c))) ≡ true
 write_other raw other value cycle blocks c off on = by (value == 0)
   where
-    by : (v : Bool) → is_some (find_set raw (if v then without other c.set else with_set (record { idn = record { raw = other }; cycle = cycle; well = ends_well c.rate other blocks }) c.set)) ≡ true
-    by true = kept_without raw other c.set off on
-    by false = kept_with raw (record { idn = record { raw = other }; cycle = cycle; well = ends_well c.rate other blocks }) c.set on
+    by : (v : Bool) → is_some (find_set raw (if v then without other (set_in c) else with_set (record { idn = record { raw = other }; cycle = cycle; well = ends_well c.rate other blocks }) (set_in c))) ≡ true
+    by true = kept_without raw other (set_in c) off on
+    by false = kept_with raw (record { idn = record { raw = other }; cycle = cycle; well = ends_well c.rate other blocks }) (set_in c) on
 
-write_sets : (raw value cycle : ℕ) (blocks : List Block) (c : CommandsView) → (value == 0) ≡ false → is_some (find_set raw (with_write raw value cycle blocks c).set) ≡ true
-unfolding with_write
+write_sets : (raw value cycle : ℕ) (blocks : List Block) (c : CommandHistory) → (value == 0) ≡ false → is_some (find_set raw (set_in (with_call (Wrote raw value cycle blocks) c))) ≡ true
 write_sets raw value cycle blocks c off =
-    ap (λ (v : Bool). is_some (find_set raw (if v then without raw c.set else with_set (record { idn = record { raw = raw }; cycle = cycle; well = ends_well c.rate raw blocks }) c.set))) off
-    ∙ set_with raw (record { idn = record { raw = raw }; cycle = cycle; well = ends_well c.rate raw blocks }) c.set refl
+    ap (λ (v : Bool). is_some (find_set raw (if v then without raw (set_in c) else with_set (record { idn = record { raw = raw }; cycle = cycle; well = ends_well c.rate raw blocks }) (set_in c)))) off
+    ∙ set_with raw (record { idn = record { raw = raw }; cycle = cycle; well = ends_well c.rate raw blocks }) (set_in c) refl
 
-with_other : (raw : ℕ) (w : Write) (blocks : List Block) (c : CommandsView) → (w.raw == raw) ≡ false → is_some (find_set raw c.set) ≡ true → is_some (find_set raw (commands_with (Some w) blocks c).set) ≡ true
+with_other : (raw : ℕ) (w : Write) (blocks : List Block) (c : CommandHistory) → (w.raw == raw) ≡ false → is_some (find_set raw (set_in c)) ≡ true → is_some (find_set raw (set_in (commands_with (Some w) blocks c))) ≡ true
 with_other raw w blocks c off on = by (is_command blocks w.raw)
   where
-    by : (v : Bool) → is_some (find_set raw (let d : CommandsView = if v then with_write w.raw (setting_in w) w.cycle (with_data w.raw w.bytes blocks) c else without_checks c in d.set)) ≡ true
-    by true = write_other raw w.raw (setting_in w) w.cycle (with_data w.raw w.bytes blocks) c off on
+    by : (v : Bool) → is_some (find_set raw (set_in (with_call (if v then Wrote w.raw (command_value w) w.cycle (with_data w.raw w.bytes blocks) else Other w.cycle) c))) ≡ true
+    by true = write_other raw w.raw (command_value w) w.cycle (with_data w.raw w.bytes blocks) c off on
     by false = on
 
-with_this : (raw : ℕ) (w : Write) (blocks : List Block) (c : CommandsView) → w.raw ≡ raw → is_command blocks raw ≡ true → (setting_in w == 0) ≡ false → is_some (find_set raw (commands_with (Some w) blocks c).set) ≡ true
+with_this : (raw : ℕ) (w : Write) (blocks : List Block) (c : CommandHistory) → w.raw ≡ raw → is_command blocks raw ≡ true → (command_value w == 0) ≡ false → is_some (find_set raw (set_in (commands_with (Some w) blocks c))) ≡ true
 with_this raw w blocks c same command off =
-    ap (λ (v : Bool). is_some (find_set raw (let d : CommandsView = if v then with_write w.raw (setting_in w) w.cycle (with_data w.raw w.bytes blocks) c else without_checks c in d.set))) (ap (is_command blocks) same ∙ command)
-    ∙ ap (λ (n : ℕ). is_some (find_set n (with_write w.raw (setting_in w) w.cycle (with_data w.raw w.bytes blocks) c).set)) (sym same)
-    ∙ write_sets w.raw (setting_in w) w.cycle (with_data w.raw w.bytes blocks) c off
+    ap (λ (v : Bool). is_some (find_set raw (set_in (with_call (if v then Wrote w.raw (command_value w) w.cycle (with_data w.raw w.bytes blocks) else Other w.cycle) c)))) (ap (is_command blocks) same ∙ command)
+    ∙ ap (λ (n : ℕ). is_some (find_set n (set_in (with_call (Wrote w.raw (command_value w) w.cycle (with_data w.raw w.bytes blocks)) c)))) (sym same)
+    ∙ write_sets w.raw (command_value w) w.cycle (with_data w.raw w.bytes blocks) c off
 
 pub set_by_writes : IsSetByWrites
 set_by_writes raw [] c bytes are commands newest off = absurd (cc)
@@ -88,11 +88,11 @@ set_by_writes raw (t ∷ h) c bytes are commands newest off =
     ap (λ (l : List SetCommand). is_some (find_set raw l)) are.1
     ∙ by (added_on t h) (ap (newest_to raw) (written t h) ∙ newest) (λ n. set_by_writes raw h t.commands bytes are.0 commands.0 n off)
   where
-    by : (o : Option Write) → newest_to raw (with_added o (writes_of (log_of h))) ≡ Some bytes → (newest_to raw (writes_of (log_of h)) ≡ Some bytes → is_some (find_set raw t.commands.set) ≡ true) → is_some (find_set raw (commands_with o t.blocks t.commands).set) ≡ true
+    by : (o : Option Write) → newest_to raw (with_added o (writes_of (log_of h))) ≡ Some bytes → (newest_to raw (writes_of (log_of h)) ≡ Some bytes → is_some (find_set raw (set_in t.commands)) ≡ true) → is_some (find_set raw (set_in (commands_with o t.blocks t.commands))) ≡ true
     by None newest more = more newest
     by (Some w) newest more = which (w.raw == raw) refl newest
       where
-        which : (v : Bool) → (w.raw == raw) ≡ v → (if v then Some w.bytes else newest_to raw (writes_of (log_of h))) ≡ Some bytes → is_some (find_set raw (commands_with (Some w) t.blocks t.commands).set) ≡ true
+        which : (v : Bool) → (w.raw == raw) ≡ v → (if v then Some w.bytes else newest_to raw (writes_of (log_of h))) ≡ Some bytes → is_some (find_set raw (set_in (commands_with (Some w) t.blocks t.commands))) ≡ true
         which false other newest = with_other raw w t.blocks t.commands other (more newest)
         which true same newest =
             let one : w.bytes ≡ bytes = cc in

@@ -33,13 +33,12 @@ use Rattle.sercos_law_channel.specs.Handshake.Views.{View}
 use Rattle.sercos_law_channel.specs.Handshake.Epochs.{command, epoch_begun}
 use Rattle.sercos_law_channel.specs.Handshake.WholeRun.{AreSound, AreSmall}
 use Rattle.sercos_law_channel.specs.Handshake.Values.{store_in}
-use Rattle.sercos_law_run.specs.Journal.Runs.{drive_at, given_mst, master_calls, looks_back}
+use Rattle.sercos_law_run.specs.Journal.Runs.{drive_at, master_calls, looks_back}
 use Rattle.sercos_law_run.specs.Agenda.Tasks.{AreBegunTasks}
 use Rattle.sercos_law_run.specs.Agenda.Writes.{IsConfigured, IsWrittenLast}
 use Rattle.sercos_law_run.specs.Views.RingViews.{view_of, views_of}
 use Rattle.sercos_law_run.proofs.Views.ViewRuns.{Sees}
 use Rattle.sercos_law_run.specs.Settings.WellSet.{SetsWell}
-use Rattle.sercos_law_run.proofs.Settings.RateStays.{rate_stays}
 use Rattle.sercos_law_run.proofs.Settings.Givers.{IsGiven, check_begun}
 use Rattle.sercos_law_run.proofs.Settings.SetInTwo.{set_in}
 use Rattle.sercos_law_run.proofs.Settings.HoldsStart.{holds_start}
@@ -119,6 +118,4 @@ module _ (r : RingView) (jobs : List Job) (carry : Carry) (restarts : Restarts) 
       let (plan, has, holds) = holds_plan at.two many in
       let kept : IsStoreOf d (with_data 127 w.bytes v.blocks) = (writes_keep d v.blocks 127 at.phase w.bytes store.ascending is_of).0 (ap (λ (n : ℕ). put_fault (find_block n v.blocks) at.phase w.bytes) (sym raw) ∙ at.none) in
       let own : Holds (with_data 127 w.bytes v.blocks) (start_up r.control r.cycle plan k d.at d.mdt) = stay_held v.blocks 127 w.bytes (start_up r.control r.cycle plan k d.at d.mdt) (none_127 r.control r.cycle plan k d.at d.mdt) holds in
-      let rate : v.commands.rate ≡ r.rate = rate_stays d r.rate (given_mst carry restarts t.sent j k) in
-      ap (λ (n : ℕ). ends_well n 127 (with_data 127 w.bytes v.blocks)) rate
-      ∙ ends_so r.rate (with_data 127 w.bytes v.blocks) (plan_passes_check r plan k d (with_data 127 w.bytes v.blocks) valid wishes (fits plan has) there kept own)
+      ends_so r.rate (with_data 127 w.bytes v.blocks) (plan_passes_check r plan k d (with_data 127 w.bytes v.blocks) valid wishes (fits plan has) there kept own)

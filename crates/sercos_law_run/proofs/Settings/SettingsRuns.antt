@@ -2,42 +2,41 @@
 use Rattle.std.proofs.Common.{◌≡◌, ◌⊎◌, inl, inr, ℕ, Bool, true, false, List, [], ◌∷◌, Option, Some, None, refl, ap, ◌∙◌, if◌then◌else◌}
 use Rattle.std.specs.Prelude.{◌==◌, nat_le, ◌&&◌}
 use Rattle.sercos_command.specs.declared.commands.SetCommand.{SetCommand}
-use Rattle.sercos_command.specs.Settings.{CommandsView, without_settings}
+use Rattle.sercos_command.specs.Calls.{Reset, CommandHistory, with_call}
+use Rattle.sercos_command.specs.Kept.{set_in}
 use Rattle.sercos_service_drive.specs.Log.{Taken}
 use Rattle.sercos_service_drive.specs.Writes.{commands_with}
 use Rattle.sercos_service_master.specs.Begun.{Said}
-use Rattle.sercos_drive.specs.Moments.{commands_after, reset_in}
+use Rattle.sercos_drive.specs.Steps.{commands_after, reset_in}
 use Rattle.sercos_law_channel.specs.Handshake.Views.{View, standing, stood_in, record_in, processed_of, processed_in, kept_in}
 use Rattle.sercos_law_channel.specs.Handshake.WholeRun.{write_of}
 use Rattle.sercos_law_run.specs.Settings.SetByWrites.{commands_left, settings_left, SettingsFollow}
 use Rattle.sercos_law_run.specs.Undisturbed.CommandsFollow.{commands_before, commands_ended, CommandsFollow}
 use Rattle.sercos_law_run.specs.Settings.WellSet.{KeepsSettings}
+use Rattle.sercos_law_run.proofs.Settings.Histories.{reset_if}
 
 -- in phase 0, and after a restart
-set_reset : (phase : ℕ) (c : CommandsView) → (reset_in phase c).set ≡ (if phase == 0 then [] else c.set)
+set_reset : (phase : ℕ) (c : CommandHistory) → set_in (reset_in phase c) ≡ (if phase == 0 then [] else set_in c)
 set_reset phase c = by (phase == 0)
   where
-    chosen : Bool → CommandsView
-    chosen v = if v then without_settings c else c
-
-    by : (v : Bool) → (chosen v).set ≡ (if v then [] else c.set)
+    by : (v : Bool) → set_in (reset_if v c) ≡ (if v then [] else set_in c)
     by true = refl
     by false = refl
 
-set_restarted : (restarts : Bool) (c : CommandsView) → (if restarts then without_settings c else c).set ≡ (if restarts then [] else c.set)
+set_restarted : (restarts : Bool) (c : CommandHistory) → set_in (if restarts then with_call Reset c else c) ≡ (if restarts then [] else set_in c)
 set_restarted true c = refl
 set_restarted false c = refl
 
 -- The settings follow where the procedure commands do, if none is set before the first cycle.
-left_set : (c : CommandsView) (all : List View) → c.set ≡ [] → (commands_ended c all).set ≡ settings_left all
+left_set : (c : CommandHistory) (all : List View) → set_in c ≡ [] → set_in (commands_ended c all) ≡ settings_left all
 left_set c [] none = none
 left_set c (v ∷ past) none = set_reset (standing (v ∷ past)).ended (commands_left v past)
 
-pub settings_follow : (c : CommandsView) (all : List View) → c.set ≡ [] → CommandsFollow c all → SettingsFollow all
+pub settings_follow : (c : CommandHistory) (all : List View) → set_in c ≡ [] → CommandsFollow c all → SettingsFollow all
 settings_follow c [] none follow = tt
 settings_follow c (v ∷ past) none follow = (
   settings_follow c past none follow.0,
-  ap (λ (x : CommandsView). x.set) follow.1 ∙ set_reset (stood_in v (standing past)) (commands_before c v past)
+  ap (λ (x : CommandHistory). set_in x) follow.1 ∙ set_reset (stood_in v (standing past)) (commands_before c v past)
       ∙ ap (λ (l : List SetCommand). if stood_in v (standing past) == 0 then [] else l)
       (set_restarted v.drive_restarts (commands_ended c past) ∙ ap (λ (l : List SetCommand). if v.drive_restarts then [] else l)
       (left_set c past none)),
@@ -56,16 +55,16 @@ commands_same v cycle stood (Some s) h = by (v.mst_comes && nat_le 2 stood)
 pub keeps_settings : (v : View) (past : List View) → SettingsFollow (v ∷ past) → KeepsSettings v past
 keeps_settings v [] follow = by (stood_in v (standing []) == 0) v.drive_restarts follow.1
   where
-    by : (zero restarts : Bool) → v.commands.set ≡ (if zero then [] else (if restarts then [] else [])) → v.commands.set ≡ []
+    by : (zero restarts : Bool) → set_in v.commands ≡ (if zero then [] else (if restarts then [] else [])) → set_in v.commands ≡ []
     by true restarts is = is
     by false true is = is
     by false false is = is
 keeps_settings v (u ∷ past) follow = by (stood_in v (standing (u ∷ past)) == 0) v.drive_restarts ((standing (u ∷ past)).ended == 0) follow.1
   where
     left : List SetCommand
-    left = (commands_with (write_of (processed_in u past) (kept_in u past)) u.blocks u.commands).set
+    left = set_in (commands_with (write_of (processed_in u past) (kept_in u past)) u.blocks u.commands)
 
-    by : (zero restarts ended : Bool) → v.commands.set ≡ (if zero then [] else (if restarts then [] else (if ended then [] else left))) → (v.commands.set ≡ []) ⊎ (v.commands.set ≡ left)
+    by : (zero restarts ended : Bool) → set_in v.commands ≡ (if zero then [] else (if restarts then [] else (if ended then [] else left))) → (set_in v.commands ≡ []) ⊎ (set_in v.commands ≡ left)
     by true restarts ended is = inl is
     by false true ended is = inl is
     by false false true is = inl is

@@ -14,11 +14,14 @@ use Rattle.sercos_step.specs.Steps.{a_step, polling, steps_of, result_of, is_who
 use Rattle.sercos_block.specs.declared.block.Block.{Block}
 use Rattle.sercos_block.specs.Stores.{with_data}
 use Rattle.sercos_command.specs.declared.commands.SetCommand.{SetCommand}
-use Rattle.sercos_command.specs.Settings.{CommandsView, find_set, without, with_set, is_command, ends_well, has_ended, status_by, with_write, without_checks}
-use Rattle.sercos_service_drive.specs.Writes.{Write, setting_in, commands_with}
+use Rattle.sercos_command.specs.Settings.{is_command, ends_well, has_ended, status_by}
+use Rattle.sercos_command.specs.Calls.{Wrote, Other, CommandHistory, with_call, status_in}
+use Rattle.sercos_command.specs.Kept.{find_set, without, with_set, set_in}
+use Rattle.sercos_service_drive.specs.Writes.{Write, command_value, commands_with}
 use Rattle.sercos_law_channel.specs.Handshake.Views.{View, processed_in, kept_in}
 use Rattle.sercos_law_channel.specs.Handshake.WholeRun.{write_of}
 use Rattle.sercos_law_run.specs.Settings.WellSet.{is_well_set, are_well_set, AreSetWell, StandWell}
+use Rattle.sercos_law_run.proofs.Settings.Histories.{status_set}
 
 -- THE SETTINGS
 without_well : (raw : ℕ) (set : List SetCommand) → list_all is_well_set set ≡ true → list_all is_well_set (without raw set) ≡ true
@@ -37,8 +40,7 @@ with_set_well : (s : SetCommand) (set : List SetCommand) → list_all is_well_se
 with_set_well s set all well = cond_both (is_some (find_set s.idn.raw set)) set (set ++ s ∷ [])
     (λ v. list_all is_well_set v ≡ true) (λ on. all) (λ off. append_well set s all well)
 
-write_well : (raw value cycle : ℕ) (blocks : List Block) (c : CommandsView) → are_well_set c ≡ true → (raw ≡ 127 → (value == 0) ≡ false → ends_well c.rate 127 blocks ≡ true) → are_well_set (with_write raw value cycle blocks c) ≡ true
-unfolding with_write
+write_well : (raw value cycle : ℕ) (blocks : List Block) (c : CommandHistory) → are_well_set c ≡ true → (raw ≡ 127 → (value == 0) ≡ false → ends_well c.rate 127 blocks ≡ true) → are_well_set (with_call (Wrote raw value cycle blocks) c) ≡ true
 write_well raw value cycle blocks c all well = by (value == 0) refl
   where
     fresh : (value == 0) ≡ false → is_well_set (record { idn = record { raw = raw }; cycle = cycle; well = ends_well c.rate raw blocks }) ≡ true
@@ -48,16 +50,16 @@ write_well raw value cycle blocks c all well = by (value == 0) refl
         which false off = refl
         which true on = let is = eqb-true raw 127 on in ap (λ (n : ℕ). ends_well c.rate n blocks) is ∙ well is sets
 
-    by : (v : Bool) → (value == 0) ≡ v → list_all is_well_set (if v then without raw c.set else with_set (record { idn = record { raw = raw }; cycle = cycle; well = ends_well c.rate raw blocks }) c.set) ≡ true
-    by true on = without_well raw c.set all
-    by false off = with_set_well (record { idn = record { raw = raw }; cycle = cycle; well = ends_well c.rate raw blocks }) c.set all (fresh off)
+    by : (v : Bool) → (value == 0) ≡ v → list_all is_well_set (if v then without raw (set_in c) else with_set (record { idn = record { raw = raw }; cycle = cycle; well = ends_well c.rate raw blocks }) (set_in c)) ≡ true
+    by true on = without_well raw (set_in c) all
+    by false off = with_set_well (record { idn = record { raw = raw }; cycle = cycle; well = ends_well c.rate raw blocks }) (set_in c) all (fresh off)
 
-behind_well : (o : Option Write) (blocks : List Block) (c : CommandsView) → are_well_set c ≡ true → ((w : Write) → o ≡ Some w → w.raw ≡ 127 → (setting_in w == 0) ≡ false → ends_well c.rate 127 (with_data 127 w.bytes blocks) ≡ true) → are_well_set (commands_with o blocks c) ≡ true
+behind_well : (o : Option Write) (blocks : List Block) (c : CommandHistory) → are_well_set c ≡ true → ((w : Write) → o ≡ Some w → w.raw ≡ 127 → (command_value w == 0) ≡ false → ends_well c.rate 127 (with_data 127 w.bytes blocks) ≡ true) → are_well_set (commands_with o blocks c) ≡ true
 behind_well None blocks c all well = all
 behind_well (Some w) blocks c all well = by (is_command blocks w.raw)
   where
-    by : (v : Bool) → are_well_set (if v then with_write w.raw (setting_in w) w.cycle (with_data w.raw w.bytes blocks) c else without_checks c) ≡ true
-    by true = write_well w.raw (setting_in w) w.cycle (with_data w.raw w.bytes blocks) c all (λ is sets. ap (λ (n : ℕ). ends_well c.rate 127 (with_data n w.bytes blocks)) is ∙ well w refl is sets)
+    by : (v : Bool) → are_well_set (with_call (if v then Wrote w.raw (command_value w) w.cycle (with_data w.raw w.bytes blocks) else Other w.cycle) c) ≡ true
+    by true = write_well w.raw (command_value w) w.cycle (with_data w.raw w.bytes blocks) c all (λ is sets. ap (λ (n : ℕ). ends_well c.rate 127 (with_data n w.bytes blocks)) is ∙ well w refl is sets)
     by false = all
 
 pub stand_well : (views : List View) → AreSetWell views → StandWell views
@@ -85,10 +87,10 @@ found_well (x ∷ set) s all found = by (x.idn.raw == 127) refl found (found_wel
     by false off found more = more found
 
 -- its status is 3, or 7 while it runs, if the check is set at all
-pub well_status : (c : CommandsView) (cycle : ℕ) → are_well_set c ≡ true → (find_set 127 c.set ≡ None) ⊎ ((status_by c.time (find_set 127 c.set) cycle ≡ 3) ⊎ (status_by c.time (find_set 127 c.set) cycle ≡ 7))
-well_status c cycle all = by (find_set 127 c.set) refl
+pub well_status : (c : CommandHistory) (cycle : ℕ) → are_well_set c ≡ true → (find_set 127 (set_in c) ≡ None) ⊎ ((status_in c 127 cycle ≡ 3) ⊎ (status_in c 127 cycle ≡ 7))
+well_status c cycle all = rw (status_set c 127 cycle) (by (find_set 127 (set_in c)) refl)
   where
-    by : (o : Option SetCommand) → find_set 127 c.set ≡ o → (o ≡ None) ⊎ ((status_by c.time o cycle ≡ 3) ⊎ (status_by c.time o cycle ≡ 7))
+    by : (o : Option SetCommand) → find_set 127 (set_in c) ≡ o → (o ≡ None) ⊎ ((status_by c.time o cycle ≡ 3) ⊎ (status_by c.time o cycle ≡ 7))
     by None is = inl refl
     by (Some s) is = inr (which (has_ended c.time cycle s))
       where
@@ -96,7 +98,7 @@ well_status c cycle all = by (find_set 127 c.set) refl
         ended_as w = if w then 3 else 15
 
         which : (v : Bool) → ((if v then ended_as s.well else 7) ≡ 3) ⊎ ((if v then ended_as s.well else 7) ≡ 7)
-        which true = inl (ap ended_as (found_well c.set s all is))
+        which true = inl (ap ended_as (found_well (set_in c) s all is))
         which false = inr refl
 
 -- THE STATUS of a complete command isn't 7.

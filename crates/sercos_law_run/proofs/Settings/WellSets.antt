@@ -35,7 +35,7 @@ use Rattle.sercos_law_run.specs.Views.Spelled.{IsSpelled}
 use Rattle.sercos_law_run.specs.Settings.WellSet.{HaveStores, AreSetWell}
 use Rattle.sercos_law_run.proofs.Settings.SettingsRuns.{keeps_settings, settings_follow}
 use Rattle.sercos_law_run.specs.Settings.SetByWrites.{SettingsFollow}
-use Rattle.sercos_law_run.proofs.Undisturbed.CommandRuns.{AreCommandsSo, commands_first, commands_next, first_commands}
+use Rattle.sercos_law_run.proofs.Undisturbed.Checks.CommandRuns.{AreCommandsSo, commands_first, commands_next, first_commands}
 use Rattle.sercos_law_run.proofs.Settings.SetsWell.{sets_well}
 
 -- S-0-0127 is a procedure command of each drive

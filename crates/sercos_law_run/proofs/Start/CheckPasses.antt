@@ -17,7 +17,7 @@ use Rattle.sercos_block.specs.Rules.{blocks_fault}
 use Rattle.sercos_block.specs.Views.{DriveView, RingView}
 use Rattle.sercos_block.specs.Rings.{are_ring_numbers, has_ring_numbers, are_times, are_drive_numbers, has_drive_numbers, has_blocks, are_cyclic, has_address, is_drive, are_drives, has_drives, is_ring, is_order, at_len, record_len, wish_of, wishes_of}
 use Rattle.sercos_block.proofs.WishLemmas.{length_wishes}
-use Rattle.sercos_command.specs.Checks.{number_at, carried_len, breaks_1, breaks_2, breaks_6, breaks_7, breaks_8, breaks_9, breaks_10, breaks_15, breaks_89, named, unfit_for_phase_3}
+use Rattle.sercos_command.specs.Checks.{number_at, carried_len, breaks_1, breaks_2, breaks_6, breaks_7, breaks_8, breaks_9, breaks_10, breaks_15, breaks_89, listed_if, unfit_for_phase_3}
 use Rattle.sercos_law_run.specs.Start.StartUp.{PlanPassesCheck}
 use Rattle.sercos_law_run.proofs.Start.Lengths.{number_is, are_as_long, list_fits, declares_times}
 use Rattle.sercos_law_run.proofs.Start.PlanNumbers.{HasNumbers, has_numbers}
@@ -164,7 +164,7 @@ small_control control high =
     omega arith
 
 none_named : (a b c d e f g h i j k : Bool) → a ≡ false → b ≡ false → c ≡ false → d ≡ false → e ≡ false → f ≡ false → g ≡ false → h ≡ false → i ≡ false → j ≡ false → k ≡ false
-    → named 1 a (named 2 b (named 6 c (named 7 d (named 8 e (named 9 f (named 10 g (named 15 h (named 16 i (named 24 j (named 89 k [])))))))))) ≡ []
+    → listed_if 1 a (listed_if 2 b (listed_if 6 c (listed_if 7 d (listed_if 8 e (listed_if 9 f (listed_if 10 g (listed_if 15 h (listed_if 16 i (listed_if 24 j (listed_if 89 k [])))))))))) ≡ []
 none_named a b c d e f g h i j k ea eb ec ed ee ef eg eh ei ej ek = rw (ea, eb, ec, ed, ee, ef, eg, eh, ei, ej, ek) refl
 
 cycle_some : (cycle : ℕ) → is_cycle cycle ≡ true → 1 ≤ cycle

@@ -1,5 +1,5 @@
 -- Which start-up values a store holds while the master writes them, and after.
-use Rattle.std.proofs.Common.{◌≡◌, ℕ, zero, suc, ◌+◌, ◌*◌, ◌/◌, ◌%◌, ◌==◌, nat_lt, Bool, true, false, cond, not, ◌&&◌, is_none, List, [], ◌∷◌, ◌++◌, map, take, Option, Some, None, option_map, slice_get, slice_index, refl, sym, ◌∙◌, ap, arith}
+use Rattle.std.proofs.Common.{◌≡◌, ℕ, zero, suc, ◌+◌, ◌*◌, ◌/◌, ◌%◌, ◌==◌, nat_lt, Bool, true, false, cond, not, ◌&&◌, List, [], ◌∷◌, ◌++◌, map, take, Option, Some, None, option_map, slice_get, slice_index, refl, sym, ◌∙◌, ap, arith}
 use Rattle.std.specs.Int.{w16, to_le_bytes}
 use Rattle.std.specs.List.{list_all}
 use Rattle.std.specs.Prelude.{if◌then◌else◌}
@@ -21,9 +21,10 @@ use Rattle.sercos_block.specs.Stores.{find_block, with_data, are_ascending, stor
 use Rattle.sercos_block.specs.Views.{DriveView}
 use Rattle.sercos_block.proofs.OpenLemmas.{store_of-permutes}
 use Rattle.sercos_command.specs.Checks.{data_at, unfit_for_phase_3, unfit_for_phase_4, list_bytes}
-use Rattle.sercos_command.specs.Settings.{CommandsView, is_command, find_set, with_lists}
+use Rattle.sercos_command.specs.Settings.{is_command}
+use Rattle.sercos_command.specs.Calls.{is_set, CommandHistory, with_check_list}
 use Rattle.sercos_law_run.specs.Start.StartUp.{kept, IsStoreOf, Holds, start_up}
-use Rattle.sercos_service_drive.specs.Writes.{setting_in, blocks_with}
+use Rattle.sercos_service_drive.specs.Writes.{command_value, blocks_with}
 use Rattle.sercos_law_run.specs.Start.Kept.{BlocksKeep}
 use Rattle.sercos_law_run.specs.Start.Later.{NoneOf, StayHeld, HoldsNext, IsProtectedLater, StartUpIsProtected, ChecksAreProtected, StoresStartUpWhole, ListsStay}
 use Rattle.sercos_law_run.proofs.Start.BlockFinds.{kept_idn, same_attribute}
@@ -196,10 +197,10 @@ stores_start_up_whole d blocks control cycle k p none is = (
 )
 
 -- a check leaves the store as it is, or writes its list
-pub after_check : (c : CommandsView) (blocks : List Block) (raw value : ℕ) (P : List Block → Type 0) → P blocks → P (with_data 21 (list_bytes (unfit_for_phase_3 c.rate blocks)) blocks)
-    → P (with_data 22 (list_bytes (unfit_for_phase_4 blocks)) blocks) → P (with_lists c raw value blocks)
-unfolding with_lists
-after_check c blocks raw value P same first second = by (not (value == 0) && is_none (find_set raw c.set)) (raw == 127) (raw == 128)
+pub after_check : (c : CommandHistory) (blocks : List Block) (raw value : ℕ) (P : List Block → Type 0) → P blocks → P (with_data 21 (list_bytes (unfit_for_phase_3 c.rate blocks)) blocks)
+    → P (with_data 22 (list_bytes (unfit_for_phase_4 blocks)) blocks) → P (with_check_list c raw value blocks)
+unfolding with_check_list
+after_check c blocks raw value P same first second = by (not (value == 0) && not (is_set raw c.calls)) (raw == 127) (raw == 128)
   where
     by : (sets one two : Bool) → P (cond sets (cond one (with_data 21 (list_bytes (unfit_for_phase_3 c.rate blocks)) blocks) (cond two (with_data 22 (list_bytes (unfit_for_phase_4 blocks)) blocks) blocks)) blocks)
     by false one two = same
@@ -234,6 +235,6 @@ blocks_keep d blocks (Some w) c phase up is none =
     (after, still_ascending blocks (blocks_with (Some w) c blocks) (after ∙ sym is) up)
   where
     by : (command : Bool) → IsStoreOf d (with_data w.raw w.bytes blocks) → are_ascending (with_data w.raw w.bytes blocks) ≡ true
-        → IsStoreOf d (cond command (with_lists c w.raw (setting_in w) (with_data w.raw w.bytes blocks)) (with_data w.raw w.bytes blocks))
-    by true written up = (lists_stay d c (with_data w.raw w.bytes blocks) w.raw (setting_in w) up).0 written
+        → IsStoreOf d (cond command (with_check_list c w.raw (command_value w) (with_data w.raw w.bytes blocks)) (with_data w.raw w.bytes blocks))
+    by true written up = (lists_stay d c (with_data w.raw w.bytes blocks) w.raw (command_value w) up).0 written
     by false written up = written

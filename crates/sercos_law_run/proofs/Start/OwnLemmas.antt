@@ -11,8 +11,9 @@ use Rattle.sercos_block.specs.Stores.{with_data, store_of}
 use Rattle.sercos_block.specs.Views.{DriveView}
 use Rattle.sercos_block.proofs.OpenLemmas.{either_none, store_of-permutes}
 use Rattle.sercos_command.specs.Checks.{is_outside}
-use Rattle.sercos_command.specs.Settings.{CommandsView, is_command, with_lists}
-use Rattle.sercos_service_drive.specs.Writes.{setting_in}
+use Rattle.sercos_command.specs.Settings.{is_command}
+use Rattle.sercos_command.specs.Calls.{CommandHistory, with_check_list}
+use Rattle.sercos_service_drive.specs.Writes.{command_value}
 use Rattle.sercos_law_run.specs.Start.Kept.{is_own_outside}
 use Rattle.sercos_law_run.specs.Start.Own.{OwnStay, OwnAtOpening}
 use Rattle.sercos_law_run.proofs.Start.BlockFinds.{first_is_new}
@@ -40,15 +41,15 @@ leaves_own (b ∷ blocks) raw bytes built = by (b.idn.raw == raw) refl (leaves_o
         no_own (record b { value = bytes }) (with_data raw bytes blocks) here ∙ more ∙ sym (no_own b blocks here)
     by false e more = more_own b (with_data raw bytes blocks) blocks more
 
-lists_leave_own : (c : CommandsView) (blocks : List Block) (raw value : ℕ) → filter is_own_outside (with_lists c raw value blocks) ≡ filter is_own_outside blocks
+lists_leave_own : (c : CommandHistory) (blocks : List Block) (raw value : ℕ) → filter is_own_outside (with_check_list c raw value blocks) ≡ filter is_own_outside blocks
 lists_leave_own c blocks raw value =
     after_check c blocks raw value (λ after. filter is_own_outside after ≡ filter is_own_outside blocks) refl (leaves_own blocks 21 _ refl) (leaves_own blocks 22 _ refl)
 
 pub own_stay : OwnStay
 own_stay w c blocks built = by (is_command blocks w.raw)
   where
-    by : (command : Bool) → filter is_own_outside (cond command (with_lists c w.raw (setting_in w) (with_data w.raw w.bytes blocks)) (with_data w.raw w.bytes blocks)) ≡ filter is_own_outside blocks
-    by true = lists_leave_own c (with_data w.raw w.bytes blocks) w.raw (setting_in w) ∙ leaves_own blocks w.raw w.bytes built
+    by : (command : Bool) → filter is_own_outside (cond command (with_check_list c w.raw (command_value w) (with_data w.raw w.bytes blocks)) (with_data w.raw w.bytes blocks)) ≡ filter is_own_outside blocks
+    by true = lists_leave_own c (with_data w.raw w.bytes blocks) w.raw (command_value w) ∙ leaves_own blocks w.raw w.bytes built
     by false = leaves_own blocks w.raw w.bytes built
 
 -- at opening

@@ -14,7 +14,7 @@ use Rattle.sercos_block.specs.Blocks.{is_number}
 use Rattle.sercos_block.specs.Views.{DriveView}
 use Rattle.sercos_block.specs.Rings.{HasLens, number_len, block_attribute, cyclic_len, value_len, listed_len, wish_of}
 use Rattle.sercos_block.proofs.WishLemmas.{IsValid-wishes_of}
-use Rattle.sercos_command.specs.Checks.{breaks_1, breaks_2, breaks_6, breaks_7, breaks_8, breaks_9, breaks_10, breaks_15, breaks_list, breaks_89, named, list_bytes, is_outside, unfit_for_phase_3, unfit_for_phase_4}
+use Rattle.sercos_command.specs.Checks.{breaks_1, breaks_2, breaks_6, breaks_7, breaks_8, breaks_9, breaks_10, breaks_15, breaks_list, breaks_89, listed_if, list_bytes, is_outside, unfit_for_phase_3, unfit_for_phase_4}
 use Rattle.sercos_trace.specs.declared.events.Stop.TheVariants as stop
 use Rattle.sercos_seat.specs.Agenda.{idns_in}
 use Rattle.sercos_law_run.specs.Start.Causes.{RingIsValid, ChecksEndWell, StopsWithList}
@@ -81,11 +81,11 @@ checks_end_well r p k d blocks ok valid fits at store is holds =
     )
 
 -- the lists of the checks have at most 11 entries, and at most one for each block
-named_short : (raw n : ℕ) (broken : Bool) (rest : List Idn) → length rest ≤ n → length (named raw broken rest) ≤ suc n
+named_short : (raw n : ℕ) (broken : Bool) (rest : List Idn) → length rest ≤ n → length (listed_if raw broken rest) ≤ suc n
 named_short raw n true rest short = omega arith
 named_short raw n false rest short = omega arith
 
-eleven_short : (a b c d e f g h i j k : Bool) → length (named 1 a (named 2 b (named 6 c (named 7 d (named 8 e (named 9 f (named 10 g (named 15 h (named 16 i (named 24 j (named 89 k []))))))))))) ≤ 11
+eleven_short : (a b c d e f g h i j k : Bool) → length (listed_if 1 a (listed_if 2 b (listed_if 6 c (listed_if 7 d (listed_if 8 e (listed_if 9 f (listed_if 10 g (listed_if 15 h (listed_if 16 i (listed_if 24 j (listed_if 89 k []))))))))))) ≤ 11
 eleven_short a b c d e f g h i j k =
     let from_89 = named_short 89 0 k [] (omega arith) in
     let from_24 = named_short 24 1 j _ from_89 in

@@ -31,7 +31,7 @@ use Rattle.sercos_law_run.specs.Views.RingViews.{at_start, behind_ats, behind_md
 use Rattle.sercos_law_run.specs.Held.Opened.{IsOpened}
 use Rattle.sercos_law_run.specs.Stations.Falls.{AreTo, FallsHaveCause, HasCause, Identification, IsLate, IsOpenFor, MissesAt, MissesMst, MstComesFirst, NoneReads, NoneReadsIn, Step, comes_back, was_sent}
 use Rattle.sercos_law_run.proofs.Stations.Limits.{IsWithin, within}
-use Rattle.sercos_law_run.proofs.Undisturbed.Addressed.{place_found}
+use Rattle.sercos_law_run.proofs.Undisturbed.Arriving.Addressed.{place_found}
 use Rattle.sercos_law_run.proofs.Undisturbed.NoFalls.{heard_mdt}
 use Rattle.sercos_master.proofs.Keeping.{first_found}
 use Rattle.sercos_law_run.proofs.Views.MasterSame.{SameTurn, begun_cycle, turn_mdt}
@@ -373,8 +373,11 @@ module _ (r : RingView) (jobs : List Job) (carry : Carry) (restarts : Restarts) 
           let (now, then_) = and_parts (not (behind_mdt r jobs carry restarts t.sent j).now.whole) (not b.whole) both in
           let before = turn_before t j b rest is in
           let older_next : IsNext r jobs carry restarts before.before before.older = (subst (λ (i : List CycleView). IsRun r jobs carry restarts i) before.follows run.0).1 in
+          let phase_now = run.1.phase in
+          let no_lower = before.phase in
           record {
             now = sym (whole_at t j run.1) ∙ not-true (behind_mdt r jobs carry restarts t.sent j).now.whole now;
+            phase_now = grind (arith, nat_tests, up, no_lower, phase_now);
             before = before.before;
             older = before.older;
             follows = before.follows;
@@ -399,11 +402,13 @@ module _ (r : RingView) (jobs : List Job) (carry : Carry) (restarts : Restarts) 
           let phase_then = ap (λ (x : Turn). x.phase) before.turn ∙ phase_at before.before before.older older_next in
           let phase_now = run.1.phase in
           let no_lower = before.phase in
+          let late : 3 ≤ t.phase = grind (arith, nat_tests, up, no_lower, phase_now) in
           record {
             place = k;
             inside = below;
             address_is = ap (λ (m : MemberView). m.address) (sym (member_is r k));
-            now = none_at t j k below run.1 (grind (arith, nat_tests, up, no_lower, phase_now)) (not-true ((behind_mdt r jobs carry restarts t.sent j).now.heard k) now);
+            now = none_at t j k below run.1 late (not-true ((behind_mdt r jobs carry restarts t.sent j).now.heard k) now);
+            phase_now = late;
             before = before.before;
             older = before.older;
             follows = before.follows;
@@ -495,7 +500,7 @@ falls_have_cause r jobs carry restarts t j opened run f is =
     by None falls false restarted is = cc
 
 pub mst_comes_first : MstComesFirst
-mst_comes_first r jobs carry restarts t j opened run some misses = by j misses.follows run misses.now
+mst_comes_first r jobs carry restarts t j opened run misses = by j misses.follows run misses.now
   where
     by : (i : List CycleView) → i ≡ misses.before ∷ misses.older → IsRun r jobs carry restarts (t ∷ i) → comes_back carry t i ≡ false
         → t.events.fall ≡ Some MstLost
@@ -505,5 +510,5 @@ mst_comes_first r jobs carry restarts t j opened run some misses = by j misses.f
         let rest : older ≡ misses.older = cc in
         let lost : comes_back carry u older ≡ false = rw (first, rest) misses.lost in
         let phase : 1 ≤ u.phase = rw first misses.phase in
-        let falls = lost_so r jobs carry restarts opened t u older run some now lost phase in
+        let falls = lost_so r jobs carry restarts opened t u older run misses.phase_now now lost phase in
         ap (λ (e : EventsView). e.fall) run.1.events ∙ rw falls refl

@@ -18,8 +18,8 @@ use Rattle.sercos_block.proofs.PutLemmas.{with_data-nowhere}
 use Rattle.sercos_command.specs.Checks.{is_outside, unfit_for_phase_4}
 use Rattle.sercos_command.proofs.History.{is_passed-kept}
 use Rattle.sercos_drive.specs.Moments.{calls_in}
-use Rattle.sercos_drive.specs.Annals.{has_passed}
-use Rattle.sercos_law_run.proofs.Undisturbed.OwnInside.{within}
+use Rattle.sercos_drive.specs.Annals.{may_rise}
+use Rattle.sercos_law_run.proofs.Undisturbed.Checks.OwnInside.{within}
 use Rattle.sercos_law_run.specs.Stations.Fit.{FitInFour}
 use Rattle.sercos_law_run.proofs.Start.BlockFinds.{same_attribute}
 use Rattle.sercos_law_run.proofs.Start.KeptLemmas.{above_none}
@@ -111,7 +111,7 @@ module _ (d : DriveView) (rate : ℕ) (none : blocks_fault [] d.blocks ≡ None)
     command = λ blocks raw phase bytes is fine command inside. inside_written raw bytes blocks is.1 (accepted (find_block raw blocks) phase bytes fine) inside;
     later = λ blocks raw phase bytes is fine late below inside. inside_written raw bytes blocks is.1 (accepted (find_block raw blocks) phase bytes fine) inside;
     rise = λ cycle phase past high low has. let is : phase ≡ 4 = omega (arith, high, low) in sym
-        (is_passed-kept rate d.command 128 (calls_in past) cycle) ∙ subst (λ (p : ℕ). has_passed d rate cycle p past ≡ true) is has;
+        (is_passed-kept rate d.command 128 (calls_in past) cycle) ∙ subst (λ (p : ℕ). may_rise d rate cycle p past ≡ true) is has;
   }
 
 pub fit_in_four : FitInFour

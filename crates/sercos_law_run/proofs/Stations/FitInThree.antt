@@ -21,7 +21,7 @@ use Rattle.sercos_command.specs.Checks.{data_at, number_at, idns_at, cyclic_len,
 use Rattle.sercos_command.specs.Settings.{is_command}
 use Rattle.sercos_command.proofs.History.{is_passed-kept}
 use Rattle.sercos_drive.specs.Moments.{calls_in}
-use Rattle.sercos_drive.specs.Annals.{has_passed}
+use Rattle.sercos_drive.specs.Annals.{may_rise}
 use Rattle.sercos_law_run.specs.Start.StartUp.{IsStoreOf}
 use Rattle.sercos_law_run.specs.Stations.Fit.{FitInThree}
 use Rattle.sercos_law_run.proofs.Start.BlockFinds.{carry_alike, same_attribute}
@@ -204,7 +204,7 @@ module _ (d : DriveView) (rate : ℕ) (none : blocks_fault [] d.blocks ≡ None)
     later = λ blocks raw phase bytes is fine late below fit.
         written blocks raw bytes is.0 ((writes_keep d blocks raw phase bytes is.1 is.0).0 fine) (each_other raw (λ n such. other_later d n blocks raw phase bytes none is.0 such late fine)) fit;
     rise = λ cycle phase past high low has. let is : phase ≡ 3 = omega (arith, high, low) in sym
-        (is_passed-kept rate d.command 127 (calls_in past) cycle) ∙ subst (λ (p : ℕ). has_passed d rate cycle p past ≡ true) is has;
+        (is_passed-kept rate d.command 127 (calls_in past) cycle) ∙ subst (λ (p : ℕ). may_rise d rate cycle p past ≡ true) is has;
   }
 
 pub fit_in_three : FitInThree

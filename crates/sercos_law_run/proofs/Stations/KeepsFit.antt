@@ -7,15 +7,15 @@ use Rattle.sercos_idn.specs.Commands.{to_cancel}
 use Rattle.sercos_block.specs.declared.block.Block.{Block}
 use Rattle.sercos_block.specs.Stores.{find_block, with_data, put_fault, are_ascending, store_of}
 use Rattle.sercos_block.specs.Views.{DriveView}
-use Rattle.sercos_command.specs.Settings.{CommandsView, find_set, is_command, with_lists, ends_well}
-use Rattle.sercos_command.specs.Calls.{Call, Wrote, Other, Reset}
-use Rattle.sercos_command.specs.Kept.{settings, passed_so_far}
-use Rattle.sercos_service_drive.specs.Writes.{Write, AreThose, added_on, setting_in, blocks_with, calls_with}
+use Rattle.sercos_command.specs.Settings.{is_command, ends_well}
+use Rattle.sercos_command.specs.Calls.{CommandCall, Wrote, Other, Reset, CommandHistory, with_check_list}
+use Rattle.sercos_command.specs.Kept.{find_set, settings, passed_so_far}
+use Rattle.sercos_service_drive.specs.Writes.{Write, AreThose, added_on, command_value, blocks_with, calls_with}
 use Rattle.sercos_service_drive.proofs.AllowedWrites.{allowed}
 use Rattle.sercos_drive.specs.declared.hearing.Told.{Told}
 use Rattle.sercos_drive.specs.Heard.{DriveCall, Mst, Mdt, Restart, mst_got, mdt_got}
 use Rattle.sercos_drive.specs.Moments.{Moment, phase_in, has_mst, has_missed, taken_in, blocks_in, blocks_after, commands_in, calls_in, calls_after, with_reset}
-use Rattle.sercos_drive.specs.Annals.{annals, has_passed, processed_in, stands_in, ends_in, takes}
+use Rattle.sercos_drive.specs.Annals.{annals, may_rise, processed_in, stands_in, ends_in, takes}
 use Rattle.sercos_drive.proofs.RecordLemmas.{phase_below}
 use Rattle.sercos_law_run.proofs.Start.LaterLemmas.{after_check, still_ascending}
 use Rattle.sercos_law_run.proofs.Start.KeptLemmas.{writes_keep}
@@ -34,17 +34,17 @@ pub record IsFound (d : DriveView) (rate check top : ℕ) (P : List Block → Ty
       → put_fault (find_block raw blocks) phase bytes ≡ None → is_command blocks raw ≡ true → P blocks → P (with_data raw bytes blocks)
   pub later : (blocks : List Block) (raw phase : ℕ) (bytes : List ℕ) → IsOf d blocks
       → put_fault (find_block raw blocks) phase bytes ≡ None → top ≤ phase → phase ≤ 4 → P blocks → P (with_data raw bytes blocks)
-  pub rise : (cycle phase : ℕ) (past : List Moment) → top ≤ phase → phase ≤ top → has_passed d rate cycle phase past ≡ true
+  pub rise : (cycle phase : ℕ) (past : List Moment) → top ≤ phase → phase ≤ top → may_rise d rate cycle phase past ≡ true
       → passed_so_far rate d.command check (calls_in past) cycle ≡ true
 
 -- It holds where the check counts as passed, and where the drive is in such a phase.
-pub record Holds (d : DriveView) (rate check top : ℕ) (P : List Block → Type 0) (calls : List Call) (phase : ℕ) (blocks : List Block) : Type 0 where
+pub record Holds (d : DriveView) (rate check top : ℕ) (P : List Block → Type 0) (calls : List CommandCall) (phase : ℕ) (blocks : List Block) : Type 0 where
   pub passed : (cycle : ℕ) → passed_so_far rate d.command check calls cycle ≡ true → P blocks
   pub stands : top ≤ phase → P blocks
 
 module _ (d : DriveView) (rate check top : ℕ) (P : List Block → Type 0) (found : IsFound d rate check top P) where
   -- phase 0 forgets what was passed
-  left : (phase after : ℕ) (calls : List Call) (blocks : List Block) → after ≤ phase → Holds d rate check top P calls phase blocks
+  left : (phase after : ℕ) (calls : List CommandCall) (blocks : List Block) → after ≤ phase → Holds d rate check top P calls phase blocks
       → Holds d rate check top P (with_reset after calls) after blocks
   left phase after calls blocks down holds = record { passed = by (after == 0); stands = λ high. holds.stands (omega (arith, down, high)) }
     where
@@ -53,12 +53,12 @@ module _ (d : DriveView) (rate check top : ℕ) (P : List Block → Type 0) (fou
       by false cycle is = holds.passed cycle is
 
   -- a write to a procedure command
-  commanded : (blocks : List Block) (calls : List Call) (phase : ℕ) (w : Write) (c : CommandsView) → IsOf d blocks
+  commanded : (blocks : List Block) (calls : List CommandCall) (phase : ℕ) (w : Write) (c : CommandHistory) → IsOf d blocks
       → put_fault (find_block w.raw blocks) phase w.bytes ≡ None → is_command blocks w.raw ≡ true
       → Holds d rate check top P calls phase blocks
-      → Holds d rate check top P (Wrote w.raw (setting_in w) w.cycle (with_data w.raw w.bytes blocks) ∷ calls) phase (with_lists c w.raw (setting_in w) (with_data w.raw w.bytes blocks))
+      → Holds d rate check top P (Wrote w.raw (command_value w) w.cycle (with_data w.raw w.bytes blocks) ∷ calls) phase (with_check_list c w.raw (command_value w) (with_data w.raw w.bytes blocks))
   commanded blocks calls phase w c is fine command holds = record {
-    passed = λ cycle so. lists (passed_by cycle (w.raw == check) (setting_in w == to_cancel) so);
+    passed = λ cycle so. lists (passed_by cycle (w.raw == check) (command_value w == to_cancel) so);
     stands = λ high. lists (written (holds.stands high));
   }
     where
@@ -71,8 +71,8 @@ module _ (d : DriveView) (rate check top : ℕ) (P : List Block → Type 0) (fou
       after_is : IsOf d after
       after_is = let stored = (writes_keep d blocks w.raw phase w.bytes is.1 is.0).0 fine in (stored, still_ascending blocks after (stored ∙ sym is.0) is.1)
 
-      lists : P after → P (with_lists c w.raw (setting_in w) after)
-      lists so = after_check c after w.raw (setting_in w) P so (found.listed after _ after_is so).0 (found.listed after _ after_is so).1
+      lists : P after → P (with_check_list c w.raw (command_value w) after)
+      lists so = after_check c after w.raw (command_value w) P so (found.listed after _ after_is so).0 (found.listed after _ after_is so).1
 
       passed_by : (cycle : ℕ) (same cancels : Bool)
           → (if same then (if cancels then passed_so_far rate d.command check calls (min cycle w.cycle)
@@ -93,15 +93,15 @@ module _ (d : DriveView) (rate check top : ℕ) (P : List Block → Type 0) (fou
           either false now so = written (holds.passed cycle so)
 
   -- what a record makes of it
-  recorded : (blocks : List Block) (calls : List Call) (phase : ℕ) (o : Option Write) (c : CommandsView) → IsOf d blocks → phase ≤ 4
+  recorded : (blocks : List Block) (calls : List CommandCall) (phase : ℕ) (o : Option Write) (c : CommandHistory) → IsOf d blocks → phase ≤ 4
       → IfSome o (λ (w : Write). put_fault (find_block w.raw blocks) phase w.bytes ≡ None)
       → Holds d rate check top P calls phase blocks → Holds d rate check top P (calls_with o blocks calls) phase (blocks_with o c blocks)
   recorded blocks calls phase None c is below fine holds = holds
   recorded blocks calls phase (Some w) c is below fine holds = by (is_command blocks w.raw) refl
     where
       by : (command : Bool) → is_command blocks w.raw ≡ command
-          → Holds d rate check top P ((if command then Wrote w.raw (setting_in w) w.cycle (with_data w.raw w.bytes blocks) else Other w.cycle) ∷ calls) phase
-          (if command then with_lists c w.raw (setting_in w) (with_data w.raw w.bytes blocks) else with_data w.raw w.bytes blocks)
+          → Holds d rate check top P ((if command then Wrote w.raw (command_value w) w.cycle (with_data w.raw w.bytes blocks) else Other w.cycle) ∷ calls) phase
+          (if command then with_check_list c w.raw (command_value w) (with_data w.raw w.bytes blocks) else with_data w.raw w.bytes blocks)
       by true command = commanded blocks calls phase w c is fine command holds
       by false command = record {
         passed = λ cycle so. absurd (false≢true so);
@@ -134,10 +134,10 @@ module _ (d : DriveView) (rate check top : ℕ) (P : List Block → Type 0) (fou
               → Holds d rate check top P (with_reset (if b then phase_in past else 0) (calls_in past)) (if b then phase_in past else 0) (blocks_in d past)
           by true = same (phase_in past) before.stands
           by false = zero
-      got (Some phase) = by (phase == phase_in past) ((phase == phase_in past + 1) && has_passed d rate cycle phase past) refl refl
+      got (Some phase) = by (phase == phase_in past) ((phase == phase_in past + 1) && may_rise d rate cycle phase past) refl refl
         where
           by : (stays rises : Bool) → (phase == phase_in past) ≡ stays
-              → ((phase == phase_in past + 1) && has_passed d rate cycle phase past) ≡ rises
+              → ((phase == phase_in past + 1) && may_rise d rate cycle phase past) ≡ rises
               → Holds d rate check top P (with_reset (if stays then phase else (if rises then phase else 0)) (calls_in past)) (if stays then phase else (if rises then phase else 0)) (blocks_in d past)
           by true rises stays rise = same phase (λ high. before.stands (grind (arith, nat_tests, stays, high)))
           by false false stays rise = zero
@@ -149,7 +149,7 @@ module _ (d : DriveView) (rate check top : ℕ) (P : List Block → Type 0) (fou
                   which : (b : Bool) → nat_le top (phase_in past) ≡ b → P (blocks_in d past)
                   which true there = before.stands (grind (arith, nat_tests, there))
                   which false there =
-                      let (one, has) = and_parts (phase == phase_in past + 1) (has_passed d rate cycle phase past) rise in
+                      let (one, has) = and_parts (phase == phase_in past + 1) (may_rise d rate cycle phase past) rise in
                       before.passed cycle (found.rise cycle phase past high (grind (arith, nat_tests, there, one)) has)
 
   -- and what the MDT's place does

@@ -17,15 +17,13 @@ use Rattle.sercos_block.specs.Rings.{attribute_in, row_in, built_in_attribute, b
 use Rattle.sercos_block.specs.Stores.{find_block, with_data, write_fault, data_fault, put_fault, are_ascending, store_of}
 use Rattle.sercos_block.specs.Views.{DriveView}
 use Rattle.sercos_command.specs.Checks.{data_at, list_bytes, unfit_for_phase_3, unfit_for_phase_4}
-use Rattle.sercos_command.specs.Settings.{CommandsView, is_command, with_write, with_lists}
-use Rattle.sercos_command.specs.Calls.{Call, Wrote, Other, Reset, is_set}
-use Rattle.sercos_command.specs.Kept.{settings}
-use Rattle.sercos_command.proofs.History.{is_none-settings}
-use Rattle.sercos_service_drive.specs.Writes.{Write, added_on, setting_in, blocks_with, commands_with, calls_with}
+use Rattle.sercos_command.specs.Settings.{is_command}
+use Rattle.sercos_command.specs.Calls.{CommandCall, Wrote, Other, Reset, is_set, CommandHistory, with_check_list}
+use Rattle.sercos_service_drive.specs.Writes.{Write, added_on, command_value, blocks_with, calls_with}
 use Rattle.sercos_service_drive.proofs.AllowedWrites.{allowed}
 use Rattle.sercos_drive.specs.declared.hearing.Told.{Told}
 use Rattle.sercos_drive.specs.Heard.{DriveCall, Mst, Mdt, Restart, mst_got, mdt_got}
-use Rattle.sercos_drive.specs.Moments.{Moment, phase_in, taken_in, blocks_in, blocks_after, commands_in, commands_after, calls_in, calls_after, with_reset, reset_in}
+use Rattle.sercos_drive.specs.Moments.{Moment, phase_in, taken_in, blocks_in, blocks_after, calls_in, calls_after, with_reset}
 use Rattle.sercos_drive.specs.Annals.{annals, processed_in, stands_in, ends_in}
 use Rattle.sercos_law_run.specs.Start.StartUp.{IsStoreOf}
 use Rattle.sercos_law_run.specs.Stations.Lists.{found_for_3, found_for_4, ListsAreFound}
@@ -36,51 +34,6 @@ use Rattle.sercos_law_run.proofs.Held.Processed.{processed_keeps, taken_at}
 use Rattle.sercos_law_run.proofs.Held.StoreOf.{IsOf, store_of_so}
 use Rattle.sercos_law_run.proofs.Stations.FitInThree.{IsLater, later_by}
 use Rattle.sercos_law_run.proofs.Cited.{handed_those}
-
--- What is kept of the settings is what the calls made of them.
-abbrev AreSet : ℕ → CommandsView → List Call → Type 0
-AreSet rate c calls = (c.rate ≡ rate) × (c.set ≡ settings rate calls)
-
-set_reset : (rate phase : ℕ) (c : CommandsView) (calls : List Call) → AreSet rate c calls
-    → AreSet rate (reset_in phase c) (with_reset phase calls)
-set_reset rate phase c calls are = by (phase == 0)
-  where
-    by : (zero : Bool)
-        → AreSet rate (if zero then record { rate = c.rate; time = c.time; set = []; passed_127 = None; passed_128 = None } else c) (if zero then Reset ∷ calls else calls)
-    by true = (are.0, refl)
-    by false = are
-
-set_write : (rate : ℕ) (o : Option Write) (blocks : List Block) (c : CommandsView) (calls : List Call) → AreSet rate c calls
-    → AreSet rate (commands_with o blocks c) (calls_with o blocks calls)
-unfolding with_write
-set_write rate None blocks c calls are = are
-set_write rate (Some w) blocks c calls are = by (is_command blocks w.raw)
-  where
-    after : List Block
-    after = with_data w.raw w.bytes blocks
-
-    by : (command : Bool)
-        → AreSet rate (if command then with_write w.raw (setting_in w) w.cycle after c else record c { passed_127 = None; passed_128 = None })
-        ((if command then Wrote w.raw (setting_in w) w.cycle after else Other w.cycle) ∷ calls)
-    by true = (are.0, rw (are.0, are.1) refl)
-    by false = are
-
-pub are_set : (d : DriveView) (rate : ℕ) (h : List DriveCall)
-    → AreSet rate (commands_in d rate (annals d rate h)) (calls_in (annals d rate h))
-are_set d rate [] = (refl, refl)
-are_set d rate (Restart ∷ h) = ((are_set d rate h).0, refl)
-are_set d rate (Mst cycle content ∷ h) = set_reset rate (stands_in d rate cycle (mst_got content) (annals d rate h)) _ _ (are_set d rate h)
-are_set d rate (Mdt content ∷ h) = set_reset rate (ends_in told past) _ _ (processed_keeps
-    (λ o. AreSet rate (commands_after o (taken_in past) (commands_in d rate past))
-    (calls_after o (taken_in past) (calls_in past))) d rate told past (are_set d rate h)
-    (λ t. set_write rate (added_on (taken_at d rate past t) (taken_in past)) (blocks_in d past) (commands_in d rate past) (calls_in past)
-    (are_set d rate h)))
-  where
-    past : List Moment
-    past = annals d rate h
-
-    told : Option Told
-    told = mdt_got d.address (phase_in past) (blocks_in d past) content
 
 -- A block that is protected in each phase is never written.
 record IsLocked (d : DriveView) (raw : ℕ) : Type 0 where
@@ -122,16 +75,17 @@ module _ (d : DriveView) (rate : ℕ) (none : blocks_fault [] d.blocks ≡ None)
           let same : raw ≡ n = grind (arith, nat_tests, e) in
           absurd (locked (find_block n blocks) d n phase bytes locks (same_attribute n d blocks none is ∙ locks.later.has) (subst (λ (m : ℕ). put_fault (find_block m blocks) phase bytes ≡ None) same fine))
 
-  abbrev Contain : List Call → List Block → Type 0
+  abbrev Contain : List CommandCall → List Block → Type 0
   Contain calls blocks = (data_at blocks 21 ≡ list_bytes (found_for_3 rate calls)) × (data_at blocks 22 ≡ list_bytes (found_for_4 rate calls))
 
+  abbrev commands : List CommandCall → CommandHistory
+  commands calls = record { rate = rate; time = d.command; calls = calls }
+
   -- a check that is set writes its list
-  listed : (c : CommandsView) (raw value cycle : ℕ) (blocks : List Block) (calls : List Call) → IsStoreOf d blocks → AreSet rate c calls
-      → Contain calls blocks
-      → Contain (Wrote raw value cycle blocks ∷ calls) (with_lists c raw value blocks)
-  unfolding with_lists
-  listed c raw value cycle blocks calls is are has = rw (are.0, are.1, is_none-settings rate raw calls)
-      (by (not (value == to_cancel) && not (is_set raw calls)) (raw == 127) (raw == 128) refl refl)
+  listed : (raw value cycle : ℕ) (blocks : List Block) (calls : List CommandCall) → IsStoreOf d blocks → Contain calls blocks
+      → Contain (Wrote raw value cycle blocks ∷ calls) (with_check_list (commands calls) raw value blocks)
+  unfolding with_check_list
+  listed raw value cycle blocks calls is has = by (not (value == to_cancel) && not (is_set raw calls)) (raw == 127) (raw == 128) refl refl
     where
       has_21 : has_block 21 blocks ≡ true
       has_21 = has_of 21 d blocks is refl
@@ -153,11 +107,11 @@ module _ (d : DriveView) (rate : ℕ) (none : blocks_fault [] d.blocks ≡ None)
       by true false true e f = (writes_hold blocks 22 21 _ has_22 ∙ has.0, writes_hold blocks 22 22 _ has_22)
       by true false false e f = has
 
-  recorded : (blocks : List Block) (calls : List Call) (phase : ℕ) (o : Option Write) (c : CommandsView) → IsOf d blocks
+  recorded : (blocks : List Block) (calls : List CommandCall) (phase : ℕ) (o : Option Write) → IsOf d blocks
       → IfSome o (λ (w : Write). put_fault (find_block w.raw blocks) phase w.bytes ≡ None)
-      → AreSet rate c calls → Contain calls blocks → Contain (calls_with o blocks calls) (blocks_with o c blocks)
-  recorded blocks calls phase None c is fine are has = has
-  recorded blocks calls phase (Some w) c is fine are has = by (is_command blocks w.raw)
+      → Contain calls blocks → Contain (calls_with o blocks calls) (blocks_with o (commands calls) blocks)
+  recorded blocks calls phase None is fine has = has
+  recorded blocks calls phase (Some w) is fine has = by (is_command blocks w.raw)
     where
       after : List Block
       after = with_data w.raw w.bytes blocks
@@ -169,11 +123,11 @@ module _ (d : DriveView) (rate : ℕ) (none : blocks_fault [] d.blocks ≡ None)
       )
 
       by : (command : Bool)
-          → Contain ((if command then Wrote w.raw (setting_in w) w.cycle after else Other w.cycle) ∷ calls) (if command then with_lists c w.raw (setting_in w) after else after)
-      by true = listed c w.raw (setting_in w) w.cycle after calls ((writes_keep d blocks w.raw phase w.bytes is.1 is.0).0 fine) are written
+          → Contain ((if command then Wrote w.raw (command_value w) w.cycle after else Other w.cycle) ∷ calls) (if command then with_check_list (commands calls) w.raw (command_value w) after else after)
+      by true = listed w.raw (command_value w) w.cycle after calls ((writes_keep d blocks w.raw phase w.bytes is.1 is.0).0 fine) written
       by false = written
 
-  kept_by : (phase : ℕ) (calls : List Call) (blocks : List Block) → Contain calls blocks → Contain (with_reset phase calls) blocks
+  kept_by : (phase : ℕ) (calls : List CommandCall) (blocks : List Block) → Contain calls blocks → Contain (with_reset phase calls) blocks
   kept_by phase calls blocks has = cond_both (phase == 0) (Reset ∷ calls) calls (λ v. Contain v blocks) (λ on. has) (λ off. has)
 
   opened : (raw : ℕ)
@@ -193,7 +147,7 @@ module _ (d : DriveView) (rate : ℕ) (none : blocks_fault [] d.blocks ≡ None)
       (λ o. Contain (calls_after o (taken_in past) (calls_in past)) (blocks_after o (taken_in past) (blocks_in d past))) d rate told past
       (contain_at h up) (λ t.
       let one = taken_at d rate past t in
-      recorded (blocks_in d past) (calls_in past) (phase_in past) (added_on one (taken_in past)) (commands_in d rate past) (store_of_so d rate h up) (allowed one (taken_in past) (handed_those d rate h)) (are_set d rate h) (contain_at h up)))
+      recorded (blocks_in d past) (calls_in past) (phase_in past) (added_on one (taken_in past)) (store_of_so d rate h up) (allowed one (taken_in past) (handed_those d rate h)) (contain_at h up)))
     where
       past : List Moment
       past = annals d rate h

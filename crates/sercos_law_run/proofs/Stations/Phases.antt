@@ -8,7 +8,7 @@ use Rattle.sercos_command.specs.Calls.{is_passed}
 use Rattle.sercos_drive.specs.declared.hearing.Told.{Told}
 use Rattle.sercos_drive.specs.Heard.{DriveCall, Mst, Mdt, Restart, mst_got, mdt_got}
 use Rattle.sercos_drive.specs.Moments.{Moment, phase_in, has_mst, has_missed, calls_in}
-use Rattle.sercos_drive.specs.Annals.{annals, phase_at, store_at, has_passed, stands_in, ends_in, takes}
+use Rattle.sercos_drive.specs.Annals.{annals, phase_at, store_at, may_rise, stands_in, ends_in, takes}
 use Rattle.sercos_drive.proofs.RecordLemmas.{mst_below}
 use Rattle.sercos_law_run.specs.Stations.Phases.{newest_got, IsByMst, StandsByMst, Rises, HasPassed, RisesByOne, misses, missed_before, Drops, ByPhase, ByMst, ByMdt, ByRestart, DropsByCause}
 
@@ -78,7 +78,7 @@ stands_by_mst d rate (Mst cycle content ∷ h) high = got (mst_got content) refl
             which : IsByMst h (phase_at d rate h) → newest_got h ≡ Some (phase_at d rate h)
             which (inl is) = is
             which (inr none) = absurd (false≢true (sym (ap is_some none.0) ∙ sym some))
-    got (Some phase) is high before = inl (ap Some (by (phase == phase_at d rate h) ((phase == phase_at d rate h + 1) && has_passed d rate cycle phase (annals d rate h)) high))
+    got (Some phase) is high before = inl (ap Some (by (phase == phase_at d rate h) ((phase == phase_at d rate h + 1) && may_rise d rate cycle phase (annals d rate h)) high))
       where
         by : (stays rises : Bool) → 1 ≤ (if stays then phase else (if rises then phase else 0))
             → phase ≡ (if stays then phase else (if rises then phase else 0))
@@ -87,15 +87,15 @@ stands_by_mst d rate (Mst cycle content ∷ h) high = got (mst_got content) refl
         by false false high = absurd (omega (arith, high))
 
 -- whether a check is passed
-passed_so : (d : DriveView) (rate cycle phase : ℕ) (h : List DriveCall) → has_passed d rate cycle phase (annals d rate h) ≡ true
+passed_so : (d : DriveView) (rate cycle phase : ℕ) (h : List DriveCall) → may_rise d rate cycle phase (annals d rate h) ≡ true
     → HasPassed d rate cycle phase h
 passed_so d rate cycle phase h has = (
-  λ three. subst (λ (p : ℕ). has_passed d rate cycle p (annals d rate h) ≡ true) three has,
-  λ four. subst (λ (p : ℕ). has_passed d rate cycle p (annals d rate h) ≡ true) four has,
+  λ three. subst (λ (p : ℕ). may_rise d rate cycle p (annals d rate h) ≡ true) three has,
+  λ four. subst (λ (p : ℕ). may_rise d rate cycle p (annals d rate h) ≡ true) four has,
 )
 
 so_passed : (d : DriveView) (rate cycle phase : ℕ) (h : List DriveCall) → phase ≤ 4 → HasPassed d rate cycle phase h
-    → has_passed d rate cycle phase (annals d rate h) ≡ true
+    → may_rise d rate cycle phase (annals d rate h) ≡ true
 so_passed d rate cycle phase h below has = by (nat_le phase 2) (phase == 3) refl refl
   where
     by : (low three : Bool) → nat_le phase 2 ≡ low → (phase == 3) ≡ three
@@ -125,15 +125,15 @@ rises_by_one d rate (Mst cycle content) h = got (mst_got content) refl refl
         by : (b : Bool) → Moves d rate (Mst cycle content) h (if b then phase_at d rate h else 0)
         by true same = inl refl
         by false same = inr (inl refl)
-    got (Some phase) is = by (phase == phase_at d rate h) ((phase == phase_at d rate h + 1) && has_passed d rate cycle phase (annals d rate h)) refl refl
+    got (Some phase) is = by (phase == phase_at d rate h) ((phase == phase_at d rate h + 1) && may_rise d rate cycle phase (annals d rate h)) refl refl
       where
         by : (stays rises : Bool) → (phase == phase_at d rate h) ≡ stays
-            → ((phase == phase_at d rate h + 1) && has_passed d rate cycle phase (annals d rate h)) ≡ rises
+            → ((phase == phase_at d rate h + 1) && may_rise d rate cycle phase (annals d rate h)) ≡ rises
             → Moves d rate (Mst cycle content) h (if stays then phase else (if rises then phase else 0))
         by true rises stays rise same = inl (grind (arith, nat_tests, stays))
         by false false stays rise same = inr (inl refl)
         by false true stays rise same =
-            let (one, has) = and_parts (phase == phase_at d rate h + 1) (has_passed d rate cycle phase (annals d rate h)) rise in
+            let (one, has) = and_parts (phase == phase_at d rate h + 1) (may_rise d rate cycle phase (annals d rate h)) rise in
             let next : phase ≡ phase_at d rate h + 1 = grind (arith, nat_tests, one) in
             inr (inr (record {
               cycle = cycle;
@@ -176,19 +176,19 @@ drops_so d rate (Mst cycle content) h high zero = got (mst_got content) refl zer
         by : (b : Bool) → b ≡ is_some (newest_got h) → (if b then phase_at d rate h else 0) ≡ 0 → Drops d rate (Mst cycle content) h
         by true some zero = absurd (omega (arith, high, zero))
         by false some zero = ByMst cycle content refl is (none_got (newest_got h) (sym some))
-    got (Some phase) is zero = by (phase == phase_at d rate h) ((phase == phase_at d rate h + 1) && has_passed d rate cycle phase (annals d rate h)) refl refl zero
+    got (Some phase) is zero = by (phase == phase_at d rate h) ((phase == phase_at d rate h + 1) && may_rise d rate cycle phase (annals d rate h)) refl refl zero
       where
         by : (stays rises : Bool) → (phase == phase_at d rate h) ≡ stays
-            → ((phase == phase_at d rate h + 1) && has_passed d rate cycle phase (annals d rate h)) ≡ rises
+            → ((phase == phase_at d rate h + 1) && may_rise d rate cycle phase (annals d rate h)) ≡ rises
             → (if stays then phase else (if rises then phase else 0)) ≡ 0 → Drops d rate (Mst cycle content) h
         by true rises stays rise zero = absurd (grind (arith, nat_tests, stays, high, zero))
         by false true stays rise zero =
-            let (one, _) = and_parts (phase == phase_at d rate h + 1) (has_passed d rate cycle phase (annals d rate h)) rise in
+            let (one, _) = and_parts (phase == phase_at d rate h + 1) (may_rise d rate cycle phase (annals d rate h)) rise in
             absurd (grind (arith, nat_tests, one, zero))
         by false false stays rise zero = ByPhase cycle phase content refl is (λ same. grind (arith, nat_tests, stays, same)) (λ next has. false≢true (sym rise ∙ both next has))
           where
             both : phase ≡ phase_at d rate h + 1 → HasPassed d rate cycle phase h
-                → ((phase == phase_at d rate h + 1) && has_passed d rate cycle phase (annals d rate h)) ≡ true
+                → ((phase == phase_at d rate h + 1) && may_rise d rate cycle phase (annals d rate h)) ≡ true
             both next has = let low = mst_low content phase is in let one : (phase == phase_at d rate h + 1) ≡ true = grind (arith, nat_tests, next) in rw (one, so_passed d rate cycle phase h low has) refl
 
 so_drops : (d : DriveView) (rate : ℕ) (call : DriveCall) (h : List DriveCall) → Drops d rate call h → phase_at d rate (call ∷ h) ≡ 0
@@ -206,15 +206,15 @@ so_drops d rate call h (ByMst cycle content is none before) =
     ap (λ (c : DriveCall). phase_at d rate (c ∷ h)) is ∙ ap (λ (o : Option ℕ). stands_in d rate cycle o (annals d rate h)) none ∙ let gone = got_same d rate h ∙ ap is_some before in rw gone refl
 so_drops d rate call h (ByPhase cycle phase content is got other never) =
     ap (λ (c : DriveCall). phase_at d rate (c ∷ h)) is ∙ ap (λ (o : Option ℕ). stands_in d rate cycle o (annals d rate h)) got
-    ∙ by (phase == phase_at d rate h) ((phase == phase_at d rate h + 1) && has_passed d rate cycle phase (annals d rate h)) refl refl
+    ∙ by (phase == phase_at d rate h) ((phase == phase_at d rate h + 1) && may_rise d rate cycle phase (annals d rate h)) refl refl
   where
     by : (stays rises : Bool) → (phase == phase_at d rate h) ≡ stays
-        → ((phase == phase_at d rate h + 1) && has_passed d rate cycle phase (annals d rate h)) ≡ rises
+        → ((phase == phase_at d rate h + 1) && may_rise d rate cycle phase (annals d rate h)) ≡ rises
         → (if stays then phase else (if rises then phase else 0)) ≡ 0
     by true rises stays rise = absurd (other (grind (arith, nat_tests, stays)))
     by false false stays rise = refl
     by false true stays rise =
-        let (one, has) = and_parts (phase == phase_at d rate h + 1) (has_passed d rate cycle phase (annals d rate h)) rise in
+        let (one, has) = and_parts (phase == phase_at d rate h + 1) (may_rise d rate cycle phase (annals d rate h)) rise in
         absurd (never (grind (arith, nat_tests, one)) (passed_so d rate cycle phase h has))
 
 pub drops_by_cause : DropsByCause

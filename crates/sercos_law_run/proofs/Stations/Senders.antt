@@ -14,7 +14,7 @@ use Rattle.sercos_block.specs.Views.{DriveView, RingView}
 use Rattle.sercos_drive.specs.declared.hearing.Told.{Told}
 use Rattle.sercos_drive.specs.Heard.{DriveCall, Mst, Mdt, mst_got, mdt_got, joint_in, single_in, told_at}
 use Rattle.sercos_drive.specs.Moments.{Moment, phase_in, has_mst, has_taken, has_missed, blocks_in}
-use Rattle.sercos_drive.specs.Annals.{annals, has_passed, stands_in, takes}
+use Rattle.sercos_drive.specs.Annals.{annals, may_rise, stands_in, takes}
 use Rattle.sercos_drive.specs.Says.{Said, drive_says, sends}
 use Rattle.sercos_trace.specs.Views.{CycleView}
 use Rattle.sercos_seat.specs.Ring.{known_of, tasks_for}
@@ -119,9 +119,9 @@ is_sending d rate cycle phase content g low got = by (mst_got content) got
         → (is_some o && (nat_le 3 (stands_in d rate cycle o past) || (nat_le 1 (stands_in d rate cycle o past) && has_taken past))) ≡ true
         → IsSending d rate phase g
     by None e sent = absurd (false≢true sent)
-    by (Some p) e sent = let same : p ≡ phase = cc in which (p == phase_in past) ((p == phase_in past + 1) && has_passed d rate cycle p past) refl refl sent
+    by (Some p) e sent = let same : p ≡ phase = cc in which (p == phase_in past) ((p == phase_in past + 1) && may_rise d rate cycle p past) refl refl sent
       where
-        which : (stays rises : Bool) → (p == phase_in past) ≡ stays → ((p == phase_in past + 1) && has_passed d rate cycle p past) ≡ rises
+        which : (stays rises : Bool) → (p == phase_in past) ≡ stays → ((p == phase_in past + 1) && may_rise d rate cycle p past) ≡ rises
             → (true && (nat_le 3 (if stays then p else (if rises then p else 0)) || (nat_le 1 (if stays then p else (if rises then p else 0)) && has_taken past))) ≡ true
             → IsSending d rate phase g
         which true rises stays rise sent =
@@ -131,7 +131,7 @@ is_sending d rate cycle phase content g low got = by (mst_got content) got
         which false true stays rise sent =
             let same : p ≡ phase = cc in
             let all = sends_by true p (has_taken past) sent (omega (arith, same, low)) in
-            let (one, _) = and_parts (p == phase_in past + 1) (has_passed d rate cycle p past) rise in
+            let (one, _) = and_parts (p == phase_in past + 1) (may_rise d rate cycle p past) rise in
             record { up = let up = all.1 in omega (arith, up, same); near = grind (arith, nat_tests, one, same); took = all.2 }
         which false false stays rise sent = absurd (false≢true sent)
 

@@ -7,11 +7,11 @@ use Rattle.std.proofs.lemmas.Bool.Decides.{nat_tests}
 use Rattle.sercos_idn.specs.declared.idn.Idn.{Idn}
 use Rattle.sercos_timing.specs.Valid.{is_cycle}
 use Rattle.sercos_block.proofs.OpenLemmas.{either_none}
-use Rattle.sercos_command.specs.Checks.{number_at, idns_at, is_cyclic, carried_len, breaks_1, breaks_2, breaks_6, breaks_7, breaks_8, breaks_9, breaks_10, breaks_15, breaks_list, breaks_89, named, unfit_for_phase_3}
+use Rattle.sercos_command.specs.Checks.{number_at, idns_at, is_cyclic, carried_len, breaks_1, breaks_2, breaks_6, breaks_7, breaks_8, breaks_9, breaks_10, breaks_15, breaks_list, breaks_89, listed_if, unfit_for_phase_3}
 use Rattle.sercos_law_run.specs.Stations.Fit.{EmptyKeepsTimes}
 
 -- an empty list names none
-unnamed : (raw : ℕ) (broken : Bool) (rest : List Idn) → named raw broken rest ≡ [] → (broken ≡ false) × (rest ≡ [])
+unnamed : (raw : ℕ) (broken : Bool) (rest : List Idn) → listed_if raw broken rest ≡ [] → (broken ≡ false) × (rest ≡ [])
 unnamed raw true rest e = cc
 unnamed raw false rest e = (refl, e)
 

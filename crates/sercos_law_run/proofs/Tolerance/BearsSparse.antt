@@ -19,7 +19,7 @@ use Rattle.sercos_law_run.proofs.Headline.HeadlineRuns.{all_stand, first_store}
 use Rattle.sercos_law_run.proofs.Typed.Mdts.{phase_low}
 use Rattle.sercos_law_run.specs.Undisturbed.EpochStarts.{StartsEpoch}
 use Rattle.sercos_law_run.proofs.Undisturbed.Answered.{tells_going}
-use Rattle.sercos_law_run.proofs.Undisturbed.Comes.{calm_in}
+use Rattle.sercos_law_run.proofs.Undisturbed.Arriving.Comes.{calm_in}
 use Rattle.sercos_law_run.proofs.Undisturbed.NeverFalls.{begins_so}
 use Rattle.sercos_law_run.proofs.Recovery.LateDown.{no_lower, phase_after}
 use Rattle.sercos_law_run.specs.Tolerance.Bears.{Bears, IsBehind}

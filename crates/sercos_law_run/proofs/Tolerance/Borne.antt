@@ -34,15 +34,15 @@ use Rattle.sercos_law_run.specs.Undisturbed.Undisturbed.{IsUndisturbed}
 use Rattle.sercos_law_run.proofs.Undisturbed.ChannelsKept.{calls_now}
 use Rattle.sercos_law_run.proofs.Undisturbed.NeverFalls.{busy_low}
 use Rattle.sercos_law_run.proofs.Undisturbed.NoFalls.{IsNoLower, has_risen, heard_mdt}
-use Rattle.sercos_law_run.proofs.Undisturbed.PassedRuns.{passed_in}
-use Rattle.sercos_law_run.proofs.Undisturbed.Sending.{sends_in}
+use Rattle.sercos_law_run.proofs.Undisturbed.Checks.PassedRuns.{passed_in}
+use Rattle.sercos_law_run.proofs.Undisturbed.Arriving.Sending.{sends_in}
 use Rattle.sercos_law_run.proofs.Undisturbed.StaysUp.{addressed_once, begun_none, heard_then, idle_then, whole_now}
-use Rattle.sercos_law_run.proofs.Undisturbed.WholeIn.{whole_in}
+use Rattle.sercos_law_run.proofs.Undisturbed.Arriving.WholeIn.{whole_in}
 use Rattle.sercos_law_run.proofs.Recovery.LateDown.{phase_after, phase_now, turns_now}
 use Rattle.sercos_law_run.proofs.Recovery.Limits.{are_sent}
 use Rattle.sercos_law_run.proofs.Recovery.Stretches.{whole_at}
 use Rattle.sercos_law_run.specs.Tolerance.Bears.{IsBehind, IsFirst}
-use Rattle.sercos_law_run.specs.Tolerance.Losses.{is_lost}
+use Rattle.sercos_law_run.specs.Tolerance.Losses.{loses_step}
 use Rattle.sercos_law_run.specs.Tolerance.Sparse.{AreCalm, AreSparse, IsSparse}
 use Rattle.sercos_law_run.proofs.Tolerance.FirstCycles.{never_first}
 use Rattle.sercos_law_run.proofs.Tolerance.Losses.{early_kept, none_lost_in}
@@ -122,9 +122,9 @@ module _ (r : RingView) (jobs : List Job) (carry : Carry) (restarts : Restarts) 
     pub aged : (k : ℕ) → among k → IsAged r carry restarts since (busy_of k) t j (views k (t ∷ j))
     pub asked : (k : ℕ) → among k → IsAsked r carry restarts t j k (now t j)
     pub kept : IsUndisturbed r carry restarts t j → (3 ≤ t.phase) ⊎ AreCalm r carry restarts 1 j → (k : ℕ) → among k
-        → is_lost (view k t j) (views k j) ≡ false
+        → loses_step (view k t j) (views k j) ≡ false
     pub rested_kept : IsUndisturbed r carry restarts t j → (k : ℕ) → among k → open_in (epoch_begun (views k j)) ≡ None
-        → is_lost (view k t j) (views k j) ≡ false
+        → loses_step (view k t j) (views k j) ≡ false
 
   -- .. and of all drives, whose steps are young
   abbrev pub all_drives : ℕ → Type 0
@@ -322,11 +322,11 @@ module _ (r : RingView) (jobs : List Job) (carry : Carry) (restarts : Restarts) 
           (is.aged k here).any (takes calm) (hears calm before)
 
       kept_now : IsUndisturbed r carry restarts t (u ∷ j) → (3 ≤ t.phase) ⊎ AreCalm r carry restarts 1 (u ∷ j)
-          → is_lost (view k t (u ∷ j)) (views k (u ∷ j)) ≡ false
+          → loses_step (view k t (u ∷ j)) (views k (u ∷ j)) ≡ false
       kept_now calm before = none_lost_in (view k t (u ∷ j)) (views k (u ∷ j)) goes_now (hears calm before) (takes calm)
 
       rested_now : IsUndisturbed r carry restarts t (u ∷ j) → open_in (epoch_begun (views k (u ∷ j))) ≡ None
-          → is_lost (view k t (u ∷ j)) (views k (u ∷ j)) ≡ false
+          → loses_step (view k t (u ∷ j)) (views k (u ∷ j)) ≡ false
       rested_now calm none = none_lost_in (view k t (u ∷ j)) (views k (u ∷ j)) goes_now
           (λ some. absurd (never_some (open_in (epoch_begun (views k (u ∷ j)))) none some)) (takes calm)
 

@@ -26,11 +26,11 @@ use Rattle.sercos_law_run.proofs.Held.Runs.{s_known}
 use Rattle.sercos_law_run.proofs.Headline.HeadlineRuns.{all_stand, first_store}
 use Rattle.sercos_law_run.specs.Undisturbed.Undisturbed.{IsUndisturbed}
 use Rattle.sercos_law_run.specs.Undisturbed.ViewsSince.{views_since}
-use Rattle.sercos_law_run.proofs.Undisturbed.PassedCycles.{views_split}
-use Rattle.sercos_law_run.proofs.Undisturbed.Small.{some_is}
+use Rattle.sercos_law_run.proofs.Undisturbed.Checks.PassedCycles.{views_split}
+use Rattle.sercos_law_run.proofs.Undisturbed.Arriving.Small.{some_is}
 use Rattle.sercos_law_run.proofs.Recovery.LateDown.{no_lower, not_true, phase_after}
 use Rattle.sercos_law_run.proofs.Recovery.Turns.{opens_in_turn}
-use Rattle.sercos_law_run.specs.Tolerance.Losses.{cycles_for, disturbances, is_lost, lost_since}
+use Rattle.sercos_law_run.specs.Tolerance.Losses.{cycles_for, disturbances, loses_step, lost_since}
 use Rattle.sercos_law_run.specs.Tolerance.Sparse.{AreSparse, IsSparse}
 use Rattle.sercos_law_run.proofs.Tolerance.Borne.{IsBase, IsBorne, IsHeld, borne_on, calm_or_not, rests_then, zero_is}
 use Rattle.sercos_law_run.proofs.Tolerance.CostsSparse.{early_for, opens_so, spare_for, two_for}
@@ -89,7 +89,7 @@ none_begun : (o : Option Request) (begun : List Begun) → (IsSome o → open_in
 none_begun None begun shut some = refl
 none_begun (Some q) begun shut some = absurd (false≢true (sym (ap (λ (o : Option _). is_some o) (shut refl)) ∙ some))
 
-lost_opens : (busy : ℕ) (v : View) (past : List View) → IsViewRun busy (v ∷ past) → is_lost v past ≡ true
+lost_opens : (busy : ℕ) (v : View) (past : List View) → IsViewRun busy (v ∷ past) → loses_step v past ≡ true
     → is_some (open_in (begun_in v past)) ≡ true
 lost_opens busy v past run lost = by (is_some (open_in (begun_in v past))) refl
   where
@@ -140,7 +140,7 @@ module _ (r : RingView) (jobs : List Job) (carry : Carry) (restarts : Restarts) 
   )
 
   abbrev lost_at : ℕ → CycleView → List CycleView → Bool
-  lost_at k t j = is_lost (view_of r jobs carry restarts k t j) (views_of r jobs carry restarts k j)
+  lost_at k t j = loses_step (view_of r jobs carry restarts k t j) (views_of r jobs carry restarts k j)
 
   abbrev lost_of : List CycleView → List CycleView → ℕ → ℕ
   lost_of cycles before k = lost_since (views_since r jobs carry restarts k cycles before) (views_of r jobs carry restarts k before)
@@ -169,7 +169,7 @@ module _ (r : RingView) (jobs : List Job) (carry : Carry) (restarts : Restarts) 
     lost_next t cycles before = sum_same (length r.drives) (kept_lost (t ∷ cycles) before)
         (λ k. one_more (lost_too k t (cycles ++ before)) (kept_lost cycles before k))
         (λ k low. by (down k) (lost_of (t ∷ cycles) before k) (lost_of cycles before k) (lost_at k t (cycles ++ before))
-        (ap (λ (l : List View). one_more (is_lost (view_of r jobs carry restarts k t (cycles ++ before)) l) (lost_of cycles before k))
+        (ap (λ (l : List View). one_more (loses_step (view_of r jobs carry restarts k t (cycles ++ before)) l) (lost_of cycles before k))
         (sym (views_split r jobs carry restarts k cycles before))))
       where
         by : (is_down : Bool) (new old : ℕ) (lost : Bool) → new ≡ one_more lost old

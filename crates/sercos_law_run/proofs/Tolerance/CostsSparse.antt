@@ -25,13 +25,13 @@ use Rattle.sercos_law_run.proofs.Held.Runs.{Stands, small}
 use Rattle.sercos_law_run.proofs.Headline.HeadlineRuns.{all_stand, first_store}
 use Rattle.sercos_law_run.specs.Undisturbed.Undisturbed.{IsUndisturbed}
 use Rattle.sercos_law_run.specs.Undisturbed.ViewsSince.{views_since}
-use Rattle.sercos_law_run.proofs.Undisturbed.Carried.{are_carried}
-use Rattle.sercos_law_run.proofs.Undisturbed.CommandRuns.{first_commands}
+use Rattle.sercos_law_run.proofs.Undisturbed.Checks.Carried.{are_carried}
+use Rattle.sercos_law_run.proofs.Undisturbed.Checks.CommandRuns.{first_commands}
 use Rattle.sercos_law_run.proofs.Undisturbed.NeverFalls.{runs_split}
-use Rattle.sercos_law_run.proofs.Undisturbed.PassedCycles.{views_split}
-use Rattle.sercos_law_run.proofs.Undisturbed.PassedRuns.{commands_so}
+use Rattle.sercos_law_run.proofs.Undisturbed.Checks.PassedCycles.{views_split}
+use Rattle.sercos_law_run.proofs.Undisturbed.Checks.PassedRuns.{commands_so}
 use Rattle.sercos_law_run.proofs.Recovery.LateDown.{phase_after}
-use Rattle.sercos_law_run.specs.Tolerance.Losses.{GoesOn, cycles_for, disturbances, is_lost, lost_since}
+use Rattle.sercos_law_run.specs.Tolerance.Losses.{GoesOn, cycles_for, disturbances, loses_step, lost_since}
 use Rattle.sercos_law_run.specs.Tolerance.Sparse.{AreSparse, IsSparse}
 use Rattle.sercos_law_run.proofs.Tolerance.Borne.{IsBase, IsBorne, borne_on, calm_or_not, rests, zero_is}
 use Rattle.sercos_law_run.proofs.Tolerance.Losses.{early_kept, takes_time_and_losses}
@@ -101,37 +101,37 @@ module _ (r : RingView) (jobs : List Job) (carry : Carry) (restarts : Restarts) 
   module _ (k : ℕ) (below : k < length r.drives) where
     pub disturbed_more : (t : CycleView) (j : List CycleView) → IsRun r jobs carry restarts (t ∷ j) → IsClear (t ∷ j)
         → IsDisturbed r carry restarts t j → (lost dist : ℕ) → lost ≤ dist
-        → one_more (is_lost (view_of r jobs carry restarts k t j) (views_of r jobs carry restarts k j)) lost + spare t j ≤ dist + costs t j
+        → one_more (loses_step (view_of r jobs carry restarts k t j) (views_of r jobs carry restarts k j)) lost + spare t j ≤ dist + costs t j
     disturbed_more t j run clear on lost dist le = elim (cases_lt t.phase 2) [
       | inl early ↦ (
-          let same = none_more (is_lost (view_of r jobs carry restarts k t j) (views_of r jobs carry restarts k j)) lost
+          let same = none_more (loses_step (view_of r jobs carry restarts k t j) (views_of r jobs carry restarts k j)) lost
           (early_kept (drive_at r k).busy (view_of r jobs carry restarts k t j) (views_of r jobs carry restarts k j)
           (is_run (t ∷ j) run clear k below) (omega (arith, early))) in
           let (a, b) = early_for t.phase (omega (arith, early)) in
           let (c, d) = on_so t j on in omega (arith, same, a, b, c, d, le))
       | inr later ↦ elim (cases_lt t.phase 3) [
         | inl low ↦ (
-            let most = at_most (is_lost (view_of r jobs carry restarts k t j) (views_of r jobs carry restarts k j)) lost in
+            let most = at_most (loses_step (view_of r jobs carry restarts k t j) (views_of r jobs carry restarts k j)) lost in
             let (a, b) = two_for t.phase (omega (arith, later, low)) in
             let (c, d) = on_so t j on in omega (arith, most, a, b, c, d, le))
         | inr high ↦ (
-            let most = at_most (is_lost (view_of r jobs carry restarts k t j) (views_of r jobs carry restarts k j)) lost in
+            let most = at_most (loses_step (view_of r jobs carry restarts k t j) (views_of r jobs carry restarts k j)) lost in
             let (a, b) = late_for t.phase (omega (arith, high)) in
             let (c, d) = on_so t j on in omega (arith, most, a, b, c, d, le))
       ]
     ]
 
     calm_more : (t : CycleView) (j : List CycleView) → IsUndisturbed r carry restarts t j
-        → is_lost (view_of r jobs carry restarts k t j) (views_of r jobs carry restarts k j) ≡ false → (lost dist : ℕ) → lost ≤ dist
-        → one_more (is_lost (view_of r jobs carry restarts k t j) (views_of r jobs carry restarts k j)) lost + spare t j ≤ dist + costs t j
+        → loses_step (view_of r jobs carry restarts k t j) (views_of r jobs carry restarts k j) ≡ false → (lost dist : ℕ) → lost ≤ dist
+        → one_more (loses_step (view_of r jobs carry restarts k t j) (views_of r jobs carry restarts k j)) lost + spare t j ≤ dist + costs t j
     calm_more t j off none lost dist le =
-        let same = none_more (is_lost (view_of r jobs carry restarts k t j) (views_of r jobs carry restarts k j)) lost none in
+        let same = none_more (loses_step (view_of r jobs carry restarts k t j) (views_of r jobs carry restarts k j)) lost none in
         let (c, d) = off_so t j off in omega (arith, same, c, d, le)
 
     pub calm_next : (t u : CycleView) (j : List CycleView) → IsRun r jobs carry restarts (t ∷ u ∷ j) → IsClear (t ∷ u ∷ j) → Borne u j
         → IsSparse r carry restarts t (u ∷ j) → Borne t (u ∷ j) → IsUndisturbed r carry restarts t (u ∷ j)
         → (lost dist : ℕ) → lost + spare u j ≤ dist
-        → one_more (is_lost (view_of r jobs carry restarts k t (u ∷ j)) (views_of r jobs carry restarts k (u ∷ j))) lost + spare t (u ∷ j)
+        → one_more (loses_step (view_of r jobs carry restarts k t (u ∷ j)) (views_of r jobs carry restarts k (u ∷ j))) lost + spare t (u ∷ j)
         ≤ dist + costs t (u ∷ j)
     calm_next t u j run clear was sparse is off lost dist le = elim (cases_lt t.phase 2) [
       | inl early ↦ calm_more t (u ∷ j) off (early_kept (drive_at r k).busy (view_of r jobs carry restarts k t (u ∷ j))
@@ -148,7 +148,7 @@ module _ (r : RingView) (jobs : List Job) (carry : Carry) (restarts : Restarts) 
                 dist
                 (omega (arith, le))
             | inl same ↦ (
-                let most = at_most (is_lost (view_of r jobs carry restarts k t (u ∷ j)) (views_of r jobs carry restarts k (u ∷ j))) lost
+                let most = at_most (loses_step (view_of r jobs carry restarts k t (u ∷ j)) (views_of r jobs carry restarts k (u ∷ j))) lost
                 in
                 let (a, b) = two_for u.phase (omega (arith, same, two, low)) in
                 let (c, d) = off_so t (u ∷ j) off in
@@ -161,7 +161,7 @@ module _ (r : RingView) (jobs : List Job) (carry : Carry) (restarts : Restarts) 
     -- the first of them, if it is undisturbed
     lost_first : (t : CycleView) (before : List CycleView) → IsRun r jobs carry restarts (t ∷ before) → IsClear (t ∷ before) → Base before
         → IsSparse r carry restarts t before → IsUndisturbed r carry restarts t before
-        → one_more (is_lost (view_of r jobs carry restarts k t before) (views_of r jobs carry restarts k before)) 0 + spare t before
+        → one_more (loses_step (view_of r jobs carry restarts k t before) (views_of r jobs carry restarts k before)) 0 + spare t before
         ≤ 0 + costs t before
     lost_first t before run clear (inl starts) sparse off =
         let at_zero = zero_is r jobs carry restarts opened t before run clear starts (sparse.goes_on 0 (omega arith)) in
@@ -182,7 +182,7 @@ module _ (r : RingView) (jobs : List Job) (carry : Carry) (restarts : Restarts) 
       | inr off ↦ lost_first t before run clear starts sparse.1 off
     ]
     lost_few t (u ∷ cycles) before run clear starts sparse = subst
-        (λ (l : List View). one_more (is_lost (view_of r jobs carry restarts k t (u ∷ (cycles ++ before))) l)
+        (λ (l : List View). one_more (loses_step (view_of r jobs carry restarts k t (u ∷ (cycles ++ before))) l)
         (lost_since (views_since r jobs carry restarts k (u ∷ cycles) before) (views_of r jobs carry restarts k before))
         + spare t (u ∷ (cycles ++ before)) ≤ disturbances r carry restarts (t ∷ u ∷ cycles) before)
         (views_split r jobs carry restarts k (u ∷ cycles) before) (elim (calm_or_not r carry restarts t (u ∷ (cycles ++ before))) [

@@ -30,7 +30,7 @@ use Rattle.sercos_law_run.specs.Undisturbed.ViewsSince.{views_since}
 use Rattle.sercos_law_run.proofs.Undisturbed.JobsBegun.{begun_end}
 use Rattle.sercos_law_run.proofs.Undisturbed.PhaseTwo.{listed_all, sum_within}
 use Rattle.sercos_law_run.proofs.Undisturbed.Sections.{none_idle}
-use Rattle.sercos_law_run.proofs.Undisturbed.Small.{some_is}
+use Rattle.sercos_law_run.proofs.Undisturbed.Arriving.Small.{some_is}
 use Rattle.sercos_law_run.specs.Recovery.Stretches.{IsDown}
 use Rattle.sercos_law_run.proofs.Recovery.DownSince.{NeverRestarts, never_open, open_at_most}
 use Rattle.sercos_law_run.proofs.Recovery.FallsInTime.{goes_on_in_two, stop_before}
@@ -39,7 +39,7 @@ use Rattle.sercos_law_run.proofs.Recovery.Limits.{ages_to_limit, open_age}
 use Rattle.sercos_law_run.proofs.Recovery.Stretches.{stays_down_in, ages_down_in}
 use Rattle.sercos_law_run.proofs.Recovery.Turns.{opens_in_turn, works_in_turn}
 use Rattle.sercos_law_run.proofs.Recovery.UpSections.{goes_on_since, section_most}
-use Rattle.sercos_law_run.specs.Tolerance.Losses.{cycles_for, disturbances, is_lost, lost_since}
+use Rattle.sercos_law_run.specs.Tolerance.Losses.{cycles_for, disturbances, loses_step, lost_since}
 use Rattle.sercos_law_run.specs.Tolerance.Rises.{start_cost, start_costs}
 use Rattle.sercos_law_run.specs.Tolerance.Sparse.{AreSparse, IsSparse}
 use Rattle.sercos_law_run.proofs.Tolerance.Borne.{IsHeld, stays_if}
@@ -51,7 +51,7 @@ use Rattle.sercos_law_run.proofs.Tolerance.ThreeLasts.{sum_split, without, witho
 use Rattle.sercos_service_master.specs.Calls.{cycles_open}
 use Rattle.sercos_trace.specs.declared.events.Stop.{Stop}
 use Rattle.sercos_law_run.proofs.Undisturbed.NeverFalls.{busy_low}
-use Rattle.sercos_law_run.proofs.Undisturbed.StopStays.{stop_after, stop_kept}
+use Rattle.sercos_law_run.proofs.Undisturbed.Stops.StopStays.{stop_after, stop_kept}
 use Rattle.sercos_law_run.proofs.Recovery.NoFallLater.{few_open}
 use Rattle.sercos_law_run.proofs.Recovery.SpareStops.{begins_none, nothing_new, open_of_age, some_above}
 use Rattle.sercos_law_run.proofs.Recovery.EpochStops.{same_start}
@@ -124,7 +124,7 @@ module _ (r : RingView) (jobs : List Job) (carry : Carry) (restarts : Restarts) 
     nothing_lost : (t : CycleView) → IsRun r jobs carry restarts (t ∷ f ∷ b) → IsClear (t ∷ f ∷ b)
         → Held (λ k. IsUpAfter (f ∷ b) k) (length (f ∷ b)) t (f ∷ b) → IsSparse r carry restarts t (f ∷ b)
         → IsUndisturbed r carry restarts t (f ∷ b) → (k : ℕ) → k < length r.drives → is_down k ≡ false
-        → is_lost (view_of r jobs carry restarts k t (f ∷ b)) (views_of r jobs carry restarts k (f ∷ b)) ≡ false
+        → loses_step (view_of r jobs carry restarts k t (f ∷ b)) (views_of r jobs carry restarts k (f ∷ b)) ≡ false
     nothing_lost t run clear is sparse off k low up = is.kept off (inr (tt, calm)) k (those k low up)
 
     quiet_all : (cycles : List CycleView) → AreSparse r carry restarts cycles (f ∷ b) → NeverRestarts restarts cycles (f ∷ b)

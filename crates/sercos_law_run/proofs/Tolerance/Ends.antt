@@ -36,10 +36,10 @@ use Rattle.sercos_law_run.proofs.Undisturbed.JobsCost.{list_fits, two_fits}
 use Rattle.sercos_law_run.proofs.Undisturbed.NeverFalls.{busy_low}
 use Rattle.sercos_law_run.proofs.Undisturbed.PhaseTwo.{section_two, sum_within}
 use Rattle.sercos_law_run.proofs.Undisturbed.PhaseZero.{in_zero}
-use Rattle.sercos_law_run.proofs.Undisturbed.ShortLists.{few_blocks, longest_list, lists_short}
-use Rattle.sercos_law_run.proofs.Undisturbed.Small.{none_some}
-use Rattle.sercos_law_run.proofs.Undisturbed.StopStays.{stop_after}
-use Rattle.sercos_law_run.proofs.Undisturbed.StopsTold.{stop_at}
+use Rattle.sercos_law_run.proofs.Undisturbed.Checks.ShortLists.{few_blocks, longest_list, lists_short}
+use Rattle.sercos_law_run.proofs.Undisturbed.Arriving.Small.{none_some}
+use Rattle.sercos_law_run.proofs.Undisturbed.Stops.StopStays.{stop_after}
+use Rattle.sercos_law_run.proofs.Undisturbed.Stops.StopsTold.{stop_at}
 use Rattle.sercos_law_run.proofs.Undisturbed.WholeRuns.{caused}
 use Rattle.sercos_law_run.proofs.Recovery.LateDown.{phase_now}
 use Rattle.sercos_law_run.specs.Tolerance.Early.{early_costs}

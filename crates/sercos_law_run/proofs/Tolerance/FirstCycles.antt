@@ -27,7 +27,7 @@ use Rattle.sercos_law_run.proofs.Views.ViewRuns.{started}
 use Rattle.sercos_law_run.specs.Held.Opened.{IsOpened}
 use Rattle.sercos_law_run.proofs.Headline.HeadlineRuns.{all_stand}
 use Rattle.sercos_law_run.specs.Undisturbed.EpochStarts.{StartsEpoch}
-use Rattle.sercos_law_run.proofs.Undisturbed.AtsTaken.{unheard_ats}
+use Rattle.sercos_law_run.proofs.Undisturbed.Arriving.AtsTaken.{unheard_ats}
 use Rattle.sercos_law_run.proofs.Undisturbed.JobsBegun.{begun_end, begun_then, few_now}
 use Rattle.sercos_law_run.proofs.Undisturbed.NoFalls.{heard_mdt}
 use Rattle.sercos_law_run.proofs.Undisturbed.PhaseCounts.{none_identified}

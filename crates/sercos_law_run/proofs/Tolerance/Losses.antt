@@ -14,7 +14,7 @@ use Rattle.sercos_law_channel.specs.Pace.Times.{one_more}
 use Rattle.sercos_law_channel.proofs.Theorems.{in_step, length-replies_of, length-steps_of}
 use Rattle.sercos_law_channel.proofs.Handshake.EpochRuns.{start, start_begun}
 use Rattle.sercos_law_channel.proofs.Pace.LateRuns.{head_before, taken_before}
-use Rattle.sercos_law_run.specs.Tolerance.Losses.{GoesOn, TakesTimeAndLosses, is_lost, lost_since}
+use Rattle.sercos_law_run.specs.Tolerance.Losses.{GoesOn, TakesTimeAndLosses, loses_step, lost_since}
 use Rattle.sercos_law_run.proofs.Tolerance.Steps.{Counts, NoneOpen, NotAnswered, NotTaken, answers_more, begun_is, busy_still, counts, grows, none_new, same_head}
 
 -- If nothing is lost, an open step is heard, and processed.
@@ -54,7 +54,7 @@ kept_by false h false p hears takes = refl
 
 pub none_lost_in : (v : View) (past : List View) → v.master_restarts ≡ false
     → (is_some (open_in (epoch_begun past)) ≡ true → is_some v.heard ≡ true)
-    → (is_some (open_in (begun_in v past)) ≡ true → is_some (processed_in v past) ≡ true) → is_lost v past ≡ false
+    → (is_some (open_in (begun_in v past)) ≡ true → is_some (processed_in v past) ≡ true) → loses_step v past ≡ false
 none_lost_in v past goes_on hears takes =
     kept_by (is_some (open_in (unless_restart v (epoch_begun past)))) (is_some v.heard) (is_some (open_in (begun_in v past)))
     (is_some (processed_in v past))
@@ -65,7 +65,7 @@ none_lost_in v past goes_on hears takes =
 closed : (begun : List Begun) → begun ≡ [] → is_some (open_in begun) ≡ true → ⊥
 closed begun none on = false≢true (sym (ap (λ (l : List Begun). is_some (open_in l)) none) ∙ on)
 
-pub early_kept : (busy : ℕ) (v : View) (past : List View) → IsRun busy (v ∷ past) → v.phase ≤ 1 → is_lost v past ≡ false
+pub early_kept : (busy : ℕ) (v : View) (past : List View) → IsRun busy (v ∷ past) → v.phase ≤ 1 → loses_step v past ≡ false
 early_kept busy v past run early =
     let none = (start busy v past run early).0 in
     kept_by (is_some (open_in (unless_restart v (epoch_begun past)))) (is_some v.heard) (is_some (open_in (begun_in v past)))
@@ -114,15 +114,15 @@ module _ (busy : ℕ) where
     all : List View
     all = cycles ++ past
 
-    lost_so : (b : Bool) → is_lost v (cycles ++ past) ≡ b → lost_since (v ∷ cycles) past ≡ one_more b (lost_since cycles past)
+    lost_so : (b : Bool) → loses_step v (cycles ++ past) ≡ b → lost_since (v ∷ cycles) past ≡ one_more b (lost_since cycles past)
     lost_so b is_b = ap (λ (x : Bool). one_more x (lost_since cycles past)) is_b
 
-    heard_by : is_lost v (cycles ++ past) ≡ false → is_some (open_in (epoch_begun (cycles ++ past))) ≡ true → is_some v.heard ≡ true
+    heard_by : loses_step v (cycles ++ past) ≡ false → is_some (open_in (epoch_begun (cycles ++ past))) ≡ true → is_some v.heard ≡ true
     heard_by off some = heard_if (is_some (open_in (unless_restart v (epoch_begun (cycles ++ past))))) (is_some v.heard)
         (is_some (open_in (begun_in v (cycles ++ past)))) (is_some (processed_in v (cycles ++ past))) off
         (ap (λ (l : List Begun). is_some (open_in l)) (cond-false v.master_restarts [] (epoch_begun (cycles ++ past)) goes_on) ∙ some)
 
-    taken_by : is_lost v (cycles ++ past) ≡ false → is_some (open_in (begun_in v (cycles ++ past))) ≡ true
+    taken_by : loses_step v (cycles ++ past) ≡ false → is_some (open_in (begun_in v (cycles ++ past))) ≡ true
         → is_some (processed_in v (cycles ++ past)) ≡ true
     taken_by off some = taken_if (is_some (open_in (unless_restart v (epoch_begun (cycles ++ past))))) (is_some v.heard)
         (is_some (open_in (begun_in v (cycles ++ past)))) (is_some (processed_in v (cycles ++ past))) off some
@@ -174,7 +174,7 @@ module _ (busy : ℕ) where
             by false = omega arith
 
         least : lost_since cycles past ≤ lost_since (v ∷ cycles) past
-        least = no_fewer (is_lost v (cycles ++ past)) (lost_since cycles past)
+        least = no_fewer (loses_step v (cycles ++ past)) (lost_since cycles past)
 
     total_next : open_since (v ∷ cycles) past + (busy + 1) * length (answers_in (epoch_begun past)) ≤ (busy + 1) * length
         (epoch_log (v ∷ (cycles ++ past))) + lost_since (v ∷ cycles) past
@@ -187,26 +187,26 @@ module _ (busy : ℕ) where
         product = few (length (epoch_log (cycles ++ past))) (length (epoch_log (v ∷ (cycles ++ past)))) at_least
 
         -- one more lost makes up for one more open
-        lost_one : is_lost v (cycles ++ past) ≡ true → open_since (v ∷ cycles) past ≡ open_since cycles past + 1
+        lost_one : loses_step v (cycles ++ past) ≡ true → open_since (v ∷ cycles) past ≡ open_since cycles past + 1
             → open_since (v ∷ cycles) past + (busy + 1) * length (answers_in (epoch_begun past)) ≤ (busy + 1) * length
             (epoch_log (v ∷ (cycles ++ past))) + lost_since (v ∷ cycles) past
-        lost_one on opened = let lost = more_if (is_lost v (cycles ++ past)) (lost_since cycles past) on in let before = is.total in
+        lost_one on opened = let lost = more_if (loses_step v (cycles ++ past)) (lost_since cycles past) on in let before = is.total in
             let least = product in omega (arith, opened, lost, before, least)
 
         -- a step that waits, in a cycle of which nothing is lost
-        on_time : is_lost v (cycles ++ past) ≡ false → open_since (v ∷ cycles) past ≡ open_since cycles past + 1
+        on_time : loses_step v (cycles ++ past) ≡ false → open_since (v ∷ cycles) past ≡ open_since cycles past + 1
             → (e : Entry) (log : List Entry) → epoch_log (v ∷ (cycles ++ past)) ≡ e ∷ log
             → suc (length (answers_in (epoch_begun (v ∷ (cycles ++ past))))) ≡ length (epoch_log (v ∷ (cycles ++ past)))
             → open_since (v ∷ cycles) past + (busy + 1) * length (answers_in (epoch_begun past)) ≤ (busy + 1) * length
             (epoch_log (v ∷ (cycles ++ past))) + lost_since (v ∷ cycles) past
         on_time off opened e log those waits = elim (grows busy v (cycles ++ past) run stays goes_on) [
           | inr (x, more_is, cycle) ↦ (
-              let lost = same_if (is_lost v (cycles ++ past)) (lost_since cycles past) off in
+              let lost = same_if (loses_step v (cycles ++ past)) (lost_since cycles past) off in
               let long = ap (λ (n : ℕ). (busy + 1) * n) (ap length more_is) in
               let up = more (length (epoch_log (cycles ++ past))) in
               let before = is.total in omega (arith, lost, long, up, before, opened))
           | inl same ↦ (
-              let lost = same_if (is_lost v (cycles ++ past)) (lost_since cycles past) off in
+              let lost = same_if (loses_step v (cycles ++ past)) (lost_since cycles past) off in
               let state = waits_open (epoch_begun (v ∷ (cycles ++ past))) (epoch_log (v ∷ (cycles ++ past)))
               (in_step busy (v ∷ (cycles ++ past)) run) waits in
               let late = busy_still busy v (cycles ++ past) run stays goes_on (heard_by off) e log those state.0 state.1 in
@@ -215,7 +215,7 @@ module _ (busy : ℕ) where
               let long = ap (λ (n : ℕ). (busy + 1) * n) waits in omega (arith, lost, late, sum, up, long))
         ]
 
-        which : is_some (open_in (begun_in v (cycles ++ past))) ≡ true → (b : Bool) → is_lost v (cycles ++ past) ≡ b → (log : List Entry)
+        which : is_some (open_in (begun_in v (cycles ++ past))) ≡ true → (b : Bool) → loses_step v (cycles ++ past) ≡ b → (log : List Entry)
             → epoch_log (v ∷ (cycles ++ past)) ≡ log
             → Counts (epoch_begun (v ∷ (cycles ++ past))) (epoch_log (v ∷ (cycles ++ past)))
             → open_since (v ∷ cycles) past + (busy + 1) * length (answers_in (epoch_begun past)) ≤ (busy + 1) * length
@@ -233,11 +233,11 @@ module _ (busy : ℕ) where
         by : (b : Bool) → is_some (open_in (begun_in v (cycles ++ past))) ≡ b
             → open_since (v ∷ cycles) past + (busy + 1) * length (answers_in (epoch_begun past)) ≤ (busy + 1) * length
             (epoch_log (v ∷ (cycles ++ past))) + lost_since (v ∷ cycles) past
-        by true on = which on (is_lost v (cycles ++ past)) refl (epoch_log (v ∷ (cycles ++ past))) refl
+        by true on = which on (loses_step v (cycles ++ past)) refl (epoch_log (v ∷ (cycles ++ past))) refl
             (counts (epoch_begun (v ∷ (cycles ++ past))) (epoch_log (v ∷ (cycles ++ past))) (in_step busy (v ∷ (cycles ++ past)) run))
         by false off =
             let same = same_if (is_some (open_in (begun_in v (cycles ++ past)))) (open_since cycles past) off in
-            let least = no_fewer (is_lost v (cycles ++ past)) (lost_since cycles past) in
+            let least = no_fewer (loses_step v (cycles ++ past)) (lost_since cycles past) in
             let before = is.total in
             let up = product in omega (arith, same, least, before, up)
 

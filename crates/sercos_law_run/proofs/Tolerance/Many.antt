@@ -24,8 +24,8 @@ use Rattle.sercos_law_run.proofs.Typed.Mdts.{phase_low}
 use Rattle.sercos_law_run.specs.Undisturbed.EpochStarts.{StartsEpoch}
 use Rattle.sercos_law_run.specs.Undisturbed.StopsLater.{IsRight}
 use Rattle.sercos_law_run.proofs.Undisturbed.PhaseTwo.{listed_all, sum_within}
-use Rattle.sercos_law_run.proofs.Undisturbed.ShortLists.{few_blocks, longest_list, lists_short}
-use Rattle.sercos_law_run.proofs.Undisturbed.StopStays.{none_before}
+use Rattle.sercos_law_run.proofs.Undisturbed.Checks.ShortLists.{few_blocks, longest_list, lists_short}
+use Rattle.sercos_law_run.proofs.Undisturbed.Stops.StopStays.{none_before}
 use Rattle.sercos_law_run.specs.Tolerance.Ends.{IsUpOrStopped}
 use Rattle.sercos_law_run.specs.Tolerance.Many.{own_costs, slow_bound, slow_startup_of}
 use Rattle.sercos_law_run.specs.Tolerance.Sparse.{AreSparse}

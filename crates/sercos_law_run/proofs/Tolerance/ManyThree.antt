@@ -21,7 +21,7 @@ use Rattle.sercos_law_run.specs.Held.Opened.{IsOpened}
 use Rattle.sercos_law_run.proofs.Headline.HeadlineRuns.{all_stand}
 use Rattle.sercos_law_run.specs.Undisturbed.EpochStarts.{StartsEpoch}
 use Rattle.sercos_law_run.proofs.Undisturbed.PhaseThree.{comes_three}
-use Rattle.sercos_law_run.proofs.Undisturbed.StopStays.{none_before, stop_after}
+use Rattle.sercos_law_run.proofs.Undisturbed.Stops.StopStays.{none_before, stop_after}
 use Rattle.sercos_law_run.specs.Tolerance.Many.{own_costs}
 use Rattle.sercos_law_run.specs.Tolerance.Sparse.{AreSparse}
 use Rattle.sercos_law_run.proofs.Tolerance.Borne.{IsBorne, all_borne, rests, zero_is}

@@ -10,7 +10,7 @@ use Rattle.sercos_seat.specs.Ring.{Known}
 use Rattle.sercos_master.specs.Annals.{Past, Turn, count_addressed, fall_at, fall_of, first_place, has_lost_at, has_lost_mst, is_at_limit}
 use Rattle.sercos_law_channel.specs.Pace.ChannelCalls.{age_if_open}
 use Rattle.sercos_law_run.proofs.Undisturbed.NoFalls.{mst_kept, none_from}
-use Rattle.sercos_law_run.proofs.Undisturbed.Phases.{late_so}
+use Rattle.sercos_law_run.proofs.Undisturbed.Arriving.Phases.{late_so}
 
 pub none_falls : (s : Known) (p : Past) → has_lost_mst (p.now ∷ p.turns) ≡ false
     → ((k : ℕ) → k < length s.drives → has_lost_at k (p.now ∷ p.turns) ≡ false) → ((k : ℕ) → k < length s.drives → is_at_limit p k ≡ false)

@@ -20,7 +20,7 @@ use Rattle.sercos_law_run.proofs.Held.Runs.{s_known}
 use Rattle.sercos_law_run.proofs.Headline.HeadlineRuns.{first_store}
 use Rattle.sercos_law_run.proofs.Undisturbed.JobsBegun.{begun_now}
 use Rattle.sercos_law_run.proofs.Undisturbed.PhaseThree.{comes_three, is_false}
-use Rattle.sercos_law_run.proofs.Undisturbed.StopStays.{none_before, stop_after}
+use Rattle.sercos_law_run.proofs.Undisturbed.Stops.StopStays.{none_before, stop_after}
 use Rattle.sercos_law_run.proofs.Recovery.LateDown.{phase_now, no_lower}
 use Rattle.sercos_law_run.specs.Tolerance.Sparse.{AreSparse}
 use Rattle.sercos_law_run.proofs.Tolerance.Borne.{IsBase, IsBorne, borne_on}

@@ -21,18 +21,18 @@ use Rattle.sercos_law_run.proofs.Headline.HeadlineRuns.{all_stand, first_store}
 use Rattle.sercos_law_run.specs.Undisturbed.EpochStarts.{StartsEpoch}
 use Rattle.sercos_law_run.specs.Undisturbed.Reports.{HaveTold, left_after, request_cycles, waiting_after}
 use Rattle.sercos_law_run.specs.Undisturbed.ViewsSince.{views_since}
-use Rattle.sercos_law_run.proofs.Undisturbed.Carried.{are_carried}
-use Rattle.sercos_law_run.proofs.Undisturbed.CommandRuns.{first_commands}
+use Rattle.sercos_law_run.proofs.Undisturbed.Checks.Carried.{are_carried}
+use Rattle.sercos_law_run.proofs.Undisturbed.Checks.CommandRuns.{first_commands}
 use Rattle.sercos_law_run.proofs.Undisturbed.EndedInTime.{LastsShort, length_since}
 use Rattle.sercos_law_run.proofs.Undisturbed.GoingCycles.{AreAll, AreGoing, IsGoing, all_so, four_along, phase_before, waits_along}
 use Rattle.sercos_law_run.proofs.Undisturbed.NeverFalls.{runs_split}
 use Rattle.sercos_law_run.proofs.Undisturbed.OneRequest.{room}
-use Rattle.sercos_law_run.proofs.Undisturbed.PassedCycles.{views_split}
-use Rattle.sercos_law_run.proofs.Undisturbed.PassedRuns.{commands_so}
+use Rattle.sercos_law_run.proofs.Undisturbed.Checks.PassedCycles.{views_split}
+use Rattle.sercos_law_run.proofs.Undisturbed.Checks.PassedRuns.{commands_so}
 use Rattle.sercos_law_run.proofs.Undisturbed.PhaseTwo.{listed_all}
 use Rattle.sercos_law_run.proofs.Undisturbed.ToldInTime.{IsQuiet, beyond, left_waiting, told_along, told_if_few}
 use Rattle.sercos_law_run.proofs.Recovery.LateDown.{phase_now}
-use Rattle.sercos_law_run.specs.Tolerance.Reports.{cycles_in}
+use Rattle.sercos_law_run.specs.Tolerance.Reports.{cycles_commanded}
 use Rattle.sercos_law_run.specs.Tolerance.Sparse.{AreSparse}
 use Rattle.sercos_law_run.proofs.Tolerance.Borne.{IsBorne, all_borne}
 use Rattle.sercos_law_run.proofs.Tolerance.EarlySparse.{start_is}
@@ -158,16 +158,16 @@ module _ (r : RingView) (jobs : List Job) (carry : Carry) (restarts : Restarts) 
         (sym (phase_before r jobs carry restarts opened t j run going) ∙ four)
 
     four_of : (t : CycleView) (cycles before : List CycleView) → IsRun r jobs carry restarts (t ∷ (cycles ++ before))
-        → IsGoing r jobs carry restarts t (cycles ++ before) → 1 ≤ cycles_in 4 (t ∷ cycles)
-        → (1 ≤ cycles_in 4 cycles → (looks_back r jobs (master_calls r carry restarts (cycles ++ before))).now.phase ≡ 4) → t.phase ≡ 4
+        → IsGoing r jobs carry restarts t (cycles ++ before) → 1 ≤ cycles_commanded 4 (t ∷ cycles)
+        → (1 ≤ cycles_commanded 4 cycles → (looks_back r jobs (master_calls r carry restarts (cycles ++ before))).now.phase ≡ 4) → t.phase ≡ 4
     four_of t cycles before run going some earlier = elim (cases_Bool (t.phase == 4)) [
       | inl is ↦ eqb-true t.phase 4 is
       | inr off ↦ phase_before r jobs carry restarts opened t (cycles ++ before) run going
-          ∙ earlier (subst (λ (n : ℕ). 1 ≤ n) (cond-false (t.phase == 4) (suc (cycles_in 4 cycles)) (cycles_in 4 cycles) off) some)
+          ∙ earlier (subst (λ (n : ℕ). 1 ≤ n) (cond-false (t.phase == 4) (suc (cycles_commanded 4 cycles)) (cycles_commanded 4 cycles) off) some)
     ]
 
     four_after : (cycles before : List CycleView) → IsRun r jobs carry restarts (cycles ++ before) → AreAll IsSpared cycles before
-        → 1 ≤ cycles_in 4 cycles → (looks_back r jobs (master_calls r carry restarts (cycles ++ before))).now.phase ≡ 4
+        → 1 ≤ cycles_commanded 4 cycles → (looks_back r jobs (master_calls r carry restarts (cycles ++ before))).now.phase ≡ 4
     four_after [] before run are some = absurd (omega (arith, some))
     four_after (t ∷ cycles) before run are some = four_next t (cycles ++ before) run are.1.goes_on
         (four_of t cycles before run are.1.goes_on some (four_after cycles before run.0 are.0))
@@ -184,7 +184,7 @@ module _ (r : RingView) (jobs : List Job) (carry : Carry) (restarts : Restarts) 
       one_is : IsSpared one (older ++ before)
       those_older : AreAll IsSpared older before
 
-    four_split : (cycles before : List CycleView) (n : ℕ) → n < cycles_in 4 cycles → IsRun r jobs carry restarts (cycles ++ before)
+    four_split : (cycles before : List CycleView) (n : ℕ) → n < cycles_commanded 4 cycles → IsRun r jobs carry restarts (cycles ++ before)
         → AreAll IsSpared cycles before → IsFour n cycles before
     four_split [] before n low run are = absurd (omega (arith, low))
     four_split (t ∷ cycles) before zero low run are = record {
@@ -199,7 +199,7 @@ module _ (r : RingView) (jobs : List Job) (carry : Carry) (restarts : Restarts) 
       those_older = are.0;
     }
     four_split (t ∷ cycles) before (suc n) low run are =
-        let c = four_split cycles before n (fewer (t.phase == 4) n (cycles_in 4 cycles) low) run.0 are.0 in
+        let c = four_split cycles before n (fewer (t.phase == 4) n (cycles_commanded 4 cycles) low) run.0 are.0 in
         record {
           newer = t ∷ c.newer;
           one = c.one;
@@ -216,7 +216,7 @@ module _ (r : RingView) (jobs : List Job) (carry : Carry) (restarts : Restarts) 
   pub reports_sparse : (t : CycleView) (cycles before : List CycleView) → IsRun r jobs carry restarts (t ∷ (cycles ++ before))
       → IsClear (t ∷ (cycles ++ before)) → StartsEpoch r jobs carry restarts before → AreSparse r carry restarts (t ∷ cycles) before
       → (k i : ℕ) (x : Task) → k < length r.drives → slice_get (waiting_after r jobs carry restarts before k) i ≡ Some x
-      → (i + 1) * request_cycles r k ≤ cycles_in 4 cycles → (number : ℕ) × (x.number ≡ Some number) × HaveTold (t ∷ cycles) number
+      → (i + 1) * request_cycles r k ≤ cycles_commanded 4 cycles → (number : ℕ) × (x.number ≡ Some number) × HaveTold (t ∷ cycles) number
   reports_sparse t cycles before run clear starts sparse k i x below got long = told_if_few r jobs carry restarts opened k below
       (t ∷ cycles) before (told_along r jobs carry restarts opened k below (t ∷ cycles) before run clear quiet) starts i x got few
     where
@@ -231,7 +231,7 @@ module _ (r : RingView) (jobs : List Job) (carry : Carry) (restarts : Restarts) 
           let all = room (drive_at r k).busy (drive_at r k).command in
           let least = some_times i (request_cycles r k) in omega (arith, all, least)
 
-      enough : suc i * request_cycles r k ≤ cycles_in 4 cycles
+      enough : suc i * request_cycles r k ≤ cycles_commanded 4 cycles
       enough = let same = one_more_time i (request_cycles r k) in omega (arith, same, long)
 
       n : (d : ℕ) × (suc i * request_cycles r k ≡ 1 + d)

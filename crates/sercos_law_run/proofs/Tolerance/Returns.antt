@@ -40,8 +40,8 @@ use Rattle.sercos_law_run.proofs.Tolerance.Settles.{IsSettled, early_few, first_
 use Rattle.sercos_trace.specs.declared.events.Stop.{Stop}
 use Rattle.sercos_law_run.proofs.Typed.Mdts.{phase_low}
 use Rattle.sercos_law_run.specs.Undisturbed.WholeRuns.{StopsForCause}
-use Rattle.sercos_law_run.proofs.Undisturbed.Small.{none_some}
-use Rattle.sercos_law_run.proofs.Undisturbed.StopStays.{none_before}
+use Rattle.sercos_law_run.proofs.Undisturbed.Arriving.Small.{none_some}
+use Rattle.sercos_law_run.proofs.Undisturbed.Stops.StopStays.{none_before}
 use Rattle.sercos_law_run.proofs.Undisturbed.WholeRuns.{caused}
 use Rattle.sercos_law_run.specs.Recovery.Recovers.{IsBack}
 use Rattle.sercos_law_run.proofs.Recovery.EarlyStops.{early_in, stands_at}
@@ -610,7 +610,7 @@ module _ (r : RingView) (jobs : List Job) (carry : Carry) (restarts : Restarts) 
               let costs = x.costs in omega (arith, parts, few, some_room, counted, costs, long);
         }
 
-    -- A stop of phase 2 or later has its cause; before there is none.
+    -- A stop of phase 2 or later has its cause; before phase 2 there is no stop.
     cause_at : (t : CycleView) (j : List CycleView) (x : Stop) → IsRun r jobs carry restarts (t ∷ j) → IsClear (t ∷ j)
         → (behind_mdt r jobs carry restarts t.sent j).stop ≡ Some x → StopsForCause r x
     cause_at t j x run clear is = caused r jobs carry restarts t j x (elim (cases_lt t.phase 2) [

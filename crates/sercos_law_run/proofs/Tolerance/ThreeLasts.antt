@@ -33,15 +33,15 @@ use Rattle.sercos_law_run.specs.Undisturbed.Sections.{GoesOnInThree}
 use Rattle.sercos_law_run.specs.Undisturbed.ViewsSince.{views_since}
 use Rattle.sercos_law_run.proofs.Undisturbed.JobsBegun.{begun_end, begun_now, places_now, tasks_now}
 use Rattle.sercos_law_run.proofs.Undisturbed.JobsCost.{check_fits, two_fits}
-use Rattle.sercos_law_run.proofs.Undisturbed.PassedCycles.{views_split}
+use Rattle.sercos_law_run.proofs.Undisturbed.Checks.PassedCycles.{views_split}
 use Rattle.sercos_law_run.proofs.Undisturbed.PhaseThree.{begun_few, comes_three, unready_before}
 use Rattle.sercos_law_run.proofs.Undisturbed.PhaseTwo.{listed_all, section_two, sum_within}
 use Rattle.sercos_law_run.proofs.Undisturbed.Sections.{never_idle}
-use Rattle.sercos_law_run.proofs.Undisturbed.StopStays.{none_before, stop_after}
+use Rattle.sercos_law_run.proofs.Undisturbed.Stops.StopStays.{none_before, stop_after}
 use Rattle.sercos_law_run.proofs.Views.Members.{member_is}
 use Rattle.sercos_law_run.proofs.Recovery.LateDown.{phase_now}
 use Rattle.sercos_law_run.specs.Tolerance.Early.{early_costs}
-use Rattle.sercos_law_run.specs.Tolerance.Losses.{cycles_for, disturbances, is_lost, lost_since}
+use Rattle.sercos_law_run.specs.Tolerance.Losses.{cycles_for, disturbances, loses_step, lost_since}
 use Rattle.sercos_law_run.specs.Tolerance.Sparse.{AreSparse}
 use Rattle.sercos_law_run.proofs.Tolerance.Borne.{IsBase, IsBorne, borne_on, calm_or_not}
 use Rattle.sercos_law_run.proofs.Tolerance.CostsShared.{all_few, sum_both, sum_most}
@@ -147,7 +147,7 @@ module _ (r : RingView) (jobs : List Job) (carry : Carry) (restarts : Restarts) 
       → (k : ℕ) → k < length r.drives → lost_of (t ∷ u ∷ cycles) before k + spare t (u ∷ (cycles ++ before)) ≤ lost_of (u ∷ cycles) before
       k + spare u (cycles ++ before) + costs t (u ∷ (cycles ++ before))
   lost_more t u cycles before run clear starts sparse k below = subst
-      (λ (l : List View). one_more (is_lost (view_of r jobs carry restarts k t (u ∷ (cycles ++ before))) l)
+      (λ (l : List View). one_more (loses_step (view_of r jobs carry restarts k t (u ∷ (cycles ++ before))) l)
       (lost_of (u ∷ cycles) before k) + spare t (u ∷ (cycles ++ before))
       ≤ lost_of (u ∷ cycles) before k + spare u (cycles ++ before) + costs t (u ∷ (cycles ++ before)))
       (views_split r jobs carry restarts k (u ∷ cycles) before) (elim (calm_or_not r carry restarts t (u ∷ (cycles ++ before))) [

@@ -20,7 +20,7 @@ use Rattle.sercos_service_drive.specs.Log.{Taken, taken_record}
 use Rattle.sercos_service_drive.specs.Writes.{AreThose, added_on}
 use Rattle.sercos_drive.specs.declared.hearing.Told.{Told}
 use Rattle.sercos_drive.specs.Heard.{DriveCall, Mst, Mdt, Restart, mst_got, told_at, single_in, joint_in, lies_within, mdt_got}
-use Rattle.sercos_drive.specs.Moments.{Moment, phase_in, cycle_in, has_mst, in_phase, with_record, taken_in, blocks_in, blocks_after, commands_in}
+use Rattle.sercos_drive.specs.Moments.{Moment, phase_in, cycle_in, has_mst, unless_phase_0, with_record, taken_in, blocks_in, blocks_after, commands_in}
 use Rattle.sercos_drive.specs.Annals.{processed_in, ends_in, stands_in, annals}
 use Rattle.sercos_script.specs.declared.link.Passage.{Passage}
 use Rattle.sercos_script.specs.Links.{Carry, Restarts}
@@ -138,7 +138,7 @@ got_told address phase blocks (Some content) are = cond_both (nat_le 3 phase) (j
 abbrev pub AreAllowed : Type 0
 AreAllowed = (t : Taken) (h : List Taken) → AreThose t.blocks h → IfSome (added_on t h) (λ w. put_fault (find_block w.raw t.blocks) t.phase w.bytes ≡ None)
 
-phase_taken : (phase : ℕ) (h : List Taken) → AreTaken h → AreTaken (in_phase phase h)
+phase_taken : (phase : ℕ) (h : List Taken) → AreTaken h → AreTaken (unless_phase_0 phase h)
 phase_taken phase h are = cond_both (phase == 0) [] h AreTaken (λ on. tt) (λ off. are)
 
 processed : (d : DriveView) (rate : ℕ) (told : Option Told) (past : List Moment) → IsTold told → IsStore (blocks_in d past) → IfSome (processed_in d rate told past) (λ t. IsTaken t × (t.blocks ≡ blocks_in d past))

@@ -22,9 +22,10 @@ use Rattle.sercos_block.proofs.SoundLemmas.{SoundParts, SoundParts-is_sound, fou
 use Rattle.sercos_block.proofs.PutLemmas.{fits-is_len}
 use Rattle.sercos_block.proofs.TypeLemmas.{types}
 use Rattle.sercos_command.specs.declared.commands.SetCommand.{SetCommand}
-use Rattle.sercos_command.specs.Settings.{CommandsView, has_ended, find_set, status_by, status_in, change_in}
+use Rattle.sercos_command.specs.Settings.{has_ended, status_by}
+use Rattle.sercos_command.specs.Calls.{setting_of, CommandHistory, status_in, change_in}
 use Rattle.sercos_service_drive.specs.Log.{Taken, Entry, accepted, ahs, opens, open_idn, run_before, selection, in_order}
-use Rattle.sercos_service_drive.specs.Replies.{good, refused, answer_by, data_in, list_words, element_words, copy, read_cause, write_cause, write_cause_in, selects, ends_early, is_over, is_uneven, is_no_setting, bytes_written, reply_on, reply_at, reply_of, answered}
+use Rattle.sercos_service_drive.specs.Replies.{good, refused, answer_by, data_in, list_words, element_words, copy, read_cause, write_cause, write_cause_in, is_first_word, ends_early, is_over, is_uneven, is_no_command_value, bytes_written, reply_on, reply_at, reply_of, answered}
 use Rattle.sercos_service_drive.specs.Says.{Shown, shown, channel_says}
 use Rattle.sercos_law_run.specs.Typed.Keeps.{IsTaken, AreTaken}
 use Rattle.sercos_law_run.proofs.Typed.Words.{AreWords, word_of, words_of_bytes, two_bytes, four_bytes}
@@ -50,9 +51,9 @@ answer_word (Some code) word is low = is
 write_code : (b : Block) (phase : ℕ) (last : Bool) (words : List ℕ) → IsCode (write_cause b phase last words)
 unfolding write_cause
 write_code b phase last words =
-    first_code _ _ (code_if (selects words && is_fixed b) 0x7004 (omega arith)) (first_code _ _ (code_if (is_protected b.attribute phase) 0x7005 (omega arith))
+    first_code _ _ (code_if (is_first_word words && is_fixed b) 0x7004 (omega arith)) (first_code _ _ (code_if (is_protected b.attribute phase) 0x7005 (omega arith))
     (first_code _ _ (code_if (ends_early b last words) 0x7002 (omega arith)) (first_code _ _ (code_if (is_over b last words) 0x7003 (omega arith))
-    (first_code _ _ (code_if (is_uneven b words || is_no_setting b last words) 0x7008 (omega arith))
+    (first_code _ _ (code_if (is_uneven b words || is_no_command_value b last words) 0x7008 (omega arith))
     (first_code _ _ (code_if (last && is_below b (bytes_written b words) b.min) 0x7006 (omega arith)) (code_if (last && is_above b (bytes_written b words) b.max) 0x7007 (omega arith)))))))
 
 write_code_in : (o : Option Block) (phase : ℕ) (last : Bool) (words : List ℕ) → IsCode (write_cause_in o phase last words)
@@ -156,7 +157,7 @@ copy_so : (raw : ℕ) (t : Taken) → IsTaken t → AreWords (copy raw t)
 copy_so raw t is = by (t.step.element == 1)
   where
     by : (status : Bool) → AreWords (if status then status_in t.commands raw t.cycle ∷ [] else unwrap_or (option_map (element_words t.step.element t.cycle) (find_block raw t.blocks)) [])
-    by true = (status_small t.commands.time (find_set raw t.commands.set) t.cycle, tt)
+    by true = (status_small t.commands.time (setting_of t.commands.rate raw t.commands.calls) t.cycle, tt)
     by false = found_so raw t.step.element t.cycle t.blocks (find_block raw t.blocks) is.blocks refl
 
 missing_so : (e : ℕ) (o : Option Block) → e < 8 → IsCode (read_fault o e)
@@ -200,7 +201,7 @@ either : (b : Bool) (x y : Shown) → x.word < 65536 → y.word < 65536 → (if 
 either true x y low other = low
 either false x y low other = other
 
-pub shows_word : (busy cycle : ℕ) (commands : CommandsView) (h : List Taken) → AreTaken h → (channel_says busy cycle commands h).word < 65536
+pub shows_word : (busy cycle : ℕ) (commands : CommandHistory) (h : List Taken) → AreTaken h → (channel_says busy cycle commands h).word < 65536
 shows_word busy cycle commands h are = by (accepted h) (accepted_so h are)
   where
     by : (a : List Taken) → AreTaken a → (shown busy cycle (ahs h) (change_in commands cycle) (answered a)).word < 65536

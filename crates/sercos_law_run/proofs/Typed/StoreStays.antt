@@ -1,5 +1,5 @@
 -- A drive's store stays one, whatever is written to it.
-use Rattle.std.proofs.Common.{◌≡◌, ◌⊎◌, inl, inr, ℕ, suc, ◌*◌, ◌<◌, ◌≤◌, ◌==◌, nat_lt, Bool, true, false, cond, not, ◌&&◌, List, [], ◌∷◌, length, map, Option, Some, None, IfSome, is_none, slice_get, refl, sym, subst, arith, if◌then◌else◌}
+use Rattle.std.proofs.Common.{◌≡◌, ◌⊎◌, inl, inr, ℕ, suc, ◌*◌, ◌<◌, ◌≤◌, ◌==◌, nat_lt, Bool, true, false, cond, not, ◌&&◌, List, [], ◌∷◌, length, map, Option, Some, None, IfSome, slice_get, refl, sym, subst, arith, if◌then◌else◌}
 use Rattle.std.specs.List.{list_all, position, filter}
 use Rattle.std.proofs.lemmas.Bool.{and_parts}
 use Rattle.std.proofs.lemmas.Bool.Decides.{nat_tests}
@@ -9,9 +9,10 @@ use Rattle.sercos_block.specs.declared.block.Block.{Block}
 use Rattle.sercos_block.specs.Stores.{find_block, with_data, put_fault, is_typed, is_len, IsStore}
 use Rattle.sercos_block.proofs.PutLemmas.{IsWritten-at, fits-put_fault, find_block-at, find_block-nowhere, with_data-nowhere, fits-given}
 use Rattle.sercos_block.proofs.TypeLemmas.{bytes_from}
-use Rattle.sercos_command.specs.Checks.{named, unfit_for_phase_3, unfit_for_phase_4, is_outside, list_bytes}
-use Rattle.sercos_command.specs.Settings.{CommandsView, find_set, with_lists, is_command}
-use Rattle.sercos_service_drive.specs.Writes.{Write, setting_in, blocks_with}
+use Rattle.sercos_command.specs.Checks.{listed_if, unfit_for_phase_3, unfit_for_phase_4, is_outside, list_bytes}
+use Rattle.sercos_command.specs.Settings.{is_command}
+use Rattle.sercos_command.specs.Calls.{is_set, CommandHistory, with_check_list}
+use Rattle.sercos_service_drive.specs.Writes.{Write, command_value, blocks_with}
 
 -- A WRITE
 put_at : (raw : ℕ) (bytes : List ℕ) (blocks : List Block) (place : Option ℕ) → IsStore blocks → position (λ b. b.idn.raw == raw) blocks ≡ place →
@@ -47,7 +48,7 @@ one_listed i idns n low f = let short = f.short in record { short = omega (arith
 more_room : (idns : List Idn) (n m : ℕ) → n ≤ m → FitsList idns n → FitsList idns m
 more_room idns n m room f = let short = f.short in record { short = omega (arith, short, room); bytes = f.bytes }
 
-named_listed : (raw n : ℕ) (broken : Bool) (rest : List Idn) → raw < 65536 → FitsList rest n → FitsList (named raw broken rest) (suc n)
+named_listed : (raw n : ℕ) (broken : Bool) (rest : List Idn) → raw < 65536 → FitsList rest n → FitsList (listed_if raw broken rest) (suc n)
 named_listed raw n true rest low f = one_listed (record { raw = raw }) rest n low f
 named_listed raw n false rest low f = more_room rest n (suc n) (omega arith) f
 
@@ -76,9 +77,9 @@ given_stays raw n idns blocks is given few f =
     let short = f.short in
     written raw (list_bytes idns) blocks is f.bytes (λ i at. fits-given raw (length (list_bytes idns)) blocks i is at given (omega (arith, short, few)))
 
-lists_stay : (c : CommandsView) (raw value : ℕ) (blocks : List Block) → IsStore blocks → IsStore (with_lists c raw value blocks)
-unfolding with_lists
-lists_stay c raw value blocks is = by (not (value == 0) && is_none (find_set raw c.set)) (raw == 127) (raw == 128)
+lists_stay : (c : CommandHistory) (raw value : ℕ) (blocks : List Block) → IsStore blocks → IsStore (with_check_list c raw value blocks)
+unfolding with_check_list
+lists_stay c raw value blocks is = by (not (value == 0) && not (is_set raw c.calls)) (raw == 127) (raw == 128)
   where
     by : (sets first second : Bool) → IsStore (if sets then (if first then with_data 21 (list_bytes (unfit_for_phase_3 c.rate blocks)) blocks
         else (if second then with_data 22 (list_bytes (unfit_for_phase_4 blocks)) blocks else blocks)) else blocks)
@@ -88,13 +89,13 @@ lists_stay c raw value blocks is = by (not (value == 0) && is_none (find_set raw
     by false first second = is
 
 -- WHAT A RECORD WRITES, if it writes something
-pub blocks_stay : (w : Option Write) (c : CommandsView) (phase : ℕ) (blocks : List Block) → IsStore blocks → IfSome w (λ x. put_fault (find_block x.raw blocks) phase x.bytes ≡ None) → IfSome w (λ x. AreBytes x.bytes) → IsStore (blocks_with w c blocks)
+pub blocks_stay : (w : Option Write) (c : CommandHistory) (phase : ℕ) (blocks : List Block) → IsStore blocks → IfSome w (λ x. put_fault (find_block x.raw blocks) phase x.bytes ≡ None) → IfSome w (λ x. AreBytes x.bytes) → IsStore (blocks_with w c blocks)
 blocks_stay None c phase blocks is allowed are = is
 blocks_stay (Some w) c phase blocks is allowed are = by (is_command blocks w.raw)
   where
     put : IsStore (with_data w.raw w.bytes blocks)
     put = put_stays w.raw phase w.bytes blocks is are allowed
 
-    by : (command : Bool) → IsStore (if command then with_lists c w.raw (setting_in w) (with_data w.raw w.bytes blocks) else with_data w.raw w.bytes blocks)
-    by true = lists_stay c w.raw (setting_in w) (with_data w.raw w.bytes blocks) put
+    by : (command : Bool) → IsStore (if command then with_check_list c w.raw (command_value w) (with_data w.raw w.bytes blocks) else with_data w.raw w.bytes blocks)
+    by true = lists_stay c w.raw (command_value w) (with_data w.raw w.bytes blocks) put
     by false = put

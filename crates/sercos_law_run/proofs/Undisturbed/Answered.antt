@@ -39,13 +39,13 @@ use Rattle.sercos_law_run.specs.Undisturbed.Undisturbed.{AreUndisturbed, IsUndis
 use Rattle.sercos_law_run.specs.Undisturbed.EpochStarts.{StartsEpoch}
 use Rattle.sercos_law_run.specs.Undisturbed.ViewsSince.{views_since}
 use Rattle.sercos_law_run.specs.Undisturbed.StartUps.{TellsNoFall}
-use Rattle.sercos_law_run.proofs.Undisturbed.CommandRuns.{first_commands}
-use Rattle.sercos_law_run.proofs.Undisturbed.PassedRuns.{commands_so}
-use Rattle.sercos_law_run.proofs.Undisturbed.Carried.{are_carried}
-use Rattle.sercos_law_run.proofs.Undisturbed.PassedCycles.{views_split}
+use Rattle.sercos_law_run.proofs.Undisturbed.Checks.CommandRuns.{first_commands}
+use Rattle.sercos_law_run.proofs.Undisturbed.Checks.PassedRuns.{commands_so}
+use Rattle.sercos_law_run.proofs.Undisturbed.Checks.Carried.{are_carried}
+use Rattle.sercos_law_run.proofs.Undisturbed.Checks.PassedCycles.{views_split}
 use Rattle.sercos_law_run.proofs.Undisturbed.NeverFalls.{begins_so, runs_split, never_falls}
-use Rattle.sercos_law_run.proofs.Undisturbed.Comes.{none_below}
-use Rattle.sercos_law_run.proofs.Undisturbed.Small.{both_off}
+use Rattle.sercos_law_run.proofs.Undisturbed.Arriving.Comes.{none_below}
+use Rattle.sercos_law_run.proofs.Undisturbed.Arriving.Small.{both_off}
 use Rattle.sercos_law_channel.proofs.Cited.{start_in_cost}
 use Rattle.sercos_law_channel.proofs.Pace.AgeRuns.{ages_in_time}
 use Rattle.sercos_law_channel.proofs.Pace.ExactAges.{answers_at_age}

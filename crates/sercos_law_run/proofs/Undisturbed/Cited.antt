@@ -19,10 +19,10 @@ use Rattle.sercos_law_run.specs.Undisturbed.StopsInTwo.{StopsInTwo}
 use Rattle.sercos_law_run.specs.Undisturbed.StopsLater.{NoStopInFour, StopsInThree}
 use Rattle.sercos_law_run.proofs.Undisturbed.CycleHeld.{fits_in}
 use Rattle.sercos_law_run.proofs.Undisturbed.InTime.{comes_to_four}
-use Rattle.sercos_law_run.proofs.Undisturbed.LaterStops.{no_stop_in_four, ready_if_ended, stop_in_three}
-use Rattle.sercos_law_run.proofs.Undisturbed.OwnFit.{own_fits}
-use Rattle.sercos_law_run.proofs.Undisturbed.RefusedStops.{refused_stop}
-use Rattle.sercos_law_run.proofs.Undisturbed.TwoStops.{stop_in_two}
+use Rattle.sercos_law_run.proofs.Undisturbed.Stops.LaterStops.{no_stop_in_four, ready_if_ended, stop_in_three}
+use Rattle.sercos_law_run.proofs.Undisturbed.Checks.OwnFit.{own_fits}
+use Rattle.sercos_law_run.proofs.Undisturbed.Stops.RefusedStops.{refused_stop}
+use Rattle.sercos_law_run.proofs.Undisturbed.Stops.TwoStops.{stop_in_two}
 
 pub inside : (r : RingView) (k : ℕ) → k < length r.drives → k < length (known_of r).drives
 inside r k below = let count = members_count r in omega (arith, count, below)

@@ -45,8 +45,8 @@ use Rattle.sercos_law_run.specs.Held.Opened.{IsOpened}
 use Rattle.sercos_law_run.proofs.Held.Runs.{Stands, IsPlannedIn, drive_got, holding, s_known, small}
 use Rattle.sercos_law_run.proofs.Headline.HeadlineRuns.{all_stand, first_store, spelled_in, stored_in}
 use Rattle.sercos_law_run.specs.Undisturbed.Fit.{IsFit}
-use Rattle.sercos_law_run.proofs.Undisturbed.BlockStays.{IsAt, Stays, stays_at}
-use Rattle.sercos_law_run.proofs.Undisturbed.Small.{first_is}
+use Rattle.sercos_law_run.proofs.Undisturbed.Checks.BlockStays.{IsAt, Stays, stays_at}
+use Rattle.sercos_law_run.proofs.Undisturbed.Arriving.Small.{first_is}
 use Rattle.sercos_law_channel.proofs.Cited.{written_stays}
 use Rattle.sercos_law_channel.proofs.Handshake.StoredValues.{holds_newest}
 use Rattle.sercos_law_run.proofs.Agenda.Requests.{are_requests}

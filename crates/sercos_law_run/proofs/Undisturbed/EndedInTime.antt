@@ -35,19 +35,19 @@ use Rattle.sercos_law_run.specs.Undisturbed.Reports.{request_cycles}
 use Rattle.sercos_law_run.specs.Tolerance.Losses.{GoesOn}
 use Rattle.sercos_law_run.specs.Undisturbed.ViewsSince.{views_since}
 use Rattle.sercos_law_run.proofs.Undisturbed.BehindRests.{Follow, follow_on}
-use Rattle.sercos_law_run.proofs.Undisturbed.Carried.{are_carried}
-use Rattle.sercos_law_run.proofs.Undisturbed.CommandRuns.{first_commands}
+use Rattle.sercos_law_run.proofs.Undisturbed.Checks.Carried.{are_carried}
+use Rattle.sercos_law_run.proofs.Undisturbed.Checks.CommandRuns.{first_commands}
 use Rattle.sercos_law_run.proofs.Undisturbed.EpochCycles.{IsOn, wholes}
 use Rattle.sercos_law_run.proofs.Undisturbed.GoingCycles.{AreAll, AreGoing, IsGoing, IsSplit, all_so, four_along, more_along, none_since, outcomes_kept, phase_before, run_rest, split_before, waits_along, waits_now}
 use Rattle.sercos_law_run.proofs.Undisturbed.InFour.{busy_now, at_work}
 use Rattle.sercos_law_run.proofs.Undisturbed.JobsBegun.{begun_now, tasks_now}
 use Rattle.sercos_law_run.proofs.Undisturbed.NeverFalls.{runs_split}
 use Rattle.sercos_law_run.proofs.Undisturbed.OneRequest.{room, one_lasts}
-use Rattle.sercos_law_run.proofs.Undisturbed.PassedCycles.{views_split}
-use Rattle.sercos_law_run.proofs.Undisturbed.PassedRuns.{commands_so}
+use Rattle.sercos_law_run.proofs.Undisturbed.Checks.PassedCycles.{views_split}
+use Rattle.sercos_law_run.proofs.Undisturbed.Checks.PassedRuns.{commands_so}
 use Rattle.sercos_law_run.proofs.Undisturbed.PhaseTwo.{listed_all}
-use Rattle.sercos_law_run.proofs.Undisturbed.Small.{first_is}
-use Rattle.sercos_law_run.proofs.Undisturbed.StopStays.{stop_after}
+use Rattle.sercos_law_run.proofs.Undisturbed.Arriving.Small.{first_is}
+use Rattle.sercos_law_run.proofs.Undisturbed.Stops.StopStays.{stop_after}
 use Rattle.sercos_law_channel.proofs.Cited.{always_opens, rest_since}
 use Rattle.sercos_law_channel.proofs.Pace.TimedCommands.{comes_timed}
 use Rattle.sercos_law_run.proofs.Undisturbed.Cited.{never_stops_in_four}

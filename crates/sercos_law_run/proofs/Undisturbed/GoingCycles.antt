@@ -26,7 +26,7 @@ use Rattle.sercos_law_run.proofs.Held.Extended.{Extends, heard_more, begun_same}
 use Rattle.sercos_law_run.proofs.Headline.HeadlineRuns.{all_stand}
 use Rattle.sercos_law_run.proofs.Undisturbed.PhaseCounts.{end_kept}
 use Rattle.sercos_law_run.proofs.Undisturbed.PhasesRise.{phase_after}
-use Rattle.sercos_law_run.proofs.Undisturbed.StopStays.{ats_same, none_before, stop_after}
+use Rattle.sercos_law_run.proofs.Undisturbed.Stops.StopStays.{ats_same, none_before, stop_after}
 use Rattle.sercos_law_run.proofs.Undisturbed.JobsBegun.{begun_end, begun_now}
 
 -- A CYCLE at whose end the ring doesn't fall, and in which the master doesn't restart.

@@ -32,14 +32,14 @@ use Rattle.sercos_law_run.proofs.Views.ViewRuns.{started}
 use Rattle.sercos_law_run.specs.Held.Opened.{IsOpened}
 use Rattle.sercos_law_run.proofs.Headline.HeadlineRuns.{spelled_in}
 use Rattle.sercos_law_run.specs.Undisturbed.Undisturbed.{IsUndisturbed}
-use Rattle.sercos_law_run.proofs.Undisturbed.Comes.{IsCalm, calm_in, comes, calm_at, own_mst_whole}
-use Rattle.sercos_law_run.proofs.Undisturbed.Taken.{IsAmong, among_said}
-use Rattle.sercos_law_run.proofs.Undisturbed.AtsTaken.{IsWanted, takes_ats}
-use Rattle.sercos_law_run.proofs.Undisturbed.SendsNext.{SaysOne, sends_next}
-use Rattle.sercos_law_run.proofs.Undisturbed.Small.{same_place}
+use Rattle.sercos_law_run.proofs.Undisturbed.Arriving.Comes.{IsCalm, calm_in, comes, calm_at, own_mst_whole}
+use Rattle.sercos_law_run.proofs.Undisturbed.Arriving.Taken.{IsAmong, among_said}
+use Rattle.sercos_law_run.proofs.Undisturbed.Arriving.AtsTaken.{IsWanted, takes_ats}
+use Rattle.sercos_law_run.proofs.Undisturbed.Arriving.SendsNext.{SaysOne, sends_next}
+use Rattle.sercos_law_run.proofs.Undisturbed.Arriving.Small.{same_place}
 use Rattle.sercos_law_run.proofs.Views.MasterSame.{done_below}
 use Rattle.sercos_law_run.proofs.Typed.Mdts.{phase_low}
-use Rattle.sercos_law_run.proofs.Undisturbed.Addressed.{place_found}
+use Rattle.sercos_law_run.proofs.Undisturbed.Arriving.Addressed.{place_found}
 
 low_end : (s : Known) (p : Past) → p.now.phase ≤ 4 → (after_end s p).now.phase ≤ 4
 low_end s p low = by (is_some (fall_of s p))

@@ -39,12 +39,12 @@ use Rattle.sercos_law_run.specs.Undisturbed.Ends.{HasBadCheck}
 use Rattle.sercos_law_run.specs.Undisturbed.Undisturbed.{AreUndisturbed}
 use Rattle.sercos_law_run.specs.Undisturbed.ViewsSince.{views_since}
 use Rattle.sercos_law_run.proofs.Undisturbed.GoingCycles.{AreGoing, HasEndedBadly, IsGoing, badly_along, badly_more, four_along, longer_so, none_since, outcomes_grow, outcomes_kept, phase_before, run_rest, waits_along, waits_now}
-use Rattle.sercos_law_run.proofs.Undisturbed.PassedCycles.{views_split}
+use Rattle.sercos_law_run.proofs.Undisturbed.Checks.PassedCycles.{views_split}
 use Rattle.sercos_law_run.proofs.Undisturbed.Reached.{all_ready_in}
 use Rattle.sercos_law_run.proofs.Undisturbed.Sections.{some_open}
-use Rattle.sercos_law_run.proofs.Undisturbed.Small.{never_both}
+use Rattle.sercos_law_run.proofs.Undisturbed.Arriving.Small.{never_both}
 use Rattle.sercos_law_run.proofs.Undisturbed.Cited.{inside}
-use Rattle.sercos_law_run.proofs.Undisturbed.StopStays.{none_before, stop_after}
+use Rattle.sercos_law_run.proofs.Undisturbed.Stops.StopStays.{none_before, stop_after}
 use Rattle.sercos_law_run.proofs.Agenda.Requests.{are_requests}
 use Rattle.sercos_law_run.proofs.Cited.{begins_tasks, work_in_four}
 use Rattle.sercos_law_run.proofs.Undisturbed.Cited.{comes_to_phase_four, never_stops_in_four}

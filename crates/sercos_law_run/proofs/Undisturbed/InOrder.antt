@@ -24,10 +24,10 @@ use Rattle.sercos_law_channel.specs.Handshake.Epochs.{with_begun}
 use Rattle.sercos_law_channel.specs.Handshake.Moves.{with_status}
 use Rattle.sercos_law_run.specs.Agenda.Tasks.{AreBegunTasks}
 use Rattle.sercos_law_run.specs.Views.RingViews.{request_of}
-use Rattle.sercos_law_run.proofs.Undisturbed.Arrivals.{not_false}
+use Rattle.sercos_law_run.proofs.Undisturbed.Arriving.Arrivals.{not_false}
 use Rattle.sercos_law_run.proofs.Undisturbed.StaysUp.{found_passes}
 use Rattle.sercos_law_run.proofs.Views.MasterSame.{begun_so, turn_mdt}
-use Rattle.sercos_law_run.proofs.Undisturbed.Small.{some_is}
+use Rattle.sercos_law_run.proofs.Undisturbed.Arriving.Small.{some_is}
 use Rattle.sercos_law_run.proofs.Cited.{begins_none, begins_tasks}
 
 -- a check that has ended well stays so

@@ -21,14 +21,14 @@ use Rattle.sercos_law_run.proofs.Held.Runs.{drive_got}
 use Rattle.sercos_law_run.specs.Undisturbed.Ends.{HasBadCheck}
 use Rattle.sercos_law_run.specs.Undisturbed.Undisturbed.{AreUndisturbed}
 use Rattle.sercos_law_run.specs.Undisturbed.EpochStarts.{StartsEpoch}
-use Rattle.sercos_law_run.proofs.Undisturbed.Comes.{calm_in}
+use Rattle.sercos_law_run.proofs.Undisturbed.Arriving.Comes.{calm_in}
 use Rattle.sercos_law_run.proofs.Undisturbed.EpochCycles.{stays_four}
 use Rattle.sercos_law_run.proofs.Undisturbed.Identified.{starts_so}
 use Rattle.sercos_law_run.proofs.Typed.Mdts.{phase_low}
 use Rattle.sercos_law_run.proofs.Undisturbed.PhaseRuns.{next_phase_is}
 use Rattle.sercos_law_run.proofs.Undisturbed.PhasesRise.{late_in, phase_after}
 use Rattle.sercos_law_run.proofs.Undisturbed.NeverFalls.{busy_low, never_falls}
-use Rattle.sercos_law_run.proofs.Undisturbed.StopStays.{stop_kept, stop_after}
+use Rattle.sercos_law_run.proofs.Undisturbed.Stops.StopStays.{stop_kept, stop_after}
 use Rattle.sercos_law_run.proofs.Undisturbed.PhaseTwo.{section_two, two_lasts}
 use Rattle.sercos_law_run.proofs.Undisturbed.PhaseThree.{Waits, since_rise, three_lasts}
 use Rattle.sercos_law_run.proofs.Bounds.BoundSums.{is_below_greatest, is_started}

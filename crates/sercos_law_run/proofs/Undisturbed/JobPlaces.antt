@@ -19,7 +19,7 @@ use Rattle.sercos_seat.proofs.Gets.{get_left, get_right}
 use Rattle.sercos_law_run.specs.Agenda.Tasks.{IsTask, OfReads, OfWrites, Checks3, Lists3, Checks4, Lists4, OfWaiting, AreBegunTasks, HasEndedWell}
 use Rattle.sercos_law_run.proofs.Agenda.ReadWell.{last_is}
 use Rattle.sercos_law_run.specs.Undisturbed.Jobs.{jobs_of, AreAt}
-use Rattle.sercos_law_run.proofs.Undisturbed.Small.{some_is}
+use Rattle.sercos_law_run.proofs.Undisturbed.Arriving.Small.{some_is}
 
 -- each complete check for phase 3 among these has ended well
 abbrev pub Give3 : List Begun → Type 0

@@ -49,7 +49,7 @@ use Rattle.sercos_law_run.proofs.Headline.WellRuns.{AllWell, all_well}
 use Rattle.sercos_law_run.specs.Undisturbed.Jobs.{jobs_of, AreAt}
 use Rattle.sercos_law_run.proofs.Undisturbed.JobPlaces.{Give3, begun_at, few_in_two, reading}
 use Rattle.sercos_law_run.proofs.Undisturbed.PlanMade.{plan_made, read_same}
-use Rattle.sercos_law_run.proofs.Undisturbed.Small.{some_is}
+use Rattle.sercos_law_run.proofs.Undisturbed.Arriving.Small.{some_is}
 use Rattle.sercos_law_run.proofs.Settings.NoCheck127.{next_still, stays}
 use Rattle.std.proofs.lemmas.Option.{slice_get_within}
 use Rattle.sercos_law_channel.proofs.Cited.{runs_exact}

@@ -25,8 +25,8 @@ use Rattle.sercos_law_run.specs.Undisturbed.Undisturbed.{AreUndisturbed}
 use Rattle.sercos_law_run.specs.Undisturbed.EpochStarts.{StartsEpoch}
 use Rattle.sercos_law_run.specs.Undisturbed.ViewsSince.{views_since}
 use Rattle.sercos_law_run.specs.Undisturbed.StartUps.{NoneFalls, StaysUp}
-use Rattle.sercos_law_run.proofs.Undisturbed.WholeIn.{whole_in}
-use Rattle.sercos_law_run.proofs.Undisturbed.PassedCycles.{views_split, passed_undisturbed}
+use Rattle.sercos_law_run.proofs.Undisturbed.Arriving.WholeIn.{whole_in}
+use Rattle.sercos_law_run.proofs.Undisturbed.Checks.PassedCycles.{views_split, passed_undisturbed}
 use Rattle.sercos_law_run.proofs.Undisturbed.StaysUp.{stays_up}
 use Rattle.sercos_law_channel.proofs.Pace.CallAges.{none_late}
 use Rattle.sercos_law_channel.proofs.Pace.WholeCycles.{hears_throughout, stands_throughout}

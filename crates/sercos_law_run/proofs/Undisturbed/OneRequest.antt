@@ -25,7 +25,7 @@ use Rattle.sercos_law_channel.specs.Pace.Costs.{AreTimed, AreListed, cost_of, co
 use Rattle.sercos_law_channel.specs.Pace.Passages.{IsWhole, AreWhole, RecoversInTime}
 use Rattle.sercos_law_channel.specs.Pace.StartCosts.{RecoversSince}
 use Rattle.sercos_law_channel.specs.Pace.Stretches.{open_since}
-use Rattle.sercos_law_run.proofs.Undisturbed.LongWrites.{ends_soon}
+use Rattle.sercos_law_run.proofs.Undisturbed.Stops.LongWrites.{ends_soon}
 
 -- NUMBERS
 pub times_sum : (p n k : ℕ) → p * (n + k) ≡ p * n + p * k

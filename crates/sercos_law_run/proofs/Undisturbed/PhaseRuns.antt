@@ -18,12 +18,12 @@ use Rattle.sercos_law_run.proofs.Views.Members.{members_count}
 use Rattle.sercos_law_run.specs.Held.Opened.{IsOpened}
 use Rattle.sercos_law_run.specs.Undisturbed.Undisturbed.{IsUndisturbed, AreUndisturbed}
 use Rattle.sercos_law_run.specs.Undisturbed.EpochStarts.{StartsEpoch, came_back}
-use Rattle.sercos_law_run.proofs.Undisturbed.Comes.{calm_in}
-use Rattle.sercos_law_run.proofs.Undisturbed.AtsTaken.{unheard_ats}
+use Rattle.sercos_law_run.proofs.Undisturbed.Arriving.Comes.{calm_in}
+use Rattle.sercos_law_run.proofs.Undisturbed.Arriving.AtsTaken.{unheard_ats}
 use Rattle.sercos_law_run.proofs.Undisturbed.Identified.{starts_so, goes_so, heard_next}
 use Rattle.sercos_law_run.proofs.Undisturbed.NoFalls.{heard_mdt, has_risen, no_fall}
 use Rattle.sercos_law_run.proofs.Undisturbed.StaysUp.{addressed_first, phase_now, turns_now, whole_now, stands_so, idle_then}
-use Rattle.sercos_law_run.proofs.Undisturbed.Addressed.{place_so}
+use Rattle.sercos_law_run.proofs.Undisturbed.Arriving.Addressed.{place_so}
 use Rattle.sercos_law_run.proofs.Undisturbed.PhaseZero.{none_addressed, few_back, zero_waits}
 use Rattle.sercos_law_run.proofs.Undisturbed.PhaseCounts.{Waits, Identifies, LastTo, IsZero, IsOne, zero_next, tenth_next, not_twice, first_unknown, all_known, one_next, one_done}
 

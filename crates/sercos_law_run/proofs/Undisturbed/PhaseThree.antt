@@ -44,21 +44,21 @@ use Rattle.sercos_law_run.specs.Undisturbed.ViewsSince.{views_since}
 use Rattle.sercos_law_run.specs.Undisturbed.Sections.{AreInThree}
 use Rattle.sercos_law_run.specs.Undisturbed.Jobs.{jobs_of, AreAt}
 use Rattle.sercos_law_run.proofs.Undisturbed.EpochCycles.{IsOn, AreOn, run_rest, wholes, longer, outcomes_extend, outcomes_after, on_in}
-use Rattle.sercos_law_run.proofs.Undisturbed.Comes.{calm_in}
+use Rattle.sercos_law_run.proofs.Undisturbed.Arriving.Comes.{calm_in}
 use Rattle.sercos_law_run.proofs.Undisturbed.Identified.{starts_so}
 use Rattle.sercos_law_run.proofs.Undisturbed.StaysUp.{phase_now}
 use Rattle.sercos_law_run.proofs.Undisturbed.PhaseRuns.{next_phase_is}
 use Rattle.sercos_law_run.proofs.Undisturbed.PhasesRise.{phase_after}
-use Rattle.sercos_law_run.proofs.Undisturbed.CommandRuns.{first_commands}
-use Rattle.sercos_law_run.proofs.Undisturbed.PassedRuns.{commands_so}
-use Rattle.sercos_law_run.proofs.Undisturbed.Carried.{are_carried}
-use Rattle.sercos_law_run.proofs.Undisturbed.PassedCycles.{views_split}
+use Rattle.sercos_law_run.proofs.Undisturbed.Checks.CommandRuns.{first_commands}
+use Rattle.sercos_law_run.proofs.Undisturbed.Checks.PassedRuns.{commands_so}
+use Rattle.sercos_law_run.proofs.Undisturbed.Checks.Carried.{are_carried}
+use Rattle.sercos_law_run.proofs.Undisturbed.Checks.PassedCycles.{views_split}
 use Rattle.sercos_law_run.proofs.Undisturbed.NeverFalls.{AllWhole, runs_split, never_falls}
 use Rattle.sercos_law_run.proofs.Undisturbed.Sections.{never_idle}
-use Rattle.sercos_law_run.proofs.Undisturbed.StopStays.{none_before, stop_after}
+use Rattle.sercos_law_run.proofs.Undisturbed.Stops.StopStays.{none_before, stop_after}
 use Rattle.sercos_law_run.proofs.Undisturbed.BehindRests.{Follow, follow_since}
 use Rattle.sercos_law_run.proofs.Undisturbed.JobsCost.{check_fits, list_fits}
-use Rattle.sercos_law_run.proofs.Undisturbed.ShortLists.{few_blocks, longest_list, lists_short}
+use Rattle.sercos_law_run.proofs.Undisturbed.Checks.ShortLists.{few_blocks, longest_list, lists_short}
 use Rattle.sercos_law_run.proofs.Undisturbed.JobsBegun.{begun_end, begun_now, tasks_now, places_now, few_now}
 use Rattle.sercos_law_run.proofs.Undisturbed.PhaseTwo.{section_two, listed_all, two_lasts}
 use Rattle.sercos_master.proofs.Followed.{not_longer}

@@ -26,7 +26,7 @@ use Rattle.sercos_law_run.specs.Undisturbed.Undisturbed.{AreUndisturbed}
 use Rattle.sercos_law_run.specs.Undisturbed.EpochStarts.{StartsEpoch}
 use Rattle.sercos_law_run.specs.Undisturbed.ViewsSince.{views_since}
 use Rattle.sercos_law_run.specs.Undisturbed.Sections.{GoesOnInTwo}
-use Rattle.sercos_law_run.proofs.Undisturbed.Comes.{calm_in}
+use Rattle.sercos_law_run.proofs.Undisturbed.Arriving.Comes.{calm_in}
 use Rattle.sercos_law_run.proofs.Undisturbed.Identified.{starts_so}
 use Rattle.sercos_law_run.proofs.Undisturbed.StaysUp.{phase_now}
 use Rattle.sercos_law_run.proofs.Undisturbed.PhaseRuns.{next_phase_is}
@@ -34,7 +34,7 @@ use Rattle.sercos_law_run.proofs.Undisturbed.PhasesRise.{late_in, phase_after}
 use Rattle.sercos_law_run.proofs.Undisturbed.NeverFalls.{never_falls}
 use Rattle.sercos_law_run.proofs.Undisturbed.Answered.{costs_undisturbed}
 use Rattle.sercos_law_run.proofs.Undisturbed.Sections.{one_works}
-use Rattle.sercos_law_run.proofs.Undisturbed.StopStays.{none_before, stop_after}
+use Rattle.sercos_law_run.proofs.Undisturbed.Stops.StopStays.{none_before, stop_after}
 use Rattle.sercos_law_run.proofs.Undisturbed.JobsCost.{two_fits}
 use Rattle.sercos_law_run.proofs.Undisturbed.JobsBegun.{places_now, few_now, planned_now}
 use Rattle.sercos_law_channel.proofs.Pace.JobCosts.{reads_cost, writes_cost}

@@ -17,10 +17,10 @@ use Rattle.sercos_law_run.specs.Journal.Runs.{begins as begins_cycle, own_mst, m
 use Rattle.sercos_law_run.specs.Views.RingViews.{at_start, behind_ats, behind_mdt}
 use Rattle.sercos_law_run.proofs.Views.MasterSame.{turn_mdt}
 use Rattle.sercos_law_run.specs.Undisturbed.EpochStarts.{StartsEpoch, came_back, StartsAtFall, StartsAtOpening, StartsAtRestart}
-use Rattle.sercos_law_run.proofs.Undisturbed.AfterAt.{after_at_so}
+use Rattle.sercos_law_run.proofs.Undisturbed.Arriving.AfterAt.{after_at_so}
 use Rattle.sercos_law_run.proofs.Undisturbed.ChannelsKept.{ats_leave}
 use Rattle.sercos_law_run.proofs.Undisturbed.PhaseCounts.{Waits, none_identified}
-use Rattle.sercos_law_run.proofs.Undisturbed.StopStays.{ats_same, ats_stop}
+use Rattle.sercos_law_run.proofs.Undisturbed.Stops.StopStays.{ats_same, ats_stop}
 
 pub record IsInZero (p : Past) : Type 0 where
   pub few : whole_row p.turns ≤ 9

@@ -24,7 +24,7 @@ use Rattle.sercos_law_run.proofs.Held.Runs.{s_known}
 use Rattle.sercos_law_run.proofs.Headline.HeadlineRuns.{first_store, keeps_all}
 use Rattle.sercos_law_run.specs.Undisturbed.Sections.{GoesOnInTwo, AreInTwo, AreInThree}
 use Rattle.sercos_law_run.specs.Undisturbed.ViewsSince.{views_since}
-use Rattle.sercos_law_run.proofs.Undisturbed.PassedCycles.{views_split}
+use Rattle.sercos_law_run.proofs.Undisturbed.Checks.PassedCycles.{views_split}
 use Rattle.sercos_law_run.proofs.Agenda.Requests.{are_requests}
 use Rattle.sercos_law_run.proofs.Cited.{work_in_three, work_in_two}
 

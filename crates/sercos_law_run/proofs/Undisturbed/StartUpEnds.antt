@@ -25,7 +25,7 @@ use Rattle.sercos_law_run.proofs.Undisturbed.CycleHeld.{fits_in}
 use Rattle.sercos_law_run.proofs.Typed.Mdts.{phase_low}
 use Rattle.sercos_law_run.proofs.Undisturbed.InTime.{within_bound}
 use Rattle.sercos_law_run.proofs.Undisturbed.NeverFalls.{never_falls}
-use Rattle.sercos_law_run.proofs.Undisturbed.OwnFit.{own_fits}
+use Rattle.sercos_law_run.proofs.Undisturbed.Checks.OwnFit.{own_fits}
 use Rattle.sercos_law_run.proofs.Undisturbed.PhaseCounts.{end_kept}
 use Rattle.sercos_law_run.proofs.Undisturbed.PhaseRuns.{next_phase_is}
 use Rattle.sercos_law_run.proofs.Undisturbed.PhasesRise.{late_in}

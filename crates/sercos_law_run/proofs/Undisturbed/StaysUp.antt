@@ -32,11 +32,11 @@ use Rattle.sercos_law_run.proofs.Headline.HeadlineRuns.{first_store, stored_in, 
 use Rattle.sercos_law_run.specs.Undisturbed.Undisturbed.{IsUndisturbed, AreUndisturbed}
 use Rattle.sercos_law_run.specs.Undisturbed.EpochStarts.{StartsEpoch}
 use Rattle.sercos_law_run.proofs.Undisturbed.ChannelsKept.{ats_leave, unheard_first, calls_now}
-use Rattle.sercos_law_run.proofs.Undisturbed.Comes.{calm_in}
+use Rattle.sercos_law_run.proofs.Undisturbed.Arriving.Comes.{calm_in}
 use Rattle.sercos_law_run.proofs.Undisturbed.Identified.{phase_comes, mst_whole, starts_so, goes_so, heard_next}
 use Rattle.sercos_law_run.proofs.Undisturbed.NoFalls.{heard_mdt, has_risen, no_fall}
 use Rattle.sercos_law_run.proofs.Views.ViewRuns.{no_answer}
-use Rattle.sercos_law_run.proofs.Undisturbed.Addressed.{place_so}
+use Rattle.sercos_law_run.proofs.Undisturbed.Arriving.Addressed.{place_so}
 use Rattle.sercos_law_channel.proofs.Cited.{begins_empty}
 use Rattle.sercos_law_channel.proofs.Handshake.RunFacts.{comes_up}
 

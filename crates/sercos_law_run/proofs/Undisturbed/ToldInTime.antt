@@ -39,13 +39,13 @@ use Rattle.sercos_law_run.specs.Undisturbed.Reports.{HaveTold, left_after, reque
 use Rattle.sercos_law_run.specs.Undisturbed.Undisturbed.{AreUndisturbed}
 use Rattle.sercos_law_run.proofs.Undisturbed.EpochCycles.{AreOn, IsCut, IsOn, are_on, cut, going, goings}
 use Rattle.sercos_law_run.proofs.Undisturbed.GoingCycles.{AreAll, AreGoing, IsGoing, all_so, run_rest, waits_along, waits_now}
-use Rattle.sercos_law_run.proofs.Undisturbed.Comes.{calm_in}
+use Rattle.sercos_law_run.proofs.Undisturbed.Arriving.Comes.{calm_in}
 use Rattle.sercos_law_run.proofs.Undisturbed.EndedInTime.{LastsShort, have_ended, lasts_undisturbed, one_time_more}
 use Rattle.sercos_law_run.proofs.Undisturbed.InFour.{counted, four_since, numbered, ready_now}
 use Rattle.sercos_law_run.proofs.Undisturbed.OneRequest.{room}
 use Rattle.sercos_law_run.proofs.Undisturbed.PhaseCounts.{end_kept}
 use Rattle.sercos_law_run.proofs.Undisturbed.PhaseZero.{in_zero}
-use Rattle.sercos_law_run.proofs.Undisturbed.Small.{first_is, never_both}
+use Rattle.sercos_law_run.proofs.Undisturbed.Arriving.Small.{first_is, never_both}
 use Rattle.sercos_law_run.proofs.Undisturbed.Cited.{inside}
 use Rattle.sercos_law_channel.proofs.Pace.WholeCycles.{recovers_in_time}
 use Rattle.sercos_law_run.proofs.Agenda.Requests.{are_requests}

@@ -24,8 +24,8 @@ use Rattle.sercos_law_run.specs.Undisturbed.StopsInTwo.{StopsForTheCycleTime, St
 use Rattle.sercos_law_run.specs.Undisturbed.StopsLater.{EndsStartUp, IsRight, RisesIfRight, StopsForTheCheck}
 use Rattle.sercos_law_run.specs.Undisturbed.Undisturbed.{AreUndisturbed, IsUndisturbed, StaysClear}
 use Rattle.sercos_law_run.specs.Undisturbed.WholeRuns.{HasTold, NeverDisturbed, StartsUp, StopsForCause}
-use Rattle.sercos_law_run.proofs.Undisturbed.StopOnce.{TellNoFall, told_once}
-use Rattle.sercos_law_run.proofs.Undisturbed.StopsTold.{stop_told_in}
+use Rattle.sercos_law_run.proofs.Undisturbed.Stops.StopOnce.{TellNoFall, told_once}
+use Rattle.sercos_law_run.proofs.Undisturbed.Stops.StopsTold.{stop_told_in}
 use Rattle.sercos_law_run.proofs.Undisturbed.Cited.{fits_in_three, own_fits_in_four}
 
 -- a journal after the empty one

@@ -10,7 +10,7 @@ use Rattle.sercos_service_master.specs.Begun.{Said, said_by}
 use Rattle.sercos_drive.specs.declared.hearing.Told.{Told}
 use Rattle.sercos_drive.specs.Heard.{DriveCall, mst_got}
 use Rattle.sercos_drive.specs.Moments.{Moment, AtMst, phase_in, cycle_in, has_mst, has_missed, taken_in, writes_in, blocks_in, blocks_after, write_in, with_record as with_record_in, commands_in}
-use Rattle.sercos_drive.specs.Annals.{annals, has_passed, stands_in, takes, processed_in, ends_in, mdt_moment}
+use Rattle.sercos_drive.specs.Annals.{annals, may_rise, stands_in, takes, processed_in, ends_in, mdt_moment}
 use Rattle.sercos_law_channel.specs.Handshake.Views.{View, Standing, afresh, moved, stood_from, got_in, takes_in, standing_after, record_in, processed_of, with_record, kept_in_phase, kept_unless}
 use Rattle.sercos_law_channel.specs.Handshake.WholeRun.{write_of}
 use Rattle.sercos_law_run.specs.Journal.Runs.{with_restart}
@@ -43,15 +43,15 @@ or_twice : (a b : Bool) → (a || (a || b)) ≡ (a || b)
 or_twice true b = refl
 or_twice false b = refl
 
-passed_twice : (d : DriveView) (rate cycle phase : ℕ) (past : List Moment) → (nat_le phase 2 || has_passed d rate cycle phase past) ≡ has_passed d rate cycle phase past
+passed_twice : (d : DriveView) (rate cycle phase : ℕ) (past : List Moment) → (nat_le phase 2 || may_rise d rate cycle phase past) ≡ may_rise d rate cycle phase past
 passed_twice d rate cycle phase past = or_twice (nat_le phase 2) _
 
 stood_same : (d : DriveView) (rate cycle : ℕ) (past : List Moment) (phase : ℕ) (comes checked : Bool) (f : Standing) → phase_in past ≡ f.ended → has_mst past ≡ f.got_mst
-    → checked ≡ has_passed d rate cycle phase past
+    → checked ≡ may_rise d rate cycle phase past
     → stands_in d rate cycle (if comes then Some phase else None) past ≡ (if comes then moved checked phase f.ended else (if f.got_mst then f.ended else 0))
 stood_same d rate cycle past phase false checked f ended got passed = rw (ended, got) refl
 stood_same d rate cycle past phase true checked f ended got passed =
-    rw (passed, passed_twice d rate cycle phase past) (ap (λ (q : ℕ). if phase == q then phase else (if (phase == q + 1) && has_passed d rate cycle phase past then phase else 0)) ended)
+    rw (passed, passed_twice d rate cycle phase past) (ap (λ (q : ℕ). if phase == q then phase else (if (phase == q + 1) && may_rise d rate cycle phase past then phase else 0)) ended)
 
 some_got : (comes : Bool) (phase : ℕ) → is_some (if comes then Some phase else None) ≡ comes
 some_got true phase = refl
@@ -62,7 +62,7 @@ abbrev pub standing_at : View → Standing → Standing
 standing_at v f = record { got_mst = v.mst_comes; missed_mdt = f.missed_mdt; ended = stood_from v f }
 
 pub same_at_mst : (d : DriveView) (rate cycle : ℕ) (past : List Moment) (came : Option (List ℕ)) (v : View) (f : Standing) (h : List Taken) (w : List Write) (b : List Block)
-    → mst_got came ≡ (if v.mst_comes then Some v.phase else None) → v.checked ≡ has_passed d rate cycle v.phase past → IsSame d past f h w b
+    → mst_got came ≡ (if v.mst_comes then Some v.phase else None) → v.checked ≡ may_rise d rate cycle v.phase past → IsSame d past f h w b
     → IsSame d (AtMst cycle (is_some (mst_got came)) (stands_in d rate cycle (mst_got came) past) ∷ past) (standing_at v f) (kept_in_phase (stood_from v f) h) w b
 same_at_mst d rate cycle past came v f h w b got passed s =
     let stood : stands_in d rate cycle (mst_got came) past ≡ stood_from v f =

@@ -4,8 +4,10 @@ use Rattle.std.specs.List.{list_all}
 use Rattle.sercos_block.specs.declared.block.Block.{Block}
 use Rattle.sercos_block.specs.Stores.{with_data}
 use Rattle.sercos_command.specs.declared.commands.SetCommand.{SetCommand}
-use Rattle.sercos_command.specs.Settings.{CommandsView, ends_well}
-use Rattle.sercos_service_drive.specs.Writes.{Write, setting_in}
+use Rattle.sercos_command.specs.Settings.{ends_well}
+use Rattle.sercos_command.specs.Calls.{CommandHistory}
+use Rattle.sercos_command.specs.Kept.{set_in}
+use Rattle.sercos_service_drive.specs.Writes.{Write, command_value}
 use Rattle.sercos_law_channel.specs.Handshake.Views.{View, processed_in, kept_in}
 use Rattle.sercos_law_channel.specs.Handshake.WholeRun.{write_of}
 use Rattle.sercos_law_run.specs.Settings.SetByWrites.{commands_left}
@@ -14,18 +16,18 @@ use Rattle.sercos_law_run.specs.Settings.SetByWrites.{commands_left}
 abbrev pub is_well_set : SetCommand → Bool
 is_well_set s = not (s.idn.raw == 127) || s.well
 
-abbrev pub are_well_set : CommandsView → Bool
-are_well_set c = list_all is_well_set c.set
+abbrev pub are_well_set : CommandHistory → Bool
+are_well_set c = list_all is_well_set (set_in c)
 
 -- At the MST's place of a cycle no command is set, or those are that the cycle before left.
 abbrev pub KeepsSettings : View → List View → Type 0
-KeepsSettings v [] = v.commands.set ≡ []
-KeepsSettings v (u ∷ past) = (v.commands.set ≡ []) ⊎ (v.commands.set ≡ (commands_left u past).set)
+KeepsSettings v [] = set_in v.commands ≡ []
+KeepsSettings v (u ∷ past) = (set_in v.commands ≡ []) ⊎ (set_in v.commands ≡ set_in (commands_left u past))
 
 -- If a check for phase 3 is set in a cycle, it ends well: it finds nothing in the drive's blocks, as the write that sets it leaves
 -- them.
 abbrev pub SetsWell : View → List View → Type 0
-SetsWell v past = (w : Write) → write_of (processed_in v past) (kept_in v past) ≡ Some w → w.raw ≡ 127 → (setting_in w == 0) ≡ false → ends_well v.commands.rate 127 (with_data 127 w.bytes v.blocks) ≡ true
+SetsWell v past = (w : Write) → write_of (processed_in v past) (kept_in v past) ≡ Some w → w.raw ≡ 127 → (command_value w == 0) ≡ false → ends_well v.commands.rate 127 (with_data 127 w.bytes v.blocks) ≡ true
 
 -- Both hold in each cycle.
 abbrev pub AreSetWell : List View → Type 0

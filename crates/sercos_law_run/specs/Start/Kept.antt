@@ -9,7 +9,7 @@ use Rattle.sercos_block.specs.Rules.{has_block, blocks_fault}
 use Rattle.sercos_block.specs.Stores.{find_block, with_data, put_fault, are_ascending, store_of, IsStore}
 use Rattle.sercos_block.specs.Views.{DriveView}
 use Rattle.sercos_command.specs.Checks.{data_at, is_outside, unfit_for_phase_4}
-use Rattle.sercos_command.specs.Settings.{CommandsView}
+use Rattle.sercos_command.specs.Calls.{CommandHistory}
 use Rattle.sercos_service_drive.specs.Replies.{data_in}
 use Rattle.sercos_service_drive.specs.Writes.{Write, blocks_with}
 use Rattle.sercos_law_run.specs.Start.StartUp.{is_given, IsStoreOf, start_up}
@@ -23,7 +23,7 @@ WritesKeep = (d : DriveView) (blocks : List Block) (raw phase : ℕ) (bytes : Li
 -- So does all that a step on the service channel makes of the store: the write, if it isn't refused, and the list of a check that
 -- it sets. And the blocks still ascend.
 abbrev pub BlocksKeep : Type 0
-BlocksKeep = (d : DriveView) (blocks : List Block) (w : Option Write) (c : CommandsView) (phase : ℕ) → are_ascending blocks ≡ true → IsStoreOf d blocks →
+BlocksKeep = (d : DriveView) (blocks : List Block) (w : Option Write) (c : CommandHistory) (phase : ℕ) → are_ascending blocks ≡ true → IsStoreOf d blocks →
     IfSome w (λ (w : Write). put_fault (find_block w.raw blocks) phase w.bytes ≡ None) →
     IsStoreOf d (blocks_with w c blocks) × (are_ascending (blocks_with w c blocks) ≡ true)
 

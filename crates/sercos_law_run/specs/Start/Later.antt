@@ -9,7 +9,7 @@ use Rattle.sercos_block.specs.Rules.{blocks_fault}
 use Rattle.sercos_block.specs.Stores.{find_block, with_data}
 use Rattle.sercos_block.specs.Views.{DriveView}
 use Rattle.sercos_block.specs.Stores.{are_ascending}
-use Rattle.sercos_command.specs.Settings.{CommandsView, with_lists}
+use Rattle.sercos_command.specs.Calls.{CommandHistory, with_check_list}
 use Rattle.sercos_law_run.specs.Start.StartUp.{IsStoreOf, Holds, start_up}
 
 -- none of the values has this number
@@ -63,6 +63,6 @@ StoresStartUpWhole = (d : DriveView) (blocks : List Block) (control cycle k : �
 
 -- The lists that the checks write change nothing that no write changes, and no value with another number.
 abbrev pub ListsStay : Type 0
-ListsStay = (d : DriveView) (c : CommandsView) (blocks : List Block) (raw value : ℕ) → are_ascending blocks ≡ true →
-    (IsStoreOf d blocks → IsStoreOf d (with_lists c raw value blocks))
-    × ((values : List (ℕ × List ℕ)) → NoneOf 21 values → NoneOf 22 values → Holds blocks values → Holds (with_lists c raw value blocks) values)
+ListsStay = (d : DriveView) (c : CommandHistory) (blocks : List Block) (raw value : ℕ) → are_ascending blocks ≡ true →
+    (IsStoreOf d blocks → IsStoreOf d (with_check_list c raw value blocks))
+    × ((values : List (ℕ × List ℕ)) → NoneOf 21 values → NoneOf 22 values → Holds blocks values → Holds (with_check_list c raw value blocks) values)

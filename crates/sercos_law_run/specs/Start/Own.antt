@@ -7,14 +7,14 @@ use Rattle.sercos_block.specs.Rules.{blocks_fault}
 use Rattle.sercos_block.specs.Stores.{store_of}
 use Rattle.sercos_block.specs.Views.{DriveView}
 use Rattle.sercos_command.specs.Checks.{is_outside}
-use Rattle.sercos_command.specs.Settings.{CommandsView}
+use Rattle.sercos_command.specs.Calls.{CommandHistory}
 use Rattle.sercos_service_drive.specs.Writes.{Write, blocks_with}
 use Rattle.sercos_law_run.specs.Start.Kept.{is_own_outside}
 
 -- A write to a built-in block, as each write of the start-up is, leaves the own blocks that are outside their limits; and so does
 -- the list that a check writes when it is set.
 abbrev pub OwnStay : Type 0
-OwnStay = (w : Write) (c : CommandsView) (blocks : List Block) → is_built_in w.raw ≡ true →
+OwnStay = (w : Write) (c : CommandHistory) (blocks : List Block) → is_built_in w.raw ≡ true →
     filter is_own_outside (blocks_with (Some w) c blocks) ≡ filter is_own_outside blocks
 
 -- At opening there is one exactly if one of the blocks of the drive's description is outside its limits.

@@ -23,9 +23,10 @@ use Rattle.sercos_law_run.specs.Views.RingViews.{behind_ats, behind_mdt}
 abbrev pub comes_back : Carry → CycleView → List CycleView → Bool
 comes_back carry t j = is_mst t.phase (heard carry (passage (length j) kinds.Mst 0 0) (mst_in t.sent))
 
--- MstLost: it didn't in this cycle, nor in the one before, in which phase 1 to 4 was commanded.
+-- MstLost: it didn't in this cycle, nor in the one before, and phase 1 to 4 was commanded in both.
 pub record MissesMst (carry : Carry) (t : CycleView) (j : List CycleView) : Type 0 where
   pub now : comes_back carry t j ≡ false
+  pub phase_now : 1 ≤ t.phase
   pub before : CycleView
   pub older : List CycleView
   pub follows : j ≡ before ∷ older
@@ -45,13 +46,14 @@ NoneReadsIn r jobs carry restarts t j k =
     NoneReads r carry (length j) (drive_at r k).address
     (at_len (member (known_of r) k) (outcomes (behind_ats r jobs carry restarts t.sent j) k)) (ats_in t.sent)
 
--- AtLost: no AT read as the drive's in this cycle, nor in the one before, in which phase 3 or 4 was commanded.
+-- AtLost: no AT read as the drive's in this cycle, nor in the one before, and phase 3 or 4 was commanded in both.
 pub record MissesAt (r : RingView) (jobs : List Job) (carry : Carry) (restarts : Restarts) (t : CycleView) (j : List CycleView)
     (address : ℕ) : Type 0 where
   pub place : ℕ
   pub inside : place < length r.drives
   pub address_is : (drive_at r place).address ≡ address
   pub now : NoneReadsIn r jobs carry restarts t j place
+  pub phase_now : 3 ≤ t.phase
   pub before : CycleView
   pub older : List CycleView
   pub follows : j ≡ before ∷ older
@@ -59,10 +61,10 @@ pub record MissesAt (r : RingView) (jobs : List Job) (carry : Carry) (restarts :
   pub phase : 3 ≤ before.phase
 
 -- how many cycles ended in these calls of a channel
-abbrev pub cycles_in : List Call → ℕ
-cycles_in [] = 0
-cycles_in (EndCycle ∷ h) = cycles_in h + 1
-cycles_in (call ∷ h) = cycles_in h
+abbrev pub cycles_ended : List Call → ℕ
+cycles_ended [] = 0
+cycles_ended (EndCycle ∷ h) = cycles_ended h + 1
+cycles_ended (call ∷ h) = cycles_ended h
 
 -- whether a record was sent in these calls of a channel since its newest request, or since the newest answer to it
 abbrev pub was_sent : List Call → Bool
@@ -80,7 +82,7 @@ pub record IsOpenFor (h : List Call) (n : ℕ) : Type 0 where
   pub waits : is_some (open_in (begun_by older)) ≡ true
   pub first : was_sent older ≡ false
   pub same : begun_by h ≡ begun_by older
-  pub count : cycles_in newer ≡ n
+  pub count : cycles_ended newer ≡ n
 
 -- In each of n cycles in a row phase 1 was commanded and the MDT was to the drive at this place.
 abbrev pub AreTo : ℕ → ℕ → List Turn → Type 0
@@ -116,8 +118,8 @@ abbrev pub FallsHaveCause : Type 0
 FallsHaveCause = (r : RingView) (jobs : List Job) (carry : Carry) (restarts : Restarts) (t : CycleView) (j : List CycleView)
     → IsOpened r jobs → IsRun r jobs carry restarts (t ∷ j) → FallsForCause r jobs carry restarts t j
 
--- OF SEVERAL CAUSES the own MST is the first. If phase 1 or a later one is commanded, and the master misses its MST for the second time in a
--- row, that is the fall, whatever else is missing.
+-- OF SEVERAL CAUSES the own MST is the first: if the master misses it for the second time in a row, that is the fall, whatever else is
+-- missing.
 abbrev pub MstComesFirst : Type 0
 MstComesFirst = (r : RingView) (jobs : List Job) (carry : Carry) (restarts : Restarts) (t : CycleView) (j : List CycleView) → IsOpened r jobs
-    → IsRun r jobs carry restarts (t ∷ j) → 1 ≤ t.phase → MissesMst carry t j → t.events.fall ≡ Some MstLost
+    → IsRun r jobs carry restarts (t ∷ j) → MissesMst carry t j → t.events.fall ≡ Some MstLost

@@ -6,13 +6,13 @@ use Rattle.sercos_block.specs.Rules.{blocks_fault}
 use Rattle.sercos_block.specs.Stores.{store_of, IsStore}
 use Rattle.sercos_block.specs.Views.{DriveView}
 use Rattle.sercos_command.specs.Checks.{data_at, list_bytes, unfit_for_phase_3, unfit_for_phase_4}
-use Rattle.sercos_command.specs.Calls.{Call, Wrote, Other, Reset, is_set}
+use Rattle.sercos_command.specs.Calls.{CommandCall, Wrote, Other, Reset, is_set}
 use Rattle.sercos_drive.specs.Heard.{DriveCall}
 use Rattle.sercos_drive.specs.Moments.{calls_in}
 use Rattle.sercos_drive.specs.Annals.{annals, store_at}
 
 -- What the check for phase 3 found in the drive's blocks when S-0-0127 was last set while it wasn't; nothing before that.
-abbrev pub found_for_3 : ℕ → List Call → List Idn
+abbrev pub found_for_3 : ℕ → List CommandCall → List Idn
 found_for_3 rate [] = []
 found_for_3 rate (Reset ∷ h) = found_for_3 rate h
 found_for_3 rate (Other cycle ∷ h) = found_for_3 rate h
@@ -21,7 +21,7 @@ found_for_3 rate (Wrote raw value cycle blocks ∷ h) =
     then unfit_for_phase_3 rate blocks else found_for_3 rate h
 
 -- And what that for phase 4 found, by S-0-0128.
-abbrev pub found_for_4 : ℕ → List Call → List Idn
+abbrev pub found_for_4 : ℕ → List CommandCall → List Idn
 found_for_4 rate [] = []
 found_for_4 rate (Reset ∷ h) = found_for_4 rate h
 found_for_4 rate (Other cycle ∷ h) = found_for_4 rate h

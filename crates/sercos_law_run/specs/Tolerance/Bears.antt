@@ -22,7 +22,7 @@ use Rattle.sercos_law_run.specs.Undisturbed.StartUps.{TellsNoFall}
 use Rattle.sercos_law_run.specs.Undisturbed.StopsLater.{IsRight}
 use Rattle.sercos_law_run.specs.Tolerance.Ends.{IsUpOrStopped}
 use Rattle.sercos_law_run.specs.Tolerance.Many.{own_costs, slow_bound}
-use Rattle.sercos_law_run.specs.Tolerance.Reports.{cycles_in}
+use Rattle.sercos_law_run.specs.Tolerance.Reports.{cycles_commanded}
 use Rattle.sercos_law_run.specs.Tolerance.Rises.{start_costs}
 use Rattle.sercos_law_run.specs.Tolerance.Sparse.{AreSparse}
 
@@ -75,7 +75,7 @@ pub record Bears (r : RingView) (jobs : List Job) (carry : Carry) (restarts : Re
   pub ends_anyway : slow_bound r + 41 * (slowest r.drives + 2) + own_costs r jobs carry restarts cycles before ≤ length cycles →
       IsUpOrStopped r t cycles
   pub reports : (k i : ℕ) (x : Task) → k < length r.drives → slice_get (waiting_after r jobs carry restarts before k) i ≡ Some x →
-      (i + 1) * request_cycles r k ≤ cycles_in 4 cycles → (number : ℕ) × (x.number ≡ Some number) × HaveTold (t ∷ cycles) number
+      (i + 1) * request_cycles r k ≤ cycles_commanded 4 cycles → (number : ℕ) × (x.number ≡ Some number) × HaveTold (t ∷ cycles) number
 
 -- THE RING BEARS SPARSE FAULTS. Take any point of a run at which phase 0 is commanded next, regardless of losses before it, if nothing is
 -- undetected. From there on, and as long as the disturbed cycles are sparse, the ring doesn't fall, and each cycle is so.

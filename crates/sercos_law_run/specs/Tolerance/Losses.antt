@@ -22,15 +22,15 @@ use Rattle.sercos_law_run.specs.Tolerance.Sparse.{AreSparse}
 
 -- In a cycle something of the channel is lost: a step is open at its start, and the drive isn't heard; or one is open at its end, and the
 -- drive doesn't process the record.
-abbrev pub is_lost : View → List View → Bool
-is_lost v past =
+abbrev pub loses_step : View → List View → Bool
+loses_step v past =
     (is_some (open_in (unless_restart v (epoch_begun past))) && not (is_some v.heard))
     || (is_some (open_in (begun_in v past)) && not (is_some (processed_in v past)))
 
 -- in how many cycles of a stretch this is so
 abbrev pub lost_since : List View → List View → ℕ
 lost_since [] past = 0
-lost_since (v ∷ cycles) past = one_more (is_lost v (cycles ++ past)) (lost_since cycles past)
+lost_since (v ∷ cycles) past = one_more (loses_step v (cycles ++ past)) (lost_since cycles past)
 
 -- The master neither falls nor restarts in a stretch.
 abbrev pub GoesOn : List View → Type 0

@@ -13,9 +13,9 @@ use Rattle.sercos_law_run.specs.Undisturbed.Reports.{HaveTold, request_cycles, w
 use Rattle.sercos_law_run.specs.Tolerance.Sparse.{AreSparse}
 
 -- in how many of these cycles a phase is commanded
-abbrev pub cycles_in : ℕ → List CycleView → ℕ
-cycles_in phase [] = 0
-cycles_in phase (t ∷ cycles) = if t.phase == phase then suc (cycles_in phase cycles) else cycles_in phase cycles
+abbrev pub cycles_commanded : ℕ → List CycleView → ℕ
+cycles_commanded phase [] = 0
+cycles_commanded phase (t ∷ cycles) = if t.phase == phase then suc (cycles_commanded phase cycles) else cycles_commanded phase cycles
 
 -- THE REQUESTS ARE REPORTED IN TIME. Of the requests to a drive that wait where the epoch begins, take the one at place i, counted from 0.
 -- As long as the disturbed cycles of the epoch are sparse, it has been reported once phase 4 was commanded in i + 1 times the cycles of one
@@ -24,5 +24,5 @@ abbrev pub ReportsSparse : Type 0
 ReportsSparse = (r : RingView) (jobs : List Job) (carry : Carry) (restarts : Restarts) (t : CycleView) (cycles before : List CycleView) →
     IsOpened r jobs → IsRun r jobs carry restarts (t ∷ (cycles ++ before)) → IsClear (t ∷ (cycles ++ before)) →
     StartsEpoch r jobs carry restarts before → AreSparse r carry restarts (t ∷ cycles) before → (k i : ℕ) (x : Task) → k < length r.drives →
-    slice_get (waiting_after r jobs carry restarts before k) i ≡ Some x → (i + 1) * request_cycles r k ≤ cycles_in 4 cycles →
+    slice_get (waiting_after r jobs carry restarts before k) i ≡ Some x → (i + 1) * request_cycles r k ≤ cycles_commanded 4 cycles →
     (number : ℕ) × (x.number ≡ Some number) × HaveTold (t ∷ cycles) number

@@ -10,7 +10,7 @@ use Rattle.sercos_service_master.specs.Calls.{Hear, begun_by}
 use Rattle.sercos_service_master.specs.Calls as channel
 use Rattle.sercos_drive.specs.Heard.{mst_got, mdt_got}
 use Rattle.sercos_drive.specs.Moments.{Moment, phase_in, blocks_in, commands_in}
-use Rattle.sercos_drive.specs.Annals.{annals, has_passed}
+use Rattle.sercos_drive.specs.Annals.{annals, may_rise}
 use Rattle.sercos_trace.specs.Views.{SentView, CycleView}
 use Rattle.sercos_seat.specs.Channel.{is_place}
 use Rattle.sercos_seat.specs.Ring.{Task, known_of}
@@ -75,7 +75,7 @@ view_of r jobs carry restarts k t j = record {
   drive_restarts = restarts (length j) (k + 1);
   mst_comes = is_some (phase_got carry t.sent j k);
   whole = (behind_mst r jobs carry restarts t.sent j).now.whole;
-  checked = has_passed (drive_at r k) r.rate (length j) t.phase (before_mst r carry restarts j k);
+  checked = may_rise (drive_at r k) r.rate (length j) t.phase (before_mst r carry restarts j k);
   showing = commands_in (drive_at r k) r.rate (after_mst r carry restarts t.sent j k);
   heard = heard_last ((behind_ats r jobs carry restarts t.sent j).calls k);
   begins = request_of (begins (known_of r) (settled (known_of r) (behind_ats r jobs carry restarts t.sent j)) k);

@@ -1,5 +1,5 @@
 use Rattle.std.proofs.Common.{◌≡◌, drop}
-use Rattle.sercos_command.specs.Settings.{find_set}
+use Rattle.sercos_command.specs.Kept.{find_set}
 use Rattle.sercos_command.proofs.set.find_set.Given as goal
 
 abbrev pub invariant-loop-command : goal.invariant-loop-command

@@ -9,10 +9,10 @@ use Rattle.sercos_law_run.proofs.Undisturbed.NeverFalls.{stays_throughout}
 use Rattle.sercos_law_run.proofs.Undisturbed.PhaseRuns.{phases_in}
 use Rattle.sercos_law_run.proofs.Undisturbed.PhaseZero.{starts_at_fall, starts_at_opening, starts_at_restart}
 use Rattle.sercos_law_run.proofs.Undisturbed.ToldInTime.{reports_in_time}
-use Rattle.sercos_law_run.proofs.Undisturbed.StaysClear.{stays_clear}
+use Rattle.sercos_law_run.proofs.Undisturbed.Arriving.StaysClear.{stays_clear}
 use Rattle.sercos_law_run.proofs.Undisturbed.StartUpEnds.{ends_in_time, rises_if_right}
 use Rattle.sercos_law_run.proofs.Undisturbed.Cited.{comes_to_phase_four, fits_in_three, never_stops_in_four, own_fits_in_four, stops_in_three, stops_in_two}
-use Rattle.sercos_law_run.proofs.Undisturbed.Quiet.{quiet_runs}
+use Rattle.sercos_law_run.proofs.Undisturbed.Arriving.Quiet.{quiet_runs}
 use Rattle.sercos_law_run.proofs.Undisturbed.WholeRuns.{starts_up}
 use Rattle.sercos_law_run.proofs.Undisturbed.Sections.{never_idle, none_idle}
 use Rattle.sercos_law_run.proofs.undisturbed_laws.undisturbed_law.Goals as goal

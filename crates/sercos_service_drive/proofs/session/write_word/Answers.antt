@@ -43,4 +43,4 @@ returns-clause-word c = λ b words there same count started.
     (at_place b c.args.phase c.args.last words c.args.word c.args.place c.first_word-first.result cause found place first)
     buffer
     (written_at b (words ++ c.args.word ∷ []) c.written.ensures list first c.as_slice.ensures.value buffer)
-    (rw there at c.write_data.ensures.fault) (rw there at c.write_data.ensures.blocks) (rw there at c.write_data.ensures.commands) (rw there at c.write_data.ensures.calls)
+    (rw there at c.write_data.ensures.fault) (rw there at c.write_data.ensures.blocks) (rw there at c.write_data.ensures.commands)

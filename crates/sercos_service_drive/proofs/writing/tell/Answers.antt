@@ -1,4 +1,7 @@
 use Rattle.sercos_service_drive.proofs.writing.tell.Goals as goal
 
-pub returns-then-command-clause-calls : goal.returns-then-command-clause-calls
-returns-then-command-clause-calls c = λ rate time h stood later. let on = c.if-command.true in rw (on, ← c.setting_in.ensures) (c.write.ensures.stands rate time h stood later)
+pub returns-then-command-clause-blocks : goal.returns-then-command-clause-blocks
+returns-then-command-clause-blocks c = λ commands stood. let on = c.if-command.true in rw (on, ← c.setting_in.ensures) (c.write.ensures.blocks commands stood)
+
+pub returns-then-command-clause-commands : goal.returns-then-command-clause-commands
+returns-then-command-clause-commands c = λ commands stood later. let on = c.if-command.true in rw (on, ← c.setting_in.ensures) (c.write.ensures.stands commands stood later)

@@ -14,6 +14,10 @@ tell-requires-clause-setting c = λ on.
 pub tell-requires-clause-set : goal.tell-requires-clause-set
 tell-requires-clause-set c = rw c.in-Ok.ensures.ok (c.stored_law.ensures.set c.args.idn.raw c.args.bytes.now c.args.store.now c.args.commands.now ∙ c.requires.set)
 
-pub returns-in-Ok-clause-calls : goal.returns-in-Ok-clause-calls
-returns-in-Ok-clause-calls c = λ rate time h stood later.
-    rw (c.in-Ok.ensures.fault, ← c.is_command-command.ensures, ← c.in-Ok.ensures.ok) (c.tell.ensures.calls rate time h stood later)
+pub returns-in-Ok-clause-blocks : goal.returns-in-Ok-clause-blocks
+returns-in-Ok-clause-blocks c = λ commands stood.
+    rw (c.in-Ok.ensures.fault, ← c.is_command-command.ensures, ← c.in-Ok.ensures.ok) (c.tell.ensures.blocks commands stood)
+
+pub returns-in-Ok-clause-commands : goal.returns-in-Ok-clause-commands
+returns-in-Ok-clause-commands c = λ commands stood later.
+    rw (c.in-Ok.ensures.fault, ← c.is_command-command.ensures, ← c.in-Ok.ensures.ok) (c.tell.ensures.commands commands stood later)

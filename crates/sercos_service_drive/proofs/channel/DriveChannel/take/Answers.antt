@@ -7,44 +7,37 @@ use Rattle.sercos_service_drive.proofs.ChannelLemmas.{goes_with, taken_stands, a
 use Rattle.sercos_service_drive.proofs.channel.DriveChannel.take.Goals as goal
 
 pub returns-clause-stands : goal.returns-clause-stands
-returns-clause-stands c = λ busy h stood those.
+returns-clause-stands c = λ busy h commands stood those stands.
     let s = rw (← c.self.view_is) at stood in
-    let t : Taken = taken_record c.args.cycle c.args.phase c.args.control.now c.args.info c.args.store.now c.args.commands.now in
-    let is = rw c.step_of-step.ensures.step at (c.answer-answer.ensures.answered c.args.control.now.mhs _ s.session_is (goes_with c.args.store.now h those)) in
+    let t : Taken = taken_record c.args.cycle c.args.phase c.args.control.now c.args.info c.args.store.now commands in
+    let is = rw c.step_of-step.ensures.step at (c.answer-answer.ensures.answered c.args.control.now.mhs _ commands s.session_is stands (goes_with c.args.store.now h those)) in
     taken_stands _ busy h t c.answer-answer.result c.answer-answer.new.self s c.if-control-self.false is
 
 pub returns-clause-added : goal.returns-clause-added
-returns-clause-added c = λ busy h stood those.
+returns-clause-added c = λ busy h commands stood those stands.
     let s = rw (← c.self.view_is) at stood in
-    let t : Taken = taken_record c.args.cycle c.args.phase c.args.control.now c.args.info c.args.store.now c.args.commands.now in
-    let is = rw c.step_of-step.ensures.step at (c.answer-answer.ensures.answered c.args.control.now.mhs _ s.session_is (goes_with c.args.store.now h those)) in
+    let t : Taken = taken_record c.args.cycle c.args.phase c.args.control.now c.args.info c.args.store.now commands in
+    let is = rw c.step_of-step.ensures.step at (c.answer-answer.ensures.answered c.args.control.now.mhs _ commands s.session_is stands (goes_with c.args.store.now h those)) in
     rw c.step_of-step.ensures.step at c.adds.ensures ∙ effect_adds t (log_of h) c.answer-answer.result is.reply_is ∙ sym (ap is_some (adds_new _ busy h t s c.if-control-self.false))
 
 pub returns-clause-blocks : goal.returns-clause-blocks
-returns-clause-blocks c = λ busy h stood those.
+returns-clause-blocks c = λ busy h commands stood those stands.
     let s = rw (← c.self.view_is) at stood in
-    let t : Taken = taken_record c.args.cycle c.args.phase c.args.control.now c.args.info c.args.store.now c.args.commands.now in
-    let effect = rw c.step_of-step.ensures.step at (c.answer-answer.ensures.effect c.args.control.now.mhs _ s.session_is (goes_with c.args.store.now h those)) in
-    rw (adds_new _ busy h t s c.if-control-self.false) effect.blocks_is
+    let t : Taken = taken_record c.args.cycle c.args.phase c.args.control.now c.args.info c.args.store.now commands in
+    let effect = rw c.step_of-step.ensures.step at (c.answer-answer.ensures.effect c.args.control.now.mhs _ commands s.session_is (goes_with c.args.store.now h those)) in
+    rw (adds_new _ busy h t s c.if-control-self.false) (effect.blocks_are commands stands)
 
 pub returns-clause-those : goal.returns-clause-those
-returns-clause-those c = λ busy h stood those.
+returns-clause-those c = λ busy h commands stood those stands.
     let s = rw (← c.self.view_is) at stood in
-    let t : Taken = taken_record c.args.cycle c.args.phase c.args.control.now c.args.info c.args.store.now c.args.commands.now in
-    let effect = rw c.step_of-step.ensures.step at (c.answer-answer.ensures.effect c.args.control.now.mhs _ s.session_is (goes_with c.args.store.now h those)) in
-    let same : AreAlike c.answer-answer.new.store c.args.store.now = rw effect.blocks_is (alike (adds t (log_of h)) c.args.commands.now c.args.store.now) in
+    let t : Taken = taken_record c.args.cycle c.args.phase c.args.control.now c.args.info c.args.store.now commands in
+    let effect = rw c.step_of-step.ensures.step at (c.answer-answer.ensures.effect c.args.control.now.mhs _ commands s.session_is (goes_with c.args.store.now h those)) in
+    let same : AreAlike c.answer-answer.new.store c.args.store.now = rw (effect.blocks_are commands stands) (alike (adds t (log_of h)) commands c.args.store.now) in
     (sym same, those_moved c.args.store.now _ h same those)
 
 pub returns-clause-commands : goal.returns-clause-commands
-returns-clause-commands c = λ busy h stood those.
+returns-clause-commands c = λ busy h commands stood those stands later.
     let s = rw (← c.self.view_is) at stood in
-    let t : Taken = taken_record c.args.cycle c.args.phase c.args.control.now c.args.info c.args.store.now c.args.commands.now in
-    let effect = rw c.step_of-step.ensures.step at (c.answer-answer.ensures.effect c.args.control.now.mhs _ s.session_is (goes_with c.args.store.now h those)) in
-    rw (adds_new _ busy h t s c.if-control-self.false) effect.commands_is
-
-pub returns-clause-calls : goal.returns-clause-calls
-returns-clause-calls c = λ busy h stood those rate time calls stands later.
-    let s = rw (← c.self.view_is) at stood in
-    let t : Taken = taken_record c.args.cycle c.args.phase c.args.control.now c.args.info c.args.store.now c.args.commands.now in
-    let effect = rw c.step_of-step.ensures.step at (c.answer-answer.ensures.effect c.args.control.now.mhs _ s.session_is (goes_with c.args.store.now h those)) in
-    rw (adds_new _ busy h t s c.if-control-self.false) (effect.calls rate time calls stands later)
+    let t : Taken = taken_record c.args.cycle c.args.phase c.args.control.now c.args.info c.args.store.now commands in
+    let effect = rw c.step_of-step.ensures.step at (c.answer-answer.ensures.effect c.args.control.now.mhs _ commands s.session_is (goes_with c.args.store.now h those)) in
+    rw (adds_new _ busy h t s c.if-control-self.false) (effect.commands_are commands stands later)

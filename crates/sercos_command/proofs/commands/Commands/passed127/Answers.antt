@@ -1,0 +1,8 @@
+use Rattle.std.proofs.Common.{◌∙◌}
+use Rattle.sercos_command.proofs.CallLemmas.{passed_127_stands}
+use Rattle.sercos_command.proofs.commands.Commands.passed127.Goals as goal
+
+pub returns : goal.returns
+returns c h stands late =
+    let s = rw (← c.self.view_is) at stands in
+    c.is_from.ensures ∙ passed_127_stands _ h c.args.cycle s late

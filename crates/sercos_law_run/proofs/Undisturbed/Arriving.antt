@@ -1,0 +1,17 @@
+pub mod Arrivals
+pub mod Taken
+pub mod Addressed
+pub mod Speaking
+pub mod Phases
+pub mod Sending
+pub mod MdtComes
+pub mod AtsCome
+pub mod Hears
+pub mod WholeIn
+pub mod Comes
+pub mod AtsTaken
+pub mod SendsNext
+pub mod Small
+pub mod StaysClear
+pub mod AfterAt
+pub mod Quiet

@@ -1,0 +1,129 @@
+-- Which ATs of a cycle the master takes in phases 0 to 2.
+use Rattle.std.proofs.Common.{◌≡◌, ◌⊎◌, inl, inr, ℕ, Bool, true, false, not, ◌&&◌, List, [], ◌∷◌, Option, Some, None, refl, sym, ◌∙◌, ap, ap₂, subst, arith, if◌then◌else◌}
+use Rattle.std.specs.Prelude.{◌==◌, nat_le, is_none, slice_index}
+use Rattle.std.proofs.lemmas.Bool.{cases_eq, false≢true, and_parts}
+use Rattle.std.proofs.lemmas.Bool.Decides.{nat_tests}
+use Rattle.sercos_telegram.specs.declared.layout.Kind.TheVariants as kinds
+use Rattle.sercos_telegram.specs.Faults.{at_fault}
+use Rattle.sercos_step.specs.declared.request.Job.{Job}
+use Rattle.sercos_block.specs.Views.{RingView}
+use Rattle.sercos_seat.specs.Agenda.{at_len}
+use Rattle.sercos_seat.specs.Channel.{is_place}
+use Rattle.sercos_seat.specs.Ring.{Known, member, known_of}
+use Rattle.sercos_master.specs.Annals.{Past, Turn, Call, outcomes, addressed_before, place_of, is_awaited, wanted_len, is_taken, after_taken, after_at_of, after_at}
+use Rattle.sercos_script.specs.Links.{Carry}
+use Rattle.sercos_law_run.specs.Journal.Arrivals.{heard, passage}
+use Rattle.sercos_law_run.specs.Journal.Runs.{station_of, with_at, at_calls, looks_back}
+use Rattle.sercos_law_run.proofs.Views.MasterSame.{AfterAts, ats_next}
+use Rattle.sercos_law_run.proofs.Undisturbed.Arriving.Taken.{IsAmong}
+use Rattle.sercos_law_run.proofs.Undisturbed.Arriving.Small.{same_place}
+
+-- what an AT leaves
+keeps_at : (s : Known) (k : ℕ) (content : List ℕ) (q : Past) → q.now.heard k ≡ true → (after_at s content q).now.heard k ≡ true
+keeps_at s k content q hears = place (place_of s (slice_index content 0))
+  where
+    set : (b : Bool) → (if b then true else q.now.heard k) ≡ true
+    set true = refl
+    set false = hears
+
+    taken : (i : ℕ) (b : Bool) → (if b then after_taken i content q else q).now.heard k ≡ true
+    taken i true = set (k == i)
+    taken i false = hears
+
+    place : (o : Option ℕ) → (after_at_of s o content q).now.heard k ≡ true
+    place None = hears
+    place (Some i) = taken i (is_taken s q i content)
+
+unheard_at : (s : Known) (k : ℕ) (content : List ℕ) (q : Past) → is_awaited q k ≡ false → q.now.heard k ≡ false → (after_at s content q).now.heard k ≡ false
+unheard_at s k content q unwanted free = place (place_of s (slice_index content 0))
+  where
+    taken : (i : ℕ) (b : Bool) → is_taken s q i content ≡ b → (if b then after_taken i content q else q).now.heard k ≡ false
+    taken i false e = free
+    taken i true e = elim (cases_eq k i) [
+      | inl same ↦
+          let here : is_taken s q k content ≡ true = subst (λ (n : ℕ). is_taken s q n content ≡ true) (sym same) e in
+          absurd (false≢true (sym unwanted ∙ (and_parts (is_awaited q k) (not (q.now.heard k) && is_none (at_fault (member s k).address (wanted_len s q k) content)) here).0))
+      | inr other ↦ let off : (k == i) ≡ false = grind (arith, nat_tests, other) in rw off free
+    ]
+
+    place : (o : Option ℕ) → (after_at_of s o content q).now.heard k ≡ false
+    place None = free
+    place (Some i) = taken i (is_taken s q i content) refl
+
+-- an AT that is awaited and reads
+pub record IsWanted (s : Known) (p : Past) (k : ℕ) (content : List ℕ) : Type 0 where
+  pub early : nat_le 3 p.now.phase ≡ false
+  pub awaited : is_awaited p k ≡ true
+  pub placed : place_of s (slice_index content 0) ≡ Some k
+  pub reads : is_none (at_fault (member s k).address 4 content) ≡ true
+
+all_three : (a b c : Bool) → a ≡ true → b ≡ false → c ≡ true → (a && (not b && c)) ≡ true
+all_three a b c one two three = rw (one, two, three) refl
+
+takes_at : (s : Known) (p : Past) (k : ℕ) (content : List ℕ) → IsWanted s p k content → (after_at s content p).now.heard k ≡ true
+takes_at s p k content is = by (p.now.heard k) refl
+  where
+    wanted : wanted_len s p k ≡ 4
+    wanted = ap (λ (b : Bool). if b then at_len (member s k) (outcomes p k) else 4) is.early
+
+    taken : p.now.heard k ≡ false → is_taken s p k content ≡ true
+    taken free = all_three (is_awaited p k) (p.now.heard k) (is_none (at_fault (member s k).address (wanted_len s p k) content)) is.awaited free
+        (subst (λ (n : ℕ). is_none (at_fault (member s k).address n content) ≡ true) (sym wanted) is.reads)
+
+    now : (after_taken k content p).now.heard k ≡ true
+    now = rw (same_place k) refl
+
+    by : (hears : Bool) → p.now.heard k ≡ hears → (after_at s content p).now.heard k ≡ true
+    by true hears = keeps_at s k content p hears
+    by false free = subst (λ (o : Option ℕ). (after_at_of s o content p).now.heard k ≡ true) (sym is.placed)
+        (subst (λ (b : Bool). (if b then after_taken k content p else p).now.heard k ≡ true) (sym (taken free)) now)
+
+awaited_same : (p q : Past) (k : ℕ) → q.now.phase ≡ p.now.phase → q.turns ≡ p.turns → is_awaited q k ≡ is_awaited p k
+awaited_same p q k phase turns = ap₂ (λ (n : ℕ) (l : List Turn). if nat_le 3 n then true else (nat_le 1 n && is_place k (addressed_before l))) phase turns
+
+-- ALL ATS of a cycle: one that is awaited, reads and arrives makes the drive heard ..
+module _ (r : RingView) (jobs : List Job) (carry : Carry) (cycle k : ℕ) (p : Past) where
+  passed_next : (o : Option (List ℕ)) (h : List Call) → AfterAts (known_of r) k (λ content. Unit {0}) p (looks_back r jobs h) → AfterAts (known_of r) k (λ content. Unit {0}) p (looks_back r jobs (with_at o h))
+  passed_next None h a = a
+  passed_next (Some content) h a = ats_next (known_of r) k (λ c. Unit {0}) p (looks_back r jobs h) content tt a
+
+  keeps_next : (o : Option (List ℕ)) (h : List Call) → (looks_back r jobs h).now.heard k ≡ true → (looks_back r jobs (with_at o h)).now.heard k ≡ true
+  keeps_next None h hears = hears
+  keeps_next (Some content) h hears = keeps_at (known_of r) k content (looks_back r jobs h) hears
+
+  wanted_still : (at : List ℕ) (h : List Call) → AfterAts (known_of r) k (λ content. Unit {0}) p (looks_back r jobs h) → IsWanted (known_of r) p k at → IsWanted (known_of r) (looks_back r jobs h) k at
+  wanted_still at h a is = record {
+    early = ap (λ (n : ℕ). nat_le 3 n) a.phase_is ∙ is.early;
+    awaited = awaited_same p (looks_back r jobs h) k a.phase_is a.turns_are ∙ is.awaited;
+    placed = is.placed;
+    reads = is.reads;
+  }
+
+  pub takes_ats : (at : List ℕ) (ats : List (List ℕ)) (h : List Call) → AfterAts (known_of r) k (λ content. Unit {0}) p (looks_back r jobs h) → IsWanted (known_of r) p k at
+      → heard carry (passage cycle kinds.At (station_of r (slice_index at 0)) 0) at ≡ Some at
+      → IsAmong at ats ⊎ ((looks_back r jobs h).now.heard k ≡ true) → (looks_back r jobs (at_calls r carry cycle ats h)).now.heard k ≡ true
+  takes_ats at [] h a is came (inl none) = absurd none
+  takes_ats at [] h a is came (inr hears) = hears
+  takes_ats at (x ∷ others) h a is came among =
+      takes_ats at others (with_at (heard carry (passage cycle kinds.At (station_of r (slice_index x 0)) 0) x) h) (passed_next (heard carry (passage cycle kinds.At (station_of r (slice_index x 0)) 0) x) h a) is came (step among)
+    where
+      now : (looks_back r jobs (with_at (heard carry (passage cycle kinds.At (station_of r (slice_index at 0)) 0) at) h)).now.heard k ≡ true
+      now = subst (λ (o : Option (List ℕ)). (looks_back r jobs (with_at o h)).now.heard k ≡ true) (sym came) (takes_at (known_of r) (looks_back r jobs h) k at (wanted_still at h a is))
+
+      step : ((x ≡ at) ⊎ IsAmong at others) ⊎ ((looks_back r jobs h).now.heard k ≡ true)
+          → IsAmong at others ⊎ ((looks_back r jobs (with_at (heard carry (passage cycle kinds.At (station_of r (slice_index x 0)) 0) x) h)).now.heard k ≡ true)
+      step (inl (inl same)) = inr (subst (λ (c : List ℕ). (looks_back r jobs (with_at (heard carry (passage cycle kinds.At (station_of r (slice_index c 0)) 0) c) h)).now.heard k ≡ true) (sym same) now)
+      step (inl (inr later)) = inl later
+      step (inr hears) = inr (keeps_next (heard carry (passage cycle kinds.At (station_of r (slice_index x 0)) 0) x) h hears)
+
+  -- .. and no drive is heard whose AT isn't awaited.
+  pub unheard_ats : (ats : List (List ℕ)) (h : List Call) → AfterAts (known_of r) k (λ content. Unit {0}) p (looks_back r jobs h) → is_awaited p k ≡ false → (looks_back r jobs h).now.heard k ≡ false
+      → (looks_back r jobs (at_calls r carry cycle ats h)).now.heard k ≡ false
+  unheard_ats [] h a unwanted free = free
+  unheard_ats (x ∷ others) h a unwanted free =
+      unheard_ats others (with_at (heard carry (passage cycle kinds.At (station_of r (slice_index x 0)) 0) x) h) (passed_next (heard carry (passage cycle kinds.At (station_of r (slice_index x 0)) 0) x) h a) unwanted
+      (by (heard carry (passage cycle kinds.At (station_of r (slice_index x 0)) 0) x))
+    where
+      by : (o : Option (List ℕ)) → (looks_back r jobs (with_at o h)).now.heard k ≡ false
+      by None = free
+      by (Some content) = unheard_at (known_of r) k content (looks_back r jobs h) (awaited_same p (looks_back r jobs h) k a.phase_is a.turns_are ∙ unwanted) free

@@ -1,0 +1,165 @@
+-- The master takes the first AT of a drive in a cycle that is awaited and has the wanted bytes.
+use Rattle.std.proofs.Common.{◌≡◌, ◌⊎◌, inl, inr, ℕ, zero, suc, ◌<◌, ◌≤◌, Bool, true, false, not, ◌&&◌, List, [], ◌∷◌, Option, Some, None, refl, sym, ◌∙◌, ap, ap₂, subst, arith, if◌then◌else◌}
+use Rattle.std.specs.Prelude.{◌==◌, nat_le, nat_lt, slice_index, is_some, is_none}
+use Rattle.std.proofs.lemmas.Bool.{cases_eq, and_from, false≢true}
+use Rattle.std.proofs.lemmas.Bool.Decides.{nat_tests}
+use Rattle.sercos_telegram.specs.declared.layout.Kind.TheVariants as kinds
+use Rattle.sercos_telegram.specs.Faults.{at_fault}
+use Rattle.sercos_step.specs.declared.request.Job.{Job}
+use Rattle.sercos_block.specs.Views.{DriveView, RingView}
+use Rattle.sercos_service_master.specs.Calls.{begun_by}
+use Rattle.sercos_service_master.specs.Calls as channel
+use Rattle.sercos_drive.specs.Heard.{DriveCall}
+use Rattle.sercos_drive.specs.Says.{Said, drive_says}
+use Rattle.sercos_seat.specs.Agenda.{at_len}
+use Rattle.sercos_seat.specs.Channel.{is_place, outcomes_in}
+use Rattle.sercos_seat.specs.Ring.{Known, member, known_of}
+use Rattle.sercos_master.specs.Annals.{Past, Turn, Call, addressed_before, place_of, is_awaited, wanted_len, is_taken, after_taken, after_at_of, after_at, hearing}
+use Rattle.sercos_script.specs.Links.{Carry}
+use Rattle.sercos_law_run.specs.Journal.Arrivals.{heard, passage}
+use Rattle.sercos_law_run.specs.Journal.Runs.{station_of, inserted, with_said, said_below, contents, with_at, at_calls, looks_back}
+use Rattle.sercos_law_run.specs.Views.RingViews.{heard_last}
+use Rattle.sercos_law_run.proofs.Undisturbed.Arriving.Arrivals.{AllHeard}
+use Rattle.sercos_law_run.proofs.Undisturbed.Arriving.Small.{same_place}
+
+-- After some ATs of a cycle none was taken from the drive at a place ..
+pub record Waits (k : ℕ) (p q : Past) : Type 0 where
+  pub unheard : q.now.heard k ≡ false
+  pub calls_are : q.calls k ≡ p.calls k
+  pub phase_is : q.now.phase ≡ p.now.phase
+  pub turns_are : q.turns ≡ p.turns
+
+-- .. or one was, which its channel heard, unless phase 1 is commanded.
+pub record Took (k : ℕ) (p q : Past) : Type 0 where
+  pub taken : q.now.heard k ≡ true
+  pub phase_is : q.now.phase ≡ p.now.phase
+  pub last : 2 ≤ p.now.phase → is_some (heard_last (q.calls k)) ≡ true
+
+not_again : (a b was : Bool) → was ≡ true → (a && (not was && b)) ≡ true → ⊥
+not_again true b true is taken = false≢true taken
+not_again true b false is taken = false≢true is
+not_again false b was is taken = false≢true taken
+
+-- one that is taken
+takes_it : (k : ℕ) (p q : Past) (content : List ℕ) → Waits k p q → Took k p (after_taken k content q)
+takes_it k p q content w = record {
+  taken = rw (same_place k) refl;
+  phase_is = w.phase_is;
+  last = λ two.
+      let same = w.phase_is in
+      by (q.now.phase == 1) (grind (arith, nat_tests, same, two));
+}
+  where
+    by : (identifies : Bool) → identifies ≡ false → is_some (heard_last (if k == k then (hearing identifies k content q).calls else q.calls k)) ≡ true
+    by identifies is = rw (same_place k, is) refl
+
+-- what is heard of another drive, or isn't taken, changes nothing
+took_stays : (s : Known) (k : ℕ) (p q : Past) (content : List ℕ) → Took k p q → Took k p (after_at s content q)
+took_stays s k p q content a = place (place_of s (slice_index content 0))
+  where
+    elsewhere : (i : ℕ) → (k == i) ≡ false → Took k p (after_taken i content q)
+    elsewhere i other = record { taken = rw other a.taken; phase_is = a.phase_is; last = λ two. rw other (a.last two) }
+
+    taken : (i : ℕ) (b : Bool) → is_taken s q i content ≡ b → Took k p (if b then after_taken i content q else q)
+    taken i false is = a
+    taken i true is = elim (cases_eq k i) [
+      | inl same ↦ absurd (not_again (is_awaited q k) _ (q.now.heard k) a.taken (ap (λ (n : ℕ). is_taken s q n content) same ∙ is))
+      | inr other ↦ elsewhere i (grind (arith, nat_tests, other))
+    ]
+
+    place : (o : Option ℕ) → Took k p (after_at_of s o content q)
+    place None = a
+    place (Some i) = taken i (is_taken s q i content) refl
+
+waits_or_took : (s : Known) (k : ℕ) (p q : Past) (content : List ℕ) → Waits k p q → Waits k p (after_at s content q) ⊎ Took k p (after_at s content q)
+waits_or_took s k p q content w = place (place_of s (slice_index content 0))
+  where
+    elsewhere : (i : ℕ) → (k == i) ≡ false → Waits k p (after_taken i content q)
+    elsewhere i other = record { unheard = rw other w.unheard; calls_are = rw other w.calls_are; phase_is = w.phase_is; turns_are = w.turns_are }
+
+    taken : (i : ℕ) (b : Bool) → Waits k p (if b then after_taken i content q else q) ⊎ Took k p (if b then after_taken i content q else q)
+    taken i false = inl w
+    taken i true = elim (cases_eq k i) [
+      | inl same ↦ inr (subst (λ (n : ℕ). Took k p (after_taken n content q)) same (takes_it k p q content w))
+      | inr other ↦ inl (elsewhere i (grind (arith, nat_tests, other)))
+    ]
+
+    place : (o : Option ℕ) → Waits k p (after_at_of s o content q) ⊎ Took k p (after_at_of s o content q)
+    place None = inl w
+    place (Some i) = taken i (is_taken s q i content)
+
+-- the drive's own, if it is awaited and has no fault
+takes_own : (s : Known) (k : ℕ) (p q : Past) (content : List ℕ) → place_of s (slice_index content 0) ≡ Some k → is_awaited p k ≡ true → at_fault (member s k).address (wanted_len s p k) content ≡ None → Waits k p q
+    → Took k p (after_at s content q)
+takes_own s k p q content found awaited sound w =
+    subst (λ (o : Option ℕ). Took k p (after_at_of s o content q)) (sym found)
+    (subst (λ (b : Bool). Took k p (if b then after_taken k content q else q)) (sym taken) (takes_it k p q content w))
+  where
+    awaits : is_awaited q k ≡ true
+    awaits = ap₂ (λ (n : ℕ) (l : List Turn). if nat_le 3 n then true else (nat_le 1 n && is_place k (addressed_before l))) w.phase_is w.turns_are ∙ awaited
+
+    wanted : wanted_len s q k ≡ wanted_len s p k
+    wanted = ap₂ (λ (n : ℕ) (c : List channel.Call). if nat_le 3 n then at_len (member s k) (outcomes_in (begun_by c)) else 4) w.phase_is w.calls_are
+
+    taken : is_taken s q k content ≡ true
+    taken = and_from (is_awaited q k) _ awaits
+        (and_from (not (q.now.heard k)) _ (ap (λ (b : Bool). not b) w.unheard) (ap (λ (n : ℕ). is_none (at_fault (member s k).address n content)) wanted ∙ ap is_none sound))
+
+-- ALL ATS OF A CYCLE
+pub stays_taken : (r : RingView) (jobs : List Job) (carry : Carry) (cycle k : ℕ) (p : Past) (ats : List (List ℕ)) (h : List Call) → Took k p (looks_back r jobs h) → Took k p (looks_back r jobs (at_calls r carry cycle ats h))
+stays_taken r jobs carry cycle k p [] h a = a
+stays_taken r jobs carry cycle k p (at ∷ ats) h a =
+    stays_taken r jobs carry cycle k p ats (with_at (heard carry (passage cycle kinds.At (station_of r (slice_index at 0)) 0) at) h) (by (heard carry (passage cycle kinds.At (station_of r (slice_index at 0)) 0) at))
+  where
+    by : (o : Option (List ℕ)) → Took k p (looks_back r jobs (with_at o h))
+    by None = a
+    by (Some content) = took_stays (known_of r) k p (looks_back r jobs h) content a
+
+abbrev pub IsAmong : List ℕ → List (List ℕ) → Type 0
+IsAmong content [] = ⊥
+IsAmong content (at ∷ ats) = (at ≡ content) ⊎ IsAmong content ats
+
+pub own_taken : (r : RingView) (jobs : List Job) (carry : Carry) (cycle k : ℕ) (p : Past) (content : List ℕ) (ats : List (List ℕ)) (h : List Call) → place_of (known_of r) (slice_index content 0) ≡ Some k → is_awaited p k ≡ true
+    → at_fault (member (known_of r) k).address (wanted_len (known_of r) p k) content ≡ None → IsAmong content ats → AllHeard r carry cycle ats → Waits k p (looks_back r jobs h) → Took k p (looks_back r jobs (at_calls r carry cycle ats h))
+own_taken r jobs carry cycle k p content [] h found awaited sound among all w = absurd among
+own_taken r jobs carry cycle k p content (at ∷ ats) h found awaited sound (inl same) (came, all) w =
+    stays_taken r jobs carry cycle k p ats (with_at (heard carry (passage cycle kinds.At (station_of r (slice_index at 0)) 0) at) h)
+    (subst (λ (o : Option (List ℕ)). Took k p (looks_back r jobs (with_at o h))) (sym (came ∙ ap (λ (c : List ℕ). Some c) same)) (takes_own (known_of r) k p (looks_back r jobs h) content found awaited sound w))
+own_taken r jobs carry cycle k p content (at ∷ ats) h found awaited sound (inr later) (came, all) w =
+    let heard_is = heard carry (passage cycle kinds.At (station_of r (slice_index at 0)) 0) at in
+    elim (waits_or_took (known_of r) k p (looks_back r jobs h) at w) [
+      | inl waits ↦ own_taken r jobs carry cycle k p content ats (with_at heard_is h) found awaited sound later all (subst (λ (o : Option (List ℕ)). Waits k p (looks_back r jobs (with_at o h))) (sym came) waits)
+      | inr took ↦ stays_taken r jobs carry cycle k p ats (with_at heard_is h) (subst (λ (o : Option (List ℕ)). Took k p (looks_back r jobs (with_at o h))) (sym came) took)
+    ]
+
+-- what a drive says is among the ATs of the cycle
+among_inserted : (s : Said) (others : List Said) → IsAmong s.content (contents (inserted s others))
+among_inserted s [] = inl refl
+among_inserted s (x ∷ others) = by (nat_lt s.start x.start) (among_inserted s others)
+  where
+    by : (b : Bool) → IsAmong s.content (contents (inserted s others)) → IsAmong s.content (contents (if b then s ∷ x ∷ others else x ∷ inserted s others))
+    by true rest = inl refl
+    by false rest = inr rest
+
+among_more : (content : List ℕ) (s : Said) (others : List Said) → IsAmong content (contents others) → IsAmong content (contents (inserted s others))
+among_more content s [] among = absurd among
+among_more content s (x ∷ others) among = by (nat_lt s.start x.start) among (λ later. among_more content s others later)
+  where
+    by : (b : Bool) → IsAmong content (contents (x ∷ others)) → (IsAmong content (contents others) → IsAmong content (contents (inserted s others)))
+        → IsAmong content (contents (if b then s ∷ x ∷ others else x ∷ inserted s others))
+    by true among next = inr among
+    by false (inl here) next = inl here
+    by false (inr later) next = inr (next later)
+
+pub among_said : (n : ℕ) (d : ℕ → DriveView) (rate : ℕ) (h : ℕ → List DriveCall) (k : ℕ) (s : Said) → k < n → drive_says (d k) rate (h k) ≡ Some s → IsAmong s.content (contents (said_below n d rate h))
+among_said zero d rate h k s below says = absurd (omega (arith, below))
+among_said (suc n) d rate h k s below says = elim (cases_eq k n) [
+  | inl same ↦
+      let here : drive_says (d n) rate (h n) ≡ Some s = ap (λ (i : ℕ). drive_says (d i) rate (h i)) (sym same) ∙ says in
+      subst (λ (o : Option Said). IsAmong s.content (contents (with_said o (said_below n d rate h)))) (sym here) (among_inserted s (said_below n d rate h))
+  | inr other ↦ more (drive_says (d n) rate (h n)) (among_said n d rate h k s (omega (arith, below, other)) says)
+]
+  where
+    more : (o : Option Said) → IsAmong s.content (contents (said_below n d rate h)) → IsAmong s.content (contents (with_said o (said_below n d rate h)))
+    more None among = among
+    more (Some x) among = among_more s.content x (said_below n d rate h) among

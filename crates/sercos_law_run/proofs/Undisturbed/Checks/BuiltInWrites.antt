@@ -1,0 +1,224 @@
+-- As long as phase 4 was never commanded, built-in blocks alone were written.
+use Rattle.std.proofs.Common.{◌≡◌, ℕ, zero, suc, ◌<◌, ◌≤◌, Bool, true, false, List, [], ◌∷◌, ◌++◌, length, map, drop, Option, Some, None, refl, sym, ap, ◌∙◌, subst, arith, if◌then◌else◌}
+use Rattle.std.proofs.lemmas.Option.{same_Some}
+use Rattle.std.specs.Prelude.{◌==◌, slice_get}
+use Rattle.sercos_step.specs.declared.request.Job.{Job}
+use Rattle.sercos_step.specs.declared.request.Request.{Request}
+use Rattle.sercos_step.specs.declared.request.Request.TheVariants as request
+use Rattle.sercos_step.specs.declared.request.Outcome.{Outcome}
+use Rattle.sercos_timing.specs.Views.{PlanView}
+use Rattle.sercos_block.specs.BuiltIns.{is_built_in}
+use Rattle.sercos_block.specs.Stores.{find_block, store_of}
+use Rattle.sercos_block.specs.Views.{RingView}
+use Rattle.sercos_block.specs.declared.block.Block.{Block}
+use Rattle.sercos_service_drive.specs.Log.{Entry}
+use Rattle.sercos_service_drive.specs.Writes.{Write}
+use Rattle.sercos_service_master.specs.Begun.{Begun, answers_it, answer_in, with_answer}
+use Rattle.sercos_service_master.specs.Calls.{begun_by}
+use Rattle.sercos_trace.specs.Views.{CycleView}
+use Rattle.sercos_seat.specs.Agenda.{writes}
+use Rattle.sercos_seat.specs.Ring.{Known, Task, known_of, member, tasks_for}
+use Rattle.sercos_seat.specs.Seats.{AreWaiting}
+use Rattle.sercos_master.specs.Annals.{Past}
+use Rattle.sercos_master.proofs.Laws.{jobs_waiting}
+use Rattle.sercos_script.specs.Links.{Carry, Restarts}
+use Rattle.sercos_law_channel.specs.Handshake.Epochs.{with_heard, with_begun, epoch_begun, begun_in}
+use Rattle.sercos_law_channel.specs.Handshake.Exact.{Given, given_of, given_by, written_to, AreWrites, Complete, Refused, Broken, AreExact}
+use Rattle.sercos_law_channel.specs.Handshake.Views.{Heard, View}
+use Rattle.sercos_law_channel.specs.Handshake.WholeRun.{all_begun, begun_ago, all_entries, all_writes}
+use Rattle.sercos_law_run.specs.Journal.Runs.{drive_at, middle, IsRun, IsClear}
+use Rattle.sercos_law_run.specs.Agenda.Tasks.{IsTask, OfReads, OfWrites, Checks3, Lists3, Checks4, Lists4, OfWaiting, AreBegunTasks}
+use Rattle.sercos_law_run.specs.Agenda.Writes.{start_numbers}
+use Rattle.sercos_law_run.specs.Views.RingViews.{behind_mdt, view_of, views_of}
+use Rattle.sercos_law_run.proofs.Views.Members.{members_count}
+use Rattle.sercos_law_run.specs.Held.Opened.{IsOpened}
+use Rattle.sercos_law_run.proofs.Held.AnsweredRuns.{IsRead, Time, Attribute, is_read_request}
+use Rattle.sercos_law_run.proofs.Held.Runs.{small}
+use Rattle.sercos_law_run.proofs.Headline.HeadlineRuns.{all_stand, first_store, keeps_all}
+use Rattle.sercos_law_run.proofs.Undisturbed.StaysUp.{phase_now}
+use Rattle.sercos_law_run.proofs.Undisturbed.Checks.OwnSet.{AreBuiltIn}
+use Rattle.sercos_law_channel.proofs.Cited.{runs_exact}
+use Rattle.sercos_law_run.proofs.Agenda.WritesDone.{writes_data}
+use Rattle.sercos_law_run.proofs.Cited.{begins_tasks}
+
+-- A REQUEST names a built-in block, if it writes at all.
+abbrev pub is_built : Request → Bool
+is_built (request.Read i e) = true
+is_built (request.Write i e bytes) = is_built_in i.raw
+is_built (request.Command i) = is_built_in i.raw
+
+abbrev pub AreBuilt : List Begun → Type 0
+AreBuilt [] = Unit {0}
+AreBuilt (b ∷ begun) = AreBuilt begun × (is_built b.request ≡ true)
+
+pub built_append : (xs ys : List Begun) → AreBuilt xs → AreBuilt ys → AreBuilt (xs ++ ys)
+built_append [] ys first second = second
+built_append (b ∷ xs) ys first second = (built_append xs ys first.0 second, first.1)
+
+-- what it gives
+abbrev AreGiven : List Given → Type 0
+AreGiven [] = Unit {0}
+AreGiven (g ∷ given) = AreGiven given × (is_built_in g.raw ≡ true)
+
+given_drop : (n : ℕ) (given : List Given) → AreGiven given → AreGiven (drop n given)
+given_drop zero given are = are
+given_drop (suc n) [] are = tt
+given_drop (suc n) (g ∷ given) are = given_drop n given are.0
+
+given_built : (blocks : List Block) (r : Request) → is_built r ≡ true → AreGiven (given_by blocks r)
+given_built blocks (request.Read i e) built = tt
+given_built blocks (request.Write i e bytes) built = by (e == 7) (find_block i.raw blocks)
+  where
+    by : (is : Bool) (o : Option Block) → AreGiven (if is then written_to i.raw bytes o else [])
+    by true None = tt
+    by true (Some b) = (tt, built)
+    by false o = tt
+given_built blocks (request.Command i) built = ((tt, built), built)
+
+own_given : (own : List Write) (given : List Given) → map given_of own ≡ given → AreGiven given → AreBuiltIn own
+own_given [] given same are = tt
+own_given (w ∷ own) [] same are = absurd (cc)
+own_given (w ∷ own) (g ∷ given) same are = (own_given own given (tail_is same) are.0, ap (λ (x : Given). is_built_in x.raw) (head_is same) ∙ are.1)
+  where
+    head_is : {x y : Given} {xs ys : List Given} → x ∷ xs ≡ y ∷ ys → x ≡ y
+    head_is e = cc
+
+    tail_is : {x y : Given} {xs ys : List Given} → x ∷ xs ≡ y ∷ ys → xs ≡ ys
+    tail_is e = cc
+
+own_built : (blocks : List Block) (b : Begun) (own : List Write) → is_built b.request ≡ true → AreWrites blocks b own → AreBuiltIn own
+own_built blocks b own built (Complete bytes complete has same) = own_given own (given_by blocks b.request) same (given_built blocks b.request built)
+own_built blocks b own built (Refused code refused none) = subst AreBuiltIn (sym none) tt
+own_built blocks b own built (Broken later broken same) = own_given own (drop later (given_by blocks b.request)) same (given_drop later (given_by blocks b.request) (given_built blocks b.request built))
+
+writes_append : (xs ys : List Write) → AreBuiltIn xs → AreBuiltIn ys → AreBuiltIn (xs ++ ys)
+writes_append [] ys first second = second
+writes_append (w ∷ xs) ys first second = (writes_append xs ys first.0 second, first.1)
+
+pub exact_built : (blocks : List Block) (begun : List Begun) (entries : List Entry) (writes : List Write) → AreExact blocks begun entries writes → AreBuilt begun → AreBuiltIn writes
+exact_built blocks [] entries writes exact built = subst AreBuiltIn (sym exact.1) tt
+exact_built blocks (b ∷ begun) entries writes (part, rest, own, others, of_entries, of_writes, is, behind) built =
+    subst AreBuiltIn (sym of_writes) (writes_append own others (own_built blocks b own built.1 is.writes) (exact_built blocks begun rest others behind built.0))
+
+-- WHAT A TASK OF THE START-UP NAMES
+abbrev AllBuiltIn : List ℕ → Type 0
+AllBuiltIn [] = Unit {0}
+AllBuiltIn (n ∷ numbers) = (is_built_in n ≡ true) × AllBuiltIn numbers
+
+start_built : (i raw : ℕ) → slice_get start_numbers i ≡ Some raw → is_built_in raw ≡ true
+start_built i raw got = by start_numbers i (refl, (refl, (refl, (refl, (refl, (refl, (refl, (refl, (refl, (refl, (refl, tt))))))))))) got
+  where
+    by : (numbers : List ℕ) (i : ℕ) → AllBuiltIn numbers → slice_get numbers i ≡ Some raw → is_built_in raw ≡ true
+    by [] i all got = absurd (cc)
+    by (n ∷ numbers) zero all got = ap is_built_in (sym (same_Some _ _ got)) ∙ all.0
+    by (n ∷ numbers) (suc i) all got = by numbers i all.1 got
+
+task_built : (s : Known) (k : ℕ) (by_then : Option PlanView) (waiting : List Task) (outs : List Outcome) (t : Task) → AreWaiting waiting → t.phase ≤ 3 → IsTask s k by_then waiting outs t → is_built t.request ≡ true
+task_built s k by_then waiting outs t wait early (OfReads r less got is) = ap (λ (x : Task). is_built x.request) is ∙ by (is_read_request (member s k) (length outs) r got)
+  where
+    by : IsRead r → is_built r ≡ true
+    by (Time raw built same) = ap is_built same
+    by (Attribute i same) = ap is_built same
+task_built s k by_then waiting outs t wait early (OfWrites p i r has less at got is) =
+    let (named, bytes, there, number) = writes_data s p k i less in
+    ap (λ (x : Task). is_built x.request) is ∙ ap is_built (same_Some r (request.Write named 7 bytes) (sym got ∙ there)) ∙ start_built i named.raw number
+task_built s k by_then waiting outs t wait early (Checks3 p has at is) = ap (λ (x : Task). is_built x.request) is
+task_built s k by_then waiting outs t wait early (Lists3 at failed is) = ap (λ (x : Task). is_built x.request) is
+task_built s k by_then waiting outs t wait early (Checks4 at well is) = ap (λ (x : Task). is_built x.request) is
+task_built s k by_then waiting outs t wait early (Lists4 at failed is) = ap (λ (x : Task). is_built x.request) is
+task_built s k by_then waiting outs t wait early (OfWaiting j at ready got) = let late = wait j t got in absurd (omega (arith, late, early))
+
+-- THE CHANNEL
+heard_built : (o : Option Heard) (begun : List Begun) → AreBuilt begun → AreBuilt (with_heard o begun)
+heard_built None begun are = are
+heard_built (Some a) begun are = by (answers_it begun a.status) begun are
+  where
+    by : (v : Bool) (begun : List Begun) → AreBuilt begun → AreBuilt (if v then with_answer (answer_in a.status a.word) begun else begun)
+    by true [] are = tt
+    by true (b ∷ begun) are = (are.0, are.1)
+    by false begun are = are
+
+begun_built : (o : Option Request) (begun : List Begun) → ((r : Request) → o ≡ Some r → is_built r ≡ true) → AreBuilt begun → AreBuilt (with_begun o begun)
+begun_built None begun built are = are
+begun_built (Some r) begun built are = (are, built r refl)
+
+-- no cycle of these was commanded phase 4
+abbrev pub NeverFour : List CycleView → Type 0
+NeverFour [] = Unit {0}
+NeverFour (t ∷ j) = NeverFour j × (t.phase ≤ 3)
+
+module _ (r : RingView) (jobs : List Job) (carry : Carry) (restarts : Restarts) (opened : IsOpened r jobs) (k : ℕ)
+    (below : k < length r.drives) where
+  inside : k < length (known_of r).drives
+  inside = let count = members_count r in omega (arith, count, below)
+
+  begins_built : (t : CycleView) (j : List CycleView) → IsRun r jobs carry restarts (t ∷ j) → IsClear (t ∷ j) → (behind_mdt r jobs carry restarts t.sent j).now.phase ≤ 3 → (q : Request) → (view_of r jobs carry restarts k t j).begins ≡ Some q → is_built q ≡ true
+  begins_built t j run clear early q begins = by (begun_by (p.calls k)) (p.tasks k) refl (begins_tasks (known_of r) (tasks_for (known_of r) jobs) (middle r carry restarts t.sent j) k inside)
+    where
+      p : Past
+      p = behind_mdt r jobs carry restarts t.sent j
+
+      v : View
+      v = view_of r jobs carry restarts k t j
+
+      now_is : begun_by (p.calls k) ≡ with_begun v.begins (with_heard v.heard (if v.master_restarts then [] else epoch_begun (views_of r jobs carry restarts k j)))
+      now_is = sym ((keeps_all r jobs carry restarts opened t j run clear).exact k below).begun_now
+
+      first_is : {x y : Begun} {xs ys : List Begun} → x ∷ xs ≡ y ∷ ys → x ≡ y
+      first_is e = cc
+
+      by : (begun : List Begun) (tasks : List Task) → begun_by (p.calls k) ≡ begun → AreBegunTasks (known_of r) k p.plan (p.waiting k) p.now.phase begun tasks → is_built q ≡ true
+      by [] tasks same are =
+          let none : [] ≡ with_begun (Some q) (with_heard v.heard (if v.master_restarts then [] else epoch_begun (views_of r jobs carry restarts k j))) =
+          sym same ∙ now_is ∙ ap (λ (o : Option Request). with_begun o (with_heard v.heard (if v.master_restarts then [] else epoch_begun (views_of r jobs carry restarts k j)))) begins in absurd (cc)
+      by (b ∷ older) [] same are = absurd are
+      by (b ∷ older) (u ∷ tasks) same are =
+          let head : b ∷ older ≡ with_begun (Some q) (with_heard v.heard (if v.master_restarts then [] else epoch_begun (views_of r jobs carry restarts k j))) =
+          sym same ∙ now_is ∙ ap (λ (o : Option Request). with_begun o (with_heard v.heard (if v.master_restarts then [] else epoch_begun (views_of r jobs carry restarts k j)))) begins in
+          let asks : b.request ≡ q = ap (λ (x : Begun). x.request) (first_is head) in
+          ap is_built (sym asks ∙ are.1.asks)
+          ∙ task_built (known_of r) k are.1.by_then (p.waiting k) _ u (jobs_waiting (known_of r) jobs (middle r carry restarts t.sent j) k) (let low = are.1.early in omega (arith, low, early)) are.1.task
+
+  -- all that was begun, in this epoch and before
+  abbrev BothBuilt : List CycleView → Type 0
+  BothBuilt j = AreBuilt (epoch_begun (views_of r jobs carry restarts k j)) × AreBuilt (begun_ago (views_of r jobs carry restarts k j))
+
+  built_next : (t : CycleView) (j : List CycleView) → IsRun r jobs carry restarts (t ∷ j) → IsClear (t ∷ j) → t.phase ≤ 3 → BothBuilt j → BothBuilt (t ∷ j)
+  built_next t j run clear low before = (ended v.falls, left v.falls v.master_restarts)
+    where
+      v : View
+      v = view_of r jobs carry restarts k t j
+
+      restarted : (b : Bool) → AreBuilt (if b then [] else epoch_begun (views_of r jobs carry restarts k j))
+      restarted true = tt
+      restarted false = before.0
+
+      now : AreBuilt (begun_in (view_of r jobs carry restarts k t j) (views_of r jobs carry restarts k j))
+      now = begun_built v.begins (with_heard v.heard (if v.master_restarts then [] else epoch_begun (views_of r jobs carry restarts k j)))
+          (begins_built t j run clear (let now = phase_now r jobs carry restarts opened t j run.1 in omega (arith, now, low)))
+          (heard_built v.heard (if v.master_restarts then [] else epoch_begun (views_of r jobs carry restarts k j)) (restarted v.master_restarts))
+
+      ended : (b : Bool) → AreBuilt (if b then [] else begun_in (view_of r jobs carry restarts k t j) (views_of r jobs carry restarts k j))
+      ended true = tt
+      ended false = now
+
+      restarts_left : (c : Bool) → AreBuilt (if c then epoch_begun (views_of r jobs carry restarts k j) ++ begun_ago (views_of r jobs carry restarts k j) else begun_ago (views_of r jobs carry restarts k j))
+      restarts_left true = built_append (epoch_begun (views_of r jobs carry restarts k j)) (begun_ago (views_of r jobs carry restarts k j)) before.0 before.1
+      restarts_left false = before.1
+
+      left : (b c : Bool) → AreBuilt (if b then begun_in (view_of r jobs carry restarts k t j) (views_of r jobs carry restarts k j) ++ (if c then epoch_begun (views_of r jobs carry restarts k j) ++ begun_ago (views_of r jobs carry restarts k j) else begun_ago (views_of r jobs carry restarts k j))
+          else (if c then epoch_begun (views_of r jobs carry restarts k j) ++ begun_ago (views_of r jobs carry restarts k j) else begun_ago (views_of r jobs carry restarts k j)))
+      left true c = built_append (begun_in (view_of r jobs carry restarts k t j) (views_of r jobs carry restarts k j)) (if c then epoch_begun (views_of r jobs carry restarts k j) ++ begun_ago (views_of r jobs carry restarts k j) else begun_ago (views_of r jobs carry restarts k j)) now (restarts_left c)
+      left false c = restarts_left c
+
+  built_so : (j : List CycleView) → IsRun r jobs carry restarts j → IsClear j → NeverFour j → BothBuilt j
+  built_so [] run clear never = (tt, tt)
+  built_so (t ∷ j) run clear never = built_next t j run clear never.1 (built_so j run.0 clear.0 never.0)
+
+  pub writes_built : (j : List CycleView) → IsRun r jobs carry restarts j → IsClear j → NeverFour j → AreBuiltIn (all_writes (views_of r jobs carry restarts k j))
+  writes_built j run clear never =
+      let stands = all_stand r jobs carry restarts opened j run clear k below in
+      let built = built_so j run clear never in
+      exact_built (store_of (drive_at r k)) (all_begun (views_of r jobs carry restarts k j)) (all_entries (views_of r jobs carry restarts k j)) (all_writes (views_of r jobs carry restarts k j))
+      (runs_exact (drive_at r k).busy (store_of (drive_at r k)) (views_of r jobs carry restarts k j) (small r jobs carry restarts opened (first_store r jobs carry restarts opened) k below) stands.sees.run stands.sound)
+      (built_append (epoch_begun (views_of r jobs carry restarts k j)) (begun_ago (views_of r jobs carry restarts k j)) built.0 built.1)

@@ -1,0 +1,229 @@
+-- In a log that ends with a complete check, whose status was 3, the check counts as passed. Each list has its newest item first.
+use Rattle.std.proofs.Common.{◌≡◌, ℕ, ◌+◌, ◌≤◌, Bool, true, false, not, List, [], ◌∷◌, ◌++◌, map, refl, sym, ap, ◌∙◌, subst, arith, if◌then◌else◌}
+use Rattle.std.specs.Prelude.{◌==◌, nat_le, Option, Some, None, is_some}
+use Rattle.std.proofs.lemmas.Bool.{and_parts, cond_both, eq-eqb, leb-true, not-true}
+use Rattle.sercos_block.specs.declared.block.Block.{Block}
+use Rattle.sercos_block.specs.Stores.{with_data}
+use Rattle.sercos_command.specs.declared.commands.SetCommand.{SetCommand}
+use Rattle.sercos_command.specs.Settings.{is_command, ends_well, status_by}
+use Rattle.sercos_command.specs.Calls.{Wrote, Other, CommandHistory, with_call, status_in}
+use Rattle.sercos_command.specs.Kept.{find_set, without, with_set, set_in}
+use Rattle.sercos_service_drive.specs.Log.{Entry}
+use Rattle.sercos_service_drive.specs.Writes.{Write, added_by, with_added, writes_of, command_value, commands_with}
+use Rattle.sercos_law_channel.specs.Handshake.Exact.{Given, given_of, gives}
+use Rattle.sercos_law_run.proofs.Settings.Givers.{are_away}
+use Rattle.sercos_law_run.proofs.Settings.Histories.{status_set}
+use Rattle.sercos_law_channel.specs.Pace.Passes.{sets_to}
+use Rattle.sercos_law_run.specs.Undisturbed.CommandsFollow.{LogLeaves}
+use Rattle.sercos_law_run.proofs.Undisturbed.Checks.LogLeaves.{added_cycle, read_adds_none}
+use Rattle.sercos_law_run.proofs.Undisturbed.Checks.OwnSet.{none_without}
+
+-- THE SETTINGS. A command that isn't set isn't, once another is set or any is cancelled.
+pub unset_without : (raw other : ℕ) (set : List SetCommand) → find_set raw set ≡ None → find_set raw (without other set) ≡ None
+unset_without raw other [] none = refl
+unset_without raw other (x ∷ set) none = by (x.idn.raw == raw) (x.idn.raw == other) refl none (unset_without raw other set)
+  where
+    by : (same gone : Bool) → (x.idn.raw == raw) ≡ same → (if same then Some x else find_set raw set) ≡ None → (find_set raw set ≡ None → find_set raw (without other set) ≡ None)
+        → find_set raw (if not gone then x ∷ without other set else without other set) ≡ None
+    by true gone e none more = absurd (cc)
+    by false true e none more = more none
+    by false false e none more = ap (λ (v : Bool). if v then Some x else find_set raw (without other set)) e ∙ more none
+
+unset_last : (raw : ℕ) (set : List SetCommand) (s : SetCommand) → find_set raw set ≡ None → (s.idn.raw == raw) ≡ false → find_set raw (set ++ s ∷ []) ≡ None
+unset_last raw [] s none other = ap (λ (v : Bool). if v then Some s else None) other
+unset_last raw (x ∷ set) s none other = by (x.idn.raw == raw) none (λ n. unset_last raw set s n other)
+  where
+    by : (v : Bool) → (if v then Some x else find_set raw set) ≡ None → (find_set raw set ≡ None → find_set raw (set ++ s ∷ []) ≡ None) → (if v then Some x else find_set raw (set ++ s ∷ [])) ≡ None
+    by true none more = absurd (cc)
+    by false none more = more none
+
+set_last : (raw : ℕ) (set : List SetCommand) (s : SetCommand) → find_set raw set ≡ None → s.idn.raw ≡ raw → find_set raw (set ++ s ∷ []) ≡ Some s
+set_last raw [] s none same = ap (λ (v : Bool). if v then Some s else None) (eq-eqb s.idn.raw raw same)
+set_last raw (x ∷ set) s none same = by (x.idn.raw == raw) none (λ n. set_last raw set s n same)
+  where
+    by : (v : Bool) → (if v then Some x else find_set raw set) ≡ None → (find_set raw set ≡ None → find_set raw (set ++ s ∷ []) ≡ Some s) → (if v then Some x else find_set raw (set ++ s ∷ [])) ≡ Some s
+    by true none more = absurd (cc)
+    by false none more = more none
+
+unset_with : (raw : ℕ) (set : List SetCommand) (s : SetCommand) → find_set raw set ≡ None → (s.idn.raw == raw) ≡ false → find_set raw (with_set s set) ≡ None
+unset_with raw set s none other = cond_both (is_some (find_set s.idn.raw set)) set (set ++ s ∷ [])
+    (λ v. find_set raw v ≡ None) (λ on. none) (λ off. unset_last raw set s none other)
+
+set_with : (raw : ℕ) (set : List SetCommand) (s : SetCommand) → find_set raw set ≡ None → s.idn.raw ≡ raw → find_set raw (with_set s set) ≡ Some s
+set_with raw set s none same =
+    ap (λ (v : Bool). find_set raw (if v then set else set ++ s ∷ [])) (ap (λ (n : ℕ). is_some (find_set n set)) same ∙ ap (λ (o : Option SetCommand). is_some o) none) ∙ set_last raw set s none same
+
+-- a write to another command
+write_unset : (raw other value cycle : ℕ) (blocks : List Block) (c : CommandHistory) → (other == raw) ≡ false → find_set raw (set_in c) ≡ None → find_set raw (set_in (with_call (Wrote other value cycle blocks) c)) ≡ None
+write_unset raw other value cycle blocks c off none = by (value == 0)
+  where
+    by : (v : Bool) → find_set raw (if v then without other (set_in c) else with_set (record { idn = record { raw = other }; cycle = cycle; well = ends_well c.rate other blocks }) (set_in c)) ≡ None
+    by true = unset_without raw other (set_in c) none
+    by false = unset_with raw (set_in c) (record { idn = record { raw = other }; cycle = cycle; well = ends_well c.rate other blocks }) none off
+
+pub other_unset : (raw : ℕ) (w : Write) (blocks : List Block) (c : CommandHistory) → (w.raw == raw) ≡ false → find_set raw (set_in c) ≡ None → find_set raw (set_in (commands_with (Some w) blocks c)) ≡ None
+other_unset raw w blocks c off none = by (is_command blocks w.raw)
+  where
+    by : (v : Bool) → find_set raw (set_in (with_call (if v then Wrote w.raw (command_value w) w.cycle (with_data w.raw w.bytes blocks) else Other w.cycle) c)) ≡ None
+    by true = write_unset raw w.raw (command_value w) w.cycle (with_data w.raw w.bytes blocks) c off none
+    by false = none
+
+-- a command that is cancelled has the status 0
+cancelled_status : (raw at n : ℕ) (blocks : List Block) (c : CommandHistory) → status_in (with_call (Wrote raw 0 at blocks) c) raw n ≡ 0
+cancelled_status raw at n blocks c = status_set (with_call (Wrote raw 0 at blocks) c) raw n ∙ ap (λ (o : Option SetCommand). status_by c.time o n) (none_without raw (set_in c))
+
+-- the status of a command that is set, by whether it has ended and ends well
+abbrev status_as : Bool → Bool → ℕ
+status_as ended well = if ended then (if well then 3 else 15) else 7
+
+-- If a command is set where it wasn't, and its status is 3 then, it ends well and has ended.
+set_status : (raw at n : ℕ) (blocks : List Block) (c : CommandHistory) → find_set raw (set_in c) ≡ None → status_in (with_call (Wrote raw 3 at blocks) c) raw n ≡ 3 → (ends_well c.rate raw blocks ≡ true) × (at + c.time ≤ n)
+set_status raw at n blocks c none three =
+    by (ends_well c.rate raw blocks) (nat_le (at + c.time) n) refl refl
+    (sym (status_set (with_call (Wrote raw 3 at blocks) c) raw n ∙ ap (λ (o : Option SetCommand). status_by c.time o n) (set_with raw (set_in c) (record { idn = record { raw = raw }; cycle = at; well = ends_well c.rate raw blocks }) none refl)) ∙ three)
+  where
+    by : (well ended : Bool) → ends_well c.rate raw blocks ≡ well → nat_le (at + c.time) n ≡ ended → status_as ended well ≡ 3 → (ends_well c.rate raw blocks ≡ true) × (at + c.time ≤ n)
+    by true true w e is = (w, leb-true (at + c.time) n e)
+    by false true w e is = absurd (omega (arith, is))
+    by true false w e is = absurd (omega (arith, is))
+    by false false w e is = absurd (omega (arith, is))
+
+-- THE LOG. At each entry the number is that of a procedure command of the drive.
+abbrev pub AreCommandsIn : ℕ → List Entry → Type 0
+AreCommandsIn raw [] = Unit {0}
+AreCommandsIn raw (e ∷ log) = AreCommandsIn raw log × (is_command e.taken.blocks raw ≡ true)
+
+-- nothing of these writes goes to the number
+abbrev pub NoneTo : ℕ → List Write → Type 0
+NoneTo raw writes = are_away raw (map given_of writes) ≡ true
+
+-- so it isn't set
+none_set : (raw : ℕ) (log : List Entry) (c : CommandHistory) → LogLeaves log c → NoneTo raw (writes_of log) → find_set raw (set_in c) ≡ None
+none_set raw [] c leaves none = ap (find_set raw) leaves
+none_set raw (e ∷ log) c leaves none = ap (λ (x : CommandHistory). find_set raw (set_in x)) leaves.1 ∙ by (added_by e log) none (λ n. none_set raw log e.taken.commands leaves.0 n)
+  where
+    by : (o : Option Write) → NoneTo raw (with_added o (writes_of log)) → (NoneTo raw (writes_of log) → find_set raw (set_in e.taken.commands) ≡ None) → find_set raw (set_in (commands_with o e.taken.blocks e.taken.commands)) ≡ None
+    by None none more = more none
+    by (Some w) none more =
+        let parts = and_parts (not (w.raw == raw)) (are_away raw (map given_of (writes_of log))) none in
+        other_unset raw w e.taken.blocks e.taken.commands (not-true (w.raw == raw) parts.0) (more parts.1)
+
+-- What the newest write of a log found, and what it left: the entries after it added nothing.
+record IsNewest (raw : ℕ) (w : Write) (writes : List Write) (c : CommandHistory) : Type 0 where
+  blocks : List Block
+  commands : CommandHistory
+  log : List Entry
+  is : c ≡ commands_with (Some w) blocks commands
+  command : is_command blocks raw ≡ true
+  leaves : LogLeaves log commands
+  rest : writes_of log ≡ writes
+
+newest_write : (raw : ℕ) (w : Write) (writes : List Write) (log : List Entry) (c : CommandHistory) → LogLeaves log c → AreCommandsIn raw log → writes_of log ≡ w ∷ writes → IsNewest raw w writes c
+newest_write raw w writes [] c leaves commands is = absurd (cc)
+newest_write raw w writes (e ∷ log) c leaves commands is = by (added_by e log) leaves.1 is (λ more. newest_write raw w writes log e.taken.commands leaves.0 commands.0 more)
+  where
+    head : (x y : Write) (xs ys : List Write) → x ∷ xs ≡ y ∷ ys → x ≡ y
+    head x y xs ys same = cc
+
+    tail : (x y : Write) (xs ys : List Write) → x ∷ xs ≡ y ∷ ys → xs ≡ ys
+    tail x y xs ys same = cc
+
+    by : (o : Option Write) → c ≡ commands_with o e.taken.blocks e.taken.commands → with_added o (writes_of log) ≡ w ∷ writes → (writes_of log ≡ w ∷ writes → IsNewest raw w writes e.taken.commands) → IsNewest raw w writes c
+    by None left is more = subst (λ (x : CommandHistory). IsNewest raw w writes x) (sym left) (more is)
+    by (Some x) left is more = record {
+      blocks = e.taken.blocks;
+      commands = e.taken.commands;
+      log = log;
+      is = left ∙ ap (λ (y : Write). commands_with (Some y) e.taken.blocks e.taken.commands) (head x w (writes_of log) writes is);
+      command = commands.1;
+      leaves = leaves.0;
+      rest = tail x w (writes_of log) writes is;
+    }
+
+-- a write of these two bytes to the number, in its cycle
+sets_so : (raw value : ℕ) (w : Write) → given_of w ≡ gives raw (value ∷ 0 ∷ []) → w ≡ sets_to raw value w.cycle
+sets_so raw value w is = ap (λ (g : Given). (let x : Write = record { cycle = w.cycle; raw = g.raw; bytes = g.bytes } in x)) is
+
+-- what they leave, where the number is that of a procedure command
+set_left : (raw at : ℕ) (blocks : List Block) (c : CommandHistory) → is_command blocks raw ≡ true → commands_with (Some (sets_to raw 3 at)) blocks c ≡ with_call (Wrote raw 3 at (with_data raw (3 ∷ 0 ∷ []) blocks)) c
+set_left raw at blocks c is = ap (λ (v : Bool). with_call (if v then Wrote raw 3 at (with_data raw (3 ∷ 0 ∷ []) blocks) else Other at) c) is
+
+cancel_left : (raw at : ℕ) (blocks : List Block) (c : CommandHistory) → is_command blocks raw ≡ true → commands_with (Some (sets_to raw 0 at)) blocks c ≡ with_call (Wrote raw 0 at (with_data raw (0 ∷ 0 ∷ []) blocks)) c
+cancel_left raw at blocks c is = ap (λ (v : Bool). with_call (if v then Wrote raw 0 at (with_data raw (0 ∷ 0 ∷ []) blocks) else Other at) c) is
+
+-- how a check comes to count as passed when it is set, and that its cancel leaves it so
+abbrev pub PassesIfSet : ℕ → (CommandHistory → Option ℕ) → Type 0
+PassesIfSet raw passed = (c : CommandHistory) (blocks : List Block) (cycle : ℕ) → is_command blocks raw ≡ true → find_set raw (set_in c) ≡ None → ends_well c.rate raw (with_data raw (3 ∷ 0 ∷ []) blocks) ≡ true →
+    (first : ℕ) × (passed (commands_with (Some (sets_to raw 3 cycle)) blocks c) ≡ Some first) × (first ≤ cycle + c.time)
+
+abbrev pub StaysIfCancelled : ℕ → (CommandHistory → Option ℕ) → Type 0
+StaysIfCancelled raw passed = (c : CommandHistory) (blocks : List Block) (cycle first : ℕ) → is_command blocks raw ≡ true → passed c ≡ Some first → first ≤ cycle →
+    passed (commands_with (Some (sets_to raw 0 cycle)) blocks c) ≡ Some first
+
+-- the check counts as passed from a cycle on that isn't later
+abbrev pub CountsBy : (CommandHistory → Option ℕ) → CommandHistory → ℕ → Type 0
+CountsBy passed c n = (first : ℕ) × (passed c ≡ Some first) × (first ≤ n)
+
+counts_later : (passed : CommandHistory → Option ℕ) (c : CommandHistory) (m n : ℕ) → m ≤ n → CountsBy passed c m → CountsBy passed c n
+counts_later passed c m n le (first, is, early) = (first, is, omega (arith, early, le))
+
+counts_same : (passed : CommandHistory → Option ℕ) (c d : CommandHistory) (n : ℕ) → c ≡ d → CountsBy passed d n → CountsBy passed c n
+counts_same passed c d n same (first, is, early) = (first, ap passed same ∙ is, early)
+
+module _ (raw : ℕ) (passed : CommandHistory → Option ℕ) (sets : PassesIfSet raw passed) (stays : StaysIfCancelled raw passed) where
+  -- a cancel leaves what counts
+  cancel_counts : (c : CommandHistory) (blocks : List Block) (n cycle : ℕ) → is_command blocks raw ≡ true → n ≤ cycle → CountsBy passed c n → CountsBy passed (commands_with (Some (sets_to raw 0 cycle)) blocks c) cycle
+  cancel_counts c blocks n cycle command le (first, is, early) = let late : first ≤ cycle = omega (arith, early, le) in (first, stays c blocks cycle first command is late, late)
+
+  -- the check was set last, where nothing was written to it before, and its status is 3
+  set_counts : (at n : ℕ) (writes : List Write) (log : List Entry) (c : CommandHistory) → LogLeaves log c → AreCommandsIn raw log → writes_of log ≡ sets_to raw 3 at ∷ writes → NoneTo raw writes → status_in c raw n ≡ 3 → CountsBy passed c n
+  set_counts at n writes log c leaves commands is none three = by (newest_write raw (sets_to raw 3 at) writes log c leaves commands is)
+    where
+      by : IsNewest raw (sets_to raw 3 at) writes c → CountsBy passed c n
+      by newest =
+          let unset = none_set raw newest.log newest.commands newest.leaves (subst (NoneTo raw) (sym newest.rest) none) in
+          let well = set_status raw at n (with_data raw (3 ∷ 0 ∷ []) newest.blocks) newest.commands unset (ap (λ (x : CommandHistory). status_in x raw n) (sym (newest.is ∙ set_left raw at newest.blocks newest.commands newest.command)) ∙ three) in
+          counts_same passed c (commands_with (Some (sets_to raw 3 at)) newest.blocks newest.commands) n newest.is
+          (counts_later passed (commands_with (Some (sets_to raw 3 at)) newest.blocks newest.commands) (at + newest.commands.time) n well.1 (sets newest.commands newest.blocks at newest.command unset well.0))
+
+  -- it wasn't cancelled last
+  not_cancelled : (at n : ℕ) (writes : List Write) (log : List Entry) (c : CommandHistory) → LogLeaves log c → AreCommandsIn raw log → writes_of log ≡ sets_to raw 0 at ∷ writes → status_in c raw n ≡ 3 → ⊥
+  not_cancelled at n writes log c leaves commands is three =
+      let newest = newest_write raw (sets_to raw 0 at) writes log c leaves commands is in
+      let zero_is = cancelled_status raw at n (with_data raw (0 ∷ 0 ∷ []) newest.blocks) newest.commands in
+      let same : 0 ≡ 3 = sym zero_is ∙ (ap (λ (x : CommandHistory). status_in x raw n) (sym (newest.is ∙ cancel_left raw at newest.blocks newest.commands newest.command)) ∙ three) in
+      absurd (omega (arith, same))
+
+  -- A LOG WITH A COMPLETE CHECK, whose last two entries are the cancel and the poll before it
+  pub log_counts : (cancel poll : Entry) (log : List Entry) (c : CommandHistory) (last set : Write) (writes : List Write) → LogLeaves (cancel ∷ poll ∷ log) c → AreCommandsIn raw (cancel ∷ poll ∷ log)
+      → writes_of (cancel ∷ poll ∷ log) ≡ last ∷ set ∷ writes → given_of last ≡ gives raw (0 ∷ 0 ∷ []) → given_of set ≡ gives raw (3 ∷ 0 ∷ []) → NoneTo raw writes
+      → poll.taken.step.write ≡ false → status_in poll.taken.commands raw poll.taken.cycle ≡ 3 → poll.taken.cycle ≤ cancel.taken.cycle → CountsBy passed c cancel.taken.cycle
+  log_counts cancel poll log c last set writes leaves commands are last_is set_is none reads three later = by (added_by cancel (poll ∷ log)) refl leaves.1 are
+    where
+      quiet : added_by poll log ≡ None
+      quiet = read_adds_none poll log reads
+
+      same : cancel.taken.commands ≡ poll.taken.commands
+      same = leaves.0.1 ∙ ap (λ (o : Option Write). commands_with o poll.taken.blocks poll.taken.commands) quiet
+
+      before : writes_of (poll ∷ log) ≡ writes_of log
+      before = ap (λ (o : Option Write). with_added o (writes_of log)) quiet
+
+      head : (x y : Write) (xs ys : List Write) → x ∷ xs ≡ y ∷ ys → x ≡ y
+      head x y xs ys same = cc
+
+      tail : (x y : Write) (xs ys : List Write) → x ∷ xs ≡ y ∷ ys → xs ≡ ys
+      tail x y xs ys same = cc
+
+      by : (o : Option Write) → added_by cancel (poll ∷ log) ≡ o → c ≡ commands_with o cancel.taken.blocks cancel.taken.commands → with_added o (writes_of (poll ∷ log)) ≡ last ∷ set ∷ writes → CountsBy passed c cancel.taken.cycle
+      by None adds left are =
+          absurd (not_cancelled last.cycle poll.taken.cycle (set ∷ writes) log poll.taken.commands leaves.0.0 commands.0.0 (sym before ∙ are ∙ ap (λ (w : Write). w ∷ set ∷ writes) (sets_so raw 0 last last_is)) three)
+      by (Some x) adds left are =
+          let first : x ≡ last = head x last (writes_of (poll ∷ log)) (set ∷ writes) are in
+          let rest : writes_of (poll ∷ log) ≡ set ∷ writes = tail x last (writes_of (poll ∷ log)) (set ∷ writes) are in
+          let at = set_counts set.cycle poll.taken.cycle writes log poll.taken.commands leaves.0.0 commands.0.0 (sym before ∙ rest ∙ ap (λ (w : Write). w ∷ writes) (sets_so raw 3 set set_is)) none three in
+          let cycle : last.cycle ≡ cancel.taken.cycle = ap (λ (w : Write). w.cycle) (sym first) ∙ added_cycle cancel (poll ∷ log) x adds in
+          let cancels : x ≡ sets_to raw 0 cancel.taken.cycle = first ∙ sets_so raw 0 last last_is ∙ ap (sets_to raw 0) cycle in
+          counts_same passed c (commands_with (Some (sets_to raw 0 cancel.taken.cycle)) cancel.taken.blocks cancel.taken.commands) cancel.taken.cycle
+          (left ∙ ap (λ (w : Write). commands_with (Some w) cancel.taken.blocks cancel.taken.commands) cancels)
+          (cancel_counts cancel.taken.commands cancel.taken.blocks poll.taken.cycle cancel.taken.cycle commands.1 later (counts_same passed cancel.taken.commands poll.taken.commands poll.taken.cycle same at))

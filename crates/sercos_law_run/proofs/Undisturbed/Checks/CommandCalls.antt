@@ -1,0 +1,108 @@
+-- The calls on the procedure commands of a drive are in order, through all cycles of a run. So what is kept of a check tells whether it
+-- counts as passed.
+use Rattle.std.proofs.Common.{◌≡◌, ℕ, suc, ◌+◌, ◌≤◌, ◌==◌, Bool, true, false, List, [], ◌∷◌, length, Option, Some, None, refl, ◌∙◌, arith, ap, sym, if◌then◌else◌}
+use Rattle.std.specs.Prelude.{IfSome}
+use Rattle.std.proofs.lemmas.Bool.{le-leb}
+use mathlib.Core.Bool.{beq}
+use Rattle.sercos_block.specs.declared.block.Block.{Block}
+use Rattle.sercos_block.specs.Stores.{with_data}
+use Rattle.sercos_block.specs.Views.{DriveView, RingView}
+use Rattle.sercos_command.specs.Settings.{is_command}
+use Rattle.sercos_command.specs.Calls.{CommandCall, Wrote, Other, Reset}
+use Rattle.sercos_command.specs.Kept.{newest_cycle, AreInOrder, is_from, first_passed_in}
+use Rattle.sercos_service_drive.specs.Log.{Taken, ahs}
+use Rattle.sercos_service_drive.specs.Replies.{reply_of, log_of}
+use Rattle.sercos_service_drive.specs.Writes.{Write, command_value, added_by, adds, added_on, calls_with}
+use Rattle.sercos_drive.specs.declared.hearing.Told.{Told}
+use Rattle.sercos_drive.specs.Heard.{DriveCall, mdt_got}
+use Rattle.sercos_drive.specs.Moments.{Moment, phase_in, cycle_in, taken_in, blocks_in, calls_after, commands_in, with_reset, calls_in}
+use Rattle.sercos_law_run.proofs.Held.Processed.{processed_keeps, taken_at}
+use Rattle.sercos_drive.specs.Annals.{annals, may_rise, processed_in, ends_in}
+use Rattle.sercos_trace.specs.Views.{CycleView}
+use Rattle.sercos_script.specs.Links.{Carry, Restarts}
+use Rattle.sercos_law_run.specs.Journal.Records.{mdt_in}
+use Rattle.sercos_law_run.specs.Journal.Runs.{drive_at, with_restart, mdt_heard, given_before, given_mst}
+use Rattle.sercos_law_run.proofs.Undisturbed.Checks.LogLeaves.{added_cycle}
+use Rattle.sercos_command.proofs.CallLemmas.{passes_by_first}
+
+-- Calls in order, of which none was for a later cycle than this.
+pub record StandBy (h : List CommandCall) (cycle : ℕ) : Type 0 where
+  pub in_order : AreInOrder h
+  pub order : newest_cycle h ≤ cycle
+
+with_phase : (phase : ℕ) (h : List CommandCall) (cycle : ℕ) → StandBy h cycle → StandBy (with_reset phase h) cycle
+with_phase phase h cycle s = by (phase == 0)
+  where
+    by : (zero : Bool) → StandBy (if zero then Reset ∷ h else h) cycle
+    by true = record { in_order = (s.in_order, omega arith); order = s.order }
+    by false = s
+
+with_one : (o : Option Write) (blocks : List Block) (h : List CommandCall) (cycle : ℕ) → IfSome o (λ w. w.cycle ≡ cycle) → StandBy h cycle → StandBy (calls_with o blocks h) cycle
+with_one None blocks h cycle at s = s
+with_one (Some w) blocks h cycle at s = by (is_command blocks w.raw)
+  where
+    order : newest_cycle h ≤ w.cycle
+    order = let before = s.order in omega (arith, before, at)
+
+    late : w.cycle ≤ cycle
+    late = omega (arith, at)
+
+    by : (b : Bool) → StandBy ((if b then Wrote w.raw (command_value w) w.cycle (with_data w.raw w.bytes blocks) else Other w.cycle) ∷ h) cycle
+    by true = record { in_order = (s.in_order, order); order = late }
+    by false = record { in_order = (s.in_order, order); order = late }
+
+-- the write of a record is in its cycle
+record_cycle : (t : Taken) (h : List Taken) → IfSome (added_on t h) (λ w. w.cycle ≡ t.cycle)
+record_cycle t h = dropped (beq t.mhs (ahs h))
+  where
+    one : (o : Option Write) → added_by (record { taken = t; answer = reply_of t (log_of h) }) (log_of h) ≡ o → IfSome o (λ w. w.cycle ≡ t.cycle)
+    one None is = tt
+    one (Some w) is = added_cycle (record { taken = t; answer = reply_of t (log_of h) }) (log_of h) w is
+
+    dropped : (v : Bool) → IfSome (if v then None else adds t (log_of h)) (λ w. w.cycle ≡ t.cycle)
+    dropped true = tt
+    dropped false = one (adds t (log_of h)) refl
+
+-- THE DRIVE after some moments
+abbrev pub Keeps : List Moment → ℕ → Type 0
+Keeps past cycle = StandBy (calls_in past) cycle
+
+keeps_record : (d : DriveView) (rate : ℕ) (told : Option Told) (past : List Moment) (cycle : ℕ) → cycle_in past ≡ cycle → Keeps past cycle
+    → StandBy (calls_after (processed_in d rate told past) (taken_in past) (calls_in past)) cycle
+keeps_record d rate told past cycle now s = processed_keeps
+    (λ o. StandBy (calls_after o (taken_in past) (calls_in past)) cycle) d rate told past s (λ t.
+    let one = taken_at d rate past t in
+    with_one (added_on one (taken_in past)) (blocks_in d past) (calls_in past) cycle (at (added_on one (taken_in past)) (record_cycle one (taken_in past))) s)
+  where
+    at : (o : Option Write) → IfSome o (λ w. w.cycle ≡ cycle_in past) → IfSome o (λ w. w.cycle ≡ cycle)
+    at None is = tt
+    at (Some w) is = is ∙ now
+
+keeps_restart : (d : DriveView) (rate : ℕ) (restarts : Bool) (calls : List DriveCall) (cycle : ℕ) → Keeps (annals d rate calls) cycle → Keeps (annals d rate (with_restart restarts calls)) cycle
+keeps_restart d rate true calls cycle s = record { in_order = (s.in_order, omega arith); order = s.order }
+keeps_restart d rate false calls cycle s = s
+
+later : (h : List CommandCall) (cycle : ℕ) → StandBy h cycle → StandBy h (suc cycle)
+later h cycle s = record { in_order = s.in_order; order = let before = s.order in omega (arith, before) }
+
+-- BEFORE EACH CYCLE
+pub keeps_before : (r : RingView) (carry : Carry) (restarts : Restarts) (k : ℕ) (j : List CycleView) → Keeps (annals (drive_at r k) r.rate (given_before carry restarts j k)) (length j)
+keeps_before r carry restarts k [] = record { in_order = tt; order = omega arith }
+keeps_before r carry restarts k (t ∷ j) =
+    let d : DriveView = drive_at r k in
+    let calls : List DriveCall = with_restart (restarts (length j) (k + 1)) (given_before carry restarts j k) in
+    let first : List Moment = annals d r.rate calls in
+    let behind : List Moment = annals d r.rate (given_mst carry restarts t.sent j k) in
+    let told : Option Told = mdt_got d.address (phase_in behind) (blocks_in d behind) (mdt_heard carry (length j) (k + 1) (mdt_in t.sent)) in
+    let at_mst : Keeps behind (length j) = with_phase (phase_in behind) (calls_in first) (length j)
+    (keeps_restart d r.rate (restarts (length j) (k + 1)) (given_before carry restarts j k) (length j) (keeps_before r carry restarts k j)) in
+    let at_mdt = with_phase (ends_in told behind) (calls_after (processed_in d r.rate told behind) (taken_in behind) (calls_in behind)) (length j)
+    (keeps_record d r.rate told behind (length j) refl at_mst) in
+    later _ (length j) at_mdt
+
+-- THE CHECKS in a cycle before which the drive doesn't restart
+pub counts_127 : (d : DriveView) (rate cycle first : ℕ) (past : List Moment) → Keeps past cycle → first_passed_in 127 (commands_in d rate past) ≡ Some first → first ≤ cycle → may_rise d rate cycle 3 past ≡ true
+counts_127 d rate cycle first past s is le = sym (passes_by_first 127 (commands_in d rate past) cycle s.in_order s.order) ∙ ap (λ (o : Option ℕ). is_from o cycle) is ∙ le-leb first cycle le
+
+pub counts_128 : (d : DriveView) (rate cycle first : ℕ) (past : List Moment) → Keeps past cycle → first_passed_in 128 (commands_in d rate past) ≡ Some first → first ≤ cycle → may_rise d rate cycle 4 past ≡ true
+counts_128 d rate cycle first past s is le = sym (passes_by_first 128 (commands_in d rate past) cycle s.in_order s.order) ∙ ap (λ (o : Option ℕ). is_from o cycle) is ∙ le-leb first cycle le

@@ -1,0 +1,100 @@
+-- In a run of a ring in which nothing is unseen, the procedure commands at a drive's MST's place are what the cycle before left.
+use Rattle.std.proofs.Common.{◌≡◌, ℕ, ◌<◌, ◌≤◌, ◌+◌, Bool, true, false, List, [], ◌∷◌, length, Option, Some, None, refl, sym, ap, ap₂, ◌∙◌, if◌then◌else◌}
+use Rattle.sercos_step.specs.declared.request.Job.{Job}
+use Rattle.sercos_timing.specs.Views.{PlanView}
+use Rattle.sercos_block.specs.Views.{DriveView, RingView}
+use Rattle.sercos_block.specs.Rings.{is_ring}
+use Rattle.sercos_command.specs.Calls.{Reset, CommandHistory, with_call}
+use Rattle.sercos_service_drive.specs.Log.{Taken}
+use Rattle.sercos_service_master.specs.Begun.{open_in}
+use Rattle.sercos_service_master.specs.Calls.{begun_by}
+use Rattle.sercos_drive.specs.declared.hearing.Told.{Told}
+use Rattle.sercos_drive.specs.Heard.{DriveCall, mdt_got}
+use Rattle.sercos_drive.specs.Moments.{Moment, phase_in, blocks_in, commands_in}
+use Rattle.sercos_drive.specs.Steps.{commands_after, reset_in}
+use Rattle.sercos_drive.specs.Annals.{annals, processed_in as processed_at}
+use Rattle.sercos_trace.specs.Views.{CycleView}
+use Rattle.sercos_seat.specs.Ring.{known_of}
+use Rattle.sercos_master.specs.Annals.{is_done}
+use Rattle.sercos_script.specs.Links.{Carry, Restarts}
+use Rattle.sercos_law_channel.specs.Handshake.Views.{View, standing, stood_in, got_in, processed_of, processed_in, kept_in}
+use Rattle.sercos_law_run.specs.Journal.Records.{mdt_in}
+use Rattle.sercos_law_run.specs.Journal.Runs.{drive_at, with_restart, mdt_heard, given_before, IsNext as IsNextCycle}
+use Rattle.sercos_law_run.specs.Views.RingViews.{behind_mdt, after_mst, view_of, views_of}
+use Rattle.sercos_law_run.proofs.Views.DriveSame.{processed_same}
+use Rattle.sercos_law_run.proofs.Views.Received.{Agrees, got_or_none}
+use Rattle.sercos_law_run.proofs.Views.ViewRuns.{Sees, at_mst, count, told_so, sees_next}
+use Rattle.sercos_law_run.specs.Views.Spelled.{IsSpelled}
+use Rattle.sercos_law_run.specs.Settings.SetByWrites.{commands_left}
+use Rattle.sercos_law_run.proofs.Settings.SettingsRuns.{commands_same}
+use Rattle.sercos_law_run.specs.Undisturbed.CommandsFollow.{commands_ended, CommandsFollow}
+
+-- the procedure commands of a drive at its opening, and those after a journal
+abbrev pub first_commands : RingView → ℕ → CommandHistory
+first_commands r k = commands_in (drive_at r k) r.rate []
+
+abbrev pub commands_at : RingView → Carry → Restarts → ℕ → List CycleView → CommandHistory
+commands_at r carry restarts k j = commands_in (drive_at r k) r.rate (annals (drive_at r k) r.rate (given_before carry restarts j k))
+
+-- The commands at each MST's place follow, and those after the journal are what its views leave.
+pub record AreCommandsSo (r : RingView) (jobs : List Job) (carry : Carry) (restarts : Restarts) (k : ℕ) (j : List CycleView) : Type 0 where
+  pub follow : CommandsFollow (first_commands r k) (views_of r jobs carry restarts k j)
+  pub behind : commands_at r carry restarts k j ≡ commands_ended (first_commands r k) (views_of r jobs carry restarts k j)
+
+-- before the first cycle
+pub commands_first : (r : RingView) (jobs : List Job) (carry : Carry) (restarts : Restarts) (k : ℕ) → AreCommandsSo r jobs carry restarts k []
+commands_first r jobs carry restarts k = record { follow = tt; behind = refl }
+
+-- after a restart
+pub commands_restarted : (d : DriveView) (rate : ℕ) (restarts : Bool) (calls : List DriveCall) (c : CommandHistory) → commands_in d rate (annals d rate calls) ≡ c
+    → commands_in d rate (annals d rate (with_restart restarts calls)) ≡ (if restarts then with_call Reset c else c)
+commands_restarted d rate true calls c is = ap (with_call Reset) is
+commands_restarted d rate false calls c is = is
+
+module _ (r : RingView) (jobs : List Job) (carry : Carry) (restarts : Restarts) (valid : is_ring r ≡ true) (t : CycleView)
+    (j : List CycleView) (next : IsNextCycle r jobs carry restarts t j) (clear : t.unseen ≡ 0)
+    (spelled : IsSpelled r jobs carry restarts t j) (k : ℕ) (below : k < length r.drives) (sees : Sees r jobs carry restarts k j)
+    (agrees : (plan : PlanView) → 3 ≤ (behind_mdt r jobs carry restarts t.sent j).now.phase → 3 ≤ phase_in (after_mst r carry restarts t.sent j k) → (behind_mdt r jobs carry restarts t.sent j).plan ≡ Some plan → Agrees (known_of r) (behind_mdt r jobs carry restarts t.sent j) k (blocks_in (drive_at r k) (after_mst r carry restarts t.sent j k)))
+    (rests : is_done (known_of r) (behind_mdt r jobs carry restarts t.sent j) ≡ true → open_in (begun_by ((behind_mdt r jobs carry restarts t.sent j).calls k)) ≡ None)
+    (before : AreCommandsSo r jobs carry restarts k j) where
+  abbrev d : DriveView
+  d = drive_at r k
+
+  abbrev v : View
+  v = view_of r jobs carry restarts k t j
+
+  abbrev past : List View
+  past = views_of r jobs carry restarts k j
+
+  abbrev behind : List Moment
+  behind = after_mst r carry restarts t.sent j k
+
+  -- at the MST's place
+  at_beat : v.commands ≡ reset_in (stood_in v (standing past)) (if v.drive_restarts then with_call Reset (commands_ended (first_commands r k) past) else commands_ended (first_commands r k) past)
+  at_beat =
+      let here = at_mst r jobs carry restarts valid t j next clear spelled k below sees agrees rests in
+      ap₂ (λ (n : ℕ) (c : CommandHistory). reset_in n c) here.ended
+      (commands_restarted d r.rate (restarts (length j) (k + 1)) (given_before carry restarts j k) (commands_ended (first_commands r k) past) before.behind)
+
+  -- at the MDT's place
+  abbrev told : Option Told
+  told = mdt_got d.address (phase_in behind) (blocks_in d behind) (mdt_heard carry (length j) (k + 1) (mdt_in t.sent))
+
+  processed_so : processed_at d r.rate told behind ≡ processed_in v past
+  processed_so =
+      let here = at_mst r jobs carry restarts valid t j next clear spelled k below sees agrees rests in
+      let cycle = count r jobs carry restarts valid t j next clear spelled k below sees agrees rests in
+      processed_same d r.rate (length past) behind told v (stood_in v (standing past)) (sym cycle) here.ended here.got refl refl
+      ∙ ap (processed_of v (length past) (stood_in v (standing past))) (got_or_none _ _ (told_so r jobs carry restarts valid t j next clear spelled k below sees agrees rests))
+
+  at_end : commands_at r carry restarts k (t ∷ j) ≡ reset_in (standing (v ∷ past)).ended (commands_left v past)
+  at_end =
+      let here = at_mst r jobs carry restarts valid t j next clear spelled k below sees agrees rests in
+      let after = sees_next r jobs carry restarts valid t j next clear spelled k below sees agrees rests in
+      ap₂ (λ (n : ℕ) (c : CommandHistory). reset_in n c) after.drive.ended
+      (ap₂ (λ (o : Option Taken) (h : List Taken). commands_after o h v.commands) processed_so here.taken
+      ∙ commands_same v (length past) (stood_in v (standing past)) (got_in v) (kept_in v past))
+
+  -- THE COMMANDS through one cycle more
+  pub commands_next : AreCommandsSo r jobs carry restarts k (t ∷ j)
+  commands_next = record { follow = (before.follow, at_beat); behind = at_end }

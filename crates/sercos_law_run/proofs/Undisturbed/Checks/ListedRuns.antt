@@ -1,0 +1,232 @@
+-- If an own block of a drive was outside its limits at opening, what the drive gives after a check for phase 4 that has ended are the numbers
+-- of these blocks. The newest cycle of a journal comes first.
+use Rattle.std.proofs.Common.{◌≡◌, ◌⊎◌, inl, inr, ℕ, ◌^◌, ◌<◌, Bool, true, false, List, [], ◌∷◌, ◌++◌, length, map, Option, Some, None, refl, sym, ap, ◌∙◌, subst, arith, if◌then◌else◌}
+use Rattle.std.specs.Prelude.{◌==◌, is_some, nat_lt, cond, option_map}
+use Rattle.std.specs.List.{filter, list_all, list_any}
+use Rattle.std.proofs.lemmas.Bool.{and_parts, false≢true}
+use Rattle.std.proofs.lemmas.Bool.Decides.{nat_tests}
+use Rattle.sercos_step.specs.declared.request.Job.{Job}
+use Rattle.sercos_step.specs.declared.request.Request.TheVariants as request
+use Rattle.sercos_step.specs.declared.request.Outcome.TheVariants as outcome
+use Rattle.sercos_step.specs.Steps.{outcome_of}
+use Rattle.sercos_block.specs.Rules.{blocks_fault}
+use Rattle.sercos_block.specs.Stores.{find_block, with_data, store_of, put_fault, are_ascending}
+use Rattle.sercos_block.specs.Views.{DriveView, RingView}
+use Rattle.sercos_block.specs.declared.block.Block.{Block}
+use Rattle.sercos_command.specs.Checks.{is_outside, unfit_for_phase_4, list_bytes}
+use Rattle.sercos_command.specs.Settings.{is_command}
+use Rattle.sercos_command.specs.Kept.{find_set, set_in}
+use Rattle.sercos_command.specs.declared.commands.SetCommand.{SetCommand}
+use Rattle.sercos_service_drive.specs.Writes.{Write, blocks_with, without_data}
+use Rattle.sercos_service_master.specs.Begun.{Begun}
+use Rattle.sercos_trace.specs.Views.{CycleView}
+use Rattle.sercos_seat.specs.Agenda.{idn}
+use Rattle.sercos_script.specs.Links.{Carry, Restarts}
+use Rattle.sercos_law_run.specs.Start.Kept.{is_own_outside}
+use Rattle.sercos_law_run.specs.Start.StartUp.{IsStoreOf}
+use Rattle.sercos_law_run.proofs.Start.CheckPasses.{ring_drive}
+use Rattle.sercos_law_run.proofs.Start.KeptLemmas.{refuse_alike}
+use Rattle.sercos_law_run.proofs.Start.LimitLemmas.{built_in_is_steady}
+use Rattle.sercos_law_channel.specs.Handshake.Epochs.{begun_in}
+use Rattle.sercos_law_channel.specs.Handshake.Views.{View, standing, stood_in, processed_in, kept_in}
+use Rattle.sercos_law_channel.specs.Handshake.Values.{store_in}
+use Rattle.sercos_law_channel.specs.Handshake.WholeRun.{write_of}
+use Rattle.sercos_law_channel.proofs.Theorems.{find-alike}
+use Rattle.sercos_law_run.specs.Journal.Runs.{drive_at, IsRun, IsClear}
+use Rattle.sercos_law_run.specs.Settings.SetByWrites.{commands_left}
+use Rattle.sercos_law_run.proofs.Settings.SettingsRuns.{keeps_settings}
+use Rattle.sercos_law_run.specs.Views.RingViews.{view_of, views_of}
+use Rattle.sercos_law_run.specs.Held.Opened.{IsOpened}
+use Rattle.sercos_law_run.specs.Held.Stored.{IsStored}
+use Rattle.sercos_law_run.proofs.Held.Runs.{Stands, alike_so, drive_got, small, store_is}
+use Rattle.sercos_law_run.proofs.Headline.HeadlineRuns.{all_stand, first_store, spelled_in, stored_in}
+use Rattle.sercos_law_run.proofs.Undisturbed.Checks.BlockStays.{IsAt}
+use Rattle.sercos_law_run.proofs.Undisturbed.Checks.BuiltInWrites.{NeverFour}
+use Rattle.sercos_law_run.proofs.Undisturbed.JobsBegun.{wells}
+use Rattle.sercos_law_run.proofs.Undisturbed.Checks.ListRead.{IsListRead, data_read, list_read}
+use Rattle.sercos_law_run.proofs.Undisturbed.Checks.ListSet.{HasList, IsFair, list_left, set_lists}
+use Rattle.sercos_law_run.proofs.Undisturbed.Checks.OwnFit.{never_or_own, own_in}
+use Rattle.sercos_law_run.proofs.Undisturbed.Checks.OwnInside.{all_at}
+use Rattle.sercos_law_run.proofs.Undisturbed.Checks.OwnSet.{Say}
+use Rattle.sercos_law_run.proofs.Undisturbed.Stops.RefusedCauses.{check_4, found_4, found_list, list_4}
+use Rattle.sercos_law_run.proofs.Undisturbed.Checks.SetsFour.{allowed_in, names_in, three_in}
+use Rattle.sercos_law_run.proofs.Undisturbed.Checks.SinceSet.{AreKept, StaysFrom, have_since}
+use Rattle.sercos_law_run.proofs.Undisturbed.Arriving.Small.{none_some, some_is}
+use Rattle.sercos_law_run.proofs.Settings.NoCheck127.{next_still, stays}
+use Rattle.sercos_law_run.proofs.Undisturbed.Checks.WellGiven.{have_commands, is_command_128}
+
+-- A WRITE to a block that is never outside its limits leaves which are.
+abbrev IsInside : List ℕ → Block → Type 0
+IsInside bytes b = (is_outside b ≡ false) × (is_outside (record b { value = bytes }) ≡ false)
+
+outside_left : (raw : ℕ) (bytes : List ℕ) (blocks : List Block) → are_ascending blocks ≡ true → IsAt raw (IsInside bytes) blocks → filter is_outside (with_data raw bytes blocks) ≡ filter is_outside blocks
+unfolding are_ascending
+outside_left raw bytes [] ascending inside = refl
+outside_left raw bytes (b ∷ blocks) ascending inside = by (b.idn.raw == raw) refl (λ rest. outside_left raw bytes blocks parts.1 rest)
+  where
+    parts : (list_all (λ c. nat_lt b.idn.raw c.idn.raw) blocks ≡ true) × (are_ascending blocks ≡ true)
+    parts = and_parts (list_all (λ c. nat_lt b.idn.raw c.idn.raw) blocks) (are_ascending blocks) ascending
+
+    found_first : (x : Bool) → (b.idn.raw == raw) ≡ x → find_block raw (b ∷ blocks) ≡ cond x (Some b) (find_block raw blocks)
+    found_first x is = ap (λ (v : Bool). cond v (Some b) (find_block raw blocks)) is
+
+    -- no later block has the number
+    later : (b.idn.raw == raw) ≡ true → IsAt raw (IsInside bytes) blocks
+    later is c found =
+        let at = all_at (λ (d : Block). nat_lt b.idn.raw d.idn.raw) raw blocks c parts.0 found in
+        let above = at.0 in
+        let number = at.1 in absurd (grind (arith, nat_tests, above, number, is))
+
+    by : (x : Bool) → (b.idn.raw == raw) ≡ x → (IsAt raw (IsInside bytes) blocks → filter is_outside (with_data raw bytes blocks) ≡ filter is_outside blocks)
+        → filter is_outside ((if b.idn.raw == raw then record b { value = bytes } else b) ∷ with_data raw bytes blocks) ≡ cond (is_outside b) (b ∷ filter is_outside blocks) (filter is_outside blocks)
+    by true is more =
+        let here = inside b (found_first true is) in
+        ap (λ (v : Bool). filter is_outside ((if v then record b { value = bytes } else b) ∷ with_data raw bytes blocks)) is
+        ∙ ap (λ (v : Bool). cond v ((record b { value = bytes }) ∷ filter is_outside (with_data raw bytes blocks)) (filter is_outside (with_data raw bytes blocks))) here.1
+        ∙ more (later is)
+        ∙ sym (ap (λ (v : Bool). cond v (b ∷ filter is_outside blocks) (filter is_outside blocks)) here.0)
+    by false is more =
+        ap (λ (v : Bool). filter is_outside ((if v then record b { value = bytes } else b) ∷ with_data raw bytes blocks)) is
+        ∙ ap (λ (l : List Block). cond (is_outside b) (b ∷ l) l) (more (λ c found. inside c (found_first false is ∙ found)))
+
+-- S-0-0128 has no limits
+unlimited : (b : Block) (bytes : List ℕ) → b.min ≡ None → b.max ≡ None → is_outside (record b { value = bytes }) ≡ false
+unlimited b bytes low high = rw (low, high) refl
+
+inside_128 : (d : DriveView) (blocks : List Block) (bytes : List ℕ) → blocks_fault [] d.blocks ≡ None → IsStoreOf d blocks → IsAt 128 (IsInside bytes) blocks
+inside_128 d blocks bytes rules stored b found = (unlimited b b.value low high, unlimited b bytes low high)
+  where
+    same : without_data b ≡ without_data (check_4 d)
+    same = some_is (without_data b) (without_data (check_4 d)) (sym (ap (λ (o : Option Block). option_map without_data o) found) ∙ find-alike 128 blocks (store_of d) (check_4 d) (alike_so d blocks stored) (found_4 d rules))
+
+    low : b.min ≡ None
+    low = ap (λ (x : Block). x.min) same
+
+    high : b.max ≡ None
+    high = ap (λ (x : Block). x.max) same
+
+unfit_left : (bytes : List ℕ) (blocks : List Block) → are_ascending blocks ≡ true → IsAt 128 (IsInside bytes) blocks → unfit_for_phase_4 (with_data 128 bytes blocks) ≡ unfit_for_phase_4 blocks
+unfolding unfit_for_phase_4
+unfit_left bytes blocks ascending inside = ap (map (λ (b : Block). b.idn)) (outside_left 128 bytes blocks ascending inside)
+
+-- BLOCK 22 is fixed.
+fixed_22 : (d : DriveView) (phase : ℕ) (bytes : List ℕ) → put_fault (Some (list_4 d)) phase bytes ≡ None → ⊥
+fixed_22 d phase bytes none = none_some 0x7004 (sym none)
+
+never_22 : (d : DriveView) (blocks : List Block) (phase : ℕ) (bytes : List ℕ) → blocks_fault [] d.blocks ≡ None → IsStoreOf d blocks → put_fault (find_block 22 blocks) phase bytes ≡ None → ⊥
+never_22 d blocks phase bytes rules stored none =
+    fixed_22 d phase bytes (sym (ap (λ (o : Option Block). put_fault o phase bytes) (found_list d rules)) ∙ sym (refuse_alike d blocks stored 22 phase bytes) ∙ none)
+
+set_some : (o : Option SetCommand) → is_some o ≡ true → (s : SetCommand) × (o ≡ Some s)
+set_some None on = absurd (false≢true on)
+set_some (Some s) on = (s, refl)
+
+-- THE LIST of a check for phase 4, as bytes: the own blocks that were outside at opening
+abbrev pub own_bytes : DriveView → List ℕ
+own_bytes d = list_bytes (map (λ (b : Block). b.idn) (filter is_own_outside (store_of d)))
+
+module _ (r : RingView) (jobs : List Job) (carry : Carry) (restarts : Restarts) (opened : IsOpened r jobs) (k : ℕ)
+    (below : k < length r.drives) (outside : list_any is_outside (drive_at r k).blocks ≡ true) where
+  rules : blocks_fault [] (drive_at r k).blocks ≡ None
+  rules = (ring_drive r k (drive_at r k) opened.valid (drive_got r k below)).blocks
+
+  never : (j : List CycleView) → IsRun r jobs carry restarts j → IsClear j → NeverFour j
+  never j run clear = by (never_or_own r jobs carry restarts opened k below j run clear)
+    where
+      by : NeverFour j ⊎ (list_any is_outside (drive_at r k).blocks ≡ false) → NeverFour j
+      by (inl is) = is
+      by (inr fits) = absurd (false≢true (sym fits ∙ outside))
+
+  -- EACH WRITE of a cycle is fair to block 22.
+  fair_in : (t : CycleView) (j : List CycleView) → IsRun r jobs carry restarts (t ∷ j) → IsClear (t ∷ j) → (w : Write)
+      → write_of (processed_in (view_of r jobs carry restarts k t j) (views_of r jobs carry restarts k j)) (kept_in (view_of r jobs carry restarts k t j) (views_of r jobs carry restarts k j)) ≡ Some w
+      → IsFair (own_bytes (drive_at r k)) w (view_of r jobs carry restarts k t j).blocks
+  fair_in t j run clear w is = record { other = other; lists = lists }
+    where
+      stored : IsStored (drive_at r k) (view_of r jobs carry restarts k t j).blocks
+      stored = stored_in r jobs carry restarts opened t j k below
+
+      other : w.raw ≡ 22 → ⊥
+      other number = never_22 (drive_at r k) (view_of r jobs carry restarts k t j).blocks (stood_in (view_of r jobs carry restarts k t j) (standing (views_of r jobs carry restarts k j))) w.bytes rules stored.1
+          (ap (λ (n : ℕ). put_fault (find_block n (view_of r jobs carry restarts k t j).blocks) (stood_in (view_of r jobs carry restarts k t j) (standing (views_of r jobs carry restarts k j))) w.bytes) (sym number)
+          ∙ allowed_in r jobs carry restarts opened k below t j run clear w is)
+
+      lists : w.raw ≡ 128 → list_bytes (unfit_for_phase_4 (with_data w.raw w.bytes (view_of r jobs carry restarts k t j).blocks)) ≡ own_bytes (drive_at r k)
+      lists number =
+          let three = three_in r jobs carry restarts opened k below t j run clear w is number in
+          ap (λ (n : ℕ). list_bytes (unfit_for_phase_4 (with_data n w.bytes (view_of r jobs carry restarts k t j).blocks))) number
+          ∙ ap list_bytes (unfit_left w.bytes (view_of r jobs carry restarts k t j).blocks stored.0.ascending (inside_128 (drive_at r k) (view_of r jobs carry restarts k t j).blocks w.bytes rules stored.1)
+          ∙ names_in r jobs carry restarts opened k below t j run clear (omega (arith, three))
+          ∙ ap (map (λ (b : Block). b.idn)) (own_in r jobs carry restarts opened k below t j run clear (never j run.0 clear.0)).same)
+
+  -- FROM CYCLE TO CYCLE
+  blocks_at : (t : CycleView) (j : List CycleView) → IsRun r jobs carry restarts (t ∷ j) → IsClear (t ∷ j) → (view_of r jobs carry restarts k t j).blocks ≡ store_in (store_of (drive_at r k)) (views_of r jobs carry restarts k j)
+  blocks_at t j (run, next) (before, clear) =
+      store_is r jobs carry restarts opened (first_store r jobs carry restarts opened) t j next clear
+      (spelled_in r jobs carry restarts opened t j next) (stored_in r jobs carry restarts opened t j)
+      (all_stand r jobs carry restarts opened j run before) k below
+
+  blocks_next : (t u : CycleView) (j : List CycleView) → IsRun r jobs carry restarts (t ∷ u ∷ j) → IsClear (t ∷ u ∷ j) → (view_of r jobs carry restarts k t (u ∷ j)).blocks
+      ≡ blocks_with (write_of (processed_in (view_of r jobs carry restarts k u j) (views_of r jobs carry restarts k j)) (kept_in (view_of r jobs carry restarts k u j) (views_of r jobs carry restarts k j))) (view_of r jobs carry restarts k u j).commands
+      (view_of r jobs carry restarts k u j).blocks
+  blocks_next t u j run clear =
+      blocks_at t (u ∷ j) run clear
+      ∙ ap (blocks_with (write_of (processed_in (view_of r jobs carry restarts k u j) (views_of r jobs carry restarts k j)) (kept_in (view_of r jobs carry restarts k u j) (views_of r jobs carry restarts k j))) (view_of r jobs carry restarts k u j).commands)
+      (sym (blocks_at u j run.0 clear.0))
+
+  stays_from : (t : CycleView) (j : List CycleView) → IsRun r jobs carry restarts (t ∷ j) → IsClear (t ∷ j) → StaysFrom (HasList (own_bytes (drive_at r k))) (view_of r jobs carry restarts k t j) (views_of r jobs carry restarts k j)
+  stays_from t [] run clear = tt
+  stays_from t (u ∷ j) run clear = λ has. subst (HasList (own_bytes (drive_at r k))) (sym (blocks_next t u j run clear))
+      (list_left (own_bytes (drive_at r k)) (write_of (processed_in (view_of r jobs carry restarts k u j) (views_of r jobs carry restarts k j)) (kept_in (view_of r jobs carry restarts k u j) (views_of r jobs carry restarts k j))) (view_of r jobs carry restarts k u j).commands
+      (view_of r jobs carry restarts k u j).blocks (fair_in u j run.0 clear.0) has)
+
+  says_list : (t : CycleView) (j : List CycleView) → IsRun r jobs carry restarts (t ∷ j) → IsClear (t ∷ j) → Say (λ s. HasList (own_bytes (drive_at r k)) (view_of r jobs carry restarts k t j).blocks) (view_of r jobs carry restarts k t j).commands
+  says_list t [] run clear = λ s found.
+      let empty = keeps_settings (view_of r jobs carry restarts k t []) [] (wells r jobs carry restarts opened (t ∷ []) run clear k below).follow in
+      absurd (none_some s (sym (ap (find_set 128) empty) ∙ found))
+  says_list t (u ∷ j) run clear = by (says_list u j run.0 clear.0) (keeps_settings (view_of r jobs carry restarts k t (u ∷ j)) (views_of r jobs carry restarts k (u ∷ j)) (wells r jobs carry restarts opened (t ∷ u ∷ j) run clear k below).follow)
+    where
+      v : View
+      v = view_of r jobs carry restarts k t (u ∷ j)
+
+      w : View
+      w = view_of r jobs carry restarts k u j
+
+      past : List View
+      past = views_of r jobs carry restarts k j
+
+      command : is_command (view_of r jobs carry restarts k u j).blocks 128 ≡ true
+      command = is_command_128 (drive_at r k) (view_of r jobs carry restarts k u j).blocks rules (stored_in r jobs carry restarts opened u j k below).1
+
+      by : Say (λ s. HasList (own_bytes (drive_at r k)) w.blocks) w.commands → (set_in v.commands ≡ []) ⊎ (set_in v.commands ≡ set_in (commands_left w past)) → Say (λ s. HasList (own_bytes (drive_at r k)) v.blocks) v.commands
+      by before (inl empty) s found = absurd (none_some s (sym (ap (find_set 128) empty) ∙ found))
+      by before (inr same) s found = subst (HasList (own_bytes (drive_at r k))) (sym (blocks_next t u j run clear))
+          (set_lists (own_bytes (drive_at r k)) (write_of (processed_in w past) (kept_in w past)) w.commands w.blocks command (fair_in u j run.0 clear.0) before s (sym (ap (find_set 128) same) ∙ found))
+
+  kept_so : (j : List CycleView) → IsRun r jobs carry restarts j → IsClear j → AreKept (HasList (own_bytes (drive_at r k))) (views_of r jobs carry restarts k j)
+  kept_so [] run clear = tt
+  kept_so (t ∷ j) run clear = (kept_so j run.0 clear.0, (λ on. let s = set_some (find_set 128 (set_in (view_of r jobs carry restarts k t j).commands)) on in says_list t j run clear s.0 s.1), stays_from t j run clear)
+
+  -- THE LIST that is read
+  pub list_is : (t : CycleView) (j : List CycleView) → IsRun r jobs carry restarts (t ∷ j) → IsClear (t ∷ j) → (newer older : List Begun) (b c : Begun) (bytes status : List ℕ) → begun_in (view_of r jobs carry restarts k t j) (views_of r jobs carry restarts k j) ≡ newer ++ b ∷ c ∷ older
+      → b.request ≡ request.Read (idn 22) 7 → outcome_of b.request b.answers ≡ Some (outcome.Complete bytes) → c.request ≡ request.Command (idn 128) → outcome_of c.request c.answers ≡ Some (outcome.Complete status)
+      → bytes ≡ own_bytes (drive_at r k)
+  list_is t j run clear newer older b c bytes status split asks complete sets_it ended =
+      read.gives ∙ data_read read.taken.cycle read.block (built_in_is_steady (drive_at r k) read.taken.blocks 22 read.taken.cycle read.block rules read.stored.1 refl read.found) ∙ read.has read.block read.found
+    where
+      stands : Stands r jobs carry restarts (t ∷ j) k
+      stands = all_stand r jobs carry restarts opened (t ∷ j) run clear k below
+
+      factor : (list_4 (drive_at r k)).attribute.factor < 2 ^ 16
+      factor = small r jobs carry restarts opened (first_store r jobs carry restarts opened) k below 22 (list_4 (drive_at r k)) (found_list (drive_at r k) rules)
+
+      views : List View
+      views = stays (view_of r jobs carry restarts k t j) ∷ views_of r jobs carry restarts k j
+
+      read : IsListRead (drive_at r k) (HasList (own_bytes (drive_at r k))) bytes
+      read = list_read (drive_at r k).busy (drive_at r k) (HasList (own_bytes (drive_at r k))) views
+          (stands.sees.run.0, next_still (drive_at r k).busy (view_of r jobs carry restarts k t j) (views_of r jobs carry restarts k j) stands.sees.run.1)
+          stands.sound stands.stored (wells r jobs carry restarts opened (t ∷ j) run clear k below).follow
+          (have_commands (drive_at r k) views rules stands.stored)
+          (have_since (HasList (own_bytes (drive_at r k))) views (kept_so (t ∷ j) run clear)) (list_4 (drive_at r k))
+          (found_list (drive_at r k) rules) factor newer older b c bytes status split asks complete sets_it ended

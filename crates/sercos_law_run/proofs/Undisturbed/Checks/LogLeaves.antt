@@ -1,0 +1,75 @@
+-- What the steps that a drive accepted since its reset leave of its procedure commands. Each list has its newest item first.
+use Rattle.std.proofs.Common.{◌≡◌, ℕ, Bool, true, false, not, ◌&&◌, List, [], ◌∷◌, length, refl, sym, ap, subst, if◌then◌else◌}
+use Rattle.std.specs.Prelude.{◌==◌, Option, Some, None, IfSome, option_map, option_and_then}
+use mathlib.Core.Bool.{beq}
+use Rattle.sercos_block.specs.declared.block.Block.{Block}
+use Rattle.sercos_block.specs.Stores.{find_block}
+use Rattle.sercos_command.specs.Calls.{Reset, CommandHistory, with_call}
+use Rattle.sercos_command.specs.Kept.{set_in}
+use Rattle.sercos_service_drive.specs.Log.{Taken, Entry, ahs, accepted, open_idn, run_before, in_order}
+use Rattle.sercos_service_drive.specs.Replies.{bytes_written, answered, log_of}
+use Rattle.sercos_service_drive.specs.Writes.{Write, takes_effect, written_by, added_by, adds, added_on, commands_with}
+use Rattle.sercos_law_channel.specs.Handshake.Views.{View, standing, stood_in, record_in, processed_in, with_record, since_reset, kept_in}
+use Rattle.sercos_law_channel.specs.Handshake.WholeRun.{write_of}
+use Rattle.sercos_law_channel.proofs.Theorems.{Processes, Nothing, Record, processes}
+use Rattle.sercos_law_run.specs.Settings.SetByWrites.{commands_left}
+use Rattle.sercos_law_run.proofs.Settings.Histories.{reset_if}
+use Rattle.sercos_law_run.specs.Undisturbed.CommandsFollow.{commands_ended, CommandsFollow, LogLeaves}
+
+-- The cycle of a write is that of its step.
+pub added_cycle : (e : Entry) (log : List Entry) (w : Write) → added_by e log ≡ Some w → w.cycle ≡ e.taken.cycle
+added_cycle e log w is = subst (λ (o : Option Write). IfSome o (λ x. x.cycle ≡ e.taken.cycle)) is (effect (takes_effect e))
+  where
+    found : (run : List Taken) (raw : ℕ) (o : Option Block)
+        → IfSome {T = Write} (option_map (λ (b : Block). (record { cycle = e.taken.cycle; raw = raw; bytes = bytes_written b (in_order run (e.taken.step.word ∷ [])) })) o) (λ x. x.cycle ≡ e.taken.cycle)
+    found run raw None = tt
+    found run raw (Some b) = refl
+
+    opened : (run : List Taken) (o : Option ℕ) → IfSome (option_and_then (written_by e.taken run) o) (λ x. x.cycle ≡ e.taken.cycle)
+    opened run None = tt
+    opened run (Some raw) = found run raw (find_block raw e.taken.blocks)
+
+    effect : (b : Bool) → IfSome (if b then option_and_then (written_by e.taken (run_before true 7 log)) (open_idn log) else None) (λ x. x.cycle ≡ e.taken.cycle)
+    effect true = opened (run_before true 7 log) (open_idn log)
+    effect false = tt
+
+-- A step that reads adds none.
+pub read_adds_none : (e : Entry) (log : List Entry) → e.taken.step.write ≡ false → added_by e log ≡ None
+read_adds_none e log reads =
+    ap (λ (v : Bool). if v && ((e.taken.step.element == 7) && (e.taken.step.last && not e.answer.error)) then option_and_then (written_by e.taken (run_before true 7 log)) (open_idn log) else None) reads
+
+-- one record more
+leaves_record : (t : Taken) (h : List Taken) → LogLeaves (log_of h) t.commands → LogLeaves (log_of (t ∷ h)) (commands_with (added_on t h) t.blocks t.commands)
+leaves_record t h before = by (beq t.mhs (ahs h))
+  where
+    by : (v : Bool) → LogLeaves (answered (if v then accepted h else t ∷ accepted h)) (commands_with (if v then None else adds t (log_of h)) t.blocks t.commands)
+    by true = before
+    by false = (before, refl)
+
+-- at the MST's place of a cycle
+leaves_kept : (c : CommandHistory) (v : View) (past : List View) → CommandsFollow c (v ∷ past) → LogLeaves (log_of (since_reset past)) (commands_ended c past) → LogLeaves (log_of (kept_in v past)) v.commands
+leaves_kept c v past follow before = by (stood_in v (standing past) == 0) v.drive_restarts follow.1
+  where
+    by : (zero restarts : Bool)
+        → v.commands ≡ reset_if zero (if restarts then with_call Reset (commands_ended c past) else commands_ended c past)
+        → LogLeaves (log_of (if zero then [] else (if restarts then [] else since_reset past))) v.commands
+    by true true is = ap (λ (x : CommandHistory). set_in x) is
+    by true false is = ap (λ (x : CommandHistory). set_in x) is
+    by false true is = ap (λ (x : CommandHistory). set_in x) is
+    by false false is = subst (LogLeaves (log_of (since_reset past))) (sym is) before
+
+-- AT THE END of all cycles
+pub leaves_since : (c : CommandHistory) → set_in c ≡ [] → (past : List View) → CommandsFollow c past → LogLeaves (log_of (since_reset past)) (commands_ended c past)
+leaves_since c none [] follow = none
+leaves_since c none (v ∷ past) follow = by ((standing (v ∷ past)).ended == 0) (taken (processes v past) (leaves_kept c v past follow (leaves_since c none past follow.0)))
+  where
+    taken : Processes v past → LogLeaves (log_of (kept_in v past)) v.commands → LogLeaves (log_of (with_record (processed_in v past) (kept_in v past))) (commands_left v past)
+    taken (Nothing none) at = subst (λ (o : Option Taken). LogLeaves (log_of (with_record o (kept_in v past))) (commands_with (write_of o (kept_in v past)) v.blocks v.commands)) (sym none) at
+    taken (Record s got came two some) at =
+        subst (λ (o : Option Taken). LogLeaves (log_of (with_record o (kept_in v past))) (commands_with (write_of o (kept_in v past)) v.blocks v.commands)) (sym some)
+        (leaves_record (record_in v (length past) (stood_in v (standing past)) s) (kept_in v past) at)
+
+    by : (zero : Bool) → LogLeaves (log_of (with_record (processed_in v past) (kept_in v past))) (commands_left v past)
+        → LogLeaves (log_of (if zero then [] else with_record (processed_in v past) (kept_in v past))) (reset_if zero (commands_left v past))
+    by true at = refl
+    by false at = at

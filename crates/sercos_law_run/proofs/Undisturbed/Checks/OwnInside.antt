@@ -1,0 +1,110 @@
+-- If no own block of a drive was outside its limits at opening, none ever is.
+use Rattle.std.proofs.Common.{◌≡◌, ℕ, Bool, true, false, not, ◌&&◌, ◌||◌, List, [], ◌∷◌, Option, Some, None, refl, sym, ap, ap₂, ◌∙◌, subst, arith}
+use Rattle.std.specs.Prelude.{◌==◌, nat_lt, cond}
+use Rattle.std.specs.Bool.{then_some}
+use Rattle.std.specs.List.{filter, list_all, list_any}
+use Rattle.std.proofs.lemmas.Bool.{and_parts, eq-eqb, eqb-true, false≢true}
+use Rattle.std.proofs.lemmas.Bool.Decides.{nat_tests}
+use Rattle.sercos_model.proofs.FaultLemmas.{none_of-or, none_of-then}
+use Rattle.sercos_block.specs.BuiltIns.{is_built_in}
+use Rattle.sercos_block.specs.Rules.{blocks_fault}
+use Rattle.sercos_block.specs.Stores.{find_block, store_of, write_fault, data_fault, put_fault, are_ascending, is_short, is_long, is_invalid, is_below, is_above}
+use Rattle.sercos_block.specs.Views.{DriveView}
+use Rattle.sercos_block.specs.declared.block.Block.{Block}
+use Rattle.sercos_command.specs.Checks.{is_outside, list_bytes, unfit_for_phase_3, unfit_for_phase_4}
+use Rattle.sercos_law_run.specs.Start.Kept.{is_own_outside}
+use Rattle.sercos_law_run.proofs.Start.OwnLemmas.{own_at_opening}
+use Rattle.sercos_law_run.proofs.Undisturbed.Checks.BlockStays.{IsAt, Stays}
+use Rattle.sercos_law_run.proofs.Undisturbed.CycleHeld.{second_none}
+use Rattle.sercos_law_run.proofs.Undisturbed.Arriving.Small.{both_off, some_is}
+
+-- A TEST THAT NO BLOCK PASSES, by the number of the block and by the list
+pub all_at : (q : Block → Bool) (n : ℕ) (blocks : List Block) (b : Block) → list_all q blocks ≡ true → find_block n blocks ≡ Some b → (q b ≡ true) × ((b.idn.raw == n) ≡ true)
+all_at q n [] b all found = absurd (cc)
+all_at q n (c ∷ blocks) b all found = by (c.idn.raw == n) refl found (λ rest. all_at q n blocks b parts.1 rest)
+  where
+    parts : (q c ≡ true) × (list_all q blocks ≡ true)
+    parts = and_parts (q c) (list_all q blocks) all
+
+    by : (x : Bool) → (c.idn.raw == n) ≡ x → cond x (Some c) (find_block n blocks) ≡ Some b → (find_block n blocks ≡ Some b → (q b ≡ true) × ((b.idn.raw == n) ≡ true)) → (q b ≡ true) × ((b.idn.raw == n) ≡ true)
+    by true is found rest = subst (λ (y : Block). (q y ≡ true) × ((y.idn.raw == n) ≡ true)) (some_is c b found) (parts.0, is)
+    by false is found rest = rest found
+
+pub found_number : (n : ℕ) (blocks : List Block) (b : Block) → find_block n blocks ≡ Some b → b.idn.raw ≡ n
+found_number n blocks b found = eqb-true b.idn.raw n (all_at (λ (c : Block). true) n blocks b (always blocks) found).1
+  where
+    always : (l : List Block) → list_all (λ (c : Block). true) l ≡ true
+    always [] = refl
+    always (c ∷ l) = always l
+
+pub none_at : (p : Block → Bool) (n : ℕ) (blocks : List Block) → list_any p blocks ≡ false → IsAt n (λ b. p b ≡ false) blocks
+none_at p n [] none b found = absurd (cc)
+none_at p n (c ∷ blocks) none b found = by (c.idn.raw == n) found (λ rest. none_at p n blocks parts.1 b rest)
+  where
+    parts : (p c ≡ false) × (list_any p blocks ≡ false)
+    parts = both_off (p c) (list_any p blocks) none
+
+    by : (x : Bool) → cond x (Some c) (find_block n blocks) ≡ Some b → (find_block n blocks ≡ Some b → p b ≡ false) → p b ≡ false
+    by true found rest = subst (λ (y : Block). p y ≡ false) (some_is c b found) parts.0
+    by false found rest = rest found
+
+pub none_listed : (p : Block → Bool) (blocks : List Block) → are_ascending blocks ≡ true → ((n : ℕ) → IsAt n (λ b. p b ≡ false) blocks) → filter p blocks ≡ []
+unfolding are_ascending
+none_listed p [] ascending each = refl
+none_listed p (c ∷ blocks) ascending each =
+    let parts = and_parts (list_all (λ (d : Block). nat_lt c.idn.raw d.idn.raw) blocks) (are_ascending blocks) ascending in
+    let here : p c ≡ false = each c.idn.raw c (ap (λ (x : Bool). cond x (Some c) (find_block c.idn.raw blocks)) (eq-eqb c.idn.raw c.idn.raw refl)) in
+    ap (λ (x : Bool). cond x (c ∷ filter p blocks) (filter p blocks)) here ∙ none_listed p blocks parts.1 (λ n b found. each n b (later n b parts.0 found))
+  where
+    later : (n : ℕ) (b : Block) → list_all (λ (d : Block). nat_lt c.idn.raw d.idn.raw) blocks ≡ true → find_block n blocks ≡ Some b → find_block n (c ∷ blocks) ≡ Some b
+    later n b all found =
+        let is = all_at (λ (d : Block). nat_lt c.idn.raw d.idn.raw) n blocks b all found in
+        let low = is.0 in
+        let number = is.1 in
+        let apart : (c.idn.raw == n) ≡ false = grind (arith, nat_tests, low, number) in
+        ap (λ (x : Bool). cond x (Some c) (find_block n blocks)) apart ∙ found
+
+-- WHAT CAN BE WRITTEN lies within the limits.
+below_same : (b : Block) (bytes : List ℕ) (o : Option ℕ) → is_below (record b { value = bytes }) bytes o ≡ is_below b bytes o
+below_same b bytes None = refl
+below_same b bytes (Some limit) = refl
+
+above_same : (b : Block) (bytes : List ℕ) (o : Option ℕ) → is_above (record b { value = bytes }) bytes o ≡ is_above b bytes o
+above_same b bytes None = refl
+above_same b bytes (Some limit) = refl
+
+pub within : (b : Block) (bytes : List ℕ) → data_fault b bytes ≡ None → is_outside (record b { value = bytes }) ≡ false
+unfolding data_fault
+within b bytes none =
+    let one = none_of-or (then_some (is_short b bytes) 0x7002) _ none in
+    let two = none_of-or (then_some (is_long b bytes) 0x7003) _ one.1 in
+    let three = none_of-or (then_some (is_invalid b bytes) 0x7008) _ two.1 in
+    let four = none_of-or (then_some (is_below b bytes b.min) 0x7006) _ three.1 in
+    ap₂ (λ (x y : Bool). x || y) (below_same b bytes b.min ∙ none_of-then (is_below b bytes b.min) 0x7006 four.0) (above_same b bytes b.max ∙ none_of-then (is_above b bytes b.max) 0x7007 four.1)
+
+-- the bytes of a write that isn't refused
+pub no_data_fault : (o : Option Block) (b : Block) (phase : ℕ) (bytes : List ℕ) → o ≡ Some b → put_fault o phase bytes ≡ None → data_fault b bytes ≡ None
+no_data_fault o b phase bytes found allowed = second_none (write_fault (Some b) phase) (data_fault b bytes) (sym (ap (λ (x : Option Block). put_fault x phase bytes) found) ∙ allowed)
+
+own_written : (b : Block) (bytes : List ℕ) → data_fault b bytes ≡ None → is_own_outside (record b { value = bytes }) ≡ false
+own_written b bytes none = by (is_built_in b.idn.raw) (within b bytes none)
+  where
+    by : (x : Bool) → is_outside (record b { value = bytes }) ≡ false → (not x && is_outside (record b { value = bytes })) ≡ false
+    by true is = refl
+    by false is = is
+
+built_in_own : (b : Block) (bytes : List ℕ) → is_built_in b.idn.raw ≡ true → is_own_outside (record b { value = bytes }) ≡ false
+built_in_own b bytes built = by (is_built_in b.idn.raw) built
+  where
+    by : (x : Bool) → x ≡ true → (not x && is_outside (record b { value = bytes })) ≡ false
+    by true is = refl
+    by false is = absurd (false≢true is)
+
+-- SO NO OWN BLOCK gets outside its limits.
+pub own_stays : (d : DriveView) → blocks_fault [] d.blocks ≡ None → list_any is_outside d.blocks ≡ false → (n : ℕ) → Stays d n (λ b. is_own_outside b ≡ false)
+own_stays d rules none n = record {
+  first = none_at is_own_outside n (store_of d) (own_at_opening d rules ∙ none);
+  write = λ blocks phase bytes stored allowed b found. own_written b bytes (no_data_fault (find_block n blocks) b phase bytes found allowed);
+  list_3 = λ rate blocks stored same b found. built_in_own b (list_bytes (unfit_for_phase_3 rate blocks)) (ap is_built_in (found_number n blocks b found ∙ sym same));
+  list_4 = λ blocks stored same b found. built_in_own b (list_bytes (unfit_for_phase_4 blocks)) (ap is_built_in (found_number n blocks b found ∙ sym same));
+}

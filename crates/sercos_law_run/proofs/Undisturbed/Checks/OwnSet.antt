@@ -1,0 +1,181 @@
+-- As long as built-in blocks alone are written to a drive, those of its own that are outside their limits are the same as at opening; so
+-- if a check for phase 4 is set that ends well, there are none.
+use Rattle.std.proofs.Common.{◌≡◌, ℕ, suc, arith, Bool, true, false, not, ◌&&◌, List, [], ◌∷◌, ◌++◌, length, filter, Option, Some, None, refl, sym, ap, ◌∙◌, if◌then◌else◌, subst}
+use Rattle.std.specs.Prelude.{◌==◌, is_some, cond}
+use Rattle.std.proofs.lemmas.Bool.{false≢true, eqb-true}
+use Rattle.sercos_law_run.proofs.Held.Processed.{processed_keeps, taken_at}
+use Rattle.std.proofs.lemmas.Bool.Decides.{nat_tests}
+use Rattle.sercos_block.specs.BuiltIns.{is_built_in}
+use Rattle.sercos_block.specs.Stores.{with_data, store_of}
+use Rattle.sercos_block.specs.Views.{DriveView}
+use Rattle.sercos_block.specs.declared.block.Block.{Block}
+use Rattle.sercos_command.specs.Checks.{is_outside, unfit_for_phase_4}
+use Rattle.sercos_command.specs.Settings.{is_command, ends_well}
+use Rattle.sercos_command.specs.Calls.{Wrote, Other, CommandHistory, with_call}
+use Rattle.sercos_command.specs.Kept.{find_set, without, with_set, set_in}
+use Rattle.sercos_command.specs.declared.commands.SetCommand.{SetCommand}
+use Rattle.sercos_service_drive.specs.Log.{Taken}
+use Rattle.sercos_service_drive.specs.Writes.{Write, added_on, with_added, command_value, blocks_with, commands_with}
+use Rattle.sercos_drive.specs.declared.hearing.Told.{Told}
+use Rattle.sercos_drive.specs.Heard.{DriveCall, Mst, Mdt, Restart, mst_got, mdt_got}
+use Rattle.sercos_drive.specs.Moments.{Moment, phase_in, taken_in, writes_in, blocks_in, blocks_after, commands_in, write_in}
+use Rattle.sercos_drive.specs.Steps.{commands_after, reset_in}
+use Rattle.sercos_drive.specs.Annals.{annals, stands_in, processed_in, ends_in}
+use Rattle.sercos_law_run.specs.Start.Kept.{is_own_outside}
+use Rattle.sercos_law_run.proofs.Start.OwnLemmas.{leaves_own, own_stay}
+use Rattle.sercos_law_run.proofs.Settings.Histories.{reset_if}
+use Rattle.sercos_law_run.proofs.Undisturbed.Arriving.Small.{none_some}
+use Rattle.sercos_seat.proofs.Gets.{length_map}
+
+-- each of these writes is to a built-in block
+abbrev pub AreBuiltIn : List Write → Type 0
+AreBuiltIn [] = Unit {0}
+AreBuiltIn (w ∷ writes) = AreBuiltIn writes × (is_built_in w.raw ≡ true)
+
+-- a check for phase 4 that is set is such a one
+abbrev pub Say : (SetCommand → Type 0) → CommandHistory → Type 0
+Say such c = (s : SetCommand) → find_set 128 (set_in c) ≡ Some s → such s
+
+-- what a check for phase 4 says that is set, and ends well
+abbrev pub SaysOwn : DriveView → CommandHistory → Type 0
+SaysOwn d c = (s : SetCommand) → find_set 128 (set_in c) ≡ Some s → s.well ≡ true → filter is_own_outside (store_of d) ≡ []
+
+pub record IsOwn (d : DriveView) (blocks : List Block) (c : CommandHistory) : Type 0 where
+  pub same : filter is_own_outside blocks ≡ filter is_own_outside (store_of d)
+  pub says : SaysOwn d c
+
+-- THE SETTINGS
+pub none_without : (raw : ℕ) (set : List SetCommand) → find_set raw (without raw set) ≡ None
+none_without raw [] = refl
+none_without raw (s ∷ set) = by (s.idn.raw == raw) refl (none_without raw set)
+  where
+    by : (x : Bool) → (s.idn.raw == raw) ≡ x → find_set raw (without raw set) ≡ None → find_set raw (cond (not x) (s ∷ without raw set) (without raw set)) ≡ None
+    by true is more = more
+    by false is more = ap (λ (x : Bool). cond x (Some s) (find_set raw (without raw set))) is ∙ more
+
+same_without : (n raw : ℕ) (set : List SetCommand) → (raw == n) ≡ false → find_set n (without raw set) ≡ find_set n set
+same_without n raw [] other = refl
+same_without n raw (s ∷ set) other = by (s.idn.raw == raw) refl (same_without n raw set other)
+  where
+    by : (x : Bool) → (s.idn.raw == raw) ≡ x → find_set n (without raw set) ≡ find_set n set → find_set n (cond (not x) (s ∷ without raw set) (without raw set)) ≡ cond (s.idn.raw == n) (Some s) (find_set n set)
+    by true is more =
+        let apart : (s.idn.raw == n) ≡ false = ap (λ (m : ℕ). m == n) (eqb-true s.idn.raw raw is) ∙ other in
+        more ∙ sym (ap (λ (x : Bool). cond x (Some s) (find_set n set)) apart)
+    by false is more = ap (λ (o : Option SetCommand). cond (s.idn.raw == n) (Some s) o) more
+
+found_append : (n : ℕ) (set : List SetCommand) (new s : SetCommand) → find_set n (set ++ new ∷ []) ≡ Some s → find_set n set ≡ None → ((new.idn.raw == n) ≡ true) × (new ≡ s)
+found_append n [] new s found none = by (new.idn.raw == n) refl found
+  where
+    by : (x : Bool) → (new.idn.raw == n) ≡ x → cond x (Some new) None ≡ Some s → ((new.idn.raw == n) ≡ true) × (new ≡ s)
+    by true is found = (is, cc)
+    by false is found = absurd (cc)
+found_append n (x ∷ set) new s found none = by (x.idn.raw == n) found none (λ more rest. found_append n set new s more rest)
+  where
+    by : (y : Bool) → cond y (Some x) (find_set n (set ++ new ∷ [])) ≡ Some s → cond y (Some x) (find_set n set) ≡ None → (find_set n (set ++ new ∷ []) ≡ Some s → find_set n set ≡ None → ((new.idn.raw == n) ≡ true) × (new ≡ s)) → ((new.idn.raw == n) ≡ true) × (new ≡ s)
+    by true found none next = absurd (cc)
+    by false found none next = next found none
+
+found_before : (n : ℕ) (set : List SetCommand) (new s x : SetCommand) → find_set n set ≡ Some x → find_set n (set ++ new ∷ []) ≡ Some s → find_set n set ≡ Some s
+found_before n [] new s x before found = absurd (cc)
+found_before n (y ∷ set) new s x before found = by (y.idn.raw == n) before found (λ more rest. found_before n set new s x more rest)
+  where
+    by : (b : Bool) → cond b (Some y) (find_set n set) ≡ Some x → cond b (Some y) (find_set n (set ++ new ∷ [])) ≡ Some s → (find_set n set ≡ Some x → find_set n (set ++ new ∷ []) ≡ Some s → find_set n set ≡ Some s) → cond b (Some y) (find_set n set) ≡ Some s
+    by true before found next = found
+    by false before found next = next before found
+
+-- if nothing is outside, no own block is
+none_own : (blocks : List Block) → (length (filter is_outside blocks) == 0) ≡ true → filter is_own_outside blocks ≡ []
+none_own [] none = refl
+none_own (b ∷ blocks) none = by (is_outside b) (is_built_in b.idn.raw) none (none_own blocks)
+  where
+    by : (x y : Bool) → (length (cond x (b ∷ filter is_outside blocks) (filter is_outside blocks)) == 0) ≡ true → ((length (filter is_outside blocks) == 0) ≡ true → filter is_own_outside blocks ≡ []) → cond (not y && x) (b ∷ filter is_own_outside blocks) (filter is_own_outside blocks) ≡ []
+    by true y none more = absurd (let no : (suc (length (filter is_outside blocks)) == 0) ≡ false = grind (arith, nat_tests) in false≢true (sym no ∙ none))
+    by false true none more = more none
+    by false false none more = more none
+
+well_own : (rate : ℕ) (blocks : List Block) → ends_well rate 128 blocks ≡ true → filter is_own_outside blocks ≡ []
+unfolding unfit_for_phase_4
+well_own rate blocks well = none_own blocks (sym (ap (λ (n : ℕ). n == 0) (length_map (λ (b : Block). b.idn) (filter is_outside blocks))) ∙ well)
+
+-- ONE WRITE
+pub say_written : (such : SetCommand → Type 0) (raw value cycle : ℕ) (blocks : List Block) (c : CommandHistory) → (raw ≡ 128 → such (record { idn = record { raw = raw }; cycle = cycle; well = ends_well c.rate raw blocks })) → Say such c
+    → Say such (with_call (Wrote raw value cycle blocks) c)
+say_written such raw value cycle blocks c sets say s found = by (value == 0) found
+  where
+    new : SetCommand
+    new = record { idn = record { raw = raw }; cycle = cycle; well = ends_well c.rate raw blocks }
+
+    cancelled : find_set 128 (without raw (set_in c)) ≡ Some s → such s
+    cancelled found = which (raw == 128) refl
+      where
+        which : (x : Bool) → (raw == 128) ≡ x → such s
+        which true is = let none : find_set 128 (without raw (set_in c)) ≡ None = ap (λ (n : ℕ). find_set 128 (without n (set_in c))) (eqb-true raw 128 is) ∙ none_without 128 (set_in c) in absurd (none_some s (sym none ∙ found))
+        which false other = say s (sym (same_without 128 raw (set_in c) other) ∙ found)
+
+    added : (o : Option SetCommand) → find_set 128 (set_in c) ≡ o → find_set 128 (set_in c ++ (record { idn = record { raw = raw }; cycle = cycle; well = ends_well c.rate raw blocks }) ∷ []) ≡ Some s → such s
+    added (Some x) before found = say s (found_before 128 (set_in c) new s x before found)
+    added None none found = let is = found_append 128 (set_in c) new s found none in subst such is.1 (sets (eqb-true raw 128 is.0))
+
+    set_so : (x : Bool) → find_set 128 (if x then set_in c else set_in c ++ (record { idn = record { raw = raw }; cycle = cycle; well = ends_well c.rate raw blocks }) ∷ []) ≡ Some s → such s
+    set_so true found = say s found
+    set_so false found = added (find_set 128 (set_in c)) refl found
+
+    by : (x : Bool) → find_set 128 (if x then without raw (set_in c) else with_set (record { idn = record { raw = raw }; cycle = cycle; well = ends_well c.rate raw blocks }) (set_in c)) ≡ Some s → such s
+    by true found = cancelled found
+    by false found = set_so (is_some (find_set raw (set_in c))) found
+
+says_written : (d : DriveView) (raw value cycle : ℕ) (blocks : List Block) (c : CommandHistory) → filter is_own_outside blocks ≡ filter is_own_outside (store_of d) → SaysOwn d c → SaysOwn d (with_call (Wrote raw value cycle blocks) c)
+says_written d raw value cycle blocks c same says =
+    say_written (λ s. s.well ≡ true → filter is_own_outside (store_of d) ≡ []) raw value cycle blocks c (λ number well. sym same ∙ well_own c.rate blocks (ap (λ (n : ℕ). ends_well c.rate n blocks) (sym number) ∙ well)) says
+
+own_written : (d : DriveView) (w : Write) (blocks : List Block) (c : CommandHistory) → is_built_in w.raw ≡ true → IsOwn d blocks c → IsOwn d (blocks_with (Some w) c blocks) (commands_with (Some w) blocks c)
+own_written d w blocks c built own = record { same = own_stay w c blocks built ∙ own.same; says = by (is_command blocks w.raw) }
+  where
+    by : (x : Bool) → SaysOwn d (with_call (if x then Wrote w.raw (command_value w) w.cycle (with_data w.raw w.bytes blocks) else Other w.cycle) c)
+    by true = says_written d w.raw (command_value w) w.cycle (with_data w.raw w.bytes blocks) c (leaves_own blocks w.raw w.bytes built ∙ own.same) own.says
+    by false = own.says
+
+-- A RESET sets nothing.
+says_reset : (d : DriveView) (phase : ℕ) (c : CommandHistory) → SaysOwn d c → SaysOwn d (reset_in phase c)
+says_reset d phase c says = by (phase == 0)
+  where
+    by : (zero : Bool) → SaysOwn d (reset_if zero c)
+    by true = λ s found well. absurd (cc)
+    by false = says
+
+behind : (o : Option Write) (writes : List Write) → AreBuiltIn (with_added o writes) → AreBuiltIn writes
+behind None writes are = are
+behind (Some w) writes are = are.0
+
+-- what a record that is processed leaves so
+abbrev IsAfter : DriveView → ℕ → List Moment → Option Taken → Type 0
+IsAfter d rate past o = AreBuiltIn (with_added (write_in o (taken_in past)) (writes_in past)) → IsOwn d (blocks_in d past)
+    (commands_in d rate past)
+    → IsOwn d (blocks_after o (taken_in past) (blocks_in d past)) (commands_after o (taken_in past) (commands_in d rate past))
+
+-- WHATEVER A DRIVE IS GIVEN
+pub own_so : (d : DriveView) (rate : ℕ) (h : List DriveCall) → AreBuiltIn (writes_in (annals d rate h)) → IsOwn d (blocks_in d (annals d rate h)) (commands_in d rate (annals d rate h))
+own_so d rate [] are = record { same = refl; says = λ s found well. absurd (cc) }
+own_so d rate (Mst cycle content ∷ h) are =
+    let own = own_so d rate h are in
+    record { same = own.same; says = says_reset d (stands_in d rate cycle (mst_got content) (annals d rate h)) (commands_in d rate (annals d rate h)) own.says }
+own_so d rate (Restart ∷ h) are = let own = own_so d rate h are in record { same = own.same; says = λ s found well. absurd (cc) }
+own_so d rate (Mdt content ∷ h) are =
+    let own = by are (own_so d rate h (behind (write_in (processed_in d rate told past) (taken_in past)) (writes_in past) are)) in
+    record { same = own.same; says = says_reset d (ends_in told past) (commands_after (processed_in d rate told past) (taken_in past) (commands_in d rate past)) own.says }
+  where
+    past : List Moment
+    past = annals d rate h
+
+    told : Option Told
+    told = mdt_got d.address (phase_in past) (blocks_in d past) content
+
+    one_write : (w : Option Write) → AreBuiltIn (with_added w (writes_in past)) → IsOwn d (blocks_in d past) (commands_in d rate past)
+        → IsOwn d (blocks_with w (commands_in d rate past) (blocks_in d past))
+        (commands_with w (blocks_in d past) (commands_in d rate past))
+    one_write None are own = own
+    one_write (Some w) are own = own_written d w (blocks_in d past) (commands_in d rate past) are.1 own
+
+    by : IsAfter d rate past (processed_in d rate told past)
+    by = processed_keeps (IsAfter d rate past) d rate told past (λ are own. own)
+        (λ t. one_write (added_on (taken_at d rate past t) (taken_in past)))

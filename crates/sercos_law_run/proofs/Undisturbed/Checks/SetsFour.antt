@@ -1,0 +1,194 @@
+-- A check for phase 4 that is set ends well, if no own block of the drive was outside its limits at opening.
+use Rattle.std.proofs.Common.{◌≡◌, ℕ, ◌<◌, ◌≤◌, Bool, true, false, List, [], ◌∷◌, length, map, Option, Some, None, refl, sym, ap, ◌∙◌, subst, arith, if◌then◌else◌}
+use Rattle.std.specs.Prelude.{◌==◌, IfSome, option_map}
+use Rattle.std.specs.Bool.{then_some}
+use Rattle.std.specs.List.{filter, list_any}
+use Rattle.std.proofs.lemmas.Bool.{eqb-true, false≢true}
+use Rattle.sercos_model.proofs.FaultLemmas.{none_of-or, none_of-then}
+use Rattle.sercos_idn.specs.Attributes.{attribute_of}
+use Rattle.sercos_idn.specs.declared.attribute.Attribute.{Attribute}
+use Rattle.sercos_step.specs.declared.request.Job.{Job}
+use Rattle.sercos_block.specs.Blocks.{is_fixed, is_protected}
+use Rattle.sercos_block.specs.Rules.{blocks_fault}
+use Rattle.sercos_block.specs.Stores.{find_block, with_data, store_of, write_fault, data_fault, put_fault, are_ascending}
+use Rattle.sercos_block.specs.Views.{DriveView, RingView}
+use Rattle.sercos_block.specs.declared.block.Block.{Block}
+use Rattle.sercos_command.specs.Checks.{is_outside, unfit_for_phase_4}
+use Rattle.sercos_command.specs.Settings.{ends_well}
+use Rattle.sercos_service_drive.specs.Log.{Taken}
+use Rattle.sercos_service_drive.specs.Writes.{Write, added_on}
+use Rattle.sercos_drive.specs.Heard.{DriveCall}
+use Rattle.sercos_drive.specs.Moments.{blocks_in}
+use Rattle.sercos_drive.specs.Annals.{annals}
+use Rattle.sercos_trace.specs.Views.{CycleView}
+use Rattle.sercos_script.specs.Links.{Carry, Restarts}
+use Rattle.sercos_law_run.specs.Start.Kept.{is_own_outside}
+use Rattle.sercos_law_run.specs.Start.StartUp.{IsStoreOf}
+use Rattle.sercos_law_run.proofs.Start.CheckPasses.{ring_drive}
+use Rattle.sercos_law_run.proofs.Start.LimitLemmas.{names_own}
+use Rattle.sercos_service_drive.specs.Writes.{without_data}
+use Rattle.sercos_law_channel.specs.Handshake.Views.{View, standing, stood_in, record_in, processed_in, kept_in}
+use Rattle.sercos_law_channel.specs.Handshake.WholeRun.{write_of}
+use Rattle.sercos_law_channel.proofs.Theorems.{find-alike, Processes, Nothing, Record, processes, processed_phase, those_kept, those_since}
+use Rattle.sercos_service_drive.proofs.AllowedWrites.{those_moved}
+use Rattle.sercos_law_run.specs.Journal.Runs.{drive_at, given_mst, IsRun, IsClear}
+use Rattle.sercos_law_run.specs.Views.RingViews.{view_of, views_of}
+use Rattle.sercos_law_run.specs.Held.Opened.{IsOpened}
+use Rattle.sercos_law_run.specs.Held.Stored.{IsStored}
+use Rattle.sercos_law_run.proofs.Held.Runs.{Stands, alike_so, drive_got, s_known}
+use Rattle.sercos_law_run.proofs.Headline.HeadlineRuns.{all_stand, first_store, stored_in}
+use Rattle.sercos_law_run.proofs.Undisturbed.Checks.BlockStays.{IsAt, stays_at, written_at}
+use Rattle.sercos_law_run.proofs.Undisturbed.CycleHeld.{cycle_some, fits_in, holds_cycle}
+use Rattle.sercos_law_run.proofs.Undisturbed.Checks.OwnFit.{none_any}
+use Rattle.sercos_law_run.proofs.Undisturbed.Checks.OwnInside.{no_data_fault, none_at, none_listed, own_stays, within}
+use Rattle.sercos_law_run.proofs.Undisturbed.Stops.RefusedCauses.{check_4, found_4}
+use Rattle.sercos_law_run.proofs.Start.LaterLemmas.{still_ascending}
+use Rattle.sercos_law_run.proofs.Start.KeptLemmas.{writes_keep}
+use Rattle.sercos_service_drive.proofs.AllowedWrites.{allowed}
+
+-- PHASE 3 is the one in which the check for phase 4 can be set.
+bare_4 : (d : DriveView) (o : Option Block) (phase : ℕ) (bytes : List ℕ) → option_map without_data o ≡ Some (without_data (check_4 d)) → put_fault o phase bytes ≡ None → is_protected (check_4 d).attribute phase ≡ false
+bare_4 d None phase bytes alike allowed = absurd (cc)
+bare_4 d (Some b) phase bytes alike allowed =
+    let same : b.attribute ≡ (check_4 d).attribute = attribute_is (without_data b) (without_data (check_4 d)) alike in
+    let write = (none_of-or (write_fault (Some b) phase) (data_fault b bytes) allowed).0 in
+    ap (λ (x : Attribute). is_protected x phase) (sym same) ∙ none_of-then (is_protected b.attribute phase) 0x7005 (none_of-or (then_some (is_fixed b) 0x7004) (then_some (is_protected b.attribute phase) 0x7005) write).1
+  where
+    attribute_is : (x y : Block) → Some x ≡ Some y → x.attribute ≡ y.attribute
+    attribute_is x y e = cc
+
+in_three : (d : DriveView) (phase : ℕ) → is_protected (check_4 d).attribute phase ≡ false → phase ≡ 3
+unfolding attribute_of
+in_three d phase off = by (phase == 2) (phase == 3) refl off
+  where
+    by : (two three : Bool) → (phase == 3) ≡ three → (if two then true else (if three then false else true)) ≡ false → phase ≡ 3
+    by true three is off = absurd (false≢true (sym off))
+    by false true is off = eqb-true phase 3 is
+    by false false is off = absurd (false≢true (sym off))
+
+no_map : (blocks : List Block) → map (λ (b : Block). b.idn) blocks ≡ [] → blocks ≡ []
+no_map [] none = refl
+no_map (b ∷ blocks) none = absurd (cc)
+
+-- which blocks are outside, and what a check says of them
+names_none : (blocks : List Block) → unfit_for_phase_4 blocks ≡ [] → filter is_outside blocks ≡ []
+unfolding unfit_for_phase_4
+names_none blocks none = no_map (filter is_outside blocks) none
+
+ends_so : (rate : ℕ) (blocks : List Block) → filter is_outside blocks ≡ [] → ends_well rate 128 blocks ≡ true
+unfolding unfit_for_phase_4
+ends_so rate blocks none = ap (λ (l : List Block). length (map (λ (b : Block). b.idn) l) == 0) none
+
+-- a write leaves the order of the blocks
+ascends : (d : DriveView) (blocks : List Block) (raw phase : ℕ) (bytes : List ℕ) → are_ascending blocks ≡ true → IsStoreOf d blocks → put_fault (find_block raw blocks) phase bytes ≡ None → are_ascending (with_data raw bytes blocks) ≡ true
+ascends d blocks raw phase bytes ascending stored allowed =
+    let after = (writes_keep d blocks raw phase bytes ascending stored).0 allowed in still_ascending blocks (with_data raw bytes blocks) (after ∙ sym stored) ascending
+
+-- If a check for phase 4 is set in a cycle, it ends well.
+abbrev pub SetsWell : View → List View → Type 0
+SetsWell v past = (w : Write) → write_of (processed_in v past) (kept_in v past) ≡ Some w → w.raw ≡ 128 → ends_well v.commands.rate 128 (with_data 128 w.bytes v.blocks) ≡ true
+
+module _ (r : RingView) (jobs : List Job) (carry : Carry) (restarts : Restarts) (opened : IsOpened r jobs) (k : ℕ)
+    (below : k < length r.drives) (t : CycleView) (j : List CycleView) (run : IsRun r jobs carry restarts (t ∷ j)) (clear : IsClear (t ∷ j))
+    (w : Write)
+    (is : write_of (processed_in (view_of r jobs carry restarts k t j) (views_of r jobs carry restarts k j)) (kept_in (view_of r jobs carry restarts k t j) (views_of r jobs carry restarts k j)) ≡ Some w)
+  where
+    -- THE WRITE OF A CYCLE could be made.
+    pub allowed_in : put_fault (find_block w.raw (view_of r jobs carry restarts k t j).blocks) (stood_in (view_of r jobs carry restarts k t j) (standing (views_of r jobs carry restarts k j))) w.bytes ≡ None
+    allowed_in = by (processes v past)
+      where
+        v : View
+        v = view_of r jobs carry restarts k t j
+
+        past : List View
+        past = views_of r jobs carry restarts k j
+
+        stands : Stands r jobs carry restarts (t ∷ j) k
+        stands = all_stand r jobs carry restarts opened (t ∷ j) run clear k below
+
+        by : Processes v past → put_fault (find_block w.raw v.blocks) (stood_in v (standing past)) w.bytes ≡ None
+        by (Nothing nothing) = let no : Some w ≡ None = sym is ∙ ap (λ (o : Option Taken). write_of o (kept_in v past)) nothing in absurd (cc)
+        by (Record s got came two some) = subst (λ (o : Option Write). IfSome o (λ w. put_fault (find_block w.raw v.blocks) (stood_in v (standing past)) w.bytes ≡ None)) adds_it
+            (allowed (record_in v (length past) (stood_in v (standing past)) s) (kept_in v past)
+            (those_moved (store_of (drive_at r k)) v.blocks (kept_in v past) stands.sound.1.0 (those_kept (store_of (drive_at r k)) v past (those_since (store_of (drive_at r k)) past stands.sound.0))))
+          where
+            adds_it : added_on (record_in v (length past) (stood_in v (standing past)) s) (kept_in v past) ≡ Some w
+            adds_it = sym (ap (λ (o : Option Taken). write_of o (kept_in v past)) some) ∙ is
+
+    -- And if it was one to S-0-0128, phase 3 was commanded.
+    pub three_in : w.raw ≡ 128 → t.phase ≡ 3
+    three_in number = by (processes v past)
+      where
+        v : View
+        v = view_of r jobs carry restarts k t j
+
+        past : List View
+        past = views_of r jobs carry restarts k j
+
+        stored : IsStored (drive_at r k) (view_of r jobs carry restarts k t j).blocks
+        stored = stored_in r jobs carry restarts opened t j k below
+
+        rules : blocks_fault [] (drive_at r k).blocks ≡ None
+        rules = (ring_drive r k (drive_at r k) opened.valid (drive_got r k below)).blocks
+
+        by : Processes v past → t.phase ≡ 3
+        by (Nothing nothing) = let no : Some w ≡ None = sym is ∙ ap (λ (o : Option Taken). write_of o (kept_in v past)) nothing in absurd (cc)
+        by (Record s got came two some) =
+            sym (processed_phase v past came (omega (arith, two)))
+            ∙ in_three (drive_at r k) (stood_in v (standing past)) (bare_4 (drive_at r k) (find_block 128 v.blocks) (stood_in v (standing past)) w.bytes
+            (find-alike 128 v.blocks (store_of (drive_at r k)) (check_4 (drive_at r k)) (alike_so (drive_at r k) v.blocks stored.1) (found_4 (drive_at r k) rules))
+            (ap (λ (n : ℕ). put_fault (find_block n v.blocks) (stood_in v (standing past)) w.bytes) (sym number) ∙ allowed_in))
+
+-- FROM PHASE 3 ON a drive's check for phase 4 names its own blocks that are outside their limits.
+pub names_in : (r : RingView) (jobs : List Job) (carry : Carry) (restarts : Restarts) (opened : IsOpened r jobs) (k : ℕ) (below : k < length r.drives) (t : CycleView) (j : List CycleView) → IsRun r jobs carry restarts (t ∷ j) → IsClear (t ∷ j) → 3 ≤ t.phase
+    → unfit_for_phase_4 (view_of r jobs carry restarts k t j).blocks ≡ map (λ (b : Block). b.idn) (filter is_own_outside (view_of r jobs carry restarts k t j).blocks)
+names_in r jobs carry restarts opened k below t j run clear late =
+    let stored = stored_in r jobs carry restarts opened t j k below in
+    let held = holds_cycle r jobs carry restarts opened t j run clear late k below in
+    let fit = fits_in r jobs carry restarts opened t j run clear late in
+    names_own (drive_at r k) (view_of r jobs carry restarts k t j).blocks r.cycle stored.0 (ring_drive r k (drive_at r k) opened.valid (drive_got r k below)).blocks stored.1 held.1.1.0
+    (cycle_some r.cycle (s_known r jobs carry restarts opened (first_store r jobs carry restarts opened)).cycles.cycle).1 (fit.low k below) (fit.high k below)
+
+module _ (r : RingView) (jobs : List Job) (carry : Carry) (restarts : Restarts) (opened : IsOpened r jobs) (k : ℕ)
+    (below : k < length r.drives) (none : list_any is_outside (drive_at r k).blocks ≡ false) where
+  rules : blocks_fault [] (drive_at r k).blocks ≡ None
+  rules = (ring_drive r k (drive_at r k) opened.valid (drive_got r k below)).blocks
+
+  own_inside : (h : List DriveCall) (n : ℕ) → IsAt n (λ b. is_own_outside b ≡ false) (blocks_in (drive_at r k) (annals (drive_at r k) r.rate h))
+  own_inside h n = stays_at (drive_at r k) n (λ b. is_own_outside b ≡ false) (own_stays (drive_at r k) rules none n) r.rate h (first_store r jobs carry restarts opened k below).ascending
+
+  pub sets_well : (t : CycleView) (j : List CycleView) → IsRun r jobs carry restarts (t ∷ j) → IsClear (t ∷ j) → SetsWell (view_of r jobs carry restarts k t j) (views_of r jobs carry restarts k j)
+  sets_well t j run clear w is number = ends_so v.commands.rate (with_data 128 w.bytes v.blocks) (none_listed is_outside (with_data 128 w.bytes v.blocks) (ascends d v.blocks 128 (stood_in v (standing past)) w.bytes stored.0.ascending stored.1 allowed) after)
+    where
+      v : View
+      v = view_of r jobs carry restarts k t j
+
+      past : List View
+      past = views_of r jobs carry restarts k j
+
+      d : DriveView
+      d = drive_at r k
+
+      stored : IsStored (drive_at r k) (view_of r jobs carry restarts k t j).blocks
+      stored = stored_in r jobs carry restarts opened t j k below
+
+      allowed : put_fault (find_block 128 (view_of r jobs carry restarts k t j).blocks) (stood_in (view_of r jobs carry restarts k t j) (standing (views_of r jobs carry restarts k j))) w.bytes ≡ None
+      allowed = ap (λ (n : ℕ). put_fault (find_block n (view_of r jobs carry restarts k t j).blocks) (stood_in (view_of r jobs carry restarts k t j) (standing (views_of r jobs carry restarts k j))) w.bytes) (sym number)
+          ∙ allowed_in r jobs carry restarts opened k below t j run clear w is
+
+      late : 3 ≤ t.phase
+      late = let is_three = three_in r jobs carry restarts opened k below t j run clear w is number in omega (arith, is_three)
+
+      own : filter is_own_outside (view_of r jobs carry restarts k t j).blocks ≡ []
+      own = none_listed is_own_outside (view_of r jobs carry restarts k t j).blocks stored.0.ascending (own_inside (given_mst carry restarts t.sent j k))
+
+      unfit : unfit_for_phase_4 (view_of r jobs carry restarts k t j).blocks ≡ []
+      unfit = names_in r jobs carry restarts opened k below t j run clear late ∙ ap (λ (l : List Block). map (λ (b : Block). b.idn) l) own
+
+      before : (n : ℕ) → IsAt n (λ b. is_outside b ≡ false) (view_of r jobs carry restarts k t j).blocks
+      before n = none_at is_outside n (view_of r jobs carry restarts k t j).blocks (none_any is_outside (view_of r jobs carry restarts k t j).blocks (names_none (view_of r jobs carry restarts k t j).blocks unfit))
+
+      after : (n : ℕ) → IsAt n (λ b. is_outside b ≡ false) (with_data 128 w.bytes (view_of r jobs carry restarts k t j).blocks)
+      after n = written_at n 128 w.bytes (λ b. is_outside b ≡ false) (view_of r jobs carry restarts k t j).blocks
+          (λ same b found. within b w.bytes (no_data_fault (find_block 128 (view_of r jobs carry restarts k t j).blocks) b (stood_in (view_of r jobs carry restarts k t j) (standing (views_of r jobs carry restarts k j))) w.bytes
+          (ap (λ (m : ℕ). find_block m (view_of r jobs carry restarts k t j).blocks) same ∙ found) allowed)) (before n)

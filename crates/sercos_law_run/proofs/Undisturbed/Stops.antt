@@ -1,0 +1,12 @@
+pub mod StopStays
+pub mod RefusedSteps
+pub mod RefusedCauses
+pub mod RefusedRuns
+pub mod RefusedJobs
+pub mod RefusedStops
+pub mod StopsTold
+pub mod TwoStops
+pub mod LateSteps
+pub mod LaterStops
+pub mod LongWrites
+pub mod StopOnce

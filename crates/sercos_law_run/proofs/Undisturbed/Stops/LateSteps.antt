@@ -1,0 +1,171 @@
+-- The newest step of a request that is begun in phase 3 or later was accepted in such a phase.
+use Rattle.std.proofs.Common.{◌≡◌, inl, inr, ℕ, ◌+◌, ◌<◌, ◌≤◌, Bool, true, false, List, [], ◌∷◌, length, Option, Some, None, refl, sym, ap, ◌∙◌, subst, arith, if◌then◌else◌, length-append}
+use Rattle.std.proofs.lemmas.Option.{none-some}
+use Rattle.std.specs.Prelude.{is_some}
+use Rattle.std.proofs.lemmas.Bool.{cases_lt}
+use mathlib.Core.Bool.{beq}
+use Rattle.sercos_step.specs.declared.request.Job.{Job}
+use Rattle.sercos_step.specs.declared.request.Request.{Request}
+use Rattle.sercos_step.specs.declared.request.Request.TheVariants as request
+use Rattle.sercos_idn.specs.declared.idn.Idn.{Idn}
+use Rattle.sercos_step.specs.declared.step.Answer.{Answer}
+use Rattle.sercos_step.specs.declared.step.Step.{Step}
+use Rattle.sercos_block.specs.Views.{RingView}
+use Rattle.sercos_service_drive.specs.Log.{Taken, Entry, ahs, accepted}
+use Rattle.sercos_service_drive.specs.Replies.{answered, log_of}
+use Rattle.sercos_service_master.specs.Begun.{Begun, steps_begun, steps_in, step_at, with_step, answers_it, answer_in, with_answer}
+use Rattle.sercos_trace.specs.Views.{CycleView}
+use Rattle.sercos_trace.specs.declared.events.Fall.{Fall}
+use Rattle.sercos_seat.specs.Agenda.{reads_count}
+use Rattle.sercos_seat.specs.Ring.{known_of, member}
+use Rattle.sercos_master.specs.Annals.{fall_of}
+use Rattle.sercos_script.specs.Links.{Carry, Restarts}
+use Rattle.sercos_law_channel.specs.Handshake.Epochs.{epoch_begun, begun_in, epoch_taken, taken_in_views, epoch_log, log_in, unless_restart, with_heard, with_begun}
+use Rattle.sercos_law_channel.specs.Handshake.InStep.{AreInStep, Idle, Sent, Kept}
+use Rattle.sercos_law_channel.specs.Handshake.Views.{Heard, View, with_record, processed_in}
+use Rattle.sercos_law_run.specs.Journal.Runs.{IsRun, IsClear}
+use Rattle.sercos_law_run.specs.Views.RingViews.{behind_mdt, view_of, views_of}
+use Rattle.sercos_law_run.specs.Held.Opened.{IsOpened}
+use Rattle.sercos_law_run.specs.Journal.Runs.{drive_at}
+use Rattle.sercos_law_run.proofs.Headline.HeadlineRuns.{all_stand}
+use Rattle.sercos_law_run.proofs.Undisturbed.StaysUp.{phase_now}
+use Rattle.sercos_law_run.proofs.Undisturbed.JobsBegun.{few_then}
+use Rattle.sercos_law_run.proofs.Undisturbed.Arriving.Small.{first_is, nothing_there}
+use Rattle.sercos_law_channel.proofs.Theorems.{length-steps_of}
+use Rattle.sercos_law_channel.proofs.Handshake.EpochRuns.{in_step}
+use Rattle.sercos_law_channel.proofs.Handshake.RunFacts.{processes_in_phase}
+
+-- STEPS: an answer leaves those that were begun
+more_steps : (r : Request) (a : Answer) (h : List Answer) → length (steps_begun r h) ≤ length (steps_begun r (a ∷ h))
+more_steps r a h = by (step_at r (a ∷ h))
+  where
+    by : (o : Option Step) → length (steps_begun r h) ≤ length (with_step o (steps_begun r h))
+    by None = omega arith
+    by (Some s) = omega arith
+
+heard_steps : (o : Option Heard) (begun : List Begun) → length (steps_in begun) ≤ length (steps_in (with_heard o begun))
+heard_steps None begun = omega arith
+heard_steps (Some a) begun = by (answers_it begun a.status) begun
+  where
+    by : (on : Bool) (l : List Begun) → length (steps_in l) ≤ length (steps_in (if on then with_answer (answer_in a.status a.word) l else l))
+    by false l = omega arith
+    by true [] = omega arith
+    by true (b ∷ older) =
+        let few = more_steps b.request (answer_in a.status a.word) b.answers in
+        let here = length-append (steps_begun b.request b.answers) (steps_in older) in
+        let there = length-append (steps_begun b.request (answer_in a.status a.word ∷ b.answers)) (steps_in older) in omega (arith, few, here, there)
+
+-- the request that goes on has the same ones before it
+record HasHead (begun older : List Begun) : Type 0 where
+  first : Begun
+  split : begun ≡ first ∷ older
+
+heard_head : (o : Option Heard) (begun : List Begun) (one : Begun) (older : List Begun) → with_heard o begun ≡ one ∷ older → HasHead begun older
+heard_head None begun one older is = record { first = one; split = is }
+heard_head (Some a) begun one older is = by (answers_it begun a.status) begun is
+  where
+    by : (on : Bool) (l : List Begun) → (if on then with_answer (answer_in a.status a.word) l else l) ≡ one ∷ older → HasHead l older
+    by false l is = record { first = one; split = is }
+    by true [] is = absurd (nothing_there one older is)
+    by true (b ∷ rest) is = record { first = b; split = ap (λ (l : List Begun). b ∷ l) (first_is _ one rest older is).1 }
+
+-- the drive has accepted no more steps than were begun
+few_accepted : (begun : List Begun) (log : List Entry) → AreInStep begun log → length log ≤ length (steps_in begun)
+few_accepted begun log (Idle none steps answers) = let same = ap (λ (l : List Step). length l) steps in let all = length-steps_of log in omega (arith, same, all)
+few_accepted begun log (Sent s some steps answers) = let same = ap (λ (l : List Step). length l) steps in let all = length-steps_of log in omega (arith, same, all)
+few_accepted begun log (Kept e before some is steps answers) = let same = ap (λ (l : List Step). length l) steps in let all = length-steps_of log in omega (arith, same, all)
+
+-- a request for a procedure command has a first step
+pub first_step : (i : Idn) (h : List Answer) → 1 ≤ length (steps_begun (request.Command i) h)
+first_step i [] = omega arith
+first_step i (a ∷ h) = let some = first_step i h in let more = more_steps (request.Command i) a h in omega (arith, some, more)
+
+-- where no step is open, all were accepted, so those of the older requests are fewer
+pub older_fewer : (one : Begun) (older : List Begun) (log rest : List Entry) (e : Entry) → AreInStep (one ∷ older) log → step_at one.request one.answers ≡ None → 1 ≤ length (steps_begun one.request one.answers) → log ≡ e ∷ rest
+    → length (steps_in older) ≤ length rest
+older_fewer one older log rest e (Idle none steps answers) ended some is =
+    let same = ap (λ (l : List Step). length l) steps in
+    let parts = length-append (steps_begun one.request one.answers) (steps_in older) in
+    let all = length-steps_of log in
+    let long = ap (λ (l : List Entry). length l) is in omega (arith, same, parts, all, long, some)
+older_fewer one older log rest e (Sent s open_is steps answers) ended some is = absurd (none-some s (sym ended ∙ open_is))
+older_fewer one older log rest e (Kept x before open_is split steps answers) ended some is = absurd (none-some x.taken.step (sym ended ∙ open_is))
+
+-- The newest accepted step is one of the newest request, if the log is longer than the steps of the others. Then it was accepted in this
+-- phase or a later one, if n requests or more came before it.
+abbrev pub IsLate : ℕ → ℕ → List Begun → List Entry → Type 0
+IsLate n phase begun log = (one : Begun) (older : List Begun) (e : Entry) (rest : List Entry) → begun ≡ one ∷ older → n ≤ length older → log ≡ e ∷ rest → length (steps_in older) ≤ length rest → phase ≤ e.taken.phase
+
+cycle_late : (n phase : ℕ) (v : View) (past : List View) → AreInStep (epoch_begun past) (epoch_log past) → (n < length (begun_in v past)
+    → phase ≤ v.phase) → IsLate n phase (epoch_begun past) (epoch_log past) → IsLate n phase (begun_in v past) (log_in v past)
+cycle_late n phase v past in_step is_late late one older e rest begun many log steps = by (processed_in v past) refl log
+  where
+    high : phase ≤ v.phase
+    high = is_late (let long = ap (λ (l : List Begun). length l) begun in omega (arith, long, many))
+
+    -- nothing was accepted in this cycle
+    kept : (restarts : Bool) → log_of (if restarts then [] else epoch_taken past) ≡ e ∷ rest → with_begun v.begins (with_heard v.heard (if restarts then [] else epoch_begun past)) ≡ one ∷ older → phase ≤ e.taken.phase
+    kept true same split = absurd (nothing_there e rest same)
+    kept false same split = which v.begins split
+      where
+        which : (o : Option Request) → with_begun o (with_heard v.heard (epoch_begun past)) ≡ one ∷ older → phase ≤ e.taken.phase
+        which None is = let head = heard_head v.heard (epoch_begun past) one older is in late head.first older e rest head.split many same steps
+        which (Some r) is =
+            let behind = ap (λ (l : List Begun). length (steps_in l)) (first_is _ one (with_heard v.heard (epoch_begun past)) older is).1 in
+            let few = few_accepted (epoch_begun past) (epoch_log past) in_step in
+            let more = heard_steps v.heard (epoch_begun past) in
+            let long = ap (λ (l : List Entry). length l) same in absurd (omega (arith, behind, few, more, long, steps))
+
+    dropped : log_of (unless_restart v (epoch_taken past)) ≡ e ∷ rest → phase ≤ e.taken.phase
+    dropped same = kept v.master_restarts same begun
+
+    by : (o : Option Taken) → processed_in v past ≡ o → log_of (with_record o (unless_restart v (epoch_taken past))) ≡ e ∷ rest → phase ≤ e.taken.phase
+    by None none same = dropped same
+    by (Some t) some same = which (beq t.mhs (ahs (unless_restart v (epoch_taken past)))) same
+      where
+        which : (again : Bool) → answered (if again then accepted (unless_restart v (epoch_taken past)) else t ∷ accepted (unless_restart v (epoch_taken past))) ≡ e ∷ rest → phase ≤ e.taken.phase
+        which true is = dropped is
+        which false is =
+            let this : t ≡ e.taken = ap (λ (x : Entry). x.taken) (first_is _ e (answered (accepted (unless_restart v (epoch_taken past)))) rest is).0 in
+            let now = (processes_in_phase v past t some).0 in
+            subst (λ (x : Taken). phase ≤ x.phase) this (let is_high = high in omega (arith, is_high, now))
+
+module _ (r : RingView) (jobs : List Job) (carry : Carry) (restarts : Restarts) (opened : IsOpened r jobs) (k : ℕ)
+    (below : k < length r.drives) where
+  -- the check for phase 4 comes 12 requests after the reads
+  abbrev pub ChecksLate : List Begun → List Entry → Type 0
+  ChecksLate = IsLate (reads_count (member (known_of r) k) + 12) 3
+
+  -- in a cycle
+  late_in_cycle : (t : CycleView) (j : List CycleView) → IsRun r jobs carry restarts (t ∷ j) → IsClear (t ∷ j)
+      → ChecksLate (epoch_begun (views_of r jobs carry restarts k j)) (epoch_log (views_of r jobs carry restarts k j)) → ChecksLate (begun_in (view_of r jobs carry restarts k t j) (views_of r jobs carry restarts k j)) (log_in (view_of r jobs carry restarts k t j) (views_of r jobs carry restarts k j))
+  late_in_cycle t j run clear before = cycle_late (reads_count (member (known_of r) k) + 12) 3 (view_of r jobs carry restarts k t j)
+      (views_of r jobs carry restarts k j)
+      (in_step (drive_at r k).busy (views_of r jobs carry restarts k j) (all_stand r jobs carry restarts opened j run.0 clear.0 k below).sees.run)
+      high before
+    where
+      high : reads_count (member (known_of r) k) + 12 < length (begun_in (view_of r jobs carry restarts k t j) (views_of r jobs carry restarts k j)) → 3 ≤ t.phase
+      high many = elim (cases_lt t.phase 3) [
+        | inl low ↦
+            let same = phase_now r jobs carry restarts opened t j run.1 in
+            let few = few_then r jobs carry restarts opened t j run clear k below (omega (arith, same, low)) in absurd (omega (arith, few, many))
+        | inr there ↦ omega (arith, there)
+      ]
+
+  late_at : (j : List CycleView) → IsRun r jobs carry restarts j → IsClear j → ChecksLate (epoch_begun (views_of r jobs carry restarts k j)) (epoch_log (views_of r jobs carry restarts k j))
+  late_at [] run clear = λ one older e rest begun many log steps. absurd (nothing_there one older begun)
+  late_at (t ∷ j) run clear = by (fall_of (known_of r) (behind_mdt r jobs carry restarts t.sent j)) refl (late_at j run.0 clear.0)
+    where
+      v : View
+      v = view_of r jobs carry restarts k t j
+
+      past : List View
+      past = views_of r jobs carry restarts k j
+
+      by : (o : Option Fall) → fall_of (known_of r) (behind_mdt r jobs carry restarts t.sent j) ≡ o → ChecksLate (epoch_begun past) (epoch_log past) → ChecksLate (epoch_begun (v ∷ past)) (epoch_log (v ∷ past))
+      by None stays before = subst (λ (fell : Bool). ChecksLate (if fell then [] else begun_in v past) (log_of (if fell then [] else taken_in_views v past))) (sym (ap (λ (o : Option Fall). is_some o) stays)) (late_in_cycle t j run clear before)
+      by (Some f) falls before = subst (λ (fell : Bool). ChecksLate (if fell then [] else begun_in v past) (log_of (if fell then [] else taken_in_views v past))) (sym (ap (λ (o : Option Fall). is_some o) falls)) (λ one older e rest begun many log steps. absurd (nothing_there one older begun))
+
+  pub late_now : (t : CycleView) (j : List CycleView) → IsRun r jobs carry restarts (t ∷ j) → IsClear (t ∷ j)
+      → ChecksLate (begun_in (view_of r jobs carry restarts k t j) (views_of r jobs carry restarts k j)) (log_in (view_of r jobs carry restarts k t j) (views_of r jobs carry restarts k j))
+  late_now t j run clear = late_in_cycle t j run clear (late_at j run.0 clear.0)

@@ -1,0 +1,59 @@
+-- A stop stays as long as the ring doesn't fall and the master doesn't restart.
+use Rattle.std.proofs.Common.{◌≡◌, ℕ, true, List, [], ◌∷◌, length, Option, Some, None, refl, sym, ◌∙◌, ap}
+use Rattle.std.specs.Prelude.{is_some, slice_index}
+use Rattle.sercos_telegram.specs.declared.layout.Kind.TheVariants as kinds
+use Rattle.sercos_step.specs.declared.request.Job.{Job}
+use Rattle.sercos_block.specs.Views.{RingView}
+use Rattle.sercos_trace.specs.declared.events.Stop.{Stop}
+use Rattle.sercos_trace.specs.Views.{CycleView}
+use Rattle.sercos_seat.specs.Ring.{Known, known_of}
+use Rattle.sercos_master.specs.Annals.{Past, Call, after_at, first_trouble, with_due_plan, after_mdt, fall_of}
+use Rattle.sercos_master.proofs.Rings.{due_stopped, stop_stays}
+use Rattle.sercos_script.specs.Links.{Carry, Restarts}
+use Rattle.sercos_law_run.specs.Journal.Arrivals.{heard, passage}
+use Rattle.sercos_law_run.specs.Journal.Records.{mst_in, ats_in}
+use Rattle.sercos_law_run.specs.Journal.Runs.{station_of, with_at, at_calls, looks_back, master_calls, own_mst, begins}
+use Rattle.sercos_law_run.specs.Views.RingViews.{at_start, behind_mdt, behind_ats}
+use Rattle.sercos_law_run.proofs.Undisturbed.PhaseCounts.{end_kept}
+use Rattle.sercos_law_run.proofs.Undisturbed.Arriving.AfterAt.{after_at_so}
+
+at_stop : (s : Known) (content : List ℕ) (p : Past) → (after_at s content p).stop ≡ p.stop
+at_stop s content p = after_at_so (λ q. q.stop ≡ p.stop) s content p refl (λ k. refl)
+
+-- what no AT changes is the same after all of them
+pub ats_same : {A : Type 0} (f : Past → A) → ((s : Known) (content : List ℕ) (p : Past) → f (after_at s content p) ≡ f p) → (r : RingView) (jobs : List Job) (carry : Carry) (cycle : ℕ) (ats : List (List ℕ)) (h : List Call)
+    → f (looks_back r jobs (at_calls r carry cycle ats h)) ≡ f (looks_back r jobs h)
+ats_same f same r jobs carry cycle [] h = refl
+ats_same f same r jobs carry cycle (at ∷ ats) h = ats_same f same r jobs carry cycle ats _ ∙ by (heard carry (passage cycle kinds.At (station_of r (slice_index at 0)) 0) at)
+  where
+    by : (o : Option (List ℕ)) → f (looks_back r jobs (with_at o h)) ≡ f (looks_back r jobs h)
+    by None = refl
+    by (Some content) = same (known_of r) content (looks_back r jobs h)
+
+pub ats_stop : (r : RingView) (jobs : List Job) (carry : Carry) (cycle : ℕ) (ats : List (List ℕ)) (h : List Call) → (looks_back r jobs (at_calls r carry cycle ats h)).stop ≡ (looks_back r jobs h).stop
+ats_stop = ats_same (λ (p : Past). p.stop) at_stop
+
+pub mdt_stop : (s : Known) (p : Past) → is_some p.stop ≡ true → (after_mdt s p).stop ≡ p.stop
+mdt_stop s p some = ap (λ (q : Past). (with_due_plan s q).stop) (stop_stays (first_trouble s p) p some) ∙ ap (λ (q : Past). q.stop) (due_stopped s p some)
+
+module _ (r : RingView) (jobs : List Job) (carry : Carry) (restarts : Restarts) where
+  -- from the end of a cycle to the MDT's place of the next
+  pub stop_kept : (t : CycleView) (j : List CycleView) → at_start r jobs carry restarts j ≡ looks_back r jobs (master_calls r carry restarts j) → is_some (looks_back r jobs (master_calls r carry restarts j)).stop ≡ true
+      → (behind_mdt r jobs carry restarts t.sent j).stop ≡ (looks_back r jobs (master_calls r carry restarts j)).stop
+  stop_kept t j same some = mdt_stop (known_of r) (behind_ats r jobs carry restarts t.sent j) (ap (λ (o : Option Stop). is_some o) before ∙ some) ∙ before
+    where
+      before : (behind_ats r jobs carry restarts t.sent j).stop ≡ (looks_back r jobs (master_calls r carry restarts j)).stop
+      before = ats_stop r jobs carry (length j) (ats_in t.sent) (own_mst carry (length j) (mst_in t.sent) (begins r carry restarts j)) ∙ ap (λ (p : Past). p.stop) same
+
+  pub none_before : (t : CycleView) (j : List CycleView) → at_start r jobs carry restarts j ≡ looks_back r jobs (master_calls r carry restarts j) → (behind_mdt r jobs carry restarts t.sent j).stop ≡ None
+      → (looks_back r jobs (master_calls r carry restarts j)).stop ≡ None
+  none_before t j same none = by (looks_back r jobs (master_calls r carry restarts j)).stop refl
+    where
+      by : (o : Option Stop) → (looks_back r jobs (master_calls r carry restarts j)).stop ≡ o → (looks_back r jobs (master_calls r carry restarts j)).stop ≡ None
+      by None is = is
+      by (Some x) is = let both : None ≡ Some x = sym none ∙ stop_kept t j same (ap (λ (o : Option Stop). is_some o) is) ∙ is in absurd (cc)
+
+  -- and to its end
+  pub stop_after : (t : CycleView) (j : List CycleView) → fall_of (known_of r) (behind_mdt r jobs carry restarts t.sent j) ≡ None
+      → (looks_back r jobs (master_calls r carry restarts (t ∷ j))).stop ≡ (behind_mdt r jobs carry restarts t.sent j).stop
+  stop_after t j none = ap (λ (p : Past). p.stop) (end_kept (known_of r) (behind_mdt r jobs carry restarts t.sent j) none)

@@ -1,0 +1,102 @@
+-- Each stop was told in the record of a cycle of the run, so it is there for its cause.
+use Rattle.std.proofs.Common.{◌≡◌, ◌⊎◌, inl, inr, ◌+◌, Bool, true, false, List, [], ◌∷◌, length, Option, Some, None, refl, sym, ap, ◌∙◌, subst, if◌then◌else◌}
+use Rattle.std.specs.Prelude.{is_some}
+use Rattle.std.specs.Option.{option_or}
+use Rattle.std.proofs.lemmas.Bool.{false≢true}
+use Rattle.sercos_step.specs.declared.request.Job.{Job}
+use Rattle.sercos_block.specs.Views.{RingView}
+use Rattle.sercos_trace.specs.Views.{CycleView, EventsView}
+use Rattle.sercos_trace.specs.declared.events.Fall.{Fall}
+use Rattle.sercos_trace.specs.declared.events.Stop.{Stop}
+use Rattle.sercos_seat.specs.Ring.{Known, known_of}
+use Rattle.sercos_master.specs.Annals.{Past, after_mdt, fall_of, is_done, still_waiting, new_epoch, goes_on, after_end}
+use Rattle.sercos_master.specs.Reports.{stop_told, restart_told}
+use Rattle.sercos_master.proofs.Keeping.{settled_keeps}
+use Rattle.sercos_script.specs.Links.{Carry, Restarts}
+use Rattle.sercos_law_run.specs.Journal.Records.{mst_in, ats_in}
+use Rattle.sercos_law_run.specs.Journal.Runs.{own_mst, begins, master_calls, looks_back, no_events, IsNext, IsRun, IsClear}
+use Rattle.sercos_law_run.specs.Views.RingViews.{at_start, behind_ats, behind_mdt}
+use Rattle.sercos_law_run.proofs.Views.MasterSame.{begun_cycle}
+use Rattle.sercos_law_run.proofs.Views.ViewRuns.{started}
+use Rattle.sercos_law_run.specs.Held.Opened.{IsOpened}
+use Rattle.sercos_law_run.specs.Headline.Stops.{StopsRight}
+use Rattle.sercos_law_run.proofs.Headline.HeadlineRuns.{keeps_all}
+use Rattle.sercos_law_run.specs.Undisturbed.WholeRuns.{HasTold}
+use Rattle.sercos_law_run.proofs.Undisturbed.Stops.StopStays.{ats_stop, mdt_stop, stop_after}
+use Rattle.sercos_law_run.proofs.Undisturbed.Arriving.Small.{none_some}
+
+-- A STOP THAT COMES is told.
+abbrev IsTold : Past → Type 0
+IsTold p = is_some p.stop ≡ true → p.now.stops ≡ true
+
+mdt_is_told : (s : Known) (p : Past) → p.stop ≡ None → IsTold (after_mdt s p)
+mdt_is_told s p none = settled_keeps IsTold s p (λ rests some. absurd (not_yet some)) (λ x free brings some. refl)
+    (λ plan makes some. absurd (not_yet some))
+  where
+    not_yet : is_some p.stop ≡ true → ⊥
+    not_yet some = false≢true (sym (ap (λ (o : Option Stop). is_some o) none) ∙ some)
+
+-- a ring that falls has no stop
+fallen_stop : (s : Known) (p : Past) (f : Fall) → fall_of s p ≡ Some f → (after_end s p).stop ≡ None
+fallen_stop s p f falls = ap (λ (o : Option Fall). (if is_some o then new_epoch (p.cycle + 1) (still_waiting p) else goes_on (if is_done s p then p.now.phase + 1 else p.now.phase) p).stop) falls
+
+module _ (r : RingView) (jobs : List Job) (carry : Carry) (restarts : Restarts) where
+  pub ats_kept : (t : CycleView) (j : List CycleView) → (behind_ats r jobs carry restarts t.sent j).stop ≡ (at_start r jobs carry restarts j).stop
+  ats_kept t j = ats_stop r jobs carry (length j) (ats_in t.sent) (own_mst carry (length j) (mst_in t.sent) (begins r carry restarts j))
+
+  begun_stop : (j : List CycleView) (x : Stop) → (at_start r jobs carry restarts j).stop ≡ Some x → (looks_back r jobs (master_calls r carry restarts j)).stop ≡ Some x
+  begun_stop j x is = by (restarts (length j) 0) (subst (λ (p : Past). p.stop ≡ Some x) (started r jobs (restarts (length j) 0) (master_calls r carry restarts j)) is)
+    where
+      by : (b : Bool) → (begun_cycle b (looks_back r jobs (master_calls r carry restarts j))).stop ≡ Some x → (looks_back r jobs (master_calls r carry restarts j)).stop ≡ Some x
+      by true is = absurd (none_some x is)
+      by false is = is
+
+  -- a stop of this cycle
+  pub fresh : (t : CycleView) (j : List CycleView) (x : Stop) → IsNext r jobs carry restarts t j → (at_start r jobs carry restarts j).stop ≡ None → (behind_mdt r jobs carry restarts t.sent j).stop ≡ Some x → t.events.stop ≡ Some x
+  fresh t j x next none is =
+      ap (λ (e : EventsView). e.stop) next.events
+      ∙ ap (λ (o : Option Stop). option_or o (if restarts (length j) 0 then restart_told (known_of r) (looks_back r jobs (master_calls r carry restarts j)) no_events else no_events).stop) says
+    where
+      stops : (behind_mdt r jobs carry restarts t.sent j).now.stops ≡ true
+      stops = mdt_is_told (known_of r) (behind_ats r jobs carry restarts t.sent j) (ats_kept t j ∙ none) (ap (λ (o : Option Stop). is_some o) is)
+
+      says : stop_told (behind_mdt r jobs carry restarts t.sent j) ≡ Some x
+      says = ap (λ (b : Bool). if b then (behind_mdt r jobs carry restarts t.sent j).stop else None) stops ∙ is
+
+  -- a stop that was there before, or one of this cycle
+  pub stop_at : (t : CycleView) (j : List CycleView) (x : Stop) (Before : Type 0) → IsNext r jobs carry restarts t j
+      → ((looks_back r jobs (master_calls r carry restarts j)).stop ≡ Some x → Before)
+      → (behind_mdt r jobs carry restarts t.sent j).stop ≡ Some x → (t.events.stop ≡ Some x) ⊎ Before
+  stop_at t j x Before next before is = by (at_start r jobs carry restarts j).stop refl
+    where
+      by : (o : Option Stop) → (at_start r jobs carry restarts j).stop ≡ o → (t.events.stop ≡ Some x) ⊎ Before
+      by None none = inl (fresh t j x next none is)
+      by (Some y) had =
+          let there : is_some (behind_ats r jobs carry restarts t.sent j).stop ≡ true = ap (λ (o : Option Stop). is_some o) (ats_kept t j ∙ had) in
+          inr (before (begun_stop j x (sym (ats_kept t j) ∙ sym (mdt_stop (known_of r) (behind_ats r jobs carry restarts t.sent j) there) ∙ is)))
+
+  at_end : (j : List CycleView) (x : Stop) → IsRun r jobs carry restarts j → (looks_back r jobs (master_calls r carry restarts j)).stop ≡ Some x → HasTold x j
+  at_end [] x run is = none_some x is
+  at_end (t ∷ j) x run is = by (fall_of (known_of r) (behind_mdt r jobs carry restarts t.sent j)) refl (at_end j x run.0)
+    where
+      by : (o : Option Fall) → fall_of (known_of r) (behind_mdt r jobs carry restarts t.sent j) ≡ o → ((looks_back r jobs (master_calls r carry restarts j)).stop ≡ Some x → HasTold x j) → HasTold x (t ∷ j)
+      by None stays before = stop_at t j x (HasTold x j) run.1 before (sym (stop_after r jobs carry restarts t j stays) ∙ is)
+      by (Some f) falls before = absurd (none_some x (sym (fallen_stop (known_of r) (behind_mdt r jobs carry restarts t.sent j) f falls) ∙ is))
+
+  -- THE STOP after the MDT's place was told.
+  pub stop_told_in : (t : CycleView) (j : List CycleView) (x : Stop) → IsRun r jobs carry restarts (t ∷ j) → (behind_mdt r jobs carry restarts t.sent j).stop ≡ Some x → HasTold x (t ∷ j)
+  stop_told_in t j x run is = stop_at t j x (HasTold x j) run.1 (at_end j x run.0) is
+
+-- What is told is right.
+told_right : (r : RingView) (jobs : List Job) (carry : Carry) (restarts : Restarts) → IsOpened r jobs → (j : List CycleView) (x : Stop) → IsRun r jobs carry restarts j → IsClear j → HasTold x j → StopsRight r (Some x)
+told_right r jobs carry restarts opened [] x run clear told = absurd told
+told_right r jobs carry restarts opened (t ∷ j) x run clear told = by told (told_right r jobs carry restarts opened j x run.0 clear.0)
+  where
+    by : (t.events.stop ≡ Some x) ⊎ HasTold x j → (HasTold x j → StopsRight r (Some x)) → StopsRight r (Some x)
+    by (inl here) rest = subst (StopsRight r) here (keeps_all r jobs carry restarts opened t j run clear).stops
+    by (inr there) rest = rest there
+
+pub stops_right : (r : RingView) (jobs : List Job) (carry : Carry) (restarts : Restarts) → IsOpened r jobs
+    → (t : CycleView) (j : List CycleView) (x : Stop) → IsRun r jobs carry restarts (t ∷ j) → IsClear (t ∷ j)
+    → (behind_mdt r jobs carry restarts t.sent j).stop ≡ Some x → StopsRight r (Some x)
+stops_right r jobs carry restarts opened t j x run clear is = told_right r jobs carry restarts opened (t ∷ j) x run clear (stop_told_in r jobs carry restarts t j x run is)
