@@ -15,9 +15,8 @@ use Rattle.sercos_drive.specs.declared.hearing.Told.{Told}
 use Rattle.sercos_drive.specs.Heard.{DriveCall, Mst, Mdt, Restart, mst_got, mdt_got}
 use Rattle.sercos_drive.specs.Moments.{Moment, AtMst, AtRestart, phase_in, cycle_in, has_mst, has_missed, unless_phase_0, with_record, write_in, taken_in, writes_in, blocks_in, commands_in, calls_in, blocks_after, calls_after, with_reset}
 use Rattle.sercos_drive.specs.Annals.{stands_in, takes, processed_in, ends_in, mdt_moment, annals}
-use Rattle.sercos_drive.specs.Kept.{DriveState, counted, KeepsMoments}
+use Rattle.sercos_drive.specs.Kept.{DriveState, IsSlot, counted, KeepsMoments}
 use Rattle.sercos_drive.specs.declared.slot.Slot.{Slot}
-use Rattle.sercos_drive.specs.Slots.{slot_of}
 use Rattle.sercos_drive.specs.Steps.{commands_after, goes_to, processed_by, counted_with, ends_with, IsEntered, IsProcessed}
 
 newest-with_reset : (phase : ℕ) (calls : List CommandCall) → newest_cycle (with_reset phase calls) ≡ newest_cycle calls
@@ -50,7 +49,7 @@ keeps-mst v w d rate cycle got past k later entered = by (rw (goes_to-stands_in 
       channel_is = e.channel d.busy (taken_in past) k.channel_is;
       commands_are = e.commands (commands_in d rate past) k.commands_are;
       blocks_is = ap (λ (x : DriveState). x.blocks) e.same ∙ k.blocks_is;
-      slot_is = ap (λ (x : DriveState). x.slot) e.same ∙ k.slot_is ∙ sym (ap (λ (x : DriveState). slot_of x.blocks) e.same);
+      slot_is = subst (λ (x : DriveState). IsSlot x.slot x.blocks) (sym e.same) k.slot_is;
       in_order = let order = k.in_order in rw (newest-with_reset (stands_in d rate cycle got past) (calls_in past)) (omega (arith, order, later));
     }
 
@@ -68,7 +67,7 @@ keeps-restart v w d rate past k e = record {
   channel_is = e.channel d.busy (taken_in past) k.channel_is;
   commands_are = e.commands (commands_in d rate past) k.commands_are;
   blocks_is = ap (λ (x : DriveState). x.blocks) e.same ∙ k.blocks_is;
-  slot_is = ap (λ (x : DriveState). x.slot) e.same ∙ k.slot_is ∙ sym (ap (λ (x : DriveState). slot_of x.blocks) e.same);
+  slot_is = subst (λ (x : DriveState). IsSlot x.slot x.blocks) (sym e.same) k.slot_is;
   in_order = k.in_order;
 }
 
@@ -100,9 +99,9 @@ pub processed_one : (v : DriveState) (channel : ChannelView) (commands : Command
     → blocks ≡ blocks_with (added_on t h) t.commands t.blocks
     → CommandsStandFor commands (commands_with (added_on t h) t.blocks c)
     → ChannelStandsFor channel busy (t ∷ h)
-    → slot ≡ (if added then slot_of blocks else v.slot)
+    → (added ≡ true → IsSlot slot blocks) → (added ≡ false → slot ≡ v.slot)
     → IsProcessed v (record v { channel = channel; commands = commands; blocks = blocks; slot = slot; writes = if added then counted (v.writes + 1) else v.writes }) busy c (Some t) h
-processed_one v channel commands blocks slot added busy c t h old_blocks added_is blocks_is commands_are stands slot_is = record {
+processed_one v channel commands blocks slot added busy c t h old_blocks added_is blocks_is commands_are stands anew still = record {
   same = rw (added_is, blocks_is) (by (added_on t h));
   slot = λ before. slots (added_on t h) added_is blocks_is before;
   channel = stands;
@@ -115,9 +114,9 @@ processed_one v channel commands blocks slot added busy c t h old_blocks added_i
     by None = refl
     by (Some w) = refl
 
-    slots : (w : Option Write) → added ≡ is_some w → blocks ≡ blocks_with w t.commands t.blocks → v.slot ≡ slot_of v.blocks → slot ≡ slot_of blocks
-    slots None none same before = slot_is ∙ ap (λ (b : Bool). if b then slot_of blocks else v.slot) none ∙ before ∙ ap slot_of (sym (same ∙ old_blocks))
-    slots (Some w) some same before = slot_is ∙ ap (λ (b : Bool). if b then slot_of blocks else v.slot) some
+    slots : (w : Option Write) → added ≡ is_some w → blocks ≡ blocks_with w t.commands t.blocks → IsSlot v.slot v.blocks → IsSlot slot blocks
+    slots None none same before = rw (still none, same, old_blocks) before
+    slots (Some w) some same before = anew some
 
 pub not_processed : (v : DriveState) (busy : ℕ) (c : CommandHistory) (h : List Taken) → ChannelStandsFor v.channel busy h → CommandsStandFor v.commands c → IsProcessed v v busy c None h
 not_processed v busy c h stands commands = record { same = refl; slot = λ before. before; channel = stands; commands = commands }
@@ -193,7 +192,7 @@ keeps-mdt v w x d rate told past k processed took took_is entered =
       channel_is = e.channel d.busy (with_record r (taken_in past)) p.channel;
       commands_are = e.commands (commands_after r (taken_in past) (commands_in d rate past)) p.commands;
       blocks_is = ap (λ (y : DriveState). y.blocks) e.same ∙ ap (λ (y : DriveState). y.blocks) p.same ∙ ap (blocks_after r (taken_in past)) k.blocks_is;
-      slot_is = ap (λ (y : DriveState). y.slot) e.same ∙ p.slot k.slot_is ∙ sym (ap (λ (y : DriveState). slot_of y.blocks) e.same);
+      slot_is = subst (λ (y : DriveState). IsSlot y.slot y.blocks) (sym e.same) (p.slot k.slot_is);
       in_order = rw (newest-with_reset end (calls_after r (taken_in past) (calls_in past))) (rw r_is at (newest-after d rate told past k.in_order));
     })
 

@@ -1,13 +1,13 @@
 -- What is kept of the blocks gives the values that an AT carries.
-use Rattle.std.proofs.Common.{◌≡◌, ℕ, zero, suc, ◌+◌, ◌*◌, ◌%◌, ◌<◌, ◌≤◌, ◌==◌, nat_lt, nat_le, Bool, true, false, not, ◌&&◌, List, [], ◌∷◌, ◌++◌, length, get_or, Option, Some, None, refl, sym, ◌∙◌, ap, ap₂, cond, subst, if◌then◌else◌, arith}
+use Rattle.std.proofs.Common.{◌≡◌, ℕ, zero, suc, ◌+◌, ◌*◌, ◌%◌, ◌<◌, ◌≤◌, ◌==◌, nat_lt, nat_le, Bool, true, false, not, ◌&&◌, List, [], ◌∷◌, ◌++◌, length, append-nil, get_or, Option, Some, None, refl, sym, ◌∙◌, ap, cond, subst, if◌then◌else◌, arith}
 use Rattle.std.specs.Prelude.{option_and_then, unwrap_or}
-use Rattle.std.specs.List.{flat_map, filter_map, cons_option, list_all}
+use Rattle.std.specs.List.{flat_map, list_all}
 use Rattle.std.specs.Int.{to_le_bytes, from_le_bytes, w16, w32}
 use Rattle.std.proofs.Math.Nat.{mod-eq_of_lt}
 use Rattle.std.proofs.lemmas.Nat.{le_bytes_2, le_bytes_4}
 use Rattle.std.proofs.lemmas.Bool.{and_parts}
 use Rattle.std.proofs.lemmas.Bool.Decides.{nat_tests}
-use Rattle.std.proofs.lemmas.List.Concat.{flat_map-cons}
+use Rattle.std.proofs.lemmas.Grind.{flat_map-append}
 use Rattle.sercos_telegram.specs.declared.words.Status.{Status}
 use Rattle.sercos_telegram.specs.Spells.{word_bytes, fields, at_content}
 use Rattle.sercos_idn.specs.declared.idn.Idn.{Idn}
@@ -23,7 +23,8 @@ use Rattle.sercos_drive.specs.declared.feedback.FeedbackValue.{FeedbackValue}
 use Rattle.sercos_command.specs.Checks.{idns_at}
 use Rattle.sercos_drive.specs.Says.{bytes_in_cycle, value_in, values_in}
 use Rattle.sercos_drive.specs.declared.slot.Slot.{Slot}
-use Rattle.sercos_drive.specs.Slots.{feedback_in, feedback_of, bytes_at, slot_of}
+use Rattle.sercos_drive.specs.Slots.{feedback_in, feedback_of, bytes_at, feedback_bytes}
+use Rattle.sercos_drive.specs.Kept.{IsSlot}
 
 -- the operation data of a block in a store are bytes
 abbrev AreBytes : List ℕ → Type 0
@@ -91,45 +92,32 @@ not_list : (a b : Bool) → (not a && b) ≡ true → a ≡ false
 not_list false b is = refl
 not_list true b is = cc
 
-abbrev shown : ℕ → Option FeedbackValue → List ℕ
-shown cycle None = []
-shown cycle (Some v) = bytes_at cycle v
-
-value_kept : (cycle : ℕ) (blocks : List Block) (idn : Idn) → IsStore blocks → shown cycle (feedback_of blocks idn) ≡ value_in cycle blocks idn
+pub value_kept : (cycle : ℕ) (blocks : List Block) (idn : Idn) → IsStore blocks → feedback_bytes cycle (feedback_of blocks idn) ≡ value_in cycle blocks idn
 unfolding value_in
 value_kept cycle blocks idn store = by (find_block idn.raw blocks) refl
   where
     number : (b : Block) → find_block idn.raw blocks ≡ Some b → (t : Bool) → is_number b.attribute ≡ t
-        → shown cycle (if t then Some (kept b) else None) ≡ unwrap_or (if t then Some (data_in cycle b) else None) []
+        → feedback_bytes cycle (if t then Some (kept b) else None) ≡ unwrap_or (if t then Some (data_in cycle b) else None) []
     number b found true is =
         let single = not_list (is_list b.attribute.length) _ is in
         data_kept cycle b single (value_len b single (found_sound idn.raw blocks b store.sound found)) (typed_bytes b (found_typed idn.raw blocks b store.typed found))
     number b found false is = refl
 
-    by : (o : Option Block) → find_block idn.raw blocks ≡ o → shown cycle (option_and_then feedback_in o) ≡ unwrap_or (option_and_then (bytes_in_cycle cycle) o) []
+    by : (o : Option Block) → find_block idn.raw blocks ≡ o → feedback_bytes cycle (option_and_then feedback_in o) ≡ unwrap_or (option_and_then (bytes_in_cycle cycle) o) []
     by None is = refl
     by (Some b) is = number b is (is_number b.attribute) refl
 
-one_more : (cycle : ℕ) (o : Option FeedbackValue) (rest : List FeedbackValue) → flat_map (bytes_at cycle) (cons_option o rest) ≡ shown cycle o ++ flat_map (bytes_at cycle) rest
-one_more cycle None rest = refl
-one_more cycle (Some v) rest = flat_map-cons (bytes_at cycle) v rest
-
--- in a store that keeps its rules
-kept_values : (cycle : ℕ) (blocks : List Block) (idns : List Idn) → IsStore blocks
-    → flat_map (bytes_at cycle) (filter_map (feedback_of blocks) idns) ≡ flat_map (value_in cycle blocks) idns
-kept_values cycle blocks [] store = refl
-kept_values cycle blocks (idn ∷ idns) store =
-    one_more cycle (feedback_of blocks idn) (filter_map (feedback_of blocks) idns)
-    ∙ ap₂ (λ (a b : List ℕ). a ++ b) (value_kept cycle blocks idn store) (kept_values cycle blocks idns store)
-    ∙ sym (flat_map-cons (value_in cycle blocks) idn idns)
+-- one value more
+pub one_more : (cycle : ℕ) (values : List FeedbackValue) (o : Option FeedbackValue) (v : FeedbackValue) → o ≡ Some v
+    → flat_map (bytes_at cycle) (values ++ v ∷ []) ≡ flat_map (bytes_at cycle) values ++ feedback_bytes cycle o
+one_more cycle values o v is = rw is (flat_map-append (bytes_at cycle) values (v ∷ []) ∙ ap (λ (rest : List ℕ). flat_map (bytes_at cycle) values ++ rest) (append-nil (bytes_at cycle v)))
 
 -- what is kept of it gives the values of an AT
-pub values_kept : (slot : Slot) (cycle phase : ℕ) (blocks : List Block) → IsStore blocks → 3 ≤ phase → slot ≡ slot_of blocks
+pub values_kept : (slot : Slot) (cycle phase : ℕ) (blocks : List Block) → 3 ≤ phase → IsSlot slot blocks
     → flat_map (bytes_at cycle) slot.feedback.items ≡ values_in cycle phase blocks
-values_kept slot cycle phase blocks store high is =
+values_kept slot cycle phase blocks high is =
     let late : nat_le 3 phase ≡ true = grind (arith, nat_tests) in
-    ap (λ (s : Slot). flat_map (bytes_at cycle) s.feedback.items) is ∙ kept_values cycle blocks (idns_at blocks 16) store
-    ∙ sym (ap (λ (b : Bool). if b then flat_map (value_in cycle blocks) (idns_at blocks 16) else []) late)
+    is.gives cycle ∙ sym (ap (λ (b : Bool). if b then flat_map (value_in cycle blocks) (idns_at blocks 16) else []) late)
 
 -- an AT without values, and its values
 pub with_values : (address : ℕ) (status : Status) (info : ℕ) (values : List ℕ) → at_content address status info [] ++ values ≡ at_content address status info values

@@ -1,14 +1,22 @@
 -- What a drive keeps of the calls so far, and the calls that it stands for. For proofs alone.
 use Rattle.std.specs.Prelude.{◌≡◌, ℕ, ◌^◌, ◌-◌, ◌≤◌, Bool, List, length, min}
+use Rattle.std.specs.List.{flat_map}
 use Rattle.sercos_block.specs.declared.block.Block.{Block}
 use Rattle.sercos_block.specs.Views.{DriveView}
+use Rattle.sercos_command.specs.Checks.{idns_at}
 use Rattle.sercos_command.specs.Kept.{newest_cycle, CommandsView, CommandsStandFor}
 use Rattle.sercos_service_drive.specs.Kept.{ChannelView, ChannelStandsFor}
 use Rattle.sercos_drive.specs.Heard.{DriveCall}
 use Rattle.sercos_drive.specs.Moments.{Moment, phase_in, cycle_in, has_mst, has_taken, has_missed, taken_in, writes_in, blocks_in, commands_in, calls_in}
 use Rattle.sercos_drive.specs.Annals.{annals}
 use Rattle.sercos_drive.specs.declared.slot.Slot.{Slot}
-use Rattle.sercos_drive.specs.Slots.{slot_of}
+use Rattle.sercos_drive.specs.Slots.{slot_of, bytes_at}
+use Rattle.sercos_drive.specs.Says.{value_in}
+
+-- A slot is that of these blocks, and its feedback values give theirs in each cycle.
+pub record IsSlot (slot : Slot) (blocks : List Block) : Type 0 where
+  pub value : slot ≡ slot_of blocks
+  pub gives : (cycle : ℕ) → flat_map (bytes_at cycle) slot.feedback.items ≡ flat_map (value_in cycle blocks) (idns_at blocks 16)
 
 pub record DriveState : Type 0 where
   pub address : ℕ
@@ -40,7 +48,7 @@ pub record KeepsMoments (v : DriveState) (d : DriveView) (rate : ℕ) (past : Li
   pub commands_are : CommandsStandFor v.commands (commands_in d rate past)
   pub blocks_is : v.blocks ≡ blocks_in d past
   -- what was read of the blocks is what they contain
-  pub slot_is : v.slot ≡ slot_of v.blocks
+  pub slot_is : IsSlot v.slot v.blocks
   -- no call on the procedure commands was for a later cycle
   pub in_order : newest_cycle (calls_in past) ≤ cycle_in past
 

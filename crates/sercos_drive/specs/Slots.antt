@@ -1,5 +1,5 @@
 -- What the telegrams of phases 3 and 4 follow in the data blocks of a drive.
-use Rattle.std.specs.Prelude.{ℕ, ◌+◌, ◌*◌, ◌%◌, if◌then◌else◌, List, Option, Some, None, option_and_then}
+use Rattle.std.specs.Prelude.{ℕ, ◌+◌, ◌*◌, ◌%◌, if◌then◌else◌, List, [], Option, Some, None, option_and_then}
 use Rattle.std.specs.Int.{to_le_bytes}
 use Rattle.std.specs.List.{filter_map}
 use Rattle.sercos_idn.specs.declared.idn.Idn.{Idn}
@@ -20,6 +20,10 @@ feedback_of blocks idn = option_and_then feedback_in (find_block idn.raw blocks)
 -- its bytes in a cycle
 abbrev pub bytes_at : ℕ → FeedbackValue → List ℕ
 bytes_at cycle v = to_le_bytes (width_of v.kind) ((v.bits + v.step * cycle) % number_end v.kind)
+
+abbrev pub feedback_bytes : ℕ → Option FeedbackValue → List ℕ
+feedback_bytes cycle None = []
+feedback_bytes cycle (Some v) = bytes_at cycle v
 
 -- S-0-0006 is the start of the AT, and S-0-0016 lists what it carries. S-0-0010 is the length of the MDT, S-0-0009 the position of
 -- the record in it, and S-0-0024 lists the command values that the record has after its two words.

@@ -7,8 +7,7 @@ use Rattle.sercos_service_drive.specs.Writes.{Write}
 use Rattle.sercos_service_drive.specs.Kept.{ChannelStandsFor}
 use Rattle.sercos_drive.specs.declared.hearing.Told.{Told}
 use Rattle.sercos_drive.specs.Moments.{unless_phase_0, with_record, write_in, blocks_after, calls_after, with_reset}
-use Rattle.sercos_drive.specs.Kept.{DriveState, counted}
-use Rattle.sercos_drive.specs.Slots.{slot_of}
+use Rattle.sercos_drive.specs.Kept.{DriveState, IsSlot, counted}
 
 -- whether the check for a rise to this phase is passed in a cycle, and the phase after the MST's place
 abbrev pub may_rise_by : CommandHistory → ℕ → ℕ → Bool
@@ -49,7 +48,7 @@ counted_with (Some w) n = counted (n + 1)
 -- A record was processed after these, if there was one, with the procedure commands as these calls left them.
 pub record IsProcessed (v w : DriveState) (busy : ℕ) (c : CommandHistory) (r : Option Taken) (h : List Taken) : Type 0 where
   pub same : w ≡ record v { writes = counted_with (write_in r h) v.writes; channel = w.channel; commands = w.commands; blocks = blocks_after r h v.blocks; slot = w.slot }
-  pub slot : v.slot ≡ slot_of v.blocks → w.slot ≡ slot_of w.blocks
+  pub slot : IsSlot v.slot v.blocks → IsSlot w.slot w.blocks
   pub channel : ChannelStandsFor w.channel busy (with_record r h)
   pub commands : CommandsStandFor w.commands (commands_after r h c)
 

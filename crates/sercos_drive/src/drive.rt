@@ -13,8 +13,7 @@ ghost use Rattle.sercos_drive.specs.Heard.{DriveCall, Mst, Mdt, Restart, mdt_got
 ghost use Rattle.sercos_drive.specs.Moments.{unless_phase_0};
 ghost use Rattle.sercos_drive.specs.Annals.{cycle_at, phase_at, writes_at, store_at};
 ghost use Rattle.sercos_drive.specs.Says.{Said, start_in, values_in, drive_says};
-ghost use Rattle.sercos_drive.specs.Kept.{counted, DriveStandsFor};
-ghost use Rattle.sercos_drive.specs.Slots.{slot_of};
+ghost use Rattle.sercos_drive.specs.Kept.{IsSlot, counted, DriveStandsFor};
 ghost use Rattle.sercos_drive.specs.Steps.{may_rise_by, goes_to, record_by, processed_by, ends_with, IsEntered, IsProcessed};
 
 use crate::feedback::push_feedback;
@@ -184,7 +183,7 @@ impl Drive {
 
     // When the AT starts, in microseconds after the MST's end.
     fn start(&self) -> u16
-        ensures { self.now.slot ≡ slot_of self.now.blocks → result ≡ start_in self.now.phase self.now.blocks }
+        ensures { IsSlot self.now.slot self.now.blocks → result ≡ start_in self.now.phase self.now.blocks }
     {
         if 3 <= self.phase {
             self.slot.start
@@ -196,12 +195,10 @@ impl Drive {
     // Appends the feedback values of the AT to the five bytes with which it begins.
     fn push_values(&self, out: &mut Content)
         requires { length out.old ≤ 5 }
-        ensures value { self.now.slot ≡ slot_of self.now.blocks → out.new ≡ out.old ++ values_in self.now.cycle self.now.phase self.now.blocks }
+        ensures value { IsSlot self.now.slot self.now.blocks → out.new ≡ out.old ++ values_in self.now.cycle self.now.phase self.now.blocks }
         ensures longer { length out.old ≤ length out.new }
     {
         if 3 <= self.phase {
-            // The blocks keep their rules, so the bytes of a number are those of its bits.
-            let _count = self.store.count();
             push_feedback(out, self.slot.feedback.as_slice(), self.cycle);
         }
     }
@@ -246,7 +243,7 @@ impl Drive {
 
     // What the drive gets of the content that arrived at the MDT's place.
     fn told(&self, content: Option<&[u8]>) -> Option<Told>
-        ensures { self.now.slot ≡ slot_of self.now.blocks → result ≡ mdt_got self.now.address self.now.phase self.now.blocks (option_copied content.entry) }
+        ensures { IsSlot self.now.slot self.now.blocks → result ≡ mdt_got self.now.address self.now.phase self.now.blocks (option_copied content.entry) }
     {
         mdt_got(self.address, self.phase, &self.slot, content)
     }

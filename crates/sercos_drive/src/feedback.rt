@@ -1,11 +1,13 @@
 // The feedback values of an AT.
-ghost use Rattle.std.specs.Prelude.{◌≡◌, ◌≤◌, ◌+◌, ◌*◌, ◌++◌, length};
+ghost use Rattle.std.specs.Prelude.{◌≡◌, ℕ, ◌≤◌, ◌+◌, ◌*◌, ◌++◌, length};
 ghost use Rattle.std.specs.List.{flat_map, filter_map};
-ghost use Rattle.sercos_drive.specs.Slots.{feedback_of, bytes_at};
+ghost use Rattle.sercos_drive.specs.Slots.{feedback_in, feedback_of, bytes_at, feedback_bytes};
+ghost use Rattle.sercos_drive.specs.Says.{value_in};
 
 use arrayvec::ArrayVec;
 use sercos_bits::Content;
-use sercos_block::{Store, bits_in, is_number};
+use sercos_block::{Store, Stored, bits_in, is_number};
+use sercos_idn::element::DATA;
 use sercos_idn::{Idn, Length};
 use sercos_service_drive::push_grown;
 
@@ -33,27 +35,39 @@ impl Default for FeedbackValue {
     }
 }
 
-// The feedback value of an identifier number, if it is that of a number.
-fn feedback_of(store: &Store, idn: Idn) -> Option<FeedbackValue>
-    ensures { result ≡ feedback_of store.now idn }
+// The feedback value of a block, if it is a number.
+#[tactic(auto, unfolding(sercos_block::specs::Blocks::element_of))]
+fn feedback_in(block: &Stored) -> Option<FeedbackValue>
+    ensures { result ≡ feedback_in block.now }
 {
-    let Ok(attribute) = store.attribute(idn) else {
-        return None;
-    };
+    let attribute = block.attribute();
     if !is_number(&attribute) {
         return None;
     }
+    let bytes = block.element(DATA)?;
     Some(FeedbackValue {
         kind: attribute.length,
-        bits: bits_in(&attribute, store.data(idn)),
-        step: store.step(idn),
+        bits: bits_in(&attribute, bytes),
+        step: block.step(),
     })
+}
+
+// The feedback value of an identifier number, if it is that of a number.
+fn feedback_of(store: &Store, idn: Idn) -> Option<FeedbackValue>
+    ensures value { result ≡ feedback_of store.now idn }
+    ensures gives { (cycle : ℕ) → feedback_bytes cycle result ≡ value_in cycle store.now idn }
+{
+    match store.find(idn) {
+        Some(block) => feedback_in(&block),
+        None => None,
+    }
 }
 
 /// Returns the feedback values of identifier numbers. One that isn't that of a number has none.
 pub(crate) fn feedback_all(store: &Store, idns: &[Idn]) -> ArrayVec<FeedbackValue, 16>
     requires { length idns.now ≤ 16 }
-    ensures { result.items ≡ filter_map (feedback_of store.now) idns.now }
+    ensures value { result.items ≡ filter_map (feedback_of store.now) idns.now }
+    ensures gives { (cycle : ℕ) → flat_map (bytes_at cycle) result.items ≡ flat_map (value_in cycle store.now) idns.now }
 {
     let mut values = ArrayVec::new();
     for idn in idns {

@@ -1,6 +1,6 @@
 // What a drive keeps of the data blocks that its telegrams of phases 3 and 4 follow.
-ghost use Rattle.std.specs.Prelude.{◌≡◌, ◌≤◌, if◌then◌else◌};
-ghost use Rattle.sercos_drive.specs.Slots.{slot_of};
+ghost use Rattle.std.specs.Prelude.{◌≡◌, ◌≤◌, true, false};
+ghost use Rattle.sercos_drive.specs.Kept.{IsSlot};
 
 use crate::feedback::{FeedbackValue, feedback_all};
 use arrayvec::ArrayVec;
@@ -25,7 +25,7 @@ pub(crate) struct Slot {
 
 /// Returns the slot that the data blocks define.
 pub(crate) fn slot_of(store: &Store) -> Slot
-    ensures value { result ≡ slot_of store.now }
+    ensures slot { IsSlot result store.now }
     ensures bound { 4 ≤ result.record_len }
 {
     Slot {
@@ -40,7 +40,8 @@ pub(crate) fn slot_of(store: &Store) -> Slot
 /// Reads the slot anew after a record that wrote. No other record changes it.
 pub(crate) fn renew(wrote: bool, slot: &mut Slot, store: &Store)
     requires { 4 ≤ slot.old.record_len }
-    ensures value { slot.new ≡ (if wrote then slot_of store.now else slot.old) }
+    ensures anew { wrote ≡ true → IsSlot slot.new store.now }
+    ensures same { wrote ≡ false → slot.new ≡ slot.old }
     ensures bound { 4 ≤ slot.new.record_len }
 {
     if wrote {
