@@ -4,6 +4,7 @@ pub mod Times
 pub mod Stretches
 pub mod Passages
 pub mod Costs
+pub mod Carried
 pub mod Jobs
 pub mod Ages
 pub mod StartCosts

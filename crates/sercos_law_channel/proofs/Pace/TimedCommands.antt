@@ -15,7 +15,8 @@ use Rattle.sercos_service_drive.specs.Replies.{reply_of, log_of, bytes_written}
 use Rattle.sercos_service_drive.specs.Writes.{Write, takes_effect, written_by, with_added, adds, command_value, commands_with, added_on}
 use Rattle.sercos_law_channel.specs.Handshake.Views.{View, standing, stood_in, record_in, processed_in, kept_in}
 use Rattle.sercos_law_channel.specs.Handshake.WholeRun.{write_of, all_writes}
-use Rattle.sercos_law_channel.specs.Pace.Costs.{newest_at, IsTimed, set_after, IsCarried, AreCarried, ComesTimed}
+use Rattle.sercos_law_channel.specs.Pace.Costs.{newest_at, IsTimed}
+use Rattle.sercos_law_channel.specs.Pace.Carried.{set_after, IsCarried, AreCarried, ComesTimed}
 use Rattle.sercos_command.proofs.History.{find-settings}
 use Rattle.sercos_law_channel.proofs.Handshake.PhaseMoves.{Processes, Nothing, Record, processes}
 

@@ -26,7 +26,8 @@ use Rattle.sercos_law_channel.specs.Handshake.WholeRun.{IsSound, AreSound, AreSm
 use Rattle.sercos_law_channel.proofs.Handshake.RunsMade.{is_run, is_sound}
 use Rattle.sercos_law_channel.specs.Pace.Stretches.{open_since}
 use Rattle.sercos_law_channel.specs.Pace.Passages.{IsWhole, AreWhole, ArePassed}
-use Rattle.sercos_law_channel.specs.Pace.Costs.{AreCarried, AreTimed, AreListed, cost_of, cost_in}
+use Rattle.sercos_law_channel.specs.Pace.Costs.{AreTimed, AreListed, cost_of, cost_in}
+use Rattle.sercos_law_channel.specs.Pace.Carried.{AreCarried}
 use Rattle.sercos_law_channel.specs.Pace.Ages.{age_in}
 use Rattle.sercos_law_channel.proofs.Pace.TimedCommands.{comes_timed}
 

@@ -10,16 +10,14 @@ use Rattle.sercos_step.specs.declared.request.Request.TheVariants as request
 use Rattle.sercos_step.specs.Words.{shape_of, shape_by, words_told}
 use Rattle.sercos_block.specs.declared.block.Block.{Block}
 use Rattle.sercos_block.specs.Stores.{find_block}
-use Rattle.sercos_command.specs.declared.commands.SetCommand.{SetCommand}
 use Rattle.sercos_command.specs.Calls.{status_in}
-use Rattle.sercos_command.specs.Kept.{find_set, set_in}
 use Rattle.sercos_service_drive.specs.Log.{Entry}
-use Rattle.sercos_service_drive.specs.Writes.{Write, commands_with}
+use Rattle.sercos_service_drive.specs.Writes.{Write}
 use Rattle.sercos_service_master.specs.Begun.{Begun, answers_in}
-use Rattle.sercos_law_channel.specs.Handshake.Views.{View, processed_in, kept_in}
+use Rattle.sercos_law_channel.specs.Handshake.Views.{View}
 use Rattle.sercos_law_channel.specs.Handshake.Epochs.{epoch_begun, epoch_log}
 use Rattle.sercos_law_channel.specs.Handshake.Runs.{IsRun}
-use Rattle.sercos_law_channel.specs.Handshake.WholeRun.{write_of, all_writes, AreSound, AreSmall}
+use Rattle.sercos_law_channel.specs.Handshake.WholeRun.{all_writes, AreSound, AreSmall}
 use Rattle.sercos_law_channel.specs.Pace.Stretches.{AreClean, open_since}
 
 -- Steps that were accepted one after the other are busy time and one apart.
@@ -45,22 +43,6 @@ IsTimed time v past = (raw : ℕ) → status_in v.commands raw (length past) ≡
 abbrev pub AreTimed : ℕ → List View → Type 0
 AreTimed time [] = Unit {0}
 AreTimed time (v ∷ past) = AreTimed time past × IsTimed time v past
-
--- This holds if what is set when an MDT arrives was set at the end of the cycle before, and a command runs for `time` cycles.
-abbrev pub set_after : List View → List SetCommand
-set_after [] = []
-set_after (v ∷ past) = set_in (commands_with (write_of (processed_in v past) (kept_in v past)) v.blocks v.commands)
-
-pub record IsCarried (time : ℕ) (v : View) (past : List View) : Type 0 where
-  pub takes : v.commands.time ≡ time
-  pub carried : (raw : ℕ) (s : SetCommand) → find_set raw (set_in v.commands) ≡ Some s → find_set raw (set_after past) ≡ Some s
-
-abbrev pub AreCarried : ℕ → List View → Type 0
-AreCarried time [] = Unit {0}
-AreCarried time (v ∷ past) = AreCarried time past × IsCarried time v past
-
-abbrev pub ComesTimed : Type 0
-ComesTimed = (time : ℕ) (past : List View) → AreCarried time past → AreTimed time past
 
 -- The most steps of a transfer, by the attribute of the block. To a block that the drive hasn't it ends with its opening. A read of
 -- operation data takes four steps for one word, five for two, and for a list five and one for each word, of which there are at most

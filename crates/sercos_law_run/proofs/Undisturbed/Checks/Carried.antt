@@ -5,7 +5,7 @@ use Rattle.sercos_command.specs.declared.commands.SetCommand.{SetCommand}
 use Rattle.sercos_command.specs.Calls.{Reset, CommandHistory, with_call}
 use Rattle.sercos_command.specs.Kept.{find_set, set_in}
 use Rattle.sercos_law_channel.specs.Handshake.Views.{View, standing, stood_in}
-use Rattle.sercos_law_channel.specs.Pace.Costs.{set_after, AreCarried}
+use Rattle.sercos_law_channel.specs.Pace.Carried.{set_after, AreCarried}
 use Rattle.sercos_law_run.specs.Settings.SetByWrites.{commands_left}
 use Rattle.sercos_law_run.proofs.Settings.Histories.{reset_if}
 use Rattle.sercos_law_run.specs.Undisturbed.CommandsFollow.{commands_ended, commands_before, CommandsFollow}
