@@ -74,33 +74,31 @@ pub passes_by_first : (check : ℕ) (c : CommandHistory) (at : ℕ) → AreInOrd
 passes_by_first check c at order late =
     first_passes c.rate c.time check c.calls order at late ∙ sym (is_passed-kept c.rate c.time check c.calls at)
 
-pub passed_127_stands : (v : CommandsView) (c : CommandHistory) (at : ℕ) → CommandsStandFor v c → newest_cycle c.calls ≤ at
+pub passed_127_stands : (v : CommandsView) (c : CommandHistory) (at : ℕ) → CommandsStandFor v c → AreInOrder c.calls → newest_cycle c.calls ≤ at
     → is_from v.passed_127 at ≡ is_passed c.rate c.time 127 c.calls at
-passed_127_stands v c at s late = rw s.passed_127_is (passes_by_first 127 c at s.in_order late)
+passed_127_stands v c at s order late = rw s.passed_127_is (passes_by_first 127 c at order late)
 
-pub passed_128_stands : (v : CommandsView) (c : CommandHistory) (at : ℕ) → CommandsStandFor v c → newest_cycle c.calls ≤ at
+pub passed_128_stands : (v : CommandsView) (c : CommandHistory) (at : ℕ) → CommandsStandFor v c → AreInOrder c.calls → newest_cycle c.calls ≤ at
     → is_from v.passed_128 at ≡ is_passed c.rate c.time 128 c.calls at
-passed_128_stands v c at s late = rw s.passed_128_is (passes_by_first 128 c at s.in_order late)
+passed_128_stands v c at s order late = rw s.passed_128_is (passes_by_first 128 c at order late)
 
 -- THE CALLS
 pub stands_written : {v v' : CommandsView} (raw value cycle : ℕ) (blocks : List Block) → v' ≡ with_write raw value cycle blocks v
-    → (c : CommandHistory) → CommandsStandFor v c → newest_cycle c.calls ≤ cycle → CommandsStandFor v' (with_call (Wrote raw value cycle blocks) c)
+    → (c : CommandHistory) → CommandsStandFor v c → CommandsStandFor v' (with_call (Wrote raw value cycle blocks) c)
 unfolding with_write
-stands_written {v} {v'} raw value cycle blocks is c s order = rw is (record {
+stands_written {v} {v'} raw value cycle blocks is c s = rw is (record {
   rate_is = s.rate_is;
   time_is = s.time_is;
-  in_order = (s.in_order, order);
   set_is = rw (s.set_is, s.rate_is) refl;
   passed_127_is = rw (s.passed_127_is, s.set_is, s.rate_is, s.time_is) refl;
   passed_128_is = rw (s.passed_128_is, s.set_is, s.rate_is, s.time_is) refl;
 })
 
 pub stands_other : {v v' : CommandsView} (cycle : ℕ) → v' ≡ without_checks v
-    → (c : CommandHistory) → CommandsStandFor v c → newest_cycle c.calls ≤ cycle → CommandsStandFor v' (with_call (Other cycle) c)
-stands_other {v} {v'} cycle is c s order = rw is (record {
+    → (c : CommandHistory) → CommandsStandFor v c → CommandsStandFor v' (with_call (Other cycle) c)
+stands_other {v} {v'} cycle is c s = rw is (record {
   rate_is = s.rate_is;
   time_is = s.time_is;
-  in_order = (s.in_order, order);
   set_is = s.set_is;
   passed_127_is = refl;
   passed_128_is = refl;
@@ -111,7 +109,6 @@ pub stands_reset : {v v' : CommandsView} → v' ≡ without_settings v
 stands_reset {v} {v'} is c s = rw is (record {
   rate_is = s.rate_is;
   time_is = s.time_is;
-  in_order = (s.in_order, omega arith);
   set_is = refl;
   passed_127_is = refl;
   passed_128_is = refl;

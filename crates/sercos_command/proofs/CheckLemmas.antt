@@ -6,16 +6,16 @@ use Rattle.sercos_block.specs.declared.block.Block.{Block}
 use Rattle.sercos_command.specs.Checks.{idns_in, listed_if, is_outside, unfit_for_phase_4}
 
 -- a rule more
-pub named_more : (old : List Idn) {new : List Idn} (raw : ℕ) (broken test : Bool) (rest : List Idn) → new ≡ old ++ listed_if raw broken [] → broken ≡ test
+pub found_more : (old : List Idn) {new : List Idn} (raw : ℕ) (broken test : Bool) (rest : List Idn) → new ≡ old ++ listed_if raw broken [] → broken ≡ test
     → old ++ listed_if raw test rest ≡ new ++ rest
-named_more old {new} raw broken test rest added is = rw (added, is) (by test)
+found_more old {new} raw broken test rest added is = rw (added, is) (by test)
   where
     by : (test : Bool) → old ++ listed_if raw test rest ≡ (old ++ listed_if raw test []) ++ rest
     by true = sym (append_assoc old (record { raw = raw } ∷ []) rest)
     by false = rw append-nil refl
 
-pub named_first : {found : List Idn} (rest : List Idn) → found ≡ [] → rest ≡ found ++ rest
-named_first rest none = rw none refl
+pub found_first : {found : List Idn} (rest : List Idn) → found ≡ [] → rest ≡ found ++ rest
+found_first rest none = rw none refl
 
 -- the bytes that are left
 idns_in-short : (bytes : List ℕ) → length bytes < 2 → idns_in bytes ≡ []

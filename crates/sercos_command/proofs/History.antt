@@ -8,7 +8,7 @@ use Rattle.std.proofs.Math.Bool.{and_comm, or-true}
 use Rattle.sercos_idn.specs.Commands.{to_cancel}
 use Rattle.sercos_command.specs.declared.commands.SetCommand.{SetCommand}
 use Rattle.sercos_command.specs.Settings.{ends_well, has_ended}
-use Rattle.sercos_command.specs.Calls.{CommandCall, Wrote, Other, Reset, CommandWrite, writes_to_command, set_by, is_set, setting_by, setting_of, spares_check, passes_check, is_passed, CommandHistory, command_numbers, has_command_ended, change_in}
+use Rattle.sercos_command.specs.Calls.{CommandCall, Wrote, Other, Reset, CommandWrite, writes_to_command, sets, set_by, is_set, setting_by, setting_of, spares_check, passes_check, is_passed, CommandHistory, command_numbers, has_command_ended, change_in}
 use Rattle.sercos_command.specs.Kept.{find_set, without, with_set, are_distinct, settings, passed_so_far}
 use Rattle.sercos_command.proofs.SetLemmas.{distinct_without, distinct_appended}
 
@@ -93,9 +93,6 @@ find-settings rate raw (Wrote other value cycle blocks ∷ h) = by (value == to_
 
     s : SetCommand
     s = record { idn = record { raw = other }; cycle = cycle; well = ends_well rate other blocks }
-
-    sets : CommandWrite → Bool
-    sets w = not (w.value == to_cancel)
 
     by : (cancels : Bool) → (value == to_cancel) ≡ cancels → find_set raw (settings rate h) ≡ setting_of rate raw h → find_set raw
         (cond cancels (without other (settings rate h)) (with_set s (settings rate h)))
@@ -333,7 +330,7 @@ was_written test raw (Other cycle ∷ h) set is = was_written test raw h set is
 was_written test raw (Wrote other value cycle blocks ∷ h) set is = by (other == raw) refl set (λ set. was_written test raw h set is)
   where
     by : (same : Bool) → (other == raw) ≡ same
-        → is_some (last_or None (take_while (λ w. not (w.value == to_cancel))
+        → is_some (last_or None (take_while sets
         (cond same (record { value = value; cycle = cycle; blocks = blocks } ∷ writes_to_command raw h) (writes_to_command raw h)))) ≡ true
         → (is_set raw h ≡ true → list_any test (command_numbers h) ≡ true)
         → (test other || list_any test (command_numbers h)) ≡ true

@@ -6,11 +6,8 @@ use Rattle.std.proofs.lemmas.Bool.Decides.{nat_tests}
 use Rattle.std.proofs.lemmas.List.Sums.{take_while-cons}
 use Rattle.sercos_idn.specs.Commands.{to_cancel}
 use Rattle.sercos_command.specs.Settings.{status_by}
-use Rattle.sercos_command.specs.Calls.{CommandWrite, writes_to_command, set_by, is_set, setting_by}
+use Rattle.sercos_command.specs.Calls.{CommandWrite, writes_to_command, sets, set_by, is_set, setting_by}
 use Rattle.sercos_command.specs.Laws.{IsSet, SetByNewest, is_cancelled, IsSetFirst, SetByFirst, HasStatus, StatusSays}
-
-abbrev sets : CommandWrite → Bool
-sets w = not (w.value == to_cancel)
 
 -- a list that begins with one has a last one
 last_there : {A : Type 0} (x : A) (xs : List A) → is_some (last_or (Some x) xs) ≡ true
@@ -21,12 +18,12 @@ pub set_by_newest : SetByNewest
 set_by_newest raw h = (λ set. to (writes_to_command raw h) refl set, λ is. from is)
   where
     to : (writes : List CommandWrite) → writes_to_command raw h ≡ writes → is_some
-        (last_or None (take_while (λ w. not (w.value == to_cancel)) writes)) ≡ true → IsSet raw h
+        (last_or None (take_while sets writes)) ≡ true → IsSet raw h
     to [] e set = absurd (false≢true set)
     to (w ∷ writes) e set = by (w.value == to_cancel) refl (rw take_while-cons at set)
       where
         by : (cancels : Bool) → (w.value == to_cancel) ≡ cancels
-            → is_some (last_or None (cond (not (w.value == to_cancel)) (w ∷ take_while (λ w. not (w.value == to_cancel)) writes) []))
+            → is_some (last_or None (cond (not (w.value == to_cancel)) (w ∷ take_while sets writes) []))
             ≡ true → IsSet raw h
         by true f set = absurd (false≢true (rw f at set))
         by false f set = record { newest = w; before = writes; writes = e; value = grind (arith, nat_tests, f) }
@@ -34,7 +31,7 @@ set_by_newest raw h = (λ set. to (writes_to_command raw h) refl set, λ is. fro
     from : IsSet raw h → is_set raw h ≡ true
     from is =
         let other : (is.newest.value == to_cancel) ≡ false = let value = is.value in grind (arith, nat_tests, value) in
-        rw (is.writes, take_while-cons, other) (last_there is.newest (take_while (λ w. not (w.value == to_cancel)) is.before))
+        rw (is.writes, take_while-cons, other) (last_there is.newest (take_while sets is.before))
 
 -- where no write is kept, there is none or a 0
 none_kept : (writes : List CommandWrite) → take_while sets writes ≡ [] → is_cancelled writes ≡ true

@@ -29,9 +29,13 @@ writes_to_command raw (Wrote other value cycle blocks ∷ h) =
     if other == raw then record { value = value; cycle = cycle; blocks = blocks } ∷ writes_to_command raw h
     else writes_to_command raw h
 
+-- a write of anything but 0
+abbrev pub sets : CommandWrite → Bool
+sets w = not (w.value == to_cancel)
+
 -- A command is set if the newest write to it since phase 0 isn't 0: by the first write since the last 0.
 abbrev pub set_by : ℕ → List CommandCall → Option CommandWrite
-set_by raw h = last_or None (take_while (λ w. not (w.value == to_cancel)) (writes_to_command raw h))
+set_by raw h = last_or None (take_while sets (writes_to_command raw h))
 
 abbrev pub is_set : ℕ → List CommandCall → Bool
 is_set raw h = is_some (set_by raw h)

@@ -108,7 +108,7 @@ cycle_of (Wrote raw value cycle blocks) before = cycle
 cycle_of (Other cycle) before = cycle
 cycle_of Reset before = before
 
--- the cycle of the newest call that has one, and 0 if there is none
+-- the cycle of the newest call that has one, and 0 where no call has one
 abbrev pub newest_cycle : List CommandCall → ℕ
 newest_cycle [] = 0
 newest_cycle (c ∷ h) = cycle_of c (newest_cycle h)
@@ -156,7 +156,6 @@ first_passed_in check c = first_passed c.rate c.time check c.calls
 pub record CommandsStandFor (v : CommandsView) (c : CommandHistory) : Type 0 where
   pub rate_is : v.rate ≡ c.rate
   pub time_is : v.time ≡ c.time
-  pub in_order : AreInOrder c.calls
   pub set_is : v.set ≡ set_in c
   pub passed_127_is : v.passed_127 ≡ first_passed_in 127 c
   pub passed_128_is : v.passed_128 ≡ first_passed_in 128 c

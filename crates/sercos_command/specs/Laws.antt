@@ -1,9 +1,9 @@
 -- What is set, and what its data status is, in other words. Each list of calls has its newest call first.
-use Rattle.std.specs.Prelude.{◌≡◌, ◌≢◌, ◌↔◌, ℕ, ◌+◌, ◌<◌, ◌≤◌, ◌==◌, Bool, true, false, not, List, [], ◌∷◌, ◌++◌, Some}
+use Rattle.std.specs.Prelude.{◌≡◌, ◌≢◌, ◌↔◌, ℕ, ◌+◌, ◌<◌, ◌≤◌, ◌==◌, Bool, true, false, List, [], ◌∷◌, ◌++◌, Some}
 use Rattle.std.specs.List.{list_all}
 use Rattle.sercos_idn.specs.Commands.{to_cancel}
 use Rattle.sercos_command.specs.Settings.{ends_well}
-use Rattle.sercos_command.specs.Calls.{CommandCall, CommandWrite, writes_to_command, set_by, is_set, CommandHistory, status_in}
+use Rattle.sercos_command.specs.Calls.{CommandCall, CommandWrite, writes_to_command, sets, set_by, is_set, CommandHistory, status_in}
 
 -- there is no write, or the newest is a 0
 abbrev pub is_cancelled : List CommandWrite → Bool
@@ -26,7 +26,7 @@ pub record IsSetFirst (raw : ℕ) (h : List CommandCall) (w : CommandWrite) : Ty
   pub later : List CommandWrite
   pub earlier : List CommandWrite
   pub writes : writes_to_command raw h ≡ later ++ w ∷ earlier
-  pub none_later : list_all (λ (x : CommandWrite). not (x.value == to_cancel)) later ≡ true
+  pub none_later : list_all sets later ≡ true
   pub value : w.value ≢ 0
   pub none_before : is_cancelled earlier ≡ true
 

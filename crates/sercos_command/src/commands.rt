@@ -4,7 +4,7 @@ ghost use Rattle.sercos_idn.specs.Commands.{to_cancel, to_set};
 ghost use Rattle.sercos_block.specs.declared.block.Block.{Block};
 ghost use Rattle.sercos_command.specs.Settings.{is_command, ends_well};
 ghost use Rattle.sercos_command.specs.Calls.{Wrote, Other, Reset, CommandHistory, with_call, is_passed, status_in, change_in, with_check_list};
-ghost use Rattle.sercos_command.specs.Kept.{newest_cycle, find_set, with_write, without_checks, without_settings, with_check_list_kept, are_commands_of, CommandsStandFor};
+ghost use Rattle.sercos_command.specs.Kept.{newest_cycle, AreInOrder, first_passed_in, find_set, is_from, with_write, without_checks, without_settings, with_check_list_kept, are_commands_of, CommandsStandFor};
 
 use crate::passed::{after_cancel, after_setting, is_from};
 use crate::run::run;
@@ -115,8 +115,7 @@ impl Commands {
         requires command { is_command store.old idn.raw ≡ true }
         requires value { (value ≡ to_cancel) ⊎ (value ≡ to_set) }
         requires set { are_commands_of store.old self.old ≡ true }
-        ensures stands { (c : CommandHistory) → CommandsStandFor self.old c → newest_cycle c.calls ≤ cycle →
-            CommandsStandFor self.new (with_call (Wrote idn.raw value cycle store.old) c) }
+        ensures stands { (c : CommandHistory) → CommandsStandFor self.old c → CommandsStandFor self.new (with_call (Wrote idn.raw value cycle store.old) c) }
         ensures blocks { (c : CommandHistory) → CommandsStandFor self.old c → store.new ≡ with_check_list c idn.raw value store.old }
         ensures set { are_commands_of store.new self.new ≡ true }
     {
@@ -132,7 +131,7 @@ impl Commands {
 
     /// A write to other operation data than that of a command, in a cycle: no check counts as passed any more.
     pub fn written(&mut self, cycle: u32)
-        ensures stands { (c : CommandHistory) → CommandsStandFor self.old c → newest_cycle c.calls ≤ cycle → CommandsStandFor self.new (with_call (Other cycle) c) }
+        ensures stands { (c : CommandHistory) → CommandsStandFor self.old c → CommandsStandFor self.new (with_call (Other cycle) c) }
         ensures same { self.new.set ≡ self.old.set }
     {
         self.forget_checks();
@@ -173,16 +172,24 @@ impl Commands {
         any_ended(self.set.as_slice(), self.time, cycle)
     }
 
-    /// Returns whether the check for phase 3, S-0-0127, counts as passed in a cycle, not before that of the newest call.
+    /// Returns whether the check for phase 3, S-0-0127, counts as passed in a cycle. Where no call is of an earlier cycle than the
+    /// calls before it, and the cycle isn't before that of the newest call, the rule decides. For any other calls, the first cycle that is
+    /// kept decides.
     pub fn passed127(&self, cycle: u32) -> bool
-        ensures { (c : CommandHistory) → CommandsStandFor self.now c → newest_cycle c.calls ≤ cycle → result ≡ is_passed c.rate c.time 127 c.calls cycle }
+        ensures rule { (c : CommandHistory) → CommandsStandFor self.now c → AreInOrder c.calls → newest_cycle c.calls ≤ cycle →
+            result ≡ is_passed c.rate c.time 127 c.calls cycle }
+        ensures kept { (c : CommandHistory) → CommandsStandFor self.now c → result ≡ is_from (first_passed_in 127 c) cycle }
     {
         is_from(self.passed_127, cycle)
     }
 
-    /// Returns whether the check for phase 4, S-0-0128, counts as passed in a cycle, not before that of the newest call.
+    /// Returns whether the check for phase 4, S-0-0128, counts as passed in a cycle. Where no call is of an earlier cycle than the
+    /// calls before it, and the cycle isn't before that of the newest call, the rule decides. For any other calls, the first cycle that is
+    /// kept decides.
     pub fn passed128(&self, cycle: u32) -> bool
-        ensures { (c : CommandHistory) → CommandsStandFor self.now c → newest_cycle c.calls ≤ cycle → result ≡ is_passed c.rate c.time 128 c.calls cycle }
+        ensures rule { (c : CommandHistory) → CommandsStandFor self.now c → AreInOrder c.calls → newest_cycle c.calls ≤ cycle →
+            result ≡ is_passed c.rate c.time 128 c.calls cycle }
+        ensures kept { (c : CommandHistory) → CommandsStandFor self.now c → result ≡ is_from (first_passed_in 128 c) cycle }
     {
         is_from(self.passed_128, cycle)
     }

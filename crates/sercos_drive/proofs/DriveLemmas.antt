@@ -6,14 +6,14 @@ use Rattle.sercos_block.specs.Views.{DriveView}
 use Rattle.sercos_block.specs.Stores.{find_block, with_data}
 use Rattle.sercos_command.specs.Settings.{is_command}
 use Rattle.sercos_command.specs.Calls.{CommandCall, Wrote, Other, Reset, CommandHistory}
-use Rattle.sercos_command.specs.Kept.{newest_cycle, CommandsView, CommandsStandFor}
-use Rattle.sercos_service_drive.specs.Log.{Taken, ahs, taken_record, open_idn, run_before, in_order as words_in_order}
+use Rattle.sercos_command.specs.Kept.{newest_cycle, AreInOrder, CommandsView, CommandsStandFor}
+use Rattle.sercos_service_drive.specs.Log.{Processed, ahs, processed_record, open_idn, run_before, in_order as words_in_order}
 use Rattle.sercos_service_drive.specs.Replies.{bytes_written, reply_of, log_of}
 use Rattle.sercos_service_drive.specs.Writes.{Write, with_added, command_value, blocks_with, commands_with, calls_with, takes_effect, written_by, adds, added_on, AreAlike, AreThose}
 use Rattle.sercos_service_drive.specs.Kept.{ChannelView, ChannelStandsFor}
 use Rattle.sercos_drive.specs.declared.hearing.Told.{Told}
 use Rattle.sercos_drive.specs.Heard.{DriveCall, Mst, Mdt, Restart, mst_got, mdt_got}
-use Rattle.sercos_drive.specs.Moments.{Moment, AtMst, AtRestart, phase_in, cycle_in, has_mst, has_missed, unless_phase_0, with_record, write_in, taken_in, writes_in, blocks_in, commands_in, calls_in, blocks_after, calls_after, with_reset}
+use Rattle.sercos_drive.specs.Moments.{Moment, AtMst, AtRestart, phase_in, cycle_in, has_mst, has_missed, unless_phase_0, with_record, write_in, records_in, writes_in, blocks_in, commands_in, calls_in, blocks_after, calls_after, with_reset}
 use Rattle.sercos_drive.specs.Annals.{stands_in, takes, processed_in, ends_in, mdt_moment, annals}
 use Rattle.sercos_drive.specs.Kept.{DriveState, IsSlot, counted, KeepsMoments}
 use Rattle.sercos_drive.specs.declared.slot.Slot.{Slot}
@@ -25,6 +25,13 @@ newest-with_reset phase calls = by (phase == 0)
     by : (zero : Bool) → newest_cycle (cond zero (Reset ∷ calls) calls) ≡ newest_cycle calls
     by true = refl
     by false = refl
+
+ordered-with_reset : (phase : ℕ) (calls : List CommandCall) → AreInOrder calls → AreInOrder (with_reset phase calls)
+ordered-with_reset phase calls ordered = by (phase == 0)
+  where
+    by : (zero : Bool) → AreInOrder (cond zero (Reset ∷ calls) calls)
+    by true = (ordered, omega arith)
+    by false = ordered
 
 -- The phase after the MST's place.
 pub goes_to-stands_in : (v : DriveState) (d : DriveView) (rate cycle : ℕ) (got : Option ℕ) (past : List Moment) → KeepsMoments v d rate past → cycle_in past ≤ cycle
@@ -46,11 +53,12 @@ keeps-mst v w d rate cycle got past k later entered = by (rw (goes_to-stands_in 
       took_is = ap (λ (x : DriveState). x.took) e.same ∙ k.took_is;
       missed_is = ap (λ (x : DriveState). x.missed) e.same ∙ k.missed_is;
       writes_is = ap (λ (x : DriveState). x.writes) e.same ∙ k.writes_is;
-      channel_is = e.channel d.busy (taken_in past) k.channel_is;
+      channel_is = e.channel d.busy (records_in past) k.channel_is;
       commands_are = e.commands (commands_in d rate past) k.commands_are;
       blocks_is = ap (λ (x : DriveState). x.blocks) e.same ∙ k.blocks_is;
       slot_is = subst (λ (x : DriveState). IsSlot x.slot x.blocks) (sym e.same) k.slot_is;
-      in_order = let order = k.in_order in rw (newest-with_reset (stands_in d rate cycle got past) (calls_in past)) (omega (arith, order, later));
+      in_order = ordered-with_reset (stands_in d rate cycle got past) (calls_in past) k.in_order;
+      order = let order = k.order in rw (newest-with_reset (stands_in d rate cycle got past) (calls_in past)) (omega (arith, order, later));
     }
 
 pub keeps-restart : (v w : DriveState) (d : DriveView) (rate : ℕ) (past : List Moment) → KeepsMoments v d rate past
@@ -64,11 +72,12 @@ keeps-restart v w d rate past k e = record {
   took_is = ap (λ (x : DriveState). x.took) e.same;
   missed_is = ap (λ (x : DriveState). x.missed) e.same;
   writes_is = ap (λ (x : DriveState). x.writes) e.same ∙ k.writes_is;
-  channel_is = e.channel d.busy (taken_in past) k.channel_is;
+  channel_is = e.channel d.busy (records_in past) k.channel_is;
   commands_are = e.commands (commands_in d rate past) k.commands_are;
   blocks_is = ap (λ (x : DriveState). x.blocks) e.same ∙ k.blocks_is;
   slot_is = subst (λ (x : DriveState). IsSlot x.slot x.blocks) (sym e.same) k.slot_is;
-  in_order = k.in_order;
+  in_order = (k.in_order, omega arith);
+  order = k.order;
 }
 
 -- The record of an MDT.
@@ -76,7 +85,7 @@ pub processed_by-in : (v : DriveState) (d : DriveView) (rate : ℕ) (told : Opti
 processed_by-in v d rate None past k = refl
 processed_by-in v d rate (Some told) past k = rw (k.got_is, k.phase_is, k.cycle_is, k.blocks_is) refl
 
-counted_with-length : (r : Option Taken) (h : List Taken) (writes : List Write) (n : ℕ) → n ≡ counted (length writes)
+counted_with-length : (r : Option Processed) (h : List Processed) (writes : List Write) (n : ℕ) → n ≡ counted (length writes)
     → counted_with (write_in r h) n ≡ counted (length (with_added (write_in r h) writes))
 counted_with-length r h writes n is = by (write_in r h)
   where
@@ -84,16 +93,20 @@ counted_with-length r h writes n is = by (write_in r h)
     by None = is
     by (Some w) = rw is (grind arith)
 
-newest-calls_with : (w : Option Write) (blocks : List Block) (calls : List CommandCall) (cycle : ℕ) → newest_cycle calls ≤ cycle → IfSome w (λ x. x.cycle ≤ cycle) → newest_cycle (calls_with w blocks calls) ≤ cycle
-newest-calls_with None blocks calls cycle le is = le
-newest-calls_with (Some w) blocks calls cycle le is = by (is_command blocks w.raw)
+-- calls in order, none of which is of a later cycle than this
+abbrev AreBy : ℕ → List CommandCall → Type 0
+AreBy cycle calls = AreInOrder calls × (newest_cycle calls ≤ cycle)
+
+by-calls_with : (w : Option Write) (blocks : List Block) (calls : List CommandCall) (cycle : ℕ) → AreBy cycle calls → IfSome w (λ x. x.cycle ≡ cycle) → AreBy cycle (calls_with w blocks calls)
+by-calls_with None blocks calls cycle all is = all
+by-calls_with (Some w) blocks calls cycle all is = by (is_command blocks w.raw)
   where
-    by : (command : Bool) → newest_cycle (cond command (Wrote w.raw (command_value w) w.cycle (with_data w.raw w.bytes blocks)) (Other w.cycle) ∷ calls) ≤ cycle
-    by true = is
-    by false = is
+    by : (command : Bool) → AreBy cycle (cond command (Wrote w.raw (command_value w) w.cycle (with_data w.raw w.bytes blocks)) (Other w.cycle) ∷ calls)
+    by true = rw is (all, omega arith)
+    by false = rw is (all, omega arith)
 
 -- What a channel makes of a record.
-pub processed_one : (v : DriveState) (channel : ChannelView) (commands : CommandsView) (blocks : List Block) (slot : Slot) (added : Bool) (busy : ℕ) (c : CommandHistory) (t : Taken) (h : List Taken)
+pub processed_one : (v : DriveState) (channel : ChannelView) (commands : CommandsView) (blocks : List Block) (slot : Slot) (added : Bool) (busy : ℕ) (c : CommandHistory) (t : Processed) (h : List Processed)
     → t.blocks ≡ v.blocks
     → added ≡ is_some (added_on t h)
     → blocks ≡ blocks_with (added_on t h) t.commands t.blocks
@@ -118,41 +131,41 @@ processed_one v channel commands blocks slot added busy c t h old_blocks added_i
     slots None none same before = rw (still none, same, old_blocks) before
     slots (Some w) some same before = anew some
 
-pub not_processed : (v : DriveState) (busy : ℕ) (c : CommandHistory) (h : List Taken) → ChannelStandsFor v.channel busy h → CommandsStandFor v.commands c → IsProcessed v v busy c None h
+pub not_processed : (v : DriveState) (busy : ℕ) (c : CommandHistory) (h : List Processed) → ChannelStandsFor v.channel busy h → CommandsStandFor v.commands c → IsProcessed v v busy c None h
 not_processed v busy c h stands commands = record { same = refl; slot = λ before. before; channel = stands; commands = commands }
 
 -- The cycle of a write is that of its step.
-added-cycle : (t : Taken) (h : List Taken) → IfSome (added_on t h) (λ w. w.cycle ≤ t.cycle)
+added-cycle : (t : Processed) (h : List Processed) → IfSome (added_on t h) (λ w. w.cycle ≡ t.cycle)
 added-cycle t h = on (beq t.mhs (ahs h))
   where
-    found : (run : List Taken) (raw : ℕ) (o : Option Block)
-        → IfSome {T = Write} (option_map (λ (b : Block). (record { cycle = t.cycle; raw = raw; bytes = bytes_written b (words_in_order run (t.step.word ∷ [])) })) o) (λ w. w.cycle ≤ t.cycle)
+    found : (run : List Processed) (raw : ℕ) (o : Option Block)
+        → IfSome {T = Write} (option_map (λ (b : Block). (record { cycle = t.cycle; raw = raw; bytes = bytes_written b (words_in_order run (t.step.word ∷ [])) })) o) (λ w. w.cycle ≡ t.cycle)
     found run raw None = tt
-    found run raw (Some b) = omega arith
+    found run raw (Some b) = refl
 
-    opened : (run : List Taken) (o : Option ℕ) → IfSome (option_and_then (written_by t run) o) (λ w. w.cycle ≤ t.cycle)
+    opened : (run : List Processed) (o : Option ℕ) → IfSome (option_and_then (written_by t run) o) (λ w. w.cycle ≡ t.cycle)
     opened run None = tt
     opened run (Some raw) = found run raw (find_block raw t.blocks)
 
-    effect : (b : Bool) → IfSome (cond b (option_and_then (written_by t (run_before true 7 (log_of h))) (open_idn (log_of h))) None) (λ w. w.cycle ≤ t.cycle)
+    effect : (b : Bool) → IfSome (cond b (option_and_then (written_by t (run_before true 7 (log_of h))) (open_idn (log_of h))) None) (λ w. w.cycle ≡ t.cycle)
     effect true = opened (run_before true 7 (log_of h)) (open_idn (log_of h))
     effect false = tt
 
-    on : (same : Bool) → IfSome (cond same None (adds t (log_of h))) (λ w. w.cycle ≤ t.cycle)
+    on : (same : Bool) → IfSome (cond same None (adds t (log_of h))) (λ w. w.cycle ≡ t.cycle)
     on true = tt
-    on false = effect (takes_effect (record { taken = t; answer = reply_of t (log_of h) }))
+    on false = effect (takes_effect (record { processed = t; answer = reply_of t (log_of h) }))
 
-newest-after : (d : DriveView) (rate : ℕ) (told : Option Told) (past : List Moment) → newest_cycle (calls_in past) ≤ cycle_in past
-    → newest_cycle (calls_after (processed_in d rate told past) (taken_in past) (calls_in past)) ≤ cycle_in past
-newest-after d rate None past order = order
-newest-after d rate (Some told) past order = by (has_mst past && nat_le 2 (phase_in past))
+by-after : (d : DriveView) (rate : ℕ) (told : Option Told) (past : List Moment) → AreBy (cycle_in past) (calls_in past)
+    → AreBy (cycle_in past) (calls_after (processed_in d rate told past) (records_in past) (calls_in past))
+by-after d rate None past all = all
+by-after d rate (Some told) past all = by (has_mst past && nat_le 2 (phase_in past))
   where
-    t : Taken
-    t = taken_record (cycle_in past) (phase_in past) told.control told.info (blocks_in d past) (commands_in d rate past)
+    t : Processed
+    t = processed_record (cycle_in past) (phase_in past) told.control told.info (blocks_in d past) (commands_in d rate past)
 
-    by : (b : Bool) → newest_cycle (calls_after (cond b (Some t) None) (taken_in past) (calls_in past)) ≤ cycle_in past
-    by true = newest-calls_with (added_on t (taken_in past)) (blocks_in d past) (calls_in past) (cycle_in past) order (added-cycle t (taken_in past))
-    by false = order
+    by : (b : Bool) → AreBy (cycle_in past) (calls_after (cond b (Some t) None) (records_in past) (calls_in past))
+    by true = by-calls_with (added_on t (records_in past)) (blocks_in d past) (calls_in past) (cycle_in past) all (added-cycle t (records_in past))
+    by false = all
 
 misses : (p q : ℕ) (a b : Bool) → p ≡ q → a ≡ b → (nat_le 3 p && not a) ≡ (nat_le 3 q && not b)
 misses p q a b number flag = rw (number, flag) refl
@@ -161,7 +174,7 @@ ends : (p q : ℕ) (a b m n : Bool) → p ≡ q → a ≡ b → m ≡ n → (if 
 ends p q a b m n number flag missed = rw (number, flag, missed) refl
 
 pub keeps-mdt : (v w x : DriveState) (d : DriveView) (rate : ℕ) (told : Option Told) (past : List Moment) → KeepsMoments v d rate past
-    → IsProcessed v w d.busy (commands_in d rate past) (processed_by v (commands_in d rate past) told) (taken_in past)
+    → IsProcessed v w d.busy (commands_in d rate past) (processed_by v (commands_in d rate past) told) (records_in past)
     → (took : Bool) → took ≡ (v.got && (nat_le 1 v.phase && is_some told))
     → IsEntered (record w { took = took; missed = nat_le 3 w.phase && not took }) x (ends_with w took)
     → KeepsMoments x d rate (mdt_moment d rate told past ∷ past)
@@ -178,7 +191,7 @@ keeps-mdt v w x d rate told past k processed took took_is entered =
     same_took : took ≡ takes told past
     same_took = rw (k.got_is, k.phase_is) at took_is
 
-    by : (r : Option Taken) → processed_in d rate told past ≡ r → IsProcessed v w d.busy (commands_in d rate past) r (taken_in past)
+    by : (r : Option Processed) → processed_in d rate told past ≡ r → IsProcessed v w d.busy (commands_in d rate past) r (records_in past)
         → (end : ℕ) → ends_in told past ≡ end → IsEntered (record w { took = took; missed = nat_le 3 w.phase && not took }) x end
         → KeepsMoments x d rate (mdt_moment d rate told past ∷ past)
     by r r_is p end end_is e = rw (r_is, end_is) (record {
@@ -188,12 +201,13 @@ keeps-mdt v w x d rate told past k processed took took_is entered =
       got_is = ap (λ (y : DriveState). y.got) e.same ∙ ap (λ (y : DriveState). y.got) p.same ∙ k.got_is;
       took_is = ap (λ (y : DriveState). y.took) e.same ∙ same_took;
       missed_is = ap (λ (y : DriveState). y.missed) e.same ∙ misses _ _ _ _ phase same_took;
-      writes_is = ap (λ (y : DriveState). y.writes) e.same ∙ ap (λ (y : DriveState). y.writes) p.same ∙ counted_with-length r (taken_in past) (writes_in past) v.writes k.writes_is;
-      channel_is = e.channel d.busy (with_record r (taken_in past)) p.channel;
-      commands_are = e.commands (commands_after r (taken_in past) (commands_in d rate past)) p.commands;
-      blocks_is = ap (λ (y : DriveState). y.blocks) e.same ∙ ap (λ (y : DriveState). y.blocks) p.same ∙ ap (blocks_after r (taken_in past)) k.blocks_is;
+      writes_is = ap (λ (y : DriveState). y.writes) e.same ∙ ap (λ (y : DriveState). y.writes) p.same ∙ counted_with-length r (records_in past) (writes_in past) v.writes k.writes_is;
+      channel_is = e.channel d.busy (with_record r (records_in past)) p.channel;
+      commands_are = e.commands (commands_after r (records_in past) (commands_in d rate past)) p.commands;
+      blocks_is = ap (λ (y : DriveState). y.blocks) e.same ∙ ap (λ (y : DriveState). y.blocks) p.same ∙ ap (blocks_after r (records_in past)) k.blocks_is;
       slot_is = subst (λ (y : DriveState). IsSlot y.slot y.blocks) (sym e.same) (p.slot k.slot_is);
-      in_order = rw (newest-with_reset end (calls_after r (taken_in past) (calls_in past))) (rw r_is at (newest-after d rate told past k.in_order));
+      in_order = ordered-with_reset end (calls_after r (records_in past) (calls_in past)) (rw r_is at (by-after d rate told past (k.in_order, k.order))).0;
+      order = rw (newest-with_reset end (calls_after r (records_in past) (calls_in past))) (rw r_is at (by-after d rate told past (k.in_order, k.order))).1;
     })
 
 -- What the MDT says.
@@ -207,32 +221,32 @@ told_is v d rate content past k = rw (k.address_is, k.phase_is, k.blocks_is) ref
 abbrev pub StaysAlike : Type 0
 StaysAlike = (w : Option Write) (c : CommandHistory) (blocks : List Block) → AreAlike (blocks_with w c blocks) blocks
 
-AreThose-alike : (blocks others : List Block) (h : List Taken) → AreAlike blocks others → AreThose blocks h → AreThose others h
+AreThose-alike : (blocks others : List Block) (h : List Processed) → AreAlike blocks others → AreThose blocks h → AreThose others h
 AreThose-alike blocks others [] same those = tt
 AreThose-alike blocks others (t ∷ h) same those = (those.0 ∙ same, AreThose-alike blocks others h same those.1)
 
-AreThose-in_phase : (phase : ℕ) (blocks : List Block) (h : List Taken) → AreThose blocks h → AreThose blocks (unless_phase_0 phase h)
+AreThose-in_phase : (phase : ℕ) (blocks : List Block) (h : List Processed) → AreThose blocks h → AreThose blocks (unless_phase_0 phase h)
 AreThose-in_phase phase blocks h those = by (phase == 0)
   where
     by : (zero : Bool) → AreThose blocks (cond zero [] h)
     by true = tt
     by false = those
 
-AreThose-after : StaysAlike → (d : DriveView) (rate : ℕ) (told : Option Told) (past : List Moment) → AreThose (blocks_in d past) (taken_in past)
-    → AreThose (blocks_after (processed_in d rate told past) (taken_in past) (blocks_in d past)) (with_record (processed_in d rate told past) (taken_in past))
+AreThose-after : StaysAlike → (d : DriveView) (rate : ℕ) (told : Option Told) (past : List Moment) → AreThose (blocks_in d past) (records_in past)
+    → AreThose (blocks_after (processed_in d rate told past) (records_in past) (blocks_in d past)) (with_record (processed_in d rate told past) (records_in past))
 AreThose-after alike d rate None past those = those
 AreThose-after alike d rate (Some told) past those = by (has_mst past && nat_le 2 (phase_in past))
   where
-    t : Taken
-    t = taken_record (cycle_in past) (phase_in past) told.control told.info (blocks_in d past) (commands_in d rate past)
+    t : Processed
+    t = processed_record (cycle_in past) (phase_in past) told.control told.info (blocks_in d past) (commands_in d rate past)
 
-    by : (b : Bool) → AreThose (blocks_after (cond b (Some t) None) (taken_in past) (blocks_in d past)) (with_record (cond b (Some t) None) (taken_in past))
+    by : (b : Bool) → AreThose (blocks_after (cond b (Some t) None) (records_in past) (blocks_in d past)) (with_record (cond b (Some t) None) (records_in past))
     by true =
-        let same = alike (added_on t (taken_in past)) (commands_in d rate past) (blocks_in d past) in
-        (sym same, AreThose-alike (blocks_in d past) _ (taken_in past) (sym same) those)
+        let same = alike (added_on t (records_in past)) (commands_in d rate past) (blocks_in d past) in
+        (sym same, AreThose-alike (blocks_in d past) _ (records_in past) (sym same) those)
     by false = those
 
-pub those_at : StaysAlike → (d : DriveView) (rate : ℕ) (h : List DriveCall) → AreThose (blocks_in d (annals d rate h)) (taken_in (annals d rate h))
+pub those_at : StaysAlike → (d : DriveView) (rate : ℕ) (h : List DriveCall) → AreThose (blocks_in d (annals d rate h)) (records_in (annals d rate h))
 those_at alike d rate [] = tt
 those_at alike d rate (Mst cycle content ∷ h) = AreThose-in_phase (stands_in d rate cycle (mst_got content) (annals d rate h)) _ _ (those_at alike d rate h)
 those_at alike d rate (Mdt content ∷ h) =

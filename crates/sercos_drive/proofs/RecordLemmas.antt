@@ -9,7 +9,7 @@ use Rattle.sercos_telegram.specs.declared.layout.Layout.{Layout}
 use Rattle.sercos_telegram.specs.declared.layout.Layout.TheVariants.{BadField}
 use Rattle.sercos_telegram.specs.Faults.{head_fault, mst_fault}
 use Rattle.sercos_block.specs.Views.{DriveView}
-use Rattle.sercos_service_drive.specs.Log.{Taken, taken_record}
+use Rattle.sercos_service_drive.specs.Log.{Processed, processed_record}
 use Rattle.sercos_drive.specs.declared.hearing.Told.{Told}
 use Rattle.sercos_drive.specs.Heard.{DriveCall, Mst, Mdt, Restart, mst_in, mst_got, mdt_got}
 use Rattle.sercos_drive.specs.Moments.{Moment, AtMdt, phase_in, cycle_in, has_mst, has_missed, blocks_in, commands_in}
@@ -51,8 +51,8 @@ handed-after : (d : DriveView) (rate : ℕ) (told : Option Told) (past : List Mo
 handed-after d rate None past below rest = rest
 handed-after d rate (Some told) past below rest = by (has_mst past && nat_le 2 (phase_in past)) refl
   where
-    t : Taken
-    t = taken_record (cycle_in past) (phase_in past) told.control told.info (blocks_in d past) (commands_in d rate past)
+    t : Processed
+    t = processed_record (cycle_in past) (phase_in past) told.control told.info (blocks_in d past) (commands_in d rate past)
 
     by : (b : Bool) → (has_mst past && nat_le 2 (phase_in past)) ≡ b → WereHanded d rate (AtMdt (takes (Some told) past) (cond b (Some t) None) (ends_in (Some told) past) ∷ past)
     by true e =

@@ -3,12 +3,12 @@ use Rattle.std.specs.Prelude.{ℕ, ◌+◌, ◌==◌, nat_le, Bool, not, ◌&&�
 use Rattle.sercos_block.specs.declared.block.Block.{Block}
 use Rattle.sercos_block.specs.Views.{DriveView}
 use Rattle.sercos_command.specs.Calls.{is_passed}
-use Rattle.sercos_service_drive.specs.Log.{Taken, Entry, taken_record}
+use Rattle.sercos_service_drive.specs.Log.{Processed, Entry, processed_record}
 use Rattle.sercos_service_drive.specs.Replies.{log_of}
 use Rattle.sercos_service_drive.specs.Writes.{Write}
 use Rattle.sercos_drive.specs.declared.hearing.Told.{Told}
 use Rattle.sercos_drive.specs.Heard.{DriveCall, Mst, Mdt, Restart, mst_got, mdt_got}
-use Rattle.sercos_drive.specs.Moments.{Moment, AtMst, AtMdt, AtRestart, phase_in, cycle_in, has_mst, has_missed, taken_in, writes_in, blocks_in, commands_in, calls_in}
+use Rattle.sercos_drive.specs.Moments.{Moment, AtMst, AtMdt, AtRestart, phase_in, cycle_in, has_mst, has_missed, records_in, writes_in, blocks_in, commands_in, calls_in}
 
 -- whether a rise to this phase is allowed: up to phase 2 always, to phase 3 if check 127 is passed, to phase 4 if check 128 is
 abbrev pub may_rise : DriveView → ℕ → ℕ → ℕ → List Moment → Bool
@@ -30,11 +30,11 @@ abbrev pub takes : Option Told → List Moment → Bool
 takes told past = has_mst past && (nat_le 1 (phase_in past) && is_some told)
 
 -- the record of a taken MDT is processed in phases 2 to 4; in phase 1 the drive only notes that it was addressed
-abbrev pub processed_in : DriveView → ℕ → Option Told → List Moment → Option Taken
+abbrev pub processed_in : DriveView → ℕ → Option Told → List Moment → Option Processed
 processed_in d rate None past = None
 processed_in d rate (Some told) past =
     if has_mst past && nat_le 2 (phase_in past)
-    then Some (taken_record (cycle_in past) (phase_in past) told.control told.info (blocks_in d past) (commands_in d rate past))
+    then Some (processed_record (cycle_in past) (phase_in past) told.control told.info (blocks_in d past) (commands_in d rate past))
     else None
 
 -- the phase after the MDT's place: in phases 3 and 4 the drive goes to 0 after the second cycle in a row without a taken MDT
@@ -60,7 +60,7 @@ abbrev pub phase_at : DriveView → ℕ → List DriveCall → ℕ
 phase_at d rate h = phase_in (annals d rate h)
 
 abbrev pub accepted_at : DriveView → ℕ → List DriveCall → List Entry
-accepted_at d rate h = log_of (taken_in (annals d rate h))
+accepted_at d rate h = log_of (records_in (annals d rate h))
 
 abbrev pub writes_at : DriveView → ℕ → List DriveCall → List Write
 writes_at d rate h = writes_in (annals d rate h)

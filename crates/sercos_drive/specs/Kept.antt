@@ -4,10 +4,10 @@ use Rattle.std.specs.List.{flat_map}
 use Rattle.sercos_block.specs.declared.block.Block.{Block}
 use Rattle.sercos_block.specs.Views.{DriveView}
 use Rattle.sercos_command.specs.Checks.{idns_at}
-use Rattle.sercos_command.specs.Kept.{newest_cycle, CommandsView, CommandsStandFor}
+use Rattle.sercos_command.specs.Kept.{newest_cycle, AreInOrder, CommandsView, CommandsStandFor}
 use Rattle.sercos_service_drive.specs.Kept.{ChannelView, ChannelStandsFor}
 use Rattle.sercos_drive.specs.Heard.{DriveCall}
-use Rattle.sercos_drive.specs.Moments.{Moment, phase_in, cycle_in, has_mst, has_taken, has_missed, taken_in, writes_in, blocks_in, commands_in, calls_in}
+use Rattle.sercos_drive.specs.Moments.{Moment, phase_in, cycle_in, has_mst, has_taken, has_missed, records_in, writes_in, blocks_in, commands_in, calls_in}
 use Rattle.sercos_drive.specs.Annals.{annals}
 use Rattle.sercos_drive.specs.declared.slot.Slot.{Slot}
 use Rattle.sercos_drive.specs.Slots.{slot_of, bytes_at}
@@ -44,13 +44,14 @@ pub record KeepsMoments (v : DriveState) (d : DriveView) (rate : ℕ) (past : Li
   pub took_is : v.took ≡ has_taken past
   pub missed_is : v.missed ≡ has_missed past
   pub writes_is : v.writes ≡ counted (length (writes_in past))
-  pub channel_is : ChannelStandsFor v.channel d.busy (taken_in past)
+  pub channel_is : ChannelStandsFor v.channel d.busy (records_in past)
   pub commands_are : CommandsStandFor v.commands (commands_in d rate past)
   pub blocks_is : v.blocks ≡ blocks_in d past
   -- what was read of the blocks is what they contain
   pub slot_is : IsSlot v.slot v.blocks
-  -- no call on the procedure commands was for a later cycle
-  pub in_order : newest_cycle (calls_in past) ≤ cycle_in past
+  -- the calls on the procedure commands are in order, and none is of a later cycle
+  pub in_order : AreInOrder (calls_in past)
+  pub order : newest_cycle (calls_in past) ≤ cycle_in past
 
 -- The drive stands for these calls since it was opened with this setup, in a ring of this rate.
 abbrev pub DriveStandsFor : DriveState → DriveView → ℕ → List DriveCall → Type 0

@@ -1,15 +1,15 @@
 -- What the channel and the procedure commands of a drive were handed, over any calls.
 use Rattle.std.specs.Prelude.{◌≡◌, ℕ, ◌≤◌, List, [], ◌∷◌, Some, None}
 use Rattle.sercos_block.specs.Views.{DriveView}
-use Rattle.sercos_service_drive.specs.Log.{Taken}
+use Rattle.sercos_service_drive.specs.Log.{Processed}
 use Rattle.sercos_service_drive.specs.Writes.{AreThose}
 use Rattle.sercos_drive.specs.Heard.{DriveCall}
-use Rattle.sercos_drive.specs.Moments.{Moment, AtMst, AtMdt, AtRestart, phase_in, cycle_in, taken_in, blocks_in, commands_in}
+use Rattle.sercos_drive.specs.Moments.{Moment, AtMst, AtMdt, AtRestart, phase_in, cycle_in, records_in, blocks_in, commands_in}
 use Rattle.sercos_drive.specs.Annals.{annals, phase_at}
 
 -- A record was processed in the cycle of the newest MST's place and in the phase of the drive, with the data blocks and the
 -- procedure commands as they were.
-pub record WasHanded (d : DriveView) (rate : ℕ) (t : Taken) (past : List Moment) : Type 0 where
+pub record WasHanded (d : DriveView) (rate : ℕ) (t : Processed) (past : List Moment) : Type 0 where
   pub cycle_is : t.cycle ≡ cycle_in past
   pub phase_is : t.phase ≡ phase_in past
   pub processed : (2 ≤ t.phase) × (t.phase ≤ 4)
@@ -29,7 +29,7 @@ Handed = (d : DriveView) (rate : ℕ) (h : List DriveCall) → WereHanded d rate
 
 -- the blocks of each record since the drive was last in phase 0 are those of the drive, but for their operation data
 abbrev pub HandedThose : Type 0
-HandedThose = (d : DriveView) (rate : ℕ) (h : List DriveCall) → AreThose (blocks_in d (annals d rate h)) (taken_in (annals d rate h))
+HandedThose = (d : DriveView) (rate : ℕ) (h : List DriveCall) → AreThose (blocks_in d (annals d rate h)) (records_in (annals d rate h))
 
 abbrev pub StandsBelow5 : Type 0
 StandsBelow5 = (d : DriveView) (rate : ℕ) (h : List DriveCall) → phase_at d rate h ≤ 4

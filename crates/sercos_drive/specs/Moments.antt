@@ -4,14 +4,14 @@ use Rattle.sercos_block.specs.declared.block.Block.{Block}
 use Rattle.sercos_block.specs.Views.{DriveView}
 use Rattle.sercos_block.specs.Stores.{store_of}
 use Rattle.sercos_command.specs.Calls.{CommandCall, Reset, CommandHistory}
-use Rattle.sercos_service_drive.specs.Log.{Taken}
+use Rattle.sercos_service_drive.specs.Log.{Processed}
 use Rattle.sercos_service_drive.specs.Writes.{Write, with_added, added_on, blocks_with, calls_with}
 
 -- At the MST's place of a cycle: whether the MST was got, and the drive's phase after it. At the MDT's place: whether an
 -- MDT was taken, its record if it was processed, and the phase afterwards. A restart.
 pub data Moment : Type 0 where
   AtMst : (cycle : ℕ) (got : Bool) (phase : ℕ) → Moment
-  AtMdt : (took : Bool) (processed : Option Taken) (phase : ℕ) → Moment
+  AtMdt : (took : Bool) (processed : Option Processed) (phase : ℕ) → Moment
   AtRestart : Moment
 
 -- the phase of the drive; before the first cycle it is 0
@@ -54,19 +54,19 @@ has_missed (AtRestart ∷ past) = false
 abbrev pub unless_phase_0 : {A : Type 0} → ℕ → List A → List A
 unless_phase_0 phase xs = if phase == 0 then [] else xs
 
-abbrev pub with_record : Option Taken → List Taken → List Taken
+abbrev pub with_record : Option Processed → List Processed → List Processed
 with_record None h = h
 with_record (Some t) h = t ∷ h
 
 -- the records that were processed since the drive was last in phase 0
-abbrev pub taken_in : List Moment → List Taken
-taken_in [] = []
-taken_in (AtMst cycle got phase ∷ past) = unless_phase_0 phase (taken_in past)
-taken_in (AtMdt took processed phase ∷ past) = unless_phase_0 phase (with_record processed (taken_in past))
-taken_in (AtRestart ∷ past) = []
+abbrev pub records_in : List Moment → List Processed
+records_in [] = []
+records_in (AtMst cycle got phase ∷ past) = unless_phase_0 phase (records_in past)
+records_in (AtMdt took processed phase ∷ past) = unless_phase_0 phase (with_record processed (records_in past))
+records_in (AtRestart ∷ past) = []
 
 -- the write that a record adds, if there is one
-abbrev pub write_in : Option Taken → List Taken → Option Write
+abbrev pub write_in : Option Processed → List Processed → Option Write
 write_in None h = None
 write_in (Some t) h = added_on t h
 
@@ -74,15 +74,15 @@ write_in (Some t) h = added_on t h
 abbrev pub writes_in : List Moment → List Write
 writes_in [] = []
 writes_in (AtMst cycle got phase ∷ past) = writes_in past
-writes_in (AtMdt took processed phase ∷ past) = with_added (write_in processed (taken_in past)) (writes_in past)
+writes_in (AtMdt took processed phase ∷ past) = with_added (write_in processed (records_in past)) (writes_in past)
 writes_in (AtRestart ∷ past) = writes_in past
 
 -- the blocks and the calls on the procedure commands after a record
-abbrev pub blocks_after : Option Taken → List Taken → List Block → List Block
+abbrev pub blocks_after : Option Processed → List Processed → List Block → List Block
 blocks_after None h blocks = blocks
 blocks_after (Some t) h blocks = blocks_with (added_on t h) t.commands t.blocks
 
-abbrev pub calls_after : Option Taken → List Taken → List CommandCall → List CommandCall
+abbrev pub calls_after : Option Processed → List Processed → List CommandCall → List CommandCall
 calls_after None h calls = calls
 calls_after (Some t) h calls = calls_with (added_on t h) t.blocks calls
 
@@ -90,7 +90,7 @@ calls_after (Some t) h calls = calls_with (added_on t h) t.blocks calls
 abbrev pub blocks_in : DriveView → List Moment → List Block
 blocks_in d [] = store_of d
 blocks_in d (AtMst cycle got phase ∷ past) = blocks_in d past
-blocks_in d (AtMdt took processed phase ∷ past) = blocks_after processed (taken_in past) (blocks_in d past)
+blocks_in d (AtMdt took processed phase ∷ past) = blocks_after processed (records_in past) (blocks_in d past)
 blocks_in d (AtRestart ∷ past) = blocks_in d past
 
 -- the calls on the procedure commands: settings and cancels, writes of other operation data, and phase 0
@@ -100,7 +100,7 @@ with_reset phase calls = if phase == 0 then Reset ∷ calls else calls
 abbrev pub calls_in : List Moment → List CommandCall
 calls_in [] = []
 calls_in (AtMst cycle got phase ∷ past) = with_reset phase (calls_in past)
-calls_in (AtMdt took processed phase ∷ past) = with_reset phase (calls_after processed (taken_in past) (calls_in past))
+calls_in (AtMdt took processed phase ∷ past) = with_reset phase (calls_after processed (records_in past) (calls_in past))
 calls_in (AtRestart ∷ past) = Reset ∷ calls_in past
 
 -- the procedure commands of the drive, in a ring of a rate

@@ -13,7 +13,7 @@ use Rattle.sercos_command.specs.Checks.{number_at, idns_at}
 use Rattle.sercos_service_drive.specs.Replies.{data_in}
 use Rattle.sercos_service_drive.specs.Says.{Shown, channel_says}
 use Rattle.sercos_drive.specs.Heard.{DriveCall}
-use Rattle.sercos_drive.specs.Moments.{Moment, phase_in, cycle_in, has_mst, has_taken, taken_in, blocks_in, commands_in}
+use Rattle.sercos_drive.specs.Moments.{Moment, phase_in, cycle_in, has_mst, has_taken, records_in, blocks_in, commands_in}
 use Rattle.sercos_drive.specs.Annals.{annals}
 
 -- the status word that shows this; all other bits are 0
@@ -61,7 +61,7 @@ said address cycle phase blocks s = record {
 abbrev pub said_in : DriveView → ℕ → List Moment → Option Said
 said_in d rate past =
     if sends past
-    then Some (said d.address (cycle_in past) (phase_in past) (blocks_in d past) (channel_says d.busy (cycle_in past) (commands_in d rate past) (taken_in past)))
+    then Some (said d.address (cycle_in past) (phase_in past) (blocks_in d past) (channel_says d.busy (cycle_in past) (commands_in d rate past) (records_in past)))
     else None
 
 -- the AT of a drive after these calls, if it sends one

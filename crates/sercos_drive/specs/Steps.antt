@@ -2,7 +2,7 @@
 use Rattle.std.specs.Prelude.{◌≡◌, ℕ, ◌+◌, ◌≤◌, ◌==◌, nat_le, Bool, not, ◌&&◌, ◌||◌, if◌then◌else◌, List, Option, Some, None}
 use Rattle.sercos_command.specs.Calls.{CommandHistory, is_passed}
 use Rattle.sercos_command.specs.Kept.{CommandsStandFor}
-use Rattle.sercos_service_drive.specs.Log.{Taken, taken_record}
+use Rattle.sercos_service_drive.specs.Log.{Processed, processed_record}
 use Rattle.sercos_service_drive.specs.Writes.{Write}
 use Rattle.sercos_service_drive.specs.Kept.{ChannelStandsFor}
 use Rattle.sercos_drive.specs.declared.hearing.Told.{Told}
@@ -21,7 +21,7 @@ goes_to v c cycle (Some phase) =
     else (if (phase == v.phase + 1) && may_rise_by c cycle phase then phase else 0)
 
 -- the procedure commands after a record, and in a phase, where 0 resets them
-abbrev pub commands_after : Option Taken → List Taken → CommandHistory → CommandHistory
+abbrev pub commands_after : Option Processed → List Processed → CommandHistory → CommandHistory
 commands_after r h c = record { rate = c.rate; time = c.time; calls = calls_after r h c.calls }
 
 abbrev pub reset_in : ℕ → CommandHistory → CommandHistory
@@ -30,14 +30,14 @@ reset_in phase c = record { rate = c.rate; time = c.time; calls = with_reset pha
 -- From now on the drive is in this phase.
 pub record IsEntered (v w : DriveState) (phase : ℕ) : Type 0 where
   pub same : w ≡ record v { phase = phase; commands = w.commands; channel = w.channel }
-  pub channel : (busy : ℕ) (h : List Taken) → ChannelStandsFor v.channel busy h → ChannelStandsFor w.channel busy (unless_phase_0 phase h)
+  pub channel : (busy : ℕ) (h : List Processed) → ChannelStandsFor v.channel busy h → ChannelStandsFor w.channel busy (unless_phase_0 phase h)
   pub commands : (c : CommandHistory) → CommandsStandFor v.commands c → CommandsStandFor w.commands (reset_in phase c)
 
 -- the record of an MDT
-abbrev pub record_by : DriveState → CommandHistory → Told → Taken
-record_by v c told = taken_record v.cycle v.phase told.control told.info v.blocks c
+abbrev pub record_by : DriveState → CommandHistory → Told → Processed
+record_by v c told = processed_record v.cycle v.phase told.control told.info v.blocks c
 
-abbrev pub processed_by : DriveState → CommandHistory → Option Told → Option Taken
+abbrev pub processed_by : DriveState → CommandHistory → Option Told → Option Processed
 processed_by v c None = None
 processed_by v c (Some told) = if v.got && nat_le 2 v.phase then Some (record_by v c told) else None
 
@@ -46,7 +46,7 @@ counted_with None n = n
 counted_with (Some w) n = counted (n + 1)
 
 -- A record was processed after these, if there was one, with the procedure commands as these calls left them.
-pub record IsProcessed (v w : DriveState) (busy : ℕ) (c : CommandHistory) (r : Option Taken) (h : List Taken) : Type 0 where
+pub record IsProcessed (v w : DriveState) (busy : ℕ) (c : CommandHistory) (r : Option Processed) (h : List Processed) : Type 0 where
   pub same : w ≡ record v { writes = counted_with (write_in r h) v.writes; channel = w.channel; commands = w.commands; blocks = blocks_after r h v.blocks; slot = w.slot }
   pub slot : IsSlot v.slot v.blocks → IsSlot w.slot w.blocks
   pub channel : ChannelStandsFor w.channel busy (with_record r h)

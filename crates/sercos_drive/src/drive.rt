@@ -5,8 +5,8 @@ ghost use Rattle.sercos_block.specs.Views.{DriveView};
 ghost use Rattle.sercos_block.specs.Rules.{blocks_fault};
 ghost use Rattle.sercos_telegram.specs.Spells.{at_content};
 ghost use Rattle.sercos_command.specs.Calls.{CommandHistory};
-ghost use Rattle.sercos_command.specs.Kept.{newest_cycle, CommandsStandFor};
-ghost use Rattle.sercos_service_drive.specs.Log.{Taken, taken_record};
+ghost use Rattle.sercos_command.specs.Kept.{newest_cycle, AreInOrder, CommandsStandFor};
+ghost use Rattle.sercos_service_drive.specs.Log.{Processed, processed_record};
 ghost use Rattle.sercos_service_drive.specs.Writes.{AreThose};
 ghost use Rattle.sercos_service_drive.specs.Kept.{ChannelStandsFor};
 ghost use Rattle.sercos_drive.specs.Heard.{DriveCall, Mst, Mdt, Restart, mdt_got};
@@ -117,7 +117,7 @@ impl Drive {
 
     // Returns whether the check for a rise to this phase is passed in a cycle.
     fn has_passed(&self, cycle: u32, phase: u8) -> bool
-        ensures { (c : CommandHistory) → CommandsStandFor self.now.commands c → newest_cycle c.calls ≤ cycle → result ≡ may_rise_by c cycle phase }
+        ensures { (c : CommandHistory) → CommandsStandFor self.now.commands c → AreInOrder c.calls → newest_cycle c.calls ≤ cycle → result ≡ may_rise_by c cycle phase }
     {
         phase <= 2
             || if phase == 3 {
@@ -130,7 +130,7 @@ impl Drive {
     // Returns the phase of the drive after the MST's place of a cycle, with the phase that the MST commands, if one was got.
     fn stands_in(&self, cycle: u32, commanded: Option<u8>) -> u8
         requires { IfSome commanded (λ phase. phase ≤ 4) }
-        ensures value { (c : CommandHistory) → CommandsStandFor self.now.commands c → newest_cycle c.calls ≤ cycle → result ≡ goes_to self.now c cycle commanded }
+        ensures value { (c : CommandHistory) → CommandsStandFor self.now.commands c → AreInOrder c.calls → newest_cycle c.calls ≤ cycle → result ≡ goes_to self.now c cycle commanded }
         ensures bound { result ≤ 4 }
     {
         match commanded {
@@ -267,8 +267,8 @@ impl Drive {
     // Hands a record to the service channel, in phases 2 to 4.
     fn process(&mut self, told: &Told)
         requires { 2 ≤ self.old.phase }
-        ensures { (busy : ℕ) (h : List Taken) (c : CommandHistory) → ChannelStandsFor self.old.channel busy h → AreThose self.old.blocks h →
-            CommandsStandFor self.old.commands c → newest_cycle c.calls ≤ self.old.cycle → IsProcessed self.old self.new busy c (Some (record_by self.old c told.now)) h }
+        ensures { (busy : ℕ) (h : List Processed) (c : CommandHistory) → ChannelStandsFor self.old.channel busy h → AreThose self.old.blocks h →
+            CommandsStandFor self.old.commands c → IsProcessed self.old self.new busy c (Some (record_by self.old c told.now)) h }
     {
         let added = self.channel.take(
             self.cycle,
@@ -291,8 +291,8 @@ impl Drive {
 
     // Notes the MDT's place with the record of an MDT, if there is one that is to be processed.
     fn process_if(&mut self, told: Option<Told>)
-        ensures { (busy : ℕ) (h : List Taken) (c : CommandHistory) → ChannelStandsFor self.old.channel busy h → AreThose self.old.blocks h →
-            CommandsStandFor self.old.commands c → newest_cycle c.calls ≤ self.old.cycle → IsProcessed self.old self.new busy c (processed_by self.old c told) h }
+        ensures { (busy : ℕ) (h : List Processed) (c : CommandHistory) → ChannelStandsFor self.old.channel busy h → AreThose self.old.blocks h →
+            CommandsStandFor self.old.commands c → IsProcessed self.old self.new busy c (processed_by self.old c told) h }
     {
         if let Some(told) = told {
             if self.processes() {

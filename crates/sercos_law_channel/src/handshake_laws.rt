@@ -1,10 +1,10 @@
 // Laws on the two ends of a service channel.
 ghost use Rattle.std.specs.Prelude.{◌≡◌, ℕ, List, ◌∷◌};
 ghost use Rattle.sercos_block.specs.declared.block.Block.{Block};
-ghost use Rattle.sercos_service_drive.specs.Log.{Taken, ahs};
+ghost use Rattle.sercos_service_drive.specs.Log.{Processed, ahs};
 ghost use Rattle.sercos_service_drive.specs.Replies.{reply_of, log_of};
 ghost use Rattle.sercos_service_master.specs.Begun.{is_odd};
-ghost use Rattle.sercos_law_channel.specs.Handshake.Moves.{Hears, Begins, Takes, with_taken};
+ghost use Rattle.sercos_law_channel.specs.Handshake.Moves.{Hears, Begins, Takes, with_processed};
 ghost use Rattle.sercos_law_channel.specs.Handshake.Parts.{ComeInTurn, FallIntoParts, HaveReplies, MakeTransfers};
 ghost use Rattle.sercos_law_channel.specs.Handshake.Transfers.{WritesOnce, WritesNothing};
 ghost use Rattle.sercos_law_channel.specs.Handshake.CommandTransfers.{SetsAndCancels, RefusedAddsNothing, EndsWithStatus, RefusesUnknown, WritesNowhere};
@@ -22,8 +22,8 @@ pub fn handshake_law()
     ensures hears { Hears }
     ensures begins { Begins }
     ensures takes { Takes }
-    ensures bits { (h : List Taken) → ahs h ≡ is_odd (log_of h) }
-    ensures joins { (t : Taken) (h : List Taken) → log_of (t ∷ h) ≡ with_taken t (reply_of t (log_of h)) (log_of h) }
+    ensures bits { (h : List Processed) → ahs h ≡ is_odd (log_of h) }
+    ensures joins { (t : Processed) (h : List Processed) → log_of (t ∷ h) ≡ with_processed t (reply_of t (log_of h)) (log_of h) }
 {}
 
 /// If both ends are in step, what the drive has accepted falls into the parts of the requests, one after

@@ -8,7 +8,7 @@ use Rattle.sercos_block.specs.declared.block.Block.{Block}
 use Rattle.sercos_block.specs.Stores.{find_block, with_data, put_fault}
 use Rattle.sercos_command.specs.Settings.{is_command}
 use Rattle.sercos_command.specs.Calls.{CommandHistory, with_check_list}
-use Rattle.sercos_service_drive.specs.Log.{Taken, Entry, ahs, accepted, open_idn, run_before, in_order}
+use Rattle.sercos_service_drive.specs.Log.{Processed, Entry, ahs, accepted, open_idn, run_before, in_order}
 use Rattle.sercos_service_drive.specs.Replies.{answer_by, bytes_written, write_cause, write_cause_in, reply_of, answered, log_of}
 use Rattle.sercos_service_drive.specs.Writes.{Write, without_data, AreAlike, AreThose, written_by, with_added, writes_of, command_value, blocks_with, adds, added_on}
 use Rattle.sercos_service_drive.specs.Kept.{IsMidway}
@@ -18,7 +18,7 @@ use Rattle.sercos_service_drive.proofs.WriteAnswers.{in_order-append, started_by
 use Rattle.sercos_service_drive.proofs.RunLemmas.{same_bits}
 
 -- What a record adds is what the writes grow by.
-pub grows : (t : Taken) (h : List Taken) → writes_of (log_of (t ∷ h)) ≡ with_added (added_on t h) (writes_of (log_of h))
+pub grows : (t : Processed) (h : List Processed) → writes_of (log_of (t ∷ h)) ≡ with_added (added_on t h) (writes_of (log_of h))
 grows t h = by (beq t.mhs (ahs h))
   where
     by : (same : Bool) → writes_of (answered (cond same (accepted h) (t ∷ accepted h))) ≡ with_added (cond same None (adds t (log_of h))) (writes_of (log_of h))
@@ -52,11 +52,11 @@ alike (Some w) c blocks = by (is_command blocks w.raw)
     by true = lists_alike c w.raw (command_value w) (with_data w.raw w.bytes blocks) ∙ data_alike w.raw w.bytes blocks
     by false = data_alike w.raw w.bytes blocks
 
-pub those_moved : (blocks others : List Block) (h : List Taken) → AreAlike others blocks → AreThose blocks h → AreThose others h
+pub those_moved : (blocks others : List Block) (h : List Processed) → AreAlike others blocks → AreThose blocks h → AreThose others h
 those_moved blocks others [] same those = tt
 those_moved blocks others (t ∷ h) same those = (those.0 ∙ sym same, those_moved blocks others h same those.1)
 
-those_accepted : (blocks : List Block) (h : List Taken) → AreThose blocks h → AreThose blocks (accepted h)
+those_accepted : (blocks : List Block) (h : List Processed) → AreThose blocks h → AreThose blocks (accepted h)
 those_accepted blocks [] those = tt
 those_accepted blocks (t ∷ h) those = by (beq t.mhs (ahs h)) (those_accepted blocks h those.1)
   where
@@ -77,12 +77,12 @@ no_cause (Some code) word well = cc
 abbrev words_before : List Entry → List ℕ
 words_before log = in_order (run_before true 7 log) []
 
-reply_is : (t : Taken) (log : List Entry) (raw : ℕ) → t.step.write ≡ true → t.step.element ≡ 7 → open_idn log ≡ Some raw
+reply_is : (t : Processed) (log : List Entry) (raw : ℕ) → t.step.write ≡ true → t.step.element ≡ 7 → open_idn log ≡ Some raw
     → reply_of t log ≡ answer_by (write_cause_in (find_block raw t.blocks) t.phase t.step.last (words_before log ++ t.step.word ∷ [])) 0
 reply_is t log raw write seven opened = rw (write, seven, opened) (ap (λ (words : List ℕ). answer_by (write_cause_in (find_block raw t.blocks) t.phase t.step.last words) 0) (in_order-append (run_before true 7 log) [] (t.step.word ∷ [])))
 
 -- .. with one word more, where those before it may go on
-midway : (raw : ℕ) (b : Block) (blocks : List Block) (t : Taken) (log : List Entry) → AreAlike t.blocks blocks → find_block raw blocks ≡ Some b
+midway : (raw : ℕ) (b : Block) (blocks : List Block) (t : Processed) (log : List Entry) → AreAlike t.blocks blocks → find_block raw blocks ≡ Some b
     → ((c : Block) → find_block raw t.blocks ≡ Some c → IsStarted c (words_before log))
     → t.step.write ≡ true → t.step.element ≡ 7 → t.step.last ≡ false → (reply_of t log).error ≡ false → open_idn log ≡ Some raw → IsMidway b (words_before log ++ t.step.word ∷ [])
 midway raw b blocks t log same found begun write seven last well opened =
@@ -94,7 +94,7 @@ midway raw b blocks t log same found begun write seven last well opened =
         let parts = none_of-or _ _ (sym (cause_is c t.phase false (words_before log) t.step.word (begun c there)) ∙ none) in
         goes_on c t.phase (words_before log) t.step.word (begun c there) (has_passed c t.phase false (words_before log ++ t.step.word ∷ []) parts.0)
 
-started : (raw : ℕ) (b : Block) (blocks : List Block) (a : List Taken) → AreThose blocks a → find_block raw blocks ≡ Some b → open_idn (answered a) ≡ Some raw → IsStarted b (words_before (answered a))
+started : (raw : ℕ) (b : Block) (blocks : List Block) (a : List Processed) → AreThose blocks a → find_block raw blocks ≡ Some b → open_idn (answered a) ≡ Some raw → IsStarted b (words_before (answered a))
 started raw b blocks [] those found opened = tt
 started raw b blocks (t ∷ a) those found opened =
     by (λ c there was. started raw c t.blocks a (those_moved blocks t.blocks a those.0 those.1) there was)
@@ -114,7 +114,7 @@ started raw b blocks (t ∷ a) those found opened =
     by begun true write false element last is error well = tt
     by begun false write number element last is error well = tt
 
-pub allowed : (t : Taken) (h : List Taken) → AreThose t.blocks h → IfSome (added_on t h) (λ w. put_fault (find_block w.raw t.blocks) t.phase w.bytes ≡ None)
+pub allowed : (t : Processed) (h : List Processed) → AreThose t.blocks h → IfSome (added_on t h) (λ w. put_fault (find_block w.raw t.blocks) t.phase w.bytes ≡ None)
 allowed t h those = by (beq t.mhs (ahs h))
   where
     adds_allowed : IfSome (adds t (log_of h)) (λ w. put_fault (find_block w.raw t.blocks) t.phase w.bytes ≡ None)

@@ -9,26 +9,26 @@ use Rattle.sercos_block.specs.declared.block.Block.{Block}
 use Rattle.sercos_block.specs.Stores.{find_block}
 use Rattle.sercos_command.specs.Calls.{CommandHistory, change_in}
 use Rattle.sercos_service_drive.specs.declared.channel.Last.{Last}
-use Rattle.sercos_service_drive.specs.Log.{Taken, Entry, ahs, accepted, open_idn, run_before, in_order}
+use Rattle.sercos_service_drive.specs.Log.{Processed, Entry, ahs, accepted, open_idn, run_before, in_order}
 use Rattle.sercos_service_drive.specs.Replies.{answer_by, bytes_written, write_cause_in, reply_at, reply_of, answered, log_of}
 use Rattle.sercos_service_drive.specs.Writes.{Write, written_by, AreThose, adds, added_on}
 use Rattle.sercos_service_drive.specs.Says.{Shown, shown, shown_by, channel_says}
 use Rattle.sercos_service_drive.specs.Kept.{ends_run, run_of, GoesWith, SessionView, IsAnswered, last_of, ChannelView, ChannelStandsFor}
 
 -- the blocks are those of the last step of the run
-pub goes_with : (blocks : List Block) (h : List Taken) → AreThose blocks h → GoesWith blocks (run_of (log_of h))
+pub goes_with : (blocks : List Block) (h : List Processed) → AreThose blocks h → GoesWith blocks (run_of (log_of h))
 goes_with blocks [] those = tt
 goes_with blocks (t ∷ h) those = by (beq t.mhs (ahs h)) (goes_with blocks h those.1)
   where
-    run : (ends : Bool) (rest : List Taken) → GoesWith blocks (cond ends [] (t ∷ rest))
+    run : (ends : Bool) (rest : List Processed) → GoesWith blocks (cond ends [] (t ∷ rest))
     run true rest = tt
     run false rest = those.0
 
     by : (same : Bool) → GoesWith blocks (run_of (log_of h)) → GoesWith blocks (run_of (answered (cond same (accepted h) (t ∷ accepted h))))
     by true more = more
-    by false more = run (ends_run (record { taken = t; answer = reply_of t (log_of h) })) _
+    by false more = run (ends_run (record { processed = t; answer = reply_of t (log_of h) })) _
 
-pub taken_stands : (v : ChannelView) (busy : ℕ) (h : List Taken) (t : Taken) (answer : Answer) (session : SessionView) → ChannelStandsFor v busy h → beq t.mhs v.ahs ≡ false
+pub taken_stands : (v : ChannelView) (busy : ℕ) (h : List Processed) (t : Processed) (answer : Answer) (session : SessionView) → ChannelStandsFor v busy h → beq t.mhs v.ahs ≡ false
     → IsAnswered session t (log_of h) answer
     → ChannelStandsFor (record { busy = v.busy; ahs = t.mhs; last = Some (record { cycle = t.cycle; answer = answer }); session = session }) busy (t ∷ h)
 taken_stands v busy h t answer session stood new is =
@@ -40,12 +40,12 @@ taken_stands v busy h t answer session stood new is =
       session_is = rw differs (rw is.reply_is at is.stands);
     }
 
-pub adds_new : (v : ChannelView) (busy : ℕ) (h : List Taken) (t : Taken) → ChannelStandsFor v busy h → beq t.mhs v.ahs ≡ false → added_on t h ≡ adds t (log_of h)
+pub adds_new : (v : ChannelView) (busy : ℕ) (h : List Processed) (t : Processed) → ChannelStandsFor v busy h → beq t.mhs v.ahs ≡ false → added_on t h ≡ adds t (log_of h)
 adds_new v busy h t stood new = let differs : beq t.mhs (ahs h) ≡ false = rw (← stood.ahs_is) new in rw differs refl
 
 -- A step takes effect exactly where it adds a write.
 
-written : (t : Taken) (run : List Taken) (o : Option ℕ) → (reply_at o t run).error ≡ false → t.step.write ≡ true → (t.step.element == 7) ≡ true
+written : (t : Processed) (run : List Processed) (o : Option ℕ) → (reply_at o t run).error ≡ false → t.step.write ≡ true → (t.step.element == 7) ≡ true
     → is_some (option_and_then (written_by t run) o) ≡ true
 written t run None good on seven = cc
 written t run (Some raw) good on seven = by (find_block raw t.blocks) (rw (on, seven) at good)
@@ -55,10 +55,10 @@ written t run (Some raw) good on seven = by (find_block raw t.blocks) (rw (on, s
     by None h = cc
     by (Some b) h = refl
 
-reply_there : (t : Taken) (log : List Entry) → t.step.write ≡ true → t.step.element ≡ 7 → reply_of t log ≡ reply_at (open_idn log) t (run_before true 7 log)
+reply_there : (t : Processed) (log : List Entry) → t.step.write ≡ true → t.step.element ≡ 7 → reply_of t log ≡ reply_at (open_idn log) t (run_before true 7 log)
 reply_there t log on seven = rw (on, seven) refl
 
-pub effect_adds : (t : Taken) (log : List Entry) (answer : Answer) → answer ≡ reply_of t log
+pub effect_adds : (t : Processed) (log : List Entry) (answer : Answer) → answer ≡ reply_of t log
     → (t.step.write && ((t.step.element == 7) && (t.step.last && not answer.error))) ≡ is_some (adds t log)
 effect_adds t log answer is = rw is (by (t.step.write && ((t.step.element == 7) && (t.step.last && not (reply_of t log).error))) refl)
   where
@@ -83,7 +83,7 @@ effect_adds t log answer is = rw is (by (t.step.write && ((t.step.element == 7) 
 
 -- What is shown.
 
-module _ (v : ChannelView) (busy cycle : ℕ) (commands : CommandHistory) (h : List Taken) (stood : ChannelStandsFor v busy h) where
+module _ (v : ChannelView) (busy cycle : ℕ) (commands : CommandHistory) (h : List Processed) (stood : ChannelStandsFor v busy h) where
   pub shows_none : v.last ≡ None → channel_says busy cycle commands h ≡ record { ahs = v.ahs; busy = false; error = false; change = change_in commands cycle; word = 0 }
   shows_none none = rw (← stood.ahs_is) (by (log_of h) (sym stood.last_is ∙ none))
     where
@@ -98,7 +98,7 @@ module _ (v : ChannelView) (busy cycle : ℕ) (commands : CommandHistory) (h : L
       (record { ahs = v.ahs; busy = false; error = last.answer.error; change = change_in commands cycle; word = last.answer.word })
   last_in [] last is = cc
   last_in (e ∷ log) last is =
-      let same : record { cycle = e.taken.cycle; answer = e.answer } ≡ last = cc in
+      let same : record { cycle = e.processed.cycle; answer = e.answer } ≡ last = cc in
       rw (← same, stood.busy_is) refl
 
   pub shows_last : (last : Last) → v.last ≡ Some last → (test : Bool) → nat_le (cycle - last.cycle) v.busy ≡ test

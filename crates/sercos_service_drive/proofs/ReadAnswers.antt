@@ -2,7 +2,7 @@
 use Rattle.std.proofs.Common.{◌≡◌, ℕ, ◌≤◌, ◌==◌, Bool, true, false, cond, List, [], ◌∷◌, length, Some, None, refl, ap, sym, ◌∙◌, arith}
 use Rattle.std.specs.Prelude.{slice_index}
 use Rattle.sercos_step.specs.Words.{words_of}
-use Rattle.sercos_service_drive.specs.Log.{Taken, Entry, opens, open_idn, run_before, selection}
+use Rattle.sercos_service_drive.specs.Log.{Processed, Entry, opens, open_idn, run_before, selection}
 use Rattle.sercos_service_drive.specs.Replies.{good, refused, answer_by, copy, read_cause, reply_of}
 use Rattle.sercos_service_drive.specs.Kept.{run_of, place_of, continued, place_in, selected, SessionView, IsReading, IsKeptRun, HoldsRun, SessionStandsFor, IsAnswered}
 use Rattle.sercos_service_drive.proofs.RunLemmas.{run_before-run_of, place_is, holds_continued, continued_bit, place_some, word_within}
@@ -13,17 +13,17 @@ words_few [] = omega arith
 words_few (a ∷ []) = omega arith
 words_few (a ∷ b ∷ bytes) = let more = words_few bytes in omega (arith, more)
 
-pub reading_of : (write : Bool) (raw : ℕ) (s : Taken) (rest : List Taken) (buffer : List ℕ) → write ≡ false → IsKeptRun write raw s rest buffer → IsReading raw s rest buffer
+pub reading_of : (write : Bool) (raw : ℕ) (s : Processed) (rest : List Processed) (buffer : List ℕ) → write ≡ false → IsKeptRun write raw s rest buffer → IsReading raw s rest buffer
 reading_of true raw s rest buffer off h = cc
 reading_of false raw s rest buffer off h = h
 
-pub run_of_reading : (write : Bool) (raw : ℕ) (s : Taken) (rest : List Taken) (buffer : List ℕ) → write ≡ false → IsReading raw s rest buffer → IsKeptRun write raw s rest buffer
+pub run_of_reading : (write : Bool) (raw : ℕ) (s : Processed) (rest : List Processed) (buffer : List ℕ) → write ≡ false → IsReading raw s rest buffer → IsKeptRun write raw s rest buffer
 run_of_reading true raw s rest buffer off h = cc
 run_of_reading false raw s rest buffer off h = h
 
-module _ (v : SessionView) (t : Taken) (log : List Entry) (raw : ℕ) (stood : SessionStandsFor v log) (open_is : open_idn log ≡ Some raw)
+module _ (v : SessionView) (t : Processed) (log : List Entry) (raw : ℕ) (stood : SessionStandsFor v log) (open_is : open_idn log ≡ Some raw)
     (reads : t.step.write ≡ false) (not_closing : (t.step.element == 0) ≡ false) where
-  abbrev run : List Taken
+  abbrev run : List Processed
   run = continued false t.step.element (run_of log)
 
   no_opening : opens t.step ≡ false
@@ -38,10 +38,10 @@ module _ (v : SessionView) (t : Taken) (log : List Entry) (raw : ℕ) (stood : S
   holds : HoldsRun (Some raw) run v.buffer
   holds = holds_continued false t.step.element raw (run_of log) v.buffer (rw open_is at stood.buffer_is)
 
-  reply : (r : List Taken) → run ≡ r → reply_of t log ≡ answer_by (read_cause raw (selection t r)) (slice_index (copy raw (selection t r)) (length r))
+  reply : (r : List Processed) → run ≡ r → reply_of t log ≡ answer_by (read_cause raw (selection t r)) (slice_index (copy raw (selection t r)) (length r))
   reply r is = rw (reads, not_closing, open_is, run_is, is) refl
 
-  kept : (r : List Taken) → run ≡ r → run_before t.step.write t.step.element log ≡ r
+  kept : (r : List Processed) → run ≡ r → run_before t.step.write t.step.element log ≡ r
   kept r is = rw (reads, run_is) is
 
   -- the element is missing
@@ -49,7 +49,7 @@ module _ (v : SessionView) (t : Taken) (log : List Entry) (raw : ℕ) (stood : S
       → IsAnswered (record { opened = v.opened; selection = None; buffer = buffer }) t log (refused code)
   read_refused place code buffer p is = refused_step v t log stood no_opening not_closing buffer code (by run refl)
     where
-      by : (r : List Taken) → run ≡ r → refused code ≡ reply_of t log
+      by : (r : List Processed) → run ≡ r → refused code ≡ reply_of t log
       by [] e =
           let none : place ≡ 0 = p ∙ at ∙ ap place_of e in
           let cause : Some code ≡ read_cause raw t = rw none at is in
@@ -65,7 +65,7 @@ module _ (v : SessionView) (t : Taken) (log : List Entry) (raw : ℕ) (stood : S
       → IsAnswered (record { opened = v.opened; selection = selected t.step.last t.step place; buffer = buffer }) t log (good word)
   read_good place word buffer p is copies stays few word_is = by run refl
     where
-      by : (r : List Taken) → run ≡ r → IsAnswered (record { opened = v.opened; selection = selected t.step.last t.step place; buffer = buffer }) t log (good word)
+      by : (r : List Processed) → run ≡ r → IsAnswered (record { opened = v.opened; selection = selected t.step.last t.step place; buffer = buffer }) t log (good word)
       by [] e =
           let here : place ≡ place_of [] = p ∙ at ∙ ap place_of e in
           let there : read_cause raw t ≡ None = sym (rw here at is) in

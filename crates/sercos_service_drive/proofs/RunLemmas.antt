@@ -5,7 +5,7 @@ use Rattle.std.proofs.lemmas.List.{get_or_past}
 use Rattle.std.proofs.lemmas.Bool.{and_parts}
 use Rattle.std.proofs.lemmas.Bool.Decides.{nat_tests}
 use mathlib.Core.Bool.{beq}
-use Rattle.sercos_service_drive.specs.Log.{Taken, Entry, opens, run_before}
+use Rattle.sercos_service_drive.specs.Log.{Processed, Entry, opens, run_before}
 use Rattle.sercos_service_drive.specs.Kept.{run_of, place_of, selection_in, continued, place_in, HoldsRun}
 
 pub same_bits : (a b : Bool) → beq a b ≡ true → a ≡ b
@@ -16,7 +16,7 @@ same_bits false true h = cc
 
 -- The tests' values as variables: the step has the bit and element of the run, which the last word or an error ends, or an
 -- opening or a step of element 0.
-by_tests : (bit element last error closes : Bool) (x y : List Taken) (go : List Taken → List Taken)
+by_tests : (bit element last error closes : Bool) (x y : List Processed) (go : List Processed → List Processed)
     → ((bit && element) ≡ true → closes ≡ false) → ((bit && element) ≡ true → x ≡ y) → go [] ≡ [] → go y ≡ cond (bit && element) y []
     → cond (bit && (element && (not last && not error))) x [] ≡ go (cond (closes || (last || error)) [] y)
 by_tests true true last error true x y go free same none all = let f : true ≡ false = free refl in cc
@@ -37,18 +37,18 @@ pub run_before-run_of : (write : Bool) (element : ℕ) (log : List Entry) → (w
     → run_before write element log ≡ continued write element (run_of log)
 run_before-run_of write element [] opens_none closes_none = refl
 run_before-run_of write element (e ∷ log) opens_none closes_none =
-    by_tests (beq e.taken.step.write write) (e.taken.step.element == element) e.taken.step.last e.answer.error (opens e.taken.step || (e.taken.step.element == 0))
-    (e.taken ∷ run_before write element log) (e.taken ∷ run_before e.taken.step.write e.taken.step.element log) (continued write element)
+    by_tests (beq e.processed.step.write write) (e.processed.step.element == element) e.processed.step.last e.answer.error (opens e.processed.step || (e.processed.step.element == 0))
+    (e.processed ∷ run_before write element log) (e.processed ∷ run_before e.processed.step.write e.processed.step.element log) (continued write element)
     (λ same. rw (bit same, number same, opens_none, closes_none) refl) (λ same. rw (bit same, number same) refl) refl refl
   where
-    bit : (beq e.taken.step.write write && (e.taken.step.element == element)) ≡ true → e.taken.step.write ≡ write
-    bit same = let (b, _) = and_parts (beq e.taken.step.write write) (e.taken.step.element == element) same in same_bits _ _ b
+    bit : (beq e.processed.step.write write && (e.processed.step.element == element)) ≡ true → e.processed.step.write ≡ write
+    bit same = let (b, _) = and_parts (beq e.processed.step.write write) (e.processed.step.element == element) same in same_bits _ _ b
 
-    number : (beq e.taken.step.write write && (e.taken.step.element == element)) ≡ true → e.taken.step.element ≡ element
-    number same = let (_, n) = and_parts (beq e.taken.step.write write) (e.taken.step.element == element) same in grind (arith, nat_tests)
+    number : (beq e.processed.step.write write && (e.processed.step.element == element)) ≡ true → e.processed.step.element ≡ element
+    number same = let (_, n) = and_parts (beq e.processed.step.write write) (e.processed.step.element == element) same in grind (arith, nat_tests)
 
 -- how many steps it has
-pub place_is : (write : Bool) (element : ℕ) (run : List Taken) → place_in (selection_in run) write element ≡ place_of (continued write element run)
+pub place_is : (write : Bool) (element : ℕ) (run : List Processed) → place_in (selection_in run) write element ≡ place_of (continued write element run)
 place_is write element [] = refl
 place_is write element (t ∷ run) = by (beq t.step.write write && (t.step.element == element))
   where
@@ -57,7 +57,7 @@ place_is write element (t ∷ run) = by (beq t.step.write write && (t.step.eleme
     by false = refl
 
 -- what is kept of a run is kept of the part that a step goes on
-pub holds_continued : (write : Bool) (element raw : ℕ) (run : List Taken) (buffer : List ℕ) → HoldsRun (Some raw) run buffer → HoldsRun (Some raw) (continued write element run) buffer
+pub holds_continued : (write : Bool) (element raw : ℕ) (run : List Processed) (buffer : List ℕ) → HoldsRun (Some raw) run buffer → HoldsRun (Some raw) (continued write element run) buffer
 holds_continued write element raw [] buffer holds = tt
 holds_continued write element raw (t ∷ run) buffer holds = by (beq t.step.write write && (t.step.element == element))
   where
@@ -66,7 +66,7 @@ holds_continued write element raw (t ∷ run) buffer holds = by (beq t.step.writ
     by false = tt
 
 -- and it has the bit and the element
-pub continued_bit : (write : Bool) (element : ℕ) (run : List Taken) (t : Taken) (rest : List Taken) → continued write element run ≡ t ∷ rest → t.step.write ≡ write
+pub continued_bit : (write : Bool) (element : ℕ) (run : List Processed) (t : Processed) (rest : List Processed) → continued write element run ≡ t ∷ rest → t.step.write ≡ write
 continued_bit write element [] t rest is = cc
 continued_bit write element (s ∷ run) t rest is = by (beq s.step.write write) (s.step.element == element) refl is
   where
@@ -76,17 +76,17 @@ continued_bit write element (s ∷ run) t rest is = by (beq s.step.write write) 
     by false number b e = cc
 
 -- the place of a run of which no more than a word can count
-pub place_none : (run : List Taken) → place_of run ≡ 0 → run ≡ []
+pub place_none : (run : List Processed) → place_of run ≡ 0 → run ≡ []
 place_none [] h = refl
 place_none (t ∷ run) h = absurd (omega arith)
 
-pub place_some : (t : Taken) (run : List Taken) → (place_of (t ∷ run) == 0) ≡ false
+pub place_some : (t : Processed) (run : List Processed) → (place_of (t ∷ run) == 0) ≡ false
 place_some t run = by (length (t ∷ run)) (omega arith)
   where
     by : (n : ℕ) → 0 < n → (min n 65535 == 0) ≡ false
     by n h = grind (arith, nat_tests)
 
-pub place_more : (t : Taken) (run : List Taken) (place : ℕ) → place ≡ place_of run → min (place + 1) 65535 ≡ place_of (t ∷ run)
+pub place_more : (t : Processed) (run : List Processed) (place : ℕ) → place ≡ place_of run → min (place + 1) 65535 ≡ place_of (t ∷ run)
 place_more t run place h = omega arith
 
 -- a word after the copy is 0, at whichever place

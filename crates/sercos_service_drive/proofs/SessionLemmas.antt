@@ -3,17 +3,17 @@ use Rattle.std.proofs.Common.{◌≡◌, ℕ, ◌==◌, Bool, true, false, cond,
 use Rattle.sercos_idn.specs.declared.idn.Idn.{Idn}
 use Rattle.sercos_step.specs.declared.step.Answer.{Answer}
 use Rattle.sercos_block.specs.Stores.{find_block}
-use Rattle.sercos_service_drive.specs.Log.{Taken, Entry, opens, open_idn, run_before}
+use Rattle.sercos_service_drive.specs.Log.{Processed, Entry, opens, open_idn, run_before}
 use Rattle.sercos_service_drive.specs.Replies.{good, refused, reply_of}
 use Rattle.sercos_service_drive.specs.Kept.{place_of, selection_in, selected, SessionView, IsKeptRun, HoldsRun, SessionStandsFor, IsAnswered}
 use Rattle.sercos_service_drive.proofs.RunLemmas.{place_more}
 
-abbrev entry : Taken → Answer → Entry
-entry t answer = record { taken = t; answer = answer }
+abbrev entry : Processed → Answer → Entry
+entry t answer = record { processed = t; answer = answer }
 
 -- An opening and a step of element 0 end the run, and so does an error.
 
-pub opened : (v : SessionView) (t : Taken) (log : List Entry) (idn : Idn) → opens t.step ≡ true → t.step.word ≡ idn.raw →
+pub opened : (v : SessionView) (t : Processed) (log : List Entry) (idn : Idn) → opens t.step ≡ true → t.step.word ≡ idn.raw →
     (known : Bool) → is_some (find_block idn.raw t.blocks) ≡ known →
     IsAnswered (record { opened = cond known (Some idn) None; selection = None; buffer = v.buffer }) t log (cond known (good 0) (refused 0x1001))
 opened v t log idn on word true known = record {
@@ -25,14 +25,14 @@ opened v t log idn on word false known = record {
   stands = record { opened_is = rw on refl; selection_is = rw on refl; buffer_is = rw on tt };
 }
 
-pub closed : (v : SessionView) (t : Taken) (log : List Entry) → opens t.step ≡ false → (t.step.element == 0) ≡ true →
+pub closed : (v : SessionView) (t : Processed) (log : List Entry) → opens t.step ≡ false → (t.step.element == 0) ≡ true →
     IsAnswered (record { opened = None; selection = None; buffer = v.buffer }) t log (good 0)
 closed v t log no_opening zero_is = record {
   reply_is = rw (no_opening, zero_is) refl;
   stands = record { opened_is = rw (no_opening, zero_is) refl; selection_is = rw (no_opening, zero_is) refl; buffer_is = rw (no_opening, zero_is) tt };
 }
 
-module _ (v : SessionView) (t : Taken) (log : List Entry) (stood : SessionStandsFor v log) (no_opening : opens t.step ≡ false) (not_closing : (t.step.element == 0) ≡ false) where
+module _ (v : SessionView) (t : Processed) (log : List Entry) (stood : SessionStandsFor v log) (no_opening : opens t.step ≡ false) (not_closing : (t.step.element == 0) ≡ false) where
   -- .. where it is the reply
   pub refused_step : (buffer : List ℕ) (code : ℕ) → refused code ≡ reply_of t log → IsAnswered (record { opened = v.opened; selection = None; buffer = buffer }) t log (refused code)
   refused_step buffer code is = record {
@@ -44,13 +44,13 @@ module _ (v : SessionView) (t : Taken) (log : List Entry) (stood : SessionStands
     };
   }
     where
-      by_last : (closes last : Bool) (P : List Taken → Type 0) → P [] → P (cond (closes || (last || true)) [] (t ∷ run_before t.step.write t.step.element log))
+      by_last : (closes last : Bool) (P : List Processed → Type 0) → P [] → P (cond (closes || (last || true)) [] (t ∷ run_before t.step.write t.step.element log))
       by_last true last P h = h
       by_last false true P h = h
       by_last false false P h = h
 
   -- a step that is answered with a word goes on
-  pub good_step : (raw word : ℕ) (run : List Taken) (buffer : List ℕ) → good word ≡ reply_of t log → open_idn log ≡ Some raw → run_before t.step.write t.step.element log ≡ run
+  pub good_step : (raw word : ℕ) (run : List Processed) (buffer : List ℕ) → good word ≡ reply_of t log → open_idn log ≡ Some raw → run_before t.step.write t.step.element log ≡ run
       → (t.step.last ≡ false → IsKeptRun t.step.write raw t run buffer)
       → IsAnswered (record { opened = v.opened; selection = selected t.step.last t.step (place_of run); buffer = buffer }) t log (good word)
   good_step raw word run buffer is open_is run_is keeps = record {

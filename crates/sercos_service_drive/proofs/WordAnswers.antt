@@ -7,7 +7,7 @@ use Rattle.sercos_step.specs.Words.{words_of, bytes_in}
 use Rattle.sercos_block.specs.declared.block.Block.{Block}
 use Rattle.sercos_block.specs.Stores.{put_fault}
 use Rattle.sercos_command.specs.Calls.{CommandHistory}
-use Rattle.sercos_command.specs.Kept.{newest_cycle, CommandsView, CommandsStandFor}
+use Rattle.sercos_command.specs.Kept.{CommandsView, CommandsStandFor}
 use Rattle.sercos_service_drive.specs.Replies.{bytes_written}
 use Rattle.sercos_service_drive.specs.Writes.{Write, unless, blocks_with, commands_with}
 use Rattle.sercos_service_drive.specs.Partial.{place_cause, IsStarted, IsEffect, IsWord, write_by}
@@ -49,7 +49,7 @@ pub written_at : (b : Block) (words : List ℕ) {list : Bool} {first : ℕ} {byt
 written_at b words {list} is l f s same = is ∙ rw (s, same, f) (written-is b words list l)
 
 no_effect : (cycle : ℕ) (blocks : List Block) (commands : CommandsView) → IsEffect None cycle blocks blocks commands commands
-no_effect cycle blocks commands = record { blocks_are = λ c stood. refl; commands_are = λ c stood later. stood }
+no_effect cycle blocks commands = record { blocks_are = λ c stood. refl; commands_are = λ c stood. stood }
 
 refused_effect : (last : Bool) (code cycle : ℕ) (w : Write) (blocks : List Block) (commands : CommandsView) → IsEffect (write_by last (Some code) w) cycle blocks blocks commands commands
 refused_effect true code cycle w blocks commands = no_effect cycle blocks commands
@@ -85,7 +85,7 @@ module _ (raw cycle phase : ℕ) (b : Block) (words : List ℕ) (word : ℕ) (st
       → bytes ≡ bytes_written b (words ++ word ∷ []) → code ≡ put_fault (Some b) phase bytes
       → ((c : CommandHistory) → CommandsStandFor commands c
       → blocks' ≡ blocks_with (unless (put_fault (Some b) phase bytes) (record { cycle = cycle; raw = raw; bytes = bytes })) c blocks)
-      → ((c : CommandHistory) → CommandsStandFor commands c → newest_cycle c.calls ≤ cycle
+      → ((c : CommandHistory) → CommandsStandFor commands c
       → CommandsStandFor commands' (commands_with (unless (put_fault (Some b) phase bytes) (record { cycle = cycle; raw = raw; bytes = bytes })) blocks c))
       → IsWord raw cycle phase b last (words ++ word ∷ []) code buffer blocks blocks' commands commands'
   last_word false code buffer bytes blocks blocks' commands commands' on is same put fault blocks_are commands_are = cc
@@ -95,6 +95,6 @@ module _ (raw cycle phase : ℕ) (b : Block) (words : List ℕ) (word : ℕ) (st
     midway = λ none off. cc;
     effect = record {
       blocks_are = λ c stood. rw (fault, ← put) (blocks_are c stood);
-      commands_are = λ c stood later. rw (fault, ← put) (commands_are c stood later);
+      commands_are = λ c stood. rw (fault, ← put) (commands_are c stood);
     };
   }

@@ -15,7 +15,7 @@ use Rattle.sercos_step.specs.Words.{words_of, bytes_in}
 use Rattle.sercos_block.specs.declared.block.Block.{Block}
 use Rattle.sercos_block.specs.Blocks.{bits_in, is_fixed, is_protected}
 use Rattle.sercos_block.specs.Stores.{is_short, is_long, is_invalid, is_below, is_above, write_fault, data_fault, put_fault}
-use Rattle.sercos_service_drive.specs.Replies.{words_by, words_wanted, bytes_written, is_first_word, ends_early, is_over, is_uneven, is_no_command_value, write_cause}
+use Rattle.sercos_service_drive.specs.Replies.{words_by, bytes_written, is_first_word, ends_early, is_over, is_uneven, is_no_command_value, write_cause}
 use Rattle.sercos_service_drive.specs.Kept.{IsMidway}
 use Rattle.sercos_service_drive.specs.Partial.{length_cause, place_cause, IsStarted}
 
@@ -118,8 +118,8 @@ even b phase last (v ∷ before) w started passed list = started.even list
 enough_by : (count wanted : ℕ) → (true && nat_lt count wanted) ≡ false → wanted ≤ count
 enough_by count wanted h = grind (arith, nat_tests)
 
-enough : (b : Block) (phase : ℕ) (words : List ℕ) → HasPassed b phase true words → words_wanted b (slice_index words 0) ≤ length words
-enough b phase words passed = enough_by (length words) (words_wanted b (slice_index words 0)) passed.late
+enough : (b : Block) (phase : ℕ) (words : List ℕ) → HasPassed b phase true words → words_by b.attribute (slice_index words 0) ≤ length words
+enough b phase words passed = enough_by (length words) (words_by b.attribute (slice_index words 0)) passed.late
 
 half : (l : Length) → is_list l ≡ false → (2 * (item_len l / 2) ≡ item_len l) × (1 ≤ item_len l / 2)
 half Two h = (refl, omega arith)
@@ -255,7 +255,7 @@ over_by false sel most first count wanted h = grind (arith, nat_tests)
 pub goes_on : (b : Block) (phase : ℕ) (before : List ℕ) (w : ℕ) → IsStarted b before → HasPassed b phase false (before ++ w ∷ []) → IsMidway b (before ++ w ∷ [])
 goes_on b phase before w started passed = record {
   writable = passed.writable;
-  more = over_by (is_list b.attribute.length) (is_first_word (before ++ w ∷ [])) b.max_len (slice_index (before ++ w ∷ []) 0) (length (before ++ w ∷ [])) (words_wanted b (slice_index (before ++ w ∷ []) 0)) passed.within;
+  more = over_by (is_list b.attribute.length) (is_first_word (before ++ w ∷ [])) b.max_len (slice_index (before ++ w ∷ []) 0) (length (before ++ w ∷ [])) (words_by b.attribute (slice_index (before ++ w ∷ []) 0)) passed.within;
   fits = fits b phase false before w started passed;
   even = even b phase false before w started passed;
 }

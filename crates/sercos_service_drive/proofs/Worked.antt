@@ -6,7 +6,7 @@ use Rattle.sercos_step.specs.Steps.{a_step}
 use Rattle.sercos_block.specs.declared.block.Block.{Block}
 use Rattle.sercos_block.specs.Blocks.{element_of}
 use Rattle.sercos_command.specs.Calls.{CommandHistory, Wrote}
-use Rattle.sercos_service_drive.specs.Log.{Taken, Entry}
+use Rattle.sercos_service_drive.specs.Log.{Processed, Entry}
 use Rattle.sercos_service_drive.specs.Replies.{answered, log_of, data_in, element_words, write_cause, bytes_written}
 use Rattle.sercos_service_drive.specs.Writes.{writes_of}
 use Rattle.sercos_service_drive.specs.Says.{channel_says}
@@ -41,20 +41,20 @@ blocks =
 abbrev pub commands : CommandHistory
 commands = record { rate = 4; time = 5; calls = Wrote 32786 3 100 [] ∷ [] }
 
-abbrev taken : ℕ → ℕ → Bool → Step → Taken
-taken cycle phase mhs step = record { cycle = cycle; phase = phase; mhs = mhs; step = step; blocks = blocks; commands = commands }
+abbrev processed : ℕ → ℕ → Bool → Step → Processed
+processed cycle phase mhs step = record { cycle = cycle; phase = phase; mhs = mhs; step = step; blocks = blocks; commands = commands }
 
-abbrev opens : ℕ → ℕ → Taken
-opens cycle raw = taken cycle 4 true (a_step true true 1 raw)
+abbrev opens : ℕ → ℕ → Processed
+opens cycle raw = processed cycle 4 true (a_step true true 1 raw)
 
-abbrev reads : ℕ → ℕ → Bool → Taken
-reads cycle e last = taken cycle 4 true (a_step false last e 0)
+abbrev reads : ℕ → ℕ → Bool → Processed
+reads cycle e last = processed cycle 4 true (a_step false last e 0)
 
-abbrev writes : ℕ → Bool → ℕ → Taken
-writes cycle last word = taken cycle 4 true (a_step true last 7 word)
+abbrev writes : ℕ → Bool → ℕ → Processed
+writes cycle last word = processed cycle 4 true (a_step true last 7 word)
 
 -- the words of the replies, the newest first
-abbrev words : List Taken → List ℕ
+abbrev words : List Processed → List ℕ
 words h = map (λ (e : Entry). e.answer.word) (answered h)
 
 -- The value of cycle 103, both words of it, though the second is read in 104; after them there is 0.
@@ -100,7 +100,7 @@ stepping : words (writes 103 true 5 ∷ opens 100 51 ∷ []) ≡ 0x7004 ∷ 0 �
 unfolding attribute_of write_cause bytes_written
 stepping = refl
 
-no_setting : words (taken 101 2 true (a_step true true 7 1) ∷ opens 100 127 ∷ []) ≡ 0x7008 ∷ 0 ∷ []
+no_setting : words (processed 101 2 true (a_step true true 7 1) ∷ opens 100 127 ∷ []) ≡ 0x7008 ∷ 0 ∷ []
 unfolding attribute_of write_cause bytes_written
 no_setting = refl
 
@@ -140,10 +140,10 @@ minimum : words (reads 101 5 true ∷ opens 100 32784 ∷ []) ≡ 10 ∷ 0 ∷ [
 unfolding attribute_of element_words element_of
 minimum = refl
 
-to_name : words (taken 101 4 true (a_step true false 2 0) ∷ opens 100 51 ∷ []) ≡ 0x2004 ∷ 0 ∷ []
+to_name : words (processed 101 4 true (a_step true false 2 0) ∷ opens 100 51 ∷ []) ≡ 0x2004 ∷ 0 ∷ []
 to_name = refl
 
-to_maximum : words (taken 101 4 true (a_step true false 6 0) ∷ opens 100 51 ∷ []) ≡ 0x6004 ∷ 0 ∷ []
+to_maximum : words (processed 101 4 true (a_step true false 6 0) ∷ opens 100 51 ∷ []) ≡ 0x6004 ∷ 0 ∷ []
 to_maximum = refl
 
 -- a step of element 0 closes the identifier number
@@ -166,14 +166,14 @@ no_list = refl
 
 -- A record that comes again is dropped: the copy goes on where it was.
 repeated : map (λ (e : Entry). e.answer.word)
-    (log_of (taken 105 4 true (a_step false true 7 0) ∷ taken 104 4 false (a_step false false 7 0) ∷ taken 103 4 false (a_step false false 7 0) ∷ taken 100 4 true (a_step true true 1 51) ∷ []))
+    (log_of (processed 105 4 true (a_step false true 7 0) ∷ processed 104 4 false (a_step false false 7 0) ∷ processed 103 4 false (a_step false false 7 0) ∷ processed 100 4 true (a_step true true 1 51) ∷ []))
     ≡ 0 ∷ 65530 ∷ 0 ∷ []
 unfolding attribute_of element_words data_in element_of
 repeated = refl
 
 -- with a busy time of 2 a step of cycle 100 is busy up to cycle 102
-busy : map (λ cycle. (channel_says 2 cycle commands (taken 100 4 true (a_step true true 1 99) ∷ [])).busy) (101 ∷ 102 ∷ 103 ∷ []) ≡ true ∷ true ∷ false ∷ []
+busy : map (λ cycle. (channel_says 2 cycle commands (processed 100 4 true (a_step true true 1 99) ∷ [])).busy) (101 ∷ 102 ∷ 103 ∷ []) ≡ true ∷ true ∷ false ∷ []
 busy = refl
 
-shown : channel_says 2 103 commands (taken 100 4 true (a_step true true 1 99) ∷ []) ≡ record { ahs = true; busy = false; error = true; change = false; word = 0x1001 }
+shown : channel_says 2 103 commands (processed 100 4 true (a_step true true 1 99) ∷ []) ≡ record { ahs = true; busy = false; error = true; change = false; word = 0x1001 }
 shown = refl

@@ -4,7 +4,7 @@ use Rattle.sercos_step.specs.Words.{bytes_in}
 use Rattle.sercos_block.specs.declared.block.Block.{Block}
 use Rattle.sercos_block.specs.Stores.{find_block}
 use Rattle.sercos_command.specs.Kept.{CommandsView}
-use Rattle.sercos_service_drive.specs.Log.{Taken, Entry, opens, open_idn, run_before, in_order}
+use Rattle.sercos_service_drive.specs.Log.{Processed, Entry, opens, open_idn, run_before, in_order}
 use Rattle.sercos_service_drive.specs.Replies.{good, refused, answer_by, bytes_written, write_cause, write_cause_in, reply_of}
 use Rattle.sercos_service_drive.specs.Writes.{Write, without_data, AreAlike, adds}
 use Rattle.sercos_service_drive.specs.Kept.{run_of, place_of, continued, place_in, selected, SessionView, IsMidway, IsWriting, IsKeptRun, HoldsRun, SessionStandsFor, GoesWith, IsAnswered}
@@ -12,11 +12,11 @@ use Rattle.sercos_service_drive.specs.Partial.{IsStarted, IsEffect, IsWord, writ
 use Rattle.sercos_service_drive.proofs.RunLemmas.{run_before-run_of, place_is, holds_continued, continued_bit, place_some}
 use Rattle.sercos_service_drive.proofs.SessionLemmas.{refused_step, good_step}
 
-pub writing_of : (write : Bool) (raw : ℕ) (s : Taken) (rest : List Taken) (buffer : List ℕ) → write ≡ true → IsKeptRun write raw s rest buffer → IsWriting raw s rest buffer
+pub writing_of : (write : Bool) (raw : ℕ) (s : Processed) (rest : List Processed) (buffer : List ℕ) → write ≡ true → IsKeptRun write raw s rest buffer → IsWriting raw s rest buffer
 writing_of true raw s rest buffer on h = h
 writing_of false raw s rest buffer on h = cc
 
-pub run_of_writing : (write : Bool) (raw : ℕ) (s : Taken) (rest : List Taken) (buffer : List ℕ) → write ≡ true → IsWriting raw s rest buffer → IsKeptRun write raw s rest buffer
+pub run_of_writing : (write : Bool) (raw : ℕ) (s : Processed) (rest : List Processed) (buffer : List ℕ) → write ≡ true → IsWriting raw s rest buffer → IsKeptRun write raw s rest buffer
 run_of_writing true raw s rest buffer on h = h
 run_of_writing false raw s rest buffer on h = cc
 
@@ -56,11 +56,11 @@ midway_alike b c words same m =
 
 -- The words of a run.
 
-pub in_order-append : (run : List Taken) (words more : List ℕ) → in_order run (words ++ more) ≡ in_order run words ++ more
+pub in_order-append : (run : List Processed) (words more : List ℕ) → in_order run (words ++ more) ≡ in_order run words ++ more
 in_order-append [] words more = refl
 in_order-append (t ∷ run) words more = in_order-append run (t.step.word ∷ words) more
 
-pub length-in_order : (run : List Taken) (words : List ℕ) → length (in_order run words) ≡ length run + length words
+pub length-in_order : (run : List Processed) (words : List ℕ) → length (in_order run words) ≡ length run + length words
 length-in_order [] words = omega arith
 length-in_order (t ∷ run) words = let more = length-in_order run (t.step.word ∷ words) in omega (arith, more)
 
@@ -76,7 +76,7 @@ midway_in raw blocks others c words same is m = let (alike, there) = found_alike
     by None alike there m = absurd (there refl)
     by (Some b) alike there m = midway_alike b c words alike m
 
-goes_with : (write : Bool) (element : ℕ) (blocks : List Block) (run : List Taken) → GoesWith blocks run → GoesWith blocks (continued write element run)
+goes_with : (write : Bool) (element : ℕ) (blocks : List Block) (run : List Processed) → GoesWith blocks run → GoesWith blocks (continued write element run)
 goes_with write element blocks [] h = tt
 goes_with write element blocks (t ∷ run) h = by (_)
   where
@@ -85,7 +85,7 @@ goes_with write element blocks (t ∷ run) h = by (_)
     by false = tt
 
 -- an element that can't be written
-module _ (v : SessionView) (t : Taken) (log : List Entry) (raw : ℕ) (stood : SessionStandsFor v log) (open_is : open_idn log ≡ Some raw)
+module _ (v : SessionView) (t : Processed) (log : List Entry) (raw : ℕ) (stood : SessionStandsFor v log) (open_is : open_idn log ≡ Some raw)
     (writes : t.step.write ≡ true) (not_closing : (t.step.element == 0) ≡ false) (not_opening : (t.step.element == 1) ≡ false) (other : (t.step.element == 7) ≡ false) where
   pub protected_step : (code : ℕ) (buffer : List ℕ) → code ≡ 4096 * t.step.element + 4
       → IsAnswered (record { opened = v.opened; selection = None; buffer = buffer }) t log (refused code)
@@ -95,9 +95,9 @@ module _ (v : SessionView) (t : Taken) (log : List Entry) (raw : ℕ) (stood : S
   pub protected_adds : adds t log ≡ None
   protected_adds = rw (writes, other) refl
 
-module _ (v : SessionView) (t : Taken) (log : List Entry) (raw : ℕ) (stood : SessionStandsFor v log) (open_is : open_idn log ≡ Some raw)
+module _ (v : SessionView) (t : Processed) (log : List Entry) (raw : ℕ) (stood : SessionStandsFor v log) (open_is : open_idn log ≡ Some raw)
     (writes : t.step.write ≡ true) (seven : t.step.element ≡ 7) where
-  abbrev pub run : List Taken
+  abbrev pub run : List Processed
   run = continued true 7 (run_of log)
 
   no_opening : opens t.step ≡ false
@@ -118,7 +118,7 @@ module _ (v : SessionView) (t : Taken) (log : List Entry) (raw : ℕ) (stood : S
   holds : HoldsRun (Some raw) run v.buffer
   holds = holds_continued true 7 raw (run_of log) v.buffer (rw open_is at stood.buffer_is)
 
-  writing : (s : Taken) (rest : List Taken) → run ≡ s ∷ rest → IsWriting raw s rest v.buffer
+  writing : (s : Processed) (rest : List Processed) → run ≡ s ∷ rest → IsWriting raw s rest v.buffer
   writing s rest e =
       let before : IsKeptRun s.step.write raw s rest v.buffer = rw e at holds in
       writing_of s.step.write raw s rest v.buffer (continued_bit true 7 (run_of log) s rest e) before
@@ -127,7 +127,7 @@ module _ (v : SessionView) (t : Taken) (log : List Entry) (raw : ℕ) (stood : S
   pub bytes_before : (place : ℕ) (buffer : List ℕ) → place ≡ place_in v.selection true 7 → buffer ≡ cond (place == 0) [] v.buffer → buffer ≡ bytes_in (in_order run [])
   bytes_before place buffer p is = by run refl
     where
-      by : (r : List Taken) → run ≡ r → buffer ≡ bytes_in (in_order r [])
+      by : (r : List Processed) → run ≡ r → buffer ≡ bytes_in (in_order r [])
       by [] e = let none : place ≡ 0 = p ∙ at ∙ ap place_of e in is ∙ rw none refl
       by (s ∷ rest) e =
           let some : (place == 0) ≡ false = rw (p ∙ at ∙ ap place_of e) (place_some s rest) in
@@ -141,7 +141,7 @@ module _ (v : SessionView) (t : Taken) (log : List Entry) (raw : ℕ) (stood : S
   pub started : (b : Block) → GoesWith t.blocks (run_of log) → find_block raw t.blocks ≡ Some b → IsStarted b (in_order run [])
   started b with there = by run refl (goes_with true 7 t.blocks (run_of log) with)
     where
-      by : (r : List Taken) → run ≡ r → GoesWith t.blocks r → IsStarted b (in_order r [])
+      by : (r : List Processed) → run ≡ r → GoesWith t.blocks r → IsStarted b (in_order r [])
       by [] e w = tt
       by (s ∷ rest) e w = started_by b (in_order (s ∷ rest) []) (midway_in raw s.blocks t.blocks b (in_order (s ∷ rest) []) w there (writing s rest e).midway)
 
@@ -196,7 +196,7 @@ module _ (v : SessionView) (t : Taken) (log : List Entry) (raw : ℕ) (stood : S
       by false w = refl
 
 -- What was done with the word, whether the drive has the block or not.
-module _ (v : SessionView) (t : Taken) (log : List Entry) (raw : ℕ) (stood : SessionStandsFor v log) (open_is : open_idn log ≡ Some raw)
+module _ (v : SessionView) (t : Processed) (log : List Entry) (raw : ℕ) (stood : SessionStandsFor v log) (open_is : open_idn log ≡ Some raw)
     (writes : t.step.write ≡ true) (seven : t.step.element ≡ 7) (with : GoesWith t.blocks (run_of log))
     (place : ℕ) (place_is_kept : place ≡ place_in v.selection true 7) (buffer buffer' : List ℕ) (started_is : buffer ≡ cond (place == 0) [] v.buffer)
     (code : Option ℕ) (blocks' : List Block) (commands commands' : CommandsView)
@@ -229,5 +229,5 @@ module _ (v : SessionView) (t : Taken) (log : List Entry) (raw : ℕ) (stood : S
       by : (o : Option Block) → find_block raw t.blocks ≡ o → IsEffect (adds t log) t.cycle t.blocks blocks' commands commands'
       by None e =
           let (_, same, still) = absent e in
-          rw (absent_adds v t log raw stood open_is writes seven e, same, still) (record { blocks_are = λ c stands. refl; commands_are = λ c stands later. stands })
+          rw (absent_adds v t log raw stood open_is writes seven e, same, still) (record { blocks_are = λ c stands. refl; commands_are = λ c stands. stands })
       by (Some b) e = effect v t log raw stood open_is writes seven b e buffer' blocks' commands commands' code (word_of b e)

@@ -12,28 +12,28 @@ use Rattle.sercos_block.specs.Blocks.{is_fixed}
 use Rattle.sercos_block.specs.Stores.{find_block}
 use Rattle.sercos_service_drive.specs.declared.session.Selection.{Selection}
 use Rattle.sercos_service_drive.specs.declared.channel.Last.{Last}
-use Rattle.sercos_service_drive.specs.Log.{Taken, Entry, ahs, opens, open_idn, run_before, selection, in_order}
-use Rattle.sercos_service_drive.specs.Replies.{words_wanted, copy, read_cause, reply_of, log_of}
+use Rattle.sercos_service_drive.specs.Log.{Processed, Entry, ahs, opens, open_idn, run_before, selection, in_order}
+use Rattle.sercos_service_drive.specs.Replies.{words_by, copy, read_cause, reply_of, log_of}
 use Rattle.sercos_service_drive.specs.Writes.{AreAlike}
 
 -- The run that a next step may go on: none after an opening, a step of element 0, a last word or an error.
 abbrev pub ends_run : Entry → Bool
-ends_run e = (opens e.taken.step || (e.taken.step.element == 0)) || (e.taken.step.last || e.answer.error)
+ends_run e = (opens e.processed.step || (e.processed.step.element == 0)) || (e.processed.step.last || e.answer.error)
 
-abbrev pub run_of : List Entry → List Taken
+abbrev pub run_of : List Entry → List Processed
 run_of [] = []
-run_of (e ∷ log) = if ends_run e then [] else e.taken ∷ run_before e.taken.step.write e.taken.step.element log
+run_of (e ∷ log) = if ends_run e then [] else e.processed ∷ run_before e.processed.step.write e.processed.step.element log
 
 -- the steps of a run count up to what a word holds
-abbrev pub place_of : List Taken → ℕ
+abbrev pub place_of : List Processed → ℕ
 place_of run = min (length run) 65535
 
-abbrev pub selection_in : List Taken → Option Selection
+abbrev pub selection_in : List Processed → Option Selection
 selection_in [] = None
 selection_in (t ∷ run) = Some (record { write = t.step.write; element = t.step.element; place = place_of (t ∷ run) })
 
 -- the part of a run that a step with this write bit and element goes on, and how many steps that are
-abbrev pub continued : Bool → ℕ → List Taken → List Taken
+abbrev pub continued : Bool → ℕ → List Processed → List Processed
 continued write element [] = []
 continued write element (t ∷ run) = if beq t.step.write write && (t.step.element == element) then t ∷ run else []
 
@@ -53,28 +53,28 @@ pub record SessionView : Type 0 where
   pub buffer : List ℕ
 
 -- a read run keeps the copy of the element, which was there
-pub record IsReading (raw : ℕ) (t : Taken) (run : List Taken) (buffer : List ℕ) : Type 0 where
+pub record IsReading (raw : ℕ) (t : Processed) (run : List Processed) (buffer : List ℕ) : Type 0 where
   pub there : read_cause raw (selection t run) ≡ None
   pub words : words_of buffer ≡ copy raw (selection t run)
 
 -- words that were accepted of operation data are not all of them, and a list's length is one that its block can have
 pub record IsMidway (b : Block) (words : List ℕ) : Type 0 where
   pub writable : is_fixed b ≡ false
-  pub more : length words < words_wanted b (slice_index words 0)
+  pub more : length words < words_by b.attribute (slice_index words 0)
   pub fits : is_list b.attribute.length ≡ true → slice_index words 0 ≤ b.max_len
   pub even : is_list b.attribute.length ≡ true → (slice_index words 0 % item_len b.attribute.length == 0) ≡ true
 
 -- a write run keeps the bytes of its words
-pub record IsWriting (raw : ℕ) (t : Taken) (run : List Taken) (buffer : List ℕ) : Type 0 where
+pub record IsWriting (raw : ℕ) (t : Processed) (run : List Processed) (buffer : List ℕ) : Type 0 where
   pub element : t.step.element ≡ data_element
   pub bytes : buffer ≡ bytes_in (in_order (t ∷ run) [])
   pub midway : IfSome (find_block raw t.blocks) (λ b. IsMidway b (in_order (t ∷ run) []))
 
-abbrev pub IsKeptRun : Bool → ℕ → Taken → List Taken → List ℕ → Type 0
+abbrev pub IsKeptRun : Bool → ℕ → Processed → List Processed → List ℕ → Type 0
 IsKeptRun true raw t run buffer = IsWriting raw t run buffer
 IsKeptRun false raw t run buffer = IsReading raw t run buffer
 
-abbrev pub HoldsRun : Option ℕ → List Taken → List ℕ → Type 0
+abbrev pub HoldsRun : Option ℕ → List Processed → List ℕ → Type 0
 HoldsRun o [] buffer = Unit {0}
 HoldsRun None (t ∷ run) buffer = ⊥
 HoldsRun (Some raw) (t ∷ run) buffer = IsKeptRun t.step.write raw t run buffer
@@ -86,19 +86,19 @@ pub record SessionStandsFor (v : SessionView) (log : List Entry) : Type 0 where
   pub buffer_is : HoldsRun (open_idn log) (run_of log) v.buffer
 
 -- the blocks are, but for their operation data, those of the last step of the run
-abbrev pub GoesWith : List Block → List Taken → Type 0
+abbrev pub GoesWith : List Block → List Processed → Type 0
 GoesWith blocks [] = Unit {0}
 GoesWith blocks (t ∷ run) = AreAlike t.blocks blocks
 
 -- a step was answered with the reply, and what is kept stands for it too
-pub record IsAnswered (v : SessionView) (t : Taken) (log : List Entry) (answer : Answer) : Type 0 where
+pub record IsAnswered (v : SessionView) (t : Processed) (log : List Entry) (answer : Answer) : Type 0 where
   pub reply_is : answer ≡ reply_of t log
-  pub stands : SessionStandsFor v (record { taken = t; answer = answer } ∷ log)
+  pub stands : SessionStandsFor v (record { processed = t; answer = answer } ∷ log)
 
 -- the cycle of the last accepted step, and the reply to it
 abbrev pub last_of : List Entry → Option Last
 last_of [] = None
-last_of (e ∷ log) = Some (record { cycle = e.taken.cycle; answer = e.answer })
+last_of (e ∷ log) = Some (record { cycle = e.processed.cycle; answer = e.answer })
 
 pub record ChannelView : Type 0 where
   pub busy : ℕ
@@ -107,7 +107,7 @@ pub record ChannelView : Type 0 where
   pub session : SessionView
 
 -- the channel stands for these processed records
-pub record ChannelStandsFor (v : ChannelView) (busy : ℕ) (h : List Taken) : Type 0 where
+pub record ChannelStandsFor (v : ChannelView) (busy : ℕ) (h : List Processed) : Type 0 where
   pub busy_is : v.busy ≡ busy
   pub ahs_is : v.ahs ≡ ahs h
   pub last_is : v.last ≡ last_of (log_of h)

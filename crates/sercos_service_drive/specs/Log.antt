@@ -10,7 +10,7 @@ use Rattle.sercos_command.specs.Calls.{CommandHistory}
 
 -- A record that the drive processed in a cycle, in a phase: its handshake bit and its step, with the blocks and the
 -- procedure commands before it.
-pub record Taken : Type 0 where
+pub record Processed : Type 0 where
   pub cycle : ℕ
   pub phase : ℕ
   pub mhs : Bool
@@ -18,27 +18,27 @@ pub record Taken : Type 0 where
   pub blocks : List Block
   pub commands : CommandHistory
 
-abbrev pub taken : ℕ → ℕ → Bool → Step → List Block → CommandHistory → Taken
-taken cycle phase mhs step blocks commands = record { cycle = cycle; phase = phase; mhs = mhs; step = step; blocks = blocks; commands = commands }
+abbrev pub processed_step : ℕ → ℕ → Bool → Step → List Block → CommandHistory → Processed
+processed_step cycle phase mhs step blocks commands = record { cycle = cycle; phase = phase; mhs = mhs; step = step; blocks = blocks; commands = commands }
 
 -- a record as it is handed in: a control word and an information word
-abbrev pub taken_record : ℕ → ℕ → Control → ℕ → List Block → CommandHistory → Taken
-taken_record cycle phase control info blocks commands =
-    taken cycle phase control.mhs (record { write = control.write; last = control.last; element = control.element; word = info }) blocks commands
+abbrev pub processed_record : ℕ → ℕ → Control → ℕ → List Block → CommandHistory → Processed
+processed_record cycle phase control info blocks commands =
+    processed_step cycle phase control.mhs (record { write = control.write; last = control.last; element = control.element; word = info }) blocks commands
 
 -- AHS is the bit of the last record that was processed
-abbrev pub ahs : List Taken → Bool
+abbrev pub ahs : List Processed → Bool
 ahs [] = false
 ahs (t ∷ h) = t.mhs
 
 -- the steps that were accepted: a record is dropped whose bit is that of the record before it
-abbrev pub accepted : List Taken → List Taken
+abbrev pub accepted : List Processed → List Processed
 accepted [] = []
 accepted (t ∷ h) = if beq t.mhs (ahs h) then accepted h else t ∷ accepted h
 
 -- an accepted step, and the reply to it
 pub record Entry : Type 0 where
-  pub taken : Taken
+  pub processed : Processed
   pub answer : Answer
 
 -- a step that writes the element of the identifier number opens the one that is its word
@@ -49,23 +49,23 @@ opens s = s.write && (s.element == identifier_element)
 abbrev pub open_idn : List Entry → Option ℕ
 open_idn [] = None
 open_idn (e ∷ log) =
-    if opens e.taken.step then (if e.answer.error then None else Some e.taken.step.word)
-    else (if e.taken.step.element == 0 then None else open_idn log)
+    if opens e.processed.step then (if e.answer.error then None else Some e.processed.step.word)
+    else (if e.processed.step.element == 0 then None else open_idn log)
 
 -- A run is an unbroken row of steps with the same write bit and the same element, which no last word and no error ended.
 -- These are the steps of a run before the next one, which has this write bit and this element, and neither opens nor has element 0.
-abbrev pub run_before : Bool → ℕ → List Entry → List Taken
+abbrev pub run_before : Bool → ℕ → List Entry → List Processed
 run_before write element [] = []
 run_before write element (e ∷ log) =
-    if beq e.taken.step.write write && ((e.taken.step.element == element) && (not e.taken.step.last && not e.answer.error))
-    then e.taken ∷ run_before write element log else []
+    if beq e.processed.step.write write && ((e.processed.step.element == element) && (not e.processed.step.last && not e.answer.error))
+    then e.processed ∷ run_before write element log else []
 
 -- the selection is the first step of the run: this one, where the run has no other before it
-abbrev pub selection : Taken → List Taken → Taken
+abbrev pub selection : Processed → List Processed → Processed
 selection t [] = t
 selection t (s ∷ run) = selection s run
 
 -- the words of a run in their order, with these after them
-abbrev pub in_order : List Taken → List ℕ → List ℕ
+abbrev pub in_order : List Processed → List ℕ → List ℕ
 in_order [] words = words
 in_order (t ∷ run) words = in_order run (t.step.word ∷ words)

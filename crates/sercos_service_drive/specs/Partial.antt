@@ -8,7 +8,7 @@ use Rattle.sercos_step.specs.Words.{bytes_in}
 use Rattle.sercos_block.specs.declared.block.Block.{Block}
 use Rattle.sercos_block.specs.Stores.{write_fault}
 use Rattle.sercos_command.specs.Calls.{CommandHistory}
-use Rattle.sercos_command.specs.Kept.{newest_cycle, CommandsView, CommandsStandFor}
+use Rattle.sercos_command.specs.Kept.{CommandsView, CommandsStandFor}
 use Rattle.sercos_service_drive.specs.Replies.{words_by, bytes_written, write_cause}
 use Rattle.sercos_service_drive.specs.Writes.{Write, unless, blocks_with, commands_with}
 use Rattle.sercos_service_drive.specs.Kept.{IsMidway}
@@ -33,7 +33,7 @@ IsStarted b (word ∷ words) = IsMidway b (word ∷ words)
 -- what a write, if there is one, makes of the blocks and of the procedure commands
 pub record IsEffect (w : Option Write) (cycle : ℕ) (blocks blocks' : List Block) (commands commands' : CommandsView) : Type 0 where
   pub blocks_are : (c : CommandHistory) → CommandsStandFor commands c → blocks' ≡ blocks_with w c blocks
-  pub commands_are : (c : CommandHistory) → CommandsStandFor commands c → newest_cycle c.calls ≤ cycle → CommandsStandFor commands' (commands_with w blocks c)
+  pub commands_are : (c : CommandHistory) → CommandsStandFor commands c → CommandsStandFor commands' (commands_with w blocks c)
 
 -- the write of the last word, if there is no cause against it
 abbrev pub write_by : Bool → Option ℕ → Write → Option Write

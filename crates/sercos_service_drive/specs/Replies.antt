@@ -12,7 +12,7 @@ use Rattle.sercos_block.specs.declared.block.Block.{Block}
 use Rattle.sercos_block.specs.Blocks.{number_end, bits_in, bytes_for, element_of, is_fixed, is_protected}
 use Rattle.sercos_block.specs.Stores.{find_block, read_fault, is_below, is_above}
 use Rattle.sercos_command.specs.Calls.{CommandHistory, status_in}
-use Rattle.sercos_service_drive.specs.Log.{Taken, Entry, accepted, opens, open_idn, run_before, selection, in_order}
+use Rattle.sercos_service_drive.specs.Log.{Processed, Entry, accepted, opens, open_idn, run_before, selection, in_order}
 
 abbrev pub good : ℕ → Answer
 good word = record { error = false; word = word }
@@ -50,14 +50,14 @@ abbrev pub words_at : ℕ → ℕ → ℕ → List Block → CommandHistory → 
 words_at raw e cycle blocks commands =
     if e == identifier_element then status_in commands raw cycle ∷ [] else unwrap_or (option_map (element_words e cycle) (find_block raw blocks)) []
 
-abbrev pub copy : ℕ → Taken → List ℕ
+abbrev pub copy : ℕ → Processed → List ℕ
 copy raw t = words_at raw t.step.element t.cycle t.blocks t.commands
 
 -- the cause for which it can't be read: the element is missing
 abbrev pub missing : ℕ → ℕ → List Block → Option ℕ
 missing raw e blocks = if e == identifier_element then None else read_fault (find_block raw blocks) e
 
-abbrev pub read_cause : ℕ → Taken → Option ℕ
+abbrev pub read_cause : ℕ → Processed → Option ℕ
 read_cause raw t = missing raw t.step.element t.blocks
 
 -- Writing of operation data. The words are those of the run, this step's among them.
@@ -69,22 +69,19 @@ is_first_word words = length words == 1
 abbrev pub words_by : Attribute → ℕ → ℕ
 words_by a first = if is_list a.length then 2 + (first + 1) / 2 else item_len a.length / 2
 
-abbrev pub words_wanted : Block → ℕ → ℕ
-words_wanted b first = words_by b.attribute first
-
 -- the bytes that the words write
 unfoldable pub bytes_written : Block → List ℕ → List ℕ
 bytes_written b words = if is_list b.attribute.length then take (slice_index words 0) (bytes_in (drop 2 words)) else bytes_in words
 
 -- the last word is too early
 abbrev pub ends_early : Block → Bool → List ℕ → Bool
-ends_early b last words = last && nat_lt (length words) (words_wanted b (slice_index words 0))
+ends_early b last words = last && nat_lt (length words) (words_by b.attribute (slice_index words 0))
 
 -- a list's length is above the greatest, at its first word; or the word that must be the last isn't
 abbrev pub is_over : Block → Bool → List ℕ → Bool
 is_over b last words =
     (is_list b.attribute.length && (is_first_word words && nat_lt b.max_len (slice_index words 0)))
-    || (not last && nat_le (words_wanted b (slice_index words 0)) (length words))
+    || (not last && nat_le (words_by b.attribute (slice_index words 0)) (length words))
 
 -- a list's length is not a number of whole items, at its first word
 abbrev pub is_uneven : Block → List ℕ → Bool
@@ -118,7 +115,7 @@ write_cause_in (Some b) phase last words = write_cause b phase last words
 
 -- to a step on the identifier number that is open, after these steps of its run: a read step returns the next word of the
 -- copy that the selection made, and 0 after its end; an element from 2 to 6 can't be written (0x2004 to 0x6004)
-abbrev pub reply_on : ℕ → Taken → List Taken → Answer
+abbrev pub reply_on : ℕ → Processed → List Processed → Answer
 reply_on raw t run =
     if t.step.write
     then answer_by (if t.step.element == data_element then write_cause_in (find_block raw t.blocks) t.phase t.step.last (in_order run (t.step.word ∷ []))
@@ -126,23 +123,23 @@ reply_on raw t run =
     else answer_by (read_cause raw (selection t run)) (slice_index (copy raw (selection t run)) (length run))
 
 -- where no identifier number is open, the step is refused
-abbrev pub reply_at : Option ℕ → Taken → List Taken → Answer
+abbrev pub reply_at : Option ℕ → Processed → List Processed → Answer
 reply_at None t run = refused 1
 reply_at (Some raw) t run = reply_on raw t run
 
 -- The reply to a step after these: an opening is refused where the drive hasn't the identifier number (0x1001); a step of
 -- element 0 closes it.
-abbrev pub reply_of : Taken → List Entry → Answer
+abbrev pub reply_of : Processed → List Entry → Answer
 reply_of t log =
     if opens t.step then (if is_some (find_block t.step.word t.blocks) then good 0 else refused 0x1001)
     else (if t.step.element == 0 then good 0
     else reply_at (open_idn log) t (run_before t.step.write t.step.element log))
 
 -- the steps, each with the reply to it
-abbrev pub answered : List Taken → List Entry
+abbrev pub answered : List Processed → List Entry
 answered [] = []
-answered (t ∷ h) = record { taken = t; answer = reply_of t (answered h) } ∷ answered h
+answered (t ∷ h) = record { processed = t; answer = reply_of t (answered h) } ∷ answered h
 
 -- what a drive accepted of the records that it processed, with the replies
-abbrev pub log_of : List Taken → List Entry
+abbrev pub log_of : List Processed → List Entry
 log_of h = answered (accepted h)

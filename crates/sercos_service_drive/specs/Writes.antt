@@ -7,7 +7,7 @@ use Rattle.sercos_block.specs.declared.block.Block.{Block}
 use Rattle.sercos_block.specs.Stores.{find_block, with_data}
 use Rattle.sercos_command.specs.Settings.{is_command}
 use Rattle.sercos_command.specs.Calls.{CommandCall, Wrote, Other, CommandHistory, with_check_list}
-use Rattle.sercos_service_drive.specs.Log.{Taken, Entry, ahs, open_idn, run_before, in_order}
+use Rattle.sercos_service_drive.specs.Log.{Processed, Entry, ahs, open_idn, run_before, in_order}
 use Rattle.sercos_service_drive.specs.Replies.{bytes_written, reply_of, log_of}
 
 -- a write of operation data that took effect in a cycle
@@ -18,16 +18,16 @@ pub record Write : Type 0 where
 
 -- a step takes effect where it writes the last word of operation data and isn't refused
 abbrev pub takes_effect : Entry → Bool
-takes_effect e = e.taken.step.write && ((e.taken.step.element == data_element) && (e.taken.step.last && not e.answer.error))
+takes_effect e = e.processed.step.write && ((e.processed.step.element == data_element) && (e.processed.step.last && not e.answer.error))
 
 -- what the words of a run write
-abbrev pub written_by : Taken → List Taken → ℕ → Option Write
+abbrev pub written_by : Processed → List Processed → ℕ → Option Write
 written_by t run raw =
     option_map (λ (b : Block). record { cycle = t.cycle; raw = raw; bytes = bytes_written b (in_order run (t.step.word ∷ [])) }) (find_block raw t.blocks)
 
 -- the write that an entry adds to those of these
 abbrev pub added_by : Entry → List Entry → Option Write
-added_by e log = if takes_effect e then option_and_then (written_by e.taken (run_before true data_element log)) (open_idn log) else None
+added_by e log = if takes_effect e then option_and_then (written_by e.processed (run_before true data_element log)) (open_idn log) else None
 
 abbrev pub with_added : Option Write → List Write → List Write
 with_added None writes = writes
@@ -39,8 +39,8 @@ writes_of [] = []
 writes_of (e ∷ log) = with_added (added_by e log) (writes_of log)
 
 -- the write that a step adds to those of these
-abbrev pub adds : Taken → List Entry → Option Write
-adds t log = added_by (record { taken = t; answer = reply_of t log }) log
+abbrev pub adds : Processed → List Entry → Option Write
+adds t log = added_by (record { processed = t; answer = reply_of t log }) log
 
 -- what is written to a procedure command
 abbrev pub command_value : Write → ℕ
@@ -72,7 +72,7 @@ abbrev pub AreAlike : List Block → List Block → Type 0
 AreAlike blocks others = map without_data blocks ≡ map without_data others
 
 -- the blocks are, but for their operation data, those of each of these records
-abbrev pub AreThose : List Block → List Taken → Type 0
+abbrev pub AreThose : List Block → List Processed → Type 0
 AreThose blocks [] = Unit {0}
 AreThose blocks (t ∷ h) = AreAlike t.blocks blocks × AreThose blocks h
 
@@ -82,5 +82,5 @@ unless None w = Some w
 unless (Some code) w = None
 
 -- the write that a record adds to those of these: none where it isn't accepted
-abbrev pub added_on : Taken → List Taken → Option Write
+abbrev pub added_on : Processed → List Processed → Option Write
 added_on t h = if beq t.mhs (ahs h) then None else adds t (log_of h)

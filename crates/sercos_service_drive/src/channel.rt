@@ -2,8 +2,8 @@
 ghost use Rattle.std.specs.Prelude.{◌≡◌, ℕ, ◌≤◌, ◌-◌, nat_le, List, [], ◌∷◌, ◌<◌, ◌==◌, ◌&&◌, not, true, is_some};
 ghost use Rattle.sercos_idn.specs.Elements.{data_element};
 ghost use Rattle.sercos_command.specs.Calls.{CommandHistory};
-ghost use Rattle.sercos_command.specs.Kept.{newest_cycle, are_commands_of, CommandsStandFor};
-ghost use Rattle.sercos_service_drive.specs.Log.{Taken, taken_record};
+ghost use Rattle.sercos_command.specs.Kept.{are_commands_of, CommandsStandFor};
+ghost use Rattle.sercos_service_drive.specs.Log.{Processed, processed_record};
 ghost use Rattle.sercos_service_drive.specs.Writes.{AreThose, added_on, blocks_with, commands_with};
 ghost use Rattle.sercos_service_drive.specs.Says.{channel_says, shown_by};
 ghost use Rattle.sercos_service_drive.specs.Kept.{ChannelStandsFor};
@@ -73,7 +73,7 @@ fn is_busy(cycle: u32, since: u32, busy: u8) -> bool
 }
 
 impl DriveChannel {
-    /// Returns a channel that has taken no record, of a drive that is busy with each step for `busy` cycles.
+    /// Returns a channel that has processed no record, of a drive that is busy with each step for `busy` cycles.
     pub fn new(busy: u8) -> DriveChannel
         ensures { ChannelStandsFor result busy [] }
     {
@@ -99,16 +99,16 @@ impl DriveChannel {
     ) -> bool
         requires phase { (2 ≤ phase) × (phase ≤ 4) }
         requires set { are_commands_of store.old commands.old ≡ true }
-        ensures stands { (busy : ℕ) (h : List Taken) (c : CommandHistory) → ChannelStandsFor self.old busy h → AreThose store.old h → CommandsStandFor commands.old c →
-            ChannelStandsFor self.new busy (taken_record cycle phase control.now info store.old c ∷ h) }
-        ensures those { (busy : ℕ) (h : List Taken) (c : CommandHistory) → ChannelStandsFor self.old busy h → AreThose store.old h → CommandsStandFor commands.old c →
-            AreThose store.new (taken_record cycle phase control.now info store.old c ∷ h) }
-        ensures added { (busy : ℕ) (h : List Taken) (c : CommandHistory) → ChannelStandsFor self.old busy h → AreThose store.old h → CommandsStandFor commands.old c →
-            result ≡ is_some (added_on (taken_record cycle phase control.now info store.old c) h) }
-        ensures blocks { (busy : ℕ) (h : List Taken) (c : CommandHistory) → ChannelStandsFor self.old busy h → AreThose store.old h → CommandsStandFor commands.old c →
-            store.new ≡ blocks_with (added_on (taken_record cycle phase control.now info store.old c) h) c store.old }
-        ensures commands { (busy : ℕ) (h : List Taken) (c : CommandHistory) → ChannelStandsFor self.old busy h → AreThose store.old h → CommandsStandFor commands.old c →
-            newest_cycle c.calls ≤ cycle → CommandsStandFor commands.new (commands_with (added_on (taken_record cycle phase control.now info store.old c) h) store.old c) }
+        ensures stands { (busy : ℕ) (h : List Processed) (c : CommandHistory) → ChannelStandsFor self.old busy h → AreThose store.old h → CommandsStandFor commands.old c →
+            ChannelStandsFor self.new busy (processed_record cycle phase control.now info store.old c ∷ h) }
+        ensures those { (busy : ℕ) (h : List Processed) (c : CommandHistory) → ChannelStandsFor self.old busy h → AreThose store.old h → CommandsStandFor commands.old c →
+            AreThose store.new (processed_record cycle phase control.now info store.old c ∷ h) }
+        ensures added { (busy : ℕ) (h : List Processed) (c : CommandHistory) → ChannelStandsFor self.old busy h → AreThose store.old h → CommandsStandFor commands.old c →
+            result ≡ is_some (added_on (processed_record cycle phase control.now info store.old c) h) }
+        ensures blocks { (busy : ℕ) (h : List Processed) (c : CommandHistory) → ChannelStandsFor self.old busy h → AreThose store.old h → CommandsStandFor commands.old c →
+            store.new ≡ blocks_with (added_on (processed_record cycle phase control.now info store.old c) h) c store.old }
+        ensures commands { (busy : ℕ) (h : List Processed) (c : CommandHistory) → ChannelStandsFor self.old busy h → AreThose store.old h → CommandsStandFor commands.old c →
+            CommandsStandFor commands.new (commands_with (added_on (processed_record cycle phase control.now info store.old c) h) store.old c) }
         ensures set { are_commands_of store.new commands.new ≡ true }
     {
         if control.mhs == self.ahs {
@@ -124,7 +124,7 @@ impl DriveChannel {
     /// Returns what an AT of a cycle shows: the bits of the status word and the information word. As long as the last step is no older than
     /// the busy time, it is busy; then it has the reply to that step.
     pub fn say(&self, cycle: u32, commands: &Commands) -> (Status, u16)
-        ensures shown { (busy : ℕ) (h : List Taken) (c : CommandHistory) → ChannelStandsFor self.now busy h → CommandsStandFor commands.now c →
+        ensures shown { (busy : ℕ) (h : List Processed) (c : CommandHistory) → ChannelStandsFor self.now busy h → CommandsStandFor commands.now c →
             shown_by result.0 result.1 ≡ channel_says busy cycle c h }
         ensures cyclic { result.0.cyclic ≡ 0 }
     {
@@ -144,7 +144,7 @@ impl DriveChannel {
         }
     }
 
-    /// Phase 0: the channel has taken no record. The busy time stays.
+    /// Phase 0: the channel has processed no record. The busy time stays.
     pub fn reset(&mut self)
         ensures { ChannelStandsFor self.new self.old.busy [] }
     {

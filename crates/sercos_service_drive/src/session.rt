@@ -5,7 +5,7 @@ ghost use Rattle.sercos_block.specs.declared.block.Block.{Block};
 ghost use Rattle.sercos_block.specs.Stores.{find_block};
 ghost use Rattle.sercos_command.specs.Calls.{CommandHistory};
 ghost use Rattle.sercos_command.specs.Kept.{are_commands_of, CommandsStandFor};
-ghost use Rattle.sercos_service_drive.specs.Log.{Taken, taken, Entry, opens, open_idn};
+ghost use Rattle.sercos_service_drive.specs.Log.{Processed, processed_step, Entry, opens, open_idn};
 ghost use Rattle.sercos_service_drive.specs.Replies.{good, refused, words_at, missing};
 ghost use Rattle.sercos_service_drive.specs.Writes.{adds};
 ghost use Rattle.sercos_service_drive.specs.Kept.{run_of, place_in, selected, GoesWith, IsAnswered, SessionStandsFor};
@@ -242,7 +242,7 @@ impl Session {
 
     // Opens an identifier number, if the drive has it.
     fn open(&mut self, idn: Idn, store: &Store) -> Answer
-        ensures { (t : Taken) (log : List Entry) → opens t.step ≡ true → t.step.word ≡ idn.raw → t.blocks ≡ store.now → IsAnswered self.new t log result }
+        ensures { (t : Processed) (log : List Entry) → opens t.step ≡ true → t.step.word ≡ idn.raw → t.blocks ≡ store.now → IsAnswered self.new t log result }
     {
         self.selection = None;
         if store.has(idn) {
@@ -256,7 +256,7 @@ impl Session {
 
     // Closes the identifier number.
     fn close(&mut self) -> Answer
-        ensures { (t : Taken) (log : List Entry) → opens t.step ≡ false → (t.step.element == 0) ≡ true → IsAnswered self.new t log result }
+        ensures { (t : Processed) (log : List Entry) → opens t.step ≡ false → (t.step.element == 0) ≡ true → IsAnswered self.new t log result }
     {
         self.opened = None;
         self.selection = None;
@@ -275,7 +275,7 @@ impl Session {
         requires element { (1 ≤ step.element) × (step.element ≤ 7) }
         requires read { step.write ≡ false }
         ensures { (phase : ℕ) (mhs : Bool) (log : List Entry) (c : CommandHistory) → SessionStandsFor self.old log → CommandsStandFor commands.now c →
-            open_idn log ≡ Some idn.raw → IsAnswered self.new (taken cycle phase mhs step store.now c) log result }
+            open_idn log ≡ Some idn.raw → IsAnswered self.new (processed_step cycle phase mhs step store.now c) log result }
     {
         let place = place_in(self.selection, false, step.element);
         if let Some(code) = select(
@@ -308,9 +308,9 @@ impl Session {
         requires phase { (2 ≤ phase) × (phase ≤ 4) }
         requires set { are_commands_of store.old commands.old ≡ true }
         ensures answered { (mhs : Bool) (log : List Entry) (c : CommandHistory) → SessionStandsFor self.old log → open_idn log ≡ Some idn.raw →
-            GoesWith store.old (run_of log) → IsAnswered self.new (taken cycle phase mhs step store.old c) log result }
+            GoesWith store.old (run_of log) → IsAnswered self.new (processed_step cycle phase mhs step store.old c) log result }
         ensures effect { (mhs : Bool) (log : List Entry) (c : CommandHistory) → SessionStandsFor self.old log → open_idn log ≡ Some idn.raw →
-            GoesWith store.old (run_of log) → IsEffect (adds (taken cycle phase mhs step store.old c) log) cycle store.old store.new commands.old commands.new }
+            GoesWith store.old (run_of log) → IsEffect (adds (processed_step cycle phase mhs step store.old c) log) cycle store.old store.new commands.old commands.new }
         ensures set { are_commands_of store.new commands.new ≡ true }
     {
         if step.element != DATA {
@@ -350,9 +350,9 @@ impl Session {
         requires phase { (2 ≤ phase) × (phase ≤ 4) }
         requires set { are_commands_of store.old commands.old ≡ true }
         ensures answered { (mhs : Bool) (log : List Entry) (c : CommandHistory) → SessionStandsFor self.old log → CommandsStandFor commands.old c →
-            GoesWith store.old (run_of log) → IsAnswered self.new (taken cycle phase mhs step store.old c) log result }
+            GoesWith store.old (run_of log) → IsAnswered self.new (processed_step cycle phase mhs step store.old c) log result }
         ensures effect { (mhs : Bool) (log : List Entry) (c : CommandHistory) → SessionStandsFor self.old log → GoesWith store.old (run_of log) →
-            IsEffect (adds (taken cycle phase mhs step store.old c) log) cycle store.old store.new commands.old commands.new }
+            IsEffect (adds (processed_step cycle phase mhs step store.old c) log) cycle store.old store.new commands.old commands.new }
         ensures set { are_commands_of store.new commands.new ≡ true }
     {
         if opens(step) {

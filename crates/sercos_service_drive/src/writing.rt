@@ -5,7 +5,7 @@ ghost use Rattle.sercos_idn.specs.Commands.{to_cancel, to_set};
 ghost use Rattle.sercos_block.specs.Stores.{find_block, put_fault};
 ghost use Rattle.sercos_command.specs.Settings.{is_command};
 ghost use Rattle.sercos_command.specs.Calls.{Wrote, Other, CommandHistory, with_call, with_check_list};
-ghost use Rattle.sercos_command.specs.Kept.{newest_cycle, are_commands_of, CommandsStandFor};
+ghost use Rattle.sercos_command.specs.Kept.{are_commands_of, CommandsStandFor};
 ghost use Rattle.sercos_service_drive.specs.Writes.{unless, blocks_with, commands_with};
 
 use sercos_bits::byte_at;
@@ -34,7 +34,7 @@ fn tell(
     requires set { are_commands_of store.old commands.old ≡ true }
     ensures blocks { (c : CommandHistory) → CommandsStandFor commands.old c →
         store.new ≡ (if command then with_check_list c idn.raw (from_le_bytes w16 bytes.now) store.old else store.old) }
-    ensures commands { (c : CommandHistory) → CommandsStandFor commands.old c → newest_cycle c.calls ≤ cycle →
+    ensures commands { (c : CommandHistory) → CommandsStandFor commands.old c →
         CommandsStandFor commands.new (with_call (if command then Wrote idn.raw (from_le_bytes w16 bytes.now) cycle store.old else Other cycle) c) }
     ensures set { are_commands_of store.new commands.new ≡ true }
 {
@@ -60,7 +60,7 @@ pub(crate) fn write_data(
     ensures fault { option_map (λ code. code.raw) result ≡ put_fault (find_block idn.raw store.old) phase bytes.now }
     ensures blocks { (c : CommandHistory) → CommandsStandFor commands.old c →
         store.new ≡ blocks_with (unless (put_fault (find_block idn.raw store.old) phase bytes.now) (record { cycle = cycle; raw = idn.raw; bytes = bytes.now })) c store.old }
-    ensures commands { (c : CommandHistory) → CommandsStandFor commands.old c → newest_cycle c.calls ≤ cycle →
+    ensures commands { (c : CommandHistory) → CommandsStandFor commands.old c →
         CommandsStandFor commands.new (commands_with (unless (put_fault (find_block idn.raw store.old) phase bytes.now) (record { cycle = cycle; raw = idn.raw; bytes = bytes.now })) store.old c) }
     ensures set { are_commands_of store.new commands.new ≡ true }
 {

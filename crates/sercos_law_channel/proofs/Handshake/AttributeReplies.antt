@@ -13,7 +13,7 @@ use Rattle.sercos_block.specs.declared.block.Block.{Block}
 use Rattle.sercos_block.specs.Blocks.{element_of}
 use Rattle.sercos_block.specs.Stores.{find_block, read_fault}
 use Rattle.sercos_command.specs.Calls.{status_in}
-use Rattle.sercos_service_drive.specs.Log.{Taken, Entry, open_idn, run_before, selection}
+use Rattle.sercos_service_drive.specs.Log.{Processed, Entry, open_idn, run_before, selection}
 use Rattle.sercos_service_drive.specs.Replies.{good, answer_by, element_words, copy, read_cause, reply_on, reply_at, reply_of}
 use Rattle.sercos_service_drive.specs.Writes.{AreAlike, without_data}
 
@@ -39,7 +39,7 @@ unfolding element_words element_of
 copy_words c cycle = refl
 
 -- what is read of the attribute
-pub record IsRead (raw : ℕ) (t : Taken) (a : Attribute) : Type 0 where
+pub record IsRead (raw : ℕ) (t : Processed) (a : Attribute) : Type 0 where
   pub free : read_cause raw t ≡ None
   pub words : copy raw t ≡ attribute_words a
 
@@ -47,7 +47,7 @@ fault_of_found : (c : Block) → read_fault (Some c) 3 ≡ None
 unfolding element_of
 fault_of_found c = refl
 
-attribute_read : (raw : ℕ) (t : Taken) (b : Block) → t.step.element ≡ 3 → option_map without_data (find_block raw t.blocks) ≡ Some (without_data b) → IsRead raw t b.attribute
+attribute_read : (raw : ℕ) (t : Processed) (b : Block) → t.step.element ≡ 3 → option_map without_data (find_block raw t.blocks) ≡ Some (without_data b) → IsRead raw t b.attribute
 attribute_read raw t b third found = record { free = free (find_block raw t.blocks) t.step.element third found; words = words (find_block raw t.blocks) t.step.element (status_in t.commands raw t.cycle ∷ []) third found }
   where
     free : (o : Option Block) (e : ℕ) → e ≡ 3 → option_map without_data o ≡ Some (without_data b) → (if e == 1 then None else read_fault o e) ≡ None
@@ -61,11 +61,11 @@ attribute_read raw t b third found = record { free = free (find_block raw t.bloc
         let same : without_data c ≡ without_data b = cc in
         rw is (copy_words c t.cycle ∙ ap (λ (d : Block). attribute_words d.attribute) same)
 
-pub IsRead-alike : (raw : ℕ) (t : Taken) (blocks : List Block) (b : Block) → t.step.element ≡ 3 → AreAlike t.blocks blocks → find_block raw blocks ≡ Some b → IsRead raw t b.attribute
+pub IsRead-alike : (raw : ℕ) (t : Processed) (blocks : List Block) (b : Block) → t.step.element ≡ 3 → AreAlike t.blocks blocks → find_block raw blocks ≡ Some b → IsRead raw t b.attribute
 IsRead-alike raw t blocks b third alike found = attribute_read raw t b third (find-alike raw t.blocks blocks b alike found)
 
 -- the reply to a step that reads a word of an element
-pub reply-read : (raw e word : ℕ) (last : Bool) (t : Taken) (all : List Entry) (run : List Taken) → (e == 0) ≡ false → t.step ≡ a_step false last e word → open_idn all ≡ Some raw → run_before false e all ≡ run →
+pub reply-read : (raw e word : ℕ) (last : Bool) (t : Processed) (all : List Entry) (run : List Processed) → (e == 0) ≡ false → t.step ≡ a_step false last e word → open_idn all ≡ Some raw → run_before false e all ≡ run →
     reply_of t all ≡ answer_by (read_cause raw (selection t run)) (slice_index (copy raw (selection t run)) (length run))
 reply-read raw e word last t all run none is opened before =
     let closed : (t.step.write && (t.step.element == 1)) ≡ false = ap (λ (s : Step). s.write && (s.element == 1)) is in
@@ -74,15 +74,15 @@ reply-read raw e word last t all run none is opened before =
     let runs : run_before t.step.write t.step.element all ≡ run = ap (λ (s : Step). run_before s.write s.element all) is ∙ before in
     cond-false _ _ _ closed ∙ cond-false _ _ _ some ∙ at (open_idn all) (run_before t.step.write t.step.element all) opened runs ∙ cond-false _ _ _ reads
   where
-    at : (o : Option ℕ) (r : List Taken) → o ≡ Some raw → r ≡ run → reply_at o t r ≡ reply_on raw t run
-    at o r is_open is_run = ap₂ (λ (x : Option ℕ) (y : List Taken). reply_at x t y) is_open is_run
+    at : (o : Option ℕ) (r : List Processed) → o ≡ Some raw → r ≡ run → reply_at o t r ≡ reply_on raw t run
+    at o r is_open is_run = ap₂ (λ (x : Option ℕ) (y : List Processed). reply_at x t y) is_open is_run
 
-pub reply_low : (raw word : ℕ) (last : Bool) (t : Taken) (all : List Entry) (a : Attribute) → t.step ≡ a_step false last 3 word → open_idn all ≡ Some raw → run_before false 3 all ≡ [] → IsRead raw t a →
+pub reply_low : (raw word : ℕ) (last : Bool) (t : Processed) (all : List Entry) (a : Attribute) → t.step ≡ a_step false last 3 word → open_idn all ≡ Some raw → run_before false 3 all ≡ [] → IsRead raw t a →
     reply_of t all ≡ good (slice_index (attribute_words a) 0)
 reply_low raw word last t all a is opened before read =
     reply-read raw 3 word last t all [] refl is opened before ∙ ap₂ (λ (o : Option ℕ) (words : List ℕ). answer_by o (slice_index words 0)) read.free read.words
 
-pub reply_high : (raw word : ℕ) (last : Bool) (t s : Taken) (all : List Entry) (a : Attribute) → t.step ≡ a_step false last 3 word → open_idn all ≡ Some raw → run_before false 3 all ≡ s ∷ [] → IsRead raw s a →
+pub reply_high : (raw word : ℕ) (last : Bool) (t s : Processed) (all : List Entry) (a : Attribute) → t.step ≡ a_step false last 3 word → open_idn all ≡ Some raw → run_before false 3 all ≡ s ∷ [] → IsRead raw s a →
     reply_of t all ≡ good (slice_index (attribute_words a) 1)
 reply_high raw word last t s all a is opened before read =
     reply-read raw 3 word last t all (s ∷ []) refl is opened before ∙ ap₂ (λ (o : Option ℕ) (words : List ℕ). answer_by o (slice_index words 1)) read.free read.words

@@ -15,7 +15,7 @@ use Rattle.sercos_step.specs.Steps.{a_step, polling, steps_of, outcome_of, answe
 use Rattle.sercos_block.specs.declared.block.Block.{Block}
 use Rattle.sercos_block.specs.Stores.{find_block}
 use Rattle.sercos_command.specs.Calls.{setting_of, status_in}
-use Rattle.sercos_service_drive.specs.Log.{Taken, Entry, open_idn, run_before}
+use Rattle.sercos_service_drive.specs.Log.{Processed, Entry, open_idn, run_before}
 use Rattle.sercos_service_drive.specs.Replies.{answer_by, copy, read_cause, reply_of}
 use Rattle.sercos_law_channel.specs.Handshake.InStep.{replies_of}
 use Rattle.sercos_law_channel.specs.Handshake.Transfers.{IsTransfer, is_complete}
@@ -39,17 +39,17 @@ polling_last (status ∷ words) = by (status == 7) (polling_last words)
     by true more = more
     by false more = refl
 
-pub last_ends : (write : Bool) (element : ℕ) (e : Entry) (log : List Entry) → e.taken.step.last ≡ true → run_before write element (e ∷ log) ≡ []
-last_ends write element e log last = by (beq e.taken.step.write write) (e.taken.step.element == element) e.taken.step.last last
+pub last_ends : (write : Bool) (element : ℕ) (e : Entry) (log : List Entry) → e.processed.step.last ≡ true → run_before write element (e ∷ log) ≡ []
+last_ends write element e log last = by (beq e.processed.step.write write) (e.processed.step.element == element) e.processed.step.last last
   where
-    by : (u v w : Bool) → w ≡ true → (if u && (v && (not w && not e.answer.error)) then e.taken ∷ run_before write element log else []) ≡ []
+    by : (u v w : Bool) → w ≡ true → (if u && (v && (not w && not e.answer.error)) then e.processed ∷ run_before write element log else []) ≡ []
     by true true true on = refl
     by true false w on = refl
     by false v w on = refl
     by true true false on = absurd (cc)
 
 -- the reply to a poll
-pub poll_word : (raw : ℕ) (t : Taken) (all : List Entry) → t.step ≡ a_step false true 1 0 → open_idn all ≡ Some raw → run_before false 1 all ≡ [] → (reply_of t all).word ≡ status_in t.commands raw t.cycle
+pub poll_word : (raw : ℕ) (t : Processed) (all : List Entry) → t.step ≡ a_step false true 1 0 → open_idn all ≡ Some raw → run_before false 1 all ≡ [] → (reply_of t all).word ≡ status_in t.commands raw t.cycle
 poll_word raw t all is opened free =
     let one : (t.step.element == 1) ≡ true = ap (λ (s : Step). s.element == 1) is in
     let there : read_cause raw t ≡ None = cond-true (t.step.element == 1) None _ one in
@@ -108,23 +108,23 @@ module _ (idn : Idn) (blocks : List Block) (b : Block) (found : find_block idn.r
       let as_many = length-replies_of entries in
       omega arith
 
-  pub command_last : (e : Entry) (entries log : List Entry) → IsTransfer (request.Command idn) blocks e entries log → e.taken.step.last ≡ true
+  pub command_last : (e : Entry) (entries log : List Entry) → IsTransfer (request.Command idn) blocks e entries log → e.processed.step.last ≡ true
   command_last e entries log is =
       let words = answer_words (replies_of entries) in
-      all-slice_get (λ (s : Step). s.last) (steps_of (request.Command idn) words) (length words) e.taken.step (polling_last (drop 2 words)) (newest_step (request.Command idn) blocks log e entries is)
+      all-slice_get (λ (s : Step). s.last) (steps_of (request.Command idn) words) (length words) e.processed.step (polling_last (drop 2 words)) (newest_step (request.Command idn) blocks log e entries is)
 
   -- the entry before the cancel is a poll
   pub is_poll : (d o : Entry) (past log : List Entry) → 2 ≤ length (o ∷ past) → IsTransfer (request.Command idn) blocks d (o ∷ past) log → is_whole (request.Command idn) (answer_words (replies_of (o ∷ past)) ++ d.answer.word ∷ []) ≡ false →
-      (d.taken.step ≡ a_step false true 1 0) × (open_idn ((o ∷ past) ++ log) ≡ Some idn.raw)
+      (d.processed.step ≡ a_step false true 1 0) × (open_idn ((o ∷ past) ++ log) ≡ Some idn.raw)
   is_poll d o past log long is on = by (newest_step (request.Command idn) blocks log d (o ∷ past) is) (stage_before idn b blocks found d (o ∷ past) log is).0
     where
-      by : slice_get (steps_of (request.Command idn) (answer_words (replies_of (o ∷ past)))) (length (answer_words (replies_of (o ∷ past)))) ≡ Some d.taken.step →
-          Stage idn b (answer_words (replies_of (o ∷ past))) (o ∷ past) ((o ∷ past) ++ log) → (d.taken.step ≡ a_step false true 1 0) × (open_idn ((o ∷ past) ++ log) ≡ Some idn.raw)
+      by : slice_get (steps_of (request.Command idn) (answer_words (replies_of (o ∷ past)))) (length (answer_words (replies_of (o ∷ past)))) ≡ Some d.processed.step →
+          Stage idn b (answer_words (replies_of (o ∷ past))) (o ∷ past) ((o ∷ past) ++ log) → (d.processed.step ≡ a_step false true 1 0) × (open_idn ((o ∷ past) ++ log) ≡ Some idn.raw)
       by next (AtOpening those words) = absurd (cc)
       by next (AtSetting p w those words opened free) = let short : length (o ∷ past) ≡ 1 = ap length those in absurd (omega arith)
-      by next (AtPoll p q before w v polled those words opened free two) = which (next_poll idn b (answer_words (replies_of (o ∷ past))) d.taken.step w v polled words next)
+      by next (AtPoll p q before w v polled those words opened free two) = which (next_poll idn b (answer_words (replies_of (o ∷ past))) d.processed.step w v polled words next)
         where
-          which : Poll polled d.taken.step → (d.taken.step ≡ a_step false true 1 0) × (open_idn ((o ∷ past) ++ log) ≡ Some idn.raw)
+          which : Poll polled d.processed.step → (d.processed.step ≡ a_step false true 1 0) × (open_idn ((o ∷ past) ++ log) ≡ Some idn.raw)
           which (Reads step many) = (step, opened)
           which (Cancels step many) = let whole = whole_cancels idn b (answer_words (replies_of (o ∷ past))) w v polled d.answer.word words (many d.answer.word) in absurd (cc)
 
@@ -153,15 +153,15 @@ module _ (idn : Idn) (blocks : List Block) (b : Block) (found : find_block idn.r
           let on = goes_on-outcome_of (request.Command idn) d.answer (replies_of (o ∷ past)) is.goes_on in
           let poll = is_poll d o past log (omega arith) was on.1 in
           let free = last_ends false 1 o (past ++ log) (command_last o past log (without_newest (request.Command idn) blocks log d o past was)) in
-          let word : d.answer.word ≡ status_in d.taken.commands idn.raw d.taken.cycle = ap (λ (a : Answer). a.word) was.replies.1 ∙ poll_word idn.raw d.taken ((o ∷ past) ++ log) poll.0 poll.1 free in
-          let small = status_small d.taken.commands.time d.taken.cycle (setting_of d.taken.commands.rate idn.raw d.taken.commands.calls) in (
+          let word : d.answer.word ≡ status_in d.processed.commands idn.raw d.processed.cycle = ap (λ (a : Answer). a.word) was.replies.1 ∙ poll_word idn.raw d.processed ((o ∷ past) ++ log) poll.0 poll.1 free in
+          let small = status_small d.processed.commands.time d.processed.cycle (setting_of d.processed.commands.rate idn.raw d.processed.commands.calls) in (
             e,
             d,
             o ∷ past,
             refl,
             ap (λ (s : Step). s.write) poll.0,
             ap (λ (s : Step). s.element) poll.0,
-            gives ∙ status_given e d (o ∷ past) ∙ ap (λ (n : ℕ). bytes_in (n ∷ [])) word ∙ small_word (status_in d.taken.commands idn.raw d.taken.cycle) small,
+            gives ∙ status_given e d (o ∷ past) ∙ ap (λ (n : ℕ). bytes_in (n ∷ [])) word ∙ small_word (status_in d.processed.commands idn.raw d.processed.cycle) small,
           )
 
 -- a transfer that is refused at its opening isn't complete

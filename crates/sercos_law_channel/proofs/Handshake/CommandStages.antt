@@ -98,26 +98,26 @@ module _ (idn : Idn) (b : Block) where
     -- one entry more
     grows_poll : (words : List ℕ) (e : Entry) (entries all : List Entry) (d o : Entry) (past : List Entry) (w v : ℕ) (polled : List ℕ) →
         entries ≡ d ∷ o ∷ past → words ≡ w ∷ v ∷ polled → open_idn all ≡ Some idn.raw → run_before true 7 all ≡ [] → b.attribute.length ≡ len.Two →
-        Poll polled e.taken.step → e.answer.error ≡ false → is_whole asked (words ++ e.answer.word ∷ []) ≡ false → Stage idn b (words ++ e.answer.word ∷ []) (e ∷ entries) (e ∷ all)
+        Poll polled e.processed.step → e.answer.error ≡ false → is_whole asked (words ++ e.answer.word ∷ []) ≡ false → Stage idn b (words ++ e.answer.word ∷ []) (e ∷ entries) (e ∷ all)
     grows_poll words e entries all d o past w v polled those is opened before two (Reads step long) well goes_on =
         AtPoll e d (o ∷ past) w v (polled ++ e.answer.word ∷ []) (ap (λ (l : List Entry). e ∷ l) those) (ap (λ (ws : List ℕ). ws ++ e.answer.word ∷ []) is)
         (open_by (a_step false true 1 0) e all step well ∙ opened) (run_starts (a_step false true 1 0) true 7 e all step refl) two
     grows_poll words e entries all d o past w v polled those is opened before two (Cancels step long) well goes_on =
         let whole = whole_cancels words w v polled e.answer.word is (long e.answer.word) in absurd (cc)
 
-    grows : (words : List ℕ) (e : Entry) (entries all : List Entry) → Stage idn b words entries all → slice_get (steps_of asked words) (length words) ≡ Some e.taken.step →
-        e.answer ≡ reply_of e.taken all → AreAlike e.taken.blocks blocks → e.answer.error ≡ false → is_whole asked (words ++ e.answer.word ∷ []) ≡ false →
+    grows : (words : List ℕ) (e : Entry) (entries all : List Entry) → Stage idn b words entries all → slice_get (steps_of asked words) (length words) ≡ Some e.processed.step →
+        e.answer ≡ reply_of e.processed all → AreAlike e.processed.blocks blocks → e.answer.error ≡ false → is_whole asked (words ++ e.answer.word ∷ []) ≡ false →
         Stage idn b (words ++ e.answer.word ∷ []) (e ∷ entries) (e ∷ all)
     grows words e entries all (AtOpening those is) next reply alike well goes_on =
-        let step = next_opening words e.taken.step is next in
+        let step = next_opening words e.processed.step is next in
         AtSetting e e.answer.word (ap (λ (l : List Entry). e ∷ l) those) (ap (λ (ws : List ℕ). ws ++ e.answer.word ∷ []) is) (open_by (opening idn) e all step well) (run_starts (opening idn) true 7 e all step refl)
     grows words e entries all (AtSetting o w those is opened before) next reply alike well goes_on =
-        let step = next_setting words e.taken.step w is next in
-        let two = (set_allows idn.raw e.taken all blocks b step opened before alike found (ap (λ (a : Answer). a.error) (sym reply) ∙ well)).two in
+        let step = next_setting words e.processed.step w is next in
+        let two = (set_allows idn.raw e.processed all blocks b step opened before alike found (ap (λ (a : Answer). a.error) (sym reply) ∙ well)).two in
         AtPoll e o [] w e.answer.word [] (ap (λ (l : List Entry). e ∷ l) those) (ap (λ (ws : List ℕ). ws ++ e.answer.word ∷ []) is)
         (open_by (a_step true true 7 3) e all step well ∙ opened) (run_starts (a_step true true 7 3) true 7 e all step refl) two
     grows words e entries all (AtPoll d o past w v polled those is opened before two) next reply alike well goes_on =
-        grows_poll words e entries all d o past w v polled those is opened before two (next_poll words e.taken.step w v polled is next) well goes_on
+        grows_poll words e entries all d o past w v polled those is opened before two (next_poll words e.processed.step w v polled is next) well goes_on
 
     -- what it adds to the writes
     abbrev AddsBy : List ℕ → Entry → List Entry → List Entry → List Write → Type 0
@@ -129,14 +129,14 @@ module _ (idn : Idn) (b : Block) where
     not_cancelled false false e writes off = refl
 
     -- a word that isn't refused is written
-    adds_value : (value : ℕ) (e : Entry) (all : List Entry) → value < 256 → e.taken.step ≡ a_step true true 7 value → e.answer.error ≡ false → open_idn all ≡ Some idn.raw → run_before true 7 all ≡ [] → AreAlike e.taken.blocks blocks →
+    adds_value : (value : ℕ) (e : Entry) (all : List Entry) → value < 256 → e.processed.step ≡ a_step true true 7 value → e.answer.error ≡ false → open_idn all ≡ Some idn.raw → run_before true 7 all ≡ [] → AreAlike e.processed.blocks blocks →
         b.attribute.length ≡ len.Two → writes_of (e ∷ all) ≡ setting idn.raw value e ∷ writes_of all
     adds_value value e all small step well opened before alike two =
         last_word value e all [] idn.raw blocks b (value ∷ []) step well opened before refl alike found
-        ∙ ap (λ (bytes : List ℕ). (let w : Write = record { cycle = e.taken.cycle; raw = idn.raw; bytes = bytes } in w ∷ writes_of all)) (two_bytes b value small two)
+        ∙ ap (λ (bytes : List ℕ). (let w : Write = record { cycle = e.processed.cycle; raw = idn.raw; bytes = bytes } in w ∷ writes_of all)) (two_bytes b value small two)
 
-    adds_setting : (words : List ℕ) (e : Entry) (entries all : List Entry) (o : Entry) (w : ℕ) → entries ≡ o ∷ [] → words ≡ w ∷ [] → open_idn all ≡ Some idn.raw → run_before true 7 all ≡ [] → e.taken.step ≡ a_step true true 7 3 →
-        e.answer ≡ reply_of e.taken all → AreAlike e.taken.blocks blocks → AddsBy words e entries all (writes_of all)
+    adds_setting : (words : List ℕ) (e : Entry) (entries all : List Entry) (o : Entry) (w : ℕ) → entries ≡ o ∷ [] → words ≡ w ∷ [] → open_idn all ≡ Some idn.raw → run_before true 7 all ≡ [] → e.processed.step ≡ a_step true true 7 3 →
+        e.answer ≡ reply_of e.processed all → AreAlike e.processed.blocks blocks → AddsBy words e entries all (writes_of all)
     adds_setting words e entries all o w those is opened before step reply alike =
         by e.answer.error refl
         ∙ ap (λ (l : List Entry). added_by_setting idn.raw (second_of (e ∷ l)) ++ writes_of all) (sym those)
@@ -147,14 +147,14 @@ module _ (idn : Idn) (b : Block) where
             adds_none e all (effect_by (a_step true true 7 3) e step ∙ ap not off)
             ∙ ap (λ (v : Bool). (if v then [] else setting idn.raw 3 e ∷ []) ++ writes_of all) (sym off)
         by false well =
-            adds_value 3 e all (omega arith) step well opened before alike (set_allows idn.raw e.taken all blocks b step opened before alike found (ap (λ (a : Answer). a.error) (sym reply) ∙ well)).two
+            adds_value 3 e all (omega arith) step well opened before alike (set_allows idn.raw e.processed all blocks b step opened before alike found (ap (λ (a : Answer). a.error) (sym reply) ∙ well)).two
             ∙ ap (λ (v : Bool). (if v then [] else setting idn.raw 3 e ∷ []) ++ writes_of all) (sym well)
 
     second_stays : (e : Entry) (entries : List Entry) (d o : Entry) (past : List Entry) → entries ≡ d ∷ o ∷ past → second_of entries ≡ second_of (e ∷ entries)
     second_stays e entries d o past those = ap second_of those ∙ ap (λ (l : List Entry). second_of (e ∷ l)) (sym those)
 
-    adds_poll : (words : List ℕ) (e : Entry) (all : List Entry) (w v : ℕ) (polled : List ℕ) → words ≡ w ∷ v ∷ polled → open_idn all ≡ Some idn.raw → run_before true 7 all ≡ [] → b.attribute.length ≡ len.Two → Poll polled e.taken.step →
-        AreAlike e.taken.blocks blocks → writes_of (e ∷ all) ≡ cancelled_by idn.raw (not e.answer.error && is_whole asked (words ++ e.answer.word ∷ [])) e ++ writes_of all
+    adds_poll : (words : List ℕ) (e : Entry) (all : List Entry) (w v : ℕ) (polled : List ℕ) → words ≡ w ∷ v ∷ polled → open_idn all ≡ Some idn.raw → run_before true 7 all ≡ [] → b.attribute.length ≡ len.Two → Poll polled e.processed.step →
+        AreAlike e.processed.blocks blocks → writes_of (e ∷ all) ≡ cancelled_by idn.raw (not e.answer.error && is_whole asked (words ++ e.answer.word ∷ [])) e ++ writes_of all
     adds_poll words e all w v polled is opened before two (Reads step long) alike =
         adds_none e all (effect_by (a_step false true 1 0) e step) ∙ sym (not_cancelled e.answer.error (is_whole asked (words ++ e.answer.word ∷ [])) e (writes_of all) (whole_reads words w v polled e.answer.word is (long e.answer.word)))
     adds_poll words e all w v polled is opened before two (Cancels step long) alike = by e.answer.error refl
@@ -167,18 +167,18 @@ module _ (idn : Idn) (b : Block) where
             adds_value 0 e all (omega arith) step well opened before alike two
             ∙ ap₂ (λ (v whole : Bool). cancelled_by idn.raw (not v && whole) e ++ writes_of all) (sym well) (sym (whole_cancels words w v polled e.answer.word is (long e.answer.word)))
 
-    adds : (words : List ℕ) (e : Entry) (entries all : List Entry) (before : List Write) → Stage idn b words entries all → slice_get (steps_of asked words) (length words) ≡ Some e.taken.step →
-        e.answer ≡ reply_of e.taken all → AreAlike e.taken.blocks blocks → writes_of all ≡ added_by_setting idn.raw (second_of entries) ++ before → AddsBy words e entries all before
+    adds : (words : List ℕ) (e : Entry) (entries all : List Entry) (before : List Write) → Stage idn b words entries all → slice_get (steps_of asked words) (length words) ≡ Some e.processed.step →
+        e.answer ≡ reply_of e.processed all → AreAlike e.processed.blocks blocks → writes_of all ≡ added_by_setting idn.raw (second_of entries) ++ before → AddsBy words e entries all before
     adds words e entries all before (AtOpening those is) next reply alike same =
-        adds_none e all (effect_by (opening idn) e (next_opening words e.taken.step is next))
+        adds_none e all (effect_by (opening idn) e (next_opening words e.processed.step is next))
         ∙ same ∙ ap (λ (l : List Entry). added_by_setting idn.raw (second_of l) ++ before) those ∙ ap (λ (l : List Entry). added_by_setting idn.raw (second_of (e ∷ l)) ++ before) (sym those)
         ∙ sym (not_cancelled e.answer.error (is_whole asked (words ++ e.answer.word ∷ [])) e (added_by_setting idn.raw (second_of (e ∷ entries)) ++ before) (whole_one words e.answer.word is))
     adds words e entries all before (AtSetting o w those is opened free) next reply alike same =
-        adds_setting words e entries all o w those is opened free (next_setting words e.taken.step w is next) reply alike
+        adds_setting words e entries all o w those is opened free (next_setting words e.processed.step w is next) reply alike
         ∙ ap (λ (l : List Write). cancelled_by idn.raw (not e.answer.error && is_whole asked (words ++ e.answer.word ∷ [])) e ++ (added_by_setting idn.raw (second_of (e ∷ entries)) ++ l))
         (same ∙ ap (λ (l : List Entry). added_by_setting idn.raw (second_of l) ++ before) those)
     adds words e entries all before (AtPoll d o past w v polled those is opened free two) next reply alike same =
-        adds_poll words e all w v polled is opened free two (next_poll words e.taken.step w v polled is next) alike
+        adds_poll words e all w v polled is opened free two (next_poll words e.processed.step w v polled is next) alike
         ∙ ap (λ (l : List Write). cancelled_by idn.raw (not e.answer.error && is_whole asked (words ++ e.answer.word ∷ [])) e ++ l)
         (same ∙ ap (λ (x : Option Entry). added_by_setting idn.raw x ++ before) (second_stays e entries d o past those))
 

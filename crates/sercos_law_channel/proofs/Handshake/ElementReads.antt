@@ -22,7 +22,7 @@ use Rattle.sercos_block.specs.Stores.{find_block, read_fault, is_sound, is_len, 
 use Rattle.sercos_command.specs.declared.commands.SetCommand.{SetCommand}
 use Rattle.sercos_command.specs.Settings.{has_ended, status_by}
 use Rattle.sercos_command.specs.Calls.{setting_of, status_in}
-use Rattle.sercos_service_drive.specs.Log.{Taken, Entry}
+use Rattle.sercos_service_drive.specs.Log.{Processed, Entry}
 use Rattle.sercos_service_drive.specs.Replies.{data_in, element_words, words_at, missing}
 use Rattle.sercos_service_drive.specs.Writes.{without_data}
 use Rattle.sercos_law_channel.specs.Handshake.InStep.{replies_of}
@@ -145,14 +145,14 @@ status_read : (n : ℕ) → n < 256 → read_from shape.One (n ∷ []) ≡ n ∷
 status_read n small = let low : n % 256 ≡ n = omega arith in let high : n / 256 ≡ 0 = omega arith in rw (low, high) refl
 
 -- an element that was copied
-abbrev words_of_it : ℕ → ℕ → Taken → List ℕ
+abbrev words_of_it : ℕ → ℕ → Processed → List ℕ
 words_of_it raw e t = words_at raw e t.cycle t.blocks t.commands
 
 no_status : (e : ℕ) → 2 ≤ e → (e == 1) ≡ false
 no_status e low = grind (arith, nat_tests)
 
 module _ (typed : (blocks : List Block) (raw : ℕ) (b : Block) → IsStore blocks → find_block raw blocks ≡ Some b → AreBytes b.value) where
-  copied_read : (raw e : ℕ) (b c : Block) (t : Taken) → 1 ≤ e → e ≤ 7 → shape_of 7 (low_of b + 65536 * high_of b) ≡ shape_by b.attribute.length → find_block raw t.blocks ≡ Some c → without_data c ≡ without_data b →
+  copied_read : (raw e : ℕ) (b c : Block) (t : Processed) → 1 ≤ e → e ≤ 7 → shape_of 7 (low_of b + 65536 * high_of b) ≡ shape_by b.attribute.length → find_block raw t.blocks ≡ Some c → without_data c ≡ without_data b →
       missing raw e t.blocks ≡ None → (2 ≤ e → IsStore t.blocks) → read_from (shape_read e b) (words_of_it raw e t) ≡ bytes_at raw e c t
   copied_read raw zero b c t low high said found alike there store = absurd (omega arith)
   copied_read raw (suc zero) b c t low high said found alike there store = status_read (status_in t.commands raw t.cycle) (status_small t.commands.time t.cycle (setting_of t.commands.rate raw t.commands.calls))
@@ -167,12 +167,12 @@ module _ (typed : (blocks : List Block) (raw : ℕ) (b : Block) → IsStore bloc
 
   pub reads_once_by : (idn : Idn) (e : ℕ) (bytes : List ℕ) (blocks : List Block) (b : Block) (s : Entry) (entries log : List Entry) → shape_of 7 (low_of b + 65536 * high_of b) ≡ shape_by b.attribute.length → 1 ≤ e → e ≤ 7 →
       find_block idn.raw blocks ≡ Some b → IsTransfer (request.Read idn e) blocks s entries log → outcome_of (request.Read idn e) (replies_of (s ∷ entries)) ≡ Some (outcome.Complete bytes) →
-      (selection : Entry) × (entry_behind (steps_before e) (s ∷ entries) ≡ Some selection) × IsReadAt idn.raw e b bytes selection.taken
+      (selection : Entry) × (entry_behind (steps_before e) (s ∷ entries) ≡ Some selection) × IsReadAt idn.raw e b bytes selection.processed
   reads_once_by idn e bytes blocks b s entries log said low high found is complete =
       let given = given_by idn e b blocks found (some e low) bytes s entries log is complete in
-      let stands = block_there b (find_block idn.raw given.entry.taken.blocks) (find-alike idn.raw given.entry.taken.blocks blocks b given.alike found) in
-      let there = ap (λ (n : ℕ). missing idn.raw n given.entry.taken.blocks) (sym given.element) ∙ given.there in
-      let copied = ap (λ (n : ℕ). words_of_it idn.raw n given.entry.taken) given.element in (
+      let stands = block_there b (find_block idn.raw given.entry.processed.blocks) (find-alike idn.raw given.entry.processed.blocks blocks b given.alike found) in
+      let there = ap (λ (n : ℕ). missing idn.raw n given.entry.processed.blocks) (sym given.element) ∙ given.there in
+      let copied = ap (λ (n : ℕ). words_of_it idn.raw n given.entry.processed) given.element in (
         given.entry,
         given.at,
         record {
@@ -182,7 +182,7 @@ module _ (typed : (blocks : List Block) (raw : ℕ) (b : Block) → IsStore bloc
           found = stands.1;
           alike = stands.2;
           there = given.there;
-          gives = λ store. given.gives ∙ ap (read_from (shape_read e b)) copied ∙ copied_read idn.raw e b stands.0 given.entry.taken low high said stands.1 stands.2 there store;
+          gives = λ store. given.gives ∙ ap (read_from (shape_read e b)) copied ∙ copied_read idn.raw e b stands.0 given.entry.processed low high said stands.1 stands.2 there store;
         },
       )
     where

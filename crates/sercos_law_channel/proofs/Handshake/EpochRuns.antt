@@ -4,14 +4,14 @@ use Rattle.std.specs.Prelude.{◌==◌, Option, Some, None, IsSome, IfSome}
 use Rattle.std.proofs.lemmas.Bool.{cases_eq, cases_Bool, eqb-true, cond-true, cond-false}
 use Rattle.sercos_step.specs.declared.request.Request.{Request}
 use Rattle.sercos_command.specs.Calls.{change_in}
-use Rattle.sercos_service_drive.specs.Log.{Taken, Entry}
+use Rattle.sercos_service_drive.specs.Log.{Processed, Entry}
 use Rattle.sercos_service_drive.specs.Replies.{reply_of, log_of}
 use Rattle.sercos_service_drive.specs.Says.{channel_says, shown_by}
 use Rattle.sercos_service_master.specs.Begun.{Begun, Said, open_in, master_says}
 use Rattle.sercos_law_channel.specs.Handshake.InStep.{AreInStep, Idle}
 use Rattle.sercos_law_channel.proofs.Handshake.HandshakeMoves.{hears, begins, takes, ahs-log, log-taken}
 use Rattle.sercos_law_channel.specs.Handshake.Views.{Heard, View, Standing, stood_in, got_in, standing, record_in, processed_in, with_record, kept_in, since_reset}
-use Rattle.sercos_law_channel.specs.Handshake.Epochs.{command, command_in, whole_row, with_heard, with_begun, unless_restart, epoch_begun, begun_in, epoch_taken, taken_in_views, epoch_log, log_in}
+use Rattle.sercos_law_channel.specs.Handshake.Epochs.{command, command_in, whole_row, with_heard, with_begun, unless_restart, epoch_begun, begun_in, epoch_records, records_in_views, epoch_log, log_in}
 use Rattle.sercos_law_channel.specs.Handshake.Runs.{IsShown, IsNext, IsRun}
 use Rattle.sercos_law_channel.specs.Handshake.RunLaws.{zero_run}
 use Rattle.sercos_law_channel.proofs.Handshake.PhaseMoves.{chosen, Stands, Down, Moves, Stays, stands, before, ends, Processes, Nothing, Record, processes, processed_phase, kept_on, kept_below, reset_on}
@@ -83,24 +83,24 @@ module _ (busy : ℕ) where
       by (Nothing none) = none
       by (Record s got came two is) = let same = processed_phase v past came (omega arith) in absurd (omega arith)
 
-  pub quiet : (past : List View) → IsRun busy past → command past ≤ 1 → (epoch_begun past ≡ []) × (epoch_taken past ≡ [])
+  pub quiet : (past : List View) → IsRun busy past → command past ≤ 1 → (epoch_begun past ≡ []) × (epoch_records past ≡ [])
   quiet [] run low = (refl, refl)
   quiet (v ∷ past) run low = elim (cases_Bool v.falls) [
-    | inl fell ↦ (cond-true v.falls [] (begun_in v past) fell, cond-true v.falls [] (taken_in_views v past) fell)
+    | inl fell ↦ (cond-true v.falls [] (begun_in v past) fell, cond-true v.falls [] (records_in_views v past) fell)
     | inr on ↦
         let p : v.phase ≤ 1 = command_low v.falls v.rises v.phase on low in
-        let earlier : v.master_restarts ≡ false → (epoch_begun past ≡ []) × (epoch_taken past ≡ []) = λ still. quiet past run.0 (elim (commanded v past run.1.commanded) [ inl r ↦ absurd (cc) | inr c ↦ omega (arith, c.1) ]) in
-        let taken : taken_in_views v past ≡ [] =
-        ap (λ (o : Option Taken). with_record o (unless_restart v (epoch_taken past))) (start_processed v past p) ∙ unless_restart-none v (epoch_taken past) (λ still. (earlier still).1) in
+        let earlier : v.master_restarts ≡ false → (epoch_begun past ≡ []) × (epoch_records past ≡ []) = λ still. quiet past run.0 (elim (commanded v past run.1.commanded) [ inl r ↦ absurd (cc) | inr c ↦ omega (arith, c.1) ]) in
+        let taken : records_in_views v past ≡ [] =
+        ap (λ (o : Option Processed). with_record o (unless_restart v (epoch_records past))) (start_processed v past p) ∙ unless_restart-none v (epoch_records past) (λ still. (earlier still).1) in
         let begun : begun_in v past ≡ [] = start_begun v past run.1 p (unless_restart-none v (epoch_begun past) (λ still. (earlier still).0)) in
-        (cond-false v.falls [] (begun_in v past) on ∙ begun, cond-false v.falls [] (taken_in_views v past) on ∙ taken)
+        (cond-false v.falls [] (begun_in v past) on ∙ begun, cond-false v.falls [] (records_in_views v past) on ∙ taken)
   ]
 
   -- what is there at the start of a cycle commanded 0 or 1
-  pub start : (v : View) (past : List View) → IsRun busy (v ∷ past) → v.phase ≤ 1 → (unless_restart v (epoch_begun past) ≡ []) × (unless_restart v (epoch_taken past) ≡ [])
+  pub start : (v : View) (past : List View) → IsRun busy (v ∷ past) → v.phase ≤ 1 → (unless_restart v (epoch_begun past) ≡ []) × (unless_restart v (epoch_records past) ≡ [])
   start v past run low =
-      let earlier : v.master_restarts ≡ false → (epoch_begun past ≡ []) × (epoch_taken past ≡ []) = λ still. quiet past run.0 (elim (commanded v past run.1.commanded) [ inl r ↦ absurd (cc) | inr c ↦ omega (arith, c.1) ]) in
-      (unless_restart-none v (epoch_begun past) (λ still. (earlier still).0), unless_restart-none v (epoch_taken past) (λ still. (earlier still).1))
+      let earlier : v.master_restarts ≡ false → (epoch_begun past ≡ []) × (epoch_records past ≡ []) = λ still. quiet past run.0 (elim (commanded v past run.1.commanded) [ inl r ↦ absurd (cc) | inr c ↦ omega (arith, c.1) ]) in
+      (unless_restart-none v (epoch_begun past) (λ still. (earlier still).0), unless_restart-none v (epoch_records past) (λ still. (earlier still).1))
 
   -- The drive over the cycles.
 
@@ -110,7 +110,7 @@ module _ (busy : ℕ) where
     pub two_zero : 2 ≤ zero_run past → (standing past).ended ≡ 0
     pub one : command past ≡ 1 → (standing past).ended ≤ 1
     -- a drive that isn't in 0 has the records of this epoch
-    pub same : 1 ≤ command past → ((standing past).ended ≡ 0) ⊎ (since_reset past ≡ epoch_taken past)
+    pub same : 1 ≤ command past → ((standing past).ended ≡ 0) ⊎ (since_reset past ≡ epoch_records past)
 
   -- in a cycle commanded 1 it comes to 1 at most
   stood_one : (v : View) (past : List View) → IsNext busy v past → Joined past → v.phase ≡ 1 → stood_in v (standing past) ≤ 1
@@ -125,14 +125,14 @@ module _ (busy : ℕ) where
       ]
 
   -- at the MST of a cycle commanded 1 or later, a drive that isn't in 0 has the records of this epoch
-  pub same_at : (v : View) (past : List View) → IsRun busy (v ∷ past) → Joined past → 1 ≤ v.phase → (stood_in v (standing past) ≡ 0 → ⊥) → kept_in v past ≡ unless_restart v (epoch_taken past)
+  pub same_at : (v : View) (past : List View) → IsRun busy (v ∷ past) → Joined past → 1 ≤ v.phase → (stood_in v (standing past) ≡ 0 → ⊥) → kept_in v past ≡ unless_restart v (epoch_records past)
   same_at v past run j up nz = elim (cases_eq v.phase 1) [
     | inl one ↦ kept_below v past (stood_one v past run.1 j one) ∙ sym (start v past run (omega arith)).1
     | inr more ↦ elim (commanded v past run.1.commanded) [
       | inl r ↦ absurd (omega (arith, r.1))
       | inr c ↦
           let at = carried (omega arith) (stands v (standing past)) in
-          kept_on v past at.0 nz ∙ elim (j.same (omega (arith, c.1))) [ inl z ↦ absurd (omega (arith, at.1)) | inr e ↦ e ] ∙ sym (unless_restart-on v (epoch_taken past) c.0)
+          kept_on v past at.0 nz ∙ elim (j.same (omega (arith, c.1))) [ inl z ↦ absurd (omega (arith, at.1)) | inr e ↦ e ] ∙ sym (unless_restart-on v (epoch_records past) c.0)
     ]
   ]
     where
@@ -162,7 +162,7 @@ module _ (busy : ℕ) where
       by (Stays missed got_mst still is) = inr missed
 
   -- what it keeps at the end of a cycle commanded 1 or later
-  same_after : (v : View) (past : List View) → IsRun busy (v ∷ past) → Joined past → 1 ≤ v.phase → ((standing (v ∷ past)).ended ≡ 0) ⊎ (since_reset (v ∷ past) ≡ taken_in_views v past)
+  same_after : (v : View) (past : List View) → IsRun busy (v ∷ past) → Joined past → 1 ≤ v.phase → ((standing (v ∷ past)).ended ≡ 0) ⊎ (since_reset (v ∷ past) ≡ records_in_views v past)
   same_after v past run j up = elim (cases_eq (standing (v ∷ past)).ended 0) [
     | inl z ↦ inl z
     | inr nz ↦ inr (reset_on v past nz ∙ ap (with_record (processed_in v past)) (same_at v past run j up (λ z. nz (elim (ends v past) [ inl y ↦ y | inr e ↦ e ∙ z ]))))
@@ -188,17 +188,17 @@ module _ (busy : ℕ) where
               | inl z ↦ elim parts.1 [ inl r ↦ inl (ten r z) | inr one ↦ absurd (omega arith) ]
               | inr more ↦ elim (same_after v past run j (omega arith)) [
                 | inl z ↦ inl z
-                | inr e ↦ inr (e ∙ sym (cond-false v.falls [] (taken_in_views v past) parts.0))
+                | inr e ↦ inr (e ∙ sym (cond-false v.falls [] (records_in_views v past) parts.0))
               ]
             ];
       }
 
   -- The handshake.
 
-  abbrev pub InStepOver : List Begun → List Taken → Type 0
+  abbrev pub InStepOver : List Begun → List Processed → Type 0
   InStepOver begun taken = AreInStep begun (log_of taken)
 
-  pub restarted : (v : View) (begun : List Begun) (taken : List Taken) → InStepOver begun taken → InStepOver (unless_restart v begun) (unless_restart v taken)
+  pub restarted : (v : View) (begun : List Begun) (taken : List Processed) → InStepOver begun taken → InStepOver (unless_restart v begun) (unless_restart v taken)
   restarted v begun taken h = by v.master_restarts
     where
       by : (r : Bool) → InStepOver (if r then [] else begun) (if r then [] else taken)
@@ -207,7 +207,7 @@ module _ (busy : ℕ) where
 
   -- what is heard shows what was taken in this epoch, or nothing was begun
   pub shown_of : (v : View) (past : List View) → IsRun busy (v ∷ past) → Joined past → (a : Heard) → IsShown busy a v past →
-      (unless_restart v (epoch_begun past) ≡ []) ⊎ (shown_by a.status a.word ≡ channel_says busy (length past) v.showing (unless_restart v (epoch_taken past)))
+      (unless_restart v (epoch_begun past) ≡ []) ⊎ (shown_by a.status a.word ≡ channel_says busy (length past) v.showing (unless_restart v (epoch_records past)))
   shown_of v past run j a shown = elim (cases_low v.phase) [
     | inl low ↦ inl (start v past run low).0
     | inr two ↦ inr (shown.says ∙ ap (channel_says busy (length past) v.showing) (same_at v past run j (omega arith) (λ z. let up = shown.stands in omega arith)))
@@ -217,14 +217,14 @@ module _ (busy : ℕ) where
       cases_low p = elim (cases_eq p 0) [ inl z ↦ inl (omega arith) | inr nz ↦ elim (cases_eq p 1) [ inl one ↦ inl (omega arith) | inr more ↦ inr (omega arith) ] ]
 
   pub heard_of : (v : View) (past : List View) → IsRun busy (v ∷ past) → Joined past → (o : Option Heard) → IfSome o (λ a. IsShown busy a v past) →
-      InStepOver (unless_restart v (epoch_begun past)) (unless_restart v (epoch_taken past)) → InStepOver (with_heard o (unless_restart v (epoch_begun past))) (unless_restart v (epoch_taken past))
+      InStepOver (unless_restart v (epoch_begun past)) (unless_restart v (epoch_records past)) → InStepOver (with_heard o (unless_restart v (epoch_begun past))) (unless_restart v (epoch_records past))
   heard_of v past run j None shown h = h
   heard_of v past run j (Some a) shown h = elim (shown_of v past run j a shown) [
-    | inl none ↦ subst (λ (b : List Begun). InStepOver b (unless_restart v (epoch_taken past))) (sym (ap (with_heard (Some a)) none ∙ sym none)) h
-    | inr says ↦ hears (unless_restart v (epoch_begun past)) (log_of (unless_restart v (epoch_taken past))) busy (length past) (change_in v.showing (length past)) a.status a.word h (rw (ahs-log (unless_restart v (epoch_taken past))) at says)
+    | inl none ↦ subst (λ (b : List Begun). InStepOver b (unless_restart v (epoch_records past))) (sym (ap (with_heard (Some a)) none ∙ sym none)) h
+    | inr says ↦ hears (unless_restart v (epoch_begun past)) (log_of (unless_restart v (epoch_records past))) busy (length past) (change_in v.showing (length past)) a.status a.word h (rw (ahs-log (unless_restart v (epoch_records past))) at says)
   ]
 
-  pub begun_of : (o : Option Request) (begun : List Begun) (taken : List Taken) → (IsSome o → open_in begun ≡ None) → InStepOver begun taken → InStepOver (with_begun o begun) taken
+  pub begun_of : (o : Option Request) (begun : List Begun) (taken : List Processed) → (IsSome o → open_in begun ≡ None) → InStepOver begun taken → InStepOver (with_begun o begun) taken
   begun_of None begun taken shut h = h
   begun_of (Some r) begun taken shut h = begins begun (log_of taken) r h (shut refl)
 
@@ -237,30 +237,30 @@ module _ (busy : ℕ) where
       of true None got is = absurd (cc)
       of false o got is = absurd (cc)
 
-  taken_of : (v : View) (past : List View) (taken : List Taken) → IfSome v.sent (λ s. s ≡ master_says (begun_in v past)) → InStepOver (begun_in v past) taken → InStepOver (begun_in v past) (with_record (processed_in v past) taken)
+  taken_of : (v : View) (past : List View) (taken : List Processed) → IfSome v.sent (λ s. s ≡ master_says (begun_in v past)) → InStepOver (begun_in v past) taken → InStepOver (begun_in v past) (with_record (processed_in v past) taken)
   taken_of v past taken sent h = by (processes v past)
     where
       by : Processes v past → InStepOver (begun_in v past) (with_record (processed_in v past) taken)
-      by (Nothing none) = subst (λ (o : Option Taken). InStepOver (begun_in v past) (with_record o taken)) (sym none) h
+      by (Nothing none) = subst (λ (o : Option Processed). InStepOver (begun_in v past) (with_record o taken)) (sym none) h
       by (Record s got came two is) =
-          let t : Taken = record_in v (length past) (stood_in v (standing past)) s in
-          subst (λ (o : Option Taken). InStepOver (begun_in v past) (with_record o taken)) (sym is)
+          let t : Processed = record_in v (length past) (stood_in v (standing past)) s in
+          subst (λ (o : Option Processed). InStepOver (begun_in v past) (with_record o taken)) (sym is)
           (subst (λ (l : List Entry). AreInStep (begun_in v past) l) (sym (log-taken t taken)) (takes (begun_in v past) (log_of taken) t (reply_of t (log_of taken)) h (said_of v past sent s got)))
 
   -- one cycle, before it falls
   in_step_by : (v : View) (past : List View) → IsRun busy (v ∷ past) → AreInStep (epoch_begun past) (epoch_log past) → AreInStep (begun_in v past) (log_in v past)
   in_step_by v past run earlier =
-      let at_start = restarted v (epoch_begun past) (epoch_taken past) earlier in
+      let at_start = restarted v (epoch_begun past) (epoch_records past) earlier in
       let heard = heard_of v past run (joined past run.0) v.heard run.1.heard at_start in
-      let begun = begun_of v.begins (with_heard v.heard (unless_restart v (epoch_begun past))) (unless_restart v (epoch_taken past)) run.1.begins heard in
-      taken_of v past (unless_restart v (epoch_taken past)) run.1.sent begun
+      let begun = begun_of v.begins (with_heard v.heard (unless_restart v (epoch_begun past))) (unless_restart v (epoch_records past)) run.1.begins heard in
+      taken_of v past (unless_restart v (epoch_records past)) run.1.sent begun
 
   -- in every cycle, also where the drive has fallen
   pub in_step : (past : List View) → IsRun busy past → AreInStep (epoch_begun past) (epoch_log past)
   in_step [] run = Idle refl refl refl
   in_step (v ∷ past) run = by v.falls (in_step_by v past run (in_step past run.0))
     where
-      by : (falls : Bool) → AreInStep (begun_in v past) (log_in v past) → AreInStep (if falls then [] else begun_in v past) (log_of (if falls then [] else taken_in_views v past))
+      by : (falls : Bool) → AreInStep (begun_in v past) (log_in v past) → AreInStep (if falls then [] else begun_in v past) (log_of (if falls then [] else records_in_views v past))
       by true h = Idle refl refl refl
       by false h = h
 
@@ -268,5 +268,5 @@ module _ (busy : ℕ) where
   in_step_in v past run = in_step_by v past run (in_step past run.0)
 
   -- the log of a drive that isn't in 0 is that of the epoch
-  pub same_log : (v : View) (past : List View) → IsRun busy (v ∷ past) → 1 ≤ v.phase → ((standing (v ∷ past)).ended ≡ 0) ⊎ (since_reset (v ∷ past) ≡ taken_in_views v past)
+  pub same_log : (v : View) (past : List View) → IsRun busy (v ∷ past) → 1 ≤ v.phase → ((standing (v ∷ past)).ended ≡ 0) ⊎ (since_reset (v ∷ past) ≡ records_in_views v past)
   same_log v past run up = same_after v past run (joined past run.0) up

@@ -9,7 +9,7 @@ use Rattle.sercos_step.specs.declared.request.Request.{Request}
 use Rattle.sercos_block.specs.declared.block.Block.{Block}
 use Rattle.sercos_command.specs.Calls.{CommandHistory, change_in}
 use Rattle.sercos_service_drive.specs.Says.{Shown, channel_says, shown_by}
-use Rattle.sercos_service_drive.specs.Log.{Taken, Entry, ahs, accepted}
+use Rattle.sercos_service_drive.specs.Log.{Processed, Entry, ahs, accepted}
 use Rattle.sercos_service_drive.specs.Replies.{reply_of, answered, log_of}
 use Rattle.sercos_service_drive.specs.Writes.{Write, AreAlike, writes_of}
 use Rattle.sercos_service_master.specs.Begun.{Begun, open_in, is_odd, answers_it, answer_in, with_answer, master_says}
@@ -20,7 +20,7 @@ use Rattle.sercos_law_channel.specs.Handshake.Transfers.{AreReplies, HaveBlocks}
 use Rattle.sercos_law_channel.proofs.Handshake.HandshakeMoves.{ahs-shown, ahs-log, log-taken}
 use Rattle.sercos_law_channel.proofs.Handshake.LogParts.{heard_in_turn, fall_into_parts}
 use Rattle.sercos_law_channel.specs.Handshake.Views.{Heard, View, standing, stood_in, record_in, with_record}
-use Rattle.sercos_law_channel.specs.Handshake.Epochs.{command, with_heard, with_begun, unless_restart, epoch_begun, begun_in, epoch_taken, taken_in_views, epoch_log, log_in}
+use Rattle.sercos_law_channel.specs.Handshake.Epochs.{command, with_heard, with_begun, unless_restart, epoch_begun, begun_in, epoch_records, records_in_views, epoch_log, log_in}
 use Rattle.sercos_law_channel.specs.Handshake.Runs.{IsShown, IsRun}
 use Rattle.sercos_law_channel.specs.Handshake.WholeRun.{leaving, begun_ago, all_begun, all_writes, IsSound, AreSound, AreSmall}
 use Rattle.sercos_law_channel.specs.Handshake.Exact.{AreExact, RunsAreExact}
@@ -75,7 +75,7 @@ exact-append blocks (b ∷ xs) ys es fs ws us (part, rest, own, others, entries,
 )
 
 -- What is so of the requests and the log of an epoch, in a phase.
-pub record IsEpoch (blocks : List Block) (phase : ℕ) (begun : List Begun) (taken : List Taken) : Type 0 where
+pub record IsEpoch (blocks : List Block) (phase : ℕ) (begun : List Begun) (taken : List Processed) : Type 0 where
   pub in_turn : AreInTurn begun
   pub sound : AreAllSound blocks begun
   pub alike : HaveBlocks blocks (log_of taken)
@@ -93,10 +93,10 @@ module _ (blocks : List Block) where
   heard_sound status word begun sound = cond_both (answers_it begun status) (with_answer (answer_in status word) begun) begun
       (AreAllSound blocks) (λ on. answered_sound (answer_in status word) begun sound) (λ off. sound)
 
-  bit_shown : (busy cycle : ℕ) (showing : CommandHistory) (status : Status) (word : ℕ) (taken : List Taken) → shown_by status word ≡ channel_says busy cycle showing taken → status.ahs ≡ is_odd (log_of taken)
+  bit_shown : (busy cycle : ℕ) (showing : CommandHistory) (status : Status) (word : ℕ) (taken : List Processed) → shown_by status word ≡ channel_says busy cycle showing taken → status.ahs ≡ is_odd (log_of taken)
   bit_shown busy cycle showing status word taken says = ap (λ (s : Shown). s.ahs) says ∙ ahs-shown busy cycle (ahs taken) (change_in showing cycle) (log_of taken) ∙ ahs-log taken
 
-  heard_epoch : (phase busy cycle : ℕ) (showing : CommandHistory) (a : Heard) (begun : List Begun) (taken : List Taken) → AreInStep begun (log_of taken) →
+  heard_epoch : (phase busy cycle : ℕ) (showing : CommandHistory) (a : Heard) (begun : List Begun) (taken : List Processed) → AreInStep begun (log_of taken) →
       (begun ≡ []) ⊎ (shown_by a.status a.word ≡ channel_says busy cycle showing taken) → IsEpoch blocks phase begun taken → IsEpoch blocks phase (with_heard (Some a) begun) taken
   heard_epoch phase busy cycle showing a begun taken h (inl none) is = subst (λ (b : List Begun). IsEpoch blocks phase b taken) (sym (ap (with_heard (Some a)) none ∙ sym none)) is
   heard_epoch phase busy cycle showing a begun taken h (inr says) is = record {
@@ -106,7 +106,7 @@ module _ (blocks : List Block) where
     level = heard_level phase begun (log_of taken) a.status a.word h (bit_shown busy cycle showing a.status a.word taken says) is.level;
   }
 
-  begun_epoch : (phase : ℕ) (o : Option Request) (begun : List Begun) (taken : List Taken) → AreInStep begun (log_of taken) → (IsSome o → open_in begun ≡ None) → IfSome o (λ r. IsSound blocks r) → IsEpoch blocks phase begun taken → IsEpoch blocks phase (with_begun o begun) taken
+  begun_epoch : (phase : ℕ) (o : Option Request) (begun : List Begun) (taken : List Processed) → AreInStep begun (log_of taken) → (IsSome o → open_in begun ≡ None) → IfSome o (λ r. IsSound blocks r) → IsEpoch blocks phase begun taken → IsEpoch blocks phase (with_begun o begun) taken
   begun_epoch phase None begun taken h shut sound is = is
   begun_epoch phase (Some r) begun taken h shut sound is = record {
     in_turn = (is.in_turn, (shut refl, tt));
@@ -115,11 +115,11 @@ module _ (blocks : List Block) where
     level = begun_level phase begun (log_of taken) r h (shut refl) is.level;
   }
 
-  taken_alike : (t : Taken) (taken : List Taken) → AreAlike t.blocks blocks → HaveBlocks blocks (log_of taken) → HaveBlocks blocks (log_of (t ∷ taken))
+  taken_alike : (t : Processed) (taken : List Processed) → AreAlike t.blocks blocks → HaveBlocks blocks (log_of taken) → HaveBlocks blocks (log_of (t ∷ taken))
   taken_alike t taken alike have = cond_both (beq t.mhs (ahs taken)) (accepted taken) (t ∷ accepted taken)
       (λ v. HaveBlocks blocks (answered v)) (λ on. have) (λ off. (have, alike))
 
-  taken_epoch : (phase : ℕ) (t : Taken) (begun : List Begun) (taken : List Taken) → AreInStep begun (log_of taken) → said_in t ≡ master_says begun → t.phase ≡ phase → AreAlike t.blocks blocks → IsEpoch blocks phase begun taken → IsEpoch blocks phase begun (t ∷ taken)
+  taken_epoch : (phase : ℕ) (t : Processed) (begun : List Begun) (taken : List Processed) → AreInStep begun (log_of taken) → said_in t ≡ master_says begun → t.phase ≡ phase → AreAlike t.blocks blocks → IsEpoch blocks phase begun taken → IsEpoch blocks phase begun (t ∷ taken)
   taken_epoch phase t begun taken h says at alike is = record {
     in_turn = is.in_turn;
     sound = is.sound;
@@ -128,7 +128,7 @@ module _ (blocks : List Block) where
   }
 
   -- a rise, where no step is open
-  risen : (phase later : ℕ) (begun : List Begun) (taken : List Taken) → open_in begun ≡ None → IsEpoch blocks phase begun taken → IsEpoch blocks later begun taken
+  risen : (phase later : ℕ) (begun : List Begun) (taken : List Processed) → open_in begun ≡ None → IsEpoch blocks phase begun taken → IsEpoch blocks later begun taken
   risen phase later begun taken shut is = record {
     in_turn = is.in_turn;
     sound = is.sound;
@@ -137,56 +137,56 @@ module _ (blocks : List Block) where
   }
 
   module _ (busy : ℕ) where
-    in_cycle : (v : View) (past : List View) → IsRun busy (v ∷ past) → AreSound blocks (v ∷ past) → IsEpoch blocks (command past) (epoch_begun past) (epoch_taken past) → IsEpoch blocks v.phase (begun_in v past) (taken_in_views v past)
+    in_cycle : (v : View) (past : List View) → IsRun busy (v ∷ past) → AreSound blocks (v ∷ past) → IsEpoch blocks (command past) (epoch_begun past) (epoch_records past) → IsEpoch blocks v.phase (begun_in v past) (records_in_views v past)
     in_cycle v past run sound is =
-        let taken = unless_restart v (epoch_taken past) in
+        let taken = unless_restart v (epoch_records past) in
         let begun = unless_restart v (epoch_begun past) in
         let first : IsEpoch blocks v.phase begun taken = elim (commanded v past run.1.commanded) [
           | inl r ↦ restarted_epoch r.0
-          | inr c ↦ going_epoch c.0 (subst (λ (p : ℕ). IsEpoch blocks p (epoch_begun past) (epoch_taken past)) (sym c.1) is)
+          | inr c ↦ going_epoch c.0 (subst (λ (p : ℕ). IsEpoch blocks p (epoch_begun past) (epoch_records past)) (sym c.1) is)
         ] in
-        let h0 = restarted busy v (epoch_begun past) (epoch_taken past) (in_step busy past run.0) in
+        let h0 = restarted busy v (epoch_begun past) (epoch_records past) (in_step busy past run.0) in
         let h1 = heard_of busy v past run (joined busy past run.0) v.heard run.1.heard h0 in
         let h2 = begun_of busy v.begins (with_heard v.heard begun) taken run.1.begins h1 in
         let second : IsEpoch blocks v.phase (with_heard v.heard begun) taken = heard_any v.heard run.1.heard h0 first in
         let third : IsEpoch blocks v.phase (begun_in v past) taken = begun_epoch v.phase v.begins (with_heard v.heard begun) taken h1 run.1.begins sound.1.1 second in
         recorded h2 third (processes v past)
       where
-        restarted_epoch : v.master_restarts ≡ true → IsEpoch blocks v.phase (unless_restart v (epoch_begun past)) (unless_restart v (epoch_taken past))
+        restarted_epoch : v.master_restarts ≡ true → IsEpoch blocks v.phase (unless_restart v (epoch_begun past)) (unless_restart v (epoch_records past))
         restarted_epoch r = by v.master_restarts r
           where
-            by : (b : Bool) → b ≡ true → IsEpoch blocks v.phase (if b then [] else epoch_begun past) (if b then [] else epoch_taken past)
+            by : (b : Bool) → b ≡ true → IsEpoch blocks v.phase (if b then [] else epoch_begun past) (if b then [] else epoch_records past)
             by true on = at_start v.phase
             by false on = absurd (cc)
 
-        going_epoch : v.master_restarts ≡ false → IsEpoch blocks v.phase (epoch_begun past) (epoch_taken past) → IsEpoch blocks v.phase (unless_restart v (epoch_begun past)) (unless_restart v (epoch_taken past))
+        going_epoch : v.master_restarts ≡ false → IsEpoch blocks v.phase (epoch_begun past) (epoch_records past) → IsEpoch blocks v.phase (unless_restart v (epoch_begun past)) (unless_restart v (epoch_records past))
         going_epoch still was = by v.master_restarts still
           where
-            by : (b : Bool) → b ≡ false → IsEpoch blocks v.phase (if b then [] else epoch_begun past) (if b then [] else epoch_taken past)
+            by : (b : Bool) → b ≡ false → IsEpoch blocks v.phase (if b then [] else epoch_begun past) (if b then [] else epoch_records past)
             by true on = absurd (cc)
             by false on = was
 
-        heard_any : (o : Option Heard) → IfSome o (λ a. IsShown busy a v past) → AreInStep (unless_restart v (epoch_begun past)) (log_of (unless_restart v (epoch_taken past))) →
-            IsEpoch blocks v.phase (unless_restart v (epoch_begun past)) (unless_restart v (epoch_taken past)) → IsEpoch blocks v.phase (with_heard o (unless_restart v (epoch_begun past))) (unless_restart v (epoch_taken past))
+        heard_any : (o : Option Heard) → IfSome o (λ a. IsShown busy a v past) → AreInStep (unless_restart v (epoch_begun past)) (log_of (unless_restart v (epoch_records past))) →
+            IsEpoch blocks v.phase (unless_restart v (epoch_begun past)) (unless_restart v (epoch_records past)) → IsEpoch blocks v.phase (with_heard o (unless_restart v (epoch_begun past))) (unless_restart v (epoch_records past))
         heard_any None shown h was = was
         heard_any (Some a) shown h was =
-            heard_epoch v.phase busy (length past) v.showing a (unless_restart v (epoch_begun past)) (unless_restart v (epoch_taken past)) h (shown_of busy v past run (joined busy past run.0) a shown) was
+            heard_epoch v.phase busy (length past) v.showing a (unless_restart v (epoch_begun past)) (unless_restart v (epoch_records past)) h (shown_of busy v past run (joined busy past run.0) a shown) was
 
-        recorded : AreInStep (begun_in v past) (log_of (unless_restart v (epoch_taken past))) → IsEpoch blocks v.phase (begun_in v past) (unless_restart v (epoch_taken past)) → Processes v past → IsEpoch blocks v.phase (begun_in v past) (taken_in_views v past)
-        recorded h was (Nothing none) = subst (λ (o : Option Taken). IsEpoch blocks v.phase (begun_in v past) (with_record o (unless_restart v (epoch_taken past)))) (sym none) was
+        recorded : AreInStep (begun_in v past) (log_of (unless_restart v (epoch_records past))) → IsEpoch blocks v.phase (begun_in v past) (unless_restart v (epoch_records past)) → Processes v past → IsEpoch blocks v.phase (begun_in v past) (records_in_views v past)
+        recorded h was (Nothing none) = subst (λ (o : Option Processed). IsEpoch blocks v.phase (begun_in v past) (with_record o (unless_restart v (epoch_records past)))) (sym none) was
         recorded h was (Record s got came two some) =
-            subst (λ (o : Option Taken). IsEpoch blocks v.phase (begun_in v past) (with_record o (unless_restart v (epoch_taken past)))) (sym some)
-            (taken_epoch v.phase (record_in v (length past) (stood_in v (standing past)) s) (begun_in v past) (unless_restart v (epoch_taken past)) h (said_of busy v past run.1.sent s got) (processed_phase v past came (omega arith)) sound.1.0 was)
+            subst (λ (o : Option Processed). IsEpoch blocks v.phase (begun_in v past) (with_record o (unless_restart v (epoch_records past)))) (sym some)
+            (taken_epoch v.phase (record_in v (length past) (stood_in v (standing past)) s) (begun_in v past) (unless_restart v (epoch_records past)) h (said_of busy v past run.1.sent s got) (processed_phase v past came (omega arith)) sound.1.0 was)
 
-    after_cycle : (v : View) (past : List View) → IsRun busy (v ∷ past) → IsEpoch blocks v.phase (begun_in v past) (taken_in_views v past) → IsEpoch blocks (command (v ∷ past)) (epoch_begun (v ∷ past)) (epoch_taken (v ∷ past))
+    after_cycle : (v : View) (past : List View) → IsRun busy (v ∷ past) → IsEpoch blocks v.phase (begun_in v past) (records_in_views v past) → IsEpoch blocks (command (v ∷ past)) (epoch_begun (v ∷ past)) (epoch_records (v ∷ past))
     after_cycle v past run is = by v.falls v.rises refl
       where
-        by : (falls rises : Bool) → v.rises ≡ rises → IsEpoch blocks (if falls then 0 else (if rises then v.phase + 1 else v.phase)) (if falls then [] else begun_in v past) (if falls then [] else taken_in_views v past)
+        by : (falls rises : Bool) → v.rises ≡ rises → IsEpoch blocks (if falls then 0 else (if rises then v.phase + 1 else v.phase)) (if falls then [] else begun_in v past) (if falls then [] else records_in_views v past)
         by true rises on = at_start 0
-        by false true on = risen v.phase (v.phase + 1) (begun_in v past) (taken_in_views v past) (run.1.rests on) is
+        by false true on = risen v.phase (v.phase + 1) (begun_in v past) (records_in_views v past) (run.1.rests on) is
         by false false on = is
 
-    pub epoch : (past : List View) → IsRun busy past → AreSound blocks past → IsEpoch blocks (command past) (epoch_begun past) (epoch_taken past)
+    pub epoch : (past : List View) → IsRun busy past → AreSound blocks past → IsEpoch blocks (command past) (epoch_begun past) (epoch_records past)
     epoch [] run sound = at_start 0
     epoch (v ∷ past) run sound = after_cycle v past run (in_cycle v past run sound (epoch past run.0 sound.0))
 
@@ -194,12 +194,12 @@ module _ (blocks : List Block) where
       epoch_exact : (past : List View) → IsRun busy past → AreSound blocks past → AreExact blocks (epoch_begun past) (epoch_log past) (writes_of (epoch_log past))
       epoch_exact past run sound =
           let is = epoch past run sound in
-          parts_exact laws blocks small (epoch_begun past) (epoch_log past) (fall_into_parts (epoch_begun past) (epoch_log past) is.in_turn (in_step busy past run)) is.sound (answered_replies (accepted (epoch_taken past))) is.alike is.level.steady
+          parts_exact laws blocks small (epoch_begun past) (epoch_log past) (fall_into_parts (epoch_begun past) (epoch_log past) is.in_turn (in_step busy past run)) is.sound (answered_replies (accepted (epoch_records past))) is.alike is.level.steady
 
       pub cycle_exact : (v : View) (past : List View) → IsRun busy (v ∷ past) → AreSound blocks (v ∷ past) → AreExact blocks (begun_in v past) (log_in v past) (writes_of (log_in v past))
       cycle_exact v past run sound =
           let is = in_cycle v past run sound (epoch past run.0 sound.0) in
-          parts_exact laws blocks small (begun_in v past) (log_in v past) (fall_into_parts (begun_in v past) (log_in v past) is.in_turn (in_step_in busy v past run)) is.sound (answered_replies (accepted (taken_in_views v past))) is.alike is.level.steady
+          parts_exact laws blocks small (begun_in v past) (log_in v past) (fall_into_parts (begun_in v past) (log_in v past) is.in_turn (in_step_in busy v past run)) is.sound (answered_replies (accepted (records_in_views v past))) is.alike is.level.steady
 
       left_exact : (ends : Bool) (xs ago : List Begun) (es fs : List Entry) (ws us : List Write) → AreExact blocks xs es ws → AreExact blocks ago fs us → AreExact blocks (leaving ends xs ago) (leaving ends es fs) (leaving ends ws us)
       left_exact true xs ago es fs ws us is behind = exact-append blocks xs ago es fs ws us is behind

@@ -100,17 +100,17 @@ module _ (laws : Laws) (blocks : List Block) (small : AreSmall blocks) where
       given : given_by blocks (request.Write idn 7 bytes) ≡ gives idn.raw (stored b bytes) ∷ []
       given = ap (written_to idn.raw bytes) found
 
-      law : writes_of ((e ∷ entries) ++ log) ≡ (if is_complete (outcome_of (request.Write idn 7 bytes) (replies_of (e ∷ entries))) then (record { cycle = e.taken.cycle; raw = idn.raw; bytes = stored b bytes }) ∷ writes_of log else writes_of log)
+      law : writes_of ((e ∷ entries) ++ log) ≡ (if is_complete (outcome_of (request.Write idn 7 bytes) (replies_of (e ∷ entries))) then (record { cycle = e.processed.cycle; raw = idn.raw; bytes = stored b bytes }) ∷ writes_of log else writes_of log)
       law = laws.once idn bytes blocks b e entries log are found (small idn.raw b found) is
 
-      whole : (x : List ℕ) → outcome_of (request.Write idn 7 bytes) (replies_of (e ∷ entries)) ≡ Some (outcome.Complete x) → writes_of ((e ∷ entries) ++ log) ≡ (record { cycle = e.taken.cycle; raw = idn.raw; bytes = stored b bytes }) ∷ writes_of log
+      whole : (x : List ℕ) → outcome_of (request.Write idn 7 bytes) (replies_of (e ∷ entries)) ≡ Some (outcome.Complete x) → writes_of ((e ∷ entries) ++ log) ≡ (record { cycle = e.processed.cycle; raw = idn.raw; bytes = stored b bytes }) ∷ writes_of log
       whole x complete = law ∙ cond-true _ _ _ (ap is_complete complete)
 
       by : Ends (request.Write idn 7 bytes) (replies_of (e ∷ entries)) → Took (request.Write idn 7 bytes) e entries answers → Wrote blocks (with (request.Write idn 7 bytes) answers) (e ∷ entries) log
       by (GoesOn on) (All same) = record { own = []; adds = law ∙ cond-false _ _ _ (ap is_complete on); writes = Broken 1 (ap (outcome_of (request.Write idn 7 bytes)) same ∙ on) (sym (ap (drop 1) given)) }
       by (GoesOn on) (AllButOne same before) = record { own = []; adds = law ∙ cond-false _ _ _ (ap is_complete on); writes = Broken 1 before (sym (ap (drop 1) given)) }
-      by (IsWhole x complete) (All same) = record { own = (record { cycle = e.taken.cycle; raw = idn.raw; bytes = stored b bytes }) ∷ []; adds = whole x complete; writes = Complete x (ap (outcome_of (request.Write idn 7 bytes)) same ∙ complete) (b, found) (sym given) }
-      by (IsWhole x complete) (AllButOne same before) = record { own = (record { cycle = e.taken.cycle; raw = idn.raw; bytes = stored b bytes }) ∷ []; adds = whole x complete; writes = Broken 0 before (sym given) }
+      by (IsWhole x complete) (All same) = record { own = (record { cycle = e.processed.cycle; raw = idn.raw; bytes = stored b bytes }) ∷ []; adds = whole x complete; writes = Complete x (ap (outcome_of (request.Write idn 7 bytes)) same ∙ complete) (b, found) (sym given) }
+      by (IsWhole x complete) (AllButOne same before) = record { own = (record { cycle = e.processed.cycle; raw = idn.raw; bytes = stored b bytes }) ∷ []; adds = whole x complete; writes = Broken 0 before (sym given) }
       by (IsRefused code refused) (All same) = record { own = []; adds = law ∙ cond-false _ _ _ (ap is_complete refused); writes = Refused code (ap (outcome_of (request.Write idn 7 bytes)) same ∙ refused) refl }
       by (IsRefused code refused) (AllButOne same before) = record { own = []; adds = law ∙ cond-false _ _ _ (ap is_complete refused); writes = Broken 1 before (sym (ap (drop 1) given)) }
 
@@ -176,7 +176,7 @@ module _ (laws : Laws) (blocks : List Block) (small : AreSmall blocks) where
       by (IsWhole x complete) (AllButOne same before) = let w = command_whole idn e entries log x is complete in record { own = w.0; adds = w.1; writes = Broken 0 before w.2 }
       by (IsRefused code refused) (All same) = record {
         own = [];
-        adds = refused_adds_nothing idn blocks b e entries log code found command (λ on. protected_so b.attribute phase e.taken.phase entries at.1 at.0 on) is refused;
+        adds = refused_adds_nothing idn blocks b e entries log code found command (λ on. protected_so b.attribute phase e.processed.phase entries at.1 at.0 on) is refused;
         writes = Refused code (ap (outcome_of (request.Command idn)) same ∙ refused) refl;
       }
       by (IsRefused code refused) (AllButOne same before) = command_front idn e entries log answers is (ap is_complete refused) before
@@ -219,7 +219,7 @@ module _ (laws : Laws) (blocks : List Block) (small : AreSmall blocks) where
       by (find_block idn.raw blocks) refl (subst (IsSound blocks) names sound) (subst (λ (q : Request). IsTransfer q blocks s entries log) names is) (ap (λ (q : Request). outcome_of q (replies_of (s ∷ entries))) (sym names) ∙ ap (outcome_of r) (sym same) ∙ complete)
     where
       by : (o : Option Block) → find_block idn.raw blocks ≡ o → IsSound blocks (request.Read idn e) → IsTransfer (request.Read idn e) blocks s entries log → outcome_of (request.Read idn e) (replies_of (s ∷ entries)) ≡ Some (outcome.Complete bytes) →
-          (block : Block) × (find_block idn.raw blocks ≡ Some block) × (selection : Entry) × (entry_behind (steps_before e) (s ∷ entries) ≡ Some selection) × IsReadAt idn.raw e block bytes selection.taken
+          (block : Block) × (find_block idn.raw blocks ≡ Some block) × (selection : Entry) × (entry_behind (steps_before e) (s ∷ entries) ≡ Some selection) × IsReadAt idn.raw e block bytes selection.processed
       by None none range t whole = absurd (unknown_incomplete (request.Read idn e) blocks s entries log bytes none t whole)
       by (Some b) found range t whole = let got = laws.reads idn e bytes blocks b s entries log range.0 range.1 found (small idn.raw b found) t whole in (b, found, got.0, got.1, got.2)
 
@@ -245,10 +245,10 @@ module _ (laws : Laws) (blocks : List Block) (small : AreSmall blocks) where
   of_row b e entries rest sound replies alike steady row took part =
       let is : IsTransfer b.request blocks e entries rest = record { steps = row.steps; in_turn = row.in_turn; goes_on = row.goes_on; replies = replies; alike = alike } in
       let at = in_one_phase b.request blocks e entries rest (named_so b.request sound) steady is in
-      let w = wrote b.request e entries rest b.answers sound e.taken.phase at is took in record {
+      let w = wrote b.request e entries rest b.answers sound e.processed.phase at is took in record {
         own = w.own;
         adds = w.adds;
-        exact = record { part_of = part; in_phase = (e.taken.phase, at); writes = w.writes; reads = read_exactly b.request e entries rest b.answers sound is took; ends = ends_exactly b.request e entries rest b.answers is took };
+        exact = record { part_of = part; in_phase = (e.processed.phase, at); writes = w.writes; reads = read_exactly b.request e entries rest b.answers sound is took; ends = ends_exactly b.request e entries rest b.answers is took };
       }
 
   unsent_reads : (b : Begun) (part : List Entry) → b.answers ≡ [] → ReadsExactly blocks b part

@@ -5,12 +5,12 @@ use mathlib.Core.Bool.{beq}
 use Rattle.sercos_telegram.specs.declared.words.Status.{Status}
 use Rattle.sercos_step.specs.declared.step.Step.{Step}
 use Rattle.sercos_step.specs.declared.step.Answer.{Answer}
-use Rattle.sercos_service_drive.specs.Log.{Taken, Entry, ahs, accepted}
+use Rattle.sercos_service_drive.specs.Log.{Processed, Entry, ahs, accepted}
 use Rattle.sercos_service_drive.specs.Replies.{reply_of, answered, log_of}
 use Rattle.sercos_service_drive.specs.Says.{Shown, shown, shown_by}
 use Rattle.sercos_service_master.specs.Begun.{Begun, Said, open_in, steps_in, answers_in, steps_begun, step_at, with_step, is_odd, mhs_in, answers_it, answer_in, with_answer, step_or_none, master_says}
 use Rattle.sercos_law_channel.specs.Handshake.InStep.{InStep, Idle, Sent, Kept, AreInStep, log_steps, replies_of}
-use Rattle.sercos_law_channel.specs.Handshake.Moves.{Hears, Begins, Takes, with_status, said_in, with_taken}
+use Rattle.sercos_law_channel.specs.Handshake.Moves.{Hears, Begins, Takes, with_status, said_in, with_processed}
 
 pub beq-self : (b : Bool) → beq b b ≡ true
 beq-self true = refl
@@ -24,29 +24,29 @@ beq-not_left : (b : Bool) → beq (not b) b ≡ false
 beq-not_left true = refl
 beq-not_left false = refl
 
-bit_step : (m a : Bool) (t : Taken) (h : List Taken) → a ≡ is_odd h → m ≡ is_odd (if beq m a then h else t ∷ h)
+bit_step : (m a : Bool) (t : Processed) (h : List Processed) → a ≡ is_odd h → m ≡ is_odd (if beq m a then h else t ∷ h)
 bit_step true true t h e = e
 bit_step true false t h e = ap not e
 bit_step false true t h e = ap not e
 bit_step false false t h e = e
 
 -- AHS is the parity of the accepted steps
-ahs-is_odd : (h : List Taken) → ahs h ≡ is_odd (accepted h)
+ahs-is_odd : (h : List Processed) → ahs h ≡ is_odd (accepted h)
 ahs-is_odd [] = refl
 ahs-is_odd (t ∷ h) = bit_step t.mhs (ahs h) t (accepted h) (ahs-is_odd h)
 
-is_odd-answered : (h : List Taken) → is_odd (answered h) ≡ is_odd h
+is_odd-answered : (h : List Processed) → is_odd (answered h) ≡ is_odd h
 is_odd-answered [] = refl
 is_odd-answered (t ∷ h) = ap not (is_odd-answered h)
 
-pub ahs-log : (h : List Taken) → ahs h ≡ is_odd (log_of h)
+pub ahs-log : (h : List Processed) → ahs h ≡ is_odd (log_of h)
 ahs-log h = ahs-is_odd h ∙ sym (is_odd-answered (accepted h))
 
 -- the log with one more record
-pub log-taken : (t : Taken) (h : List Taken) → log_of (t ∷ h) ≡ with_taken t (reply_of t (log_of h)) (log_of h)
-log-taken t h = joined (beq t.mhs (ahs h)) ∙ ap (λ (a : Bool). if beq t.mhs a then log_of h else (record { taken = t; answer = reply_of t (log_of h) }) ∷ log_of h) (ahs-log h)
+pub log-taken : (t : Processed) (h : List Processed) → log_of (t ∷ h) ≡ with_processed t (reply_of t (log_of h)) (log_of h)
+log-taken t h = joined (beq t.mhs (ahs h)) ∙ ap (λ (a : Bool). if beq t.mhs a then log_of h else (record { processed = t; answer = reply_of t (log_of h) }) ∷ log_of h) (ahs-log h)
   where
-    joined : (v : Bool) → answered (if v then accepted h else t ∷ accepted h) ≡ (if v then log_of h else (record { taken = t; answer = reply_of t (log_of h) }) ∷ log_of h)
+    joined : (v : Bool) → answered (if v then accepted h else t ∷ accepted h) ≡ (if v then log_of h else (record { processed = t; answer = reply_of t (log_of h) }) ∷ log_of h)
     joined true = refl
     joined false = refl
 
@@ -70,7 +70,7 @@ ahs-shown_so bit change e false = refl
 
 pub ahs-shown : (busy cycle : ℕ) (bit change : Bool) (log : List Entry) → (shown busy cycle bit change log).ahs ≡ bit
 ahs-shown busy cycle bit change [] = refl
-ahs-shown busy cycle bit change (e ∷ log) = ahs-shown_so bit change e (nat_le (cycle - e.taken.cycle) busy)
+ahs-shown busy cycle bit change (e ∷ log) = ahs-shown_so bit change e (nat_le (cycle - e.processed.cycle) busy)
 
 -- a status with the other bit answers nothing, and where no step is open none does
 pub quiet_none : (begun : List Begun) (status : Status) → open_in begun ≡ None → answers_it begun status ≡ false
@@ -88,14 +88,14 @@ with_step-append : (o : Option Step) (steps more : List Step) → with_step o st
 with_step-append None steps more = refl
 with_step-append (Some s) steps more = refl
 
-takes_answer : (begun : List Begun) (e : Entry) (past : List Entry) → open_in begun ≡ Some e.taken.step → steps_in begun ≡ log_steps (e ∷ past) → answers_in begun ≡ replies_of past → AreInStep (with_answer e.answer begun) (e ∷ past)
+takes_answer : (begun : List Begun) (e : Entry) (past : List Entry) → open_in begun ≡ Some e.processed.step → steps_in begun ≡ log_steps (e ∷ past) → answers_in begun ≡ replies_of past → AreInStep (with_answer e.answer begun) (e ∷ past)
 takes_answer [] e past opened steps answers = absurd (cc)
 takes_answer (b ∷ begun) e past opened steps answers =
     rw (with_step-append (step_at b.request (e.answer ∷ b.answers)) (steps_begun b.request b.answers) (steps_in begun))
     (next_open (step_at b.request (e.answer ∷ b.answers)) (steps_in (b ∷ begun)) (e.answer ∷ answers_in (b ∷ begun)) (e ∷ past) steps (ap (λ (l : List Answer). e.answer ∷ l) answers))
 
 hears_kept : (begun : List Begun) (e : Entry) (past : List Entry) (change : Bool) (status : Status) (word : ℕ) (v : Bool) →
-    open_in begun ≡ Some e.taken.step → steps_in begun ≡ log_steps (e ∷ past) → answers_in begun ≡ replies_of past →
+    open_in begun ≡ Some e.processed.step → steps_in begun ≡ log_steps (e ∷ past) → answers_in begun ≡ replies_of past →
     shown_by status word ≡ shown_so (is_odd (e ∷ past)) change e v → AreInStep (with_status status word begun) (e ∷ past)
 hears_kept begun e past change status word true opened steps answers shows =
     let bit : status.ahs ≡ not (is_odd past) = ap (λ (s : Shown). s.ahs) shows in
@@ -109,10 +109,10 @@ hears_kept begun e past change status word false opened steps answers shows =
     rw (takes, same) (takes_answer begun e past opened steps answers)
 
 hears_by : (begun : List Begun) (log : List Entry) (busy cycle : ℕ) (change : Bool) (status : Status) (word : ℕ) (e : Entry) (past : List Entry) → log ≡ e ∷ past →
-    open_in begun ≡ Some e.taken.step → steps_in begun ≡ log_steps log → answers_in begun ≡ replies_of past →
+    open_in begun ≡ Some e.processed.step → steps_in begun ≡ log_steps log → answers_in begun ≡ replies_of past →
     shown_by status word ≡ shown busy cycle (is_odd log) change log → AreInStep (with_status status word begun) log
 hears_by begun log busy cycle change status word e past is opened steps answers shows =
-    let kept = hears_kept begun e past change status word (nat_le (cycle - e.taken.cycle) busy) opened (rw is at steps) answers (rw is at shows) in
+    let kept = hears_kept begun e past change status word (nat_le (cycle - e.processed.cycle) busy) opened (rw is at steps) answers (rw is at shows) in
     rw is kept
 
 -- the master hears what the drive shows
@@ -134,23 +134,23 @@ begins begun log r (Sent step opened s a) shut = absurd (cc)
 begins begun log r (Kept e past opened is s a) shut = absurd (cc)
 
 -- the drive takes what the master says
-takes_same : (begun : List Begun) (log : List Entry) (t : Taken) (answer : Answer) → t.mhs ≡ is_odd log → AreInStep begun log → AreInStep begun (with_taken t answer log)
+takes_same : (begun : List Begun) (log : List Entry) (t : Processed) (answer : Answer) → t.mhs ≡ is_odd log → AreInStep begun log → AreInStep begun (with_processed t answer log)
 takes_same begun log t answer bit h = rw (bit, beq-self (is_odd log)) h
 
-takes_new : (begun : List Begun) (log : List Entry) (t : Taken) (answer : Answer) → t.mhs ≡ not (is_odd log) →
-    open_in begun ≡ Some t.step → steps_in begun ≡ t.step ∷ log_steps log → answers_in begun ≡ replies_of log → AreInStep begun (with_taken t answer log)
+takes_new : (begun : List Begun) (log : List Entry) (t : Processed) (answer : Answer) → t.mhs ≡ not (is_odd log) →
+    open_in begun ≡ Some t.step → steps_in begun ≡ t.step ∷ log_steps log → answers_in begun ≡ replies_of log → AreInStep begun (with_processed t answer log)
 takes_new begun log t answer bit opened s a =
     joins (beq t.mhs (is_odd log)) (rw (bit, beq-not_left (is_odd log)) refl)
   where
-    joins : (v : Bool) → v ≡ false → AreInStep begun (if v then log else (record { taken = t; answer = answer }) ∷ log)
+    joins : (v : Bool) → v ≡ false → AreInStep begun (if v then log else (record { processed = t; answer = answer }) ∷ log)
     joins true off = absurd (cc)
-    joins false off = Kept (record { taken = t; answer = answer }) log opened refl s a
+    joins false off = Kept (record { processed = t; answer = answer }) log opened refl s a
 
 -- a record's parts
-pub said_bit : (t : Taken) (begun : List Begun) → said_in t ≡ master_says begun → t.mhs ≡ mhs_in begun
+pub said_bit : (t : Processed) (begun : List Begun) → said_in t ≡ master_says begun → t.mhs ≡ mhs_in begun
 said_bit t begun says = ap (λ (s : Said). s.mhs) says
 
-pub said_step : (t : Taken) (begun : List Begun) → said_in t ≡ master_says begun → t.step ≡ step_or_none (open_in begun)
+pub said_step : (t : Processed) (begun : List Begun) → said_in t ≡ master_says begun → t.step ≡ step_or_none (open_in begun)
 said_step t begun says = ap (λ (s : Said). s.step) says
 
 pub parity : (steps : List Step) (log : List Entry) → steps ≡ log_steps log → is_odd steps ≡ is_odd log

@@ -6,7 +6,7 @@ use Rattle.sercos_step.specs.declared.step.Answer.{Answer}
 use Rattle.sercos_step.specs.declared.request.Request.{Request}
 use Rattle.sercos_step.specs.declared.request.Outcome.{Outcome}
 use Rattle.sercos_step.specs.Steps.{outcome_of, next_step, AreAnswers}
-use Rattle.sercos_service_drive.specs.Log.{Taken, Entry}
+use Rattle.sercos_service_drive.specs.Log.{Processed, Entry}
 use Rattle.sercos_service_drive.specs.Replies.{reply_of, answered}
 use Rattle.sercos_service_master.specs.Begun.{Begun, step_at, with_step, steps_begun, steps_in, answers_in, open_in, answer_in, with_answer}
 use Rattle.sercos_service_master.specs.Calls.{Begin, Send, Hear, EndCycle, begun_by}
@@ -57,7 +57,7 @@ steps_split : (steps more : List Step) (log : List Entry) → steps ++ more ≡ 
 steps_split [] more log is = (refl, sym is)
 steps_split (s ∷ steps) more [] is = absurd (cc)
 steps_split (s ∷ steps) more (e ∷ log) is =
-    let head : s ≡ e.taken.step = cc in
+    let head : s ≡ e.processed.step = cc in
     let tail : steps ++ more ≡ log_steps log = cc in
     let split = steps_split steps more log tail in
     (ap₂ (λ (x : Step) (l : List Step). x ∷ l) (sym head) split.0, split.1)
@@ -111,11 +111,11 @@ heard_part r a h (e ∷ entries) are s t =
     }) (sym t)
 
 -- one whose newest answer wasn't
-unheard_part : (r : Request) (a : Answer) (h : List Answer) (e : Entry) (part : List Entry) → AreAnswers r (a ∷ h) → step_at r (a ∷ h) ≡ Some e.taken.step → log_steps part ≡ steps_begun r h → replies_of part ≡ a ∷ h →
+unheard_part : (r : Request) (a : Answer) (h : List Answer) (e : Entry) (part : List Entry) → AreAnswers r (a ∷ h) → step_at r (a ∷ h) ≡ Some e.processed.step → log_steps part ≡ steps_begun r h → replies_of part ≡ a ∷ h →
     IsPart (begun_with r (a ∷ h)) (e ∷ part)
 unheard_part r a h e part are opened s t =
     Unheard e part refl (record {
-      steps = ap (λ (l : List Step). e.taken.step ∷ l) s ∙ ap (λ (o : Option Step). with_step o (steps_begun r h)) (sym opened) ∙ ap (steps_begun r) (sym t);
+      steps = ap (λ (l : List Step). e.processed.step ∷ l) s ∙ ap (λ (o : Option Step). with_step o (steps_begun r h)) (sym opened) ∙ ap (steps_begun r) (sym t);
       in_turn = rw t are;
       goes_on = ap (outcome_of r) t ∙ goes_on_at r (a ∷ h) (ap is_some opened);
     }) (sym t)
@@ -127,7 +127,7 @@ module _ (r : Request) (past : List Begun) (shut : open_in past ≡ None) where
   off_unsent : (log : List Entry) → steps_in past ≡ log_steps log → answers_in past ≡ replies_of log → SplitsOff r [] past log
   off_unsent log s t = ([], log, refl, Unsent refl refl, Idle shut s t)
 
-  off_first : (log : List Entry) (e : Entry) (entries : List Entry) → log ≡ e ∷ entries → step_at r [] ≡ Some e.taken.step → steps_in past ≡ log_steps entries → answers_in past ≡ replies_of entries → SplitsOff r [] past log
+  off_first : (log : List Entry) (e : Entry) (entries : List Entry) → log ≡ e ∷ entries → step_at r [] ≡ Some e.processed.step → steps_in past ≡ log_steps entries → answers_in past ≡ replies_of entries → SplitsOff r [] past log
   off_first log e entries is opened s t =
       let row : IsRow (begun_with r []) e [] = record { steps = ap (λ (o : Option Step). with_step o []) (sym opened); in_turn = tt; goes_on = refl } in
       (e ∷ [], entries, is, Unheard e [] refl row refl, Idle shut s t)
@@ -143,7 +143,7 @@ module _ (r : Request) (past : List Begun) (shut : open_in past ≡ None) where
         Idle shut (sym is.steps_behind) (sym is.replies_behind),
       )
 
-  off_unheard : (a : Answer) (h : List Answer) (log : List Entry) (e : Entry) (entries : List Entry) → log ≡ e ∷ entries → AreAnswers r (a ∷ h) → length (steps_in past) ≤ length (answers_in past) → step_at r (a ∷ h) ≡ Some e.taken.step →
+  off_unheard : (a : Answer) (h : List Answer) (log : List Entry) (e : Entry) (entries : List Entry) → log ≡ e ∷ entries → AreAnswers r (a ∷ h) → length (steps_in past) ≤ length (answers_in past) → step_at r (a ∷ h) ≡ Some e.processed.step →
       steps_begun r h ++ steps_in past ≡ log_steps entries → (a ∷ h) ++ answers_in past ≡ replies_of entries → SplitsOff r (a ∷ h) past log
   off_unheard a h log e entries those are few opened s t =
       let is = front r a h (steps_in past) (answers_in past) entries few s t in (
@@ -159,14 +159,14 @@ module _ (r : Request) (past : List Begun) (shut : open_in past ≡ None) where
   splits_off [] log are few (Idle none s t) = off_unsent log (rw none at s) t
   splits_off [] log are few (Sent x opened s t) = let same : x ∷ steps_in past ≡ x ∷ log_steps log = rw opened at s in let tail : steps_in past ≡ log_steps log = cc in off_unsent log tail t
   splits_off [] log are few (Kept e entries opened is s t) =
-      let same : e.taken.step ∷ steps_in past ≡ e.taken.step ∷ log_steps entries = ap (λ (o : Option Step). with_step o [] ++ steps_in past) (sym opened) ∙ s ∙ ap log_steps is in
+      let same : e.processed.step ∷ steps_in past ≡ e.processed.step ∷ log_steps entries = ap (λ (o : Option Step). with_step o [] ++ steps_in past) (sym opened) ∙ s ∙ ap log_steps is in
       let tail : steps_in past ≡ log_steps entries = cc in off_first log e entries is opened tail t
   splits_off (a ∷ h) log are few (Idle none s t) = off_heard a h log are few (ap (λ (o : Option Step). with_step o (steps_begun r h) ++ steps_in past) (sym none) ∙ s) t
   splits_off (a ∷ h) log are few (Sent x opened s t) =
       let same : x ∷ (steps_begun r h ++ steps_in past) ≡ x ∷ log_steps log = ap (λ (o : Option Step). with_step o (steps_begun r h) ++ steps_in past) (sym opened) ∙ s in
       let tail : steps_begun r h ++ steps_in past ≡ log_steps log = cc in off_heard a h log are few tail t
   splits_off (a ∷ h) log are few (Kept e entries opened is s t) =
-      let same : e.taken.step ∷ (steps_begun r h ++ steps_in past) ≡ e.taken.step ∷ log_steps entries = ap (λ (o : Option Step). with_step o (steps_begun r h) ++ steps_in past) (sym opened) ∙ s ∙ ap log_steps is in
+      let same : e.processed.step ∷ (steps_begun r h ++ steps_in past) ≡ e.processed.step ∷ log_steps entries = ap (λ (o : Option Step). with_step o (steps_begun r h) ++ steps_in past) (sym opened) ∙ s ∙ ap log_steps is in
       let tail : steps_begun r h ++ steps_in past ≡ log_steps entries = cc in off_unheard a h log e entries is are few opened tail t
 
 nothing_left : (log : List Entry) → AreInStep [] log → log ≡ []
@@ -186,10 +186,10 @@ pub have_replies : HaveReplies
 have_replies h [] rest is = tt
 have_replies [] (e ∷ part) rest is = absurd (cc)
 have_replies (t ∷ h) (e ∷ part) rest is =
-    let head : record { taken = t; answer = reply_of t (answered h) } ≡ e = cc in
+    let head : record { processed = t; answer = reply_of t (answered h) } ≡ e = cc in
     let tail : answered h ≡ part ++ rest = cc in
-    let own : e.answer ≡ reply_of e.taken (answered h) = replied t (answered h) e head in
-    (have_replies h part rest tail, own ∙ ap (reply_of e.taken) tail)
+    let own : e.answer ≡ reply_of e.processed (answered h) = replied t (answered h) e head in
+    (have_replies h part rest tail, own ∙ ap (reply_of e.processed) tail)
   where
-    replied : (s : Taken) (log : List Entry) (x : Entry) → record { taken = s; answer = reply_of s log } ≡ x → x.answer ≡ reply_of x.taken log
-    replied s log x is = ap (λ (y : Entry). y.answer) (sym is) ∙ ap (λ (y : Entry). reply_of y.taken log) is
+    replied : (s : Processed) (log : List Entry) (x : Entry) → record { processed = s; answer = reply_of s log } ≡ x → x.answer ≡ reply_of x.processed log
+    replied s log x is = ap (λ (y : Entry). y.answer) (sym is) ∙ ap (λ (y : Entry). reply_of y.processed log) is

@@ -12,14 +12,14 @@ use Rattle.sercos_step.specs.declared.request.Request.{Request}
 use Rattle.sercos_step.specs.declared.request.Request.TheVariants as request
 use Rattle.sercos_step.specs.Words.{shape_of, words_told}
 use Rattle.sercos_step.specs.Steps.{reading, writing, asks_attribute, polling, steps_of, answer_words, next_step}
-use Rattle.sercos_service_drive.specs.Log.{Taken, Entry, opens}
+use Rattle.sercos_service_drive.specs.Log.{Processed, Entry, opens}
 use Rattle.sercos_service_master.specs.Begun.{Begun, step_at, with_step, steps_in, open_in, is_odd, mhs_in, answers_it, answer_in, with_answer, step_or_none, master_says}
 use Rattle.sercos_block.specs.declared.block.Block.{Block}
 use Rattle.sercos_law_channel.specs.Handshake.InStep.{Idle, Sent, Kept, AreInStep, replies_of, log_steps}
 use Rattle.sercos_law_channel.specs.Handshake.Transfers.{IsTransfer}
 use Rattle.sercos_law_channel.proofs.Handshake.StepTests.{attribute_passes, reading_passes, run_passes}
 use Rattle.sercos_law_channel.proofs.Handshake.TransferSteps.{all-slice_get, newest_step, without_newest}
-use Rattle.sercos_law_channel.specs.Handshake.Moves.{with_status, said_in, with_taken}
+use Rattle.sercos_law_channel.specs.Handshake.Moves.{with_status, said_in, with_processed}
 use Rattle.sercos_law_channel.proofs.Handshake.HandshakeMoves.{parity, quiet_bit, said_bit, said_step, beq-self}
 use Rattle.sercos_law_channel.proofs.Handshake.UnknownBlocks.{first_step}
 use Rattle.sercos_law_channel.specs.Handshake.Exact.{AreInPhase}
@@ -79,11 +79,11 @@ later_step r a h s named next =
 
 abbrev pub HeadIn : ℕ → List Entry → Type 0
 HeadIn phase [] = Unit {0}
-HeadIn phase (e ∷ log) = e.taken.phase ≡ phase
+HeadIn phase (e ∷ log) = e.processed.phase ≡ phase
 
 abbrev pub IsSteady : List Entry → Type 0
 IsSteady [] = Unit {0}
-IsSteady (e ∷ log) = IsSteady log × (opens e.taken.step ≡ false → HeadIn e.taken.phase log)
+IsSteady (e ∷ log) = IsSteady log × (opens e.processed.step ≡ false → HeadIn e.processed.phase log)
 
 -- the request that was begun last has no answer yet
 abbrev is_unanswered : List Answer → Bool
@@ -135,7 +135,7 @@ fresh_opens (b ∷ past) s opened fresh = by b.answers opened fresh
     by [] opened fresh = ap opens (first_step b.request s opened)
     by (a ∷ answers) opened fresh = absurd (cc)
 
-pub taken_level : (phase : ℕ) (begun : List Begun) (log : List Entry) (t : Taken) (answer : Answer) → AreInStep begun log → said_in t ≡ master_says begun → t.phase ≡ phase → IsLevel phase begun log → IsLevel phase begun (with_taken t answer log)
+pub taken_level : (phase : ℕ) (begun : List Begun) (log : List Entry) (t : Processed) (answer : Answer) → AreInStep begun log → said_in t ≡ master_says begun → t.phase ≡ phase → IsLevel phase begun log → IsLevel phase begun (with_processed t answer log)
 taken_level phase begun log t answer h says at l = by (beq t.mhs (is_odd log)) refl
   where
     is_last : AreInStep begun log → beq t.mhs (is_odd log) ≡ false → (is_some (open_in begun) ≡ true) × (open_in begun ≡ Some t.step)
@@ -153,14 +153,14 @@ taken_level phase begun log t answer h says at l = by (beq t.mhs (is_odd log)) r
         fresh_or false is = is
         fresh_or true is = let opened = fresh_opens begun t.step (is_last h off).1 is in absurd (cc)
 
-    by : (v : Bool) → beq t.mhs (is_odd log) ≡ v → IsLevel phase begun (if v then log else (record { taken = t; answer = answer }) ∷ log)
+    by : (v : Bool) → beq t.mhs (is_odd log) ≡ v → IsLevel phase begun (if v then log else (record { processed = t; answer = answer }) ∷ log)
     by true on = l
     by false off = record { steady = (l.steady, steady off); level = λ some which. at }
 
 -- So the entries of a transfer are of one phase.
-pub in_one_phase : (r : Request) (blocks : List Block) (e : Entry) (entries log : List Entry) → IsNamed r → IsSteady ((e ∷ entries) ++ log) → IsTransfer r blocks e entries log → AreInPhase e.taken.phase (e ∷ entries)
+pub in_one_phase : (r : Request) (blocks : List Block) (e : Entry) (entries log : List Entry) → IsNamed r → IsSteady ((e ∷ entries) ++ log) → IsTransfer r blocks e entries log → AreInPhase e.processed.phase (e ∷ entries)
 in_one_phase r blocks e [] log named steady is = (tt, refl)
 in_one_phase r blocks e (d ∷ entries) log named steady is =
-    let later : opens e.taken.step ≡ false = later_step r d.answer (replies_of entries) e.taken.step named (newest_step r blocks log e (d ∷ entries) is) in
-    let same : d.taken.phase ≡ e.taken.phase = steady.1 later in
+    let later : opens e.processed.step ≡ false = later_step r d.answer (replies_of entries) e.processed.step named (newest_step r blocks log e (d ∷ entries) is) in
+    let same : d.processed.phase ≡ e.processed.phase = steady.1 later in
     (subst (λ (p : ℕ). AreInPhase p (d ∷ entries)) same (in_one_phase r blocks d entries log named steady.0 (without_newest r blocks log e d entries is)), refl)

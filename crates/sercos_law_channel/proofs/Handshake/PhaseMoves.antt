@@ -2,7 +2,7 @@
 use Rattle.std.proofs.Common.{◌≡◌, ◌⊎◌, inl, inr, ℕ, ◌+◌, ◌≤◌, Bool, true, false, not, ◌&&◌, ◌||◌, List, [], ◌∷◌, length, refl, sym, ap, ◌∙◌, arith, if◌then◌else◌}
 use Rattle.std.specs.Prelude.{nat_le, ◌==◌, Option, Some, None}
 use Rattle.std.proofs.lemmas.Bool.{cases_eq, and_parts, leb-true, eqb-true, ne_eqb, cond-false}
-use Rattle.sercos_service_drive.specs.Log.{Taken}
+use Rattle.sercos_service_drive.specs.Log.{Processed}
 use Rattle.sercos_service_master.specs.Begun.{Said}
 use Rattle.sercos_law_channel.specs.Handshake.Views.{View, Standing, moved, afresh, before_mst, stood_in, got_in, takes_in, standing, record_in, processed_of, processed_in, with_record, kept_in_phase, kept_unless, since_reset, kept_in}
 
@@ -87,13 +87,13 @@ nothing_below v past low = by (processes v past)
     by (Nothing none) = none
     by (Record s got came two is) = absurd (omega arith)
 
-pub kept_in_phase-other : (n : ℕ) (h : List Taken) → (n ≡ 0 → ⊥) → kept_in_phase n h ≡ h
+pub kept_in_phase-other : (n : ℕ) (h : List Processed) → (n ≡ 0 → ⊥) → kept_in_phase n h ≡ h
 kept_in_phase-other n h nz = cond-false (n == 0) [] h (ne_eqb n 0 nz)
 
-pub kept_in_phase-zero : (n : ℕ) (h : List Taken) → n ≡ 0 → kept_in_phase n h ≡ []
+pub kept_in_phase-zero : (n : ℕ) (h : List Processed) → n ≡ 0 → kept_in_phase n h ≡ []
 kept_in_phase-zero n h z = ap (λ (k : ℕ). kept_in_phase k h) z
 
-kept_in_phase-none : (n : ℕ) (h : List Taken) → h ≡ [] → kept_in_phase n h ≡ []
+kept_in_phase-none : (n : ℕ) (h : List Processed) → h ≡ [] → kept_in_phase n h ≡ []
 kept_in_phase-none n h none = elim (chosen (n == 0) [] h) [ inl z ↦ z.1 | inr nz ↦ nz.1 ∙ none ]
 
 -- what a drive keeps at the MST where it isn't in 0 and doesn't restart
@@ -123,7 +123,7 @@ reset_below [] low = refl
 reset_below (v ∷ past) low = elim (ends v past) [
   | inl z ↦ kept_in_phase-zero (standing (v ∷ past)).ended (with_record (processed_in v past) (kept_in v past)) z
   | inr same ↦ kept_in_phase-none (standing (v ∷ past)).ended (with_record (processed_in v past) (kept_in v past))
-      (ap (λ (o : Option Taken). with_record o (kept_in v past)) (nothing_below v past (omega arith)) ∙ kept_below_by v past (reset_below past) (omega arith))
+      (ap (λ (o : Option Processed). with_record o (kept_in v past)) (nothing_below v past (omega arith)) ∙ kept_below_by v past (reset_below past) (omega arith))
 ]
 
 pub kept_below : (v : View) (past : List View) → stood_in v (standing past) ≤ 1 → kept_in v past ≡ []

@@ -33,10 +33,10 @@ request_quiet (request.Read idn e) words silent = cond_both (asks_attribute e) _
 request_quiet (request.Write idn e bytes) words silent = other_quiet (e == 7) _ _ silent (run_passes is_quiet true e (words_told (shape_of e 0) bytes) (λ last word. silent))
 request_quiet (request.Command idn) words silent = absurd (cc)
 
-quiet_effect : (e : Entry) → is_quiet e.taken.step ≡ true → takes_effect e ≡ false
-quiet_effect e quiet = by e.taken.step.write (e.taken.step.element == 7) quiet
+quiet_effect : (e : Entry) → is_quiet e.processed.step ≡ true → takes_effect e ≡ false
+quiet_effect e quiet = by e.processed.step.write (e.processed.step.element == 7) quiet
   where
-    by : (w v : Bool) → not (w && v) ≡ true → (w && (v && (e.taken.step.last && not e.answer.error))) ≡ false
+    by : (w v : Bool) → not (w && v) ≡ true → (w && (v && (e.processed.step.last && not e.answer.error))) ≡ false
     by true true off = absurd (cc)
     by true false off = refl
     by false v off = refl
@@ -45,9 +45,9 @@ quiet_effect e quiet = by e.taken.step.write (e.taken.step.element == 7) quiet
 pub writes_nothing : WritesNothing
 writes_nothing r blocks e [] log silent is =
     let steps = request_quiet r [] silent in
-    adds_none e log (quiet_effect e (all-slice_get is_quiet (steps_of r []) 0 e.taken.step steps (newest_step r blocks log e [] is)))
+    adds_none e log (quiet_effect e (all-slice_get is_quiet (steps_of r []) 0 e.processed.step steps (newest_step r blocks log e [] is)))
 writes_nothing r blocks e (d ∷ entries) log silent is =
     let words = answer_words (replies_of (d ∷ entries)) in
     let steps = request_quiet r words silent in
-    adds_none e ((d ∷ entries) ++ log) (quiet_effect e (all-slice_get is_quiet (steps_of r words) (length words) e.taken.step steps (newest_step r blocks log e (d ∷ entries) is)))
+    adds_none e ((d ∷ entries) ++ log) (quiet_effect e (all-slice_get is_quiet (steps_of r words) (length words) e.processed.step steps (newest_step r blocks log e (d ∷ entries) is)))
     ∙ writes_nothing r blocks d entries log silent (without_newest r blocks log e d entries is)

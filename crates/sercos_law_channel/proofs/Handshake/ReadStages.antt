@@ -14,7 +14,7 @@ use Rattle.sercos_step.specs.Words.{shape_of, words_in, bytes_read}
 use Rattle.sercos_step.specs.Steps.{a_step, opening, reading, attribute_then, asks_attribute, steps_of, steps_before, result_of, outcome_of, answer_words, is_whole}
 use Rattle.sercos_block.specs.declared.block.Block.{Block}
 use Rattle.sercos_block.specs.Stores.{find_block}
-use Rattle.sercos_service_drive.specs.Log.{Taken, Entry, open_idn, run_before, selection}
+use Rattle.sercos_service_drive.specs.Log.{Processed, Entry, open_idn, run_before, selection}
 use Rattle.sercos_service_drive.specs.Replies.{answer_by, copy, read_cause, reply_of}
 use Rattle.sercos_service_drive.specs.Writes.{AreAlike}
 use Rattle.sercos_law_channel.specs.Handshake.InStep.{replies_of}
@@ -108,23 +108,23 @@ module _ (idn : Idn) (e : ℕ) (b : Block) (blocks : List Block) (found : find_b
   asked = request.Read idn e
 
   -- the selection of the run that a further entry goes on, and the words that it copied so far
-  pub record Chosen (own : List ℕ) (taken : List Taken) (entries : List Entry) (x : Entry) : Type 0 where
+  pub record Chosen (own : List ℕ) (taken : List Processed) (entries : List Entry) (x : Entry) : Type 0 where
     pub entry : Entry
     pub at : entry_behind (steps_before e) (x ∷ entries) ≡ Some entry
-    pub is : entry.taken ≡ selection x.taken taken
-    pub copied : own ≡ row (length taken) (copy idn.raw entry.taken)
-    pub reads : x.taken.step.write ≡ false → entry.taken.step.write ≡ false
-    pub element : x.taken.step.element ≡ e → entry.taken.step.element ≡ e
-    pub alike : AreAlike x.taken.blocks blocks → AreAlike entry.taken.blocks blocks
+    pub is : entry.processed ≡ selection x.processed taken
+    pub copied : own ≡ row (length taken) (copy idn.raw entry.processed)
+    pub reads : x.processed.step.write ≡ false → entry.processed.step.write ≡ false
+    pub element : x.processed.step.element ≡ e → entry.processed.step.element ≡ e
+    pub alike : AreAlike x.processed.blocks blocks → AreAlike entry.processed.blocks blocks
 
   -- After these entries, with these words answered: the next step is the opening, one of the two that read the attribute, or
   -- the one that reads a word.
   pub data Stage (words : List ℕ) (entries log : List Entry) : Type 0 where
     AtOpening : (words ≡ []) → Stage words entries log
     AtLow : (asks_attribute e ≡ true) → (w : ℕ) → (words ≡ w ∷ []) → (open_idn (entries ++ log) ≡ Some idn.raw) → (run_before false 3 (entries ++ log) ≡ []) → Stage words entries log
-    AtHigh : (asks_attribute e ≡ true) → (w : ℕ) (t : Taken) → (words ≡ w ∷ low_of b ∷ []) → (open_idn (entries ++ log) ≡ Some idn.raw) → (run_before false 3 (entries ++ log) ≡ t ∷ []) →
+    AtHigh : (asks_attribute e ≡ true) → (w : ℕ) (t : Processed) → (words ≡ w ∷ low_of b ∷ []) → (open_idn (entries ++ log) ≡ Some idn.raw) → (run_before false 3 (entries ++ log) ≡ t ∷ []) →
         IsRead idn.raw t b.attribute → Stage words entries log
-    AtWord : (own : List ℕ) (taken : List Taken) → Behind b (asks_attribute e) words own → (length own ≡ length taken) → (open_idn (entries ++ log) ≡ Some idn.raw) →
+    AtWord : (own : List ℕ) (taken : List Processed) → Behind b (asks_attribute e) words own → (length own ≡ length taken) → (open_idn (entries ++ log) ≡ Some idn.raw) →
         (run_before false e (entries ++ log) ≡ taken) → ((x : Entry) → Chosen own taken entries x) → Stage words entries log
 
   -- the next step
@@ -160,13 +160,13 @@ module _ (idn : Idn) (e : ℕ) (b : Block) (blocks : List Block) (found : find_b
       same : (n k : ℕ) → n ≡ k → (n == k) ≡ true
       same n k is = grind (arith, nat_tests)
 
-  next_chosen : (own : List ℕ) (taken : List Taken) (entries : List Entry) (d x : Entry) (last : Bool) → length entries ≡ steps_before e + length own → d.taken.step ≡ a_step false last e 0 → AreAlike d.taken.blocks blocks →
-      (c : Chosen own taken entries d) → d.answer.word ≡ slice_index (copy idn.raw c.entry.taken) (length taken) → Chosen (own ++ d.answer.word ∷ []) (d.taken ∷ taken) (d ∷ entries) x
+  next_chosen : (own : List ℕ) (taken : List Processed) (entries : List Entry) (d x : Entry) (last : Bool) → length entries ≡ steps_before e + length own → d.processed.step ≡ a_step false last e 0 → AreAlike d.processed.blocks blocks →
+      (c : Chosen own taken entries d) → d.answer.word ≡ slice_index (copy idn.raw c.entry.processed) (length taken) → Chosen (own ++ d.answer.word ∷ []) (d.processed ∷ taken) (d ∷ entries) x
   next_chosen own taken entries d x last count step alike c word = record {
     entry = c.entry;
     at = cond-false (length (d ∷ entries) == steps_before e) (Some x) (entry_behind (steps_before e) (d ∷ entries)) (other (length entries) (steps_before e) (length own) count) ∙ c.at;
     is = c.is;
-    copied = ap₂ (λ (l : List ℕ) (w : ℕ). l ++ w ∷ []) c.copied word ∙ row-more (length taken) (copy idn.raw c.entry.taken);
+    copied = ap₂ (λ (l : List ℕ) (w : ℕ). l ++ w ∷ []) c.copied word ∙ row-more (length taken) (copy idn.raw c.entry.processed);
     reads = λ is. c.reads (ap (λ (s : Step). s.write) step);
     element = λ is. c.element (ap (λ (s : Step). s.element) step);
     alike = λ is. c.alike alike;
@@ -176,15 +176,15 @@ module _ (idn : Idn) (e : ℕ) (b : Block) (blocks : List Block) (found : find_b
       other n k m is = grind (arith, nat_tests)
 
   -- what an answer to a step of the run is
-  word_answered : (own : List ℕ) (taken : List Taken) (entries log : List Entry) (d : Entry) (last : Bool) → d.taken.step ≡ a_step false last e 0 → open_idn (entries ++ log) ≡ Some idn.raw → run_before false e (entries ++ log) ≡ taken →
-      d.answer ≡ reply_of d.taken (entries ++ log) → d.answer.error ≡ false → (c : Chosen own taken entries d) → (read_cause idn.raw c.entry.taken ≡ None) × (d.answer.word ≡ slice_index (copy idn.raw c.entry.taken) (length taken))
+  word_answered : (own : List ℕ) (taken : List Processed) (entries log : List Entry) (d : Entry) (last : Bool) → d.processed.step ≡ a_step false last e 0 → open_idn (entries ++ log) ≡ Some idn.raw → run_before false e (entries ++ log) ≡ taken →
+      d.answer ≡ reply_of d.processed (entries ++ log) → d.answer.error ≡ false → (c : Chosen own taken entries d) → (read_cause idn.raw c.entry.processed ≡ None) × (d.answer.word ≡ slice_index (copy idn.raw c.entry.processed) (length taken))
   word_answered own taken entries log d last step opened before reply well c =
-      no_cause (read_cause idn.raw c.entry.taken) (slice_index (copy idn.raw c.entry.taken) (length taken)) d.answer
-      (reply ∙ reply-read idn.raw e 0 last d.taken (entries ++ log) taken some step opened before
-      ∙ ap (λ (t : Taken). answer_by (read_cause idn.raw t) (slice_index (copy idn.raw t) (length taken))) (sym c.is)) well
+      no_cause (read_cause idn.raw c.entry.processed) (slice_index (copy idn.raw c.entry.processed) (length taken)) d.answer
+      (reply ∙ reply-read idn.raw e 0 last d.processed (entries ++ log) taken some step opened before
+      ∙ ap (λ (t : Processed). answer_by (read_cause idn.raw t) (slice_index (copy idn.raw t) (length taken))) (sym c.is)) well
 
   -- one entry more
-  starts : (words : List ℕ) (d : Entry) (entries log : List Entry) (v : Bool) → asks_attribute e ≡ v → words ≡ [] → length words ≡ length entries → d.taken.step ≡ opening idn → d.answer.error ≡ false →
+  starts : (words : List ℕ) (d : Entry) (entries log : List Entry) (v : Bool) → asks_attribute e ≡ v → words ≡ [] → length words ≡ length entries → d.processed.step ≡ opening idn → d.answer.error ≡ false →
       Stage (words ++ d.answer.word ∷ []) (d ∷ entries) log
   starts words d entries log true asks is count step well =
       AtLow asks d.answer.word (ap (λ (ws : List ℕ). ws ++ d.answer.word ∷ []) is) (open_by (opening idn) d (entries ++ log) step well) (run_starts (opening idn) false 3 d (entries ++ log) step refl)
@@ -192,19 +192,19 @@ module _ (idn : Idn) (e : ℕ) (b : Block) (blocks : List Block) (found : find_b
       AtWord [] [] (Short asks d.answer.word (ap (λ (ws : List ℕ). ws ++ d.answer.word ∷ []) is)) refl (open_by (opening idn) d (entries ++ log) step well) (run_starts (opening idn) false e d (entries ++ log) step refl)
       (λ x. first_chosen (d ∷ entries) x (let none : length words ≡ 0 = ap length is in let one : 1 ≡ steps_before e = ap before_by (sym asks) in omega arith))
 
-  grows : (words : List ℕ) (d : Entry) (entries log : List Entry) → Stage words entries log → length words ≡ length entries → slice_get (steps_of asked words) (length words) ≡ Some d.taken.step →
-      d.answer ≡ reply_of d.taken (entries ++ log) → AreAlike d.taken.blocks blocks → d.answer.error ≡ false → is_whole asked (words ++ d.answer.word ∷ []) ≡ false → Stage (words ++ d.answer.word ∷ []) (d ∷ entries) log
+  grows : (words : List ℕ) (d : Entry) (entries log : List Entry) → Stage words entries log → length words ≡ length entries → slice_get (steps_of asked words) (length words) ≡ Some d.processed.step →
+      d.answer ≡ reply_of d.processed (entries ++ log) → AreAlike d.processed.blocks blocks → d.answer.error ≡ false → is_whole asked (words ++ d.answer.word ∷ []) ≡ false → Stage (words ++ d.answer.word ∷ []) (d ∷ entries) log
   grows words d entries log (AtOpening is) count next reply alike well goes_on =
-      starts words d entries log (asks_attribute e) refl is count (next_opening words d.taken.step is next) well
+      starts words d entries log (asks_attribute e) refl is count (next_opening words d.processed.step is next) well
   grows words d entries log (AtLow asks w is opened before) count next reply alike well goes_on =
-      let step = next_low words d.taken.step w asks is next in
-      let read = IsRead-alike idn.raw d.taken blocks b (ap (λ (s : Step). s.element) step) alike found in
-      let word : d.answer.word ≡ low_of b = ap (λ (a : Answer). a.word) (reply ∙ reply_low idn.raw 0 false d.taken (entries ++ log) b.attribute step opened before read) in
-      AtHigh asks w d.taken (ap₂ (λ (ws : List ℕ) (x : ℕ). ws ++ x ∷ []) is word) (open_by (a_step false false 3 0) d (entries ++ log) step well ∙ opened)
+      let step = next_low words d.processed.step w asks is next in
+      let read = IsRead-alike idn.raw d.processed blocks b (ap (λ (s : Step). s.element) step) alike found in
+      let word : d.answer.word ≡ low_of b = ap (λ (a : Answer). a.word) (reply ∙ reply_low idn.raw 0 false d.processed (entries ++ log) b.attribute step opened before read) in
+      AtHigh asks w d.processed (ap₂ (λ (ws : List ℕ) (x : ℕ). ws ++ x ∷ []) is word) (open_by (a_step false false 3 0) d (entries ++ log) step well ∙ opened)
       (run_grows (a_step false false 3 0) false 3 d (entries ++ log) [] step well before refl) read
   grows words d entries log (AtHigh asks w t is opened before read) count next reply alike well goes_on =
-      let step = next_high words d.taken.step w (low_of b) asks is next in
-      let word : d.answer.word ≡ high_of b = ap (λ (a : Answer). a.word) (reply ∙ reply_high idn.raw 0 true d.taken t (entries ++ log) b.attribute step opened before read) in
+      let step = next_high words d.processed.step w (low_of b) asks is next in
+      let word : d.answer.word ≡ high_of b = ap (λ (a : Answer). a.word) (reply ∙ reply_high idn.raw 0 true d.processed t (entries ++ log) b.attribute step opened before read) in
       let two : length words ≡ 2 = ap length is in
       let three : 3 ≡ steps_before e = ap before_by (sym asks) in
       AtWord [] [] (Long asks w (ap₂ (λ (ws : List ℕ) (x : ℕ). ws ++ x ∷ []) is word)) refl
@@ -215,10 +215,10 @@ module _ (idn : Idn) (e : ℕ) (b : Block) (blocks : List Block) (found : find_b
       never true = refl
       never false = refl
   grows words d entries log (AtWord own taken behind long opened before chosen) count next reply alike well goes_on =
-      let step : d.taken.step ≡ a_step false false e 0 = next_word words own d.taken.step d.answer.word behind next ∙ ap (λ (v : Bool). a_step false v e 0) goes_on in
+      let step : d.processed.step ≡ a_step false false e 0 = next_word words own d.processed.step d.answer.word behind next ∙ ap (λ (v : Bool). a_step false v e 0) goes_on in
       let answered = word_answered own taken entries log d false step opened before reply well (chosen d) in
       let there : length words ≡ steps_before e + length own = (placed idn e b (asks_attribute e) words own behind).count in
-      AtWord (own ++ d.answer.word ∷ []) (d.taken ∷ taken) (behind_more b (asks_attribute e) words own d.answer.word behind)
+      AtWord (own ++ d.answer.word ∷ []) (d.processed ∷ taken) (behind_more b (asks_attribute e) words own d.answer.word behind)
       (omega (arith, length-append own (d.answer.word ∷ [])))
       (open_by (a_step false false e 0) d (entries ++ log) step well ∙ still_open opened)
       (run_grows (a_step false false e 0) false e d (entries ++ log) taken step well before (same e))
@@ -243,25 +243,25 @@ module _ (idn : Idn) (e : ℕ) (b : Block) (blocks : List Block) (found : find_b
   pub record IsGiven (bytes : List ℕ) (entries : List Entry) (s : Entry) : Type 0 where
     pub entry : Entry
     pub at : entry_behind (steps_before e) (s ∷ entries) ≡ Some entry
-    pub reads : entry.taken.step.write ≡ false
-    pub element : entry.taken.step.element ≡ e
-    pub alike : AreAlike entry.taken.blocks blocks
-    pub there : read_cause idn.raw entry.taken ≡ None
-    pub gives : bytes ≡ bytes_read (shape_read e b) (row (words_in (shape_read e b) (slice_index (copy idn.raw entry.taken) 0)) (copy idn.raw entry.taken))
+    pub reads : entry.processed.step.write ≡ false
+    pub element : entry.processed.step.element ≡ e
+    pub alike : AreAlike entry.processed.blocks blocks
+    pub there : read_cause idn.raw entry.processed ≡ None
+    pub gives : bytes ≡ bytes_read (shape_read e b) (row (words_in (shape_read e b) (slice_index (copy idn.raw entry.processed) 0)) (copy idn.raw entry.processed))
 
-  gives_word : (words own : List ℕ) (taken : List Taken) (entries log : List Entry) (s : Entry) → Behind b (asks_attribute e) words own → length own ≡ length taken → open_idn (entries ++ log) ≡ Some idn.raw →
-      run_before false e (entries ++ log) ≡ taken → Chosen own taken entries s → slice_get (steps_of asked words) (length words) ≡ Some s.taken.step → s.answer ≡ reply_of s.taken (entries ++ log) → AreAlike s.taken.blocks blocks →
+  gives_word : (words own : List ℕ) (taken : List Processed) (entries log : List Entry) (s : Entry) → Behind b (asks_attribute e) words own → length own ≡ length taken → open_idn (entries ++ log) ≡ Some idn.raw →
+      run_before false e (entries ++ log) ≡ taken → Chosen own taken entries s → slice_get (steps_of asked words) (length words) ≡ Some s.processed.step → s.answer ≡ reply_of s.processed (entries ++ log) → AreAlike s.processed.blocks blocks →
       s.answer.error ≡ false → is_whole asked (words ++ s.answer.word ∷ []) ≡ true → IsGiven (result_of asked (words ++ s.answer.word ∷ [])) entries s
   gives_word words own taken entries log s behind long opened before c next reply alike well whole =
-      let step = next_word words own s.taken.step s.answer.word behind next in
+      let step = next_word words own s.processed.step s.answer.word behind next in
       let answered = word_answered own taken entries log s (is_whole asked (words ++ s.answer.word ∷ [])) step opened before reply well c in
       let here = placed idn e b (asks_attribute e) words own behind in
       let more = placed idn e b (asks_attribute e) (words ++ s.answer.word ∷ []) (own ++ s.answer.word ∷ []) (behind_more b (asks_attribute e) words own s.answer.word behind) in
-      let full = reading_full (shape_read e b) e own s.taken.step s.answer.word (sym here.next ∙ next) (sym more.whole ∙ whole) in
-      let same : own ++ s.answer.word ∷ [] ≡ row (suc (length taken)) (copy idn.raw c.entry.taken) =
-      ap₂ (λ (l : List ℕ) (w : ℕ). l ++ w ∷ []) c.copied answered.1 ∙ row-more (length taken) (copy idn.raw c.entry.taken) in
+      let full = reading_full (shape_read e b) e own s.processed.step s.answer.word (sym here.next ∙ next) (sym more.whole ∙ whole) in
+      let same : own ++ s.answer.word ∷ [] ≡ row (suc (length taken)) (copy idn.raw c.entry.processed) =
+      ap₂ (λ (l : List ℕ) (w : ℕ). l ++ w ∷ []) c.copied answered.1 ∙ row-more (length taken) (copy idn.raw c.entry.processed) in
       let count : suc (length taken) ≡ length (own ++ s.answer.word ∷ []) = omega (arith, length-append own (s.answer.word ∷ [])) in
-      let many : suc (length taken) ≡ words_in (shape_read e b) (slice_index (copy idn.raw c.entry.taken) 0) =
+      let many : suc (length taken) ≡ words_in (shape_read e b) (slice_index (copy idn.raw c.entry.processed) 0) =
       count ∙ full ∙ ap (λ (l : List ℕ). words_in (shape_read e b) (slice_index l 0)) same in record {
         entry = c.entry;
         at = c.at;
@@ -269,7 +269,7 @@ module _ (idn : Idn) (e : ℕ) (b : Block) (blocks : List Block) (found : find_b
         element = c.element (ap (λ (x : Step). x.element) step);
         alike = c.alike alike;
         there = answered.0;
-        gives = more.result ∙ ap (bytes_read (shape_read e b)) (same ∙ ap (λ (n : ℕ). row n (copy idn.raw c.entry.taken)) many);
+        gives = more.result ∙ ap (bytes_read (shape_read e b)) (same ∙ ap (λ (n : ℕ). row n (copy idn.raw c.entry.processed)) many);
       }
 
   -- the steps before the element's own complete nothing
@@ -295,7 +295,7 @@ module _ (idn : Idn) (e : ℕ) (b : Block) (blocks : List Block) (found : find_b
       ap (λ (ws : List ℕ). is_whole asked (ws ++ x ∷ [])) is ∙ whole_asked true (w ∷ v ∷ x ∷ []) asks
       ∙ too_many (length (steps_by idn e true (w ∷ v ∷ x ∷ []))) 3 (omega arith)
 
-  gives : (words : List ℕ) (entries log : List Entry) (s : Entry) → Stage words entries log → slice_get (steps_of asked words) (length words) ≡ Some s.taken.step → s.answer ≡ reply_of s.taken (entries ++ log) → AreAlike s.taken.blocks blocks →
+  gives : (words : List ℕ) (entries log : List Entry) (s : Entry) → Stage words entries log → slice_get (steps_of asked words) (length words) ≡ Some s.processed.step → s.answer ≡ reply_of s.processed (entries ++ log) → AreAlike s.processed.blocks blocks →
       s.answer.error ≡ false → is_whole asked (words ++ s.answer.word ∷ []) ≡ true → IsGiven (result_of asked (words ++ s.answer.word ∷ [])) entries s
   gives words entries log s (AtOpening is) next reply alike well whole = let off = sym (not_one words s.answer.word is) ∙ whole in absurd (cc)
   gives words entries log s (AtLow asks w is opened before) next reply alike well whole = let off = sym (not_two words w s.answer.word asks is) ∙ whole in absurd (cc)

@@ -3,7 +3,7 @@ use Rattle.std.proofs.Common.{◌≡◌, ◌⊎◌, inl, inr, ℕ, suc, ◌+◌,
 use Rattle.std.specs.Prelude.{nat_le, ◌==◌, max, Option, Some, is_some}
 use Rattle.std.proofs.lemmas.Bool.{cases_eq, and_from, leb-true, le-leb, eq-eqb, ne_eqb, cond-true, cond-false}
 use mathlib.Core.Bool.{beq}
-use Rattle.sercos_service_drive.specs.Log.{Taken, Entry, ahs}
+use Rattle.sercos_service_drive.specs.Log.{Processed, Entry, ahs}
 use Rattle.sercos_service_drive.specs.Replies.{reply_of, log_of}
 use Rattle.sercos_law_channel.specs.Handshake.InStep.{AreInStep}
 use Rattle.sercos_law_channel.specs.Handshake.Views.{View, Standing, afresh, before_mst, moved, got_in, takes_in, standing, stood_in, record_in, kept_in}
@@ -38,13 +38,13 @@ processes_in_phase v past t is = by (processes v past)
     by (Nothing none) = absurd (cc)
     by (Record s got came two some) =
         let same : record_in v (length past) (stood_in v (standing past)) s ≡ t = cc in
-        let phase : t.phase ≡ stood_in v (standing past) = ap (λ (x : Taken). x.phase) (sym same) in
-        (phase ∙ processed_phase v past came (omega arith), ap (λ (x : Taken). x.cycle) (sym same), omega arith)
+        let phase : t.phase ≡ stood_in v (standing past) = ap (λ (x : Processed). x.phase) (sym same) in
+        (phase ∙ processed_phase v past came (omega arith), ap (λ (x : Processed). x.cycle) (sym same), omega arith)
 
 pub handshake : (busy : ℕ) → Handshake busy
 handshake busy v past run two on = elim (same_log busy v past run (omega arith)) [
   | inl z ↦ absurd (omega arith)
-  | inr same ↦ subst (λ (h : List Taken). AreInStep (begun_in v past) (log_of h)) (sym same) (in_step_in busy v past run)
+  | inr same ↦ subst (λ (h : List Processed). AreInStep (begun_in v past) (log_of h)) (sym same) (in_step_in busy v past run)
 ]
 
 pub comes_to_zero : (busy : ℕ) → ComesToZero busy
@@ -133,13 +133,13 @@ pub accepts_in_order : AcceptsInOrder
 accepts_in_order [] = tt
 accepts_in_order (v ∷ past) = by (processes v past) (accepts_in_order past)
   where
-    accepted_so : (t : Taken) (h : List Taken) → t.cycle ≡ length past → AreBefore (length past) (all_entries past) → AreBefore (suc (length past)) (accepted_of (Some t) h (all_entries past))
+    accepted_so : (t : Processed) (h : List Processed) → t.cycle ≡ length past → AreBefore (length past) (all_entries past) → AreBefore (suc (length past)) (accepted_of (Some t) h (all_entries past))
     accepted_so t h at are = which (beq t.mhs (ahs h))
       where
-        which : (v : Bool) → AreBefore (suc (length past)) (if v then all_entries past else (record { taken = t; answer = reply_of t (log_of h) }) ∷ all_entries past)
+        which : (v : Bool) → AreBefore (suc (length past)) (if v then all_entries past else (record { processed = t; answer = reply_of t (log_of h) }) ∷ all_entries past)
         which true = before-weaker (length past) (suc (length past)) (all_entries past) (omega arith) are
         which false = (omega arith, subst (λ (n : ℕ). AreBefore n (all_entries past)) (sym at) are)
 
     by : Processes v past → AreBefore (length past) (all_entries past) → AreBefore (suc (length past)) (all_entries (v ∷ past))
-    by (Nothing none) are = subst (λ (o : Option Taken). AreBefore (suc (length past)) (accepted_of o (kept_in v past) (all_entries past))) (sym none) (before-weaker (length past) (suc (length past)) (all_entries past) (omega arith) are)
-    by (Record s got came two some) are = subst (λ (o : Option Taken). AreBefore (suc (length past)) (accepted_of o (kept_in v past) (all_entries past))) (sym some) (accepted_so (record_in v (length past) (stood_in v (standing past)) s) (kept_in v past) refl are)
+    by (Nothing none) are = subst (λ (o : Option Processed). AreBefore (suc (length past)) (accepted_of o (kept_in v past) (all_entries past))) (sym none) (before-weaker (length past) (suc (length past)) (all_entries past) (omega arith) are)
+    by (Record s got came two some) are = subst (λ (o : Option Processed). AreBefore (suc (length past)) (accepted_of o (kept_in v past) (all_entries past))) (sym some) (accepted_so (record_in v (length past) (stood_in v (standing past)) s) (kept_in v past) refl are)

@@ -16,7 +16,7 @@ use Rattle.sercos_step.specs.Steps.{a_step}
 use Rattle.sercos_block.specs.declared.block.Block.{Block}
 use Rattle.sercos_block.specs.Blocks.{is_number, bits_in, meant, is_fixed, is_protected}
 use Rattle.sercos_block.specs.Stores.{find_block, is_below, is_above}
-use Rattle.sercos_service_drive.specs.Log.{Taken, Entry, opens, open_idn, run_before}
+use Rattle.sercos_service_drive.specs.Log.{Processed, Entry, opens, open_idn, run_before}
 use Rattle.sercos_service_drive.specs.Replies.{answer_by, is_first_word, ends_early, is_over, is_uneven, is_no_command_value, bytes_written, write_cause, write_cause_in, reply_of, reply_at}
 use Rattle.sercos_service_drive.specs.Writes.{AreAlike, without_data}
 use Rattle.sercos_service_drive.proofs.AllowedWrites.{no_cause}
@@ -60,7 +60,7 @@ unfolding bytes_written
 two_bytes b word small two = let low : word % 256 ≡ word = omega arith in let high : word / 256 ≡ 0 = omega arith in rw (two, low, high) refl
 
 -- where the setting isn't refused, the block has two bytes
-allows_by : (raw : ℕ) (t : Taken) (b : Block) → option_map without_data (find_block raw t.blocks) ≡ Some (without_data b) → write_cause_in (find_block raw t.blocks) t.phase true (3 ∷ []) ≡ None → Allows b t.phase
+allows_by : (raw : ℕ) (t : Processed) (b : Block) → option_map without_data (find_block raw t.blocks) ≡ Some (without_data b) → write_cause_in (find_block raw t.blocks) t.phase true (3 ∷ []) ≡ None → Allows b t.phase
 allows_by raw t b found none = by (find_block raw t.blocks) found none
   where
     by : (o : Option Block) → option_map without_data o ≡ Some (without_data b) → write_cause_in o t.phase true (3 ∷ []) ≡ None → Allows b t.phase
@@ -70,7 +70,7 @@ allows_by raw t b found none = by (find_block raw t.blocks) found none
         Allows-alike c b t.phase same (allows c t.phase none)
 
 -- the reply to a last word of operation data
-reply-word : (raw word : ℕ) (t : Taken) (all : List Entry) → t.step ≡ a_step true true 7 word → open_idn all ≡ Some raw → run_before true 7 all ≡ [] →
+reply-word : (raw word : ℕ) (t : Processed) (all : List Entry) → t.step ≡ a_step true true 7 word → open_idn all ≡ Some raw → run_before true 7 all ≡ [] →
     reply_of t all ≡ answer_by (write_cause_in (find_block raw t.blocks) t.phase true (word ∷ [])) 0
 reply-word raw word t all is opened before =
     let closed : opens t.step ≡ false = ap opens is in
@@ -80,10 +80,10 @@ reply-word raw word t all is opened before =
     let operation : (t.step.element == 7) ≡ true = ap (λ (s : Step). s.element == 7) is in
     let cause : write_cause_in (find_block raw t.blocks) t.phase t.step.last (t.step.word ∷ []) ≡ write_cause_in (find_block raw t.blocks) t.phase true (word ∷ []) =
     ap (λ (s : Step). write_cause_in (find_block raw t.blocks) t.phase s.last (s.word ∷ [])) is in
-    cond-false _ _ _ closed ∙ cond-false _ _ _ some ∙ ap₂ (λ (o : Option ℕ) (r : List Taken). reply_at o t r) opened runs ∙ cond-true _ _ _ writes
+    cond-false _ _ _ closed ∙ cond-false _ _ _ some ∙ ap₂ (λ (o : Option ℕ) (r : List Processed). reply_at o t r) opened runs ∙ cond-true _ _ _ writes
     ∙ ap (λ (o : Option ℕ). answer_by o 0) (cond-true (t.step.element == 7) _ _ operation ∙ cause)
 
-pub set_allows : (raw : ℕ) (t : Taken) (all : List Entry) (blocks : List Block) (b : Block) → t.step ≡ a_step true true 7 3 → open_idn all ≡ Some raw → run_before true 7 all ≡ [] → AreAlike t.blocks blocks → find_block raw blocks ≡ Some b →
+pub set_allows : (raw : ℕ) (t : Processed) (all : List Entry) (blocks : List Block) (b : Block) → t.step ≡ a_step true true 7 3 → open_idn all ≡ Some raw → run_before true 7 all ≡ [] → AreAlike t.blocks blocks → find_block raw blocks ≡ Some b →
     (reply_of t all).error ≡ false → Allows b t.phase
 set_allows raw t all blocks b is opened before alike found well =
     allows_by raw t b (find-alike raw t.blocks blocks b alike found) (no_cause _ 0 (ap (λ (a : Answer). a.error) (sym (reply-word raw 3 t all is opened before)) ∙ well))
@@ -139,7 +139,7 @@ cancel_free b phase command a =
     (then_none (is_above b (bytes_written b (0 ∷ [])) b.max) 0x7007 (above_none b (bytes_written b (0 ∷ [])) b.max number)))))))
 
 -- so it isn't refused
-pub cancels_well : (raw : ℕ) (t : Taken) (all : List Entry) (blocks : List Block) (b : Block) → t.step ≡ a_step true true 7 0 → open_idn all ≡ Some raw → run_before true 7 all ≡ [] → AreAlike t.blocks blocks → find_block raw blocks ≡ Some b →
+pub cancels_well : (raw : ℕ) (t : Processed) (all : List Entry) (blocks : List Block) (b : Block) → t.step ≡ a_step true true 7 0 → open_idn all ≡ Some raw → run_before true 7 all ≡ [] → AreAlike t.blocks blocks → find_block raw blocks ≡ Some b →
     b.attribute.command ≡ true → Allows b t.phase → (reply_of t all).error ≡ false
 cancels_well raw t all blocks b is opened before alike found command a =
     ap (λ (x : Answer). x.error) (reply-word raw 0 t all is opened before ∙ ap (λ (o : Option ℕ). answer_by o 0) (by (find_block raw t.blocks) (find-alike raw t.blocks blocks b alike found)))

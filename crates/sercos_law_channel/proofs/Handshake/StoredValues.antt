@@ -85,9 +85,9 @@ flipped n k off = which (k == n) refl
     which false is = is
     which true is = let on : (n == k) ≡ true = eq-eqb n k (sym (eqb-true k n is)) in absurd (cc)
 
-has-with_lists : (raw : ℕ) (x : List ℕ) (c : CommandHistory) (r value : ℕ) (blocks : List Block) → is_plain raw ≡ true → HasValue raw x blocks → HasValue raw x (with_check_list c r value blocks)
+has-with_check_list : (raw : ℕ) (x : List ℕ) (c : CommandHistory) (r value : ℕ) (blocks : List Block) → is_plain raw ≡ true → HasValue raw x blocks → HasValue raw x (with_check_list c r value blocks)
 unfolding with_check_list
-has-with_lists raw x c r value blocks plain has = by (not (value == 0) && not (is_set r c.calls)) (r == 127) (r == 128)
+has-with_check_list raw x c r value blocks plain has = by (not (value == 0) && not (is_set r c.calls)) (r == 127) (r == 128)
   where
     parts : ((raw == 21) ≡ false) × ((raw == 22) ≡ false)
     parts = let both = and_parts (not (raw == 21)) (not (raw == 22)) plain in (not-true (raw == 21) both.0, not-true (raw == 22) both.1)
@@ -112,7 +112,7 @@ has-blocks_with raw b (Some w) c blocks writes plain has =
     after = has-with_data raw w.raw (unwrap_or (newest_to raw writes) b) w.bytes blocks has
 
     by : (v : Bool) → HasValue raw (if w.raw == raw then w.bytes else unwrap_or (newest_to raw writes) b) (if v then with_check_list c w.raw (command_value w) (with_data w.raw w.bytes blocks) else with_data w.raw w.bytes blocks)
-    by true = has-with_lists raw (if w.raw == raw then w.bytes else unwrap_or (newest_to raw writes) b) c w.raw (command_value w) (with_data w.raw w.bytes blocks) plain after
+    by true = has-with_check_list raw (if w.raw == raw then w.bytes else unwrap_or (newest_to raw writes) b) c w.raw (command_value w) (with_data w.raw w.bytes blocks) plain after
     by false = after
 
 has_newest : (blocks : List Block) (past : List View) (raw : ℕ) (b : Block) → is_plain raw ≡ true → find_block raw blocks ≡ Some b → HasValue raw (unwrap_or (newest_to raw (all_writes past)) b.value) (store_in blocks past)

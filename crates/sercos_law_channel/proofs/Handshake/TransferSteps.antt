@@ -53,14 +53,14 @@ next-step_at r h s at = next (is_some (outcome_of r h)) at
 
 module _ (r : Request) (blocks : List Block) (log : List Entry) where
   -- the newest step is the next one after the others
-  pub newest_step : (e : Entry) (entries : List Entry) → IsTransfer r blocks e entries log → next_step r (replies_of entries) ≡ Some e.taken.step
-  newest_step e [] is = next-step_at r [] e.taken.step (begun_last (step_at r []) e.taken.step [] [] is.steps (omega arith)).0
+  pub newest_step : (e : Entry) (entries : List Entry) → IsTransfer r blocks e entries log → next_step r (replies_of entries) ≡ Some e.processed.step
+  newest_step e [] is = next-step_at r [] e.processed.step (begun_last (step_at r []) e.processed.step [] [] is.steps (omega arith)).0
   newest_step e (d ∷ entries) is =
       let few = length-steps_begun r (replies_of entries) in
       let long = length-steps_of entries in
       let many = length-replies_of entries in
-      next-step_at r (replies_of (d ∷ entries)) e.taken.step
-      (begun_last (step_at r (replies_of (d ∷ entries))) e.taken.step (log_steps (d ∷ entries)) (steps_begun r (replies_of entries)) is.steps (omega arith)).0
+      next-step_at r (replies_of (d ∷ entries)) e.processed.step
+      (begun_last (step_at r (replies_of (d ∷ entries))) e.processed.step (log_steps (d ∷ entries)) (steps_begun r (replies_of entries)) is.steps (omega arith)).0
 
   -- the entries without the newest are a transfer's
   pub without_newest : (e d : Entry) (entries : List Entry) → IsTransfer r blocks e (d ∷ entries) log → IsTransfer r blocks d entries log
@@ -68,7 +68,7 @@ module _ (r : Request) (blocks : List Block) (log : List Entry) where
       let few = length-steps_begun r (replies_of entries) in
       let long = length-steps_of entries in
       let many = length-replies_of entries in record {
-        steps = (begun_last (step_at r (replies_of (d ∷ entries))) e.taken.step (log_steps (d ∷ entries)) (steps_begun r (replies_of entries)) is.steps (omega arith)).1;
+        steps = (begun_last (step_at r (replies_of (d ∷ entries))) e.processed.step (log_steps (d ∷ entries)) (steps_begun r (replies_of entries)) is.steps (omega arith)).1;
         in_turn = is.in_turn.0;
         goes_on = is.in_turn.1;
         replies = is.replies.0;
@@ -97,5 +97,5 @@ pub adds_none : (e : Entry) (all : List Entry) → takes_effect e ≡ false → 
 adds_none e all off = ap (λ (o : Option Write). with_added o (writes_of all)) (cond-false (takes_effect e) _ None off)
 
 -- as it does by its step and its answer
-pub effect_by : (s : Step) (e : Entry) → e.taken.step ≡ s → takes_effect e ≡ (s.write && ((s.element == 7) && (s.last && not e.answer.error)))
+pub effect_by : (s : Step) (e : Entry) → e.processed.step ≡ s → takes_effect e ≡ (s.write && ((s.element == 7) && (s.last && not e.answer.error)))
 effect_by s e is = ap (λ (x : Step). x.write && ((x.element == 7) && (x.last && not e.answer.error))) is

@@ -10,7 +10,7 @@ use Rattle.sercos_step.specs.declared.request.Request.TheVariants as request
 use Rattle.sercos_step.specs.Steps.{opening, steps_of}
 use Rattle.sercos_block.specs.declared.block.Block.{Block}
 use Rattle.sercos_block.specs.Stores.{find_block}
-use Rattle.sercos_service_drive.specs.Log.{Taken, Entry, opens}
+use Rattle.sercos_service_drive.specs.Log.{Processed, Entry, opens}
 use Rattle.sercos_service_drive.specs.Replies.{good, refused, reply_of}
 use Rattle.sercos_service_drive.specs.Writes.{AreAlike, without_data, writes_of}
 use Rattle.sercos_law_channel.specs.Handshake.InStep.{replies_of}
@@ -33,25 +33,25 @@ none_alike raw others blocks alike none =
     by (Some b) is = absurd (cc)
 
 -- an opening is refused there
-pub refused_opening : (idn : Idn) (t : Taken) (all : List Entry) (blocks : List Block) → t.step ≡ opening idn → AreAlike t.blocks blocks → find_block idn.raw blocks ≡ None → reply_of t all ≡ refused 0x1001
+pub refused_opening : (idn : Idn) (t : Processed) (all : List Entry) (blocks : List Block) → t.step ≡ opening idn → AreAlike t.blocks blocks → find_block idn.raw blocks ≡ None → reply_of t all ≡ refused 0x1001
 refused_opening idn t all blocks is alike none =
     let opened : opens t.step ≡ true = ap opens is in
     let no_block : is_some (find_block t.step.word t.blocks) ≡ false = ap (λ (s : Step). is_some (find_block s.word t.blocks)) is ∙ none_alike idn.raw t.blocks blocks alike none in
     cond-true (opens t.step) _ _ opened ∙ cond-false (is_some (find_block t.step.word t.blocks)) (good 0) (refused 0x1001) no_block
 
 -- such a transfer has one entry
-pub only_opening : (r : Request) (blocks : List Block) (e : Entry) (entries log : List Entry) → find_block (idn_of r).raw blocks ≡ None → IsTransfer r blocks e entries log → (entries ≡ []) × (e.taken.step ≡ opening (idn_of r))
-only_opening r blocks e [] log none is = (refl, first_step r e.taken.step (newest_step r blocks log e [] is))
+pub only_opening : (r : Request) (blocks : List Block) (e : Entry) (entries log : List Entry) → find_block (idn_of r).raw blocks ≡ None → IsTransfer r blocks e entries log → (entries ≡ []) × (e.processed.step ≡ opening (idn_of r))
+only_opening r blocks e [] log none is = (refl, first_step r e.processed.step (newest_step r blocks log e [] is))
 only_opening r blocks e (d ∷ entries) log none is =
     let was = without_newest r blocks log e d entries is in
     let before = only_opening r blocks d entries log none was in
     let well = (goes_on-outcome_of r d.answer (replies_of entries) is.goes_on).0 in
-    let off : d.answer.error ≡ true = ap (λ (a : Answer). a.error) (was.replies.1 ∙ refused_opening (idn_of r) d.taken (entries ++ log) blocks before.1 was.alike.1 none) in
+    let off : d.answer.error ≡ true = ap (λ (a : Answer). a.error) (was.replies.1 ∙ refused_opening (idn_of r) d.processed (entries ++ log) blocks before.1 was.alike.1 none) in
     absurd (cc)
 
 pub refuses_unknown : RefusesUnknown
 refuses_unknown r blocks e entries log none is =
-    let only = only_opening r blocks e entries log none is in (only.0, is.replies.1 ∙ refused_opening (idn_of r) e.taken (entries ++ log) blocks only.1 is.alike.1 none)
+    let only = only_opening r blocks e entries log none is in (only.0, is.replies.1 ∙ refused_opening (idn_of r) e.processed (entries ++ log) blocks only.1 is.alike.1 none)
 
 pub writes_nowhere : WritesNowhere
 writes_nowhere r blocks e entries log none is =

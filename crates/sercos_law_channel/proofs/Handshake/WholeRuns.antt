@@ -2,11 +2,11 @@
 use Rattle.std.proofs.Common.{◌≡◌, ℕ, Bool, true, false, List, [], ◌∷◌, ◌++◌, refl, sym, ap, ◌∙◌, arith, if◌then◌else◌}
 use Rattle.std.specs.Prelude.{Option, Some, None}
 use mathlib.Core.Bool.{beq}
-use Rattle.sercos_service_drive.specs.Log.{Taken, Entry, ahs, accepted}
+use Rattle.sercos_service_drive.specs.Log.{Processed, Entry, ahs, accepted}
 use Rattle.sercos_service_drive.specs.Replies.{reply_of, answered, log_of}
 use Rattle.sercos_service_drive.specs.Writes.{Write, with_added, writes_of, adds, added_on}
 use Rattle.sercos_law_channel.specs.Handshake.Views.{View, processed_in, with_record, kept_in}
-use Rattle.sercos_law_channel.specs.Handshake.Epochs.{unless_restart, epoch_taken, taken_in_views, epoch_log, log_in}
+use Rattle.sercos_law_channel.specs.Handshake.Epochs.{unless_restart, epoch_records, records_in_views, epoch_log, log_in}
 use Rattle.sercos_law_channel.specs.Handshake.Runs.{IsRun}
 use Rattle.sercos_law_channel.specs.Handshake.WholeRun.{accepted_of, all_entries, write_of, all_writes, leaving}
 use Rattle.sercos_law_channel.proofs.Handshake.PhaseMoves.{Processes, Nothing, Record, processes, processed_phase}
@@ -15,9 +15,9 @@ use Rattle.sercos_law_channel.proofs.Handshake.EpochRuns.{joined, same_at}
 -- each entry of a log has the reply to its step, after those before it
 abbrev pub HasReplies : List Entry → Type 0
 HasReplies [] = Unit {0}
-HasReplies (e ∷ log) = HasReplies log × (e.answer ≡ reply_of e.taken log)
+HasReplies (e ∷ log) = HasReplies log × (e.answer ≡ reply_of e.processed log)
 
-pub answered_replies : (h : List Taken) → HasReplies (answered h)
+pub answered_replies : (h : List Processed) → HasReplies (answered h)
 answered_replies [] = tt
 answered_replies (t ∷ h) = (answered_replies h, refl)
 
@@ -31,10 +31,10 @@ writes_ago [] = []
 writes_ago (v ∷ past) = leaving v.falls (writes_of (log_in v past)) (leaving v.master_restarts (writes_of (epoch_log past)) (writes_ago past))
 
 -- one record more, of a list that stays
-grown : (t : Taken) (h : List Taken) (ago : List Entry) → accepted_of (Some t) h (log_of h ++ ago) ≡ log_of (t ∷ h) ++ ago
+grown : (t : Processed) (h : List Processed) (ago : List Entry) → accepted_of (Some t) h (log_of h ++ ago) ≡ log_of (t ∷ h) ++ ago
 grown t h ago = by (beq t.mhs (ahs h))
   where
-    by : (v : Bool) → (if v then log_of h ++ ago else (record { taken = t; answer = reply_of t (log_of h) }) ∷ (log_of h ++ ago)) ≡ answered (if v then accepted h else t ∷ accepted h) ++ ago
+    by : (v : Bool) → (if v then log_of h ++ ago else (record { processed = t; answer = reply_of t (log_of h) }) ∷ (log_of h ++ ago)) ≡ answered (if v then accepted h else t ∷ accepted h) ++ ago
     by true = refl
     by false = refl
 
@@ -42,33 +42,33 @@ with_added-append : (o : Option Write) (writes ago : List Write) → with_added 
 with_added-append None writes ago = refl
 with_added-append (Some w) writes ago = refl
 
-pub written : (t : Taken) (h : List Taken) → with_added (added_on t h) (writes_of (log_of h)) ≡ writes_of (log_of (t ∷ h))
+pub written : (t : Processed) (h : List Processed) → with_added (added_on t h) (writes_of (log_of h)) ≡ writes_of (log_of (t ∷ h))
 written t h = by (beq t.mhs (ahs h))
   where
     by : (v : Bool) → with_added (if v then None else adds t (log_of h)) (writes_of (log_of h)) ≡ writes_of (answered (if v then accepted h else t ∷ accepted h))
     by true = refl
     by false = refl
 
-entries_more : (o : Option Taken) (kept h : List Taken) (ago : List Entry) → ((t : Taken) → o ≡ Some t → kept ≡ h) → accepted_of o kept (log_of h ++ ago) ≡ log_of (with_record o h) ++ ago
+entries_more : (o : Option Processed) (kept h : List Processed) (ago : List Entry) → ((t : Processed) → o ≡ Some t → kept ≡ h) → accepted_of o kept (log_of h ++ ago) ≡ log_of (with_record o h) ++ ago
 entries_more None kept h ago same = refl
-entries_more (Some t) kept h ago same = ap (λ (k : List Taken). accepted_of (Some t) k (log_of h ++ ago)) (same t refl) ∙ grown t h ago
+entries_more (Some t) kept h ago same = ap (λ (k : List Processed). accepted_of (Some t) k (log_of h ++ ago)) (same t refl) ∙ grown t h ago
 
-writes_more : (o : Option Taken) (kept h : List Taken) (ago : List Write) → ((t : Taken) → o ≡ Some t → kept ≡ h) → with_added (write_of o kept) (writes_of (log_of h) ++ ago) ≡ writes_of (log_of (with_record o h)) ++ ago
+writes_more : (o : Option Processed) (kept h : List Processed) (ago : List Write) → ((t : Processed) → o ≡ Some t → kept ≡ h) → with_added (write_of o kept) (writes_of (log_of h) ++ ago) ≡ writes_of (log_of (with_record o h)) ++ ago
 writes_more None kept h ago same = refl
 writes_more (Some t) kept h ago same =
-    ap (λ (k : List Taken). with_added (added_on t k) (writes_of (log_of h) ++ ago)) (same t refl) ∙ with_added-append (added_on t h) (writes_of (log_of h)) ago ∙ ap (λ (l : List Write). l ++ ago) (written t h)
+    ap (λ (k : List Processed). with_added (added_on t k) (writes_of (log_of h) ++ ago)) (same t refl) ∙ with_added-append (added_on t h) (writes_of (log_of h)) ago ∙ ap (λ (l : List Write). l ++ ago) (written t h)
 
 -- a restart and a fall move what there is to what was left
-moved_on : {A : Type 0} (ends : Bool) (f : List Taken → List A) (h : List Taken) (ago : List A) → f [] ≡ [] → f h ++ ago ≡ f (if ends then [] else h) ++ leaving ends (f h) ago
+moved_on : {A : Type 0} (ends : Bool) (f : List Processed → List A) (h : List Processed) (ago : List A) → f [] ≡ [] → f h ++ ago ≡ f (if ends then [] else h) ++ leaving ends (f h) ago
 moved_on {A = A} true f h ago none = sym (ap (λ (l : List A). l ++ (f h ++ ago)) none)
 moved_on false f h ago none = refl
 
 module _ (busy : ℕ) where
   -- what a drive that processes a record keeps is what it took in this epoch
-  pub kept_same : (v : View) (past : List View) → IsRun busy (v ∷ past) → (t : Taken) → processed_in v past ≡ Some t → kept_in v past ≡ unless_restart v (epoch_taken past)
+  pub kept_same : (v : View) (past : List View) → IsRun busy (v ∷ past) → (t : Processed) → processed_in v past ≡ Some t → kept_in v past ≡ unless_restart v (epoch_records past)
   kept_same v past run t is = by (processes v past)
     where
-      by : Processes v past → kept_in v past ≡ unless_restart v (epoch_taken past)
+      by : Processes v past → kept_in v past ≡ unless_restart v (epoch_records past)
       by (Nothing none) = absurd (cc)
       by (Record s got came two some) =
           let phase = processed_phase v past came (omega arith) in
@@ -77,13 +77,13 @@ module _ (busy : ℕ) where
   pub entries_in_epochs : (past : List View) → IsRun busy past → all_entries past ≡ epoch_log past ++ entries_ago past
   entries_in_epochs [] run = refl
   entries_in_epochs (v ∷ past) run =
-      ap (accepted_of (processed_in v past) (kept_in v past)) (entries_in_epochs past run.0 ∙ moved_on v.master_restarts log_of (epoch_taken past) (entries_ago past) refl)
-      ∙ entries_more (processed_in v past) (kept_in v past) (unless_restart v (epoch_taken past)) (leaving v.master_restarts (epoch_log past) (entries_ago past)) (kept_same v past run)
-      ∙ moved_on v.falls log_of (taken_in_views v past) (leaving v.master_restarts (epoch_log past) (entries_ago past)) refl
+      ap (accepted_of (processed_in v past) (kept_in v past)) (entries_in_epochs past run.0 ∙ moved_on v.master_restarts log_of (epoch_records past) (entries_ago past) refl)
+      ∙ entries_more (processed_in v past) (kept_in v past) (unless_restart v (epoch_records past)) (leaving v.master_restarts (epoch_log past) (entries_ago past)) (kept_same v past run)
+      ∙ moved_on v.falls log_of (records_in_views v past) (leaving v.master_restarts (epoch_log past) (entries_ago past)) refl
 
   pub writes_in_epochs : (past : List View) → IsRun busy past → all_writes past ≡ writes_of (epoch_log past) ++ writes_ago past
   writes_in_epochs [] run = refl
   writes_in_epochs (v ∷ past) run =
-      ap (with_added (write_of (processed_in v past) (kept_in v past))) (writes_in_epochs past run.0 ∙ moved_on v.master_restarts (λ h. writes_of (log_of h)) (epoch_taken past) (writes_ago past) refl)
-      ∙ writes_more (processed_in v past) (kept_in v past) (unless_restart v (epoch_taken past)) (leaving v.master_restarts (writes_of (epoch_log past)) (writes_ago past)) (kept_same v past run)
-      ∙ moved_on v.falls (λ h. writes_of (log_of h)) (taken_in_views v past) (leaving v.master_restarts (writes_of (epoch_log past)) (writes_ago past)) refl
+      ap (with_added (write_of (processed_in v past) (kept_in v past))) (writes_in_epochs past run.0 ∙ moved_on v.master_restarts (λ h. writes_of (log_of h)) (epoch_records past) (writes_ago past) refl)
+      ∙ writes_more (processed_in v past) (kept_in v past) (unless_restart v (epoch_records past)) (leaving v.master_restarts (writes_of (epoch_log past)) (writes_ago past)) (kept_same v past run)
+      ∙ moved_on v.falls (λ h. writes_of (log_of h)) (records_in_views v past) (leaving v.master_restarts (writes_of (epoch_log past)) (writes_ago past)) refl

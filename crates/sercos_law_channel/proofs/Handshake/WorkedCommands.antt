@@ -50,7 +50,7 @@ abbrev asked : Request
 asked = request.Command (record { raw = 1 })
 
 abbrev entry : ℕ → ℕ → Bool → Block → Step → Answer → Entry
-entry cycle phase mhs b step answer = record { taken = record { cycle = cycle; phase = phase; mhs = mhs; step = step; blocks = b ∷ []; commands = commands }; answer = answer }
+entry cycle phase mhs b step answer = record { processed = record { cycle = cycle; phase = phase; mhs = mhs; step = step; blocks = b ∷ []; commands = commands }; answer = answer }
 
 -- it is set in phase 2, and its data status is 0
 abbrev others : Block → List Entry

@@ -16,7 +16,7 @@ use Rattle.sercos_block.specs.declared.block.Block.{Block}
 use Rattle.sercos_block.specs.Blocks.{element_of}
 use Rattle.sercos_block.specs.Stores.{IsStore, are_ascending, is_sound, is_typed}
 use Rattle.sercos_command.specs.Calls.{CommandHistory}
-use Rattle.sercos_service_drive.specs.Log.{Taken, Entry}
+use Rattle.sercos_service_drive.specs.Log.{Processed, Entry}
 use Rattle.sercos_service_drive.specs.Replies.{good, data_in, element_words}
 use Rattle.sercos_law_channel.specs.Handshake.InStep.{replies_of}
 use Rattle.sercos_law_channel.specs.Handshake.Transfers.{IsTransfer}
@@ -51,11 +51,11 @@ commands = record { rate = 2; time = 3; calls = [] }
 abbrev asked : Request
 asked = request.Read (record { raw = 51 }) 7
 
-abbrev taken_in : ℕ → Bool → Step → Taken
-taken_in cycle mhs step = record { cycle = cycle; phase = 2; mhs = mhs; step = step; blocks = block ∷ []; commands = commands }
+abbrev records_in : ℕ → Bool → Step → Processed
+records_in cycle mhs step = record { cycle = cycle; phase = 2; mhs = mhs; step = step; blocks = block ∷ []; commands = commands }
 
 abbrev entry : ℕ → Bool → Step → ℕ → Entry
-entry cycle mhs step word = record { taken = taken_in cycle mhs step; answer = good word }
+entry cycle mhs step word = record { processed = records_in cycle mhs step; answer = good word }
 
 abbrev last : Entry
 last = entry 104 true (a_step false true 7 0) 0
@@ -90,6 +90,6 @@ bytes = (omega arith, (omega arith, (omega arith, (omega arith, tt))))
 selects : entry_behind 3 (last ∷ others) ≡ Some selection
 selects = refl
 
-gives : bytes_at 51 7 block (taken_in 103 false (a_step false false 7 0)) ≡ 0xfa ∷ 0xff ∷ 0 ∷ 0 ∷ []
+gives : bytes_at 51 7 block (records_in 103 false (a_step false false 7 0)) ≡ 0xfa ∷ 0xff ∷ 0 ∷ 0 ∷ []
 unfolding data_in
 gives = refl

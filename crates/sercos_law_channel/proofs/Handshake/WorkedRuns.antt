@@ -141,7 +141,7 @@ wrote cycle low = record { cycle = cycle; raw = 1; bytes = low ∷ 1 ∷ [] }
 
 -- the first transfer: each step is accepted once
 abbrev entry : ℕ → Bool → Step → ℕ → Entry
-entry cycle mhs step word = record { taken = record { cycle = cycle; phase = 2; mhs = mhs; step = step; blocks = at_first; commands = commands }; answer = good word }
+entry cycle mhs step word = record { processed = record { cycle = cycle; phase = 2; mhs = mhs; step = step; blocks = at_first; commands = commands }; answer = good word }
 
 abbrev last : Entry
 last = entry 15 false (a_step true true 7 261) 0

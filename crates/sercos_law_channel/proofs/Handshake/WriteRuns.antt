@@ -9,28 +9,28 @@ use Rattle.sercos_step.specs.declared.step.Step.{Step}
 use Rattle.sercos_step.specs.Steps.{a_step, run}
 use Rattle.sercos_block.specs.declared.block.Block.{Block}
 use Rattle.sercos_block.specs.Stores.{find_block}
-use Rattle.sercos_service_drive.specs.Log.{Taken, Entry, opens, open_idn, run_before, in_order}
+use Rattle.sercos_service_drive.specs.Log.{Processed, Entry, opens, open_idn, run_before, in_order}
 use Rattle.sercos_service_drive.specs.Replies.{bytes_written}
 use Rattle.sercos_service_drive.specs.Writes.{Write, AreAlike, without_data, written_by, with_added, writes_of, takes_effect}
 use Rattle.sercos_law_channel.proofs.Handshake.AttributeReplies.{find-alike}
 use Rattle.sercos_law_channel.proofs.Handshake.TransferSteps.{effect_by}
 
 -- the steps after those of a run are those of the words that are left
-run-get : (taken : List Taken) (word : ℕ) (rest : List ℕ) (k j : ℕ) → k ≡ length taken + j →
+run-get : (taken : List Processed) (word : ℕ) (rest : List ℕ) (k j : ℕ) → k ≡ length taken + j →
     slice_get (run true 7 (in_order taken (word ∷ rest))) k ≡ slice_get (run true 7 (word ∷ rest)) j
 run-get [] word rest k j is = let same : k ≡ j = omega arith in ap (slice_get (run true 7 (word ∷ rest))) same
 run-get (t ∷ taken) word rest k j is = run-get taken t.step.word (word ∷ rest) k (suc j) (omega arith)
 
-pub run_next : (taken : List Taken) (word : ℕ) (rest : List ℕ) → slice_get (run true 7 (in_order taken (word ∷ rest))) (length taken) ≡ slice_get (run true 7 (word ∷ rest)) 0
+pub run_next : (taken : List Processed) (word : ℕ) (rest : List ℕ) → slice_get (run true 7 (in_order taken (word ∷ rest))) (length taken) ≡ slice_get (run true 7 (word ∷ rest)) 0
 run_next taken word rest = run-get taken word rest (length taken) 0 (omega arith)
 
 -- one step more of a run
-pub run_grows : (s : Step) (write : Bool) (element : ℕ) (e : Entry) (all : List Entry) (taken : List Taken) → e.taken.step ≡ s → e.answer.error ≡ false → run_before write element all ≡ taken →
-    (beq s.write write && ((s.element == element) && not s.last)) ≡ true → run_before write element (e ∷ all) ≡ e.taken ∷ taken
+pub run_grows : (s : Step) (write : Bool) (element : ℕ) (e : Entry) (all : List Entry) (taken : List Processed) → e.processed.step ≡ s → e.answer.error ≡ false → run_before write element all ≡ taken →
+    (beq s.write write && ((s.element == element) && not s.last)) ≡ true → run_before write element (e ∷ all) ≡ e.processed ∷ taken
 run_grows s write element e all taken is well before fits =
-    cond-true (beq e.taken.step.write write && ((e.taken.step.element == element) && (not e.taken.step.last && not e.answer.error))) (e.taken ∷ run_before write element all) []
+    cond-true (beq e.processed.step.write write && ((e.processed.step.element == element) && (not e.processed.step.last && not e.answer.error))) (e.processed ∷ run_before write element all) []
     (ap₂ (λ (x : Step) (b : Bool). beq x.write write && ((x.element == element) && (not x.last && not b))) is well ∙ all_three (beq s.write write) (s.element == element) (not s.last) fits)
-    ∙ ap (λ (l : List Taken). e.taken ∷ l) before
+    ∙ ap (λ (l : List Processed). e.processed ∷ l) before
   where
     all_three : (a b c : Bool) → (a && (b && c)) ≡ true → (a && (b && (c && true))) ≡ true
     all_three true true true on = refl
@@ -38,9 +38,9 @@ run_grows s write element e all taken is well before fits =
     all_three true false c on = on
     all_three false b c on = on
 
-pub run_starts : (s : Step) (write : Bool) (element : ℕ) (e : Entry) (all : List Entry) → e.taken.step ≡ s → (beq s.write write && ((s.element == element) && not s.last)) ≡ false → run_before write element (e ∷ all) ≡ []
+pub run_starts : (s : Step) (write : Bool) (element : ℕ) (e : Entry) (all : List Entry) → e.processed.step ≡ s → (beq s.write write && ((s.element == element) && not s.last)) ≡ false → run_before write element (e ∷ all) ≡ []
 run_starts s write element e all is other =
-    cond-false (beq e.taken.step.write write && ((e.taken.step.element == element) && (not e.taken.step.last && not e.answer.error))) (e.taken ∷ run_before write element all) []
+    cond-false (beq e.processed.step.write write && ((e.processed.step.element == element) && (not e.processed.step.last && not e.answer.error))) (e.processed ∷ run_before write element all) []
     (ap (λ (x : Step). beq x.write write && ((x.element == element) && (not x.last && not e.answer.error))) is ∙ not_all (beq s.write write) (s.element == element) (not s.last) (not e.answer.error) other)
   where
     not_all : (a b c d : Bool) → (a && (b && c)) ≡ false → (a && (b && (c && d))) ≡ false
@@ -50,7 +50,7 @@ run_starts s write element e all is other =
     not_all false b c d off = refl
 
 -- the identifier number that is open after a step
-pub open_by : (s : Step) (e : Entry) (all : List Entry) → e.taken.step ≡ s → e.answer.error ≡ false →
+pub open_by : (s : Step) (e : Entry) (all : List Entry) → e.processed.step ≡ s → e.answer.error ≡ false →
     open_idn (e ∷ all) ≡ (if opens s then Some s.word else (if s.element == 0 then None else open_idn all))
 open_by s e all is well =
     ap₂ (λ (x : Step) (b : Bool). if opens x then (if b then None else Some x.word) else (if x.element == 0 then None else open_idn all)) is well
@@ -61,7 +61,7 @@ bytes_alike c d words same =
     ap (λ (x : Block). if is_list x.attribute.length then take (slice_index words 0) (bytes_in (drop 2 words)) else bytes_in words) same
 
 -- the write of a last word
-written_found : (t : Taken) (taken : List Taken) (raw : ℕ) (blocks : List Block) (b : Block) (words : List ℕ) → AreAlike t.blocks blocks → find_block raw blocks ≡ Some b → in_order taken (t.step.word ∷ []) ≡ words →
+written_found : (t : Processed) (taken : List Processed) (raw : ℕ) (blocks : List Block) (b : Block) (words : List ℕ) → AreAlike t.blocks blocks → find_block raw blocks ≡ Some b → in_order taken (t.step.word ∷ []) ≡ words →
     written_by t taken raw ≡ Some (record { cycle = t.cycle; raw = raw; bytes = bytes_written b words })
 written_found t taken raw blocks b words alike found ordered = by (find_block raw t.blocks) (in_order taken (t.step.word ∷ [])) (find-alike raw t.blocks blocks b alike found) ordered
   where
@@ -72,14 +72,14 @@ written_found t taken raw blocks b words alike found ordered = by (find_block ra
         let alike_blocks : without_data c ≡ without_data b = cc in
         ap (λ (bytes : List ℕ). (let w : Write = record { cycle = t.cycle; raw = raw; bytes = bytes } in Some w)) (bytes_alike c b ws alike_blocks ∙ ap (bytes_written b) is)
 
-pub last_word : (word : ℕ) (e : Entry) (all : List Entry) (taken : List Taken) (raw : ℕ) (blocks : List Block) (b : Block) (words : List ℕ) →
-    e.taken.step ≡ a_step true true 7 word → e.answer.error ≡ false → open_idn all ≡ Some raw → run_before true 7 all ≡ taken → in_order taken (word ∷ []) ≡ words →
-    AreAlike e.taken.blocks blocks → find_block raw blocks ≡ Some b →
-    writes_of (e ∷ all) ≡ (record { cycle = e.taken.cycle; raw = raw; bytes = bytes_written b words }) ∷ writes_of all
+pub last_word : (word : ℕ) (e : Entry) (all : List Entry) (taken : List Processed) (raw : ℕ) (blocks : List Block) (b : Block) (words : List ℕ) →
+    e.processed.step ≡ a_step true true 7 word → e.answer.error ≡ false → open_idn all ≡ Some raw → run_before true 7 all ≡ taken → in_order taken (word ∷ []) ≡ words →
+    AreAlike e.processed.blocks blocks → find_block raw blocks ≡ Some b →
+    writes_of (e ∷ all) ≡ (record { cycle = e.processed.cycle; raw = raw; bytes = bytes_written b words }) ∷ writes_of all
 last_word word e all taken raw blocks b words is well opened before ordered alike found =
     let effect : takes_effect e ≡ true = effect_by (a_step true true 7 word) e is ∙ ap not well in
-    let same : in_order taken (e.taken.step.word ∷ []) ≡ words = ap (λ (s : Step). in_order taken (s.word ∷ [])) is ∙ ordered in
+    let same : in_order taken (e.processed.step.word ∷ []) ≡ words = ap (λ (s : Step). in_order taken (s.word ∷ [])) is ∙ ordered in
     ap (λ (o : Option Write). with_added o (writes_of all))
     (cond-true (takes_effect e) _ None effect
-    ∙ ap₂ (λ (l : List Taken) (o : Option ℕ). option_and_then (written_by e.taken l) o) before opened
-    ∙ written_found e.taken taken raw blocks b words alike found same)
+    ∙ ap₂ (λ (l : List Processed) (o : Option ℕ). option_and_then (written_by e.processed l) o) before opened
+    ∙ written_found e.processed taken raw blocks b words alike found same)

@@ -14,7 +14,7 @@ use Rattle.sercos_step.specs.Words.{words_of, at_least_one, words_told, shape_of
 use Rattle.sercos_step.specs.Steps.{a_step, opening, run, steps_of, outcome_of, answer_words, is_whole}
 use Rattle.sercos_block.specs.declared.block.Block.{Block}
 use Rattle.sercos_block.specs.Stores.{find_block}
-use Rattle.sercos_service_drive.specs.Log.{Taken, Entry, open_idn, run_before, in_order}
+use Rattle.sercos_service_drive.specs.Log.{Processed, Entry, open_idn, run_before, in_order}
 use Rattle.sercos_service_drive.specs.Replies.{reply_of, bytes_written}
 use Rattle.sercos_service_drive.specs.Writes.{Write, AreAlike, writes_of}
 use Rattle.sercos_law_channel.specs.Handshake.InStep.{replies_of}
@@ -51,8 +51,8 @@ told_parts shape.List bytes = refl
 pub data Stage (idn : Idn) (bytes : List ℕ) (b : Block) (words : List ℕ) (all : List Entry) : Type 0 where
   AtOpening : words ≡ [] → Stage idn bytes b words all
   AtLow : (w : ℕ) → words ≡ w ∷ [] → open_idn all ≡ Some idn.raw → run_before false 3 all ≡ [] → Stage idn bytes b words all
-  AtHigh : (w : ℕ) (t : Taken) → words ≡ w ∷ low_of b ∷ [] → open_idn all ≡ Some idn.raw → run_before false 3 all ≡ t ∷ [] → IsRead idn.raw t b.attribute → Stage idn bytes b words all
-  AtWord : (w : ℕ) (more : List ℕ) (taken : List Taken) (word : ℕ) (rest : List ℕ) → words ≡ w ∷ low_of b ∷ high_of b ∷ more → length more ≡ length taken → open_idn all ≡ Some idn.raw →
+  AtHigh : (w : ℕ) (t : Processed) → words ≡ w ∷ low_of b ∷ [] → open_idn all ≡ Some idn.raw → run_before false 3 all ≡ t ∷ [] → IsRead idn.raw t b.attribute → Stage idn bytes b words all
+  AtWord : (w : ℕ) (more : List ℕ) (taken : List Processed) (word : ℕ) (rest : List ℕ) → words ≡ w ∷ low_of b ∷ high_of b ∷ more → length more ≡ length taken → open_idn all ≡ Some idn.raw →
       run_before true 7 all ≡ taken → in_order taken (word ∷ rest) ≡ told b bytes → Stage idn bytes b words all
 
 abbrev pub is_nil : List ℕ → Bool
@@ -94,7 +94,7 @@ module _ (idn : Idn) (bytes : List ℕ) (b : Block) (said : shape_of 7 (low_of b
   first_of word [] = refl
   first_of word (v ∷ rest) = refl
 
-  pub next_word : (words : List ℕ) (s : Step) (w : ℕ) (more : List ℕ) (taken : List Taken) (word : ℕ) (rest : List ℕ) → words ≡ w ∷ low_of b ∷ high_of b ∷ more → length more ≡ length taken →
+  pub next_word : (words : List ℕ) (s : Step) (w : ℕ) (more : List ℕ) (taken : List Processed) (word : ℕ) (rest : List ℕ) → words ≡ w ∷ low_of b ∷ high_of b ∷ more → length more ≡ length taken →
       in_order taken (word ∷ rest) ≡ told b bytes → slice_get (steps_of asked words) (length words) ≡ Some s → s ≡ a_step true (is_nil rest) 7 word
   next_word words s w more taken word rest is count ordered next =
       let at : slice_get (steps_of asked words) (length words) ≡ slice_get (run true 7 (told b bytes)) (length more) =
@@ -119,7 +119,7 @@ module _ (idn : Idn) (bytes : List ℕ) (b : Block) (said : shape_of 7 (low_of b
       more_than : (n : ℕ) → 1 ≤ n → nat_le (suc (suc (suc n))) 3 ≡ false
       more_than n some = grind (arith, nat_tests)
 
-  whole_by : (w : ℕ) (more : List ℕ) (taken : List Taken) (word : ℕ) (rest : List ℕ) → length more ≡ suc (length taken) → in_order taken (word ∷ rest) ≡ told b bytes →
+  whole_by : (w : ℕ) (more : List ℕ) (taken : List Processed) (word : ℕ) (rest : List ℕ) → length more ≡ suc (length taken) → in_order taken (word ∷ rest) ≡ told b bytes →
       is_whole asked (w ∷ low_of b ∷ high_of b ∷ more) ≡ is_nil rest
   whole_by w more taken word rest count ordered =
       let long : length (steps_of asked (w ∷ low_of b ∷ high_of b ∷ more)) ≡ suc (suc (suc (length (run true 7 (told b bytes))))) = ap length (steps_known w more) in
@@ -131,7 +131,7 @@ module _ (idn : Idn) (bytes : List ℕ) (b : Block) (said : shape_of 7 (low_of b
       by [] n k is = grind (arith, nat_tests)
       by (v ∷ rest) n k is = grind (arith, nat_tests)
 
-  whole_word : (words : List ℕ) (w : ℕ) (more : List ℕ) (taken : List Taken) (word : ℕ) (rest : List ℕ) (x : ℕ) → words ≡ w ∷ low_of b ∷ high_of b ∷ more → length more ≡ length taken → in_order taken (word ∷ rest) ≡ told b bytes →
+  whole_word : (words : List ℕ) (w : ℕ) (more : List ℕ) (taken : List Processed) (word : ℕ) (rest : List ℕ) (x : ℕ) → words ≡ w ∷ low_of b ∷ high_of b ∷ more → length more ≡ length taken → in_order taken (word ∷ rest) ≡ told b bytes →
       is_whole asked (words ++ x ∷ []) ≡ is_nil rest
   whole_word words w more taken word rest x is count ordered =
       let longer : length (more ++ x ∷ []) ≡ suc (length taken) = omega (arith, length-append more (x ∷ [])) in
@@ -139,50 +139,50 @@ module _ (idn : Idn) (bytes : List ℕ) (b : Block) (said : shape_of 7 (low_of b
 
   -- one entry more
   module _ (blocks : List Block) (found : find_block idn.raw blocks ≡ Some b) where
-    grows_word : (words : List ℕ) (e : Entry) (all : List Entry) (w : ℕ) (more : List ℕ) (taken : List Taken) (word : ℕ) (rest : List ℕ) →
+    grows_word : (words : List ℕ) (e : Entry) (all : List Entry) (w : ℕ) (more : List ℕ) (taken : List Processed) (word : ℕ) (rest : List ℕ) →
         words ≡ w ∷ low_of b ∷ high_of b ∷ more → length more ≡ length taken → open_idn all ≡ Some idn.raw → run_before true 7 all ≡ taken → in_order taken (word ∷ rest) ≡ told b bytes →
-        e.taken.step ≡ a_step true (is_nil rest) 7 word → e.answer.error ≡ false → is_nil rest ≡ false → Stage idn bytes b (words ++ e.answer.word ∷ []) (e ∷ all)
+        e.processed.step ≡ a_step true (is_nil rest) 7 word → e.answer.error ≡ false → is_nil rest ≡ false → Stage idn bytes b (words ++ e.answer.word ∷ []) (e ∷ all)
     grows_word words e all w more taken word [] is count opened before ordered step well not_last = absurd (cc)
     grows_word words e all w more taken word (v ∷ rest) is count opened before ordered step well not_last =
-        AtWord w (more ++ e.answer.word ∷ []) (e.taken ∷ taken) v rest
+        AtWord w (more ++ e.answer.word ∷ []) (e.processed ∷ taken) v rest
         (ap (λ (ws : List ℕ). ws ++ e.answer.word ∷ []) is)
         (omega (arith, length-append more (e.answer.word ∷ [])))
         (open_by (a_step true false 7 word) e all step well ∙ opened)
         (run_grows (a_step true false 7 word) true 7 e all taken step well before refl)
         (ap (λ (s : Step). in_order taken (s.word ∷ v ∷ rest)) step ∙ ordered)
 
-    grows : (words : List ℕ) (e : Entry) (all : List Entry) → Stage idn bytes b words all → slice_get (steps_of asked words) (length words) ≡ Some e.taken.step →
-        e.answer ≡ reply_of e.taken all → AreAlike e.taken.blocks blocks → e.answer.error ≡ false → is_whole asked (words ++ e.answer.word ∷ []) ≡ false → Stage idn bytes b (words ++ e.answer.word ∷ []) (e ∷ all)
+    grows : (words : List ℕ) (e : Entry) (all : List Entry) → Stage idn bytes b words all → slice_get (steps_of asked words) (length words) ≡ Some e.processed.step →
+        e.answer ≡ reply_of e.processed all → AreAlike e.processed.blocks blocks → e.answer.error ≡ false → is_whole asked (words ++ e.answer.word ∷ []) ≡ false → Stage idn bytes b (words ++ e.answer.word ∷ []) (e ∷ all)
     grows words e all (AtOpening is) next reply alike well goes_on =
-        let step = next_opening words e.taken.step is next in
+        let step = next_opening words e.processed.step is next in
         AtLow e.answer.word (ap (λ (ws : List ℕ). ws ++ e.answer.word ∷ []) is) (open_by (opening idn) e all step well) (run_starts (opening idn) false 3 e all step refl)
     grows words e all (AtLow w is opened before) next reply alike well goes_on =
-        let step = next_low words e.taken.step w is next in
-        let read = IsRead-alike idn.raw e.taken blocks b (ap (λ (s : Step). s.element) step) alike found in
-        let word : e.answer.word ≡ low_of b = ap (λ (a : Answer). a.word) (reply ∙ reply_low idn.raw 0 false e.taken all b.attribute step opened before read) in
-        AtHigh w e.taken (ap₂ (λ (ws : List ℕ) (x : ℕ). ws ++ x ∷ []) is word) (open_by (a_step false false 3 0) e all step well ∙ opened)
+        let step = next_low words e.processed.step w is next in
+        let read = IsRead-alike idn.raw e.processed blocks b (ap (λ (s : Step). s.element) step) alike found in
+        let word : e.answer.word ≡ low_of b = ap (λ (a : Answer). a.word) (reply ∙ reply_low idn.raw 0 false e.processed all b.attribute step opened before read) in
+        AtHigh w e.processed (ap₂ (λ (ws : List ℕ) (x : ℕ). ws ++ x ∷ []) is word) (open_by (a_step false false 3 0) e all step well ∙ opened)
         (run_grows (a_step false false 3 0) false 3 e all [] step well before refl) read
     grows words e all (AtHigh w t is opened before read) next reply alike well goes_on =
-        let step = next_high words e.taken.step w (low_of b) is next in
-        let word : e.answer.word ≡ high_of b = ap (λ (a : Answer). a.word) (reply ∙ reply_high idn.raw 0 true e.taken t all b.attribute step opened before read) in
+        let step = next_high words e.processed.step w (low_of b) is next in
+        let word : e.answer.word ≡ high_of b = ap (λ (a : Answer). a.word) (reply ∙ reply_high idn.raw 0 true e.processed t all b.attribute step opened before read) in
         AtWord w [] [] (slice_index (told b bytes) 0) (drop 1 (told b bytes)) (ap₂ (λ (ws : List ℕ) (x : ℕ). ws ++ x ∷ []) is word) refl
         (open_by (a_step false true 3 0) e all step well ∙ opened) (run_starts (a_step false true 3 0) true 7 e all step refl) (told_parts (shape_by b.attribute.length) bytes)
     grows words e all (AtWord w more taken word rest is count opened before ordered) next reply alike well goes_on =
-        let step = next_word words e.taken.step w more taken word rest is count ordered next in
+        let step = next_word words e.processed.step w more taken word rest is count ordered next in
         let not_last : is_nil rest ≡ false = sym (whole_word words w more taken word rest e.answer.word is count ordered) ∙ goes_on in
         grows_word words e all w more taken word rest is count opened before ordered step well not_last
 
     -- what it adds to the writes
     abbrev AddsBy : List ℕ → Entry → List Entry → Type 0
     AddsBy words e all = writes_of (e ∷ all) ≡
-        (if not e.answer.error && is_whole asked (words ++ e.answer.word ∷ []) then (record { cycle = e.taken.cycle; raw = idn.raw; bytes = bytes_written b (told b bytes) }) ∷ writes_of all else writes_of all)
+        (if not e.answer.error && is_whole asked (words ++ e.answer.word ∷ []) then (record { cycle = e.processed.cycle; raw = idn.raw; bytes = bytes_written b (told b bytes) }) ∷ writes_of all else writes_of all)
 
-    adds_early : (words : List ℕ) (e : Entry) (all : List Entry) (s : Step) → e.taken.step ≡ s → (s.write && ((s.element == 7) && (s.last && not e.answer.error))) ≡ false → is_whole asked (words ++ e.answer.word ∷ []) ≡ false → AddsBy words e all
+    adds_early : (words : List ℕ) (e : Entry) (all : List Entry) (s : Step) → e.processed.step ≡ s → (s.write && ((s.element == 7) && (s.last && not e.answer.error))) ≡ false → is_whole asked (words ++ e.answer.word ∷ []) ≡ false → AddsBy words e all
     adds_early words e all s step off open_still =
         adds_none e all (effect_by s e step ∙ off) ∙ sym (none_of (not e.answer.error) (is_whole asked (words ++ e.answer.word ∷ [])) _ (writes_of all) open_still)
 
-    adds_word : (words : List ℕ) (e : Entry) (all : List Entry) (taken : List Taken) (word : ℕ) (rest : List ℕ) → open_idn all ≡ Some idn.raw → run_before true 7 all ≡ taken → in_order taken (word ∷ rest) ≡ told b bytes →
-        e.taken.step ≡ a_step true (is_nil rest) 7 word → AreAlike e.taken.blocks blocks → is_whole asked (words ++ e.answer.word ∷ []) ≡ is_nil rest → AddsBy words e all
+    adds_word : (words : List ℕ) (e : Entry) (all : List Entry) (taken : List Processed) (word : ℕ) (rest : List ℕ) → open_idn all ≡ Some idn.raw → run_before true 7 all ≡ taken → in_order taken (word ∷ rest) ≡ told b bytes →
+        e.processed.step ≡ a_step true (is_nil rest) 7 word → AreAlike e.processed.blocks blocks → is_whole asked (words ++ e.answer.word ∷ []) ≡ is_nil rest → AddsBy words e all
     adds_word words e all taken word (v ∷ rest) opened before ordered step alike whole = adds_early words e all (a_step true false 7 word) step refl whole
     adds_word words e all taken word [] opened before ordered step alike whole = by e.answer.error refl
       where
@@ -194,12 +194,12 @@ module _ (idn : Idn) (bytes : List ℕ) (b : Block) (said : shape_of 7 (low_of b
             last_word word e all taken idn.raw blocks b (told b bytes) step well opened before ordered alike found
             ∙ sym (both_of e.answer.error (is_whole asked (words ++ e.answer.word ∷ [])) _ (writes_of all) well whole)
 
-    adds : (words : List ℕ) (e : Entry) (all : List Entry) → Stage idn bytes b words all → slice_get (steps_of asked words) (length words) ≡ Some e.taken.step → AreAlike e.taken.blocks blocks → AddsBy words e all
-    adds words e all (AtOpening is) next alike = adds_early words e all (opening idn) (next_opening words e.taken.step is next) refl (whole_one words e.answer.word is)
-    adds words e all (AtLow w is opened before) next alike = adds_early words e all (a_step false false 3 0) (next_low words e.taken.step w is next) refl (whole_two words w e.answer.word is)
-    adds words e all (AtHigh w t is opened before read) next alike = adds_early words e all (a_step false true 3 0) (next_high words e.taken.step w (low_of b) is next) refl (whole_three words w (low_of b) e.answer.word is)
+    adds : (words : List ℕ) (e : Entry) (all : List Entry) → Stage idn bytes b words all → slice_get (steps_of asked words) (length words) ≡ Some e.processed.step → AreAlike e.processed.blocks blocks → AddsBy words e all
+    adds words e all (AtOpening is) next alike = adds_early words e all (opening idn) (next_opening words e.processed.step is next) refl (whole_one words e.answer.word is)
+    adds words e all (AtLow w is opened before) next alike = adds_early words e all (a_step false false 3 0) (next_low words e.processed.step w is next) refl (whole_two words w e.answer.word is)
+    adds words e all (AtHigh w t is opened before read) next alike = adds_early words e all (a_step false true 3 0) (next_high words e.processed.step w (low_of b) is next) refl (whole_three words w (low_of b) e.answer.word is)
     adds words e all (AtWord w more taken word rest is count opened before ordered) next alike =
-        adds_word words e all taken word rest opened before ordered (next_word words e.taken.step w more taken word rest is count ordered next) alike (whole_word words w more taken word rest e.answer.word is count ordered)
+        adds_word words e all taken word rest opened before ordered (next_word words e.processed.step w more taken word rest is count ordered next) alike (whole_word words w more taken word rest e.answer.word is count ordered)
 
     -- the entries before the newest
     pub stage_before : (e : Entry) (entries log : List Entry) → IsTransfer asked blocks e entries log → Stage idn bytes b (answer_words (replies_of entries)) (entries ++ log) × (writes_of (entries ++ log) ≡ writes_of log)
@@ -214,7 +214,7 @@ module _ (idn : Idn) (bytes : List ℕ) (b : Block) (said : shape_of 7 (low_of b
         )
 
     pub writes_once_by : (e : Entry) (entries log : List Entry) → AreBytes bytes → IsTransfer asked blocks e entries log →
-        writes_of ((e ∷ entries) ++ log) ≡ (if is_complete (outcome_of asked (replies_of (e ∷ entries))) then (record { cycle = e.taken.cycle; raw = idn.raw; bytes = stored b bytes }) ∷ writes_of log else writes_of log)
+        writes_of ((e ∷ entries) ++ log) ≡ (if is_complete (outcome_of asked (replies_of (e ∷ entries))) then (record { cycle = e.processed.cycle; raw = idn.raw; bytes = stored b bytes }) ∷ writes_of log else writes_of log)
     writes_once_by e entries log are is =
         let before = stage_before e entries log is in
         let next = newest_step asked blocks log e entries is in
@@ -222,7 +222,7 @@ module _ (idn : Idn) (bytes : List ℕ) (b : Block) (said : shape_of 7 (low_of b
         ∙ same_choice _ _ _ _ _ _ (sym (complete-outcome_of asked e.answer (replies_of entries))) (bytes_written-told b bytes are) before.1
       where
         same_choice : (u v : Bool) (x y : List ℕ) (past writes : List Write) → u ≡ v → x ≡ y → past ≡ writes →
-            (if u then (record { cycle = e.taken.cycle; raw = idn.raw; bytes = x }) ∷ past else past) ≡ (if v then (record { cycle = e.taken.cycle; raw = idn.raw; bytes = y }) ∷ writes else writes)
+            (if u then (record { cycle = e.processed.cycle; raw = idn.raw; bytes = x }) ∷ past else past) ≡ (if v then (record { cycle = e.processed.cycle; raw = idn.raw; bytes = y }) ∷ writes else writes)
         same_choice u v x y past writes of_test of_bytes of_past =
-            ap₂ (λ (c : Bool) (z : List ℕ). if c then (record { cycle = e.taken.cycle; raw = idn.raw; bytes = z }) ∷ past else past) of_test of_bytes
-            ∙ ap (λ (l : List Write). if v then (record { cycle = e.taken.cycle; raw = idn.raw; bytes = y }) ∷ l else l) of_past
+            ap₂ (λ (c : Bool) (z : List ℕ). if c then (record { cycle = e.processed.cycle; raw = idn.raw; bytes = z }) ∷ past else past) of_test of_bytes
+            ∙ ap (λ (l : List Write). if v then (record { cycle = e.processed.cycle; raw = idn.raw; bytes = y }) ∷ l else l) of_past

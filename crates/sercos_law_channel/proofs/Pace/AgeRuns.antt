@@ -4,14 +4,14 @@ use Rattle.std.specs.Prelude.{◌==◌, Option, is_some}
 use Rattle.std.proofs.lemmas.Bool.{cond-true, cond-false, eqb-true, eq-eqb}
 use mathlib.Core.Bool.{beq}
 use Rattle.sercos_step.specs.declared.step.Step.{Step}
-use Rattle.sercos_service_drive.specs.Log.{Taken, Entry}
+use Rattle.sercos_service_drive.specs.Log.{Processed, Entry}
 use Rattle.sercos_service_drive.specs.Replies.{reply_of, log_of}
 use Rattle.sercos_service_master.specs.Begun.{Begun, open_in, steps_in, answers_in, is_odd}
 use Rattle.sercos_law_channel.specs.Handshake.InStep.{log_steps}
 use Rattle.sercos_law_channel.proofs.Handshake.HandshakeMoves.{log-taken}
 use Rattle.sercos_law_channel.proofs.Handshake.TransferSteps.{length-steps_of}
 use Rattle.sercos_law_channel.specs.Handshake.Views.{View, standing, stood_in, record_in, with_record}
-use Rattle.sercos_law_channel.specs.Handshake.Epochs.{unless_restart, epoch_begun, begun_in, epoch_taken, taken_in_views, epoch_log, log_in}
+use Rattle.sercos_law_channel.specs.Handshake.Epochs.{unless_restart, epoch_begun, begun_in, epoch_records, records_in_views, epoch_log, log_in}
 use Rattle.sercos_law_channel.specs.Handshake.Runs.{IsRun}
 use Rattle.sercos_law_channel.specs.Pace.Times.{one_more, open_cycles, AreUndisturbed, IsOnTime, Rests, Waits}
 use Rattle.sercos_law_channel.specs.Pace.Stretches.{IsClean, AreClean, open_since, IsInTime, RestsNow, WaitsNow}
@@ -24,25 +24,25 @@ use Rattle.sercos_law_channel.proofs.Pace.WholeCycles.{stays_dead}
 use Rattle.sercos_law_channel.proofs.Pace.EpochBegins.{none_begun}
 
 -- a cycle adds no entry to the log, or one of this cycle
-pub log_grows : (v : View) (past : List View) → v.master_restarts ≡ false → (log_in v past ≡ epoch_log past) ⊎ ((x : Entry) × (log_in v past ≡ x ∷ epoch_log past) × (x.taken.cycle ≡ length past))
+pub log_grows : (v : View) (past : List View) → v.master_restarts ≡ false → (log_in v past ≡ epoch_log past) ⊎ ((x : Entry) × (log_in v past ≡ x ∷ epoch_log past) × (x.processed.cycle ≡ length past))
 log_grows v past on = by (processes v past)
   where
-    same : log_of (unless_restart v (epoch_taken past)) ≡ epoch_log past
-    same = ap log_of (cond-false v.master_restarts [] (epoch_taken past) on)
+    same : log_of (unless_restart v (epoch_records past)) ≡ epoch_log past
+    same = ap log_of (cond-false v.master_restarts [] (epoch_records past) on)
 
-    by : Processes v past → (log_in v past ≡ epoch_log past) ⊎ ((x : Entry) × (log_in v past ≡ x ∷ epoch_log past) × (x.taken.cycle ≡ length past))
-    by (Nothing none) = inl (ap (λ (o : Option Taken). log_of (with_record o (unless_restart v (epoch_taken past)))) none ∙ same)
-    by (Record s got came two some) = which (beq t.mhs (is_odd log)) (ap (λ (o : Option Taken). log_of (with_record o (unless_restart v (epoch_taken past)))) some ∙ log-taken t (unless_restart v (epoch_taken past)))
+    by : Processes v past → (log_in v past ≡ epoch_log past) ⊎ ((x : Entry) × (log_in v past ≡ x ∷ epoch_log past) × (x.processed.cycle ≡ length past))
+    by (Nothing none) = inl (ap (λ (o : Option Processed). log_of (with_record o (unless_restart v (epoch_records past)))) none ∙ same)
+    by (Record s got came two some) = which (beq t.mhs (is_odd log)) (ap (λ (o : Option Processed). log_of (with_record o (unless_restart v (epoch_records past)))) some ∙ log-taken t (unless_restart v (epoch_records past)))
       where
-        t : Taken
+        t : Processed
         t = record_in v (length past) (stood_in v (standing past)) s
 
         log : List Entry
-        log = log_of (unless_restart v (epoch_taken past))
+        log = log_of (unless_restart v (epoch_records past))
 
-        which : (b : Bool) → log_in v past ≡ (if b then log else (record { taken = t; answer = reply_of t log }) ∷ log) → (log_in v past ≡ epoch_log past) ⊎ ((x : Entry) × (log_in v past ≡ x ∷ epoch_log past) × (x.taken.cycle ≡ length past))
+        which : (b : Bool) → log_in v past ≡ (if b then log else (record { processed = t; answer = reply_of t log }) ∷ log) → (log_in v past ≡ epoch_log past) ⊎ ((x : Entry) × (log_in v past ≡ x ∷ epoch_log past) × (x.processed.cycle ≡ length past))
         which true is = inl (is ∙ same)
-        which false is = inr (record { taken = t; answer = reply_of t log }, is ∙ ap (λ (l : List Entry). (record { taken = t; answer = reply_of t log }) ∷ l) same, refl)
+        which false is = inr (record { processed = t; answer = reply_of t log }, is ∙ ap (λ (l : List Entry). (record { processed = t; answer = reply_of t log }) ∷ l) same, refl)
 
 -- where nothing was begun, no step is open
 none_old : (past : List View) → epoch_begun past ≡ [] → age_in past ≡ 0
@@ -61,7 +61,7 @@ nothing_old busy past run begins = none_old past (none_begun busy past run begin
 module _ (busy : ℕ) where
   -- an open step is no older than its entry, but for its age before the stretch
   abbrev AgesSo : List View → List View → Type 0
-  AgesSo all past = (e : Entry) (log : List Entry) → epoch_log all ≡ e ∷ log → is_some (open_in (epoch_begun all)) ≡ true → age_in all + e.taken.cycle ≤ length all + age_in past
+  AgesSo all past = (e : Entry) (log : List Entry) → epoch_log all ≡ e ∷ log → is_some (open_in (epoch_begun all)) ≡ true → age_in all + e.processed.cycle ≤ length all + age_in past
 
   -- one cycle more
   module _ (v : View) (all past : List View) (clean : IsClean v all) where
@@ -69,7 +69,7 @@ module _ (busy : ℕ) where
     begun = cond-false v.falls [] (begun_in v all) clean.stays
 
     pub logged : epoch_log (v ∷ all) ≡ log_in v all
-    logged = ap log_of (cond-false v.falls [] (taken_in_views v all) clean.stays)
+    logged = ap log_of (cond-false v.falls [] (records_in_views v all) clean.stays)
 
     pub before : unless_restart v (epoch_begun all) ≡ epoch_begun all
     before = cond-false v.master_restarts [] (epoch_begun all) clean.goes_on
@@ -83,21 +83,21 @@ module _ (busy : ℕ) where
         aged ∙ cond-true (is_some (open_in (begun_in v all))) _ 0 at
 
     -- a new step is open
-    new_age : (e : Entry) → e.taken.cycle < length (v ∷ all) → age_in (v ∷ all) ≤ 1 → age_in (v ∷ all) + e.taken.cycle ≤ length (v ∷ all) + age_in past
+    new_age : (e : Entry) → e.processed.cycle < length (v ∷ all) → age_in (v ∷ all) ≤ 1 → age_in (v ∷ all) + e.processed.cycle ≤ length (v ∷ all) + age_in past
     new_age e earlier young = omega arith
 
     -- the step that was open is open still
-    old_age : (e f : Entry) (log rest : List Entry) → epoch_log (v ∷ all) ≡ e ∷ log → epoch_log all ≡ f ∷ rest → e.taken.cycle < length (v ∷ all) → is_some (open_in (epoch_begun (v ∷ all))) ≡ true →
-        steps_in (epoch_begun (v ∷ all)) ≡ log_steps (epoch_log (v ∷ all)) → steps_in (epoch_begun all) ≡ log_steps (epoch_log all) → age_in all + f.taken.cycle ≤ length all + age_in past → age_in (v ∷ all) + e.taken.cycle ≤ length (v ∷ all) + age_in past
+    old_age : (e f : Entry) (log rest : List Entry) → epoch_log (v ∷ all) ≡ e ∷ log → epoch_log all ≡ f ∷ rest → e.processed.cycle < length (v ∷ all) → is_some (open_in (epoch_begun (v ∷ all))) ≡ true →
+        steps_in (epoch_begun (v ∷ all)) ≡ log_steps (epoch_log (v ∷ all)) → steps_in (epoch_begun all) ≡ log_steps (epoch_log all) → age_in all + f.processed.cycle ≤ length all + age_in past → age_in (v ∷ all) + e.processed.cycle ≤ length (v ∷ all) + age_in past
     old_age e f log rest those were earlier some now then_ old = by (length (steps_in (begun_in v all)) == length (steps_in (unless_restart v (epoch_begun all)))) refl (aged_open some)
       where
-        by : (same : Bool) → (length (steps_in (begun_in v all)) == length (steps_in (unless_restart v (epoch_begun all)))) ≡ same → age_in (v ∷ all) ≡ (if same then age_in all + 1 else 1) → age_in (v ∷ all) + e.taken.cycle ≤ length (v ∷ all) + age_in past
+        by : (same : Bool) → (length (steps_in (begun_in v all)) == length (steps_in (unless_restart v (epoch_begun all)))) ≡ same → age_in (v ∷ all) ≡ (if same then age_in all + 1 else 1) → age_in (v ∷ all) + e.processed.cycle ≤ length (v ∷ all) + age_in past
         by false is age = omega arith
         by true is age = elim (log_grows v all clean.goes_on) [
           | inl stays ↦
               let one : e ∷ log ≡ f ∷ rest = sym those ∙ logged ∙ stays ∙ were in
               let entry : e ≡ f = cc in
-              let cycle = ap (λ (x : Entry). x.taken.cycle) entry in omega (arith, age, cycle, old)
+              let cycle = ap (λ (x : Entry). x.processed.cycle) entry in omega (arith, age, cycle, old)
           | inr (x, grows, at) ↦
               let count : length (steps_in (begun_in v all)) ≡ length (steps_in (unless_restart v (epoch_begun all))) = eqb-true _ _ is in
               let left : length (steps_in (begun_in v all)) ≡ length (log_steps (epoch_log (v ∷ all))) = ap (λ (l : List Begun). length (steps_in l)) (sym begun) ∙ ap length now in
@@ -111,7 +111,7 @@ module _ (busy : ℕ) where
   ages_so v cycles past run clean (RestsNow none is) e log those some = absurd (cc)
   ages_so v [] past run clean (WaitsNow x rest at opened all earlier late sum) e log those some =
       let same : x ≡ e = (let one : x ∷ rest ≡ e ∷ log = sym at ∙ those in cc) in
-      let cycle = ap (λ (y : Entry). y.taken.cycle) same in
+      let cycle = ap (λ (y : Entry). y.processed.cycle) same in
       let age = aged_open v past past clean.1 some in
       let le = age_choice (length (steps_in (begun_in v past)) == length (steps_in (unless_restart v (epoch_begun past)))) (age_in past) in omega (arith, cycle, age, le, earlier)
     where
@@ -120,14 +120,14 @@ module _ (busy : ℕ) where
       age_choice false n = omega arith
   ages_so v (u ∷ cycles) past run clean (WaitsNow x rest at opened all earlier late sum) e log those some =
       let same : x ≡ e = (let one : x ∷ rest ≡ e ∷ log = sym at ∙ those in cc) in
-      let cycle = ap (λ (y : Entry). y.taken.cycle) same in
-      let soon : e.taken.cycle < length (v ∷ u ∷ (cycles ++ past)) = omega (arith, cycle, earlier) in
+      let cycle = ap (λ (y : Entry). y.processed.cycle) same in
+      let soon : e.processed.cycle < length (v ∷ u ∷ (cycles ++ past)) = omega (arith, cycle, earlier) in
       behind (comes_in_time busy u cycles past run.0 clean.0) (ages_so u cycles past run.0 clean.0 (comes_in_time busy u cycles past run.0 clean.0)) soon
     where
       before_all : List View
       before_all = u ∷ (cycles ++ past)
 
-      behind : IsInTime busy (u ∷ cycles) past → AgesSo (u ∷ (cycles ++ past)) past → e.taken.cycle < length (v ∷ u ∷ (cycles ++ past)) → age_in (v ∷ u ∷ (cycles ++ past)) + e.taken.cycle ≤ length (v ∷ u ∷ (cycles ++ past)) + age_in past
+      behind : IsInTime busy (u ∷ cycles) past → AgesSo (u ∷ (cycles ++ past)) past → e.processed.cycle < length (v ∷ u ∷ (cycles ++ past)) → age_in (v ∷ u ∷ (cycles ++ past)) + e.processed.cycle ≤ length (v ∷ u ∷ (cycles ++ past)) + age_in past
       behind (WaitsNow f more were was steps before_ late_ sum_) old soon =
           old_age v before_all past clean.1 e f log more those were soon some all steps (old f more were (ap is_some was))
       behind (RestsNow none is) old soon =
@@ -200,8 +200,8 @@ module _ (busy : ℕ) where
       spent = open_in_all (v ∷ cycles) past clean ∙ ap (λ (n : ℕ). n + open_cycles past) (opens_always (v ∷ cycles) past work)
 
       by : IsOnTime busy (v ∷ (cycles ++ past)) → IsOnTime busy past →
-          (e : Entry) × (log : List Entry) × (epoch_log (v ∷ (cycles ++ past)) ≡ e ∷ log) × (e.taken.cycle ≤ length (cycles ++ past)) × (length (cycles ++ past) ≤ e.taken.cycle + busy)
-          × (length (v ∷ cycles) + (busy + 1) * length (answers_in (epoch_begun past)) + e.taken.cycle ≡ (busy + 1) * length (answers_in (epoch_begun (v ∷ (cycles ++ past)))) + length (v ∷ (cycles ++ past)))
+          (e : Entry) × (log : List Entry) × (epoch_log (v ∷ (cycles ++ past)) ≡ e ∷ log) × (e.processed.cycle ≤ length (cycles ++ past)) × (length (cycles ++ past) ≤ e.processed.cycle + busy)
+          × (length (v ∷ cycles) + (busy + 1) * length (answers_in (epoch_begun past)) + e.processed.cycle ≡ (busy + 1) * length (answers_in (epoch_begun (v ∷ (cycles ++ past)))) + length (v ∷ (cycles ++ past)))
       by (Rests none is) then_ = let off : is_some (open_in (epoch_begun (v ∷ (cycles ++ past)))) ≡ false = ap is_some none in absurd (apart opened_now off)
         where
           apart : {b : Bool} → b ≡ true → b ≡ false → ⊥

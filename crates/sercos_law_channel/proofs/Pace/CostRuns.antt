@@ -12,7 +12,7 @@ use Rattle.sercos_step.proofs.AnswerCounts.{times_le}
 use Rattle.sercos_block.specs.declared.block.Block.{Block}
 use Rattle.sercos_block.specs.Stores.{find_block}
 use Rattle.sercos_command.specs.Calls.{status_in}
-use Rattle.sercos_service_drive.specs.Log.{Taken, Entry, accepted}
+use Rattle.sercos_service_drive.specs.Log.{Processed, Entry, accepted}
 use Rattle.sercos_service_drive.specs.Replies.{reply_of, log_of}
 use Rattle.sercos_service_drive.specs.Writes.{Write, writes_of}
 use Rattle.sercos_service_master.specs.Begun.{Begun, step_at, open_in, steps_in, answers_in, is_odd}
@@ -24,7 +24,7 @@ use Rattle.sercos_law_channel.proofs.Handshake.LogParts.{fall_into_parts}
 use Rattle.sercos_law_channel.proofs.Handshake.ReadStages.{low_of, high_of}
 use Rattle.sercos_law_channel.proofs.Handshake.TransferSteps.{length-replies_of}
 use Rattle.sercos_law_channel.specs.Handshake.Views.{View, standing, stood_in, record_in, processed_in, with_record}
-use Rattle.sercos_law_channel.specs.Handshake.Epochs.{unless_restart, epoch_begun, epoch_taken, taken_in_views, epoch_log, log_in}
+use Rattle.sercos_law_channel.specs.Handshake.Epochs.{unless_restart, epoch_begun, epoch_records, records_in_views, epoch_log, log_in}
 use Rattle.sercos_law_channel.specs.Handshake.Runs.{IsRun}
 use Rattle.sercos_law_channel.specs.Handshake.WholeRun.{leaving, all_writes, AreSound, AreSmall}
 use Rattle.sercos_law_channel.specs.Pace.Times.{time_for}
@@ -42,7 +42,7 @@ use Rattle.sercos_law_channel.proofs.Pace.TransferCosts.{LogListed, unknown_one,
 -- at each entry at which a command runs, the newest write to it is no longer ago than a command takes
 abbrev pub LogTimed : ℕ → List Write → List Entry → Type 0
 LogTimed time ago [] = Unit {0}
-LogTimed time ago (p ∷ log) = LogTimed time ago log × ((raw : ℕ) → status_in p.taken.commands raw p.taken.cycle ≡ 7 → (at : ℕ) × (newest_at raw (writes_of log ++ ago) ≡ Some at) × (p.taken.cycle < at + time))
+LogTimed time ago (p ∷ log) = LogTimed time ago log × ((raw : ℕ) → status_in p.processed.commands raw p.processed.cycle ≡ 7 → (at : ℕ) × (newest_at raw (writes_of log ++ ago) ≡ Some at) × (p.processed.cycle < at + time))
 
 split_timed : (time : ℕ) (ago : List Write) (part rest : List Entry) → LogTimed time ago (part ++ rest) → LogTimed time ago rest
 split_timed time ago [] rest timed = timed
@@ -122,11 +122,11 @@ module _ (said : (b : Block) → b.attribute.factor < 2 ^ 16 → shape_of 7 (low
       omega (arith, one, more, sum)
 
   -- the cycles give the times
-  timed_start : (r : Bool) (past : List View) → LogTimed time (writes_ago past) (epoch_log past) → LogTimed time (leaving r (writes_of (epoch_log past)) (writes_ago past)) (log_of (if r then [] else epoch_taken past))
+  timed_start : (r : Bool) (past : List View) → LogTimed time (writes_ago past) (epoch_log past) → LogTimed time (leaving r (writes_of (epoch_log past)) (writes_ago past)) (log_of (if r then [] else epoch_records past))
   timed_start true past timed = tt
   timed_start false past timed = timed
 
-  same_writes : (r : Bool) (past : List View) → IsRun busy past → all_writes past ≡ writes_of (log_of (if r then [] else epoch_taken past)) ++ leaving r (writes_of (epoch_log past)) (writes_ago past)
+  same_writes : (r : Bool) (past : List View) → IsRun busy past → all_writes past ≡ writes_of (log_of (if r then [] else epoch_records past)) ++ leaving r (writes_of (epoch_log past)) (writes_ago past)
   same_writes true past run = writes_in_epochs busy past run
   same_writes false past run = writes_in_epochs busy past run
 
@@ -136,18 +136,18 @@ module _ (said : (b : Block) → b.attribute.factor < 2 ^ 16 → shape_of 7 (low
       ago : List Write
       ago = leaving v.master_restarts (writes_of (epoch_log past)) (writes_ago past)
 
-      joined_so : (same : Bool) (x : Entry) (log : List Entry) → LogTimed time ago log → ((raw : ℕ) → status_in x.taken.commands raw x.taken.cycle ≡ 7 → (at : ℕ) × (newest_at raw (writes_of log ++ ago) ≡ Some at) × (x.taken.cycle < at + time)) → LogTimed time ago (if same then log else x ∷ log)
+      joined_so : (same : Bool) (x : Entry) (log : List Entry) → LogTimed time ago log → ((raw : ℕ) → status_in x.processed.commands raw x.processed.cycle ≡ 7 → (at : ℕ) × (newest_at raw (writes_of log ++ ago) ≡ Some at) × (x.processed.cycle < at + time)) → LogTimed time ago (if same then log else x ∷ log)
       joined_so true x log old new = old
       joined_so false x log old new = (old, new)
 
       by : Processes v past → LogTimed time ago (log_in v past)
-      by (Nothing none) = subst (λ (o : Option Taken). LogTimed time ago (log_of (with_record o (unless_restart v (epoch_taken past))))) (sym none) (timed_start v.master_restarts past timed)
+      by (Nothing none) = subst (λ (o : Option Processed). LogTimed time ago (log_of (with_record o (unless_restart v (epoch_records past))))) (sym none) (timed_start v.master_restarts past timed)
       by (Record s got came two some) =
-          let t : Taken = record_in v (length past) (stood_in v (standing past)) s in
-          let log = log_of (unless_restart v (epoch_taken past)) in
-          subst (λ (o : Option Taken). LogTimed time ago (log_of (with_record o (unless_restart v (epoch_taken past))))) (sym some)
-          (subst (LogTimed time ago) (sym (log-taken t (unless_restart v (epoch_taken past))))
-          (joined_so (beq t.mhs (is_odd log)) (record { taken = t; answer = reply_of t log }) log (timed_start v.master_restarts past timed)
+          let t : Processed = record_in v (length past) (stood_in v (standing past)) s in
+          let log = log_of (unless_restart v (epoch_records past)) in
+          subst (λ (o : Option Processed). LogTimed time ago (log_of (with_record o (unless_restart v (epoch_records past))))) (sym some)
+          (subst (LogTimed time ago) (sym (log-taken t (unless_restart v (epoch_records past))))
+          (joined_so (beq t.mhs (is_odd log)) (record { processed = t; answer = reply_of t log }) log (timed_start v.master_restarts past timed)
           (λ raw seven. let w = is raw seven in (w.0, ap (newest_at raw) (sym (same_writes v.master_restarts past run.0)) ∙ w.1, w.2))))
 
   timed_in : (past : List View) → IsRun busy past → AreTimed time past → LogTimed time (writes_ago past) (epoch_log past)
@@ -155,7 +155,7 @@ module _ (said : (b : Block) → b.attribute.factor < 2 ^ 16 → shape_of 7 (low
   timed_in (v ∷ past) run are = by v.falls (timed_cycle v past run are.1 (timed_in past run.0 are.0))
     where
       by : (falls : Bool) → LogTimed time (leaving v.master_restarts (writes_of (epoch_log past)) (writes_ago past)) (log_in v past) →
-          LogTimed time (leaving falls (writes_of (log_in v past)) (leaving v.master_restarts (writes_of (epoch_log past)) (writes_ago past))) (log_of (if falls then [] else taken_in_views v past))
+          LogTimed time (leaving falls (writes_of (log_in v past)) (leaving v.master_restarts (writes_of (epoch_log past)) (writes_ago past))) (log_of (if falls then [] else records_in_views v past))
       by true timed = tt
       by false timed = timed
 
@@ -164,27 +164,27 @@ module _ (said : (b : Block) → b.attribute.factor < 2 ^ 16 → shape_of 7 (low
   listed_in [] are = tt
   listed_in (v ∷ past) are = by v.falls v.master_restarts (listed_in past are.0) (processes v past)
     where
-      old : (r : Bool) → LogListed longest (epoch_log past) → LogListed longest (log_of (if r then [] else epoch_taken past))
+      old : (r : Bool) → LogListed longest (epoch_log past) → LogListed longest (log_of (if r then [] else epoch_records past))
       old true listed = tt
       old false listed = listed
 
-      joined_so : (same : Bool) (x : Entry) (log : List Entry) → IsListed longest x.taken.blocks → LogListed longest log → LogListed longest (if same then log else x ∷ log)
+      joined_so : (same : Bool) (x : Entry) (log : List Entry) → IsListed longest x.processed.blocks → LogListed longest log → LogListed longest (if same then log else x ∷ log)
       joined_so true x log new listed = listed
       joined_so false x log new listed = (listed, new)
 
-      by : (falls r : Bool) → LogListed longest (epoch_log past) → Processes v past → LogListed longest (log_of (if falls then [] else with_record (processed_in v past) (if r then [] else epoch_taken past)))
+      by : (falls r : Bool) → LogListed longest (epoch_log past) → Processes v past → LogListed longest (log_of (if falls then [] else with_record (processed_in v past) (if r then [] else epoch_records past)))
       by true r listed p = tt
-      by false r listed (Nothing none) = subst (λ (o : Option Taken). LogListed longest (log_of (with_record o (if r then [] else epoch_taken past)))) (sym none) (old r listed)
+      by false r listed (Nothing none) = subst (λ (o : Option Processed). LogListed longest (log_of (with_record o (if r then [] else epoch_records past)))) (sym none) (old r listed)
       by false r listed (Record s got came two some) =
-          let t : Taken = record_in v (length past) (stood_in v (standing past)) s in
-          let log = log_of (if r then [] else epoch_taken past) in
-          subst (λ (o : Option Taken). LogListed longest (log_of (with_record o (if r then [] else epoch_taken past)))) (sym some)
-          (subst (LogListed longest) (sym (log-taken t (if r then [] else epoch_taken past))) (joined_so (beq t.mhs (is_odd log)) (record { taken = t; answer = reply_of t log }) log are.1 (old r listed)))
+          let t : Processed = record_in v (length past) (stood_in v (standing past)) s in
+          let log = log_of (if r then [] else epoch_records past) in
+          subst (λ (o : Option Processed). LogListed longest (log_of (with_record o (if r then [] else epoch_records past)))) (sym some)
+          (subst (LogListed longest) (sym (log-taken t (if r then [] else epoch_records past))) (joined_so (beq t.mhs (is_odd log)) (record { processed = t; answer = reply_of t log }) log are.1 (old r listed)))
 
   pub stays_in_cost : (past : List View) → IsRun busy past → AreSound blocks past → AreTimed time past → AreListed longest past → (busy + 1) * length (epoch_log past) ≤ cost_in (cost_of busy time longest blocks) (epoch_begun past)
   stays_in_cost past run sound timed listed =
       let is = epoch blocks busy past run sound in
-      parts_cost (writes_ago past) (epoch_begun past) (epoch_log past) (fall_into_parts (epoch_begun past) (epoch_log past) is.in_turn (in_step busy past run)) (answered_replies (accepted (epoch_taken past))) is.alike (spaces_steps busy past run) (timed_in past run timed) (listed_in past listed)
+      parts_cost (writes_ago past) (epoch_begun past) (epoch_log past) (fall_into_parts (epoch_begun past) (epoch_log past) is.in_turn (in_step busy past run)) (answered_replies (accepted (epoch_records past))) is.alike (spaces_steps busy past run) (timed_in past run timed) (listed_in past listed)
 
   -- the answers are at most the accepted steps
   answers_few : (begun : List Begun) (log : List Entry) → AreInStep begun log → length (answers_in begun) ≤ length log
@@ -193,7 +193,7 @@ module _ (said : (b : Block) → b.attribute.factor < 2 ^ 16 → shape_of 7 (low
   answers_few begun log (Kept e past opened is s a) = let y = ap length a in let z = ap length is in let m = length-replies_of past in omega (arith, y, z, m)
 
   -- .. and one less if one waits
-  answers_fewer : (e : Entry) (past : List Entry) (begun : List Begun) (log : List Entry) → AreInStep begun log → steps_in begun ≡ log_steps log → open_in begun ≡ Some e.taken.step → length (answers_in begun) + 1 ≤ length log
+  answers_fewer : (e : Entry) (past : List Entry) (begun : List Begun) (log : List Entry) → AreInStep begun log → steps_in begun ≡ log_steps log → open_in begun ≡ Some e.processed.step → length (answers_in begun) + 1 ≤ length log
   answers_fewer e past begun log (Idle none s a) all opened = absurd (cc)
   answers_fewer e past begun log (Sent step at s a) all opened = let more = ap length (sym s ∙ all) in absurd (omega (arith, more))
   answers_fewer e past begun log (Kept x rest at is s a) all opened = let y = ap length a in let z = ap length is in let m = length-replies_of rest in omega (arith, y, z, m)
@@ -275,7 +275,7 @@ module _ (said : (b : Block) → b.attribute.factor < 2 ^ 16 → shape_of 7 (low
       let parts = fall_into_parts (epoch_begun past) (epoch_log past) is.in_turn (in_step busy past run) in
       parts_since (writes_ago past) recent old (epoch_log past) (subst (λ (l : List Begun). AreParts l (epoch_log past)) split parts)
       (subst AreInTurn split is.in_turn) shut
-      (answered_replies (accepted (epoch_taken past))) is.alike (spaces_steps busy past run) (timed_in past run timed)
+      (answered_replies (accepted (epoch_records past))) is.alike (spaces_steps busy past run) (timed_in past run timed)
       (listed_in past listed)
 
   -- the recent requests

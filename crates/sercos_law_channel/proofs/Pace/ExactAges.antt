@@ -31,7 +31,7 @@ all_accepted busy past run (Rests none is) = by (in_step busy past run)
 
 module _ (busy : ℕ) where
   abbrev IsOld : List View → Type 0
-  IsOld all = (e : Entry) (log : List Entry) → epoch_log all ≡ e ∷ log → is_some (open_in (epoch_begun all)) ≡ true → age_in all + e.taken.cycle ≡ length all
+  IsOld all = (e : Entry) (log : List Entry) → epoch_log all ≡ e ∷ log → is_some (open_in (epoch_begun all)) ≡ true → age_in all + e.processed.cycle ≡ length all
 
   run_behind : (v : View) (all : List View) → IsRun busy (v ∷ all) → IsRun busy all
   run_behind v all run = run.0
@@ -42,7 +42,7 @@ module _ (busy : ℕ) where
     | inl stays ↦ stayed stays then_
     | inr (x, grows, at) ↦
         let entry : x ≡ e = (let one : x ∷ epoch_log all ≡ e ∷ log = sym grows ∙ sym (logged busy v all all clean) ∙ those in cc) in
-        let cycle = ap (λ (y : Entry). y.taken.cycle) entry in
+        let cycle = ap (λ (y : Entry). y.processed.cycle) entry in
         let more : length (epoch_log (v ∷ all)) ≡ suc (length (epoch_log all)) = ap length (logged busy v all all clean ∙ grows) in
         let off : (length (steps_in (begun_in v all)) == length (steps_in (unless_restart v (epoch_begun all)))) ≡ false = ne_eqb _ _ (λ is. omega (arith, is, more, count_now, count_then)) in
         let age : age_in (v ∷ all) ≡ 1 = aged_open busy v all all clean some ∙ cond-false _ (age_in all + 1) 1 off in
@@ -55,10 +55,10 @@ module _ (busy : ℕ) where
       count_then : length (steps_in (unless_restart v (epoch_begun all))) ≡ length (epoch_log all)
       count_then = ap (λ (l : List Begun). length (steps_in l)) (before busy v all all clean) ∙ ap length (all_accepted busy all (run_behind v all run) then_) ∙ length-steps_of (epoch_log all)
 
-      stayed : log_in v all ≡ epoch_log all → IsOnTime busy all → age_in (v ∷ all) + e.taken.cycle ≡ length (v ∷ all)
+      stayed : log_in v all ≡ epoch_log all → IsOnTime busy all → age_in (v ∷ all) + e.processed.cycle ≡ length (v ∷ all)
       stayed stays (Waits f rest were opened steps earlier late sum) =
           let entry : f ≡ e = (let one : f ∷ rest ≡ e ∷ log = sym were ∙ sym stays ∙ sym (logged busy v all all clean) ∙ those in cc) in
-          let cycle = ap (λ (y : Entry). y.taken.cycle) entry in
+          let cycle = ap (λ (y : Entry). y.processed.cycle) entry in
           let long : length (epoch_log (v ∷ all)) ≡ length (epoch_log all) = ap length (logged busy v all all clean ∙ stays) in
           let on : (length (steps_in (begun_in v all)) == length (steps_in (unless_restart v (epoch_begun all)))) ≡ true = eq-eqb _ _ (count_now ∙ long ∙ sym count_then) in
           let age : age_in (v ∷ all) ≡ age_in all + 1 = aged_open busy v all all clean some ∙ cond-true _ (age_in all + 1) 1 on in

@@ -3,13 +3,13 @@ use Rattle.std.proofs.Common.{◌≡◌, inl, inr, ℕ, ◌+◌, true, false, Li
 use Rattle.std.specs.Prelude.{Option, Some, None, IfSome, is_some}
 use Rattle.std.proofs.lemmas.Bool.{cond-false}
 use Rattle.sercos_step.specs.declared.step.Step.{Step}
-use Rattle.sercos_service_drive.specs.Log.{Taken}
+use Rattle.sercos_service_drive.specs.Log.{Processed}
 use Rattle.sercos_service_drive.specs.Replies.{reply_of, log_of}
 use Rattle.sercos_service_master.specs.Begun.{Begun, open_in, answers_it}
 use Rattle.sercos_law_channel.specs.Handshake.InStep.{AreInStep}
 use Rattle.sercos_law_channel.proofs.Handshake.HandshakeMoves.{log-taken}
 use Rattle.sercos_law_channel.specs.Handshake.Views.{Heard, View, standing, stood_in, record_in, processed_in, with_record}
-use Rattle.sercos_law_channel.specs.Handshake.Epochs.{with_heard, unless_restart, epoch_begun, begun_in, epoch_taken, log_in}
+use Rattle.sercos_law_channel.specs.Handshake.Epochs.{with_heard, unless_restart, epoch_begun, begun_in, epoch_records, log_in}
 use Rattle.sercos_law_channel.specs.Handshake.Runs.{IsShown, IsRun}
 use Rattle.sercos_law_channel.specs.Pace.Times.{IsUndisturbed}
 use Rattle.sercos_law_channel.proofs.Handshake.PhaseMoves.{Processes, Nothing, Record, processes}
@@ -20,11 +20,11 @@ use Rattle.sercos_law_channel.proofs.Pace.OnTime.{Starts, StartsFree, StartsNew,
 module _ (Fits : ℕ → ℕ → Type 0) (add : (a b n : ℕ) → Fits a b → Fits (a + n) (b + n)) (busy : ℕ) where
   -- after what is heard
   heard_so : (v : View) (past : List View) (spent : ℕ) → IsRun busy (v ∷ past) → (o : Option Heard) → IfSome o (λ a. IsShown busy a v past)
-      → AreInStep (with_heard o (unless_restart v (epoch_begun past))) (log_of (unless_restart v (epoch_taken past))) →
+      → AreInStep (with_heard o (unless_restart v (epoch_begun past))) (log_of (unless_restart v (epoch_records past))) →
       (is_some (open_in (unless_restart v (epoch_begun past))) ≡ true → is_some o ≡ true) →
-      Starts Fits busy (length past) spent (unless_restart v (epoch_begun past)) (log_of (unless_restart v (epoch_taken past))) →
+      Starts Fits busy (length past) spent (unless_restart v (epoch_begun past)) (log_of (unless_restart v (epoch_records past))) →
       Works Fits busy (length past) spent (with_heard o (unless_restart v (epoch_begun past)))
-      (log_of (unless_restart v (epoch_taken past)))
+      (log_of (unless_restart v (epoch_records past)))
   heard_so v past spent run None shown after hears (StartsFree none is) = Free none is
   heard_so v past spent run None shown after hears (StartsNew s opened more is) = let lost = hears (ap is_some opened) in absurd (cc)
   heard_so v past spent run None shown after hears (StartsBusy e log those opened all earlier soon sum) = let lost = hears
@@ -32,26 +32,26 @@ module _ (Fits : ℕ → ℕ → Type 0) (add : (a b n : ℕ) → Fits a b → F
   heard_so v past spent run (Some a) shown after hears (StartsFree none is) =
       let off : answers_it (unless_restart v (epoch_begun past)) a.status ≡ false = quiet_none
       (unless_restart v (epoch_begun past)) a.status none in
-      subst (λ (l : List Begun). Works Fits busy (length past) spent l (log_of (unless_restart v (epoch_taken past))))
+      subst (λ (l : List Begun). Works Fits busy (length past) spent l (log_of (unless_restart v (epoch_records past))))
       (sym (cond-false (answers_it (unless_restart v (epoch_begun past)) a.status) _ _ off)) (Free none is)
   heard_so v past spent run (Some a) shown after hears
       (StartsNew s opened more is) = elim (shown_of busy v past run (joined busy past run.0) a shown) [
         | inl none ↦ let free : open_in (unless_restart v (epoch_begun past)) ≡ None = ap open_in none in absurd (cc)
         | inr says ↦ new_works Fits busy (length past) spent v.showing a.status a.word (unless_restart v (epoch_begun past))
-            (unless_restart v (epoch_taken past)) says s opened more is
+            (unless_restart v (epoch_records past)) says s opened more is
       ]
   heard_so v past spent run (Some a) shown after hears
       (StartsBusy e log those opened all earlier soon sum) = elim (shown_of busy v past run (joined busy past run.0) a shown) [
         | inl none ↦ let free : open_in (unless_restart v (epoch_begun past)) ≡ None = ap open_in none in absurd (cc)
         | inr says ↦ heard_works Fits busy (length past) spent v.showing a.status a.word (unless_restart v (epoch_begun past))
-            (unless_restart v (epoch_taken past)) says e log
-            (restarted busy v (epoch_begun past) (epoch_taken past) (in_step busy past run.0)) after those opened all earlier soon sum
+            (unless_restart v (epoch_records past)) says e log
+            (restarted busy v (epoch_begun past) (epoch_records past) (in_step busy past run.0)) after those opened all earlier soon sum
       ]
 
   -- after the record
   recorded : (v : View) (past : List View) (spent : ℕ) → IsRun busy (v ∷ past)
       → (is_some (open_in (begun_in v past)) ≡ true → is_some (processed_in v past) ≡ true) →
-      Works Fits busy (length past) spent (begun_in v past) (log_of (unless_restart v (epoch_taken past))) → Ends Fits busy
+      Works Fits busy (length past) spent (begun_in v past) (log_of (unless_restart v (epoch_records past))) → Ends Fits busy
       (length past) spent (begun_in v past) (log_in v past)
   recorded v past spent run takes w = by (processes v past)
     where
@@ -61,25 +61,25 @@ module _ (Fits : ℕ → ℕ → Type 0) (add : (a b n : ℕ) → Fits a b → F
 
       by : Processes v past → Ends Fits busy (length past) spent (begun_in v past) (log_in v past)
       by (Nothing none) =
-          subst (λ (o : Option Taken). Ends Fits busy (length past) spent (begun_in v past)
-          (log_of (with_record o (unless_restart v (epoch_taken past))))) (sym none)
-          (silent_works Fits busy (length past) spent (begun_in v past) (log_of (unless_restart v (epoch_taken past)))
+          subst (λ (o : Option Processed). Ends Fits busy (length past) spent (begun_in v past)
+          (log_of (with_record o (unless_restart v (epoch_records past))))) (sym none)
+          (silent_works Fits busy (length past) spent (begun_in v past) (log_of (unless_restart v (epoch_records past)))
           (none_open none (open_in (begun_in v past)) takes) w)
       by (Record s got came two some) =
-          let t : Taken = record_in v (length past) (stood_in v (standing past)) s in
-          subst (λ (o : Option Taken). Ends Fits busy (length past) spent (begun_in v past)
-          (log_of (with_record o (unless_restart v (epoch_taken past))))) (sym some)
-          (subst (Ends Fits busy (length past) spent (begun_in v past)) (sym (log-taken t (unless_restart v (epoch_taken past))))
-          (taken_works Fits busy (length past) spent (begun_in v past) (log_of (unless_restart v (epoch_taken past))) add t
-          (reply_of t (log_of (unless_restart v (epoch_taken past)))) (said_of busy v past run.1.sent s got) refl w))
+          let t : Processed = record_in v (length past) (stood_in v (standing past)) s in
+          subst (λ (o : Option Processed). Ends Fits busy (length past) spent (begun_in v past)
+          (log_of (with_record o (unless_restart v (epoch_records past))))) (sym some)
+          (subst (Ends Fits busy (length past) spent (begun_in v past)) (sym (log-taken t (unless_restart v (epoch_records past))))
+          (taken_works Fits busy (length past) spent (begun_in v past) (log_of (unless_restart v (epoch_records past))) add t
+          (reply_of t (log_of (unless_restart v (epoch_records past)))) (said_of busy v past run.1.sent s got) refl w))
 
   -- one cycle, before a fall
   pub in_cycle : (v : View) (past : List View) (spent : ℕ) → IsRun busy (v ∷ past) → IsUndisturbed v past
-      → Starts Fits busy (length past) spent (unless_restart v (epoch_begun past)) (log_of (unless_restart v (epoch_taken past)))
+      → Starts Fits busy (length past) spent (unless_restart v (epoch_begun past)) (log_of (unless_restart v (epoch_records past)))
       → Ends Fits busy (length past) spent (begun_in v past) (log_in v past)
   in_cycle v past spent run whole start =
-      let taken = unless_restart v (epoch_taken past) in
-      let h0 = restarted busy v (epoch_begun past) (epoch_taken past) (in_step busy past run.0) in
+      let taken = unless_restart v (epoch_records past) in
+      let h0 = restarted busy v (epoch_begun past) (epoch_records past) (in_step busy past run.0) in
       let h1 = heard_of busy v past run (joined busy past run.0) v.heard run.1.heard h0 in
       let h2 = begun_of busy v.begins (with_heard v.heard (unless_restart v (epoch_begun past))) taken run.1.begins h1 in
       let first = heard_so v past spent run v.heard run.1.heard h1 whole.hears start in

@@ -2,7 +2,7 @@
 use Rattle.std.proofs.Common.{◌≡◌, ℕ, ◌+◌, ◌<◌, ◌≤◌, List, ◌∷◌, Some, arith}
 use Rattle.sercos_telegram.specs.declared.words.Status.{Status}
 use Rattle.sercos_command.specs.Calls.{CommandHistory}
-use Rattle.sercos_service_drive.specs.Log.{Taken, Entry}
+use Rattle.sercos_service_drive.specs.Log.{Processed, Entry}
 use Rattle.sercos_service_drive.specs.Replies.{log_of}
 use Rattle.sercos_service_drive.specs.Says.{channel_says, shown_by}
 use Rattle.sercos_service_master.specs.Begun.{Begun, open_in, steps_in, answers_in}
@@ -20,17 +20,17 @@ WorksLate busy c spent begun log = Works InTime busy c spent begun log
 
 -- any past is a start
 pub any_start : (busy c spent : ℕ) (begun : List Begun) (log : List Entry) → spent ≡ time_for busy (answers_in begun) → AreInStep begun log
-    → ((e : Entry) (past : List Entry) → log ≡ e ∷ past → e.taken.cycle < c) → Starts InTime busy c spent begun log
+    → ((e : Entry) (past : List Entry) → log ≡ e ∷ past → e.processed.cycle < c) → Starts InTime busy c spent begun log
 any_start busy c spent begun log is (Idle none s a) earlier = StartsFree none (omega arith)
 any_start busy c spent begun log is (Sent step opened s a) earlier = StartsNew step opened s (omega arith)
 any_start busy c spent begun log is (Kept e past opened those s a) earlier = let less = earlier e past those in
     StartsBusy e past those opened s less (λ due. omega arith) (omega arith)
 
-pub heard_late : (busy c spent : ℕ) (showing : CommandHistory) (status : Status) (word : ℕ) (begun : List Begun) (taken : List Taken)
+pub heard_late : (busy c spent : ℕ) (showing : CommandHistory) (status : Status) (word : ℕ) (begun : List Begun) (taken : List Processed)
     → shown_by status word ≡ channel_says busy c showing taken → (e : Entry) (past : List Entry) → AreInStep begun (log_of taken)
     → AreInStep (with_status status word begun) (log_of taken) →
-    log_of taken ≡ e ∷ past → open_in begun ≡ Some e.taken.step → steps_in begun ≡ log_steps (log_of taken) → e.taken.cycle < c
-    → spent ≤ time_for busy (answers_in begun) + (busy + 1) → spent + e.taken.cycle ≤ time_for busy (answers_in begun) + c
+    log_of taken ≡ e ∷ past → open_in begun ≡ Some e.processed.step → steps_in begun ≡ log_steps (log_of taken) → e.processed.cycle < c
+    → spent ≤ time_for busy (answers_in begun) + (busy + 1) → spent + e.processed.cycle ≤ time_for busy (answers_in begun) + c
     → WorksLate busy c spent (with_status status word begun) (log_of taken)
 heard_late busy c spent showing status word begun taken says e past before after those opened all earlier soon sum =
     heard_works InTime busy c spent showing status word begun taken says e past before after those opened all earlier (λ due. soon) sum

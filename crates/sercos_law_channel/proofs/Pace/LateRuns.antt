@@ -4,13 +4,13 @@ use Rattle.std.specs.Prelude.{Option, is_some}
 use Rattle.std.proofs.lemmas.Bool.{cond-false}
 use mathlib.Core.Bool.{beq}
 use Rattle.sercos_step.specs.declared.step.Step.{Step}
-use Rattle.sercos_service_drive.specs.Log.{Taken, Entry}
+use Rattle.sercos_service_drive.specs.Log.{Processed, Entry}
 use Rattle.sercos_service_drive.specs.Replies.{reply_of, log_of}
 use Rattle.sercos_service_master.specs.Begun.{Begun, open_in, steps_in, answers_in, is_odd}
 use Rattle.sercos_law_channel.specs.Handshake.InStep.{log_steps}
 use Rattle.sercos_law_channel.proofs.Handshake.HandshakeMoves.{log-taken}
 use Rattle.sercos_law_channel.specs.Handshake.Views.{View, processed_in, with_record}
-use Rattle.sercos_law_channel.specs.Handshake.Epochs.{epoch_begun, begun_in, epoch_taken, taken_in_views, epoch_log, log_in}
+use Rattle.sercos_law_channel.specs.Handshake.Epochs.{epoch_begun, begun_in, epoch_records, records_in_views, epoch_log, log_in}
 use Rattle.sercos_law_channel.specs.Handshake.Runs.{IsRun}
 use Rattle.sercos_law_channel.specs.Pace.Times.{time_for, one_more}
 use Rattle.sercos_law_channel.specs.Pace.Stretches.{IsClean, open_since, spent_since, IsInTime, RestsNow, WaitsNow, ComesInTime, TakesTimeSince}
@@ -22,44 +22,44 @@ use Rattle.sercos_law_channel.proofs.Pace.InCycle.{in_cycle}
 use Rattle.sercos_law_channel.proofs.Pace.OnTime.{Starts, StartsFree, StartsBusy, Ends, AtRest, Waiting}
 
 -- the records of the epoch came before now
-abbrev pub AreBefore : ℕ → List Taken → Type 0
+abbrev pub AreBefore : ℕ → List Processed → Type 0
 AreBefore cycle [] = Unit {0}
 AreBefore cycle (t ∷ h) = AreBefore cycle h × (t.cycle < cycle)
 
-later : (n k : ℕ) (h : List Taken) → n ≤ k → AreBefore n h → AreBefore k h
+later : (n k : ℕ) (h : List Processed) → n ≤ k → AreBefore n h → AreBefore k h
 later n k [] le are = tt
 later n k (t ∷ h) le are = (later n k h le are.0, (let less = are.1 in omega arith))
 
-pub taken_before : (past : List View) → AreBefore (length past) (epoch_taken past)
+pub taken_before : (past : List View) → AreBefore (length past) (epoch_records past)
 taken_before [] = tt
 taken_before (v ∷ past) = by v.falls v.master_restarts (processes v past) (taken_before past)
   where
-    old : (r : Bool) → AreBefore (length past) (epoch_taken past) → AreBefore (suc (length past)) (if r then [] else epoch_taken past)
+    old : (r : Bool) → AreBefore (length past) (epoch_records past) → AreBefore (suc (length past)) (if r then [] else epoch_records past)
     old true are = tt
-    old false are = later (length past) (suc (length past)) (epoch_taken past) (omega arith) are
+    old false are = later (length past) (suc (length past)) (epoch_records past) (omega arith) are
 
-    by : (falls r : Bool) → Processes v past → AreBefore (length past) (epoch_taken past) → AreBefore (suc (length past)) (if falls then [] else with_record (processed_in v past) (if r then [] else epoch_taken past))
+    by : (falls r : Bool) → Processes v past → AreBefore (length past) (epoch_records past) → AreBefore (suc (length past)) (if falls then [] else with_record (processed_in v past) (if r then [] else epoch_records past))
     by true r p are = tt
-    by false r (Nothing none) are = subst (λ (o : Option Taken). AreBefore (suc (length past)) (with_record o (if r then [] else epoch_taken past))) (sym none) (old r are)
-    by false r (Record s got came two some) are = subst (λ (o : Option Taken). AreBefore (suc (length past)) (with_record o (if r then [] else epoch_taken past))) (sym some) (old r are, omega arith)
+    by false r (Nothing none) are = subst (λ (o : Option Processed). AreBefore (suc (length past)) (with_record o (if r then [] else epoch_records past))) (sym none) (old r are)
+    by false r (Record s got came two some) are = subst (λ (o : Option Processed). AreBefore (suc (length past)) (with_record o (if r then [] else epoch_records past))) (sym some) (old r are, omega arith)
 
-pub head_before : (n : ℕ) (h : List Taken) → AreBefore n h → (e : Entry) (past : List Entry) → log_of h ≡ e ∷ past → e.taken.cycle < n
+pub head_before : (n : ℕ) (h : List Processed) → AreBefore n h → (e : Entry) (past : List Entry) → log_of h ≡ e ∷ past → e.processed.cycle < n
 head_before n [] are e past those = absurd (cc)
 head_before n (t ∷ h) are e past those = by (beq t.mhs (is_odd (log_of h))) refl (sym (log-taken t h) ∙ those) (head_before n h are.0 e past)
   where
-    by : (v : Bool) → beq t.mhs (is_odd (log_of h)) ≡ v → (if v then log_of h else (record { taken = t; answer = reply_of t (log_of h) }) ∷ log_of h) ≡ e ∷ past → (log_of h ≡ e ∷ past → e.taken.cycle < n) → e.taken.cycle < n
+    by : (v : Bool) → beq t.mhs (is_odd (log_of h)) ≡ v → (if v then log_of h else (record { processed = t; answer = reply_of t (log_of h) }) ∷ log_of h) ≡ e ∷ past → (log_of h ≡ e ∷ past → e.processed.cycle < n) → e.processed.cycle < n
     by true is same before = before same
-    by false is same before = let first : t ≡ e.taken = cc in let less = are.1 in let c = ap (λ (x : Taken). x.cycle) first in omega arith
+    by false is same before = let first : t ≡ e.processed = cc in let less = are.1 in let c = ap (λ (x : Processed). x.cycle) first in omega arith
 
 module _ (busy : ℕ) where
-  start_on : (r : Bool) (c spent : ℕ) (begun : List Begun) (taken : List Taken) → r ≡ false → Starts InTime busy c spent begun (log_of taken) → Starts InTime busy c spent (if r then [] else begun) (log_of (if r then [] else taken))
+  start_on : (r : Bool) (c spent : ℕ) (begun : List Begun) (taken : List Processed) → r ≡ false → Starts InTime busy c spent begun (log_of taken) → Starts InTime busy c spent (if r then [] else begun) (log_of (if r then [] else taken))
   start_on true c spent begun taken on is = absurd (cc)
   start_on false c spent begun taken on is = is
 
   -- one cycle
   in_one : (v : View) (past : List View) (spent : ℕ) → IsRun busy (v ∷ past) → IsClean v past → Starts InTime busy (length past) spent (epoch_begun past) (epoch_log past) → Ends InTime busy (length past) spent (begun_in v past) (log_in v past)
   in_one v past spent run clean before = in_cycle InTime (λ a b n less. omega (arith, less)) busy v past spent run clean.undisturbed
-      (start_on v.master_restarts (length past) spent (epoch_begun past) (epoch_taken past) clean.goes_on before)
+      (start_on v.master_restarts (length past) spent (epoch_begun past) (epoch_records past) clean.goes_on before)
 
   after_cycle : (v : View) (cycles past : List View) → v.falls ≡ false → Ends InTime busy (length (cycles ++ past)) (spent_since busy cycles past) (begun_in v (cycles ++ past)) (log_in v (cycles ++ past)) → IsInTime busy (v ∷ cycles) past
   after_cycle v cycles past on is = by is
@@ -68,7 +68,7 @@ module _ (busy : ℕ) where
       begun = cond-false v.falls [] (begun_in v (cycles ++ past)) on
 
       taken : epoch_log (v ∷ (cycles ++ past)) ≡ log_in v (cycles ++ past)
-      taken = ap log_of (cond-false v.falls [] (taken_in_views v (cycles ++ past)) on)
+      taken = ap log_of (cond-false v.falls [] (records_in_views v (cycles ++ past)) on)
 
       same : time_for busy (answers_in (epoch_begun (v ∷ (cycles ++ past)))) ≡ time_for busy (answers_in (begun_in v (cycles ++ past)))
       same = ap (λ (l : List Begun). time_for busy (answers_in l)) begun
@@ -87,7 +87,7 @@ module _ (busy : ℕ) where
 
   pub comes_in_time : ComesInTime busy
   comes_in_time v [] past run clean =
-      let start = any_start busy (length past) (spent_since busy [] past) (epoch_begun past) (epoch_log past) (omega arith) (in_step busy past run.0) (head_before (length past) (epoch_taken past) (taken_before past)) in
+      let start = any_start busy (length past) (spent_since busy [] past) (epoch_begun past) (epoch_log past) (omega arith) (in_step busy past run.0) (head_before (length past) (epoch_records past) (taken_before past)) in
       after_cycle v [] past clean.1.stays (in_one v past (spent_since busy [] past) run clean.1 start)
   comes_in_time v (u ∷ cycles) past run clean =
       after_cycle v (u ∷ cycles) past clean.1.stays (in_one v (u ∷ (cycles ++ past)) (spent_since busy (u ∷ cycles) past) run clean.1 (start_of (u ∷ cycles) past (comes_in_time u cycles past run.0 clean.0)))

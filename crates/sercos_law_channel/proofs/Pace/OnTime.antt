@@ -9,12 +9,12 @@ use Rattle.sercos_step.specs.declared.step.Step.{Step}
 use Rattle.sercos_step.specs.declared.step.Answer.{Answer}
 use Rattle.sercos_step.specs.declared.request.Request.{Request}
 use Rattle.sercos_command.specs.Calls.{CommandHistory, change_in}
-use Rattle.sercos_service_drive.specs.Log.{Taken, Entry, ahs}
+use Rattle.sercos_service_drive.specs.Log.{Processed, Entry, ahs}
 use Rattle.sercos_service_drive.specs.Replies.{log_of}
 use Rattle.sercos_service_drive.specs.Says.{Shown, shown, channel_says, shown_by}
 use Rattle.sercos_service_master.specs.Begun.{Begun, open_in, steps_in, answers_in, is_odd, answers_it, answer_in, with_answer, master_says, step_or_none}
 use Rattle.sercos_law_channel.specs.Handshake.InStep.{AreInStep, Idle, Sent, Kept, log_steps, replies_of}
-use Rattle.sercos_law_channel.specs.Handshake.Moves.{with_status, said_in, with_taken}
+use Rattle.sercos_law_channel.specs.Handshake.Moves.{with_status, said_in, with_processed}
 use Rattle.sercos_law_channel.proofs.Handshake.HandshakeMoves.{ahs-shown, quiet_bit, said_bit, said_step, parity, parity_sent, ahs-log}
 use Rattle.sercos_law_channel.proofs.Handshake.OnePhase.{no_longer}
 use Rattle.sercos_law_channel.specs.Handshake.Epochs.{with_begun}
@@ -26,26 +26,26 @@ pub data Works (Fits : ℕ → ℕ → Type 0) (busy c spent : ℕ) (begun : Lis
   Free : open_in begun ≡ None → Fits spent (time_for busy (answers_in begun)) → Works Fits busy c spent begun log
   New : (s : Step) → open_in begun ≡ Some s → steps_in begun ≡ s ∷ log_steps log → Fits spent (time_for busy (answers_in begun))
       → Works Fits busy c spent begun log
-  Busy : (e : Entry) (past : List Entry) → log ≡ e ∷ past → open_in begun ≡ Some e.taken.step → steps_in begun ≡ log_steps log
-      → e.taken.cycle ≤ c → c ≤ e.taken.cycle + busy
-      → Fits (spent + e.taken.cycle) (time_for busy (answers_in begun) + c) → Works Fits busy c spent begun log
+  Busy : (e : Entry) (past : List Entry) → log ≡ e ∷ past → open_in begun ≡ Some e.processed.step → steps_in begun ≡ log_steps log
+      → e.processed.cycle ≤ c → c ≤ e.processed.cycle + busy
+      → Fits (spent + e.processed.cycle) (time_for busy (answers_in begun) + c) → Works Fits busy c spent begun log
 
 -- at the end of the cycle
 pub data Ends (Fits : ℕ → ℕ → Type 0) (busy c spent : ℕ) (begun : List Begun) (after : List Entry) : Type 0 where
   AtRest : open_in begun ≡ None → Fits spent (time_for busy (answers_in begun)) → Ends Fits busy c spent begun after
-  Waiting : (e : Entry) (past : List Entry) → after ≡ e ∷ past → open_in begun ≡ Some e.taken.step → steps_in begun ≡ log_steps after
-      → e.taken.cycle ≤ c → c ≤ e.taken.cycle + busy
-      → Fits (spent + e.taken.cycle) (time_for busy (answers_in begun) + c) → Ends Fits busy c spent begun after
+  Waiting : (e : Entry) (past : List Entry) → after ≡ e ∷ past → open_in begun ≡ Some e.processed.step → steps_in begun ≡ log_steps after
+      → e.processed.cycle ≤ c → c ≤ e.processed.cycle + busy
+      → Fits (spent + e.processed.cycle) (time_for busy (answers_in begun) + c) → Ends Fits busy c spent begun after
 
 -- and at the start of one: the answer to a step that was accepted is in time, if the drive shows it now
 pub data Starts (Fits : ℕ → ℕ → Type 0) (busy c spent : ℕ) (begun : List Begun) (log : List Entry) : Type 0 where
   StartsFree : open_in begun ≡ None → Fits spent (time_for busy (answers_in begun)) → Starts Fits busy c spent begun log
   StartsNew : (s : Step) → open_in begun ≡ Some s → steps_in begun ≡ s ∷ log_steps log → Fits spent (time_for busy (answers_in begun))
       → Starts Fits busy c spent begun log
-  StartsBusy : (e : Entry) (past : List Entry) → log ≡ e ∷ past → open_in begun ≡ Some e.taken.step → steps_in begun ≡ log_steps log
-      → e.taken.cycle < c
-      → (e.taken.cycle + (busy + 1) ≤ c → Fits spent (time_for busy (answers_in begun) + (busy + 1)))
-      → Fits (spent + e.taken.cycle) (time_for busy (answers_in begun) + c) → Starts Fits busy c spent begun log
+  StartsBusy : (e : Entry) (past : List Entry) → log ≡ e ∷ past → open_in begun ≡ Some e.processed.step → steps_in begun ≡ log_steps log
+      → e.processed.cycle < c
+      → (e.processed.cycle + (busy + 1) ≤ c → Fits spent (time_for busy (answers_in begun) + (busy + 1)))
+      → Fits (spent + e.processed.cycle) (time_for busy (answers_in begun) + c) → Starts Fits busy c spent begun log
 
 -- if every accepted step has its answer, none is busy
 settled : (Fits : ℕ → ℕ → Type 0) (busy c spent : ℕ) (begun : List Begun) (log : List Entry) → AreInStep begun log
@@ -68,7 +68,7 @@ shown_free busy c cycle is before = grind (arith, nat_tests)
 
 -- a step that is open and accepted has no answer yet
 pub one_waits : (begun : List Begun) (log : List Entry) → AreInStep begun log → (e : Entry) (past : List Entry) → log ≡ e ∷ past
-    → open_in begun ≡ Some e.taken.step → steps_in begun ≡ log_steps log → answers_in begun ≡ replies_of past
+    → open_in begun ≡ Some e.processed.step → steps_in begun ≡ log_steps log → answers_in begun ≡ replies_of past
 one_waits begun log (Idle none s a) e past those opened all = absurd (cc)
 one_waits begun log (Sent step at s a) e past those opened all = absurd (no_longer step (log_steps log) (sym s ∙ all))
 one_waits begun log (Kept x rest at is s a) e past those opened all = let same : x ∷ rest ≡ e ∷ past = sym is ∙ those in
@@ -91,7 +91,7 @@ busy_quiet status begun on = ap (λ (b : Bool). is_some (open_in begun) && (beq 
     (is_some (open_in begun)) (beq status.ahs (is_odd (steps_in begun)))
 
 module _ (Fits : ℕ → ℕ → Type 0) (busy c spent : ℕ) (showing : CommandHistory) (status : Status) (word : ℕ) (begun : List Begun)
-    (taken : List Taken) (says : shown_by status word ≡ channel_says busy c showing taken) where
+    (taken : List Processed) (says : shown_by status word ≡ channel_says busy c showing taken) where
   bit : status.ahs ≡ is_odd (log_of taken)
   bit = ap (λ (s : Shown). s.ahs) says ∙ ahs-shown busy c (ahs taken) (change_in showing c) (log_of taken) ∙ ahs-log taken
 
@@ -104,44 +104,44 @@ module _ (Fits : ℕ → ℕ → Type 0) (busy c spent : ℕ) (showing : Command
 
   -- the master hears what the drive shows of an accepted step
   pub heard_works : (e : Entry) (past : List Entry) → AreInStep begun (log_of taken)
-      → AreInStep (with_status status word begun) (log_of taken) → log_of taken ≡ e ∷ past → open_in begun ≡ Some e.taken.step
-      → steps_in begun ≡ log_steps (log_of taken) → e.taken.cycle < c →
-      (e.taken.cycle + (busy + 1) ≤ c → Fits spent (time_for busy (answers_in begun) + (busy + 1))) → Fits (spent + e.taken.cycle)
+      → AreInStep (with_status status word begun) (log_of taken) → log_of taken ≡ e ∷ past → open_in begun ≡ Some e.processed.step
+      → steps_in begun ≡ log_steps (log_of taken) → e.processed.cycle < c →
+      (e.processed.cycle + (busy + 1) ≤ c → Fits spent (time_for busy (answers_in begun) + (busy + 1))) → Fits (spent + e.processed.cycle)
       (time_for busy (answers_in begun) + c) → Works Fits busy c spent (with_status status word begun) (log_of taken)
   heard_works e past before after those opened all earlier soon sum =
-      by (nat_le (c - e.taken.cycle) busy) refl (says ∙ ap (shown busy c (ahs taken) (change_in showing c)) those)
+      by (nat_le (c - e.processed.cycle) busy) refl (says ∙ ap (shown busy c (ahs taken) (change_in showing c)) those)
     where
-      by : (v : Bool) → nat_le (c - e.taken.cycle) busy ≡ v →
+      by : (v : Bool) → nat_le (c - e.processed.cycle) busy ≡ v →
           shown_by status word ≡ (if v then record { ahs = ahs taken; busy = true; error = false; change = change_in showing c; word = 0 } else record { ahs = ahs taken; busy = false; error = e.answer.error; change = change_in showing c; word = e.answer.word }) →
           Works Fits busy c spent (with_status status word begun) (log_of taken)
       by true is shows =
           subst (λ (l : List Begun). Works Fits busy c spent l (log_of taken))
           (sym (quiet status word begun (busy_quiet status begun (ap (λ (s : Shown). s.busy) shows))))
-          (Busy e past those opened all (omega arith) (shown_busy busy c e.taken.cycle is) sum)
+          (Busy e past those opened all (omega arith) (shown_busy busy c e.processed.cycle is) sum)
       by false is shows =
           let same : answer_in status word ≡ e.answer = ap (λ (s : Shown). (let a : Answer = record { error = s.error; word = s.word } in a)) shows in
           let free : status.busy ≡ false = ap (λ (s : Shown). s.busy) shows in
           let takes : answers_it begun status ≡ true = rw (opened, bit, parity (steps_in begun) (log_of taken) all, free)
           (same_bit (is_odd (log_of taken))) in
           let with_one : with_status status word begun ≡ with_answer e.answer begun = cond-true (answers_it begun status) _ _ takes ∙ ap (λ (a : Answer). with_answer a begun) same in
-          let answers : answers_in (with_status status word begun) ≡ e.answer ∷ answers_in begun = ap answers_in with_one ∙ answered-answers e.answer begun e.taken.step opened in
+          let answers : answers_in (with_status status word begun) ≡ e.answer ∷ answers_in begun = ap answers_in with_one ∙ answered-answers e.answer begun e.processed.step opened in
           let whole : answers_in (with_status status word begun) ≡ replies_of (log_of taken) = answers
           ∙ ap (λ (l : List Answer). e.answer ∷ l) (one_waits begun (log_of taken) before e past those opened all) ∙ ap replies_of
           (sym those) in
           settled Fits busy c spent (with_status status word begun) (log_of taken) after whole
-          (subst (Fits spent) (ap (time_for busy) (sym answers)) (soon (shown_free busy c e.taken.cycle is (omega arith))))
+          (subst (Fits spent) (ap (time_for busy) (sym answers)) (soon (shown_free busy c e.processed.cycle is (omega arith))))
 
 module _ (begun : List Begun) (log : List Entry) where
   -- a record that was sent before is dropped
-  pub dropped : (t : Taken) (answer : Answer) → said_in t ≡ master_says begun → steps_in begun ≡ log_steps log → with_taken t answer log ≡ log
+  pub dropped : (t : Processed) (answer : Answer) → said_in t ≡ master_says begun → steps_in begun ≡ log_steps log → with_processed t answer log ≡ log
   dropped t answer says all = cond-true (beq t.mhs (is_odd log)) log _ (ap (λ (b : Bool). beq b (is_odd log)) (said_bit t begun says ∙ parity (steps_in begun) log all) ∙ same (is_odd log))
     where
       same : (b : Bool) → beq b b ≡ true
       same true = refl
       same false = refl
 
-  pub joins_log : (t : Taken) (answer : Answer) (s : Step) → said_in t ≡ master_says begun → steps_in begun ≡ s ∷ log_steps log
-      → with_taken t answer log ≡ (record { taken = t; answer = answer }) ∷ log
+  pub joins_log : (t : Processed) (answer : Answer) (s : Step) → said_in t ≡ master_says begun → steps_in begun ≡ s ∷ log_steps log
+      → with_processed t answer log ≡ (record { processed = t; answer = answer }) ∷ log
   joins_log t answer s says more = cond-false (beq t.mhs (is_odd log)) log _
       (ap (λ (b : Bool). beq b (is_odd log)) (said_bit t begun says ∙ parity_sent (steps_in begun) s log more) ∙ other (is_odd log))
     where
@@ -149,19 +149,19 @@ module _ (begun : List Begun) (log : List Entry) where
       other true = refl
       other false = refl
 
-pub joins : (busy c spent : ℕ) (begun : List Begun) (log : List Entry) (t : Taken) (answer : Answer) (s : Step)
+pub joins : (busy c spent : ℕ) (begun : List Begun) (log : List Entry) (t : Processed) (answer : Answer) (s : Step)
     → said_in t ≡ master_says begun → steps_in begun ≡ s ∷ log_steps log
-    → with_taken t answer log ≡ (record { taken = t; answer = answer }) ∷ log
+    → with_processed t answer log ≡ (record { processed = t; answer = answer }) ∷ log
 joins busy c spent begun log = joins_log begun log
 
 module _ (Fits : ℕ → ℕ → Type 0) (busy c spent : ℕ) (begun : List Begun) (log : List Entry) where
-  pub taken_works : ((a b n : ℕ) → Fits a b → Fits (a + n) (b + n)) → (t : Taken) (answer : Answer) → said_in t ≡ master_says begun
-      → t.cycle ≡ c → Works Fits busy c spent begun log → Ends Fits busy c spent begun (with_taken t answer log)
+  pub taken_works : ((a b n : ℕ) → Fits a b → Fits (a + n) (b + n)) → (t : Processed) (answer : Answer) → said_in t ≡ master_says begun
+      → t.cycle ≡ c → Works Fits busy c spent begun log → Ends Fits busy c spent begun (with_processed t answer log)
   taken_works add t answer says at (Free none is) = AtRest none is
   taken_works add t answer says at (New s opened more is) =
       let grown = joins_log begun log t answer s says more in
       let step : t.step ≡ s = said_step t begun says ∙ ap step_or_none opened in
-      Waiting (record { taken = t; answer = answer }) log grown (opened ∙ ap (λ (x : Step). Some x) (sym step))
+      Waiting (record { processed = t; answer = answer }) log grown (opened ∙ ap (λ (x : Step). Some x) (sym step))
       (more ∙ ap (λ (x : Step). x ∷ log_steps log) (sym step) ∙ ap log_steps (sym grown)) (omega arith) (omega arith)
       (subst (λ (n : ℕ). Fits (spent + t.cycle) (time_for busy (answers_in begun) + n)) at
       (add spent (time_for busy (answers_in begun)) t.cycle is))
@@ -191,12 +191,12 @@ module _ (Fits : ℕ → ℕ → Type 0) (busy c spent : ℕ) (begun : List Begu
       rests (Busy e past those opened all earlier late sum) = let off = shut refl in absurd (cc)
 
 -- a status that is an answer shows that the drive is no longer busy
-pub late_answer : (busy c : ℕ) (showing : CommandHistory) (status : Status) (word : ℕ) (begun : List Begun) (taken : List Taken) (e : Entry) (past : List Entry) → shown_by status word ≡ channel_says busy c showing taken → log_of taken ≡ e ∷ past →
-    answers_it begun status ≡ true → e.taken.cycle < c → e.taken.cycle + (busy + 1) ≤ c
-late_answer busy c showing status word begun taken e past says those takes earlier = by (nat_le (c - e.taken.cycle) busy) refl (says ∙ ap (shown busy c (ahs taken) (change_in showing c)) those)
+pub late_answer : (busy c : ℕ) (showing : CommandHistory) (status : Status) (word : ℕ) (begun : List Begun) (taken : List Processed) (e : Entry) (past : List Entry) → shown_by status word ≡ channel_says busy c showing taken → log_of taken ≡ e ∷ past →
+    answers_it begun status ≡ true → e.processed.cycle < c → e.processed.cycle + (busy + 1) ≤ c
+late_answer busy c showing status word begun taken e past says those takes earlier = by (nat_le (c - e.processed.cycle) busy) refl (says ∙ ap (shown busy c (ahs taken) (change_in showing c)) those)
   where
-    by : (v : Bool) → nat_le (c - e.taken.cycle) busy ≡ v →
+    by : (v : Bool) → nat_le (c - e.processed.cycle) busy ≡ v →
         shown_by status word ≡ (if v then record { ahs = ahs taken; busy = true; error = false; change = change_in showing c; word = 0 } else record { ahs = ahs taken; busy = false; error = e.answer.error; change = change_in showing c; word = e.answer.word }) →
-        e.taken.cycle + (busy + 1) ≤ c
-    by false is shows = shown_free busy c e.taken.cycle is (omega arith)
+        e.processed.cycle + (busy + 1) ≤ c
+    by false is shows = shown_free busy c e.processed.cycle is (omega arith)
     by true is shows = absurd (both_ways (answers_it begun status) (busy_quiet status begun (ap (λ (s : Shown). s.busy) shows)) takes)

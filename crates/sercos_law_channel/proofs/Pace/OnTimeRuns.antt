@@ -10,7 +10,7 @@ use Rattle.sercos_service_master.specs.Begun.{Begun, open_in, steps_in, answers_
 use Rattle.sercos_law_channel.specs.Handshake.InStep.{AreInStep, Idle, Sent, Kept, log_steps}
 use Rattle.sercos_law_channel.proofs.Handshake.TransferSteps.{length-steps_of, length-replies_of}
 use Rattle.sercos_law_channel.specs.Handshake.Views.{Heard, View}
-use Rattle.sercos_law_channel.specs.Handshake.Epochs.{unless_restart, epoch_begun, begun_in, epoch_taken, taken_in_views, epoch_log, log_in}
+use Rattle.sercos_law_channel.specs.Handshake.Epochs.{unless_restart, epoch_begun, begun_in, epoch_records, records_in_views, epoch_log, log_in}
 use Rattle.sercos_law_channel.specs.Handshake.Runs.{IsShown}
 use Rattle.sercos_law_channel.specs.Pace.Times.{time_for, one_more, open_cycles, AreUndisturbed, IsOnTime, Rests, Waits, AreOnTime, AnswersOnTime, TakesTime}
 use Rattle.sercos_law_channel.proofs.Handshake.EpochRuns.{joined, shown_of, in_step}
@@ -24,7 +24,7 @@ in_step_counts begun log (Idle none s a) = let x = ap length s in let y = ap len
 in_step_counts begun log (Sent step opened s a) = let x = ap length s in let y = ap length a in let n = length-steps_of log in let m = length-replies_of log in omega arith
 in_step_counts begun log (Kept e past opened is s a) = let x = ap length s in let y = ap length a in let z = ap length is in let n = length-steps_of log in let m = length-replies_of past in omega arith
 
-pub waiting_counts : (begun : List Begun) (log : List Entry) → AreInStep begun log → (e : Entry) (past : List Entry) → log ≡ e ∷ past → open_in begun ≡ Some e.taken.step → steps_in begun ≡ log_steps log → length (answers_in begun) + 1 ≤ length (steps_in begun)
+pub waiting_counts : (begun : List Begun) (log : List Entry) → AreInStep begun log → (e : Entry) (past : List Entry) → log ≡ e ∷ past → open_in begun ≡ Some e.processed.step → steps_in begun ≡ log_steps log → length (answers_in begun) + 1 ≤ length (steps_in begun)
 waiting_counts begun log h e past those opened all =
     let a = ap length (one_waits begun log h e past those opened all) in let s = ap length all in let z = ap length those in
     let n = length-steps_of log in let m = length-replies_of past in omega arith
@@ -36,14 +36,14 @@ abbrev spent_before : View → List View → ℕ
 spent_before v past = if v.master_restarts then 0 else open_cycles past
 
 module _ (busy : ℕ) where
-  starts : (v : View) (past : List View) → (v.master_restarts ≡ false → IsOnTime busy past) → Starts Exactly busy (length past) (spent_before v past) (unless_restart v (epoch_begun past)) (log_of (unless_restart v (epoch_taken past)))
+  starts : (v : View) (past : List View) → (v.master_restarts ≡ false → IsOnTime busy past) → Starts Exactly busy (length past) (spent_before v past) (unless_restart v (epoch_begun past)) (log_of (unless_restart v (epoch_records past)))
   starts v past before = by v.master_restarts before
     where
       going : IsOnTime busy past → Starts Exactly busy (length past) (open_cycles past) (epoch_begun past) (epoch_log past)
       going (Rests none is) = StartsFree none is
       going (Waits e log those opened all earlier late sum) = StartsBusy e log those opened all earlier (λ due. omega arith) sum
 
-      by : (r : Bool) → (r ≡ false → IsOnTime busy past) → Starts Exactly busy (length past) (if r then 0 else open_cycles past) (if r then [] else epoch_begun past) (log_of (if r then [] else epoch_taken past))
+      by : (r : Bool) → (r ≡ false → IsOnTime busy past) → Starts Exactly busy (length past) (if r then 0 else open_cycles past) (if r then [] else epoch_begun past) (log_of (if r then [] else epoch_records past))
       by true before = StartsFree refl refl
       by false before = going (before refl)
 
@@ -54,7 +54,7 @@ module _ (busy : ℕ) where
       begun = cond-false v.falls [] (begun_in v past) on
 
       taken : epoch_log (v ∷ past) ≡ log_in v past
-      taken = ap log_of (cond-false v.falls [] (taken_in_views v past) on)
+      taken = ap log_of (cond-false v.falls [] (records_in_views v past) on)
 
       spent : open_cycles (v ∷ past) ≡ one_more (is_some (open_in (begun_in v past))) (spent_before v past)
       spent = cond-false v.falls 0 _ on
@@ -93,13 +93,13 @@ module _ (busy : ℕ) where
       begun : unless_restart v (epoch_begun past) ≡ epoch_begun past
       begun = cond-false v.master_restarts [] (epoch_begun past) still
 
-      taken : unless_restart v (epoch_taken past) ≡ epoch_taken past
-      taken = cond-false v.master_restarts [] (epoch_taken past) still
+      taken : unless_restart v (epoch_records past) ≡ epoch_records past
+      taken = cond-false v.master_restarts [] (epoch_records past) still
 
       shown : IsShown busy a v past
       shown = subst (λ (o : Option Heard). IfSome o (λ x. IsShown busy x v past)) hears run.1.heard
 
-      by : IsOnTime busy past → (e : Entry) × (log : List Entry) × (epoch_log past ≡ e ∷ log) × (length past ≡ e.taken.cycle + (busy + 1))
+      by : IsOnTime busy past → (e : Entry) × (log : List Entry) × (epoch_log past ≡ e ∷ log) × (length past ≡ e.processed.cycle + (busy + 1))
       by (Rests none is) = absurd (both (answers_it (unless_restart v (epoch_begun past)) a.status) takes (quiet_none (unless_restart v (epoch_begun past)) a.status (ap open_in begun ∙ none)))
         where
           both : (v : Bool) → v ≡ true → v ≡ false → ⊥
@@ -108,11 +108,11 @@ module _ (busy : ℕ) where
       by (Waits e log those opened all earlier late sum) = elim (shown_of busy v past run (joined busy past run.0) a shown) [
         | inl none ↦ let free : open_in (epoch_begun past) ≡ None = ap open_in (sym begun) ∙ ap open_in none in absurd (apart (sym opened ∙ free))
         | inr says ↦
-            let due = late_answer busy (length past) v.showing a.status a.word (unless_restart v (epoch_begun past)) (unless_restart v (epoch_taken past)) e log says (ap log_of taken ∙ those) takes earlier in
+            let due = late_answer busy (length past) v.showing a.status a.word (unless_restart v (epoch_begun past)) (unless_restart v (epoch_records past)) e log says (ap log_of taken ∙ those) takes earlier in
             (e, log, those, omega arith)
       ]
         where
-          apart : Some e.taken.step ≡ None → ⊥
+          apart : Some e.processed.step ≡ None → ⊥
           apart is = cc
 
 pub time_of : (busy : ℕ) (answers : List Answer) → time_for busy answers ≡ (busy + 1) * length answers

@@ -4,15 +4,15 @@ use Rattle.std.specs.Prelude.{Option, Some, None, IfSome}
 use mathlib.Core.Bool.{beq}
 use Rattle.sercos_step.specs.declared.step.Answer.{Answer}
 use Rattle.sercos_step.specs.declared.request.Request.{Request}
-use Rattle.sercos_service_drive.specs.Log.{Taken, Entry}
+use Rattle.sercos_service_drive.specs.Log.{Processed, Entry}
 use Rattle.sercos_service_drive.specs.Replies.{reply_of, log_of}
 use Rattle.sercos_service_drive.specs.Says.{channel_says, shown_by}
 use Rattle.sercos_service_master.specs.Begun.{Begun, steps_in, answers_in, is_odd, answers_it, answer_in, with_answer, master_says}
 use Rattle.sercos_law_channel.specs.Handshake.InStep.{AreInStep, Idle, Sent, Kept, replies_of}
-use Rattle.sercos_law_channel.specs.Handshake.Moves.{said_in, with_taken}
+use Rattle.sercos_law_channel.specs.Handshake.Moves.{said_in, with_processed}
 use Rattle.sercos_law_channel.proofs.Handshake.HandshakeMoves.{said_bit, parity, log-taken}
 use Rattle.sercos_law_channel.specs.Handshake.Views.{Heard, View, standing, stood_in, record_in, with_record}
-use Rattle.sercos_law_channel.specs.Handshake.Epochs.{with_heard, with_begun, unless_restart, epoch_begun, begun_in, epoch_taken, taken_in_views, epoch_log, log_in}
+use Rattle.sercos_law_channel.specs.Handshake.Epochs.{with_heard, with_begun, unless_restart, epoch_begun, begun_in, epoch_records, records_in_views, epoch_log, log_in}
 use Rattle.sercos_law_channel.specs.Handshake.Runs.{IsShown, IsRun}
 use Rattle.sercos_law_channel.specs.Pace.Costs.{AreSpaced, SpacesSteps}
 use Rattle.sercos_law_channel.proofs.Handshake.PhaseMoves.{Processes, Nothing, Record, processes}
@@ -24,7 +24,7 @@ use Rattle.sercos_law_channel.proofs.Pace.LateRuns.{head_before, taken_before}
 -- These steps are apart; and if all answers were taken, the last step is as long ago.
 record IsSpaced (busy c : ℕ) (begun : List Begun) (log : List Entry) : Type 0 where
   spaced : AreSpaced busy log
-  due : answers_in begun ≡ replies_of log → (e : Entry) (past : List Entry) → log ≡ e ∷ past → e.taken.cycle + (busy + 1) ≤ c
+  due : answers_in begun ≡ replies_of log → (e : Entry) (past : List Entry) → log ≡ e ∷ past → e.processed.cycle + (busy + 1) ≤ c
 
 nothing_spaced : (busy c : ℕ) (begun : List Begun) → IsSpaced busy c begun []
 nothing_spaced busy c begun = record { spaced = tt; due = λ all e past those. absurd (cc) }
@@ -35,7 +35,7 @@ later_spaced busy c k begun log le is = record { spaced = is.spaced; due = λ al
 same_answers : (busy c : ℕ) (begun others : List Begun) (log : List Entry) → answers_in others ≡ answers_in begun → IsSpaced busy c begun log → IsSpaced busy c others log
 same_answers busy c begun others log same is = record { spaced = is.spaced; due = λ all e past those. is.due (sym same ∙ all) e past those }
 
-with_one : (busy : ℕ) (x : Entry) (log : List Entry) → AreSpaced busy log → ((e : Entry) (past : List Entry) → log ≡ e ∷ past → e.taken.cycle + (busy + 1) ≤ x.taken.cycle) → AreSpaced busy (x ∷ log)
+with_one : (busy : ℕ) (x : Entry) (log : List Entry) → AreSpaced busy log → ((e : Entry) (past : List Entry) → log ≡ e ∷ past → e.processed.cycle + (busy + 1) ≤ x.processed.cycle) → AreSpaced busy (x ∷ log)
 with_one busy x [] are due = tt
 with_one busy x (e ∷ log) are due = (are, due e log refl)
 
@@ -46,7 +46,7 @@ never_all begun log x (Kept e past opened those s a) all =
     let shorter : x.answer ∷ e.answer ∷ replies_of past ≡ replies_of past = ap (λ (l : List Entry). x.answer ∷ replies_of l) (sym those) ∙ sym all ∙ a in
     let long : suc (suc (length (replies_of past))) ≡ length (replies_of past) = ap length shorter in absurd (omega arith)
 
-taken_spaced : (busy c : ℕ) (begun : List Begun) (log : List Entry) (t : Taken) (answer : Answer) → AreInStep begun log → said_in t ≡ master_says begun → t.cycle ≡ c → IsSpaced busy c begun log → IsSpaced busy c begun (with_taken t answer log)
+taken_spaced : (busy c : ℕ) (begun : List Begun) (log : List Entry) (t : Processed) (answer : Answer) → AreInStep begun log → said_in t ≡ master_says begun → t.cycle ≡ c → IsSpaced busy c begun log → IsSpaced busy c begun (with_processed t answer log)
 taken_spaced busy c begun log t answer h says at is = by (beq t.mhs (is_odd log)) refl
   where
     answered : AreInStep begun log → beq t.mhs (is_odd log) ≡ false → answers_in begun ≡ replies_of log
@@ -59,69 +59,69 @@ taken_spaced busy c begun log t answer h says at is = by (beq t.mhs (is_odd log)
         self true = refl
         self false = refl
 
-    by : (v : Bool) → beq t.mhs (is_odd log) ≡ v → IsSpaced busy c begun (if v then log else (record { taken = t; answer = answer }) ∷ log)
+    by : (v : Bool) → beq t.mhs (is_odd log) ≡ v → IsSpaced busy c begun (if v then log else (record { processed = t; answer = answer }) ∷ log)
     by true same = is
     by false other =
-        let x : Entry = record { taken = t; answer = answer } in record {
+        let x : Entry = record { processed = t; answer = answer } in record {
           spaced = with_one busy x log is.spaced (λ e past those. let d = is.due (answered h other) e past those in omega (arith, at));
           due = λ all. absurd (never_all begun log x h all);
         }
 
 module _ (busy : ℕ) where
-  heard_spaced : (v : View) (past : List View) → IsRun busy (v ∷ past) → (o : Option Heard) → IfSome o (λ a. IsShown busy a v past) → ((e : Entry) (log : List Entry) → log_of (unless_restart v (epoch_taken past)) ≡ e ∷ log → e.taken.cycle < length past) →
-      IsSpaced busy (length past) (unless_restart v (epoch_begun past)) (log_of (unless_restart v (epoch_taken past))) → IsSpaced busy (length past) (with_heard o (unless_restart v (epoch_begun past))) (log_of (unless_restart v (epoch_taken past)))
+  heard_spaced : (v : View) (past : List View) → IsRun busy (v ∷ past) → (o : Option Heard) → IfSome o (λ a. IsShown busy a v past) → ((e : Entry) (log : List Entry) → log_of (unless_restart v (epoch_records past)) ≡ e ∷ log → e.processed.cycle < length past) →
+      IsSpaced busy (length past) (unless_restart v (epoch_begun past)) (log_of (unless_restart v (epoch_records past))) → IsSpaced busy (length past) (with_heard o (unless_restart v (epoch_begun past))) (log_of (unless_restart v (epoch_records past)))
   heard_spaced v past run None shown earlier is = is
   heard_spaced v past run (Some a) shown earlier is = elim (shown_of busy v past run (joined busy past run.0) a shown) [
-    | inl none ↦ subst (λ (b : List Begun). IsSpaced busy (length past) b (log_of (unless_restart v (epoch_taken past)))) (sym (ap (with_heard (Some a)) none ∙ sym none)) is
+    | inl none ↦ subst (λ (b : List Begun). IsSpaced busy (length past) b (log_of (unless_restart v (epoch_records past)))) (sym (ap (with_heard (Some a)) none ∙ sym none)) is
     | inr says ↦ record {
       spaced = is.spaced;
       due = λ all e log those. by (answers_it (unless_restart v (epoch_begun past)) a.status) refl all e log those says;
     }
   ]
     where
-      by : (b : Bool) → answers_it (unless_restart v (epoch_begun past)) a.status ≡ b → answers_in (if b then with_answer (answer_in a.status a.word) (unless_restart v (epoch_begun past)) else unless_restart v (epoch_begun past)) ≡ replies_of (log_of (unless_restart v (epoch_taken past))) →
-          (e : Entry) (log : List Entry) → log_of (unless_restart v (epoch_taken past)) ≡ e ∷ log → shown_by a.status a.word ≡ channel_says busy (length past) v.showing (unless_restart v (epoch_taken past)) → e.taken.cycle + (busy + 1) ≤ length past
-      by true takes all e log those says = late_answer busy (length past) v.showing a.status a.word (unless_restart v (epoch_begun past)) (unless_restart v (epoch_taken past)) e log says those takes (earlier e log those)
+      by : (b : Bool) → answers_it (unless_restart v (epoch_begun past)) a.status ≡ b → answers_in (if b then with_answer (answer_in a.status a.word) (unless_restart v (epoch_begun past)) else unless_restart v (epoch_begun past)) ≡ replies_of (log_of (unless_restart v (epoch_records past))) →
+          (e : Entry) (log : List Entry) → log_of (unless_restart v (epoch_records past)) ≡ e ∷ log → shown_by a.status a.word ≡ channel_says busy (length past) v.showing (unless_restart v (epoch_records past)) → e.processed.cycle + (busy + 1) ≤ length past
+      by true takes all e log those says = late_answer busy (length past) v.showing a.status a.word (unless_restart v (epoch_begun past)) (unless_restart v (epoch_records past)) e log says those takes (earlier e log those)
       by false off all e log those says = is.due all e log those
 
   begun_spaced : (o : Option Request) (c : ℕ) (begun : List Begun) (log : List Entry) → IsSpaced busy c begun log → IsSpaced busy c (with_begun o begun) log
   begun_spaced None c begun log is = is
   begun_spaced (Some r) c begun log is = same_answers busy c begun ((record { request = r; answers = [] }) ∷ begun) log refl is
 
-  recorded : (v : View) (past : List View) → IsRun busy (v ∷ past) → AreInStep (begun_in v past) (log_of (unless_restart v (epoch_taken past))) → IsSpaced busy (length past) (begun_in v past) (log_of (unless_restart v (epoch_taken past))) → IsSpaced busy (length past) (begun_in v past) (log_in v past)
+  recorded : (v : View) (past : List View) → IsRun busy (v ∷ past) → AreInStep (begun_in v past) (log_of (unless_restart v (epoch_records past))) → IsSpaced busy (length past) (begun_in v past) (log_of (unless_restart v (epoch_records past))) → IsSpaced busy (length past) (begun_in v past) (log_in v past)
   recorded v past run h is = by (processes v past)
     where
       by : Processes v past → IsSpaced busy (length past) (begun_in v past) (log_in v past)
-      by (Nothing none) = subst (λ (o : Option Taken). IsSpaced busy (length past) (begun_in v past) (log_of (with_record o (unless_restart v (epoch_taken past))))) (sym none) is
+      by (Nothing none) = subst (λ (o : Option Processed). IsSpaced busy (length past) (begun_in v past) (log_of (with_record o (unless_restart v (epoch_records past))))) (sym none) is
       by (Record s got came two some) =
-          let t : Taken = record_in v (length past) (stood_in v (standing past)) s in
-          subst (λ (o : Option Taken). IsSpaced busy (length past) (begun_in v past) (log_of (with_record o (unless_restart v (epoch_taken past))))) (sym some)
-          (subst (IsSpaced busy (length past) (begun_in v past)) (sym (log-taken t (unless_restart v (epoch_taken past))))
-          (taken_spaced busy (length past) (begun_in v past) (log_of (unless_restart v (epoch_taken past))) t (reply_of t (log_of (unless_restart v (epoch_taken past)))) h (said_of busy v past run.1.sent s got) refl is))
+          let t : Processed = record_in v (length past) (stood_in v (standing past)) s in
+          subst (λ (o : Option Processed). IsSpaced busy (length past) (begun_in v past) (log_of (with_record o (unless_restart v (epoch_records past))))) (sym some)
+          (subst (IsSpaced busy (length past) (begun_in v past)) (sym (log-taken t (unless_restart v (epoch_records past))))
+          (taken_spaced busy (length past) (begun_in v past) (log_of (unless_restart v (epoch_records past))) t (reply_of t (log_of (unless_restart v (epoch_records past)))) h (said_of busy v past run.1.sent s got) refl is))
 
   in_cycle : (v : View) (past : List View) → IsRun busy (v ∷ past) → IsSpaced busy (length past) (epoch_begun past) (epoch_log past) → IsSpaced busy (length past) (begun_in v past) (log_in v past)
   in_cycle v past run before =
-      let taken = unless_restart v (epoch_taken past) in
-      let h0 = restarted busy v (epoch_begun past) (epoch_taken past) (in_step busy past run.0) in
+      let taken = unless_restart v (epoch_records past) in
+      let h0 = restarted busy v (epoch_begun past) (epoch_records past) (in_step busy past run.0) in
       let h1 = heard_of busy v past run (joined busy past run.0) v.heard run.1.heard h0 in
       let h2 = begun_of busy v.begins (with_heard v.heard (unless_restart v (epoch_begun past))) taken run.1.begins h1 in
       let first = heard_spaced v past run v.heard run.1.heard (earlier v.master_restarts) (start v.master_restarts) in
       let second = begun_spaced v.begins (length past) (with_heard v.heard (unless_restart v (epoch_begun past))) (log_of taken) first in
       recorded v past run h2 second
     where
-      start : (r : Bool) → IsSpaced busy (length past) (if r then [] else epoch_begun past) (log_of (if r then [] else epoch_taken past))
+      start : (r : Bool) → IsSpaced busy (length past) (if r then [] else epoch_begun past) (log_of (if r then [] else epoch_records past))
       start true = nothing_spaced busy (length past) []
       start false = before
 
-      earlier : (r : Bool) (e : Entry) (log : List Entry) → log_of (if r then [] else epoch_taken past) ≡ e ∷ log → e.taken.cycle < length past
+      earlier : (r : Bool) (e : Entry) (log : List Entry) → log_of (if r then [] else epoch_records past) ≡ e ∷ log → e.processed.cycle < length past
       earlier true e log those = absurd (cc)
-      earlier false e log those = head_before (length past) (epoch_taken past) (taken_before past) e log those
+      earlier false e log those = head_before (length past) (epoch_records past) (taken_before past) e log those
 
   spaced_in : (past : List View) → IsRun busy past → IsSpaced busy (length past) (epoch_begun past) (epoch_log past)
   spaced_in [] run = nothing_spaced busy 0 []
   spaced_in (v ∷ past) run = by v.falls (in_cycle v past run (spaced_in past run.0))
     where
-      by : (falls : Bool) → IsSpaced busy (length past) (begun_in v past) (log_in v past) → IsSpaced busy (suc (length past)) (if falls then [] else begun_in v past) (log_of (if falls then [] else taken_in_views v past))
+      by : (falls : Bool) → IsSpaced busy (length past) (begun_in v past) (log_in v past) → IsSpaced busy (suc (length past)) (if falls then [] else begun_in v past) (log_of (if falls then [] else records_in_views v past))
       by true is = nothing_spaced busy (suc (length past)) []
       by false is = later_spaced busy (length past) (suc (length past)) (begun_in v past) (log_in v past) (omega arith) is
 

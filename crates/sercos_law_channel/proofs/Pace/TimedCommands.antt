@@ -10,7 +10,7 @@ use Rattle.sercos_command.specs.declared.commands.SetCommand.{SetCommand}
 use Rattle.sercos_command.specs.Settings.{is_command, ends_well, has_ended, status_by}
 use Rattle.sercos_command.specs.Calls.{Wrote, Other, setting_of, CommandHistory, with_call}
 use Rattle.sercos_command.specs.Kept.{find_set, without, with_set, set_in}
-use Rattle.sercos_service_drive.specs.Log.{Taken, ahs, open_idn, run_before, in_order}
+use Rattle.sercos_service_drive.specs.Log.{Processed, ahs, open_idn, run_before, in_order}
 use Rattle.sercos_service_drive.specs.Replies.{reply_of, log_of, bytes_written}
 use Rattle.sercos_service_drive.specs.Writes.{Write, takes_effect, written_by, with_added, adds, command_value, commands_with, added_on}
 use Rattle.sercos_law_channel.specs.Handshake.Views.{View, standing, stood_in, record_in, processed_in, kept_in}
@@ -28,8 +28,8 @@ later_set : (set : List SetCommand) (writes : List Write) (c k : ℕ) → c ≤ 
 later_set set writes c k le are raw s found = let is = are raw s found in (is.0, is.1, is.2, (let less = is.3 in omega (arith, less)))
 
 -- one more write that sets nothing
-with_write_more : (set : List SetCommand) (writes : List Write) (c : ℕ) (w : Write) → w.cycle ≡ c → AreSetBy set writes c → AreSetBy set (w ∷ writes) (suc c)
-with_write_more set writes c w at are raw s found = let is = are raw s found in by (w.raw == raw) is
+newest_write_sets : (set : List SetCommand) (writes : List Write) (c : ℕ) (w : Write) → w.cycle ≡ c → AreSetBy set writes c → AreSetBy set (w ∷ writes) (suc c)
+newest_write_sets set writes c w at are raw s found = let is = are raw s found in by (w.raw == raw) is
   where
     by : (same : Bool) → (old : ℕ) × (newest_at raw writes ≡ Some old) × (s.cycle ≤ old) × (old < c) → (new : ℕ) × ((if same then Some w.cycle else newest_at raw writes) ≡ Some new) × (s.cycle ≤ new) × (new < suc c)
     by true is = (w.cycle, refl, (let a = is.2 in let b = is.3 in omega (arith, a, b, at)), omega (arith, at))
@@ -80,7 +80,7 @@ set_by_command c writes cycle value blocks w at are = by (value == 0)
     n = record { idn = record { raw = w.raw }; cycle = w.cycle; well = ends_well c.rate w.raw blocks }
 
     old : AreSetBy (set_in c) (w ∷ writes) (suc cycle)
-    old = with_write_more (set_in c) writes cycle w at are
+    old = newest_write_sets (set_in c) writes cycle w at are
 
     added : (there : Bool) → AreSetBy (if there then set_in c else set_in c ++ n ∷ []) (w ∷ writes) (suc cycle)
     added true raw s found = old raw s found
@@ -100,7 +100,7 @@ set_by_write c writes cycle blocks w at are = by (is_command blocks w.raw)
   where
     by : (command : Bool) → AreSetBy (set_in (with_call (if command then Wrote w.raw (command_value w) w.cycle (with_data w.raw w.bytes blocks) else Other w.cycle) c)) (w ∷ writes) (suc cycle)
     by true = set_by_command c writes cycle (command_value w) (with_data w.raw w.bytes blocks) w at are
-    by false = with_write_more (set_in c) writes cycle w at are
+    by false = newest_write_sets (set_in c) writes cycle w at are
 
 set_by_any : (o : Option Write) (c : CommandHistory) (writes : List Write) (cycle : ℕ) (blocks : List Block) → ((w : Write) → o ≡ Some w → w.cycle ≡ cycle) → AreSetBy (set_in c) writes cycle →
     AreSetBy (set_in (commands_with o blocks c)) (with_added o writes) (suc cycle)
@@ -108,33 +108,33 @@ set_by_any None c writes cycle blocks at are = later_set (set_in c) writes cycle
 set_by_any (Some w) c writes cycle blocks at are = set_by_write c writes cycle blocks w (at w refl) are
 
 -- a write is of the cycle of its record
-cycle_of : (t : Taken) (h : List Taken) (w : Write) → added_on t h ≡ Some w → w.cycle ≡ t.cycle
+cycle_of : (t : Processed) (h : List Processed) (w : Write) → added_on t h ≡ Some w → w.cycle ≡ t.cycle
 cycle_of t h w is = by (beq t.mhs (ahs h)) is
   where
-    of_block : (run : List Taken) (raw : ℕ) (o : Option Block) → option_map (λ (b : Block). (let x : Write = record { cycle = t.cycle; raw = raw; bytes = bytes_written b (in_order run (t.step.word ∷ [])) } in x)) o ≡ Some w → w.cycle ≡ t.cycle
+    of_block : (run : List Processed) (raw : ℕ) (o : Option Block) → option_map (λ (b : Block). (let x : Write = record { cycle = t.cycle; raw = raw; bytes = bytes_written b (in_order run (t.step.word ∷ [])) } in x)) o ≡ Some w → w.cycle ≡ t.cycle
     of_block run raw None is = absurd (cc)
     of_block run raw (Some b) is = let x : Write = record { cycle = t.cycle; raw = raw; bytes = bytes_written b (in_order run (t.step.word ∷ [])) } in let same : x ≡ w = cc in ap (λ (y : Write). y.cycle) (sym same)
 
-    of_idn : (run : List Taken) (o : Option ℕ) → option_and_then (written_by t run) o ≡ Some w → w.cycle ≡ t.cycle
+    of_idn : (run : List Processed) (o : Option ℕ) → option_and_then (written_by t run) o ≡ Some w → w.cycle ≡ t.cycle
     of_idn run None is = absurd (cc)
     of_idn run (Some raw) is = of_block run raw (find_block raw t.blocks) is
 
-    effect : (b : Bool) (run : List Taken) (o : Option ℕ) → (if b then option_and_then (written_by t run) o else None) ≡ Some w → w.cycle ≡ t.cycle
+    effect : (b : Bool) (run : List Processed) (o : Option ℕ) → (if b then option_and_then (written_by t run) o else None) ≡ Some w → w.cycle ≡ t.cycle
     effect true run o is = of_idn run o is
     effect false run o is = absurd (cc)
 
     by : (b : Bool) → (if b then None else adds t (log_of h)) ≡ Some w → w.cycle ≡ t.cycle
     by true is = absurd (cc)
-    by false is = effect (takes_effect (record { taken = t; answer = reply_of t (log_of h) })) (run_before true 7 (log_of h)) (open_idn (log_of h)) is
+    by false is = effect (takes_effect (record { processed = t; answer = reply_of t (log_of h) })) (run_before true 7 (log_of h)) (open_idn (log_of h)) is
 
 written_now : (v : View) (past : List View) (w : Write) → write_of (processed_in v past) (kept_in v past) ≡ Some w → w.cycle ≡ length past
 written_now v past w is = by (processes v past)
   where
     by : Processes v past → w.cycle ≡ length past
-    by (Nothing none) = let off : write_of (processed_in v past) (kept_in v past) ≡ None = ap (λ (o : Option Taken). write_of o (kept_in v past)) none in absurd (cc)
+    by (Nothing none) = let off : write_of (processed_in v past) (kept_in v past) ≡ None = ap (λ (o : Option Processed). write_of o (kept_in v past)) none in absurd (cc)
     by (Record s got came two some) =
-        let t : Taken = record_in v (length past) (stood_in v (standing past)) s in
-        cycle_of t (kept_in v past) w (sym (ap (λ (o : Option Taken). write_of o (kept_in v past)) some) ∙ is)
+        let t : Processed = record_in v (length past) (stood_in v (standing past)) s in
+        cycle_of t (kept_in v past) w (sym (ap (λ (o : Option Processed). write_of o (kept_in v past)) some) ∙ is)
 
 carried_set : (time : ℕ) (v : View) (past : List View) → IsCarried time v past → AreSetBy (set_after past) (all_writes past) (length past) → AreSetBy (set_in v.commands) (all_writes past) (length past)
 carried_set time v past is are raw s found = are raw s (is.carried raw s found)

@@ -22,7 +22,7 @@ use Rattle.sercos_step.proofs.AnswerCounts.{steps_most, get_below, polls_by, tim
 use Rattle.sercos_block.specs.declared.block.Block.{Block}
 use Rattle.sercos_block.specs.Stores.{find_block}
 use Rattle.sercos_command.specs.Calls.{status_in}
-use Rattle.sercos_service_drive.specs.Log.{Taken, Entry}
+use Rattle.sercos_service_drive.specs.Log.{Processed, Entry}
 use Rattle.sercos_service_drive.specs.Replies.{element_words, words_at, copy}
 use Rattle.sercos_service_drive.specs.Writes.{Write, writes_of, AreAlike, without_data}
 use Rattle.sercos_law_channel.specs.Handshake.InStep.{replies_of}
@@ -70,14 +70,14 @@ value_most k shape.List = omega arith
 -- at each entry the lists are short enough
 abbrev pub LogListed : (ℕ → ℕ) → List Entry → Type 0
 LogListed longest [] = Unit {0}
-LogListed longest (e ∷ log) = LogListed longest log × IsListed longest e.taken.blocks
+LogListed longest (e ∷ log) = LogListed longest log × IsListed longest e.processed.blocks
 
-behind_listed : (longest : ℕ → ℕ) (count : ℕ) (entries : List Entry) (p : Entry) → LogListed longest entries → entry_behind count entries ≡ Some p → IsListed longest p.taken.blocks
+behind_listed : (longest : ℕ → ℕ) (count : ℕ) (entries : List Entry) (p : Entry) → LogListed longest entries → entry_behind count entries ≡ Some p → IsListed longest p.processed.blocks
 behind_listed longest count [] p are is = absurd (cc)
 behind_listed longest count (e ∷ entries) p are is = by (length entries == count) is (behind_listed longest count entries p are.0)
   where
-    by : (here : Bool) → (if here then Some e else entry_behind count entries) ≡ Some p → (entry_behind count entries ≡ Some p → IsListed longest p.taken.blocks) → IsListed longest p.taken.blocks
-    by true is more = let same : e ≡ p = cc in subst (λ (x : Entry). IsListed longest x.taken.blocks) same are.1
+    by : (here : Bool) → (if here then Some e else entry_behind count entries) ≡ Some p → (entry_behind count entries ≡ Some p → IsListed longest p.processed.blocks) → IsListed longest p.processed.blocks
+    by true is more = let same : e ≡ p = cc in subst (λ (x : Entry). IsListed longest x.processed.blocks) same are.1
     by false is more = more is
 
 -- the first word of a list is its length
@@ -92,7 +92,7 @@ first_word : (cycle : ℕ) (c : Block) → is_list c.attribute.length ≡ true �
 unfolding element_words
 first_word cycle c is = ap (λ (l : List ℕ). slice_index l 0) (cond-true (is_list c.attribute.length) _ _ is)
 
-first_copied : (longest : ℕ → ℕ) (raw : ℕ) (blocks : List Block) (b : Block) (t : Taken) → find_block raw blocks ≡ Some b → AreAlike t.blocks blocks → is_list b.attribute.length ≡ true → IsListed longest t.blocks → t.step.element ≡ 7 →
+first_copied : (longest : ℕ → ℕ) (raw : ℕ) (blocks : List Block) (b : Block) (t : Processed) → find_block raw blocks ≡ Some b → AreAlike t.blocks blocks → is_list b.attribute.length ≡ true → IsListed longest t.blocks → t.step.element ≡ 7 →
     (slice_index (copy raw t) 0 ≤ 2 * longest raw) ⊎ (512 ≤ longest raw)
 first_copied longest raw blocks b t found alike is listed seven =
     subst (λ (n : ℕ). (slice_index (words_at raw n t.cycle t.blocks t.commands) 0 ≤ 2 * longest raw) ⊎ (512 ≤ longest raw)) (sym seven) (by (find_block raw t.blocks) refl (find-alike raw t.blocks blocks b alike found))
@@ -123,12 +123,12 @@ module _ (idn : Idn) (blocks : List Block) (b : Block) (found : find_block idn.r
       by (read.AtWord own taken (Short off w those) long opened before chosen) known = absurd (cc)
       by (read.AtWord own taken (Long on w those) long opened before chosen) known =
           let c = chosen e in
-          let step = read.next_word idn 7 b blocks found refl (answer_words (replies_of entries)) own e.taken.step 0 (Long on w those) (newest_step (request.Read idn 7) blocks log e entries is) in
-          let seven : c.entry.taken.step.element ≡ 7 = c.element (ap (λ (s : Step). s.element) step) in
-          let row_first = first_of_row (length taken) (copy idn.raw c.entry.taken) in
-          let own_first : slice_index own 0 ≡ slice_index (row (length taken) (copy idn.raw c.entry.taken)) 0 = ap (λ (l : List ℕ). slice_index l 0) c.copied in
+          let step = read.next_word idn 7 b blocks found refl (answer_words (replies_of entries)) own e.processed.step 0 (Long on w those) (newest_step (request.Read idn 7) blocks log e entries is) in
+          let seven : c.entry.processed.step.element ≡ 7 = c.element (ap (λ (s : Step). s.element) step) in
+          let row_first = first_of_row (length taken) (copy idn.raw c.entry.processed) in
+          let own_first : slice_index own 0 ≡ slice_index (row (length taken) (copy idn.raw c.entry.processed)) 0 = ap (λ (l : List ℕ). slice_index l 0) c.copied in
           let short : shape_by b.attribute.length ≡ shape.List → (slice_index own 0 ≤ 2 * longest idn.raw) ⊎ (512 ≤ longest idn.raw) = λ list.
-          elim (first_copied longest idn.raw blocks b c.entry.taken found (c.alike is.alike.1) (list_shape b.attribute.length list) (behind_listed longest 3 (e ∷ entries) c.entry listed c.at) seven) [
+          elim (first_copied longest idn.raw blocks b c.entry.processed found (c.alike is.alike.1) (list_shape b.attribute.length list) (behind_listed longest 3 (e ∷ entries) c.entry listed c.at) seven) [
             | inl le ↦ inl (omega (arith, le, row_first, own_first))
             | inr le ↦ inr le
           ] in
@@ -188,9 +188,9 @@ times_suc : (k n : ℕ) → suc k * n ≡ k * n + n
 times_suc k n = grind arith
 
 -- the second of all entries was accepted as long ago as the others take
-spaced_second : (busy k : ℕ) (d x : Entry) (entries : List Entry) → AreSpaced busy (d ∷ entries) → second_of (d ∷ entries) ≡ Some x → length entries ≡ k + 1 → x.taken.cycle + k * (busy + 1) ≤ d.taken.cycle
+spaced_second : (busy k : ℕ) (d x : Entry) (entries : List Entry) → AreSpaced busy (d ∷ entries) → second_of (d ∷ entries) ≡ Some x → length entries ≡ k + 1 → x.processed.cycle + k * (busy + 1) ≤ d.processed.cycle
 spaced_second busy k d x [] are is long = absurd (cc)
-spaced_second busy zero d x (o ∷ []) are is long = let same : d ≡ x = cc in let c = ap (λ (y : Entry). y.taken.cycle) same in omega (arith, c)
+spaced_second busy zero d x (o ∷ []) are is long = let same : d ≡ x = cc in let c = ap (λ (y : Entry). y.processed.cycle) same in omega (arith, c)
 spaced_second busy (suc k) d x (o ∷ []) are is long = absurd (omega (arith, long))
 spaced_second busy zero d x (o ∷ p ∷ past) are is long = absurd (omega (arith, long))
 spaced_second busy (suc k) d x (o ∷ p ∷ past) are is long =
@@ -225,16 +225,16 @@ module _ (idn : Idn) (blocks : List Block) (b : Block) (found : find_block idn.r
   second_good e x (d ∷ o ∷ p ∷ past) is those = second_good d x (o ∷ p ∷ past) (without_newest asked blocks log e d (o ∷ p ∷ past) is) those
 
   -- after its setting, that is the newest write to the command
-  set_at : (e x : Entry) (entries : List Entry) → IsTransfer asked blocks e entries log → second_of entries ≡ Some x → newest_at idn.raw (writes_of (entries ++ log) ++ ago) ≡ Some x.taken.cycle
+  set_at : (e x : Entry) (entries : List Entry) → IsTransfer asked blocks e entries log → second_of entries ≡ Some x → newest_at idn.raw (writes_of (entries ++ log) ++ ago) ≡ Some x.processed.cycle
   set_at e x entries is those =
       let adds : writes_of (entries ++ log) ≡ added_by_setting idn.raw (second_of entries) ++ writes_of log = (command.stage_before idn b blocks found e entries log is).1 in
       let set : added_by_setting idn.raw (second_of entries) ≡ setting idn.raw 3 x ∷ [] = ap (added_by_setting idn.raw) those ∙ cond-false x.answer.error [] (setting idn.raw 3 x ∷ []) (second_good e x entries is those) in
       ap (λ (l : List Write). newest_at idn.raw (l ++ ago)) (adds ∙ ap (λ (l : List Write). l ++ writes_of log) set)
-      ∙ cond-true (idn.raw == idn.raw) (Some x.taken.cycle) (newest_at idn.raw (writes_of log ++ ago)) (eq-eqb idn.raw idn.raw refl)
+      ∙ cond-true (idn.raw == idn.raw) (Some x.processed.cycle) (newest_at idn.raw (writes_of log ++ ago)) (eq-eqb idn.raw idn.raw refl)
 
   -- a command that runs was set by the newest write
   abbrev pub HasTime : Entry → List Entry → Type 0
-  HasTime p rest = status_in p.taken.commands idn.raw p.taken.cycle ≡ 7 → (at : ℕ) × (newest_at idn.raw (writes_of rest ++ ago) ≡ Some at) × (p.taken.cycle < at + time)
+  HasTime p rest = status_in p.processed.commands idn.raw p.processed.cycle ≡ 7 → (at : ℕ) × (newest_at idn.raw (writes_of rest ++ ago) ≡ Some at) × (p.processed.cycle < at + time)
 
   abbrev pub HaveTime : List Entry → Type 0
   HaveTime [] = Unit {0}
@@ -256,11 +256,11 @@ module _ (idn : Idn) (blocks : List Block) (b : Block) (found : find_block idn.r
             let on = goes_on-outcome_of asked d.answer (replies_of (o ∷ p ∷ past)) is.goes_on in
             let polled = is_poll idn blocks b found d o (p ∷ past) log (omega arith) was on.1 in
             let free = last_ends false 1 o ((p ∷ past) ++ log) (command_last idn blocks b found o (p ∷ past) log (without_newest asked blocks log d o (p ∷ past) was)) in
-            let word : d.answer.word ≡ status_in d.taken.commands idn.raw d.taken.cycle = ap (λ (a : Answer). a.word) was.replies.1 ∙ poll_word idn.raw d.taken ((o ∷ p ∷ past) ++ log) polled.0 polled.1 free in
+            let word : d.answer.word ≡ status_in d.processed.commands idn.raw d.processed.cycle = ap (λ (a : Answer). a.word) was.replies.1 ∙ poll_word idn.raw d.processed ((o ∷ p ∷ past) ++ log) polled.0 polled.1 free in
             let x = second_some o p past in
             let at = timed.1 (sym word ∙ here.1) in
-            let same : Some at.0 ≡ Some x.0.taken.cycle = sym at.1 ∙ set_at d x.0 (o ∷ p ∷ past) was x.1 in
-            let cycle : at.0 ≡ x.0.taken.cycle = cc in
+            let same : Some at.0 ≡ Some x.0.processed.cycle = sym at.1 ∙ set_at d x.0 (o ∷ p ∷ past) was x.1 in
+            let cycle : at.0 ≡ x.0.processed.cycle = cc in
             let count = length-drop_two words two in
             let first : length (o ∷ p ∷ past) ≡ (k + 1) + 1 = (let one = here.0 in omega (arith, one, count, long)) in
             let since = spaced_second busy (k + 1) d x.0 (o ∷ p ∷ past) spaced x.1 first in

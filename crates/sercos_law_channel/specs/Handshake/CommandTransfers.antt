@@ -20,7 +20,7 @@ use Rattle.sercos_law_channel.specs.Handshake.Transfers.{IsTransfer, is_complete
 
 -- a setting of a procedure command, 3, or its cancel, 0, with an entry
 abbrev pub setting : ℕ → ℕ → Entry → Write
-setting raw value e = record { cycle = e.taken.cycle; raw = raw; bytes = value ∷ 0 ∷ [] }
+setting raw value e = record { cycle = e.processed.cycle; raw = raw; bytes = value ∷ 0 ∷ [] }
 
 -- the second of all entries, which sets the command: it adds the setting, if it isn't refused
 abbrev pub second_of : List Entry → Option Entry
@@ -47,13 +47,13 @@ SetsAndCancels = (idn : Idn) (blocks : List Block) (e : Entry) (entries log : Li
 -- the operation data is write protected in the phase of each of these entries
 abbrev pub AreProtected : Attribute → List Entry → Type 0
 AreProtected a [] = Unit {0}
-AreProtected a (e ∷ entries) = AreProtected a entries × (is_protected a e.taken.phase ≡ true)
+AreProtected a (e ∷ entries) = AreProtected a entries × (is_protected a e.processed.phase ≡ true)
 
 -- Such a transfer that is refused adds no write, if the block is a procedure command, and isn't write protected at the
 -- refusal, or was so at each step before. One of these holds if all steps come in one phase.
 abbrev pub RefusedAddsNothing : Type 0
 RefusedAddsNothing = (idn : Idn) (blocks : List Block) (b : Block) (e : Entry) (entries log : List Entry) (code : Code) →
-    find_block idn.raw blocks ≡ Some b → b.attribute.command ≡ true → (is_protected b.attribute e.taken.phase ≡ true → AreProtected b.attribute entries) →
+    find_block idn.raw blocks ≡ Some b → b.attribute.command ≡ true → (is_protected b.attribute e.processed.phase ≡ true → AreProtected b.attribute entries) →
     IsTransfer (request.Command idn) blocks e entries log → outcome_of (request.Command idn) (replies_of (e ∷ entries)) ≡ Some (outcome.Refused code) →
     writes_of ((e ∷ entries) ++ log) ≡ writes_of log
 
@@ -61,8 +61,8 @@ RefusedAddsNothing = (idn : Idn) (blocks : List Block) (b : Block) (e : Entry) (
 -- when the drive accepted that step is these bytes.
 abbrev pub GivesStatus : ℕ → List ℕ → List Entry → Type 0
 GivesStatus raw bytes part =
-    (cancel : Entry) × (poll : Entry) × (before : List Entry) × (part ≡ cancel ∷ poll ∷ before) × (poll.taken.step.write ≡ false) × (poll.taken.step.element ≡ 1)
-    × (bytes ≡ status_in poll.taken.commands raw poll.taken.cycle ∷ 0 ∷ [])
+    (cancel : Entry) × (poll : Entry) × (before : List Entry) × (part ≡ cancel ∷ poll ∷ before) × (poll.processed.step.write ≡ false) × (poll.processed.step.element ≡ 1)
+    × (bytes ≡ status_in poll.processed.commands raw poll.processed.cycle ∷ 0 ∷ [])
 
 -- Such a transfer that is complete returns the data status of the last step that reads it.
 abbrev pub EndsWithStatus : Type 0

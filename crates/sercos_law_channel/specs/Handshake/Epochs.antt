@@ -2,7 +2,7 @@
 -- and with each cycle in which the master restarts. Each list has its newest item first.
 use Rattle.std.specs.Prelude.{ℕ, ◌+◌, ◌==◌, not, ◌&&◌, if◌then◌else◌, List, [], ◌∷◌, Option, Some, None}
 use Rattle.sercos_step.specs.declared.request.Request.{Request}
-use Rattle.sercos_service_drive.specs.Log.{Taken, Entry}
+use Rattle.sercos_service_drive.specs.Log.{Processed, Entry}
 use Rattle.sercos_service_drive.specs.Replies.{log_of}
 use Rattle.sercos_service_master.specs.Begun.{Begun}
 use Rattle.sercos_law_channel.specs.Handshake.Moves.{with_status}
@@ -49,15 +49,15 @@ begun_in v past = begun_by_then v (epoch_begun past)
 
 -- The records that the drive processed in this epoch, also those before a reset of the drive, and what it accepted of them: again
 -- in a cycle, before the master may fall, and at the end of all cycles.
-abbrev pub epoch_taken : List View → List Taken
-epoch_taken [] = []
-epoch_taken (v ∷ past) = if v.falls then [] else with_record (processed_in v past) (unless_restart v (epoch_taken past))
+abbrev pub epoch_records : List View → List Processed
+epoch_records [] = []
+epoch_records (v ∷ past) = if v.falls then [] else with_record (processed_in v past) (unless_restart v (epoch_records past))
 
-abbrev pub taken_in_views : View → List View → List Taken
-taken_in_views v past = with_record (processed_in v past) (unless_restart v (epoch_taken past))
+abbrev pub records_in_views : View → List View → List Processed
+records_in_views v past = with_record (processed_in v past) (unless_restart v (epoch_records past))
 
 abbrev pub epoch_log : List View → List Entry
-epoch_log past = log_of (epoch_taken past)
+epoch_log past = log_of (epoch_records past)
 
 abbrev pub log_in : View → List View → List Entry
-log_in v past = log_of (taken_in_views v past)
+log_in v past = log_of (records_in_views v past)

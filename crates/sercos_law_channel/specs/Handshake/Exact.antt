@@ -59,7 +59,7 @@ pub data AreWrites (blocks : List Block) (b : Begun) (own : List Write) : Type 0
 -- drive has the block.
 abbrev pub ReadsExactly : List Block → Begun → List Entry → Type 0
 ReadsExactly blocks b part = (idn : Idn) (e : ℕ) (bytes : List ℕ) → b.request ≡ request.Read idn e → outcome_of b.request b.answers ≡ Some (outcome.Complete bytes) →
-    (block : Block) × (find_block idn.raw blocks ≡ Some block) × (selection : Entry) × (entry_behind (steps_before e) part ≡ Some selection) × IsReadAt idn.raw e block bytes selection.taken
+    (block : Block) × (find_block idn.raw blocks ≡ Some block) × (selection : Entry) × (entry_behind (steps_before e) part ≡ Some selection) × IsReadAt idn.raw e block bytes selection.processed
 
 -- A complete setting of a procedure command returns the data status as the drive had it in the cycle in which it accepted the last
 -- step that reads it.
@@ -69,7 +69,7 @@ EndsExactly b part = (idn : Idn) (bytes : List ℕ) → b.request ≡ request.Co
 -- the entries of a transfer are all of one phase
 abbrev pub AreInPhase : ℕ → List Entry → Type 0
 AreInPhase phase [] = Unit {0}
-AreInPhase phase (e ∷ entries) = AreInPhase phase entries × (e.taken.phase ≡ phase)
+AreInPhase phase (e ∷ entries) = AreInPhase phase entries × (e.processed.phase ≡ phase)
 
 -- A transfer is exact with its part of what the drive accepted and of its writes.
 pub record IsExact (blocks : List Block) (b : Begun) (part : List Entry) (own : List Write) : Type 0 where

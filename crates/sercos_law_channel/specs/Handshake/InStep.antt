@@ -8,7 +8,7 @@ use Rattle.sercos_service_drive.specs.Log.{Entry}
 -- the steps of a log, and the replies to them
 abbrev pub log_steps : List Entry → List Step
 log_steps [] = []
-log_steps (e ∷ log) = e.taken.step ∷ log_steps log
+log_steps (e ∷ log) = e.processed.step ∷ log_steps log
 
 abbrev pub replies_of : List Entry → List Answer
 replies_of [] = []
@@ -20,7 +20,7 @@ replies_of (e ∷ log) = e.answer ∷ replies_of log
 pub data InStep («open» : Option Step) (steps : List Step) (answers : List Answer) (log : List Entry) : Type 0 where
   Idle : («open» ≡ None) → (steps ≡ log_steps log) → (answers ≡ replies_of log) → InStep «open» steps answers log
   Sent : (s : Step) → («open» ≡ Some s) → (steps ≡ s ∷ log_steps log) → (answers ≡ replies_of log) → InStep «open» steps answers log
-  Kept : (e : Entry) (past : List Entry) → («open» ≡ Some e.taken.step) → (log ≡ e ∷ past) → (steps ≡ log_steps log) → (answers ≡ replies_of past) →
+  Kept : (e : Entry) (past : List Entry) → («open» ≡ Some e.processed.step) → (log ≡ e ∷ past) → (steps ≡ log_steps log) → (answers ≡ replies_of past) →
       InStep «open» steps answers log
 
 -- .. where these requests were begun

@@ -4,7 +4,7 @@ use mathlib.Core.Bool.{beq}
 use Rattle.sercos_telegram.specs.declared.words.Status.{Status}
 use Rattle.sercos_step.specs.declared.step.Answer.{Answer}
 use Rattle.sercos_step.specs.declared.request.Request.{Request}
-use Rattle.sercos_service_drive.specs.Log.{Taken, Entry}
+use Rattle.sercos_service_drive.specs.Log.{Processed, Entry}
 use Rattle.sercos_service_drive.specs.Says.{shown, shown_by}
 use Rattle.sercos_service_master.specs.Begun.{Begun, Said, open_in, is_odd, answers_it, answer_in, with_answer, master_says}
 use Rattle.sercos_law_channel.specs.Handshake.InStep.{AreInStep}
@@ -24,12 +24,12 @@ Begins = (begun : List Begun) (log : List Entry) (r : Request) →
 
 -- The drive takes a record that says what the master says: it is dropped where its bit is the parity of the log, and joins
 -- the log else, whatever the answer is.
-abbrev pub said_in : Taken → Said
+abbrev pub said_in : Processed → Said
 said_in t = record { mhs = t.mhs; step = t.step }
 
-abbrev pub with_taken : Taken → Answer → List Entry → List Entry
-with_taken t answer log = if beq t.mhs (is_odd log) then log else (record { taken = t; answer = answer }) ∷ log
+abbrev pub with_processed : Processed → Answer → List Entry → List Entry
+with_processed t answer log = if beq t.mhs (is_odd log) then log else (record { processed = t; answer = answer }) ∷ log
 
 abbrev pub Takes : Type 0
-Takes = (begun : List Begun) (log : List Entry) (t : Taken) (answer : Answer) →
-    AreInStep begun log → said_in t ≡ master_says begun → AreInStep begun (with_taken t answer log)
+Takes = (begun : List Begun) (log : List Entry) (t : Processed) (answer : Answer) →
+    AreInStep begun log → said_in t ≡ master_says begun → AreInStep begun (with_processed t answer log)

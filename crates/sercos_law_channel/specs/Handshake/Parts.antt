@@ -4,7 +4,7 @@ use Rattle.sercos_step.specs.Steps.{outcome_of, AreAnswers}
 use Rattle.sercos_block.specs.declared.block.Block.{Block}
 use Rattle.sercos_service_master.specs.Begun.{Begun, open_in, steps_begun}
 use Rattle.sercos_service_master.specs.Calls.{Call, AreCalls, begun_by}
-use Rattle.sercos_service_drive.specs.Log.{Taken, Entry}
+use Rattle.sercos_service_drive.specs.Log.{Processed, Entry}
 use Rattle.sercos_service_drive.specs.Replies.{answered}
 use Rattle.sercos_law_channel.specs.Handshake.InStep.{AreInStep, log_steps, replies_of}
 use Rattle.sercos_law_channel.specs.Handshake.Transfers.{AreReplies, HaveBlocks, IsTransfer}
@@ -41,7 +41,7 @@ FallIntoParts = (begun : List Begun) (log : List Entry) → AreInTurn begun → 
 
 -- Each entry of a part of the log has the reply to its step, after those before it.
 abbrev pub HaveReplies : Type 0
-HaveReplies = (h : List Taken) (part rest : List Entry) → answered h ≡ part ++ rest → AreReplies part rest
+HaveReplies = (h : List Processed) (part rest : List Entry) → answered h ≡ part ++ rest → AreReplies part rest
 
 -- A row whose entries have the replies, on blocks that stay but for their operation data, is a transfer.
 abbrev pub MakeTransfers : Type 0

@@ -10,7 +10,7 @@ use Rattle.sercos_block.specs.declared.block.Block.{Block}
 use Rattle.sercos_block.specs.Blocks.{element_of}
 use Rattle.sercos_block.specs.Stores.{find_block, IsStore}
 use Rattle.sercos_command.specs.Calls.{status_in}
-use Rattle.sercos_service_drive.specs.Log.{Taken, Entry}
+use Rattle.sercos_service_drive.specs.Log.{Processed, Entry}
 use Rattle.sercos_service_drive.specs.Replies.{data_in, read_cause}
 use Rattle.sercos_service_drive.specs.Writes.{without_data}
 use Rattle.sercos_law_channel.specs.Handshake.InStep.{replies_of}
@@ -26,12 +26,12 @@ abbrev pub element_in : ℕ → ℕ → Block → List ℕ
 element_in e cycle c = if (e == data_element) && not (is_list c.attribute.length) then data_in cycle c else unwrap_or (element_of c e) []
 
 -- the bytes of an element when the drive accepts a step and has this block: the data status as two bytes, or those of the block
-abbrev pub bytes_at : ℕ → ℕ → Block → Taken → List ℕ
+abbrev pub bytes_at : ℕ → ℕ → Block → Processed → List ℕ
 bytes_at raw e c t = if e == identifier_element then status_in t.commands raw t.cycle ∷ 0 ∷ [] else element_in e t.cycle c
 
 -- A step reads the element, the drive then has the block, alike but for its operation data, and the block has the element;
 -- and these are its bytes then, if the drive's blocks keep the rules of a store. A data status doesn't need that.
-pub record IsReadAt (raw e : ℕ) (b : Block) (bytes : List ℕ) (t : Taken) : Type 0 where
+pub record IsReadAt (raw e : ℕ) (b : Block) (bytes : List ℕ) (t : Processed) : Type 0 where
   pub reads : t.step.write ≡ false
   pub element : t.step.element ≡ e
   pub block : Block
@@ -46,4 +46,4 @@ abbrev pub ReadsOnce : Type 0
 ReadsOnce = (idn : Idn) (e : ℕ) (bytes : List ℕ) (blocks : List Block) (b : Block) (s : Entry) (entries log : List Entry) → 1 ≤ e → e ≤ 7 →
     find_block idn.raw blocks ≡ Some b → b.attribute.factor < 2 ^ 16 → IsTransfer (request.Read idn e) blocks s entries log →
     outcome_of (request.Read idn e) (replies_of (s ∷ entries)) ≡ Some (outcome.Complete bytes) →
-    (selection : Entry) × (entry_behind (steps_before e) (s ∷ entries) ≡ Some selection) × IsReadAt idn.raw e b bytes selection.taken
+    (selection : Entry) × (entry_behind (steps_before e) (s ∷ entries) ≡ Some selection) × IsReadAt idn.raw e b bytes selection.processed

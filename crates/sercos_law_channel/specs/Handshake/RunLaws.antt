@@ -1,10 +1,10 @@
 -- The laws of a run on phases and on the handshake. Each list has its newest item first.
 use Rattle.std.specs.Prelude.{◌≡◌, ℕ, ◌+◌, ◌<◌, ◌≤◌, ◌==◌, true, false, if◌then◌else◌, List, [], ◌∷◌, length, max, Some, is_some, ◌⊎◌}
-use Rattle.sercos_service_drive.specs.Log.{Taken, Entry}
+use Rattle.sercos_service_drive.specs.Log.{Processed, Entry}
 use Rattle.sercos_service_drive.specs.Replies.{log_of}
 use Rattle.sercos_law_channel.specs.Handshake.InStep.{AreInStep}
 use Rattle.sercos_law_channel.specs.Handshake.Views.{View, got_in, standing, stood_in, processed_in, since_reset}
-use Rattle.sercos_law_channel.specs.Handshake.Epochs.{command, epoch_begun, begun_in, epoch_taken, taken_in_views, epoch_log, log_in}
+use Rattle.sercos_law_channel.specs.Handshake.Epochs.{command, epoch_begun, begun_in, epoch_records, records_in_views, epoch_log, log_in}
 use Rattle.sercos_law_channel.specs.Handshake.Runs.{IsRun}
 use Rattle.sercos_law_channel.specs.Handshake.WholeRun.{all_entries}
 
@@ -40,14 +40,14 @@ KeepsUp = (v : View) (past : List View) → v.mst_comes ≡ true → v.drive_res
 -- The drive accepts at most one step in a cycle: the cycles of accepted steps descend, and all are before this one.
 abbrev pub AreBefore : ℕ → List Entry → Type 0
 AreBefore cycle [] = Unit {0}
-AreBefore cycle (e ∷ entries) = (e.taken.cycle < cycle) × AreBefore e.taken.cycle entries
+AreBefore cycle (e ∷ entries) = (e.processed.cycle < cycle) × AreBefore e.processed.cycle entries
 
 abbrev pub AcceptsInOrder : Type 0
 AcceptsInOrder = (past : List View) → AreBefore (length past) (all_entries past)
 
 -- A record is processed in the cycle in which it arrives, in the phase that is commanded in it.
 abbrev pub ProcessesInPhase : Type 0
-ProcessesInPhase = (v : View) (past : List View) (t : Taken) → processed_in v past ≡ Some t → (t.phase ≡ v.phase) × (t.cycle ≡ length past) × (2 ≤ t.phase)
+ProcessesInPhase = (v : View) (past : List View) (t : Processed) → processed_in v past ≡ Some t → (t.phase ≡ v.phase) × (t.cycle ≡ length past) × (2 ≤ t.phase)
 
 -- how many cycles in a row, up to now, were commanded phase 0, in any epoch
 abbrev pub zero_run : List View → ℕ
@@ -60,7 +60,7 @@ ComesToZero busy = (past : List View) → IsRun busy past → 2 ≤ zero_run pas
 
 -- While 0 or 1 is commanded next, no request was begun in this epoch, and the drive has accepted nothing of it.
 abbrev pub BeginsEmpty : ℕ → Type 0
-BeginsEmpty busy = (past : List View) → IsRun busy past → command past ≤ 1 → (epoch_begun past ≡ []) × (epoch_taken past ≡ [])
+BeginsEmpty busy = (past : List View) → IsRun busy past → command past ≤ 1 → (epoch_begun past ≡ []) × (epoch_records past ≡ [])
 
 -- After every cycle the master is in step with what the drive accepted in this epoch, also if the drive has fallen since.
 abbrev pub AreInStepInEpoch : ℕ → Type 0
@@ -73,7 +73,7 @@ AreInStepInCycle busy = (v : View) (past : List View) → IsRun busy (v ∷ past
 -- In a cycle commanded 1 or later, what a drive took since its reset is what it took in this epoch, unless it is in phase 0.
 abbrev pub IsOfEpoch : ℕ → Type 0
 IsOfEpoch busy = (v : View) (past : List View) → IsRun busy (v ∷ past) → 1 ≤ v.phase →
-    ((standing (v ∷ past)).ended ≡ 0) ⊎ (since_reset (v ∷ past) ≡ taken_in_views v past)
+    ((standing (v ∷ past)).ended ≡ 0) ⊎ (since_reset (v ∷ past) ≡ records_in_views v past)
 
 -- The handshake: in a cycle commanded 2 to 4, at whose end the drive is in 2 to 4, the steps that it accepted since its reset are
 -- all that the master began in this epoch, or all but the last; and each answer that was taken is the reply to that very step.

@@ -21,12 +21,12 @@ use Rattle.sercos_law_channel.specs.Handshake.InStep.{log_steps, replies_of}
 -- each of these entries has the reply to its step, after those before it and the log
 abbrev pub AreReplies : List Entry → List Entry → Type 0
 AreReplies [] log = Unit {0}
-AreReplies (e ∷ entries) log = AreReplies entries log × (e.answer ≡ reply_of e.taken (entries ++ log))
+AreReplies (e ∷ entries) log = AreReplies entries log × (e.answer ≡ reply_of e.processed (entries ++ log))
 
 -- the drive has these blocks at each of the entries, but for their operation data
 abbrev pub HaveBlocks : List Block → List Entry → Type 0
 HaveBlocks blocks [] = Unit {0}
-HaveBlocks blocks (e ∷ entries) = HaveBlocks blocks entries × AreAlike e.taken.blocks blocks
+HaveBlocks blocks (e ∷ entries) = HaveBlocks blocks entries × AreAlike e.processed.blocks blocks
 
 -- These entries are those of the first steps of a request, up to one that is the newest: each other one was answered, and
 -- the transfer went on.
@@ -55,7 +55,7 @@ WritesOnce = (idn : Idn) (bytes : List ℕ) (blocks : List Block) (b : Block) (e
     IsTransfer (request.Write idn data_element bytes) blocks e entries log →
     writes_of ((e ∷ entries) ++ log) ≡
     (if is_complete (outcome_of (request.Write idn data_element bytes) (replies_of (e ∷ entries)))
-    then (record { cycle = e.taken.cycle; raw = idn.raw; bytes = stored b bytes }) ∷ writes_of log else writes_of log)
+    then (record { cycle = e.processed.cycle; raw = idn.raw; bytes = stored b bytes }) ∷ writes_of log else writes_of log)
 
 -- A read, and a write of another element, adds none.
 abbrev pub is_silent : Request → Bool

@@ -4,7 +4,7 @@ use Rattle.sercos_telegram.specs.declared.words.Status.{Status}
 use Rattle.sercos_step.specs.declared.request.Request.{Request}
 use Rattle.sercos_block.specs.declared.block.Block.{Block}
 use Rattle.sercos_command.specs.Calls.{CommandHistory}
-use Rattle.sercos_service_drive.specs.Log.{Taken}
+use Rattle.sercos_service_drive.specs.Log.{Processed}
 use Rattle.sercos_service_master.specs.Begun.{Said}
 
 -- what the master's channel received of the drive's AT
@@ -90,34 +90,34 @@ standing (v ∷ past) = standing_after v (stood_in v (standing past)) (before_ms
 -- The records that the drive processes: those that arrive in phases 2 to 4, if it got the MST. The number of a cycle is that
 -- of the cycles before it.
 
-abbrev pub record_in : View → ℕ → ℕ → Said → Taken
+abbrev pub record_in : View → ℕ → ℕ → Said → Processed
 record_in v cycle stood s = record { cycle = cycle; phase = stood; mhs = s.mhs; step = s.step; blocks = v.blocks; commands = v.commands }
 
-abbrev pub processed_of : View → ℕ → ℕ → Option Said → Option Taken
+abbrev pub processed_of : View → ℕ → ℕ → Option Said → Option Processed
 processed_of v cycle stood None = None
 processed_of v cycle stood (Some s) = if v.mst_comes && nat_le 2 stood then Some (record_in v cycle stood s) else None
 
-abbrev pub processed_in : View → List View → Option Taken
+abbrev pub processed_in : View → List View → Option Processed
 processed_in v past = processed_of v (length past) (stood_in v (standing past)) (got_in v)
 
-abbrev pub with_record : Option Taken → List Taken → List Taken
+abbrev pub with_record : Option Processed → List Processed → List Processed
 with_record None h = h
 with_record (Some t) h = t ∷ h
 
 -- In phase 0 its channel is reset, and a restart resets it too: then it keeps no record.
-abbrev pub kept_in_phase : ℕ → List Taken → List Taken
+abbrev pub kept_in_phase : ℕ → List Processed → List Processed
 kept_in_phase phase h = if phase == 0 then [] else h
 
-abbrev pub kept_unless : Bool → List Taken → List Taken
+abbrev pub kept_unless : Bool → List Processed → List Processed
 kept_unless restarts h = if restarts then [] else h
 
 -- the records since the drive's reset: at the AT of a cycle, and at the end of all cycles
-abbrev pub kept_by : View → ℕ → List Taken → List Taken
+abbrev pub kept_by : View → ℕ → List Processed → List Processed
 kept_by v stood h = kept_in_phase stood (kept_unless v.drive_restarts h)
 
-abbrev pub since_reset : List View → List Taken
+abbrev pub since_reset : List View → List Processed
 since_reset [] = []
 since_reset (v ∷ past) = kept_in_phase (standing (v ∷ past)).ended (with_record (processed_in v past) (kept_by v (stood_in v (standing past)) (since_reset past)))
 
-abbrev pub kept_in : View → List View → List Taken
+abbrev pub kept_in : View → List View → List Processed
 kept_in v past = kept_by v (stood_in v (standing past)) (since_reset past)

@@ -7,7 +7,7 @@ use Rattle.sercos_step.specs.declared.request.Request.{Request}
 use Rattle.sercos_step.specs.declared.request.Request.TheVariants as request
 use Rattle.sercos_block.specs.declared.block.Block.{Block}
 use Rattle.sercos_block.specs.Stores.{find_block}
-use Rattle.sercos_service_drive.specs.Log.{Taken, Entry, ahs}
+use Rattle.sercos_service_drive.specs.Log.{Processed, Entry, ahs}
 use Rattle.sercos_service_drive.specs.Replies.{reply_of, log_of}
 use Rattle.sercos_service_drive.specs.Writes.{Write, AreAlike, with_added, added_on}
 use Rattle.sercos_service_master.specs.Begun.{Begun}
@@ -16,16 +16,16 @@ use Rattle.sercos_law_channel.specs.Handshake.Epochs.{epoch_begun, begun_in}
 
 -- The steps that the drive accepted, each with the reply to it. A record is dropped if its bit is that of the record before it
 -- since the drive's reset.
-abbrev pub accepted_of : Option Taken → List Taken → List Entry → List Entry
+abbrev pub accepted_of : Option Processed → List Processed → List Entry → List Entry
 accepted_of None h entries = entries
-accepted_of (Some t) h entries = if beq t.mhs (ahs h) then entries else (record { taken = t; answer = reply_of t (log_of h) }) ∷ entries
+accepted_of (Some t) h entries = if beq t.mhs (ahs h) then entries else (record { processed = t; answer = reply_of t (log_of h) }) ∷ entries
 
 abbrev pub all_entries : List View → List Entry
 all_entries [] = []
 all_entries (v ∷ past) = accepted_of (processed_in v past) (kept_in v past) (all_entries past)
 
 -- its writes
-abbrev pub write_of : Option Taken → List Taken → Option Write
+abbrev pub write_of : Option Processed → List Processed → Option Write
 write_of None h = None
 write_of (Some t) h = added_on t h
 

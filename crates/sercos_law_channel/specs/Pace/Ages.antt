@@ -49,5 +49,5 @@ OpensAlways = (cycles past : List View) → AreAtWork cycles past → open_since
 -- the stretch are busy time and one for each answer, and those since the open step was accepted.
 abbrev pub KeepsTime : ℕ → Type 0
 KeepsTime busy = (v : View) (cycles past : List View) → IsRun busy (v ∷ (cycles ++ past)) → AreClean (v ∷ cycles) past → AreUndisturbed past → open_in (epoch_begun past) ≡ None → AreAtWork (v ∷ cycles) past →
-    (e : Entry) × (log : List Entry) × (epoch_log (v ∷ (cycles ++ past)) ≡ e ∷ log) × (e.taken.cycle ≤ length (cycles ++ past)) × (length (cycles ++ past) ≤ e.taken.cycle + busy)
-    × (length (v ∷ cycles) + (busy + 1) * length (answers_in (epoch_begun past)) + e.taken.cycle ≡ (busy + 1) * length (answers_in (epoch_begun (v ∷ (cycles ++ past)))) + length (v ∷ (cycles ++ past)))
+    (e : Entry) × (log : List Entry) × (epoch_log (v ∷ (cycles ++ past)) ≡ e ∷ log) × (e.processed.cycle ≤ length (cycles ++ past)) × (length (cycles ++ past) ≤ e.processed.cycle + busy)
+    × (length (v ∷ cycles) + (busy + 1) * length (answers_in (epoch_begun past)) + e.processed.cycle ≡ (busy + 1) * length (answers_in (epoch_begun (v ∷ (cycles ++ past)))) + length (v ∷ (cycles ++ past)))

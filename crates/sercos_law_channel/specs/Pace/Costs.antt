@@ -24,7 +24,7 @@ use Rattle.sercos_law_channel.specs.Pace.Stretches.{AreClean, open_since}
 abbrev pub AreSpaced : ℕ → List Entry → Type 0
 AreSpaced busy [] = Unit {0}
 AreSpaced busy (e ∷ []) = Unit {0}
-AreSpaced busy (e ∷ d ∷ log) = AreSpaced busy (d ∷ log) × (d.taken.cycle + (busy + 1) ≤ e.taken.cycle)
+AreSpaced busy (e ∷ d ∷ log) = AreSpaced busy (d ∷ log) × (d.processed.cycle + (busy + 1) ≤ e.processed.cycle)
 
 -- So are those of an epoch, in every run.
 abbrev pub SpacesSteps : ℕ → Type 0

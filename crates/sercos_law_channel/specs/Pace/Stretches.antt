@@ -33,9 +33,9 @@ spent_since busy cycles past = open_since cycles past + time_for busy (answers_i
 -- and the answers account for the cycles before that.
 pub data IsInTime (busy : ℕ) (cycles past : List View) : Type 0 where
   RestsNow : open_in (epoch_begun (cycles ++ past)) ≡ None → spent_since busy cycles past ≤ time_for busy (answers_in (epoch_begun (cycles ++ past))) → IsInTime busy cycles past
-  WaitsNow : (e : Entry) (log : List Entry) → epoch_log (cycles ++ past) ≡ e ∷ log → open_in (epoch_begun (cycles ++ past)) ≡ Some e.taken.step → steps_in (epoch_begun (cycles ++ past)) ≡ log_steps (epoch_log (cycles ++ past)) →
-      e.taken.cycle < length (cycles ++ past) → length (cycles ++ past) ≤ e.taken.cycle + (busy + 1) →
-      spent_since busy cycles past + e.taken.cycle ≤ time_for busy (answers_in (epoch_begun (cycles ++ past))) + length (cycles ++ past) → IsInTime busy cycles past
+  WaitsNow : (e : Entry) (log : List Entry) → epoch_log (cycles ++ past) ≡ e ∷ log → open_in (epoch_begun (cycles ++ past)) ≡ Some e.processed.step → steps_in (epoch_begun (cycles ++ past)) ≡ log_steps (epoch_log (cycles ++ past)) →
+      e.processed.cycle < length (cycles ++ past) → length (cycles ++ past) ≤ e.processed.cycle + (busy + 1) →
+      spent_since busy cycles past + e.processed.cycle ≤ time_for busy (answers_in (epoch_begun (cycles ++ past))) + length (cycles ++ past) → IsInTime busy cycles past
 
 -- The same holds after a stretch of one cycle or more, regardless of losses before it. A step that was open before it counts as one of
 -- the stretch.

@@ -11,7 +11,7 @@ use Rattle.sercos_timing.specs.Views.{WishesView}
 use Rattle.sercos_timing.specs.Order.{wish}
 use Rattle.sercos_block.specs.Views.{DriveView}
 use Rattle.sercos_drive.specs.Heard.{DriveCall}
-use Rattle.sercos_drive.specs.Moments.{Moment, phase_in, cycle_in, has_mst, has_taken, blocks_in, commands_in, taken_in}
+use Rattle.sercos_drive.specs.Moments.{Moment, phase_in, cycle_in, has_mst, has_taken, blocks_in, commands_in, records_in}
 use Rattle.sercos_drive.specs.Says.{Said, said, said_in, sends, shown_word, values_in, start_in}
 use Rattle.sercos_service_drive.specs.Says.{Shown, channel_says}
 use Rattle.sercos_law_run.specs.Slots.Slots.{AtSlot}
@@ -69,10 +69,10 @@ pub sent_by : (d : DriveView) (rate : ℕ) (past : List Moment) (s : Said) → s
 sent_by d rate past s is = by (sends past) refl is
   where
     shows : Shown
-    shows = channel_says d.busy (cycle_in past) (commands_in d rate past) (taken_in past)
+    shows = channel_says d.busy (cycle_in past) (commands_in d rate past) (records_in past)
 
     what : Said
-    what = said d.address (cycle_in past) (phase_in past) (blocks_in d past) (channel_says d.busy (cycle_in past) (commands_in d rate past) (taken_in past))
+    what = said d.address (cycle_in past) (phase_in past) (blocks_in d past) (channel_says d.busy (cycle_in past) (commands_in d rate past) (records_in past))
 
     by : (b : Bool) → sends past ≡ b → (if b then Some what else None) ≡ Some s → Sends d past s
     by true sent is =

@@ -8,7 +8,7 @@ use Rattle.sercos_step.specs.declared.request.Job.{Job}
 use Rattle.sercos_step.specs.declared.request.Outcome.{Outcome}
 use Rattle.sercos_block.specs.Stores.{IsStore, store_of}
 use Rattle.sercos_block.specs.Views.{DriveView, RingView}
-use Rattle.sercos_service_drive.specs.Log.{Taken, Entry}
+use Rattle.sercos_service_drive.specs.Log.{Processed, Entry}
 use Rattle.sercos_service_drive.specs.Replies.{log_of}
 use Rattle.sercos_service_master.specs.Begun.{Begun}
 use Rattle.sercos_drive.specs.Annals.{accepted_at}
@@ -158,7 +158,7 @@ module _ (r : RingView) (jobs : List Job) (carry : Carry) (restarts : Restarts) 
             before = runs_exact (drive_at r k).busy (store_of (drive_at r k)) (without_mdt (view_of r jobs carry restarts k t j) ∷ views_of r jobs carry restarts k j) (small r jobs carry restarts opened first_store k below)
                 (stands.sees.run.0, next_without (drive_at r k).busy (view_of r jobs carry restarts k t j) (views_of r jobs carry restarts k j) stands.sees.run.1) stands.sound;
             writes = sym stands.sees.drive.writes;
-            accepted = ap log_of (sym stands.sees.drive.taken);
+            accepted = ap log_of (sym stands.sees.drive.records);
             begun = sym stands.sees.master.begun_are;
             begun_now = sym (begun_then r jobs carry restarts opened first_store t j next clear (spelled_in t j next) (stored_in t j) (all_stand j run before) k below);
             stored = on_stores (drive_at r k) (all_entries (views_of r jobs carry restarts k (t ∷ j))) (entries_stored (drive_at r k) (views_of r jobs carry restarts k (t ∷ j)) stands.stored);
@@ -200,4 +200,4 @@ module _ (r : RingView) (jobs : List Job) (carry : Carry) (restarts : Restarts) 
           let joined = handshake (drive_at r k).busy (view_of r jobs carry restarts k t j) (views_of r jobs carry restarts k j) sees.run two (subst (λ (n : ℕ). 2 ≤ n) sees.drive.ended stands) in
           subst (λ (l : List Begun). AreInStep l (accepted_at (drive_at r k) r.rate (given_before carry restarts (t ∷ j) k)))
           (sym (begun_then r jobs carry restarts opened first_store t j next clear (spelled_in t j next) (stored_in t j) (all_stand j run before) k below))
-          (subst (λ (h : List Taken). AreInStep (begun_in (view_of r jobs carry restarts k t j) (views_of r jobs carry restarts k j)) (log_of h)) (sym sees.drive.taken) joined)
+          (subst (λ (h : List Processed). AreInStep (begun_in (view_of r jobs carry restarts k t j) (views_of r jobs carry restarts k j)) (log_of h)) (sym sees.drive.records) joined)

@@ -19,7 +19,7 @@ use Rattle.sercos_block.specs.BuiltIns.{built_in}
 use Rattle.sercos_block.specs.Rules.{blocks_fault}
 use Rattle.sercos_block.specs.Stores.{find_block, store_of}
 use Rattle.sercos_block.specs.Views.{DriveView, RingView}
-use Rattle.sercos_service_drive.specs.Log.{Taken, Entry, ahs}
+use Rattle.sercos_service_drive.specs.Log.{Processed, Entry, ahs}
 use Rattle.sercos_service_drive.specs.Replies.{data_in, reply_of, log_of}
 use Rattle.sercos_service_drive.specs.Writes.{Write}
 use Rattle.sercos_service_master.specs.Begun.{Begun}
@@ -52,21 +52,21 @@ use Rattle.sercos_law_run.proofs.Cited.{reads_well, tasks_end}
 -- each accepted step was accepted on a store of the drive
 abbrev pub EntriesStored : DriveView → List Entry → Type 0
 EntriesStored d [] = Unit {0}
-EntriesStored d (e ∷ entries) = EntriesStored d entries × IsStored d e.taken.blocks
+EntriesStored d (e ∷ entries) = EntriesStored d entries × IsStored d e.processed.blocks
 
 pub entries_stored : (d : DriveView) (past : List View) → AreStored d past → EntriesStored d (all_entries past)
 entries_stored d [] have = tt
 entries_stored d (v ∷ past) have = by (processes v past) (entries_stored d past have.0)
   where
-    dropped : (t : Taken) (same : Bool) → IsStored d t.blocks → EntriesStored d (all_entries past) →
-        EntriesStored d (if same then all_entries past else (record { taken = t; answer = reply_of t (log_of (kept_in v past)) }) ∷ all_entries past)
+    dropped : (t : Processed) (same : Bool) → IsStored d t.blocks → EntriesStored d (all_entries past) →
+        EntriesStored d (if same then all_entries past else (record { processed = t; answer = reply_of t (log_of (kept_in v past)) }) ∷ all_entries past)
     dropped t true is before = before
     dropped t false is before = (before, is)
 
     by : Processes v past → EntriesStored d (all_entries past) → EntriesStored d (all_entries (v ∷ past))
-    by (Nothing none) before = subst (λ (o : Option Taken). EntriesStored d (accepted_of o (kept_in v past) (all_entries past))) (sym none) before
+    by (Nothing none) before = subst (λ (o : Option Processed). EntriesStored d (accepted_of o (kept_in v past) (all_entries past))) (sym none) before
     by (Record s got came two some) before =
-        subst (λ (o : Option Taken). EntriesStored d (accepted_of o (kept_in v past) (all_entries past))) (sym some)
+        subst (λ (o : Option Processed). EntriesStored d (accepted_of o (kept_in v past) (all_entries past))) (sym some)
         (dropped (record_in v (length past) (stood_in v (standing past)) s) (beq s.mhs (ahs (kept_in v past))) have.1 before)
 
 stored_left : (d : DriveView) (xs ys : List Entry) → EntriesStored d (xs ++ ys) → EntriesStored d xs
@@ -77,21 +77,21 @@ stored_right : (d : DriveView) (xs ys : List Entry) → EntriesStored d (xs ++ y
 stored_right d [] ys have = have
 stored_right d (e ∷ xs) ys have = stored_right d xs ys have.0
 
-stored_behind : (d : DriveView) (n : ℕ) (part : List Entry) (e : Entry) → EntriesStored d part → entry_behind n part ≡ Some e → IsStored d e.taken.blocks
+stored_behind : (d : DriveView) (n : ℕ) (part : List Entry) (e : Entry) → EntriesStored d part → entry_behind n part ≡ Some e → IsStored d e.processed.blocks
 stored_behind d n [] e have got = absurd (cc)
 stored_behind d n (x ∷ part) e have got = by (length part == n) got (stored_behind d n part e have.0)
   where
-    by : (b : Bool) → (if b then Some x else entry_behind n part) ≡ Some e → (entry_behind n part ≡ Some e → IsStored d e.taken.blocks) → IsStored d e.taken.blocks
-    by true got more = let same : x ≡ e = cc in subst (λ (y : Entry). IsStored d y.taken.blocks) same have.1
+    by : (b : Bool) → (if b then Some x else entry_behind n part) ≡ Some e → (entry_behind n part ≡ Some e → IsStored d e.processed.blocks) → IsStored d e.processed.blocks
+    by true got more = let same : x ≡ e = cc in subst (λ (y : Entry). IsStored d y.processed.blocks) same have.1
     by false got more = more got
 
 -- a complete read gave the element of a block, in a store of the drive
 pub record IsReadOf (d : DriveView) (raw e : ℕ) (bytes : List ℕ) : Type 0 where
-  pub taken : Taken
-  pub stored_is : IsStored d taken.blocks
+  pub processed : Processed
+  pub stored_is : IsStored d processed.blocks
   pub block : Block
-  pub found : find_block raw taken.blocks ≡ Some block
-  pub gives : bytes ≡ element_in e taken.cycle block
+  pub found : find_block raw processed.blocks ≡ Some block
+  pub gives : bytes ≡ element_in e processed.cycle block
 
 -- a complete read among those that were begun
 pub read_of : (d : DriveView) (blocks : List Block) (older : List Begun) (b : Begun) (i : Idn) (e : ℕ) (bytes : List ℕ) → (e == 1) ≡ false → b.request ≡ request.Read i e → outcome_of b.request b.answers ≡ Some (outcome.Complete bytes)
@@ -99,7 +99,7 @@ pub read_of : (d : DriveView) (blocks : List Block) (older : List Begun) (b : Be
 read_of d blocks older b i e bytes other asks complete [] entries writes (part, rest, own, others, of_entries, of_writes, exact, behind) have =
     let (first, found_first, selection, there, read) = exact.reads i e bytes asks complete in
     let stored = stored_behind d (steps_before e) part selection (stored_left d part rest (subst (EntriesStored d) of_entries have)) there in
-    record { taken = selection.taken; stored_is = stored; block = read.block; found = read.found; gives = read.gives (λ two. stored.0) ∙ rw other refl }
+    record { processed = selection.processed; stored_is = stored; block = read.block; found = read.found; gives = read.gives (λ two. stored.0) ∙ rw other refl }
 read_of d blocks older b i e bytes other asks complete (x ∷ newer) entries writes (part, rest, own, others, of_entries, of_writes, exact, behind) have =
     read_of d blocks older b i e bytes other asks complete newer rest others behind (stored_right d part rest (subst (EntriesStored d) of_entries have))
 
@@ -152,12 +152,12 @@ read_answers d r i e bytes rules (Time raw built is) asks read =
     let same : request.Read i e ≡ request.Read (idn raw) 7 = sym asks ∙ is in
     let number : i.raw ≡ raw = cc in
     let element : e ≡ 7 = cc in
-    let still = no_step d read.taken.blocks i.raw read.block rules read.stored_is.1 (rw number (built d)) read.found in
-    (read.taken.blocks, read.stored_is.1, ap (λ (l : List ℕ). outcome.Complete l) (read.gives ∙ rw (element, read.found) (time_read read.taken.cycle read.block still)))
+    let still = no_step d read.processed.blocks i.raw read.block rules read.stored_is.1 (rw number (built d)) read.found in
+    (read.processed.blocks, read.stored_is.1, ap (λ (l : List ℕ). outcome.Complete l) (read.gives ∙ rw (element, read.found) (time_read read.processed.cycle read.block still)))
 read_answers d r i e bytes rules (Attribute x is) asks read =
     let same : request.Read i e ≡ request.Read x 3 = sym asks ∙ is in
     let element : e ≡ 3 = cc in
-    (read.taken.blocks, read.stored_is.1, ap (λ (l : List ℕ). outcome.Complete l) (read.gives ∙ rw (element, read.found) refl))
+    (read.processed.blocks, read.stored_is.1, ap (λ (l : List ℕ). outcome.Complete l) (read.gives ∙ rw (element, read.found) refl))
 
 -- each request has its answer
 pub answered_by : (d : DriveView) (requests : List Request) (all : List Outcome) → ((j : ℕ) (r : Request) → slice_get requests j ≡ Some r → (o : Outcome) × (slice_get all j ≡ Some o) × IsAnswer d r o) → AreAnswers d requests all

@@ -4,10 +4,10 @@ use Rattle.std.specs.Prelude.{IfSome}
 use Rattle.sercos_block.specs.declared.block.Block.{Block}
 use Rattle.sercos_block.specs.Stores.{find_block, put_fault, store_of, are_ascending}
 use Rattle.sercos_block.specs.Views.{DriveView}
-use Rattle.sercos_service_drive.specs.Log.{Taken}
+use Rattle.sercos_service_drive.specs.Log.{Processed}
 use Rattle.sercos_service_drive.specs.Writes.{Write, AreThose, added_on}
 use Rattle.sercos_drive.specs.Heard.{DriveCall, Mst, Mdt, Restart, mdt_got}
-use Rattle.sercos_drive.specs.Moments.{phase_in, taken_in, blocks_in, blocks_after, commands_in}
+use Rattle.sercos_drive.specs.Moments.{phase_in, records_in, blocks_in, blocks_after, commands_in}
 use Rattle.sercos_drive.specs.Annals.{annals}
 use Rattle.sercos_law_run.specs.Start.StartUp.{IsStoreOf}
 use Rattle.sercos_law_run.proofs.Cited.{handed_those}
@@ -17,7 +17,7 @@ use Rattle.sercos_service_drive.proofs.AllowedWrites.{allowed}
 
 -- an accepted write was allowed
 abbrev pub AllowsWrites : Type 0
-AllowsWrites = (t : Taken) (h : List Taken) → AreThose t.blocks h → IfSome (added_on t h) (λ (w : Write). put_fault (find_block w.raw t.blocks) t.phase w.bytes ≡ None)
+AllowsWrites = (t : Processed) (h : List Processed) → AreThose t.blocks h → IfSome (added_on t h) (λ (w : Write). put_fault (find_block w.raw t.blocks) t.phase w.bytes ≡ None)
 
 abbrev pub IsOf : DriveView → List Block → Type 0
 IsOf d blocks = IsStoreOf d blocks × (are_ascending blocks ≡ true)
@@ -29,8 +29,8 @@ store_of_so d rate (Restart ∷ h) ascending = store_of_so d rate h ascending
 store_of_so d rate (Mdt content ∷ h) ascending =
     let past = annals d rate h in
     let before = store_of_so d rate h ascending in
-    processed_keeps (λ o. IsOf d (blocks_after o (taken_in past) (blocks_in d past))) d rate
+    processed_keeps (λ o. IsOf d (blocks_after o (records_in past) (blocks_in d past))) d rate
     (mdt_got d.address (phase_in past) (blocks_in d past) content) past before (λ t.
     let one = taken_at d rate past t in
-    blocks_keep d (blocks_in d past) (added_on one (taken_in past)) (commands_in d rate past) (phase_in past) before.1 before.0
-    (allowed one (taken_in past) (handed_those d rate h)))
+    blocks_keep d (blocks_in d past) (added_on one (records_in past)) (commands_in d rate past) (phase_in past) before.1 before.0
+    (allowed one (records_in past) (handed_those d rate h)))

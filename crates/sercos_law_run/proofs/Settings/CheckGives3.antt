@@ -29,8 +29,8 @@ seven_of x same = let low : x % 256 ≡ 7 = cc in let high : x / 256 ≡ 0 = cc 
 
 module _ (blocks : List Block) where
   pub check_gives_3 : (e : Entry) (entries log : List Entry) (bytes : List ℕ) → IsTransfer (request.Command (idn 127)) blocks e entries log → outcome_of (request.Command (idn 127)) (replies_of (e ∷ entries)) ≡ Some (outcome.Complete bytes) →
-      ((poll : Entry) (before : List Entry) → entries ≡ poll ∷ before → are_well_set poll.taken.commands ≡ true) →
-      ((poll : Entry) (before : List Entry) → entries ≡ poll ∷ before → newest_to 127 (writes_of (before ++ log)) ≡ Some (3 ∷ 0 ∷ []) → is_some (find_set 127 (set_in poll.taken.commands)) ≡ true) →
+      ((poll : Entry) (before : List Entry) → entries ≡ poll ∷ before → are_well_set poll.processed.commands ≡ true) →
+      ((poll : Entry) (before : List Entry) → entries ≡ poll ∷ before → newest_to 127 (writes_of (before ++ log)) ≡ Some (3 ∷ 0 ∷ []) → is_some (find_set 127 (set_in poll.processed.commands)) ≡ true) →
       bytes ≡ 3 ∷ 0 ∷ []
   check_gives_3 e entries log bytes is complete well set = by (ends_with_status (idn 127) bytes blocks e entries log is complete) (set_at_poll (idn 127) blocks e entries log bytes is complete)
     where
@@ -44,10 +44,10 @@ module _ (blocks : List Block) where
       by (cancel, poll, before, split, reads, element, gives) behind =
           let here : entries ≡ poll ∷ before = tail e cancel entries (poll ∷ before) split in
           let both : behind.poll ∷ behind.before ≡ poll ∷ before = sym behind.behind ∙ here in
-          let on = subst (λ (x : Entry). is_some (find_set 127 (set_in x.taken.commands)) ≡ true) (head behind.poll poll behind.before before both) (set behind.poll behind.before behind.behind behind.newest) in
+          let on = subst (λ (x : Entry). is_some (find_set 127 (set_in x.processed.commands)) ≡ true) (head behind.poll poll behind.before before both) (set behind.poll behind.before behind.behind behind.newest) in
           let status = complete_status (idn 127) e.answer (replies_of entries) bytes (is.in_turn, is.goes_on) complete in
-          elim (well_status poll.taken.commands poll.taken.cycle (well poll before here)) [
-            | inl none ↦ absurd (none_or_set (find_set 127 (set_in poll.taken.commands)) on none)
+          elim (well_status poll.processed.commands poll.processed.cycle (well poll before here)) [
+            | inl none ↦ absurd (none_or_set (find_set 127 (set_in poll.processed.commands)) on none)
             | inr some ↦ elim some [
               | inl three ↦ gives ∙ ap (λ (n : ℕ). n ∷ 0 ∷ []) three
               | inr seven ↦ absurd (status.2 (seven_of status.0 (sym status.1 ∙ gives ∙ ap (λ (n : ℕ). n ∷ 0 ∷ []) seven)))

@@ -8,7 +8,7 @@ use Rattle.sercos_step.specs.declared.request.Outcome.TheVariants as outcome
 use Rattle.sercos_step.specs.Steps.{outcome_of}
 use Rattle.sercos_block.specs.declared.block.Block.{Block}
 use Rattle.sercos_command.specs.Settings.{is_command}
-use Rattle.sercos_service_drive.specs.Log.{Taken, Entry, ahs, accepted}
+use Rattle.sercos_service_drive.specs.Log.{Processed, Entry, ahs, accepted}
 use Rattle.sercos_service_drive.specs.Replies.{answered, reply_of, log_of}
 use Rattle.sercos_service_master.specs.Begun.{Begun}
 use Rattle.sercos_law_channel.specs.Handshake.InStep.{replies_of}
@@ -16,7 +16,7 @@ use Rattle.sercos_law_channel.specs.Handshake.Transfers.{HaveBlocks, IsTransfer}
 use Rattle.sercos_law_channel.specs.Handshake.Parts.{IsRow, IsPart, Unsent, Heard, Unheard, AreParts}
 use Rattle.sercos_law_channel.proofs.Theorems.{fall_into_parts, Processes, Nothing, Record, processes, in_step, HasReplies, answered_replies, IsEpoch, epoch, split_replies, split_blocks}
 use Rattle.sercos_law_channel.specs.Handshake.Views.{View, processed_in, with_record}
-use Rattle.sercos_law_channel.specs.Handshake.Epochs.{command, unless_restart, epoch_begun, epoch_taken, epoch_log}
+use Rattle.sercos_law_channel.specs.Handshake.Epochs.{command, unless_restart, epoch_begun, epoch_records, epoch_log}
 use Rattle.sercos_law_channel.specs.Handshake.Runs.{IsRun}
 use Rattle.sercos_law_channel.specs.Handshake.WholeRun.{AreSound}
 use Rattle.sercos_seat.specs.Agenda.{idn}
@@ -64,36 +64,36 @@ transfer_at blocks log b at e entries replied same part row =
     }
 
 -- at each of these records, each check for phase 3 that is set ends well
-abbrev pub WellAt : List Taken → Type 0
+abbrev pub WellAt : List Processed → Type 0
 WellAt [] = Unit {0}
 WellAt (t ∷ h) = WellAt h × (are_well_set t.commands ≡ true)
 
-entry_well : (h : List Taken) (newer : List Entry) (e : Entry) (behind : List Entry) → WellAt h → log_of h ≡ newer ++ e ∷ behind → are_well_set e.taken.commands ≡ true
+entry_well : (h : List Processed) (newer : List Entry) (e : Entry) (behind : List Entry) → WellAt h → log_of h ≡ newer ++ e ∷ behind → are_well_set e.processed.commands ≡ true
 entry_well [] [] e behind well is = absurd (cc)
 entry_well [] (x ∷ newer) e behind well is = absurd (cc)
 entry_well (t ∷ h) newer e behind well is = by (beq t.mhs (ahs h)) is (λ n more. entry_well h n e behind well.0 more)
   where
-    one : (x : Entry) (n : List Entry) → x ∷ log_of h ≡ n ++ e ∷ behind → x.taken ≡ t → ((m : List Entry) → log_of h ≡ m ++ e ∷ behind → are_well_set e.taken.commands ≡ true) → are_well_set e.taken.commands ≡ true
-    one x [] is taken more = let first : x ≡ e = cc in ap (λ (y : Entry). are_well_set y.taken.commands) (sym first) ∙ ap (λ (y : Taken). are_well_set y.commands) taken ∙ well.1
+    one : (x : Entry) (n : List Entry) → x ∷ log_of h ≡ n ++ e ∷ behind → x.processed ≡ t → ((m : List Entry) → log_of h ≡ m ++ e ∷ behind → are_well_set e.processed.commands ≡ true) → are_well_set e.processed.commands ≡ true
+    one x [] is taken more = let first : x ≡ e = cc in ap (λ (y : Entry). are_well_set y.processed.commands) (sym first) ∙ ap (λ (y : Processed). are_well_set y.commands) taken ∙ well.1
     one x (y ∷ n) is taken more = let rest : log_of h ≡ n ++ e ∷ behind = cc in more n rest
 
-    by : (v : Bool) → answered (if v then accepted h else t ∷ accepted h) ≡ newer ++ e ∷ behind → ((m : List Entry) → log_of h ≡ m ++ e ∷ behind → are_well_set e.taken.commands ≡ true) → are_well_set e.taken.commands ≡ true
+    by : (v : Bool) → answered (if v then accepted h else t ∷ accepted h) ≡ newer ++ e ∷ behind → ((m : List Entry) → log_of h ≡ m ++ e ∷ behind → are_well_set e.processed.commands ≡ true) → are_well_set e.processed.commands ≡ true
     by true is more = more newer is
-    by false is more = one (record { taken = t; answer = reply_of t (log_of h) }) newer is refl more
+    by false is more = one (record { processed = t; answer = reply_of t (log_of h) }) newer is refl more
 
-epoch_well : (past : List View) → StandWell past → WellAt (epoch_taken past)
+epoch_well : (past : List View) → StandWell past → WellAt (epoch_records past)
 epoch_well [] well = tt
 epoch_well (v ∷ past) well = fell v.falls (recorded (processes v past) (restarted v.master_restarts (epoch_well past well.0)))
   where
-    restarted : (r : Bool) → WellAt (epoch_taken past) → WellAt (if r then [] else epoch_taken past)
+    restarted : (r : Bool) → WellAt (epoch_records past) → WellAt (if r then [] else epoch_records past)
     restarted true all = tt
     restarted false all = all
 
-    recorded : Processes v past → WellAt (unless_restart v (epoch_taken past)) → WellAt (with_record (processed_in v past) (unless_restart v (epoch_taken past)))
-    recorded (Nothing none) all = subst (λ (o : Option Taken). WellAt (with_record o (unless_restart v (epoch_taken past)))) (sym none) all
-    recorded (Record s got came two some) all = subst (λ (o : Option Taken). WellAt (with_record o (unless_restart v (epoch_taken past)))) (sym some) (all, well.1)
+    recorded : Processes v past → WellAt (unless_restart v (epoch_records past)) → WellAt (with_record (processed_in v past) (unless_restart v (epoch_records past)))
+    recorded (Nothing none) all = subst (λ (o : Option Processed). WellAt (with_record o (unless_restart v (epoch_records past)))) (sym none) all
+    recorded (Record s got came two some) all = subst (λ (o : Option Processed). WellAt (with_record o (unless_restart v (epoch_records past)))) (sym some) (all, well.1)
 
-    fell : (f : Bool) → WellAt (with_record (processed_in v past) (unless_restart v (epoch_taken past))) → WellAt (if f then [] else with_record (processed_in v past) (unless_restart v (epoch_taken past)))
+    fell : (f : Bool) → WellAt (with_record (processed_in v past) (unless_restart v (epoch_records past))) → WellAt (if f then [] else with_record (processed_in v past) (unless_restart v (epoch_records past)))
     fell true all = tt
     fell false all = all
 
@@ -103,7 +103,7 @@ module _ (busy : ℕ) (blocks : List Block) where
       (newer older : List Begun) (b : Begun) (bytes : List ℕ) → epoch_begun past ≡ newer ++ b ∷ older → b.request ≡ request.Command (idn 127) → outcome_of b.request b.answers ≡ Some (outcome.Complete bytes) → bytes ≡ 3 ∷ 0 ∷ []
   checks_give_3 past run sound follow well have newer older b bytes split asks complete = of_part at.part refl at.is
     where
-      is_epoch : IsEpoch blocks (command past) (epoch_begun past) (epoch_taken past)
+      is_epoch : IsEpoch blocks (command past) (epoch_begun past) (epoch_records past)
       is_epoch = epoch blocks busy past run sound
 
       at : IsPartAt (epoch_log past) b
@@ -111,10 +111,10 @@ module _ (busy : ℕ) (blocks : List Block) where
 
       whole : (e : Entry) (entries : List Entry) → at.part ≡ e ∷ entries → IsRow b e entries → b.answers ≡ replies_of (e ∷ entries) → bytes ≡ 3 ∷ 0 ∷ []
       whole e entries part row answers =
-          let transfer = transfer_at blocks (epoch_log past) b at e entries (answered_replies (accepted (epoch_taken past))) is_epoch.alike part row in
+          let transfer = transfer_at blocks (epoch_log past) b at e entries (answered_replies (accepted (epoch_records past))) is_epoch.alike part row in
           check_gives_3 blocks e entries at.rest bytes (subst (λ (r : Request). IsTransfer r blocks e entries at.rest) asks transfer)
           (sym (ap₂ (λ (r : Request) (h : List _). outcome_of r h) asks answers) ∙ complete)
-          (λ poll before behind. entry_well (epoch_taken past) (at.front ++ e ∷ []) poll (before ++ at.rest) (epoch_well past (stand_well past well)) (poll_at (epoch_log past) b at e entries part poll before behind))
+          (λ poll before behind. entry_well (epoch_records past) (at.front ++ e ∷ []) poll (before ++ at.rest) (epoch_well past (stand_well past well)) (poll_at (epoch_log past) b at e entries part poll before behind))
           (λ poll before behind newest. set_at_entry 127 busy past (at.front ++ e ∷ []) poll (before ++ at.rest) (3 ∷ 0 ∷ []) run follow have (poll_at (epoch_log past) b at e entries part poll before behind) newest refl)
 
       of_part : (part : List Entry) → at.part ≡ part → IsPart b at.part → bytes ≡ 3 ∷ 0 ∷ []

@@ -27,9 +27,9 @@ second_fine r x (d ∷ []) are on long = (x, refl, (goes_on-outcome_of r x.answe
 second_fine r x (d ∷ c ∷ entries) are on long = second_fine r d (c ∷ entries) are.0 are.1 (omega arith)
 
 -- a read adds no write
-read_adds : (e : Entry) (log : List Entry) → e.taken.step.write ≡ false → writes_of (e ∷ log) ≡ writes_of log
+read_adds : (e : Entry) (log : List Entry) → e.processed.step.write ≡ false → writes_of (e ∷ log) ≡ writes_of log
 read_adds e log reads =
-    ap (λ (v : Bool). with_added (if v && ((e.taken.step.element == 7) && (e.taken.step.last && not e.answer.error)) then option_and_then (written_by e.taken (run_before true 7 log)) (open_idn log) else None) (writes_of log)) reads
+    ap (λ (v : Bool). with_added (if v && ((e.processed.step.element == 7) && (e.processed.step.last && not e.answer.error)) then option_and_then (written_by e.processed (run_before true 7 log)) (open_idn log) else None) (writes_of log)) reads
 
 pub record IsSetAtPoll (raw : ℕ) (e : Entry) (entries log : List Entry) : Type 0 where
   pub poll : Entry
@@ -38,15 +38,15 @@ pub record IsSetAtPoll (raw : ℕ) (e : Entry) (entries log : List Entry) : Type
   pub newest : newest_to raw (writes_of (before ++ log)) ≡ Some (3 ∷ 0 ∷ [])
 
 -- a transfer begins with its opening, which is a write
-not_first : (idn : Idn) (blocks : List Block) (poll : Entry) (log : List Entry) → IsTransfer (request.Command idn) blocks poll [] log → poll.taken.step.write ≡ false → ⊥
-not_first idn blocks poll log is reads = let first : Some poll.taken.step.write ≡ Some true = ap (option_map (λ (s : Step). s.write)) (sym (newest_step (request.Command idn) blocks log poll [] is)) in cc
+not_first : (idn : Idn) (blocks : List Block) (poll : Entry) (log : List Entry) → IsTransfer (request.Command idn) blocks poll [] log → poll.processed.step.write ≡ false → ⊥
+not_first idn blocks poll log is reads = let first : Some poll.processed.step.write ≡ Some true = ap (option_map (λ (s : Step). s.write)) (sym (newest_step (request.Command idn) blocks log poll [] is)) in cc
 
-longer : (idn : Idn) (blocks : List Block) (poll : Entry) (before log : List Entry) → IsTransfer (request.Command idn) blocks poll before log → poll.taken.step.write ≡ false → 1 ≤ length before
+longer : (idn : Idn) (blocks : List Block) (poll : Entry) (before log : List Entry) → IsTransfer (request.Command idn) blocks poll before log → poll.processed.step.write ≡ false → 1 ≤ length before
 longer idn blocks poll [] log is reads = absurd (not_first idn blocks poll log is reads)
 longer idn blocks poll (x ∷ before) log is reads = omega arith
 
 module _ (idn : Idn) (blocks : List Block) where
-  set_poll : (e poll : Entry) (before log : List Entry) → IsTransfer (request.Command idn) blocks e (poll ∷ before) log → poll.taken.step.write ≡ false → 1 ≤ length before → newest_to idn.raw (writes_of (before ++ log)) ≡ Some (3 ∷ 0 ∷ [])
+  set_poll : (e poll : Entry) (before log : List Entry) → IsTransfer (request.Command idn) blocks e (poll ∷ before) log → poll.processed.step.write ≡ false → 1 ≤ length before → newest_to idn.raw (writes_of (before ++ log)) ≡ Some (3 ∷ 0 ∷ [])
   set_poll e poll before log is reads long =
       let was = without_newest (request.Command idn) blocks log e poll before is in
       let second = second_fine (request.Command idn) poll before is.in_turn is.goes_on long in

@@ -11,12 +11,12 @@ use Rattle.sercos_step.specs.declared.request.Request.TheVariants as request
 use Rattle.sercos_block.specs.declared.block.Block.{Block}
 use Rattle.sercos_block.specs.Blocks.{is_fixed, is_protected}
 use Rattle.sercos_block.specs.Stores.{find_block, write_fault, data_fault, put_fault}
-use Rattle.sercos_service_drive.specs.Log.{Taken, ahs, open_idn, run_before}
+use Rattle.sercos_service_drive.specs.Log.{Processed, ahs, open_idn, run_before}
 use Rattle.sercos_service_drive.specs.Replies.{reply_of, log_of}
 use Rattle.sercos_service_drive.specs.Writes.{Write, written_by, with_added, writes_of, adds, added_on, takes_effect}
 use Rattle.sercos_service_master.specs.Begun.{Begun, Said, step_at, step_or_none, master_says}
 use Rattle.sercos_law_channel.specs.Handshake.Views.{View, standing, stood_in, record_in, processed_in, with_record, kept_in}
-use Rattle.sercos_law_channel.specs.Handshake.Epochs.{command, command_in, with_heard, with_begun, unless_restart, epoch_begun, epoch_taken, begun_in, log_in}
+use Rattle.sercos_law_channel.specs.Handshake.Epochs.{command, command_in, with_heard, with_begun, unless_restart, epoch_begun, epoch_records, begun_in, log_in}
 use Rattle.sercos_law_channel.specs.Handshake.Runs.{IsRun}
 use Rattle.sercos_law_channel.specs.Handshake.WholeRun.{write_of, AreSound, AreSmall}
 use Rattle.sercos_law_channel.specs.Handshake.Exact.{AreExact}
@@ -43,16 +43,16 @@ in_two a phase three four off = by (phase == 2) (phase == 3) refl off
     by false false is off = absurd (false≢true (sym off ∙ four))
 
 -- a write comes with a step of operation data
-writes_data : (t : Taken) (h : List Taken) (w : Write) → added_on t h ≡ Some w → (t.step.element == 7) ≡ true
+writes_data : (t : Processed) (h : List Processed) (w : Write) → added_on t h ≡ Some w → (t.step.element == 7) ≡ true
 writes_data t h w is = dropped (beq t.mhs (ahs h)) is
   where
-    effect : (v : Bool) → takes_effect (record { taken = t; answer = reply_of t (log_of h) }) ≡ v → (if v then option_and_then (written_by t (run_before true 7 (log_of h))) (open_idn (log_of h)) else None) ≡ Some w → (t.step.element == 7) ≡ true
+    effect : (v : Bool) → takes_effect (record { processed = t; answer = reply_of t (log_of h) }) ≡ v → (if v then option_and_then (written_by t (run_before true 7 (log_of h))) (open_idn (log_of h)) else None) ≡ Some w → (t.step.element == 7) ≡ true
     effect true on is = (and_parts (t.step.element == 7) _ (and_parts t.step.write _ on).1).0
     effect false on is = absurd (cc)
 
     dropped : (v : Bool) → (if v then None else adds t (log_of h)) ≡ Some w → (t.step.element == 7) ≡ true
     dropped true is = absurd (cc)
-    dropped false is = effect (takes_effect (record { taken = t; answer = reply_of t (log_of h) })) refl is
+    dropped false is = effect (takes_effect (record { processed = t; answer = reply_of t (log_of h) })) refl is
 
 -- each request begins with its opening, and that writes element 1
 opens_first : (r : Request) → (step_or_none (step_at r [])).element ≡ 1
@@ -85,14 +85,14 @@ module _ (allowed : AreAllowed) (laws : Laws) (busy : ℕ) (blocks : List Block)
   set_in w (a, has, second, third, fourth) is = by (processes v past)
     where
       by : Processes v past → IsSetIn blocks v past w
-      by (Nothing none) = let no : Some w ≡ None = sym is ∙ ap (λ (o : Option Taken). write_of o (kept_in v past)) none in absurd (cc)
+      by (Nothing none) = let no : Some w ≡ None = sym is ∙ ap (λ (o : Option Processed). write_of o (kept_in v past)) none in absurd (cc)
       by (Record s got came two some) = record { phase = t.phase; none = fault; two = (going v past [] commanded run.1.commanded).1; given = gave }
         where
-          t : Taken
+          t : Processed
           t = record_in v (length past) (stood_in v (standing past)) s
 
           adds_it : added_on (record_in v (length past) (stood_in v (standing past)) s) (kept_in v past) ≡ Some w
-          adds_it = sym (ap (λ (o : Option Taken). write_of o (kept_in v past)) some) ∙ is
+          adds_it = sym (ap (λ (o : Option Processed). write_of o (kept_in v past)) some) ∙ is
 
           fault : put_fault (find_block w.raw v.blocks) (stood_in v (standing past)) w.bytes ≡ None
           fault = subst (λ (o : Option Write). IfSome o (λ w. put_fault (find_block w.raw v.blocks) (stood_in v (standing past)) w.bytes ≡ None)) adds_it
@@ -101,12 +101,12 @@ module _ (allowed : AreAllowed) (laws : Laws) (busy : ℕ) (blocks : List Block)
           commanded : v.phase ≡ 2
           commanded = sym (processed_phase v past came (omega (arith, two))) ∙ in_two a (stood_in v (standing past)) third fourth (bare (find_block w.raw v.blocks) (stood_in v (standing past)) w.bytes a has fault)
 
-          grown : writes_of (log_in v past) ≡ w ∷ writes_of (log_of (unless_restart v (epoch_taken past)))
+          grown : writes_of (log_in v past) ≡ w ∷ writes_of (log_of (unless_restart v (epoch_records past)))
           grown =
               let same = kept_same busy v past run (record_in v (length past) (stood_in v (standing past)) s) some in
-              ap (λ (o : Option Taken). writes_of (log_of (with_record o (unless_restart v (epoch_taken past))))) some
-              ∙ sym (written (record_in v (length past) (stood_in v (standing past)) s) (unless_restart v (epoch_taken past)))
-              ∙ ap (λ (o : Option Write). with_added o (writes_of (log_of (unless_restart v (epoch_taken past)))))
+              ap (λ (o : Option Processed). writes_of (log_of (with_record o (unless_restart v (epoch_records past))))) some
+              ∙ sym (written (record_in v (length past) (stood_in v (standing past)) s) (unless_restart v (epoch_records past)))
+              ∙ ap (λ (o : Option Write). with_added o (writes_of (log_of (unless_restart v (epoch_records past)))))
               (ap (added_on (record_in v (length past) (stood_in v (standing past)) s)) (sym same) ∙ adds_it)
 
           said : s ≡ master_says (begun_in v past)

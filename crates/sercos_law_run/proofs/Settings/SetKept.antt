@@ -4,7 +4,7 @@ use Rattle.std.specs.Prelude.{◌==◌, Option}
 use Rattle.sercos_command.specs.declared.commands.SetCommand.{SetCommand}
 use Rattle.sercos_command.specs.Calls.{CommandHistory}
 use Rattle.sercos_command.specs.Kept.{set_in}
-use Rattle.sercos_service_drive.specs.Log.{Taken}
+use Rattle.sercos_service_drive.specs.Log.{Processed}
 use Rattle.sercos_service_drive.specs.Writes.{added_on, commands_with}
 use Rattle.sercos_law_channel.specs.Handshake.Views.{View, standing, stood_in, processed_in, with_record, kept_unless, since_reset, kept_in}
 use Rattle.sercos_law_channel.specs.Handshake.WholeRun.{write_of}
@@ -12,15 +12,15 @@ use Rattle.sercos_law_channel.proofs.Theorems.{Processes, Nothing, Record, proce
 use Rattle.sercos_law_run.specs.Settings.SetByWrites.{AreSetBy, settings_left, SettingsFollow, SetByKept}
 
 -- settings that these records left; only the settings matter
-abbrev AreLeft : List Taken → List SetCommand → Type 0
+abbrev AreLeft : List Processed → List SetCommand → Type 0
 AreLeft [] set = set ≡ []
 AreLeft (t ∷ h) set = AreSetBy h t.commands × (set ≡ set_in (commands_with (added_on t h) t.blocks t.commands))
 
-set_by : (h : List Taken) (c : CommandHistory) (set : List SetCommand) → set_in c ≡ set → AreLeft h set → AreSetBy h c
+set_by : (h : List Processed) (c : CommandHistory) (set : List SetCommand) → set_in c ≡ set → AreLeft h set → AreSetBy h c
 set_by [] c set same are = same ∙ are
 set_by (t ∷ h) c set same are = (are.0, same ∙ are.1)
 
-left_by : (h : List Taken) (c : CommandHistory) → AreSetBy h c → AreLeft h (set_in c)
+left_by : (h : List Processed) (c : CommandHistory) → AreSetBy h c → AreLeft h (set_in c)
 left_by [] c are = are
 left_by (t ∷ h) c are = are
 
@@ -38,10 +38,10 @@ since_set (v ∷ past) follow = by ((standing (v ∷ past)).ended == 0) (kept_se
   where
     taken : AreSetBy (kept_in v past) v.commands → Processes v past → AreLeft (with_record (processed_in v past) (kept_in v past)) (set_in (commands_with (write_of (processed_in v past) (kept_in v past)) v.blocks v.commands))
     taken at (Nothing none) =
-        subst (λ (o : Option Taken). AreLeft (with_record o (kept_in v past)) (set_in (commands_with (write_of o (kept_in v past)) v.blocks v.commands))) (sym none)
+        subst (λ (o : Option Processed). AreLeft (with_record o (kept_in v past)) (set_in (commands_with (write_of o (kept_in v past)) v.blocks v.commands))) (sym none)
         (left_by (kept_in v past) v.commands at)
     taken at (Record s got came two some) =
-        subst (λ (o : Option Taken). AreLeft (with_record o (kept_in v past)) (set_in (commands_with (write_of o (kept_in v past)) v.blocks v.commands))) (sym some) (at, refl)
+        subst (λ (o : Option Processed). AreLeft (with_record o (kept_in v past)) (set_in (commands_with (write_of o (kept_in v past)) v.blocks v.commands))) (sym some) (at, refl)
 
     by : (zero : Bool) → AreSetBy (kept_in v past) v.commands → AreLeft (if zero then [] else with_record (processed_in v past) (kept_in v past)) (if zero then [] else set_in (commands_with (write_of (processed_in v past) (kept_in v past)) v.blocks v.commands))
     by true at = refl

@@ -4,7 +4,7 @@ use Rattle.std.specs.Prelude.{◌==◌, nat_le, ◌&&◌}
 use Rattle.sercos_command.specs.declared.commands.SetCommand.{SetCommand}
 use Rattle.sercos_command.specs.Calls.{Reset, CommandHistory, with_call}
 use Rattle.sercos_command.specs.Kept.{set_in}
-use Rattle.sercos_service_drive.specs.Log.{Taken}
+use Rattle.sercos_service_drive.specs.Log.{Processed}
 use Rattle.sercos_service_drive.specs.Writes.{commands_with}
 use Rattle.sercos_service_master.specs.Begun.{Said}
 use Rattle.sercos_drive.specs.Steps.{commands_after, reset_in}
@@ -43,7 +43,7 @@ settings_follow c (v ∷ past) none follow = (
 )
 
 -- a record that was processed was processed on the blocks and with the commands of the cycle
-pub commands_same : (v : View) (cycle stood : ℕ) (o : Option Said) (h : List Taken) → commands_after (processed_of v cycle stood o) h v.commands ≡ commands_with (write_of (processed_of v cycle stood o) h) v.blocks v.commands
+pub commands_same : (v : View) (cycle stood : ℕ) (o : Option Said) (h : List Processed) → commands_after (processed_of v cycle stood o) h v.commands ≡ commands_with (write_of (processed_of v cycle stood o) h) v.blocks v.commands
 commands_same v cycle stood None h = refl
 commands_same v cycle stood (Some s) h = by (v.mst_comes && nat_le 2 stood)
   where

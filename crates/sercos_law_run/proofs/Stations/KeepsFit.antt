@@ -14,7 +14,7 @@ use Rattle.sercos_service_drive.specs.Writes.{Write, AreThose, added_on, command
 use Rattle.sercos_service_drive.proofs.AllowedWrites.{allowed}
 use Rattle.sercos_drive.specs.declared.hearing.Told.{Told}
 use Rattle.sercos_drive.specs.Heard.{DriveCall, Mst, Mdt, Restart, mst_got, mdt_got}
-use Rattle.sercos_drive.specs.Moments.{Moment, phase_in, has_mst, has_missed, taken_in, blocks_in, blocks_after, commands_in, calls_in, calls_after, with_reset}
+use Rattle.sercos_drive.specs.Moments.{Moment, phase_in, has_mst, has_missed, records_in, blocks_in, blocks_after, commands_in, calls_in, calls_after, with_reset}
 use Rattle.sercos_drive.specs.Annals.{annals, may_rise, processed_in, stands_in, ends_in, takes}
 use Rattle.sercos_drive.proofs.RecordLemmas.{phase_below}
 use Rattle.sercos_law_run.proofs.Start.LaterLemmas.{after_check, still_ascending}
@@ -154,10 +154,10 @@ module _ (d : DriveView) (rate check top : ℕ) (P : List Block → Type 0) (fou
 
   -- and what the MDT's place does
   at_mdt : (past : List Moment) (told : Option Told) → phase_in past ≤ 4 → IsOf d (blocks_in d past)
-      → AreThose (blocks_in d past) (taken_in past)
+      → AreThose (blocks_in d past) (records_in past)
       → Holds d rate check top P (calls_in past) (phase_in past) (blocks_in d past)
-      → Holds d rate check top P (with_reset (ends_in told past) (calls_after (processed_in d rate told past) (taken_in past) (calls_in past))) (ends_in told past)
-      (blocks_after (processed_in d rate told past) (taken_in past) (blocks_in d past))
+      → Holds d rate check top P (with_reset (ends_in told past) (calls_after (processed_in d rate told past) (records_in past) (calls_in past))) (ends_in told past)
+      (blocks_after (processed_in d rate told past) (records_in past) (blocks_in d past))
   at_mdt past told below is are before = left (phase_in past) (ends_in told past) _ _ (ends_low told) at
     where
       ends_low : (told : Option Told) → ends_in told past ≤ phase_in past
@@ -167,12 +167,12 @@ module _ (d : DriveView) (rate check top : ℕ) (P : List Block → Type 0) (fou
           low true = omega arith
           low false = omega arith
 
-      at : Holds d rate check top P (calls_after (processed_in d rate told past) (taken_in past) (calls_in past)) (phase_in past)
-          (blocks_after (processed_in d rate told past) (taken_in past) (blocks_in d past))
-      at = processed_keeps (λ o. Holds d rate check top P (calls_after o (taken_in past) (calls_in past)) (phase_in past)
-          (blocks_after o (taken_in past) (blocks_in d past))) d rate told past before (λ t.
+      at : Holds d rate check top P (calls_after (processed_in d rate told past) (records_in past) (calls_in past)) (phase_in past)
+          (blocks_after (processed_in d rate told past) (records_in past) (blocks_in d past))
+      at = processed_keeps (λ o. Holds d rate check top P (calls_after o (records_in past) (calls_in past)) (phase_in past)
+          (blocks_after o (records_in past) (blocks_in d past))) d rate told past before (λ t.
           let one = taken_at d rate past t in
-          recorded (blocks_in d past) (calls_in past) (phase_in past) (added_on one (taken_in past)) (commands_in d rate past) is below (allowed one (taken_in past) are) before)
+          recorded (blocks_in d past) (calls_in past) (phase_in past) (added_on one (records_in past)) (commands_in d rate past) is below (allowed one (records_in past) are) before)
 
   -- SO IT IS whatever the drive is given.
   pub holds_at : (h : List DriveCall) → are_ascending (store_of d) ≡ true

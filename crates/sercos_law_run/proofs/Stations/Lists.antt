@@ -23,7 +23,7 @@ use Rattle.sercos_service_drive.specs.Writes.{Write, added_on, command_value, bl
 use Rattle.sercos_service_drive.proofs.AllowedWrites.{allowed}
 use Rattle.sercos_drive.specs.declared.hearing.Told.{Told}
 use Rattle.sercos_drive.specs.Heard.{DriveCall, Mst, Mdt, Restart, mst_got, mdt_got}
-use Rattle.sercos_drive.specs.Moments.{Moment, phase_in, taken_in, blocks_in, blocks_after, calls_in, calls_after, with_reset}
+use Rattle.sercos_drive.specs.Moments.{Moment, phase_in, records_in, blocks_in, blocks_after, calls_in, calls_after, with_reset}
 use Rattle.sercos_drive.specs.Annals.{annals, processed_in, stands_in, ends_in}
 use Rattle.sercos_law_run.specs.Start.StartUp.{IsStoreOf}
 use Rattle.sercos_law_run.specs.Stations.Lists.{found_for_3, found_for_4, ListsAreFound}
@@ -143,11 +143,11 @@ module _ (d : DriveView) (rate : ℕ) (none : blocks_fault [] d.blocks ≡ None)
   contain_at [] up = opening
   contain_at (Restart ∷ h) up = contain_at h up
   contain_at (Mst cycle content ∷ h) up = kept_by (stands_in d rate cycle (mst_got content) (annals d rate h)) (calls_in (annals d rate h)) (blocks_in d (annals d rate h)) (contain_at h up)
-  contain_at (Mdt content ∷ h) up = kept_by (ends_in told past) (calls_after (processed_in d rate told past) (taken_in past) (calls_in past)) (blocks_after (processed_in d rate told past) (taken_in past) (blocks_in d past)) (processed_keeps
-      (λ o. Contain (calls_after o (taken_in past) (calls_in past)) (blocks_after o (taken_in past) (blocks_in d past))) d rate told past
+  contain_at (Mdt content ∷ h) up = kept_by (ends_in told past) (calls_after (processed_in d rate told past) (records_in past) (calls_in past)) (blocks_after (processed_in d rate told past) (records_in past) (blocks_in d past)) (processed_keeps
+      (λ o. Contain (calls_after o (records_in past) (calls_in past)) (blocks_after o (records_in past) (blocks_in d past))) d rate told past
       (contain_at h up) (λ t.
       let one = taken_at d rate past t in
-      recorded (blocks_in d past) (calls_in past) (phase_in past) (added_on one (taken_in past)) (store_of_so d rate h up) (allowed one (taken_in past) (handed_those d rate h)) (contain_at h up)))
+      recorded (blocks_in d past) (calls_in past) (phase_in past) (added_on one (records_in past)) (store_of_so d rate h up) (allowed one (records_in past) (handed_those d rate h)) (contain_at h up)))
     where
       past : List Moment
       past = annals d rate h

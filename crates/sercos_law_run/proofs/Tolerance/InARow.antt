@@ -9,7 +9,7 @@ use Rattle.sercos_block.specs.Stores.{IsStore}
 use Rattle.sercos_block.specs.declared.block.Block.{Block}
 use Rattle.sercos_service_drive.specs.Log.{Entry}
 use Rattle.sercos_service_master.specs.Begun.{Begun, answers_in, open_in, steps_in}
-use Rattle.sercos_law_channel.specs.Handshake.Epochs.{begun_in, epoch_begun, epoch_log, epoch_taken, unless_restart}
+use Rattle.sercos_law_channel.specs.Handshake.Epochs.{begun_in, epoch_begun, epoch_log, epoch_records, unless_restart}
 use Rattle.sercos_law_channel.specs.Handshake.InStep.{AreInStep, Idle, Kept, Sent}
 use Rattle.sercos_law_channel.specs.Handshake.Runs.{IsRun}
 use Rattle.sercos_law_channel.specs.Handshake.Views.{View}
@@ -73,7 +73,7 @@ pub waits_from : (busy : ℕ) (v : View) (past : List View) → IsRun busy (v �
     → suc (length (answers_in (epoch_begun (v ∷ past)))) ≡ length (epoch_log (v ∷ past))
     → ((length (epoch_log (v ∷ past)) ≡ length (epoch_log past)) × (epoch_log past ≡ e ∷ rest)
     × (suc (length (answers_in (epoch_begun past))) ≡ length (epoch_log past)))
-    ⊎ ((length (epoch_log (v ∷ past)) ≡ suc (length (epoch_log past))) × (e.taken.cycle ≡ length past))
+    ⊎ ((length (epoch_log (v ∷ past)) ≡ suc (length (epoch_log past))) × (e.processed.cycle ≡ length past))
 waits_from busy v past run stays goes_on e rest those a = elim (grows busy v past run stays goes_on) [
   | inl same ↦ inl (ap length same, sym same ∙ those, by same (stands_so (epoch_begun past) (epoch_log past) (in_step busy past run.0)))
   | inr (x, more, cycle) ↦ inr (
@@ -124,7 +124,7 @@ module _ (busy : ℕ) where
     pub rests : open_in (epoch_begun all) ≡ None → spent ≤ base + (busy + 2) * length (epoch_log all)
     pub waits : (e : Entry) (rest : List Entry) → epoch_log all ≡ e ∷ rest → suc (length (answers_in (epoch_begun all))) ≡ length
         (epoch_log all)
-        → spent + e.taken.cycle + (busy + 2) ≤ base + (busy + 2) * length (epoch_log all) + length all + 1
+        → spent + e.processed.cycle + (busy + 2) ≤ base + (busy + 2) * length (epoch_log all) + length all + 1
 
   -- ONE CYCLE MORE
   module _ (spent base : ℕ) (v : View) (past : List View) (run : IsRun busy (v ∷ past)) (row : IsInARow v past)
@@ -160,7 +160,7 @@ module _ (busy : ℕ) where
 
     waits_next : (e : Entry) (rest : List Entry) → epoch_log (v ∷ past) ≡ e ∷ rest
         → suc (length (answers_in (epoch_begun (v ∷ past)))) ≡ length (epoch_log (v ∷ past))
-        → suc spent + e.taken.cycle + (busy + 2) ≤ base + (busy + 2) * length (epoch_log (v ∷ past)) + suc (length past) + 1
+        → suc spent + e.processed.cycle + (busy + 2) ≤ base + (busy + 2) * length (epoch_log (v ∷ past)) + suc (length past) + 1
     waits_next e rest those a = elim (waits_from busy v past run row.stays row.goes_on e rest those a) [
       | inl (long, same, waited) ↦ (
           let before = is.waits e rest same waited in
@@ -174,7 +174,7 @@ module _ (busy : ℕ) where
     -- a step that waits was accepted no longer ago than this
     not_late : (e : Entry) (rest : List Entry) → epoch_log (v ∷ past) ≡ e ∷ rest
         → length (steps_in (epoch_begun (v ∷ past))) ≡ length (epoch_log (v ∷ past))
-        → suc (length past) ≤ e.taken.cycle + (busy + 1) + 1
+        → suc (length past) ≤ e.processed.cycle + (busy + 1) + 1
     not_late e rest those s = elim row.spared [
       | inl y ↦ (let late = (y.old e rest those opens_now s).1 in omega (arith, late))
       | inr both ↦ (let late = (both.0.old e rest those opens_now s).1 in omega (arith, late))
@@ -202,7 +202,7 @@ module _ (busy : ℕ) where
     total = let le = all in omega (arith, le);
     rests = λ none. let le = all in omega (arith, le);
     waits = λ e rest those a.
-        let less = head_before (length past) (epoch_taken past) (taken_before past) e rest those in
+        let less = head_before (length past) (epoch_records past) (taken_before past) e rest those in
         let long = ap (λ (n : ℕ). (busy + 2) * n) (sym a) in
         let up = more (length (answers_in (epoch_begun past))) in omega (arith, less, long, up);
   }

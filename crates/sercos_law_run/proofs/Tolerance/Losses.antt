@@ -5,7 +5,7 @@ use Rattle.std.proofs.lemmas.Bool.{cond-false, false≢true}
 use Rattle.sercos_step.specs.declared.step.Step.{Step}
 use Rattle.sercos_service_drive.specs.Log.{Entry}
 use Rattle.sercos_service_master.specs.Begun.{Begun, answers_in, open_in, steps_in}
-use Rattle.sercos_law_channel.specs.Handshake.Epochs.{begun_in, epoch_begun, epoch_log, epoch_taken, unless_restart}
+use Rattle.sercos_law_channel.specs.Handshake.Epochs.{begun_in, epoch_begun, epoch_log, epoch_records, unless_restart}
 use Rattle.sercos_law_channel.specs.Handshake.InStep.{AreInStep, Idle, Kept, Sent}
 use Rattle.sercos_law_channel.specs.Handshake.Runs.{IsRun}
 use Rattle.sercos_law_channel.specs.Handshake.Views.{View, processed_in}
@@ -92,13 +92,13 @@ module _ (busy : ℕ) where
         (epoch_log (cycles ++ past)) + lost_since cycles past
     waits : (e : Entry) (log : List Entry) → epoch_log (cycles ++ past) ≡ e ∷ log
         → suc (length (answers_in (epoch_begun (cycles ++ past)))) ≡ length (epoch_log (cycles ++ past))
-        → open_since cycles past + (busy + 1) * length (answers_in (epoch_begun past)) + e.taken.cycle
+        → open_since cycles past + (busy + 1) * length (answers_in (epoch_begun past)) + e.processed.cycle
         ≤ (busy + 1) * length (answers_in (epoch_begun (cycles ++ past))) + length (cycles ++ past) + lost_since cycles past
 
   at_first : (past : List View) → IsRun busy past → IsPaced [] past
   at_first past run = record {
     total = let le = by (counts (epoch_begun past) (epoch_log past) (in_step busy past run)) in omega (arith, le);
-    waits = λ e log those waits. let less = head_before (length past) (epoch_taken past) (taken_before past) e log those in
+    waits = λ e log those waits. let less = head_before (length past) (epoch_records past) (taken_before past) e log those in
         omega (arith, less);
   }
     where
@@ -149,7 +149,7 @@ module _ (busy : ℕ) where
 
     waits_next : (e : Entry) (log : List Entry) → epoch_log (v ∷ (cycles ++ past)) ≡ e ∷ log
         → suc (length (answers_in (epoch_begun (v ∷ (cycles ++ past))))) ≡ length (epoch_log (v ∷ (cycles ++ past)))
-        → open_since (v ∷ cycles) past + (busy + 1) * length (answers_in (epoch_begun past)) + e.taken.cycle
+        → open_since (v ∷ cycles) past + (busy + 1) * length (answers_in (epoch_begun past)) + e.processed.cycle
         ≤ (busy + 1) * length (answers_in (epoch_begun (v ∷ (cycles ++ past)))) + length (v ∷ (cycles ++ past)) + lost_since (v ∷ cycles)
         past
     waits_next e log those waits = elim (grows busy v (cycles ++ past) run stays goes_on) [

@@ -13,7 +13,7 @@ use Rattle.sercos_trace.specs.declared.events.Fall.{Fall}
 use Rattle.sercos_seat.specs.Ring.{known_of}
 use Rattle.sercos_master.specs.Annals.{Past, is_done, is_done_in}
 use Rattle.sercos_script.specs.Links.{Carry, Restarts}
-use Rattle.sercos_law_channel.specs.Handshake.Epochs.{begun_in, epoch_begun, epoch_log, epoch_taken}
+use Rattle.sercos_law_channel.specs.Handshake.Epochs.{begun_in, epoch_begun, epoch_log, epoch_records}
 use Rattle.sercos_law_channel.specs.Handshake.Runs.{IsRun as IsViewRun}
 use Rattle.sercos_law_channel.specs.Handshake.Views.{View}
 use Rattle.sercos_law_channel.specs.Pace.Costs.{AreTimed}
@@ -164,13 +164,13 @@ module _ (r : RingView) (jobs : List Job) (carry : Carry) (restarts : Restarts) 
     total : spent ≤ base + weight j + 1
     waits : (k : ℕ) → k < length r.drives → (e : Entry) (rest : List Entry) → epoch_log (views k j) ≡ e ∷ rest
         → suc (length (answers_in (epoch_begun (views k j)))) ≡ length (epoch_log (views k j))
-        → spent + e.taken.cycle + (busy_of k + 3) ≤ base + weight j + length (views k j) + 1
+        → spent + e.processed.cycle + (busy_of k + 3) ≤ base + weight j + length (views k j) + 1
 
   at_first : (j : List CycleView) (spent base : ℕ) → spent ≤ base + length r.drives → IsTwo j (suc spent) base
   at_first j spent base few = record {
     total = let some = some_weight j in omega (arith, few, some);
     waits = λ k below e rest those a.
-        let less = head_before (length (views k j)) (epoch_taken (views k j)) (taken_before (views k j)) e rest those in
+        let less = head_before (length (views k j)) (epoch_records (views k j)) (taken_before (views k j)) e rest those in
         let long = ap (λ (l : List Entry). length l) those in
         let product = times_le (busy_of k + 3) 1 (length (epoch_log (views k j))) (omega (arith, long)) in
         let all = ones (length r.drives) in
@@ -192,7 +192,7 @@ module _ (r : RingView) (jobs : List Job) (carry : Carry) (restarts : Restarts) 
       (earlier : IsTwo (u ∷ j) spent base) where
     waits_next : (i : ℕ) → i < length r.drives → (e : Entry) (rest : List Entry) → epoch_log (views i (t ∷ u ∷ j)) ≡ e ∷ rest
         → suc (length (answers_in (epoch_begun (views i (t ∷ u ∷ j))))) ≡ length (epoch_log (views i (t ∷ u ∷ j)))
-        → suc spent + e.taken.cycle + (busy_of i + 3) ≤ base + weight (t ∷ u ∷ j) + suc (length (views i (u ∷ j))) + 1
+        → suc spent + e.processed.cycle + (busy_of i + 3) ≤ base + weight (t ∷ u ∷ j) + suc (length (views i (u ∷ j))) + 1
     waits_next i i_low e rest those a = elim (waits_from (busy_of i) (view_of r jobs carry restarts i t (u ∷ j)) (views i (u ∷ j))
         (is_run (t ∷ u ∷ j) run clear i i_low) (stays t (u ∷ j) run clear is i) is.goes_on e rest those a) [
           | inl (long, same, waited) ↦ (

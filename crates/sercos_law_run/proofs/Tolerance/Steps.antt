@@ -5,12 +5,12 @@ use Rattle.std.proofs.lemmas.Bool.{cond-false, cond-true, eqb-true, false≢true
 use Rattle.sercos_telegram.specs.declared.words.Status.{Status}
 use Rattle.sercos_step.specs.declared.request.Request.{Request}
 use Rattle.sercos_step.specs.declared.step.Step.{Step}
-use Rattle.sercos_service_drive.specs.Log.{Entry, Taken}
+use Rattle.sercos_service_drive.specs.Log.{Entry, Processed}
 use Rattle.sercos_service_drive.specs.Replies.{log_of, reply_of}
 use Rattle.sercos_service_master.specs.Begun.{Begun, answer_in, answers_in, answers_it, open_in, steps_in, with_answer}
-use Rattle.sercos_law_channel.specs.Handshake.Epochs.{begun_in, epoch_begun, epoch_log, epoch_taken, log_in, taken_in_views, unless_restart, with_begun, with_heard}
+use Rattle.sercos_law_channel.specs.Handshake.Epochs.{begun_in, epoch_begun, epoch_log, epoch_records, log_in, records_in_views, unless_restart, with_begun, with_heard}
 use Rattle.sercos_law_channel.specs.Handshake.InStep.{AreInStep, Idle, Kept, Sent, log_steps}
-use Rattle.sercos_law_channel.specs.Handshake.Moves.{with_taken}
+use Rattle.sercos_law_channel.specs.Handshake.Moves.{with_processed}
 use Rattle.sercos_law_channel.specs.Handshake.Runs.{IsRun, IsShown}
 use Rattle.sercos_law_channel.specs.Handshake.Views.{Heard, View, processed_in, record_in, standing, stood_in, with_record}
 use Rattle.sercos_law_channel.specs.Pace.Ages.{age_by, age_in}
@@ -71,7 +71,7 @@ pub record IsYoungSince (since busy fresh late : ℕ) (all : List View) : Type 0
       → age_in all ≤ fresh
   pub old : (e : Entry) (log : List Entry) → epoch_log all ≡ e ∷ log → is_some (open_in (epoch_begun all)) ≡ true
       → length (steps_in (epoch_begun all)) ≡ length (epoch_log all)
-      → ((age_in all + e.taken.cycle ≤ length all + 1) ⊎ (e.taken.cycle < since)) × (length all ≤ e.taken.cycle + (busy + 1) + late)
+      → ((age_in all + e.processed.cycle ≤ length all + 1) ⊎ (e.processed.cycle < since)) × (length all ≤ e.processed.cycle + (busy + 1) + late)
 
 abbrev pub IsYoung : ℕ → ℕ → ℕ → List View → Type 0
 IsYoung busy fresh late all = IsYoungSince 0 busy fresh late all
@@ -130,13 +130,13 @@ module _ (busy : ℕ) (v : View) (past : List View) (run : IsRun busy (v ∷ pas
   begun_is = cond-false v.falls [] (begun_in v past) stays
 
   log_is : epoch_log (v ∷ past) ≡ log_in v past
-  log_is = ap log_of (cond-false v.falls [] (taken_in_views v past) stays)
+  log_is = ap log_of (cond-false v.falls [] (records_in_views v past) stays)
 
   start_is : unless_restart v (epoch_begun past) ≡ epoch_begun past
   start_is = cond-false v.master_restarts [] (epoch_begun past) goes_on
 
-  log_start : log_of (unless_restart v (epoch_taken past)) ≡ epoch_log past
-  log_start = ap log_of (cond-false v.master_restarts [] (epoch_taken past) goes_on)
+  log_start : log_of (unless_restart v (epoch_records past)) ≡ epoch_log past
+  log_start = ap log_of (cond-false v.master_restarts [] (epoch_records past) goes_on)
 
   now : Counts (epoch_begun (v ∷ past)) (epoch_log (v ∷ past))
   now = counts (epoch_begun (v ∷ past)) (epoch_log (v ∷ past)) (in_step busy (v ∷ past) run)
@@ -160,7 +160,7 @@ module _ (busy : ℕ) (v : View) (past : List View) (run : IsRun busy (v ∷ pas
 
   -- the log stays, or has one entry more, of this cycle
   pub grows : (epoch_log (v ∷ past) ≡ epoch_log past) ⊎ ((x : Entry) × (epoch_log (v ∷ past) ≡ x ∷ epoch_log past)
-      × (x.taken.cycle ≡ length past))
+      × (x.processed.cycle ≡ length past))
   grows = elim (log_grows v past goes_on) [ inl same ↦ inl (log_is ∙ same) | inr (x, is, at) ↦ inr (x, log_is ∙ is, at) ]
 
   -- the open step is the one of before, a cycle older, or a new one
@@ -186,18 +186,18 @@ module _ (busy : ℕ) (v : View) (past : List View) (run : IsRun busy (v ∷ pas
       )
       by false is = inr (age ∙ cond-false _ (age_in past + 1) 1 is)
 
-  pub soon : (e : Entry) (log : List Entry) → epoch_log (v ∷ past) ≡ e ∷ log → e.taken.cycle < length (v ∷ past)
-  soon e log those = head_before (length (v ∷ past)) (epoch_taken (v ∷ past)) (taken_before (v ∷ past)) e log those
+  pub soon : (e : Entry) (log : List Entry) → epoch_log (v ∷ past) ≡ e ∷ log → e.processed.cycle < length (v ∷ past)
+  soon e log those = head_before (length (v ∷ past)) (epoch_records (v ∷ past)) (taken_before (v ∷ past)) e log those
 
-  pub same_head : (e f : Entry) (log rest : List Entry) → e ∷ log ≡ f ∷ rest → e.taken.cycle ≡ f.taken.cycle
-  same_head e f log rest same = let one : e ≡ f = cc in ap (λ (x : Entry). x.taken.cycle) one
+  pub same_head : (e f : Entry) (log rest : List Entry) → e ∷ log ≡ f ∷ rest → e.processed.cycle ≡ f.processed.cycle
+  same_head e f log rest same = let one : e ≡ f = cc in ap (λ (x : Entry). x.processed.cycle) one
 
   -- A STEP THAT THE DRIVE HAS ACCEPTED: since when it is open,
   begun_by : (since fresh late : ℕ) → fresh ≤ 1 → IsYoungSince since busy fresh late past → (e : Entry) (log : List Entry)
       → epoch_log (v ∷ past) ≡ e ∷ log
       → is_some (open_in (epoch_begun (v ∷ past))) ≡ true
       → length (steps_in (epoch_begun (v ∷ past))) ≡ length (epoch_log (v ∷ past))
-      → (age_in (v ∷ past) + e.taken.cycle ≤ length (v ∷ past) + 1) ⊎ (e.taken.cycle < since)
+      → (age_in (v ∷ past) + e.processed.cycle ≤ length (v ∷ past) + 1) ⊎ (e.processed.cycle < since)
   begun_by since fresh late few y e log those some steps = elim (aged some) [
     | inr one ↦ let less = soon e log those in inl (omega (arith, one, less))
     | inl (same, age) ↦ elim grows [
@@ -208,15 +208,15 @@ module _ (busy : ℕ) (v : View) (past : List View) (run : IsRun busy (v ∷ pas
     where
       old : length (steps_in (epoch_begun (v ∷ past))) ≡ length (steps_in (epoch_begun past)) → age_in (v ∷ past) ≡ age_in past + 1
           → epoch_log (v ∷ past) ≡ epoch_log past
-          → Counts (epoch_begun past) (epoch_log past) → (age_in (v ∷ past) + e.taken.cycle ≤ length (v ∷ past) + 1)
-          ⊎ (e.taken.cycle < since)
+          → Counts (epoch_begun past) (epoch_log past) → (age_in (v ∷ past) + e.processed.cycle ≤ length (v ∷ past) + 1)
+          ⊎ (e.processed.cycle < since)
       old same age stayed (NoneOpen none s a) = let zero = closed_age past none in let less = soon e log those in
           inl (omega (arith, age, zero, less))
       old same age stayed (NotTaken s a) = let long = ap length stayed in absurd (omega (arith, same, steps, s, long))
       old same age stayed (NotAnswered s a) = by (open_in (epoch_begun past)) refl
         where
-          by : (o : Option Step) → open_in (epoch_begun past) ≡ o → (age_in (v ∷ past) + e.taken.cycle ≤ length (v ∷ past) + 1)
-              ⊎ (e.taken.cycle < since)
+          by : (o : Option Step) → open_in (epoch_begun past) ≡ o → (age_in (v ∷ past) + e.processed.cycle ≤ length (v ∷ past) + 1)
+              ⊎ (e.processed.cycle < since)
           by None none = let zero = closed_age past none in let less = soon e log those in inl (omega (arith, age, zero, less))
           by (Some z) opened = elim ((y.old e log (sym stayed ∙ those) (ap (λ (o : Option Step). is_some o) opened) s).0) [
             | inl was ↦ inl (omega (arith, age, was))
@@ -224,18 +224,18 @@ module _ (busy : ℕ) (v : View) (past : List View) (run : IsRun busy (v ∷ pas
           ]
 
       new : length (steps_in (epoch_begun (v ∷ past))) ≡ length (steps_in (epoch_begun past)) → age_in (v ∷ past) ≡ age_in past + 1
-          → (x : Entry) → epoch_log (v ∷ past) ≡ x ∷ epoch_log past → x.taken.cycle ≡ length past
-          → Counts (epoch_begun past) (epoch_log past) → (age_in (v ∷ past) + e.taken.cycle ≤ length (v ∷ past) + 1)
-          ⊎ (e.taken.cycle < since)
+          → (x : Entry) → epoch_log (v ∷ past) ≡ x ∷ epoch_log past → x.processed.cycle ≡ length past
+          → Counts (epoch_begun past) (epoch_log past) → (age_in (v ∷ past) + e.processed.cycle ≤ length (v ∷ past) + 1)
+          ⊎ (e.processed.cycle < since)
       new same age x is at (NoneOpen none s a) = let long = ap length is in absurd (omega (arith, same, steps, s, long))
       new same age x is at (NotAnswered s a) = let long = ap length is in absurd (omega (arith, same, steps, s, long))
       new same age x is at (NotTaken s a) = by (open_in (epoch_begun past)) refl
         where
-          cycle : e.taken.cycle ≡ length past
+          cycle : e.processed.cycle ≡ length past
           cycle = same_head e x log (epoch_log past) (sym those ∙ is) ∙ at
 
-          by : (o : Option Step) → open_in (epoch_begun past) ≡ o → (age_in (v ∷ past) + e.taken.cycle ≤ length (v ∷ past) + 1)
-              ⊎ (e.taken.cycle < since)
+          by : (o : Option Step) → open_in (epoch_begun past) ≡ o → (age_in (v ∷ past) + e.processed.cycle ≤ length (v ∷ past) + 1)
+              ⊎ (e.processed.cycle < since)
           by None none = let zero = closed_age past none in inl (omega (arith, age, zero, cycle))
           by (Some z) opened = let young = y.new (ap (λ (o : Option Step). is_some o) opened) s in inl
               (omega (arith, age, young, few, cycle))
@@ -269,7 +269,7 @@ module _ (busy : ℕ) (v : View) (past : List View) (run : IsRun busy (v ∷ pas
       ≡ e ∷ log
       → is_some (open_in (epoch_begun (v ∷ past))) ≡ true
       → length (steps_in (epoch_begun (v ∷ past))) ≡ length (epoch_log (v ∷ past))
-      → length (v ∷ past) ≤ e.taken.cycle + (busy + 1) + (late + 1)
+      → length (v ∷ past) ≤ e.processed.cycle + (busy + 1) + (late + 1)
   open_late_by since fresh late y e log those some steps = elim grows [
     | inl stayed ↦ by (was_open e log those steps some stayed) then_ (open_in (epoch_begun past)) refl stayed
     | inr (x, is, at) ↦ let cycle = same_head e x log (epoch_log past) (sym those ∙ is) in omega (arith, cycle, at)
@@ -277,7 +277,7 @@ module _ (busy : ℕ) (v : View) (past : List View) (run : IsRun busy (v ∷ pas
     where
       by : suc (length (answers_in (epoch_begun past))) ≡ length (epoch_log past) → Counts (epoch_begun past) (epoch_log past)
           → (o : Option Step) → open_in (epoch_begun past) ≡ o → epoch_log (v ∷ past) ≡ epoch_log past
-          → length (v ∷ past) ≤ e.taken.cycle + (busy + 1) + (late + 1)
+          → length (v ∷ past) ≤ e.processed.cycle + (busy + 1) + (late + 1)
       by open_then (NoneOpen none s a) o is stayed = absurd (omega (arith, open_then, a))
       by open_then (NotTaken s a) o is stayed = absurd (omega (arith, open_then, a))
       by open_then (NotAnswered s a) (Some z) is stayed = let was =
@@ -290,30 +290,30 @@ module _ (busy : ℕ) (v : View) (past : List View) (run : IsRun busy (v ∷ pas
           kept (Kept f rest opened at steps answers) = cc
 
   -- WHAT IS HEARD
-  started : AreInStep (unless_restart v (epoch_begun past)) (log_of (unless_restart v (epoch_taken past)))
-  started = restarted busy v (epoch_begun past) (epoch_taken past) (in_step busy past run.0)
+  started : AreInStep (unless_restart v (epoch_begun past)) (log_of (unless_restart v (epoch_records past)))
+  started = restarted busy v (epoch_begun past) (epoch_records past) (in_step busy past run.0)
 
-  heard_then : AreInStep (with_heard v.heard (unless_restart v (epoch_begun past))) (log_of (unless_restart v (epoch_taken past)))
+  heard_then : AreInStep (with_heard v.heard (unless_restart v (epoch_begun past))) (log_of (unless_restart v (epoch_records past)))
   heard_then = heard_of busy v past run (joined busy past run.0) v.heard run.1.heard started
 
   works : (o : Option Heard) → IfSome o (λ a. IsShown busy a v past)
-      → AreInStep (with_heard o (unless_restart v (epoch_begun past))) (log_of (unless_restart v (epoch_taken past))) → is_some o ≡ true
-      → (e : Entry) (rest : List Entry) → log_of (unless_restart v (epoch_taken past)) ≡ e ∷ rest
-      → open_in (unless_restart v (epoch_begun past)) ≡ Some e.taken.step
-      → steps_in (unless_restart v (epoch_begun past)) ≡ log_steps (log_of (unless_restart v (epoch_taken past)))
-      → e.taken.cycle < length past
-      → WorksLate busy (length past) 0 (with_heard o (unless_restart v (epoch_begun past))) (log_of (unless_restart v (epoch_taken past)))
+      → AreInStep (with_heard o (unless_restart v (epoch_begun past))) (log_of (unless_restart v (epoch_records past))) → is_some o ≡ true
+      → (e : Entry) (rest : List Entry) → log_of (unless_restart v (epoch_records past)) ≡ e ∷ rest
+      → open_in (unless_restart v (epoch_begun past)) ≡ Some e.processed.step
+      → steps_in (unless_restart v (epoch_begun past)) ≡ log_steps (log_of (unless_restart v (epoch_records past)))
+      → e.processed.cycle < length past
+      → WorksLate busy (length past) 0 (with_heard o (unless_restart v (epoch_begun past))) (log_of (unless_restart v (epoch_records past)))
   works None shown after some e rest those opened steps earlier = absurd (false≢true some)
   works (Some a) shown after some e rest those opened steps earlier = elim (shown_of busy v past run (joined busy past run.0) a shown) [
     | inl none ↦ let free : open_in (unless_restart v (epoch_begun past)) ≡ None = ap open_in none in absurd (cc)
     | inr says ↦ heard_late busy (length past) 0 v.showing a.status a.word (unless_restart v (epoch_begun past))
-        (unless_restart v (epoch_taken past)) says e rest started after those opened steps earlier (omega arith) (omega (arith, earlier))
+        (unless_restart v (epoch_records past)) says e rest started after those opened steps earlier (omega arith) (omega (arith, earlier))
   ]
 
   -- one that is open though the drive is heard is busy
   pub busy_still : (is_some (open_in (epoch_begun past)) ≡ true → is_some v.heard ≡ true) → (e : Entry) (log : List Entry)
       → epoch_log (v ∷ past) ≡ e ∷ log → is_some (open_in (epoch_begun (v ∷ past))) ≡ true
-      → length (steps_in (epoch_begun (v ∷ past))) ≡ length (epoch_log (v ∷ past)) → length (v ∷ past) ≤ e.taken.cycle + (busy + 1) + 0
+      → length (steps_in (epoch_begun (v ∷ past))) ≡ length (epoch_log (v ∷ past)) → length (v ∷ past) ≤ e.processed.cycle + (busy + 1) + 0
   busy_still hears e log those some steps = elim grows [
     | inl stayed ↦ by stayed started
     | inr (x, is, at) ↦ let cycle = same_head e x log (epoch_log past) (sym those ∙ is) in omega (arith, cycle, at)
@@ -322,51 +322,51 @@ module _ (busy : ℕ) (v : View) (past : List View) (run : IsRun busy (v ∷ pas
       last : suc (length (answers_in (epoch_begun (v ∷ past)))) ≡ length (epoch_log (v ∷ past))
       last = unanswered e log those steps some
 
-      long : length (log_of (unless_restart v (epoch_taken past))) ≡ length (epoch_log past)
+      long : length (log_of (unless_restart v (epoch_records past))) ≡ length (epoch_log past)
       long = ap length log_start
 
       -- not all answers were taken
       not_all : epoch_log (v ∷ past) ≡ epoch_log past → length (answers_in (with_heard v.heard (unless_restart v (epoch_begun past)))) ≡
-          length (log_of (unless_restart v (epoch_taken past))) → ⊥
+          length (log_of (unless_restart v (epoch_records past))) → ⊥
       not_all stayed all = let same = ap length stayed in let is = answers_are in omega (arith, last, long, same, is, all)
 
-      before_all : length (answers_in (unless_restart v (epoch_begun past))) ≡ length (log_of (unless_restart v (epoch_taken past)))
+      before_all : length (answers_in (unless_restart v (epoch_begun past))) ≡ length (log_of (unless_restart v (epoch_records past)))
           → epoch_log (v ∷ past) ≡ epoch_log past → ⊥
       before_all all stayed = let same = ap length stayed in let is = answers_are in
           let more = heard_more v.heard (unless_restart v (epoch_begun past)) in omega (arith, last, long, same, is, all, more)
 
       after_so : epoch_log (v ∷ past) ≡ epoch_log past → open_in (with_heard v.heard (unless_restart v (epoch_begun past))) ≡ None
-          → AreInStep (with_heard v.heard (unless_restart v (epoch_begun past))) (log_of (unless_restart v (epoch_taken past))) → ⊥
-      after_so stayed none (Idle off s a) = not_all stayed (ap length a ∙ length-replies_of (log_of (unless_restart v (epoch_taken past))))
+          → AreInStep (with_heard v.heard (unless_restart v (epoch_begun past))) (log_of (unless_restart v (epoch_records past))) → ⊥
+      after_so stayed none (Idle off s a) = not_all stayed (ap length a ∙ length-replies_of (log_of (unless_restart v (epoch_records past))))
       after_so stayed none (Sent step opened s a) = cc
       after_so stayed none (Kept f rest opened at s a) = cc
 
       new_so : epoch_log (v ∷ past) ≡ epoch_log past → length (steps_in (with_heard v.heard (unless_restart v (epoch_begun past)))) ≡ suc
-          (length (log_of (unless_restart v (epoch_taken past))))
-          → Counts (with_heard v.heard (unless_restart v (epoch_begun past))) (log_of (unless_restart v (epoch_taken past))) → ⊥
+          (length (log_of (unless_restart v (epoch_records past))))
+          → Counts (with_heard v.heard (unless_restart v (epoch_begun past))) (log_of (unless_restart v (epoch_records past))) → ⊥
       new_so stayed more (NoneOpen none s a) = not_all stayed a
       new_so stayed more (NotTaken s a) = not_all stayed a
       new_so stayed more (NotAnswered s a) = omega (arith, more, s)
 
       which : epoch_log (v ∷ past) ≡ epoch_log past → WorksLate busy (length past) 0
-          (with_heard v.heard (unless_restart v (epoch_begun past))) (log_of (unless_restart v (epoch_taken past)))
-          → length (v ∷ past) ≤ e.taken.cycle + (busy + 1) + 0
+          (with_heard v.heard (unless_restart v (epoch_begun past))) (log_of (unless_restart v (epoch_records past)))
+          → length (v ∷ past) ≤ e.processed.cycle + (busy + 1) + 0
       which stayed (FreeLate none is) = absurd (after_so stayed none heard_then)
       which stayed (NewLate s opened more is) = absurd (new_so stayed
-          (ap length more ∙ ap (λ (n : ℕ). suc n) (length-steps_of (log_of (unless_restart v (epoch_taken past)))))
-          (counts (with_heard v.heard (unless_restart v (epoch_begun past))) (log_of (unless_restart v (epoch_taken past))) heard_then))
+          (ap length more ∙ ap (λ (n : ℕ). suc n) (length-steps_of (log_of (unless_restart v (epoch_records past)))))
+          (counts (with_heard v.heard (unless_restart v (epoch_begun past))) (log_of (unless_restart v (epoch_records past))) heard_then))
       which stayed (BusyLate g rest at opened all earlier late sum) =
           let cycle = same_head e g log rest (sym those ∙ stayed ∙ sym log_start ∙ at) in omega (arith, cycle, late)
 
       by : epoch_log (v ∷ past) ≡ epoch_log past → AreInStep (unless_restart v (epoch_begun past))
-          (log_of (unless_restart v (epoch_taken past))) → length (v ∷ past) ≤ e.taken.cycle + (busy + 1) + 0
-      by stayed (Idle none s a) = absurd (before_all (ap length a ∙ length-replies_of (log_of (unless_restart v (epoch_taken past))))
+          (log_of (unless_restart v (epoch_records past))) → length (v ∷ past) ≤ e.processed.cycle + (busy + 1) + 0
+      by stayed (Idle none s a) = absurd (before_all (ap length a ∙ length-replies_of (log_of (unless_restart v (epoch_records past))))
           stayed)
-      by stayed (Sent step opened s a) = absurd (before_all (ap length a ∙ length-replies_of (log_of (unless_restart v (epoch_taken past))))
+      by stayed (Sent step opened s a) = absurd (before_all (ap length a ∙ length-replies_of (log_of (unless_restart v (epoch_records past))))
           stayed)
       by stayed (Kept f rest opened at s a) = which stayed (works v.heard run.1.heard heard_then
           (hears (ap (λ (l : List Begun). is_some (open_in l)) (sym start_is) ∙ ap (λ (o : Option Step). is_some o) opened))
-          f rest at opened s (head_before (length past) (epoch_taken past) (taken_before past) f rest (sym log_start ∙ at)))
+          f rest at opened s (head_before (length past) (epoch_records past) (taken_before past) f rest (sym log_start ∙ at)))
 
   -- A STEP THAT THE DRIVE HASN'T ACCEPTED isn't there if it processes the record;
   pub none_new : (is_some (open_in (begun_in v past)) ≡ true → is_some (processed_in v past) ≡ true)
@@ -380,17 +380,17 @@ module _ (busy : ℕ) (v : View) (past : List View) (run : IsRun busy (v ∷ pas
       by : Processes v past → ⊥
       by (Nothing none) = never_some (processed_in v past) none (takes at)
       by (Record s got came two processed) = which (begun_of busy v.begins (with_heard v.heard (unless_restart v (epoch_begun past)))
-          (unless_restart v (epoch_taken past)) run.1.begins heard_then)
+          (unless_restart v (epoch_records past)) run.1.begins heard_then)
         where
           log : List Entry
-          log = log_of (unless_restart v (epoch_taken past))
+          log = log_of (unless_restart v (epoch_records past))
 
-          t : Taken
+          t : Processed
           t = record_in v (length past) (stood_in v (standing past)) s
 
-          now_is : epoch_log (v ∷ past) ≡ with_taken t (reply_of t log) log
-          now_is = log_is ∙ ap (λ (o : Option Taken). log_of (with_record o (unless_restart v (epoch_taken past)))) processed
-              ∙ log-taken t (unless_restart v (epoch_taken past))
+          now_is : epoch_log (v ∷ past) ≡ with_processed t (reply_of t log) log
+          now_is = log_is ∙ ap (λ (o : Option Processed). log_of (with_record o (unless_restart v (epoch_records past)))) processed
+              ∙ log-taken t (unless_restart v (epoch_records past))
 
           least : length log ≤ length (epoch_log (v ∷ past))
           least = let start = ap length log_start in elim grows [

@@ -22,7 +22,7 @@ use Rattle.sercos_command.specs.Checks.{data_at, idns_in, idns_at}
 use Rattle.sercos_service_drive.specs.Replies.{data_in}
 use Rattle.sercos_service_drive.specs.Says.{Shown, channel_says}
 use Rattle.sercos_drive.specs.Heard.{DriveCall}
-use Rattle.sercos_drive.specs.Moments.{phase_in, cycle_in, taken_in, blocks_in, commands_in}
+use Rattle.sercos_drive.specs.Moments.{phase_in, cycle_in, records_in, blocks_in, commands_in}
 use Rattle.sercos_drive.specs.Annals.{annals}
 use Rattle.sercos_drive.specs.Says.{Said, shown_word, bytes_in_cycle, value_in, values_in, sends, said, drive_says}
 use Rattle.sercos_seat.proofs.Sends.{fields_length}
@@ -140,7 +140,7 @@ pub at_content : (d : DriveView) (rate : ℕ) (h : List DriveCall) (s : Said) �
 at_content d rate h s low keeps is = by (sends (annals d rate h)) is
   where
     x : Said
-    x = said d.address (cycle_in (annals d rate h)) (phase_in (annals d rate h)) (blocks_in d (annals d rate h)) (channel_says d.busy (cycle_in (annals d rate h)) (commands_in d rate (annals d rate h)) (taken_in (annals d rate h)))
+    x = said d.address (cycle_in (annals d rate h)) (phase_in (annals d rate h)) (blocks_in d (annals d rate h)) (channel_says d.busy (cycle_in (annals d rate h)) (commands_in d rate (annals d rate h)) (records_in (annals d rate h)))
 
     by : (b : Bool) → (if b then Some x else None) ≡ Some s → IsContent s.content
     by true e = let same : x ≡ s = cc in subst (λ (y : Said). IsContent y.content) same (said_content d.address (cycle_in (annals d rate h)) (phase_in (annals d rate h)) (blocks_in d (annals d rate h)) _ low keeps.store)

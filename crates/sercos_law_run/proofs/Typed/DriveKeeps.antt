@@ -16,11 +16,11 @@ use Rattle.sercos_block.specs.Rings.{is_ring, is_drive, are_drives, are_drive_nu
 use Rattle.sercos_block.specs.Stores.{find_block, store_of, put_fault, is_typed, IsStore}
 use Rattle.sercos_block.specs.Views.{DriveView, RingView}
 use Rattle.sercos_command.specs.Checks.{number_at, carried_len}
-use Rattle.sercos_service_drive.specs.Log.{Taken, taken_record}
+use Rattle.sercos_service_drive.specs.Log.{Processed, processed_record}
 use Rattle.sercos_service_drive.specs.Writes.{AreThose, added_on}
 use Rattle.sercos_drive.specs.declared.hearing.Told.{Told}
 use Rattle.sercos_drive.specs.Heard.{DriveCall, Mst, Mdt, Restart, mst_got, told_at, single_in, joint_in, lies_within, mdt_got}
-use Rattle.sercos_drive.specs.Moments.{Moment, phase_in, cycle_in, has_mst, unless_phase_0, with_record, taken_in, blocks_in, blocks_after, commands_in}
+use Rattle.sercos_drive.specs.Moments.{Moment, phase_in, cycle_in, has_mst, unless_phase_0, with_record, records_in, blocks_in, blocks_after, commands_in}
 use Rattle.sercos_drive.specs.Annals.{processed_in, ends_in, stands_in, annals}
 use Rattle.sercos_script.specs.declared.link.Passage.{Passage}
 use Rattle.sercos_script.specs.Links.{Carry, Restarts}
@@ -31,7 +31,7 @@ use Rattle.sercos_law_run.specs.Journal.Records.{mdt_in}
 use Rattle.sercos_law_run.specs.Journal.Runs.{no_drive, drive_at, with_restart, mdt_heard, drive_calls, given_before, given_mst}
 use Rattle.sercos_law_run.proofs.Journal.StationLemmas.{drives_so}
 use Rattle.sercos_law_run.specs.Typed.Typed.{IsTyped, AreTyped}
-use Rattle.sercos_law_run.specs.Typed.Keeps.{IsTaken, AreTaken, Keeps}
+use Rattle.sercos_law_run.specs.Typed.Keeps.{IsRecord, AreRecords, Keeps}
 use Rattle.sercos_law_run.proofs.Typed.Words.{read_word}
 use Rattle.sercos_law_run.proofs.Typed.StoreStays.{blocks_stay}
 use Rattle.sercos_law_run.proofs.Typed.Records.{added_bytes}
@@ -136,40 +136,40 @@ got_told address phase blocks (Some content) are = cond_both (nat_le 3 phase) (j
 -- WHAT IS KEPT after any calls
 -- each write that a record adds was allowed
 abbrev pub AreAllowed : Type 0
-AreAllowed = (t : Taken) (h : List Taken) → AreThose t.blocks h → IfSome (added_on t h) (λ w. put_fault (find_block w.raw t.blocks) t.phase w.bytes ≡ None)
+AreAllowed = (t : Processed) (h : List Processed) → AreThose t.blocks h → IfSome (added_on t h) (λ w. put_fault (find_block w.raw t.blocks) t.phase w.bytes ≡ None)
 
-phase_taken : (phase : ℕ) (h : List Taken) → AreTaken h → AreTaken (unless_phase_0 phase h)
-phase_taken phase h are = cond_both (phase == 0) [] h AreTaken (λ on. tt) (λ off. are)
+phase_taken : (phase : ℕ) (h : List Processed) → AreRecords h → AreRecords (unless_phase_0 phase h)
+phase_taken phase h are = cond_both (phase == 0) [] h AreRecords (λ on. tt) (λ off. are)
 
-processed : (d : DriveView) (rate : ℕ) (told : Option Told) (past : List Moment) → IsTold told → IsStore (blocks_in d past) → IfSome (processed_in d rate told past) (λ t. IsTaken t × (t.blocks ≡ blocks_in d past))
+processed : (d : DriveView) (rate : ℕ) (told : Option Told) (past : List Moment) → IsTold told → IsStore (blocks_in d past) → IfSome (processed_in d rate told past) (λ t. IsRecord t × (t.blocks ≡ blocks_in d past))
 processed d rate None past is store = tt
 processed d rate (Some told) past is store = by (has_mst past && nat_le 2 (phase_in past))
   where
-    by : (b : Bool) → IfSome (if b then Some (taken_record (cycle_in past) (phase_in past) told.control told.info (blocks_in d past) (commands_in d rate past)) else None) (λ t. IsTaken t × (t.blocks ≡ blocks_in d past))
+    by : (b : Bool) → IfSome (if b then Some (processed_record (cycle_in past) (phase_in past) told.control told.info (blocks_in d past) (commands_in d rate past)) else None) (λ t. IsRecord t × (t.blocks ≡ blocks_in d past))
     by true = (record { blocks = store; element = is.0; word = is.1 }, refl)
     by false = tt
 
-after_record : AreAllowed → (d : DriveView) (past : List Moment) (o : Option Taken) → Keeps d past → AreThose (blocks_in d past) (taken_in past) → IfSome o (λ t. IsTaken t × (t.blocks ≡ blocks_in d past)) →
-    IsStore (blocks_after o (taken_in past) (blocks_in d past)) × AreTaken (with_record o (taken_in past))
-after_record allowed d past None keeps those is = (keeps.store, keeps.taken)
+after_record : AreAllowed → (d : DriveView) (past : List Moment) (o : Option Processed) → Keeps d past → AreThose (blocks_in d past) (records_in past) → IfSome o (λ t. IsRecord t × (t.blocks ≡ blocks_in d past)) →
+    IsStore (blocks_after o (records_in past) (blocks_in d past)) × AreRecords (with_record o (records_in past))
+after_record allowed d past None keeps those is = (keeps.store, keeps.records)
 after_record allowed d past (Some t) keeps those is = (
-  blocks_stay (added_on t (taken_in past)) t.commands t.phase t.blocks is.0.blocks (allowed t (taken_in past) (subst (λ (b : List Block). AreThose b (taken_in past)) (sym is.1) those))
-      (added_bytes t (taken_in past) is.0.word keeps.taken),
-  (is.0, keeps.taken),
+  blocks_stay (added_on t (records_in past)) t.commands t.phase t.blocks is.0.blocks (allowed t (records_in past) (subst (λ (b : List Block). AreThose b (records_in past)) (sym is.1) those))
+      (added_bytes t (records_in past) is.0.word keeps.records),
+  (is.0, keeps.records),
 )
 
 pub keeps_typed : AreAllowed → (d : DriveView) (rate : ℕ) (h : List DriveCall) → IsStore (store_of d) → AreHeard h → Keeps d (annals d rate h)
-keeps_typed allowed d rate [] store are = record { store = store; taken = tt }
+keeps_typed allowed d rate [] store are = record { store = store; records = tt }
 keeps_typed allowed d rate (Mst cycle content ∷ h) store are =
     let before = keeps_typed allowed d rate h store are in
-    record { store = before.store; taken = phase_taken (stands_in d rate cycle (mst_got content) (annals d rate h)) (taken_in (annals d rate h)) before.taken }
+    record { store = before.store; records = phase_taken (stands_in d rate cycle (mst_got content) (annals d rate h)) (records_in (annals d rate h)) before.records }
 keeps_typed allowed d rate (Mdt content ∷ h) store are =
     let before = keeps_typed allowed d rate h store are.1 in
     let told : Option Told = mdt_got d.address (phase_in (annals d rate h)) (blocks_in d (annals d rate h)) content in
     let after = after_record allowed d (annals d rate h) (processed_in d rate told (annals d rate h)) before (handed_those d rate h)
     (processed d rate told (annals d rate h) (got_told d.address (phase_in (annals d rate h)) (blocks_in d (annals d rate h)) content are.0) before.store) in
-    record { store = after.0; taken = phase_taken (ends_in told (annals d rate h)) _ after.1 }
-keeps_typed allowed d rate (Restart ∷ h) store are = record { store = (keeps_typed allowed d rate h store are).store; taken = tt }
+    record { store = after.0; records = phase_taken (ends_in told (annals d rate h)) _ after.1 }
+keeps_typed allowed d rate (Restart ∷ h) store are = record { store = (keeps_typed allowed d rate h store are).store; records = tt }
 
 -- a drive of a typed ring
 pub drive_keeps : AreAllowed → (r : RingView) → is_ring r ≡ true → AreTyped r → (k : ℕ) → k < length r.drives → (h : List DriveCall) → AreHeard h → Keeps (drive_at r k) (annals (drive_at r k) r.rate h)

@@ -9,45 +9,45 @@ use Rattle.sercos_idn.specs.Codes.{is_list}
 use Rattle.sercos_step.specs.Words.{bytes_in}
 use Rattle.sercos_block.specs.declared.block.Block.{Block}
 use Rattle.sercos_block.specs.Stores.{find_block}
-use Rattle.sercos_service_drive.specs.Log.{Taken, Entry, ahs, accepted, open_idn, run_before, selection, in_order}
+use Rattle.sercos_service_drive.specs.Log.{Processed, Entry, ahs, accepted, open_idn, run_before, selection, in_order}
 use Rattle.sercos_service_drive.specs.Replies.{bytes_written, reply_of, answered, log_of}
 use Rattle.sercos_service_drive.specs.Writes.{Write, written_by, takes_effect, adds, added_on}
-use Rattle.sercos_law_run.specs.Typed.Keeps.{IsTaken, AreTaken}
+use Rattle.sercos_law_run.specs.Typed.Keeps.{IsRecord, AreRecords}
 use Rattle.sercos_law_run.proofs.Typed.Words.{AreWords, bytes_of_words}
 
 abbrev pub AreEntries : List Entry → Type 0
 AreEntries [] = Unit {0}
-AreEntries (e ∷ log) = IsTaken e.taken × AreEntries log
+AreEntries (e ∷ log) = IsRecord e.processed × AreEntries log
 
-pub accepted_so : (h : List Taken) → AreTaken h → AreTaken (accepted h)
+pub accepted_so : (h : List Processed) → AreRecords h → AreRecords (accepted h)
 accepted_so [] are = tt
 accepted_so (t ∷ h) are = by (beq t.mhs (ahs h)) (accepted_so h are.1)
   where
-    by : (same : Bool) → AreTaken (accepted h) → AreTaken (if same then accepted h else t ∷ accepted h)
+    by : (same : Bool) → AreRecords (accepted h) → AreRecords (if same then accepted h else t ∷ accepted h)
     by true rest = rest
     by false rest = (are.0, rest)
 
-pub answered_so : (h : List Taken) → AreTaken h → AreEntries (answered h)
+pub answered_so : (h : List Processed) → AreRecords h → AreEntries (answered h)
 answered_so [] are = tt
 answered_so (t ∷ h) are = (are.0, answered_so h are.1)
 
-pub log_so : (h : List Taken) → AreTaken h → AreEntries (log_of h)
+pub log_so : (h : List Processed) → AreRecords h → AreEntries (log_of h)
 log_so h are = answered_so (accepted h) (accepted_so h are)
 
-pub run_so : (write : Bool) (element : ℕ) (log : List Entry) → AreEntries log → AreTaken (run_before write element log)
+pub run_so : (write : Bool) (element : ℕ) (log : List Entry) → AreEntries log → AreRecords (run_before write element log)
 run_so write element [] are = tt
-run_so write element (e ∷ log) are = by (beq e.taken.step.write write && ((e.taken.step.element == element) && (not e.taken.step.last && not e.answer.error))) (run_so write element log are.1)
+run_so write element (e ∷ log) are = by (beq e.processed.step.write write && ((e.processed.step.element == element) && (not e.processed.step.last && not e.answer.error))) (run_so write element log are.1)
   where
-    by : (goes_on : Bool) → AreTaken (run_before write element log) → AreTaken (if goes_on then e.taken ∷ run_before write element log else [])
+    by : (goes_on : Bool) → AreRecords (run_before write element log) → AreRecords (if goes_on then e.processed ∷ run_before write element log else [])
     by true rest = (are.0, rest)
     by false rest = tt
 
 -- the selection of a run is one of it
-pub selection_so : (t : Taken) (run : List Taken) → IsTaken t → AreTaken run → IsTaken (selection t run)
+pub selection_so : (t : Processed) (run : List Processed) → IsRecord t → AreRecords run → IsRecord (selection t run)
 selection_so t [] is are = is
 selection_so t (s ∷ run) is are = selection_so s run are.0 are.1
 
-in_order_so : (run : List Taken) (words : List ℕ) → AreTaken run → AreWords words → AreWords (in_order run words)
+in_order_so : (run : List Processed) (words : List ℕ) → AreRecords run → AreWords words → AreWords (in_order run words)
 in_order_so [] words are fit = fit
 in_order_so (t ∷ run) words are fit = in_order_so run (t.step.word ∷ words) are.1 (are.0.word, fit)
 
@@ -64,10 +64,10 @@ bytes_so b words are = cond_both (is_list b.attribute.length) (take (slice_index
     (λ off. bytes_of_words words are)
 
 -- what a record adds are bytes
-pub added_bytes : (t : Taken) (h : List Taken) → t.step.word < 65536 → AreTaken h → IfSome (added_on t h) (λ w. AreBytes w.bytes)
+pub added_bytes : (t : Processed) (h : List Processed) → t.step.word < 65536 → AreRecords h → IfSome (added_on t h) (λ w. AreBytes w.bytes)
 added_bytes t h fits are = on (beq t.mhs (ahs h))
   where
-    run_is : AreTaken (run_before true 7 (log_of h))
+    run_is : AreRecords (run_before true 7 (log_of h))
     run_is = run_so true 7 (log_of h) (log_so h are)
 
     found : (raw : ℕ) (o : Option Block) → IfSome {T = Write} (option_map (λ (b : Block). record { cycle = t.cycle; raw = raw; bytes = bytes_written b (in_order (run_before true 7 (log_of h)) (t.step.word ∷ [])) }) o) (λ w. AreBytes w.bytes)
@@ -84,4 +84,4 @@ added_bytes t h fits are = on (beq t.mhs (ahs h))
 
     on : (same : Bool) → IfSome (if same then None else adds t (log_of h)) (λ w. AreBytes w.bytes)
     on true = tt
-    on false = effect (takes_effect (record { taken = t; answer = reply_of t (log_of h) }))
+    on false = effect (takes_effect (record { processed = t; answer = reply_of t (log_of h) }))

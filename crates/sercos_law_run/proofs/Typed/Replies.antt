@@ -24,10 +24,10 @@ use Rattle.sercos_block.proofs.TypeLemmas.{types}
 use Rattle.sercos_command.specs.declared.commands.SetCommand.{SetCommand}
 use Rattle.sercos_command.specs.Settings.{has_ended, status_by}
 use Rattle.sercos_command.specs.Calls.{setting_of, CommandHistory, status_in, change_in}
-use Rattle.sercos_service_drive.specs.Log.{Taken, Entry, accepted, ahs, opens, open_idn, run_before, selection, in_order}
+use Rattle.sercos_service_drive.specs.Log.{Processed, Entry, accepted, ahs, opens, open_idn, run_before, selection, in_order}
 use Rattle.sercos_service_drive.specs.Replies.{good, refused, answer_by, data_in, list_words, element_words, copy, read_cause, write_cause, write_cause_in, is_first_word, ends_early, is_over, is_uneven, is_no_command_value, bytes_written, reply_on, reply_at, reply_of, answered}
 use Rattle.sercos_service_drive.specs.Says.{Shown, shown, channel_says}
-use Rattle.sercos_law_run.specs.Typed.Keeps.{IsTaken, AreTaken}
+use Rattle.sercos_law_run.specs.Typed.Keeps.{IsRecord, AreRecords}
 use Rattle.sercos_law_run.proofs.Typed.Words.{AreWords, word_of, words_of_bytes, two_bytes, four_bytes}
 use Rattle.sercos_law_run.proofs.Typed.Records.{AreEntries, accepted_so, answered_so, run_so, selection_so}
 
@@ -153,7 +153,7 @@ status_small time (Some s) cycle = by (has_ended time cycle s) s.well
     by true false = omega arith
     by false well = omega arith
 
-copy_so : (raw : ℕ) (t : Taken) → IsTaken t → AreWords (copy raw t)
+copy_so : (raw : ℕ) (t : Processed) → IsRecord t → AreWords (copy raw t)
 copy_so raw t is = by (t.step.element == 1)
   where
     by : (status : Bool) → AreWords (if status then status_in t.commands raw t.cycle ∷ [] else unwrap_or (option_map (element_words t.step.element t.cycle) (find_block raw t.blocks)) [])
@@ -164,12 +164,12 @@ missing_so : (e : ℕ) (o : Option Block) → e < 8 → IsCode (read_fault o e)
 missing_so e None low = omega arith
 missing_so e (Some b) low = code_if (is_none (element_of b e)) (0x1000 * e + 1) (omega (arith, low))
 
-read_code : (raw : ℕ) (t : Taken) → IsTaken t → IsCode (read_cause raw t)
+read_code : (raw : ℕ) (t : Processed) → IsRecord t → IsCode (read_cause raw t)
 read_code raw t is = cond_both (t.step.element == 1) None (read_fault (find_block raw t.blocks) t.step.element)
     IsCode (λ on. tt) (λ off. missing_so t.step.element (find_block raw t.blocks) is.element)
 
 -- THE REPLY
-reply_so : (raw : ℕ) (t : Taken) (run : List Taken) → IsTaken t → AreTaken run → (reply_on raw t run).word < 65536
+reply_so : (raw : ℕ) (t : Processed) (run : List Processed) → IsRecord t → AreRecords run → (reply_on raw t run).word < 65536
 reply_so raw t run is are = by t.step.write
   where
     to_write : (seven : Bool) → IsCode (if seven then write_cause_in (find_block raw t.blocks) t.phase t.step.last (in_order run (t.step.word ∷ [])) else Some (0x1000 * t.step.element + 4))
@@ -183,7 +183,7 @@ reply_so raw t run is are = by t.step.write
         let one = selection_so t run is are in
         answer_word (read_cause raw (selection t run)) _ (read_code raw (selection t run) one) (word_of (copy raw (selection t run)) (length run) (copy_so raw (selection t run) one))
 
-reply_word : (t : Taken) (log : List Entry) → IsTaken t → AreEntries log → (reply_of t log).word < 65536
+reply_word : (t : Processed) (log : List Entry) → IsRecord t → AreEntries log → (reply_of t log).word < 65536
 reply_word t log is are = by (opens t.step) (is_some (find_block t.step.word t.blocks)) (t.step.element == 0)
   where
     on : (o : Option ℕ) → (reply_at o t (run_before t.step.write t.step.element log)).word < 65536
@@ -201,9 +201,9 @@ either : (b : Bool) (x y : Shown) → x.word < 65536 → y.word < 65536 → (if 
 either true x y low other = low
 either false x y low other = other
 
-pub shows_word : (busy cycle : ℕ) (commands : CommandHistory) (h : List Taken) → AreTaken h → (channel_says busy cycle commands h).word < 65536
+pub shows_word : (busy cycle : ℕ) (commands : CommandHistory) (h : List Processed) → AreRecords h → (channel_says busy cycle commands h).word < 65536
 shows_word busy cycle commands h are = by (accepted h) (accepted_so h are)
   where
-    by : (a : List Taken) → AreTaken a → (shown busy cycle (ahs h) (change_in commands cycle) (answered a)).word < 65536
+    by : (a : List Processed) → AreRecords a → (shown busy cycle (ahs h) (change_in commands cycle) (answered a)).word < 65536
     by [] are = omega arith
     by (t ∷ a) are = either (nat_le (cycle - t.cycle) busy) _ _ (omega arith) (reply_word t (answered a) are.0 (answered_so a are.1))

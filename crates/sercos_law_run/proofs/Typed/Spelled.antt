@@ -1,7 +1,7 @@
 -- What is said in the next cycle of a typed ring is spelled.
 use Rattle.std.proofs.Common.{ℕ, ◌+◌, List, refl, sym, ap, subst, arith}
 use Rattle.sercos_hdlc.specs.Stuffed.{frame_of}
-use Rattle.sercos_drive.specs.Moments.{cycle_in, commands_in, taken_in}
+use Rattle.sercos_drive.specs.Moments.{cycle_in, commands_in, records_in}
 use Rattle.sercos_seat.specs.Ring.{Known, IsKnown, known_of, tasks_for}
 use Rattle.sercos_master.specs.Annals.{Past}
 use Rattle.sercos_law_run.specs.Journal.Arrivals.{content_in}
@@ -45,8 +45,8 @@ module _ where
         let high = (address_of r is.place valid is.inside).1 in
         whole content (subst IsContent (sym is.content_is) (at_content (drive_at r is.place) r.rate (given_mst carry restarts t.sent j is.place) is.says (omega (arith, high)) (keeps_within r carry restarts t.sent j is.place valid typed is.inside) is.said));
     mdt = λ m said. whole m.content (mdt_whole s p m known (is_planned s (tasks_for s jobs) (middle r carry restarts t.sent j)) said);
-    shown = λ i below. shows_word (drive_at r i).busy (cycle_in (after_mst r carry restarts t.sent j i)) (commands_in (drive_at r i) r.rate (after_mst r carry restarts t.sent j i)) (taken_in (after_mst r carry restarts t.sent j i))
-        (keeps_within r carry restarts t.sent j i valid typed below).taken;
+    shown = λ i below. shows_word (drive_at r i).busy (cycle_in (after_mst r carry restarts t.sent j i)) (commands_in (drive_at r i) r.rate (after_mst r carry restarts t.sent j i)) (records_in (after_mst r carry restarts t.sent j i))
+        (keeps_within r carry restarts t.sent j i valid typed below).records;
     said = λ i. says _ ((typed_past s known (ring_timed r known valid) (λ k. all_members r k valid typed) (tasks_for s jobs) (is_planned s (tasks_for s jobs)) (λ k. tasks_so s jobs k jobs_typed) (middle r carry restarts t.sent j)).begun i);
   }
     where

@@ -13,7 +13,7 @@ use Rattle.sercos_block.specs.Stores.{IsStore}
 use Rattle.sercos_block.specs.declared.block.Block.{Block}
 use Rattle.sercos_service_drive.specs.Log.{Entry, accepted}
 use Rattle.sercos_service_master.specs.Begun.{Begun, open_in, step_at, with_step, steps_begun, steps_in, answers_in}
-use Rattle.sercos_law_channel.specs.Handshake.Epochs.{command, epoch_begun, epoch_taken, epoch_log}
+use Rattle.sercos_law_channel.specs.Handshake.Epochs.{command, epoch_begun, epoch_records, epoch_log}
 use Rattle.sercos_law_channel.specs.Handshake.InStep.{AreInStep}
 use Rattle.sercos_law_channel.specs.Handshake.Parts.{AreInTurn, IsRow, IsPart, Unsent, Heard, Unheard, AreParts}
 use Rattle.sercos_law_channel.specs.Handshake.Runs.{IsRun as IsViewRun}
@@ -66,8 +66,8 @@ module _ (busy time : ℕ) (blocks : List Block) (small : AreSmall blocks) (stor
   -- A LONG WRITE has few answers.
   module _ (all : List View) (run : IsViewRun busy all) (sound : AreSound blocks all) (b : Begun) (old : List Begun)
       (split : epoch_begun all ≡ b ∷ old) where
-    is_epoch : IsEpoch blocks (command all) (b ∷ old) (epoch_taken all)
-    is_epoch = subst (λ (l : List Begun). IsEpoch blocks (command all) l (epoch_taken all)) split (epoch blocks busy all run sound)
+    is_epoch : IsEpoch blocks (command all) (b ∷ old) (epoch_records all)
+    is_epoch = subst (λ (l : List Begun). IsEpoch blocks (command all) l (epoch_records all)) split (epoch blocks busy all run sound)
 
     turn_now : AreInTurn (b ∷ old)
     turn_now = is_epoch.in_turn
@@ -82,7 +82,7 @@ module _ (busy time : ℕ) (blocks : List Block) (small : AreSmall blocks) (stor
         by (part, rest, those, of, others) = which of
           where
             replies : AreReplies part rest
-            replies = (split_replies part rest (subst HasReplies those (answered_replies (accepted (epoch_taken all))))).0
+            replies = (split_replies part rest (subst HasReplies those (answered_replies (accepted (epoch_records all))))).0
 
             alike : HaveBlocks blocks part
             alike = (split_blocks blocks part rest (subst (HaveBlocks blocks) those is_epoch.alike)).0

@@ -11,7 +11,7 @@ use Rattle.sercos_block.specs.Rings.{is_ring}
 use Rattle.sercos_service_drive.specs.Says.{shown_by, channel_says}
 use Rattle.sercos_service_master.specs.Calls as channel
 use Rattle.sercos_drive.specs.Heard.{DriveCall}
-use Rattle.sercos_drive.specs.Moments.{Moment, phase_in, cycle_in, has_mst, has_taken, taken_in, blocks_in, commands_in}
+use Rattle.sercos_drive.specs.Moments.{Moment, phase_in, cycle_in, has_mst, has_taken, records_in, blocks_in, commands_in}
 use Rattle.sercos_drive.specs.Annals.{annals}
 use Rattle.sercos_drive.specs.Says.{Said, said, said_in, sends, values_in}
 use Rattle.sercos_seat.specs.Ring.{Known, known_of}
@@ -48,19 +48,19 @@ heard_one s k such c q P (One content is there calls heard) quiet each = rw call
 pub record Speaks (d : DriveView) (rate : ℕ) (past : List Moment) (content : List ℕ) : Type 0 where
   pub got : has_mst past ≡ true
   pub stands : 1 ≤ phase_in past
-  pub shows : shown_by (status_of (word_at content 1)) (word_at content 3) ≡ channel_says d.busy (cycle_in past) (commands_in d rate past) (taken_in past)
+  pub shows : shown_by (status_of (word_at content 1)) (word_at content 3) ≡ channel_says d.busy (cycle_in past) (commands_in d rate past) (records_in past)
 
 pub sends_so : (got took : Bool) (phase : ℕ) → (got && (nat_le 3 phase || (nat_le 1 phase && took))) ≡ true → (got ≡ true) × (1 ≤ phase)
 sends_so true true phase sent = (refl, grind (arith, nat_tests, sent))
 sends_so true false phase sent = (refl, grind (arith, nat_tests, sent))
 sends_so false took phase sent = cc
 
-spoken : (d : DriveView) (rate : ℕ) (past : List Moment) (s : Said) → said_in d rate past ≡ Some s → (channel_says d.busy (cycle_in past) (commands_in d rate past) (taken_in past)).word < 65536
+spoken : (d : DriveView) (rate : ℕ) (past : List Moment) (s : Said) → said_in d rate past ≡ Some s → (channel_says d.busy (cycle_in past) (commands_in d rate past) (records_in past)).word < 65536
     → Speaks d rate past s.content × (slice_index s.content 0 ≡ d.address)
 spoken d rate past s says small = by (sends past) refl says
   where
     what : Said
-    what = said d.address (cycle_in past) (phase_in past) (blocks_in d past) (channel_says d.busy (cycle_in past) (commands_in d rate past) (taken_in past))
+    what = said d.address (cycle_in past) (phase_in past) (blocks_in d past) (channel_says d.busy (cycle_in past) (commands_in d rate past) (records_in past))
 
     by : (b : Bool) → sends past ≡ b → (if b then Some what else None) ≡ Some s → Speaks d rate past s.content × (slice_index s.content 0 ≡ d.address)
     by true sent is =
@@ -71,7 +71,7 @@ spoken d rate past s says small = by (sends past) refl says
     by false sent is = cc
 
 pub speaks : (r : RingView) (k : ℕ) (h : ℕ → List DriveCall) (content : List ℕ) → is_ring r ≡ true
-    → ((i : ℕ) → i < length r.drives → let past : List Moment = annals (drive_at r i) r.rate (h i) in (channel_says (drive_at r i).busy (cycle_in past) (commands_in (drive_at r i) r.rate past) (taken_in past)).word < 65536)
+    → ((i : ℕ) → i < length r.drives → let past : List Moment = annals (drive_at r i) r.rate (h i) in (channel_says (drive_at r i).busy (cycle_in past) (commands_in (drive_at r i) r.rate past) (records_in past)).word < 65536)
     → IsSaid (length r.drives) (drive_at r) r.rate h content → place_of (known_of r) (slice_index content 0) ≡ Some k → Speaks (drive_at r k) r.rate (annals (drive_at r k) r.rate (h k)) content
 speaks r k h content valid small is found =
     let (speaking, address) = spoken (drive_at r is.place) r.rate (annals (drive_at r is.place) r.rate (h is.place)) is.says is.said (small is.place is.inside) in

@@ -4,12 +4,12 @@ use Rattle.std.specs.Prelude.{◌==◌, nat_le, is_some, option_map}
 use Rattle.sercos_block.specs.declared.block.Block.{Block}
 use Rattle.sercos_block.specs.Views.{DriveView}
 use Rattle.sercos_block.specs.Stores.{store_of}
-use Rattle.sercos_service_drive.specs.Log.{Taken}
+use Rattle.sercos_service_drive.specs.Log.{Processed}
 use Rattle.sercos_service_drive.specs.Writes.{Write, with_added, added_on, blocks_with}
 use Rattle.sercos_service_master.specs.Begun.{Said, said_by}
 use Rattle.sercos_drive.specs.declared.hearing.Told.{Told}
 use Rattle.sercos_drive.specs.Heard.{DriveCall, mst_got}
-use Rattle.sercos_drive.specs.Moments.{Moment, AtMst, phase_in, cycle_in, has_mst, has_missed, taken_in, writes_in, blocks_in, blocks_after, write_in, with_record as with_record_in, commands_in}
+use Rattle.sercos_drive.specs.Moments.{Moment, AtMst, phase_in, cycle_in, has_mst, has_missed, records_in, writes_in, blocks_in, blocks_after, write_in, with_record as with_record_in, commands_in}
 use Rattle.sercos_drive.specs.Annals.{annals, may_rise, stands_in, takes, processed_in, ends_in, mdt_moment}
 use Rattle.sercos_law_channel.specs.Handshake.Views.{View, Standing, afresh, moved, stood_from, got_in, takes_in, standing_after, record_in, processed_of, with_record, kept_in_phase, kept_unless}
 use Rattle.sercos_law_channel.specs.Handshake.WholeRun.{write_of}
@@ -20,22 +20,22 @@ abbrev pub said_to : Told → Said
 said_to t = said_by t.control t.info
 
 -- The moments of a drive give this standing, these records, writes and blocks.
-pub record IsSame (d : DriveView) (past : List Moment) (f : Standing) (h : List Taken) (w : List Write) (b : List Block) : Type 0 where
+pub record IsSame (d : DriveView) (past : List Moment) (f : Standing) (h : List Processed) (w : List Write) (b : List Block) : Type 0 where
   pub ended : phase_in past ≡ f.ended
   pub got : has_mst past ≡ f.got_mst
   pub missed : has_missed past ≡ f.missed_mdt
-  pub taken : taken_in past ≡ h
+  pub records : records_in past ≡ h
   pub writes : writes_in past ≡ w
   pub blocks : blocks_in d past ≡ b
 
 -- before the first cycle
 pub same_first : (d : DriveView) (rate : ℕ) → IsSame d (annals d rate []) afresh [] [] (store_of d)
-same_first d rate = record { ended = refl; got = refl; missed = refl; taken = refl; writes = refl; blocks = refl }
+same_first d rate = record { ended = refl; got = refl; missed = refl; records = refl; writes = refl; blocks = refl }
 
 -- after a restart
-pub same_restarted : (d : DriveView) (rate : ℕ) (restarts : Bool) (calls : List DriveCall) (f : Standing) (h : List Taken) (w : List Write) (b : List Block)
+pub same_restarted : (d : DriveView) (rate : ℕ) (restarts : Bool) (calls : List DriveCall) (f : Standing) (h : List Processed) (w : List Write) (b : List Block)
     → IsSame d (annals d rate calls) f h w b → IsSame d (annals d rate (with_restart restarts calls)) (if restarts then afresh else f) (kept_unless restarts h) w b
-same_restarted d rate true calls f h w b s = record { ended = refl; got = refl; missed = refl; taken = refl; writes = s.writes; blocks = s.blocks }
+same_restarted d rate true calls f h w b s = record { ended = refl; got = refl; missed = refl; records = refl; writes = s.writes; blocks = s.blocks }
 same_restarted d rate false calls f h w b s = s
 
 -- AT THE MST'S PLACE
@@ -61,7 +61,7 @@ some_got false phase = refl
 abbrev pub standing_at : View → Standing → Standing
 standing_at v f = record { got_mst = v.mst_comes; missed_mdt = f.missed_mdt; ended = stood_from v f }
 
-pub same_at_mst : (d : DriveView) (rate cycle : ℕ) (past : List Moment) (came : Option (List ℕ)) (v : View) (f : Standing) (h : List Taken) (w : List Write) (b : List Block)
+pub same_at_mst : (d : DriveView) (rate cycle : ℕ) (past : List Moment) (came : Option (List ℕ)) (v : View) (f : Standing) (h : List Processed) (w : List Write) (b : List Block)
     → mst_got came ≡ (if v.mst_comes then Some v.phase else None) → v.checked ≡ may_rise d rate cycle v.phase past → IsSame d past f h w b
     → IsSame d (AtMst cycle (is_some (mst_got came)) (stands_in d rate cycle (mst_got came) past) ∷ past) (standing_at v f) (kept_in_phase (stood_from v f) h) w b
 same_at_mst d rate cycle past came v f h w b got passed s =
@@ -71,7 +71,7 @@ same_at_mst d rate cycle past came v f h w b got passed s =
       ended = stood;
       got = ap (λ (o : Option ℕ). is_some o) got ∙ some_got v.mst_comes v.phase;
       missed = s.missed;
-      taken = ap₂ (λ (n : ℕ) (l : List Taken). kept_in_phase n l) stood s.taken;
+      records = ap₂ (λ (n : ℕ) (l : List Processed). kept_in_phase n l) stood s.records;
       writes = s.writes;
       blocks = s.blocks;
     }
@@ -87,7 +87,7 @@ some_map f None = refl
 some_map f (Some x) = refl
 
 -- each record that was processed was processed on the blocks and with the commands of the cycle
-blocks_same : (v : View) (cycle stood : ℕ) (o : Option Said) (h : List Taken) (b : List Block) → v.blocks ≡ b
+blocks_same : (v : View) (cycle stood : ℕ) (o : Option Said) (h : List Processed) (b : List Block) → v.blocks ≡ b
     → blocks_after (processed_of v cycle stood o) h b ≡ blocks_with (write_of (processed_of v cycle stood o) h) v.commands b
 blocks_same v cycle stood None h b same = refl
 blocks_same v cycle stood (Some s) h b same = by (v.mst_comes && nat_le 2 stood)
@@ -96,18 +96,18 @@ blocks_same v cycle stood (Some s) h b same = by (v.mst_comes && nat_le 2 stood)
     by true = ap (λ (l : List Block). blocks_with (added_on (record_in v cycle stood s) h) v.commands l) same
     by false = refl
 
-writes_same : (o : Option Taken) (h : List Taken) → write_in o h ≡ write_of o h
+writes_same : (o : Option Processed) (h : List Processed) → write_in o h ≡ write_of o h
 writes_same None h = refl
 writes_same (Some t) h = refl
 
-records_same : (o : Option Taken) (h : List Taken) → with_record_in o h ≡ with_record o h
+records_same : (o : Option Processed) (h : List Processed) → with_record_in o h ≡ with_record o h
 records_same None h = refl
 records_same (Some t) h = refl
 
-pub same_at_mdt : (d : DriveView) (rate cycle : ℕ) (past : List Moment) (told : Option Told) (v : View) (f : Standing) (h : List Taken) (w : List Write) (b : List Block)
+pub same_at_mdt : (d : DriveView) (rate cycle : ℕ) (past : List Moment) (told : Option Told) (v : View) (f : Standing) (h : List Processed) (w : List Write) (b : List Block)
     → cycle_in past ≡ cycle → option_map said_to told ≡ got_in v → v.blocks ≡ blocks_in d past → v.commands ≡ commands_in d rate past
     → IsSame d past (standing_at v f) h w b
-    → let o : Option Taken = processed_of v cycle (stood_from v f) (got_in v) in
+    → let o : Option Processed = processed_of v cycle (stood_from v f) (got_in v) in
     IsSame d (mdt_moment d rate told past ∷ past) (standing_after v (stood_from v f) f) (kept_in_phase (standing_after v (stood_from v f) f).ended (with_record o h))
     (with_added (write_of o h) w) (blocks_with (write_of o h) v.commands b)
 same_at_mdt d rate cycle past told v f h w b now told_is blocks commands s =
@@ -121,7 +121,7 @@ same_at_mdt d rate cycle past told v f h w b now told_is blocks commands s =
       ended = ended;
       got = s.got;
       missed = rw (took, s.ended) refl;
-      taken = ap₂ (λ (n : ℕ) (l : List Taken). kept_in_phase n l) ended (rw (one, s.taken) (records_same _ h));
-      writes = rw (one, s.taken, s.writes) (ap (λ (x : Option Write). with_added x w) (writes_same _ h));
-      blocks = rw (one, s.taken, s.blocks) (blocks_same v cycle stood (got_in v) h b (blocks ∙ s.blocks));
+      records = ap₂ (λ (n : ℕ) (l : List Processed). kept_in_phase n l) ended (rw (one, s.records) (records_same _ h));
+      writes = rw (one, s.records, s.writes) (ap (λ (x : Option Write). with_added x w) (writes_same _ h));
+      blocks = rw (one, s.records, s.blocks) (blocks_same v cycle stood (got_in v) h b (blocks ∙ s.blocks));
     }

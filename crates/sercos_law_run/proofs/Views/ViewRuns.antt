@@ -10,7 +10,7 @@ use Rattle.sercos_step.specs.declared.request.Job.{Job}
 use Rattle.sercos_block.specs.Views.{RingView}
 use Rattle.sercos_block.specs.Rings.{is_ring}
 use Rattle.sercos_block.specs.Stores.{store_of}
-use Rattle.sercos_service_drive.specs.Log.{Taken}
+use Rattle.sercos_service_drive.specs.Log.{Processed}
 use Rattle.sercos_service_drive.specs.Says.{channel_says}
 use Rattle.sercos_service_master.specs.Begun.{Begun, open_in, answers_it, master_says}
 use Rattle.sercos_service_master.specs.Calls.{begun_by}
@@ -202,7 +202,7 @@ module _ (r : RingView) (jobs : List Job) (carry : Carry) (restarts : Restarts) 
               record {
                 got_mst = sym at_mst.got ∙ s.got;
                 stands = subst (λ n. 1 ≤ n) at_mst.ended s.stands;
-                says = s.shows ∙ ap₂ (λ (n : ℕ) (h : List Taken). channel_says (drive_at r k).busy n (commands_in (drive_at r k) r.rate (after_mst r carry restarts t.sent j k)) h) (sym count) at_mst.taken;
+                says = s.shows ∙ ap₂ (λ (n : ℕ) (h : List Processed). channel_says (drive_at r k).busy n (commands_in (drive_at r k) r.rate (after_mst r carry restarts t.sent j k)) h) (sym count) at_mst.records;
               }
 
       -- at the MDT's place

@@ -30,7 +30,7 @@ use Rattle.sercos_law_run.specs.Views.RingViews.{behind_mdt, view_of, views_of}
 -- each step that the drive accepted was accepted on blocks that keep the rules of a store
 abbrev pub OnStores : List Entry → Type 0
 OnStores [] = Unit {0}
-OnStores (e ∷ entries) = OnStores entries × IsStore e.taken.blocks
+OnStores (e ∷ entries) = OnStores entries × IsStore e.processed.blocks
 
 -- EXACT. All transfers to the drive at place k that were begun so far, those of the start-up and those of the file, through all epochs:
 -- with the steps that the drive accepted of them and with the drive's writes, which are the writes of these transfers and no others. A

@@ -5,7 +5,7 @@ use Rattle.sercos_command.specs.declared.commands.SetCommand.{SetCommand}
 use Rattle.sercos_command.specs.Settings.{is_command}
 use Rattle.sercos_command.specs.Calls.{CommandHistory}
 use Rattle.sercos_command.specs.Kept.{find_set, set_in}
-use Rattle.sercos_service_drive.specs.Log.{Taken}
+use Rattle.sercos_service_drive.specs.Log.{Processed}
 use Rattle.sercos_service_drive.specs.Replies.{log_of}
 use Rattle.sercos_service_drive.specs.Writes.{added_on, commands_with, writes_of}
 use Rattle.sercos_law_channel.specs.Handshake.Views.{View, standing, stood_in, processed_in, kept_in}
@@ -13,18 +13,18 @@ use Rattle.sercos_law_channel.specs.Handshake.WholeRun.{write_of}
 use Rattle.sercos_law_channel.specs.Handshake.Values.{newest_to}
 
 -- the settings are what these records left, if none was set before the first of them
-abbrev pub AreSetBy : List Taken → CommandHistory → Type 0
+abbrev pub AreSetBy : List Processed → CommandHistory → Type 0
 AreSetBy [] c = set_in c ≡ []
 AreSetBy (t ∷ h) c = AreSetBy h t.commands × (set_in c ≡ set_in (commands_with (added_on t h) t.blocks t.commands))
 
 -- at each of these records the number was that of a procedure command of the drive
-abbrev pub IsCommandAt : ℕ → List Taken → Type 0
+abbrev pub IsCommandAt : ℕ → List Processed → Type 0
 IsCommandAt raw [] = Unit {0}
 IsCommandAt raw (t ∷ h) = IsCommandAt raw h × (is_command t.blocks raw ≡ true)
 
 -- A procedure command is set if the newest write to it since then isn't 0.
 abbrev pub IsSetByWrites : Type 0
-IsSetByWrites = (raw : ℕ) (h : List Taken) (c : CommandHistory) (bytes : List ℕ) → AreSetBy h c → IsCommandAt raw h → newest_to raw (writes_of (log_of h)) ≡ Some bytes → (from_le_bytes w16 bytes == 0) ≡ false →
+IsSetByWrites = (raw : ℕ) (h : List Processed) (c : CommandHistory) (bytes : List ℕ) → AreSetBy h c → IsCommandAt raw h → newest_to raw (writes_of (log_of h)) ≡ Some bytes → (from_le_bytes w16 bytes == 0) ≡ false →
     is_some (find_set raw (set_in c)) ≡ true
 
 -- the procedure commands at the end of a cycle, before phase 0 undoes the settings

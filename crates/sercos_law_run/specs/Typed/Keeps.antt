@@ -3,8 +3,8 @@ use Rattle.std.specs.Prelude.{◌≡◌, ℕ, ◌<◌, true, List, [], ◌∷◌
 use Rattle.sercos_block.specs.Rings.{is_ring}
 use Rattle.sercos_block.specs.Stores.{IsStore}
 use Rattle.sercos_block.specs.Views.{DriveView, RingView}
-use Rattle.sercos_service_drive.specs.Log.{Taken}
-use Rattle.sercos_drive.specs.Moments.{Moment, taken_in, blocks_in}
+use Rattle.sercos_service_drive.specs.Log.{Processed}
+use Rattle.sercos_drive.specs.Moments.{Moment, records_in, blocks_in}
 use Rattle.sercos_drive.specs.Annals.{annals}
 use Rattle.sercos_script.specs.Links.{Carry, Restarts}
 use Rattle.sercos_trace.specs.Views.{SentView, CycleView}
@@ -12,19 +12,19 @@ use Rattle.sercos_law_run.specs.Journal.Runs.{drive_at, given_before, given_mst}
 use Rattle.sercos_law_run.specs.Typed.Typed.{AreTyped}
 
 -- The blocks that a record found were a store; its element has three bits, and its word sixteen.
-pub record IsTaken (t : Taken) : Type 0 where
+pub record IsRecord (t : Processed) : Type 0 where
   pub blocks : IsStore t.blocks
   pub element : t.step.element < 8
   pub word : t.step.word < 65536
 
-abbrev pub AreTaken : List Taken → Type 0
-AreTaken [] = Unit {0}
-AreTaken (t ∷ h) = IsTaken t × AreTaken h
+abbrev pub AreRecords : List Processed → Type 0
+AreRecords [] = Unit {0}
+AreRecords (t ∷ h) = IsRecord t × AreRecords h
 
 -- The blocks of a drive are a store, and each record that it processed since it was last in phase 0 is such a record.
 pub record Keeps (d : DriveView) (past : List Moment) : Type 0 where
   pub store : IsStore (blocks_in d past)
-  pub taken : AreTaken (taken_in past)
+  pub records : AreRecords (records_in past)
 
 -- This holds at the end of every journal, whatever the links do to what is sent ..
 abbrev pub KeepsAlways : Type 0

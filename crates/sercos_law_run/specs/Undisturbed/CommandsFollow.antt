@@ -26,4 +26,4 @@ CommandsFollow c (v ∷ past) = CommandsFollow c past × (v.commands ≡ reset_i
 -- is set before the first.
 abbrev pub LogLeaves : List Entry → CommandHistory → Type 0
 LogLeaves [] c = set_in c ≡ []
-LogLeaves (e ∷ log) c = LogLeaves log e.taken.commands × (c ≡ commands_with (added_by e log) e.taken.blocks e.taken.commands)
+LogLeaves (e ∷ log) c = LogLeaves log e.processed.commands × (c ≡ commands_with (added_by e log) e.processed.blocks e.processed.commands)

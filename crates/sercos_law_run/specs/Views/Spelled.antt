@@ -5,7 +5,7 @@ use Rattle.sercos_step.specs.declared.request.Job.{Job}
 use Rattle.sercos_block.specs.Views.{DriveView, RingView}
 use Rattle.sercos_service_drive.specs.Says.{channel_says}
 use Rattle.sercos_drive.specs.Heard.{DriveCall}
-use Rattle.sercos_drive.specs.Moments.{Moment, cycle_in, taken_in, commands_in}
+use Rattle.sercos_drive.specs.Moments.{Moment, cycle_in, records_in, commands_in}
 use Rattle.sercos_drive.specs.Says.{Said as SaidByDrive, drive_says}
 use Rattle.sercos_service_master.specs.Begun.{Said}
 use Rattle.sercos_trace.specs.Views.{CycleView}
@@ -39,5 +39,5 @@ pub record IsSpelled (r : RingView) (jobs : List Job) (carry : Carry) (restarts 
   pub ats : (content : List ℕ) → IsSaid (length r.drives) (drive_at r) r.rate (given_mst carry restarts t.sent j) content → IsWhole content
   pub mdt : (m : Sent) → mdt_said (known_of r) (behind_mdt r jobs carry restarts t.sent j) ≡ Some m → IsWhole m.content
   pub shown : (i : ℕ) → i < length r.drives → let past : List Moment = after_mst r carry restarts t.sent j i in
-      (channel_says (drive_at r i).busy (cycle_in past) (commands_in (drive_at r i) r.rate past) (taken_in past)).word < 65536
+      (channel_says (drive_at r i).busy (cycle_in past) (commands_in (drive_at r i) r.rate past) (records_in past)).word < 65536
   pub said : (i : ℕ) → IsSayable (said_to (behind_mdt r jobs carry restarts t.sent j) i)

@@ -7,7 +7,7 @@ use Rattle.sercos_step.specs.declared.request.Job.{Job}
 use Rattle.sercos_block.specs.declared.block.Block.{Block}
 use Rattle.sercos_block.specs.Stores.{IsStore}
 use Rattle.sercos_block.specs.Views.{RingView}
-use Rattle.sercos_service_drive.specs.Log.{Taken, Entry, ahs}
+use Rattle.sercos_service_drive.specs.Log.{Processed, Entry, ahs}
 use Rattle.sercos_service_drive.specs.Replies.{reply_of, log_of}
 use Rattle.sercos_service_drive.specs.Writes.{Write}
 use Rattle.sercos_service_master.specs.Begun.{Begun, Said}
@@ -40,9 +40,9 @@ right_in e [] ys has = has
 right_in e (x ∷ xs) ys has = inr (right_in e xs ys has)
 
 -- each of them was accepted on the blocks of a store
-pub on_store : (e : Entry) (entries : List Entry) → OnStores entries → HasAccepted e entries → IsStore e.taken.blocks
+pub on_store : (e : Entry) (entries : List Entry) → OnStores entries → HasAccepted e entries → IsStore e.processed.blocks
 on_store e [] stores has = absurd has
-on_store e (x ∷ entries) stores (inl is) = subst (λ (y : Entry). IsStore y.taken.blocks) is stores.1
+on_store e (x ∷ entries) stores (inl is) = subst (λ (y : Entry). IsStore y.processed.blocks) is stores.1
 on_store e (x ∷ entries) stores (inr has) = on_store e entries stores.0 has
 
 pub behind_in : (count : ℕ) (e : Entry) (entries : List Entry) → entry_behind count entries ≡ Some e → HasAccepted e entries
@@ -105,27 +105,27 @@ pub among_all : {blocks : List Block} {newer older : List Begun} {b : Begun} {en
 among_all one e has = subst (HasAccepted e) (sym one.split) (left_in e (one.after ++ one.part) one.behind (right_in e one.after one.part has))
 
 -- A step that was accepted in a run was accepted in one of its cycles, on the blocks that the drive then had.
-processed_so : (v : View) (cycle stood : ℕ) (got : Option Said) (t : Taken) → processed_of v cycle stood got ≡ Some t → (t.cycle ≡ cycle) × (t.blocks ≡ v.blocks)
+processed_so : (v : View) (cycle stood : ℕ) (got : Option Said) (t : Processed) → processed_of v cycle stood got ≡ Some t → (t.cycle ≡ cycle) × (t.blocks ≡ v.blocks)
 processed_so v cycle stood None t is = absurd (cc)
 processed_so v cycle stood (Some s) t is = by (v.mst_comes && nat_le 2 stood) is
   where
     by : (b : Bool) → (if b then Some (record { cycle = cycle; phase = stood; mhs = s.mhs; step = s.step; blocks = v.blocks; commands = v.commands }) else None) ≡ Some t → (t.cycle ≡ cycle) × (t.blocks ≡ v.blocks)
-    by true is = let same : record { cycle = cycle; phase = stood; mhs = s.mhs; step = s.step; blocks = v.blocks; commands = v.commands } ≡ t = cc in (sym (ap (λ (x : Taken). x.cycle) same), sym (ap (λ (x : Taken). x.blocks) same))
+    by true is = let same : record { cycle = cycle; phase = stood; mhs = s.mhs; step = s.step; blocks = v.blocks; commands = v.commands } ≡ t = cc in (sym (ap (λ (x : Processed). x.cycle) same), sym (ap (λ (x : Processed). x.blocks) same))
     by false is = absurd (cc)
 
 -- the newest step, or one before it
-newest_or : (processed : Option Taken) (h : List Taken) (entries : List Entry) (e : Entry) → HasAccepted e (accepted_of processed h entries) → (processed ≡ Some e.taken) ⊎ HasAccepted e entries
+newest_or : (processed : Option Processed) (h : List Processed) (entries : List Entry) (e : Entry) → HasAccepted e (accepted_of processed h entries) → (processed ≡ Some e.processed) ⊎ HasAccepted e entries
 newest_or None h entries e has = inr has
 newest_or (Some t) h entries e has = by (beq t.mhs (ahs h)) has
   where
-    by : (b : Bool) → HasAccepted e (if b then entries else (record { taken = t; answer = reply_of t (log_of h) }) ∷ entries) → (Some t ≡ Some e.taken) ⊎ HasAccepted e entries
+    by : (b : Bool) → HasAccepted e (if b then entries else (record { processed = t; answer = reply_of t (log_of h) }) ∷ entries) → (Some t ≡ Some e.processed) ⊎ HasAccepted e entries
     by true has = inr has
-    by false (inl is) = inl (ap (λ (x : Entry). Some x.taken) is)
+    by false (inl is) = inl (ap (λ (x : Entry). Some x.processed) is)
     by false (inr has) = inr has
 
-pub one_more : (processed : Option Taken) (h : List Taken) (entries : List Entry) (e : Entry) → HasAccepted e entries → HasAccepted e (accepted_of processed h entries)
+pub one_more : (processed : Option Processed) (h : List Processed) (entries : List Entry) (e : Entry) → HasAccepted e entries → HasAccepted e (accepted_of processed h entries)
 one_more None h entries e has = has
-one_more (Some t) h entries e has = cond_both (beq t.mhs (ahs h)) entries ((record { taken = t; answer = reply_of t (log_of h) }) ∷ entries)
+one_more (Some t) h entries e has = cond_both (beq t.mhs (ahs h)) entries ((record { processed = t; answer = reply_of t (log_of h) }) ∷ entries)
     (HasAccepted e) (λ on. has) (λ off. inr has)
 
 pub record IsAcceptedIn (r : RingView) (carry : Carry) (restarts : Restarts) (k : ℕ) (run : List CycleView) (e : Entry) : Type 0 where
@@ -133,8 +133,8 @@ pub record IsAcceptedIn (r : RingView) (carry : Carry) (restarts : Restarts) (k 
   pub cycle : CycleView
   pub older : List CycleView
   pub cut : run ≡ newer ++ cycle ∷ older
-  pub at : e.taken.cycle ≡ length older
-  pub blocks : e.taken.blocks ≡ store_at (drive_at r k) r.rate (given_mst carry restarts cycle.sent older k)
+  pub at : e.processed.cycle ≡ length older
+  pub blocks : e.processed.blocks ≡ store_at (drive_at r k) r.rate (given_mst carry restarts cycle.sent older k)
 
 pub accepted_in : (r : RingView) (jobs : List Job) (carry : Carry) (restarts : Restarts) (k : ℕ) (run : List CycleView) (e : Entry) → HasAccepted e (all_entries (views_of r jobs carry restarts k run)) → IsAcceptedIn r carry restarts k run e
 accepted_in r jobs carry restarts k [] e has = absurd has
@@ -142,10 +142,10 @@ accepted_in r jobs carry restarts k (t ∷ j) e has =
     by (newest_or (processed_in (view_of r jobs carry restarts k t j) (views_of r jobs carry restarts k j)) (kept_in (view_of r jobs carry restarts k t j) (views_of r jobs carry restarts k j)) (all_entries (views_of r jobs carry restarts k j)) e has)
     (accepted_in r jobs carry restarts k j e)
   where
-    by : (processed_in (view_of r jobs carry restarts k t j) (views_of r jobs carry restarts k j) ≡ Some e.taken) ⊎ HasAccepted e (all_entries (views_of r jobs carry restarts k j))
+    by : (processed_in (view_of r jobs carry restarts k t j) (views_of r jobs carry restarts k j) ≡ Some e.processed) ⊎ HasAccepted e (all_entries (views_of r jobs carry restarts k j))
         → (HasAccepted e (all_entries (views_of r jobs carry restarts k j)) → IsAcceptedIn r carry restarts k j e) → IsAcceptedIn r carry restarts k (t ∷ j) e
     by (inl is) rest =
-        let so = processed_so (view_of r jobs carry restarts k t j) (length (views_of r jobs carry restarts k j)) (stood_in (view_of r jobs carry restarts k t j) (standing (views_of r jobs carry restarts k j))) (got_in (view_of r jobs carry restarts k t j)) e.taken is in
+        let so = processed_so (view_of r jobs carry restarts k t j) (length (views_of r jobs carry restarts k j)) (stood_in (view_of r jobs carry restarts k t j) (standing (views_of r jobs carry restarts k j))) (got_in (view_of r jobs carry restarts k t j)) e.processed is in
         record { newer = []; cycle = t; older = j; cut = refl; at = so.0 ∙ views_count r jobs carry restarts k j; blocks = so.1 }
     by (inr has) rest =
         let one = rest has in

@@ -15,13 +15,13 @@ use Rattle.sercos_step.specs.Steps.{outcome_of}
 use Rattle.sercos_block.specs.declared.block.Block.{Block}
 use Rattle.sercos_block.specs.Blocks.{is_protected}
 use Rattle.sercos_block.specs.Stores.{find_block}
-use Rattle.sercos_service_drive.specs.Log.{Taken, Entry}
+use Rattle.sercos_service_drive.specs.Log.{Processed, Entry}
 use Rattle.sercos_service_drive.specs.Replies.{log_of}
 use Rattle.sercos_service_drive.specs.Writes.{Write, with_added, writes_of, added_on}
 use Rattle.sercos_service_master.specs.Begun.{Begun, open_in, answers_it, answer_in, with_answer}
 use Rattle.sercos_law_channel.specs.Handshake.Exact.{Given, given_of, written_to, given_by, AreWrites, Complete, Refused, Broken, AreExact}
 use Rattle.sercos_law_channel.specs.Handshake.Views.{Heard, View, standing, stood_in, record_in, with_record, processed_in}
-use Rattle.sercos_law_channel.specs.Handshake.Epochs.{command, with_heard, with_begun, epoch_begun, begun_in, epoch_taken, epoch_log, log_in, taken_in_views}
+use Rattle.sercos_law_channel.specs.Handshake.Epochs.{command, with_heard, with_begun, epoch_begun, begun_in, epoch_records, epoch_log, log_in, records_in_views}
 use Rattle.sercos_law_channel.specs.Handshake.Runs.{IsRun}
 use Rattle.sercos_law_channel.specs.Handshake.WholeRun.{AreSound, AreSmall}
 use Rattle.sercos_law_channel.proofs.Theorems.{cycle_exact, Laws, Processes, Nothing, Record, processes, processed_phase, added_bare, written}
@@ -162,16 +162,16 @@ phase_most busy v past run = below_most busy v past run (most_next busy past run
 
 module _ (laws : Laws) (busy few : ℕ) (blocks : List Block) (small : AreSmall blocks) (idn : Idn) (b : Block) (found : find_block idn.raw blocks ≡ Some b) (guard : is_protected b.attribute 4 ≡ true) where
   -- a record of phase 4
-  taken_guarded : (v : View) (past : List View) → AreSound blocks (v ∷ past) → v.phase ≡ 4 → (h : List Taken) → count_writes idn.raw (writes_of (log_of (with_record (processed_in v past) h))) ≤ count_writes idn.raw (writes_of (log_of h))
+  taken_guarded : (v : View) (past : List View) → AreSound blocks (v ∷ past) → v.phase ≡ 4 → (h : List Processed) → count_writes idn.raw (writes_of (log_of (with_record (processed_in v past) h))) ≤ count_writes idn.raw (writes_of (log_of h))
   taken_guarded v past sound four h = by (processes v past)
     where
       by : Processes v past → count_writes idn.raw (writes_of (log_of (with_record (processed_in v past) h))) ≤ count_writes idn.raw (writes_of (log_of h))
-      by (Nothing none) = let same = ap (λ (o : Option Taken). count_writes idn.raw (writes_of (log_of (with_record o h)))) none in omega (arith, same)
+      by (Nothing none) = let same = ap (λ (o : Option Processed). count_writes idn.raw (writes_of (log_of (with_record o h)))) none in omega (arith, same)
       by (Record s got came two some) =
-          let t : Taken = record_in v (length past) (stood_in v (standing past)) s in
+          let t : Processed = record_in v (length past) (stood_in v (standing past)) s in
           let phase : t.phase ≡ 4 = processed_phase v past came (omega (arith, two)) ∙ four in
           let bare = λ (w : Write) (is : added_on t h ≡ Some w). other w is phase in
-          let same = ap (λ (o : Option Taken). count_writes idn.raw (writes_of (log_of (with_record o h)))) some ∙ sym (ap (count_writes idn.raw) (written t h)) ∙ added_elsewhere idn.raw (added_on t h) (writes_of (log_of h)) bare in
+          let same = ap (λ (o : Option Processed). count_writes idn.raw (writes_of (log_of (with_record o h)))) some ∙ sym (ap (count_writes idn.raw) (written t h)) ∙ added_elsewhere idn.raw (added_on t h) (writes_of (log_of h)) bare in
           omega (arith, same)
         where
           other : (w : Write) → added_on (record_in v (length past) (stood_in v (standing past)) s) h ≡ Some w → stood_in v (standing past) ≡ 4 → (w.raw == idn.raw) ≡ false
@@ -188,9 +188,9 @@ module _ (laws : Laws) (busy few : ℕ) (blocks : List Block) (small : AreSmall 
       → IsGuarded few idn.raw blocks (begun_in v past) (writes_of (log_in v past))
   in_four v past run sound four before = by v.master_restarts (run.1.commanded)
     where
-      by : (b : Bool) → v.phase ≡ (if b then 0 else command past) → IsGuarded few idn.raw blocks (with_begun v.begins (with_heard v.heard (if b then [] else epoch_begun past))) (writes_of (log_of (with_record (processed_in v past) (if b then [] else epoch_taken past))))
+      by : (b : Bool) → v.phase ≡ (if b then 0 else command past) → IsGuarded few idn.raw blocks (with_begun v.begins (with_heard v.heard (if b then [] else epoch_begun past))) (writes_of (log_of (with_record (processed_in v past) (if b then [] else epoch_records past))))
       by true is = absurd (omega (arith, is, four))
-      by false is = fewer few idn.raw blocks _ (writes_of (epoch_log past)) _ (taken_guarded v past sound four (epoch_taken past))
+      by false is = fewer few idn.raw blocks _ (writes_of (epoch_log past)) _ (taken_guarded v past sound four (epoch_records past))
           (begun_guarded few idn.raw blocks v.begins _ (writes_of (epoch_log past)) (heard_guarded few idn.raw blocks v.heard (epoch_begun past) (writes_of (epoch_log past)) (before (sym is ∙ four))))
 
   -- the rise to phase 4
@@ -210,7 +210,7 @@ module _ (laws : Laws) (busy few : ℕ) (blocks : List Block) (small : AreSmall 
   guarded (v ∷ past) run sound fews four = by v.falls v.rises refl four (guarded past run.0 sound.0 fews.0)
     where
       by : (falls rises : Bool) → v.rises ≡ rises → (if falls then 0 else (if rises then v.phase + 1 else v.phase)) ≡ 4 → (command past ≡ 4 → IsGuarded few idn.raw blocks (epoch_begun past) (writes_of (epoch_log past)))
-          → IsGuarded few idn.raw blocks (if falls then [] else begun_in v past) (writes_of (log_of (if falls then [] else taken_in_views v past)))
+          → IsGuarded few idn.raw blocks (if falls then [] else begun_in v past) (writes_of (log_of (if falls then [] else records_in_views v past)))
       by true rises on is before = absurd (omega (arith, is))
       by false true on is before = at_rise v past run sound on (fews.1 on)
       by false false on is before = in_four v past run sound is before

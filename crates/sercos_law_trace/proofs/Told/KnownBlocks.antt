@@ -12,7 +12,7 @@ use Rattle.sercos_step.specs.Steps.{opening, outcome_of, answer_words, is_whole}
 use Rattle.sercos_block.specs.declared.block.Block.{Block}
 use Rattle.sercos_block.specs.Stores.{find_block, store_of}
 use Rattle.sercos_block.specs.Views.{RingView}
-use Rattle.sercos_service_drive.specs.Log.{Taken, Entry, ahs}
+use Rattle.sercos_service_drive.specs.Log.{Processed, Entry, ahs}
 use Rattle.sercos_service_drive.specs.Replies.{reply_of, log_of}
 use Rattle.sercos_service_drive.specs.Writes.{AreAlike}
 use Rattle.sercos_service_master.specs.Begun.{Begun, step_at, with_step, steps_begun}
@@ -34,17 +34,17 @@ use Rattle.sercos_law_trace.proofs.Told.EntryLemmas.{HasAccepted, begun_among, o
 
 -- an opening of this number is refused
 abbrev IsRefused : Idn → Entry → Type 0
-IsRefused idn e = e.taken.step ≡ opening idn → e.answer.error ≡ true
+IsRefused idn e = e.processed.step ≡ opening idn → e.answer.error ≡ true
 
 abbrev AreRefused : Idn → List Entry → Type 0
 AreRefused idn entries = (e : Entry) → HasAccepted e entries → IsRefused idn e
 
 -- So it is with all that a drive accepted, if it hasn't the block.
 module _ (blocks : List Block) (idn : Idn) (unknown : find_block idn.raw blocks ≡ None) where
-  one_refused : (t : Taken) (h : List Taken) (entries : List Entry) → AreAlike t.blocks blocks → AreRefused idn entries → AreRefused idn (accepted_of (Some t) h entries)
+  one_refused : (t : Processed) (h : List Processed) (entries : List Entry) → AreAlike t.blocks blocks → AreRefused idn entries → AreRefused idn (accepted_of (Some t) h entries)
   one_refused t h entries alike are e has = by (beq t.mhs (ahs h)) has
     where
-      by : (b : Bool) → HasAccepted e (if b then entries else (record { taken = t; answer = reply_of t (log_of h) }) ∷ entries) → IsRefused idn e
+      by : (b : Bool) → HasAccepted e (if b then entries else (record { processed = t; answer = reply_of t (log_of h) }) ∷ entries) → IsRefused idn e
       by true has = are e has
       by false (inl is) = subst (IsRefused idn) is (λ opens. ap (λ (a : Answer). a.error) (refused_opening idn t (log_of h) blocks opens alike unknown))
       by false (inr has) = are e has
@@ -54,9 +54,9 @@ module _ (blocks : List Block) (idn : Idn) (unknown : find_block idn.raw blocks 
   all_refused (v ∷ past) sound = by (processes v past) (all_refused past sound.0)
     where
       by : Processes v past → AreRefused idn (all_entries past) → AreRefused idn (all_entries (v ∷ past))
-      by (Nothing none) are = subst (λ (o : Option Taken). AreRefused idn (accepted_of o (kept_in v past) (all_entries past))) (sym none) are
+      by (Nothing none) are = subst (λ (o : Option Processed). AreRefused idn (accepted_of o (kept_in v past) (all_entries past))) (sym none) are
       by (Record s got came two some) are =
-          subst (λ (o : Option Taken). AreRefused idn (accepted_of o (kept_in v past) (all_entries past))) (sym some)
+          subst (λ (o : Option Processed). AreRefused idn (accepted_of o (kept_in v past) (all_entries past))) (sym some)
           (one_refused (record_in v (length past) (stood_in v (standing past)) s) (kept_in v past) (all_entries past) sound.1.0 are)
 
 -- A transfer whose opening is refused has no other step.
@@ -74,13 +74,13 @@ row_before b e d entries row =
     let few = length-steps_begun b.request (replies_of entries) in
     let long = length-steps_of entries in
     let many = length-replies_of entries in record {
-      steps = begun_before (step_at b.request (replies_of (d ∷ entries))) e.taken.step (log_steps (d ∷ entries)) (steps_begun b.request (replies_of entries)) row.steps (omega arith);
+      steps = begun_before (step_at b.request (replies_of (d ∷ entries))) e.processed.step (log_steps (d ∷ entries)) (steps_begun b.request (replies_of entries)) row.steps (omega arith);
       in_turn = row.in_turn.0;
       goes_on = row.in_turn.1;
     }
 
-only_opening : (b : Begun) (e : Entry) (entries : List Entry) → IsRow b e entries → AreRefused (idn_of b.request) (e ∷ entries) → e.taken.step ≡ opening (idn_of b.request)
-only_opening b e [] row refused = first_begun b.request e.taken.step row.steps
+only_opening : (b : Begun) (e : Entry) (entries : List Entry) → IsRow b e entries → AreRefused (idn_of b.request) (e ∷ entries) → e.processed.step ≡ opening (idn_of b.request)
+only_opening b e [] row refused = first_begun b.request e.processed.step row.steps
 only_opening b e (d ∷ entries) row refused =
     let opens = only_opening b d entries (row_before b e d entries row) (λ x has. refused x (inr has)) in
     let well = (goes_on-outcome_of b.request d.answer (replies_of entries) row.goes_on).0 in

@@ -63,14 +63,14 @@ pub record IsReadFrom (r : RingView) (jobs : List Job) (carry : Carry) (restarts
   -- The selection is the fourth step of it: after the opening and the two steps that read the attribute. It reads the operation data.
   pub selection : Entry
   pub selects : entry_behind (steps_before data_element) part ≡ Some selection
-  pub reads : selection.taken.step.write ≡ false
-  pub element : selection.taken.step.element ≡ data_element
+  pub reads : selection.processed.step.write ≡ false
+  pub element : selection.processed.step.element ≡ data_element
   -- The drive accepted the selection in this cycle. The drive's store then had this block, with these bytes as operation data.
   pub newer : List CycleView
   pub cycle : CycleView
   pub older : List CycleView
   pub cut : before ≡ newer ++ cycle ∷ older
-  pub at : selection.taken.cycle ≡ length older
+  pub at : selection.processed.cycle ≡ length older
   pub block : Block
   pub found : find_block idn.raw (store_at (drive_at r place) r.rate (given_mst carry restarts cycle.sent older place)) ≡ Some block
   pub gives : bytes ≡ element_in data_element (length older) block

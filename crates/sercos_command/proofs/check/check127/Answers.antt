@@ -1,21 +1,21 @@
 use Rattle.std.proofs.Common.{sym, ◌∙◌, append-nil}
 use Rattle.sercos_command.specs.Checks.{unfit_for_phase_3}
-use Rattle.sercos_command.proofs.CheckLemmas.{named_first, named_more}
+use Rattle.sercos_command.proofs.CheckLemmas.{found_first, found_more}
 use Rattle.sercos_command.proofs.check.check127.Goals as goal
 
 pub returns : goal.returns
 unfolding unfit_for_phase_3
 returns c =
-    sym (named_first _ c.new-unfit.ensures
-    ∙ named_more _ 1 _ _ _ c.add_if.ensures.items c.breaks_1.ensures
-    ∙ named_more _ 2 _ _ _ c.add_if-2.ensures.items c.breaks_2.ensures
-    ∙ named_more _ 6 _ _ _ c.add_if-3.ensures.items c.breaks_6.ensures
-    ∙ named_more _ 7 _ _ _ c.add_if-4.ensures.items c.breaks_7.ensures
-    ∙ named_more _ 8 _ _ _ c.add_if-5.ensures.items c.breaks_8.ensures
-    ∙ named_more _ 9 _ _ _ c.add_if-6.ensures.items c.breaks_9.ensures
-    ∙ named_more _ 10 _ _ _ c.add_if-7.ensures.items c.breaks_10.ensures
-    ∙ named_more _ 15 _ _ _ c.add_if-8.ensures.items c.breaks_15.ensures
-    ∙ named_more _ 16 _ _ _ c.add_if-9.ensures.items c.breaks_list.ensures
-    ∙ named_more _ 24 _ _ _ c.add_if-10.ensures.items c.breaks_list-2.ensures
-    ∙ named_more _ 89 _ _ _ c.add_if-11.ensures.items c.breaks_89.ensures
+    sym (found_first _ c.new-unfit.ensures
+    ∙ found_more _ 1 _ _ _ c.add_if.ensures.items c.breaks_1.ensures
+    ∙ found_more _ 2 _ _ _ c.add_if-2.ensures.items c.breaks_2.ensures
+    ∙ found_more _ 6 _ _ _ c.add_if-3.ensures.items c.breaks_6.ensures
+    ∙ found_more _ 7 _ _ _ c.add_if-4.ensures.items c.breaks_7.ensures
+    ∙ found_more _ 8 _ _ _ c.add_if-5.ensures.items c.breaks_8.ensures
+    ∙ found_more _ 9 _ _ _ c.add_if-6.ensures.items c.breaks_9.ensures
+    ∙ found_more _ 10 _ _ _ c.add_if-7.ensures.items c.breaks_10.ensures
+    ∙ found_more _ 15 _ _ _ c.add_if-8.ensures.items c.breaks_15.ensures
+    ∙ found_more _ 16 _ _ _ c.add_if-9.ensures.items c.breaks_list.ensures
+    ∙ found_more _ 24 _ _ _ c.add_if-10.ensures.items c.breaks_list-2.ensures
+    ∙ found_more _ 89 _ _ _ c.add_if-11.ensures.items c.breaks_89.ensures
     ∙ append-nil _)

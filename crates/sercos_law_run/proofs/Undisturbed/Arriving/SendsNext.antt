@@ -7,7 +7,7 @@ use Rattle.sercos_block.specs.Views.{DriveView}
 use Rattle.sercos_service_drive.specs.Says.{Shown, channel_says}
 use Rattle.sercos_drive.specs.declared.hearing.Told.{Told}
 use Rattle.sercos_drive.specs.Heard.{DriveCall, Mst, Mdt, mst_got, mdt_got}
-use Rattle.sercos_drive.specs.Moments.{Moment, phase_in, cycle_in, has_mst, has_taken, has_missed, taken_in, blocks_in, commands_in}
+use Rattle.sercos_drive.specs.Moments.{Moment, phase_in, cycle_in, has_mst, has_taken, has_missed, records_in, blocks_in, commands_in}
 use Rattle.sercos_drive.specs.Annals.{annals, stands_in, takes}
 use Rattle.sercos_drive.specs.Says.{Said, said, said_in, sends, shown_word, values_in}
 use Rattle.sercos_seat.proofs.Sends.{fields_length}
@@ -43,10 +43,10 @@ says_one d rate past sending one = record {
 }
   where
     shows : Shown
-    shows = channel_says d.busy (cycle_in past) (commands_in d rate past) (taken_in past)
+    shows = channel_says d.busy (cycle_in past) (commands_in d rate past) (records_in past)
 
     what : Said
-    what = said d.address (cycle_in past) (phase_in past) (blocks_in d past) (channel_says d.busy (cycle_in past) (commands_in d rate past) (taken_in past))
+    what = said d.address (cycle_in past) (phase_in past) (blocks_in d past) (channel_says d.busy (cycle_in past) (commands_in d rate past) (records_in past))
 
     long : length what.content ≡ 5
     long =

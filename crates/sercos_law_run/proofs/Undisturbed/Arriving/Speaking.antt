@@ -15,7 +15,7 @@ use Rattle.sercos_block.specs.Rules.{blocks_fault}
 use Rattle.sercos_block.specs.Stores.{IsStore}
 use Rattle.sercos_block.specs.Views.{DriveView, RingView}
 use Rattle.sercos_service_drive.specs.Says.{Shown, channel_says}
-use Rattle.sercos_drive.specs.Moments.{Moment, phase_in, cycle_in, has_mst, has_taken, taken_in, blocks_in, commands_in}
+use Rattle.sercos_drive.specs.Moments.{Moment, phase_in, cycle_in, has_mst, has_taken, records_in, blocks_in, commands_in}
 use Rattle.sercos_drive.specs.Says.{Said, said, said_in, sends, shown_word, values_in}
 use Rattle.sercos_seat.specs.Agenda.{wish_given, wishes_from, wishes_given}
 use Rattle.sercos_seat.specs.Agenda as seat
@@ -46,7 +46,7 @@ speaks d rate past sent = record {
 }
   where
     shows : Shown
-    shows = channel_says d.busy (cycle_in past) (commands_in d rate past) (taken_in past)
+    shows = channel_says d.busy (cycle_in past) (commands_in d rate past) (records_in past)
 
     what : Said
     what = said d.address (cycle_in past) (phase_in past) (blocks_in d past) shows

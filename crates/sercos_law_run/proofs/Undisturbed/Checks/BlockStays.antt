@@ -10,7 +10,7 @@ use Rattle.sercos_command.specs.Settings.{is_command}
 use Rattle.sercos_command.specs.Calls.{is_set, CommandHistory, with_check_list}
 use Rattle.sercos_service_drive.specs.Writes.{Write, added_on, command_value, blocks_with}
 use Rattle.sercos_drive.specs.Heard.{DriveCall, Mst, Mdt, Restart, mdt_got}
-use Rattle.sercos_drive.specs.Moments.{phase_in, taken_in, blocks_in, blocks_after, commands_in}
+use Rattle.sercos_drive.specs.Moments.{phase_in, records_in, blocks_in, blocks_after, commands_in}
 use Rattle.sercos_drive.specs.Annals.{annals}
 use Rattle.sercos_law_run.specs.Start.StartUp.{IsStoreOf}
 use Rattle.sercos_law_run.proofs.Start.KeptLemmas.{writes_keep}
@@ -84,8 +84,8 @@ module _ (d : DriveView) (n : ℕ) (such : Block → Type 0) (stays : Stays d n 
       let past = annals d rate h in
       let before = store_of_so d rate h ascending in
       let is = stays_at rate h ascending in
-      processed_keeps (λ o. IsAt n such (blocks_after o (taken_in past) (blocks_in d past))) d rate
+      processed_keeps (λ o. IsAt n such (blocks_after o (records_in past) (blocks_in d past))) d rate
       (mdt_got d.address (phase_in past) (blocks_in d past) content) past is (λ t.
       let one = taken_at d rate past t in
-      next (blocks_in d past) (added_on one (taken_in past)) (commands_in d rate past) (phase_in past) before.1 before.0
-      (allowed one (taken_in past) (handed_those d rate h)) is)
+      next (blocks_in d past) (added_on one (records_in past)) (commands_in d rate past) (phase_in past) before.1 before.0
+      (allowed one (records_in past) (handed_those d rate h)) is)

@@ -91,7 +91,7 @@ set_status raw at n blocks c none three =
 -- THE LOG. At each entry the number is that of a procedure command of the drive.
 abbrev pub AreCommandsIn : ℕ → List Entry → Type 0
 AreCommandsIn raw [] = Unit {0}
-AreCommandsIn raw (e ∷ log) = AreCommandsIn raw log × (is_command e.taken.blocks raw ≡ true)
+AreCommandsIn raw (e ∷ log) = AreCommandsIn raw log × (is_command e.processed.blocks raw ≡ true)
 
 -- nothing of these writes goes to the number
 abbrev pub NoneTo : ℕ → List Write → Type 0
@@ -100,13 +100,13 @@ NoneTo raw writes = are_away raw (map given_of writes) ≡ true
 -- so it isn't set
 none_set : (raw : ℕ) (log : List Entry) (c : CommandHistory) → LogLeaves log c → NoneTo raw (writes_of log) → find_set raw (set_in c) ≡ None
 none_set raw [] c leaves none = ap (find_set raw) leaves
-none_set raw (e ∷ log) c leaves none = ap (λ (x : CommandHistory). find_set raw (set_in x)) leaves.1 ∙ by (added_by e log) none (λ n. none_set raw log e.taken.commands leaves.0 n)
+none_set raw (e ∷ log) c leaves none = ap (λ (x : CommandHistory). find_set raw (set_in x)) leaves.1 ∙ by (added_by e log) none (λ n. none_set raw log e.processed.commands leaves.0 n)
   where
-    by : (o : Option Write) → NoneTo raw (with_added o (writes_of log)) → (NoneTo raw (writes_of log) → find_set raw (set_in e.taken.commands) ≡ None) → find_set raw (set_in (commands_with o e.taken.blocks e.taken.commands)) ≡ None
+    by : (o : Option Write) → NoneTo raw (with_added o (writes_of log)) → (NoneTo raw (writes_of log) → find_set raw (set_in e.processed.commands) ≡ None) → find_set raw (set_in (commands_with o e.processed.blocks e.processed.commands)) ≡ None
     by None none more = more none
     by (Some w) none more =
         let parts = and_parts (not (w.raw == raw)) (are_away raw (map given_of (writes_of log))) none in
-        other_unset raw w e.taken.blocks e.taken.commands (not-true (w.raw == raw) parts.0) (more parts.1)
+        other_unset raw w e.processed.blocks e.processed.commands (not-true (w.raw == raw) parts.0) (more parts.1)
 
 -- What the newest write of a log found, and what it left: the entries after it added nothing.
 record IsNewest (raw : ℕ) (w : Write) (writes : List Write) (c : CommandHistory) : Type 0 where
@@ -120,7 +120,7 @@ record IsNewest (raw : ℕ) (w : Write) (writes : List Write) (c : CommandHistor
 
 newest_write : (raw : ℕ) (w : Write) (writes : List Write) (log : List Entry) (c : CommandHistory) → LogLeaves log c → AreCommandsIn raw log → writes_of log ≡ w ∷ writes → IsNewest raw w writes c
 newest_write raw w writes [] c leaves commands is = absurd (cc)
-newest_write raw w writes (e ∷ log) c leaves commands is = by (added_by e log) leaves.1 is (λ more. newest_write raw w writes log e.taken.commands leaves.0 commands.0 more)
+newest_write raw w writes (e ∷ log) c leaves commands is = by (added_by e log) leaves.1 is (λ more. newest_write raw w writes log e.processed.commands leaves.0 commands.0 more)
   where
     head : (x y : Write) (xs ys : List Write) → x ∷ xs ≡ y ∷ ys → x ≡ y
     head x y xs ys same = cc
@@ -128,13 +128,13 @@ newest_write raw w writes (e ∷ log) c leaves commands is = by (added_by e log)
     tail : (x y : Write) (xs ys : List Write) → x ∷ xs ≡ y ∷ ys → xs ≡ ys
     tail x y xs ys same = cc
 
-    by : (o : Option Write) → c ≡ commands_with o e.taken.blocks e.taken.commands → with_added o (writes_of log) ≡ w ∷ writes → (writes_of log ≡ w ∷ writes → IsNewest raw w writes e.taken.commands) → IsNewest raw w writes c
+    by : (o : Option Write) → c ≡ commands_with o e.processed.blocks e.processed.commands → with_added o (writes_of log) ≡ w ∷ writes → (writes_of log ≡ w ∷ writes → IsNewest raw w writes e.processed.commands) → IsNewest raw w writes c
     by None left is more = subst (λ (x : CommandHistory). IsNewest raw w writes x) (sym left) (more is)
     by (Some x) left is more = record {
-      blocks = e.taken.blocks;
-      commands = e.taken.commands;
+      blocks = e.processed.blocks;
+      commands = e.processed.commands;
       log = log;
-      is = left ∙ ap (λ (y : Write). commands_with (Some y) e.taken.blocks e.taken.commands) (head x w (writes_of log) writes is);
+      is = left ∙ ap (λ (y : Write). commands_with (Some y) e.processed.blocks e.processed.commands) (head x w (writes_of log) writes is);
       command = commands.1;
       leaves = leaves.0;
       rest = tail x w (writes_of log) writes is;
@@ -197,14 +197,14 @@ module _ (raw : ℕ) (passed : CommandHistory → Option ℕ) (sets : PassesIfSe
   -- A LOG WITH A COMPLETE CHECK, whose last two entries are the cancel and the poll before it
   pub log_counts : (cancel poll : Entry) (log : List Entry) (c : CommandHistory) (last set : Write) (writes : List Write) → LogLeaves (cancel ∷ poll ∷ log) c → AreCommandsIn raw (cancel ∷ poll ∷ log)
       → writes_of (cancel ∷ poll ∷ log) ≡ last ∷ set ∷ writes → given_of last ≡ gives raw (0 ∷ 0 ∷ []) → given_of set ≡ gives raw (3 ∷ 0 ∷ []) → NoneTo raw writes
-      → poll.taken.step.write ≡ false → status_in poll.taken.commands raw poll.taken.cycle ≡ 3 → poll.taken.cycle ≤ cancel.taken.cycle → CountsBy passed c cancel.taken.cycle
+      → poll.processed.step.write ≡ false → status_in poll.processed.commands raw poll.processed.cycle ≡ 3 → poll.processed.cycle ≤ cancel.processed.cycle → CountsBy passed c cancel.processed.cycle
   log_counts cancel poll log c last set writes leaves commands are last_is set_is none reads three later = by (added_by cancel (poll ∷ log)) refl leaves.1 are
     where
       quiet : added_by poll log ≡ None
       quiet = read_adds_none poll log reads
 
-      same : cancel.taken.commands ≡ poll.taken.commands
-      same = leaves.0.1 ∙ ap (λ (o : Option Write). commands_with o poll.taken.blocks poll.taken.commands) quiet
+      same : cancel.processed.commands ≡ poll.processed.commands
+      same = leaves.0.1 ∙ ap (λ (o : Option Write). commands_with o poll.processed.blocks poll.processed.commands) quiet
 
       before : writes_of (poll ∷ log) ≡ writes_of log
       before = ap (λ (o : Option Write). with_added o (writes_of log)) quiet
@@ -215,15 +215,15 @@ module _ (raw : ℕ) (passed : CommandHistory → Option ℕ) (sets : PassesIfSe
       tail : (x y : Write) (xs ys : List Write) → x ∷ xs ≡ y ∷ ys → xs ≡ ys
       tail x y xs ys same = cc
 
-      by : (o : Option Write) → added_by cancel (poll ∷ log) ≡ o → c ≡ commands_with o cancel.taken.blocks cancel.taken.commands → with_added o (writes_of (poll ∷ log)) ≡ last ∷ set ∷ writes → CountsBy passed c cancel.taken.cycle
+      by : (o : Option Write) → added_by cancel (poll ∷ log) ≡ o → c ≡ commands_with o cancel.processed.blocks cancel.processed.commands → with_added o (writes_of (poll ∷ log)) ≡ last ∷ set ∷ writes → CountsBy passed c cancel.processed.cycle
       by None adds left are =
-          absurd (not_cancelled last.cycle poll.taken.cycle (set ∷ writes) log poll.taken.commands leaves.0.0 commands.0.0 (sym before ∙ are ∙ ap (λ (w : Write). w ∷ set ∷ writes) (sets_so raw 0 last last_is)) three)
+          absurd (not_cancelled last.cycle poll.processed.cycle (set ∷ writes) log poll.processed.commands leaves.0.0 commands.0.0 (sym before ∙ are ∙ ap (λ (w : Write). w ∷ set ∷ writes) (sets_so raw 0 last last_is)) three)
       by (Some x) adds left are =
           let first : x ≡ last = head x last (writes_of (poll ∷ log)) (set ∷ writes) are in
           let rest : writes_of (poll ∷ log) ≡ set ∷ writes = tail x last (writes_of (poll ∷ log)) (set ∷ writes) are in
-          let at = set_counts set.cycle poll.taken.cycle writes log poll.taken.commands leaves.0.0 commands.0.0 (sym before ∙ rest ∙ ap (λ (w : Write). w ∷ writes) (sets_so raw 3 set set_is)) none three in
-          let cycle : last.cycle ≡ cancel.taken.cycle = ap (λ (w : Write). w.cycle) (sym first) ∙ added_cycle cancel (poll ∷ log) x adds in
-          let cancels : x ≡ sets_to raw 0 cancel.taken.cycle = first ∙ sets_so raw 0 last last_is ∙ ap (sets_to raw 0) cycle in
-          counts_same passed c (commands_with (Some (sets_to raw 0 cancel.taken.cycle)) cancel.taken.blocks cancel.taken.commands) cancel.taken.cycle
-          (left ∙ ap (λ (w : Write). commands_with (Some w) cancel.taken.blocks cancel.taken.commands) cancels)
-          (cancel_counts cancel.taken.commands cancel.taken.blocks poll.taken.cycle cancel.taken.cycle commands.1 later (counts_same passed cancel.taken.commands poll.taken.commands poll.taken.cycle same at))
+          let at = set_counts set.cycle poll.processed.cycle writes log poll.processed.commands leaves.0.0 commands.0.0 (sym before ∙ rest ∙ ap (λ (w : Write). w ∷ writes) (sets_so raw 3 set set_is)) none three in
+          let cycle : last.cycle ≡ cancel.processed.cycle = ap (λ (w : Write). w.cycle) (sym first) ∙ added_cycle cancel (poll ∷ log) x adds in
+          let cancels : x ≡ sets_to raw 0 cancel.processed.cycle = first ∙ sets_so raw 0 last last_is ∙ ap (sets_to raw 0) cycle in
+          counts_same passed c (commands_with (Some (sets_to raw 0 cancel.processed.cycle)) cancel.processed.blocks cancel.processed.commands) cancel.processed.cycle
+          (left ∙ ap (λ (w : Write). commands_with (Some w) cancel.processed.blocks cancel.processed.commands) cancels)
+          (cancel_counts cancel.processed.commands cancel.processed.blocks poll.processed.cycle cancel.processed.cycle commands.1 later (counts_same passed cancel.processed.commands poll.processed.commands poll.processed.cycle same at))

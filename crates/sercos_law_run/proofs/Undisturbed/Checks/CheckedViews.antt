@@ -11,13 +11,13 @@ use Rattle.sercos_block.specs.Stores.{find_block}
 use Rattle.sercos_command.specs.Settings.{is_command}
 use Rattle.sercos_command.specs.Calls.{CommandHistory, status_in}
 use Rattle.sercos_command.specs.Kept.{set_in}
-use Rattle.sercos_service_drive.specs.Log.{Taken, Entry}
+use Rattle.sercos_service_drive.specs.Log.{Processed, Entry}
 use Rattle.sercos_service_drive.specs.Replies.{log_of}
 use Rattle.sercos_service_drive.specs.Writes.{Write, writes_of, without_data, AreAlike}
 use Rattle.sercos_service_master.specs.Begun.{Begun}
 use Rattle.sercos_seat.specs.Agenda.{idn, ended_well}
 use Rattle.sercos_law_channel.specs.Handshake.Views.{View, standing, since_reset}
-use Rattle.sercos_law_channel.specs.Handshake.Epochs.{begun_in, epoch_taken, taken_in_views, log_in}
+use Rattle.sercos_law_channel.specs.Handshake.Epochs.{begun_in, epoch_records, records_in_views, log_in}
 use Rattle.sercos_law_channel.specs.Handshake.Runs.{IsRun}
 use Rattle.sercos_law_channel.specs.Handshake.RunLaws.{AreBefore}
 use Rattle.sercos_law_channel.specs.Handshake.Transfers.{HaveBlocks}
@@ -99,7 +99,7 @@ command_alike raw blocks others alike is = by (find_block raw blocks) refl is
 
 commands_there : (raw : ℕ) (blocks : List Block) (log : List Entry) → is_command blocks raw ≡ true → HaveBlocks blocks log → AreCommandsIn raw log
 commands_there raw blocks [] is have = tt
-commands_there raw blocks (e ∷ log) is have = (commands_there raw blocks log is have.0, command_alike raw blocks e.taken.blocks have.1 is)
+commands_there raw blocks (e ∷ log) is have = (commands_there raw blocks log is have.0, command_alike raw blocks e.processed.blocks have.1 is)
 
 -- the status that a check has ended well with
 pub status_3 : (n : ℕ) (bytes : List ℕ) → bytes ≡ n ∷ 0 ∷ [] → ended_well bytes ≡ true → n ≡ 3
@@ -115,14 +115,14 @@ module _ (raw : ℕ) (passed : CommandHistory → Option ℕ) (sets : PassesIfSe
   leaves : LogLeaves (log_in v past) (commands_ended c (v ∷ past))
   leaves = subst (λ (l : List Entry). LogLeaves l (commands_ended c (v ∷ past))) log_is (leaves_since c fresh (v ∷ past) follow)
 
-  taken_is : epoch_taken (v ∷ past) ≡ taken_in_views v past
-  taken_is = cond-false v.falls [] (taken_in_views v past) goes_on
+  taken_is : epoch_records (v ∷ past) ≡ records_in_views v past
+  taken_is = cond-false v.falls [] (records_in_views v past) goes_on
 
   have : HaveBlocks blocks (log_in v past)
-  have = subst (λ (h : List Taken). HaveBlocks blocks (log_of h)) taken_is (epoch blocks busy (v ∷ past) run sound).alike
+  have = subst (λ (h : List Processed). HaveBlocks blocks (log_of h)) taken_is (epoch blocks busy (v ∷ past) run sound).alike
 
   order : AreBefore (suc (length past)) (log_in v past ++ entries_ago (v ∷ past))
-  order = subst (λ (l : List Entry). AreBefore (suc (length past)) l) (entries_in_epochs busy (v ∷ past) run ∙ ap (λ (h : List Taken). log_of h ++ entries_ago (v ∷ past)) taken_is) (accepts_in_order (v ∷ past))
+  order = subst (λ (l : List Entry). AreBefore (suc (length past)) l) (entries_in_epochs busy (v ∷ past) run ∙ ap (λ (h : List Processed). log_of h ++ entries_ago (v ∷ past)) taken_is) (accepts_in_order (v ∷ past))
 
   -- THE CHECK, complete and the newest request
   pub check_counts : (b : Begun) (older : List Begun) (bytes : List ℕ) → begun_in v past ≡ b ∷ older → b.request ≡ request.Command (idn raw) → outcome_of b.request b.answers ≡ Some (outcome.Complete bytes) → ended_well bytes ≡ true
@@ -145,6 +145,6 @@ module _ (raw : ℕ) (passed : CommandHistory → Option ℕ) (sets : PassesIfSe
               (subst (λ (l : List Entry). LogLeaves l (commands_ended c (v ∷ past))) log_so leaves)
               (subst (AreCommandsIn raw) log_so (commands_there raw blocks (log_in v past) command have))
               writes_so two.last_is two.set_is (exact_away raw blocks older rest others behind away) reads
-              (status_3 (status_in poll.taken.commands raw poll.taken.cycle) bytes given well) (omega (arith, second)) in
+              (status_3 (status_in poll.processed.commands raw poll.processed.cycle) bytes given well) (omega (arith, second)) in
               let late = counts.2 in
               (counts.0, counts.1, omega (arith, late, first))

@@ -10,12 +10,12 @@ use Rattle.sercos_block.specs.Views.{DriveView, RingView}
 use Rattle.sercos_command.specs.Settings.{is_command}
 use Rattle.sercos_command.specs.Calls.{CommandCall, Wrote, Other, Reset}
 use Rattle.sercos_command.specs.Kept.{newest_cycle, AreInOrder, is_from, first_passed_in}
-use Rattle.sercos_service_drive.specs.Log.{Taken, ahs}
+use Rattle.sercos_service_drive.specs.Log.{Processed, ahs}
 use Rattle.sercos_service_drive.specs.Replies.{reply_of, log_of}
 use Rattle.sercos_service_drive.specs.Writes.{Write, command_value, added_by, adds, added_on, calls_with}
 use Rattle.sercos_drive.specs.declared.hearing.Told.{Told}
 use Rattle.sercos_drive.specs.Heard.{DriveCall, mdt_got}
-use Rattle.sercos_drive.specs.Moments.{Moment, phase_in, cycle_in, taken_in, blocks_in, calls_after, commands_in, with_reset, calls_in}
+use Rattle.sercos_drive.specs.Moments.{Moment, phase_in, cycle_in, records_in, blocks_in, calls_after, commands_in, with_reset, calls_in}
 use Rattle.sercos_law_run.proofs.Held.Processed.{processed_keeps, taken_at}
 use Rattle.sercos_drive.specs.Annals.{annals, may_rise, processed_in, ends_in}
 use Rattle.sercos_trace.specs.Views.{CycleView}
@@ -52,12 +52,12 @@ with_one (Some w) blocks h cycle at s = by (is_command blocks w.raw)
     by false = record { in_order = (s.in_order, order); order = late }
 
 -- the write of a record is in its cycle
-record_cycle : (t : Taken) (h : List Taken) → IfSome (added_on t h) (λ w. w.cycle ≡ t.cycle)
+record_cycle : (t : Processed) (h : List Processed) → IfSome (added_on t h) (λ w. w.cycle ≡ t.cycle)
 record_cycle t h = dropped (beq t.mhs (ahs h))
   where
-    one : (o : Option Write) → added_by (record { taken = t; answer = reply_of t (log_of h) }) (log_of h) ≡ o → IfSome o (λ w. w.cycle ≡ t.cycle)
+    one : (o : Option Write) → added_by (record { processed = t; answer = reply_of t (log_of h) }) (log_of h) ≡ o → IfSome o (λ w. w.cycle ≡ t.cycle)
     one None is = tt
-    one (Some w) is = added_cycle (record { taken = t; answer = reply_of t (log_of h) }) (log_of h) w is
+    one (Some w) is = added_cycle (record { processed = t; answer = reply_of t (log_of h) }) (log_of h) w is
 
     dropped : (v : Bool) → IfSome (if v then None else adds t (log_of h)) (λ w. w.cycle ≡ t.cycle)
     dropped true = tt
@@ -68,11 +68,11 @@ abbrev pub Keeps : List Moment → ℕ → Type 0
 Keeps past cycle = StandBy (calls_in past) cycle
 
 keeps_record : (d : DriveView) (rate : ℕ) (told : Option Told) (past : List Moment) (cycle : ℕ) → cycle_in past ≡ cycle → Keeps past cycle
-    → StandBy (calls_after (processed_in d rate told past) (taken_in past) (calls_in past)) cycle
+    → StandBy (calls_after (processed_in d rate told past) (records_in past) (calls_in past)) cycle
 keeps_record d rate told past cycle now s = processed_keeps
-    (λ o. StandBy (calls_after o (taken_in past) (calls_in past)) cycle) d rate told past s (λ t.
+    (λ o. StandBy (calls_after o (records_in past) (calls_in past)) cycle) d rate told past s (λ t.
     let one = taken_at d rate past t in
-    with_one (added_on one (taken_in past)) (blocks_in d past) (calls_in past) cycle (at (added_on one (taken_in past)) (record_cycle one (taken_in past))) s)
+    with_one (added_on one (records_in past)) (blocks_in d past) (calls_in past) cycle (at (added_on one (records_in past)) (record_cycle one (records_in past))) s)
   where
     at : (o : Option Write) → IfSome o (λ w. w.cycle ≡ cycle_in past) → IfSome o (λ w. w.cycle ≡ cycle)
     at None is = tt
@@ -96,7 +96,7 @@ keeps_before r carry restarts k (t ∷ j) =
     let told : Option Told = mdt_got d.address (phase_in behind) (blocks_in d behind) (mdt_heard carry (length j) (k + 1) (mdt_in t.sent)) in
     let at_mst : Keeps behind (length j) = with_phase (phase_in behind) (calls_in first) (length j)
     (keeps_restart d r.rate (restarts (length j) (k + 1)) (given_before carry restarts j k) (length j) (keeps_before r carry restarts k j)) in
-    let at_mdt = with_phase (ends_in told behind) (calls_after (processed_in d r.rate told behind) (taken_in behind) (calls_in behind)) (length j)
+    let at_mdt = with_phase (ends_in told behind) (calls_after (processed_in d r.rate told behind) (records_in behind) (calls_in behind)) (length j)
     (keeps_record d r.rate told behind (length j) refl at_mst) in
     later _ (length j) at_mdt
 

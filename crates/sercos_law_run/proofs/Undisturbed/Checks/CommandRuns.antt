@@ -5,7 +5,7 @@ use Rattle.sercos_timing.specs.Views.{PlanView}
 use Rattle.sercos_block.specs.Views.{DriveView, RingView}
 use Rattle.sercos_block.specs.Rings.{is_ring}
 use Rattle.sercos_command.specs.Calls.{Reset, CommandHistory, with_call}
-use Rattle.sercos_service_drive.specs.Log.{Taken}
+use Rattle.sercos_service_drive.specs.Log.{Processed}
 use Rattle.sercos_service_master.specs.Begun.{open_in}
 use Rattle.sercos_service_master.specs.Calls.{begun_by}
 use Rattle.sercos_drive.specs.declared.hearing.Told.{Told}
@@ -92,7 +92,7 @@ module _ (r : RingView) (jobs : List Job) (carry : Carry) (restarts : Restarts) 
       let here = at_mst r jobs carry restarts valid t j next clear spelled k below sees agrees rests in
       let after = sees_next r jobs carry restarts valid t j next clear spelled k below sees agrees rests in
       ap₂ (λ (n : ℕ) (c : CommandHistory). reset_in n c) after.drive.ended
-      (ap₂ (λ (o : Option Taken) (h : List Taken). commands_after o h v.commands) processed_so here.taken
+      (ap₂ (λ (o : Option Processed) (h : List Processed). commands_after o h v.commands) processed_so here.records
       ∙ commands_same v (length past) (stood_in v (standing past)) (got_in v) (kept_in v past))
 
   -- THE COMMANDS through one cycle more

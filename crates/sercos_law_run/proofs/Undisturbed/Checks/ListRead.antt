@@ -14,11 +14,11 @@ use Rattle.sercos_block.specs.Views.{DriveView}
 use Rattle.sercos_block.specs.declared.block.Block.{Block}
 use Rattle.sercos_command.specs.Settings.{is_command}
 use Rattle.sercos_command.specs.Kept.{find_set, set_in}
-use Rattle.sercos_service_drive.specs.Log.{Taken, Entry, accepted}
+use Rattle.sercos_service_drive.specs.Log.{Processed, Entry, accepted}
 use Rattle.sercos_service_drive.specs.Replies.{data_in}
 use Rattle.sercos_service_master.specs.Begun.{Begun}
 use Rattle.sercos_seat.specs.Agenda.{idn}
-use Rattle.sercos_law_channel.specs.Handshake.Epochs.{command, epoch_begun, epoch_taken, epoch_log}
+use Rattle.sercos_law_channel.specs.Handshake.Epochs.{command, epoch_begun, epoch_records, epoch_log}
 use Rattle.sercos_law_channel.specs.Handshake.Parts.{IsRow, IsPart, Unsent, Heard, Unheard, AreParts}
 use Rattle.sercos_law_channel.specs.Handshake.ReadTransfers.{entry_behind, element_in, IsReadAt}
 use Rattle.sercos_law_channel.specs.Handshake.Runs.{IsRun as IsViewRun}
@@ -76,7 +76,7 @@ entry_in n (x ∷ part) e got = by (length part == n) got (λ more. entry_in n p
     by true got more = record { front = []; rest = part; split = ap (λ (y : Entry). y ∷ part) (same x got) }
     by false got more = let is = more got in record { front = x ∷ is.front; rest = is.rest; split = ap (λ (l : List Entry). x ∷ l) is.split }
 
-stored_at : (d : DriveView) (front : List Entry) (e : Entry) (rest : List Entry) → EntriesStored d (front ++ e ∷ rest) → IsStored d e.taken.blocks
+stored_at : (d : DriveView) (front : List Entry) (e : Entry) (rest : List Entry) → EntriesStored d (front ++ e ∷ rest) → IsStored d e.processed.blocks
 stored_at d [] e rest have = have.1
 stored_at d (x ∷ front) e rest have = stored_at d front e rest have.0
 
@@ -88,17 +88,17 @@ data_read cycle b still = cond_both (not (is_list b.attribute.length)) (data_in 
 
 -- A read found a block with these bytes in a store of the drive of which this is so.
 pub record IsListRead (d : DriveView) (such : List Block → Type 0) (bytes : List ℕ) : Type 0 where
-  pub taken : Taken
-  pub stored : IsStored d taken.blocks
-  pub has : such taken.blocks
+  pub processed : Processed
+  pub stored : IsStored d processed.blocks
+  pub has : such processed.blocks
   pub block : Block
-  pub found : find_block 22 taken.blocks ≡ Some block
-  pub gives : bytes ≡ element_in 7 taken.cycle block
+  pub found : find_block 22 processed.blocks ≡ Some block
+  pub gives : bytes ≡ element_in 7 processed.cycle block
 
 module _ (busy : ℕ) (d : DriveView) (such : List Block → Type 0) (past : List View) (run : IsViewRun busy past)
     (sound : AreSound (store_of d) past) (stored : AreStored d past) (follow : SettingsFollow past)
     (commands : HaveStores (λ blocks. is_command blocks 128 ≡ true) past) (since : HaveSince such (all_entries past)) where
-  is_epoch : IsEpoch (store_of d) (command past) (epoch_begun past) (epoch_taken past)
+  is_epoch : IsEpoch (store_of d) (command past) (epoch_begun past) (epoch_records past)
   is_epoch = epoch (store_of d) busy past run sound
 
   -- the entries of a part are a transfer
@@ -107,7 +107,7 @@ module _ (busy : ℕ) (d : DriveView) (such : List Block → Type 0) (past : Lis
     steps = row.steps;
     in_turn = row.in_turn;
     goes_on = row.goes_on;
-    replies = (split_replies (e ∷ entries) rest (split_replies front ((e ∷ entries) ++ rest) (subst HasReplies log (answered_replies (accepted (epoch_taken past))))).1).0;
+    replies = (split_replies (e ∷ entries) rest (split_replies front ((e ∷ entries) ++ rest) (subst HasReplies log (answered_replies (accepted (epoch_records past))))).1).0;
     alike = (split_blocks (store_of d) (e ∷ entries) rest (split_blocks (store_of d) front ((e ∷ entries) ++ rest) (subst (HaveBlocks (store_of d)) log is_epoch.alike)).1).0;
   }
 
@@ -130,7 +130,7 @@ module _ (busy : ℕ) (d : DriveView) (such : List Block → Type 0) (past : Lis
       at_poll : epoch_log past ≡ (front ++ e ∷ []) ++ poll.poll ∷ (poll.before ++ rest)
       at_poll = log_is ∙ ap (λ (l : List Entry). front ++ ((e ∷ l) ++ rest)) poll.behind ∙ sym (append_assoc front (e ∷ []) (poll.poll ∷ (poll.before ++ rest)))
 
-      on : is_some (find_set 128 (set_in poll.poll.taken.commands)) ≡ true
+      on : is_some (find_set 128 (set_in poll.poll.processed.commands)) ≡ true
       on = set_at_entry 128 busy past (front ++ e ∷ []) poll.poll (poll.before ++ rest) (3 ∷ 0 ∷ []) run follow commands at_poll poll.newest refl
 
   -- THE READ after it
@@ -150,9 +150,9 @@ module _ (busy : ℕ) (d : DriveView) (such : List Block → Type 0) (past : Lis
           entries_in_epochs busy past run ∙ ap (λ (l : List Entry). l ++ entries_ago past) at.split ∙ append_assoc at.front (at.later ++ (at.earlier ++ at.rest)) (entries_ago past)
           ∙ ap (λ (l : List Entry). at.front ++ l) (append_assoc at.later (at.earlier ++ at.rest) (entries_ago past) ∙ ap (λ (l : List Entry). at.later ++ l) (append_assoc at.earlier at.rest (entries_ago past)))
 
-      found_at : (s : Entry) → IsReadAt 22 7 list bytes s.taken → IsIn s at.later → IsListRead d such bytes
+      found_at : (s : Entry) → IsReadAt 22 7 list bytes s.processed → IsIn s at.later → IsListRead d such bytes
       found_at s read is = record {
-        taken = s.taken;
+        processed = s.processed;
         stored = store;
         has = since_at such (at.front ++ is.front) s (is.rest ++ (at.earlier ++ (at.rest ++ entries_ago past))) (subst (HaveSince such) here since) (was_more is.rest (at.earlier ++ (at.rest ++ entries_ago past)) was);
         block = read.block;
@@ -166,10 +166,10 @@ module _ (busy : ℕ) (d : DriveView) (such : List Block → Type 0) (past : Lis
               ∙ ap (λ (l : List Entry). at.front ++ l) (append_assoc is.front (s ∷ is.rest) (at.earlier ++ (at.rest ++ entries_ago past)))
               ∙ sym (append_assoc at.front is.front (s ∷ (is.rest ++ (at.earlier ++ (at.rest ++ entries_ago past)))))
 
-          store : IsStored d s.taken.blocks
+          store : IsStored d s.processed.blocks
           store = stored_at d (at.front ++ is.front) s (is.rest ++ (at.earlier ++ (at.rest ++ entries_ago past))) (subst (EntriesStored d) here (entries_stored d past stored))
 
-      read_at : (e : Entry) (entries : List Entry) → at.later ≡ e ∷ entries → (s : Entry) × (entry_behind (steps_before 7) (e ∷ entries) ≡ Some s) × IsReadAt 22 7 list bytes s.taken → IsListRead d such bytes
+      read_at : (e : Entry) (entries : List Entry) → at.later ≡ e ∷ entries → (s : Entry) × (entry_behind (steps_before 7) (e ∷ entries) ≡ Some s) × IsReadAt 22 7 list bytes s.processed → IsListRead d such bytes
       read_at e entries those (s, got, read) = found_at s read (subst (IsIn s) (sym those) (entry_in (steps_before 7) (e ∷ entries) s got))
 
       by : IsPart b at.later → IsListRead d such bytes

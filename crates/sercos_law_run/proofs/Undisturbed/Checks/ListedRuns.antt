@@ -212,7 +212,7 @@ module _ (r : RingView) (jobs : List Job) (carry : Carry) (restarts : Restarts) 
       → b.request ≡ request.Read (idn 22) 7 → outcome_of b.request b.answers ≡ Some (outcome.Complete bytes) → c.request ≡ request.Command (idn 128) → outcome_of c.request c.answers ≡ Some (outcome.Complete status)
       → bytes ≡ own_bytes (drive_at r k)
   list_is t j run clear newer older b c bytes status split asks complete sets_it ended =
-      read.gives ∙ data_read read.taken.cycle read.block (built_in_is_steady (drive_at r k) read.taken.blocks 22 read.taken.cycle read.block rules read.stored.1 refl read.found) ∙ read.has read.block read.found
+      read.gives ∙ data_read read.processed.cycle read.block (built_in_is_steady (drive_at r k) read.processed.blocks 22 read.processed.cycle read.block rules read.stored.1 refl read.found) ∙ read.has read.block read.found
     where
       stands : Stands r jobs carry restarts (t ∷ j) k
       stands = all_stand r jobs carry restarts opened (t ∷ j) run clear k below

@@ -6,7 +6,7 @@ use Rattle.sercos_block.specs.declared.block.Block.{Block}
 use Rattle.sercos_block.specs.Stores.{find_block}
 use Rattle.sercos_command.specs.Calls.{Reset, CommandHistory, with_call}
 use Rattle.sercos_command.specs.Kept.{set_in}
-use Rattle.sercos_service_drive.specs.Log.{Taken, Entry, ahs, accepted, open_idn, run_before, in_order}
+use Rattle.sercos_service_drive.specs.Log.{Processed, Entry, ahs, accepted, open_idn, run_before, in_order}
 use Rattle.sercos_service_drive.specs.Replies.{bytes_written, answered, log_of}
 use Rattle.sercos_service_drive.specs.Writes.{Write, takes_effect, written_by, added_by, adds, added_on, commands_with}
 use Rattle.sercos_law_channel.specs.Handshake.Views.{View, standing, stood_in, record_in, processed_in, with_record, since_reset, kept_in}
@@ -17,29 +17,29 @@ use Rattle.sercos_law_run.proofs.Settings.Histories.{reset_if}
 use Rattle.sercos_law_run.specs.Undisturbed.CommandsFollow.{commands_ended, CommandsFollow, LogLeaves}
 
 -- The cycle of a write is that of its step.
-pub added_cycle : (e : Entry) (log : List Entry) (w : Write) → added_by e log ≡ Some w → w.cycle ≡ e.taken.cycle
-added_cycle e log w is = subst (λ (o : Option Write). IfSome o (λ x. x.cycle ≡ e.taken.cycle)) is (effect (takes_effect e))
+pub added_cycle : (e : Entry) (log : List Entry) (w : Write) → added_by e log ≡ Some w → w.cycle ≡ e.processed.cycle
+added_cycle e log w is = subst (λ (o : Option Write). IfSome o (λ x. x.cycle ≡ e.processed.cycle)) is (effect (takes_effect e))
   where
-    found : (run : List Taken) (raw : ℕ) (o : Option Block)
-        → IfSome {T = Write} (option_map (λ (b : Block). (record { cycle = e.taken.cycle; raw = raw; bytes = bytes_written b (in_order run (e.taken.step.word ∷ [])) })) o) (λ x. x.cycle ≡ e.taken.cycle)
+    found : (run : List Processed) (raw : ℕ) (o : Option Block)
+        → IfSome {T = Write} (option_map (λ (b : Block). (record { cycle = e.processed.cycle; raw = raw; bytes = bytes_written b (in_order run (e.processed.step.word ∷ [])) })) o) (λ x. x.cycle ≡ e.processed.cycle)
     found run raw None = tt
     found run raw (Some b) = refl
 
-    opened : (run : List Taken) (o : Option ℕ) → IfSome (option_and_then (written_by e.taken run) o) (λ x. x.cycle ≡ e.taken.cycle)
+    opened : (run : List Processed) (o : Option ℕ) → IfSome (option_and_then (written_by e.processed run) o) (λ x. x.cycle ≡ e.processed.cycle)
     opened run None = tt
-    opened run (Some raw) = found run raw (find_block raw e.taken.blocks)
+    opened run (Some raw) = found run raw (find_block raw e.processed.blocks)
 
-    effect : (b : Bool) → IfSome (if b then option_and_then (written_by e.taken (run_before true 7 log)) (open_idn log) else None) (λ x. x.cycle ≡ e.taken.cycle)
+    effect : (b : Bool) → IfSome (if b then option_and_then (written_by e.processed (run_before true 7 log)) (open_idn log) else None) (λ x. x.cycle ≡ e.processed.cycle)
     effect true = opened (run_before true 7 log) (open_idn log)
     effect false = tt
 
 -- A step that reads adds none.
-pub read_adds_none : (e : Entry) (log : List Entry) → e.taken.step.write ≡ false → added_by e log ≡ None
+pub read_adds_none : (e : Entry) (log : List Entry) → e.processed.step.write ≡ false → added_by e log ≡ None
 read_adds_none e log reads =
-    ap (λ (v : Bool). if v && ((e.taken.step.element == 7) && (e.taken.step.last && not e.answer.error)) then option_and_then (written_by e.taken (run_before true 7 log)) (open_idn log) else None) reads
+    ap (λ (v : Bool). if v && ((e.processed.step.element == 7) && (e.processed.step.last && not e.answer.error)) then option_and_then (written_by e.processed (run_before true 7 log)) (open_idn log) else None) reads
 
 -- one record more
-leaves_record : (t : Taken) (h : List Taken) → LogLeaves (log_of h) t.commands → LogLeaves (log_of (t ∷ h)) (commands_with (added_on t h) t.blocks t.commands)
+leaves_record : (t : Processed) (h : List Processed) → LogLeaves (log_of h) t.commands → LogLeaves (log_of (t ∷ h)) (commands_with (added_on t h) t.blocks t.commands)
 leaves_record t h before = by (beq t.mhs (ahs h))
   where
     by : (v : Bool) → LogLeaves (answered (if v then accepted h else t ∷ accepted h)) (commands_with (if v then None else adds t (log_of h)) t.blocks t.commands)
@@ -64,9 +64,9 @@ leaves_since c none [] follow = none
 leaves_since c none (v ∷ past) follow = by ((standing (v ∷ past)).ended == 0) (taken (processes v past) (leaves_kept c v past follow (leaves_since c none past follow.0)))
   where
     taken : Processes v past → LogLeaves (log_of (kept_in v past)) v.commands → LogLeaves (log_of (with_record (processed_in v past) (kept_in v past))) (commands_left v past)
-    taken (Nothing none) at = subst (λ (o : Option Taken). LogLeaves (log_of (with_record o (kept_in v past))) (commands_with (write_of o (kept_in v past)) v.blocks v.commands)) (sym none) at
+    taken (Nothing none) at = subst (λ (o : Option Processed). LogLeaves (log_of (with_record o (kept_in v past))) (commands_with (write_of o (kept_in v past)) v.blocks v.commands)) (sym none) at
     taken (Record s got came two some) at =
-        subst (λ (o : Option Taken). LogLeaves (log_of (with_record o (kept_in v past))) (commands_with (write_of o (kept_in v past)) v.blocks v.commands)) (sym some)
+        subst (λ (o : Option Processed). LogLeaves (log_of (with_record o (kept_in v past))) (commands_with (write_of o (kept_in v past)) v.blocks v.commands)) (sym some)
         (leaves_record (record_in v (length past) (stood_in v (standing past)) s) (kept_in v past) at)
 
     by : (zero : Bool) → LogLeaves (log_of (with_record (processed_in v past) (kept_in v past))) (commands_left v past)

@@ -140,8 +140,8 @@ module _ (r : RingView) (jobs : List Job) (carry : Carry) (restarts : Restarts) 
           with_status (cancel, poll, earlier, of_part, reads, element, given) =
               let log_so : all_entries (views_of r jobs carry restarts k (u ∷ j)) ≡ cancel ∷ poll ∷ (earlier ++ rest) = of_entries ∙ ap (λ (l : List Entry). l ++ rest) of_part in
               let says = subst (EntriesSay (SaysOwn (drive_at r k))) log_so (entries_say (SaysOwn (drive_at r k)) (views_of r jobs carry restarts k (u ∷ j)) (views_say (u ∷ j) run clear never)) in
-              let status = status_3 (status_in poll.taken.commands 128 poll.taken.cycle) newest.bytes given newest.well in
-              let set = well_status poll.taken.commands.time poll.taken.cycle (find_set 128 (set_in poll.taken.commands)) (sym (status_set poll.taken.commands 128 poll.taken.cycle) ∙ status) in
+              let status = status_3 (status_in poll.processed.commands 128 poll.processed.cycle) newest.bytes given newest.well in
+              let set = well_status poll.processed.commands.time poll.processed.cycle (find_set 128 (set_in poll.processed.commands)) (sym (status_set poll.processed.commands 128 poll.processed.cycle) ∙ status) in
               says.0.1 set.0 set.1 set.2
 
   -- SO IT IS wherever phase 4 is commanded.

@@ -14,11 +14,11 @@ use Rattle.sercos_command.specs.Settings.{is_command, ends_well}
 use Rattle.sercos_command.specs.Calls.{Wrote, Other, CommandHistory, with_call}
 use Rattle.sercos_command.specs.Kept.{find_set, without, with_set, set_in}
 use Rattle.sercos_command.specs.declared.commands.SetCommand.{SetCommand}
-use Rattle.sercos_service_drive.specs.Log.{Taken}
+use Rattle.sercos_service_drive.specs.Log.{Processed}
 use Rattle.sercos_service_drive.specs.Writes.{Write, added_on, with_added, command_value, blocks_with, commands_with}
 use Rattle.sercos_drive.specs.declared.hearing.Told.{Told}
 use Rattle.sercos_drive.specs.Heard.{DriveCall, Mst, Mdt, Restart, mst_got, mdt_got}
-use Rattle.sercos_drive.specs.Moments.{Moment, phase_in, taken_in, writes_in, blocks_in, blocks_after, commands_in, write_in}
+use Rattle.sercos_drive.specs.Moments.{Moment, phase_in, records_in, writes_in, blocks_in, blocks_after, commands_in, write_in}
 use Rattle.sercos_drive.specs.Steps.{commands_after, reset_in}
 use Rattle.sercos_drive.specs.Annals.{annals, stands_in, processed_in, ends_in}
 use Rattle.sercos_law_run.specs.Start.Kept.{is_own_outside}
@@ -148,10 +148,10 @@ behind None writes are = are
 behind (Some w) writes are = are.0
 
 -- what a record that is processed leaves so
-abbrev IsAfter : DriveView → ℕ → List Moment → Option Taken → Type 0
-IsAfter d rate past o = AreBuiltIn (with_added (write_in o (taken_in past)) (writes_in past)) → IsOwn d (blocks_in d past)
+abbrev IsAfter : DriveView → ℕ → List Moment → Option Processed → Type 0
+IsAfter d rate past o = AreBuiltIn (with_added (write_in o (records_in past)) (writes_in past)) → IsOwn d (blocks_in d past)
     (commands_in d rate past)
-    → IsOwn d (blocks_after o (taken_in past) (blocks_in d past)) (commands_after o (taken_in past) (commands_in d rate past))
+    → IsOwn d (blocks_after o (records_in past) (blocks_in d past)) (commands_after o (records_in past) (commands_in d rate past))
 
 -- WHATEVER A DRIVE IS GIVEN
 pub own_so : (d : DriveView) (rate : ℕ) (h : List DriveCall) → AreBuiltIn (writes_in (annals d rate h)) → IsOwn d (blocks_in d (annals d rate h)) (commands_in d rate (annals d rate h))
@@ -161,8 +161,8 @@ own_so d rate (Mst cycle content ∷ h) are =
     record { same = own.same; says = says_reset d (stands_in d rate cycle (mst_got content) (annals d rate h)) (commands_in d rate (annals d rate h)) own.says }
 own_so d rate (Restart ∷ h) are = let own = own_so d rate h are in record { same = own.same; says = λ s found well. absurd (cc) }
 own_so d rate (Mdt content ∷ h) are =
-    let own = by are (own_so d rate h (behind (write_in (processed_in d rate told past) (taken_in past)) (writes_in past) are)) in
-    record { same = own.same; says = says_reset d (ends_in told past) (commands_after (processed_in d rate told past) (taken_in past) (commands_in d rate past)) own.says }
+    let own = by are (own_so d rate h (behind (write_in (processed_in d rate told past) (records_in past)) (writes_in past) are)) in
+    record { same = own.same; says = says_reset d (ends_in told past) (commands_after (processed_in d rate told past) (records_in past) (commands_in d rate past)) own.says }
   where
     past : List Moment
     past = annals d rate h
@@ -178,4 +178,4 @@ own_so d rate (Mdt content ∷ h) are =
 
     by : IsAfter d rate past (processed_in d rate told past)
     by = processed_keeps (IsAfter d rate past) d rate told past (λ are own. own)
-        (λ t. one_write (added_on (taken_at d rate past t) (taken_in past)))
+        (λ t. one_write (added_on (taken_at d rate past t) (records_in past)))

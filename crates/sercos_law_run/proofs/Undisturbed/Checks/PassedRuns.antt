@@ -10,7 +10,7 @@ use Rattle.sercos_block.specs.Views.{RingView}
 use Rattle.sercos_command.specs.Settings.{is_command}
 use Rattle.sercos_command.specs.Calls.{Reset, CommandHistory, with_call}
 use Rattle.sercos_command.specs.Kept.{first_passed_in}
-use Rattle.sercos_service_drive.specs.Log.{Taken}
+use Rattle.sercos_service_drive.specs.Log.{Processed}
 use Rattle.sercos_service_drive.specs.Writes.{commands_with}
 use Rattle.sercos_service_master.specs.Begun.{Begun}
 use Rattle.sercos_drive.specs.Annals.{annals, may_rise}
@@ -76,7 +76,7 @@ stays_below passed busy n c v past next follow some phase ended before = by stoo
         let earlier = before same_phase (sym is ∙ at) in
         let unchanged : commands_ended c (v ∷ past) ≡ v.commands =
         kept (standing (v ∷ past)).ended (commands_with (write_of (processed_in v past) (kept_in v past)) v.blocks v.commands) ended
-        ∙ ap (λ (o : Option Taken). commands_with (write_of o (kept_in v past)) v.blocks v.commands) (nothing missed (processes v past)) in
+        ∙ ap (λ (o : Option Processed). commands_with (write_of o (kept_in v past)) v.blocks v.commands) (nothing missed (processes v past)) in
         let follows : v.commands ≡ commands_ended c past = follow.1 ∙ kept (stood_in v (standing past)) (commands_before c v past) at ∙ cond-false v.drive_restarts (with_call Reset (commands_ended c past)) (commands_ended c past) still in
         let le = earlier.2 in
         (earlier.0, ap passed (unchanged ∙ follows) ∙ earlier.1, omega (arith, le))

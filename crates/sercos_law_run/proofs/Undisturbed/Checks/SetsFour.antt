@@ -15,7 +15,7 @@ use Rattle.sercos_block.specs.Views.{DriveView, RingView}
 use Rattle.sercos_block.specs.declared.block.Block.{Block}
 use Rattle.sercos_command.specs.Checks.{is_outside, unfit_for_phase_4}
 use Rattle.sercos_command.specs.Settings.{ends_well}
-use Rattle.sercos_service_drive.specs.Log.{Taken}
+use Rattle.sercos_service_drive.specs.Log.{Processed}
 use Rattle.sercos_service_drive.specs.Writes.{Write, added_on}
 use Rattle.sercos_drive.specs.Heard.{DriveCall}
 use Rattle.sercos_drive.specs.Moments.{blocks_in}
@@ -107,13 +107,13 @@ module _ (r : RingView) (jobs : List Job) (carry : Carry) (restarts : Restarts) 
         stands = all_stand r jobs carry restarts opened (t ∷ j) run clear k below
 
         by : Processes v past → put_fault (find_block w.raw v.blocks) (stood_in v (standing past)) w.bytes ≡ None
-        by (Nothing nothing) = let no : Some w ≡ None = sym is ∙ ap (λ (o : Option Taken). write_of o (kept_in v past)) nothing in absurd (cc)
+        by (Nothing nothing) = let no : Some w ≡ None = sym is ∙ ap (λ (o : Option Processed). write_of o (kept_in v past)) nothing in absurd (cc)
         by (Record s got came two some) = subst (λ (o : Option Write). IfSome o (λ w. put_fault (find_block w.raw v.blocks) (stood_in v (standing past)) w.bytes ≡ None)) adds_it
             (allowed (record_in v (length past) (stood_in v (standing past)) s) (kept_in v past)
             (those_moved (store_of (drive_at r k)) v.blocks (kept_in v past) stands.sound.1.0 (those_kept (store_of (drive_at r k)) v past (those_since (store_of (drive_at r k)) past stands.sound.0))))
           where
             adds_it : added_on (record_in v (length past) (stood_in v (standing past)) s) (kept_in v past) ≡ Some w
-            adds_it = sym (ap (λ (o : Option Taken). write_of o (kept_in v past)) some) ∙ is
+            adds_it = sym (ap (λ (o : Option Processed). write_of o (kept_in v past)) some) ∙ is
 
     -- And if it was one to S-0-0128, phase 3 was commanded.
     pub three_in : w.raw ≡ 128 → t.phase ≡ 3
@@ -132,7 +132,7 @@ module _ (r : RingView) (jobs : List Job) (carry : Carry) (restarts : Restarts) 
         rules = (ring_drive r k (drive_at r k) opened.valid (drive_got r k below)).blocks
 
         by : Processes v past → t.phase ≡ 3
-        by (Nothing nothing) = let no : Some w ≡ None = sym is ∙ ap (λ (o : Option Taken). write_of o (kept_in v past)) nothing in absurd (cc)
+        by (Nothing nothing) = let no : Some w ≡ None = sym is ∙ ap (λ (o : Option Processed). write_of o (kept_in v past)) nothing in absurd (cc)
         by (Record s got came two some) =
             sym (processed_phase v past came (omega (arith, two)))
             ∙ in_three (drive_at r k) (stood_in v (standing past)) (bare_4 (drive_at r k) (find_block 128 v.blocks) (stood_in v (standing past)) w.bytes

@@ -6,7 +6,7 @@ use mathlib.Core.Bool.{beq}
 use Rattle.sercos_block.specs.declared.block.Block.{Block}
 use Rattle.sercos_command.specs.Calls.{CommandHistory}
 use Rattle.sercos_command.specs.Kept.{find_set, set_in}
-use Rattle.sercos_service_drive.specs.Log.{Taken, Entry, ahs}
+use Rattle.sercos_service_drive.specs.Log.{Processed, Entry, ahs}
 use Rattle.sercos_service_drive.specs.Replies.{reply_of, log_of}
 use Rattle.sercos_law_channel.specs.Handshake.Views.{View, standing, stood_in, record_in, kept_in}
 use Rattle.sercos_law_channel.specs.Handshake.WholeRun.{accepted_of, all_entries}
@@ -18,11 +18,11 @@ IsSet c = is_some (find_set 128 (set_in c)) ≡ true
 -- at one of these steps the check was set
 abbrev pub WasSet : List Entry → Type 0
 WasSet [] = ⊥
-WasSet (e ∷ entries) = IsSet e.taken.commands ⊎ WasSet entries
+WasSet (e ∷ entries) = IsSet e.processed.commands ⊎ WasSet entries
 
 abbrev pub HaveSince : (List Block → Type 0) → List Entry → Type 0
 HaveSince such [] = Unit {0}
-HaveSince such (e ∷ entries) = HaveSince such entries × (WasSet (e ∷ entries) → such e.taken.blocks)
+HaveSince such (e ∷ entries) = HaveSince such entries × (WasSet (e ∷ entries) → such e.processed.blocks)
 
 -- In each cycle the blocks are so if the check is set, or if they were so in the cycle before.
 abbrev pub StaysFrom : (List Block → Type 0) → View → List View → Type 0
@@ -45,29 +45,29 @@ since_so such (v ∷ past) kept = by (processes v past) (since_so such past kept
     earlier [] stays last was = absurd was
     earlier (u ∷ older) stays last was = stays (last was)
 
-    now : (e : Entry) → e.taken.commands ≡ v.commands → (WasSet (all_entries past) → such v.blocks) → WasSet (e ∷ all_entries past) → such v.blocks
+    now : (e : Entry) → e.processed.commands ≡ v.commands → (WasSet (all_entries past) → such v.blocks) → WasSet (e ∷ all_entries past) → such v.blocks
     now e commands before (inl on) = kept.1 (subst IsSet commands on)
     now e commands before (inr was) = before was
 
-    one : (same : Bool) (e : Entry) → e.taken.blocks ≡ v.blocks → e.taken.commands ≡ v.commands → HaveSince such (all_entries past) → (WasSet (all_entries past) → such v.blocks)
+    one : (same : Bool) (e : Entry) → e.processed.blocks ≡ v.blocks → e.processed.commands ≡ v.commands → HaveSince such (all_entries past) → (WasSet (all_entries past) → such v.blocks)
         → HaveSince such (if same then all_entries past else e ∷ all_entries past) × (WasSet (if same then all_entries past else e ∷ all_entries past) → such v.blocks)
     one true e blocks commands have before = (have, before)
     one false e blocks commands have before = ((have, λ was. subst such (sym blocks) (now e commands before was)), λ was. now e commands before was)
 
     by : Processes v past → HaveSince such (all_entries past) × LastHas such past → HaveSince such (all_entries (v ∷ past)) × (WasSet (all_entries (v ∷ past)) → such v.blocks)
     by (Nothing none) before =
-        subst (λ (o : Option Taken). HaveSince such (accepted_of o (kept_in v past) (all_entries past)) × (WasSet (accepted_of o (kept_in v past) (all_entries past)) → such v.blocks)) (sym none)
+        subst (λ (o : Option Processed). HaveSince such (accepted_of o (kept_in v past) (all_entries past)) × (WasSet (accepted_of o (kept_in v past) (all_entries past)) → such v.blocks)) (sym none)
         (before.0, earlier past kept.2 before.1)
     by (Record s got came two some) before =
-        subst (λ (o : Option Taken). HaveSince such (accepted_of o (kept_in v past) (all_entries past)) × (WasSet (accepted_of o (kept_in v past) (all_entries past)) → such v.blocks)) (sym some)
-        (one (beq s.mhs (ahs (kept_in v past))) (record { taken = record_in v (length past) (stood_in v (standing past)) s; answer = reply_of (record_in v (length past) (stood_in v (standing past)) s) (log_of (kept_in v past)) }) refl refl before.0
+        subst (λ (o : Option Processed). HaveSince such (accepted_of o (kept_in v past) (all_entries past)) × (WasSet (accepted_of o (kept_in v past) (all_entries past)) → such v.blocks)) (sym some)
+        (one (beq s.mhs (ahs (kept_in v past))) (record { processed = record_in v (length past) (stood_in v (standing past)) s; answer = reply_of (record_in v (length past) (stood_in v (standing past)) s) (log_of (kept_in v past)) }) refl refl before.0
         (earlier past kept.2 before.1))
 
 pub have_since : (such : List Block → Type 0) (past : List View) → AreKept such past → HaveSince such (all_entries past)
 have_since such past kept = (since_so such past kept).0
 
 -- AT A STEP, if the check was set at one before it
-pub since_at : (such : List Block → Type 0) (front : List Entry) (e : Entry) (rest : List Entry) → HaveSince such (front ++ e ∷ rest) → WasSet rest → such e.taken.blocks
+pub since_at : (such : List Block → Type 0) (front : List Entry) (e : Entry) (rest : List Entry) → HaveSince such (front ++ e ∷ rest) → WasSet rest → such e.processed.blocks
 since_at such [] e rest have was = have.1 (inr was)
 since_at such (x ∷ front) e rest have was = since_at such front e rest have.0 was
 

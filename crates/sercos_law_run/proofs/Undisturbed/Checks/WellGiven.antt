@@ -28,7 +28,7 @@ use Rattle.sercos_script.specs.Links.{Carry, Restarts}
 use Rattle.sercos_law_run.specs.Start.StartUp.{IsStoreOf}
 use Rattle.sercos_law_run.proofs.Start.CheckPasses.{ring_drive}
 use Rattle.sercos_law_channel.specs.Handshake.CommandTransfers.{GivesStatus}
-use Rattle.sercos_law_channel.specs.Handshake.Epochs.{begun_in, command, epoch_begun, epoch_taken, epoch_log}
+use Rattle.sercos_law_channel.specs.Handshake.Epochs.{begun_in, command, epoch_begun, epoch_records, epoch_log}
 use Rattle.sercos_law_channel.specs.Handshake.InStep.{replies_of}
 use Rattle.sercos_law_channel.specs.Handshake.Parts.{IsRow, IsPart, Unsent, Heard, Unheard, AreParts}
 use Rattle.sercos_law_channel.specs.Handshake.Runs.{IsRun as IsViewRun}
@@ -100,18 +100,18 @@ well_status time cycle (Some s) on well = by (has_ended time cycle s) (well s re
 module _ (busy : ℕ) (blocks : List Block) where
   -- the last poll finds it set
   gives_3 : (e : Entry) (entries log : List Entry) (bytes : List ℕ) → IsTransfer (request.Command (idn 128)) blocks e entries log → outcome_of (request.Command (idn 128)) (replies_of (e ∷ entries)) ≡ Some (outcome.Complete bytes)
-      → ((poll : Entry) (before : List Entry) → entries ≡ poll ∷ before → Say IsWell poll.taken.commands)
-      → ((poll : Entry) (before : List Entry) → entries ≡ poll ∷ before → newest_to 128 (writes_of (before ++ log)) ≡ Some (3 ∷ 0 ∷ []) → is_some (find_set 128 (set_in poll.taken.commands)) ≡ true) → bytes ≡ 3 ∷ 0 ∷ []
+      → ((poll : Entry) (before : List Entry) → entries ≡ poll ∷ before → Say IsWell poll.processed.commands)
+      → ((poll : Entry) (before : List Entry) → entries ≡ poll ∷ before → newest_to 128 (writes_of (before ++ log)) ≡ Some (3 ∷ 0 ∷ []) → is_some (find_set 128 (set_in poll.processed.commands)) ≡ true) → bytes ≡ 3 ∷ 0 ∷ []
   gives_3 e entries log bytes is complete well set = by (ends_with_status (idn 128) bytes blocks e entries log is complete) (set_at_poll (idn 128) blocks e entries log bytes is complete)
     where
       by : GivesStatus 128 bytes (e ∷ entries) → IsSetAtPoll 128 e entries log → bytes ≡ 3 ∷ 0 ∷ []
       by (cancel, poll, before, split, reads, element, gives) behind =
           let here : entries ≡ poll ∷ before = (first_is e cancel entries (poll ∷ before) split).1 in
           let both : behind.poll ∷ behind.before ≡ poll ∷ before = sym behind.behind ∙ here in
-          let on = subst (λ (x : Entry). is_some (find_set 128 (set_in x.taken.commands)) ≡ true) (first_is behind.poll poll behind.before before both).0 (set behind.poll behind.before behind.behind behind.newest) in
+          let on = subst (λ (x : Entry). is_some (find_set 128 (set_in x.processed.commands)) ≡ true) (first_is behind.poll poll behind.before before both).0 (set behind.poll behind.before behind.behind behind.newest) in
           let status = complete_status (idn 128) e.answer (replies_of entries) bytes (is.in_turn, is.goes_on) complete in
-          let same = status_set poll.taken.commands 128 poll.taken.cycle in
-          elim (well_status poll.taken.commands.time poll.taken.cycle (find_set 128 (set_in poll.taken.commands)) on (well poll before here)) [
+          let same = status_set poll.processed.commands 128 poll.processed.cycle in
+          elim (well_status poll.processed.commands.time poll.processed.cycle (find_set 128 (set_in poll.processed.commands)) on (well poll before here)) [
             | inl three ↦ gives ∙ ap (λ (n : ℕ). n ∷ 0 ∷ []) (same ∙ three)
             | inr seven ↦ absurd (status.2 (seven_of status.0 (sym status.1 ∙ gives ∙ ap (λ (n : ℕ). n ∷ 0 ∷ []) (same ∙ seven))))
           ]
@@ -121,7 +121,7 @@ module _ (busy : ℕ) (blocks : List Block) where
       → (newer older : List Begun) (b : Begun) (bytes : List ℕ) → epoch_begun past ≡ newer ++ b ∷ older → b.request ≡ request.Command (idn 128) → outcome_of b.request b.answers ≡ Some (outcome.Complete bytes) → bytes ≡ 3 ∷ 0 ∷ []
   checks_give_3 past run sound follow say have newer older b bytes split asks complete = of_part at.is
     where
-      is_epoch : IsEpoch blocks (command past) (epoch_begun past) (epoch_taken past)
+      is_epoch : IsEpoch blocks (command past) (epoch_begun past) (epoch_records past)
       is_epoch = epoch blocks busy past run sound
 
       at : IsPartAt (epoch_log past) b
@@ -129,7 +129,7 @@ module _ (busy : ℕ) (blocks : List Block) where
 
       whole : (e : Entry) (entries : List Entry) → at.part ≡ e ∷ entries → IsRow b e entries → b.answers ≡ replies_of (e ∷ entries) → bytes ≡ 3 ∷ 0 ∷ []
       whole e entries part row answers =
-          let transfer = transfer_at blocks (epoch_log past) b at e entries (answered_replies (accepted (epoch_taken past))) is_epoch.alike part row in
+          let transfer = transfer_at blocks (epoch_log past) b at e entries (answered_replies (accepted (epoch_records past))) is_epoch.alike part row in
           gives_3 e entries at.rest bytes (subst (λ (r : Request). IsTransfer r blocks e entries at.rest) asks transfer)
           (sym (ap₂ (λ (r : Request) (h : List _). outcome_of r h) asks answers) ∙ complete)
           (λ poll before behind. entry_says (Say IsWell) (at.front ++ e ∷ []) poll ((before ++ at.rest) ++ entries_ago past) (subst (EntriesSay (Say IsWell)) (in_all part poll before behind) say))

@@ -11,7 +11,7 @@ use Rattle.sercos_idn.specs.declared.idn.Idn.{Idn}
 use Rattle.sercos_step.specs.declared.step.Answer.{Answer}
 use Rattle.sercos_step.specs.declared.step.Step.{Step}
 use Rattle.sercos_block.specs.Views.{RingView}
-use Rattle.sercos_service_drive.specs.Log.{Taken, Entry, ahs, accepted}
+use Rattle.sercos_service_drive.specs.Log.{Processed, Entry, ahs, accepted}
 use Rattle.sercos_service_drive.specs.Replies.{answered, log_of}
 use Rattle.sercos_service_master.specs.Begun.{Begun, steps_begun, steps_in, step_at, with_step, answers_it, answer_in, with_answer}
 use Rattle.sercos_trace.specs.Views.{CycleView}
@@ -20,7 +20,7 @@ use Rattle.sercos_seat.specs.Agenda.{reads_count}
 use Rattle.sercos_seat.specs.Ring.{known_of, member}
 use Rattle.sercos_master.specs.Annals.{fall_of}
 use Rattle.sercos_script.specs.Links.{Carry, Restarts}
-use Rattle.sercos_law_channel.specs.Handshake.Epochs.{epoch_begun, begun_in, epoch_taken, taken_in_views, epoch_log, log_in, unless_restart, with_heard, with_begun}
+use Rattle.sercos_law_channel.specs.Handshake.Epochs.{epoch_begun, begun_in, epoch_records, records_in_views, epoch_log, log_in, unless_restart, with_heard, with_begun}
 use Rattle.sercos_law_channel.specs.Handshake.InStep.{AreInStep, Idle, Sent, Kept}
 use Rattle.sercos_law_channel.specs.Handshake.Views.{Heard, View, with_record, processed_in}
 use Rattle.sercos_law_run.specs.Journal.Runs.{IsRun, IsClear}
@@ -89,12 +89,12 @@ older_fewer one older log rest e (Idle none steps answers) ended some is =
     let all = length-steps_of log in
     let long = ap (λ (l : List Entry). length l) is in omega (arith, same, parts, all, long, some)
 older_fewer one older log rest e (Sent s open_is steps answers) ended some is = absurd (none-some s (sym ended ∙ open_is))
-older_fewer one older log rest e (Kept x before open_is split steps answers) ended some is = absurd (none-some x.taken.step (sym ended ∙ open_is))
+older_fewer one older log rest e (Kept x before open_is split steps answers) ended some is = absurd (none-some x.processed.step (sym ended ∙ open_is))
 
 -- The newest accepted step is one of the newest request, if the log is longer than the steps of the others. Then it was accepted in this
 -- phase or a later one, if n requests or more came before it.
 abbrev pub IsLate : ℕ → ℕ → List Begun → List Entry → Type 0
-IsLate n phase begun log = (one : Begun) (older : List Begun) (e : Entry) (rest : List Entry) → begun ≡ one ∷ older → n ≤ length older → log ≡ e ∷ rest → length (steps_in older) ≤ length rest → phase ≤ e.taken.phase
+IsLate n phase begun log = (one : Begun) (older : List Begun) (e : Entry) (rest : List Entry) → begun ≡ one ∷ older → n ≤ length older → log ≡ e ∷ rest → length (steps_in older) ≤ length rest → phase ≤ e.processed.phase
 
 cycle_late : (n phase : ℕ) (v : View) (past : List View) → AreInStep (epoch_begun past) (epoch_log past) → (n < length (begun_in v past)
     → phase ≤ v.phase) → IsLate n phase (epoch_begun past) (epoch_log past) → IsLate n phase (begun_in v past) (log_in v past)
@@ -104,11 +104,11 @@ cycle_late n phase v past in_step is_late late one older e rest begun many log s
     high = is_late (let long = ap (λ (l : List Begun). length l) begun in omega (arith, long, many))
 
     -- nothing was accepted in this cycle
-    kept : (restarts : Bool) → log_of (if restarts then [] else epoch_taken past) ≡ e ∷ rest → with_begun v.begins (with_heard v.heard (if restarts then [] else epoch_begun past)) ≡ one ∷ older → phase ≤ e.taken.phase
+    kept : (restarts : Bool) → log_of (if restarts then [] else epoch_records past) ≡ e ∷ rest → with_begun v.begins (with_heard v.heard (if restarts then [] else epoch_begun past)) ≡ one ∷ older → phase ≤ e.processed.phase
     kept true same split = absurd (nothing_there e rest same)
     kept false same split = which v.begins split
       where
-        which : (o : Option Request) → with_begun o (with_heard v.heard (epoch_begun past)) ≡ one ∷ older → phase ≤ e.taken.phase
+        which : (o : Option Request) → with_begun o (with_heard v.heard (epoch_begun past)) ≡ one ∷ older → phase ≤ e.processed.phase
         which None is = let head = heard_head v.heard (epoch_begun past) one older is in late head.first older e rest head.split many same steps
         which (Some r) is =
             let behind = ap (λ (l : List Begun). length (steps_in l)) (first_is _ one (with_heard v.heard (epoch_begun past)) older is).1 in
@@ -116,19 +116,19 @@ cycle_late n phase v past in_step is_late late one older e rest begun many log s
             let more = heard_steps v.heard (epoch_begun past) in
             let long = ap (λ (l : List Entry). length l) same in absurd (omega (arith, behind, few, more, long, steps))
 
-    dropped : log_of (unless_restart v (epoch_taken past)) ≡ e ∷ rest → phase ≤ e.taken.phase
+    dropped : log_of (unless_restart v (epoch_records past)) ≡ e ∷ rest → phase ≤ e.processed.phase
     dropped same = kept v.master_restarts same begun
 
-    by : (o : Option Taken) → processed_in v past ≡ o → log_of (with_record o (unless_restart v (epoch_taken past))) ≡ e ∷ rest → phase ≤ e.taken.phase
+    by : (o : Option Processed) → processed_in v past ≡ o → log_of (with_record o (unless_restart v (epoch_records past))) ≡ e ∷ rest → phase ≤ e.processed.phase
     by None none same = dropped same
-    by (Some t) some same = which (beq t.mhs (ahs (unless_restart v (epoch_taken past)))) same
+    by (Some t) some same = which (beq t.mhs (ahs (unless_restart v (epoch_records past)))) same
       where
-        which : (again : Bool) → answered (if again then accepted (unless_restart v (epoch_taken past)) else t ∷ accepted (unless_restart v (epoch_taken past))) ≡ e ∷ rest → phase ≤ e.taken.phase
+        which : (again : Bool) → answered (if again then accepted (unless_restart v (epoch_records past)) else t ∷ accepted (unless_restart v (epoch_records past))) ≡ e ∷ rest → phase ≤ e.processed.phase
         which true is = dropped is
         which false is =
-            let this : t ≡ e.taken = ap (λ (x : Entry). x.taken) (first_is _ e (answered (accepted (unless_restart v (epoch_taken past)))) rest is).0 in
+            let this : t ≡ e.processed = ap (λ (x : Entry). x.processed) (first_is _ e (answered (accepted (unless_restart v (epoch_records past)))) rest is).0 in
             let now = (processes_in_phase v past t some).0 in
-            subst (λ (x : Taken). phase ≤ x.phase) this (let is_high = high in omega (arith, is_high, now))
+            subst (λ (x : Processed). phase ≤ x.phase) this (let is_high = high in omega (arith, is_high, now))
 
 module _ (r : RingView) (jobs : List Job) (carry : Carry) (restarts : Restarts) (opened : IsOpened r jobs) (k : ℕ)
     (below : k < length r.drives) where
@@ -163,8 +163,8 @@ module _ (r : RingView) (jobs : List Job) (carry : Carry) (restarts : Restarts) 
       past = views_of r jobs carry restarts k j
 
       by : (o : Option Fall) → fall_of (known_of r) (behind_mdt r jobs carry restarts t.sent j) ≡ o → ChecksLate (epoch_begun past) (epoch_log past) → ChecksLate (epoch_begun (v ∷ past)) (epoch_log (v ∷ past))
-      by None stays before = subst (λ (fell : Bool). ChecksLate (if fell then [] else begun_in v past) (log_of (if fell then [] else taken_in_views v past))) (sym (ap (λ (o : Option Fall). is_some o) stays)) (late_in_cycle t j run clear before)
-      by (Some f) falls before = subst (λ (fell : Bool). ChecksLate (if fell then [] else begun_in v past) (log_of (if fell then [] else taken_in_views v past))) (sym (ap (λ (o : Option Fall). is_some o) falls)) (λ one older e rest begun many log steps. absurd (nothing_there one older begun))
+      by None stays before = subst (λ (fell : Bool). ChecksLate (if fell then [] else begun_in v past) (log_of (if fell then [] else records_in_views v past))) (sym (ap (λ (o : Option Fall). is_some o) stays)) (late_in_cycle t j run clear before)
+      by (Some f) falls before = subst (λ (fell : Bool). ChecksLate (if fell then [] else begun_in v past) (log_of (if fell then [] else records_in_views v past))) (sym (ap (λ (o : Option Fall). is_some o) falls)) (λ one older e rest begun many log steps. absurd (nothing_there one older begun))
 
   pub late_now : (t : CycleView) (j : List CycleView) → IsRun r jobs carry restarts (t ∷ j) → IsClear (t ∷ j)
       → ChecksLate (begun_in (view_of r jobs carry restarts k t j) (views_of r jobs carry restarts k j)) (log_in (view_of r jobs carry restarts k t j) (views_of r jobs carry restarts k j))

@@ -200,7 +200,7 @@ module _ (r : RingView) (jobs : List Job) (carry : Carry) (restarts : Restarts) 
             (command_well (idn 128) (check_4 (drive_at r k)) (store_of (drive_at r k)) (found_4 (drive_at r k) rules) (check_is_command (drive_at r k)) ref.e ref.entries ref.log
             (subst (λ (x : Request). IsTransfer x (store_of (drive_at r k)) ref.e ref.entries ref.log) asks ref.transfer)
             (subst (λ (n : ℕ). Allows (check_4 (drive_at r k)) n) (sym in_three) (allows_4 (drive_at r k)))
-            (ap (λ (n : ℕ). write_cause_in (find_block 128 ref.e.taken.blocks) n true (3 ∷ [])) in_three ∙ check_free_4 (drive_at r k) rules ref.e ref.stored))
+            (ap (λ (n : ℕ). write_cause_in (find_block 128 ref.e.processed.blocks) n true (3 ∷ [])) in_three ∙ check_free_4 (drive_at r k) rules ref.e ref.stored))
           where
             asks : one.request ≡ request.Command (idn 128)
             asks = some_is one.request (request.Command (idn 128)) (sym placed.1 ∙ later (known_of r) k made.0 (length older) 12 at)
@@ -218,7 +218,7 @@ module _ (r : RingView) (jobs : List Job) (carry : Carry) (restarts : Restarts) 
             fewer : length (steps_in older) ≤ length (ref.entries ++ ref.log)
             fewer = older_fewer one older (log_in (view_of r jobs carry restarts k t j) (views_of r jobs carry restarts k j)) (ref.entries ++ ref.log) ref.e step no_step begins refused.1
 
-            in_three : ref.e.taken.phase ≡ 3
+            in_three : ref.e.processed.phase ≡ 3
             in_three =
                 let late = late_now r jobs carry restarts opened k below t j run clear one older ref.e (ref.entries ++ ref.log) split (omega (arith, at)) refused.1 fewer in
                 let most = ref.between.0 in omega (arith, late, most, three)

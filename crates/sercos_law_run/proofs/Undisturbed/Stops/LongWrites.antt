@@ -21,7 +21,7 @@ use Rattle.sercos_block.specs.Blocks.{is_fixed, is_protected}
 use Rattle.sercos_block.specs.Stores.{IsStore, find_block}
 use Rattle.sercos_block.specs.declared.block.Block.{Block}
 use Rattle.sercos_block.proofs.SoundLemmas.{max_len_bound}
-use Rattle.sercos_service_drive.specs.Log.{Taken, Entry, open_idn, run_before, in_order}
+use Rattle.sercos_service_drive.specs.Log.{Processed, Entry, open_idn, run_before, in_order}
 use Rattle.sercos_service_drive.specs.Replies.{answer_by, is_first_word, ends_early, is_over, write_cause, write_cause_in, reply_at, reply_of}
 use Rattle.sercos_service_drive.specs.Writes.{without_data}
 use Rattle.sercos_law_channel.specs.Handshake.InStep.{replies_of}
@@ -108,15 +108,15 @@ module _ (idn : Idn) (bytes : List ℕ) (long : 1024 < length bytes) (b : Block)
 
   -- a block like this one, to which these words and more can't be written
   abbrev IsNever : ℕ → Type 0
-  IsNever m = (c : Block) (taken : List Taken) (word : ℕ) (rest : List ℕ) → c.attribute ≡ b.attribute → c.max_len ≡ b.max_len → length taken ≡ m → in_order taken (word ∷ rest) ≡ told b bytes →
+  IsNever m = (c : Block) (taken : List Processed) (word : ℕ) (rest : List ℕ) → c.attribute ≡ b.attribute → c.max_len ≡ b.max_len → length taken ≡ m → in_order taken (word ∷ rest) ≡ told b bytes →
       is_over c false (in_order taken (word ∷ [])) ≡ false → ⊥
 
-  never_word : (m : ℕ) → m ≤ 1 → IsNever m → (d : Entry) (past log : List Entry) → IsTransfer asked blocks d past log → d.answer.error ≡ false → (w : ℕ) (more : List ℕ) (taken : List Taken) (word : ℕ) (rest : List ℕ)
+  never_word : (m : ℕ) → m ≤ 1 → IsNever m → (d : Entry) (past log : List Entry) → IsTransfer asked blocks d past log → d.answer.error ≡ false → (w : ℕ) (more : List ℕ) (taken : List Processed) (word : ℕ) (rest : List ℕ)
       → answer_words (replies_of past) ≡ w ∷ low_of b ∷ high_of b ∷ more → length more ≡ length taken → open_idn (past ++ log) ≡ Some idn.raw → run_before true 7 (past ++ log) ≡ taken → in_order taken (word ∷ rest) ≡ told b bytes → length taken ≡ m → ⊥
   never_word m low never d past log is good w more taken word rest those count opened before ordered at =
-      never there.block taken word rest there.attribute there.max_len at ordered (not_over there.block d.taken.phase false (in_order taken (word ∷ [])) free)
+      never there.block taken word rest there.attribute there.max_len at ordered (not_over there.block d.processed.phase false (in_order taken (word ∷ [])) free)
     where
-      next : slice_get (steps_of asked (answer_words (replies_of past))) (length (answer_words (replies_of past))) ≡ Some d.taken.step
+      next : slice_get (steps_of asked (answer_words (replies_of past))) (length (answer_words (replies_of past))) ≡ Some d.processed.step
       next = newest_step asked blocks log d past is
 
       goes : is_nil rest ≡ false
@@ -125,15 +125,15 @@ module _ (idn : Idn) (bytes : List ℕ) (long : 1024 < length bytes) (b : Block)
           let many = many_told b.attribute.length bytes long in
           not_nil rest (omega (arith, known, many, at, low))
 
-      there : IsThere (find_block idn.raw d.taken.blocks) b
-      there = is_there (find_block idn.raw d.taken.blocks) b (find-alike idn.raw d.taken.blocks blocks b is.alike.1 found)
+      there : IsThere (find_block idn.raw d.processed.blocks) b
+      there = is_there (find_block idn.raw d.processed.blocks) b (find-alike idn.raw d.processed.blocks blocks b is.alike.1 found)
 
-      none : write_cause_in (find_block idn.raw d.taken.blocks) d.taken.phase (is_nil rest) (in_order taken (word ∷ [])) ≡ None
-      none = no_cause _ 0 d.answer (is.replies.1 ∙ reply_word idn.raw word (is_nil rest) d.taken (past ++ log) taken
-          (write.next_word idn bytes b said (answer_words (replies_of past)) d.taken.step w more taken word rest those count ordered next) opened before) good
+      none : write_cause_in (find_block idn.raw d.processed.blocks) d.processed.phase (is_nil rest) (in_order taken (word ∷ [])) ≡ None
+      none = no_cause _ 0 d.answer (is.replies.1 ∙ reply_word idn.raw word (is_nil rest) d.processed (past ++ log) taken
+          (write.next_word idn bytes b said (answer_words (replies_of past)) d.processed.step w more taken word rest those count ordered next) opened before) good
 
-      free : write_cause there.block d.taken.phase false (in_order taken (word ∷ [])) ≡ None
-      free = ap₂ (λ (o : Option Block) (last : Bool). write_cause_in o d.taken.phase last (in_order taken (word ∷ []))) (sym there.is) (sym goes) ∙ none
+      free : write_cause there.block d.processed.phase false (in_order taken (word ∷ [])) ≡ None
+      free = ap₂ (λ (o : Option Block) (last : Bool). write_cause_in o d.processed.phase last (in_order taken (word ∷ []))) (sym there.is) (sym goes) ∙ none
 
   few : (m : ℕ) → m ≤ 1 → IsNever m → (e : Entry) (entries log : List Entry) → IsTransfer asked blocks e entries log → length entries ≤ 3 + m
   few m low never e [] log is = omega arith
@@ -184,11 +184,11 @@ first_run e [] s got = absurd (cc)
 first_run e (w ∷ []) s got = let same = some_is _ s got in (ap (λ (x : Step). x.write) (sym same), ap (λ (x : Step). x.element) (sym same))
 first_run e (w ∷ v ∷ words) s got = let same = some_is _ s got in (ap (λ (x : Step). x.write) (sym same), ap (λ (x : Step). x.element) (sym same))
 
-other_refused : (t : Taken) (all : List Entry) → t.step.write ≡ true → (t.step.element == 1) ≡ false → (t.step.element == 0) ≡ false → (t.step.element == 7) ≡ false → (reply_of t all).error ≡ true
+other_refused : (t : Processed) (all : List Entry) → t.step.write ≡ true → (t.step.element == 1) ≡ false → (t.step.element == 0) ≡ false → (t.step.element == 7) ≡ false → (reply_of t all).error ≡ true
 other_refused t all writes not_one not_zero not_seven =
     ap (λ (a : Answer). a.error) (cond-false (t.step.write && (t.step.element == 1)) _ _ (ap₂ (λ (x y : Bool). x && y) writes not_one) ∙ cond-false (t.step.element == 0) _ _ not_zero) ∙ by (open_idn all) (run_before t.step.write t.step.element all)
   where
-    by : (o : Option ℕ) (ran : List Taken) → (reply_at o t ran).error ≡ true
+    by : (o : Option ℕ) (ran : List Processed) → (reply_at o t ran).error ≡ true
     by None ran = refl
     by (Some raw) ran = ap (λ (a : Answer). a.error) (cond-true t.step.write _ _ writes ∙ ap (λ (o : Option ℕ). answer_by o 0) (cond-false (t.step.element == 7) _ _ not_seven))
 
@@ -206,13 +206,13 @@ other_few idn e bytes blocks low off x (d ∷ o ∷ past) log is = absurd (by (o
     by : length (o ∷ past) ≤ 1 → ⊥
     by few =
         let same = long_words (o ∷ past) in
-        let first = first_run e (words_told (shape_of e 0) bytes) d.taken.step
-        (second_of _ (e == 7) _ (writing (shape_of e 0) e bytes) (length (answer_words (replies_of (o ∷ past)))) d.taken.step (omega (arith, same, few)) off (newest_step (request.Write idn e bytes) blocks log d (o ∷ past) was)) in
+        let first = first_run e (words_told (shape_of e 0) bytes) d.processed.step
+        (second_of _ (e == 7) _ (writing (shape_of e 0) e bytes) (length (answer_words (replies_of (o ∷ past)))) d.processed.step (omega (arith, same, few)) off (newest_step (request.Write idn e bytes) blocks log d (o ∷ past) was)) in
         let named = first.1 in
-        let not_one : (d.taken.step.element == 1) ≡ false = grind (arith, nat_tests, named, low) in
-        let not_zero : (d.taken.step.element == 0) ≡ false = grind (arith, nat_tests, named, low) in
-        let not_seven : (d.taken.step.element == 7) ≡ false = ap (λ (n : ℕ). n == 7) named ∙ off in
-        never_both d.answer.error (ap (λ (a : Answer). a.error) was.replies.1 ∙ other_refused d.taken ((o ∷ past) ++ log) first.0 not_one not_zero not_seven) good
+        let not_one : (d.processed.step.element == 1) ≡ false = grind (arith, nat_tests, named, low) in
+        let not_zero : (d.processed.step.element == 0) ≡ false = grind (arith, nat_tests, named, low) in
+        let not_seven : (d.processed.step.element == 7) ≡ false = ap (λ (n : ℕ). n == 7) named ∙ off in
+        never_both d.answer.error (ap (λ (a : Answer). a.error) was.replies.1 ∙ other_refused d.processed ((o ∷ past) ++ log) first.0 not_one not_zero not_seven) good
 
 -- SO A LONG WRITE has few steps.
 pub ends_soon : (blocks : List Block) → AreSmall blocks → IsStore blocks → (idn : Idn) (e : ℕ) (bytes : List ℕ) → 2 ≤ e

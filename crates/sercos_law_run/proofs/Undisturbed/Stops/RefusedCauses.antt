@@ -14,7 +14,7 @@ use Rattle.sercos_block.specs.Stores.{find_block, store_of}
 use Rattle.sercos_block.specs.Views.{DriveView}
 use Rattle.sercos_block.specs.declared.block.Block.{Block}
 use Rattle.sercos_block.specs.declared.built_in.Opening.TheVariants.{Empty, Zero}
-use Rattle.sercos_service_drive.specs.Log.{Taken, Entry, in_order}
+use Rattle.sercos_service_drive.specs.Log.{Processed, Entry, in_order}
 use Rattle.sercos_service_drive.specs.Replies.{bytes_written, write_cause, write_cause_in}
 use Rattle.sercos_service_drive.proofs.WordLemmas.{length-bytes_in}
 use Rattle.sercos_seat.specs.Agenda.{idn}
@@ -29,12 +29,12 @@ use Rattle.sercos_law_run.proofs.Undisturbed.Stops.RefusedSteps.{IsCaused}
 use Rattle.sercos_law_run.proofs.Undisturbed.Arriving.Small.{none_some, some_is}
 
 -- WORDS
-order_append : (taken : List Taken) (xs ys : List ℕ) → in_order taken (xs ++ ys) ≡ in_order taken xs ++ ys
+order_append : (taken : List Processed) (xs ys : List ℕ) → in_order taken (xs ++ ys) ≡ in_order taken xs ++ ys
 order_append [] xs ys = refl
 order_append (t ∷ taken) xs ys = order_append taken (t.step.word ∷ xs) ys
 
 -- the one word of a number
-one_word : (before : List Taken) (word v : ℕ) (rest : List ℕ) → in_order before (word ∷ rest) ≡ v ∷ [] → (rest ≡ []) × (in_order before (word ∷ []) ≡ v ∷ [])
+one_word : (before : List Processed) (word v : ℕ) (rest : List ℕ) → in_order before (word ∷ rest) ≡ v ∷ [] → (rest ≡ []) × (in_order before (word ∷ []) ≡ v ∷ [])
 one_word before word v [] same = (refl, same)
 one_word before word v (x ∷ rest) same =
     let long = length-in_order before (word ∷ x ∷ rest) in
@@ -60,24 +60,24 @@ words_back (w ∷ words) = ap (λ (n : ℕ). suc n) (words_back words)
 abbrev word_of : ℕ → ℕ
 word_of value = value % 256 + 256 * (value / 256)
 
-module _ (d : DriveView) (rules : blocks_fault [] d.blocks ≡ None) (e : Entry) (stored : IsStoreOf d e.taken.blocks) where
-  number_cause : (raw value : ℕ) (b : Block) → e.taken.phase ≡ 2 → b.attribute.length ≡ len.Two → IsCaused (idn raw) (bytes_in (value ∷ [])) b e → write_cause_in (find_block raw e.taken.blocks) 2 true (word_of value ∷ []) ≡ Some e.answer.word
+module _ (d : DriveView) (rules : blocks_fault [] d.blocks ≡ None) (e : Entry) (stored : IsStoreOf d e.processed.blocks) where
+  number_cause : (raw value : ℕ) (b : Block) → e.processed.phase ≡ 2 → b.attribute.length ≡ len.Two → IsCaused (idn raw) (bytes_in (value ∷ [])) b e → write_cause_in (find_block raw e.processed.blocks) 2 true (word_of value ∷ []) ≡ Some e.answer.word
   number_cause raw value b two one c =
       let told_is : told b (bytes_in (value ∷ [])) ≡ word_of value ∷ [] = ap (λ (l : Length). words_told (shape_by l) (bytes_in (value ∷ []))) one in
       let w = one_word c.before c.word (word_of value) c.rest (c.words ∙ told_is) in
-      ap (λ (p : ℕ). write_cause_in (find_block raw e.taken.blocks) p true (word_of value ∷ [])) (sym two)
-      ∙ ap₂ (λ (l : Bool) (ws : List ℕ). write_cause_in (find_block raw e.taken.blocks) e.taken.phase l ws) (sym (ap is_nil w.0)) (sym w.1) ∙ c.cause
+      ap (λ (p : ℕ). write_cause_in (find_block raw e.processed.blocks) p true (word_of value ∷ [])) (sym two)
+      ∙ ap₂ (λ (l : Bool) (ws : List ℕ). write_cause_in (find_block raw e.processed.blocks) e.processed.phase l ws) (sym (ap is_nil w.0)) (sym w.1) ∙ c.cause
 
-  pub number_free : (raw value : ℕ) (b : Block) → e.taken.phase ≡ 2 → b.attribute.length ≡ len.Two → is_start_number raw ≡ true → IsCaused (idn raw) (bytes_in (value ∷ [])) b e → ⊥
+  pub number_free : (raw value : ℕ) (b : Block) → e.processed.phase ≡ 2 → b.attribute.length ≡ len.Two → is_start_number raw ≡ true → IsCaused (idn raw) (bytes_in (value ∷ [])) b e → ⊥
   number_free raw value b two one start c =
-      none_some e.answer.word (sym (number_has_no_cause d e.taken.blocks raw (word_of value) rules stored start) ∙ number_cause raw value b two one c)
+      none_some e.answer.word (sym (number_has_no_cause d e.processed.blocks raw (word_of value) rules stored start) ∙ number_cause raw value b two one c)
 
   -- THE CYCLE TIME
-  pub cycle_refused : (cycle : ℕ) (b : Block) → cycle < 65536 → e.taken.phase ≡ 2 → b.attribute.length ≡ len.Two → IsCaused (idn 2) (bytes_in (cycle ∷ [])) b e
+  pub cycle_refused : (cycle : ℕ) (b : Block) → cycle < 65536 → e.processed.phase ≡ 2 → b.attribute.length ≡ len.Two → IsCaused (idn 2) (bytes_in (cycle ∷ [])) b e
       → ((cycle < d.cycle_min) × (e.answer.word ≡ 0x7006)) ⊎ ((d.cycle_max < cycle) × (e.answer.word ≡ 0x7007))
   cycle_refused cycle b small two one c =
       by (nat_lt cycle d.cycle_min) (nat_lt d.cycle_max cycle) refl refl
-      (sym (cycle_cause d e.taken.blocks cycle rules stored small) ∙ ap (λ (w : ℕ). write_cause_in (find_block 2 e.taken.blocks) 2 true (w ∷ [])) back ∙ number_cause 2 cycle b two one c)
+      (sym (cycle_cause d e.processed.blocks cycle rules stored small) ∙ ap (λ (w : ℕ). write_cause_in (find_block 2 e.processed.blocks) 2 true (w ∷ [])) back ∙ number_cause 2 cycle b two one c)
     where
       back : cycle ≡ word_of cycle
       back = omega arith
@@ -89,9 +89,9 @@ module _ (d : DriveView) (rules : blocks_fault [] d.blocks ≡ None) (e : Entry)
       by false false is other same = absurd (none_some e.answer.word same)
 
   -- A LIST
-  pub list_free : (raw : ℕ) (idns : List Idn) (b : Block) → e.taken.phase ≡ 2 → is_list b.attribute.length ≡ true → ((raw == 16) ≡ true) ⊎ ((raw == 24) ≡ true) → length idns ≤ 16 → IsCaused (idn raw) (bytes_in (map (λ i. i.raw) idns)) b e → ⊥
+  pub list_free : (raw : ℕ) (idns : List Idn) (b : Block) → e.processed.phase ≡ 2 → is_list b.attribute.length ≡ true → ((raw == 16) ≡ true) ⊎ ((raw == 24) ≡ true) → length idns ≤ 16 → IsCaused (idn raw) (bytes_in (map (λ i. i.raw) idns)) b e → ⊥
   list_free raw idns b two list which few c =
-      none_some e.answer.word (sym (list_has_no_cause d e.taken.blocks raw (length idns) (length first.others) first.others rules stored which few refl within) ∙ same_cause)
+      none_some e.answer.word (sym (list_has_no_cause d e.processed.blocks raw (length idns) (length first.others) first.others rules stored which few refl within) ∙ same_cause)
     where
       bytes : List ℕ
       bytes = bytes_in (map (λ (i : Idn). i.raw) idns)
@@ -124,21 +124,21 @@ module _ (d : DriveView) (rules : blocks_fault [] d.blocks ≡ None) (e : Entry)
       last [] n m is = let same : (n == 1 + m) ≡ true = grind (arith, nat_tests, is) in sym same
       last (x ∷ rest) n m is = let other : (n == 1 + m) ≡ false = grind (arith, nat_tests, is) in sym other
 
-      same_cause : write_cause_in (find_block raw e.taken.blocks) 2 (length first.others == 1 + length idns) (2 * length idns ∷ first.others) ≡ Some e.answer.word
+      same_cause : write_cause_in (find_block raw e.processed.blocks) 2 (length first.others == 1 + length idns) (2 * length idns ∷ first.others) ≡ Some e.answer.word
       same_cause =
-          ap (λ (p : ℕ). write_cause_in (find_block raw e.taken.blocks) p (length first.others == 1 + length idns) (2 * length idns ∷ first.others)) (sym two)
-          ∙ ap₂ (λ (l : Bool) (ws : List ℕ). write_cause_in (find_block raw e.taken.blocks) e.taken.phase l ws) (sym (last c.rest (length first.others) (length idns) count))
+          ap (λ (p : ℕ). write_cause_in (find_block raw e.processed.blocks) p (length first.others == 1 + length idns) (2 * length idns ∷ first.others)) (sym two)
+          ∙ ap₂ (λ (l : Bool) (ws : List ℕ). write_cause_in (find_block raw e.processed.blocks) e.processed.phase l ws) (sym (last c.rest (length first.others) (length idns) count))
           (ap (λ (n : ℕ). n ∷ first.others) (sym long) ∙ sym first.is)
           ∙ c.cause
 
   -- THE CHECKS
-  pub check_free_3 : write_cause_in (find_block 127 e.taken.blocks) 2 true (3 ∷ []) ≡ None
+  pub check_free_3 : write_cause_in (find_block 127 e.processed.blocks) 2 true (3 ∷ []) ≡ None
   unfolding built_in attribute_of write_cause bytes_written
-  check_free_3 = causes_alike d e.taken.blocks stored 127 2 true (3 ∷ []) ∙ rw (find_store_of 127 d rules) refl
+  check_free_3 = causes_alike d e.processed.blocks stored 127 2 true (3 ∷ []) ∙ rw (find_store_of 127 d rules) refl
 
-  pub check_free_4 : write_cause_in (find_block 128 e.taken.blocks) 3 true (3 ∷ []) ≡ None
+  pub check_free_4 : write_cause_in (find_block 128 e.processed.blocks) 3 true (3 ∷ []) ≡ None
   unfolding built_in attribute_of write_cause bytes_written
-  check_free_4 = causes_alike d e.taken.blocks stored 128 3 true (3 ∷ []) ∙ rw (find_store_of 128 d rules) refl
+  check_free_4 = causes_alike d e.processed.blocks stored 128 3 true (3 ∷ []) ∙ rw (find_store_of 128 d rules) refl
 
 abbrev pub check_3 : DriveView → Block
 check_3 d = built_in_block d (row 127 0x60090001 false Zero)

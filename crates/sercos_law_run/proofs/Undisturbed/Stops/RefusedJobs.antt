@@ -103,12 +103,12 @@ module _ (d : DriveView) (rules : blocks_fault [] d.blocks ≡ None) (small : Ar
   caused_by raw bytes b q found same ref =
       write_caused (idn raw) bytes b (says_shape b (small raw b found)) (store_of d) found ref.e ref.entries ref.log (subst (λ (x : Request). IsTransfer x (store_of d) ref.e ref.entries ref.log) same ref.transfer) ref.error
 
-  number_never : (raw value : ℕ) (q : Request) → find_block raw (store_of d) ≡ Some (number_block d raw) → is_start_number raw ≡ true → q ≡ writes_word raw value → (ref : IsRefused d q code 2) → ref.e.taken.phase ≡ 2 → IsCycle d s.cycle q code
+  number_never : (raw value : ℕ) (q : Request) → find_block raw (store_of d) ≡ Some (number_block d raw) → is_start_number raw ≡ true → q ≡ writes_word raw value → (ref : IsRefused d q code 2) → ref.e.processed.phase ≡ 2 → IsCycle d s.cycle q code
   unfolding attribute_of
   number_never raw value q found start same ref two =
       absurd (number_free d rules ref.e ref.stored raw value (number_block d raw) two refl start (caused_by raw (bytes_in (value ∷ [])) (number_block d raw) q found same ref))
 
-  cycle_is : (q : Request) → find_block 2 (store_of d) ≡ Some (cycle_block d) → q ≡ writes_word 2 s.cycle → (ref : IsRefused d q code 2) → ref.e.taken.phase ≡ 2 → IsCycle d s.cycle q code
+  cycle_is : (q : Request) → find_block 2 (store_of d) ≡ Some (cycle_block d) → q ≡ writes_word 2 s.cycle → (ref : IsRefused d q code 2) → ref.e.processed.phase ≡ 2 → IsCycle d s.cycle q code
   unfolding attribute_of
   cycle_is q found same ref two = record {
     asks = same;
@@ -119,7 +119,7 @@ module _ (d : DriveView) (rules : blocks_fault [] d.blocks ≡ None) (small : Ar
       by (inl (low, is)) = inl (low, sym ref.code_is ∙ is)
       by (inr (high, is)) = inr (high, sym ref.code_is ∙ is)
 
-  list_never : (raw : ℕ) (idns : List Idn) (q : Request) → find_block raw (store_of d) ≡ Some (list_block d raw) → ((raw == 16) ≡ true) ⊎ ((raw == 24) ≡ true) → length idns ≤ 16 → q ≡ writes_list raw idns → (ref : IsRefused d q code 2) → ref.e.taken.phase ≡ 2 → IsCycle d s.cycle q code
+  list_never : (raw : ℕ) (idns : List Idn) (q : Request) → find_block raw (store_of d) ≡ Some (list_block d raw) → ((raw == 16) ≡ true) ⊎ ((raw == 24) ≡ true) → length idns ≤ 16 → q ≡ writes_list raw idns → (ref : IsRefused d q code 2) → ref.e.processed.phase ≡ 2 → IsCycle d s.cycle q code
   unfolding attribute_of
   list_never raw idns q found which few same ref two =
       absurd (list_free d rules ref.e ref.stored raw idns (list_block d raw) two refl which few (caused_by raw (bytes_in (map (λ i. i.raw) idns)) (list_block d raw) q found same ref))
@@ -130,7 +130,7 @@ module _ (d : DriveView) (rules : blocks_fault [] d.blocks ≡ None) (small : Ar
   few_of_mdt : length (member s k).mdt ≤ 16
   few_of_mdt = subst (λ (m : MemberView). length m.mdt ≤ 16) (sym member_so) few_mdt
 
-  write_is : (p : PlanView) (i : ℕ) (q : Request) → slice_get (writes s p k) i ≡ Some q → (ref : IsRefused d q code 2) → ref.e.taken.phase ≡ 2 → IsCycle d s.cycle q code
+  write_is : (p : PlanView) (i : ℕ) (q : Request) → slice_get (writes s p k) i ≡ Some q → (ref : IsRefused d q code 2) → ref.e.processed.phase ≡ 2 → IsCycle d s.cycle q code
   unfolding built_in
   write_is p zero q got ref two = number_never 1 s.control q (find_store_of 1 d rules) refl (sym (some_is _ q got)) ref two
   write_is p (suc zero) q got ref two = cycle_is q (find_store_of 2 d rules) (sym (some_is _ q got)) ref two
@@ -146,15 +146,15 @@ module _ (d : DriveView) (rules : blocks_fault [] d.blocks ≡ None) (small : Ar
   write_is p (suc (suc (suc (suc (suc (suc (suc (suc (suc (suc (suc i))))))))))) q got ref two = absurd (cc)
 
   -- THE CHECK is never refused.
-  check_never : (q : Request) → q ≡ request.Command (idn 127) → (ref : IsRefused d q code 2) → ref.e.taken.phase ≡ 2 → ⊥
+  check_never : (q : Request) → q ≡ request.Command (idn 127) → (ref : IsRefused d q code 2) → ref.e.processed.phase ≡ 2 → ⊥
   unfolding attribute_of
   check_never q same ref two =
       never_both ref.e.answer.error ref.error
       (command_well (idn 127) (check_3 d) (store_of d) (found_3 d rules) refl ref.e ref.entries ref.log (subst (λ (x : Request). IsTransfer x (store_of d) ref.e ref.entries ref.log) same ref.transfer)
-      (subst (λ (n : ℕ). Allows (check_3 d) n) (sym two) (allows_3 d)) (ap (λ (n : ℕ). write_cause_in (find_block 127 ref.e.taken.blocks) n true (3 ∷ [])) two ∙ check_free_3 d rules ref.e ref.stored))
+      (subst (λ (n : ℕ). Allows (check_3 d) n) (sym two) (allows_3 d)) (ap (λ (n : ℕ). write_cause_in (find_block 127 ref.e.processed.blocks) n true (3 ∷ [])) two ∙ check_free_3 d rules ref.e ref.stored))
 
   -- SO IT IS THE CYCLE TIME.
-  pub refused_job : (plan : Option PlanView) (n : ℕ) (q : Request) → n < reads_count (member s k) + 12 → slice_get (jobs_of s plan k) n ≡ Some q → (ref : IsRefused d q code 2) → ref.e.taken.phase ≡ 2 → IsCycle d s.cycle q code
+  pub refused_job : (plan : Option PlanView) (n : ℕ) (q : Request) → n < reads_count (member s k) + 12 → slice_get (jobs_of s plan k) n ≡ Some q → (ref : IsRefused d q code 2) → ref.e.processed.phase ≡ 2 → IsCycle d s.cycle q code
   refused_job plan n q less got ref two = elim (cases_lt n (reads_count (member s k))) [
     | inl early ↦ absurd (read_never n q (sym (reading s k plan n early) ∙ got) ref)
     | inr late ↦ by plan got

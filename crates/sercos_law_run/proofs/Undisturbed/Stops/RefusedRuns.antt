@@ -12,12 +12,12 @@ use Rattle.sercos_block.specs.BuiltIns.{row}
 use Rattle.sercos_block.specs.Stores.{store_of}
 use Rattle.sercos_block.specs.Views.{DriveView}
 use Rattle.sercos_block.specs.declared.block.Block.{Block}
-use Rattle.sercos_service_drive.specs.Log.{Taken, Entry, ahs, accepted}
+use Rattle.sercos_service_drive.specs.Log.{Processed, Entry, ahs, accepted}
 use Rattle.sercos_service_drive.specs.Replies.{answered}
 use Rattle.sercos_service_drive.specs.Writes.{writes_of}
 use Rattle.sercos_service_master.specs.Begun.{Begun}
 use Rattle.sercos_seat.specs.Agenda.{idn}
-use Rattle.sercos_law_channel.specs.Handshake.Epochs.{command, command_in, epoch_taken, unless_restart, begun_in, taken_in_views, log_in}
+use Rattle.sercos_law_channel.specs.Handshake.Epochs.{command, command_in, epoch_records, unless_restart, begun_in, records_in_views, log_in}
 use Rattle.sercos_law_channel.specs.Handshake.Exact.{AreExact}
 use Rattle.sercos_law_channel.specs.Handshake.InStep.{replies_of}
 use Rattle.sercos_law_channel.specs.Handshake.Parts.{IsPart, Unsent, Heard, Unheard}
@@ -35,18 +35,18 @@ use Rattle.sercos_law_channel.proofs.Handshake.LogParts.{have_replies}
 use Rattle.sercos_law_channel.proofs.Handshake.RunFacts.{processes_in_phase}
 
 -- THE PHASES in which the steps of an epoch were accepted
-abbrev IsBetween : ℕ → Taken → Type 0
+abbrev IsBetween : ℕ → Processed → Type 0
 IsBetween n t = (t.phase ≤ n) × (2 ≤ t.phase)
 
-abbrev AreBetween : ℕ → List Taken → Type 0
+abbrev AreBetween : ℕ → List Processed → Type 0
 AreBetween n [] = Unit {0}
 AreBetween n (t ∷ h) = AreBetween n h × IsBetween n t
 
-between_more : (n m : ℕ) (h : List Taken) → n ≤ m → AreBetween n h → AreBetween m h
+between_more : (n m : ℕ) (h : List Processed) → n ≤ m → AreBetween n h → AreBetween m h
 between_more n m [] le are = tt
 between_more n m (t ∷ h) le are = (between_more n m h le are.0, (let low = are.1.0 in omega (arith, low, le), are.1.1))
 
-between_accepted : (n : ℕ) (h : List Taken) → AreBetween n h → AreBetween n (accepted h)
+between_accepted : (n : ℕ) (h : List Processed) → AreBetween n h → AreBetween n (accepted h)
 between_accepted n [] are = tt
 between_accepted n (t ∷ h) are = by (beq t.mhs (ahs h)) (between_accepted n h are.0)
   where
@@ -54,31 +54,31 @@ between_accepted n (t ∷ h) are = by (beq t.mhs (ahs h)) (between_accepted n h 
     by true more = more
     by false more = (more, are.1)
 
-newest_between : (n : ℕ) (h : List Taken) (e : Entry) (entries rest : List Entry) → answered h ≡ (e ∷ entries) ++ rest → AreBetween n h → IsBetween n e.taken
+newest_between : (n : ℕ) (h : List Processed) (e : Entry) (entries rest : List Entry) → answered h ≡ (e ∷ entries) ++ rest → AreBetween n h → IsBetween n e.processed
 newest_between n [] e entries rest same are = absurd (cc)
-newest_between n (t ∷ h) e entries rest same are = subst (λ (x : Entry). IsBetween n x.taken) (first_is same) are.1
+newest_between n (t ∷ h) e entries rest same are = subst (λ (x : Entry). IsBetween n x.processed) (first_is same) are.1
   where
     first_is : {x y : Entry} {xs ys : List Entry} → x ∷ xs ≡ y ∷ ys → x ≡ y
     first_is e = cc
 
-cycle_between : (v : View) (past : List View) → v.phase ≡ command_in v past → AreBetween (command past) (epoch_taken past) → AreBetween v.phase (taken_in_views v past)
+cycle_between : (v : View) (past : List View) → v.phase ≡ command_in v past → AreBetween (command past) (epoch_records past) → AreBetween v.phase (records_in_views v past)
 cycle_between v past commanded before = by (processed_in v past) refl (restarted v.master_restarts commanded)
   where
-    restarted : (b : Bool) → v.phase ≡ (if b then 0 else command past) → AreBetween v.phase (if b then [] else epoch_taken past)
+    restarted : (b : Bool) → v.phase ≡ (if b then 0 else command past) → AreBetween v.phase (if b then [] else epoch_records past)
     restarted true is = tt
-    restarted false is = between_more (command past) v.phase (epoch_taken past) (omega (arith, is)) before
+    restarted false is = between_more (command past) v.phase (epoch_records past) (omega (arith, is)) before
 
-    by : (o : Option Taken) → processed_in v past ≡ o → AreBetween v.phase (unless_restart v (epoch_taken past)) → AreBetween v.phase (with_record o (unless_restart v (epoch_taken past)))
+    by : (o : Option Processed) → processed_in v past ≡ o → AreBetween v.phase (unless_restart v (epoch_records past)) → AreBetween v.phase (with_record o (unless_restart v (epoch_records past)))
     by None none are = are
     by (Some t) some are = let is = processes_in_phase v past t some in (are, (let same = is.0 in omega (arith, same), is.2))
 
-epoch_between : (busy : ℕ) (past : List View) → IsViewRun busy past → AreBetween (command past) (epoch_taken past)
+epoch_between : (busy : ℕ) (past : List View) → IsViewRun busy past → AreBetween (command past) (epoch_records past)
 epoch_between busy [] run = tt
 epoch_between busy (v ∷ past) run = ended v.falls v.rises (cycle_between v past run.1.commanded (epoch_between busy past run.0))
   where
-    ended : (f u : Bool) → AreBetween v.phase (taken_in_views v past) → AreBetween (if f then 0 else (if u then v.phase + 1 else v.phase)) (if f then [] else taken_in_views v past)
+    ended : (f u : Bool) → AreBetween v.phase (records_in_views v past) → AreBetween (if f then 0 else (if u then v.phase + 1 else v.phase)) (if f then [] else records_in_views v past)
     ended true u are = tt
-    ended false true are = between_more v.phase (v.phase + 1) (taken_in_views v past) (omega arith) are
+    ended false true are = between_more v.phase (v.phase + 1) (records_in_views v past) (omega arith) are
     ended false false are = are
 
 -- THE STEP THAT WAS REFUSED is the newest of the newest request.
@@ -89,8 +89,8 @@ pub record IsRefused (d : DriveView) (r : Request) (code : Code) (phase : ℕ) :
   pub transfer : IsTransfer r (store_of d) e entries log
   pub error : e.answer.error ≡ true
   pub code_is : e.answer.word ≡ code.raw
-  pub between : (e.taken.phase ≤ phase) × (2 ≤ e.taken.phase)
-  pub stored : IsStoreOf d e.taken.blocks
+  pub between : (e.processed.phase ≤ phase) × (2 ≤ e.processed.phase)
+  pub stored : IsStoreOf d e.processed.blocks
 
 refused_is : (r : Request) (a : Answer) (h : List Answer) (code : Code) → outcome_of r (a ∷ h) ≡ Some (outcome.Refused code) → (a.error ≡ true) × (a.word ≡ code.raw)
 refused_is r a h code is = by a.error (is_whole r (answer_words h ++ a.word ∷ [])) refl is
@@ -130,10 +130,10 @@ module _ (laws : Laws) (busy : ℕ) (d : DriveView) (small : AreSmall (store_of 
                   e = e;
                   entries = entries;
                   log = rest;
-                  transfer = make_transfers one (store_of d) e entries rest row (have_replies (accepted (taken_in_views v past)) (e ∷ entries) rest log_so) (have_first (e ∷ entries) rest (subst (HaveBlocks (store_of d)) log_so have));
+                  transfer = make_transfers one (store_of d) e entries rest row (have_replies (accepted (records_in_views v past)) (e ∷ entries) rest log_so) (have_first (e ∷ entries) rest (subst (HaveBlocks (store_of d)) log_so have));
                   error = ends.0;
                   code_is = ends.1;
-                  between = newest_between v.phase (accepted (taken_in_views v past)) e entries rest log_so (between_accepted v.phase (taken_in_views v past) (cycle_between v past run.1.commanded (epoch_between busy past run.0)));
+                  between = newest_between v.phase (accepted (records_in_views v past)) e entries rest log_so (between_accepted v.phase (records_in_views v past) (cycle_between v past run.1.commanded (epoch_between busy past run.0)));
                   stored = (subst (EntriesStored d) all (entries_stored d (stays v ∷ past) stored)).1.1;
                 },
                 log_so,

@@ -14,7 +14,7 @@ use Rattle.sercos_step.specs.Words.{shape_of, shape_by}
 use Rattle.sercos_block.specs.Blocks.{element_of}
 use Rattle.sercos_block.specs.Stores.{find_block, read_fault}
 use Rattle.sercos_block.specs.declared.block.Block.{Block}
-use Rattle.sercos_service_drive.specs.Log.{Taken, Entry, open_idn, run_before, in_order, selection}
+use Rattle.sercos_service_drive.specs.Log.{Processed, Entry, open_idn, run_before, in_order, selection}
 use Rattle.sercos_service_drive.specs.Replies.{good, refused, answer_by, copy, missing, read_cause, write_cause_in, reply_on, reply_at, reply_of}
 use Rattle.sercos_service_drive.specs.Writes.{without_data, AreAlike}
 use Rattle.sercos_law_channel.specs.Handshake.InStep.{replies_of}
@@ -42,13 +42,13 @@ some_alike None b is = absurd (cc)
 some_alike (Some c) b is = refl
 
 -- the opening of a block that the drive has
-opening_good : (t : Taken) (all : List Entry) (idn : Idn) (blocks : List Block) (b : Block) → t.step ≡ opening idn → AreAlike t.blocks blocks → find_block idn.raw blocks ≡ Some b → reply_of t all ≡ good 0
+opening_good : (t : Processed) (all : List Entry) (idn : Idn) (blocks : List Block) (b : Block) → t.step ≡ opening idn → AreAlike t.blocks blocks → find_block idn.raw blocks ≡ Some b → reply_of t all ≡ good 0
 opening_good t all idn blocks b is alike found =
     cond-true _ _ _ (ap (λ (s : Step). s.write && (s.element == 1)) is)
     ∙ cond-true _ _ _ (ap (λ (s : Step). is_some (find_block s.word t.blocks)) is ∙ some_alike (find_block idn.raw t.blocks) b (find-alike idn.raw t.blocks blocks b alike found))
 
 -- the reply to a word of operation data
-pub reply_word : (raw word : ℕ) (last : Bool) (t : Taken) (all : List Entry) (run : List Taken) → t.step ≡ a_step true last 7 word → open_idn all ≡ Some raw → run_before true 7 all ≡ run →
+pub reply_word : (raw word : ℕ) (last : Bool) (t : Processed) (all : List Entry) (run : List Processed) → t.step ≡ a_step true last 7 word → open_idn all ≡ Some raw → run_before true 7 all ≡ run →
     reply_of t all ≡ answer_by (write_cause_in (find_block raw t.blocks) t.phase last (in_order run (word ∷ []))) 0
 reply_word raw word last t all run is opened before =
     let closed : (t.step.write && (t.step.element == 1)) ≡ false = ap (λ (s : Step). s.write && (s.element == 1)) is in
@@ -59,16 +59,16 @@ reply_word raw word last t all run is opened before =
     cond-false _ _ _ closed ∙ cond-false _ _ _ some ∙ at (open_idn all) (run_before t.step.write t.step.element all) opened runs ∙ cond-true _ _ _ writes
     ∙ ap (λ (o : Option ℕ). answer_by o 0) (cond-true _ _ _ seven ∙ ap (λ (s : Step). write_cause_in (find_block raw t.blocks) t.phase s.last (in_order run (s.word ∷ []))) is)
   where
-    at : (o : Option ℕ) (r : List Taken) → o ≡ Some raw → r ≡ run → reply_at o t r ≡ reply_on raw t run
-    at o r is_open is_run = ap₂ (λ (x : Option ℕ) (y : List Taken). reply_at x t y) is_open is_run
+    at : (o : Option ℕ) (r : List Processed) → o ≡ Some raw → r ≡ run → reply_at o t r ≡ reply_on raw t run
+    at o r is_open is_run = ap₂ (λ (x : Option ℕ) (y : List Processed). reply_at x t y) is_open is_run
 
 -- A WRITE
 pub record IsCaused (idn : Idn) (bytes : List ℕ) (b : Block) (e : Entry) : Type 0 where
-  pub before : List Taken
+  pub before : List Processed
   pub word : ℕ
   pub rest : List ℕ
   pub words : in_order before (word ∷ rest) ≡ told b bytes
-  pub cause : write_cause_in (find_block idn.raw e.taken.blocks) e.taken.phase (is_nil rest) (in_order before (word ∷ [])) ≡ Some e.answer.word
+  pub cause : write_cause_in (find_block idn.raw e.processed.blocks) e.processed.phase (is_nil rest) (in_order before (word ∷ [])) ≡ Some e.answer.word
 
 module _ (idn : Idn) (bytes : List ℕ) (b : Block) (said : shape_of 7 (low_of b + 65536 * high_of b) ≡ shape_by b.attribute.length) (blocks : List Block) (found : find_block idn.raw blocks ≡ Some b) where
   abbrev asked : Request
@@ -77,30 +77,30 @@ module _ (idn : Idn) (bytes : List ℕ) (b : Block) (said : shape_of 7 (low_of b
   pub write_caused : (e : Entry) (entries log : List Entry) → IsTransfer asked blocks e entries log → e.answer.error ≡ true → IsCaused idn bytes b e
   write_caused e entries log is error = by (write.stage_before idn bytes b said blocks found e entries log is).0
     where
-      next : slice_get (steps_of asked (answer_words (replies_of entries))) (length (answer_words (replies_of entries))) ≡ Some e.taken.step
+      next : slice_get (steps_of asked (answer_words (replies_of entries))) (length (answer_words (replies_of entries))) ≡ Some e.processed.step
       next = newest_step asked blocks log e entries is
 
-      reply : e.answer ≡ reply_of e.taken (entries ++ log)
+      reply : e.answer ≡ reply_of e.processed (entries ++ log)
       reply = is.replies.1
 
-      never : (word : ℕ) → reply_of e.taken (entries ++ log) ≡ good word → IsCaused idn bytes b e
+      never : (word : ℕ) → reply_of e.processed (entries ++ log) ≡ good word → IsCaused idn bytes b e
       never word well = absurd (never_both e.answer.error error (good_answer e.answer word (reply ∙ well)))
 
       by : write.Stage idn bytes b (answer_words (replies_of entries)) (entries ++ log) → IsCaused idn bytes b e
-      by (write.AtOpening at) = never 0 (opening_good e.taken (entries ++ log) idn blocks b (write.next_opening idn bytes b said (answer_words (replies_of entries)) e.taken.step at next) is.alike.1 found)
+      by (write.AtOpening at) = never 0 (opening_good e.processed (entries ++ log) idn blocks b (write.next_opening idn bytes b said (answer_words (replies_of entries)) e.processed.step at next) is.alike.1 found)
       by (write.AtLow w at opened before) =
-          let step = write.next_low idn bytes b said (answer_words (replies_of entries)) e.taken.step w at next in
-          never _ (reply_low idn.raw 0 false e.taken (entries ++ log) b.attribute step opened before (IsRead-alike idn.raw e.taken blocks b (ap (λ (s : Step). s.element) step) is.alike.1 found))
+          let step = write.next_low idn bytes b said (answer_words (replies_of entries)) e.processed.step w at next in
+          never _ (reply_low idn.raw 0 false e.processed (entries ++ log) b.attribute step opened before (IsRead-alike idn.raw e.processed blocks b (ap (λ (s : Step). s.element) step) is.alike.1 found))
       by (write.AtHigh w t at opened before reads) =
-          never _ (reply_high idn.raw 0 true e.taken t (entries ++ log) b.attribute (write.next_high idn bytes b said (answer_words (replies_of entries)) e.taken.step w (low_of b) at next) opened before reads)
+          never _ (reply_high idn.raw 0 true e.processed t (entries ++ log) b.attribute (write.next_high idn bytes b said (answer_words (replies_of entries)) e.processed.step w (low_of b) at next) opened before reads)
       by (write.AtWord w more taken word rest at count opened before ordered) =
-          let step = write.next_word idn bytes b said (answer_words (replies_of entries)) e.taken.step w more taken word rest at count ordered next in
+          let step = write.next_word idn bytes b said (answer_words (replies_of entries)) e.processed.step w more taken word rest at count ordered next in
           record {
             before = taken;
             word = word;
             rest = rest;
             words = ordered;
-            cause = caused _ 0 e.answer (reply ∙ reply_word idn.raw word (is_nil rest) e.taken (entries ++ log) taken step opened before) error;
+            cause = caused _ 0 e.answer (reply ∙ reply_word idn.raw word (is_nil rest) e.processed (entries ++ log) taken step opened before) error;
           }
 
 -- A READ of the attribute or of operation data
@@ -124,14 +124,14 @@ module _ (idn : Idn) (element : ℕ) (b : Block) (blocks : List Block) (found : 
       words : List ℕ
       words = answer_words (replies_of entries)
 
-      next : slice_get (steps_of (request.Read idn element) (answer_words (replies_of entries))) (length (answer_words (replies_of entries))) ≡ Some e.taken.step
+      next : slice_get (steps_of (request.Read idn element) (answer_words (replies_of entries))) (length (answer_words (replies_of entries))) ≡ Some e.processed.step
       next = newest_step (request.Read idn element) blocks log e entries is
 
-      reply : e.answer ≡ reply_of e.taken (entries ++ log)
+      reply : e.answer ≡ reply_of e.processed (entries ++ log)
       reply = is.replies.1
 
-      next_is : (w : List ℕ) (s : Step) → words ≡ w → slice_get (steps_of (request.Read idn element) w) (length w) ≡ Some s → e.taken.step ≡ s
-      next_is w s same at = some_same s e.taken.step (sym at ∙ ap (λ (ws : List ℕ). slice_get (steps_of (request.Read idn element) ws) (length ws)) (sym same) ∙ next)
+      next_is : (w : List ℕ) (s : Step) → words ≡ w → slice_get (steps_of (request.Read idn element) w) (length w) ≡ Some s → e.processed.step ≡ s
+      next_is w s same at = some_same s e.processed.step (sym at ∙ ap (λ (ws : List ℕ). slice_get (steps_of (request.Read idn element) ws) (length ws)) (sym same) ∙ next)
 
       second : (asks : Bool) (w : ℕ) → asks_attribute element ≡ asks → asks ≡ true → slice_get (steps_of (request.Read idn element) (w ∷ [])) 1 ≡ Some (a_step false false 3 0)
       second true w is on = rw is refl
@@ -142,19 +142,19 @@ module _ (idn : Idn) (element : ℕ) (b : Block) (blocks : List Block) (found : 
       third false w v is on = absurd (cc)
 
       by : read.Stage idn element b blocks found some (answer_words (replies_of entries)) entries log → e.answer.error ≡ false
-      by (read.AtOpening at) = good_answer e.answer 0 (reply ∙ opening_good e.taken (entries ++ log) idn blocks b (next_is [] (opening idn) at refl) is.alike.1 found)
+      by (read.AtOpening at) = good_answer e.answer 0 (reply ∙ opening_good e.processed (entries ++ log) idn blocks b (next_is [] (opening idn) at refl) is.alike.1 found)
       by (read.AtLow asks w at opened before) =
           let step = next_is (w ∷ []) (a_step false false 3 0) at (second (asks_attribute element) w refl asks) in
-          good_answer e.answer _ (reply ∙ reply_low idn.raw 0 false e.taken (entries ++ log) b.attribute step opened before (IsRead-alike idn.raw e.taken blocks b (ap (λ (s : Step). s.element) step) is.alike.1 found))
+          good_answer e.answer _ (reply ∙ reply_low idn.raw 0 false e.processed (entries ++ log) b.attribute step opened before (IsRead-alike idn.raw e.processed blocks b (ap (λ (s : Step). s.element) step) is.alike.1 found))
       by (read.AtHigh asks w t at opened before reads) =
-          good_answer e.answer _ (reply ∙ reply_high idn.raw 0 true e.taken t (entries ++ log) b.attribute (next_is (w ∷ low_of b ∷ []) (a_step false true 3 0) at (third (asks_attribute element) w (low_of b) refl asks)) opened before reads)
+          good_answer e.answer _ (reply ∙ reply_high idn.raw 0 true e.processed t (entries ++ log) b.attribute (next_is (w ∷ low_of b ∷ []) (a_step false true 3 0) at (third (asks_attribute element) w (low_of b) refl asks)) opened before reads)
       by (read.AtWord own taken behind count opened before chosen) =
-          let step = read.next_word idn element b blocks found some (answer_words (replies_of entries)) own e.taken.step 0 behind next in
+          let step = read.next_word idn element b blocks found some (answer_words (replies_of entries)) own e.processed.step 0 behind next in
           let c = chosen e in
-          let named : c.entry.taken.step.element ≡ element = c.element (ap (λ (s : Step). s.element) step) in
-          let free : read_cause idn.raw (selection e.taken taken) ≡ None =
-          ap (read_cause idn.raw) (sym c.is) ∙ ap (λ (n : ℕ). missing idn.raw n c.entry.taken.blocks) named ∙ read_free (find_block idn.raw c.entry.taken.blocks) b element there (find-alike idn.raw c.entry.taken.blocks blocks b (c.alike is.alike.1) found) in
-          ap (λ (a : Answer). a.error) (reply ∙ reply-read idn.raw element 0 _ e.taken (entries ++ log) taken some step opened before ∙ ap (λ (o : Option ℕ). answer_by o (slice_index (copy idn.raw (selection e.taken taken)) (length taken))) free)
+          let named : c.entry.processed.step.element ≡ element = c.element (ap (λ (s : Step). s.element) step) in
+          let free : read_cause idn.raw (selection e.processed taken) ≡ None =
+          ap (read_cause idn.raw) (sym c.is) ∙ ap (λ (n : ℕ). missing idn.raw n c.entry.processed.blocks) named ∙ read_free (find_block idn.raw c.entry.processed.blocks) b element there (find-alike idn.raw c.entry.processed.blocks blocks b (c.alike is.alike.1) found) in
+          ap (λ (a : Answer). a.error) (reply ∙ reply-read idn.raw element 0 _ e.processed (entries ++ log) taken some step opened before ∙ ap (λ (o : Option ℕ). answer_by o (slice_index (copy idn.raw (selection e.processed taken)) (length taken))) free)
 
 pub attribute_reads_well : (idn : Idn) (b : Block) (blocks : List Block) → find_block idn.raw blocks ≡ Some b → (e : Entry) (entries log : List Entry) → IsTransfer (request.Read idn 3) blocks e entries log → e.answer.error ≡ false
 attribute_reads_well idn b blocks found = reads_well idn 3 b blocks found refl always_3
@@ -163,25 +163,25 @@ pub data_reads_well : (idn : Idn) (b : Block) (blocks : List Block) → find_blo
 data_reads_well idn b blocks found = reads_well idn 7 b blocks found refl always_7
 
 -- so it isn't refused at all, if its setting isn't
-pub command_well : (idn : Idn) (b : Block) (blocks : List Block) → find_block idn.raw blocks ≡ Some b → b.attribute.command ≡ true → (e : Entry) (entries log : List Entry) → IsTransfer (request.Command idn) blocks e entries log → Allows b e.taken.phase
-    → write_cause_in (find_block idn.raw e.taken.blocks) e.taken.phase true (3 ∷ []) ≡ None → e.answer.error ≡ false
+pub command_well : (idn : Idn) (b : Block) (blocks : List Block) → find_block idn.raw blocks ≡ Some b → b.attribute.command ≡ true → (e : Entry) (entries log : List Entry) → IsTransfer (request.Command idn) blocks e entries log → Allows b e.processed.phase
+    → write_cause_in (find_block idn.raw e.processed.blocks) e.processed.phase true (3 ∷ []) ≡ None → e.answer.error ≡ false
 command_well idn b blocks found command_is e entries log is allows none = by (command.stage_before idn b blocks found e entries log is).0
   where
-    next : slice_get (steps_of (request.Command idn) (answer_words (replies_of entries))) (length (answer_words (replies_of entries))) ≡ Some e.taken.step
+    next : slice_get (steps_of (request.Command idn) (answer_words (replies_of entries))) (length (answer_words (replies_of entries))) ≡ Some e.processed.step
     next = newest_step (request.Command idn) blocks log e entries is
 
-    reply : e.answer ≡ reply_of e.taken (entries ++ log)
+    reply : e.answer ≡ reply_of e.processed (entries ++ log)
     reply = is.replies.1
 
-    first : answer_words (replies_of entries) ≡ [] → e.taken.step ≡ opening idn
-    first same = some_same (opening idn) e.taken.step (sym (ap (λ (ws : List ℕ). slice_get (steps_of (request.Command idn) ws) (length ws)) same) ∙ next)
+    first : answer_words (replies_of entries) ≡ [] → e.processed.step ≡ opening idn
+    first same = some_same (opening idn) e.processed.step (sym (ap (λ (ws : List ℕ). slice_get (steps_of (request.Command idn) ws) (length ws)) same) ∙ next)
 
-    polls : open_idn (entries ++ log) ≡ Some idn.raw → run_before true 7 (entries ++ log) ≡ [] → (polled : List ℕ) → Poll polled e.taken.step → e.answer.error ≡ false
-    polls opened free polled (Reads step long) = ap (λ (a : Answer). a.error) reply ∙ refusals.reads_well idn.raw e.taken (entries ++ log) step opened
-    polls opened free polled (Cancels step long) = ap (λ (a : Answer). a.error) reply ∙ cancels_well idn.raw e.taken (entries ++ log) blocks b step opened free is.alike.1 found command_is allows
+    polls : open_idn (entries ++ log) ≡ Some idn.raw → run_before true 7 (entries ++ log) ≡ [] → (polled : List ℕ) → Poll polled e.processed.step → e.answer.error ≡ false
+    polls opened free polled (Reads step long) = ap (λ (a : Answer). a.error) reply ∙ refusals.reads_well idn.raw e.processed (entries ++ log) step opened
+    polls opened free polled (Cancels step long) = ap (λ (a : Answer). a.error) reply ∙ cancels_well idn.raw e.processed (entries ++ log) blocks b step opened free is.alike.1 found command_is allows
 
     by : command.Stage idn b (answer_words (replies_of entries)) entries (entries ++ log) → e.answer.error ≡ false
-    by (command.AtOpening those same) = good_answer e.answer 0 (reply ∙ opening_good e.taken (entries ++ log) idn blocks b (first same) is.alike.1 found)
+    by (command.AtOpening those same) = good_answer e.answer 0 (reply ∙ opening_good e.processed (entries ++ log) idn blocks b (first same) is.alike.1 found)
     by (command.AtSetting o w those same opened free) =
-        good_answer e.answer 0 (reply ∙ reply_word idn.raw 3 true e.taken (entries ++ log) [] (next_setting idn b (answer_words (replies_of entries)) e.taken.step w same next) opened free ∙ ap (λ (x : Option ℕ). answer_by x 0) none)
-    by (command.AtPoll d o past w v polled those same opened free two) = polls opened free polled (next_poll idn b (answer_words (replies_of entries)) e.taken.step w v polled same next)
+        good_answer e.answer 0 (reply ∙ reply_word idn.raw 3 true e.processed (entries ++ log) [] (next_setting idn b (answer_words (replies_of entries)) e.processed.step w same next) opened free ∙ ap (λ (x : Option ℕ). answer_by x 0) none)
+    by (command.AtPoll d o past w v polled those same opened free two) = polls opened free polled (next_poll idn b (answer_words (replies_of entries)) e.processed.step w v polled same next)

@@ -19,5 +19,5 @@ returns-in-Ok-clause-blocks c = λ commands stood.
     rw (c.in-Ok.ensures.fault, ← c.is_command-command.ensures, ← c.in-Ok.ensures.ok) (c.tell.ensures.blocks commands stood)
 
 pub returns-in-Ok-clause-commands : goal.returns-in-Ok-clause-commands
-returns-in-Ok-clause-commands c = λ commands stood later.
-    rw (c.in-Ok.ensures.fault, ← c.is_command-command.ensures, ← c.in-Ok.ensures.ok) (c.tell.ensures.commands commands stood later)
+returns-in-Ok-clause-commands c = λ commands stood.
+    rw (c.in-Ok.ensures.fault, ← c.is_command-command.ensures, ← c.in-Ok.ensures.ok) (c.tell.ensures.commands commands stood)
