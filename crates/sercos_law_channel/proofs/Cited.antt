@@ -1,18 +1,5 @@
 -- The theorems on one channel whose proofs cite those of the crates below, as the laws state them.
-use Rattle.std.proofs.Common.{◌≡◌, ℕ, ◌+◌, ◌*◌, ◌^◌, ◌<◌}
-use Rattle.sercos_idn.proofs.AttributeLemmas.{attribute_word-below, attribute_fault-attribute_word, attribute_of-attribute_word}
-use Rattle.sercos_block.specs.declared.block.Block.{Block}
-use Rattle.sercos_block.proofs.TypeLemmas.{types}
-use Rattle.sercos_step.specs.Words.{shape_by, shape_of}
-use Rattle.sercos_law_channel.specs.Handshake.Exact.{RunsAreExact}
-use Rattle.sercos_law_channel.specs.Handshake.RunLaws.{BeginsEmpty}
-use Rattle.sercos_law_channel.specs.Handshake.Parts.{MakeTransfers}
-use Rattle.sercos_law_channel.specs.Handshake.ReadTransfers.{ReadsOnce}
-use Rattle.sercos_law_channel.specs.Handshake.Transfers.{WritesOnce}
-use Rattle.sercos_law_channel.specs.Handshake.Values.{StaysWritten}
-use Rattle.sercos_law_channel.specs.Pace.Ages.{OpensAlways}
-use Rattle.sercos_law_channel.specs.Pace.Costs.{StaysInCost}
-use Rattle.sercos_law_channel.specs.Pace.StartCosts.{RecoversInCost, RecoversSince, StartsInCost}
+use Rattle.sercos_law_channel.proofs.Words.{◌≡◌, ℕ, ◌+◌, ◌*◌, ◌^◌, ◌<◌, attribute_word-below, attribute_fault-attribute_word, attribute_of-attribute_word, Block, types, shape_by, shape_of, RunsAreExact, BeginsEmpty, MakeTransfers, ReadsOnce, WritesOnce, StaysWritten, OpensAlways, StaysInCost, RecoversInCost, RecoversSince, StartsInCost}
 use Rattle.sercos_law_channel.proofs.Handshake.AttributeReplies.{shape-attribute}
 use Rattle.sercos_law_channel.proofs.Handshake.ElementReads.{reads_once_by}
 use Rattle.sercos_law_channel.proofs.Handshake.EpochRuns.{quiet}

@@ -1,32 +1,13 @@
 -- The theorems on the master alone and on frames whose proofs cite others, as the laws state them.
-use Rattle.std.proofs.Common.{◌≡◌, ℕ, ◌<◌, ◌≤◌, Bool, List, length, None, refl, sym}
-use Rattle.sercos_hdlc.specs.Reason.{content_of, plain, reason_of}
+use Rattle.sercos_law_run.proofs.Words.{◌≡◌, ℕ, ◌<◌, ◌≤◌, Bool, List, length, None, refl, sym, drop, plain, reason_of, IsFrame-framed, reason_of-IsFrame, AreBytes, IsFrame, has_next, Job, alike, those_at, HandedThose, Known, tasks_for, still_left, Call, past, ReadsWell, TellsInOrder, TellsOnce, TellsRight, Check127HasCause, Check128HasCause, NoFitHasCause, RefusedHasCause, BeginsNoneEarly, BeginsTasks, EndsTasks, WorkInTurn, WorksInFour, WorksInThree, WorksInTwo, ConfiguresAtRise, ConfiguresFromCheck}
+use Rattle.sercos_hdlc.specs.Reason.{content_of}
 use Rattle.sercos_hdlc.specs.Stuffed.{frame_of}
-use Rattle.sercos_hdlc.proofs.FramingLemmas.{IsFrame-framed}
-use Rattle.sercos_hdlc.proofs.ReasonLemmas.{reason_of-IsFrame}
-use Rattle.sercos_model.specs.Bits.{AreBytes}
-use Rattle.sercos_model.specs.Frames.{IsFrame}
-use Rattle.sercos_step.proofs.Ends.{has_next}
-use Rattle.sercos_step.specs.declared.request.Job.{Job}
-use Rattle.sercos_service_drive.proofs.AllowedWrites.{alike}
-use Rattle.sercos_drive.proofs.DriveLemmas.{those_at}
-use Rattle.sercos_drive.specs.Laws.{HandedThose}
-use Rattle.sercos_seat.specs.Ring.{Known, tasks_for}
-use Rattle.sercos_master.proofs.InOrder.{still_left}
-use Rattle.sercos_master.specs.Annals.{Call, past}
-use Rattle.std.specs.Prelude.{drop}
-use Rattle.sercos_law_run.specs.Agenda.Reads.{ReadsWell}
-use Rattle.sercos_law_run.specs.Agenda.Reported.{TellsInOrder, TellsOnce, TellsRight}
-use Rattle.sercos_law_run.specs.Agenda.Stops.{BadConfigHasCause, Check127HasCause, Check128HasCause, NoFitHasCause, RefusedHasCause}
-use Rattle.sercos_law_run.specs.Agenda.Tasks.{BeginsNoneEarly, BeginsTasks, EndsTasks}
-use Rattle.sercos_law_run.specs.Agenda.Turns.{WorkInTurn, WorksInFour, WorksInThree, WorksInTwo}
-use Rattle.sercos_law_run.specs.Agenda.Writes.{ConfiguresAtRise, ConfiguresFromCheck}
 use Rattle.sercos_law_run.proofs.Agenda.AtWork.{works_in_four, works_in_three, works_in_two}
 use Rattle.sercos_law_run.proofs.Agenda.OneTurn.{all_in_turn, none_early}
 use Rattle.sercos_law_run.proofs.Agenda.ReadWell.{are_read_well, ends_tasks}
 use Rattle.sercos_law_run.proofs.Agenda.ReportedRuns.{tells_in_order}
 use Rattle.sercos_law_run.proofs.Agenda.RightRuns.{reports_right}
-use Rattle.sercos_law_run.proofs.Agenda.StopCauses.{bad_config_cause, check127_cause, check128_cause, no_fit_cause, refused_cause}
+use Rattle.sercos_law_run.proofs.Agenda.StopCauses.{check127_cause, check128_cause, no_fit_cause, refused_cause}
 use Rattle.sercos_law_run.proofs.Agenda.TaskRuns.{begun_tasks}
 use Rattle.sercos_law_run.proofs.Agenda.ToldOnce.{tells_once}
 use Rattle.sercos_law_run.proofs.Agenda.WritesDone.{configures_at_rise, configures_from_check}
@@ -76,9 +57,6 @@ no_fit_has_cause s requests h chain = no_fit_cause has_next s requests h chain
 
 pub refused_has_cause : RefusedHasCause
 refused_has_cause s requests h address i code = refused_cause has_next s requests h address i code
-
-pub bad_config_has_cause : BadConfigHasCause
-bad_config_has_cause s requests h address i word = bad_config_cause has_next s requests h address i word
 
 pub check127_has_cause : Check127HasCause
 check127_has_cause s requests h address list have = check127_cause has_next s requests h have address list

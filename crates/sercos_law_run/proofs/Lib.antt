@@ -13,5 +13,6 @@ pub mod Recovery
 pub mod Totals
 pub mod Stations
 pub mod Tolerance
+mod Words
 pub mod Cited
 pub mod Theorems

@@ -1,7 +1,7 @@
 -- What the crates above cite of the laws on a run: each theorem, and the words that it is stated in, under one name.
 pub use Rattle.sercos_law_run.proofs.Slots.Places.{length_records}
 pub use Rattle.sercos_law_run.proofs.Slots.SendingLemmas.{place_by}
-pub use Rattle.sercos_law_run.proofs.Start.BlockFinds.{attribute_store_of, find_built_in, find_store_of}
+pub use Rattle.sercos_law_run.proofs.Start.BlockFinds.{find_built_in, find_store_of}
 pub use Rattle.sercos_law_run.proofs.Start.CheckPasses.{ring_drive, wish_is}
 pub use Rattle.sercos_law_run.proofs.Agenda.ReportedRuns.{count_so}
 pub use Rattle.sercos_law_run.proofs.Agenda.Requests.{numbered_drop}
@@ -10,7 +10,6 @@ pub use Rattle.sercos_law_run.proofs.Journal.ClearLemmas.{heard-quiet, same_bits
 pub use Rattle.sercos_law_run.proofs.Journal.HarmlessLemmas.{both_are_harmless, cuts_are_harmless}
 pub use Rattle.sercos_law_run.proofs.Journal.RunLemmas.{AreParts, ats_in-said, length-run_of, mdt_in-said, parts_next}
 pub use Rattle.sercos_law_run.proofs.Journal.StationLemmas.{drives_so, few_drives, said_address, sound_blocks, station_found, station_is}
-pub use Rattle.sercos_law_run.proofs.Views.Coupled.{sends_so}
 pub use Rattle.sercos_law_run.proofs.Views.Members.{AreSaid, all_said, member_is, members_count, same_drive}
 pub use Rattle.sercos_law_run.proofs.Views.Received.{address_of}
 pub use Rattle.sercos_law_run.proofs.Views.ViewRuns.{views_count}
@@ -24,7 +23,7 @@ pub use Rattle.sercos_law_run.proofs.Typed.Words.{AreWords, bytes_of_words, read
 pub use Rattle.sercos_law_run.proofs.Held.Agreed.{wishes_count}
 pub use Rattle.sercos_law_run.proofs.Held.OpenedLemmas.{IsSound, all_at, all_dropped, of_jobs, opened}
 pub use Rattle.sercos_law_run.proofs.Held.Rests.{rests_so}
-pub use Rattle.sercos_law_run.proofs.Held.Runs.{AllStand, IsPlannedIn, alike_so, drive_got, got_inside, holding, kept_at_mst, phase_same, rules, s_known, small}
+pub use Rattle.sercos_law_run.proofs.Held.Runs.{AllStand, IsPlannedIn, alike_so, drive_got, got_inside, holding, phase_same, rules, s_known, small}
 pub use Rattle.sercos_law_run.proofs.Held.StoreOf.{store_of_so}
 pub use Rattle.sercos_law_run.proofs.Headline.ApartCycles.{sender_phase}
 pub use Rattle.sercos_law_run.proofs.Headline.ApartRuns.{Sends, ends_at_0, sent_by}

@@ -46,7 +46,8 @@ pub fn station_law()
 /// in this cycle, nor in the one before, both of phase 1 to 4. `AtLost`: in this cycle and in the one before, both of phase 3 or 4, no AT
 /// that arrived reads as that drive's. `StepLimit`: in phase 1 the MDT was to that drive in this cycle and in the 64 before it, and no
 /// longer; later a step to it was first sent 64 cycles ago, and no answer has been taken since. `Restart`: the master restarts in this
-/// cycle. And the cause of `MstLost` makes the ring fall, and is the one that is reported.
+/// cycle. And the cause of `MstLost` makes the ring fall, and is the one that is reported; that the other causes do, in which order,
+/// is how a master is defined (`fall_of`).
 pub fn fall_law()
     ensures causes { FallsHaveCause }
     ensures first { MstComesFirst }

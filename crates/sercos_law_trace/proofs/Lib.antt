@@ -1,3 +1,4 @@
 pub mod Told
 pub mod Clean
+mod Words
 pub mod Theorems

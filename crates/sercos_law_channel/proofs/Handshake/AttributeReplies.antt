@@ -1,21 +1,7 @@
 -- What the two replies to the reads of a block's attribute are.
-use Rattle.std.proofs.Common.{◌≡◌, ℕ, ◌+◌, ◌*◌, ◌^◌, ◌<◌, Bool, true, false, ◌&&◌, List, [], ◌∷◌, map, length, refl, ap, ap₂, sym, ◌∙◌, arith, cond, if◌then◌else◌}
-use Rattle.std.specs.Prelude.{◌==◌, Option, Some, None, option_map, unwrap_or, slice_index}
-use Rattle.std.specs.Int.{w32, to_le_bytes}
-use Rattle.std.proofs.lemmas.Bool.{cond-false}
-use Rattle.sercos_idn.specs.declared.attribute.Attribute.{Attribute}
-use Rattle.sercos_idn.specs.Codes.{attribute_fault}
-use Rattle.sercos_idn.specs.Attributes.{attribute_word, attribute_of}
-use Rattle.sercos_step.specs.declared.step.Step.{Step}
-use Rattle.sercos_step.specs.Words.{words_of, shape_of, shape_by}
-use Rattle.sercos_step.specs.Steps.{a_step}
-use Rattle.sercos_block.specs.declared.block.Block.{Block}
+use Rattle.sercos_law_channel.proofs.Words.{◌≡◌, ℕ, ◌+◌, ◌*◌, ◌^◌, ◌<◌, Bool, true, false, ◌&&◌, List, [], ◌∷◌, map, length, refl, ap, ap₂, sym, ◌∙◌, arith, cond, if◌then◌else◌, ◌==◌, Option, Some, None, option_map, unwrap_or, slice_index, w32, to_le_bytes, cond-false, Attribute, attribute_fault, attribute_word, attribute_of, Step, words_of, shape_of, shape_by, a_step, Block, find_block, read_fault, status_in, Processed, Entry, open_idn, run_before, selection, good, answer_by, copy, read_cause, reply_on, reply_at, reply_of, AreAlike, without_data}
 use Rattle.sercos_block.specs.Blocks.{element_of}
-use Rattle.sercos_block.specs.Stores.{find_block, read_fault}
-use Rattle.sercos_command.specs.Calls.{status_in}
-use Rattle.sercos_service_drive.specs.Log.{Processed, Entry, open_idn, run_before, selection}
-use Rattle.sercos_service_drive.specs.Replies.{good, answer_by, element_words, copy, read_cause, reply_on, reply_at, reply_of}
-use Rattle.sercos_service_drive.specs.Writes.{AreAlike, without_data}
+use Rattle.sercos_service_drive.specs.Replies.{element_words}
 
 -- the block that was found has the same attribute
 found_without_data : (v : Bool) (b : Block) (o p : Option Block) → option_map without_data o ≡ p → option_map without_data (cond v (Some b) o) ≡ cond v (Some (without_data b)) p

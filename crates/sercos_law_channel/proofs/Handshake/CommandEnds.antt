@@ -1,27 +1,8 @@
 -- A complete setting of a procedure command gives the data status of the last poll, the step that reads it.
-use Rattle.std.proofs.Common.{◌≡◌, ℕ, suc, ◌-◌, ◌/◌, ◌%◌, ◌<◌, ◌≤◌, Bool, true, false, not, ◌&&◌, List, [], ◌∷◌, ◌++◌, length, drop, refl, sym, ap, ap₂, ◌∙◌, arith, if◌then◌else◌, length-append}
-use Rattle.std.specs.Prelude.{◌==◌, Option, Some, None, slice_get, slice_index}
-use Rattle.std.specs.List.{list_all}
-use Rattle.std.proofs.lemmas.Bool.{cond-true, leb-true}
-use mathlib.Core.Bool.{beq}
-use Rattle.sercos_idn.specs.declared.idn.Idn.{Idn}
-use Rattle.sercos_step.specs.declared.step.Step.{Step}
-use Rattle.sercos_step.specs.declared.step.Answer.{Answer}
-use Rattle.sercos_step.specs.declared.request.Request.{Request}
+use Rattle.sercos_law_channel.proofs.Words.{◌≡◌, ℕ, suc, ◌-◌, ◌/◌, ◌%◌, ◌<◌, ◌≤◌, Bool, true, false, not, ◌&&◌, List, [], ◌∷◌, ◌++◌, length, drop, refl, sym, ap, ap₂, ◌∙◌, arith, if◌then◌else◌, length-append, ◌==◌, Option, Some, None, slice_get, slice_index, list_all, cond-true, leb-true, beq, Idn, Step, Answer, Request, bytes_in, a_step, polling, steps_of, outcome_of, answer_words, is_whole, result_of, Block, find_block, setting_of, status_in, Processed, Entry, open_idn, run_before, answer_by, copy, read_cause, reply_of, replies_of, IsTransfer, is_complete, GivesStatus, EndsWithStatus, idn_of, length-answer_words}
 use Rattle.sercos_step.specs.declared.request.Request.TheVariants as request
 use Rattle.sercos_step.specs.declared.request.Outcome.TheVariants as outcome
-use Rattle.sercos_step.specs.Words.{bytes_in}
-use Rattle.sercos_step.specs.Steps.{a_step, polling, steps_of, outcome_of, answer_words, is_whole, result_of}
-use Rattle.sercos_block.specs.declared.block.Block.{Block}
-use Rattle.sercos_block.specs.Stores.{find_block}
-use Rattle.sercos_command.specs.Calls.{setting_of, status_in}
-use Rattle.sercos_service_drive.specs.Log.{Processed, Entry, open_idn, run_before}
-use Rattle.sercos_service_drive.specs.Replies.{answer_by, copy, read_cause, reply_of}
-use Rattle.sercos_law_channel.specs.Handshake.InStep.{replies_of}
-use Rattle.sercos_law_channel.specs.Handshake.Transfers.{IsTransfer, is_complete}
-use Rattle.sercos_law_channel.specs.Handshake.CommandTransfers.{GivesStatus, EndsWithStatus, idn_of}
 use Rattle.sercos_law_channel.proofs.Handshake.AttributeReplies.{reply-read}
-use Rattle.sercos_step.proofs.Ends.{length-answer_words}
 use Rattle.sercos_law_channel.proofs.Handshake.TransferSteps.{all-slice_get, newest_step, without_newest, length-replies_of, complete-outcome_of, goes_on-outcome_of}
 use Rattle.sercos_law_channel.proofs.Handshake.UnknownBlocks.{refuses_unknown}
 use Rattle.sercos_law_channel.proofs.Handshake.ElementReads.{status_small}

@@ -1,25 +1,7 @@
 -- A transfer that sets a procedure command and is refused adds no write.
-use Rattle.std.proofs.Common.{◌≡◌, ℕ, Bool, true, false, not, ◌&&◌, List, [], ◌∷◌, ◌++◌, length, refl, ap, ap₂, sym, ◌∙◌, subst, if◌then◌else◌}
-use Rattle.std.specs.Prelude.{◌==◌, Option, Some, None, slice_get, slice_index}
-use Rattle.std.proofs.lemmas.Bool.{cond-true}
-use mathlib.Core.Bool.{beq}
-use Rattle.sercos_idn.specs.declared.code.Code.{Code}
-use Rattle.sercos_idn.specs.declared.idn.Idn.{Idn}
-use Rattle.sercos_step.specs.declared.step.Step.{Step}
-use Rattle.sercos_step.specs.declared.step.Answer.{Answer}
-use Rattle.sercos_step.specs.declared.request.Request.{Request}
+use Rattle.sercos_law_channel.proofs.Words.{◌≡◌, ℕ, Bool, true, false, not, ◌&&◌, List, [], ◌∷◌, ◌++◌, length, refl, ap, ap₂, sym, ◌∙◌, subst, if◌then◌else◌, ◌==◌, Option, Some, None, slice_get, slice_index, cond-true, beq, Code, Idn, Step, Answer, Request, a_step, steps_of, outcome_of, answer_words, is_whole, result_of, Block, is_protected, find_block, read_fault, Processed, Entry, open_idn, run_before, selection, answer_by, copy, reply_of, Write, AreAlike, writes_of, replies_of, IsTransfer, is_complete, RefusedAddsNothing, AreProtected, second_of, added_by_setting, cancelled_by}
 use Rattle.sercos_step.specs.declared.request.Request.TheVariants as request
 use Rattle.sercos_step.specs.declared.request.Outcome.TheVariants as outcome
-use Rattle.sercos_step.specs.Steps.{a_step, steps_of, outcome_of, answer_words, is_whole, result_of}
-use Rattle.sercos_block.specs.declared.block.Block.{Block}
-use Rattle.sercos_block.specs.Blocks.{is_protected}
-use Rattle.sercos_block.specs.Stores.{find_block, read_fault}
-use Rattle.sercos_service_drive.specs.Log.{Processed, Entry, open_idn, run_before, selection}
-use Rattle.sercos_service_drive.specs.Replies.{answer_by, copy, reply_of}
-use Rattle.sercos_service_drive.specs.Writes.{Write, AreAlike, writes_of}
-use Rattle.sercos_law_channel.specs.Handshake.InStep.{replies_of}
-use Rattle.sercos_law_channel.specs.Handshake.Transfers.{IsTransfer, is_complete}
-use Rattle.sercos_law_channel.specs.Handshake.CommandTransfers.{RefusedAddsNothing, AreProtected, second_of, added_by_setting, cancelled_by}
 use Rattle.sercos_law_channel.proofs.Handshake.AttributeReplies.{reply-read}
 use Rattle.sercos_law_channel.proofs.Handshake.TransferSteps.{newest_step, without_newest, goes_on-outcome_of}
 use Rattle.sercos_law_channel.proofs.Handshake.SettingReplies.{Allows, set_allows, cancels_well}

@@ -1,23 +1,7 @@
 -- How far a transfer that sets a procedure command has come, and what it adds to the writes.
-use Rattle.std.proofs.Common.{◌≡◌, ℕ, suc, ◌<◌, Bool, true, false, not, ◌&&◌, List, [], ◌∷◌, ◌++◌, length, refl, ap, ap₂, sym, ◌∙◌, arith, if◌then◌else◌, length-append}
-use Rattle.std.proofs.lemmas.Bool.{cond_both}
-use Rattle.std.specs.Prelude.{◌==◌, nat_le, Option, Some, None, slice_get}
-use Rattle.std.proofs.lemmas.Bool.Decides.{nat_tests}
-use Rattle.sercos_idn.specs.declared.idn.Idn.{Idn}
+use Rattle.sercos_law_channel.proofs.Words.{◌≡◌, ℕ, suc, ◌<◌, Bool, true, false, not, ◌&&◌, List, [], ◌∷◌, ◌++◌, length, refl, ap, ap₂, sym, ◌∙◌, arith, if◌then◌else◌, length-append, cond_both, ◌==◌, nat_le, Option, Some, None, slice_get, nat_tests, Idn, Step, Answer, Request, a_step, opening, polling, steps_of, outcome_of, answer_words, is_whole, Block, find_block, Entry, open_idn, run_before, reply_of, Write, AreAlike, writes_of, replies_of, IsTransfer, is_complete, SetsAndCancels, setting, second_of, added_by_setting, cancelled_by}
 use Rattle.sercos_idn.specs.declared.kinds.Length.TheVariants as len
-use Rattle.sercos_step.specs.declared.step.Step.{Step}
-use Rattle.sercos_step.specs.declared.step.Answer.{Answer}
-use Rattle.sercos_step.specs.declared.request.Request.{Request}
 use Rattle.sercos_step.specs.declared.request.Request.TheVariants as request
-use Rattle.sercos_step.specs.Steps.{a_step, opening, polling, steps_of, outcome_of, answer_words, is_whole}
-use Rattle.sercos_block.specs.declared.block.Block.{Block}
-use Rattle.sercos_block.specs.Stores.{find_block}
-use Rattle.sercos_service_drive.specs.Log.{Entry, open_idn, run_before}
-use Rattle.sercos_service_drive.specs.Replies.{reply_of}
-use Rattle.sercos_service_drive.specs.Writes.{Write, AreAlike, writes_of}
-use Rattle.sercos_law_channel.specs.Handshake.InStep.{replies_of}
-use Rattle.sercos_law_channel.specs.Handshake.Transfers.{IsTransfer, is_complete}
-use Rattle.sercos_law_channel.specs.Handshake.CommandTransfers.{SetsAndCancels, setting, second_of, added_by_setting, cancelled_by}
 use Rattle.sercos_law_channel.proofs.Handshake.TransferSteps.{newest_step, without_newest, complete-outcome_of, goes_on-outcome_of, adds_none, effect_by}
 use Rattle.sercos_law_channel.proofs.Handshake.SettingReplies.{two_bytes, set_allows}
 use Rattle.sercos_law_channel.proofs.Handshake.UnknownBlocks.{writes_nowhere, only_opening}

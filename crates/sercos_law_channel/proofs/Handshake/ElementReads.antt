@@ -1,33 +1,11 @@
 -- What a selection of an element copies is read as the element's bytes.
-use Rattle.std.proofs.Common.{◌≡◌, ℕ, zero, suc, ◌+◌, ◌*◌, ◌/◌, ◌%◌, ◌≤◌, ◌<◌, Bool, true, false, List, [], ◌∷◌, length, refl, ap, sym, ◌∙◌, arith, cond, if◌then◌else◌}
-use Rattle.std.specs.Prelude.{◌==◌, ◌||◌, Option, Some, None, is_none, option_map, unwrap_or}
-use Rattle.std.specs.List.{list_all}
-use Rattle.std.proofs.lemmas.Bool.{and_parts, cond-false}
-use Rattle.std.proofs.lemmas.Bool.Decides.{nat_tests}
-use Rattle.sercos_model.specs.Bits.{AreBytes}
-use Rattle.sercos_model.proofs.FaultLemmas.{none_of-then}
-use Rattle.sercos_idn.specs.declared.idn.Idn.{Idn}
-use Rattle.sercos_idn.specs.declared.kinds.Length.{Length}
-use Rattle.sercos_idn.specs.Attributes.{attribute_word}
-use Rattle.sercos_step.specs.declared.shape.Shape.{Shape}
+use Rattle.sercos_law_channel.proofs.Words.{◌≡◌, ℕ, zero, suc, ◌+◌, ◌*◌, ◌/◌, ◌%◌, ◌≤◌, ◌<◌, Bool, true, false, List, [], ◌∷◌, length, refl, ap, sym, ◌∙◌, arith, cond, if◌then◌else◌, ◌==◌, ◌||◌, Option, Some, None, is_none, option_map, unwrap_or, list_all, and_parts, cond-false, nat_tests, AreBytes, none_of-then, Idn, Length, attribute_word, Shape, shape_of, shape_by, as_value, outcome_of, steps_before, Block, bits_in, number_end, is_text, is_limit, is_max_len, is_step, find_block, read_fault, is_len, IsStore, SetCommand, has_ended, status_by, setting_of, status_in, Processed, Entry, words_at, missing, without_data, replies_of, IsTransfer, entry_behind, element_in, bytes_at, IsReadAt}
 use Rattle.sercos_step.specs.declared.shape.Shape.TheVariants as shape
 use Rattle.sercos_step.specs.declared.request.Request.TheVariants as request
 use Rattle.sercos_step.specs.declared.request.Outcome.TheVariants as outcome
-use Rattle.sercos_step.specs.Words.{shape_of, shape_by, as_value}
-use Rattle.sercos_step.specs.Steps.{outcome_of, steps_before}
-use Rattle.sercos_block.specs.declared.block.Block.{Block}
-use Rattle.sercos_block.specs.Blocks.{element_of, bits_in, number_end}
-use Rattle.sercos_block.specs.Rules.{is_text, is_limit, is_max_len, is_step}
-use Rattle.sercos_block.specs.Stores.{find_block, read_fault, is_sound, is_len, IsStore}
-use Rattle.sercos_command.specs.declared.commands.SetCommand.{SetCommand}
-use Rattle.sercos_command.specs.Settings.{has_ended, status_by}
-use Rattle.sercos_command.specs.Calls.{setting_of, status_in}
-use Rattle.sercos_service_drive.specs.Log.{Processed, Entry}
-use Rattle.sercos_service_drive.specs.Replies.{data_in, element_words, words_at, missing}
-use Rattle.sercos_service_drive.specs.Writes.{without_data}
-use Rattle.sercos_law_channel.specs.Handshake.InStep.{replies_of}
-use Rattle.sercos_law_channel.specs.Handshake.Transfers.{IsTransfer}
-use Rattle.sercos_law_channel.specs.Handshake.ReadTransfers.{entry_behind, element_in, bytes_at, IsReadAt}
+use Rattle.sercos_block.specs.Blocks.{element_of}
+use Rattle.sercos_block.specs.Stores.{is_sound}
+use Rattle.sercos_service_drive.specs.Replies.{data_in, element_words}
 use Rattle.sercos_law_channel.proofs.Handshake.AttributeReplies.{find-alike}
 use Rattle.sercos_law_channel.proofs.Handshake.ElementWords.{read_from, text_read, word_read, bound_read, data_read}
 use Rattle.sercos_law_channel.proofs.Handshake.ReadStages.{low_of, high_of, shape_read, given_by}

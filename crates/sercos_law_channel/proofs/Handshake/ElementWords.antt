@@ -1,21 +1,8 @@
 -- The words of an element that a store keeps, read as the attribute says, are its bytes.
-use Rattle.std.proofs.Common.{◌≡◌, ℕ, ◌+◌, ◌/◌, ◌≤◌, ◌<◌, Bool, true, false, not, ◌&&◌, List, [], ◌∷◌, length, take, refl, ap, sym, ◌∙◌, arith, if◌then◌else◌}
-use Rattle.std.specs.Prelude.{◌==◌, nat_le, Option, Some, None, is_none, option_map, unwrap_or, slice_index, min}
-use Rattle.std.specs.List.{list_all}
-use Rattle.std.specs.Int.{w16, w32, to_le_bytes}
-use Rattle.std.proofs.lemmas.Bool.Decides.{nat_tests}
+use Rattle.sercos_law_channel.proofs.Words.{◌≡◌, ℕ, ◌+◌, ◌/◌, ◌≤◌, ◌<◌, Bool, true, false, not, ◌&&◌, List, [], ◌∷◌, length, take, refl, ap, sym, ◌∙◌, arith, if◌then◌else◌, ◌==◌, nat_le, Option, Some, None, is_none, option_map, unwrap_or, slice_index, min, list_all, w16, w32, to_le_bytes, nat_tests, Attribute, Length, is_list, item_len, Shape, words_of, bytes_in, bytes_read, words_in, shape_by, as_value, width_of, bytes_for, is_text, is_printable, is_limit, list_words, low_back, high_back, bytes_back}
 use Rattle.sercos_model.specs.Bits.{AreBytes}
-use Rattle.sercos_idn.specs.declared.attribute.Attribute.{Attribute}
-use Rattle.sercos_idn.specs.declared.kinds.Length.{Length}
 use Rattle.sercos_idn.specs.declared.kinds.Length.TheVariants as len
-use Rattle.sercos_idn.specs.Codes.{is_list, item_len}
-use Rattle.sercos_step.specs.declared.shape.Shape.{Shape}
 use Rattle.sercos_step.specs.declared.shape.Shape.TheVariants as shape
-use Rattle.sercos_step.specs.Words.{words_of, bytes_in, bytes_read, words_in, shape_by, as_value}
-use Rattle.sercos_block.specs.Blocks.{width_of, bytes_for}
-use Rattle.sercos_block.specs.Rules.{is_text, is_printable, is_limit}
-use Rattle.sercos_service_drive.specs.Replies.{list_words}
-use Rattle.sercos_step.proofs.ReadBack.{low_back, high_back, bytes_back}
 use Rattle.sercos_law_channel.proofs.Handshake.ReadRows.{row, row-all}
 
 -- the bytes that these words give, as many of them as the first says

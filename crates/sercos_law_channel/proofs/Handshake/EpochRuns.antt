@@ -1,19 +1,6 @@
 -- Over falls and restarts: the drive is in step with the epoch of the master.
-use Rattle.std.proofs.Common.{◌≡◌, ◌⊎◌, inl, inr, ℕ, suc, ◌+◌, ◌≤◌, Bool, true, false, not, ◌&&◌, List, [], ◌∷◌, length, refl, sym, ap, ◌∙◌, subst, arith, if◌then◌else◌}
-use Rattle.std.specs.Prelude.{◌==◌, Option, Some, None, IsSome, IfSome}
-use Rattle.std.proofs.lemmas.Bool.{cases_eq, cases_Bool, eqb-true, cond-true, cond-false}
-use Rattle.sercos_step.specs.declared.request.Request.{Request}
-use Rattle.sercos_command.specs.Calls.{change_in}
-use Rattle.sercos_service_drive.specs.Log.{Processed, Entry}
-use Rattle.sercos_service_drive.specs.Replies.{reply_of, log_of}
-use Rattle.sercos_service_drive.specs.Says.{channel_says, shown_by}
-use Rattle.sercos_service_master.specs.Begun.{Begun, Said, open_in, master_says}
-use Rattle.sercos_law_channel.specs.Handshake.InStep.{AreInStep, Idle}
+use Rattle.sercos_law_channel.proofs.Words.{◌≡◌, ◌⊎◌, inl, inr, ℕ, suc, ◌+◌, ◌≤◌, Bool, true, false, not, ◌&&◌, List, [], ◌∷◌, length, refl, sym, ap, ◌∙◌, subst, arith, if◌then◌else◌, ◌==◌, Option, Some, None, IsSome, IfSome, cases_eq, cases_Bool, eqb-true, cond-true, cond-false, Request, change_in, Processed, Entry, reply_of, log_of, channel_says, shown_by, Begun, Said, open_in, master_says, AreInStep, Idle, Heard, View, Standing, stood_in, got_in, standing, record_in, processed_in, with_record, kept_in, since_reset, command, command_in, whole_row, with_heard, with_begun, unless_restart, epoch_begun, begun_in, epoch_records, records_in_views, epoch_log, log_in, IsShown, IsNext, IsRun, zero_run}
 use Rattle.sercos_law_channel.proofs.Handshake.HandshakeMoves.{hears, begins, takes, ahs-log, log-taken}
-use Rattle.sercos_law_channel.specs.Handshake.Views.{Heard, View, Standing, stood_in, got_in, standing, record_in, processed_in, with_record, kept_in, since_reset}
-use Rattle.sercos_law_channel.specs.Handshake.Epochs.{command, command_in, whole_row, with_heard, with_begun, unless_restart, epoch_begun, begun_in, epoch_records, records_in_views, epoch_log, log_in}
-use Rattle.sercos_law_channel.specs.Handshake.Runs.{IsShown, IsNext, IsRun}
-use Rattle.sercos_law_channel.specs.Handshake.RunLaws.{zero_run}
 use Rattle.sercos_law_channel.proofs.Handshake.PhaseMoves.{chosen, Stands, Down, Moves, Stays, stands, before, ends, Processes, Nothing, Record, processes, processed_phase, kept_on, kept_below, reset_on}
 
 whole_le_zero : (whole here there restart : Bool) (a b : ℕ) → a ≤ b → (if whole && (here && not there) then (if restart then 0 else a) + 1 else 0) ≤ (if here then b + 1 else 0)

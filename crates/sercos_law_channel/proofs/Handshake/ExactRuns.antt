@@ -1,29 +1,7 @@
 -- All transfers of a run are exact, through all epochs.
-use Rattle.std.proofs.Common.{◌≡◌, ◌⊎◌, inl, inr, ℕ, ◌+◌, Bool, true, false, List, [], ◌∷◌, ◌++◌, length, refl, sym, ap, ◌∙◌, subst, arith, if◌then◌else◌, append_assoc}
-use Rattle.std.proofs.lemmas.Bool.{cond_both}
-use Rattle.std.specs.Prelude.{Option, Some, None, IsSome, IfSome, is_some}
-use mathlib.Core.Bool.{beq}
-use Rattle.sercos_telegram.specs.declared.words.Status.{Status}
-use Rattle.sercos_step.specs.declared.step.Answer.{Answer}
-use Rattle.sercos_step.specs.declared.request.Request.{Request}
-use Rattle.sercos_block.specs.declared.block.Block.{Block}
-use Rattle.sercos_command.specs.Calls.{CommandHistory, change_in}
-use Rattle.sercos_service_drive.specs.Says.{Shown, channel_says, shown_by}
-use Rattle.sercos_service_drive.specs.Log.{Processed, Entry, ahs, accepted}
-use Rattle.sercos_service_drive.specs.Replies.{reply_of, answered, log_of}
-use Rattle.sercos_service_drive.specs.Writes.{Write, AreAlike, writes_of}
-use Rattle.sercos_service_master.specs.Begun.{Begun, open_in, is_odd, answers_it, answer_in, with_answer, master_says}
-use Rattle.sercos_law_channel.specs.Handshake.InStep.{AreInStep}
-use Rattle.sercos_law_channel.specs.Handshake.Moves.{with_status, said_in}
-use Rattle.sercos_law_channel.specs.Handshake.Parts.{AreInTurn, AreParts}
-use Rattle.sercos_law_channel.specs.Handshake.Transfers.{AreReplies, HaveBlocks}
+use Rattle.sercos_law_channel.proofs.Words.{◌≡◌, ◌⊎◌, inl, inr, ℕ, ◌+◌, Bool, true, false, List, [], ◌∷◌, ◌++◌, length, refl, sym, ap, ◌∙◌, subst, arith, if◌then◌else◌, append_assoc, cond_both, Option, Some, None, IsSome, IfSome, is_some, beq, Status, Answer, Request, Block, CommandHistory, change_in, Shown, channel_says, shown_by, Processed, Entry, ahs, accepted, reply_of, answered, log_of, Write, AreAlike, writes_of, Begun, open_in, is_odd, answers_it, answer_in, with_answer, master_says, AreInStep, with_status, said_in, AreInTurn, AreParts, AreReplies, HaveBlocks, Heard, View, standing, stood_in, record_in, with_record, command, with_heard, with_begun, unless_restart, epoch_begun, begun_in, epoch_records, records_in_views, epoch_log, log_in, IsShown, IsRun, leaving, begun_ago, all_begun, all_writes, IsSound, AreSound, AreSmall, AreExact, RunsAreExact}
 use Rattle.sercos_law_channel.proofs.Handshake.HandshakeMoves.{ahs-shown, ahs-log, log-taken}
 use Rattle.sercos_law_channel.proofs.Handshake.LogParts.{heard_in_turn, fall_into_parts}
-use Rattle.sercos_law_channel.specs.Handshake.Views.{Heard, View, standing, stood_in, record_in, with_record}
-use Rattle.sercos_law_channel.specs.Handshake.Epochs.{command, with_heard, with_begun, unless_restart, epoch_begun, begun_in, epoch_records, records_in_views, epoch_log, log_in}
-use Rattle.sercos_law_channel.specs.Handshake.Runs.{IsShown, IsRun}
-use Rattle.sercos_law_channel.specs.Handshake.WholeRun.{leaving, begun_ago, all_begun, all_writes, IsSound, AreSound, AreSmall}
-use Rattle.sercos_law_channel.specs.Handshake.Exact.{AreExact, RunsAreExact}
 use Rattle.sercos_law_channel.proofs.Handshake.PhaseMoves.{Processes, Nothing, Record, processes, processed_phase}
 use Rattle.sercos_law_channel.proofs.Handshake.EpochRuns.{commanded, joined, restarted, shown_of, heard_of, begun_of, said_of, in_step, in_step_in}
 use Rattle.sercos_law_channel.proofs.Handshake.OnePhase.{IsSteady, IsLevel, heard_level, begun_level, taken_level}

@@ -1,35 +1,13 @@
 -- What one transfer writes and reads, whether it is complete, refused, open or broken.
-use Rattle.std.proofs.Common.{◌≡◌, ℕ, ◌+◌, ◌≤◌, Bool, true, false, not, List, [], ◌∷◌, ◌++◌, map, drop, length, refl, sym, ap, ◌∙◌, subst, arith, if◌then◌else◌, length-append}
-use Rattle.std.specs.Prelude.{◌==◌, Option, Some, None, IfSome}
-use Rattle.std.proofs.lemmas.Bool.{and_parts, cond-false, cond-true, eqb-true, leb-true}
-use Rattle.sercos_model.specs.Bits.{AreBytes}
-use Rattle.sercos_idn.specs.declared.attribute.Attribute.{Attribute}
-use Rattle.sercos_idn.specs.declared.code.Code.{Code}
-use Rattle.sercos_idn.specs.declared.idn.Idn.{Idn}
-use Rattle.sercos_step.specs.declared.step.Answer.{Answer}
-use Rattle.sercos_step.specs.declared.request.Request.{Request}
+use Rattle.sercos_law_channel.proofs.Words.{◌≡◌, ℕ, ◌+◌, ◌≤◌, Bool, true, false, not, List, [], ◌∷◌, ◌++◌, map, drop, length, refl, sym, ap, ◌∙◌, subst, arith, if◌then◌else◌, length-append, ◌==◌, Option, Some, None, IfSome, and_parts, cond-false, cond-true, eqb-true, leb-true, AreBytes, Attribute, Code, Idn, Answer, Request, steps_before, steps_of, outcome_of, answer_words, is_whole, result_of, AreAnswers, Block, is_protected, find_block, Entry, Write, writes_of, Begun, replies_of, IsRow, IsPart, Unsent, Unheard, AreReplies, HaveBlocks, IsTransfer, stored, is_complete, WritesOnce, AreProtected, setting, second_of, added_by_setting, cancelled_by, idn_of, ReadsOnce, entry_behind, IsReadAt, length-answer_words, IsSound, AreSmall, Given, given_of, gives, written_to, given_by, HasBlock, AreWrites, Complete, Refused, Broken, AreInPhase, ReadsExactly, EndsExactly, IsExact}
 use Rattle.sercos_step.specs.declared.request.Request.TheVariants as request
 use Rattle.sercos_step.specs.declared.request.Outcome.TheVariants as outcome
-use Rattle.sercos_step.specs.Steps.{steps_before, steps_of, outcome_of, answer_words, is_whole, result_of, AreAnswers}
-use Rattle.sercos_block.specs.declared.block.Block.{Block}
-use Rattle.sercos_block.specs.Blocks.{is_protected}
-use Rattle.sercos_block.specs.Stores.{find_block}
-use Rattle.sercos_service_drive.specs.Log.{Entry}
-use Rattle.sercos_service_drive.specs.Writes.{Write, writes_of}
-use Rattle.sercos_service_master.specs.Begun.{Begun}
-use Rattle.sercos_law_channel.specs.Handshake.InStep.{replies_of}
-use Rattle.sercos_law_channel.specs.Handshake.Parts.{IsRow, IsPart, Unsent, Heard, Unheard}
-use Rattle.sercos_law_channel.specs.Handshake.Transfers.{AreReplies, HaveBlocks, IsTransfer, stored, is_complete, WritesOnce}
-use Rattle.sercos_law_channel.specs.Handshake.CommandTransfers.{AreProtected, setting, second_of, added_by_setting, cancelled_by, idn_of}
-use Rattle.sercos_law_channel.specs.Handshake.ReadTransfers.{ReadsOnce, entry_behind, IsReadAt}
+use Rattle.sercos_law_channel.specs.Handshake.Parts.{Heard}
 use Rattle.sercos_law_channel.proofs.Handshake.UnknownBlocks.{writes_nowhere}
 use Rattle.sercos_law_channel.proofs.Handshake.QuietSteps.{writes_nothing}
 use Rattle.sercos_law_channel.proofs.Handshake.CommandStages.{sets_and_cancels}
 use Rattle.sercos_law_channel.proofs.Handshake.CommandRefusals.{refused_adds_nothing}
-use Rattle.sercos_step.proofs.Ends.{length-answer_words}
 use Rattle.sercos_law_channel.proofs.Handshake.TransferSteps.{length-replies_of, complete-outcome_of, goes_on-outcome_of}
-use Rattle.sercos_law_channel.specs.Handshake.WholeRun.{IsSound, AreSmall}
-use Rattle.sercos_law_channel.specs.Handshake.Exact.{Given, given_of, gives, written_to, given_by, HasBlock, AreWrites, Complete, Refused, Broken, AreInPhase, ReadsExactly, EndsExactly, IsExact}
 use Rattle.sercos_law_channel.proofs.Handshake.CommandEnds.{one_long, unknown_incomplete, ends_with_status}
 use Rattle.sercos_law_channel.proofs.Handshake.OnePhase.{IsNamed, IsSteady, in_one_phase}
 

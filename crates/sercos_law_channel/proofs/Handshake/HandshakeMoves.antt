@@ -1,16 +1,5 @@
 -- Each move of the two ends keeps them in step.
-use Rattle.std.proofs.Common.{◌≡◌, ℕ, ◌-◌, Bool, true, false, not, List, [], ◌∷◌, ◌++◌, refl, sym, ap, ◌∙◌, if◌then◌else◌}
-use Rattle.std.specs.Prelude.{nat_le, Option, Some, None}
-use mathlib.Core.Bool.{beq}
-use Rattle.sercos_telegram.specs.declared.words.Status.{Status}
-use Rattle.sercos_step.specs.declared.step.Step.{Step}
-use Rattle.sercos_step.specs.declared.step.Answer.{Answer}
-use Rattle.sercos_service_drive.specs.Log.{Processed, Entry, ahs, accepted}
-use Rattle.sercos_service_drive.specs.Replies.{reply_of, answered, log_of}
-use Rattle.sercos_service_drive.specs.Says.{Shown, shown, shown_by}
-use Rattle.sercos_service_master.specs.Begun.{Begun, Said, open_in, steps_in, answers_in, steps_begun, step_at, with_step, is_odd, mhs_in, answers_it, answer_in, with_answer, step_or_none, master_says}
-use Rattle.sercos_law_channel.specs.Handshake.InStep.{InStep, Idle, Sent, Kept, AreInStep, log_steps, replies_of}
-use Rattle.sercos_law_channel.specs.Handshake.Moves.{Hears, Begins, Takes, with_status, said_in, with_processed}
+use Rattle.sercos_law_channel.proofs.Words.{◌≡◌, ℕ, ◌-◌, Bool, true, false, not, List, [], ◌∷◌, ◌++◌, refl, sym, ap, ◌∙◌, if◌then◌else◌, nat_le, Option, Some, None, beq, Status, Step, Answer, Processed, Entry, ahs, accepted, reply_of, answered, log_of, Shown, shown, shown_by, Begun, Said, open_in, steps_in, answers_in, steps_begun, step_at, with_step, is_odd, mhs_in, answers_it, answer_in, with_answer, step_or_none, master_says, InStep, Idle, Sent, Kept, AreInStep, log_steps, replies_of, Hears, Begins, Takes, with_status, said_in, with_processed}
 
 pub beq-self : (b : Bool) → beq b b ≡ true
 beq-self true = refl

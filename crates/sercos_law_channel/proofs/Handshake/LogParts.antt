@@ -1,17 +1,6 @@
 -- The log of a drive falls into the parts of the requests.
-use Rattle.std.proofs.Common.{◌≡◌, ℕ, suc, ◌≤◌, Bool, true, false, ◌&&◌, List, [], ◌∷◌, ◌++◌, length, take, drop, refl, ap, ap₂, sym, ◌∙◌, arith, if◌then◌else◌, length-append, take-append-drop}
-use Rattle.std.specs.Prelude.{Option, Some, None, is_some}
-use Rattle.sercos_step.specs.declared.step.Step.{Step}
-use Rattle.sercos_step.specs.declared.step.Answer.{Answer}
-use Rattle.sercos_step.specs.declared.request.Request.{Request}
-use Rattle.sercos_step.specs.declared.request.Outcome.{Outcome}
-use Rattle.sercos_step.specs.Steps.{outcome_of, next_step, AreAnswers}
-use Rattle.sercos_service_drive.specs.Log.{Processed, Entry}
-use Rattle.sercos_service_drive.specs.Replies.{reply_of, answered}
-use Rattle.sercos_service_master.specs.Begun.{Begun, step_at, with_step, steps_begun, steps_in, answers_in, open_in, answer_in, with_answer}
-use Rattle.sercos_service_master.specs.Calls.{Begin, Send, Hear, EndCycle, begun_by}
-use Rattle.sercos_law_channel.specs.Handshake.InStep.{Idle, Sent, Kept, AreInStep, log_steps, replies_of}
-use Rattle.sercos_law_channel.specs.Handshake.Parts.{AreInTurn, ComeInTurn, IsRow, IsPart, Unsent, Heard, Unheard, FallIntoParts, HaveReplies}
+use Rattle.sercos_law_channel.proofs.Words.{◌≡◌, ℕ, suc, ◌≤◌, Bool, true, false, ◌&&◌, List, [], ◌∷◌, ◌++◌, length, take, drop, refl, ap, ap₂, sym, ◌∙◌, arith, if◌then◌else◌, length-append, take-append-drop, Option, Some, None, is_some, Step, Answer, Request, Outcome, outcome_of, next_step, AreAnswers, Processed, Entry, reply_of, answered, Begun, step_at, with_step, steps_begun, steps_in, answers_in, open_in, answer_in, with_answer, Begin, Send, Hear, EndCycle, begun_by, Idle, Sent, Kept, AreInStep, log_steps, replies_of, AreInTurn, ComeInTurn, IsRow, IsPart, Unsent, Unheard, FallIntoParts, HaveReplies}
+use Rattle.sercos_law_channel.specs.Handshake.Parts.{Heard}
 use Rattle.sercos_law_channel.proofs.Handshake.TransferSteps.{length-steps_of, length-replies_of, length-steps_begun}
 
 -- a step is open only where the transfer goes on

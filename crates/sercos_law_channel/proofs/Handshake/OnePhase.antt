@@ -1,28 +1,10 @@
 -- The entries of a transfer are of one phase, since the master doesn't rise while a step is open.
-use Rattle.std.proofs.Common.{◌≡◌, ◌⊎◌, inl, inr, ⊎_elim, ℕ, suc, ◌+◌, ◌≤◌, Bool, true, false, not, ◌&&◌, List, [], ◌∷◌, ◌++◌, length, drop, refl, sym, ap, ◌∙◌, subst, arith, if◌then◌else◌, length-append}
-use Rattle.std.specs.Prelude.{◌==◌, Option, Some, None, is_some, slice_get}
-use Rattle.std.specs.List.{list_all}
-use Rattle.std.proofs.lemmas.Bool.{cond_both, not-true}
-use Rattle.std.proofs.lemmas.Bool.Decides.{nat_tests}
-use mathlib.Core.Bool.{beq}
-use Rattle.sercos_telegram.specs.declared.words.Status.{Status}
-use Rattle.sercos_step.specs.declared.step.Step.{Step}
-use Rattle.sercos_step.specs.declared.step.Answer.{Answer}
-use Rattle.sercos_step.specs.declared.request.Request.{Request}
+use Rattle.sercos_law_channel.proofs.Words.{◌≡◌, ◌⊎◌, inl, inr, ⊎_elim, ℕ, suc, ◌+◌, ◌≤◌, Bool, true, false, not, ◌&&◌, List, [], ◌∷◌, ◌++◌, length, drop, refl, sym, ap, ◌∙◌, subst, arith, if◌then◌else◌, length-append, ◌==◌, Option, Some, None, is_some, slice_get, list_all, cond_both, not-true, nat_tests, beq, Status, Step, Answer, Request, shape_of, words_told, reading, writing, asks_attribute, polling, steps_of, answer_words, next_step, Processed, Entry, opens, Begun, step_at, with_step, steps_in, open_in, is_odd, mhs_in, answers_it, answer_in, with_answer, step_or_none, master_says, Block, Idle, Sent, Kept, AreInStep, replies_of, log_steps, IsTransfer, with_status, said_in, with_processed, AreInPhase}
 use Rattle.sercos_step.specs.declared.request.Request.TheVariants as request
-use Rattle.sercos_step.specs.Words.{shape_of, words_told}
-use Rattle.sercos_step.specs.Steps.{reading, writing, asks_attribute, polling, steps_of, answer_words, next_step}
-use Rattle.sercos_service_drive.specs.Log.{Processed, Entry, opens}
-use Rattle.sercos_service_master.specs.Begun.{Begun, step_at, with_step, steps_in, open_in, is_odd, mhs_in, answers_it, answer_in, with_answer, step_or_none, master_says}
-use Rattle.sercos_block.specs.declared.block.Block.{Block}
-use Rattle.sercos_law_channel.specs.Handshake.InStep.{Idle, Sent, Kept, AreInStep, replies_of, log_steps}
-use Rattle.sercos_law_channel.specs.Handshake.Transfers.{IsTransfer}
 use Rattle.sercos_law_channel.proofs.Handshake.StepTests.{attribute_passes, reading_passes, run_passes}
 use Rattle.sercos_law_channel.proofs.Handshake.TransferSteps.{all-slice_get, newest_step, without_newest}
-use Rattle.sercos_law_channel.specs.Handshake.Moves.{with_status, said_in, with_processed}
 use Rattle.sercos_law_channel.proofs.Handshake.HandshakeMoves.{parity, quiet_bit, said_bit, said_step, beq-self}
 use Rattle.sercos_law_channel.proofs.Handshake.UnknownBlocks.{first_step}
-use Rattle.sercos_law_channel.specs.Handshake.Exact.{AreInPhase}
 
 -- The steps of a request after the first open no identifier number.
 

@@ -1,10 +1,5 @@
 -- How the phase of the drive moves, and what it keeps of the records.
-use Rattle.std.proofs.Common.{◌≡◌, ◌⊎◌, inl, inr, ℕ, ◌+◌, ◌≤◌, Bool, true, false, not, ◌&&◌, ◌||◌, List, [], ◌∷◌, length, refl, sym, ap, ◌∙◌, arith, if◌then◌else◌}
-use Rattle.std.specs.Prelude.{nat_le, ◌==◌, Option, Some, None}
-use Rattle.std.proofs.lemmas.Bool.{cases_eq, and_parts, leb-true, eqb-true, ne_eqb, cond-false}
-use Rattle.sercos_service_drive.specs.Log.{Processed}
-use Rattle.sercos_service_master.specs.Begun.{Said}
-use Rattle.sercos_law_channel.specs.Handshake.Views.{View, Standing, moved, afresh, before_mst, stood_in, got_in, takes_in, standing, record_in, processed_of, processed_in, with_record, kept_in_phase, kept_unless, since_reset, kept_in}
+use Rattle.sercos_law_channel.proofs.Words.{◌≡◌, ◌⊎◌, inl, inr, ℕ, ◌+◌, ◌≤◌, Bool, true, false, not, ◌&&◌, ◌||◌, List, [], ◌∷◌, length, refl, sym, ap, ◌∙◌, arith, if◌then◌else◌, nat_le, ◌==◌, Option, Some, None, cases_eq, and_parts, leb-true, eqb-true, ne_eqb, cond-false, Processed, Said, View, Standing, moved, afresh, before_mst, stood_in, got_in, takes_in, standing, record_in, processed_of, processed_in, with_record, kept_in_phase, kept_unless, since_reset, kept_in}
 
 -- which way a choice went
 pub chosen : {A : Type 0} (b : Bool) (x y : A) → ((b ≡ true) × ((if b then x else y) ≡ x)) ⊎ ((b ≡ false) × ((if b then x else y) ≡ y))

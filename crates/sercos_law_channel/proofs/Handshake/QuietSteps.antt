@@ -1,19 +1,8 @@
 -- Steps that write no operation data add no write.
-use Rattle.std.proofs.Common.{◌≡◌, ℕ, Bool, true, false, not, ◌&&◌, List, [], ◌∷◌, ◌++◌, length, drop, refl, ◌∙◌, if◌then◌else◌}
-use Rattle.std.specs.Prelude.{◌==◌}
-use Rattle.std.specs.List.{list_all}
-use Rattle.sercos_step.specs.declared.step.Step.{Step}
-use Rattle.sercos_step.specs.declared.request.Request.{Request}
+use Rattle.sercos_law_channel.proofs.Words.{◌≡◌, ℕ, Bool, true, false, not, ◌&&◌, List, [], ◌∷◌, ◌++◌, length, drop, refl, ◌∙◌, if◌then◌else◌, ◌==◌, list_all, cond_both, Step, Request, shape_of, words_told, reading, asks_attribute, steps_of, answer_words, Entry, takes_effect, replies_of, WritesNothing, is_silent}
 use Rattle.sercos_step.specs.declared.request.Request.TheVariants as request
-use Rattle.sercos_step.specs.Words.{shape_of, words_told}
-use Rattle.sercos_step.specs.Steps.{reading, asks_attribute, steps_of, answer_words}
-use Rattle.sercos_service_drive.specs.Log.{Entry}
-use Rattle.sercos_service_drive.specs.Writes.{takes_effect}
-use Rattle.sercos_law_channel.specs.Handshake.InStep.{replies_of}
-use Rattle.sercos_law_channel.specs.Handshake.Transfers.{WritesNothing, is_silent}
 use Rattle.sercos_law_channel.proofs.Handshake.TransferSteps.{all-slice_get, newest_step, without_newest, adds_none}
 use Rattle.sercos_law_channel.proofs.Handshake.StepTests.{attribute_passes, reading_passes, run_passes}
-use Rattle.std.proofs.lemmas.Bool.{cond_both}
 
 abbrev is_quiet : Step → Bool
 is_quiet s = not (s.write && (s.element == 7))

@@ -1,13 +1,6 @@
 -- The steps that read an element's words, and the words that they answer.
-use Rattle.std.proofs.Common.{◌≡◌, ℕ, zero, suc, ◌+◌, ◌/◌, ◌≤◌, ◌<◌, Bool, true, false, List, [], ◌∷◌, ◌++◌, length, drop, replicate, refl, ap, ap₂, sym, ◌∙◌, arith, length-append}
-use Rattle.std.specs.Prelude.{nat_le, Some, slice_get, slice_index, min}
-use Rattle.std.proofs.lemmas.Bool.Decides.{nat_tests}
-use Rattle.sercos_step.specs.declared.step.Step.{Step}
-use Rattle.sercos_step.specs.declared.shape.Shape.{Shape}
+use Rattle.sercos_law_channel.proofs.Words.{◌≡◌, ℕ, zero, suc, ◌+◌, ◌/◌, ◌≤◌, ◌<◌, Bool, true, false, List, [], ◌∷◌, ◌++◌, length, drop, replicate, refl, ap, ap₂, sym, ◌∙◌, arith, length-append, nat_le, Some, slice_get, slice_index, min, nat_tests, Step, Shape, words_in, words_in_list, a_step, run, reading, length-run}
 use Rattle.sercos_step.specs.declared.shape.Shape.TheVariants as shape
-use Rattle.sercos_step.specs.Words.{words_in, words_in_list}
-use Rattle.sercos_step.specs.Steps.{a_step, run, reading}
-use Rattle.sercos_step.proofs.Runs.{length-run}
 
 -- the first words of a list, filled up with zeros
 abbrev pub row : ℕ → List ℕ → List ℕ

@@ -1,26 +1,7 @@
 -- How far a read has come, and what it gives.
-use Rattle.std.proofs.Common.{◌≡◌, ℕ, suc, ◌+◌, ◌*◌, ◌≤◌, Bool, true, false, ◌&&◌, List, [], ◌∷◌, ◌++◌, length, drop, refl, ap, ap₂, sym, ◌∙◌, arith, if◌then◌else◌, length-append}
-use Rattle.std.specs.Prelude.{◌==◌, nat_le, Option, Some, None, slice_get, slice_index}
-use Rattle.std.proofs.lemmas.Bool.{cond-true, cond-false}
-use Rattle.std.proofs.lemmas.Bool.Decides.{nat_tests}
-use Rattle.sercos_idn.specs.declared.idn.Idn.{Idn}
-use Rattle.sercos_step.specs.declared.step.Step.{Step}
-use Rattle.sercos_step.specs.declared.step.Answer.{Answer}
-use Rattle.sercos_step.specs.declared.shape.Shape.{Shape}
-use Rattle.sercos_step.specs.declared.request.Request.{Request}
+use Rattle.sercos_law_channel.proofs.Words.{◌≡◌, ℕ, suc, ◌+◌, ◌*◌, ◌≤◌, Bool, true, false, ◌&&◌, List, [], ◌∷◌, ◌++◌, length, drop, refl, ap, ap₂, sym, ◌∙◌, arith, if◌then◌else◌, length-append, ◌==◌, nat_le, Option, Some, None, slice_get, slice_index, cond-true, cond-false, nat_tests, Idn, Step, Answer, Shape, Request, shape_of, words_in, bytes_read, a_step, opening, reading, attribute_then, asks_attribute, steps_of, steps_before, result_of, outcome_of, answer_words, is_whole, Block, find_block, Processed, Entry, open_idn, run_before, selection, answer_by, copy, read_cause, reply_of, AreAlike, replies_of, IsTransfer, entry_behind, length-answer_words}
 use Rattle.sercos_step.specs.declared.request.Request.TheVariants as request
 use Rattle.sercos_step.specs.declared.request.Outcome.TheVariants as outcome
-use Rattle.sercos_step.specs.Words.{shape_of, words_in, bytes_read}
-use Rattle.sercos_step.specs.Steps.{a_step, opening, reading, attribute_then, asks_attribute, steps_of, steps_before, result_of, outcome_of, answer_words, is_whole}
-use Rattle.sercos_block.specs.declared.block.Block.{Block}
-use Rattle.sercos_block.specs.Stores.{find_block}
-use Rattle.sercos_service_drive.specs.Log.{Processed, Entry, open_idn, run_before, selection}
-use Rattle.sercos_service_drive.specs.Replies.{answer_by, copy, read_cause, reply_of}
-use Rattle.sercos_service_drive.specs.Writes.{AreAlike}
-use Rattle.sercos_law_channel.specs.Handshake.InStep.{replies_of}
-use Rattle.sercos_law_channel.specs.Handshake.Transfers.{IsTransfer}
-use Rattle.sercos_law_channel.specs.Handshake.ReadTransfers.{entry_behind}
-use Rattle.sercos_step.proofs.Ends.{length-answer_words}
 use Rattle.sercos_law_channel.proofs.Handshake.TransferSteps.{newest_step, without_newest, goes_on-outcome_of, length-replies_of}
 use Rattle.sercos_law_channel.proofs.Handshake.AttributeReplies.{attribute_words, IsRead, IsRead-alike, reply-read, reply_low, reply_high}
 use Rattle.sercos_law_channel.proofs.Handshake.ReadRows.{some_same, row, row-more, reading_next, reading_full, some_reading}

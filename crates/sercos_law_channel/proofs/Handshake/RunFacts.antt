@@ -1,15 +1,5 @@
 -- The laws on phases, and on each cycle.
-use Rattle.std.proofs.Common.{◌≡◌, ◌⊎◌, inl, inr, ℕ, suc, ◌+◌, ◌≤◌, Bool, true, false, not, ◌&&◌, ◌||◌, List, [], ◌∷◌, length, refl, sym, ap, ap₂, ◌∙◌, subst, arith, if◌then◌else◌}
-use Rattle.std.specs.Prelude.{nat_le, ◌==◌, max, Option, Some, is_some}
-use Rattle.std.proofs.lemmas.Bool.{cases_eq, and_from, leb-true, le-leb, eq-eqb, ne_eqb, cond-true, cond-false}
-use mathlib.Core.Bool.{beq}
-use Rattle.sercos_service_drive.specs.Log.{Processed, Entry, ahs}
-use Rattle.sercos_service_drive.specs.Replies.{reply_of, log_of}
-use Rattle.sercos_law_channel.specs.Handshake.InStep.{AreInStep}
-use Rattle.sercos_law_channel.specs.Handshake.Views.{View, Standing, afresh, before_mst, moved, got_in, takes_in, standing, stood_in, record_in, kept_in}
-use Rattle.sercos_law_channel.specs.Handshake.WholeRun.{accepted_of, all_entries}
-use Rattle.sercos_law_channel.specs.Handshake.Epochs.{begun_in}
-use Rattle.sercos_law_channel.specs.Handshake.RunLaws.{phase_commanded, StandsNoLater, StandsAsCommanded, StaysDown, ComesUp, KeepsUp, AreBefore, AcceptsInOrder, ProcessesInPhase, ComesToZero, Handshake}
+use Rattle.sercos_law_channel.proofs.Words.{◌≡◌, ◌⊎◌, inl, inr, ℕ, suc, ◌+◌, ◌≤◌, Bool, true, false, not, ◌&&◌, ◌||◌, List, [], ◌∷◌, length, refl, sym, ap, ap₂, ◌∙◌, subst, arith, if◌then◌else◌, nat_le, ◌==◌, max, Option, Some, is_some, cases_eq, and_from, leb-true, le-leb, eq-eqb, ne_eqb, cond-true, cond-false, beq, Processed, Entry, ahs, reply_of, log_of, AreInStep, View, Standing, afresh, before_mst, moved, got_in, takes_in, standing, stood_in, record_in, kept_in, accepted_of, all_entries, begun_in, phase_commanded, StandsNoLater, StandsAsCommanded, StaysDown, ComesUp, KeepsUp, AreBefore, AcceptsInOrder, ProcessesInPhase, ComesToZero, Handshake}
 use Rattle.sercos_law_channel.proofs.Handshake.PhaseMoves.{Stands, Down, Moves, Stays, stands, before, ends, Processes, Nothing, Record, processes, processed_phase}
 use Rattle.sercos_law_channel.proofs.Handshake.EpochRuns.{commanded, joined, in_step_in, same_log}
 

@@ -1,16 +1,5 @@
 -- There is a run for any choices.
-use Rattle.std.proofs.Common.{◌≡◌, ℕ, ◌+◌, ◌≤◌, Bool, true, false, not, ◌&&◌, ◌||◌, List, [], ◌∷◌, refl, arith, if◌then◌else◌}
-use Rattle.std.specs.Prelude.{nat_le, nat_lt, ◌==◌, Option, Some, None, IsSome, IfSome, is_none}
-use Rattle.std.proofs.lemmas.Bool.{and_parts, leb-true, ltb-true}
-use Rattle.sercos_step.specs.declared.step.Step.{Step}
-use Rattle.sercos_step.specs.declared.request.Request.{Request}
-use Rattle.sercos_block.specs.declared.block.Block.{Block}
-use Rattle.sercos_service_master.specs.Begun.{Said, open_in, master_says}
-use Rattle.sercos_law_channel.specs.Handshake.Views.{View, standing, stood_in}
-use Rattle.sercos_law_channel.specs.Handshake.Epochs.{whole_row}
-use Rattle.sercos_law_channel.specs.Handshake.Runs.{IsShown, IsRun}
-use Rattle.sercos_law_channel.specs.Handshake.WholeRun.{IsSound, AreSound}
-use Rattle.sercos_law_channel.specs.Handshake.Choices.{Choice, silent_by, shown_at, heard_at, begun_before, begun_at, has_ten, rises_at, view_by, run_by, AreSoundChoices}
+use Rattle.sercos_law_channel.proofs.Words.{◌≡◌, ℕ, ◌+◌, ◌≤◌, Bool, true, false, not, ◌&&◌, ◌||◌, List, [], ◌∷◌, refl, arith, if◌then◌else◌, nat_le, nat_lt, ◌==◌, Option, Some, None, IsSome, IfSome, is_none, and_parts, leb-true, ltb-true, Step, Request, Block, Said, open_in, master_says, View, standing, stood_in, whole_row, IsShown, IsRun, IsSound, AreSound, Choice, silent_by, shown_at, heard_at, begun_before, begun_at, has_ten, rises_at, view_by, run_by, AreSoundChoices}
 
 shut_at : (o : Option Step) → is_none o ≡ true → o ≡ None
 shut_at None e = refl

@@ -1,25 +1,8 @@
 -- Where the setting of a procedure command isn't refused, the block has two bytes, and its cancel isn't refused either, unless
 -- it is write protected then.
-use Rattle.std.proofs.Common.{◌≡◌, ℕ, ◌/◌, ◌%◌, ◌<◌, Bool, true, false, not, ◌&&◌, List, [], ◌∷◌, refl, ap, ap₂, sym, ◌∙◌, arith}
-use Rattle.std.specs.Prelude.{◌==◌, ◌||◌, Option, Some, None, option_map, int_lt}
-use Rattle.std.specs.Bool.{then_some}
-use Rattle.std.specs.Option.{option_or}
-use Rattle.std.proofs.lemmas.Bool.{cond-true, cond-false}
-use Rattle.sercos_model.proofs.FaultLemmas.{none_of-or, none_of-then}
-use Rattle.sercos_idn.specs.declared.attribute.Attribute.{Attribute}
-use Rattle.sercos_idn.specs.declared.kinds.Length.{Length}
+use Rattle.sercos_law_channel.proofs.Words.{◌≡◌, ℕ, ◌/◌, ◌%◌, ◌<◌, Bool, true, false, not, ◌&&◌, List, [], ◌∷◌, refl, ap, ap₂, sym, ◌∙◌, arith, ◌==◌, ◌||◌, Option, Some, None, option_map, int_lt, then_some, option_or, cond-true, cond-false, none_of-or, none_of-then, Attribute, Length, is_list, Step, Answer, a_step, Block, is_number, bits_in, meant, is_fixed, is_protected, find_block, is_below, is_above, Processed, Entry, opens, open_idn, run_before, answer_by, is_first_word, ends_early, is_over, is_uneven, is_no_command_value, write_cause_in, reply_of, reply_at, AreAlike, without_data, no_cause}
 use Rattle.sercos_idn.specs.declared.kinds.Length.TheVariants as len
-use Rattle.sercos_idn.specs.Codes.{is_list}
-use Rattle.sercos_step.specs.declared.step.Step.{Step}
-use Rattle.sercos_step.specs.declared.step.Answer.{Answer}
-use Rattle.sercos_step.specs.Steps.{a_step}
-use Rattle.sercos_block.specs.declared.block.Block.{Block}
-use Rattle.sercos_block.specs.Blocks.{is_number, bits_in, meant, is_fixed, is_protected}
-use Rattle.sercos_block.specs.Stores.{find_block, is_below, is_above}
-use Rattle.sercos_service_drive.specs.Log.{Processed, Entry, opens, open_idn, run_before}
-use Rattle.sercos_service_drive.specs.Replies.{answer_by, is_first_word, ends_early, is_over, is_uneven, is_no_command_value, bytes_written, write_cause, write_cause_in, reply_of, reply_at}
-use Rattle.sercos_service_drive.specs.Writes.{AreAlike, without_data}
-use Rattle.sercos_service_drive.proofs.AllowedWrites.{no_cause}
+use Rattle.sercos_service_drive.specs.Replies.{bytes_written, write_cause}
 use Rattle.sercos_law_channel.proofs.Handshake.AttributeReplies.{find-alike}
 
 -- A block that takes one word as the last has two bytes.

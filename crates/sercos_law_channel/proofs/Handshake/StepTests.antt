@@ -1,11 +1,6 @@
 -- A test that each step of a part of a transfer passes, by the element that it reads or writes.
-use Rattle.std.proofs.Common.{◌≡◌, ℕ, ◌+◌, ◌*◌, Bool, true, false, List, [], ◌∷◌, replicate, refl}
-use Rattle.std.specs.List.{list_all}
-use Rattle.sercos_step.specs.declared.step.Step.{Step}
-use Rattle.sercos_step.specs.declared.shape.Shape.{Shape}
+use Rattle.sercos_law_channel.proofs.Words.{◌≡◌, ℕ, ◌+◌, ◌*◌, Bool, true, false, List, [], ◌∷◌, replicate, refl, list_all, Step, Shape, words_in_list, a_step, run, reading, attribute_then}
 use Rattle.sercos_step.specs.declared.shape.Shape.TheVariants as shape
-use Rattle.sercos_step.specs.Words.{words_in_list}
-use Rattle.sercos_step.specs.Steps.{a_step, run, reading, attribute_then}
 
 module _ (test : Step → Bool) where
   -- each step of an element passes

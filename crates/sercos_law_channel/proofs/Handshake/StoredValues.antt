@@ -1,25 +1,8 @@
 -- What a block holds is what was written to it last.
-use Rattle.std.proofs.Common.{◌≡◌, ℕ, Bool, true, false, not, ◌&&◌, List, [], ◌∷◌, ◌++◌, map, drop, zero, suc, refl, sym, ap, ◌∙◌, subst, if◌then◌else◌, append_assoc}
-use Rattle.std.specs.Prelude.{◌==◌, Option, Some, None, option_map, unwrap_or}
-use Rattle.std.specs.List.{list_all}
-use Rattle.std.proofs.lemmas.Bool.{and_parts, cond-true, cond-false, eqb-true, eq-eqb, not-true}
-use Rattle.sercos_idn.specs.declared.idn.Idn.{Idn}
+use Rattle.sercos_law_channel.proofs.Words.{◌≡◌, ℕ, Bool, true, false, not, ◌&&◌, List, [], ◌∷◌, ◌++◌, map, drop, zero, suc, refl, sym, ap, ◌∙◌, subst, if◌then◌else◌, append_assoc, ◌==◌, Option, Some, None, option_map, unwrap_or, list_all, and_parts, cond-true, cond-false, eqb-true, eq-eqb, not-true, Idn, outcome_of, Block, find_block, with_value, with_data, list_bytes, unfit_for_phase_3, unfit_for_phase_4, is_command, is_set, CommandHistory, Entry, Write, with_added, command_value, blocks_with, Begun, stored, View, processed_in, kept_in, begun_ago, all_entries, write_of, all_writes, Given, given_of, gives, written_to, given_by, AreWrites, Complete, Refused, Broken, AreExact, RunsAreExact, newest_to, store_in, is_plain, HoldsNewest, GiveElsewhere, StaysWritten}
 use Rattle.sercos_step.specs.declared.request.Request.TheVariants as request
 use Rattle.sercos_step.specs.declared.request.Outcome.TheVariants as outcome
-use Rattle.sercos_step.specs.Steps.{outcome_of}
-use Rattle.sercos_block.specs.declared.block.Block.{Block}
-use Rattle.sercos_block.specs.Stores.{find_block, with_value, with_data}
-use Rattle.sercos_command.specs.Checks.{list_bytes, unfit_for_phase_3, unfit_for_phase_4}
-use Rattle.sercos_command.specs.Settings.{is_command}
-use Rattle.sercos_command.specs.Calls.{is_set, CommandHistory, with_check_list}
-use Rattle.sercos_service_drive.specs.Log.{Entry}
-use Rattle.sercos_service_drive.specs.Writes.{Write, with_added, command_value, blocks_with}
-use Rattle.sercos_service_master.specs.Begun.{Begun}
-use Rattle.sercos_law_channel.specs.Handshake.Transfers.{stored}
-use Rattle.sercos_law_channel.specs.Handshake.Views.{View, processed_in, kept_in}
-use Rattle.sercos_law_channel.specs.Handshake.WholeRun.{begun_ago, all_entries, write_of, all_writes}
-use Rattle.sercos_law_channel.specs.Handshake.Exact.{Given, given_of, gives, written_to, given_by, AreWrites, Complete, Refused, Broken, AreExact, RunsAreExact}
-use Rattle.sercos_law_channel.specs.Handshake.Values.{newest_to, store_in, is_plain, HoldsNewest, GiveElsewhere, StaysWritten}
+use Rattle.sercos_command.specs.Calls.{with_check_list}
 
 -- The store.
 

@@ -1,19 +1,6 @@
 -- The steps of the entries of a transfer, one by one.
-use Rattle.std.proofs.Common.{◌≡◌, ℕ, zero, suc, ◌≤◌, Bool, true, false, not, ◌&&◌, List, [], ◌∷◌, ◌++◌, length, refl, sym, ap, ◌∙◌, arith, if◌then◌else◌}
-use Rattle.std.specs.Prelude.{◌==◌, Option, Some, None, is_some, slice_get}
-use Rattle.std.specs.List.{list_all}
-use Rattle.std.proofs.lemmas.Bool.{and_parts, cond-false}
-use Rattle.sercos_step.specs.declared.step.Step.{Step}
-use Rattle.sercos_step.specs.declared.step.Answer.{Answer}
-use Rattle.sercos_step.specs.declared.request.Request.{Request}
+use Rattle.sercos_law_channel.proofs.Words.{◌≡◌, ℕ, zero, suc, ◌≤◌, Bool, true, false, not, ◌&&◌, List, [], ◌∷◌, ◌++◌, length, refl, sym, ap, ◌∙◌, arith, if◌then◌else◌, ◌==◌, Option, Some, None, is_some, slice_get, list_all, and_parts, cond-false, Step, Answer, Request, outcome_of, next_step, answer_words, is_whole, result_of, step_at, with_step, steps_begun, Block, Entry, Write, with_added, writes_of, takes_effect, log_steps, replies_of, IsTransfer, is_complete}
 use Rattle.sercos_step.specs.declared.request.Outcome.TheVariants as outcome
-use Rattle.sercos_step.specs.Steps.{outcome_of, next_step, answer_words, is_whole, result_of}
-use Rattle.sercos_service_master.specs.Begun.{step_at, with_step, steps_begun}
-use Rattle.sercos_block.specs.declared.block.Block.{Block}
-use Rattle.sercos_service_drive.specs.Log.{Entry}
-use Rattle.sercos_service_drive.specs.Writes.{Write, with_added, writes_of, takes_effect}
-use Rattle.sercos_law_channel.specs.Handshake.InStep.{log_steps, replies_of}
-use Rattle.sercos_law_channel.specs.Handshake.Transfers.{IsTransfer, is_complete}
 
 pub length-steps_of : (entries : List Entry) → length (log_steps entries) ≡ length entries
 length-steps_of [] = refl

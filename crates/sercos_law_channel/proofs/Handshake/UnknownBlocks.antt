@@ -1,21 +1,6 @@
 -- A transfer to a data block that the drive hasn't comes no further than its opening.
-use Rattle.std.proofs.Common.{◌≡◌, ℕ, true, false, List, [], ◌∷◌, ◌++◌, refl, ap, sym, ◌∙◌}
-use Rattle.std.specs.Prelude.{Option, Some, None, option_map, is_some, slice_get}
-use Rattle.std.proofs.lemmas.Bool.{cond-true, cond-false}
-use Rattle.sercos_idn.specs.declared.idn.Idn.{Idn}
-use Rattle.sercos_step.specs.declared.step.Step.{Step}
-use Rattle.sercos_step.specs.declared.step.Answer.{Answer}
-use Rattle.sercos_step.specs.declared.request.Request.{Request}
+use Rattle.sercos_law_channel.proofs.Words.{◌≡◌, ℕ, true, false, List, [], ◌∷◌, ◌++◌, refl, ap, sym, ◌∙◌, Option, Some, None, option_map, is_some, slice_get, cond-true, cond-false, Idn, Step, Answer, Request, opening, steps_of, Block, find_block, Processed, Entry, opens, good, refused, reply_of, AreAlike, without_data, writes_of, replies_of, IsTransfer, RefusesUnknown, WritesNowhere, idn_of}
 use Rattle.sercos_step.specs.declared.request.Request.TheVariants as request
-use Rattle.sercos_step.specs.Steps.{opening, steps_of}
-use Rattle.sercos_block.specs.declared.block.Block.{Block}
-use Rattle.sercos_block.specs.Stores.{find_block}
-use Rattle.sercos_service_drive.specs.Log.{Processed, Entry, opens}
-use Rattle.sercos_service_drive.specs.Replies.{good, refused, reply_of}
-use Rattle.sercos_service_drive.specs.Writes.{AreAlike, without_data, writes_of}
-use Rattle.sercos_law_channel.specs.Handshake.InStep.{replies_of}
-use Rattle.sercos_law_channel.specs.Handshake.Transfers.{IsTransfer}
-use Rattle.sercos_law_channel.specs.Handshake.CommandTransfers.{RefusesUnknown, WritesNowhere, idn_of}
 use Rattle.sercos_law_channel.proofs.Handshake.AttributeReplies.{find-without_data}
 use Rattle.sercos_law_channel.proofs.Handshake.TransferSteps.{newest_step, without_newest, goes_on-outcome_of, adds_none, effect_by}
 

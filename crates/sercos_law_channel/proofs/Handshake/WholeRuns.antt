@@ -1,14 +1,5 @@
 -- What the drive accepted and wrote in the whole run is what it did in the epochs, one after the other.
-use Rattle.std.proofs.Common.{◌≡◌, ℕ, Bool, true, false, List, [], ◌∷◌, ◌++◌, refl, sym, ap, ◌∙◌, arith, if◌then◌else◌}
-use Rattle.std.specs.Prelude.{Option, Some, None}
-use mathlib.Core.Bool.{beq}
-use Rattle.sercos_service_drive.specs.Log.{Processed, Entry, ahs, accepted}
-use Rattle.sercos_service_drive.specs.Replies.{reply_of, answered, log_of}
-use Rattle.sercos_service_drive.specs.Writes.{Write, with_added, writes_of, adds, added_on}
-use Rattle.sercos_law_channel.specs.Handshake.Views.{View, processed_in, with_record, kept_in}
-use Rattle.sercos_law_channel.specs.Handshake.Epochs.{unless_restart, epoch_records, records_in_views, epoch_log, log_in}
-use Rattle.sercos_law_channel.specs.Handshake.Runs.{IsRun}
-use Rattle.sercos_law_channel.specs.Handshake.WholeRun.{accepted_of, all_entries, write_of, all_writes, leaving}
+use Rattle.sercos_law_channel.proofs.Words.{◌≡◌, ℕ, Bool, true, false, List, [], ◌∷◌, ◌++◌, refl, sym, ap, ◌∙◌, arith, if◌then◌else◌, Option, Some, None, beq, Processed, Entry, ahs, accepted, reply_of, answered, log_of, Write, with_added, writes_of, adds, added_on, View, processed_in, with_record, kept_in, unless_restart, epoch_records, records_in_views, epoch_log, log_in, IsRun, accepted_of, all_entries, write_of, all_writes, leaving}
 use Rattle.sercos_law_channel.proofs.Handshake.PhaseMoves.{Processes, Nothing, Record, processes, processed_phase}
 use Rattle.sercos_law_channel.proofs.Handshake.EpochRuns.{joined, same_at}
 

@@ -1,23 +1,9 @@
 -- Transfers that are refused at the cancel, worked out from the definitions: so neither condition of the law can be left out.
-use Rattle.std.proofs.Common.{◌≡◌, ℕ, ◌<◌, Bool, true, false, List, [], ◌∷◌, refl, arith}
-use Rattle.std.specs.Prelude.{Option, Some, None}
-use Rattle.sercos_idn.specs.declared.attribute.Attribute.{Attribute}
-use Rattle.sercos_idn.specs.declared.kinds.Length.TheVariants.{Two}
+use Rattle.sercos_law_channel.proofs.Words.{◌≡◌, ℕ, ◌<◌, Bool, true, false, List, [], ◌∷◌, refl, arith, Option, Some, None, Attribute, Two, Request, Step, Answer, a_step, outcome_of, Block, CommandHistory, Entry, good, refused, writes_of, replies_of, IsTransfer, setting}
 use Rattle.sercos_idn.specs.declared.kinds.Form.TheVariants as forms
-use Rattle.sercos_step.specs.declared.request.Request.{Request}
 use Rattle.sercos_step.specs.declared.request.Request.TheVariants as request
 use Rattle.sercos_step.specs.declared.request.Outcome.TheVariants as outcome
-use Rattle.sercos_step.specs.declared.step.Step.{Step}
-use Rattle.sercos_step.specs.declared.step.Answer.{Answer}
-use Rattle.sercos_step.specs.Steps.{a_step, outcome_of}
-use Rattle.sercos_block.specs.declared.block.Block.{Block}
-use Rattle.sercos_command.specs.Calls.{CommandHistory}
-use Rattle.sercos_service_drive.specs.Log.{Entry}
-use Rattle.sercos_service_drive.specs.Replies.{good, refused, bytes_written, write_cause}
-use Rattle.sercos_service_drive.specs.Writes.{writes_of}
-use Rattle.sercos_law_channel.specs.Handshake.InStep.{replies_of}
-use Rattle.sercos_law_channel.specs.Handshake.Transfers.{IsTransfer}
-use Rattle.sercos_law_channel.specs.Handshake.CommandTransfers.{setting}
+use Rattle.sercos_service_drive.specs.Replies.{bytes_written, write_cause}
 
 -- a procedure command, or a number, that is write protected from phase 3 on
 abbrev attribute : Bool → Attribute

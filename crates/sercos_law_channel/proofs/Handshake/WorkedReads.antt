@@ -1,26 +1,14 @@
 -- A read worked out from the definitions: of a number of four bytes, 64500, that grows by 10 in each cycle.
-use Rattle.std.proofs.Common.{◌≡◌, ℕ, ◌<◌, ◌≤◌, Bool, true, false, List, [], ◌∷◌, refl, arith}
-use Rattle.std.specs.Prelude.{Some, None}
+use Rattle.sercos_law_channel.proofs.Words.{◌≡◌, ℕ, ◌<◌, ◌≤◌, Bool, true, false, List, [], ◌∷◌, refl, arith, Some, None, Attribute, Two, Four, Request, Step, a_step, outcome_of, Block, IsStore, CommandHistory, Processed, Entry, good, replies_of, IsTransfer, entry_behind, bytes_at}
 use Rattle.sercos_model.specs.Bits.{AreBytes}
-use Rattle.sercos_idn.specs.declared.attribute.Attribute.{Attribute}
-use Rattle.sercos_idn.specs.declared.kinds.Length.TheVariants.{Two, Four}
 use Rattle.sercos_idn.specs.declared.kinds.Form.TheVariants as forms
 use Rattle.sercos_idn.specs.Codes.{attribute_fault}
 use Rattle.sercos_idn.specs.Attributes.{attribute_of}
-use Rattle.sercos_step.specs.declared.request.Request.{Request}
 use Rattle.sercos_step.specs.declared.request.Request.TheVariants as request
 use Rattle.sercos_step.specs.declared.request.Outcome.TheVariants as outcome
-use Rattle.sercos_step.specs.declared.step.Step.{Step}
-use Rattle.sercos_step.specs.Steps.{a_step, outcome_of}
-use Rattle.sercos_block.specs.declared.block.Block.{Block}
 use Rattle.sercos_block.specs.Blocks.{element_of}
-use Rattle.sercos_block.specs.Stores.{IsStore, are_ascending, is_sound, is_typed}
-use Rattle.sercos_command.specs.Calls.{CommandHistory}
-use Rattle.sercos_service_drive.specs.Log.{Processed, Entry}
-use Rattle.sercos_service_drive.specs.Replies.{good, data_in, element_words}
-use Rattle.sercos_law_channel.specs.Handshake.InStep.{replies_of}
-use Rattle.sercos_law_channel.specs.Handshake.Transfers.{IsTransfer}
-use Rattle.sercos_law_channel.specs.Handshake.ReadTransfers.{entry_behind, bytes_at}
+use Rattle.sercos_block.specs.Stores.{are_ascending, is_sound, is_typed}
+use Rattle.sercos_service_drive.specs.Replies.{data_in, element_words}
 
 no_command : false ≡ true → Four ≡ Two
 no_command off = absurd (cc)

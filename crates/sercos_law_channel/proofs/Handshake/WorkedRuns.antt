@@ -1,31 +1,13 @@
 -- A run worked out from the definitions: a write, a second one that a fall breaks, the same again in the next epoch, restarts of
 -- both ends, and a read that comes through.
-use Rattle.std.proofs.Common.{◌≡◌, ℕ, ◌<◌, Bool, true, false, List, [], ◌∷◌, ◌++◌, replicate, take, refl, arith}
-use Rattle.std.specs.Prelude.{Option, Some, None, option_map}
-use Rattle.sercos_telegram.specs.declared.words.Status.{Status}
-use Rattle.sercos_idn.specs.declared.attribute.Attribute.{Attribute}
-use Rattle.sercos_idn.specs.declared.kinds.Length.TheVariants.{Two}
+use Rattle.sercos_law_channel.proofs.Words.{◌≡◌, ℕ, ◌<◌, Bool, true, false, List, [], ◌∷◌, ◌++◌, replicate, take, refl, arith, Option, Some, None, option_map, Status, Attribute, Two, Request, Outcome, Step, a_step, outcome_of, Block, CommandHistory, Entry, Write, good, Begun, Said, IsTransfer, Heard, View, standing, Choice, run_by, all_begun, all_entries, all_writes, store_in}
 use Rattle.sercos_idn.specs.declared.kinds.Form.TheVariants as forms
 use Rattle.sercos_idn.specs.Codes.{attribute_fault}
 use Rattle.sercos_idn.specs.Attributes.{attribute_of}
-use Rattle.sercos_step.specs.declared.request.Request.{Request}
 use Rattle.sercos_step.specs.declared.request.Request.TheVariants as request
-use Rattle.sercos_step.specs.declared.request.Outcome.{Outcome}
 use Rattle.sercos_step.specs.declared.request.Outcome.TheVariants as outcome
-use Rattle.sercos_step.specs.declared.step.Step.{Step}
-use Rattle.sercos_step.specs.Steps.{a_step, outcome_of}
-use Rattle.sercos_block.specs.declared.block.Block.{Block}
 use Rattle.sercos_block.specs.Blocks.{element_of}
-use Rattle.sercos_command.specs.Calls.{CommandHistory}
-use Rattle.sercos_service_drive.specs.Log.{Entry}
-use Rattle.sercos_service_drive.specs.Writes.{Write}
-use Rattle.sercos_service_drive.specs.Replies.{good, data_in, element_words, bytes_written, write_cause}
-use Rattle.sercos_service_master.specs.Begun.{Begun, Said}
-use Rattle.sercos_law_channel.specs.Handshake.Transfers.{IsTransfer}
-use Rattle.sercos_law_channel.specs.Handshake.Views.{Heard, View, standing}
-use Rattle.sercos_law_channel.specs.Handshake.Choices.{Choice, run_by}
-use Rattle.sercos_law_channel.specs.Handshake.WholeRun.{all_begun, all_entries, all_writes}
-use Rattle.sercos_law_channel.specs.Handshake.Values.{store_in}
+use Rattle.sercos_service_drive.specs.Replies.{data_in, element_words, bytes_written, write_cause}
 
 -- a number of two bytes that is written in phase 2
 abbrev number : Attribute

@@ -1,17 +1,6 @@
 -- A run of steps that write words, and what it adds to the writes.
-use Rattle.std.proofs.Common.{◌≡◌, ℕ, suc, ◌+◌, Bool, true, false, not, ◌&&◌, List, [], ◌∷◌, length, take, drop, refl, ap, ap₂, ◌∙◌, arith, if◌then◌else◌}
-use Rattle.std.specs.Prelude.{◌==◌, Option, Some, None, slice_get, slice_index, option_map, option_and_then}
-use mathlib.Core.Bool.{beq}
-use Rattle.std.proofs.lemmas.Bool.{cond-true, cond-false}
-use Rattle.sercos_idn.specs.Codes.{is_list}
-use Rattle.sercos_step.specs.Words.{bytes_in}
-use Rattle.sercos_step.specs.declared.step.Step.{Step}
-use Rattle.sercos_step.specs.Steps.{a_step, run}
-use Rattle.sercos_block.specs.declared.block.Block.{Block}
-use Rattle.sercos_block.specs.Stores.{find_block}
-use Rattle.sercos_service_drive.specs.Log.{Processed, Entry, opens, open_idn, run_before, in_order}
+use Rattle.sercos_law_channel.proofs.Words.{◌≡◌, ℕ, suc, ◌+◌, Bool, true, false, not, ◌&&◌, List, [], ◌∷◌, length, take, drop, refl, ap, ap₂, ◌∙◌, arith, if◌then◌else◌, ◌==◌, Option, Some, None, slice_get, slice_index, option_map, option_and_then, beq, cond-true, cond-false, is_list, bytes_in, Step, a_step, run, Block, find_block, Processed, Entry, opens, open_idn, run_before, in_order, Write, AreAlike, without_data, written_by, with_added, writes_of, takes_effect}
 use Rattle.sercos_service_drive.specs.Replies.{bytes_written}
-use Rattle.sercos_service_drive.specs.Writes.{Write, AreAlike, without_data, written_by, with_added, writes_of, takes_effect}
 use Rattle.sercos_law_channel.proofs.Handshake.AttributeReplies.{find-alike}
 use Rattle.sercos_law_channel.proofs.Handshake.TransferSteps.{effect_by}
 

@@ -1,29 +1,10 @@
 -- How far a write of operation data has come, and what it adds to the writes.
-use Rattle.std.proofs.Common.{◌≡◌, ℕ, suc, ◌+◌, ◌*◌, ◌≤◌, Bool, true, false, not, ◌&&◌, List, [], ◌∷◌, ◌++◌, length, drop, refl, ap, ap₂, sym, ◌∙◌, arith, if◌then◌else◌, length-append}
-use Rattle.std.specs.Prelude.{◌==◌, nat_le, Some, slice_get, slice_index}
-use Rattle.std.proofs.lemmas.Bool.Decides.{nat_tests}
-use Rattle.sercos_model.specs.Bits.{AreBytes}
-use Rattle.sercos_idn.specs.declared.idn.Idn.{Idn}
-use Rattle.sercos_step.specs.declared.step.Step.{Step}
-use Rattle.sercos_step.specs.declared.step.Answer.{Answer}
-use Rattle.sercos_step.specs.declared.shape.Shape.{Shape}
+use Rattle.sercos_law_channel.proofs.Words.{◌≡◌, ℕ, suc, ◌+◌, ◌*◌, ◌≤◌, Bool, true, false, not, ◌&&◌, List, [], ◌∷◌, ◌++◌, length, drop, refl, ap, ap₂, sym, ◌∙◌, arith, if◌then◌else◌, length-append, ◌==◌, nat_le, Some, slice_get, slice_index, nat_tests, AreBytes, Idn, Step, Answer, Shape, Request, words_of, at_least_one, words_told, shape_of, shape_by, a_step, opening, run, steps_of, outcome_of, answer_words, is_whole, Block, find_block, Processed, Entry, open_idn, run_before, in_order, reply_of, bytes_written, Write, AreAlike, writes_of, replies_of, IsTransfer, is_complete, stored, length-run, length-in_order}
 use Rattle.sercos_step.specs.declared.shape.Shape.TheVariants as shape
-use Rattle.sercos_step.specs.declared.request.Request.{Request}
 use Rattle.sercos_step.specs.declared.request.Request.TheVariants as request
-use Rattle.sercos_step.specs.Words.{words_of, at_least_one, words_told, shape_of, shape_by}
-use Rattle.sercos_step.specs.Steps.{a_step, opening, run, steps_of, outcome_of, answer_words, is_whole}
-use Rattle.sercos_block.specs.declared.block.Block.{Block}
-use Rattle.sercos_block.specs.Stores.{find_block}
-use Rattle.sercos_service_drive.specs.Log.{Processed, Entry, open_idn, run_before, in_order}
-use Rattle.sercos_service_drive.specs.Replies.{reply_of, bytes_written}
-use Rattle.sercos_service_drive.specs.Writes.{Write, AreAlike, writes_of}
-use Rattle.sercos_law_channel.specs.Handshake.InStep.{replies_of}
-use Rattle.sercos_law_channel.specs.Handshake.Transfers.{IsTransfer, is_complete, stored}
 use Rattle.sercos_law_channel.proofs.Handshake.TransferSteps.{newest_step, without_newest, complete-outcome_of, goes_on-outcome_of, adds_none, effect_by}
 use Rattle.sercos_law_channel.proofs.Handshake.StoredBytes.{bytes_written-told}
 use Rattle.sercos_law_channel.proofs.Handshake.AttributeReplies.{attribute_words, IsRead, IsRead-alike, reply_low, reply_high}
-use Rattle.sercos_step.proofs.Runs.{length-run}
-use Rattle.sercos_service_drive.proofs.WriteAnswers.{length-in_order}
 use Rattle.sercos_law_channel.proofs.Handshake.ReadRows.{some_same}
 use Rattle.sercos_law_channel.proofs.Handshake.WriteRuns.{run_next, run_grows, run_starts, open_by, last_word}
 

@@ -1,22 +1,7 @@
 -- For how many cycles a step is open, and channels that never idle.
-use Rattle.std.proofs.Common.{◌≡◌, ◌⊎◌, inl, inr, ℕ, suc, ◌+◌, ◌*◌, ◌<◌, ◌≤◌, Bool, true, false, List, [], ◌∷◌, ◌++◌, length, refl, sym, ap, ◌∙◌, arith, if◌then◌else◌}
-use Rattle.std.specs.Prelude.{◌==◌, Option, is_some}
-use Rattle.std.proofs.lemmas.Bool.{cond-true, cond-false, eqb-true, eq-eqb}
-use mathlib.Core.Bool.{beq}
-use Rattle.sercos_step.specs.declared.step.Step.{Step}
-use Rattle.sercos_service_drive.specs.Log.{Processed, Entry}
-use Rattle.sercos_service_drive.specs.Replies.{reply_of, log_of}
-use Rattle.sercos_service_master.specs.Begun.{Begun, open_in, steps_in, answers_in, is_odd}
-use Rattle.sercos_law_channel.specs.Handshake.InStep.{log_steps}
+use Rattle.sercos_law_channel.proofs.Words.{◌≡◌, ◌⊎◌, inl, inr, ℕ, suc, ◌+◌, ◌*◌, ◌<◌, ◌≤◌, Bool, true, false, List, [], ◌∷◌, ◌++◌, length, refl, sym, ap, ◌∙◌, arith, if◌then◌else◌, ◌==◌, Option, is_some, cond-true, cond-false, eqb-true, eq-eqb, beq, Step, Processed, Entry, reply_of, log_of, Begun, open_in, steps_in, answers_in, is_odd, log_steps, View, standing, stood_in, record_in, with_record, unless_restart, epoch_begun, begun_in, epoch_records, records_in_views, epoch_log, log_in, IsRun, one_more, open_cycles, AreUndisturbed, IsOnTime, Rests, Waits, IsClean, AreClean, open_since, IsInTime, RestsNow, WaitsNow, BeginsEpoch, age_by, age_in, AgesInTime, AgesWhereDead, OpensAlways, KeepsTime}
 use Rattle.sercos_law_channel.proofs.Handshake.HandshakeMoves.{log-taken}
 use Rattle.sercos_law_channel.proofs.Handshake.TransferSteps.{length-steps_of}
-use Rattle.sercos_law_channel.specs.Handshake.Views.{View, standing, stood_in, record_in, with_record}
-use Rattle.sercos_law_channel.specs.Handshake.Epochs.{unless_restart, epoch_begun, begun_in, epoch_records, records_in_views, epoch_log, log_in}
-use Rattle.sercos_law_channel.specs.Handshake.Runs.{IsRun}
-use Rattle.sercos_law_channel.specs.Pace.Times.{one_more, open_cycles, AreUndisturbed, IsOnTime, Rests, Waits}
-use Rattle.sercos_law_channel.specs.Pace.Stretches.{IsClean, AreClean, open_since, IsInTime, RestsNow, WaitsNow}
-use Rattle.sercos_law_channel.specs.Pace.Passages.{BeginsEpoch}
-use Rattle.sercos_law_channel.specs.Pace.Ages.{age_by, age_in, AgesInTime, AgesWhereDead, OpensAlways, KeepsTime}
 use Rattle.sercos_law_channel.proofs.Handshake.PhaseMoves.{Processes, Nothing, Record, processes}
 use Rattle.sercos_law_channel.proofs.Pace.OnTimeRuns.{on_time, time_of}
 use Rattle.sercos_law_channel.proofs.Pace.LateRuns.{comes_in_time}

@@ -1,18 +1,5 @@
 -- The calls of the master's channel in a run.
-use Rattle.std.proofs.Common.{◌≡◌, ℕ, suc, ◌+◌, ◌≤◌, Bool, true, false, not, ◌&&◌, List, [], ◌∷◌, ◌++◌, length, refl, min, sym, ap, ◌∙◌, subst, arith, if◌then◌else◌}
-use Rattle.std.specs.Prelude.{nat_le, ◌==◌, Option, Some, None, IsSome, IfSome, is_some, option_map, unwrap_or}
-use Rattle.std.proofs.lemmas.Bool.{cond-true, cond-false, and_from, le-leb, eq-eqb, ne_eqb}
-use Rattle.sercos_step.specs.declared.step.Step.{Step}
-use Rattle.sercos_step.specs.declared.step.Answer.{Answer}
-use Rattle.sercos_step.specs.declared.request.Request.{Request}
-use Rattle.sercos_service_master.specs.Begun.{Begun, step_at, with_step, steps_begun, open_in, steps_in, answers_it, answer_in, with_answer}
-use Rattle.sercos_service_master.specs.Calls.{Call, EndCycle, begun_by, age_of, AreCalls}
-use Rattle.sercos_law_channel.specs.Handshake.Views.{Heard, View}
-use Rattle.sercos_law_channel.specs.Handshake.Epochs.{whole_row, with_heard, with_begun, unless_restart, epoch_begun, begun_in}
-use Rattle.sercos_law_channel.specs.Handshake.Runs.{IsShown, IsRun}
-use Rattle.sercos_law_channel.specs.Pace.Passages.{AreWhole, BeginsEpoch}
-use Rattle.sercos_law_channel.specs.Pace.Ages.{age_by, age_in}
-use Rattle.sercos_law_channel.specs.Pace.ChannelCalls.{staying, StaysARun, calls_heard, calls_begun, calls_sent, calls_in, channel_calls, IsSent, AreSent, CallsBegin, age_if_open, AgesAreThose, AgesBeforeEnd, NoneLate}
+use Rattle.sercos_law_channel.proofs.Words.{◌≡◌, ℕ, suc, ◌+◌, ◌≤◌, Bool, true, false, not, ◌&&◌, List, [], ◌∷◌, ◌++◌, length, refl, min, sym, ap, ◌∙◌, subst, arith, if◌then◌else◌, nat_le, ◌==◌, Option, Some, None, IsSome, IfSome, is_some, option_map, unwrap_or, cond-true, cond-false, and_from, le-leb, eq-eqb, ne_eqb, Step, Answer, Request, Begun, step_at, with_step, steps_begun, open_in, steps_in, answers_it, answer_in, with_answer, Call, EndCycle, begun_by, age_of, AreCalls, Heard, View, whole_row, with_heard, with_begun, unless_restart, epoch_begun, begun_in, IsShown, IsRun, AreWhole, BeginsEpoch, age_by, age_in, staying, StaysARun, calls_heard, calls_begun, calls_sent, calls_in, channel_calls, IsSent, AreSent, CallsBegin, age_if_open, AgesAreThose, AgesBeforeEnd, NoneLate}
 use Rattle.sercos_law_channel.proofs.Pace.WholeCycles.{open_late, stays_clean, hears_throughout}
 use Rattle.sercos_law_channel.proofs.Pace.EpochBegins.{run_after, Early, early_in}
 use Rattle.sercos_law_channel.proofs.Pace.AgeRuns.{nothing_old, ages_in_time}

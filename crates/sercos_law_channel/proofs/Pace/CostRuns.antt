@@ -1,35 +1,11 @@
 -- What the requests of an epoch cost.
-use Rattle.std.proofs.Common.{◌≡◌, ℕ, suc, ◌+◌, ◌*◌, ◌^◌, ◌<◌, ◌≤◌, Bool, true, false, List, [], ◌∷◌, ◌++◌, length, refl, sym, ap, ◌∙◌, subst, arith, if◌then◌else◌, length-append}
-use Rattle.std.specs.Prelude.{Option, Some, None, is_some}
-use mathlib.Core.Bool.{beq}
-use Rattle.sercos_step.specs.declared.request.Request.{Request}
+use Rattle.sercos_law_channel.proofs.Words.{◌≡◌, ℕ, suc, ◌+◌, ◌*◌, ◌^◌, ◌<◌, ◌≤◌, Bool, true, false, List, [], ◌∷◌, ◌++◌, length, refl, sym, ap, ◌∙◌, subst, arith, if◌then◌else◌, length-append, Option, Some, None, is_some, beq, Request, Outcome, shape_of, shape_by, outcome_of, next_step, has_next, times_le, Block, find_block, status_in, Processed, Entry, accepted, reply_of, log_of, Write, writes_of, Begun, step_at, open_in, steps_in, answers_in, is_odd, AreInStep, Idle, Sent, Kept, log_steps, replies_of, AreInTurn, IsRow, IsPart, Unsent, Unheard, AreParts, AreReplies, HaveBlocks, IsTransfer, View, standing, stood_in, record_in, processed_in, with_record, unless_restart, epoch_begun, epoch_records, records_in_views, epoch_log, log_in, IsRun, leaving, all_writes, AreSound, AreSmall, time_for, AreClean, open_since, IsInTime, RestsNow, WaitsNow, AreSpaced, newest_at, IsTimed, AreTimed, IsListed, AreListed, read_steps, write_steps, cost_of, cost_in}
 use Rattle.sercos_step.specs.declared.request.Request.TheVariants as request
-use Rattle.sercos_step.specs.declared.request.Outcome.{Outcome}
-use Rattle.sercos_step.specs.Words.{shape_of, shape_by}
-use Rattle.sercos_step.specs.Steps.{outcome_of, next_step}
-use Rattle.sercos_step.proofs.Ends.{has_next}
-use Rattle.sercos_step.proofs.AnswerCounts.{times_le}
-use Rattle.sercos_block.specs.declared.block.Block.{Block}
-use Rattle.sercos_block.specs.Stores.{find_block}
-use Rattle.sercos_command.specs.Calls.{status_in}
-use Rattle.sercos_service_drive.specs.Log.{Processed, Entry, accepted}
-use Rattle.sercos_service_drive.specs.Replies.{reply_of, log_of}
-use Rattle.sercos_service_drive.specs.Writes.{Write, writes_of}
-use Rattle.sercos_service_master.specs.Begun.{Begun, step_at, open_in, steps_in, answers_in, is_odd}
-use Rattle.sercos_law_channel.specs.Handshake.InStep.{AreInStep, Idle, Sent, Kept, log_steps, replies_of}
-use Rattle.sercos_law_channel.specs.Handshake.Parts.{AreInTurn, IsRow, IsPart, Unsent, Heard, Unheard, AreParts}
-use Rattle.sercos_law_channel.specs.Handshake.Transfers.{AreReplies, HaveBlocks, IsTransfer}
+use Rattle.sercos_law_channel.specs.Handshake.Parts.{Heard}
 use Rattle.sercos_law_channel.proofs.Handshake.HandshakeMoves.{log-taken}
 use Rattle.sercos_law_channel.proofs.Handshake.LogParts.{fall_into_parts}
 use Rattle.sercos_law_channel.proofs.Handshake.ReadStages.{low_of, high_of}
 use Rattle.sercos_law_channel.proofs.Handshake.TransferSteps.{length-replies_of}
-use Rattle.sercos_law_channel.specs.Handshake.Views.{View, standing, stood_in, record_in, processed_in, with_record}
-use Rattle.sercos_law_channel.specs.Handshake.Epochs.{unless_restart, epoch_begun, epoch_records, records_in_views, epoch_log, log_in}
-use Rattle.sercos_law_channel.specs.Handshake.Runs.{IsRun}
-use Rattle.sercos_law_channel.specs.Handshake.WholeRun.{leaving, all_writes, AreSound, AreSmall}
-use Rattle.sercos_law_channel.specs.Pace.Times.{time_for}
-use Rattle.sercos_law_channel.specs.Pace.Stretches.{AreClean, open_since, IsInTime, RestsNow, WaitsNow}
-use Rattle.sercos_law_channel.specs.Pace.Costs.{AreSpaced, newest_at, IsTimed, AreTimed, IsListed, AreListed, read_steps, write_steps, cost_of, cost_in}
 use Rattle.sercos_law_channel.proofs.Handshake.PhaseMoves.{Processes, Nothing, Record, processes}
 use Rattle.sercos_law_channel.proofs.Handshake.EpochRuns.{in_step}
 use Rattle.sercos_law_channel.proofs.Handshake.WholeRuns.{HasReplies, answered_replies, writes_ago, writes_in_epochs}

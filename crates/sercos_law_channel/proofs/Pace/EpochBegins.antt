@@ -1,9 +1,5 @@
 -- While phase 0 is commanded, nothing of an epoch was begun.
-use Rattle.std.proofs.Common.{◌≡◌, inl, inr, ℕ, ◌+◌, ◌≤◌, Bool, true, false, List, [], ◌∷◌, ◌++◌, sym, ◌∙◌, arith, if◌then◌else◌}
-use Rattle.sercos_law_channel.specs.Handshake.Views.{View}
-use Rattle.sercos_law_channel.specs.Handshake.Epochs.{command, unless_restart, epoch_begun, begun_in}
-use Rattle.sercos_law_channel.specs.Handshake.Runs.{IsRun}
-use Rattle.sercos_law_channel.specs.Pace.Passages.{BeginsEpoch}
+use Rattle.sercos_law_channel.proofs.Words.{◌≡◌, inl, inr, ℕ, ◌+◌, ◌≤◌, Bool, true, false, List, [], ◌∷◌, ◌++◌, sym, ◌∙◌, arith, if◌then◌else◌, View, command, unless_restart, epoch_begun, begun_in, IsRun, BeginsEpoch}
 use Rattle.sercos_law_channel.proofs.Handshake.EpochRuns.{commanded, start, start_begun, quiet}
 
 -- a cycle after which phase 0 is commanded, though the master doesn't fall at its end

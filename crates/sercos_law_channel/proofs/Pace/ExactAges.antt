@@ -1,18 +1,6 @@
 -- If nothing is lost, an open step is exactly as old as its entry.
-use Rattle.std.proofs.Common.{◌≡◌, inl, inr, ℕ, suc, ◌+◌, Bool, true, false, ◌&&◌, List, [], ◌∷◌, ◌++◌, length, refl, sym, ap, ◌∙◌, arith, if◌then◌else◌}
-use Rattle.std.specs.Prelude.{◌==◌, None, is_some}
-use Rattle.std.proofs.lemmas.Bool.{cond-true, cond-false, eq-eqb, ne_eqb}
-use Rattle.sercos_service_drive.specs.Log.{Entry}
-use Rattle.sercos_service_master.specs.Begun.{Begun, open_in, steps_in, answers_in, answers_it}
-use Rattle.sercos_law_channel.specs.Handshake.InStep.{AreInStep, Idle, Sent, Kept, log_steps, replies_of}
+use Rattle.sercos_law_channel.proofs.Words.{◌≡◌, inl, inr, ℕ, suc, ◌+◌, Bool, true, false, ◌&&◌, List, [], ◌∷◌, ◌++◌, length, refl, sym, ap, ◌∙◌, arith, if◌then◌else◌, ◌==◌, None, is_some, cond-true, cond-false, eq-eqb, ne_eqb, Entry, Begun, open_in, steps_in, answers_in, answers_it, AreInStep, Idle, Sent, Kept, log_steps, replies_of, View, unless_restart, epoch_begun, begun_in, epoch_log, log_in, IsRun, one_more, time_for, open_cycles, AreUndisturbed, IsOnTime, Rests, Waits, IsClean, AreClean, BeginsEpoch, age_in, AnswersAtAge}
 use Rattle.sercos_law_channel.proofs.Handshake.TransferSteps.{length-steps_of}
-use Rattle.sercos_law_channel.specs.Handshake.Views.{View}
-use Rattle.sercos_law_channel.specs.Handshake.Epochs.{unless_restart, epoch_begun, begun_in, epoch_log, log_in}
-use Rattle.sercos_law_channel.specs.Handshake.Runs.{IsRun}
-use Rattle.sercos_law_channel.specs.Pace.Times.{one_more, time_for, open_cycles, AreUndisturbed, IsOnTime, Rests, Waits}
-use Rattle.sercos_law_channel.specs.Pace.Stretches.{IsClean, AreClean}
-use Rattle.sercos_law_channel.specs.Pace.Passages.{BeginsEpoch}
-use Rattle.sercos_law_channel.specs.Pace.Ages.{age_in, AnswersAtAge}
 use Rattle.sercos_law_channel.proofs.Handshake.EpochRuns.{in_step}
 use Rattle.sercos_law_channel.proofs.Pace.OnTime.{one_waits}
 use Rattle.sercos_law_channel.proofs.Pace.OnTimeRuns.{on_time, answers_on_time}

@@ -1,17 +1,6 @@
 -- One cycle in which nothing is lost: how the time at its end is related to the answers, if it is so related at its start.
-use Rattle.std.proofs.Common.{◌≡◌, inl, inr, ℕ, ◌+◌, true, false, List, ◌∷◌, length, refl, sym, ap, subst}
-use Rattle.std.specs.Prelude.{Option, Some, None, IfSome, is_some}
-use Rattle.std.proofs.lemmas.Bool.{cond-false}
-use Rattle.sercos_step.specs.declared.step.Step.{Step}
-use Rattle.sercos_service_drive.specs.Log.{Processed}
-use Rattle.sercos_service_drive.specs.Replies.{reply_of, log_of}
-use Rattle.sercos_service_master.specs.Begun.{Begun, open_in, answers_it}
-use Rattle.sercos_law_channel.specs.Handshake.InStep.{AreInStep}
+use Rattle.sercos_law_channel.proofs.Words.{◌≡◌, inl, inr, ℕ, ◌+◌, true, false, List, ◌∷◌, length, refl, sym, ap, subst, Option, Some, None, IfSome, is_some, cond-false, Step, Processed, reply_of, log_of, Begun, open_in, answers_it, AreInStep, Heard, View, standing, stood_in, record_in, processed_in, with_record, with_heard, unless_restart, epoch_begun, begun_in, epoch_records, log_in, IsShown, IsRun, IsUndisturbed}
 use Rattle.sercos_law_channel.proofs.Handshake.HandshakeMoves.{log-taken}
-use Rattle.sercos_law_channel.specs.Handshake.Views.{Heard, View, standing, stood_in, record_in, processed_in, with_record}
-use Rattle.sercos_law_channel.specs.Handshake.Epochs.{with_heard, unless_restart, epoch_begun, begun_in, epoch_records, log_in}
-use Rattle.sercos_law_channel.specs.Handshake.Runs.{IsShown, IsRun}
-use Rattle.sercos_law_channel.specs.Pace.Times.{IsUndisturbed}
 use Rattle.sercos_law_channel.proofs.Handshake.PhaseMoves.{Processes, Nothing, Record, processes}
 use Rattle.sercos_law_channel.proofs.Handshake.EpochRuns.{joined, restarted, shown_of, heard_of, begun_of, said_of, in_step}
 use Rattle.sercos_law_channel.proofs.Handshake.HandshakeMoves.{quiet_none}

@@ -1,23 +1,8 @@
 -- What the requests of a start-up cost, and those after it.
-use Rattle.std.proofs.Common.{◌≡◌, ℕ, suc, ◌+◌, ◌*◌, ◌≤◌, Bool, true, false, List, [], ◌∷◌, ◌++◌, length, map, refl, ap, ◌∙◌, arith, if◌then◌else◌}
-use Rattle.std.specs.Prelude.{◌==◌, Option, Some, None}
-use Rattle.std.specs.List.{sum_by}
-use Rattle.std.proofs.lemmas.List.Sums.{sum_by-cons, sum_by-append}
-use Rattle.sercos_idn.specs.Codes.{is_list}
-use Rattle.sercos_idn.specs.declared.idn.Idn.{Idn}
-use Rattle.sercos_idn.specs.declared.kinds.Length.{Length}
+use Rattle.sercos_law_channel.proofs.Words.{◌≡◌, ℕ, suc, ◌+◌, ◌*◌, ◌≤◌, Bool, true, false, List, [], ◌∷◌, ◌++◌, length, map, refl, ap, ◌∙◌, arith, if◌then◌else◌, ◌==◌, Option, Some, None, sum_by, sum_by-cons, sum_by-append, is_list, Idn, Length, Shape, Request, shape_of, shape_by, words_of, words_told, times_le, few_told, length-words_of, length-at_least_one, Block, find_block, value_steps, read_steps, write_steps, cost_of, request_of, CostsRequests, AreWords, AreWordWrites, WordReadCosts, AttributeCosts, ListReadCosts, WordWriteCosts, ListWriteCosts, ReadsCost, WritesCost, RequestCosts}
 use Rattle.sercos_idn.specs.declared.kinds.Length.TheVariants as len
-use Rattle.sercos_step.specs.declared.shape.Shape.{Shape}
 use Rattle.sercos_step.specs.declared.shape.Shape.TheVariants as shape
-use Rattle.sercos_step.specs.declared.request.Request.{Request}
 use Rattle.sercos_step.specs.declared.request.Request.TheVariants as request
-use Rattle.sercos_step.specs.Words.{shape_of, shape_by, words_of, words_told}
-use Rattle.sercos_step.proofs.AnswerCounts.{times_le}
-use Rattle.sercos_step.proofs.WrittenWords.{few_told, length-words_of, length-at_least_one}
-use Rattle.sercos_block.specs.declared.block.Block.{Block}
-use Rattle.sercos_block.specs.Stores.{find_block}
-use Rattle.sercos_law_channel.specs.Pace.Costs.{value_steps, read_steps, write_steps, cost_of}
-use Rattle.sercos_law_channel.specs.Pace.Jobs.{request_of, CostsRequests, AreWords, AreWordWrites, WordReadCosts, AttributeCosts, ListReadCosts, WordWriteCosts, ListWriteCosts, ReadsCost, WritesCost, RequestCosts}
 
 pub costs_requests : CostsRequests
 costs_requests cost [] = refl

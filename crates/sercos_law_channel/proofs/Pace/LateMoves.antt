@@ -1,14 +1,5 @@
 -- In a stretch in which nothing is lost, whatever went before, the answers come in time.
-use Rattle.std.proofs.Common.{◌≡◌, ℕ, ◌+◌, ◌<◌, ◌≤◌, List, ◌∷◌, Some, arith}
-use Rattle.sercos_telegram.specs.declared.words.Status.{Status}
-use Rattle.sercos_command.specs.Calls.{CommandHistory}
-use Rattle.sercos_service_drive.specs.Log.{Processed, Entry}
-use Rattle.sercos_service_drive.specs.Replies.{log_of}
-use Rattle.sercos_service_drive.specs.Says.{channel_says, shown_by}
-use Rattle.sercos_service_master.specs.Begun.{Begun, open_in, steps_in, answers_in}
-use Rattle.sercos_law_channel.specs.Handshake.InStep.{AreInStep, Idle, Sent, Kept, log_steps}
-use Rattle.sercos_law_channel.specs.Handshake.Moves.{with_status}
-use Rattle.sercos_law_channel.specs.Pace.Times.{time_for}
+use Rattle.sercos_law_channel.proofs.Words.{◌≡◌, ℕ, ◌+◌, ◌<◌, ◌≤◌, List, ◌∷◌, Some, arith, Status, CommandHistory, Processed, Entry, log_of, channel_says, shown_by, Begun, open_in, steps_in, answers_in, AreInStep, Idle, Sent, Kept, log_steps, with_status, time_for}
 use Rattle.sercos_law_channel.proofs.Pace.OnTime.{Starts, StartsFree, StartsNew, StartsBusy, Works, heard_works}
 pub use Rattle.sercos_law_channel.proofs.Pace.OnTime.{Free as FreeLate, New as NewLate, Busy as BusyLate}
 

@@ -1,19 +1,6 @@
 -- In a stretch in which nothing is lost a channel is in time.
-use Rattle.std.proofs.Common.{◌≡◌, ℕ, suc, ◌+◌, ◌*◌, ◌<◌, ◌≤◌, Bool, true, false, List, [], ◌∷◌, ◌++◌, length, refl, sym, ap, ◌∙◌, subst, arith, if◌then◌else◌}
-use Rattle.std.specs.Prelude.{Option, is_some}
-use Rattle.std.proofs.lemmas.Bool.{cond-false}
-use mathlib.Core.Bool.{beq}
-use Rattle.sercos_step.specs.declared.step.Step.{Step}
-use Rattle.sercos_service_drive.specs.Log.{Processed, Entry}
-use Rattle.sercos_service_drive.specs.Replies.{reply_of, log_of}
-use Rattle.sercos_service_master.specs.Begun.{Begun, open_in, steps_in, answers_in, is_odd}
-use Rattle.sercos_law_channel.specs.Handshake.InStep.{log_steps}
+use Rattle.sercos_law_channel.proofs.Words.{◌≡◌, ℕ, suc, ◌+◌, ◌*◌, ◌<◌, ◌≤◌, Bool, true, false, List, [], ◌∷◌, ◌++◌, length, refl, sym, ap, ◌∙◌, subst, arith, if◌then◌else◌, Option, is_some, cond-false, beq, Step, Processed, Entry, reply_of, log_of, Begun, open_in, steps_in, answers_in, is_odd, log_steps, View, processed_in, with_record, epoch_begun, begun_in, epoch_records, records_in_views, epoch_log, log_in, IsRun, time_for, one_more, IsClean, open_since, spent_since, IsInTime, RestsNow, WaitsNow, ComesInTime, TakesTimeSince}
 use Rattle.sercos_law_channel.proofs.Handshake.HandshakeMoves.{log-taken}
-use Rattle.sercos_law_channel.specs.Handshake.Views.{View, processed_in, with_record}
-use Rattle.sercos_law_channel.specs.Handshake.Epochs.{epoch_begun, begun_in, epoch_records, records_in_views, epoch_log, log_in}
-use Rattle.sercos_law_channel.specs.Handshake.Runs.{IsRun}
-use Rattle.sercos_law_channel.specs.Pace.Times.{time_for, one_more}
-use Rattle.sercos_law_channel.specs.Pace.Stretches.{IsClean, open_since, spent_since, IsInTime, RestsNow, WaitsNow, ComesInTime, TakesTimeSince}
 use Rattle.sercos_law_channel.proofs.Handshake.PhaseMoves.{Processes, Nothing, Record, processes}
 use Rattle.sercos_law_channel.proofs.Handshake.EpochRuns.{in_step}
 use Rattle.sercos_law_channel.proofs.Pace.OnTimeRuns.{in_step_counts, waiting_counts, time_of}

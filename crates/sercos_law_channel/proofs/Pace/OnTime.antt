@@ -1,24 +1,7 @@
 -- If nothing is lost, each answer comes busy time and one cycle after its step, and in time if nothing is lost from some cycle on.
-use Rattle.std.proofs.Common.{◌≡◌, ℕ, ◌+◌, ◌-◌, ◌<◌, ◌≤◌, Bool, true, false, not, ◌&&◌, List, [], ◌∷◌, refl, sym, ap, ◌∙◌, subst, arith, if◌then◌else◌}
-use Rattle.std.specs.Prelude.{nat_le, Option, Some, None, IsSome, is_some}
-use Rattle.std.proofs.lemmas.Bool.{and_right, both_ways, cond-true, cond-false, leb-true}
-use Rattle.std.proofs.lemmas.Bool.Decides.{nat_tests}
-use mathlib.Core.Bool.{beq}
-use Rattle.sercos_telegram.specs.declared.words.Status.{Status}
-use Rattle.sercos_step.specs.declared.step.Step.{Step}
-use Rattle.sercos_step.specs.declared.step.Answer.{Answer}
-use Rattle.sercos_step.specs.declared.request.Request.{Request}
-use Rattle.sercos_command.specs.Calls.{CommandHistory, change_in}
-use Rattle.sercos_service_drive.specs.Log.{Processed, Entry, ahs}
-use Rattle.sercos_service_drive.specs.Replies.{log_of}
-use Rattle.sercos_service_drive.specs.Says.{Shown, shown, channel_says, shown_by}
-use Rattle.sercos_service_master.specs.Begun.{Begun, open_in, steps_in, answers_in, is_odd, answers_it, answer_in, with_answer, master_says, step_or_none}
-use Rattle.sercos_law_channel.specs.Handshake.InStep.{AreInStep, Idle, Sent, Kept, log_steps, replies_of}
-use Rattle.sercos_law_channel.specs.Handshake.Moves.{with_status, said_in, with_processed}
+use Rattle.sercos_law_channel.proofs.Words.{◌≡◌, ℕ, ◌+◌, ◌-◌, ◌<◌, ◌≤◌, Bool, true, false, not, ◌&&◌, List, [], ◌∷◌, refl, sym, ap, ◌∙◌, subst, arith, if◌then◌else◌, nat_le, Option, Some, None, IsSome, is_some, and_right, both_ways, cond-true, cond-false, leb-true, nat_tests, beq, Status, Step, Answer, Request, CommandHistory, change_in, Processed, Entry, ahs, log_of, Shown, shown, channel_says, shown_by, Begun, open_in, steps_in, answers_in, is_odd, answers_it, answer_in, with_answer, master_says, step_or_none, AreInStep, Idle, Sent, Kept, log_steps, replies_of, with_status, said_in, with_processed, with_begun, time_for}
 use Rattle.sercos_law_channel.proofs.Handshake.HandshakeMoves.{ahs-shown, quiet_bit, said_bit, said_step, parity, parity_sent, ahs-log}
 use Rattle.sercos_law_channel.proofs.Handshake.OnePhase.{no_longer}
-use Rattle.sercos_law_channel.specs.Handshake.Epochs.{with_begun}
-use Rattle.sercos_law_channel.specs.Pace.Times.{time_for}
 
 -- At a place in cycle c, with `spent` cycles before it that `Fits` compares with the time for the answers: no step is open; or one that
 -- the drive hasn't accepted; or one that it has accepted and shows as busy.

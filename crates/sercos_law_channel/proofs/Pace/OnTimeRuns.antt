@@ -1,18 +1,6 @@
 -- In an epoch in which nothing is lost a channel is on time.
-use Rattle.std.proofs.Common.{◌≡◌, inl, inr, ℕ, ◌+◌, ◌*◌, ◌≤◌, Bool, true, false, List, [], ◌∷◌, length, refl, sym, ap, ◌∙◌, subst, arith, if◌then◌else◌}
-use Rattle.std.specs.Prelude.{Option, Some, None, IfSome, is_some}
-use Rattle.std.proofs.lemmas.Bool.{cond-true, cond-false}
-use Rattle.sercos_step.specs.declared.step.Step.{Step}
-use Rattle.sercos_step.specs.declared.step.Answer.{Answer}
-use Rattle.sercos_service_drive.specs.Log.{Entry}
-use Rattle.sercos_service_drive.specs.Replies.{log_of}
-use Rattle.sercos_service_master.specs.Begun.{Begun, open_in, steps_in, answers_in, answers_it}
-use Rattle.sercos_law_channel.specs.Handshake.InStep.{AreInStep, Idle, Sent, Kept, log_steps}
+use Rattle.sercos_law_channel.proofs.Words.{◌≡◌, inl, inr, ℕ, ◌+◌, ◌*◌, ◌≤◌, Bool, true, false, List, [], ◌∷◌, length, refl, sym, ap, ◌∙◌, subst, arith, if◌then◌else◌, Option, Some, None, IfSome, is_some, cond-true, cond-false, Step, Answer, Entry, log_of, Begun, open_in, steps_in, answers_in, answers_it, AreInStep, Idle, Sent, Kept, log_steps, Heard, View, unless_restart, epoch_begun, begun_in, epoch_records, records_in_views, epoch_log, log_in, IsShown, time_for, one_more, open_cycles, AreUndisturbed, IsOnTime, Rests, Waits, AreOnTime, AnswersOnTime, TakesTime}
 use Rattle.sercos_law_channel.proofs.Handshake.TransferSteps.{length-steps_of, length-replies_of}
-use Rattle.sercos_law_channel.specs.Handshake.Views.{Heard, View}
-use Rattle.sercos_law_channel.specs.Handshake.Epochs.{unless_restart, epoch_begun, begun_in, epoch_records, records_in_views, epoch_log, log_in}
-use Rattle.sercos_law_channel.specs.Handshake.Runs.{IsShown}
-use Rattle.sercos_law_channel.specs.Pace.Times.{time_for, one_more, open_cycles, AreUndisturbed, IsOnTime, Rests, Waits, AreOnTime, AnswersOnTime, TakesTime}
 use Rattle.sercos_law_channel.proofs.Handshake.EpochRuns.{joined, shown_of, in_step}
 use Rattle.sercos_law_channel.proofs.Handshake.HandshakeMoves.{quiet_none}
 use Rattle.sercos_law_channel.proofs.Pace.InCycle.{in_cycle}

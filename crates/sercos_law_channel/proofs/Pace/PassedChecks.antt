@@ -1,12 +1,5 @@
 -- How a check comes to count as passed.
-use Rattle.std.proofs.Common.{◌≡◌, ℕ, ◌+◌, ◌≤◌, Bool, true, ◌&&◌, [], ◌∷◌, min, refl, ap, ap₂, ◌∙◌, arith, if◌then◌else◌}
-use Rattle.std.specs.Prelude.{nat_le, Option, Some, None, is_none}
-use Rattle.std.proofs.lemmas.Bool.{cond-true, le-leb}
-use Rattle.sercos_block.specs.Stores.{with_data}
-use Rattle.sercos_command.specs.Settings.{ends_well}
-use Rattle.sercos_command.specs.Calls.{Wrote, Other, with_call}
-use Rattle.sercos_command.specs.Kept.{find_set, from_setting, from_cancel, set_in, first_passed_in}
-use Rattle.sercos_law_channel.specs.Pace.Passes.{PassesBySetting, PassesLast, StaysPassed, StaysPassedLast}
+use Rattle.sercos_law_channel.proofs.Words.{◌≡◌, ℕ, ◌+◌, ◌≤◌, Bool, true, ◌&&◌, [], ◌∷◌, min, refl, ap, ap₂, ◌∙◌, arith, if◌then◌else◌, nat_le, Option, Some, None, is_none, cond-true, le-leb, with_data, ends_well, Wrote, Other, with_call, find_set, from_setting, from_cancel, set_in, first_passed_in, PassesBySetting, PassesLast, StaysPassed, StaysPassedLast}
 
 set_from : (end : ℕ) (o : Option ℕ) → (first : ℕ) × (from_setting end o ≡ Some first) × (first ≤ end)
 set_from end None = (end, refl, omega arith)

@@ -1,20 +1,6 @@
 -- The steps that a drive accepts are busy time and one apart.
-use Rattle.std.proofs.Common.{◌≡◌, inl, inr, ℕ, suc, ◌+◌, ◌<◌, ◌≤◌, Bool, true, false, List, [], ◌∷◌, length, refl, sym, ap, ◌∙◌, subst, arith, if◌then◌else◌}
-use Rattle.std.specs.Prelude.{Option, Some, None, IfSome}
-use mathlib.Core.Bool.{beq}
-use Rattle.sercos_step.specs.declared.step.Answer.{Answer}
-use Rattle.sercos_step.specs.declared.request.Request.{Request}
-use Rattle.sercos_service_drive.specs.Log.{Processed, Entry}
-use Rattle.sercos_service_drive.specs.Replies.{reply_of, log_of}
-use Rattle.sercos_service_drive.specs.Says.{channel_says, shown_by}
-use Rattle.sercos_service_master.specs.Begun.{Begun, steps_in, answers_in, is_odd, answers_it, answer_in, with_answer, master_says}
-use Rattle.sercos_law_channel.specs.Handshake.InStep.{AreInStep, Idle, Sent, Kept, replies_of}
-use Rattle.sercos_law_channel.specs.Handshake.Moves.{said_in, with_processed}
+use Rattle.sercos_law_channel.proofs.Words.{◌≡◌, inl, inr, ℕ, suc, ◌+◌, ◌<◌, ◌≤◌, Bool, true, false, List, [], ◌∷◌, length, refl, sym, ap, ◌∙◌, subst, arith, if◌then◌else◌, Option, Some, None, IfSome, beq, Answer, Request, Processed, Entry, reply_of, log_of, channel_says, shown_by, Begun, steps_in, answers_in, is_odd, answers_it, answer_in, with_answer, master_says, AreInStep, Idle, Sent, Kept, replies_of, said_in, with_processed, Heard, View, standing, stood_in, record_in, with_record, with_heard, with_begun, unless_restart, epoch_begun, begun_in, epoch_records, records_in_views, epoch_log, log_in, IsShown, IsRun, AreSpaced, SpacesSteps}
 use Rattle.sercos_law_channel.proofs.Handshake.HandshakeMoves.{said_bit, parity, log-taken}
-use Rattle.sercos_law_channel.specs.Handshake.Views.{Heard, View, standing, stood_in, record_in, with_record}
-use Rattle.sercos_law_channel.specs.Handshake.Epochs.{with_heard, with_begun, unless_restart, epoch_begun, begun_in, epoch_records, records_in_views, epoch_log, log_in}
-use Rattle.sercos_law_channel.specs.Handshake.Runs.{IsShown, IsRun}
-use Rattle.sercos_law_channel.specs.Pace.Costs.{AreSpaced, SpacesSteps}
 use Rattle.sercos_law_channel.proofs.Handshake.PhaseMoves.{Processes, Nothing, Record, processes}
 use Rattle.sercos_law_channel.proofs.Handshake.EpochRuns.{joined, restarted, shown_of, heard_of, begun_of, said_of, in_step}
 use Rattle.sercos_law_channel.proofs.Handshake.OnePhase.{no_longer}

@@ -1,13 +1,6 @@
 -- What a whole start-up costs, and what is left of one after losses.
-use Rattle.std.proofs.Common.{◌≡◌, inl, inr, ℕ, ◌+◌, ◌*◌, ◌^◌, ◌<◌, ◌≤◌, List, [], ◌∷◌, ◌++◌, arith}
-use Rattle.sercos_step.specs.Words.{shape_of, shape_by}
-use Rattle.sercos_block.specs.declared.block.Block.{Block}
-use Rattle.sercos_law_channel.specs.Handshake.Views.{View}
-use Rattle.sercos_law_channel.specs.Handshake.Runs.{IsRun}
+use Rattle.sercos_law_channel.proofs.Words.{◌≡◌, inl, inr, ℕ, ◌+◌, ◌*◌, ◌^◌, ◌<◌, ◌≤◌, List, [], ◌∷◌, ◌++◌, arith, shape_of, shape_by, Block, View, IsRun, AreClean, age_in, StartsInCost, RecoversInCost, RecoversSince}
 use Rattle.sercos_law_channel.proofs.Handshake.ReadStages.{low_of, high_of}
-use Rattle.sercos_law_channel.specs.Pace.Stretches.{AreClean}
-use Rattle.sercos_law_channel.specs.Pace.Ages.{age_in}
-use Rattle.sercos_law_channel.specs.Pace.StartCosts.{StartsInCost, RecoversInCost, RecoversSince}
 use Rattle.sercos_law_channel.proofs.Pace.WholeCycles.{stays_clean, is_clean_or_down}
 use Rattle.sercos_law_channel.proofs.Pace.EpochBegins.{run_after}
 use Rattle.sercos_law_channel.proofs.Pace.AgeRuns.{nothing_old, ages_in_time}

@@ -1,23 +1,5 @@
 -- A procedure command that runs was set by the newest write to it.
-use Rattle.std.proofs.Common.{◌≡◌, ◌⊎◌, inl, inr, ℕ, suc, ◌+◌, ◌<◌, ◌≤◌, Bool, true, false, not, List, [], ◌∷◌, ◌++◌, length, refl, sym, ap, ◌∙◌, arith, if◌then◌else◌}
-use Rattle.std.specs.Prelude.{nat_le, ◌==◌, Option, Some, None, is_some, option_map, option_and_then}
-use Rattle.std.proofs.lemmas.Bool.{eqb-true, cond-true, cond-false}
-use Rattle.std.proofs.lemmas.Bool.Decides.{nat_tests}
-use mathlib.Core.Bool.{beq}
-use Rattle.sercos_block.specs.declared.block.Block.{Block}
-use Rattle.sercos_block.specs.Stores.{find_block, with_data}
-use Rattle.sercos_command.specs.declared.commands.SetCommand.{SetCommand}
-use Rattle.sercos_command.specs.Settings.{is_command, ends_well, has_ended, status_by}
-use Rattle.sercos_command.specs.Calls.{Wrote, Other, setting_of, CommandHistory, with_call}
-use Rattle.sercos_command.specs.Kept.{find_set, without, with_set, set_in}
-use Rattle.sercos_service_drive.specs.Log.{Processed, ahs, open_idn, run_before, in_order}
-use Rattle.sercos_service_drive.specs.Replies.{reply_of, log_of, bytes_written}
-use Rattle.sercos_service_drive.specs.Writes.{Write, takes_effect, written_by, with_added, adds, command_value, commands_with, added_on}
-use Rattle.sercos_law_channel.specs.Handshake.Views.{View, standing, stood_in, record_in, processed_in, kept_in}
-use Rattle.sercos_law_channel.specs.Handshake.WholeRun.{write_of, all_writes}
-use Rattle.sercos_law_channel.specs.Pace.Costs.{newest_at, IsTimed}
-use Rattle.sercos_law_channel.specs.Pace.Carried.{set_after, IsCarried, AreCarried, ComesTimed}
-use Rattle.sercos_command.proofs.History.{find-settings}
+use Rattle.sercos_law_channel.proofs.Words.{◌≡◌, ◌⊎◌, inl, inr, ℕ, suc, ◌+◌, ◌<◌, ◌≤◌, Bool, true, false, not, List, [], ◌∷◌, ◌++◌, length, refl, sym, ap, ◌∙◌, arith, if◌then◌else◌, nat_le, ◌==◌, Option, Some, None, is_some, option_map, option_and_then, eqb-true, cond-true, cond-false, nat_tests, beq, Block, find_block, with_data, SetCommand, is_command, ends_well, has_ended, status_by, Wrote, Other, setting_of, CommandHistory, with_call, find_set, without, with_set, set_in, Processed, ahs, open_idn, run_before, in_order, reply_of, log_of, bytes_written, Write, takes_effect, written_by, with_added, adds, command_value, commands_with, added_on, View, standing, stood_in, record_in, processed_in, kept_in, write_of, all_writes, newest_at, IsTimed, set_after, IsCarried, AreCarried, ComesTimed, find-settings}
 use Rattle.sercos_law_channel.proofs.Handshake.PhaseMoves.{Processes, Nothing, Record, processes}
 
 -- each set command was set at the newest write to it or earlier, and that write came before a cycle

@@ -1,43 +1,17 @@
 -- How many steps a transfer has, and how long one that sets a procedure command takes.
-use Rattle.std.proofs.Common.{◌≡◌, ◌⊎◌, inl, inr, ℕ, zero, suc, ◌+◌, ◌*◌, ◌<◌, ◌≤◌, Bool, true, false, List, [], ◌∷◌, ◌++◌, length, drop, refl, sym, ap, ◌∙◌, subst, arith, if◌then◌else◌}
-use Rattle.std.specs.Prelude.{◌==◌, Option, Some, None, is_some, slice_index, option_map, unwrap_or}
-use Rattle.std.proofs.lemmas.Bool.Decides.{nat_tests}
-use Rattle.std.proofs.lemmas.Bool.{cases_eq, cond-true, cond-false, eq-eqb}
-use Rattle.sercos_idn.specs.declared.idn.Idn.{Idn}
-use Rattle.sercos_idn.specs.declared.kinds.Length.{Length}
+use Rattle.sercos_law_channel.proofs.Words.{◌≡◌, ◌⊎◌, inl, inr, ℕ, zero, suc, ◌+◌, ◌*◌, ◌<◌, ◌≤◌, Bool, true, false, List, [], ◌∷◌, ◌++◌, length, drop, refl, sym, ap, ◌∙◌, subst, arith, if◌then◌else◌, ◌==◌, Option, Some, None, is_some, slice_index, option_map, unwrap_or, nat_tests, cases_eq, cond-true, cond-false, eq-eqb, Idn, Length, is_list, Step, Answer, Shape, Request, shape_of, shape_by, words_in, words_told, steps_of, answer_words, polls, count_of, length-drop_two, read_ends, length-answer_words, steps_most, get_below, polls_by, times_le, times_more, Block, find_block, status_in, Processed, Entry, words_at, copy, Write, writes_of, AreAlike, without_data, replies_of, IsTransfer, entry_behind, idn_of, setting, second_of, added_by_setting, AreSpaced, IsListed, newest_at, value_steps, read_steps, write_steps}
 use Rattle.sercos_idn.specs.declared.kinds.Length.TheVariants as len
-use Rattle.sercos_idn.specs.Codes.{is_list}
-use Rattle.sercos_step.specs.declared.step.Step.{Step}
-use Rattle.sercos_step.specs.declared.step.Answer.{Answer}
-use Rattle.sercos_step.specs.declared.shape.Shape.{Shape}
 use Rattle.sercos_step.specs.declared.shape.Shape.TheVariants as shape
-use Rattle.sercos_step.specs.declared.request.Request.{Request}
 use Rattle.sercos_step.specs.declared.request.Request.TheVariants as request
-use Rattle.sercos_step.specs.Words.{shape_of, shape_by, words_in, words_told}
-use Rattle.sercos_step.specs.Steps.{steps_of, answer_words}
-use Rattle.sercos_step.specs.Counts.{polls, count_of}
-use Rattle.sercos_service_drive.proofs.WordLemmas.{length-drop_two}
-use Rattle.sercos_step.proofs.Ends.{read_ends, length-answer_words}
-use Rattle.sercos_step.proofs.AnswerCounts.{steps_most, get_below, polls_by, times_le, times_more}
-use Rattle.sercos_block.specs.declared.block.Block.{Block}
-use Rattle.sercos_block.specs.Stores.{find_block}
-use Rattle.sercos_command.specs.Calls.{status_in}
-use Rattle.sercos_service_drive.specs.Log.{Processed, Entry}
-use Rattle.sercos_service_drive.specs.Replies.{element_words, words_at, copy}
-use Rattle.sercos_service_drive.specs.Writes.{Write, writes_of, AreAlike, without_data}
-use Rattle.sercos_law_channel.specs.Handshake.InStep.{replies_of}
-use Rattle.sercos_law_channel.specs.Handshake.Transfers.{IsTransfer}
-use Rattle.sercos_law_channel.specs.Handshake.ReadTransfers.{entry_behind}
+use Rattle.sercos_service_drive.specs.Replies.{element_words}
 use Rattle.sercos_law_channel.proofs.Handshake.AttributeReplies.{find-alike}
 use Rattle.sercos_law_channel.proofs.Handshake.ReadRows.{row}
-use Rattle.sercos_law_channel.specs.Handshake.CommandTransfers.{idn_of, setting, second_of, added_by_setting}
 use Rattle.sercos_law_channel.proofs.Handshake.TransferSteps.{newest_step, without_newest, goes_on-outcome_of, length-replies_of}
 use Rattle.sercos_law_channel.proofs.Handshake.UnknownBlocks.{only_opening}
 use Rattle.sercos_law_channel.proofs.Handshake.ReadStages.{low_of, high_of, Short, Long}
 use Rattle.sercos_law_channel.proofs.Handshake.ReadStages as read
 use Rattle.sercos_law_channel.proofs.Handshake.WriteStages as write
 use Rattle.sercos_law_channel.proofs.Handshake.CommandStages as command
-use Rattle.sercos_law_channel.specs.Pace.Costs.{AreSpaced, IsListed, newest_at, value_steps, read_steps, write_steps}
 use Rattle.sercos_law_channel.proofs.Handshake.CommandEnds.{poll_word, last_ends, is_poll, command_last}
 
 -- the steps so far are at most those that are known from the words before the newest

@@ -1,14 +1,5 @@
 -- Cycles in which every telegram comes.
-use Rattle.std.proofs.Common.{◌≡◌, ◌⊎◌, inl, inr, ℕ, ◌+◌, ◌≤◌, Bool, true, false, not, ◌&&◌, ◌||◌, List, [], ◌∷◌, ◌++◌, length, refl, sym, ap, ap₂, ◌∙◌, arith, if◌then◌else◌}
-use Rattle.std.specs.Prelude.{nat_le, ◌==◌, Option, Some, None, IsSome, IfSome, is_some}
-use Rattle.std.proofs.lemmas.Bool.{cases_eq, and_from, leb-true, le-leb, eq-eqb, ne_eqb, cond-true, cond-false}
-use Rattle.sercos_step.specs.declared.request.Request.{Request}
-use Rattle.sercos_service_master.specs.Begun.{Begun, Said, open_in, answers_in}
-use Rattle.sercos_law_channel.specs.Handshake.Views.{Heard, View, Standing, afresh, before_mst, moved, got_in, takes_in, standing, stood_in, record_in, processed_of}
-use Rattle.sercos_law_channel.specs.Handshake.Epochs.{command, with_heard, with_begun, unless_restart, epoch_begun, begun_in}
-use Rattle.sercos_law_channel.specs.Handshake.Runs.{IsShown, IsRun}
-use Rattle.sercos_law_channel.specs.Pace.Stretches.{IsClean, AreClean}
-use Rattle.sercos_law_channel.specs.Pace.Passages.{was_addressed, IsWhole, AreWhole, IsPassed, IsUp, AreUp, StandsThroughout, StaysClean, AreHeard, HearsThroughout, IsCleanOrDown, RecoversInTime, StaysDead}
+use Rattle.sercos_law_channel.proofs.Words.{◌≡◌, ◌⊎◌, inl, inr, ℕ, ◌+◌, ◌≤◌, Bool, true, false, not, ◌&&◌, ◌||◌, List, [], ◌∷◌, ◌++◌, length, refl, sym, ap, ap₂, ◌∙◌, arith, if◌then◌else◌, nat_le, ◌==◌, Option, Some, None, IsSome, IfSome, is_some, cases_eq, and_from, leb-true, le-leb, eq-eqb, ne_eqb, cond-true, cond-false, Request, Begun, Said, open_in, answers_in, Heard, View, Standing, afresh, before_mst, moved, got_in, takes_in, standing, stood_in, record_in, processed_of, command, with_heard, with_begun, unless_restart, epoch_begun, begun_in, IsShown, IsRun, IsClean, AreClean, was_addressed, IsWhole, AreWhole, IsPassed, IsUp, AreUp, StandsThroughout, StaysClean, AreHeard, HearsThroughout, IsCleanOrDown, RecoversInTime, StaysDead}
 use Rattle.sercos_law_channel.proofs.Handshake.PhaseMoves.{Stands, Down, Moves, Stays, stands, ends}
 use Rattle.sercos_law_channel.proofs.Handshake.EpochRuns.{commanded, start, start_begun}
 use Rattle.sercos_law_channel.proofs.Handshake.RunFacts.{stands_as_commanded, stays_down, comes_to, moved_same}

@@ -1,34 +1,13 @@
 -- A start-up worked out from the definitions: every telegram comes, and the channel never idles in phase 2.
-use Rattle.std.proofs.Common.{◌≡◌, inr, ℕ, zero, suc, ◌^◌, ◌<◌, ◌≤◌, Bool, true, false, not, ◌&&◌, ◌||◌, List, [], ◌∷◌, ◌++◌, replicate, length, refl, ap, arith, if◌then◌else◌}
-use Rattle.std.specs.Prelude.{◌==◌, Some, None, IfSome, is_some}
-use Rattle.std.proofs.lemmas.Bool.{and_parts, eqb-true, not-true}
+use Rattle.sercos_law_channel.proofs.Words.{◌≡◌, inr, ℕ, zero, suc, ◌^◌, ◌<◌, ◌≤◌, Bool, true, false, not, ◌&&◌, ◌||◌, List, [], ◌∷◌, ◌++◌, replicate, length, refl, ap, arith, if◌then◌else◌, ◌==◌, Some, None, IfSome, is_some, and_parts, eqb-true, not-true, Status, Attribute, Two, Request, Block, CommandHistory, find_set, set_in, AreAlike, answers_in, View, standing, stood_in, epoch_begun, IsRun, Choice, run_by, AreSoundChoices, IsSound, AreSound, AreSmall, open_since, IsWhole, AreWhole, ArePassed, AreTimed, AreListed, cost_of, cost_in, AreCarried, age_in}
 use Rattle.sercos_model.specs.Bits.{AreBytes}
-use Rattle.sercos_telegram.specs.declared.words.Status.{Status}
-use Rattle.sercos_idn.specs.declared.attribute.Attribute.{Attribute}
-use Rattle.sercos_idn.specs.declared.kinds.Length.TheVariants.{Two}
 use Rattle.sercos_idn.specs.declared.kinds.Form.TheVariants as forms
 use Rattle.sercos_idn.specs.Codes.{attribute_fault}
 use Rattle.sercos_idn.specs.Attributes.{attribute_of}
-use Rattle.sercos_step.specs.declared.request.Request.{Request}
 use Rattle.sercos_step.specs.declared.request.Request.TheVariants as request
-use Rattle.sercos_block.specs.declared.block.Block.{Block}
 use Rattle.sercos_block.specs.Blocks.{element_of}
-use Rattle.sercos_command.specs.Calls.{CommandHistory}
-use Rattle.sercos_command.specs.Kept.{find_set, set_in}
 use Rattle.sercos_service_drive.specs.Replies.{element_words, bytes_written, write_cause}
-use Rattle.sercos_service_drive.specs.Writes.{AreAlike}
-use Rattle.sercos_service_master.specs.Begun.{answers_in}
-use Rattle.sercos_law_channel.specs.Handshake.Views.{View, standing, stood_in}
-use Rattle.sercos_law_channel.specs.Handshake.Epochs.{epoch_begun}
-use Rattle.sercos_law_channel.specs.Handshake.Runs.{IsRun}
-use Rattle.sercos_law_channel.specs.Handshake.Choices.{Choice, run_by, AreSoundChoices}
-use Rattle.sercos_law_channel.specs.Handshake.WholeRun.{IsSound, AreSound, AreSmall}
 use Rattle.sercos_law_channel.proofs.Handshake.RunsMade.{is_run, is_sound}
-use Rattle.sercos_law_channel.specs.Pace.Stretches.{open_since}
-use Rattle.sercos_law_channel.specs.Pace.Passages.{IsWhole, AreWhole, ArePassed}
-use Rattle.sercos_law_channel.specs.Pace.Costs.{AreTimed, AreListed, cost_of, cost_in}
-use Rattle.sercos_law_channel.specs.Pace.Carried.{AreCarried}
-use Rattle.sercos_law_channel.specs.Pace.Ages.{age_in}
 use Rattle.sercos_law_channel.proofs.Pace.TimedCommands.{comes_timed}
 
 -- a number of two bytes that is written in every phase

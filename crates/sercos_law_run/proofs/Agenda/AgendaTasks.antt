@@ -1,14 +1,6 @@
 -- Each task of the agenda is of one of seven kinds.
-use Rattle.std.proofs.Common.{◌≡◌, ℕ, zero, suc, ◌+◌, ◌<◌, Bool, true, false, ◌&&◌, List, [], ◌∷◌, ◌++◌, map, length, refl, sym, ap, ap₂, ◌∙◌, subst, arith, if◌then◌else◌}
-use Rattle.std.specs.Prelude.{Option, Some, None, option_map, slice_get, unwrap_or}
+use Rattle.sercos_law_run.proofs.Words.{◌≡◌, ℕ, zero, suc, ◌+◌, ◌<◌, Bool, true, false, ◌&&◌, List, [], ◌∷◌, ◌++◌, map, length, refl, sym, ap, ap₂, ◌∙◌, subst, arith, if◌then◌else◌, Option, Some, None, option_map, slice_get, unwrap_or, Outcome, PlanView, length_map, reads_length, Known, Task, member, startup, after_reads, bytes_of, idn, given, ended_well, reads, reads_count, writes, checking, agenda, is_checked, is_ready, IsTask, OfReads, OfWrites, Checks3, Lists3, Checks4, Lists4, OfWaiting}
 use Rattle.sercos_step.specs.declared.request.Request.TheVariants as request
-use Rattle.sercos_step.specs.declared.request.Outcome.{Outcome}
-use Rattle.sercos_timing.specs.Views.{PlanView}
-use Rattle.sercos_seat.proofs.Gets.{length_map}
-use Rattle.sercos_seat.proofs.Agendas.{reads_length}
-use Rattle.sercos_seat.specs.Ring.{Known, Task, member, startup}
-use Rattle.sercos_seat.specs.Agenda.{after_reads, bytes_of, idn, given, ended_well, reads, reads_count, writes, checking, agenda, is_checked, is_ready}
-use Rattle.sercos_law_run.specs.Agenda.Tasks.{IsTask, OfReads, OfWrites, Checks3, Lists3, Checks4, Lists4, OfWaiting}
 
 -- where an item of two lists is
 pub data IsIn {A : Type 0} (xs ys : List A) (n : ℕ) (x : A) : Type 0 where

@@ -1,37 +1,11 @@
 -- In phases 2 to 4 a channel whose turn it is has an open transfer until its tasks are done.
-use Rattle.std.proofs.Common.{◌≡◌, ◌⊎◌, inl, inr, ℕ, zero, suc, ◌+◌, ◌-◌, ◌<◌, ◌≤◌, Bool, true, false, not, ◌&&◌, List, [], ◌∷◌, min, drop, length, refl, sym, ap, ap₂, ◌∙◌, subst, arith, if◌then◌else◌}
-use Rattle.std.specs.Prelude.{◌==◌, nat_le, nat_lt, Option, Some, None, is_some, is_none, option_map, slice_get, slice_index_or}
-use Rattle.std.specs.List.{All}
-use Rattle.std.proofs.lemmas.Bool.{cases_lt, false≢true, le-leb, cond-true, cond-false}
-use Rattle.std.proofs.lemmas.Bool.Decides.{nat_tests}
-use Rattle.sercos_step.specs.declared.step.Step.{Step}
-use Rattle.sercos_step.specs.declared.request.Request.{Request}
+use Rattle.sercos_law_run.proofs.Words.{◌≡◌, ◌⊎◌, inl, inr, ℕ, zero, suc, ◌+◌, ◌-◌, ◌<◌, ◌≤◌, Bool, true, false, not, ◌&&◌, List, [], ◌∷◌, min, drop, length, refl, sym, ap, ap₂, ◌∙◌, subst, arith, if◌then◌else◌, ◌==◌, nat_le, nat_lt, Option, Some, None, is_some, is_none, option_map, slice_get, slice_index_or, All, cases_lt, false≢true, le-leb, cond-true, cond-false, not-true, nat_tests, Step, Request, Outcome, outcome_of, next_step, PlanView, Begun, open_in, begun_by, planned, Stop, IsRefused, ends_so, Known, Task, HasLists, no_member, member, startup, idn, given, ended_well, reads, reads_count, writes, agenda, is_read, is_checked, is_ready, outcomes_in, last_outcome, trouble_by, of_phase, count_requests, AreWaiting, next_in_2, next_in_3, get_some, not_checked, reads_length, next_2, next_3, next_request, Call, Past, first_from, first_place, outcomes, is_idle, trouble, all_read, all_checked, settled, in_turn, has_turn, next_task, with_begin, with_task, is_sent_to, still_waiting, addressed_in, ready_to_send, after_mdt, past, leaves, mdt_adds, configured, ready, HasNext, never_idle, none_troubled, no_stop_before, settles, still_left, all_waiting, waiting_settled, IsTask, OfReads, OfWrites, Checks3, Lists3, Checks4, Lists4, OfWaiting, HasBegunTasks, AreBegunTasks, AreNumbered}
 use Rattle.sercos_step.specs.declared.request.Request.TheVariants as request
-use Rattle.sercos_step.specs.declared.request.Outcome.{Outcome}
 use Rattle.sercos_step.specs.declared.request.Outcome.TheVariants as outcome
-use Rattle.sercos_step.specs.Steps.{outcome_of, next_step}
-use Rattle.sercos_timing.specs.Views.{PlanView}
-use Rattle.sercos_service_master.specs.Begun.{Begun, open_in}
-use Rattle.sercos_service_master.specs.Calls.{begun_by}
 use Rattle.sercos_service_master.specs.Calls as channel
-use Rattle.sercos_plan.specs.ChainOf.{planned}
-use Rattle.sercos_trace.specs.declared.events.Stop.{Stop}
-use Rattle.sercos_law_channel.proofs.Theorems.{IsRefused, Ends as TransferEnds, GoesOn, IsWhole, ends_so}
-use Rattle.sercos_seat.specs.Ring.{Known, Task, HasLists, no_member, member, startup}
-use Rattle.sercos_seat.specs.Agenda.{idn, given, ended_well, reads, reads_count, writes, agenda, is_read, is_checked, is_ready}
-use Rattle.sercos_seat.specs.Channel.{outcomes_in, last_outcome, trouble_by, of_phase, count_requests}
-use Rattle.sercos_seat.specs.Seats.{AreWaiting, next_in_2, next_in_3}
-use Rattle.sercos_seat.proofs.Gets.{get_some}
-use Rattle.sercos_seat.proofs.Agendas.{not_checked, reads_length, next_2, next_3}
-use Rattle.sercos_seat.proofs.Queues.{next_request}
-use Rattle.sercos_master.specs.Annals.{Call, Past, first_from, first_place, outcomes, is_idle, trouble, all_read, all_checked, settled, in_turn, has_turn, next_task, begins, with_begin, with_task, is_sent_to, still_waiting, addressed_in, ready_to_send, after_mdt, past}
-use Rattle.sercos_master.proofs.Configured.{leaves, mdt_adds, configured, ready}
-use Rattle.sercos_master.proofs.Followed.{HasNext, never_idle, none_troubled, no_stop_before, settles}
-use Rattle.sercos_master.proofs.InOrder.{still_left}
-use Rattle.sercos_master.proofs.Laws.{all_waiting, waiting_settled}
-use Rattle.sercos_law_run.specs.Agenda.Tasks.{IsTask, OfReads, OfWrites, Checks3, Lists3, Checks4, Lists4, OfWaiting, HasBegunTasks, AreBegunTasks}
+use Rattle.sercos_law_channel.proofs.Theorems.{Ends as TransferEnds, GoesOn, IsWhole}
+use Rattle.sercos_master.specs.Annals.{begins}
 use Rattle.sercos_law_run.proofs.Agenda.TaskRuns.{all_ended, begun_tasks}
-use Rattle.sercos_law_run.specs.Agenda.Reported.{AreNumbered}
 use Rattle.sercos_law_run.proofs.Agenda.OneTurn.{from_same}
 use Rattle.sercos_law_run.proofs.Agenda.ReportedRuns.{count_so}
 use Rattle.sercos_law_run.proofs.Agenda.Requests.{numbered_drop}
@@ -54,10 +28,6 @@ found_some k (suc n) test some = by (test k) refl some (λ more. found_some (k +
 none_or_some : (o : Option ℕ) → (o ≡ None) ⊎ (is_none o ≡ false)
 none_or_some None = inl refl
 none_or_some (Some x) = inr refl
-
-pub not_so : (b : Bool) → not b ≡ true → b ≡ false
-not_so false e = refl
-not_so true e = absurd (false≢true e)
 
 -- A REQUEST that has just begun is open.
 fresh : HasNext → (r : Request) (older : List Begun) → is_none (open_in ((record { request = r; answers = [] }) ∷ older)) ≡ false
@@ -83,10 +53,6 @@ list_stops : (raw phase : ℕ) (tasks : List Task) (address : ℕ) (o : Outcome)
 list_stops raw phase tasks address o which (inr refused) = refused (startup phase (request.Read (idn raw) 7)) tasks address refl
 list_stops raw phase tasks address o (inl one) (inl (bytes, is)) = rw (is, one) refl
 list_stops raw phase tasks address o (inr two) (inl (bytes, is)) = rw (is, two) refl
-
-is_given : (b : Bool) → b ≡ true → b ≡ false → ⊥
-is_given true on off = false≢true (sym off)
-is_given false on off = false≢true on
 
 module _ (has_next : HasNext) (s : Known) (k : ℕ) where
   -- IN PHASE 2 a drive whose check hasn't ended well has at most the outcome of that check.
@@ -266,9 +232,6 @@ module _ (has_next : HasNext) (s : Known) (requests : ℕ → List Task) (h : Li
   waits : (k : ℕ) → AreWaiting (p0.waiting k)
   waits k = all_waiting s requests h wait k
 
-  same_first : (f g : ℕ → Bool) → ((k : ℕ) → f k ≡ g k) → first_place s f ≡ first_place s g
-  same_first f g same = from_same (length s.drives) 0 f g same
-
   -- PHASE 4
   pub works_in_four : ((j : ℕ) → AreNumbered (requests j)) → (k : ℕ) → k < length s.drives → (after_mdt s p0).now.phase ≡ 4 → (after_mdt s p0).stop ≡ None → is_some (after_mdt s p0).plan ≡ true → is_idle (after_mdt s p0) k ≡ true →
       still_waiting (after_mdt s p0) k ≡ []
@@ -373,7 +336,7 @@ module _ (has_next : HasNext) (s : Known) (requests : ℕ → List Task) (h : Li
             let f = found_some 0 (length s.drives) (λ k. not (is_read (member s k) (outcomes settled_p k))) some in
             let low = f.below in
             let there : f.place < length s.drives = omega (arith, low) in
-            let unread = not_so _ f.passes in
+            let unread = not-true _ f.passes in
             (f.place, there, turn_works two free f.place there (rw f.found refl) (unchecked f.place unread) (λ many. absurd (false≢true (sym unread ∙ le-leb _ _ many))))
           where
             unchecked : (k : ℕ) → is_read (member s k) (outcomes settled_p k) ≡ false → is_checked (member s k) (outcomes settled_p k) ≡ false
@@ -381,15 +344,15 @@ module _ (has_next : HasNext) (s : Known) (requests : ℕ → List Task) (h : Li
         first (inl none) = second (none_or_some (first_place s (λ k. not (is_checked (member s k) (outcomes settled_p k)))))
           where
             read : all_read s (after_mdt s p0) ≡ true
-            read = ap (λ (o : Option ℕ). is_none o) (same_first (λ k. not (is_read (member s k) (outcomes (after_mdt s p0) k))) (λ k. not (is_read (member s k) (outcomes settled_p k))) (λ k. ap (λ (l : List Outcome). not (is_read (member s k) l)) (after_same k)) ∙ none)
+            read = ap (λ (o : Option ℕ). is_none o) (from_same (length s.drives) 0 (λ k. not (is_read (member s k) (outcomes (after_mdt s p0) k))) (λ k. not (is_read (member s k) (outcomes settled_p k))) (λ k. ap (λ (l : List Outcome). not (is_read (member s k) l)) (after_same k)) ∙ none)
 
             second : (first_place s (λ k. not (is_checked (member s k) (outcomes settled_p k))) ≡ None) ⊎ (is_none (first_place s (λ k. not (is_checked (member s k) (outcomes settled_p k)))) ≡ false) → (k : ℕ) × (k < length s.drives) × (is_idle (after_mdt s p0) k ≡ false)
-            second (inl all) = absurd (false≢true (sym fails ∙ ap (λ (o : Option ℕ). is_none o) (same_first (λ k. not (is_checked (member s k) (outcomes (after_mdt s p0) k))) (λ k. not (is_checked (member s k) (outcomes settled_p k))) (λ k. ap (λ (l : List Outcome). not (is_checked (member s k) l)) (after_same k)) ∙ all)))
+            second (inl all) = absurd (false≢true (sym fails ∙ ap (λ (o : Option ℕ). is_none o) (from_same (length s.drives) 0 (λ k. not (is_checked (member s k) (outcomes (after_mdt s p0) k))) (λ k. not (is_checked (member s k) (outcomes settled_p k))) (λ k. ap (λ (l : List Outcome). not (is_checked (member s k) l)) (after_same k)) ∙ all)))
             second (inr some) =
                 let f = found_some 0 (length s.drives) (λ k. not (is_checked (member s k) (outcomes settled_p k))) some in
                 let low = f.below in
                 let there : f.place < length s.drives = omega (arith, low) in
-                (f.place, there, turn_works two free f.place there (rw (none, f.found) refl) (not_so _ f.passes) (λ many. planned read))
+                (f.place, there, turn_works two free f.place there (rw (none, f.found) refl) (not-true _ f.passes) (λ many. planned read))
 
     -- PHASE 3
     pub works_in_three : (k : ℕ) → k < length s.drives → (after_mdt s p0).now.phase ≡ 3 → (after_mdt s p0).stop ≡ None → is_some (after_mdt s p0).plan ≡ true → is_ready (member s k) (outcomes (after_mdt s p0) k) ≡ false →

@@ -1,24 +1,7 @@
 -- With each call of the master each channel goes by moves.
-use Rattle.std.proofs.Common.{◌≡◌, inl, inr, ℕ, ◌<◌, Bool, true, false, not, ◌&&◌, List, [], ◌∷◌, length, refl, sym, ap, ap₂, ◌∙◌, subst, arith, if◌then◌else◌}
-use Rattle.std.specs.Prelude.{◌==◌, Option, Some, None, is_none, slice_index}
-use Rattle.std.proofs.lemmas.Bool.{and_parts, eqb-true, eq-eqb, not-true, cases_eq}
-use Rattle.sercos_telegram.specs.Words.{status_of}
-use Rattle.sercos_telegram.specs.Spells.{word_at}
-use Rattle.sercos_telegram.specs.Faults.{at_fault}
+use Rattle.sercos_law_run.proofs.Words.{◌≡◌, inl, inr, ℕ, ◌<◌, Bool, true, false, not, ◌&&◌, List, [], ◌∷◌, length, refl, sym, ap, ap₂, ◌∙◌, subst, arith, if◌then◌else◌, ◌==◌, Option, Some, None, is_none, slice_index, and_parts, eqb-true, not-true, cases_eq, status_of, word_at, at_fault, begun_by, Send, Begun, last_outcome, trouble_by, Known, Task, member, is_checked, is_ready, is_done_in, is_closed, all_identified, all_checked, all_ready, Call, HearMst, HearAt, End, Restart, Past, outcomes, is_awaited, wanted_len, after_taken, after_at, place_of, is_done, after_end, settled, with_begin, with_task, begun, sent_to, is_sent_to, addressed_in, ready_to_send, past, hearing, none_troubled, no_stop_before, settles, each_passes, at_keeps, begins_next, end_keeps, settled_keeps, same_place, CallsAreMoves, GoesByMoves, AreMoves, newest, Channel, channel_at, new_channel, IsNextTask, IsDoneWith, Steps, Stays, Identifies, Hears, Plans, Begins, Moves, Within, Ends, Falls}
 use Rattle.sercos_service_master.specs.Calls as channel
-use Rattle.sercos_service_master.specs.Calls.{begun_by, Send}
-use Rattle.sercos_service_master.specs.Begun.{Begun}
-use Rattle.sercos_seat.specs.Channel.{last_outcome, trouble_by}
-use Rattle.sercos_seat.specs.Ring.{Known, Task, member}
-use Rattle.sercos_seat.specs.Agenda.{is_checked, is_ready}
-use Rattle.sercos_master.specs.Annals.{is_done_in, is_closed, all_identified, all_checked, all_ready, Call, HearMst, HearAt, Mdt, End, Restart, Past, outcomes, is_awaited, wanted_len, after_taken, after_at, place_of, is_done, after_end, settled, begins, with_begin, with_task, begun, sent_to, is_sent_to, addressed_in, ready_to_send, past, hearing}
-use Rattle.sercos_master.proofs.Followed.{none_troubled, no_stop_before, settles}
-use Rattle.sercos_master.proofs.Configured.{each_passes}
-use Rattle.sercos_master.proofs.Keeping.{at_keeps, begins_next, end_keeps, settled_keeps}
-use Rattle.sercos_law_run.specs.Agenda.Channels.{CallsAreMoves, GoesByMoves, AreMoves, newest, Channel, channel_at, new_channel, IsNextTask, IsDoneWith, Steps, Stays, Identifies, Hears, Plans, Begins, Moves, Within, Ends, Falls}
-
-same_place : (k : ℕ) → (k == k) ≡ true
-same_place k = eq-eqb k k refl
+use Rattle.sercos_master.specs.Annals.{Mdt, begins}
 
 module _ (s : Known) (k : ℕ) where
   -- an AT

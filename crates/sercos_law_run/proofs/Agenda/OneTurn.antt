@@ -1,35 +1,7 @@
 -- In phase 2 at most one channel has an open transfer.
-use Rattle.std.proofs.Common.{◌≡◌, inl, inr, ℕ, zero, suc, ◌+◌, ◌<◌, ◌≤◌, Bool, true, false, not, ◌&&◌, List, [], ◌∷◌, length, refl, sym, ap, ap₂, ◌∙◌, subst, arith, if◌then◌else◌}
-use Rattle.std.specs.Prelude.{◌==◌, Option, Some, None, is_some, is_none}
-use Rattle.std.specs.Option.{option_or}
-use Rattle.std.proofs.lemmas.Bool.{and_parts, both_ways, eqb-true, eq-eqb, cases_eq}
-use Rattle.std.proofs.lemmas.Option.{same_Some}
-use mathlib.Core.Bool.{beq}
-use Rattle.sercos_telegram.specs.declared.words.Status.{Status}
-use Rattle.sercos_telegram.specs.Words.{status_of}
-use Rattle.sercos_telegram.specs.Spells.{word_at}
-use Rattle.sercos_step.specs.declared.step.Step.{Step}
-use Rattle.sercos_step.specs.declared.step.Answer.{Answer}
-use Rattle.sercos_step.specs.declared.request.Outcome.{Outcome}
-use Rattle.sercos_step.specs.Steps.{outcome_of, next_step}
-use Rattle.sercos_timing.specs.Views.{PlanView}
+use Rattle.sercos_law_run.proofs.Words.{◌≡◌, inl, inr, ℕ, zero, suc, ◌+◌, ◌<◌, ◌≤◌, Bool, true, false, not, ◌&&◌, List, [], ◌∷◌, length, refl, sym, ap, ap₂, ◌∙◌, subst, arith, if◌then◌else◌, ◌==◌, Option, Some, None, is_some, is_none, option_or, and_parts, both_ways, eq-eqb, cases_eq, same_Some, beq, Status, status_of, word_at, Step, Answer, Outcome, outcome_of, next_step, PlanView, Begun, open_in, mhs_in, answers_it, answer_in, with_answer, outcome_with, Send, begun_by, with_status, going_on, Known, Task, member, is_read, is_checked, with_outcome, outcomes_in, AreWaiting, all_waiting, mdt_adds, leaves, begins_next, going, past_keeps, Call, Past, first_from, outcomes, is_idle, after_taken, in_turn, with_begin, settled, begun, is_sent_to, addressed_in, ready_to_send, after_mdt, past, hearing, HasNext, other_place, outcome_in, IsTask, OfReads, OfWrites, Checks3, Lists3, Checks4, Lists4, OfWaiting, AreBegunTasks, HasTurn}
 use Rattle.sercos_service_master.specs.Calls as channel
-use Rattle.sercos_service_master.specs.Begun.{Begun, open_in, mhs_in, answers_it, answer_in, with_answer, outcome_with}
-use Rattle.sercos_service_master.specs.Calls.{Send, begun_by}
-use Rattle.sercos_law_channel.specs.Handshake.Moves.{with_status}
-use Rattle.sercos_seat.proofs.Channels.{going_on}
-use Rattle.sercos_seat.specs.Ring.{Known, Task, member}
-use Rattle.sercos_seat.specs.Agenda.{is_read, is_checked}
-use Rattle.sercos_seat.specs.Channel.{with_outcome, outcomes_in}
-use Rattle.sercos_seat.specs.Seats.{AreWaiting}
-use Rattle.sercos_master.proofs.Laws.{all_waiting}
-use Rattle.sercos_master.proofs.Configured.{mdt_adds, leaves}
-use Rattle.sercos_master.proofs.Keeping.{begins_next, going, past_keeps}
-use Rattle.sercos_master.specs.Annals.{Call, Past, first_from, outcomes, is_idle, after_taken, in_turn, begins, with_begin, settled, begun, is_sent_to, addressed_in, ready_to_send, after_mdt, past, hearing}
-use Rattle.sercos_master.proofs.Followed.{HasNext}
-use Rattle.sercos_law_run.specs.Agenda.Channels.{outcome_in}
-use Rattle.sercos_law_run.specs.Agenda.Tasks.{IsTask, OfReads, OfWrites, Checks3, Lists3, Checks4, Lists4, OfWaiting, AreBegunTasks}
-use Rattle.sercos_law_run.specs.Agenda.Turns.{HasTurn}
+use Rattle.sercos_master.specs.Annals.{begins}
 use Rattle.sercos_law_run.proofs.Agenda.TaskRuns.{begun_tasks}
 
 -- A STATUS IS HEARD. Where no step is open, it changes nothing.
@@ -93,13 +65,6 @@ turn_same s p q same =
 pub data AtHears (p q : Past) (k : ℕ) : Type 0 where
   SameAt : begun_by (q.calls k) ≡ begun_by (p.calls k) → AtHears p q k
   HeardAt : (status : Status) → (word : ℕ) → begun_by (q.calls k) ≡ with_status status word (begun_by (p.calls k)) → AtHears p q k
-
-pub other_place : (k i : ℕ) → (k ≡ i → ⊥) → (k == i) ≡ false
-other_place k i other = which (k == i) refl
-  where
-    which : (v : Bool) → (k == i) ≡ v → (k == i) ≡ false
-    which false is = is
-    which true is = absurd (other (eqb-true k i is))
 
 pub elsewhere_same : (i k : ℕ) (content : List ℕ) (p : Past) → (k ≡ i → ⊥) → begun_by ((after_taken i content p).calls k) ≡ begun_by (p.calls k)
 elsewhere_same i k content p other = ap (λ (v : Bool). begun_by (if v then (hearing (p.now.phase == 1) i content p).calls else p.calls k))

@@ -1,28 +1,8 @@
 -- If there is a plan, all reads are complete.
-use Rattle.std.proofs.Common.{◌≡◌, inl, inr, ℕ, ◌<◌, ◌≤◌, true, List, [], ◌∷◌, ◌++◌, length, refl, sym, ap, ap₂, ◌∙◌, arith, length-append}
-use Rattle.std.specs.Prelude.{Option, Some, None, slice_get}
-use Rattle.std.proofs.lemmas.Option.{same_Some, slice_get_within}
-use Rattle.std.proofs.lemmas.Bool.{leb-true, cases_eq}
-use Rattle.sercos_step.specs.declared.request.Outcome.{Outcome}
+use Rattle.sercos_law_run.proofs.Words.{◌≡◌, inl, inr, ℕ, ◌<◌, ◌≤◌, true, List, [], ◌∷◌, ◌++◌, length, refl, sym, ap, ap₂, ◌∙◌, arith, length-append, Option, Some, None, slice_get, same_Some, slice_get_within, leb-true, cases_eq, Outcome, outcome_of, PlanView, planned, Begun, begun_by, IsRefused, ends_so, get_left, get_right, Known, Task, member, is_read, reads_count, with_outcome, outcomes_in, last_outcome, trouble_by, Adds, at_adds, none_troubled, HasNext, each_passes, mdt_adds, leaves, past_keeps, settled_keeps, Call, Past, outcomes, trouble, after_taken, all_read, first_trouble, settled, after_mdt, past, HasBegunTasks, EndsTasks, HasEndedAt, IsTask, OfReads, OfWrites, Checks3, Lists3, Checks4, Lists4, OfWaiting, HasEndedWell, AreBegunTasks, AreReadWell}
 use Rattle.sercos_step.specs.declared.request.Outcome.TheVariants as outcome
-use Rattle.sercos_step.specs.Steps.{outcome_of}
-use Rattle.sercos_timing.specs.Views.{PlanView}
-use Rattle.sercos_plan.specs.ChainOf.{planned}
 use Rattle.sercos_service_master.specs.Calls as channel
-use Rattle.sercos_service_master.specs.Begun.{Begun}
-use Rattle.sercos_service_master.specs.Calls.{begun_by}
-use Rattle.sercos_law_channel.proofs.Theorems.{IsRefused, Ends as TransferEnds, GoesOn, IsWhole, ends_so}
-use Rattle.sercos_seat.proofs.Gets.{get_left, get_right}
-use Rattle.sercos_seat.specs.Ring.{Known, Task, member}
-use Rattle.sercos_seat.specs.Agenda.{is_read, reads_count}
-use Rattle.sercos_seat.specs.Channel.{with_outcome, outcomes_in, last_outcome, trouble_by}
-use Rattle.sercos_master.proofs.Planned.{Adds, at_adds}
-use Rattle.sercos_master.proofs.Followed.{none_troubled, HasNext}
-use Rattle.sercos_master.proofs.Configured.{each_passes, mdt_adds, leaves}
-use Rattle.sercos_master.proofs.Keeping.{past_keeps, settled_keeps}
-use Rattle.sercos_master.specs.Annals.{Call, Past, outcomes, trouble, after_taken, all_read, first_trouble, settled, after_mdt, past}
-use Rattle.sercos_law_run.specs.Agenda.Tasks.{HasBegunTasks, EndsTasks, HasEndedAt, IsTask, OfReads, OfWrites, Checks3, Lists3, Checks4, Lists4, OfWaiting, HasEndedWell, AreBegunTasks}
-use Rattle.sercos_law_run.specs.Agenda.Reads.{AreReadWell}
+use Rattle.sercos_law_channel.proofs.Theorems.{Ends as TransferEnds, GoesOn, IsWhole}
 use Rattle.sercos_law_run.proofs.Agenda.WritesDone.{some_at}
 use Rattle.sercos_law_run.proofs.Agenda.TaskRuns.{begun_tasks}
 

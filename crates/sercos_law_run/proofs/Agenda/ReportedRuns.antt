@@ -1,25 +1,7 @@
 -- After any calls the requests that were reported, then those that are left, are the requests to the drive in their order.
-use Rattle.std.proofs.Common.{◌≡◌, ◌⊎◌, inl, inr, ℕ, zero, suc, ◌+◌, ◌<◌, ◌≤◌, Bool, true, false, List, [], ◌∷◌, drop, length, refl, sym, ap, ◌∙◌, subst, arith, if◌then◌else◌}
-use Rattle.std.specs.Prelude.{Option, Some, None, is_some, is_none, option_map, slice_get}
-use Rattle.std.specs.Option.{option_or}
-use Rattle.std.proofs.lemmas.Bool.{and_parts, cases_eq}
-use Rattle.sercos_telegram.specs.declared.words.Status.{Status}
-use Rattle.sercos_step.specs.declared.step.Step.{Step}
-use Rattle.sercos_step.specs.declared.step.Answer.{Answer}
-use Rattle.sercos_step.specs.declared.request.Outcome.{Outcome}
-use Rattle.sercos_step.specs.Steps.{outcome_of, next_step}
-use Rattle.sercos_timing.specs.Views.{PlanView}
-use Rattle.sercos_service_master.specs.Begun.{Begun, open_in, answers_it, answer_in, with_answer, outcome_with}
-use Rattle.sercos_seat.proofs.Queues.{ready_long, ready_stays}
-use Rattle.sercos_seat.specs.Channel.{broken_number, numbered, Report, report_of, number_in, count_requests, with_outcome, outcomes_in}
-use Rattle.sercos_seat.specs.Ring.{Known, Task, member}
-use Rattle.sercos_seat.specs.Agenda.{reads_count, is_ready}
-use Rattle.sercos_master.proofs.Followed.{HasNext, not_longer}
-use Rattle.sercos_master.proofs.Keeping.{end_keeps}
-use Rattle.sercos_master.specs.Annals.{Restart, Call, HearMst, HearAt, Mdt, End, Past, settled, begun, addressed_in, ready_to_send, fall_of, goes_on, next_phase, new_epoch, still_waiting, past}
-use Rattle.sercos_law_run.specs.Agenda.Reported.{task_numbers, IsAtStart, RestartsAtStart, TellsInOrder, broken_in, AreNumbered, with_told, told_at_end, told, with_number, after_told, still_to_tell}
-use Rattle.sercos_law_run.specs.Agenda.Channels.{Ends, Channel, channel_at, hearing, beginning, Steps, Stays, Identifies, Hears, Plans, Begins, Moves, Within, Falls}
-use Rattle.sercos_law_run.specs.Agenda.Tasks.{IsTask, OfReads, OfWrites, Checks3, Lists3, Checks4, Lists4, OfWaiting, AreBegunTasks}
+use Rattle.sercos_law_run.proofs.Words.{◌≡◌, ◌⊎◌, inl, inr, ℕ, zero, suc, ◌+◌, ◌<◌, ◌≤◌, Bool, true, false, List, [], ◌∷◌, drop, length, refl, sym, ap, ◌∙◌, subst, arith, if◌then◌else◌, Option, Some, None, is_some, is_none, option_map, slice_get, option_or, and_parts, cases_eq, Status, Step, Answer, Outcome, outcome_of, next_step, PlanView, Begun, open_in, answers_it, answer_in, with_answer, outcome_with, ready_long, ready_stays, broken_number, numbered, Report, report_of, number_in, count_requests, with_outcome, outcomes_in, Known, Task, member, reads_count, is_ready, HasNext, not_longer, end_keeps, Restart, Call, HearMst, HearAt, End, Past, settled, begun, addressed_in, ready_to_send, fall_of, goes_on, next_phase, new_epoch, still_waiting, past, task_numbers, IsAtStart, RestartsAtStart, TellsInOrder, broken_in, AreNumbered, with_told, told_at_end, told, with_number, after_told, still_to_tell, Ends, Channel, channel_at, beginning, Steps, Stays, Identifies, Hears, Plans, Begins, Moves, Within, Falls, IsTask, OfReads, OfWrites, Checks3, Lists3, Checks4, Lists4, OfWaiting, AreBegunTasks}
+use Rattle.sercos_master.specs.Annals.{Mdt}
+use Rattle.sercos_law_run.specs.Agenda.Channels.{hearing}
 use Rattle.sercos_law_run.proofs.Agenda.Requests.{numbered_drop}
 use Rattle.sercos_law_run.proofs.Agenda.AgendaTasks.{is_task}
 use Rattle.sercos_law_run.proofs.Agenda.CallMoves.{at_moves, settled_moves, begun_moves, sent_same, always}

@@ -1,11 +1,5 @@
 -- The requests to a drive: all are of phase 4 and have a number, and the numbers ascend.
-use Rattle.std.proofs.Common.{ℕ, zero, suc, ◌+◌, ◌≤◌, Bool, true, false, List, [], ◌∷◌, drop, refl, arith, if◌then◌else◌}
-use Rattle.std.specs.Prelude.{◌==◌}
-use Rattle.sercos_step.specs.declared.request.Job.{Job}
-use Rattle.sercos_seat.specs.Ring.{Task, member, request_task, tasks_from}
-use Rattle.sercos_master.proofs.InOrder.{tasks_numbered}
-use Rattle.sercos_master.proofs.Laws.{tasks_wait}
-use Rattle.sercos_law_run.specs.Agenda.Reported.{AreNumbered, Ascend, AreRequests}
+use Rattle.sercos_law_run.proofs.Words.{ℕ, zero, suc, ◌+◌, ◌≤◌, Bool, true, false, List, [], ◌∷◌, drop, refl, arith, if◌then◌else◌, ◌==◌, Job, Task, member, request_task, tasks_from, tasks_numbered, tasks_wait, AreNumbered, Ascend, AreRequests}
 
 pub numbered_drop : (n : ℕ) (tasks : List Task) → AreNumbered tasks → AreNumbered (drop n tasks)
 numbered_drop zero tasks are = are

@@ -1,17 +1,6 @@
 -- After any calls a request that is reported as ended was begun in this epoch, and ended so.
-use Rattle.std.proofs.Common.{◌≡◌, ◌⊎◌, inl, inr, ℕ, ◌<◌, Bool, true, false, List, [], ◌∷◌, length, refl, sym, ap, ◌∙◌, subst, if◌then◌else◌}
-use Rattle.std.specs.Prelude.{Option, Some, None}
-use Rattle.std.specs.Option.{option_or}
-use Rattle.sercos_telegram.specs.declared.words.Status.{Status}
-use Rattle.sercos_step.specs.declared.step.Answer.{Answer}
-use Rattle.sercos_step.specs.declared.request.Outcome.{Outcome}
-use Rattle.sercos_step.specs.Steps.{outcome_of}
-use Rattle.sercos_service_master.specs.Begun.{Begun, answers_it, answer_in, with_answer, outcome_with}
-use Rattle.sercos_seat.specs.Ring.{Known, Task}
-use Rattle.sercos_seat.specs.Channel.{Report, report_of, number_in, numbered}
-use Rattle.sercos_master.specs.Annals.{Call, past}
-use Rattle.sercos_law_run.specs.Agenda.Reported.{IsReportOf}
-use Rattle.sercos_law_run.specs.Agenda.Channels.{Ends, Channel, channel_at, hearing, Stays, Identifies, Hears, Plans, Begins, Moves, Within, Falls}
+use Rattle.sercos_law_run.proofs.Words.{◌≡◌, ◌⊎◌, inl, inr, ℕ, ◌<◌, Bool, true, false, List, [], ◌∷◌, length, refl, sym, ap, ◌∙◌, subst, if◌then◌else◌, Option, Some, None, option_or, Status, Answer, Outcome, outcome_of, Begun, answers_it, answer_in, with_answer, outcome_with, Known, Task, Report, report_of, number_in, numbered, Call, past, IsReportOf, Ends, Channel, channel_at, Stays, Identifies, Hears, Plans, Begins, Moves, Within, Falls}
+use Rattle.sercos_law_run.specs.Agenda.Channels.{hearing}
 use Rattle.sercos_law_run.proofs.Agenda.CallMoves.{always}
 
 abbrev ReportsRight : Channel → Type 0

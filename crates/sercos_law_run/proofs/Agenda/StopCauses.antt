@@ -1,34 +1,9 @@
 -- The cause of each kind of stop.
-use Rattle.std.proofs.lemmas.Option.{same_Some}
-use Rattle.std.proofs.Common.{◌≡◌, ◌⊎◌, inl, inr, ℕ, zero, suc, ◌+◌, ◌<◌, Bool, true, false, not, ◌&&◌, List, [], ◌∷◌, ◌++◌, map, take, length, refl, sym, ap, ap₂, ◌∙◌, subst, arith, if◌then◌else◌}
-use Rattle.std.specs.Prelude.{◌==◌, Option, Some, None, Err, is_some, is_none, option_map, slice_get, unwrap_or}
-use Rattle.std.specs.List.{list_all}
-use Rattle.std.proofs.lemmas.Bool.{and_parts, eqb-true, eq-eqb, not-true}
-use Rattle.sercos_idn.specs.declared.code.Code.{Code}
-use Rattle.sercos_idn.specs.declared.idn.Idn.{Idn}
-use Rattle.sercos_step.specs.declared.request.Request.{Request}
+use Rattle.sercos_law_run.proofs.Words.{same_Some, ◌≡◌, ◌⊎◌, inl, inr, ℕ, zero, suc, ◌+◌, ◌<◌, Bool, true, false, not, ◌&&◌, List, [], ◌∷◌, ◌++◌, map, take, length, refl, sym, ap, ap₂, ◌∙◌, subst, arith, if◌then◌else◌, ◌==◌, Option, Some, None, Err, is_some, is_none, option_map, slice_get, unwrap_or, list_all, and_parts, eqb-true, eq-eqb, not-true, Code, Idn, Request, Outcome, outcome_of, PlanView, ChainView, planned, Begun, begun_by, Stop, stop_by, asked_by, len_said, long_in, idns_in, attribute_stop, list_stop, reads, declared_times, idn, reads_count, is_checked, is_ready, given, bytes_of, ended_well, wishes_given, Known, Task, MemberView, member, startup, outcomes_in, with_outcome, last_outcome, trouble_by, get_left, before_end, HasNext, Call, past, outcomes, all_read, still_left, IsTask, OfReads, OfWrites, Checks3, Lists3, Checks4, Lists4, OfWaiting, HasEndedWell, IsBegunTask, AreBegunTasks, HasRefused, IsBadAttribute, AreTooLong, HasFailedCheck, AreNumbered}
 use Rattle.sercos_step.specs.declared.request.Request.TheVariants as request
-use Rattle.sercos_step.specs.declared.request.Outcome.{Outcome}
 use Rattle.sercos_step.specs.declared.request.Outcome.TheVariants as outcome
-use Rattle.sercos_step.specs.Steps.{outcome_of}
-use Rattle.sercos_timing.specs.Views.{PlanView}
-use Rattle.sercos_plan.specs.Views.{ChainView}
-use Rattle.sercos_plan.specs.ChainOf.{planned}
-use Rattle.sercos_service_master.specs.Begun.{Begun}
-use Rattle.sercos_service_master.specs.Calls.{begun_by}
-use Rattle.sercos_trace.specs.declared.events.Stop.{Stop}
 use Rattle.sercos_trace.specs.declared.events.Stop.TheVariants as stop
-use Rattle.sercos_seat.specs.Agenda.{stop_by, asked_by, len_said, long_in, idns_in, attribute_stop, list_stop, reads, declared_times, idn, reads_count, is_checked, is_ready, given, bytes_of, ended_well, wishes_given}
-use Rattle.sercos_seat.specs.Ring.{Known, Task, MemberView, member, startup}
-use Rattle.sercos_seat.specs.Channel.{outcomes_in, with_outcome, last_outcome, trouble_by}
-use Rattle.sercos_seat.proofs.Gets.{get_left}
-use Rattle.sercos_seat.proofs.Seats.{before_end}
-use Rattle.sercos_master.proofs.Followed.{HasNext}
-use Rattle.sercos_master.specs.Annals.{Call, past, outcomes, all_read}
-use Rattle.sercos_master.proofs.InOrder.{still_left}
-use Rattle.sercos_law_run.specs.Agenda.Tasks.{IsTask, OfReads, OfWrites, Checks3, Lists3, Checks4, Lists4, OfWaiting, HasEndedWell, IsBegunTask, AreBegunTasks}
-use Rattle.sercos_law_run.specs.Agenda.Stops.{HasEnded, HasRefused, IsBadAttribute, AreTooLong, HasFailedCheck}
-use Rattle.sercos_law_run.specs.Agenda.Reported.{AreNumbered}
+use Rattle.sercos_law_run.specs.Agenda.Stops.{HasEnded}
 use Rattle.sercos_law_run.proofs.Agenda.AgendaTasks.{IsIn, First, After, is_in, mapped}
 use Rattle.sercos_law_run.proofs.Agenda.TaskRuns.{begun_tasks}
 use Rattle.sercos_law_run.proofs.Agenda.WritesDone.{raw_of, IsDataWrite, DataWrite, all_data_writes}

@@ -1,32 +1,8 @@
 -- After any calls a stop has its cause.
-use Rattle.std.proofs.Common.{◌≡◌, ℕ, suc, ◌+◌, ◌<◌, Bool, true, false, ◌&&◌, List, [], ◌∷◌, ◌++◌, length, refl, sym, ap, ◌∙◌, subst, arith, if◌then◌else◌, ap₂}
-use Rattle.std.specs.Prelude.{nat_le, Option, Some, None, Err, is_some, is_none, option_map, slice_get}
-use Rattle.std.specs.List.{filter, last_or}
-use Rattle.std.proofs.lemmas.Option.{get_or_from_slice_get, same_Some, slice_get_within}
-use Rattle.std.proofs.lemmas.Bool.{leb-true}
-use Rattle.sercos_telegram.specs.Words.{status_of}
-use Rattle.sercos_telegram.specs.Spells.{word_at}
-use Rattle.sercos_idn.specs.declared.idn.Idn.{Idn}
-use Rattle.sercos_step.specs.declared.request.Outcome.{Outcome}
-use Rattle.sercos_step.specs.Steps.{outcome_of, next_step}
-use Rattle.sercos_step.proofs.Ends.{has_next}
-use Rattle.sercos_timing.specs.Order.{record_bytes}
-use Rattle.sercos_timing.specs.Views.{WishesView}
-use Rattle.sercos_plan.specs.Views.{ChainView}
-use Rattle.sercos_plan.specs.ChainOf.{planned}
-use Rattle.sercos_service_master.specs.Begun.{Begun, open_in}
-use Rattle.sercos_service_master.specs.Calls.{begun_by}
-use Rattle.sercos_trace.specs.declared.events.Stop.{Stop}
+use Rattle.sercos_law_run.proofs.Words.{◌≡◌, ℕ, suc, ◌+◌, ◌<◌, Bool, true, false, ◌&&◌, List, [], ◌∷◌, ◌++◌, length, refl, sym, ap, ◌∙◌, subst, arith, if◌then◌else◌, ap₂, nat_le, Option, Some, None, Err, is_some, is_none, option_map, slice_get, filter, last_or, get_or_from_slice_get, same_Some, slice_get_within, leb-true, status_of, word_at, Idn, Outcome, outcome_of, next_step, has_next, record_bytes, WishesView, ChainView, planned, Begun, open_in, begun_by, Stop, is_read, reads_count, stop_by, asked_by, wishes_given, mdt_attributes, RecordEntry, record_entries, entries_from, has_four_bytes, stop_of_entry, last_long_stop, no_member, Known, Task, MemberView, member, with_outcome, outcomes_in, last_outcome, trouble_by, of_phase, each_passes, Brings, OfTrouble, OfChain, OfRecords, channel_keeps, going, made, past_keeps, settled_keeps, stopped, Adds, part_before, asks_same, at_adds, Call, Past, outcomes, is_idle, trouble, after_taken, all_read, settled, has_turn, next_task, with_begin, with_task, is_sent_to, addressed_in, ready_to_send, after_mdt, past, AreTooLong, HasBegunTasks}
 use Rattle.sercos_trace.specs.declared.events.Stop.TheVariants as stop
-use Rattle.sercos_seat.specs.Agenda.{is_read, reads_count, stop_by, asked_by, wishes_given, mdt_attributes, RecordEntry, record_entries, entries_from, has_four_bytes, stop_of_entry, last_long_stop}
-use Rattle.sercos_seat.specs.Ring.{no_member, Known, Task, MemberView, member}
-use Rattle.sercos_seat.specs.Channel.{with_outcome, outcomes_in, last_outcome, trouble_by, of_phase}
-use Rattle.sercos_master.proofs.Configured.{each_passes}
-use Rattle.sercos_master.proofs.Keeping.{Brings, OfTrouble, OfChain, OfRecords, came_back, channel_keeps, going, made, past_keeps, settled_keeps, stopped}
-use Rattle.sercos_master.proofs.Planned.{Adds, part_before, asks_same, at_adds}
-use Rattle.sercos_master.specs.Annals.{Call, Past, outcomes, is_idle, trouble, after_taken, all_read, settled, has_turn, next_task, begins, with_begin, with_task, is_sent_to, addressed_in, ready_to_send, after_mdt, past}
-use Rattle.sercos_law_run.specs.Agenda.Stops.{AreTooLong}
-use Rattle.sercos_law_run.specs.Agenda.Tasks.{HasBegunTasks}
+use Rattle.sercos_master.proofs.Keeping.{came_back}
+use Rattle.sercos_master.specs.Annals.{begins}
 use Rattle.sercos_law_run.proofs.Agenda.ReadWell.{AllComplete, complete, stay_complete}
 use Rattle.sercos_law_run.proofs.Agenda.TaskRuns.{begun_tasks}
 use Rattle.sercos_law_run.proofs.Agenda.OneTurn.{idle_hears, send_same}

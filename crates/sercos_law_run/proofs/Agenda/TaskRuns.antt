@@ -1,24 +1,8 @@
 -- After any calls the tasks of a channel are those of the agenda, each begun where all before it had ended, those of the start-up
 -- without error.
-use Rattle.std.proofs.Common.{◌≡◌, ◌⊎◌, inl, inr, ℕ, suc, ◌+◌, ◌<◌, ◌≤◌, Bool, true, false, List, [], ◌∷◌, length, refl, sym, ap, ap₂, ◌∙◌, subst, arith, if◌then◌else◌, length-append}
-use Rattle.std.proofs.lemmas.Bool.{cond_both}
-use Rattle.std.specs.Prelude.{Option, Some, None, is_some, is_none}
-use Rattle.sercos_telegram.specs.declared.words.Status.{Status}
-use Rattle.sercos_step.specs.declared.step.Answer.{Answer}
-use Rattle.sercos_step.specs.declared.request.Outcome.{Outcome}
+use Rattle.sercos_law_run.proofs.Words.{◌≡◌, ◌⊎◌, inl, inr, ℕ, suc, ◌+◌, ◌<◌, ◌≤◌, Bool, true, false, List, [], ◌∷◌, length, refl, sym, ap, ap₂, ◌∙◌, subst, arith, if◌then◌else◌, length-append, cond_both, Option, Some, None, is_some, is_none, Status, Answer, Outcome, outcome_of, next_step, PlanView, Begun, open_in, answers_it, answer_in, with_answer, IsRefused, ends_so, with_status, Known, Task, member, with_outcome, outcomes_in, last_outcome, trouble_by, Call, past, never_both, HasNext, Ends, Channel, channel_at, Stays, Identifies, Hears, Plans, Begins, Moves, Within, Falls, HasEndedWell, AreBegunTasks}
 use Rattle.sercos_step.specs.declared.request.Outcome.TheVariants as outcome
-use Rattle.sercos_step.specs.Steps.{outcome_of, next_step}
-use Rattle.sercos_timing.specs.Views.{PlanView}
-use Rattle.sercos_service_master.specs.Begun.{Begun, open_in, answers_it, answer_in, with_answer}
-use Rattle.sercos_law_channel.proofs.Theorems.{IsRefused, GoesOn, IsWhole, ends_so, Ends as TransferEnds}
-use Rattle.sercos_law_channel.specs.Handshake.Moves.{with_status}
-use Rattle.sercos_seat.specs.Ring.{Known, Task, member}
-use Rattle.sercos_seat.specs.Channel.{with_outcome, outcomes_in, last_outcome, trouble_by}
-use Rattle.sercos_master.specs.Annals.{Call, past}
-use Rattle.sercos_master.proofs.Keeping.{never_both}
-use Rattle.sercos_master.proofs.Followed.{HasNext}
-use Rattle.sercos_law_run.specs.Agenda.Channels.{Ends, Channel, channel_at, Stays, Identifies, Hears, Plans, Begins, Moves, Within, Falls}
-use Rattle.sercos_law_run.specs.Agenda.Tasks.{HasEndedWell, AreBegunTasks}
+use Rattle.sercos_law_channel.proofs.Theorems.{GoesOn, IsWhole, Ends as TransferEnds}
 use Rattle.sercos_law_run.proofs.Agenda.CallMoves.{always}
 use Rattle.sercos_law_run.proofs.Agenda.AgendaTasks.{is_task}
 

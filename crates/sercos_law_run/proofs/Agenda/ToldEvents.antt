@@ -1,13 +1,6 @@
 -- The events of a cycle have what was reported of each drive in it.
-use Rattle.std.proofs.Common.{◌≡◌, ◌⊎◌, inl, inr, ℕ, zero, suc, ◌<◌, Bool, true, false, List, [], ◌∷◌, length, subst, arith, if◌then◌else◌}
-use Rattle.std.specs.Prelude.{nat_lt, Option, Some, None, is_some}
-use Rattle.std.proofs.lemmas.Bool.{cases_eq}
-use Rattle.sercos_step.specs.declared.request.Outcome.{Outcome}
-use Rattle.sercos_seat.specs.Channel.{Report}
-use Rattle.sercos_master.specs.Annals.{fall_of}
-use Rattle.sercos_master.specs.Reports.{broken, inserted, with_report, with_reports}
-use Rattle.sercos_law_run.specs.Agenda.Reported.{told_at_end, with_told}
-use Rattle.sercos_law_run.specs.Agenda.Events.{HasOutcome, HasReport, AreEquivalent, AreTold, AreToldAtRestart}
+use Rattle.sercos_law_run.proofs.Words.{◌≡◌, ◌⊎◌, inl, inr, ℕ, zero, suc, ◌<◌, Bool, true, false, List, [], ◌∷◌, length, subst, arith, if◌then◌else◌, nat_lt, Option, Some, None, is_some, cases_eq, Outcome, Report, fall_of, broken, with_report, with_reports, told_at_end, with_told, HasOutcome, HasReport, AreEquivalent, AreTold, AreToldAtRestart}
+use Rattle.sercos_master.specs.Reports.{inserted}
 
 module _ (number : ℕ) (o : Outcome) where
   -- an outcome that is inserted

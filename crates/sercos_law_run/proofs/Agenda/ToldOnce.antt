@@ -1,12 +1,5 @@
 -- No request is reported twice.
-use Rattle.std.proofs.Common.{ℕ, ◌+◌, ◌≤◌, List, [], ◌∷◌, sym, subst, arith}
-use Rattle.std.specs.Prelude.{Option, Some, None}
-use Rattle.sercos_seat.specs.Ring.{Task, tasks_for}
-use Rattle.sercos_seat.specs.Channel.{Report}
-use Rattle.sercos_master.specs.Annals.{past}
-use Rattle.sercos_master.proofs.Followed.{HasNext}
-use Rattle.sercos_law_run.specs.Agenda.Channels.{channel_at}
-use Rattle.sercos_law_run.specs.Agenda.Reported.{Ascend, Descend, TellsOnce, after_told, still_to_tell, task_numbers, told}
+use Rattle.sercos_law_run.proofs.Words.{ℕ, ◌+◌, ◌≤◌, List, [], ◌∷◌, sym, subst, arith, Option, Some, None, Task, tasks_for, Report, past, HasNext, channel_at, Ascend, Descend, TellsOnce, after_told, still_to_tell, task_numbers, told}
 use Rattle.sercos_law_run.proofs.Agenda.ReportedRuns.{tells_in_order}
 use Rattle.sercos_law_run.proofs.Agenda.Requests.{are_requests}
 

@@ -1,10 +1,8 @@
 -- Calls that were worked out by hand, computed from the definitions: what the laws ask for is met.
-use Rattle.std.specs.Prelude.{◌≡◌, ℕ, zero, suc, ◌/◌, ◌%◌, Bool, true, false, List, [], ◌∷◌, length, Option, Some, is_some, refl}
-use Rattle.sercos_telegram.specs.Spells.{mst_content}
+use Rattle.sercos_law_run.proofs.Words.{◌≡◌, ℕ, zero, suc, ◌/◌, ◌%◌, Bool, true, false, List, [], ◌∷◌, length, Option, Some, is_some, refl, mst_content, Idn, begun_by, Stop, Known, Task, request_task, idn, Call, HearMst, HearAt, End, Restart, past, in_turn, is_idle, channel_at, RestartsAtStart, still_to_tell, told}
 use Rattle.sercos_telegram.specs.Faults as Faults
 use Rattle.sercos_telegram.specs.Spells as Spells
 use Rattle.sercos_telegram.specs.Words as Words
-use Rattle.sercos_idn.specs.declared.idn.Idn.{Idn}
 use Rattle.sercos_idn.specs.Codes as Codes
 use Rattle.sercos_idn.specs.Attributes as Attributes
 use Rattle.sercos_step.specs.declared.request.Request.TheVariants as request
@@ -12,14 +10,8 @@ use Rattle.sercos_step.specs.declared.request.Outcome.TheVariants as outcome
 use Rattle.sercos_block.specs.Rings as Rings
 use Rattle.sercos_plan.specs.ChainOf as ChainOf
 use Rattle.sercos_plan.specs.LeastTimes as LeastTimes
-use Rattle.sercos_service_master.specs.Calls.{begun_by}
-use Rattle.sercos_trace.specs.declared.events.Stop.{Stop}
 use Rattle.sercos_trace.specs.declared.events.Stop.TheVariants as stop
-use Rattle.sercos_seat.specs.Ring.{Known, Task, request_task}
-use Rattle.sercos_seat.specs.Agenda.{idn}
-use Rattle.sercos_master.specs.Annals.{Call, HearMst, HearAt, Mdt, End, Restart, past, in_turn, is_idle}
-use Rattle.sercos_law_run.specs.Agenda.Channels.{channel_at}
-use Rattle.sercos_law_run.specs.Agenda.Reported.{RestartsAtStart, still_to_tell, told}
+use Rattle.sercos_master.specs.Annals.{Mdt}
 
 -- A ring of one drive with address 1, of 4 megabits and cycles of 250 microseconds; the AT carries these values.
 abbrev ring : List Idn → Known

@@ -1,30 +1,7 @@
 -- From where the check for phase 3 has been begun, each write of the plan is complete, and nothing that was begun after it gives
 -- anything to its identifier number.
-use Rattle.std.proofs.Common.{◌≡◌, ◌⊎◌, inl, inr, ℕ, zero, suc, ◌+◌, ◌<◌, ◌≤◌, Bool, true, false, not, ◌&&◌, List, [], ◌∷◌, length, refl, sym, ap, ap₂, ◌∙◌, subst, arith}
-use Rattle.std.specs.Prelude.{◌==◌, nat_lt, Option, Some, None, option_map, slice_get}
-use Rattle.std.specs.List.{list_all}
-use Rattle.std.proofs.lemmas.Option.{slice_get_within}
-use Rattle.std.proofs.lemmas.Bool.{and_parts, eqb-true, cases_eq, ltb-true}
-use Rattle.sercos_idn.specs.declared.idn.Idn.{Idn}
-use Rattle.sercos_step.specs.declared.request.Request.{Request}
+use Rattle.sercos_law_run.proofs.Words.{◌≡◌, ◌⊎◌, inl, inr, ℕ, zero, suc, ◌+◌, ◌<◌, ◌≤◌, Bool, true, false, not, ◌&&◌, List, [], ◌∷◌, length, refl, sym, ap, ap₂, ◌∙◌, subst, arith, ◌==◌, nat_lt, Option, Some, None, option_map, slice_get, list_all, slice_get_within, and_parts, eqb-true, cases_eq, ltb-true, Idn, Request, PlanView, Block, find_block, begun_by, Begun, Given, written_to, given_by, ended_there, get_map, Known, Task, member, startup, idn, reads_count, writes, is_checked, outcomes_in, AreWaiting, not_longer, HasNext, all_waiting, past, IsConfigured, WritesData, ConfiguresFromCheck, ConfiguresAtRise, start_numbers, IsWrittenLast, IsTask, OfReads, OfWrites, Checks3, Lists3, Checks4, Lists4, OfWaiting, IsBegunTask, AreBegunTasks}
 use Rattle.sercos_step.specs.declared.request.Request.TheVariants as request
-use Rattle.sercos_timing.specs.Views.{PlanView}
-use Rattle.sercos_block.specs.declared.block.Block.{Block}
-use Rattle.sercos_block.specs.Stores.{find_block}
-use Rattle.sercos_service_master.specs.Calls.{begun_by}
-use Rattle.sercos_service_master.specs.Begun.{Begun}
-use Rattle.sercos_law_channel.specs.Handshake.Exact.{Given, written_to, given_by}
-use Rattle.sercos_seat.proofs.Agendas.{ended_there}
-use Rattle.sercos_seat.proofs.Gets.{get_map}
-use Rattle.sercos_seat.specs.Ring.{Known, Task, member, startup}
-use Rattle.sercos_seat.specs.Agenda.{idn, reads_count, writes, is_checked}
-use Rattle.sercos_seat.specs.Channel.{outcomes_in}
-use Rattle.sercos_seat.specs.Seats.{AreWaiting}
-use Rattle.sercos_master.proofs.Followed.{not_longer, HasNext}
-use Rattle.sercos_master.proofs.Laws.{all_waiting}
-use Rattle.sercos_master.specs.Annals.{past}
-use Rattle.sercos_law_run.specs.Agenda.Writes.{IsConfigured, WritesData, ConfiguresFromCheck, ConfiguresAtRise, start_numbers, IsWrittenLast}
-use Rattle.sercos_law_run.specs.Agenda.Tasks.{IsTask, OfReads, OfWrites, Checks3, Lists3, Checks4, Lists4, OfWaiting, IsBegunTask, AreBegunTasks}
 use Rattle.sercos_law_run.proofs.Agenda.TaskRuns.{begun_tasks}
 
 -- The identifier numbers of the writes ascend, and all are below 127.
@@ -140,10 +117,6 @@ module _ (s : Known) (k : ℕ) (blocks : List Block) (plan : Option PlanView) (w
       IsBegunTask s k plan waiting phase b t older tasks → (b.request ≡ r) × (t.number ≡ None)
   is_write pl i r b t older tasks has is low at task = let so = by task.task in (task.asks ∙ so.0, so.1)
     where
-      none_at : (o : Option Request) → o ≡ Some r → o ≡ None → ⊥
-      none_at None a b = cc
-      none_at (Some x) a b = cc
-
       by : IsTask s k task.by_then waiting (outcomes_in older) t → (t.request ≡ r) × (t.number ≡ None)
       by (OfReads x less got same) = let e = task.ended in absurd (omega arith)
       by (OfWrites p j x planned less at_j got same) =

@@ -1,20 +1,11 @@
 -- The bounds, from sums over the drives.
-use Rattle.std.proofs.Common.{◌≡◌, ◌⊎◌, inl, inr, ℕ, zero, suc, ◌+◌, ◌*◌, ◌≤◌, List, [], ◌∷◌, ◌++◌, length, refl, ap, arith, max, ◌∙◌}
-use Rattle.std.specs.List.{sum_by, sum}
-use Rattle.std.proofs.lemmas.Bool.{cases_eq}
-use Rattle.std.proofs.lemmas.List.Sums.{sum_by-cons}
-use Rattle.sercos_block.specs.Views.{DriveView, RingView}
-use Rattle.sercos_block.specs.Startup.{startup_bound, startup_of}
-use Rattle.sercos_law_run.specs.Bounds.Bounds.{listed, greatest, slowest, read_cycles, write_cycles, command_cycles, refusal_cycles, section_cycles, recovery_bound, FewWrites, FewStatuses, IsStarted, IsRefusedEarly, IsRefusedLate, AreShort, IsReported, IsBackAtOnce, IsBackLater, AreSections, IsBelowGreatest}
+use Rattle.sercos_law_run.proofs.Words.{◌≡◌, ◌⊎◌, inl, inr, ℕ, zero, suc, ◌+◌, ◌*◌, ◌≤◌, List, [], ◌∷◌, ◌++◌, length, refl, ap, arith, max, ◌∙◌, sum_by, sum, sum_by-cons, DriveView, RingView, startup_bound, startup_of, listed, greatest, slowest, read_cycles, write_cycles, command_cycles, refusal_cycles, section_cycles, recovery_bound, FewWrites, FewStatuses, IsStarted, IsRefusedEarly, IsRefusedLate, AreShort, IsReported, IsBackAtOnce, IsBackLater, AreSections, IsBelowGreatest, times_le, one_of}
 
 -- Products over plain numbers, each by itself, so that everything else is linear.
-times_le : (p n k : ℕ) → n ≤ k → p * n ≤ p * k
-times_le p n k le = grind arith
+pub times_sum : (p n k : ℕ) → p * (n + k) ≡ p * n + p * k
+times_sum p n k = grind arith
 
-times_sum : (b n k : ℕ) → (b + 1) * (n + k) ≡ (b + 1) * n + (b + 1) * k
-times_sum b n k = grind arith
-
-times_suc : (n k : ℕ) → suc n * k ≡ n * k + k
+pub times_suc : (n k : ℕ) → suc n * k ≡ n * k + k
 times_suc n k = grind arith
 
 opened_startup : (b m t : ℕ) → (b + 2) * (82 + 4 * m + 2 * t) ≡ 82 * b + 164 + 4 * (b * m) + 8 * m + 2 * (b * t) + 4 * t
@@ -82,7 +73,7 @@ short_sum d (n ∷ counts) are =
     let one = short_one d.busy d.command n are.1 in
     let more = short_sum d counts are.0 in
     let first : (d.busy + 1) * sum (n ∷ counts) ≡ (d.busy + 1) * (n + sum counts) = ap (λ (x : ℕ). (d.busy + 1) * x) (sum_by-cons (λ x. x) n counts) in
-    let left = times_sum d.busy n (sum counts) in
+    let left = times_sum (d.busy + 1) n (sum counts) in
     let right = times_suc (length counts) ((d.busy + 2) * (520 + d.command)) in omega (arith, one, more, first, left, right)
 
 pub is_reported : IsReported
@@ -114,13 +105,10 @@ section_of : (b m t : ℕ) → (b + 1) * max (24 + 3 * m) (50 + m) + t + 32 * b 
 section_of b m t =
     let s = opened_startup b m t in
     let r = opened_reads b m in
-    let w = opened_writes b m in elim (cases_max (24 + 3 * m) (50 + m)) [
+    let w = opened_writes b m in elim (one_of (24 + 3 * m) (50 + m)) [
       | inl e ↦ let same : (b + 1) * max (24 + 3 * m) (50 + m) ≡ (b + 1) * (24 + 3 * m) = ap (λ (n : ℕ). (b + 1) * n) e in omega (arith, s, r, w, same)
       | inr e ↦ let same : (b + 1) * max (24 + 3 * m) (50 + m) ≡ (b + 1) * (50 + m) = ap (λ (n : ℕ). (b + 1) * n) e in omega (arith, s, r, w, same)
     ]
-  where
-    cases_max : (x y : ℕ) → (max x y ≡ x) ⊎ (max x y ≡ y)
-    cases_max x y = elim (cases_eq (max x y) x) [ inl e ↦ inl e | inr ne ↦ inr (omega (arith, ne)) ]
 
 spared_some : (ring : List DriveView) → 1 ≤ length ring
     → sum_by section_cycles ring + 32 * slowest ring + 114 ≤ sum_by startup_of ring

@@ -1,15 +1,6 @@
 -- In how many cycles a ring falls, if it does: what the sum over all drives but one says, and that this is within the fixed bound.
-use Rattle.std.proofs.Common.{◌≡◌, inl, inr, ℕ, zero, suc, ◌+◌, ◌*◌, ◌<◌, ◌≤◌, List, [], ◌∷◌, ◌++◌, length, refl, sym, ap, ◌∙◌, subst, arith, length-append}
-use Rattle.std.specs.Prelude.{slice_index_or}
-use Rattle.std.specs.List.{sum_by}
-use Rattle.std.proofs.lemmas.Bool.{cases_lt}
-use Rattle.std.proofs.lemmas.List.Sums.{sum_by-cons}
-use Rattle.sercos_block.specs.Startup.{startup_bound}
-use Rattle.sercos_block.specs.Views.{DriveView, RingView}
-use Rattle.sercos_law_run.specs.Bounds.Bounds.{fall_cycles, least, listed, recovery_bound, section_cycles, slowest, spared_cycles}
-use Rattle.sercos_law_run.specs.Journal.Runs.{no_drive}
+use Rattle.sercos_law_run.proofs.Words.{◌≡◌, inl, inr, ℕ, zero, suc, ◌+◌, ◌*◌, ◌<◌, ◌≤◌, List, [], ◌∷◌, ◌++◌, length, refl, sym, ap, ◌∙◌, subst, arith, length-append, slice_index_or, sum_by, cases_lt, sum_by-cons, startup_bound, DriveView, RingView, fall_cycles, least, listed, recovery_bound, section_cycles, slowest, spared_cycles, no_drive, IsSpared}
 use Rattle.sercos_law_run.proofs.Bounds.BoundSums.{are_sections, spared_back, sum_by-middle}
-use Rattle.sercos_law_run.specs.Recovery.FallsInTime.{IsSpared}
 
 -- THE LEAST is that of one of the drives, and no other has less.
 record HasLeast (f : DriveView → ℕ) (drives : List DriveView) : Type 0 where

@@ -1,10 +1,6 @@
 -- The bounds of a ring of one drive, worked out: busy time 1, a procedure command that runs for one cycle, and two listed identifier
 -- numbers.
-use Rattle.std.proofs.Common.{◌≡◌, ℕ, ◌+◌, ◌*◌, [], ◌∷◌, refl, arith}
-use Rattle.sercos_idn.specs.declared.idn.Idn.{Idn}
-use Rattle.sercos_block.specs.Startup.{startup_bound}
-use Rattle.sercos_block.specs.Views.{DriveView, RingView}
-use Rattle.sercos_law_run.specs.Bounds.Bounds.{fall_cycles, recovery_bound, read_cycles, return_cycles}
+use Rattle.sercos_law_run.proofs.Words.{◌≡◌, ℕ, ◌+◌, ◌*◌, [], ◌∷◌, refl, arith, Idn, startup_bound, DriveView, RingView, fall_cycles, recovery_bound, read_cycles, return_cycles}
 
 abbrev idn : ℕ → Idn
 idn raw = record { raw = raw }

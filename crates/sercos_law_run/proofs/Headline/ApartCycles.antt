@@ -1,48 +1,16 @@
 -- In a cycle commanded 3 or 4 the telegrams are apart.
-use Rattle.std.proofs.Common.{◌≡◌, ◌⊎◌, inl, inr, ℕ, ◌+◌, ◌*◌, ◌<◌, ◌≤◌, Bool, true, false, List, [], ◌∷◌, ◌++◌, map, length, Option, Some, refl, sym, ◌∙◌, ap, ap₂, subst, arith, if◌then◌else◌}
-use Rattle.std.specs.Prelude.{◌==◌, nat_le, slice_index, pos}
-use Rattle.std.proofs.lemmas.Bool.Decides.{nat_tests}
-use Rattle.sercos_model.specs.Frames.{wire_bits}
-use Rattle.sercos_hdlc.specs.Stuffed.{frame_of}
+use Rattle.sercos_law_run.proofs.Words.{◌≡◌, ◌⊎◌, inl, inr, ℕ, ◌+◌, ◌*◌, ◌<◌, ◌≤◌, Bool, true, false, List, [], ◌∷◌, ◌++◌, map, length, Option, Some, refl, sym, ◌∙◌, ap, ap₂, subst, arith, if◌then◌else◌, ◌==◌, nat_le, slice_index, pos, nat_tests, wire_bits, frame_of, all_drives, Job, WishesView, PlanView, record_bytes, Wish, wish_of, record_len, IsStore, store_of, DriveView, RingView, number_at, carried_len, phase_in, cycle_in, blocks_in, Said, values_in, SentView, CycleView, AtSlot, MdtSlot, IsSending, IsApart, Known, known_of, fields_length, IsStoreOf, start_up, Holds, held_by, AreSent, AllHold, Past, Sent, records_from, joint, mdt_said, Carry, Restarts, standing, stood_in, drive_at, given_mst, sent_mdt, ats_said, mst_next, ats_next, mdt_next, IsNext, at_start, behind_mdt, after_mst, view_of, views_of, IsSaid, IsSpelled, IsOpened, IsStored, takes_part, store_in_cycle, AreApartIn, stands_as_commanded}
 use Rattle.sercos_telegram.specs.declared.layout.Kind.TheVariants as kinds
-use Rattle.sercos_telegram.specs.Spells.{all_drives}
-use Rattle.sercos_step.specs.declared.request.Job.{Job}
-use Rattle.sercos_timing.specs.Views.{WishesView, PlanView}
-use Rattle.sercos_timing.specs.Order.{record_bytes}
-use Rattle.sercos_timing.specs.declared.wishes.Wish.{Wish}
-use Rattle.sercos_block.specs.Rings.{wishes_of, wish_of, record_len}
-use Rattle.sercos_block.specs.Stores.{IsStore, store_of}
-use Rattle.sercos_block.specs.Views.{DriveView, RingView}
-use Rattle.sercos_command.specs.Checks.{number_at, carried_len}
-use Rattle.sercos_drive.specs.Moments.{phase_in, cycle_in, blocks_in}
-use Rattle.sercos_drive.specs.Says.{Said, values_in}
-use Rattle.sercos_trace.specs.Views.{SentView, CycleView}
-use Rattle.sercos_law_run.specs.Slots.Slots.{AtSlot, MdtSlot}
-use Rattle.sercos_law_run.specs.Slots.Sending.{IsSending, IsApart}
+use Rattle.sercos_block.specs.Rings.{wishes_of}
 use Rattle.sercos_law_run.proofs.Slots.Places.{length_records}
-use Rattle.sercos_seat.specs.Ring.{Known, known_of}
-use Rattle.sercos_seat.proofs.Sends.{fields_length}
-use Rattle.sercos_law_run.specs.Start.StartUp.{IsStoreOf, start_up, Holds}
-use Rattle.sercos_law_run.specs.Start.RingSlots.{held_by, AreSent, AllHold}
 use Rattle.sercos_law_run.proofs.Start.CheckPasses.{wish_is}
-use Rattle.sercos_master.specs.Annals.{Past}
-use Rattle.sercos_master.specs.Says.{Sent, records_from, joint, mdt_said}
-use Rattle.sercos_script.specs.Links.{Carry, Restarts}
-use Rattle.sercos_law_channel.specs.Handshake.Views.{standing, stood_in}
-use Rattle.sercos_law_run.specs.Journal.Runs.{drive_at, given_mst, sent_mdt, ats_said, mst_next, ats_next, mdt_next, IsNext}
-use Rattle.sercos_law_run.specs.Views.RingViews.{at_start, behind_mdt, after_mst, view_of, views_of}
 use Rattle.sercos_law_run.proofs.Views.Members.{members_count}
-use Rattle.sercos_law_run.specs.Views.Spelled.{IsSaid, IsSpelled}
-use Rattle.sercos_law_run.specs.Held.Opened.{IsOpened}
-use Rattle.sercos_law_run.specs.Held.Stored.{IsStored}
 use Rattle.sercos_law_run.proofs.Held.Laid.{records_of, records_concat, records_lengths}
 use Rattle.sercos_law_run.proofs.Held.Runs.{AllStand, IsPlannedIn, drive_got, got_inside, s_known, holding, one_plan, phase_same, kept_at_mst}
-use Rattle.sercos_law_run.specs.Headline.Cycles.{takes_part, store_in_cycle, AreApartIn}
 use Rattle.sercos_law_run.proofs.Headline.Placed.{Placed, placed_below, placed_said, IsPlaced, are_placed, are_ordered}
 use Rattle.sercos_law_run.proofs.Headline.AtLengths.{carried_length}
 use Rattle.sercos_law_run.proofs.Headline.ApartRuns.{ends_at_0, slot_of, all_slots, slots_ordered, Sends, sent_by, ats_sent}
 use Rattle.sercos_law_run.proofs.Held.Agreed.{wishes_count}
-use Rattle.sercos_law_channel.proofs.Handshake.RunFacts.{stands_as_commanded}
 use Rattle.sercos_law_run.proofs.Start.RingSlotLemmas.{ring_sends_apart}
 
 -- the ring's wishes

@@ -1,23 +1,5 @@
 -- In a cycle commanded 3 or 4 the telegrams are apart.
-use Rattle.std.proofs.Common.{◌≡◌, ◌⊎◌, inl, inr, ℕ, zero, suc, ◌*◌, ◌<◌, ◌≤◌, Bool, true, false, List, [], ◌∷◌, map, length, Option, Some, None, refl, ap, subst, arith, if◌then◌else◌}
-use Rattle.std.specs.Prelude.{◌-◌, nat_lt, slice_index, pos, ◌+ℤ◌, unwrap_or}
-use Rattle.std.specs.List.{All, AllPairs}
-use Rattle.std.proofs.lemmas.Bool.Decides.{nat_tests}
-use Rattle.std.proofs.lemmas.List.Elements.{All-nil, All-cons}
-use Rattle.std.proofs.lemmas.List.Kept.{AllPairs-cons}
-use Rattle.sercos_hdlc.specs.Stuffed.{frame_of}
-use Rattle.sercos_telegram.specs.Spells.{fields}
-use Rattle.sercos_timing.specs.Views.{WishesView}
-use Rattle.sercos_timing.specs.Order.{wish}
-use Rattle.sercos_block.specs.Views.{DriveView}
-use Rattle.sercos_drive.specs.Heard.{DriveCall}
-use Rattle.sercos_drive.specs.Moments.{Moment, phase_in, cycle_in, has_mst, has_taken, blocks_in, commands_in, records_in}
-use Rattle.sercos_drive.specs.Says.{Said, said, said_in, sends, shown_word, values_in, start_in}
-use Rattle.sercos_service_drive.specs.Says.{Shown, channel_says}
-use Rattle.sercos_law_run.specs.Slots.Slots.{AtSlot}
-use Rattle.sercos_law_run.specs.Slots.OnPlan.{IsSentBefore}
-use Rattle.sercos_law_run.specs.Slots.Sending.{AreAtsOf}
-use Rattle.sercos_law_run.specs.Journal.Runs.{start_before, ats_said}
+use Rattle.sercos_law_run.proofs.Words.{◌≡◌, ◌⊎◌, inl, inr, ℕ, zero, suc, ◌*◌, ◌<◌, ◌≤◌, Bool, true, false, List, [], ◌∷◌, map, length, Option, Some, None, refl, ap, subst, arith, if◌then◌else◌, ◌-◌, nat_lt, slice_index, pos, ◌+ℤ◌, unwrap_or, All, AllPairs, nat_tests, All-nil, All-cons, AllPairs-cons, frame_of, fields, WishesView, wish, DriveView, DriveCall, Moment, phase_in, cycle_in, has_mst, has_taken, blocks_in, commands_in, records_in, Said, said, said_in, sends, shown_word, values_in, start_in, Shown, channel_says, AtSlot, IsSentBefore, AreAtsOf, start_before, ats_said}
 use Rattle.sercos_law_run.proofs.Headline.Placed.{Placed, IsPlaced, ArePlaced, ComesBefore, AreBehind, AreOrdered}
 use Rattle.sercos_law_run.proofs.Views.Coupled.{sends_so}
 

@@ -1,25 +1,8 @@
 -- An AT is as long as the list in its drive's store says.
-use Rattle.std.proofs.Common.{◌≡◌, ℕ, ◌+◌, ◌*◌, ◌%◌, Bool, true, false, not, ◌&&◌, List, [], ◌∷◌, length, Option, Some, None, refl, ◌∙◌, ap, arith, if◌then◌else◌, length-append}
-use Rattle.std.proofs.lemmas.Bool.{cond_both}
-use Rattle.std.specs.Prelude.{◌==◌, nat_le, option_and_then, unwrap_or}
-use Rattle.std.specs.List.{sum_by, flat_map}
-use Rattle.std.specs.Int.{to_le_bytes}
-use Rattle.std.proofs.lemmas.Bool.Decides.{nat_tests}
-use Rattle.std.proofs.lemmas.List.Concat.{flat_map-cons}
-use Rattle.std.proofs.lemmas.List.Sums.{sum_by-cons}
-use Rattle.sercos_idn.specs.declared.idn.Idn.{Idn}
-use Rattle.sercos_idn.specs.declared.kinds.Length.{Length}
-use Rattle.sercos_idn.specs.declared.kinds.Length.TheVariants.{Two, Four, List1, List2, List4}
-use Rattle.sercos_idn.specs.Codes.{is_list, item_len}
-use Rattle.sercos_block.specs.declared.block.Block.{Block}
-use Rattle.sercos_block.specs.Blocks.{is_number, width_of, bits_in, number_end, bytes_for}
-use Rattle.sercos_block.specs.Rings.{number_len}
-use Rattle.sercos_block.specs.Stores.{IsStore, find_block, is_sound, is_len}
-use Rattle.sercos_block.proofs.SoundLemmas.{SoundParts-is_sound}
-use Rattle.sercos_command.specs.Checks.{cyclic_len, carried_len, idns_at}
+use Rattle.sercos_law_run.proofs.Words.{◌≡◌, ℕ, ◌+◌, ◌*◌, ◌%◌, Bool, true, false, not, ◌&&◌, List, [], ◌∷◌, length, Option, Some, None, refl, ◌∙◌, ap, arith, if◌then◌else◌, length-append, cond_both, ◌==◌, nat_le, option_and_then, unwrap_or, sum_by, flat_map, to_le_bytes, nat_tests, flat_map-cons, sum_by-cons, Idn, Length, Two, Four, List1, List2, List4, is_list, item_len, Block, is_number, width_of, bits_in, number_end, bytes_for, number_len, IsStore, find_block, is_sound, is_len, SoundParts-is_sound, idns_at, bytes_in_cycle, values_in, found_sound}
+use Rattle.sercos_command.specs.Checks.{cyclic_len, carried_len}
 use Rattle.sercos_service_drive.specs.Replies.{data_in}
-use Rattle.sercos_drive.specs.Says.{bytes_in_cycle, value_in, values_in}
-use Rattle.sercos_block.proofs.SoundLemmas.{found_sound}
+use Rattle.sercos_drive.specs.Says.{value_in}
 
 number_length : (l : Length) (n : ℕ) → is_list l ≡ false → length (to_le_bytes (width_of l) n) ≡ item_len l
 number_length Two n single = refl

@@ -1,57 +1,21 @@
 -- The headline, by induction over the cycles of a run.
-use Rattle.std.proofs.Common.{◌≡◌, ◌⊎◌, inl, inr, ℕ, ◌<◌, ◌≤◌, false, List, [], ◌∷◌, ◌++◌, length, Option, Some, None, refl, sym, ap, subst, arith, max}
-use Rattle.std.specs.Prelude.{IfSome}
-use Rattle.std.proofs.lemmas.List.Elements.{All-nil, All-cons}
-use Rattle.sercos_model.specs.Frames.{wire_bits}
-use Rattle.sercos_hdlc.specs.Stuffed.{frame_of}
-use Rattle.sercos_step.specs.declared.request.Job.{Job}
-use Rattle.sercos_step.specs.declared.request.Outcome.{Outcome}
-use Rattle.sercos_block.specs.Stores.{IsStore, store_of}
-use Rattle.sercos_block.specs.Views.{DriveView, RingView}
-use Rattle.sercos_service_drive.specs.Log.{Processed, Entry}
-use Rattle.sercos_service_drive.specs.Replies.{log_of}
-use Rattle.sercos_service_master.specs.Begun.{Begun}
-use Rattle.sercos_drive.specs.Annals.{accepted_at}
-use Rattle.sercos_drive.specs.Moments.{blocks_in}
-use Rattle.sercos_drive.specs.Says.{Said}
-use Rattle.sercos_trace.specs.Views.{SentView, EventsView, CycleView}
-use Rattle.sercos_seat.specs.Ring.{known_of, tasks_for}
-use Rattle.sercos_master.specs.Says.{Sent, mst_said, mdt_said}
-use Rattle.sercos_script.specs.Links.{Carry, Restarts}
-use Rattle.sercos_law_channel.specs.Handshake.Views.{Heard, View, standing, stood_in}
-use Rattle.sercos_law_channel.specs.Handshake.Runs.{IsShown, IsNext as IsNextView}
-use Rattle.sercos_law_channel.specs.Handshake.Epochs.{begun_in}
-use Rattle.sercos_law_channel.specs.Handshake.InStep.{AreInStep}
-use Rattle.sercos_law_channel.specs.Handshake.RunLaws.{phase_commanded}
-use Rattle.sercos_law_channel.specs.Handshake.WholeRun.{all_entries}
-use Rattle.sercos_law_run.specs.Journal.Runs.{drive_at, given_before, given_mst, master_calls, looks_back, no_events, restart_events, begins, sent_at, sent_mst, sent_mdt, ats_said, said_below, middle, IsNext, IsRun, IsClear}
-use Rattle.sercos_law_run.specs.Agenda.Events.{HasOutcome}
+use Rattle.sercos_law_run.proofs.Words.{◌≡◌, ◌⊎◌, inl, inr, ℕ, ◌<◌, ◌≤◌, false, List, [], ◌∷◌, ◌++◌, length, Option, Some, None, refl, sym, ap, subst, arith, max, IfSome, All-nil, All-cons, wire_bits, frame_of, Job, Outcome, IsStore, store_of, DriveView, RingView, Processed, Entry, log_of, Begun, accepted_at, blocks_in, Said, SentView, EventsView, CycleView, known_of, tasks_for, Sent, mst_said, mdt_said, Carry, Restarts, Heard, View, standing, stood_in, IsShown, begun_in, AreInStep, phase_commanded, all_entries, drive_at, given_before, given_mst, master_calls, looks_back, no_events, restart_events, begins, sent_at, sent_mst, sent_mdt, ats_said, said_below, middle, IsNext, IsRun, IsClear, HasOutcome, behind_mdt, after_mst, view_of, views_of, IsSpelled, IsOpened, IsStored, HaveRealBits, phase_before, StandsNoLater, OnStores, IsExactAt, IsToldAt, AreReportedIn, AreInStepAt, KeepsAll, length-IsFrame, runs_exact, handshake, stands_no_later, is_planned}
+use Rattle.sercos_law_channel.specs.Handshake.Runs.{IsNext as IsNextView}
 use Rattle.sercos_law_run.proofs.Typed.Ats.{IsContent, at_content}
 use Rattle.sercos_law_run.proofs.Typed.Mdts.{mdt_whole}
-use Rattle.sercos_law_run.specs.Views.RingViews.{behind_mdt, after_mst, view_of, views_of}
 use Rattle.sercos_law_run.proofs.Views.Members.{members_count}
 use Rattle.sercos_law_run.proofs.Views.Received.{address_of}
-use Rattle.sercos_law_run.specs.Views.Spelled.{IsSpelled}
-use Rattle.sercos_law_run.specs.Held.Opened.{IsOpened}
-use Rattle.sercos_law_run.specs.Held.Stored.{IsStored}
 use Rattle.sercos_law_run.proofs.Held.AnsweredRuns.{EntriesStored, entries_stored}
 use Rattle.sercos_law_run.proofs.Held.StoreOf.{store_of_so}
 use Rattle.sercos_law_run.proofs.Held.Runs.{AllStand, all_first, all_next, s_known, small, kept_at_mst, begun_then}
-use Rattle.sercos_law_run.specs.Headline.Cycles.{HaveRealBits, phase_before, StandsNoLater}
-use Rattle.sercos_law_run.specs.Headline.Transfers.{OnStores, IsExactAt, IsToldAt, AreReportedIn, AreInStepAt}
-use Rattle.sercos_law_run.specs.Headline.Headline.{KeepsAll}
 use Rattle.sercos_law_run.proofs.Headline.ApartCycles.{AreFramed, apart_in}
 use Rattle.sercos_law_run.proofs.Headline.WellRuns.{AllWell, all_well, stops_in}
 use Rattle.sercos_law_run.proofs.Settings.WellSets.{well_first}
 use Rattle.sercos_law_run.proofs.Headline.OnceRuns.{are_once, restarts_so}
-use Rattle.sercos_hdlc.proofs.FramingLemmas.{length-IsFrame}
-use Rattle.sercos_law_channel.proofs.Cited.{runs_exact}
-use Rattle.sercos_law_channel.proofs.Handshake.RunFacts.{handshake, stands_no_later}
 use Rattle.sercos_law_run.proofs.Agenda.Requests.{are_requests}
 use Rattle.sercos_law_run.proofs.Agenda.ToldEvents.{are_told, are_told_at_restart}
 use Rattle.sercos_law_run.proofs.Cited.{begins_tasks, is_framed, told_in_order, told_once, told_right}
 use Rattle.sercos_law_run.proofs.Typed.Spelled.{keeps_always, keeps_within, spelled_next}
-use Rattle.sercos_master.proofs.Planned.{is_planned}
 
 on_stores : (d : DriveView) (entries : List Entry) → EntriesStored d entries → OnStores entries
 on_stores d [] are = tt

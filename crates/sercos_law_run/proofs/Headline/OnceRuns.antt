@@ -1,25 +1,7 @@
 -- In the records of a run each request ends once.
-use Rattle.std.proofs.Common.{◌≡◌, ◌⊎◌, inl, inr, ℕ, zero, suc, ◌+◌, ◌<◌, ◌≤◌, Bool, true, false, List, [], ◌∷◌, length, Option, Some, None, refl, sym, ◌∙◌, ap, subst, arith, if◌then◌else◌}
-use Rattle.std.specs.Prelude.{nat_lt, ◌==◌, is_some, slice_index}
-use Rattle.std.proofs.lemmas.Bool.Decides.{nat_tests}
+use Rattle.sercos_law_run.proofs.Words.{◌≡◌, ◌⊎◌, inl, inr, ℕ, zero, suc, ◌+◌, ◌<◌, ◌≤◌, Bool, true, false, List, [], ◌∷◌, length, Option, Some, None, refl, sym, ◌∙◌, ap, subst, arith, if◌then◌else◌, nat_lt, ◌==◌, is_some, slice_index, nat_tests, Job, Outcome, is_ring, RingView, Report, MemberView, Task, member, known_of, tasks_for, tasks_from, request_task, Call, Past, Restart, fall_of, broken, restart_told, with_report, with_reports, Carry, Restarts, EventsView, CycleView, heard, passage, mst_in, ats_in, IsNext, IsRun, at_calls, begin_calls, drive_at, looks_back, master_calls, middle, no_events, own_mst, restart_events, station_of, with_at, channel_at, HasOutcome, HasReport, Ascend, Descend, IsAtStart, RestartsAtStart, after_told, still_to_tell, task_numbers, told, told_at_end, with_told, AreOnce, HasEnded, NumbersAscend}
 use Rattle.sercos_telegram.specs.declared.layout.Kind.TheVariants as kinds
-use Rattle.sercos_step.specs.declared.request.Job.{Job}
-use Rattle.sercos_step.specs.declared.request.Outcome.{Outcome}
-use Rattle.sercos_block.specs.Rings.{is_ring}
-use Rattle.sercos_block.specs.Views.{RingView}
-use Rattle.sercos_seat.specs.Channel.{Report}
-use Rattle.sercos_seat.specs.Ring.{MemberView, Task, member, known_of, tasks_for, tasks_from, request_task}
-use Rattle.sercos_master.specs.Annals.{Call, Past, Restart, fall_of}
-use Rattle.sercos_master.specs.Reports.{broken, inserted, restart_told, with_report, with_reports}
-use Rattle.sercos_script.specs.Links.{Carry, Restarts}
-use Rattle.sercos_trace.specs.Views.{EventsView, CycleView}
-use Rattle.sercos_law_run.specs.Journal.Arrivals.{heard, passage}
-use Rattle.sercos_law_run.specs.Journal.Records.{mst_in, ats_in}
-use Rattle.sercos_law_run.specs.Journal.Runs.{IsNext, IsRun, at_calls, begin_calls, drive_at, looks_back, master_calls, middle, no_events, own_mst, restart_events, station_of, with_at}
-use Rattle.sercos_law_run.specs.Agenda.Channels.{channel_at}
-use Rattle.sercos_law_run.specs.Agenda.Events.{HasOutcome, HasReport}
-use Rattle.sercos_law_run.specs.Agenda.Reported.{Ascend, Descend, IsAtStart, RestartsAtStart, after_told, still_to_tell, task_numbers, told, told_at_end, with_told}
-use Rattle.sercos_law_run.specs.Headline.Records.{AreOnce, HasEnded, NumbersAscend}
+use Rattle.sercos_master.specs.Reports.{inserted}
 use Rattle.sercos_law_run.proofs.Agenda.Requests.{ascend_from}
 use Rattle.sercos_law_run.proofs.Agenda.ToldEvents.{all_to}
 use Rattle.sercos_law_run.proofs.Views.Members.{member_is, members_count, same_drive}

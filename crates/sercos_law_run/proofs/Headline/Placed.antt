@@ -1,12 +1,6 @@
 -- The ATs of a cycle in the order sent, each with the place of its drive.
-use Rattle.std.proofs.Common.{◌≡◌, ◌⊎◌, inl, inr, ℕ, zero, suc, ◌<◌, ◌≤◌, Bool, true, false, List, [], ◌∷◌, map, Option, Some, None, refl, ◌∙◌, ap, arith, if◌then◌else◌}
-use Rattle.std.specs.Prelude.{nat_lt}
-use Rattle.std.proofs.lemmas.Bool.{cases_eq}
-use Rattle.std.proofs.lemmas.Bool.Decides.{nat_tests}
-use Rattle.sercos_block.specs.Views.{DriveView}
-use Rattle.sercos_drive.specs.Heard.{DriveCall}
-use Rattle.sercos_drive.specs.Says.{Said, drive_says}
-use Rattle.sercos_law_run.specs.Journal.Runs.{inserted, with_said, said_below}
+use Rattle.sercos_law_run.proofs.Words.{◌≡◌, ◌⊎◌, inl, inr, ℕ, zero, suc, ◌<◌, ◌≤◌, Bool, true, false, List, [], ◌∷◌, map, Option, Some, None, refl, ◌∙◌, ap, arith, if◌then◌else◌, nat_lt, cases_eq, nat_tests, DriveView, DriveCall, Said, drive_says, with_said, said_below}
+use Rattle.sercos_law_run.specs.Journal.Runs.{inserted}
 
 pub record Placed : Type 0 where
   pub place : ℕ
@@ -25,9 +19,6 @@ placed_below zero d rate h = []
 placed_below (suc n) d rate h = with_placed n (drive_says (d n) rate (h n)) (placed_below n d rate h)
 
 -- they are the ATs of the cycle
-said_of : Placed → Said
-said_of x = x.says
-
 put_said : (s : Placed) (others : List Placed) → map (λ (x : Placed). x.says) (put s others) ≡ inserted s.says (map (λ (x : Placed). x.says) others)
 put_said s [] = refl
 put_said s (x ∷ others) = by (nat_lt s.says.start x.says.start) (put_said s others)

@@ -1,59 +1,19 @@
 -- In a run of a ring in which nothing is unseen the master stops with `NoFit` only if no plan fits, and never at what is configured.
-use Rattle.std.proofs.Common.{◌≡◌, ℕ, zero, suc, ◌<◌, ◌≤◌, Bool, true, false, ◌||◌, List, [], ◌∷◌, ◌++◌, map, length, Option, Some, None, Result, Err, refl, sym, ap, ◌∙◌, subst, arith, if◌then◌else◌, append_assoc}
-use Rattle.std.specs.Prelude.{◌==◌, nat_le, slice_get, is_some, is_none, OnErr}
-use Rattle.std.specs.List.{list_any}
-use Rattle.std.proofs.lemmas.Bool.{eq-eqb, false≢true, le-leb}
-use Rattle.std.proofs.lemmas.Option.{get_or_from_slice_get, same_Some, slice_get_within}
-use Rattle.sercos_idn.specs.declared.idn.Idn.{Idn}
-use Rattle.sercos_step.specs.declared.request.Request.{Request}
+use Rattle.sercos_law_run.proofs.Words.{◌≡◌, ℕ, zero, suc, ◌<◌, ◌≤◌, Bool, true, false, ◌||◌, List, [], ◌∷◌, ◌++◌, map, length, Option, Some, None, Result, Err, refl, sym, ap, ◌∙◌, subst, arith, if◌then◌else◌, append_assoc, ◌==◌, nat_le, slice_get, is_some, is_none, OnErr, list_any, eq-eqb, false≢true, le-leb, get_or_from_slice_get, same_Some, slice_get_within, Idn, Request, Outcome, Job, outcome_of, record_bytes, IsValid, PlanView, WishesView, wishes_of, IsStore, store_of, DriveView, RingView, NoneFits, planned, ChainView, planned_none, Begun, begun_by, Stop, idn, declared_times, reads, reads_count, asked_by, stop_by, long_in, len_said, attribute_stop, wishes_given, with_outcome, outcomes_in, Task, MemberView, member, member_of, known_of, tasks_for, reads_length, IsAnswer, AreAnswers, Call, Past, outcomes, carried_clean, never_restarts, View, epoch_begun, all_entries, all_writes, all_begun, begun_ago, AreSound, AreExact, no_drive, drive_at, looks_back, AreNumbered, IsTask, OfReads, OfWrites, Checks3, Lists3, Checks4, Lists4, OfWaiting, AreBegunTasks, HasEndedAt, IsOpened, AreStored, types, runs_exact}
 use Rattle.sercos_step.specs.declared.request.Request.TheVariants as request
-use Rattle.sercos_step.specs.declared.request.Outcome.{Outcome}
 use Rattle.sercos_step.specs.declared.request.Outcome.TheVariants as outcome
-use Rattle.sercos_step.specs.declared.request.Job.{Job}
-use Rattle.sercos_step.specs.Steps.{outcome_of}
-use Rattle.sercos_timing.specs.Order.{record_bytes}
-use Rattle.sercos_timing.specs.Valid.{IsValid}
-use Rattle.sercos_timing.specs.Views.{PlanView, WishesView}
-use Rattle.sercos_block.specs.Rings.{wishes_of}
-use Rattle.sercos_block.specs.Stores.{IsStore, store_of}
-use Rattle.sercos_block.specs.Views.{DriveView, RingView}
-use Rattle.sercos_plan.specs.Least.{NoneFits}
-use Rattle.sercos_plan.specs.ChainOf.{planned}
-use Rattle.sercos_plan.specs.Views.{ChainView}
-use Rattle.sercos_plan.proofs.AnswerLemmas.{planned_none}
-use Rattle.sercos_service_master.specs.Begun.{Begun}
-use Rattle.sercos_service_master.specs.Calls.{begun_by}
-use Rattle.sercos_trace.specs.declared.events.Stop.{Stop}
 use Rattle.sercos_trace.specs.declared.events.Stop.TheVariants as stop
-use Rattle.sercos_seat.specs.Agenda.{idn, declared_times, reads, reads_count, asked_by, stop_by, long_in, len_said, attribute_stop, wishes_given}
-use Rattle.sercos_seat.specs.Channel.{with_outcome, outcomes_in}
-use Rattle.sercos_seat.specs.Ring.{Task, MemberView, member, member_of, known_of, tasks_for}
-use Rattle.sercos_seat.proofs.Agendas.{reads_length}
-use Rattle.sercos_law_run.specs.Start.Answers.{IsAnswer, AreAnswers}
 use Rattle.sercos_law_run.proofs.Start.CheckPasses.{ring_drive}
-use Rattle.sercos_master.specs.Annals.{Call, Past, outcomes}
-use Rattle.sercos_script.specs.Links.{carried_clean, never_restarts}
-use Rattle.sercos_law_channel.specs.Handshake.Views.{View}
-use Rattle.sercos_law_channel.specs.Handshake.Epochs.{epoch_begun}
 use Rattle.sercos_law_channel.specs.Handshake.Runs.{IsRun}
-use Rattle.sercos_law_channel.specs.Handshake.WholeRun.{all_entries, all_writes, all_begun, begun_ago, AreSound}
-use Rattle.sercos_law_channel.specs.Handshake.Exact.{AreExact}
-use Rattle.sercos_law_run.specs.Journal.Runs.{no_drive, drive_at, looks_back}
-use Rattle.sercos_law_run.specs.Agenda.Reported.{AreNumbered}
-use Rattle.sercos_law_run.specs.Agenda.Tasks.{IsTask, OfReads, OfWrites, Checks3, Lists3, Checks4, Lists4, OfWaiting, AreBegunTasks, HasEndedAt}
 use Rattle.sercos_law_run.proofs.Agenda.AgendaTasks.{IsIn, First, After, is_in, mapped}
 use Rattle.sercos_law_run.proofs.Agenda.ReadWell.{AllComplete, last_is}
 use Rattle.sercos_law_run.proofs.Agenda.Requests.{numbered_drop, are_requests}
 use Rattle.sercos_law_run.proofs.Agenda.StopCauses.{element_asked, Says, SaysRefused, SaysBad, Says127, Says128, says_so}
 use Rattle.sercos_law_run.proofs.Agenda.StopRuns.{StopsFor, OfTask, OfPlan, OfLength, stop_has_cause}
 use Rattle.sercos_law_run.proofs.Agenda.WritesDone.{raw_of, IsDataWrite, DataWrite, all_data_writes}
-use Rattle.sercos_law_run.proofs.Views.Members.{member_is, members_count}
-use Rattle.sercos_law_run.specs.Held.Opened.{IsOpened}
-use Rattle.sercos_law_run.specs.Held.Stored.{AreStored}
+use Rattle.sercos_law_run.proofs.Views.Members.{member_is, in_ring, in_known}
 use Rattle.sercos_law_run.proofs.Held.AnsweredRuns.{is_read_request, as_read, read_of, read_answers, answered_by, entries_stored}
 use Rattle.sercos_law_run.proofs.Held.Runs.{drive_got, wishes_so}
-use Rattle.sercos_block.proofs.TypeLemmas.{types}
-use Rattle.sercos_law_channel.proofs.Cited.{runs_exact}
 use Rattle.sercos_law_run.proofs.Cited.{begins_tasks, left_of, tasks_end}
 use Rattle.sercos_law_run.proofs.Start.AnswerLemmas.{no_attribute_stops, typed_have_factors}
 use Rattle.sercos_law_run.proofs.Start.WellLemmas.{ring_is_valid}
@@ -102,17 +62,11 @@ module _ (r : RingView) (jobs : List Job) (opened : IsOpened r jobs)
   abbrev now : Past
   now = looks_back r jobs h
 
-  place_inside : (k : ℕ) → k < length r.drives → k < length (known_of r).drives
-  place_inside k below = let count = members_count r in omega (arith, below, count)
-
-  place_outside : (k : ℕ) → k < length (known_of r).drives → k < length r.drives
-  place_outside k below = let count = members_count r in omega (arith, below, count)
-
   -- A COMPLETE READ gave the drive's element.
   answer_of : (k n : ℕ) (x : Request) (bytes : List ℕ) → k < length r.drives → n < reads_count (member (known_of r) k) → slice_get (reads (member (known_of r) k)) n ≡ Some x →
       slice_get (outcomes now k) n ≡ Some (outcome.Complete bytes) → IsAnswer (drive_at r k) x (outcome.Complete bytes)
   answer_of k n x bytes below early got complete =
-      let at = tasks_end (known_of r) (tasks_for (known_of r) jobs) h k n (outcome.Complete bytes) (place_inside k below) complete in by at at.is.task
+      let at = tasks_end (known_of r) (tasks_for (known_of r) jobs) h k n (outcome.Complete bytes) (in_known r k below) complete in by at at.is.task
     where
       by : (at : HasEndedAt (known_of r) k now.plan (now.waiting k) now.now.phase (begun_by (now.calls k)) n (outcome.Complete bytes)) → IsTask (known_of r) k at.is.by_then (now.waiting k) (outcomes_in at.older) at.task →
           IsAnswer (drive_at r k) x (outcome.Complete bytes)
@@ -148,7 +102,7 @@ module _ (r : RingView) (jobs : List Job) (opened : IsOpened r jobs)
           let less = slice_get_within (reads (member (known_of r) k)) n x got in
           let long = reads_length (member (known_of r) k) in
           let early : n < reads_count (member (known_of r) k) = omega (arith, less, long) in
-          let (bytes, complete) = whole k (place_inside k below) n early in
+          let (bytes, complete) = whole k (in_known r k below) n early in
           (outcome.Complete bytes, complete, answer_of k n x bytes below early got complete)
 
   asked : AllComplete (known_of r) now → wishes_given (known_of r) (outcomes now) ≡ wishes_of r
@@ -172,7 +126,7 @@ module _ (r : RingView) (jobs : List Job) (opened : IsOpened r jobs)
       are : AreBegunTasks (known_of r) k now.plan (now.waiting k) now.now.phase (b ∷ older) (t ∷ tasks)
       are = subst (λ (l : List Begun). AreBegunTasks (known_of r) k now.plan (now.waiting k) now.now.phase l (t ∷ tasks)) begun
           (subst (AreBegunTasks (known_of r) k now.plan (now.waiting k) now.now.phase (begun_by (now.calls k))) tasks_are
-          (begins_tasks (known_of r) (tasks_for (known_of r) jobs) h k (place_inside k below)))
+          (begins_tasks (known_of r) (tasks_for (known_of r) jobs) h k (in_known r k below)))
 
       there : slice_get (outcomes now k) (length (outcomes_in older)) ≡ Some (outcome.Complete bytes)
       there =
@@ -219,7 +173,7 @@ module _ (r : RingView) (jobs : List Job) (opened : IsOpened r jobs)
   no_plan_made chain is = by (stop_has_cause (known_of r) (tasks_for (known_of r) jobs) h (stop.NoFit chain) is)
     where
       by : StopsFor (known_of r) now (stop.NoFit chain) → planned (wishes_of r) ≡ Err chain
-      by (OfTask k b older t tasks o there begun tasks_are number ended brought) = absurd (no_task (stop.NoFit chain) refl k b older t tasks o (place_outside k there) begun tasks_are number ended brought)
+      by (OfTask k b older t tasks o there begun tasks_are number ended brought) = absurd (no_task (stop.NoFit chain) refl k b older t tasks o (in_ring r k there) begun tasks_are number ended brought)
       by (OfPlan other same whole read made) =
           let one : chain ≡ other = cc in
           sym (ap planned (asked whole)) ∙ made ∙ ap (λ (c : ChainView). Err c) (sym one)
@@ -232,7 +186,7 @@ module _ (r : RingView) (jobs : List Job) (opened : IsOpened r jobs)
   no_bad_config address i word is = by (stop_has_cause (known_of r) (tasks_for (known_of r) jobs) h (stop.BadConfig address i word) is)
     where
       by : StopsFor (known_of r) now (stop.BadConfig address i word) → ⊥
-      by (OfTask k b older t tasks o there begun tasks_are number ended brought) = no_task (stop.BadConfig address i word) refl k b older t tasks o (place_outside k there) begun tasks_are number ended brought
+      by (OfTask k b older t tasks o there begun tasks_are number ended brought) = no_task (stop.BadConfig address i word) refl k b older t tasks o (in_ring r k there) begun tasks_are number ended brought
       by (OfPlan other same whole read made) = cc
       by (OfLength place c v same whole long) =
           let asks = asked whole in

@@ -1,32 +1,11 @@
 -- The stops that are told in a cycle.
-use Rattle.std.proofs.Common.{◌≡◌, ℕ, ◌<◌, Bool, true, false, List, [], ◌∷◌, length, Option, Some, None, refl, sym, ◌∙◌, ap, if◌then◌else◌}
-use Rattle.std.specs.Option.{option_or}
-use Rattle.sercos_step.specs.declared.request.Job.{Job}
-use Rattle.sercos_timing.specs.Valid.{IsValid}
-use Rattle.sercos_block.specs.Rings.{wishes_of}
-use Rattle.sercos_block.specs.Stores.{IsStore, store_of}
-use Rattle.sercos_block.specs.Views.{RingView}
-use Rattle.sercos_drive.specs.Moments.{blocks_in}
-use Rattle.sercos_trace.specs.Views.{EventsView, CycleView}
-use Rattle.sercos_trace.specs.declared.events.Stop.{Stop}
+use Rattle.sercos_law_run.proofs.Words.{◌≡◌, ℕ, ◌<◌, Bool, true, false, List, [], ◌∷◌, length, Option, Some, None, refl, sym, ◌∙◌, ap, if◌then◌else◌, option_or, Job, IsValid, wishes_of, IsStore, store_of, RingView, blocks_in, EventsView, CycleView, Stop, member, known_of, tasks_for, Past, outcomes, restart_told, stop_told, tasks_wait, Carry, Restarts, drive_at, master_calls, looks_back, middle, no_events, IsNext, behind_mdt, after_mst, view_of, views_of, IsSpelled, IsOpened, IsStored, StopsRight, is_planned}
 use Rattle.sercos_trace.specs.declared.events.Stop.TheVariants as stop
-use Rattle.sercos_seat.specs.Ring.{member, known_of, tasks_for}
-use Rattle.sercos_master.specs.Annals.{Past, outcomes}
-use Rattle.sercos_master.specs.Reports.{restart_told, stop_told}
-use Rattle.sercos_master.proofs.Laws.{tasks_wait}
-use Rattle.sercos_script.specs.Links.{Carry, Restarts}
-use Rattle.sercos_law_run.specs.Journal.Runs.{drive_at, master_calls, looks_back, middle, no_events, IsNext}
-use Rattle.sercos_law_run.specs.Views.RingViews.{behind_mdt, after_mst, view_of, views_of}
-use Rattle.sercos_law_run.specs.Views.Spelled.{IsSpelled}
 use Rattle.sercos_law_run.proofs.Settings.WellSets.{IsWellSet, well_next}
 use Rattle.sercos_law_run.proofs.Settings.NoCheck127.{stays, next_still, never_127_in}
-use Rattle.sercos_law_run.specs.Held.Opened.{IsOpened}
-use Rattle.sercos_law_run.specs.Held.Stored.{IsStored}
 use Rattle.sercos_law_run.proofs.Held.Runs.{AllStand, answers_at, wishes_so, plan_is, small, agrees, rests, begun_then}
-use Rattle.sercos_law_run.specs.Headline.Stops.{StopsRight}
 use Rattle.sercos_law_run.proofs.Headline.StopRuns.{IsFollowed, valid_wishes, no_fit, no_bad_config}
 use Rattle.sercos_law_run.proofs.Agenda.Requests.{are_requests}
-use Rattle.sercos_master.proofs.Planned.{is_planned}
 
 -- the stop of a cycle's events is that of the master when its MDT is sent
 told_stop : (told : Bool) (o : Option Stop) (x : Stop) → (if told then o else None) ≡ Some x → o ≡ Some x

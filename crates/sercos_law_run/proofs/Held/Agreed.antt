@@ -1,47 +1,16 @@
 -- A drive that holds the plan agrees with the MDT that the master lays.
-use Rattle.std.proofs.Common.{◌≡◌, ℕ, zero, suc, ◌+◌, ◌<◌, true, List, [], ◌∷◌, map, length, take, Option, Some, None, refl, sym, ap, ◌∙◌, subst, arith, cond}
-use Rattle.std.specs.Prelude.{◌==◌, ◌||◌, Bool, false, slice_index, slice_get, unwrap_or, is_some}
-use Rattle.std.specs.List.{concat, list_all}
-use Rattle.std.proofs.lemmas.Bool.{and_parts}
-use Rattle.sercos_step.specs.declared.request.Request.{Request}
+use Rattle.sercos_law_run.proofs.Words.{◌≡◌, ℕ, zero, suc, ◌+◌, ◌<◌, true, List, [], ◌∷◌, map, length, take, Option, Some, None, refl, sym, ap, ◌∙◌, subst, arith, cond, ◌==◌, ◌||◌, Bool, false, slice_index, slice_get, unwrap_or, is_some, concat, list_all, and_parts, slice_get_within, Request, WishesView, PlanView, IsValid, Fits, positions, record_bytes, wish, Wish, Block, is_ring, record_len, is_built_in, has_block, blocks_fault, find_block, store_of, DriveView, RingView, length_wishes, data_at, number_at, carried_len, Held, held_of, wishes_given, writes, Known, known_of, IsStoreOf, start_up, Holds, held_in, AreStoredWhole, Past, outcomes, records_from, stored, View, all_writes, store_in, is_plain, start_numbers, AreHeld, holds_newest}
 use Rattle.sercos_step.specs.declared.request.Request.TheVariants as request
-use Rattle.sercos_timing.specs.Views.{WishesView, PlanView}
-use Rattle.sercos_timing.specs.Valid.{IsValid}
-use Rattle.sercos_timing.specs.Inequalities.{Fits, positions}
-use Rattle.sercos_timing.specs.Order.{record_bytes, wish}
-use Rattle.sercos_timing.specs.declared.wishes.Wish.{Wish}
-use Rattle.sercos_block.specs.declared.block.Block.{Block}
-use Rattle.sercos_block.specs.Rings.{is_ring, wishes_of, wish_of, record_len}
-use Rattle.sercos_block.specs.BuiltIns.{is_built_in}
-use Rattle.sercos_block.specs.Rules.{has_block, blocks_fault}
-use Rattle.sercos_block.specs.Stores.{find_block, store_of}
-use Rattle.sercos_block.specs.Views.{DriveView, RingView}
-use Rattle.sercos_command.specs.Checks.{data_at, number_at, carried_len}
-use Rattle.sercos_law_run.specs.Slots.Slots.{Held}
-use Rattle.sercos_law_run.specs.Slots.OnPlan.{held_of}
+use Rattle.sercos_block.specs.Rings.{wishes_of}
 use Rattle.sercos_law_run.proofs.Slots.Places.{record_place_is, length_records}
-use Rattle.sercos_seat.specs.Agenda.{wishes_given, writes}
-use Rattle.sercos_seat.specs.Ring.{Known, known_of}
-use Rattle.sercos_law_run.specs.Start.StartUp.{IsStoreOf, start_up, Holds}
-use Rattle.sercos_law_run.specs.Start.Held.{held_in, written_by}
-use Rattle.sercos_law_run.specs.Start.Later.{AreStoredWhole}
+use Rattle.sercos_law_run.specs.Start.Held.{written_by}
 use Rattle.sercos_law_run.proofs.Start.PlanNumbers.{HasNumbers, has_numbers}
 use Rattle.sercos_law_run.proofs.Start.CheckPasses.{wish_is}
 use Rattle.sercos_law_run.proofs.Start.LaterLemmas.{has_of}
-use Rattle.sercos_master.specs.Annals.{Past, outcomes}
-use Rattle.sercos_master.specs.Says.{records_from}
-use Rattle.sercos_law_channel.specs.Handshake.Transfers.{stored}
-use Rattle.sercos_law_channel.specs.Handshake.Views.{View}
-use Rattle.sercos_law_channel.specs.Handshake.WholeRun.{all_writes}
-use Rattle.sercos_law_channel.specs.Handshake.Values.{store_in, is_plain}
-use Rattle.sercos_law_run.specs.Agenda.Writes.{start_numbers}
 use Rattle.sercos_law_run.proofs.Views.Members.{members_count}
 use Rattle.sercos_law_run.proofs.Views.Received.{Agrees}
-use Rattle.sercos_law_run.specs.Held.Held.{AreHeld}
 use Rattle.sercos_law_run.proofs.Held.HoldsRuns.{held_at}
 use Rattle.sercos_law_run.proofs.Held.Laid.{records_of, records_concat, records_take, records_lengths}
-use Rattle.std.proofs.lemmas.Option.{slice_get_within}
-use Rattle.sercos_law_channel.proofs.Handshake.StoredValues.{holds_newest}
 use Rattle.sercos_law_run.proofs.Agenda.WritesDone.{writes_data}
 use Rattle.sercos_law_run.proofs.Start.HeldLemmas.{holds_plan, writes_start_up}
 use Rattle.sercos_law_run.proofs.Start.LaterLemmas.{stores_start_up_whole}
@@ -50,11 +19,7 @@ use Rattle.sercos_law_run.proofs.Start.Lengths.{are_as_long}
 -- a place of the ring has a wish
 pub wishes_count : (r : RingView) → length (wishes_of r).drives ≡ length r.drives
 unfolding wishes_of
-wishes_count r = by r.drives
-  where
-    by : (drives : List DriveView) → length (map wish_of drives) ≡ length drives
-    by [] = refl
-    by (d ∷ drives) = ap suc (by drives)
+wishes_count r = length_wishes r.drives
 
 pub agrees_so : (r : RingView) (p : Past) (plan : PlanView) (k : ℕ) (d : DriveView) (blocks : List Block) → IsValid (wishes_of r)
     → Fits (wishes_of r) plan → k < length r.drives → slice_get r.drives k ≡ Some d → blocks_fault [] d.blocks ≡ None → IsStoreOf d blocks
@@ -87,10 +52,10 @@ agrees_so r p plan k d blocks valid fits below at rules stored_so holds same =
     }
 
 -- WHAT A DRIVE HOLDS by its writes, its store holds.
-all_at : (test : ℕ → Bool) (numbers : List ℕ) (i raw : ℕ) → list_all test numbers ≡ true → slice_get numbers i ≡ Some raw → test raw ≡ true
-all_at test [] i raw all got = absurd (cc)
-all_at test (n ∷ numbers) zero raw all got = let same : n ≡ raw = cc in ap test (sym same) ∙ (and_parts (test n) _ all).0
-all_at test (n ∷ numbers) (suc i) raw all got = all_at test numbers i raw (and_parts (test n) _ all).1 got
+pub all_at : {A : Type 0} (p : A → Bool) (xs : List A) (i : ℕ) (x : A) → list_all p xs ≡ true → slice_get xs i ≡ Some x → p x ≡ true
+all_at p [] i x all got = absurd (cc)
+all_at p (y ∷ xs) zero x all got = let same : y ≡ x = cc in ap p (sym same) ∙ (and_parts (p y) (list_all p xs) all).0
+all_at p (y ∷ xs) (suc i) x all got = all_at p xs i x (and_parts (p y) (list_all p xs) all).1 got
 
 -- a block with the number is found
 has_some : (raw : ℕ) (blocks : List Block) → has_block raw blocks ≡ true → is_some (find_block raw blocks) ≡ true
@@ -102,11 +67,11 @@ has_some raw (b ∷ blocks) has = by (b.idn.raw == raw) has (has_some raw blocks
     by false has more = more has
 
 -- the data of each value, by its place
-holds_by : (blocks : List Block) (values : List (ℕ × List ℕ)) → ((i : ℕ) (v : ℕ × List ℕ) → slice_get values i ≡ Some v → data_at blocks v.0 ≡ v.1) → Holds blocks values
+pub holds_by : (blocks : List Block) (values : List (ℕ × List ℕ)) → ((i : ℕ) (v : ℕ × List ℕ) → slice_get values i ≡ Some v → data_at blocks v.0 ≡ v.1) → Holds blocks values
 holds_by blocks [] each = tt
 holds_by blocks (v ∷ values) each = (each 0 v refl, holds_by blocks values (λ i x got. each (suc i) x got))
 
-whole_at : (blocks : List Block) (values : List (ℕ × List ℕ)) (i : ℕ) (v : ℕ × List ℕ) → AreStoredWhole blocks values → slice_get values i ≡ Some v → (b : Block) → find_block v.0 blocks ≡ Some b → stored b v.1 ≡ v.1
+pub whole_at : (blocks : List Block) (values : List (ℕ × List ℕ)) (i : ℕ) (v : ℕ × List ℕ) → AreStoredWhole blocks values → slice_get values i ≡ Some v → (b : Block) → find_block v.0 blocks ≡ Some b → stored b v.1 ≡ v.1
 whole_at blocks [] i v whole got b found = absurd (cc)
 whole_at blocks (x ∷ values) zero v whole got b found = let same : x ≡ v = cc in subst (λ (y : ℕ × List ℕ). stored b y.1 ≡ y.1) same (whole.0 b (ap (λ (y : ℕ × List ℕ). find_block y.0 blocks) same ∙ found))
 whole_at blocks (x ∷ values) (suc i) v whole got b found = whole_at blocks values i v whole.1 got b found

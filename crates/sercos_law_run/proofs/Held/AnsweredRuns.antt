@@ -1,52 +1,14 @@
 -- If there is a plan, a drive has answered the first reads as it has its elements.
-use Rattle.std.proofs.Common.{◌≡◌, ℕ, zero, suc, ◌<◌, Bool, true, false, not, ◌&&◌, List, [], ◌∷◌, ◌++◌, length, Option, Some, None, refl, sym, ap, ◌∙◌, subst, arith, if◌then◌else◌, append_assoc}
-use Rattle.std.proofs.lemmas.Bool.{cond_both}
-use Rattle.std.specs.Prelude.{◌==◌, slice_get, option_map, unwrap_or}
-use Rattle.std.specs.Option.{option_or}
-use mathlib.Core.Bool.{beq}
-use Rattle.sercos_idn.specs.declared.idn.Idn.{Idn}
-use Rattle.sercos_idn.specs.Codes.{is_list}
-use Rattle.sercos_step.specs.declared.request.Request.{Request}
+use Rattle.sercos_law_run.proofs.Words.{◌≡◌, ℕ, zero, suc, ◌<◌, Bool, true, false, not, List, [], ◌∷◌, ◌++◌, length, Option, Some, None, refl, sym, ap, ◌∙◌, subst, arith, if◌then◌else◌, append_assoc, ◌==◌, slice_get, option_map, unwrap_or, option_or, beq, same_Some, slice_get_within, Idn, is_list, Request, Outcome, outcome_of, steps_before, Job, PlanView, Block, blocks_fault, find_block, store_of, DriveView, RingView, Processed, Entry, ahs, reply_of, log_of, Write, Begun, begun_by, CycleView, idn, reads, reads_count, outcomes_in, Task, MemberView, member, known_of, tasks_for, reads_length, IsStoreOf, kept, IsAnswer, AreAnswers, Past, outcomes, Carry, Restarts, entry_behind, element_in, View, standing, stood_in, record_in, kept_in, accepted_of, all_entries, all_writes, all_begun, begun_ago, AreSound, AreSmall, AreExact, Processes, Nothing, Record, processes, drive_at, master_calls, looks_back, IsTask, OfReads, OfWrites, Checks3, Lists3, Checks4, Lists4, OfWaiting, HasEndedAt, views_of, IsStored, AreStored, runs_exact}
 use Rattle.sercos_step.specs.declared.request.Request.TheVariants as request
-use Rattle.sercos_step.specs.declared.request.Outcome.{Outcome}
 use Rattle.sercos_step.specs.declared.request.Outcome.TheVariants as outcome
-use Rattle.sercos_step.specs.Steps.{outcome_of, steps_before}
-use Rattle.sercos_step.specs.declared.request.Job.{Job}
-use Rattle.sercos_timing.specs.Views.{PlanView}
-use Rattle.sercos_block.specs.declared.block.Block.{Block}
-use Rattle.sercos_block.specs.Blocks.{element_of, is_fixed}
+use Rattle.sercos_block.specs.Blocks.{element_of}
 use Rattle.sercos_block.specs.BuiltIns.{built_in}
-use Rattle.sercos_block.specs.Rules.{blocks_fault}
-use Rattle.sercos_block.specs.Stores.{find_block, store_of}
-use Rattle.sercos_block.specs.Views.{DriveView, RingView}
-use Rattle.sercos_service_drive.specs.Log.{Processed, Entry, ahs}
-use Rattle.sercos_service_drive.specs.Replies.{data_in, reply_of, log_of}
-use Rattle.sercos_service_drive.specs.Writes.{Write}
-use Rattle.sercos_service_master.specs.Begun.{Begun}
-use Rattle.sercos_service_master.specs.Calls.{begun_by}
-use Rattle.sercos_trace.specs.Views.{CycleView}
-use Rattle.sercos_seat.specs.Agenda.{idn, reads, reads_count}
-use Rattle.sercos_seat.specs.Channel.{outcomes_in}
-use Rattle.sercos_seat.specs.Ring.{Task, MemberView, member, known_of, tasks_for}
-use Rattle.sercos_seat.proofs.Agendas.{reads_length}
-use Rattle.sercos_law_run.specs.Start.StartUp.{IsStoreOf, is_given, kept}
-use Rattle.sercos_law_run.specs.Start.Answers.{IsAnswer, AreAnswers}
+use Rattle.sercos_service_drive.specs.Replies.{data_in}
 use Rattle.sercos_law_run.proofs.Start.BlockFinds.{find_store_of, same_kept}
-use Rattle.sercos_master.specs.Annals.{Past, outcomes}
-use Rattle.sercos_script.specs.Links.{Carry, Restarts}
-use Rattle.sercos_law_channel.specs.Handshake.ReadTransfers.{entry_behind, element_in}
-use Rattle.sercos_law_channel.specs.Handshake.Views.{View, standing, stood_in, record_in, kept_in}
-use Rattle.sercos_law_channel.specs.Handshake.WholeRun.{accepted_of, all_entries, all_writes, all_begun, begun_ago, AreSound, AreSmall}
-use Rattle.sercos_law_channel.specs.Handshake.Exact.{AreExact}
-use Rattle.sercos_law_channel.proofs.Theorems.{Processes, Nothing, Record, processes}
-use Rattle.sercos_law_run.specs.Journal.Runs.{drive_at, master_calls, looks_back}
-use Rattle.sercos_law_run.specs.Agenda.Tasks.{IsTask, OfReads, OfWrites, Checks3, Lists3, Checks4, Lists4, OfWaiting, HasEndedAt}
+use Rattle.sercos_law_run.proofs.Start.LimitLemmas.{kept_step}
 use Rattle.sercos_law_run.proofs.Agenda.AgendaTasks.{mapped}
-use Rattle.sercos_law_run.specs.Views.RingViews.{views_of}
 use Rattle.sercos_law_run.proofs.Views.ViewRuns.{Sees}
-use Rattle.sercos_law_run.specs.Held.Stored.{IsStored, AreStored}
-use Rattle.std.proofs.lemmas.Option.{same_Some, slice_get_within}
-use Rattle.sercos_law_channel.proofs.Cited.{runs_exact}
 use Rattle.sercos_law_run.proofs.Cited.{reads_well, tasks_end}
 
 -- each accepted step was accepted on a store of the drive
@@ -117,11 +79,6 @@ is_read_request m (suc (suc (suc zero))) r got = Time 87 (λ d. refl) (cc)
 is_read_request m (suc (suc (suc (suc zero)))) r got = Time 88 (λ d. refl) (cc)
 is_read_request m (suc (suc (suc (suc (suc zero))))) r got = Time 90 (λ d. refl) (cc)
 is_read_request m (suc (suc (suc (suc (suc (suc j)))))) r got = let (i, there, is) = mapped (λ i. request.Read i 3) (m.at ++ m.mdt) j r got in Attribute i is
-
--- the step of a built-in block without one stays 0
-kept_step : (b : Block) → (kept b).step ≡ b.step
-kept_step b = cond_both (is_fixed b && not (is_given b.idn.raw)) b (record b { value = [] })
-    (λ v. v.step ≡ b.step) (λ on. refl) (λ off. refl)
 
 map_step : (o : Option Block) → option_map (λ (b : Block). b.step) (option_map kept o) ≡ option_map (λ (b : Block). b.step) o
 map_step None = refl

@@ -1,20 +1,5 @@
 -- Within a cycle outcomes only come to those that are there.
-use Rattle.std.proofs.Common.{◌≡◌, ℕ, true, false, List, [], ◌∷◌, ◌++◌, Option, Some, None, refl, sym, ap, ◌∙◌, subst}
-use Rattle.std.specs.Prelude.{is_some}
-use Rattle.std.proofs.lemmas.Bool.{and_parts, cond_both}
-use Rattle.sercos_telegram.specs.declared.words.Status.{Status}
-use Rattle.sercos_step.specs.declared.request.Request.{Request}
-use Rattle.sercos_step.specs.declared.request.Outcome.{Outcome}
-use Rattle.sercos_step.specs.declared.step.Answer.{Answer}
-use Rattle.sercos_step.specs.declared.step.Step.{Step}
-use Rattle.sercos_step.specs.Steps.{outcome_of}
-use Rattle.sercos_block.specs.Views.{DriveView}
-use Rattle.sercos_service_master.specs.Begun.{Begun, open_in, step_at, answers_it, answer_in, with_answer}
-use Rattle.sercos_seat.specs.Channel.{outcomes_in, with_outcome}
-use Rattle.sercos_law_run.specs.Start.Answers.{AreAnswers}
-use Rattle.sercos_law_channel.specs.Handshake.Moves.{with_status}
-use Rattle.sercos_law_channel.specs.Handshake.Views.{Heard}
-use Rattle.sercos_law_channel.specs.Handshake.Epochs.{with_heard, with_begun}
+use Rattle.sercos_law_run.proofs.Words.{◌≡◌, ℕ, true, false, List, [], ◌∷◌, ◌++◌, Option, Some, None, refl, sym, ap, ◌∙◌, subst, is_some, and_parts, cond_both, Status, Request, Outcome, Answer, Step, outcome_of, DriveView, Begun, open_in, step_at, answers_it, answer_in, with_answer, outcomes_in, with_outcome, AreAnswers, with_status, Heard, with_heard, with_begun}
 
 -- one outcome more, or none
 abbrev pub Extends : List Outcome → List Outcome → Type 0

@@ -1,38 +1,8 @@
 -- If phase 3 or 4 is commanded next, the newest writes of a drive are those of the plan.
-use Rattle.std.proofs.Common.{◌≡◌, inl, inr, ℕ, zero, suc, ◌+◌, ◌<◌, ◌≤◌, Bool, true, false, List, [], ◌∷◌, length, Some, refl, sym, ap, ◌∙◌, subst, arith, if◌then◌else◌}
-use Rattle.std.specs.Prelude.{slice_get}
-use Rattle.std.proofs.lemmas.Bool.{cases_eq}
-use Rattle.std.proofs.lemmas.Bool.Decides.{nat_tests}
-use Rattle.sercos_idn.specs.declared.idn.Idn.{Idn}
-use Rattle.sercos_step.specs.declared.request.Request.{Request}
+use Rattle.sercos_law_run.proofs.Words.{◌≡◌, inl, inr, ℕ, zero, suc, ◌+◌, ◌<◌, ◌≤◌, Bool, true, false, List, [], ◌∷◌, length, Some, refl, sym, ap, ◌∙◌, subst, arith, if◌then◌else◌, slice_get, cases_eq, nat_tests, same_Some, slice_get_within, Idn, Request, Job, PlanView, Block, is_protected, find_block, RingView, Write, begun_by, CycleView, writes, Known, known_of, tasks_for, AreWaiting, Past, configured, Carry, Restarts, View, command, all_writes, AreSound, AreSmall, drive_at, master_calls, looks_back, IsNext, start_numbers, IsConfigured, at_start, behind_mdt, view_of, views_of, AreHeld, AreProtected, HoldsThePlan, IsHeld, written_stays, stays_protected}
 use Rattle.sercos_step.specs.declared.request.Request.TheVariants as request
-use Rattle.sercos_step.specs.declared.request.Job.{Job}
-use Rattle.sercos_timing.specs.Views.{PlanView}
-use Rattle.sercos_block.specs.declared.block.Block.{Block}
-use Rattle.sercos_block.specs.Blocks.{is_protected}
-use Rattle.sercos_block.specs.Stores.{find_block}
-use Rattle.sercos_block.specs.Views.{RingView}
-use Rattle.sercos_service_drive.specs.Writes.{Write}
-use Rattle.sercos_service_master.specs.Calls.{begun_by}
-use Rattle.sercos_trace.specs.Views.{CycleView}
-use Rattle.sercos_seat.specs.Agenda.{writes}
-use Rattle.sercos_seat.specs.Ring.{Known, known_of, tasks_for}
-use Rattle.sercos_seat.specs.Seats.{AreWaiting}
-use Rattle.sercos_master.specs.Annals.{Past}
-use Rattle.sercos_master.proofs.Configured.{configured}
-use Rattle.sercos_script.specs.Links.{Carry, Restarts}
-use Rattle.sercos_law_channel.specs.Handshake.Views.{View}
-use Rattle.sercos_law_channel.specs.Handshake.Epochs.{command}
-use Rattle.sercos_law_channel.specs.Handshake.WholeRun.{all_writes, AreSound, AreSmall}
-use Rattle.sercos_law_run.specs.Journal.Runs.{drive_at, master_calls, looks_back, IsNext}
-use Rattle.sercos_law_run.specs.Agenda.Writes.{start_numbers, IsConfigured}
-use Rattle.sercos_law_run.specs.Views.RingViews.{at_start, behind_mdt, view_of, views_of}
 use Rattle.sercos_law_run.proofs.Views.ViewRuns.{Sees, command_below}
-use Rattle.sercos_law_run.specs.Held.Held.{AreHeld, AreProtected, HoldsThePlan, IsHeld}
 use Rattle.sercos_law_run.proofs.Held.PlanStays.{end_plan, plan_kept}
-use Rattle.std.proofs.lemmas.Option.{same_Some, slice_get_within}
-use Rattle.sercos_law_channel.proofs.Cited.{written_stays}
-use Rattle.sercos_law_channel.proofs.Handshake.ProtectedWrites.{stays_protected}
 use Rattle.sercos_law_run.proofs.Agenda.WritesDone.{writes_data}
 use Rattle.sercos_law_run.proofs.Cited.{configures_rise}
 

@@ -1,14 +1,6 @@
 -- How the master lays the data records of an MDT.
-use Rattle.std.proofs.Common.{◌≡◌, ℕ, zero, suc, ◌+◌, ◌<◌, ◌≤◌, List, [], ◌∷◌, ◌++◌, map, length, take, refl, ap, ap₂, ◌∙◌, arith}
-use Rattle.std.specs.Prelude.{slice_index_or}
-use Rattle.std.specs.List.{concat}
-use Rattle.sercos_timing.specs.declared.wishes.Wish.{Wish}
-use Rattle.sercos_seat.specs.Agenda.{record_len, wishes_from, wishes_given}
-use Rattle.sercos_seat.specs.Ring.{Known, MemberView, member, no_member}
-use Rattle.sercos_seat.proofs.Sends.{seen_length}
-use Rattle.sercos_master.specs.Annals.{Past, outcomes}
-use Rattle.sercos_master.specs.Kept.{seen_at}
-use Rattle.sercos_master.specs.Says.{record_to, records_from}
+use Rattle.sercos_law_run.proofs.Words.{◌≡◌, ℕ, zero, suc, ◌+◌, ◌<◌, ◌≤◌, List, [], ◌∷◌, ◌++◌, map, length, take, refl, ap, ap₂, ◌∙◌, arith, slice_index_or, concat, Wish, wishes_from, wishes_given, Known, MemberView, member, no_member, seen_length, Past, outcomes, seen_at, record_to, records_from}
+use Rattle.sercos_seat.specs.Agenda.{record_len}
 
 -- the records of the n drives from place k on
 abbrev pub records_of : Known → Past → ℕ → ℕ → List (List ℕ)

@@ -1,26 +1,12 @@
 -- A ring may be opened with requests that keep the rules of requests.
-use Rattle.std.proofs.Common.{◌≡◌, ℕ, drop, zero, suc, ◌+◌, ◌<◌, Bool, true, false, ◌&&◌, ◌||◌, List, [], ◌∷◌, length, Option, Some, None, refl, sym, ◌∙◌, ap, subst, arith, if◌then◌else◌}
-use Rattle.std.proofs.lemmas.Bool.{not-false}
-use Rattle.std.specs.Prelude.{◌==◌, slice_get, slice_index_or, IfSome, option_map}
-use Rattle.std.specs.List.{All, list_any}
-use Rattle.std.proofs.lemmas.Bool.Decides.{nat_tests}
-use Rattle.std.proofs.lemmas.List.Elements.{All-cons}
-use Rattle.sercos_step.specs.declared.request.Request.{Request}
+use Rattle.sercos_law_run.proofs.Words.{◌≡◌, ℕ, drop, zero, suc, ◌+◌, ◌<◌, Bool, true, false, ◌&&◌, ◌||◌, List, [], ◌∷◌, length, Option, Some, None, refl, sym, ◌∙◌, ap, subst, arith, if◌then◌else◌, not-false, ◌==◌, slice_get, slice_index_or, IfSome, option_map, All, list_any, nat_tests, All-cons, Request, Job, IsJob, AreJobs, Block, DriveView, RingView, find_block, store_of, block_attribute, has_address, is_no_command, is_ring, Task, tasks_from, request_task, drive_at, no_drive, AreTyped, AreTypedJobs, IsTypedRequest, IsOpened, same_place}
 use Rattle.sercos_step.specs.declared.request.Request.TheVariants as request
-use Rattle.sercos_step.specs.declared.request.Job.{Job}
-use Rattle.sercos_step.specs.Jobs.{IsJob, AreJobs}
-use Rattle.sercos_block.specs.declared.block.Block.{Block}
-use Rattle.sercos_block.specs.Views.{DriveView, RingView}
-use Rattle.sercos_block.specs.Stores.{find_block, store_of}
-use Rattle.sercos_block.specs.Rings.{block_attribute, has_address, has_other_data, is_no_command, is_ring}
+use Rattle.sercos_block.specs.Rings.{has_other_data}
 use Rattle.sercos_law_run.proofs.Start.BlockFinds.{attribute_store_of}
 use Rattle.sercos_law_run.proofs.Start.CheckPasses.{ring_drive}
 use Rattle.sercos_law_run.proofs.Views.Members.{member_is}
-use Rattle.sercos_seat.specs.Ring.{Task, tasks_from, request_task}
+use Rattle.sercos_law_run.proofs.Held.Runs.{get_drive}
 pub use Rattle.sercos_law_channel.specs.Handshake.WholeRun.{IsSound}
-use Rattle.sercos_law_run.specs.Journal.Runs.{drive_at, no_drive}
-use Rattle.sercos_law_run.specs.Typed.Typed.{AreTyped, AreTypedJobs, IsTypedRequest}
-use Rattle.sercos_law_run.specs.Held.Opened.{IsOpened}
 
 -- Each task of a drive is a job to it.
 pub record IsOf (address : ℕ) (jobs : List Job) (t : Task) : Type 0 where
@@ -71,20 +57,12 @@ unfolding has_other_data
 command_of r k raw valid below none =
     let d = drive_at r k in
     let here = no_other (λ e. (e.address == d.address) && is_no_command (block_attribute e.blocks raw)) r.drives k below none in
-    let mine : is_no_command (block_attribute d.blocks raw) ≡ false = both (d.address == d.address) (same_address d.address) here in
-    command_by (find_block raw (store_of d)) (ap is_no_command (attribute_store_of raw d (ring_drive r k d valid (found r.drives k below)).blocks) ∙ mine)
+    let mine : is_no_command (block_attribute d.blocks raw) ≡ false = both (d.address == d.address) (same_place d.address) here in
+    command_by (find_block raw (store_of d)) (ap is_no_command (attribute_store_of raw d (ring_drive r k d valid (get_drive r.drives k below)).blocks) ∙ mine)
   where
-    same_address : (a : ℕ) → (a == a) ≡ true
-    same_address a = grind (arith, nat_tests)
-
     both : (b : Bool) {c : Bool} → b ≡ true → (b && c) ≡ false → c ≡ false
     both true e none = none
     both false e none = absurd (cc)
-
-    found : (drives : List DriveView) (k : ℕ) → k < length drives → slice_get drives k ≡ Some (slice_index_or drives k no_drive)
-    found [] k below = absurd (omega (arith, below))
-    found (d ∷ drives) zero below = refl
-    found (d ∷ drives) (suc k) below = found drives k (omega (arith, below))
 
 sound : (r : RingView) (k : ℕ) (address : ℕ) (request : Request) → is_ring r ≡ true → k < length r.drives → address ≡ (drive_at r k).address
     → IsJob (λ address. has_address address r.drives) (λ address raw. has_other_data address raw r.drives) (record { drive = address; request = request }) → IsTypedRequest request

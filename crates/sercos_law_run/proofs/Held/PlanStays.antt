@@ -1,19 +1,6 @@
 -- Within a cycle of phases 3 and 4 the plan stays.
-use Rattle.std.proofs.Common.{◌≡◌, ◌⊎◌, inl, inr, ℕ, ◌+◌, ◌≤◌, Bool, true, false, List, [], ◌∷◌, length, Option, Some, None, refl, sym, ◌∙◌, ap, subst, arith, if◌then◌else◌}
-use Rattle.std.specs.Prelude.{is_some, slice_index}
+use Rattle.sercos_law_run.proofs.Words.{◌≡◌, ◌⊎◌, inl, inr, ℕ, ◌+◌, ◌≤◌, Bool, true, false, List, [], ◌∷◌, length, Option, Some, None, refl, sym, ◌∙◌, ap, subst, arith, if◌then◌else◌, is_some, slice_index, Job, PlanView, RingView, Known, known_of, Past, Call, place_of, is_taken, after_taken, after_at_of, after_at, settled, after_mdt, fall_of, next_phase, goes_on, new_epoch, still_waiting, after_end, settles, CycleView, Carry, Restarts, heard, passage, mst_in, ats_in, station_of, with_at, at_calls, looks_back, master_calls, own_mst, begins, at_start, behind_ats, behind_mdt}
 use Rattle.sercos_telegram.specs.declared.layout.Kind.TheVariants as kinds
-use Rattle.sercos_step.specs.declared.request.Job.{Job}
-use Rattle.sercos_timing.specs.Views.{PlanView}
-use Rattle.sercos_block.specs.Views.{RingView}
-use Rattle.sercos_seat.specs.Ring.{Known, known_of}
-use Rattle.sercos_master.specs.Annals.{Past, Call, place_of, is_taken, after_taken, after_at_of, after_at, settled, after_mdt, fall_of, next_phase, goes_on, new_epoch, still_waiting, after_end}
-use Rattle.sercos_master.proofs.Followed.{settles}
-use Rattle.sercos_trace.specs.Views.{CycleView}
-use Rattle.sercos_script.specs.Links.{Carry, Restarts}
-use Rattle.sercos_law_run.specs.Journal.Arrivals.{heard, passage}
-use Rattle.sercos_law_run.specs.Journal.Records.{mst_in, ats_in}
-use Rattle.sercos_law_run.specs.Journal.Runs.{station_of, with_at, at_calls, looks_back, master_calls, own_mst, begins}
-use Rattle.sercos_law_run.specs.Views.RingViews.{at_start, behind_ats, behind_mdt}
 use Rattle.sercos_law_run.proofs.Views.MasterSame.{begun_cycle}
 use Rattle.sercos_law_run.proofs.Views.ViewRuns.{started}
 

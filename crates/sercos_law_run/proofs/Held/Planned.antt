@@ -1,16 +1,5 @@
 -- What a plan of the master is, whatever its drives answered.
-use Rattle.std.proofs.Common.{◌≡◌, Some, Result, Ok, Err, refl, subst}
-use Rattle.std.specs.Prelude.{IfOk}
-use Rattle.sercos_timing.specs.Views.{WishesView, PlanView}
-use Rattle.sercos_timing.specs.Valid.{IsValid}
-use Rattle.sercos_plan.specs.Views.{ChainView}
-use Rattle.sercos_plan.specs.ChainOf.{planned}
-use Rattle.sercos_plan.specs.Least.{IsLeast}
-use Rattle.sercos_plan.proofs.AnswerLemmas.{planned_least}
-use Rattle.sercos_seat.specs.Agenda.{wishes_given}
-use Rattle.sercos_seat.specs.Ring.{Known, IsKnown}
-use Rattle.sercos_master.specs.Annals.{Past, IsPlanned, outcomes}
-use Rattle.sercos_master.proofs.Wishes.{is_valid}
+use Rattle.sercos_law_run.proofs.Words.{◌≡◌, Some, Result, Ok, Err, refl, subst, IfOk, WishesView, PlanView, IsValid, ChainView, planned, IsLeast, planned_least, wishes_given, Known, IsKnown, Past, IsPlanned, outcomes, is_valid}
 
 -- a plan is the least that fits what was read
 pub record IsPlanOf (w : WishesView) (plan : PlanView) : Type 0 where

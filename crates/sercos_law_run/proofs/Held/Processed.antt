@@ -1,11 +1,5 @@
 -- What a drive processes of an MDT: nothing, or the record that it took at its place.
-use Rattle.std.proofs.Common.{ℕ, ◌&&◌, List, Option, Some, None}
-use Rattle.std.specs.Prelude.{nat_le}
-use Rattle.std.proofs.lemmas.Bool.{cond_both}
-use Rattle.sercos_block.specs.Views.{DriveView}
-use Rattle.sercos_service_drive.specs.Log.{Processed, processed_record}
-use Rattle.sercos_drive.specs.declared.hearing.Told.{Told}
-use Rattle.sercos_drive.specs.Moments.{Moment, phase_in, cycle_in, has_mst, blocks_in, commands_in}
+use Rattle.sercos_law_run.proofs.Words.{ℕ, ◌&&◌, List, Option, Some, None, nat_le, cond_both, DriveView, Processed, processed_record, Told, Moment, phase_in, cycle_in, has_mst, blocks_in, commands_in}
 use Rattle.sercos_drive.specs.Annals.{processed_in}
 
 abbrev pub taken_at : DriveView → ℕ → List Moment → Told → Processed

@@ -1,34 +1,5 @@
 -- The phase rises only where no step is open.
-use Rattle.std.proofs.Common.{◌≡◌, inl, inr, ℕ, zero, suc, ◌+◌, ◌<◌, ◌≤◌, Bool, true, false, List, [], ◌∷◌, length, Option, Some, None, refl, sym, ap, ◌∙◌, subst, arith}
-use Rattle.std.specs.Prelude.{nat_le}
-use Rattle.std.proofs.lemmas.Bool.{and_parts, cases_eq, false≢true}
-use Rattle.std.proofs.lemmas.Bool.Decides.{nat_tests}
-use Rattle.sercos_step.specs.declared.request.Outcome.{Outcome}
-use Rattle.sercos_step.specs.Steps.{outcome_of}
-use Rattle.sercos_service_master.specs.Begun.{Begun, open_in, step_at}
-use Rattle.sercos_service_master.specs.Calls.{begun_by}
-use Rattle.sercos_timing.specs.Views.{PlanView}
-use Rattle.sercos_seat.specs.Agenda.{given, ended_well, reads_count, is_checked, is_ready}
-use Rattle.sercos_seat.specs.Channel.{outcomes_in}
-use Rattle.sercos_seat.specs.Ring.{Known, Task, member}
-use Rattle.sercos_seat.specs.Seats.{AreWaiting}
-use Rattle.sercos_master.specs.Annals.{Past, outcomes, is_done, is_done_in, all_checked, all_ready, past}
-use Rattle.sercos_master.proofs.Configured.{each_passes}
-use Rattle.sercos_law_run.specs.Agenda.Tasks.{IsTask, OfReads, OfWrites, Checks3, Lists3, Checks4, Lists4, OfWaiting, AreBegunTasks}
-
--- an outcome that says that a check has ended well is there
-none_given : (outs : List Outcome) (i : ℕ) → length outs ≤ i → given outs i ≡ []
-none_given [] zero past = refl
-none_given [] (suc i) past = refl
-none_given (o ∷ outs) zero past = absurd (omega (arith, past))
-none_given (o ∷ outs) (suc i) past = none_given outs i (omega (arith, past))
-
-pub well_there : (outs : List Outcome) (i : ℕ) → ended_well (given outs i) ≡ true → i < length outs
-well_there outs i well = by (nat_le (length outs) i) refl
-  where
-    by : (b : Bool) → nat_le (length outs) i ≡ b → i < length outs
-    by true past = absurd (false≢true (subst (λ (l : List ℕ). ended_well l ≡ true) (none_given outs i (grind (arith, nat_tests, past))) well))
-    by false inside = grind (arith, nat_tests, inside)
+use Rattle.sercos_law_run.proofs.Words.{◌≡◌, inl, inr, ℕ, ◌+◌, ◌<◌, ◌≤◌, true, List, [], ◌∷◌, length, Option, Some, None, refl, sym, ap, ◌∙◌, subst, arith, and_parts, cases_eq, false≢true, nat_tests, Outcome, outcome_of, Begun, open_in, step_at, begun_by, PlanView, given, ended_well, reads_count, is_checked, is_ready, outcomes_in, Known, Task, member, AreWaiting, ended_there, Past, outcomes, is_done, is_done_in, all_checked, all_ready, each_passes, IsTask, OfReads, OfWrites, Checks3, Lists3, Checks4, Lists4, OfWaiting, AreBegunTasks}
 
 -- No request is open if the drive's part of the phase is done.
 pub record IsDoneAt (s : Known) (k phase : ℕ) (outs : List Outcome) : Type 0 where
@@ -38,11 +9,11 @@ pub record IsDoneAt (s : Known) (k phase : ℕ) (outs : List Outcome) : Type 0 w
 
 closed_task : (s : Known) (k phase : ℕ) (plan : Option PlanView) (waiting : List Task) (outs : List Outcome) (t : Task) → AreWaiting waiting → IsDoneAt s k phase outs → t.phase ≤ phase → IsTask s k plan waiting outs t → ⊥
 closed_task s k phase plan waiting outs t waits done early task = elim (cases_eq phase 2) [
-  | inl two ↦ second two (done.checked two) (well_there outs (reads_count (member s k) + 11) (done.checked two)) task
+  | inl two ↦ second two (done.checked two) (ended_there outs (reads_count (member s k) + 11) (done.checked two)) task
   | inr other ↦ elim (cases_eq phase 3) [
     | inl three ↦
         let parts = and_parts (is_checked (member s k) outs) (ended_well (given outs (reads_count (member s k) + 12))) (done.ready three) in
-        third three (done.ready three) (well_there outs (reads_count (member s k) + 12) parts.1) task
+        third three (done.ready three) (ended_there outs (reads_count (member s k) + 12) parts.1) task
     | inr neither ↦ let low = done.below in first (omega (arith, other, neither, low)) task
   ]
 ]

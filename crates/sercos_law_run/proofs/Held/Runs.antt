@@ -1,58 +1,17 @@
 -- Through a run of a ring in which nothing is unseen: each drive and its channel are a run of views, the requests are sound, and in
 -- phases 3 and 4 each drive holds the plan.
-use Rattle.std.proofs.Common.{◌≡◌, ℕ, zero, suc, ◌+◌, ◌<◌, ◌≤◌, Bool, true, false, not, ◌&&◌, List, [], ◌∷◌, map, length, Option, Some, None, refl, sym, ◌∙◌, ap, ap₂, subst, arith, if◌then◌else◌}
-use Rattle.std.proofs.lemmas.Option.{same_Some}
-use Rattle.std.specs.Prelude.{slice_get, slice_index_or, IfSome, option_map}
-use Rattle.sercos_idn.specs.declared.attribute.Attribute.{Attribute}
-use Rattle.sercos_step.specs.declared.request.Request.{Request}
-use Rattle.sercos_step.specs.declared.request.Outcome.{Outcome}
-use Rattle.sercos_step.specs.declared.request.Job.{Job}
-use Rattle.sercos_timing.specs.Views.{WishesView, PlanView}
-use Rattle.sercos_block.specs.declared.block.Block.{Block}
-use Rattle.sercos_block.specs.Blocks.{is_fixed, is_protected}
-use Rattle.sercos_block.specs.Rings.{wishes_of}
-use Rattle.sercos_block.specs.Rules.{blocks_fault}
-use Rattle.sercos_block.specs.Stores.{IsStore, find_block, store_of}
-use Rattle.sercos_block.specs.Views.{DriveView, RingView}
-use Rattle.sercos_service_drive.specs.Writes.{AreAlike, without_data}
-use Rattle.sercos_service_master.specs.Begun.{open_in}
-use Rattle.sercos_service_master.specs.Calls.{begun_by}
-use Rattle.sercos_drive.specs.Heard.{DriveCall}
-use Rattle.sercos_drive.specs.Moments.{phase_in, blocks_in}
-use Rattle.sercos_drive.specs.Annals.{annals}
-use Rattle.sercos_trace.specs.Views.{CycleView}
-use Rattle.sercos_seat.specs.Agenda.{reads, wishes_given}
-use Rattle.sercos_seat.specs.Channel.{outcomes_in}
-use Rattle.sercos_seat.specs.Ring.{MemberView, Task, member, member_of, known_of, tasks_for, IsKnown}
-use Rattle.sercos_law_run.specs.Start.StartUp.{IsStoreOf, is_given, kept, start_up, Holds}
-use Rattle.sercos_law_run.specs.Start.Answers.{AreAnswers, HaveFactors}
-use Rattle.sercos_law_run.specs.Start.Later.{AreProtectedLater}
+use Rattle.sercos_law_run.proofs.Words.{◌≡◌, ℕ, zero, suc, ◌+◌, ◌<◌, ◌≤◌, Bool, true, false, not, ◌&&◌, List, [], ◌∷◌, map, length, Option, Some, None, refl, sym, ◌∙◌, ap, ap₂, subst, arith, if◌then◌else◌, same_Some, slice_get, slice_index_or, IfSome, option_map, Attribute, Request, Outcome, Job, WishesView, PlanView, Block, is_fixed, is_protected, wishes_of, blocks_fault, IsStore, find_block, store_of, DriveView, RingView, AreAlike, without_data, open_in, begun_by, DriveCall, phase_in, blocks_in, annals, CycleView, reads, wishes_given, outcomes_in, MemberView, Task, member, member_of, known_of, tasks_for, IsKnown, IsStoreOf, is_given, kept, start_up, Holds, AreAnswers, HaveFactors, AreProtectedLater, Past, IsPlanned, outcomes, settled, is_done, tasks_wait, jobs_waiting, Carry, Restarts, standing, before_mst, kept_in, with_begun, begun_in, all_writes, IsSound, AreSound, AreSmall, store_in, ats_in, no_drive, drive_at, with_restart, given_before, master_calls, looks_back, middle, IsNext, HasBegunTasks, start_numbers, at_start, behind_mst, behind_ats, behind_mdt, heard_last, request_of, after_mst, view_of, views_of, IsSpelled, AreProtected, HoldsThePlan, IsStored, AreStored, IsOpened, IsRing-is_ring, types, is_planned}
 use Rattle.sercos_law_run.proofs.Start.CheckPasses.{ring_drive}
-use Rattle.sercos_master.specs.Annals.{Past, IsPlanned, outcomes, begins, settled, is_done}
-use Rattle.sercos_master.proofs.Laws.{tasks_wait, jobs_waiting}
-use Rattle.sercos_script.specs.Links.{Carry, Restarts}
-use Rattle.sercos_law_channel.specs.Handshake.Views.{standing, before_mst, kept_in}
-use Rattle.sercos_law_channel.specs.Handshake.Epochs.{with_begun, begun_in}
-use Rattle.sercos_law_channel.specs.Handshake.WholeRun.{all_writes, IsSound, AreSound, AreSmall}
-use Rattle.sercos_law_channel.specs.Handshake.Values.{store_in}
-use Rattle.sercos_law_run.specs.Journal.Records.{ats_in}
-use Rattle.sercos_law_run.specs.Journal.Runs.{no_drive, drive_at, with_restart, given_before, master_calls, looks_back, middle, IsNext}
-use Rattle.sercos_law_run.specs.Agenda.Tasks.{HasBegunTasks}
-use Rattle.sercos_law_run.specs.Agenda.Writes.{start_numbers}
-use Rattle.sercos_law_run.specs.Views.RingViews.{at_start, behind_mst, behind_ats, behind_mdt, heard_last, request_of, after_mst, view_of, views_of}
+use Rattle.sercos_master.specs.Annals.{begins}
 use Rattle.sercos_law_run.proofs.Views.MasterSame.{AfterAts, ats_none, begun_cycle, begun_so, heard_so, same_started, turn_mdt}
-use Rattle.sercos_law_run.proofs.Views.Members.{AreHeardAs, member_is, members_count}
+use Rattle.sercos_law_run.proofs.Views.Members.{AreHeardAs, member_is, in_known}
 use Rattle.sercos_law_run.proofs.Views.Coupled.{ats_heard}
 use Rattle.sercos_law_run.proofs.Views.Received.{Agrees}
 use Rattle.sercos_law_run.proofs.Views.ViewRuns.{Sees, sees_first, sees_next, started, at_mst, behind}
-use Rattle.sercos_law_run.specs.Views.Spelled.{IsSpelled}
 use Rattle.sercos_law_run.proofs.Views.DriveSame.{IsSame, standing_at}
 use Rattle.sercos_law_run.proofs.Typed.Plans.{ring_known, ring_timed, all_members}
 use Rattle.sercos_law_run.proofs.Typed.Steps.{AreBegun}
 use Rattle.sercos_law_run.proofs.Typed.Begun.{tasks_so, IsTypedPast, typed_past}
-use Rattle.sercos_law_run.specs.Held.Held.{AreProtected, HoldsThePlan}
-use Rattle.sercos_law_run.specs.Held.Stored.{IsStored, AreStored}
-use Rattle.sercos_law_run.specs.Held.Opened.{IsOpened}
 use Rattle.sercos_law_run.proofs.Held.HoldsRuns.{holds_next, holds_first}
 use Rattle.sercos_law_run.proofs.Held.PlanStays.{plan_kept}
 use Rattle.sercos_law_run.proofs.Held.AnsweredRuns.{reads_answered}
@@ -61,12 +20,9 @@ use Rattle.sercos_law_run.proofs.Held.Planned.{IsPlanOf, plan_of}
 use Rattle.sercos_law_run.proofs.Held.Sound.{newest_sound, got_behind}
 use Rattle.sercos_law_run.proofs.Held.Agreed.{agrees_so, held_holds}
 use Rattle.sercos_law_run.proofs.Held.Extended.{Extends, heard_more, begun_same, answers_stay}
-use Rattle.sercos_block.proofs.RingLemmas.{IsRing-is_ring}
-use Rattle.sercos_block.proofs.TypeLemmas.{types}
 use Rattle.sercos_law_run.proofs.Cited.{begins_tasks, left_of}
 use Rattle.sercos_law_run.proofs.Start.AnswerLemmas.{asks_as_ring, typed_have_factors}
 use Rattle.sercos_law_run.proofs.Start.LaterLemmas.{start_up_is_protected}
-use Rattle.sercos_master.proofs.Planned.{is_planned}
 
 -- a plan of zeros
 abbrev no_plan : PlanView
@@ -86,7 +42,7 @@ pub all_first : (r : RingView) (jobs : List Job) (carry : Carry) (restarts : Res
 all_first r jobs carry restarts k below = record { sees = sees_first r jobs carry restarts k; sound = tt; stored = tt; holds = holds_first r jobs k (store_of (drive_at r k)) [] }
 
 -- the drive at a place, in both ways of saying it
-get_drive : (drives : List DriveView) (k : ℕ) → k < length drives → slice_get drives k ≡ Some (slice_index_or drives k no_drive)
+pub get_drive : (drives : List DriveView) (k : ℕ) → k < length drives → slice_get drives k ≡ Some (slice_index_or drives k no_drive)
 get_drive [] k below = absurd (omega (arith, below))
 get_drive (d ∷ drives) zero below = refl
 get_drive (d ∷ drives) (suc k) below = get_drive drives k (omega (arith, below))
@@ -138,9 +94,6 @@ module _ (r : RingView) (jobs : List Job) (carry : Carry) (restarts : Restarts) 
   pub s_known : IsKnown (known_of r)
   s_known = ring_known IsRing-is_ring r opened.valid opened.typed
 
-  inside : (k : ℕ) → k < length r.drives → k < length (known_of r).drives
-  inside k below = let count = members_count r in omega (arith, below, count)
-
   -- THE PLAN is that of the ring, if all drives have answered
   pub plan_is : (p : Past) (plan : PlanView) → IsPlanned (known_of r) p → p.plan ≡ Some plan → wishes_given (known_of r) (outcomes p) ≡ wishes_of r → IsPlanOf (wishes_of r) plan
   plan_is p plan planned has same = subst (λ (w : WishesView). IsPlanOf w plan) same (plan_of (known_of r) p plan s_known planned has)
@@ -160,7 +113,7 @@ module _ (r : RingView) (jobs : List Job) (carry : Carry) (restarts : Restarts) 
       let stands = all k below in
       let rules = (ring_drive r k (drive_at r k) opened.valid (drive_got r k below)).blocks in
       subst (λ (m : MemberView). AreAnswers (drive_at r k) (reads m) (outcomes (looks_back r jobs (master_calls r carry restarts j)) k)) (member_is r k)
-      (reads_answered r jobs carry restarts k j (store_of (drive_at r k)) plan (inside k below) (small k below) rules stands.sees stands.sound stands.stored has)
+      (reads_answered r jobs carry restarts k j (store_of (drive_at r k)) plan (in_known r k below) (small k below) rules stands.sees stands.sound stands.stored has)
 
   -- A CYCLE
   module _ (t : CycleView) (j : List CycleView) (next : IsNext r jobs carry restarts t j) (clear : t.unseen ≡ 0)
@@ -246,7 +199,7 @@ module _ (r : RingView) (jobs : List Job) (carry : Carry) (restarts : Restarts) 
 
     -- the requests that begin
     tasks_then : (k : ℕ) → k < length r.drives → HasBegunTasks (known_of r) (behind_mdt r jobs carry restarts t.sent j) k
-    tasks_then k below = begins_tasks (known_of r) (tasks_for (known_of r) jobs) (middle r carry restarts t.sent j) k (inside k below)
+    tasks_then k below = begins_tasks (known_of r) (tasks_for (known_of r) jobs) (middle r carry restarts t.sent j) k (in_known r k below)
 
     -- and they are typed
     typed_then : IsTypedPast (behind_mdt r jobs carry restarts t.sent j)
@@ -274,7 +227,7 @@ module _ (r : RingView) (jobs : List Job) (carry : Carry) (restarts : Restarts) 
             (begun_by ((behind_ats r jobs carry restarts t.sent j).calls k)) is (subst AreBegun is (typed_then.begun k)).0
 
     pub rests : (k : ℕ) → k < length r.drives → is_done (known_of r) (behind_mdt r jobs carry restarts t.sent j) ≡ true → open_in (begun_by ((behind_mdt r jobs carry restarts t.sent j).calls k)) ≡ None
-    rests k below = rests_so (known_of r) (behind_mdt r jobs carry restarts t.sent j) k (inside k below) (jobs_waiting (known_of r) jobs (middle r carry restarts t.sent j) k) (tasks_then k below)
+    rests k below = rests_so (known_of r) (behind_mdt r jobs carry restarts t.sent j) k (in_known r k below) (jobs_waiting (known_of r) jobs (middle r carry restarts t.sent j) k) (tasks_then k below)
 
     -- what the drive keeps after the MST's place
     pub kept_at_mst : (k : ℕ) → k < length r.drives → IsSame (drive_at r k) (after_mst r carry restarts t.sent j k)
@@ -298,6 +251,6 @@ module _ (r : RingView) (jobs : List Job) (carry : Carry) (restarts : Restarts) 
           sees = sees;
           sound = sound;
           stored = (before.stored, stored k below);
-          holds = holds_next r jobs carry restarts (λ i. tasks_wait (member (known_of r) i).address 1 jobs) k (inside k below)
+          holds = holds_next r jobs carry restarts (λ i. tasks_wait (member (known_of r) i).address 1 jobs) k (in_known r k below)
               (store_of (drive_at r k)) (small k below) guard t j next before.sees sees sound before.holds;
         }

@@ -1,25 +1,9 @@
 -- Each request that the master begins is one that a transfer takes.
-use Rattle.std.proofs.Common.{◌≡◌, ℕ, zero, suc, List, [], ◌∷◌, drop, Option, Some, None, refl, sym, ap, ◌∙◌, subst}
-use Rattle.std.proofs.lemmas.Option.{same_Some}
-use Rattle.std.specs.Prelude.{slice_get}
-use Rattle.sercos_idn.specs.declared.idn.Idn.{Idn}
+use Rattle.sercos_law_run.proofs.Words.{◌≡◌, ℕ, zero, suc, List, [], ◌∷◌, drop, Option, Some, None, refl, sym, ap, ◌∙◌, subst, same_Some, slice_get, Idn, Request, Outcome, PlanView, Block, blocks_fault, store_of, DriveView, Begun, idn, Known, Task, member, IsSound, IsTask, OfReads, OfWrites, Checks3, Lists3, Checks4, Lists4, OfWaiting, AreBegunTasks, IsTypedRequest}
 use Rattle.sercos_idn.specs.Attributes.{attribute_of}
-use Rattle.sercos_step.specs.declared.request.Request.{Request}
 use Rattle.sercos_step.specs.declared.request.Request.TheVariants as request
-use Rattle.sercos_step.specs.declared.request.Outcome.{Outcome}
-use Rattle.sercos_timing.specs.Views.{PlanView}
-use Rattle.sercos_block.specs.declared.block.Block.{Block}
 use Rattle.sercos_block.specs.BuiltIns.{built_in}
-use Rattle.sercos_block.specs.Rules.{blocks_fault}
-use Rattle.sercos_block.specs.Stores.{store_of}
-use Rattle.sercos_block.specs.Views.{DriveView}
-use Rattle.sercos_service_master.specs.Begun.{Begun}
-use Rattle.sercos_seat.specs.Agenda.{idn}
-use Rattle.sercos_seat.specs.Ring.{Known, Task, member}
 use Rattle.sercos_law_run.proofs.Start.BlockFinds.{find_store_of}
-use Rattle.sercos_law_channel.specs.Handshake.WholeRun.{IsSound}
-use Rattle.sercos_law_run.specs.Agenda.Tasks.{IsTask, OfReads, OfWrites, Checks3, Lists3, Checks4, Lists4, OfWaiting, AreBegunTasks}
-use Rattle.sercos_law_run.specs.Typed.Typed.{IsTypedRequest}
 use Rattle.sercos_law_run.proofs.Held.AnsweredRuns.{IsRead, Time, Attribute, is_read_request}
 use Rattle.sercos_law_run.proofs.Agenda.WritesDone.{writes_data}
 

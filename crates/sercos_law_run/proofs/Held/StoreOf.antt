@@ -1,23 +1,9 @@
 -- Whatever a drive is given, its blocks are its store, whatever was written to it.
-use Rattle.std.proofs.Common.{◌≡◌, ℕ, true, List, [], ◌∷◌, None, refl}
-use Rattle.std.specs.Prelude.{IfSome}
-use Rattle.sercos_block.specs.declared.block.Block.{Block}
-use Rattle.sercos_block.specs.Stores.{find_block, put_fault, store_of, are_ascending}
-use Rattle.sercos_block.specs.Views.{DriveView}
-use Rattle.sercos_service_drive.specs.Log.{Processed}
-use Rattle.sercos_service_drive.specs.Writes.{Write, AreThose, added_on}
-use Rattle.sercos_drive.specs.Heard.{DriveCall, Mst, Mdt, Restart, mdt_got}
-use Rattle.sercos_drive.specs.Moments.{phase_in, records_in, blocks_in, blocks_after, commands_in}
-use Rattle.sercos_drive.specs.Annals.{annals}
-use Rattle.sercos_law_run.specs.Start.StartUp.{IsStoreOf}
+use Rattle.sercos_law_run.proofs.Words.{◌≡◌, ℕ, true, List, [], ◌∷◌, refl, Block, store_of, are_ascending, DriveView, added_on, DriveCall, Mst, Mdt, mdt_got, phase_in, records_in, blocks_in, blocks_after, commands_in, annals, IsStoreOf, allowed}
+use Rattle.sercos_drive.specs.Heard.{Restart}
 use Rattle.sercos_law_run.proofs.Cited.{handed_those}
 use Rattle.sercos_law_run.proofs.Held.Processed.{processed_keeps, taken_at}
 use Rattle.sercos_law_run.proofs.Start.LaterLemmas.{blocks_keep}
-use Rattle.sercos_service_drive.proofs.AllowedWrites.{allowed}
-
--- an accepted write was allowed
-abbrev pub AllowsWrites : Type 0
-AllowsWrites = (t : Processed) (h : List Processed) → AreThose t.blocks h → IfSome (added_on t h) (λ (w : Write). put_fault (find_block w.raw t.blocks) t.phase w.bytes ≡ None)
 
 abbrev pub IsOf : DriveView → List Block → Type 0
 IsOf d blocks = IsStoreOf d blocks × (are_ascending blocks ≡ true)

@@ -1,11 +1,6 @@
 -- Where no arrival is unseen, a station hears what was sent, or nothing.
-use Rattle.std.proofs.Common.{◌≡◌, inl, inr, ◌⊎◌, ℕ, zero, suc, ◌<◌, Bool, true, false, not, ◌&&◌, List, [], ◌∷◌, Option, Some, None, is_none, refl, sym, ◌∙◌, ap, arith}
-use Rattle.std.specs.Prelude.{option_and_then, is_some, IfSome}
-use Rattle.sercos_hdlc.specs.Reason.{reason_of}
-use Rattle.sercos_hdlc.specs.Stuffed.{frame_of}
-use Rattle.sercos_script.specs.declared.link.Passage.{Passage}
-use Rattle.sercos_law_run.specs.Journal.Arrivals.{arrival, heard, content_in, is_unseen, are_same, sum_below}
-use Rattle.sercos_script.specs.Links.{Carry, IsQuiet}
+use Rattle.sercos_law_run.proofs.Words.{◌≡◌, inl, inr, ◌⊎◌, ℕ, zero, suc, ◌<◌, Bool, true, false, not, ◌&&◌, List, [], ◌∷◌, Option, Some, None, is_none, refl, sym, ◌∙◌, ap, arith, option_and_then, is_some, IfSome, reason_of, frame_of, Passage, arrival, heard, are_same, sum_below, Carry, IsQuiet}
+use Rattle.sercos_law_run.specs.Journal.Arrivals.{content_in, is_unseen}
 
 pub same_bits : (xs ys : List Bool) → are_same xs ys ≡ true → xs ≡ ys
 same_bits [] [] same = refl

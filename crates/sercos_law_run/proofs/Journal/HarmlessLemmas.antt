@@ -1,12 +1,5 @@
 -- Cuts are harmless, since no frame begins another one.
-use Rattle.std.proofs.Common.{◌≡◌, Bool, List, [], ◌∷◌, ◌++◌, Option, Some, None, option_and_then, refl, sym, ◌∙◌, ap, subst, append_assoc, append-nil}
-use Rattle.std.specs.Prelude.{IfSome}
-use Rattle.sercos_hdlc.specs.Reason.{reason_of}
-use Rattle.sercos_hdlc.proofs.FramingLemmas.{no_longer_frame}
-use Rattle.sercos_hdlc.proofs.ReasonLemmas.{IsFrame-reason_none}
-use Rattle.sercos_script.specs.Links.{Carry}
-use Rattle.sercos_script.specs.Cuts.{IsCut, OnlyCuts}
-use Rattle.sercos_law_run.specs.Journal.Harmless.{BothAreHarmless, CutsAreHarmless, IsHarmlessAfterCuts, QuietIsHarmless}
+use Rattle.sercos_law_run.proofs.Words.{◌≡◌, Bool, List, [], ◌∷◌, ◌++◌, Option, Some, None, option_and_then, refl, sym, ◌∙◌, ap, subst, append_assoc, append-nil, IfSome, reason_of, no_longer_frame, IsFrame-reason_none, Carry, IsCut, OnlyCuts, BothAreHarmless, CutsAreHarmless, IsHarmlessAfterCuts, QuietIsHarmless}
 
 -- bits that are a frame and begin one are that one
 same_frame : (bits rest : List Bool) → reason_of bits ≡ None → reason_of (bits ++ rest) ≡ None → rest ≡ []

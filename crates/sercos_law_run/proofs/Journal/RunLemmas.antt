@@ -1,17 +1,5 @@
 -- The next cycle of a run, as a relation and as a function.
-use Rattle.std.proofs.Common.{◌≡◌, ℕ, suc, zero, true, false, List, [], ◌∷◌, ◌++◌, length, Option, Some, None, refl, sym, ◌∙◌, ap, arith}
-use Rattle.sercos_step.specs.declared.request.Job.{Job}
-use Rattle.sercos_block.specs.Views.{RingView}
-use Rattle.sercos_trace.specs.Views.{SentView, CycleView, EventsView}
-use Rattle.sercos_trace.specs.declared.record.Move.{Move}
-use Rattle.sercos_drive.specs.Says.{Said}
-use Rattle.sercos_seat.specs.Ring.{known_of}
-use Rattle.sercos_master.specs.Annals.{Call}
-use Rattle.sercos_master.specs.Says.{Sent, mst_said, mdt_said}
-use Rattle.sercos_master.specs.Reports.{events_told}
-use Rattle.sercos_script.specs.Links.{Carry, Restarts}
-use Rattle.sercos_law_run.specs.Journal.Records.{mst_in, ats_in, mdt_in}
-use Rattle.sercos_law_run.specs.Journal.Runs.{drive_at, master_calls, given_before, begin_calls, mid_calls, at_mst, at_mdt, said_below, contents, content_of, ats_said, sent_mst, sent_mdt, moves_below, unseen_in, looks_back, restart_events, IsRun, IsNext, next_record, run_of}
+use Rattle.sercos_law_run.proofs.Words.{◌≡◌, ℕ, suc, zero, true, false, List, [], ◌∷◌, ◌++◌, length, Option, Some, None, refl, sym, ◌∙◌, ap, arith, Job, RingView, SentView, CycleView, EventsView, Move, Said, known_of, Call, Sent, mst_said, mdt_said, events_told, Carry, Restarts, mst_in, ats_in, mdt_in, drive_at, master_calls, given_before, begin_calls, mid_calls, at_mst, at_mdt, said_below, contents, content_of, ats_said, sent_mst, sent_mdt, moves_below, unseen_in, looks_back, restart_events, IsRun, IsNext, next_record, run_of}
 
 -- what is read off the telegrams of a cycle
 pub ats_in-said : (rate : ℕ) (ats : List Said) (mdt : Option Sent) → ats_in (ats_said rate ats ++ sent_mdt rate mdt) ≡ contents ats

@@ -1,46 +1,20 @@
 -- The station of a drive is found by its address, since no two drives have one address.
-use Rattle.std.proofs.Common.{◌≡◌, ℕ, suc, zero, ◌+◌, ◌<◌, ◌≤◌, nat_le, Bool, true, false, ◌&&◌, ◌||◌, List, [], ◌∷◌, ◌++◌, length, Option, Some, None, refl, sym, ◌∙◌, ap, subst, arith, if◌then◌else◌}
-use Rattle.std.specs.Prelude.{slice_index, slice_index_or, ◌==◌, unwrap_or, is_none}
-use Rattle.std.specs.List.{list_any}
-use Rattle.std.proofs.lemmas.Bool.{eq-eqb, leb-true, not-true}
-use Rattle.std.proofs.lemmas.List.Folds.{list_any-append}
-use Rattle.sercos_block.specs.Views.{DriveView, RingView}
+use Rattle.sercos_law_run.proofs.Words.{◌≡◌, ℕ, suc, zero, ◌+◌, ◌<◌, ◌≤◌, nat_le, Bool, true, false, ◌||◌, List, [], ◌∷◌, ◌++◌, length, Option, Some, None, refl, sym, ◌∙◌, ap, subst, arith, if◌then◌else◌, slice_index, slice_index_or, ◌==◌, unwrap_or, list_any, eq-eqb, leb-true, not-true, or_parts, list_any-append, DriveView, RingView, blocks_fault, DriveCall, annals, Said, drive_says, sends, no_drive, drive_at, station_from, station_of, none_of, and_left, and_right}
 use Rattle.sercos_block.specs.Rings.{has_address, has_blocks, is_drive, are_drives, has_drives, is_ring}
-use Rattle.sercos_block.specs.Rules.{blocks_fault}
-use Rattle.sercos_drive.specs.Heard.{DriveCall}
-use Rattle.sercos_drive.specs.Annals.{annals}
-use Rattle.sercos_drive.specs.Says.{Said, drive_says, sends}
-use Rattle.sercos_law_run.specs.Journal.Runs.{no_drive, drive_at, station_from, station_of}
-
-first_true : (a b : Bool) → (a && b) ≡ true → a ≡ true
-first_true true b is = refl
-first_true false b is = is
-
-second_true : (a b : Bool) → (a && b) ≡ true → b ≡ true
-second_true true b is = is
-second_true false b is = cc
-
-or_first : (a b : Bool) → (a || b) ≡ false → a ≡ false
-or_first false b is = refl
-or_first true b is = is
-
-or_second : (a b : Bool) → (a || b) ≡ false → b ≡ false
-or_second false b is = is
-or_second true b is = cc
 
 shorter : (a : ℕ) (before : List DriveView) (d : DriveView) → has_address a (before ++ d ∷ []) ≡ false → (has_address a before ≡ false) × ((d.address == a) ≡ false)
 unfolding has_address
 shorter a before d none =
     let both : (list_any (λ (x : DriveView). x.address == a) before || ((d.address == a) || false)) ≡ false = sym (list_any-append (λ (x : DriveView). x.address == a) before (d ∷ [])) ∙ none in
-    (or_first _ _ both, or_first _ _ (or_second _ _ both))
+    ((or_parts _ _ both).0, (or_parts _ _ (or_parts _ _ both).1).0)
 
 -- no drive has the address of one before it
 not_before : (before drives : List DriveView) (k : ℕ) → are_drives before drives ≡ true → k < length drives → has_address (slice_index_or drives k no_drive).address before ≡ false
 unfolding are_drives is_drive
 not_before before [] k are below = absurd (omega arith)
-not_before before (d ∷ drives) zero are below = not-true _ (first_true _ _ (first_true _ _ are))
+not_before before (d ∷ drives) zero are below = not-true _ (and_left _ _ (and_left _ _ are))
 not_before before (d ∷ drives) (suc k) are below =
-    (shorter (slice_index_or drives k no_drive).address before d (not_before (before ++ d ∷ []) drives k (second_true _ _ are) (omega arith))).0
+    (shorter (slice_index_or drives k no_drive).address before d (not_before (before ++ d ∷ []) drives k (and_right _ _ are) (omega arith))).0
 
 pub station_found : (before drives : List DriveView) (base k : ℕ) → are_drives before drives ≡ true → k < length drives → station_from base drives (slice_index_or drives k no_drive).address ≡ base + k
 unfolding are_drives
@@ -48,17 +22,17 @@ station_found before [] base k are below = absurd (omega arith)
 station_found before (d ∷ drives) base zero are below = rw (eq-eqb d.address d.address refl) (omega arith)
 station_found before (d ∷ drives) base (suc k) are below =
     let other : (d.address == (slice_index_or drives k no_drive).address) ≡ false =
-    (shorter (slice_index_or drives k no_drive).address before d (not_before (before ++ d ∷ []) drives k (second_true _ _ are) (omega arith))).1 in
-    let found = station_found (before ++ d ∷ []) drives (base + 1) k (second_true _ _ are) (omega arith) in
+    (shorter (slice_index_or drives k no_drive).address before d (not_before (before ++ d ∷ []) drives k (and_right _ _ are) (omega arith))).1 in
+    let found = station_found (before ++ d ∷ []) drives (base + 1) k (and_right _ _ are) (omega arith) in
     rw (other, found) (omega arith)
 
 pub drives_so : (r : RingView) → is_ring r ≡ true → are_drives [] r.drives ≡ true
 unfolding is_ring has_drives
-drives_so r is = first_true _ _ (second_true _ _ (second_true _ _ (first_true _ _ (second_true _ _ is))))
+drives_so r is = and_left _ _ (and_right _ _ (and_right _ _ (and_left _ _ (and_right _ _ is))))
 
 pub few_drives : (r : RingView) → is_ring r ≡ true → nat_le (length r.drives) 64 ≡ true
 unfolding is_ring has_drives
-few_drives r is = first_true _ _ (second_true _ _ (first_true _ _ (second_true _ _ is)))
+few_drives r is = and_left _ _ (and_right _ _ (and_left _ _ (and_right _ _ is)))
 
 -- an AT has its drive's address
 pub said_address : (d : DriveView) (rate : ℕ) (h : List DriveCall) (s : Said) → drive_says d rate h ≡ Some s → slice_index s.content 0 ≡ d.address
@@ -75,19 +49,15 @@ station_is r k h s valid below says =
     rw (said_address (drive_at r k) r.rate h s says, found) (omega arith)
 
 -- the blocks of each drive keep their rules
-no_fault : {A : Type 0} (o : Option A) → is_none o ≡ true → o ≡ None
-no_fault None none = refl
-no_fault (Some x) none = cc
-
 blocks_of : (before drives : List DriveView) (k : ℕ) (x : DriveView) → are_drives before drives ≡ true → k < length drives → has_blocks (slice_index_or drives k x) ≡ true
 unfolding are_drives is_drive
 blocks_of before [] k x are below = absurd (omega arith)
-blocks_of before (d ∷ drives) zero x are below = first_true _ _ (second_true _ _ (second_true _ _ (first_true _ _ are)))
-blocks_of before (d ∷ drives) (suc k) x are below = blocks_of (before ++ d ∷ []) drives k x (second_true _ _ are) (omega arith)
+blocks_of before (d ∷ drives) zero x are below = and_left _ _ (and_right _ _ (and_right _ _ (and_left _ _ are)))
+blocks_of before (d ∷ drives) (suc k) x are below = blocks_of (before ++ d ∷ []) drives k x (and_right _ _ are) (omega arith)
 
 pub sound_blocks : (r : RingView) (k : ℕ) (x : DriveView) → is_ring r ≡ true → k < length r.drives → x ≡ slice_index_or r.drives k x
     → (blocks_fault [] x.blocks ≡ None) × (length x.blocks ≤ 36)
 unfolding has_blocks
 sound_blocks r k x valid below is =
     let has : has_blocks x ≡ true = subst (λ (y : DriveView). has_blocks y ≡ true) (sym is) (blocks_of [] r.drives k x (drives_so r valid) below) in
-    (no_fault _ (second_true _ _ has), leb-true (length x.blocks) 36 (first_true _ _ has))
+    (none_of _ (and_right _ _ has), leb-true (length x.blocks) 36 (and_left _ _ has))

@@ -1,29 +1,12 @@
 -- Runs of worked rings, computed from the definitions, down to the bits of each telegram.
-use Rattle.std.proofs.Common.{◌≡◌, ℕ, ◌+◌, ◌==◌, Bool, false, List, [], ◌∷◌, length, Option, Some, None, if◌then◌else◌, refl, ap, arith, take, drop}
-use Rattle.std.specs.Prelude.{pos, negsuc, slice_index_or}
-use Rattle.std.proofs.lemmas.Bool.{true≢false}
-use Rattle.sercos_idn.specs.Attributes.{attribute_of}
-use Rattle.sercos_block.specs.Views.{DriveView, RingView}
+use Rattle.sercos_law_run.proofs.Words.{◌≡◌, ℕ, ◌+◌, ◌==◌, Bool, false, List, [], ◌∷◌, length, Option, Some, None, if◌then◌else◌, refl, ap, arith, take, drop, pos, negsuc, slice_index_or, true≢false, attribute_of, DriveView, RingView, Job, Carry, carried_clean, never_restarts, unflipped_only_cuts, Damage, Lose, Flip, Cut, Deaf, Fault, Kind, Outcome, Fall, SentView, CycleView, frame_of, IsHarmless, IsHarmlessAfterCuts, IsClear, run_of, Move, drive}
 use Rattle.sercos_telegram.specs.declared.layout.Kind.TheVariants as kinds
-use Rattle.sercos_step.specs.declared.request.Job.{Job}
 use Rattle.sercos_step.specs.declared.request.Request.TheVariants as request
-use Rattle.sercos_script.specs.Links.{Carry, carried_clean, never_restarts}
-use Rattle.sercos_script.proofs.CutLemmas.{unflipped_only_cuts}
-use Rattle.sercos_script.specs.declared.fault.Damage.{Damage}
-use Rattle.sercos_script.specs.declared.fault.Damage.TheVariants.{Lose, Flip, Cut, Deaf, Restart}
-use Rattle.sercos_script.specs.declared.fault.Fault.{Fault}
+use Rattle.sercos_script.specs.declared.fault.Damage.TheVariants.{Restart}
 use Rattle.sercos_script.specs.Scripts.{carried, restarts_at, acts}
-use Rattle.sercos_telegram.specs.declared.layout.Kind.{Kind}
-use Rattle.sercos_step.specs.declared.request.Outcome.{Outcome}
 use Rattle.sercos_step.specs.declared.request.Outcome.TheVariants as outcome
-use Rattle.sercos_trace.specs.declared.events.Fall.{Fall}
 use Rattle.sercos_trace.specs.declared.events.Fall.TheVariants as fall
-use Rattle.sercos_trace.specs.Views.{SentView, CycleView}
-use Rattle.sercos_hdlc.specs.Stuffed.{frame_of}
-use Rattle.sercos_law_run.specs.Journal.Harmless.{IsHarmless, IsHarmlessAfterCuts}
-use Rattle.sercos_law_run.specs.Journal.Runs.{IsClear, run_of}
 use Rattle.sercos_law_run.proofs.Journal.HarmlessLemmas.{cuts_are_harmless, quiet_is_harmless}
-use Rattle.sercos_trace.specs.declared.record.Move.{Move}
 use Rattle.sercos_law_run.specs.Journal.Arrivals as Arrivals
 use Rattle.sercos_model.specs.Bits as Bits
 use Rattle.sercos_model.specs.CheckSequence as CheckSequence
@@ -44,7 +27,6 @@ use Rattle.sercos_command.specs.Calls as Calls
 use Rattle.sercos_service_drive.specs.Replies as Replies
 use Rattle.sercos_plan.specs.ChainOf as ChainOf
 use Rattle.sercos_plan.specs.LeastTimes as LeastTimes
-use Rattle.sercos_drive.proofs.Worked.{drive}
 use Rattle.sercos_drive.specs.Heard as Heard
 use Rattle.sercos_drive.specs.Says as Says
 

@@ -1,29 +1,6 @@
 -- After a fall, if no later cycle is disturbed.
-use Rattle.std.proofs.Common.{◌≡◌, ◌⊎◌, inl, inr, ◌≤◌, Bool, true, false, List, ◌∷◌, ◌++◌, length, Option, Some, None, refl, sym, ap, ◌∙◌, subst, arith, if◌then◌else◌}
-use Rattle.std.specs.Prelude.{is_some}
-use Rattle.std.specs.Option.{option_or}
-use Rattle.sercos_step.specs.declared.request.Job.{Job}
-use Rattle.sercos_block.specs.Views.{RingView}
-use Rattle.sercos_trace.specs.Views.{CycleView, EventsView}
-use Rattle.sercos_trace.specs.declared.events.Fall.{Fall}
-use Rattle.sercos_trace.specs.declared.events.Stop.{Stop}
-use Rattle.sercos_seat.specs.Ring.{known_of}
-use Rattle.sercos_master.specs.Annals.{fall_of}
-use Rattle.sercos_master.specs.Reports.{restart_told}
-use Rattle.sercos_script.specs.Links.{Carry, Restarts}
-use Rattle.sercos_law_run.specs.Journal.Runs.{looks_back, master_calls, no_events, IsClear, IsNext, IsRun}
-use Rattle.sercos_law_run.specs.Views.RingViews.{behind_mdt}
-use Rattle.sercos_law_run.specs.Held.Opened.{IsOpened}
-use Rattle.sercos_law_run.specs.Undisturbed.Ends.{StaysAtItsEnd}
-use Rattle.sercos_law_run.specs.Undisturbed.EpochStarts.{StartsAtFall, StartsAtRestart, StartsEpoch}
-use Rattle.sercos_law_run.specs.Undisturbed.Reports.{ReportsInTime}
-use Rattle.sercos_law_run.specs.Undisturbed.StartUps.{AgesUndisturbed, AnswersUndisturbed, NoneFalls, StaysUpUndisturbed, TellsNoFallUndisturbed}
-use Rattle.sercos_law_run.specs.Undisturbed.StopsInTwo.{StopsForTheCycleTime, StopsForThePlan}
-use Rattle.sercos_law_run.specs.Undisturbed.StopsLater.{EndsStartUp, IsRight, RisesIfRight, StopsForTheCheck}
-use Rattle.sercos_law_run.specs.Undisturbed.Undisturbed.{AreUndisturbed}
-use Rattle.sercos_law_run.specs.Undisturbed.WholeRuns.{HasTold, StopsForCause}
+use Rattle.sercos_law_run.proofs.Words.{◌≡◌, ◌⊎◌, inl, inr, ◌≤◌, Bool, true, false, List, ◌∷◌, ◌++◌, length, Option, Some, None, refl, sym, ap, ◌∙◌, subst, arith, if◌then◌else◌, is_some, option_or, Job, RingView, CycleView, EventsView, Fall, Stop, known_of, fall_of, restart_told, Carry, Restarts, looks_back, master_calls, no_events, IsClear, IsNext, IsRun, behind_mdt, IsOpened, StaysAtItsEnd, StartsAtFall, StartsAtRestart, StartsEpoch, ReportsInTime, AgesUndisturbed, AnswersUndisturbed, NoneFalls, StaysUpUndisturbed, TellsNoFallUndisturbed, StopsForTheCycleTime, StopsForThePlan, EndsStartUp, IsRight, RisesIfRight, StopsForTheCheck, AreUndisturbed, HasTold, StopsForCause, AfterFall, StartsAgain}
 use Rattle.sercos_law_run.proofs.Undisturbed.WholeRuns.{caused}
-use Rattle.sercos_law_run.specs.Recovery.AfterFalls.{AfterFall, StartsAgain}
 use Rattle.sercos_law_run.proofs.Recovery.EpochStops.{once_since, told_since}
 use Rattle.sercos_law_run.proofs.Recovery.Stretches.{rest_runs}
 use Rattle.sercos_law_run.proofs.Undisturbed.Cited.{fits_in_three, own_fits_in_four}

@@ -1,23 +1,6 @@
 -- A step that was open in the first undisturbed cycle ends soon, if the drive isn't in phase 0.
-use Rattle.std.proofs.Common.{◌≡◌, ◌⊎◌, inl, inr, ℕ, ◌+◌, ◌<◌, ◌≤◌, Bool, true, false, List, [], ◌∷◌, ◌++◌, length, Option, None, refl, sym, ap, subst, arith, if◌then◌else◌}
-use Rattle.std.specs.Prelude.{◌==◌, is_some}
-use Rattle.sercos_step.specs.declared.request.Job.{Job}
-use Rattle.sercos_block.specs.Views.{RingView}
-use Rattle.sercos_service_master.specs.Begun.{open_in, steps_in}
-use Rattle.sercos_trace.specs.Views.{CycleView}
-use Rattle.sercos_trace.specs.declared.events.Fall.{Fall}
-use Rattle.sercos_seat.specs.Ring.{known_of}
-use Rattle.sercos_master.specs.Annals.{fall_of}
-use Rattle.sercos_script.specs.Links.{Carry, Restarts}
-use Rattle.sercos_law_channel.specs.Handshake.Epochs.{begun_in, epoch_begun, unless_restart}
-use Rattle.sercos_law_channel.specs.Handshake.Views.{View}
-use Rattle.sercos_law_channel.specs.Pace.Ages.{age_by, age_in}
-use Rattle.sercos_law_run.specs.Journal.Runs.{drive_at, IsClear, IsRun}
-use Rattle.sercos_law_run.specs.Views.RingViews.{behind_mdt, view_of, views_of}
-use Rattle.sercos_law_run.specs.Held.Opened.{IsOpened}
-use Rattle.sercos_law_run.specs.Undisturbed.Undisturbed.{IsUndisturbed}
+use Rattle.sercos_law_run.proofs.Words.{◌≡◌, ◌⊎◌, inl, inr, ℕ, ◌+◌, ◌<◌, ◌≤◌, Bool, true, false, List, [], ◌∷◌, ◌++◌, length, Option, None, refl, sym, ap, subst, arith, if◌then◌else◌, ◌==◌, is_some, Job, RingView, open_in, steps_in, CycleView, Fall, known_of, fall_of, Carry, Restarts, begun_in, epoch_begun, unless_restart, View, age_by, age_in, drive_at, IsClear, IsRun, behind_mdt, view_of, views_of, IsOpened, IsUndisturbed, IsDown, IsStretch}
 use Rattle.sercos_law_run.proofs.Undisturbed.PhaseTwo.{listed_all}
-use Rattle.sercos_law_run.specs.Recovery.Stretches.{IsDown, IsStretch}
 use Rattle.sercos_law_run.proofs.Recovery.DownSince.{shorter}
 use Rattle.sercos_law_run.proofs.Recovery.Stretches.{costs_again}
 

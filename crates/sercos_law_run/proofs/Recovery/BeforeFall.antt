@@ -1,38 +1,11 @@
 -- In how many cycles the ring falls if a drive is in phase 0 while phase 2 is commanded.
-use Rattle.std.proofs.Common.{◌≡◌, inl, inr, ℕ, zero, suc, ◌+◌, ◌<◌, ◌≤◌, true, List, [], ◌∷◌, ◌++◌, length, Some, refl, sym, ap, ◌∙◌, subst, arith}
-use Rattle.std.specs.Prelude.{is_some, slice_index_or}
-use Rattle.std.specs.List.{sum_by}
-use Rattle.std.proofs.lemmas.Bool.{cases_eq}
-use Rattle.std.proofs.lemmas.List.Sums.{sum_by-cons}
-use Rattle.sercos_step.specs.declared.request.Job.{Job}
-use Rattle.sercos_block.specs.Views.{DriveView, RingView}
-use Rattle.sercos_law_run.specs.Bounds.Bounds.{section_cycles}
-use Rattle.sercos_service_master.specs.Begun.{Begun, open_in}
-use Rattle.sercos_trace.specs.Views.{CycleView}
-use Rattle.sercos_seat.specs.Ring.{known_of}
-use Rattle.sercos_master.specs.Annals.{in_turn}
-use Rattle.sercos_script.specs.Links.{Carry, Restarts}
-use Rattle.sercos_law_channel.specs.Handshake.Epochs.{begun_in, epoch_begun}
-use Rattle.sercos_law_channel.specs.Handshake.Views.{standing}
-use Rattle.sercos_law_channel.specs.Pace.Ages.{age_in}
-use Rattle.sercos_law_channel.specs.Pace.Stretches.{open_since}
-use Rattle.sercos_law_run.specs.Journal.Arrivals.{sum_below}
-use Rattle.sercos_law_run.specs.Journal.Runs.{drive_at, no_drive, IsClear, IsRun}
-use Rattle.sercos_law_run.specs.Views.RingViews.{behind_mdt, view_of, views_of}
-use Rattle.sercos_law_run.specs.Held.Opened.{IsOpened}
-use Rattle.sercos_law_run.specs.Undisturbed.Sections.{AreInTwo}
-use Rattle.sercos_law_run.specs.Undisturbed.ViewsSince.{views_since}
+use Rattle.sercos_law_run.proofs.Words.{◌≡◌, inl, inr, ℕ, zero, suc, ◌+◌, ◌<◌, ◌≤◌, true, List, [], ◌∷◌, ◌++◌, length, Some, refl, sym, ap, ◌∙◌, subst, arith, is_some, slice_index_or, sum_by, cases_eq, false_from_ne_true, sum_by-cons, same_Some, Job, DriveView, RingView, section_cycles, Begun, open_in, CycleView, known_of, in_turn, Carry, Restarts, begun_in, epoch_begun, standing, age_in, open_since, sum_below, drive_at, no_drive, IsClear, IsRun, behind_mdt, view_of, views_of, IsOpened, AreInTwo, views_since, IsSpared, IsDown, IsStretch}
 use Rattle.sercos_law_run.proofs.Undisturbed.JobsBegun.{begun_end}
 use Rattle.sercos_law_run.proofs.Undisturbed.PhaseTwo.{shifted, sum_within}
 use Rattle.sercos_law_run.proofs.Undisturbed.Sections.{none_idle}
-use Rattle.sercos_law_run.proofs.Undisturbed.Arriving.Small.{some_is}
-use Rattle.sercos_law_run.specs.Recovery.FallsInTime.{IsSpared}
-use Rattle.sercos_law_run.specs.Recovery.Stretches.{IsDown, IsStretch}
 use Rattle.sercos_law_run.proofs.Recovery.DownSince.{calm_quiet, down_all, in_two, never_open, open_at_most}
-use Rattle.sercos_law_run.proofs.Recovery.LateDown.{not_true}
 use Rattle.sercos_law_run.proofs.Recovery.Turns.{opens_in_turn, works_in_turn}
 use Rattle.sercos_law_run.proofs.Recovery.UpSections.{up_section}
-use Rattle.sercos_law_run.proofs.Cited.{work_in_turn}
 
 -- A SUM over the places of all drives, with a limit of its own for one
 record AreAllBut (drives : List DriveView) (total limit : ℕ) (bound : DriveView → ℕ) : Type 0 where
@@ -85,8 +58,8 @@ module _ (r : RingView) (jobs : List Job) (carry : Carry) (restarts : Restarts) 
       none_of_others k below other is_down =
           let same = ap (λ (l : List Begun). is_some (open_in l)) (begun_end r jobs carry restarts opened t (cycles ++ first ∷ before) run clear stretch.stays.1 k) in
           never_open r jobs carry restarts opened (t ∷ cycles) (first ∷ before) run clear (calm_quiet r carry restarts (t ∷ cycles) (first ∷ before) stretch.calm) stretch.stays two k below is_down
-          (same ∙ not_true (is_some (open_in (begun_in (view_of r jobs carry restarts k t (cycles ++ first ∷ before)) (views_of r jobs carry restarts k (cycles ++ first ∷ before))))) (λ opens.
-          other (some_is k its.0 (sym (opens_in_turn r jobs carry restarts opened t (cycles ++ first ∷ before) run clear (in_two r jobs carry restarts opened t (cycles ++ first ∷ before) run two.1) k below opens) ∙ its.2))))
+          (same ∙ false_from_ne_true (is_some (open_in (begun_in (view_of r jobs carry restarts k t (cycles ++ first ∷ before)) (views_of r jobs carry restarts k (cycles ++ first ∷ before))))) (λ opens.
+          other (same_Some k its.0 (sym (opens_in_turn r jobs carry restarts opened t (cycles ++ first ∷ before) run clear (in_two r jobs carry restarts opened t (cycles ++ first ∷ before) run two.1) k below opens) ∙ its.2))))
 
       one_of : IsOne limit (t ∷ cycles) (first ∷ before)
       one_of = elim (cases_eq (standing (views_of r jobs carry restarts its.0 (first ∷ before))).ended 0) [

@@ -1,57 +1,26 @@
 -- If no drive is in phase 0 and the ring doesn't fall, the start-up ends in time.
-use Rattle.std.proofs.Common.{◌≡◌, ◌⊎◌, inl, inr, ℕ, suc, ◌+◌, ◌<◌, ◌≤◌, Bool, true, false, not, List, [], ◌∷◌, ◌++◌, length, Option, Some, None, refl, sym, ap, ◌∙◌, subst, arith, if◌then◌else◌}
-use Rattle.std.specs.Prelude.{is_some}
-use Rattle.std.specs.List.{sum_by}
-use Rattle.std.proofs.lemmas.Bool.{cases_eq, cases_lt, false≢true}
-use Rattle.sercos_step.specs.declared.request.Job.{Job}
-use Rattle.sercos_step.specs.declared.request.Outcome.{Outcome}
-use Rattle.sercos_timing.specs.Views.{PlanView}
-use Rattle.sercos_block.specs.Startup.{startup_bound}
-use Rattle.sercos_block.specs.Views.{RingView}
-use Rattle.sercos_law_run.specs.Bounds.Bounds.{command_cycles, greatest}
-use Rattle.sercos_trace.specs.Views.{CycleView}
-use Rattle.sercos_trace.specs.declared.events.Stop.{Stop}
-use Rattle.sercos_seat.specs.Agenda.{is_ready}
-use Rattle.sercos_seat.specs.Ring.{MemberView, known_of, member, tasks_for}
-use Rattle.sercos_master.specs.Annals.{Past, all_ready, fall_of, is_done, is_done_in, outcomes}
-use Rattle.sercos_script.specs.Links.{Carry, Restarts}
-use Rattle.sercos_law_run.specs.Journal.Runs.{drive_at, looks_back, master_calls, IsClear, IsRun}
-use Rattle.sercos_law_run.proofs.Agenda.AtWork.{IsFound, found_some, not_so}
+use Rattle.sercos_law_run.proofs.Words.{◌≡◌, ◌⊎◌, inl, inr, ℕ, suc, ◌+◌, ◌<◌, ◌≤◌, true, false, not, List, [], ◌∷◌, ◌++◌, length, Option, Some, None, refl, sym, ap, ◌∙◌, subst, arith, if◌then◌else◌, is_some, sum_by, cases_eq, cases_lt, not-true, Job, PlanView, startup_bound, RingView, command_cycles, greatest, CycleView, Stop, is_ready, known_of, member, tasks_for, Past, all_ready, fall_of, is_done, is_done_in, outcomes, Carry, Restarts, drive_at, looks_back, master_calls, IsClear, IsRun, at_start, behind_mdt, IsOpened, AreInThree, GoesOnInThree, IsUndisturbed, IsDown, IsStretch, IsRing-is_ring}
+use Rattle.sercos_law_run.proofs.Agenda.AtWork.{IsFound, found_some}
 use Rattle.sercos_law_run.proofs.Typed.Mdts.{phase_low}
-use Rattle.sercos_law_run.specs.Views.RingViews.{at_start, behind_mdt}
 use Rattle.sercos_law_run.proofs.Views.Members.{members_count}
-use Rattle.sercos_law_run.specs.Held.Opened.{IsOpened}
-use Rattle.sercos_law_run.proofs.Held.Extended.{Extends}
 use Rattle.sercos_law_run.proofs.Held.Runs.{drive_got, holding}
 use Rattle.sercos_law_run.proofs.Headline.HeadlineRuns.{all_stand, first_store, spelled_in, stored_in}
-use Rattle.sercos_law_run.specs.Undisturbed.Sections.{AreInThree, GoesOnInThree}
-use Rattle.sercos_law_run.specs.Undisturbed.Undisturbed.{IsUndisturbed}
 use Rattle.sercos_law_run.proofs.Undisturbed.Arriving.Comes.{calm_in}
 use Rattle.sercos_law_run.proofs.Undisturbed.EpochCycles.{IsOn, outcomes_after, outcomes_extend}
 use Rattle.sercos_law_run.proofs.Undisturbed.InTime.{within_bound}
 use Rattle.sercos_law_run.proofs.Undisturbed.PhaseCounts.{end_kept}
-use Rattle.sercos_law_run.proofs.Undisturbed.PhaseThree.{ready_stays}
+use Rattle.sercos_law_run.proofs.Undisturbed.PhaseThree.{unready_before}
 use Rattle.sercos_law_run.proofs.Undisturbed.PhaseTwo.{section_two}
 use Rattle.sercos_law_run.proofs.Undisturbed.Stops.StopStays.{none_before, stop_after}
-use Rattle.sercos_law_run.specs.Recovery.Stretches.{IsDown, IsStretch}
+use Rattle.sercos_law_run.proofs.Undisturbed.Stops.StopOnce.{same_start}
+use Rattle.sercos_law_run.proofs.Undisturbed.NoFalls.{no_less, stays_at}
 use Rattle.sercos_law_run.proofs.Recovery.DownSince.{shorter, up_all}
-use Rattle.sercos_law_run.proofs.Recovery.EarlyStops.{no_less}
-use Rattle.sercos_law_run.proofs.Recovery.EpochStops.{same_start}
-use Rattle.sercos_law_run.proofs.Recovery.LateDown.{not_true, phase_now}
+use Rattle.sercos_law_run.proofs.Recovery.LateDown.{phase_now}
 use Rattle.sercos_law_run.proofs.Recovery.Stretches.{whole_at}
 use Rattle.sercos_law_run.proofs.Recovery.UpInThree.{LastsInThree}
 use Rattle.sercos_law_run.proofs.Recovery.UpInTwo.{up_in_two}
 use Rattle.sercos_law_run.proofs.Recovery.UpSections.{no_lower_since}
-use Rattle.sercos_block.proofs.RingLemmas.{IsRing-is_ring}
 use Rattle.sercos_law_run.proofs.Bounds.BoundSums.{is_below_greatest}
-
--- a check that hasn't ended well hadn't before
-unready_then : (m : MemberView) (old new : List Outcome) → Extends old new → is_ready m new ≡ false → is_ready m old ≡ false
-unready_then m old new (o, is) unready = not_true (is_ready m old) (λ on. false≢true (sym unready ∙ ap (is_ready m) is ∙ ready_stays m old o on))
-
-stays_so : (done : Bool) (n : ℕ) → (if done then n + 1 else n) ≡ n → done ≡ false
-stays_so true n same = absurd (omega (arith, same))
-stays_so false n same = refl
 
 module _ (r : RingView) (jobs : List Job) (carry : Carry) (restarts : Restarts) (opened : IsOpened r jobs) where
   -- the cycles of phase 3, cut off: those before them are few
@@ -157,7 +126,7 @@ module _ (r : RingView) (jobs : List Job) (carry : Carry) (restarts : Restarts) 
       }) (cut_at k below cycles run.0 clear.0 (shorter r jobs carry restarts opened t cycles first before stretch)
           (none_before r jobs carry restarts t (cycles ++ first ∷ before) (start t cycles run clear stretch) none_now)
           (let same = phase_before t cycles run clear stretch in let is = three high in omega (arith, same, is))
-          (unready_then (member (known_of r) k) _ _ (outcomes_extend r jobs carry restarts opened t (cycles ++ first ∷ before) run clear (on_now t cycles run clear stretch) k below) unready_now))
+          (unready_before (member (known_of r) k) _ _ (outcomes_extend r jobs carry restarts opened t (cycles ++ first ∷ before) run clear (on_now t cycles run clear stretch) k below) unready_now))
     ]
       where
         three : 2 < t.phase → t.phase ≡ 3
@@ -208,12 +177,12 @@ module _ (r : RingView) (jobs : List Job) (carry : Carry) (restarts : Restarts) 
           in_three : (behind_mdt r jobs carry restarts u.sent (cycles ++ first ∷ before)).now.phase ≡ 3 → suc (length cycles) ≤ sum_by section_two r.drives + 1 + greatest command_cycles r.drives + tail
           in_three now_three = both_few last.place low (suc (length cycles)) (u ∷ (cycles ++ first ∷ before)) run.0 clear.0
               (cut_at last.place low (u ∷ cycles) run.0 clear.0 earlier none_then (let is = phase_then in omega (arith, is))
-              (ap (is_ready (member (known_of r) last.place)) (outcomes_after r jobs carry restarts opened u (cycles ++ first ∷ before) (on_now u cycles run.0 clear.0 earlier) last.place) ∙ not_so _ last.passes))
+              (ap (is_ready (member (known_of r) last.place)) (outcomes_after r jobs carry restarts opened u (cycles ++ first ∷ before) (on_now u cycles run.0 clear.0 earlier) last.place) ∙ not-true _ last.passes))
             where
               undone : all_ready (known_of r) (behind_mdt r jobs carry restarts u.sent (cycles ++ first ∷ before)) ≡ false
               undone = sym (ap (λ (m : ℕ). is_done_in m (known_of r) (behind_mdt r jobs carry restarts u.sent (cycles ++ first ∷ before))) now_three)
-                  ∙ stays_so (is_done (known_of r) (behind_mdt r jobs carry restarts u.sent (cycles ++ first ∷ before))) (behind_mdt r jobs carry restarts u.sent (cycles ++ first ∷ before)).now.phase
-                  (sym (phase_after u cycles run.0 clear.0 earlier) ∙ phase_then ∙ sym now_three)
+                  ∙ stays_at (is_done (known_of r) (behind_mdt r jobs carry restarts u.sent (cycles ++ first ∷ before))) (behind_mdt r jobs carry restarts u.sent (cycles ++ first ∷ before)).now.phase 3
+                  now_three (sym (phase_after u cycles run.0 clear.0 earlier) ∙ phase_then)
 
               last : IsFound 0 (length (known_of r).drives) (λ k. not (is_ready (member (known_of r) k) (outcomes (behind_mdt r jobs carry restarts u.sent (cycles ++ first ∷ before)) k)))
               last = found_some 0 (length (known_of r).drives) (λ k. not (is_ready (member (known_of r) k) (outcomes (behind_mdt r jobs carry restarts u.sent (cycles ++ first ∷ before)) k))) undone

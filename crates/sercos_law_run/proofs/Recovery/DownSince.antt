@@ -1,32 +1,9 @@
 -- In undisturbed cycles of phase 2 without a fall a drive that is in phase 0 at the end of the first stays there, and any other stays up.
-use Rattle.std.proofs.Common.{◌≡◌, ℕ, ◌+◌, ◌<◌, ◌≤◌, Bool, true, false, List, [], ◌∷◌, ◌++◌, length, Option, Some, None, refl, sym, ap, ap₂, ◌∙◌, arith, if◌then◌else◌}
-use Rattle.std.specs.Prelude.{is_some}
-use Rattle.std.proofs.lemmas.Bool.{false≢true}
-use Rattle.sercos_step.specs.declared.request.Job.{Job}
-use Rattle.sercos_step.specs.declared.request.Request.{Request}
-use Rattle.sercos_block.specs.Views.{RingView}
-use Rattle.sercos_service_master.specs.Begun.{Begun, open_in}
-use Rattle.sercos_trace.specs.Views.{CycleView}
-use Rattle.sercos_seat.specs.Channel.{outcomes_in}
-use Rattle.sercos_script.specs.Links.{Carry, Restarts}
-use Rattle.sercos_law_channel.specs.Handshake.Epochs.{begun_in, epoch_begun, with_begun, with_heard}
-use Rattle.sercos_law_channel.specs.Handshake.Views.{Heard, View}
-use Rattle.sercos_law_channel.specs.Pace.Ages.{age_in}
-use Rattle.sercos_law_channel.specs.Pace.Passages.{IsDead}
-use Rattle.sercos_law_channel.specs.Pace.Stretches.{open_since}
-use Rattle.sercos_law_channel.specs.Pace.Times.{one_more}
-use Rattle.sercos_law_run.specs.Journal.Runs.{IsClear, IsRun}
-use Rattle.sercos_law_run.specs.Views.RingViews.{behind_mdt, view_of, views_of}
-use Rattle.sercos_law_run.specs.Held.Opened.{IsOpened}
-use Rattle.sercos_law_run.specs.Undisturbed.Sections.{AreInTwo, GoesOnInTwo}
-use Rattle.sercos_law_run.specs.Undisturbed.StartUps.{NoneFalls}
-use Rattle.sercos_law_run.specs.Undisturbed.Undisturbed.{AreUndisturbed}
-use Rattle.sercos_law_run.specs.Undisturbed.ViewsSince.{views_since}
+use Rattle.sercos_law_run.proofs.Words.{◌≡◌, ℕ, ◌+◌, ◌<◌, ◌≤◌, Bool, true, false, List, [], ◌∷◌, ◌++◌, length, Option, Some, None, refl, sym, ap, ap₂, ◌∙◌, arith, if◌then◌else◌, is_some, false≢true, false_from_ne_true, Job, Request, RingView, Begun, open_in, CycleView, outcomes_in, Carry, Restarts, begun_in, epoch_begun, with_begun, with_heard, Heard, View, age_in, IsDead, open_since, one_more, IsClear, IsRun, behind_mdt, view_of, views_of, IsOpened, AreInTwo, GoesOnInTwo, NoneFalls, AreUndisturbed, views_since, IsDown, IsStretch, IsUpNow}
 use Rattle.sercos_law_run.proofs.Undisturbed.Arriving.Comes.{calm_in}
 use Rattle.sercos_law_run.proofs.Undisturbed.JobsBegun.{begun_end}
 use Rattle.sercos_law_run.proofs.Undisturbed.Checks.PassedCycles.{views_split}
-use Rattle.sercos_law_run.specs.Recovery.Stretches.{IsDown, IsStretch, IsUpNow}
-use Rattle.sercos_law_run.proofs.Recovery.LateDown.{next_up, not_true, phase_now}
+use Rattle.sercos_law_run.proofs.Recovery.LateDown.{next_up, phase_now}
 use Rattle.sercos_law_run.proofs.Recovery.Limits.{open_age}
 use Rattle.sercos_law_run.proofs.Recovery.Stretches.{ages_down_in, newest_up, stays_down_in}
 
@@ -37,7 +14,7 @@ quiet_outcomes None n true begun quiet on = absurd (cc)
 quiet_outcomes None None false begun quiet on = refl
 quiet_outcomes None (Some q) false begun quiet on = refl
 
-one_at_most : (b : Bool) (n : ℕ) → one_more b n ≤ n + 1
+pub one_at_most : (b : Bool) (n : ℕ) → one_more b n ≤ n + 1
 one_at_most true n = omega arith
 one_at_most false n = omega arith
 
@@ -121,7 +98,7 @@ module _ (r : RingView) (jobs : List Job) (carry : Carry) (restarts : Restarts) 
           → open_since (views_since r jobs carry restarts k cycles rest) (views_of r jobs carry restarts k rest) ≡ 0
       never_open [] rest run clear quiet stays two k below down off = refl
       never_open (t ∷ cycles) rest run clear quiet stays two k below down off =
-          let off_before = not_true (is_some (open_in (epoch_begun (views_of r jobs carry restarts k (cycles ++ rest))))) (λ opens. false≢true (sym off ∙ (older t cycles rest run clear quiet stays two k below down opens).1)) in
+          let off_before = false_from_ne_true (is_some (open_in (epoch_begun (views_of r jobs carry restarts k (cycles ++ rest))))) (λ opens. false≢true (sym off ∙ (older t cycles rest run clear quiet stays two k below down opens).1)) in
           ap₂ one_more (opens_at t cycles rest run clear stays k ∙ off) (never_open cycles rest run.0 clear.0 quiet.0 stays.0 two.0 k below down off_before)
 
       -- Else it was open in no more cycles than its age says.

@@ -1,59 +1,20 @@
 -- How long phase 1 lasts in undisturbed cycles, whatever was lost before them: each drive is in it at once, and identified in its turn.
-use Rattle.std.proofs.Common.{◌≡◌, ◌⊎◌, inl, inr, ℕ, zero, suc, ◌+◌, ◌<◌, ◌≤◌, Bool, true, false, not, ◌&&◌, ◌||◌, List, [], ◌∷◌, ◌++◌, length, Option, Some, None, refl, sym, ap, ◌∙◌, subst, arith, length-append, if◌then◌else◌}
-use Rattle.std.specs.Prelude.{◌==◌, nat_le, is_none, is_some}
-use Rattle.std.proofs.lemmas.Bool.{cases_eq, cases_lt, false≢true}
-use Rattle.std.proofs.lemmas.Bool.Decides.{nat_tests}
-use Rattle.sercos_step.specs.declared.request.Job.{Job}
-use Rattle.sercos_block.specs.Views.{RingView}
-use Rattle.sercos_trace.specs.Views.{CycleView}
-use Rattle.sercos_seat.specs.Ring.{known_of}
-use Rattle.sercos_master.specs.Annals.{Past, Turn, fall_of, first_from, first_place, has_identified, is_done, is_done_in, is_identified}
-use Rattle.sercos_script.specs.Links.{Carry, Restarts}
-use Rattle.sercos_law_channel.specs.Handshake.Views.{View, before_mst, standing, stood_in, takes_in}
-use Rattle.sercos_law_run.specs.Journal.Runs.{drive_at, looks_back, master_calls, IsClear, IsRun}
-use Rattle.sercos_law_run.specs.Views.RingViews.{behind_ats, behind_mdt, view_of, views_of}
+use Rattle.sercos_law_run.proofs.Words.{◌≡◌, ◌⊎◌, inl, inr, ℕ, suc, ◌+◌, ◌<◌, ◌≤◌, Bool, true, false, not, ◌&&◌, List, [], ◌∷◌, ◌++◌, length, Option, Some, None, refl, sym, ap, ◌∙◌, subst, arith, length-append, if◌then◌else◌, ◌==◌, nat_le, is_none, is_some, cases_eq, cases_lt, false≢true, not-false, or_right, nat_tests, Job, RingView, CycleView, known_of, Past, Turn, fall_of, first_place, has_identified, is_done, is_done_in, is_identified, each_passes, first_found, Carry, Restarts, View, before_mst, standing, stood_in, takes_in, drive_at, looks_back, master_calls, IsClear, IsRun, behind_ats, behind_mdt, view_of, views_of, IsOpened, IsUndisturbed, IsDown, IsStretch, IsRing-is_ring, comes_up}
 use Rattle.sercos_law_run.proofs.Views.Members.{members_count}
-use Rattle.sercos_law_run.specs.Held.Opened.{IsOpened}
 use Rattle.sercos_law_run.proofs.Headline.HeadlineRuns.{all_stand}
-use Rattle.sercos_law_run.specs.Undisturbed.Undisturbed.{IsUndisturbed}
-use Rattle.sercos_law_run.proofs.Undisturbed.Arriving.Arrivals.{not_false}
 use Rattle.sercos_law_run.proofs.Undisturbed.Arriving.Comes.{calm_in}
 use Rattle.sercos_law_run.proofs.Undisturbed.Identified.{heard_next, phase_comes}
 use Rattle.sercos_law_run.proofs.Undisturbed.NoFalls.{heard_mdt, none_from}
 use Rattle.sercos_law_run.proofs.Undisturbed.PhaseCounts.{end_kept}
 use Rattle.sercos_law_run.proofs.Undisturbed.StaysUp.{addressed_first, found_passes, stands_so}
-use Rattle.sercos_law_run.specs.Recovery.Stretches.{IsDown, IsStretch}
+use Rattle.sercos_law_run.proofs.Undisturbed.Stops.StopOnce.{same_start}
 use Rattle.sercos_law_run.proofs.Recovery.DownSince.{shorter}
-use Rattle.sercos_law_run.proofs.Recovery.EpochStops.{same_start}
 use Rattle.sercos_law_run.proofs.Recovery.LateDown.{next_up, phase_after, phase_now, turns_now}
 use Rattle.sercos_law_run.proofs.Recovery.Stretches.{newest_up}
-use Rattle.sercos_block.proofs.RingLemmas.{IsRing-is_ring}
-use Rattle.sercos_law_channel.proofs.Handshake.RunFacts.{comes_up}
-
--- THE FIRST PLACE that passes a test: none before it does; and if there is no such place, none does.
-fails_before : (k n m i : ℕ) (test : ℕ → Bool) → first_from k n test ≡ Some m → k ≤ i → i < m → i < k + n → test i ≡ false
-fails_before k zero m i test found low less high = absurd (omega (arith, low, high))
-fails_before k (suc n) m i test found low less high = by (test k) refl found (λ rest later. fails_before (k + 1) n m i test rest later less (omega (arith, high)))
-  where
-    by : (b : Bool) → test k ≡ b → (if b then Some k else first_from (k + 1) n test) ≡ Some m → (first_from (k + 1) n test ≡ Some m → k + 1 ≤ i → test i ≡ false) → test i ≡ false
-    by true passes is next = let same : k ≡ m = cc in absurd (omega (arith, same, low, less))
-    by false off is next = elim (cases_eq k i) [ inl same ↦ sym (ap test same) ∙ off | inr other ↦ next is (omega (arith, low, other)) ]
-
-none_fails : (k n i : ℕ) (test : ℕ → Bool) → first_from k n test ≡ None → k ≤ i → i < k + n → test i ≡ false
-none_fails k zero i test none low high = absurd (omega (arith, low, high))
-none_fails k (suc n) i test none low high = by (test k) refl none (λ rest later. none_fails (k + 1) n i test rest later (omega (arith, high)))
-  where
-    by : (b : Bool) → test k ≡ b → (if b then Some k else first_from (k + 1) n test) ≡ None → (first_from (k + 1) n test ≡ None → k + 1 ≤ i → test i ≡ false) → test i ≡ false
-    by true passes is next = absurd (cc)
-    by false off is next = elim (cases_eq k i) [ inl same ↦ sym (ap test same) ∙ off | inr other ↦ next is (omega (arith, low, other)) ]
 
 -- A DRIVE THAT WAS IDENTIFIED stays so.
-either : (a b : Bool) → b ≡ true → (a || b) ≡ true
-either true b is = refl
-either false b is = is
-
 known_still : (k : ℕ) (now : Turn) (turns older : List Turn) → turns ≡ older → has_identified k older ≡ true → has_identified k (now ∷ turns) ≡ true
-known_still k now turns older are known = either ((now.phase == 1) && now.heard k) (has_identified k turns) (ap (has_identified k) are ∙ known)
+known_still k now turns older are known = or_right ((now.phase == 1) && now.heard k) (has_identified k turns) (ap (has_identified k) are ∙ known)
 
 known_now : (k : ℕ) (now : Turn) (turns : List Turn) → now.phase ≡ 1 → now.heard k ≡ true → has_identified k (now ∷ turns) ≡ true
 known_now k now turns one hears = let is : (now.phase == 1) ≡ true = grind (arith, nat_tests, one) in rw (is, hears) refl
@@ -116,9 +77,9 @@ module _ (r : RingView) (jobs : List Job) (carry : Carry) (restarts : Restarts) 
         count = members_count r
 
         by : (o : Option ℕ) → first_place (known_of r) (λ i. not (is_identified (behind_mdt r jobs carry restarts u.sent j) i)) ≡ o → is_identified (behind_mdt r jobs carry restarts t.sent (u ∷ j)) k ≡ true
-        by None none = still k (not_false _ (none_fails 0 (length (known_of r).drives) k (λ i. not (is_identified (behind_mdt r jobs carry restarts u.sent j) i)) none (omega arith) (omega (arith, below, count))))
+        by None none = still k (each_passes (length (known_of r).drives) 0 (λ i. is_identified (behind_mdt r jobs carry restarts u.sent j) i) (ap (λ (o : Option ℕ). is_none o) none) k (omega arith) (omega (arith, below, count)))
         by (Some i) first = elim (cases_lt k i) [
-          | inl less ↦ still k (not_false _ (fails_before 0 (length (known_of r).drives) i k (λ x. not (is_identified (behind_mdt r jobs carry restarts u.sent j) x)) first (omega arith) less (omega (arith, below, count))))
+          | inl less ↦ still k (not-false _ ((first_found 0 (length (known_of r).drives) i (λ x. not (is_identified (behind_mdt r jobs carry restarts u.sent j) x)) first).before k (omega arith) less))
           | inr most ↦ elim (cases_eq i k) [
             | inl same ↦ known_next k below (subst (λ (x : ℕ). first_place (known_of r) (λ i. not (is_identified (behind_mdt r jobs carry restarts u.sent j) i)) ≡ Some x) same first)
             | inr other ↦

@@ -1,32 +1,12 @@
 -- Where a stop stands: it comes from phase 2 on, is told in a record, and no later record tells a fall.
-use Rattle.std.proofs.Common.{◌≡◌, ◌⊎◌, inl, inr, ℕ, ◌+◌, ◌<◌, ◌≤◌, Bool, true, false, List, [], ◌∷◌, length, Option, Some, None, refl, sym, ap, ◌∙◌, arith, if◌then◌else◌}
-use Rattle.std.specs.Prelude.{◌==◌, is_some}
-use Rattle.std.specs.Option.{option_or}
-use Rattle.std.proofs.lemmas.Bool.{false≢true}
-use Rattle.std.proofs.lemmas.Bool.Decides.{nat_tests}
-use Rattle.sercos_step.specs.declared.request.Job.{Job}
-use Rattle.sercos_block.specs.Views.{RingView}
-use Rattle.sercos_service_master.specs.Begun.{Begun}
-use Rattle.sercos_service_master.specs.Calls.{begun_by}
-use Rattle.sercos_trace.specs.Views.{CycleView, EventsView}
-use Rattle.sercos_trace.specs.declared.events.Fall.{Fall}
-use Rattle.sercos_trace.specs.declared.events.Stop.{Stop}
-use Rattle.sercos_seat.specs.Channel.{last_outcome, trouble_by}
-use Rattle.sercos_seat.specs.Ring.{Known, Task, known_of, member, tasks_for}
-use Rattle.sercos_master.specs.Annals.{Call, HearMst, HearAt, Mdt, End, Restart, Past, after_at, after_mdt, fall_of, first_trouble, goes_on, is_done, is_plan_due, new_epoch, next_phase, past, planned_by, still_waiting, with_due_plan, with_stop}
-use Rattle.sercos_master.specs.Reports.{restart_told}
-use Rattle.sercos_script.specs.Links.{Carry, Restarts}
-use Rattle.sercos_law_run.specs.Journal.Runs.{looks_back, master_calls, middle, no_events, IsNext, IsRun}
-use Rattle.sercos_seat.specs.Seats.{AreWaiting}
-use Rattle.sercos_law_run.specs.Views.RingViews.{at_start, behind_mdt}
+use Rattle.sercos_law_run.proofs.Words.{◌≡◌, ◌⊎◌, inl, inr, ℕ, ◌+◌, ◌<◌, ◌≤◌, Bool, true, false, List, [], ◌∷◌, length, Option, Some, None, refl, sym, ap, ◌∙◌, arith, if◌then◌else◌, ◌==◌, is_some, option_or, false≢true, nat_tests, Job, RingView, Begun, begun_by, CycleView, EventsView, Fall, Stop, last_outcome, trouble_by, Known, Task, known_of, member, tasks_for, Call, Past, after_mdt, fall_of, first_trouble, goes_on, is_plan_due, new_epoch, next_phase, past, planned_by, still_waiting, with_due_plan, with_stop, restart_told, past_keeps, Carry, Restarts, looks_back, master_calls, middle, no_events, IsNext, IsRun, AreWaiting, at_start, behind_mdt, StandsAt}
 use Rattle.sercos_law_run.proofs.Views.MasterSame.{begun_cycle, turn_mdt}
 use Rattle.sercos_law_run.proofs.Views.ViewRuns.{started}
-use Rattle.sercos_law_run.proofs.Undisturbed.Arriving.AfterAt.{after_at_so}
 use Rattle.sercos_law_run.proofs.Undisturbed.PhaseZero.{none_first}
 use Rattle.sercos_law_run.proofs.Undisturbed.Stops.StopsTold.{fresh}
 use Rattle.sercos_law_run.proofs.Undisturbed.Stops.StopStays.{stop_after, stop_kept}
-use Rattle.sercos_law_run.specs.Recovery.Recovers.{StandsAt}
-use Rattle.sercos_law_run.proofs.Recovery.EpochStops.{same_start}
+use Rattle.sercos_law_run.proofs.Undisturbed.Stops.StopOnce.{same_start}
+use Rattle.sercos_law_run.proofs.Undisturbed.NoFalls.{no_less}
 use Rattle.sercos_law_run.proofs.Recovery.LateDown.{phase_now}
 use Rattle.sercos_law_run.proofs.Agenda.Requests.{are_requests}
 use Rattle.sercos_law_run.proofs.Cited.{begins_none}
@@ -52,33 +32,18 @@ mdt_none s p none early empty = ap (λ (o : Option Stop). (with_due_plan s (with
     due true is = absurd (false≢true (sym never ∙ is))
     due false is = none
 
-pub no_less : (done : Bool) (n : ℕ) → n ≤ (if done then n + 1 else n)
-no_less true n = omega arith
-no_less false n = omega arith
-
-at_phase : (s : Known) (content : List ℕ) (p : Past) → (after_at s content p).now.phase ≡ p.now.phase
-at_phase s content p = after_at_so (λ q. q.now.phase ≡ p.now.phase) s content p refl (λ k. refl)
-
-at_none : (s : Known) (content : List ℕ) (p : Past) → (after_at s content p).stop ≡ p.stop
-at_none s content p = after_at_so (λ q. q.stop ≡ p.stop) s content p refl (λ k. refl)
-
 pub early_stop : (s : Known) (requests : ℕ → List Task) (h : List Call) → ((j : ℕ) → AreWaiting (requests j)) → (past s requests h).now.phase ≤ 1 → (past s requests h).stop ≡ None
-early_stop s requests [] wait low = refl
-early_stop s requests (HearMst content ∷ h) wait low = early_stop s requests h wait low
-early_stop s requests (HearAt content ∷ h) wait low =
-    at_none s content (past s requests h) ∙ early_stop s requests h wait (let same = at_phase s content (past s requests h) in omega (arith, low, same))
-early_stop s requests (Mdt ∷ h) wait low =
-    let same = (turn_mdt s (past s requests h)).phase_is in
-    let low_then : (past s requests h).now.phase ≤ 1 = omega (arith, low, same) in
-    mdt_none s (past s requests h) (early_stop s requests h wait low_then) low_then (λ k below. begins_none s requests h k wait below low_then)
-early_stop s requests (End ∷ h) wait low = by (is_some (fall_of s (past s requests h))) low (λ low_then. early_stop s requests h wait low_then)
-  where
-    by : (falls : Bool) → (if falls then new_epoch ((past s requests h).cycle + 1) (still_waiting (past s requests h)) else goes_on (next_phase s (past s requests h)) (past s requests h)).now.phase ≤ 1
-        → ((past s requests h).now.phase ≤ 1 → (past s requests h).stop ≡ None)
-        → (if falls then new_epoch ((past s requests h).cycle + 1) (still_waiting (past s requests h)) else goes_on (next_phase s (past s requests h)) (past s requests h)).stop ≡ None
-    by true low before = refl
-    by false low before = let least = no_less (is_done s (past s requests h)) (past s requests h).now.phase in before (omega (arith, low, least))
-early_stop s requests (Restart ∷ h) wait low = refl
+early_stop s requests h wait = past_keeps (λ p. p.now.phase ≤ 1 → p.stop ≡ None) s requests (record {
+  first = λ low. refl;
+  mst = λ h whole before. before;
+  taken = λ h k content there is before. before;
+  mdt = λ h before low.
+      let same = (turn_mdt s (past s requests h)).phase_is in
+      let low_then : (past s requests h).now.phase ≤ 1 = omega (arith, low, same) in
+      mdt_none s (past s requests h) (before low_then) low_then (λ k below. begins_none s requests h k wait below low_then);
+  on = λ h done is before low. let least = no_less done (past s requests h).now.phase in before (omega (arith, low, least));
+  new = λ h cycle before low. refl;
+}) h
 
 module _ (r : RingView) (jobs : List Job) (carry : Carry) (restarts : Restarts) where
   pub early_in : (h : List Call) → (looks_back r jobs h).now.phase ≤ 1 → (looks_back r jobs h).stop ≡ None

@@ -1,36 +1,13 @@
 -- In an epoch in which nothing is disturbed each stop is told in a record of the epoch, and one is told at most.
-use Rattle.std.proofs.Common.{◌≡◌, ◌⊎◌, inl, inr, Bool, true, false, List, [], ◌∷◌, ◌++◌, length, Option, Some, None, refl, sym, ap, ◌∙◌, arith, if◌then◌else◌}
-use Rattle.std.specs.Prelude.{is_some}
-use Rattle.std.specs.Option.{option_or}
-use Rattle.sercos_step.specs.declared.request.Job.{Job}
-use Rattle.sercos_block.specs.Views.{RingView}
-use Rattle.sercos_trace.specs.Views.{CycleView, EventsView}
-use Rattle.sercos_trace.specs.declared.events.Stop.{Stop}
-use Rattle.sercos_seat.specs.Ring.{known_of}
-use Rattle.sercos_master.specs.Annals.{Past}
-use Rattle.sercos_master.specs.Reports.{stop_told, restart_told}
-use Rattle.sercos_script.specs.Links.{Carry, Restarts}
-use Rattle.sercos_law_run.specs.Journal.Records.{mst_in, ats_in}
-use Rattle.sercos_law_run.specs.Journal.Runs.{own_mst, begins, master_calls, looks_back, no_events, IsNext, IsRun}
-use Rattle.sercos_law_run.specs.Views.RingViews.{at_start, behind_ats, behind_mdt}
-use Rattle.sercos_law_run.proofs.Views.MasterSame.{begun_cycle}
-use Rattle.sercos_law_run.proofs.Views.ViewRuns.{started}
+use Rattle.sercos_law_run.proofs.Words.{◌≡◌, ◌⊎◌, inl, inr, Bool, true, false, List, [], ◌∷◌, ◌++◌, length, Option, Some, None, refl, sym, ap, ◌∙◌, arith, if◌then◌else◌, none-some, is_some, option_or, Job, RingView, CycleView, EventsView, Stop, known_of, Past, stop_told, restart_told, Carry, Restarts, mst_in, ats_in, own_mst, begins, master_calls, looks_back, no_events, IsNext, IsRun, at_start, behind_ats, behind_mdt, StartsEpoch, NoneFalls, AreUndisturbed, IsUndisturbed, HasTold}
 use Rattle.sercos_law_run.proofs.Headline.WellRuns.{event_stop}
-use Rattle.sercos_law_run.specs.Undisturbed.EpochStarts.{StartsEpoch}
-use Rattle.sercos_law_run.specs.Undisturbed.StartUps.{NoneFalls}
-use Rattle.sercos_law_run.specs.Undisturbed.Undisturbed.{AreUndisturbed, IsUndisturbed}
-use Rattle.sercos_law_run.specs.Undisturbed.WholeRuns.{HasTold}
 use Rattle.sercos_law_run.proofs.Undisturbed.Arriving.Comes.{calm_in}
 use Rattle.sercos_law_run.proofs.Undisturbed.PhaseZero.{in_zero}
-use Rattle.sercos_law_run.proofs.Undisturbed.Arriving.Small.{none_some}
-use Rattle.sercos_law_run.proofs.Undisturbed.Stops.StopOnce.{at_stops, mdt_stops, none_new}
+use Rattle.sercos_law_run.proofs.Undisturbed.Stops.StopOnce.{at_stops, mdt_stops, none_new, same_start}
 use Rattle.sercos_law_run.proofs.Undisturbed.Stops.StopsTold.{ats_kept, fresh}
 use Rattle.sercos_law_run.proofs.Undisturbed.Stops.StopStays.{ats_same, mdt_stop, stop_after, stop_kept}
 
 module _ (r : RingView) (jobs : List Job) (carry : Carry) (restarts : Restarts) where
-  pub same_start : (j : List CycleView) → restarts (length j) 0 ≡ false → at_start r jobs carry restarts j ≡ looks_back r jobs (master_calls r carry restarts j)
-  same_start j stays = started r jobs (restarts (length j) 0) (master_calls r carry restarts j) ∙ ap (λ (b : Bool). begun_cycle b (looks_back r jobs (master_calls r carry restarts j))) stays
-
   no_restart : (t : CycleView) (j : List CycleView) → IsUndisturbed r carry restarts t j → restarts (length j) 0 ≡ false
   no_restart t j calm = (calm_in r carry restarts t j calm).stays 0 (omega arith)
 
@@ -43,12 +20,12 @@ module _ (r : RingView) (jobs : List Job) (carry : Carry) (restarts : Restarts) 
       by None none = inl (fresh r jobs carry restarts t j x next none is)
       by (Some y) had =
           let there : is_some (behind_ats r jobs carry restarts t.sent j).stop ≡ true = ap (λ (o : Option Stop). is_some o) (ats_kept r jobs carry restarts t j ∙ had) in
-          inr (before (sym (ap (λ (p : Past). p.stop) (same_start j (no_restart t j calm))) ∙ sym (ats_kept r jobs carry restarts t j) ∙ sym (mdt_stop (known_of r) (behind_ats r jobs carry restarts t.sent j) there) ∙ is))
+          inr (before (sym (ap (λ (p : Past). p.stop) (same_start r jobs carry restarts j (no_restart t j calm))) ∙ sym (ats_kept r jobs carry restarts t j) ∙ sym (mdt_stop (known_of r) (behind_ats r jobs carry restarts t.sent j) there) ∙ is))
 
   module _ (before : List CycleView) (starts : StartsEpoch r jobs carry restarts before) where
     told_before : (cycles : List CycleView) (x : Stop) → IsRun r jobs carry restarts (cycles ++ before) → AreUndisturbed r carry restarts cycles before → NoneFalls r jobs carry restarts cycles before
         → (looks_back r jobs (master_calls r carry restarts (cycles ++ before))).stop ≡ Some x → HasTold x cycles
-    told_before [] x run calm stays is = none_some x (sym (in_zero r jobs carry restarts before starts).stop ∙ is)
+    told_before [] x run calm stays is = none-some x (sym (in_zero r jobs carry restarts before starts).stop ∙ is)
     told_before (t ∷ cycles) x run calm stays is =
         stop_at t (cycles ++ before) cycles x run.1 calm.1 (told_before cycles x run.0 calm.0 stays.0) (sym (stop_after r jobs carry restarts t (cycles ++ before) stays.1) ∙ is)
 
@@ -65,18 +42,18 @@ module _ (r : RingView) (jobs : List Job) (carry : Carry) (restarts : Restarts) 
     where
       by : (t.events.stop ≡ Some x) ⊎ HasTold x cycles → (HasTold x cycles → is_some (looks_back r jobs (master_calls r carry restarts (cycles ++ before))).stop ≡ true) → is_some (behind_mdt r jobs carry restarts t.sent (cycles ++ before)).stop ≡ true
       by (inl here) rest = ap (λ (o : Option Stop). is_some o) (event_stop r jobs carry restarts t (cycles ++ before) x run.1 here)
-      by (inr there) rest = let some = rest there in ap (λ (o : Option Stop). is_some o) (stop_kept r jobs carry restarts t (cycles ++ before) (same_start (cycles ++ before) (no_restart t (cycles ++ before) calm.1)) some) ∙ some
+      by (inr there) rest = let some = rest there in ap (λ (o : Option Stop). is_some o) (stop_kept r jobs carry restarts t (cycles ++ before) (same_start r jobs carry restarts (cycles ++ before) (no_restart t (cycles ++ before) calm.1)) some) ∙ some
 
   -- SO NONE IS TOLD AFTER IT.
   pub once_since : (t : CycleView) (cycles before : List CycleView) (x y : Stop) → IsRun r jobs carry restarts (t ∷ (cycles ++ before)) → AreUndisturbed r carry restarts (t ∷ cycles) before → NoneFalls r jobs carry restarts (t ∷ cycles) before
       → HasTold x cycles → t.events.stop ≡ Some y → ⊥
-  once_since t cycles before x y run calm falls told more = none_some y (sym none ∙ more)
+  once_since t cycles before x y run calm falls told more = none-some y (sym none ∙ more)
     where
       quiet : restarts (length (cycles ++ before)) 0 ≡ false
       quiet = no_restart t (cycles ++ before) calm.1
 
       same : at_start r jobs carry restarts (cycles ++ before) ≡ looks_back r jobs (master_calls r carry restarts (cycles ++ before))
-      same = same_start (cycles ++ before) quiet
+      same = same_start r jobs carry restarts (cycles ++ before) quiet
 
       some : is_some (behind_ats r jobs carry restarts t.sent (cycles ++ before)).stop ≡ true
       some = ap (λ (o : Option Stop). is_some o) (ats_kept r jobs carry restarts t (cycles ++ before) ∙ ap (λ (p : Past). p.stop) same) ∙ stands cycles before x run.0 calm.0 falls.0 told

@@ -1,28 +1,13 @@
 -- Without a stop the ring falls in time if a drive is in phase 0, in whatever phases from 2 on.
-use Rattle.std.proofs.Common.{◌≡◌, inl, inr, ℕ, suc, ◌+◌, ◌<◌, ◌≤◌, Bool, true, false, List, [], ◌∷◌, ◌++◌, length, Option, None, refl, sym, ap, ◌∙◌, arith, if◌then◌else◌}
-use Rattle.std.specs.Prelude.{is_some, slice_index_or}
-use Rattle.std.proofs.lemmas.Bool.{cases_lt, false≢true}
-use Rattle.sercos_step.specs.declared.request.Job.{Job}
-use Rattle.sercos_block.specs.Views.{DriveView, RingView}
-use Rattle.sercos_law_run.specs.Bounds.Bounds.{greatest}
-use Rattle.sercos_trace.specs.Views.{CycleView}
-use Rattle.sercos_trace.specs.declared.events.Fall.{Fall}
-use Rattle.sercos_seat.specs.Ring.{known_of}
-use Rattle.sercos_master.specs.Annals.{Past, fall_of, is_done, is_done_in}
-use Rattle.sercos_script.specs.Links.{Carry, Restarts}
-use Rattle.sercos_law_run.specs.Journal.Runs.{looks_back, master_calls, no_drive, IsClear, IsRun}
-use Rattle.sercos_law_run.specs.Views.RingViews.{at_start, behind_mdt}
-use Rattle.sercos_law_run.specs.Held.Opened.{IsOpened}
-use Rattle.sercos_law_run.specs.Undisturbed.Sections.{AreInTwo, GoesOnInTwo}
+use Rattle.sercos_law_run.proofs.Words.{◌≡◌, inl, inr, ℕ, suc, ◌+◌, ◌<◌, ◌≤◌, false, List, [], ◌∷◌, ◌++◌, length, Option, None, sym, ap, ◌∙◌, arith, if◌then◌else◌, is_some, slice_index_or, cases_lt, false≢true, Job, DriveView, RingView, greatest, CycleView, Fall, known_of, Past, fall_of, is_done, is_done_in, Carry, Restarts, looks_back, master_calls, no_drive, IsClear, IsRun, at_start, behind_mdt, IsOpened, AreInTwo, GoesOnInTwo, IsSpared, IsDown, IsStretch}
 use Rattle.sercos_law_run.proofs.Undisturbed.Arriving.Comes.{calm_in}
 use Rattle.sercos_law_run.proofs.Undisturbed.JobsBegun.{planned_now}
 use Rattle.sercos_law_run.proofs.Undisturbed.PhaseCounts.{end_kept}
 use Rattle.sercos_law_run.proofs.Undisturbed.Stops.StopStays.{none_before, stop_after}
-use Rattle.sercos_law_run.specs.Recovery.FallsInTime.{IsSpared}
-use Rattle.sercos_law_run.specs.Recovery.Stretches.{IsDown, IsStretch}
+use Rattle.sercos_law_run.proofs.Undisturbed.Stops.StopOnce.{same_start}
+use Rattle.sercos_law_run.proofs.Undisturbed.NoFalls.{stays_at}
 use Rattle.sercos_law_run.proofs.Recovery.BeforeFall.{few_within}
 use Rattle.sercos_law_run.proofs.Recovery.DownSince.{shorter}
-use Rattle.sercos_law_run.proofs.Recovery.EpochStops.{same_start}
 use Rattle.sercos_law_run.proofs.Recovery.LateDown.{falls_if_down, no_lower, phase_now}
 use Rattle.sercos_law_run.proofs.Recovery.Limits.{ages_to_limit}
 use Rattle.sercos_law_run.proofs.Recovery.Stretches.{ages_down_in, stays_down_in}
@@ -34,10 +19,6 @@ greatest_low f most [] each = omega arith
 greatest_low f most (d ∷ drives) each =
     let first = each 0 (omega arith) in
     let rest = greatest_low f most drives (λ k low. each (suc k) (omega (arith, low))) in omega (arith, first, rest)
-
-not_done : (done : Bool) (n : ℕ) → n ≡ 2 → (if done then n + 1 else n) ≡ 2 → done ≡ false
-not_done true n two is = absurd (omega (arith, two, is))
-not_done false n two is = refl
 
 -- two cycles more
 widened : (r : RingView) (n m : ℕ) → IsSpared r 63 n → m ≤ n + 2 → IsSpared r 65 m
@@ -75,7 +56,7 @@ module _ (r : RingView) (jobs : List Job) (carry : Carry) (restarts : Restarts) 
           phase = phase;
           goes_on = stop_before none;
           planned = planned_now r jobs carry restarts opened t j run.0 clear.0 phase (stop_before none);
-          unchecked = sym (ap (λ (n : ℕ). is_done_in n (known_of r) (behind_mdt r jobs carry restarts t.sent j)) phase) ∙ not_done (is_done (known_of r) p) p.now.phase phase next;
+          unchecked = sym (ap (λ (n : ℕ). is_done_in n (known_of r) (behind_mdt r jobs carry restarts t.sent j)) phase) ∙ stays_at (is_done (known_of r) p) p.now.phase 2 phase next;
         }
 
   quiet : (t : CycleView) (cycles : List CycleView) (first : CycleView) (before : List CycleView) → IsStretch r jobs carry restarts (t ∷ cycles) first before → restarts (length (cycles ++ first ∷ before)) 0 ≡ false

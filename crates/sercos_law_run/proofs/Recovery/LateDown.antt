@@ -1,40 +1,20 @@
 -- A drive in phase 0 isn't heard, so the ring falls in phases 3 and 4.
-use Rattle.std.proofs.Common.{◌≡◌, ◌⊎◌, inl, inr, ℕ, zero, suc, ◌+◌, ◌<◌, ◌≤◌, Bool, true, false, List, [], ◌∷◌, ◌++◌, length, Option, Some, None, refl, sym, ap, ◌∙◌, arith, if◌then◌else◌}
-use Rattle.std.specs.Prelude.{◌==◌, nat_le, is_some, slice_index}
-use Rattle.std.specs.Option.{option_or}
-use Rattle.std.proofs.lemmas.Bool.{false≢true}
-use Rattle.std.proofs.lemmas.Bool.Decides.{nat_tests}
+use Rattle.sercos_law_run.proofs.Words.{◌≡◌, ◌⊎◌, inl, inr, ℕ, ◌+◌, ◌<◌, ◌≤◌, Bool, true, false, List, [], ◌∷◌, ◌++◌, length, Option, Some, None, refl, sym, ap, ◌∙◌, arith, if◌then◌else◌, ◌==◌, nat_le, is_some, slice_index, option_or, false≢true, false_from_ne_true, nat_tests, Job, RingView, CycleView, Fall, Known, known_of, Call, Past, Turn, after_taken, fall_at, fall_of, first_place, goes_on, has_lost_at, has_lost_mst, is_at_limit, new_epoch, next_phase, still_waiting, hearing, Carry, Restarts, Heard, staying, IsDead, IsUp, heard, passage, ats_in, mst_in, at_calls, begins, drive_at, looks_back, master_calls, own_mst, station_of, with_at, IsClear, IsNext, IsRun, at_start, behind_ats, behind_mdt, behind_mst, heard_last, view_of, views_of, IsOpened, IsUndisturbed, IsDown, IsStretch, IsUpNow}
 use Rattle.sercos_telegram.specs.declared.layout.Kind.TheVariants as kinds
-use Rattle.sercos_step.specs.declared.request.Job.{Job}
-use Rattle.sercos_block.specs.Views.{RingView}
-use Rattle.sercos_trace.specs.Views.{CycleView}
-use Rattle.sercos_trace.specs.declared.events.Fall.{Fall}
 use Rattle.sercos_trace.specs.declared.events.Fall.TheVariants as fall
-use Rattle.sercos_seat.specs.Ring.{Known, known_of}
-use Rattle.sercos_master.specs.Annals.{Call, Past, Turn, after_taken, fall_at, fall_of, first_from, first_place, goes_on, has_lost_at, has_lost_mst, is_at_limit, new_epoch, next_phase, still_waiting, hearing}
-use Rattle.sercos_script.specs.Links.{Carry, Restarts}
-use Rattle.sercos_law_channel.specs.Handshake.Views.{Heard}
-use Rattle.sercos_law_channel.specs.Pace.ChannelCalls.{staying}
-use Rattle.sercos_law_channel.specs.Pace.Passages.{IsDead, IsUp}
-use Rattle.sercos_law_run.specs.Journal.Arrivals.{heard, passage}
-use Rattle.sercos_law_run.specs.Journal.Records.{ats_in, mst_in}
-use Rattle.sercos_law_run.specs.Journal.Runs.{at_calls, begins, drive_at, looks_back, master_calls, own_mst, station_of, with_at, IsClear, IsNext, IsRun}
-use Rattle.sercos_law_run.specs.Views.RingViews.{at_start, behind_ats, behind_mdt, behind_mst, heard_last, view_of, views_of}
 use Rattle.sercos_law_run.proofs.Views.MasterSame.{begun_cycle, turn_mdt}
 use Rattle.sercos_law_run.proofs.Views.Members.{members_count}
 use Rattle.sercos_law_run.proofs.Views.ViewRuns.{started}
-use Rattle.sercos_law_run.specs.Held.Opened.{IsOpened}
 use Rattle.sercos_law_run.proofs.Headline.HeadlineRuns.{all_stand}
 use Rattle.sercos_law_run.specs.Undisturbed.EpochStarts.{Falls}
-use Rattle.sercos_law_run.specs.Undisturbed.Undisturbed.{IsUndisturbed}
 use Rattle.sercos_law_run.proofs.Undisturbed.Arriving.AfterAt.{after_at_so}
+use Rattle.sercos_law_run.proofs.Undisturbed.Arriving.Addressed.{finds}
 use Rattle.sercos_law_run.proofs.Undisturbed.ChannelsKept.{ats_leave}
 use Rattle.sercos_law_run.proofs.Undisturbed.Arriving.Comes.{calm_in}
 use Rattle.sercos_law_run.proofs.Undisturbed.NoFalls.{heard_mdt}
 use Rattle.sercos_law_run.proofs.Undisturbed.Checks.PassedCycles.{passed_undisturbed}
 use Rattle.sercos_law_run.proofs.Undisturbed.PhaseCounts.{end_kept}
 use Rattle.sercos_law_run.proofs.Undisturbed.Arriving.WholeIn.{whole_in}
-use Rattle.sercos_law_run.specs.Recovery.Stretches.{IsDown, IsStretch, IsUpNow}
 use Rattle.sercos_law_run.proofs.Recovery.Stretches.{stays_down_in}
 use Rattle.sercos_law_run.proofs.Recovery.UpNext.{phase_next, up_next}
 
@@ -61,14 +41,6 @@ ats_hear r jobs carry cycle k (at ∷ ats) h on = ats_hear r jobs carry cycle k 
     by (Some content) = after_at_so (IsHeardOn k) (known_of r) content (looks_back r jobs h) on (λ i. taken_hears k i content (looks_back r jobs h) on)
 
 -- THE RING FALLS if a drive was heard neither in a cycle nor in the one before, in phases 3 and 4.
-pub found : (n k i : ℕ) (test : ℕ → Bool) → k ≤ i → i < k + n → test i ≡ true → is_some (first_from k n test) ≡ true
-found zero k i test low high passes = absurd (omega (arith, low, high))
-found (suc n) k i test low high passes = by (test k) refl (λ other. found n (k + 1) i test (omega (arith, low, other)) (omega (arith, high)) passes)
-  where
-    by : (b : Bool) → test k ≡ b → ((k ≡ i → ⊥) → is_some (first_from (k + 1) n test) ≡ true) → is_some (if b then Some k else first_from (k + 1) n test) ≡ true
-    by true on further = refl
-    by false off further = further (λ same. false≢true (sym off ∙ ap test same ∙ passes))
-
 one_of : (f : ℕ → Fall) (s : Known) (a c : Option Fall) (o : Option ℕ) → is_some o ≡ true → is_some (option_or a (option_or (fall_at f s o) c)) ≡ true
 one_of f s (Some x) c o some = refl
 one_of f s None c (Some i) some = refl
@@ -76,16 +48,12 @@ one_of f s None c None some = absurd (false≢true some)
 
 falls_so : (s : Known) (p : Past) (k : ℕ) → k < length s.drives → has_lost_at k (p.now ∷ p.turns) ≡ true → is_some (fall_of s p) ≡ true
 falls_so s p k below lost = one_of fall.AtLost s (if has_lost_mst (p.now ∷ p.turns) then Some fall.MstLost else None) (fall_at fall.StepLimit s (first_place s (is_at_limit p))) (first_place s (λ i. has_lost_at i (p.now ∷ p.turns)))
-    (found (length s.drives) 0 k (λ i. has_lost_at i (p.now ∷ p.turns)) (omega arith) (omega (arith, below)) lost)
+    (ap (λ (o : Option ℕ). is_some o) (finds 0 (length s.drives) k (λ i. has_lost_at i (p.now ∷ p.turns)) (omega arith) (omega (arith, below)) lost).found)
 
 lost_so : (k : ℕ) (now before : Turn) (turns all : List Turn) → all ≡ before ∷ turns → 3 ≤ before.phase → now.heard k ≡ false → before.heard k ≡ false → has_lost_at k (now ∷ all) ≡ true
 lost_so k now before turns all are late unheard unheard_before =
     let is : nat_le 3 before.phase ≡ true = grind (arith, nat_tests, late) in
     ap (λ (l : List Turn). has_lost_at k (now ∷ l)) are ∙ rw (is, unheard, unheard_before) refl
-
-pub not_true : (b : Bool) → (b ≡ true → ⊥) → b ≡ false
-not_true true never = absurd (never refl)
-not_true false never = refl
 
 pub not_one : (n : ℕ) → 2 ≤ n → (n == 1) ≡ false
 not_one n late = grind (arith, nat_tests, late)
@@ -111,7 +79,7 @@ module _ (r : RingView) (jobs : List Job) (carry : Carry) (restarts : Restarts) 
   -- a drive of which the channel hears nothing isn't heard
   unheard : (t : CycleView) (j : List CycleView) (k : ℕ) → IsNext r jobs carry restarts t j → 2 ≤ t.phase → (view_of r jobs carry restarts k t j).heard ≡ None → (behind_mdt r jobs carry restarts t.sent j).now.heard k ≡ false
   unheard t j k next late none = ap (λ (f : ℕ → Bool). f k) (heard_mdt (known_of r) (behind_ats r jobs carry restarts t.sent j))
-      ∙ not_true ((behind_ats r jobs carry restarts t.sent j).now.heard k) (λ is. false≢true (sym (ap (λ (o : Option Heard). is_some o) none) ∙ on.hears is))
+      ∙ false_from_ne_true ((behind_ats r jobs carry restarts t.sent j).now.heard k) (λ is. false≢true (sym (ap (λ (o : Option Heard). is_some o) none) ∙ on.hears is))
     where
       first : IsHeardOn k (behind_mst r jobs carry restarts t.sent j)
       first = record {

@@ -1,52 +1,16 @@
 -- A step to a drive in phase 0 makes the ring fall at its limit.
-use Rattle.std.proofs.Common.{◌≡◌, ℕ, ◌+◌, ◌<◌, ◌≤◌, Bool, true, false, ◌&&◌, List, [], ◌∷◌, length, Option, Some, None, refl, sym, ap, ◌∙◌, subst, arith, if◌then◌else◌}
-use Rattle.std.specs.Prelude.{◌==◌, nat_le, is_some, option_map, unwrap_or, min}
-use Rattle.std.specs.Option.{option_or}
-use Rattle.std.proofs.lemmas.Bool.{cond-false, false≢true}
-use Rattle.std.proofs.lemmas.Bool.Decides.{nat_tests}
-use Rattle.sercos_step.specs.declared.request.Job.{Job}
-use Rattle.sercos_block.specs.Views.{RingView}
-use Rattle.sercos_service_master.specs.Begun.{open_in, steps_in}
-use Rattle.sercos_service_master.specs.Calls.{age_of, cycles_open}
+use Rattle.sercos_law_run.proofs.Words.{◌≡◌, ℕ, ◌+◌, ◌<◌, ◌≤◌, Bool, true, false, ◌&&◌, List, [], ◌∷◌, length, Option, Some, None, refl, sym, ap, ◌∙◌, subst, arith, if◌then◌else◌, ◌==◌, nat_le, is_some, option_map, unwrap_or, min, cond-false, false≢true, nat_tests, Job, RingView, open_in, steps_in, age_of, cycles_open, CycleView, Fall, known_of, is_place, Past, count_addressed, fall_of, is_at_limit, Carry, Restarts, begun_in, epoch_begun, unless_restart, View, age_by, age_in, age_if_open, calls_in, channel_calls, open_late, drive_at, IsClear, IsRun, behind_mdt, view_of, views_of, IsOpened, ages_before_end}
 use Rattle.sercos_service_master.specs.Calls as channel
-use Rattle.sercos_trace.specs.Views.{CycleView}
-use Rattle.sercos_trace.specs.declared.events.Fall.{Fall}
-use Rattle.sercos_trace.specs.declared.events.Fall.TheVariants as fall
-use Rattle.sercos_seat.specs.Ring.{Known, known_of}
-use Rattle.sercos_seat.specs.Channel.{is_place}
-use Rattle.sercos_master.specs.Annals.{Past, count_addressed, fall_at, fall_of, first_place, has_lost_at, has_lost_mst, is_at_limit}
-use Rattle.sercos_script.specs.Links.{Carry, Restarts}
-use Rattle.sercos_law_channel.specs.Handshake.Epochs.{begun_in, epoch_begun, unless_restart}
 use Rattle.sercos_law_channel.specs.Handshake.Runs.{IsRun as IsViewRun}
-use Rattle.sercos_law_channel.specs.Handshake.Views.{View}
-use Rattle.sercos_law_channel.specs.Pace.Ages.{age_by, age_in}
-use Rattle.sercos_law_channel.specs.Pace.ChannelCalls.{age_if_open, AreSent, calls_in, channel_calls}
-use Rattle.sercos_law_channel.proofs.Theorems.{open_late}
-use Rattle.sercos_law_run.specs.Journal.Runs.{drive_at, IsClear, IsRun}
-use Rattle.sercos_law_run.specs.Views.RingViews.{behind_mdt, view_of, views_of}
+use Rattle.sercos_law_channel.specs.Pace.ChannelCalls.{AreSent}
 use Rattle.sercos_law_run.proofs.Views.Members.{members_count}
-use Rattle.sercos_law_run.specs.Held.Opened.{IsOpened}
 use Rattle.sercos_law_run.proofs.Headline.HeadlineRuns.{all_stand}
 use Rattle.sercos_law_run.proofs.Undisturbed.ChannelsKept.{calls_now}
 use Rattle.sercos_law_run.proofs.Undisturbed.Arriving.Sending.{sends_in}
-use Rattle.sercos_law_run.proofs.Recovery.LateDown.{found, not_one, not_true, phase_now}
-use Rattle.sercos_law_channel.proofs.Pace.CallAges.{ages_before_end}
+use Rattle.sercos_law_run.proofs.Recovery.LateDown.{not_one, phase_now}
+use Rattle.sercos_law_run.proofs.Stations.Limits.{not_at_limit}
 
 -- THE RING FALLS if a step is at its limit.
-some_last : (a b c : Option Fall) → is_some c ≡ true → is_some (option_or a (option_or b c)) ≡ true
-some_last (Some x) b c some = refl
-some_last None (Some y) c some = refl
-some_last None None c some = some
-
-limit_found : (s : Known) (o : Option ℕ) → is_some o ≡ true → is_some (fall_at fall.StepLimit s o) ≡ true
-limit_found s (Some i) some = refl
-limit_found s None some = absurd (false≢true some)
-
-not_at_limit : (s : Known) (p : Past) (k : ℕ) → k < length s.drives → fall_of s p ≡ None → is_at_limit p k ≡ false
-not_at_limit s p k below none = not_true (is_at_limit p k) (λ at. false≢true (sym (ap (λ (o : Option Fall). is_some o) none)
-    ∙ some_last (if has_lost_mst (p.now ∷ p.turns) then Some fall.MstLost else None) (fall_at fall.AtLost s (first_place s (λ i. has_lost_at i (p.now ∷ p.turns)))) (fall_at fall.StepLimit s (first_place s (is_at_limit p)))
-    (limit_found s (first_place s (is_at_limit p)) (found (length s.drives) 0 k (is_at_limit p) (omega arith) (omega (arith, below)) at))))
-
 -- so without a fall the channel has counted at most 63 cycles ..
 less_than : (n : ℕ) → nat_le 64 n ≡ false → n ≤ 63
 less_than n short = grind (arith, nat_tests, short)
@@ -59,10 +23,6 @@ few_open p k late not_there = less_than (cycles_open (p.calls k))
 counted : (o : Option ℕ) (age : ℕ) → min (unwrap_or o 0) 64 ≤ 63 → option_map (λ (n : ℕ). n + 1) o ≡ Some age → age ≤ 64
 counted None age low is = absurd (cc)
 counted (Some n) age low is = let same : n + 1 ≡ age = cc in omega (arith, same, low)
-
-none_of : (o : Option Fall) → is_some o ≡ false → o ≡ None
-none_of None off = refl
-none_of (Some x) off = absurd (false≢true (sym off))
 
 at_least_one : (same : Bool) (age : ℕ) → 1 ≤ (if same then age + 1 else 1)
 at_least_one true age = omega arith

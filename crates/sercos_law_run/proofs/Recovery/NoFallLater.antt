@@ -1,37 +1,18 @@
 -- No fall comes once every drive is up and the steps that were open in the first undisturbed cycle have ended.
-use Rattle.std.proofs.Common.{◌≡◌, inl, inr, ℕ, ◌+◌, ◌<◌, ◌≤◌, Bool, true, false, List, ◌∷◌, ◌++◌, length, Option, Some, None, refl, ap, ◌∙◌, subst, arith}
-use Rattle.std.specs.Prelude.{is_some, min, option_map, unwrap_or}
-use Rattle.sercos_step.specs.declared.request.Job.{Job}
-use Rattle.sercos_block.specs.Views.{RingView}
-use Rattle.sercos_service_master.specs.Begun.{open_in}
-use Rattle.sercos_service_master.specs.Calls.{age_of, cycles_open}
+use Rattle.sercos_law_run.proofs.Words.{◌≡◌, inl, inr, ℕ, ◌+◌, ◌<◌, ◌≤◌, Bool, true, false, List, ◌∷◌, ◌++◌, length, Option, Some, None, refl, ap, ◌∙◌, subst, arith, is_some, min, option_map, unwrap_or, Job, RingView, open_in, age_of, cycles_open, CycleView, known_of, tasks_for, fall_of, Carry, Restarts, begun_in, View, age_in, age_if_open, calls_in, channel_calls, staying, drive_at, middle, IsClear, IsRun, behind_ats, behind_mdt, view_of, views_of, IsOpened, IsUndisturbed, IsDown, IsStretch, ages_before_end}
 use Rattle.sercos_service_master.specs.Calls as channel
-use Rattle.sercos_trace.specs.Views.{CycleView}
-use Rattle.sercos_seat.specs.Ring.{known_of, tasks_for}
-use Rattle.sercos_master.specs.Annals.{fall_of}
-use Rattle.sercos_script.specs.Links.{Carry, Restarts}
-use Rattle.sercos_law_channel.specs.Handshake.Epochs.{begun_in}
-use Rattle.sercos_law_channel.specs.Handshake.Views.{View}
-use Rattle.sercos_law_channel.specs.Pace.Ages.{age_in}
-use Rattle.sercos_law_channel.specs.Pace.ChannelCalls.{age_if_open, calls_in, channel_calls, staying}
-use Rattle.sercos_law_run.specs.Journal.Runs.{drive_at, middle, IsClear, IsRun}
-use Rattle.sercos_law_run.specs.Views.RingViews.{behind_ats, behind_mdt, view_of, views_of}
-use Rattle.sercos_law_run.proofs.Views.Members.{members_count}
-use Rattle.sercos_law_run.specs.Held.Opened.{IsOpened}
+use Rattle.sercos_law_run.proofs.Views.Members.{in_ring}
 use Rattle.sercos_law_run.proofs.Headline.HeadlineRuns.{all_stand}
-use Rattle.sercos_law_run.specs.Undisturbed.Undisturbed.{IsUndisturbed}
 use Rattle.sercos_law_run.proofs.Undisturbed.ChannelsKept.{calls_now}
 use Rattle.sercos_law_run.proofs.Undisturbed.NeverFalls.{busy_low}
 use Rattle.sercos_law_run.proofs.Undisturbed.NoFalls.{has_risen, heard_mdt, no_fall}
 use Rattle.sercos_law_run.proofs.Undisturbed.Arriving.Sending.{sends_in}
 use Rattle.sercos_law_run.proofs.Undisturbed.StaysUp.{heard_then, whole_now}
 use Rattle.sercos_law_run.proofs.Undisturbed.Arriving.WholeIn.{whole_in}
-use Rattle.sercos_law_run.specs.Recovery.Stretches.{IsDown, IsStretch}
 use Rattle.sercos_law_run.proofs.Recovery.AgesLater.{age_next, ages_later}
 use Rattle.sercos_law_run.proofs.Recovery.LateDown.{next_up, phase_now}
 use Rattle.sercos_law_run.proofs.Recovery.Limits.{are_sent}
 use Rattle.sercos_law_run.proofs.Recovery.Stretches.{newest_up}
-use Rattle.sercos_law_channel.proofs.Pace.CallAges.{ages_before_end}
 
 -- what the channel has counted before a cycle's end
 few_counted : (o : Option ℕ) (is_open : Bool) (age : ℕ) → age ≤ 64 → option_map (λ (n : ℕ). n + 1) o ≡ age_if_open is_open age → min (unwrap_or o 0) 64 ≤ 63
@@ -64,14 +45,11 @@ module _ (r : RingView) (jobs : List Job) (carry : Carry) (restarts : Restarts) 
       no_fall (known_of r) (behind_mdt r jobs carry restarts t.sent (cycles ++ first ∷ before)) (has_risen (known_of r) (tasks_for (known_of r) jobs) (middle r carry restarts t.sent (cycles ++ first ∷ before))) (record {
         whole = whole_now r jobs carry restarts opened t (cycles ++ first ∷ before) run.1 calm;
         hears = λ three k below. ap (λ (f : ℕ → Bool). f k) (heard_mdt (known_of r) (behind_ats r jobs carry restarts t.sent (cycles ++ first ∷ before)))
-            ∙ heard_then r jobs carry restarts opened t (cycles ++ first ∷ before) run clear k (inside k below) (hears k (inside k below) (let is = phase in omega (arith, is, three)));
+            ∙ heard_then r jobs carry restarts opened t (cycles ++ first ∷ before) run clear k (in_ring r k below) (hears k (in_ring r k below) (let is = phase in omega (arith, is, three)));
         identifies = λ one k below to. let is = phase in absurd (omega (arith, is, one, late));
-        answers = λ other k below. short k (inside k below);
+        answers = λ other k below. short k (in_ring r k below);
       })
     where
-      inside : (k : ℕ) → k < length (known_of r).drives → k < length r.drives
-      inside k below = let count = members_count r in omega (arith, below, count)
-
       phase : (behind_mdt r jobs carry restarts t.sent (cycles ++ first ∷ before)).now.phase ≡ t.phase
       phase = phase_now r jobs carry restarts t (cycles ++ first ∷ before) run.1
 

@@ -1,39 +1,17 @@
 -- What a cycle reports is the planner's answer to the ring's requirements, and each stop has its cause.
-use Rattle.std.proofs.Common.{◌≡◌, ◌⊎◌, inl, inr, ℕ, ◌<◌, ◌≤◌, Bool, true, false, List, ◌∷◌, length, Option, Some, None, Ok, sym, ap, ◌∙◌, arith, if◌then◌else◌}
-use Rattle.std.specs.Option.{option_or}
-use Rattle.std.proofs.lemmas.Bool.{cases_eq, cases_lt}
-use Rattle.sercos_step.specs.declared.request.Job.{Job}
-use Rattle.sercos_timing.specs.Views.{PlanView}
-use Rattle.sercos_plan.specs.ChainOf.{planned}
-use Rattle.sercos_block.specs.Rings.{wishes_of}
-use Rattle.sercos_block.specs.Views.{RingView}
-use Rattle.sercos_trace.specs.Views.{CycleView, EventsView}
-use Rattle.sercos_trace.specs.declared.events.Stop.{Stop}
+use Rattle.sercos_law_run.proofs.Words.{◌≡◌, ◌⊎◌, inl, inr, ℕ, ◌<◌, ◌≤◌, Bool, true, false, List, ◌∷◌, length, Option, Some, None, Ok, sym, ap, ◌∙◌, arith, if◌then◌else◌, option_or, cases_eq, cases_lt, Job, PlanView, planned, wishes_of, RingView, CycleView, EventsView, Stop, wishes_given, known_of, tasks_for, Past, outcomes, plan_told, restart_told, Carry, Restarts, begins, drive_at, looks_back, master_calls, middle, no_events, IsClear, IsRun, behind_mdt, view_of, views_of, IsOpened, StopsForTheCycleTime, StopsForThePlan, StopsForCause, IsPredicted, IsRing-is_ring, is_planned}
 use Rattle.sercos_trace.specs.declared.events.Stop.TheVariants as stop
-use Rattle.sercos_seat.specs.Agenda.{wishes_given}
-use Rattle.sercos_seat.specs.Ring.{known_of, tasks_for}
-use Rattle.sercos_master.specs.Annals.{Past, outcomes}
-use Rattle.sercos_master.specs.Reports.{plan_told, restart_told}
-use Rattle.sercos_script.specs.Links.{Carry, Restarts}
-use Rattle.sercos_law_run.specs.Journal.Runs.{begins, drive_at, looks_back, master_calls, middle, no_events, IsClear, IsRun}
 use Rattle.sercos_law_run.proofs.Typed.Mdts.{phase_low}
-use Rattle.sercos_law_run.specs.Views.RingViews.{behind_mdt, view_of, views_of}
 use Rattle.sercos_law_run.proofs.Settings.NoCheck127.{next_still, stays}
-use Rattle.sercos_law_run.specs.Held.Opened.{IsOpened}
 use Rattle.sercos_law_run.proofs.Held.Runs.{holding}
 use Rattle.sercos_law_run.proofs.Headline.HeadlineRuns.{all_stand, first_store, spelled_in, stored_in}
 use Rattle.sercos_law_run.proofs.Headline.StopRuns.{IsFollowed, no_plan_made}
 use Rattle.sercos_law_run.proofs.Headline.WellRuns.{event_stop}
-use Rattle.sercos_law_run.specs.Undisturbed.StopsInTwo.{StopsForTheCycleTime, StopsForThePlan}
-use Rattle.sercos_law_run.specs.Undisturbed.WholeRuns.{StopsForCause}
 use Rattle.sercos_law_run.proofs.Undisturbed.JobsBegun.{asked_now, begun_then}
 use Rattle.sercos_law_run.proofs.Undisturbed.WholeRuns.{caused}
-use Rattle.sercos_law_run.specs.Recovery.Predicts.{IsPredicted}
 use Rattle.sercos_law_run.proofs.Recovery.EarlyStops.{early_in}
 use Rattle.sercos_law_run.proofs.Recovery.LateDown.{phase_now}
-use Rattle.sercos_block.proofs.RingLemmas.{IsRing-is_ring}
 use Rattle.sercos_law_run.proofs.Cited.{reads_well}
-use Rattle.sercos_master.proofs.Planned.{is_planned}
 use Rattle.sercos_law_run.proofs.Undisturbed.Cited.{fits_in_three, never_stops_in_four, own_fits_in_four, stops_in_three, stops_in_two}
 
 module _ (r : RingView) (jobs : List Job) (carry : Carry) (restarts : Restarts) (opened : IsOpened r jobs) (t : CycleView)

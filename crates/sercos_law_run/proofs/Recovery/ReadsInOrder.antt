@@ -1,26 +1,10 @@
 -- Up to phase 2, where something of a drive has begun, each drive before it in the ring has been read.
-use Rattle.std.proofs.Common.{◌≡◌, inl, inr, ℕ, ◌+◌, ◌<◌, ◌≤◌, Bool, true, false, not, List, [], ◌∷◌, length, Option, Some, None, refl, sym, ap, ◌∙◌, arith, if◌then◌else◌}
-use Rattle.std.specs.Prelude.{is_none, is_some}
-use Rattle.std.specs.Option.{option_or}
-use Rattle.std.proofs.lemmas.Bool.{cases_lt, leb-true, le-leb}
-use Rattle.sercos_step.specs.declared.request.Outcome.{Outcome}
-use Rattle.sercos_service_master.specs.Begun.{Begun}
-use Rattle.sercos_service_master.specs.Calls.{begun_by}
+use Rattle.sercos_law_run.proofs.Words.{◌≡◌, inl, inr, ℕ, ◌<◌, ◌≤◌, Bool, true, false, not, List, ◌∷◌, length, Option, Some, None, refl, sym, ap, ◌∙◌, arith, is_none, option_or, cases_lt, leb-true, le-leb, not-false, same_Some, Outcome, Begun, begun_by, reads_count, is_checked, is_read, outcomes_in, with_outcome, Known, MemberView, Task, member, Call, Past, outcomes, first_place, after_taken, settled, in_turn, past, each_passes, leaves, mdt_adds, at_adds, going, past_keeps, with_begun, request_of}
 use Rattle.sercos_service_master.specs.Calls as channel
-use Rattle.sercos_seat.specs.Agenda.{reads_count, is_checked, is_read}
-use Rattle.sercos_seat.specs.Channel.{outcomes_in, with_outcome}
-use Rattle.sercos_seat.specs.Ring.{Known, MemberView, Task, member}
-use Rattle.sercos_master.specs.Annals.{Call, HearMst, HearAt, Mdt, End, Restart, Past, outcomes, first_place, after_taken, settled, in_turn, begins, fall_of, is_done, goes_on, new_epoch, still_waiting, past}
-use Rattle.sercos_master.proofs.Configured.{each_passes, leaves, mdt_adds}
-use Rattle.sercos_master.proofs.Planned.{at_adds}
-use Rattle.sercos_law_channel.specs.Handshake.Epochs.{with_begun}
-use Rattle.sercos_law_run.specs.Views.RingViews.{request_of}
+use Rattle.sercos_master.specs.Annals.{Mdt, begins}
 use Rattle.sercos_law_run.proofs.Views.MasterSame.{begun_so, turn_mdt}
-use Rattle.sercos_law_run.proofs.Undisturbed.Arriving.AfterAt.{after_at_so}
 use Rattle.sercos_law_run.proofs.Undisturbed.EpochCycles.{longer}
-use Rattle.sercos_law_run.proofs.Undisturbed.Arriving.Arrivals.{not_false}
 use Rattle.sercos_law_run.proofs.Undisturbed.InOrder.{at_leaves_count, before_first, begins_in_turn}
-use Rattle.sercos_law_run.proofs.Undisturbed.Arriving.Small.{some_is}
 
 -- a drive that has been read stays so
 read_stays : (m : MemberView) (outs : List Outcome) (o : Option Outcome) → is_read m outs ≡ true → is_read m (with_outcome o outs) ≡ true
@@ -35,8 +19,8 @@ turn_reads s p k there turn j low = by (first_place s (λ i. not (is_read (membe
     by : (o : Option ℕ) → first_place s (λ i. not (is_read (member s i) (outcomes p i))) ≡ o → option_or o (first_place s (λ i. not (is_checked (member s i) (outcomes p i)))) ≡ Some k → is_read (member s j) (outcomes p j) ≡ true
     by None none second = each_passes (length s.drives) 0 (λ i. is_read (member s i) (outcomes p i)) (ap (λ (o : Option ℕ). is_none o) none) j (omega arith) (omega (arith, low, there))
     by (Some i) found first =
-        let same : i ≡ k = some_is i k first in
-        not_false _ (before_first 0 (length s.drives) (λ m. not (is_read (member s m) (outcomes p m))) i found j (omega arith) (omega (arith, same, low)))
+        let same : i ≡ k = same_Some i k first in
+        not-false _ (before_first 0 (length s.drives) (λ m. not (is_read (member s m) (outcomes p m))) i found j (omega arith) (omega (arith, same, low)))
 
 module _ (s : Known) (requests : ℕ → List Task) where
   abbrev AreReadInOrder : Past → Type 0
@@ -75,18 +59,16 @@ module _ (s : Known) (requests : ℕ → List Task) where
           turn = begins_in_turn s (settled s (past s requests h)) k t (let same = (leaves s (past s requests h)).phase in let low_is = before in omega (arith, same, low_is)) some
 
   -- THE END OF A CYCLE
-  end_order : (h : List Call) → AreReadInOrder (past s requests h) → AreReadInOrder (past s requests (End ∷ h))
-  end_order h have = by (is_some (fall_of s (past s requests h))) (is_done s (past s requests h))
-    where
-      by : (fell done : Bool) → AreReadInOrder (if fell then new_epoch ((past s requests h).cycle + 1) (still_waiting (past s requests h)) else goes_on (if done then (past s requests h).now.phase + 1 else (past s requests h).now.phase) (past s requests h))
-      by true done two k there more j low = absurd (omega (arith, more))
-      by false false two k there more j low = have two k there more j low
-      by false true two k there more j low = have (omega (arith, two)) k there more j low
+  goes_order : (h : List Call) (done : Bool) → AreReadInOrder (past s requests h) → AreReadInOrder (going done (past s requests h))
+  goes_order h false have two k there more j low = have two k there more j low
+  goes_order h true have two k there more j low = have (omega (arith, two)) k there more j low
 
   pub reads_in_order : (h : List Call) → AreReadInOrder (past s requests h)
-  reads_in_order [] = λ two k there more j low. absurd (omega (arith, more))
-  reads_in_order (HearMst content ∷ h) = reads_in_order h
-  reads_in_order (HearAt content ∷ h) = after_at_so AreReadInOrder s content (past s requests h) (reads_in_order h) (λ i. taken_order i content (past s requests h) (reads_in_order h))
-  reads_in_order (Mdt ∷ h) = mdt_order h (reads_in_order h)
-  reads_in_order (End ∷ h) = end_order h (reads_in_order h)
-  reads_in_order (Restart ∷ h) = λ two k there more j low. absurd (omega (arith, more))
+  reads_in_order = past_keeps AreReadInOrder s requests (record {
+    first = λ two k there more j low. absurd (omega (arith, more));
+    mst = λ h whole have. have;
+    taken = λ h i content inside is. taken_order i content (past s requests h);
+    mdt = mdt_order;
+    on = λ h done is. goes_order h done;
+    new = λ h cycle have two k there more j low. absurd (omega (arith, more));
+  })

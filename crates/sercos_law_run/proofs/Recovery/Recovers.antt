@@ -1,53 +1,24 @@
 -- So the ring is back in time after the last disturbed cycle.
-use Rattle.std.proofs.Common.{◌≡◌, ◌⊎◌, inl, inr, ℕ, suc, ◌+◌, ◌*◌, ◌<◌, ◌≤◌, true, List, [], ◌∷◌, ◌++◌, length, Option, Some, None, refl, sym, ap, ◌∙◌, subst, arith, length-append}
-use Rattle.std.specs.Prelude.{is_some, slice_get}
-use Rattle.std.proofs.lemmas.Bool.{cases_eq, cases_lt, false≢true}
-use Rattle.std.proofs.lemmas.Option.{slice_get_within}
-use Rattle.sercos_step.specs.declared.request.Job.{Job}
-use Rattle.sercos_block.specs.Startup.{startup_bound}
-use Rattle.sercos_block.specs.Views.{RingView}
-use Rattle.sercos_law_run.specs.Bounds.Bounds.{slowest}
-use Rattle.sercos_trace.specs.Views.{CycleView}
-use Rattle.sercos_trace.specs.declared.events.Fall.{Fall}
-use Rattle.sercos_trace.specs.declared.events.Stop.{Stop}
-use Rattle.sercos_seat.proofs.Gets.{get_left}
-use Rattle.sercos_seat.specs.Ring.{known_of, tasks_for}
-use Rattle.sercos_master.specs.Annals.{Past, fall_of}
-use Rattle.sercos_script.specs.Links.{Carry, Restarts}
-use Rattle.sercos_law_channel.specs.Handshake.Views.{standing}
-use Rattle.sercos_law_run.specs.Journal.Runs.{begins, IsClear, IsRun}
+use Rattle.sercos_law_run.proofs.Words.{◌≡◌, ◌⊎◌, inl, inr, ℕ, suc, ◌+◌, ◌*◌, ◌<◌, ◌≤◌, true, List, [], ◌∷◌, ◌++◌, length, Option, Some, None, refl, sym, ap, ◌∙◌, subst, arith, length-append, is_some, slice_get, cases_eq, cases_lt, false≢true, slice_get_within, Job, startup_bound, RingView, slowest, CycleView, Fall, Stop, get_left, known_of, tasks_for, Past, fall_of, Carry, Restarts, standing, begins, IsClear, IsRun, behind_mdt, views_of, IsOpened, StartsAtFall, StartsEpoch, HaveTold, left_after, request_cycles, waiting_after, NoneFalls, StaysUpUndisturbed, TellsNoFall, StopsForTheCycleTime, StopsForThePlan, IsRight, StopsForTheCheck, AreUndisturbed, IsUndisturbed, IsSpared, IsBack, IsDown, IsStretch, IsRing-is_ring}
 use Rattle.sercos_law_run.proofs.Typed.Mdts.{phase_low}
-use Rattle.sercos_law_run.specs.Views.RingViews.{behind_mdt, views_of}
-use Rattle.sercos_law_run.specs.Held.Opened.{IsOpened}
-use Rattle.sercos_law_run.specs.Undisturbed.EpochStarts.{StartsAtFall, StartsEpoch}
-use Rattle.sercos_law_run.specs.Undisturbed.Reports.{HaveTold, left_after, request_cycles, waiting_after}
-use Rattle.sercos_law_run.specs.Undisturbed.StartUps.{NoneFalls, StaysUpUndisturbed, TellsNoFall}
-use Rattle.sercos_law_run.specs.Undisturbed.StopsInTwo.{StopsForTheCycleTime, StopsForThePlan}
-use Rattle.sercos_law_run.specs.Undisturbed.StopsLater.{IsRight, StopsForTheCheck}
-use Rattle.sercos_law_run.specs.Undisturbed.Undisturbed.{AreUndisturbed, IsUndisturbed}
 use Rattle.sercos_law_run.proofs.Undisturbed.Answered.{tells_in}
 use Rattle.sercos_law_run.proofs.Undisturbed.Arriving.Comes.{calm_in}
 use Rattle.sercos_law_run.proofs.Undisturbed.EpochCycles.{AreOn, IsCut, IsOn, cut, none_along, run_rest}
 use Rattle.sercos_law_run.proofs.Undisturbed.InTime.{within_bound}
 use Rattle.sercos_law_run.proofs.Undisturbed.Arriving.Small.{first_is}
 use Rattle.sercos_law_run.proofs.Undisturbed.Stops.StopStays.{stop_after}
+use Rattle.sercos_law_run.proofs.Undisturbed.Stops.StopOnce.{same_start}
 use Rattle.sercos_law_run.proofs.Undisturbed.ToldInTime.{IsTold, beyond, left_first, left_in_epoch, left_in_time, numbers_long, told_since, told_there}
 use Rattle.sercos_law_run.proofs.Undisturbed.WholeRuns.{caused}
-use Rattle.sercos_law_run.specs.Recovery.FallsInTime.{IsSpared}
-use Rattle.sercos_law_run.specs.Recovery.Recovers.{IsBack}
-use Rattle.sercos_law_run.specs.Recovery.Stretches.{IsDown, IsStretch}
 use Rattle.sercos_law_run.proofs.Recovery.ComesBack.{on_now}
 use Rattle.sercos_law_run.proofs.Recovery.DownSince.{shorter, up_all}
 use Rattle.sercos_law_run.proofs.Recovery.EarlyPhases.{early_or_entered}
 use Rattle.sercos_law_run.proofs.Recovery.EarlyStops.{stands_at}
-use Rattle.sercos_law_run.proofs.Recovery.EpochStops.{same_start}
 use Rattle.sercos_law_run.proofs.Recovery.FallsInTime.{falls_in_time, late_now}
 use Rattle.sercos_law_run.proofs.Recovery.FallsSoon.{down_or_up, falls_soon}
 use Rattle.sercos_law_run.proofs.Recovery.LateDown.{no_lower}
 use Rattle.sercos_law_run.proofs.Recovery.SpareStops.{falls_anyway}
 use Rattle.sercos_law_run.proofs.Recovery.Stretches.{rest_clear, rest_runs}
-use Rattle.sercos_block.proofs.RingLemmas.{IsRing-is_ring}
-use Rattle.sercos_law_channel.proofs.Cited.{rest_since}
 use Rattle.sercos_law_run.proofs.Undisturbed.Cited.{fits_in_three, never_stops_in_four, own_fits_in_four, stops_in_three, stops_in_two}
 
 -- WHAT ENDS ALIKE: of two ways to write a list, the longer end goes on from the shorter one.
@@ -79,16 +50,17 @@ ComesIn r jobs carry restarts tail = (first : CycleView) (before : List CycleVie
     IsStretch r jobs carry restarts (t ∷ cycles) first before → startup_bound r + tail ≤ length cycles + 1 →
     (t.phase ≡ 4) ⊎ (is_some (behind_mdt r jobs carry restarts t.sent (cycles ++ first ∷ before)).stop ≡ true)
 
+-- phase 4 says that the ring is right
+pub right_in : (r : RingView) (jobs : List Job) (carry : Carry) (restarts : Restarts) → IsOpened r jobs → (t : CycleView) (j : List CycleView)
+    → IsRun r jobs carry restarts (t ∷ j) → IsClear (t ∷ j) → t.phase ≡ 4 → IsRight r
+right_in r jobs carry restarts opened t j run clear four = (fits_in_three r jobs carry restarts t j opened run clear (omega (arith, four)), λ k below. own_fits_in_four r jobs carry restarts t j k opened run clear below four)
+
 module _ (r : RingView) (jobs : List Job) (carry : Carry) (restarts : Restarts) (opened : IsOpened r jobs) (stays_up : StaysUpUndisturbed)
     (at_fall : StartsAtFall) (fall tail : ℕ) (room : slowest r.drives + length r.drives + 47 ≤ fall)
     (spared : (n : ℕ) → IsSpared r 65 n → n + 3 ≤ fall) (ends : EndsIn r jobs carry restarts tail)
     (comes : ComesIn r jobs carry restarts tail) where
   some_drive : 1 ≤ length r.drives
   some_drive = (IsRing-is_ring r opened.valid).some
-
-  -- phase 4 says that the ring is right
-  right : (t : CycleView) (j : List CycleView) → IsRun r jobs carry restarts (t ∷ j) → IsClear (t ∷ j) → t.phase ≡ 4 → IsRight r
-  right t j run clear four = (fits_in_three r jobs carry restarts t j opened run clear (omega (arith, four)), λ k below. own_fits_in_four r jobs carry restarts t j k opened run clear below four)
 
   abbrev IsCause : CycleView → List CycleView → Stop → Type 0
   IsCause t j x = StopsForThePlan r x ⊎ (StopsForTheCycleTime r x ⊎ StopsForTheCheck r (behind_mdt r jobs carry restarts t.sent j) x)
@@ -147,7 +119,7 @@ module _ (r : RingView) (jobs : List Job) (carry : Carry) (restarts : Restarts) 
         | inl down ↦ absurd (never down.0 down.1 down.2 (falls_in_time r jobs carry restarts opened down.0 down.1 (t ∷ cycles) first before
             run clear stretch late (stop_after r jobs carry restarts t (cycles ++ first ∷ before) stretch.stays.1 ∙ none) down.2))
         | inr up ↦ elim (comes first before late up t cycles run clear stretch long) [
-          | inl four ↦ inl (four, right t (cycles ++ first ∷ before) run clear four)
+          | inl four ↦ inl (four, right_in r jobs carry restarts opened t (cycles ++ first ∷ before) run clear four)
           | inr stop ↦ absurd (false≢true (sym (ap (λ (o : Option Stop). is_some o) none) ∙ stop))
         ]
       ]

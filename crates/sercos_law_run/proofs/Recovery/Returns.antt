@@ -1,30 +1,12 @@
 -- So the ring returns in time after the last disturbed cycle: by the numbers of its drives, and within the fixed bound.
-use Rattle.std.proofs.Common.{◌≡◌, inl, inr, ℕ, ◌+◌, ◌*◌, ◌<◌, ◌≤◌, List, ◌∷◌, ◌++◌, length, Option, Some, sym, ap, ◌∙◌, subst, arith}
-use Rattle.std.specs.Prelude.{slice_get}
-use Rattle.std.proofs.lemmas.Bool.{false≢true}
-use Rattle.sercos_step.specs.declared.request.Job.{Job}
-use Rattle.sercos_block.specs.Startup.{startup_bound}
-use Rattle.sercos_block.specs.Views.{RingView}
-use Rattle.sercos_law_run.specs.Bounds.Bounds.{fall_cycles, recovery_bound, return_cycles, slowest}
-use Rattle.sercos_trace.specs.Views.{CycleView}
-use Rattle.sercos_script.specs.Links.{Carry, Restarts}
-use Rattle.sercos_law_run.specs.Journal.Runs.{IsClear, IsRun}
-use Rattle.sercos_law_run.specs.Held.Opened.{IsOpened}
-use Rattle.sercos_law_run.specs.Undisturbed.EpochStarts.{StartsAtFall}
-use Rattle.sercos_law_run.specs.Undisturbed.Reports.{HaveTold, left_after, request_cycles}
-use Rattle.sercos_law_run.specs.Undisturbed.StartUps.{StaysUpUndisturbed, TellsNoFall}
-use Rattle.sercos_law_run.specs.Undisturbed.StopsLater.{EndsStartUp, IsRight, RisesIfRight}
-use Rattle.sercos_law_run.specs.Undisturbed.Undisturbed.{AreUndisturbed}
+use Rattle.sercos_law_run.proofs.Words.{◌≡◌, inl, inr, ℕ, ◌+◌, ◌*◌, ◌<◌, ◌≤◌, List, ◌∷◌, ◌++◌, length, Option, Some, sym, ap, ◌∙◌, subst, arith, slice_get, false≢true, Job, startup_bound, RingView, fall_cycles, recovery_bound, return_cycles, slowest, CycleView, Carry, Restarts, IsClear, IsRun, IsOpened, StartsAtFall, HaveTold, left_after, request_cycles, StaysUpUndisturbed, TellsNoFall, EndsStartUp, IsRight, RisesIfRight, AreUndisturbed, AfterFall, IsBack, RecoversIn, IsRing-is_ring}
 use Rattle.sercos_law_run.proofs.Undisturbed.NeverFalls.{busy_low}
-use Rattle.sercos_law_run.specs.Recovery.AfterFalls.{AfterFall}
-use Rattle.sercos_law_run.specs.Recovery.Recovers.{IsBack, RecoversIn}
 use Rattle.sercos_law_run.proofs.Recovery.ComesBack.{comes_back}
 use Rattle.sercos_law_run.proofs.Recovery.FallsInTime.{greatest_low}
 use Rattle.sercos_law_run.proofs.Bounds.FallCycles.{fall_room, fixed_room, spared_few}
-use Rattle.sercos_law_run.proofs.Recovery.Recovers.{ComesIn, EndsIn, back_after, reports_now, tells_after}
+use Rattle.sercos_law_run.proofs.Recovery.Recovers.{ComesIn, EndsIn, back_after, reports_now, tells_after, right_in}
 use Rattle.sercos_law_run.proofs.Recovery.UpInThree.{lasts_if_right, lasts_with_list}
-use Rattle.sercos_block.proofs.RingLemmas.{IsRing-is_ring}
-use Rattle.sercos_law_run.proofs.Undisturbed.Cited.{fits_in_three, never_stops_in_four, own_fits_in_four}
+use Rattle.sercos_law_run.proofs.Undisturbed.Cited.{never_stops_in_four}
 
 -- A ring that is right has no stop.
 pub right_four : (r : RingView) (t : CycleView) (j : List CycleView) → IsRight r → IsBack r t j → t.phase ≡ 4
@@ -69,14 +51,6 @@ module _ (r : RingView) (jobs : List Job) (carry : Carry) (restarts : Restarts) 
       comes_back r jobs carry restarts opened first before late up 0 (lasts_if_right r jobs carry restarts opened right) t cycles run
       clear stretch long
 
-  -- phase 4 says that the ring is right
-  right_in : (t : CycleView) (j : List CycleView) → IsRun r jobs carry restarts (t ∷ j) → IsClear (t ∷ j) → t.phase ≡ 4 → IsRight r
-  right_in t j run clear four = (
-    fits_in_three r jobs carry restarts t j opened run clear (omega (arith, four)),
-    λ k below. own_fits_in_four r jobs carry restarts t j k opened run clear
-        below four,
-  )
-
   module _ (t : CycleView) (j : List CycleView) (run : IsRun r jobs carry restarts (t ∷ j)) (clear : IsClear (t ∷ j))
       (cycles before : List CycleView) (lost : CycleView) (is : j ≡ cycles ++ lost ∷ before)
       (calm : AreUndisturbed r carry restarts (t ∷ cycles) (lost ∷ before)) where
@@ -113,7 +87,7 @@ module _ (r : RingView) (jobs : List Job) (carry : Carry) (restarts : Restarts) 
           (comes_right right) lost before t j cycles run clear is calm four k i x below got (omega (arith, long))
         where
           right : IsRight r
-          right = right_in t j run clear four
+          right = right_in r jobs carry restarts opened t j run clear four
 
   -- THE FIXED BOUND is longer.
   fixed : fall_cycles r + startup_bound r + 41 * (slowest r.drives + 2) ≤ recovery_bound r

@@ -1,20 +1,6 @@
 -- What the reads of a drive cost alone, and its writes with the check for phase 3.
-use Rattle.std.proofs.Common.{◌≡◌, ℕ, ◌+◌, ◌≤◌, List, [], ◌∷◌, ◌++◌, length, Option, Some, None, refl, ap, arith, length-append}
-use Rattle.std.specs.List.{sum_by}
-use Rattle.std.proofs.lemmas.List.Sums.{sum_by-cons, sum_by-append}
-use Rattle.sercos_step.specs.declared.request.Request.{Request}
+use Rattle.sercos_law_run.proofs.Words.{◌≡◌, ℕ, ◌+◌, ◌≤◌, List, [], ◌∷◌, ◌++◌, length, Option, Some, None, refl, ap, arith, length-append, sum_by, sum_by-cons, sum_by-append, Request, PlanView, blocks_fault, DriveView, Begun, Known, member, member_of, idn, reads, reads_count, writes, reads_length, cost_in, ReadsCost, WritesCost, section_cycles, write_cycles, jobs_of, AreAt}
 use Rattle.sercos_step.specs.declared.request.Request.TheVariants as request
-use Rattle.sercos_timing.specs.Views.{PlanView}
-use Rattle.sercos_block.specs.Rules.{blocks_fault}
-use Rattle.sercos_block.specs.Views.{DriveView}
-use Rattle.sercos_service_master.specs.Begun.{Begun}
-use Rattle.sercos_seat.specs.Ring.{Known, member, member_of}
-use Rattle.sercos_seat.specs.Agenda.{idn, reads, reads_count, writes}
-use Rattle.sercos_seat.proofs.Agendas.{reads_length}
-use Rattle.sercos_law_channel.specs.Pace.Costs.{cost_in}
-use Rattle.sercos_law_channel.specs.Pace.Jobs.{ReadsCost, WritesCost}
-use Rattle.sercos_law_run.specs.Bounds.Bounds.{section_cycles, write_cycles}
-use Rattle.sercos_law_run.specs.Undisturbed.Jobs.{jobs_of, AreAt}
 use Rattle.sercos_law_run.proofs.Undisturbed.JobPlaces.{at_most}
 use Rattle.sercos_law_run.proofs.Undisturbed.JobsCost.{behind, cost_at, last_two, part_cost, reads_fit, rest_falls, whole_cost, writes_fit}
 use Rattle.sercos_law_run.proofs.Bounds.BoundSums.{are_sections}

@@ -1,46 +1,17 @@
 -- A stop makes no later fall, if a drive is in phase 0: with it no request begins, and an open step gets older with each cycle.
-use Rattle.std.proofs.Common.{◌≡◌, ◌⊎◌, inl, inr, ℕ, zero, suc, ◌+◌, ◌<◌, ◌≤◌, Bool, true, false, ◌&&◌, List, [], ◌∷◌, ◌++◌, length, Option, Some, None, refl, sym, ap, ◌∙◌, arith, if◌then◌else◌}
-use Rattle.std.specs.Prelude.{◌==◌, nat_le, is_none, is_some}
-use Rattle.std.specs.Option.{option_or}
-use Rattle.std.proofs.lemmas.Bool.{cases_eq, cases_lt, false≢true}
-use Rattle.std.proofs.lemmas.Bool.Decides.{nat_tests}
-use Rattle.sercos_step.specs.declared.request.Job.{Job}
-use Rattle.sercos_step.specs.declared.request.Request.{Request}
-use Rattle.sercos_block.specs.Views.{RingView}
-use Rattle.sercos_service_master.specs.Begun.{Begun, open_in, steps_in}
-use Rattle.sercos_service_master.specs.Calls.{cycles_open}
-use Rattle.sercos_trace.specs.Views.{CycleView}
-use Rattle.sercos_trace.specs.declared.events.Fall.{Fall}
-use Rattle.sercos_trace.specs.declared.events.Fall.TheVariants as fall
-use Rattle.sercos_trace.specs.declared.events.Stop.{Stop}
-use Rattle.sercos_seat.specs.Channel.{of_phase}
-use Rattle.sercos_seat.specs.Ring.{Known, known_of}
-use Rattle.sercos_master.specs.Annals.{Past, Turn, fall_at, fall_of, first_place, has_lost_at, has_lost_mst, has_turn, is_at_limit, is_idle, next_task, settled}
-use Rattle.sercos_script.specs.Links.{Carry, Restarts}
-use Rattle.sercos_law_channel.specs.Handshake.Epochs.{begun_in, epoch_begun, unless_restart, with_begun, with_heard}
-use Rattle.sercos_law_channel.specs.Handshake.Views.{Heard, View, standing}
-use Rattle.sercos_law_channel.specs.Pace.Ages.{age_by, age_in}
-use Rattle.sercos_law_run.specs.Journal.Runs.{drive_at, looks_back, master_calls, IsClear, IsRun}
-use Rattle.sercos_law_run.specs.Views.RingViews.{behind_ats, behind_mdt, request_of, view_of, views_of}
+use Rattle.sercos_law_run.proofs.Words.{◌≡◌, ◌⊎◌, inl, inr, ℕ, zero, suc, ◌+◌, ◌<◌, ◌≤◌, Bool, true, false, ◌&&◌, List, [], ◌∷◌, ◌++◌, length, Option, Some, None, refl, sym, ap, ◌∙◌, arith, if◌then◌else◌, ◌==◌, nat_le, is_none, is_some, cases_eq, cases_lt, false≢true, nat_tests, same_Some, Job, Request, RingView, Begun, open_in, steps_in, cycles_open, CycleView, Fall, Stop, of_phase, Known, known_of, Past, Turn, fall_of, has_lost_at, has_turn, is_idle, next_task, settled, Carry, Restarts, begun_in, epoch_begun, unless_restart, with_begun, with_heard, Heard, View, standing, age_by, age_in, drive_at, looks_back, master_calls, IsClear, IsRun, behind_ats, behind_mdt, request_of, view_of, views_of, IsOpened, StopsForTheCycleTime, StopsForThePlan, StopsForTheCheck, IsUndisturbed, IsSpared, IsDown, IsStretch}
 use Rattle.sercos_law_run.proofs.Views.Members.{members_count}
-use Rattle.sercos_law_run.specs.Held.Opened.{IsOpened}
-use Rattle.sercos_law_run.specs.Undisturbed.StopsInTwo.{StopsForTheCycleTime, StopsForThePlan}
-use Rattle.sercos_law_run.specs.Undisturbed.StopsLater.{StopsForTheCheck}
-use Rattle.sercos_law_run.specs.Undisturbed.Undisturbed.{IsUndisturbed}
 use Rattle.sercos_law_run.proofs.Undisturbed.Arriving.Comes.{calm_in}
 use Rattle.sercos_law_run.proofs.Undisturbed.JobsBegun.{begun_end}
 use Rattle.sercos_law_run.proofs.Undisturbed.NeverFalls.{busy_low}
-use Rattle.sercos_law_run.proofs.Undisturbed.NoFalls.{mst_kept, none_from}
-use Rattle.sercos_law_run.proofs.Undisturbed.Arriving.Small.{some_is}
+use Rattle.sercos_law_run.proofs.Undisturbed.NoFalls.{mst_kept, limit_so, none_falls}
 use Rattle.sercos_law_run.proofs.Undisturbed.StaysUp.{whole_now}
 use Rattle.sercos_law_run.proofs.Undisturbed.Stops.StopStays.{stop_after, stop_kept}
-use Rattle.sercos_law_run.specs.Recovery.FallsInTime.{IsSpared}
-use Rattle.sercos_law_run.specs.Recovery.Stretches.{IsDown, IsStretch}
+use Rattle.sercos_law_run.proofs.Undisturbed.Stops.StopOnce.{same_start}
 use Rattle.sercos_law_run.proofs.Recovery.AgesLater.{ages_later}
 use Rattle.sercos_law_run.proofs.Recovery.BeforeFall.{few_within}
 use Rattle.sercos_law_run.proofs.Recovery.DownSince.{shorter}
 use Rattle.sercos_law_run.proofs.Recovery.EarlyPhases.{phase_of}
-use Rattle.sercos_law_run.proofs.Recovery.EpochStops.{same_start}
 use Rattle.sercos_law_run.proofs.Recovery.FallsInTime.{are_in_two, falls_in_time, few_in_two, none_spared, late_now, down_late}
 use Rattle.sercos_law_run.proofs.Recovery.LateDown.{falls_if_down, next_up, no_lower, phase_after, phase_now, turns_now}
 use Rattle.sercos_law_run.proofs.Recovery.Limits.{ages_to_limit, open_age}
@@ -84,28 +55,12 @@ some_above f limit (suc n) = elim (cases_lt limit (f n)) [
 
 -- NO FALL, up to the second cycle of phase 3, if the MST came back whole and no step is at its limit.
 no_fall_yet : (s : Known) (p : Past) (before : Turn) (turns : List Turn) → p.turns ≡ before ∷ turns → before.phase ≤ 2 → p.now.whole ≡ true → 2 ≤ p.now.phase → ((k : ℕ) → k < length s.drives → cycles_open (p.calls k) ≤ 63) → fall_of s p ≡ None
-no_fall_yet s p before turns are low whole late short =
-    ap (λ (b : Bool). option_or (if b then Some fall.MstLost else None) (option_or (fall_at fall.AtLost s (first_place s (λ k. has_lost_at k (p.now ∷ p.turns)))) (fall_at fall.StepLimit s (first_place s (is_at_limit p))))) mst
-    ∙ ap (λ (o : Option ℕ). option_or None (option_or (fall_at fall.AtLost s o) (fall_at fall.StepLimit s (first_place s (is_at_limit p))))) at
-    ∙ ap (λ (o : Option ℕ). option_or None (option_or None (fall_at fall.StepLimit s o))) limit
+no_fall_yet s p before turns are low whole late short = none_falls s p (mst_kept p.now p.turns whole)
+    (λ k below. ap (λ (l : List Turn). has_lost_at k (p.now ∷ l)) are ∙ rw early refl)
+    (λ k below. limit_so p k (λ one here. absurd (omega (arith, one, late))) (λ other. short k below))
   where
-    mst : has_lost_mst (p.now ∷ p.turns) ≡ false
-    mst = mst_kept p.now p.turns whole
-
     early : nat_le 3 before.phase ≡ false
     early = grind (arith, nat_tests, low)
-
-    at : first_place s (λ k. has_lost_at k (p.now ∷ p.turns)) ≡ None
-    at = none_from 0 (length s.drives) (λ k. has_lost_at k (p.now ∷ p.turns)) (λ k less high. ap (λ (l : List Turn). has_lost_at k (p.now ∷ l)) are ∙ rw early refl)
-
-    few : (n : ℕ) → n ≤ 63 → nat_le 64 n ≡ false
-    few n is = grind (arith, nat_tests, is)
-
-    not_one : (p.now.phase == 1) ≡ false
-    not_one = grind (arith, nat_tests, late)
-
-    limit : first_place s (is_at_limit p) ≡ None
-    limit = none_from 0 (length s.drives) (is_at_limit p) (λ k less high. let open_few = few (cycles_open (p.calls k)) (short k (omega (arith, high))) in rw not_one open_few)
 
 module _ (r : RingView) (jobs : List Job) (carry : Carry) (restarts : Restarts) (opened : IsOpened r jobs) where
   -- with a stop no request begins
@@ -189,7 +144,7 @@ module _ (r : RingView) (jobs : List Job) (carry : Carry) (restarts : Restarts) 
             (are_in_two r jobs carry restarts opened u cycles first before run clear stretch late two none d there) d there down
             (λ i inside its_down its_open.
             let grows = older i inside its_down its_open in
-            let same : i ≡ k = some_is i k (sym (opens_in_turn r jobs carry restarts opened u (cycles ++ first ∷ before) run clear two i inside (sym (same_end i) ∙ grows.1))
+            let same : i ≡ k = same_Some i k (sym (opens_in_turn r jobs carry restarts opened u (cycles ++ first ∷ before) run clear two i inside (sym (same_end i) ∙ grows.1))
             ∙ opens_in_turn r jobs carry restarts opened u (cycles ++ first ∷ before) run clear two k below (sym (same_end k) ∙ opens)) in
             let age = ap (λ (n : ℕ). age_in (views_of r jobs carry restarts n (u ∷ (cycles ++ first ∷ before)))) same in
             let one = grows.0 in omega (arith, age, one, old))

@@ -1,45 +1,15 @@
 -- In undisturbed cycles in which the ring doesn't fall each cycle is whole for each drive, whatever was lost before them.
-use Rattle.std.proofs.Common.{◌≡◌, ◌⊎◌, inl, inr, ℕ, ◌+◌, ◌<◌, ◌≤◌, true, false, List, [], ◌∷◌, ◌++◌, length, Option, None, refl, sym, ap, ◌∙◌, subst}
-use Rattle.std.specs.Prelude.{is_some}
-use Rattle.std.proofs.lemmas.Bool.{cases_eq}
-use Rattle.sercos_step.specs.declared.request.Job.{Job}
-use Rattle.sercos_block.specs.Stores.{store_of}
-use Rattle.sercos_block.specs.Views.{RingView}
-use Rattle.sercos_service_master.specs.Begun.{Begun, answers_in, open_in}
-use Rattle.sercos_trace.specs.Views.{CycleView}
-use Rattle.sercos_trace.specs.declared.events.Fall.{Fall}
-use Rattle.sercos_seat.specs.Ring.{known_of}
-use Rattle.sercos_master.specs.Annals.{fall_of}
-use Rattle.sercos_script.specs.Links.{Carry, Restarts}
-use Rattle.sercos_law_channel.specs.Handshake.Epochs.{epoch_begun}
+use Rattle.sercos_law_run.proofs.Words.{◌≡◌, ◌⊎◌, inl, inr, ℕ, ◌+◌, ◌<◌, ◌≤◌, true, false, List, [], ◌∷◌, ◌++◌, length, Option, None, refl, sym, ap, ◌∙◌, subst, is_some, cases_eq, Job, store_of, RingView, Begun, answers_in, open_in, CycleView, Fall, known_of, fall_of, Carry, Restarts, epoch_begun, View, standing, AreSound, ends, age_in, AreListed, AreTimed, cost_in, cost_of, AreWhole, IsDead, IsUp, IsWhole, AreClean, open_since, drive_at, IsClear, IsRun, behind_mdt, view_of, views_of, IsOpened, NoneFalls, AreUndisturbed, IsUndisturbed, views_since, IsDown, IsStretch, IsUpNow, KeepsUp, rest_in_cost, rest_since, ages_where_dead, comes_timed, is_clean_or_down, stays_dead}
 use Rattle.sercos_law_channel.specs.Handshake.Runs.{IsRun as IsViewRun}
-use Rattle.sercos_law_channel.specs.Handshake.Views.{View, standing}
-use Rattle.sercos_law_channel.specs.Handshake.WholeRun.{AreSound}
-use Rattle.sercos_law_channel.proofs.Theorems.{ends, stands_as_commanded}
-use Rattle.sercos_law_channel.specs.Pace.Ages.{age_in}
-use Rattle.sercos_law_channel.specs.Pace.Costs.{AreListed, AreTimed, cost_in, cost_of}
-use Rattle.sercos_law_channel.specs.Pace.Passages.{AreWhole, IsDead, IsUp, IsWhole}
-use Rattle.sercos_law_channel.specs.Pace.Stretches.{AreClean, open_since}
-use Rattle.sercos_law_run.specs.Journal.Runs.{drive_at, IsClear, IsRun}
-use Rattle.sercos_law_run.specs.Views.RingViews.{behind_mdt, view_of, views_of}
-use Rattle.sercos_law_run.specs.Held.Opened.{IsOpened}
+use Rattle.sercos_law_channel.proofs.Theorems.{stands_as_commanded}
 use Rattle.sercos_law_run.proofs.Held.Runs.{small}
 use Rattle.sercos_law_run.proofs.Headline.HeadlineRuns.{all_stand, first_store}
-use Rattle.sercos_law_run.specs.Undisturbed.StartUps.{NoneFalls}
-use Rattle.sercos_law_run.specs.Undisturbed.Undisturbed.{AreUndisturbed, IsUndisturbed}
-use Rattle.sercos_law_run.specs.Undisturbed.ViewsSince.{views_since}
 use Rattle.sercos_law_run.proofs.Undisturbed.Checks.Carried.{are_carried}
 use Rattle.sercos_law_run.proofs.Undisturbed.Checks.CommandRuns.{first_commands}
 use Rattle.sercos_law_run.proofs.Undisturbed.NeverFalls.{runs_split, whole_then}
 use Rattle.sercos_law_run.proofs.Undisturbed.Checks.PassedCycles.{views_split}
 use Rattle.sercos_law_run.proofs.Undisturbed.Checks.PassedRuns.{commands_so}
 use Rattle.sercos_law_run.proofs.Undisturbed.Arriving.WholeIn.{whole_in}
-use Rattle.sercos_law_run.specs.Recovery.Stretches.{IsDown, IsStretch, IsUpNow}
-use Rattle.sercos_law_run.specs.Recovery.UpOrDown.{KeepsUp}
-use Rattle.sercos_law_channel.proofs.Cited.{rest_in_cost, rest_since}
-use Rattle.sercos_law_channel.proofs.Pace.AgeRuns.{ages_where_dead}
-use Rattle.sercos_law_channel.proofs.Pace.TimedCommands.{comes_timed}
-use Rattle.sercos_law_channel.proofs.Pace.WholeCycles.{is_clean_or_down, stays_dead}
 
 -- a drive that isn't in phase 0 at the end of a whole cycle is in the commanded phase
 pub up_in : (v : View) (past : List View) → IsWhole v past → ((standing (v ∷ past)).ended ≡ 0 → ⊥) → IsUp v past

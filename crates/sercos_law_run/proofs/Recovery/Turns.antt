@@ -1,24 +1,8 @@
 -- In phase 2 a step is open to the drive whose turn it is, and to no other.
-use Rattle.std.proofs.Common.{◌≡◌, ℕ, ◌<◌, true, false, List, ◌∷◌, length, Some, sym, ap, ◌∙◌, arith}
-use Rattle.std.specs.Prelude.{is_none, is_some}
-use Rattle.sercos_step.specs.declared.request.Job.{Job}
-use Rattle.sercos_block.specs.Views.{RingView}
-use Rattle.sercos_service_master.specs.Begun.{Begun, open_in}
-use Rattle.sercos_trace.specs.Views.{CycleView}
-use Rattle.sercos_seat.specs.Ring.{known_of, member, tasks_for}
-use Rattle.sercos_master.specs.Annals.{in_turn, is_idle}
-use Rattle.sercos_master.proofs.Laws.{tasks_wait}
-use Rattle.sercos_master.proofs.Rings.{none_of_some}
-use Rattle.sercos_script.specs.Links.{Carry, Restarts}
-use Rattle.sercos_law_channel.specs.Handshake.Epochs.{begun_in}
-use Rattle.sercos_law_run.specs.Journal.Records.{ats_in, mst_in}
-use Rattle.sercos_law_run.specs.Journal.Runs.{at_calls, begin_calls, master_calls, middle, own_mst, IsClear, IsRun}
-use Rattle.sercos_law_run.specs.Views.RingViews.{behind_mdt, view_of, views_of}
+use Rattle.sercos_law_run.proofs.Words.{◌≡◌, ℕ, ◌<◌, true, false, List, ◌∷◌, length, Some, sym, ap, ◌∙◌, arith, is_none, is_some, Job, RingView, Begun, open_in, CycleView, known_of, member, tasks_for, in_turn, is_idle, tasks_wait, none_of_some, Carry, Restarts, begun_in, ats_in, mst_in, at_calls, begin_calls, master_calls, middle, own_mst, IsClear, IsRun, behind_mdt, view_of, views_of, IsOpened, GoesOnInTwo}
 use Rattle.sercos_law_run.proofs.Views.Members.{members_count}
-use Rattle.sercos_law_run.specs.Held.Opened.{IsOpened}
 use Rattle.sercos_law_run.proofs.Held.Runs.{s_known}
 use Rattle.sercos_law_run.proofs.Headline.HeadlineRuns.{first_store, keeps_all}
-use Rattle.sercos_law_run.specs.Undisturbed.Sections.{GoesOnInTwo}
 use Rattle.sercos_law_run.proofs.Undisturbed.Sections.{some_open}
 use Rattle.sercos_law_run.proofs.Recovery.LateDown.{phase_now}
 use Rattle.sercos_law_run.proofs.Agenda.Requests.{are_requests}

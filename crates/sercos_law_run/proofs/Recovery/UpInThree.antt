@@ -1,39 +1,9 @@
 -- How long phase 3 lasts for a drive that isn't in phase 0.
-use Rattle.std.proofs.Common.{◌≡◌, inl, inr, ℕ, suc, ◌+◌, ◌*◌, ◌<◌, ◌≤◌, true, false, List, [], ◌∷◌, ◌++◌, length, Option, Some, None, refl, sym, ap, ◌∙◌, subst, arith}
-use Rattle.std.specs.Prelude.{is_some, slice_get}
-use Rattle.std.specs.List.{list_any}
-use Rattle.std.proofs.lemmas.Bool.{cases_lt, false≢true}
-use Rattle.sercos_step.specs.declared.request.Job.{Job}
-use Rattle.sercos_step.specs.declared.request.Outcome.{Outcome}
-use Rattle.sercos_timing.specs.Views.{PlanView}
-use Rattle.sercos_block.specs.Rules.{blocks_fault}
-use Rattle.sercos_block.specs.Stores.{store_of}
-use Rattle.sercos_block.specs.Views.{RingView}
-use Rattle.sercos_command.specs.Checks.{is_outside}
-use Rattle.sercos_law_run.specs.Bounds.Bounds.{command_cycles, slowest}
-use Rattle.sercos_service_master.specs.Begun.{Begun, answers_in, open_in}
-use Rattle.sercos_trace.specs.Views.{CycleView}
-use Rattle.sercos_seat.specs.Agenda.{is_checked, reads_count}
-use Rattle.sercos_seat.specs.Channel.{outcomes_in}
-use Rattle.sercos_seat.specs.Ring.{known_of, member, tasks_for}
-use Rattle.sercos_seat.proofs.Agendas.{ended_there}
-use Rattle.sercos_master.specs.Annals.{Past, outcomes}
-use Rattle.sercos_script.specs.Links.{Carry, Restarts}
-use Rattle.sercos_law_channel.specs.Handshake.Epochs.{epoch_begun}
-use Rattle.sercos_law_channel.specs.Handshake.Views.{View}
-use Rattle.sercos_law_channel.specs.Pace.Costs.{AreListed, cost_in, cost_of}
-use Rattle.sercos_law_channel.specs.Pace.Stretches.{open_since}
-use Rattle.sercos_law_run.specs.Journal.Runs.{drive_at, looks_back, master_calls, middle, IsClear, IsRun}
+use Rattle.sercos_law_run.proofs.Words.{◌≡◌, inl, inr, ℕ, suc, ◌+◌, ◌*◌, ◌<◌, ◌≤◌, true, false, List, [], ◌∷◌, ◌++◌, length, Option, Some, None, refl, sym, ap, ◌∙◌, subst, arith, is_some, slice_get, list_any, cases_lt, false≢true, Job, Outcome, PlanView, blocks_fault, store_of, RingView, is_outside, command_cycles, slowest, Begun, answers_in, open_in, CycleView, is_checked, reads_count, outcomes_in, known_of, member, tasks_for, ended_there, Past, outcomes, Carry, Restarts, epoch_begun, View, AreListed, cost_in, cost_of, open_since, drive_at, looks_back, master_calls, middle, IsClear, IsRun, behind_mdt, views_of, IsOpened, jobs_of, AreAt, AreInThree, IsRight, views_since, IsDown, IsStretch, list_read_costs}
 use Rattle.sercos_law_run.proofs.Start.CheckPasses.{ring_drive}
-use Rattle.sercos_law_run.specs.Views.RingViews.{behind_mdt, views_of}
 use Rattle.sercos_law_run.proofs.Views.Members.{members_count}
-use Rattle.sercos_law_run.specs.Held.Opened.{IsOpened}
 use Rattle.sercos_law_run.proofs.Held.Runs.{drive_got}
 use Rattle.sercos_law_run.proofs.Headline.HeadlineRuns.{first_store}
-use Rattle.sercos_law_run.specs.Undisturbed.Jobs.{jobs_of, AreAt}
-use Rattle.sercos_law_run.specs.Undisturbed.Sections.{AreInThree}
-use Rattle.sercos_law_run.specs.Undisturbed.StopsLater.{IsRight}
-use Rattle.sercos_law_run.specs.Undisturbed.ViewsSince.{views_since}
 use Rattle.sercos_law_run.proofs.Undisturbed.BehindRests.{Follow, follow_since}
 use Rattle.sercos_law_run.proofs.Undisturbed.Arriving.Comes.{calm_in}
 use Rattle.sercos_law_run.proofs.Undisturbed.JobsBegun.{begun_now, places_now, tasks_now}
@@ -45,19 +15,17 @@ use Rattle.sercos_law_run.proofs.Undisturbed.PhaseThree.{begun_few}
 use Rattle.sercos_law_run.proofs.Undisturbed.PhaseTwo.{listed_all}
 use Rattle.sercos_law_run.proofs.Undisturbed.Reached.{all_checked_in}
 use Rattle.sercos_law_run.proofs.Undisturbed.Sections.{never_idle}
+use Rattle.sercos_law_run.proofs.Undisturbed.Stops.StopOnce.{same_start}
 use Rattle.sercos_law_run.proofs.Undisturbed.Checks.ShortLists.{few_blocks, lists_short, longest_list}
 use Rattle.sercos_law_run.proofs.Undisturbed.Cited.{ReadyIfEnded}
-use Rattle.sercos_law_run.specs.Recovery.Stretches.{IsDown, IsStretch}
 use Rattle.sercos_law_run.proofs.Recovery.DownSince.{shorter, up_all}
-use Rattle.sercos_law_run.proofs.Recovery.EpochStops.{same_start}
 use Rattle.sercos_law_run.proofs.Recovery.FallsSoon.{busy_slowest}
 use Rattle.sercos_law_run.proofs.Recovery.LateDown.{phase_now}
 use Rattle.sercos_law_run.proofs.Recovery.Stretches.{costs_since, rest_clear, rest_runs, whole_all}
-use Rattle.sercos_law_run.proofs.Recovery.UpSections.{answers_more, ended_by, got_there}
-use Rattle.sercos_law_channel.proofs.Cited.{rest_since}
-use Rattle.sercos_law_channel.proofs.Pace.JobCosts.{list_read_costs}
+use Rattle.sercos_law_run.proofs.Recovery.UpSections.{answers_more, ended_by}
 use Rattle.sercos_law_run.proofs.Cited.{tasks_end}
 use Rattle.sercos_law_run.proofs.Undisturbed.Cited.{is_ready_if_ended}
+use Rattle.sercos_law_run.proofs.Agenda.WritesDone.{some_at}
 
 some_plan_is : (o : Option PlanView) → is_some o ≡ true → (p : PlanView) × (o ≡ Some p)
 some_plan_is None some = cc
@@ -91,7 +59,7 @@ module _ (r : RingView) (jobs : List Job) (carry : Carry) (restarts : Restarts) 
       low = let count = members_count r in omega (arith, count, below)
 
       got : (o : Outcome) × (slice_get (outcomes (behind_mdt r jobs carry restarts first.sent before) k) (reads_count (member (known_of r) k) + 11) ≡ Some o)
-      got = got_there (outcomes (behind_mdt r jobs carry restarts first.sent before) k) (reads_count (member (known_of r) k) + 11)
+      got = some_at (outcomes (behind_mdt r jobs carry restarts first.sent before) k) (reads_count (member (known_of r) k) + 11)
           (ended_there (outcomes (behind_mdt r jobs carry restarts first.sent before) k) (reads_count (member (known_of r) k) + 11) (checked_first t cycles first before run stretch three))
 
       cut : (newer old : List Begun) × (epoch_begun (views_of r jobs carry restarts k (first ∷ before)) ≡ newer ++ old) × (length old ≡ reads_count (member (known_of r) k) + 12) × (open_in old ≡ None)

@@ -1,32 +1,16 @@
 -- If no drive is in phase 0, phase 2 lasts no longer than the reads and the writes of all drives take.
-use Rattle.std.proofs.Common.{◌≡◌, inl, inr, ℕ, ◌<◌, ◌≤◌, List, [], ◌∷◌, ◌++◌, length, None, sym, ◌∙◌, arith}
-use Rattle.std.specs.List.{sum_by}
-use Rattle.sercos_step.specs.declared.request.Job.{Job}
-use Rattle.sercos_block.specs.Views.{RingView}
-use Rattle.sercos_trace.specs.Views.{CycleView}
-use Rattle.sercos_seat.specs.Ring.{known_of}
-use Rattle.sercos_script.specs.Links.{Carry, Restarts}
-use Rattle.sercos_law_channel.specs.Handshake.Epochs.{epoch_begun}
-use Rattle.sercos_law_channel.specs.Pace.Stretches.{open_since}
-use Rattle.sercos_law_run.specs.Journal.Runs.{drive_at, looks_back, master_calls, IsClear, IsRun}
+use Rattle.sercos_law_run.proofs.Words.{◌≡◌, inl, inr, ℕ, ◌<◌, ◌≤◌, List, [], ◌∷◌, ◌++◌, length, None, sym, ◌∙◌, arith, sum_by, Job, RingView, CycleView, known_of, Carry, Restarts, epoch_begun, open_since, drive_at, looks_back, master_calls, IsClear, IsRun, behind_mdt, views_of, IsOpened, AreInTwo, views_since, IsDown, IsStretch, IsRing-is_ring, reads_cost, writes_cost}
 use Rattle.sercos_law_run.proofs.Start.CheckPasses.{ring_drive}
-use Rattle.sercos_law_run.specs.Views.RingViews.{behind_mdt, views_of}
 use Rattle.sercos_law_run.proofs.Views.Members.{member_is}
-use Rattle.sercos_law_run.specs.Held.Opened.{IsOpened}
 use Rattle.sercos_law_run.proofs.Held.Runs.{drive_got}
-use Rattle.sercos_law_run.specs.Undisturbed.Sections.{AreInTwo}
-use Rattle.sercos_law_run.specs.Undisturbed.ViewsSince.{views_since}
 use Rattle.sercos_law_run.proofs.Undisturbed.JobsBegun.{few_now, places_now}
 use Rattle.sercos_law_run.proofs.Undisturbed.JobsCost.{two_fits}
 use Rattle.sercos_law_run.proofs.Undisturbed.PhaseTwo.{listed_all, section_two, sum_within}
 use Rattle.sercos_law_run.proofs.Undisturbed.Sections.{none_idle}
 use Rattle.sercos_law_run.proofs.Undisturbed.Stops.StopStays.{stop_after}
-use Rattle.sercos_law_run.specs.Recovery.Stretches.{IsDown, IsStretch}
 use Rattle.sercos_law_run.proofs.Recovery.DownSince.{not_down, shorter}
 use Rattle.sercos_law_run.proofs.Recovery.FallsInTime.{are_in_two}
 use Rattle.sercos_law_run.proofs.Recovery.Stretches.{costs_again}
-use Rattle.sercos_block.proofs.RingLemmas.{IsRing-is_ring}
-use Rattle.sercos_law_channel.proofs.Pace.JobCosts.{reads_cost, writes_cost}
 
 module _ (r : RingView) (jobs : List Job) (carry : Carry) (restarts : Restarts) (opened : IsOpened r jobs) where
   -- what a drive takes that isn't in phase 0

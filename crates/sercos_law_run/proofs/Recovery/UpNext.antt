@@ -1,9 +1,7 @@
 -- A drive that is in the commanded phase stays so in an undisturbed cycle.
-use Rattle.std.proofs.Common.{◌≡◌, ◌⊎◌, inl, inr, ℕ, ◌+◌, true, false, List, ◌∷◌, sym, ap, ◌∙◌}
+use Rattle.sercos_law_run.proofs.Words.{◌≡◌, ◌⊎◌, inl, inr, ℕ, ◌+◌, true, false, List, ◌∷◌, sym, ap, ◌∙◌, View, commanded, up_by, IsPassed, IsUp, IsWhole}
 use Rattle.sercos_law_channel.specs.Handshake.Runs.{IsRun}
-use Rattle.sercos_law_channel.specs.Handshake.Views.{View}
-use Rattle.sercos_law_channel.proofs.Theorems.{commanded, next_phase, up_by}
-use Rattle.sercos_law_channel.specs.Pace.Passages.{IsPassed, IsUp, IsWhole}
+use Rattle.sercos_law_channel.proofs.Theorems.{next_phase}
 
 pub phase_next : (busy : ℕ) (v u : View) (past : List View) → IsRun busy (v ∷ u ∷ past) → u.falls ≡ false → v.master_restarts ≡ false → (u.phase ≡ v.phase) ⊎ (u.phase + 1 ≡ v.phase)
 phase_next busy v u past run stays goes_on = elim (commanded v (u ∷ past) run.1.commanded) [

@@ -1,74 +1,28 @@
 -- In undisturbed cycles of phase 2 without a fall, while some drive is in phase 0, each drive that is up has one of its sections at most.
-use Rattle.std.proofs.Common.{◌≡◌, inl, inr, ℕ, zero, suc, ◌+◌, ◌<◌, ◌≤◌, true, List, [], ◌∷◌, ◌++◌, length, Option, Some, None, refl, sym, ap, ◌∙◌, subst, arith, length-append, if◌then◌else◌}
-use Rattle.std.specs.Prelude.{is_some, slice_get}
-use Rattle.std.proofs.lemmas.Bool.{cases_eq, cases_lt, leb-true}
-use Rattle.sercos_step.specs.declared.request.Job.{Job}
-use Rattle.sercos_step.specs.declared.request.Outcome.{Outcome}
-use Rattle.sercos_step.specs.declared.request.Request.{Request}
-use Rattle.sercos_step.specs.Steps.{next_step}
-use Rattle.sercos_block.specs.Rules.{blocks_fault}
-use Rattle.sercos_block.specs.Stores.{store_of}
-use Rattle.sercos_block.specs.Views.{RingView}
-use Rattle.sercos_law_run.specs.Bounds.Bounds.{section_cycles}
-use Rattle.sercos_service_master.specs.Begun.{Begun, answers_in, open_in}
-use Rattle.sercos_service_master.specs.Calls.{begun_by}
-use Rattle.sercos_timing.specs.Views.{PlanView}
-use Rattle.sercos_trace.specs.Views.{CycleView}
-use Rattle.sercos_trace.specs.declared.events.Fall.{Fall}
-use Rattle.sercos_seat.specs.Agenda.{is_checked, is_read, reads_count}
-use Rattle.sercos_seat.specs.Channel.{outcomes_in}
-use Rattle.sercos_seat.specs.Ring.{known_of, member, tasks_for}
-use Rattle.sercos_seat.proofs.Agendas.{ended_there}
-use Rattle.sercos_master.specs.Annals.{Past, fall_of, outcomes}
-use Rattle.sercos_master.proofs.Configured.{each_passes}
-use Rattle.sercos_master.proofs.Followed.{not_longer}
-use Rattle.sercos_script.specs.Links.{Carry, Restarts}
-use Rattle.sercos_law_channel.specs.Handshake.Epochs.{epoch_begun}
-use Rattle.sercos_law_channel.specs.Handshake.Views.{View}
-use Rattle.sercos_law_channel.specs.Pace.Costs.{cost_in, cost_of}
-use Rattle.sercos_law_channel.specs.Pace.Stretches.{open_since}
-use Rattle.sercos_law_run.specs.Journal.Runs.{drive_at, middle, IsClear, IsRun}
-use Rattle.sercos_law_run.specs.Agenda.Tasks.{HasEndedAt}
+use Rattle.sercos_law_run.proofs.Words.{◌≡◌, inl, inr, ℕ, suc, ◌+◌, ◌<◌, ◌≤◌, true, List, [], ◌∷◌, ◌++◌, length, Option, Some, None, sym, ap, ◌∙◌, subst, arith, length-append, if◌then◌else◌, is_some, slice_get, cases_eq, cases_lt, leb-true, Job, Outcome, Request, next_step, blocks_fault, store_of, RingView, section_cycles, Begun, answers_in, open_in, begun_by, PlanView, CycleView, Fall, is_checked, is_read, reads_count, outcomes_in, known_of, member, tasks_for, ended_there, Past, fall_of, outcomes, each_passes, not_longer, Carry, Restarts, epoch_begun, View, cost_in, cost_of, open_since, drive_at, middle, IsClear, IsRun, HasEndedAt, behind_mdt, views_of, IsOpened, jobs_of, AreAt, AreInTwo, NoneFalls, views_since, GoesOn, IsDown, IsStretch, reads_cost, writes_cost, is_planned}
 use Rattle.sercos_law_run.proofs.Start.CheckPasses.{ring_drive}
-use Rattle.sercos_law_run.specs.Views.RingViews.{behind_mdt, views_of}
-use Rattle.sercos_law_run.proofs.Views.Members.{member_is, members_count}
-use Rattle.sercos_law_run.specs.Held.Opened.{IsOpened}
+use Rattle.sercos_law_run.proofs.Views.Members.{member_is, members_count, in_known}
 use Rattle.sercos_law_run.proofs.Held.Runs.{drive_got}
-use Rattle.sercos_law_run.specs.Undisturbed.Jobs.{jobs_of, AreAt}
-use Rattle.sercos_law_run.specs.Undisturbed.Sections.{AreInTwo}
-use Rattle.sercos_law_run.specs.Undisturbed.StartUps.{NoneFalls}
-use Rattle.sercos_law_run.specs.Undisturbed.ViewsSince.{views_since}
-use Rattle.sercos_law_run.specs.Tolerance.Losses.{GoesOn}
 use Rattle.sercos_law_run.proofs.Undisturbed.BehindRests.{Follow, follow_on}
 use Rattle.sercos_law_run.proofs.Undisturbed.InOrder.{in_order}
 use Rattle.sercos_law_run.proofs.Undisturbed.JobPlaces.{some_plan}
 use Rattle.sercos_law_run.proofs.Undisturbed.JobsBegun.{begun_now, few_now, places_now}
 use Rattle.sercos_law_run.proofs.Undisturbed.Checks.PassedCycles.{views_split}
 use Rattle.sercos_law_run.proofs.Undisturbed.PhaseTwo.{listed_all}
-use Rattle.sercos_law_run.specs.Recovery.Stretches.{IsDown, IsStretch}
 use Rattle.sercos_law_run.proofs.Recovery.DownSince.{NeverRestarts, calm_quiet, in_two, not_down, outcomes_stay}
 use Rattle.sercos_law_run.proofs.Recovery.LateDown.{no_lower, phase_now}
 use Rattle.sercos_law_run.proofs.Recovery.ReadsInOrder.{reads_in_order}
 use Rattle.sercos_law_run.proofs.Recovery.SectionCosts.{reads_within, writes_within}
 use Rattle.sercos_law_run.proofs.Recovery.Stretches.{costs_again, costs_since, rest_clear, rest_runs}
-use Rattle.sercos_law_channel.proofs.Pace.JobCosts.{reads_cost, writes_cost}
 use Rattle.sercos_law_run.proofs.Agenda.Requests.{are_requests}
+use Rattle.sercos_law_run.proofs.Agenda.WritesDone.{some_at}
 use Rattle.sercos_law_run.proofs.Cited.{tasks_end}
-use Rattle.sercos_master.proofs.Planned.{is_planned}
-
-pub got_there : {A : Type 0} (xs : List A) (n : ℕ) → n < length xs → (x : A) × (slice_get xs n ≡ Some x)
-got_there [] n low = absurd (omega (arith, low))
-got_there (x ∷ xs) zero low = (x, refl)
-got_there (x ∷ xs) (suc n) low = got_there xs n (omega (arith, low))
 
 pub answers_more : (newer old : List Begun) → length (answers_in old) ≤ length (answers_in (newer ++ old))
 answers_more [] old = omega arith
 answers_more (b ∷ newer) old = let before = answers_more newer old in let long = length-append b.answers (answers_in (newer ++ old)) in omega (arith, before, long)
 
 module _ (r : RingView) (jobs : List Job) (carry : Carry) (restarts : Restarts) (opened : IsOpened r jobs) where
-  inside : (k : ℕ) → k < length r.drives → k < length (known_of r).drives
-  inside k below = let count = members_count r in omega (arith, count, below)
-
   -- WHAT WAS BEGUN up to a request that has ended
   pub ended_by : (t : CycleView) (j : List CycleView) (run : IsRun r jobs carry restarts (t ∷ j)) (clear : IsClear (t ∷ j)) → fall_of (known_of r) (behind_mdt r jobs carry restarts t.sent j) ≡ None → (k : ℕ) → k < length r.drives
       → (n m : ℕ) (o : Outcome) → suc n ≡ m → HasEndedAt (known_of r) k (behind_mdt r jobs carry restarts t.sent j).plan ((behind_mdt r jobs carry restarts t.sent j).waiting k) (behind_mdt r jobs carry restarts t.sent j).now.phase
@@ -112,7 +66,7 @@ module _ (r : RingView) (jobs : List Job) (carry : Carry) (restarts : Restarts) 
     read_before k below read i less =
         let some = leb-true (reads_count (member (known_of r) k)) (length (outcomes now k)) read in
         let few = not_longer (begun_by (now.calls k)) in
-        reads_in_order (known_of r) (tasks_for (known_of r) jobs) (middle r carry restarts t.sent j) low k (inside k below) (omega (arith, some, few)) i less
+        reads_in_order (known_of r) (tasks_for (known_of r) jobs) (middle r carry restarts t.sent j) low k (in_known r k below) (omega (arith, some, few)) i less
 
     -- THE READS of a drive that has been read come first, and have ended.
     reads_ended : (k : ℕ) → k < length r.drives → is_read (member (known_of r) k) (outcomes now k) ≡ true
@@ -120,8 +74,8 @@ module _ (r : RingView) (jobs : List Job) (carry : Carry) (restarts : Restarts) 
     reads_ended k below read =
         let n : ℕ = 5 + length (member (known_of r) k).at + length (member (known_of r) k).mdt in
         let some = leb-true (reads_count (member (known_of r) k)) (length (outcomes now k)) read in
-        let got : (o : Outcome) × (slice_get (outcomes now k) n ≡ Some o) = got_there (outcomes now k) n (omega (arith, some)) in
-        ended_by t j run clear stays k below n (reads_count (member (known_of r) k)) got.0 (omega arith) (tasks_end (known_of r) (tasks_for (known_of r) jobs) (middle r carry restarts t.sent j) k n got.0 (inside k below) got.1)
+        let got : (o : Outcome) × (slice_get (outcomes now k) n ≡ Some o) = some_at (outcomes now k) n (omega (arith, some)) in
+        ended_by t j run clear stays k below n (reads_count (member (known_of r) k)) got.0 (omega arith) (tasks_end (known_of r) (tasks_for (known_of r) jobs) (middle r carry restarts t.sent j) k n got.0 (in_known r k below) got.1)
 
   -- The phase doesn't go down,
   pub no_lower_on : (t : CycleView) (cycles : List CycleView) (first : CycleView) (before : List CycleView)
@@ -211,7 +165,7 @@ module _ (r : RingView) (jobs : List Job) (carry : Carry) (restarts : Restarts) 
               all_read_if_checked first before first_run first_clear first_stays was_low d there
               (ap (is_checked (member (known_of r) d)) same_outcomes
               ∙ in_order (known_of r) (tasks_for (known_of r) jobs) (λ i. (are_requests (known_of r) jobs i).0)
-              (middle r carry restarts t.sent (cycles ++ first ∷ before)) two.1.phase k (inside k below) (omega (arith, some, same)) d
+              (middle r carry restarts t.sent (cycles ++ first ∷ before)) two.1.phase k (in_known r k below) (omega (arith, some, same)) d
               (omega (arith, not_less, other))) k below
         ]
       ]

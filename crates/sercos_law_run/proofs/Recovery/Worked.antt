@@ -1,28 +1,12 @@
 -- What a worked run reports of the plan, and of the requests that are left; and altered cycles that are rejected, computed from the
 -- definitions.
-use Rattle.std.proofs.Common.{◌≡◌, inl, inr, ℕ, ◌+◌, ◌≤◌, List, [], ◌∷◌, ◌++◌, length, Option, Some, None, Result, Ok, Err, refl, sym, ap, ◌∙◌, arith}
-use Rattle.std.specs.Option.{option_or}
+use Rattle.sercos_law_run.proofs.Words.{◌≡◌, inl, inr, ℕ, ◌+◌, ◌≤◌, List, [], ◌∷◌, ◌++◌, length, Option, Some, None, Result, Ok, Err, refl, sym, ap, ◌∙◌, arith, option_or, PlanView, ChainView, planned, wishes_of, Lose, Fault, CycleView, fall_cycles, return_cycles, run_of, HaveTold, left_after, TellsNoFall, IsRight, AreUndisturbed, IsPredicted, ReturnsIn}
 use Rattle.sercos_telegram.specs.declared.layout.Kind.TheVariants as kinds
 use Rattle.sercos_step.specs.declared.request.Outcome.TheVariants as outcome
-use Rattle.sercos_timing.specs.Views.{PlanView}
-use Rattle.sercos_plan.specs.Views.{ChainView}
-use Rattle.sercos_plan.specs.ChainOf.{planned}
-use Rattle.sercos_block.specs.Rings.{wishes_of}
-use Rattle.sercos_script.specs.declared.fault.Damage.TheVariants.{Lose}
-use Rattle.sercos_script.specs.declared.fault.Fault.{Fault}
 use Rattle.sercos_script.specs.Scripts.{carried, restarts_at, acts}
-use Rattle.sercos_trace.specs.Views.{CycleView}
 use Rattle.sercos_trace.specs.declared.events.Fall.TheVariants as fall
 use Rattle.sercos_trace.specs.declared.events.Stop.TheVariants as stop
-use Rattle.sercos_law_run.specs.Bounds.Bounds.{fall_cycles, return_cycles}
-use Rattle.sercos_law_run.specs.Journal.Runs.{run_of}
 use Rattle.sercos_law_run.proofs.Journal.Worked.{ring, fault, write, read}
-use Rattle.sercos_law_run.specs.Undisturbed.Reports.{HaveTold, left_after}
-use Rattle.sercos_law_run.specs.Undisturbed.StartUps.{TellsNoFall}
-use Rattle.sercos_law_run.specs.Undisturbed.StopsLater.{IsRight}
-use Rattle.sercos_law_run.specs.Undisturbed.Undisturbed.{AreUndisturbed}
-use Rattle.sercos_law_run.specs.Recovery.Predicts.{IsPredicted}
-use Rattle.sercos_law_run.specs.Recovery.Recovers.{ReturnsIn}
 use Rattle.sercos_law_run.specs.Journal.Arrivals as Arrivals
 use Rattle.sercos_model.specs.Bits as Bits
 use Rattle.sercos_model.specs.CheckSequence as CheckSequence

@@ -1,30 +1,15 @@
 -- A complete check for phase 3 gives 3, if it is set where the newest write to it isn't 0, and each that is set ends well.
-use Rattle.std.proofs.Common.{◌≡◌, inl, inr, ℕ, ◌/◌, ◌%◌, true, List, [], ◌∷◌, ◌++◌, sym, ap, ◌∙◌, subst, arith}
-use Rattle.std.specs.Prelude.{Option, Some, None, is_some}
+use Rattle.sercos_law_run.proofs.Words.{◌≡◌, inl, inr, ℕ, ◌/◌, ◌%◌, true, List, [], ◌∷◌, ◌++◌, sym, ap, ◌∙◌, subst, arith, Option, Some, None, is_some, bytes_in, outcome_of, Block, SetCommand, find_set, set_in, Entry, writes_of, replies_of, IsTransfer, GivesStatus, newest_to, idn, are_well_set, ends_with_status}
 use Rattle.sercos_step.specs.declared.request.Request.TheVariants as request
 use Rattle.sercos_step.specs.declared.request.Outcome.TheVariants as outcome
-use Rattle.sercos_step.specs.Words.{bytes_in}
-use Rattle.sercos_step.specs.Steps.{outcome_of}
-use Rattle.sercos_block.specs.declared.block.Block.{Block}
-use Rattle.sercos_command.specs.declared.commands.SetCommand.{SetCommand}
-use Rattle.sercos_command.specs.Kept.{find_set, set_in}
-use Rattle.sercos_service_drive.specs.Log.{Entry}
-use Rattle.sercos_service_drive.specs.Writes.{writes_of}
-use Rattle.sercos_law_channel.specs.Handshake.InStep.{replies_of}
-use Rattle.sercos_law_channel.specs.Handshake.Transfers.{IsTransfer}
-use Rattle.sercos_law_channel.specs.Handshake.CommandTransfers.{GivesStatus}
-use Rattle.sercos_law_channel.specs.Handshake.Values.{newest_to}
-use Rattle.sercos_seat.specs.Agenda.{idn}
-use Rattle.sercos_law_run.specs.Settings.WellSet.{are_well_set}
 use Rattle.sercos_law_run.proofs.Settings.WellRuns.{well_status, complete_status}
 use Rattle.sercos_law_run.proofs.Settings.SetAtPoll.{IsSetAtPoll, set_at_poll}
-use Rattle.sercos_law_channel.proofs.Handshake.CommandEnds.{ends_with_status}
 
 none_or_set : (o : Option SetCommand) → is_some o ≡ true → o ≡ None → ⊥
 none_or_set None on none = cc
 none_or_set (Some s) on none = cc
 
-seven_of : (x : ℕ) → bytes_in (x ∷ []) ≡ 7 ∷ 0 ∷ [] → x ≡ 7
+pub seven_of : (x : ℕ) → bytes_in (x ∷ []) ≡ 7 ∷ 0 ∷ [] → x ≡ 7
 seven_of x same = let low : x % 256 ≡ 7 = cc in let high : x / 256 ≡ 0 = cc in omega arith
 
 module _ (blocks : List Block) where

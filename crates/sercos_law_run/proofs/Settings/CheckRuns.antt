@@ -1,28 +1,9 @@
 -- In a run in which each check for phase 3 was set well, each complete one of an epoch gives 3.
-use Rattle.std.proofs.Common.{◌≡◌, ℕ, Bool, true, false, List, [], ◌∷◌, ◌++◌, refl, sym, ap, ap₂, ◌∙◌, subst, if◌then◌else◌, append_assoc}
-use Rattle.std.specs.Prelude.{Option, Some, None}
-use mathlib.Core.Bool.{beq}
-use Rattle.sercos_step.specs.declared.request.Request.{Request}
+use Rattle.sercos_law_run.proofs.Words.{◌≡◌, ℕ, Bool, true, false, List, [], ◌∷◌, ◌++◌, refl, sym, ap, ap₂, ◌∙◌, subst, if◌then◌else◌, append_assoc, Option, Some, None, beq, Request, outcome_of, Block, is_command, Processed, Entry, ahs, accepted, answered, reply_of, log_of, Begun, replies_of, HaveBlocks, IsTransfer, IsRow, IsPart, Unsent, Unheard, AreParts, fall_into_parts, Processes, Nothing, Record, processes, in_step, HasReplies, answered_replies, IsEpoch, epoch, split_replies, split_blocks, View, processed_in, with_record, command, unless_restart, epoch_begun, epoch_records, epoch_log, AreSound, idn, HaveStores, are_well_set, AreSetWell, StandWell, SettingsFollow}
 use Rattle.sercos_step.specs.declared.request.Request.TheVariants as request
 use Rattle.sercos_step.specs.declared.request.Outcome.TheVariants as outcome
-use Rattle.sercos_step.specs.Steps.{outcome_of}
-use Rattle.sercos_block.specs.declared.block.Block.{Block}
-use Rattle.sercos_command.specs.Settings.{is_command}
-use Rattle.sercos_service_drive.specs.Log.{Processed, Entry, ahs, accepted}
-use Rattle.sercos_service_drive.specs.Replies.{answered, reply_of, log_of}
-use Rattle.sercos_service_master.specs.Begun.{Begun}
-use Rattle.sercos_law_channel.specs.Handshake.InStep.{replies_of}
-use Rattle.sercos_law_channel.specs.Handshake.Transfers.{HaveBlocks, IsTransfer}
-use Rattle.sercos_law_channel.specs.Handshake.Parts.{IsRow, IsPart, Unsent, Heard, Unheard, AreParts}
-use Rattle.sercos_law_channel.proofs.Theorems.{fall_into_parts, Processes, Nothing, Record, processes, in_step, HasReplies, answered_replies, IsEpoch, epoch, split_replies, split_blocks}
-use Rattle.sercos_law_channel.specs.Handshake.Views.{View, processed_in, with_record}
-use Rattle.sercos_law_channel.specs.Handshake.Epochs.{command, unless_restart, epoch_begun, epoch_records, epoch_log}
+use Rattle.sercos_law_channel.specs.Handshake.Parts.{Heard}
 use Rattle.sercos_law_channel.specs.Handshake.Runs.{IsRun}
-use Rattle.sercos_law_channel.specs.Handshake.WholeRun.{AreSound}
-use Rattle.sercos_seat.specs.Agenda.{idn}
-use Rattle.sercos_law_run.specs.Settings.WellSet.{HaveStores}
-use Rattle.sercos_law_run.specs.Settings.WellSet.{are_well_set, AreSetWell, StandWell}
-use Rattle.sercos_law_run.specs.Settings.SetByWrites.{SettingsFollow}
 use Rattle.sercos_law_run.proofs.Settings.WellRuns.{stand_well}
 use Rattle.sercos_law_run.proofs.Settings.SetInEpoch.{set_at_entry}
 use Rattle.sercos_law_run.proofs.Settings.CheckGives3.{check_gives_3}

@@ -1,32 +1,8 @@
 -- Which request the newest write of a log belongs to. In phase 2 only the check for phase 3 gives anything to S-0-0127.
-use Rattle.std.proofs.Common.{◌≡◌, ℕ, zero, suc, ◌+◌, ◌<◌, ◌≤◌, Bool, true, false, not, List, [], ◌∷◌, ◌++◌, map, drop, length, refl, sym, ap, ◌∙◌, subst, arith, if◌then◌else◌}
-use Rattle.std.specs.Prelude.{◌==◌, Option, Some, None, slice_get}
-use Rattle.std.specs.List.{list_all}
-use Rattle.std.proofs.lemmas.Bool.{and_parts, eq-eqb, not-true, false≢true}
-use Rattle.sercos_idn.specs.declared.idn.Idn.{Idn}
-use Rattle.sercos_step.specs.declared.request.Request.{Request}
+use Rattle.sercos_law_run.proofs.Words.{◌≡◌, ℕ, zero, suc, ◌+◌, ◌<◌, ◌≤◌, Bool, true, false, not, List, [], ◌∷◌, ◌++◌, map, drop, length, refl, sym, ap, ◌∙◌, subst, arith, if◌then◌else◌, ◌==◌, Option, Some, None, slice_get, list_all, and_parts, eq-eqb, not-true, false≢true, Idn, Request, PlanView, Block, Entry, Write, Begun, answers_it, answer_in, with_answer, Heard, with_heard, Given, given_of, given_by, AreWrites, Complete, Refused, Broken, AreExact, Known, Task, member, startup, idn, reads, reads_count, writes, outcomes_in, AreWaiting, IsTask, OfReads, OfWrites, Checks3, Lists3, Checks4, Lists4, OfWaiting, IsBegunTask, AreBegunTasks, start_numbers}
 use Rattle.sercos_step.specs.declared.request.Request.TheVariants as request
-use Rattle.sercos_timing.specs.Views.{PlanView}
-use Rattle.sercos_block.specs.declared.block.Block.{Block}
-use Rattle.sercos_service_drive.specs.Log.{Entry}
-use Rattle.sercos_service_drive.specs.Writes.{Write}
-use Rattle.sercos_service_master.specs.Begun.{Begun, answers_it, answer_in, with_answer}
-use Rattle.sercos_law_channel.specs.Handshake.Views.{Heard}
-use Rattle.sercos_law_channel.specs.Handshake.Epochs.{with_heard}
-use Rattle.sercos_law_channel.specs.Handshake.Exact.{Given, given_of, given_by, AreWrites, Complete, Refused, Broken, AreExact}
-use Rattle.sercos_seat.specs.Ring.{Known, Task, member, startup}
-use Rattle.sercos_seat.specs.Agenda.{idn, reads, reads_count, writes}
-use Rattle.sercos_seat.specs.Channel.{outcomes_in}
-use Rattle.sercos_seat.specs.Seats.{AreWaiting}
-use Rattle.sercos_law_run.specs.Agenda.Tasks.{IsTask, OfReads, OfWrites, Checks3, Lists3, Checks4, Lists4, OfWaiting, IsBegunTask, AreBegunTasks}
-use Rattle.sercos_law_run.specs.Agenda.Writes.{start_numbers}
 use Rattle.sercos_law_run.proofs.Agenda.WritesDone.{raw_of, number_at, IsDataWrite, DataWrite, all_data_writes, write_away}
-
--- what holds of all items of a list holds of each
-pub all_at : {A : Type 0} (p : A → Bool) (xs : List A) (i : ℕ) (x : A) → list_all p xs ≡ true → slice_get xs i ≡ Some x → p x ≡ true
-all_at p [] i x all got = absurd (cc)
-all_at p (y ∷ xs) zero x all got = let same : y ≡ x = cc in ap p (sym same) ∙ (and_parts (p y) (list_all p xs) all).0
-all_at p (y ∷ xs) (suc i) x all got = all_at p xs i x (and_parts (p y) (list_all p xs) all).1 got
+use Rattle.sercos_law_run.proofs.Held.Agreed.{all_at}
 
 -- all of these go to other identifier numbers
 abbrev pub are_away : ℕ → List Given → Bool

@@ -1,46 +1,15 @@
 -- If the check for phase 3 has been begun, a drive's store holds the start-up values of the plan.
-use Rattle.std.proofs.Common.{◌≡◌, ℕ, zero, suc, List, [], ◌∷◌, map, refl, sym, ap, ◌∙◌, subst}
-use Rattle.std.specs.Prelude.{Option, Some, None, option_map, unwrap_or, slice_get}
-use Rattle.std.proofs.lemmas.Option.{slice_get_within}
-use Rattle.sercos_idn.specs.declared.attribute.Attribute.{Attribute}
-use Rattle.sercos_idn.specs.declared.idn.Idn.{Idn}
+use Rattle.sercos_law_run.proofs.Words.{◌≡◌, ℕ, zero, suc, List, [], ◌∷◌, map, refl, sym, ap, ◌∙◌, subst, Option, Some, None, option_map, unwrap_or, slice_get, slice_get_within, Attribute, Idn, PlanView, Block, find_block, data_at, get_map, Known, writes, Holds, IsProtectedLater, AreProtectedLater, AreStoredWhole, View, epoch_begun, AreSound, AreSmall, store_in, is_plain, StaysWritten, start_numbers, IsWrittenLast, holds_newest}
 use Rattle.sercos_step.specs.declared.request.Request.TheVariants as request
-use Rattle.sercos_timing.specs.Views.{PlanView}
-use Rattle.sercos_block.specs.declared.block.Block.{Block}
-use Rattle.sercos_block.specs.Stores.{find_block}
-use Rattle.sercos_command.specs.Checks.{data_at}
-use Rattle.sercos_seat.proofs.Gets.{get_map}
-use Rattle.sercos_seat.specs.Ring.{Known}
-use Rattle.sercos_seat.specs.Agenda.{writes}
-use Rattle.sercos_law_run.specs.Start.StartUp.{Holds}
 use Rattle.sercos_law_run.specs.Start.Held.{written_by}
-use Rattle.sercos_law_run.specs.Start.Later.{IsProtectedLater, AreProtectedLater, AreStoredWhole}
-use Rattle.sercos_law_channel.specs.Handshake.Transfers.{stored}
-use Rattle.sercos_law_channel.specs.Handshake.Views.{View}
-use Rattle.sercos_law_channel.specs.Handshake.Epochs.{epoch_begun}
 use Rattle.sercos_law_channel.specs.Handshake.Runs.{IsRun}
-use Rattle.sercos_law_channel.specs.Handshake.WholeRun.{AreSound, AreSmall}
-use Rattle.sercos_law_channel.specs.Handshake.Values.{store_in, is_plain, StaysWritten}
-use Rattle.sercos_law_run.specs.Agenda.Writes.{start_numbers, IsWrittenLast}
-use Rattle.sercos_law_run.proofs.Settings.Givers.{all_at}
-use Rattle.sercos_law_channel.proofs.Handshake.StoredValues.{holds_newest}
 use Rattle.sercos_law_run.proofs.Agenda.WritesDone.{writes_data}
-
--- values, place by place
-held_each : (blocks : List Block) (values : List (ℕ × List ℕ)) → ((i : ℕ) (v : ℕ × List ℕ) → slice_get values i ≡ Some v → data_at blocks v.0 ≡ v.1) → Holds blocks values
-held_each blocks [] each = tt
-held_each blocks (v ∷ values) each = (each 0 v refl, held_each blocks values (λ i x got. each (suc i) x got))
+use Rattle.sercos_law_run.proofs.Held.Agreed.{whole_at, holds_by, all_at}
 
 protected_at : (blocks : List Block) (values : List (ℕ × List ℕ)) (i : ℕ) (v : ℕ × List ℕ) → AreProtectedLater blocks values → slice_get values i ≡ Some v → IsProtectedLater blocks v.0
 protected_at blocks [] i v are got = absurd (cc)
 protected_at blocks (x ∷ values) zero v are got = let same : x ≡ v = cc in subst (λ (y : ℕ × List ℕ). IsProtectedLater blocks y.0) same are.0
 protected_at blocks (x ∷ values) (suc i) v are got = protected_at blocks values i v are.1 got
-
-stored_at : (blocks : List Block) (values : List (ℕ × List ℕ)) (i : ℕ) (v : ℕ × List ℕ) → AreStoredWhole blocks values → slice_get values i ≡ Some v → (b : Block) → find_block v.0 blocks ≡ Some b → stored b v.1 ≡ v.1
-stored_at blocks [] i v are got = absurd (cc)
-stored_at blocks (x ∷ values) zero v are got =
-    let same : x ≡ v = cc in subst (λ (y : ℕ × List ℕ). (b : Block) → find_block y.0 blocks ≡ Some b → stored b y.1 ≡ y.1) same are.0
-stored_at blocks (x ∷ values) (suc i) v are got = stored_at blocks values i v are.1 got
 
 found_there : (o : Option Block) (a : Attribute) → option_map (λ (b : Block). b.attribute) o ≡ Some a → (b : Block) × (o ≡ Some b)
 found_there None a has = absurd (cc)
@@ -61,11 +30,11 @@ module _ (busy : ℕ) (stays : StaysWritten busy) (s : Known) (plan : PlanView) 
         let last = each i idn bytes there in
         holds_newest blocks past idn.raw b (all_at is_plain start_numbers i idn.raw refl number) found
         ∙ ap (λ (o : Option (List ℕ)). unwrap_or o b.value) (stays blocks past last.newer last.older last.one idn bytes last.whole b small run sound last.split last.asks last.complete found last.away)
-        ∙ stored_at blocks (map written_by (writes s plan k)) i (idn.raw, bytes) whole got b found
+        ∙ whole_at blocks (map written_by (writes s plan k)) i (idn.raw, bytes) whole got b found
 
     -- THE STORE holds all of them
     pub holds_start : Holds (store_in blocks past) (map written_by (writes s plan k))
-    holds_start = held_each (store_in blocks past) (map written_by (writes s plan k)) (λ i v got.
+    holds_start = holds_by (store_in blocks past) (map written_by (writes s plan k)) (λ i v got.
         let less = slice_get_within (map written_by (writes s plan k)) i v got in
         let (idn, bytes, there, number) = writes_data s plan k i less in
         let same : Some (idn.raw, bytes) ≡ Some v = sym (get_map written_by (writes s plan k) i ∙ ap (option_map written_by) there) ∙ got in

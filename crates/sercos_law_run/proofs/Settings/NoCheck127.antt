@@ -1,36 +1,10 @@
 -- As long as no arrival is unseen, the master never stops on a failed check for phase 3.
-use Rattle.std.proofs.Common.{◌≡◌, ℕ, ◌+◌, ◌<◌, true, false, List, [], ◌∷◌, length, sym, ap, ◌∙◌, subst, arith}
-use Rattle.std.specs.Prelude.{Option, Some, None, IfSome, slice_get}
-use Rattle.std.proofs.lemmas.Bool.{false≢true}
-use Rattle.std.proofs.lemmas.List.{length-map}
-use Rattle.sercos_idn.specs.declared.idn.Idn.{Idn}
-use Rattle.sercos_step.specs.declared.request.Job.{Job}
+use Rattle.sercos_law_run.proofs.Words.{◌≡◌, ℕ, ◌+◌, ◌<◌, true, false, List, [], ◌∷◌, length, sym, ap, ◌∙◌, subst, arith, Option, Some, None, IfSome, slice_get, false≢true, length-map, Idn, Job, PlanView, store_of, RingView, is_command, Begun, begun_by, CycleView, Known, Task, member, member_of, known_of, tasks_for, ended_well, idn, reads_count, outcomes_in, Call, Carry, Restarts, Heard, View, epoch_begun, begun_in, IsShown, AreSound, drive_at, middle, looks_back, AreNumbered, IsTask, OfReads, OfWrites, Checks3, Lists3, Checks4, Lists4, OfWaiting, behind_mdt, view_of, views_of, SettingsFollow, HaveStores, AreSetWell}
 use Rattle.sercos_step.specs.declared.request.Request.TheVariants as request
 use Rattle.sercos_step.specs.declared.request.Outcome.TheVariants as outcome
-use Rattle.sercos_timing.specs.Views.{PlanView}
-use Rattle.sercos_block.specs.Stores.{store_of}
-use Rattle.sercos_block.specs.Views.{RingView}
-use Rattle.sercos_command.specs.Settings.{is_command}
-use Rattle.sercos_service_master.specs.Begun.{Begun}
-use Rattle.sercos_service_master.specs.Calls.{begun_by}
-use Rattle.sercos_trace.specs.Views.{CycleView}
 use Rattle.sercos_trace.specs.declared.events.Stop.TheVariants as stop
-use Rattle.sercos_seat.specs.Ring.{Known, Task, member, member_of, known_of, tasks_for}
-use Rattle.sercos_seat.specs.Agenda.{ended_well, idn, reads_count}
-use Rattle.sercos_seat.specs.Channel.{outcomes_in}
-use Rattle.sercos_master.specs.Annals.{Call}
-use Rattle.sercos_script.specs.Links.{Carry, Restarts}
-use Rattle.sercos_law_channel.specs.Handshake.Views.{Heard, View}
-use Rattle.sercos_law_channel.specs.Handshake.Epochs.{epoch_begun, begun_in}
-use Rattle.sercos_law_channel.specs.Handshake.Runs.{IsShown, IsNext, IsRun}
-use Rattle.sercos_law_channel.specs.Handshake.WholeRun.{AreSound}
-use Rattle.sercos_law_run.specs.Journal.Runs.{drive_at, master_calls, middle, looks_back}
-use Rattle.sercos_law_run.specs.Agenda.Reported.{AreNumbered}
-use Rattle.sercos_law_run.specs.Agenda.Tasks.{IsTask, OfReads, OfWrites, Checks3, Lists3, Checks4, Lists4, OfWaiting}
-use Rattle.sercos_law_run.specs.Views.RingViews.{behind_mdt, view_of, views_of}
+use Rattle.sercos_law_channel.specs.Handshake.Runs.{IsNext, IsRun}
 use Rattle.sercos_law_run.proofs.Views.ViewRuns.{Sees}
-use Rattle.sercos_law_run.specs.Settings.SetByWrites.{SettingsFollow}
-use Rattle.sercos_law_run.specs.Settings.WellSet.{HaveStores, AreSetWell}
 use Rattle.sercos_law_run.proofs.Settings.SettingsRuns.{keeps_settings}
 use Rattle.sercos_law_run.proofs.Settings.CheckRuns.{checks_give_3}
 use Rattle.sercos_law_run.proofs.Settings.WellSets.{IsWellSet}
@@ -93,15 +67,7 @@ module _ (r : RingView) (jobs : List Job) (numbered : (i : ℕ) → AreNumbered 
         false≢true (sym failed.badly ∙ ap ended_well (ends_in_3 failed.place failed.status failed.there failed.complete))
 
   module _ (carry : Carry) (restarts : Restarts) where
-    -- THE STOP never comes: at the end of a cycle
-    pub never_127 : (j : List CycleView) → ((k : ℕ) → k < length r.drives → Sees r jobs carry restarts k j) → ((k : ℕ) → k < length r.drives → AreSound (store_of (drive_at r k)) (views_of r jobs carry restarts k j))
-        → ((k : ℕ) → k < length r.drives → IsWellSet r jobs carry restarts k j) → (address : ℕ) (list : List Idn) → (looks_back r jobs (master_calls r carry restarts j)).stop ≡ Some (stop.Check127 address (record { items = list })) → ⊥
-    never_127 j sees sound well = never_so (master_calls r carry restarts j) (λ k. views_of r jobs carry restarts k j) (λ k below.
-        let see = sees k below in
-        let set = well k below in
-        record { run = see.run; sound = sound k below; follow = set.follow; well = set.well; commands = set.commands; begun_are = see.master.begun_are })
-
-    -- .. and in a cycle, also if the master falls at its end
+    -- THE STOP never comes in a cycle, also if the master falls at its end
     pub never_127_in : (t : CycleView) (j : List CycleView) → ((k : ℕ) → k < length r.drives → Sees r jobs carry restarts k (t ∷ j))
         → ((k : ℕ) → k < length r.drives → AreSound (store_of (drive_at r k)) (views_of r jobs carry restarts k (t ∷ j))) → ((k : ℕ) → k < length r.drives → IsWellSet r jobs carry restarts k (t ∷ j))
         → ((k : ℕ) → k < length r.drives → begun_by ((behind_mdt r jobs carry restarts t.sent j).calls k) ≡ begun_in (view_of r jobs carry restarts k t j) (views_of r jobs carry restarts k j))

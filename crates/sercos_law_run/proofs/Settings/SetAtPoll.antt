@@ -1,24 +1,8 @@
 -- At the last poll of a complete setting of a procedure command, the newest write to the command is that of the setting.
-use Rattle.std.proofs.Common.{◌≡◌, ℕ, ◌≤◌, Bool, true, false, not, ◌&&◌, List, [], ◌∷◌, ◌++◌, length, refl, sym, ap, ap₂, ◌∙◌, subst, arith, if◌then◌else◌}
-use Rattle.std.specs.Prelude.{◌==◌, Option, Some, None, option_map, option_and_then}
-use Rattle.std.proofs.lemmas.Bool.{eq-eqb}
-use Rattle.sercos_idn.specs.declared.idn.Idn.{Idn}
-use Rattle.sercos_step.specs.declared.step.Step.{Step}
-use Rattle.sercos_step.specs.declared.request.Request.{Request}
+use Rattle.sercos_law_run.proofs.Words.{◌≡◌, ℕ, ◌≤◌, Bool, true, false, not, ◌&&◌, List, [], ◌∷◌, ◌++◌, length, refl, sym, ap, ap₂, ◌∙◌, subst, arith, if◌then◌else◌, ◌==◌, Option, Some, None, option_map, option_and_then, eq-eqb, Idn, Step, Request, Outcome, outcome_of, Block, Entry, open_idn, run_before, with_added, written_by, writes_of, replies_of, IsTransfer, is_complete, setting, second_of, added_by_setting, cancelled_by, GivesStatus, newest_step, without_newest, goes_on-outcome_of, newest_to, ends_with_status, sets_and_cancels}
 use Rattle.sercos_step.specs.declared.request.Request.TheVariants as request
-use Rattle.sercos_step.specs.declared.request.Outcome.{Outcome}
 use Rattle.sercos_step.specs.declared.request.Outcome.TheVariants as outcome
-use Rattle.sercos_step.specs.Steps.{outcome_of, AreAnswers}
-use Rattle.sercos_block.specs.declared.block.Block.{Block}
-use Rattle.sercos_service_drive.specs.Log.{Entry, open_idn, run_before}
-use Rattle.sercos_service_drive.specs.Writes.{with_added, written_by, writes_of}
-use Rattle.sercos_law_channel.specs.Handshake.InStep.{replies_of}
-use Rattle.sercos_law_channel.specs.Handshake.Transfers.{IsTransfer, is_complete}
-use Rattle.sercos_law_channel.specs.Handshake.CommandTransfers.{setting, second_of, added_by_setting, cancelled_by, GivesStatus}
-use Rattle.sercos_law_channel.proofs.Theorems.{newest_step, without_newest, goes_on-outcome_of}
-use Rattle.sercos_law_channel.specs.Handshake.Values.{newest_to}
-use Rattle.sercos_law_channel.proofs.Handshake.CommandEnds.{ends_with_status}
-use Rattle.sercos_law_channel.proofs.Handshake.CommandStages.{sets_and_cancels}
+use Rattle.sercos_step.specs.Steps.{AreAnswers}
 
 -- if a transfer goes on, its second step wasn't refused
 second_fine : (r : Request) (x : Entry) (entries : List Entry) → AreAnswers r (replies_of (x ∷ entries)) → outcome_of r (replies_of (x ∷ entries)) ≡ None → 1 ≤ length entries → (y : Entry) × (second_of (x ∷ entries) ≡ Some y) × (y.answer.error ≡ false)

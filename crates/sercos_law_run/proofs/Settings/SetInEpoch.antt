@@ -1,20 +1,6 @@
 -- At each entry of an epoch's log a procedure command is set if the newest write to it, among the entries before, isn't 0.
-use Rattle.std.proofs.Common.{◌≡◌, ℕ, Bool, true, false, List, [], ◌∷◌, ◌++◌, length, refl, sym, ap, ◌∙◌, subst, if◌then◌else◌}
-use Rattle.std.specs.Prelude.{◌==◌, Option, Some, is_some}
-use Rattle.std.specs.Int.{w16, from_le_bytes}
-use mathlib.Core.Bool.{beq}
-use Rattle.sercos_command.specs.Settings.{is_command}
-use Rattle.sercos_command.specs.Kept.{find_set, set_in}
-use Rattle.sercos_service_drive.specs.Log.{Processed, Entry, ahs, accepted}
-use Rattle.sercos_service_drive.specs.Replies.{answered, reply_of, log_of}
-use Rattle.sercos_service_drive.specs.Writes.{writes_of}
-use Rattle.sercos_law_channel.specs.Handshake.Views.{View, standing, stood_in, record_in, processed_in, with_record}
-use Rattle.sercos_law_channel.specs.Handshake.Epochs.{unless_restart, epoch_records, epoch_log}
+use Rattle.sercos_law_run.proofs.Words.{◌≡◌, ℕ, Bool, true, false, List, [], ◌∷◌, ◌++◌, length, refl, sym, ap, ◌∙◌, subst, if◌then◌else◌, ◌==◌, Option, Some, is_some, w16, from_le_bytes, beq, is_command, find_set, set_in, Processed, Entry, ahs, accepted, answered, reply_of, log_of, writes_of, View, standing, stood_in, record_in, processed_in, with_record, unless_restart, epoch_records, epoch_log, newest_to, Processes, Nothing, Record, processes, kept_same, HaveStores, AreSetBy, IsCommandAt, SettingsFollow}
 use Rattle.sercos_law_channel.specs.Handshake.Runs.{IsRun}
-use Rattle.sercos_law_channel.specs.Handshake.Values.{newest_to}
-use Rattle.sercos_law_channel.proofs.Theorems.{Processes, Nothing, Record, processes, kept_same}
-use Rattle.sercos_law_run.specs.Settings.WellSet.{HaveStores}
-use Rattle.sercos_law_run.specs.Settings.SetByWrites.{AreSetBy, IsCommandAt, SettingsFollow}
 use Rattle.sercos_law_run.proofs.Settings.SetRuns.{set_by_writes}
 use Rattle.sercos_law_run.proofs.Settings.SetKept.{set_by_kept}
 

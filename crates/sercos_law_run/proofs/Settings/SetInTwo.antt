@@ -1,28 +1,8 @@
 -- A drive accepts a setting of the check for phase 3 in phase 2 alone, and after the check has been begun.
-use Rattle.std.proofs.Common.{◌≡◌, ℕ, Bool, true, false, List, [], ◌∷◌, length, refl, sym, ap, ◌∙◌, subst, arith, if◌then◌else◌}
-use Rattle.std.specs.Prelude.{◌==◌, Option, Some, None, IfSome, option_map, option_and_then}
-use Rattle.std.specs.Bool.{then_some}
-use Rattle.std.proofs.lemmas.Bool.{and_parts, eqb-true, false≢true}
-use mathlib.Core.Bool.{beq}
-use Rattle.sercos_model.proofs.FaultLemmas.{none_of-or, none_of-then}
-use Rattle.sercos_idn.specs.declared.attribute.Attribute.{Attribute}
-use Rattle.sercos_step.specs.declared.request.Request.{Request}
+use Rattle.sercos_law_run.proofs.Words.{◌≡◌, ℕ, Bool, true, false, List, [], ◌∷◌, length, refl, sym, ap, ◌∙◌, subst, arith, if◌then◌else◌, ◌==◌, Option, Some, None, IfSome, option_map, option_and_then, then_some, and_parts, eqb-true, false≢true, beq, none_of-or, none_of-then, Attribute, Request, Block, is_fixed, is_protected, find_block, write_fault, data_fault, put_fault, Processed, ahs, open_idn, run_before, reply_of, log_of, Write, written_by, with_added, writes_of, adds, added_on, takes_effect, Begun, step_at, step_or_none, master_says, View, standing, stood_in, record_in, processed_in, with_record, kept_in, command, command_in, with_heard, with_begun, unless_restart, epoch_begun, epoch_records, begun_in, log_in, write_of, AreSound, AreSmall, AreExact, Processes, Nothing, Record, processes, processed_phase, said_of, written, kept_same, Laws, cycle_exact, AreAllowed, those_kept, those_since, those_moved, IsProtectedLater}
 use Rattle.sercos_step.specs.declared.request.Request.TheVariants as request
-use Rattle.sercos_block.specs.declared.block.Block.{Block}
-use Rattle.sercos_block.specs.Blocks.{is_fixed, is_protected}
-use Rattle.sercos_block.specs.Stores.{find_block, write_fault, data_fault, put_fault}
-use Rattle.sercos_service_drive.specs.Log.{Processed, ahs, open_idn, run_before}
-use Rattle.sercos_service_drive.specs.Replies.{reply_of, log_of}
-use Rattle.sercos_service_drive.specs.Writes.{Write, written_by, with_added, writes_of, adds, added_on, takes_effect}
-use Rattle.sercos_service_master.specs.Begun.{Begun, Said, step_at, step_or_none, master_says}
-use Rattle.sercos_law_channel.specs.Handshake.Views.{View, standing, stood_in, record_in, processed_in, with_record, kept_in}
-use Rattle.sercos_law_channel.specs.Handshake.Epochs.{command, command_in, with_heard, with_begun, unless_restart, epoch_begun, epoch_records, begun_in, log_in}
+use Rattle.sercos_service_master.specs.Begun.{Said}
 use Rattle.sercos_law_channel.specs.Handshake.Runs.{IsRun}
-use Rattle.sercos_law_channel.specs.Handshake.WholeRun.{write_of, AreSound, AreSmall}
-use Rattle.sercos_law_channel.specs.Handshake.Exact.{AreExact}
-use Rattle.sercos_law_channel.proofs.Theorems.{Processes, Nothing, Record, processes, processed_phase, said_of, written, kept_same, Laws, cycle_exact, AreAllowed, those_kept, those_since}
-use Rattle.sercos_service_drive.proofs.AllowedWrites.{those_moved}
-use Rattle.sercos_law_run.specs.Start.Later.{IsProtectedLater}
 use Rattle.sercos_law_run.proofs.Settings.Givers.{IsGiven, gives_newest, given_heard}
 
 -- if a write isn't refused, the block isn't write protected

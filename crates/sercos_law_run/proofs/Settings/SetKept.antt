@@ -1,15 +1,5 @@
 -- At each MST's place the settings are what the records since the drive was last in phase 0 left.
-use Rattle.std.proofs.Common.{◌≡◌, Bool, true, false, List, [], ◌∷◌, refl, sym, ◌∙◌, subst, if◌then◌else◌}
-use Rattle.std.specs.Prelude.{◌==◌, Option}
-use Rattle.sercos_command.specs.declared.commands.SetCommand.{SetCommand}
-use Rattle.sercos_command.specs.Calls.{CommandHistory}
-use Rattle.sercos_command.specs.Kept.{set_in}
-use Rattle.sercos_service_drive.specs.Log.{Processed}
-use Rattle.sercos_service_drive.specs.Writes.{added_on, commands_with}
-use Rattle.sercos_law_channel.specs.Handshake.Views.{View, standing, stood_in, processed_in, with_record, kept_unless, since_reset, kept_in}
-use Rattle.sercos_law_channel.specs.Handshake.WholeRun.{write_of}
-use Rattle.sercos_law_channel.proofs.Theorems.{Processes, Nothing, Record, processes}
-use Rattle.sercos_law_run.specs.Settings.SetByWrites.{AreSetBy, settings_left, SettingsFollow, SetByKept}
+use Rattle.sercos_law_run.proofs.Words.{◌≡◌, Bool, true, false, List, [], ◌∷◌, refl, sym, ◌∙◌, subst, if◌then◌else◌, ◌==◌, Option, SetCommand, CommandHistory, set_in, Processed, added_on, commands_with, View, standing, stood_in, processed_in, with_record, kept_unless, since_reset, kept_in, write_of, Processes, Nothing, Record, processes, AreSetBy, settings_left, SettingsFollow, SetByKept}
 
 -- settings that these records left; only the settings matter
 abbrev AreLeft : List Processed → List SetCommand → Type 0

@@ -1,19 +1,5 @@
 -- A procedure command is set if the newest write to it isn't 0.
-use Rattle.std.proofs.Common.{◌≡◌, ℕ, Bool, true, false, not, List, [], ◌∷◌, ◌++◌, refl, sym, ap, ◌∙◌, if◌then◌else◌}
-use Rattle.std.specs.Prelude.{◌==◌, Option, Some, None, is_some}
-use Rattle.std.specs.Int.{w16, from_le_bytes}
-use Rattle.std.proofs.lemmas.Bool.{cond_both, eq-eqb, eqb-true}
-use Rattle.sercos_block.specs.declared.block.Block.{Block}
-use Rattle.sercos_block.specs.Stores.{with_data}
-use Rattle.sercos_command.specs.declared.commands.SetCommand.{SetCommand}
-use Rattle.sercos_command.specs.Settings.{is_command, ends_well}
-use Rattle.sercos_command.specs.Calls.{Wrote, Other, CommandHistory, with_call}
-use Rattle.sercos_command.specs.Kept.{find_set, without, with_set, set_in}
-use Rattle.sercos_service_drive.specs.Replies.{log_of}
-use Rattle.sercos_service_drive.specs.Writes.{Write, with_added, added_on, command_value, commands_with, writes_of}
-use Rattle.sercos_law_channel.specs.Handshake.Values.{newest_to}
-use Rattle.sercos_law_channel.proofs.Theorems.{written}
-use Rattle.sercos_law_run.specs.Settings.SetByWrites.{IsSetByWrites}
+use Rattle.sercos_law_run.proofs.Words.{◌≡◌, ℕ, Bool, true, false, not, List, [], ◌∷◌, ◌++◌, refl, sym, ap, ◌∙◌, if◌then◌else◌, ◌==◌, Option, Some, None, is_some, w16, from_le_bytes, cond_both, eq-eqb, eqb-true, Block, with_data, SetCommand, is_command, ends_well, Wrote, Other, CommandHistory, with_call, find_set, without, with_set, set_in, log_of, Write, with_added, added_on, command_value, commands_with, writes_of, newest_to, written, IsSetByWrites}
 
 -- other settings stay
 find_append : (raw : ℕ) (set : List SetCommand) (s : SetCommand) → is_some (find_set raw set) ≡ true → is_some (find_set raw (set ++ s ∷ [])) ≡ true

@@ -1,54 +1,17 @@
 -- In a ring whose plan fits, a check for phase 3 that is set in a cycle ends well.
-use Rattle.std.proofs.Common.{◌≡◌, ℕ, ◌+◌, ◌<◌, ◌≤◌, true, List, [], ◌∷◌, map, length, refl, sym, ap, ◌∙◌, subst, arith}
-use Rattle.std.specs.Prelude.{◌==◌, Some, None, slice_get}
-use Rattle.std.proofs.lemmas.Option.{slice_get-get_or}
-use Rattle.std.proofs.lemmas.List.{length-map}
-use Rattle.sercos_idn.specs.declared.idn.Idn.{Idn}
+use Rattle.sercos_law_run.proofs.Words.{◌≡◌, ℕ, ◌+◌, ◌<◌, ◌≤◌, true, List, [], ◌∷◌, map, length, refl, sym, ap, ◌∙◌, subst, arith, ◌==◌, Some, None, slice_get, slice_get-get_or, length-map, Idn, Job, PlanView, IsValid, Fits, Block, find_block, with_data, put_fault, store_of, IsStore, is_ring, wishes_of, blocks_fault, DriveView, RingView, unfit_for_phase_3, ends_well, Begun, begun_by, CycleView, member, member_of, known_of, tasks_for, reads_count, writes, AreWaiting, all_waiting, Past, Carry, Restarts, IsStoreOf, Holds, start_up, NoneOf, IsProtectedLater, AreProtectedLater, AreStoredWhole, View, command, epoch_begun, AreSound, AreSmall, store_in, drive_at, master_calls, looks_back, AreBegunTasks, IsConfigured, IsWrittenLast, view_of, views_of, SetsWell, transfers, written_stays, allowed}
 use Rattle.sercos_step.specs.declared.request.Request.TheVariants as request
-use Rattle.sercos_step.specs.declared.request.Job.{Job}
-use Rattle.sercos_timing.specs.Views.{PlanView}
-use Rattle.sercos_timing.specs.Valid.{IsValid}
-use Rattle.sercos_timing.specs.Inequalities.{Fits}
-use Rattle.sercos_block.specs.declared.block.Block.{Block}
-use Rattle.sercos_block.specs.Stores.{find_block, with_data, put_fault, store_of, IsStore}
-use Rattle.sercos_block.specs.Rings.{is_ring, wishes_of}
-use Rattle.sercos_block.specs.Rules.{blocks_fault}
-use Rattle.sercos_block.specs.Views.{DriveView, RingView}
-use Rattle.sercos_command.specs.Checks.{unfit_for_phase_3}
-use Rattle.sercos_command.specs.Settings.{ends_well}
-use Rattle.sercos_service_master.specs.Begun.{Begun}
-use Rattle.sercos_service_master.specs.Calls.{begun_by}
-use Rattle.sercos_trace.specs.Views.{CycleView}
-use Rattle.sercos_seat.specs.Ring.{member, member_of, known_of, tasks_for}
-use Rattle.sercos_seat.specs.Agenda.{reads_count, writes}
-use Rattle.sercos_seat.specs.Seats.{AreWaiting}
-use Rattle.sercos_master.proofs.Laws.{all_waiting}
-use Rattle.sercos_master.specs.Annals.{Past}
-use Rattle.sercos_script.specs.Links.{Carry, Restarts}
-use Rattle.sercos_law_run.specs.Start.StartUp.{IsStoreOf, Holds, start_up}
 use Rattle.sercos_law_run.specs.Start.Held.{written_by}
-use Rattle.sercos_law_run.specs.Start.Later.{NoneOf, IsProtectedLater, AreProtectedLater, AreStoredWhole}
 use Rattle.sercos_law_run.proofs.Start.CheckPasses.{ring_drive}
-use Rattle.sercos_law_channel.specs.Handshake.Views.{View}
-use Rattle.sercos_law_channel.specs.Handshake.Epochs.{command, epoch_begun}
-use Rattle.sercos_law_channel.specs.Handshake.WholeRun.{AreSound, AreSmall}
-use Rattle.sercos_law_channel.specs.Handshake.Values.{store_in}
-use Rattle.sercos_law_run.specs.Journal.Runs.{drive_at, master_calls, looks_back}
-use Rattle.sercos_law_run.specs.Agenda.Tasks.{AreBegunTasks}
-use Rattle.sercos_law_run.specs.Agenda.Writes.{IsConfigured, IsWrittenLast}
-use Rattle.sercos_law_run.specs.Views.RingViews.{view_of, views_of}
 use Rattle.sercos_law_run.proofs.Views.ViewRuns.{Sees}
-use Rattle.sercos_law_run.specs.Settings.WellSet.{SetsWell}
 use Rattle.sercos_law_run.proofs.Settings.Givers.{IsGiven, check_begun}
 use Rattle.sercos_law_run.proofs.Settings.SetInTwo.{set_in}
 use Rattle.sercos_law_run.proofs.Settings.HoldsStart.{holds_start}
-use Rattle.sercos_law_channel.proofs.Cited.{transfers, written_stays}
 use Rattle.sercos_law_run.proofs.Cited.{begins_tasks, configures_check}
 use Rattle.sercos_law_run.proofs.Start.CheckPasses.{plan_passes_check}
 use Rattle.sercos_law_run.proofs.Start.HeldLemmas.{writes_start_up}
 use Rattle.sercos_law_run.proofs.Start.KeptLemmas.{writes_keep}
 use Rattle.sercos_law_run.proofs.Start.LaterLemmas.{checks_are_protected, start_up_is_protected, stay_held, stores_start_up_whole}
-use Rattle.sercos_service_drive.proofs.AllowedWrites.{allowed}
 
 -- no start-up value is that of S-0-0127
 none_127 : (control cycle : ℕ) (p : PlanView) (k : ℕ) (at mdt : List Idn) → NoneOf 127 (start_up control cycle p k at mdt)

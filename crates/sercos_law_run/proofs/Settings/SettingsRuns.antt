@@ -1,18 +1,6 @@
 -- The settings at a drive's MST's place are what the cycle before left.
-use Rattle.std.proofs.Common.{◌≡◌, ◌⊎◌, inl, inr, ℕ, Bool, true, false, List, [], ◌∷◌, Option, Some, None, refl, ap, ◌∙◌, if◌then◌else◌}
-use Rattle.std.specs.Prelude.{◌==◌, nat_le, ◌&&◌}
-use Rattle.sercos_command.specs.declared.commands.SetCommand.{SetCommand}
-use Rattle.sercos_command.specs.Calls.{Reset, CommandHistory, with_call}
-use Rattle.sercos_command.specs.Kept.{set_in}
-use Rattle.sercos_service_drive.specs.Log.{Processed}
-use Rattle.sercos_service_drive.specs.Writes.{commands_with}
+use Rattle.sercos_law_run.proofs.Words.{◌≡◌, ◌⊎◌, inl, inr, ℕ, Bool, true, false, List, [], ◌∷◌, Option, Some, None, refl, ap, ◌∙◌, if◌then◌else◌, ◌==◌, nat_le, ◌&&◌, SetCommand, Reset, CommandHistory, with_call, set_in, Processed, commands_with, commands_after, reset_in, View, standing, stood_in, record_in, processed_of, processed_in, kept_in, write_of, commands_left, settings_left, SettingsFollow, commands_before, commands_ended, CommandsFollow, KeepsSettings}
 use Rattle.sercos_service_master.specs.Begun.{Said}
-use Rattle.sercos_drive.specs.Steps.{commands_after, reset_in}
-use Rattle.sercos_law_channel.specs.Handshake.Views.{View, standing, stood_in, record_in, processed_of, processed_in, kept_in}
-use Rattle.sercos_law_channel.specs.Handshake.WholeRun.{write_of}
-use Rattle.sercos_law_run.specs.Settings.SetByWrites.{commands_left, settings_left, SettingsFollow}
-use Rattle.sercos_law_run.specs.Undisturbed.CommandsFollow.{commands_before, commands_ended, CommandsFollow}
-use Rattle.sercos_law_run.specs.Settings.WellSet.{KeepsSettings}
 use Rattle.sercos_law_run.proofs.Settings.Histories.{reset_if}
 
 -- in phase 0, and after a restart

@@ -1,26 +1,9 @@
 -- If each check for phase 3 was set well, each that is set ends well. The status that a complete one gives isn't that of a command
 -- that runs.
-use Rattle.std.proofs.Common.{◌≡◌, ◌⊎◌, inl, inr, ℕ, zero, suc, ◌-◌, ◌<◌, ◌≤◌, Bool, true, false, not, ◌&&◌, ◌||◌, List, [], ◌∷◌, ◌++◌, length, refl, sym, ap, ap₂, ◌∙◌, subst, arith, if◌then◌else◌, length-append}
-use Rattle.std.specs.Prelude.{◌==◌, Option, Some, None, is_some, slice_index}
-use Rattle.std.specs.List.{list_all}
-use Rattle.std.proofs.lemmas.Bool.{and_parts, cond_both, eqb-true, leb-true}
-use Rattle.std.proofs.lemmas.Bool.Decides.{nat_tests}
-use Rattle.sercos_idn.specs.declared.idn.Idn.{Idn}
-use Rattle.sercos_step.specs.declared.step.Answer.{Answer}
+use Rattle.sercos_law_run.proofs.Words.{◌≡◌, ◌⊎◌, inl, inr, ℕ, zero, suc, ◌-◌, ◌<◌, ◌≤◌, Bool, true, false, not, ◌&&◌, ◌||◌, List, [], ◌∷◌, ◌++◌, length, refl, sym, ap, ap₂, ◌∙◌, subst, arith, if◌then◌else◌, length-append, ◌==◌, Option, Some, None, is_some, slice_index, list_all, and_parts, cond_both, eqb-true, leb-true, nat_tests, Idn, Answer, bytes_in, a_step, polling, steps_of, result_of, is_whole, answer_words, outcome_of, Block, with_data, SetCommand, is_command, ends_well, has_ended, status_by, Wrote, Other, CommandHistory, with_call, status_in, find_set, without, with_set, set_in, Write, command_value, commands_with, View, processed_in, kept_in, write_of, is_well_set, are_well_set, AreSetWell, StandWell}
 use Rattle.sercos_step.specs.declared.request.Request.TheVariants as request
 use Rattle.sercos_step.specs.declared.request.Outcome.TheVariants as outcome
-use Rattle.sercos_step.specs.Words.{bytes_in}
-use Rattle.sercos_step.specs.Steps.{a_step, polling, steps_of, result_of, is_whole, answer_words, outcome_of, AreAnswers}
-use Rattle.sercos_block.specs.declared.block.Block.{Block}
-use Rattle.sercos_block.specs.Stores.{with_data}
-use Rattle.sercos_command.specs.declared.commands.SetCommand.{SetCommand}
-use Rattle.sercos_command.specs.Settings.{is_command, ends_well, has_ended, status_by}
-use Rattle.sercos_command.specs.Calls.{Wrote, Other, CommandHistory, with_call, status_in}
-use Rattle.sercos_command.specs.Kept.{find_set, without, with_set, set_in}
-use Rattle.sercos_service_drive.specs.Writes.{Write, command_value, commands_with}
-use Rattle.sercos_law_channel.specs.Handshake.Views.{View, processed_in, kept_in}
-use Rattle.sercos_law_channel.specs.Handshake.WholeRun.{write_of}
-use Rattle.sercos_law_run.specs.Settings.WellSet.{is_well_set, are_well_set, AreSetWell, StandWell}
+use Rattle.sercos_step.specs.Steps.{AreAnswers}
 use Rattle.sercos_law_run.proofs.Settings.Histories.{status_set}
 
 -- THE SETTINGS

@@ -1,40 +1,14 @@
 -- In a run of a ring whose plan fits, in which nothing is unseen, each check for phase 3 is set well.
-use Rattle.std.proofs.Common.{◌≡◌, ℕ, ◌<◌, ◌≤◌, true, false, List, [], ◌∷◌, length, refl, ap, ◌∙◌}
-use Rattle.std.specs.Prelude.{Option, Some, None, option_map, unwrap_or}
-use Rattle.std.proofs.lemmas.Option.{slice_get-get_or}
-use Rattle.sercos_idn.specs.declared.attribute.Attribute.{Attribute}
+use Rattle.sercos_law_run.proofs.Words.{◌≡◌, ℕ, ◌<◌, ◌≤◌, true, false, List, [], ◌∷◌, length, refl, ap, ◌∙◌, Option, Some, None, option_map, unwrap_or, slice_get-get_or, Attribute, Job, PlanView, IsValid, Fits, Block, is_ring, wishes_of, blocks_fault, find_block, store_of, IsStore, DriveView, RingView, is_command, open_in, begun_by, phase_in, blocks_in, CycleView, known_of, tasks_for, AreWaiting, is_done, Carry, Restarts, IsStoreOf, AreSound, AreSmall, drive_at, master_calls, looks_back, behind_mdt, after_mst, view_of, views_of, IsSpelled, HaveStores, AreSetWell, SettingsFollow}
 use Rattle.sercos_idn.specs.Codes.{attribute_fault}
 use Rattle.sercos_idn.specs.Attributes.{attribute_of}
-use Rattle.sercos_step.specs.declared.request.Job.{Job}
-use Rattle.sercos_timing.specs.Views.{PlanView}
-use Rattle.sercos_timing.specs.Valid.{IsValid}
-use Rattle.sercos_timing.specs.Inequalities.{Fits}
-use Rattle.sercos_block.specs.declared.block.Block.{Block}
-use Rattle.sercos_block.specs.Rings.{block_attribute, built_in_attribute, row_in, attribute_in, is_ring, wishes_of}
-use Rattle.sercos_block.specs.Rules.{blocks_fault}
-use Rattle.sercos_block.specs.Stores.{find_block, store_of, IsStore}
-use Rattle.sercos_block.specs.Views.{DriveView, RingView}
-use Rattle.sercos_command.specs.Settings.{is_command}
-use Rattle.sercos_service_master.specs.Begun.{open_in}
-use Rattle.sercos_service_master.specs.Calls.{begun_by}
-use Rattle.sercos_drive.specs.Moments.{phase_in, blocks_in}
-use Rattle.sercos_trace.specs.Views.{CycleView}
-use Rattle.sercos_seat.specs.Ring.{known_of, tasks_for}
-use Rattle.sercos_seat.specs.Seats.{AreWaiting}
-use Rattle.sercos_master.specs.Annals.{is_done}
-use Rattle.sercos_script.specs.Links.{Carry, Restarts}
-use Rattle.sercos_law_run.specs.Start.StartUp.{IsStoreOf}
+use Rattle.sercos_block.specs.Rings.{block_attribute, built_in_attribute, row_in, attribute_in}
 use Rattle.sercos_law_run.proofs.Start.BlockFinds.{same_attribute}
 use Rattle.sercos_law_run.proofs.Start.CheckPasses.{ring_drive}
-use Rattle.sercos_law_channel.specs.Handshake.WholeRun.{AreSound, AreSmall}
-use Rattle.sercos_law_run.specs.Journal.Runs.{drive_at, master_calls, looks_back, IsNext as IsNextCycle}
-use Rattle.sercos_law_run.specs.Views.RingViews.{behind_mdt, after_mst, view_of, views_of}
+use Rattle.sercos_law_run.specs.Journal.Runs.{IsNext as IsNextCycle}
 use Rattle.sercos_law_run.proofs.Views.Received.{Agrees}
 use Rattle.sercos_law_run.proofs.Views.ViewRuns.{Sees, at_mst, sees_next}
-use Rattle.sercos_law_run.specs.Views.Spelled.{IsSpelled}
-use Rattle.sercos_law_run.specs.Settings.WellSet.{HaveStores, AreSetWell}
 use Rattle.sercos_law_run.proofs.Settings.SettingsRuns.{keeps_settings, settings_follow}
-use Rattle.sercos_law_run.specs.Settings.SetByWrites.{SettingsFollow}
 use Rattle.sercos_law_run.proofs.Undisturbed.Checks.CommandRuns.{AreCommandsSo, commands_first, commands_next, first_commands}
 use Rattle.sercos_law_run.proofs.Settings.SetsWell.{sets_well}
 

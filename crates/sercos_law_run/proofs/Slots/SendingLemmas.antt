@@ -1,18 +1,8 @@
 -- The slots of a cycle are those of the telegrams that are sent in it.
-use Rattle.std.proofs.Common.{◌≡◌, ◌≢◌, ℕ, zero, suc, ◌+◌, ◌<◌, ◌==◌, List, [], ◌∷◌, ◌++◌, length, slice_index, slice_index_or, refl, sym, ◌∙◌, ap, subst, arith}
-use Rattle.std.specs.List.{All, filter, position_or_len}
-use Rattle.std.proofs.lemmas.Bool.{eq-eqb, ne_eqb}
-use Rattle.std.proofs.lemmas.List.Elements.{All-cons, All-nil, All-push}
-use Rattle.sercos_telegram.specs.declared.layout.Kind.{Kind}
+use Rattle.sercos_law_run.proofs.Words.{◌≡◌, ◌≢◌, ℕ, zero, suc, ◌+◌, ◌<◌, ◌==◌, List, [], ◌∷◌, ◌++◌, length, slice_index, slice_index_or, refl, sym, ◌∙◌, ap, subst, arith, All, filter, position_or_len, eq-eqb, ne_eqb, All-cons, All-nil, All-push, Kind, Wish, WishesView, no_wish, AreDistinct, addresses, IsValid, AtSlot, MdtSlot, SentView, is_mdt, bit_time, at_slot, mdt_slot, IsInCycleBy, IsInCycle, IsAtOf, AreAtsOf, SendsSlots}
 use Rattle.sercos_telegram.specs.declared.layout.Kind.TheVariants.{Mdt}
-use Rattle.sercos_timing.specs.declared.wishes.Wish.{Wish}
-use Rattle.sercos_timing.specs.Views.{WishesView}
-use Rattle.sercos_timing.specs.Order.{no_wish}
-use Rattle.sercos_timing.specs.Valid.{AreDistinct, addresses, IsValid}
-use Rattle.sercos_law_run.specs.Slots.Slots.{AtSlot, MdtSlot}
-use Rattle.sercos_trace.specs.Views.{SentView}
-use Rattle.sercos_telegram.specs.Kinds.{is_mst, is_mdt}
-use Rattle.sercos_law_run.specs.Slots.Sending.{bit_time, place_of, at_slot, ats_in, mdt_slot, IsInCycleBy, IsInCycle, IsAtOf, AreAtsOf, SendsSlots}
+use Rattle.sercos_telegram.specs.Kinds.{is_mst}
+use Rattle.sercos_law_run.specs.Slots.Sending.{place_of, ats_in}
 
 -- the place of an address is that of its drive
 pub address_at : (ds : List Wish) (k : ℕ) → k < length ds → slice_index (addresses ds) k ≡ (slice_index_or ds k no_wish).address

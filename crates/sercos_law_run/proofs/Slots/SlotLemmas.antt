@@ -1,20 +1,8 @@
 -- The slots of a cycle are apart.
-use Rattle.std.proofs.Common.{◌≡◌, ℕ, suc, ◌+◌, ◌-◌, ◌*◌, ◌<◌, ◌≤◌, ◌⊎◌, inl, inr, max, Bool, true, false, List, map, length, take, drop, slice_index, slice_index_or, refl, sym, ap, ◌∙◌, arith}
-use Rattle.std.specs.Prelude.{Option, Some, if◌then◌else◌}
-use Rattle.std.specs.List.{concat}
-use Rattle.std.proofs.lemmas.List.{length-map}
-use Rattle.std.proofs.Math.Nat.{mul-le-mul_left}
-use Rattle.sercos_timing.specs.declared.wishes.Wish.{Wish}
-use Rattle.sercos_timing.specs.Views.{WishesView, PlanView}
-use Rattle.sercos_timing.specs.Order.{times, sent, same_slave, at_bits, mdt_bits, bits_of, record_bytes}
-use Rattle.sercos_timing.specs.Inequalities.{greatest_tmtsy, positions, Fits}
-use Rattle.sercos_timing.specs.Valid.{IsValid}
-use Rattle.sercos_plan.proofs.LeastLemmas.{Among}
-use Rattle.sercos_plan.proofs.PlanLemmas.{among_greatest}
-use Rattle.sercos_law_run.specs.Slots.Slots.{AtSlot, MdtSlot, Held, mdt_content, slot_record, record_start, end_of, HasPause, HasRecovered, IsAtItsTime, IsServed}
-use Rattle.sercos_law_run.specs.Slots.OnPlan.{held_of, IsSentBefore, AreOnPlan, PlanKeepsApart}
+use Rattle.sercos_law_run.proofs.Words.{◌≡◌, ℕ, suc, ◌+◌, ◌-◌, ◌*◌, ◌<◌, ◌≤◌, ◌⊎◌, inl, inr, max, Bool, true, false, List, map, length, take, drop, slice_index, slice_index_or, refl, sym, ap, ◌∙◌, arith, Option, Some, if◌then◌else◌, concat, length-map, mul-le-mul_left, Wish, WishesView, PlanView, times, sent, same_slave, at_bits, mdt_bits, bits_of, record_bytes, greatest_tmtsy, positions, Fits, IsValid, Among, among_greatest, AtSlot, MdtSlot, Held, mdt_content, slot_record, record_start, end_of, HasPause, HasRecovered, IsAtItsTime, IsServed, held_of, IsSentBefore, AreOnPlan, PlanKeepsApart}
+use Rattle.sercos_plan.proofs.ListedLemmas.{listed}
 use Rattle.sercos_law_run.proofs.Slots.Spacing.{IsSpaced, AreSpaced, spaced, either_first, after_mst, before_mdt, kept_at}
-use Rattle.sercos_law_run.proofs.Slots.Places.{has_turn, place_from, place_within, places_apart, record_place_is, length_records, length_record, record_there}
+use Rattle.sercos_law_run.proofs.Slots.Places.{place_from, place_within, places_apart, record_place_is, length_records, length_record, record_there}
 
 -- An AT starts at the plan's time, and its drive has a turn in the order.
 record IsPlanned (w : WishesView) (p : PlanView) (s : AtSlot) : Type 0 where
@@ -27,7 +15,7 @@ planned : (w : WishesView) (p : PlanView) (held : ℕ → Option Held) (s : AtSl
 planned w p held s valid holds within start bits = record {
   start = start.2 ∙ ap (λ (h : Held). w.rate * h.t1) (holds s.drive start.0 within start.1);
   bits = bits;
-  turn = has_turn w valid s.drive within;
+  turn = listed w valid s.drive within;
 }
 
 -- an AT that is sent before another is spaced from it
@@ -92,7 +80,7 @@ served : (w : WishesView) (p : PlanView) (held : ℕ → Option Held) (ats : Lis
     → (k : ℕ) (h : Held) → k < length w.drives → held k ≡ Some h → IsServed w mdt k h
 served w p held ats mdt valid fits on k h within is =
     let same : h ≡ held_of p k = on.holds k h within is in
-    let turn = has_turn w valid k within in
+    let turn = listed w valid k within in
     let seven : w.rate * p.t2 + (mdt_bits w + w.rate * (times w k).tmtsg) ≤ w.rate * p.t3 =
     kept_at _ (λ k. w.rate * p.t2 + (mdt_bits w + w.rate * (times w k).tmtsg)) (λ k. w.rate * p.t3) (sent w) (λ k before. refl) fits.rule_7 k turn in
     let ten : p.t4 + (times w k).t4min ≤ w.cycle = kept_at _ (λ k. p.t4 + (times w k).t4min) (λ k. w.cycle) (sent w) (λ k before. refl) fits.rule_10 k turn in
@@ -158,7 +146,7 @@ keeps_apart w p held ats mdt valid fits on =
       served = served w p held ats mdt valid fits on;
       room = room_for _ _ _ _ _ _ _ _ on.mdt_start on.mdt_bits (mul-le-mul_left w.rate (left w.gap (greatest_tmtsy w))) fits.rule_9 (omega arith);
       room_of_each = λ k in'. room_for _ _ _ _ _ _ _ _ on.mdt_start on.mdt_bits
-          (mul-le-mul_left w.rate (right w.gap (greatest_tmtsy w) _ (among_greatest (λ k. (times w k).tmtsy) (sent w) k (has_turn w valid k in')))) fits.rule_9 (omega arith);
+          (mul-le-mul_left w.rate (right w.gap (greatest_tmtsy w) _ (among_greatest (λ k. (times w k).tmtsy) (sent w) k (listed w valid k in')))) fits.rule_9 (omega arith);
     }
   where
     left : (a b : ℕ) → a ≤ max a b
@@ -174,7 +162,7 @@ keeps_apart w p held ats mdt valid fits on =
     gap_before : w.rate * w.gap ≤ mdt.start
     gap_before =
         let some = valid.drives.some in
-        let first = before_mdt w (bits_of w p.t1) (sent w) (w.rate * p.t2) fits.rule_5 (spaced w (bits_of w p.t1) (sent w) fits.rule_3 fits.rule_4) 0 (has_turn w valid 0 (omega arith)) in
+        let first = before_mdt w (bits_of w p.t1) (sent w) (w.rate * p.t2) fits.rule_5 (spaced w (bits_of w p.t1) (sent w) fits.rule_3 fits.rule_4) 0 (listed w valid 0 (omega arith)) in
         late _ _ _ _ _ on.mdt_start first
       where
         late : (x a n g x' : ℕ) → x ≡ x' → a + (n + g) ≤ x' → g ≤ x

@@ -1,11 +1,6 @@
 -- In the order of a plan that fits, each AT starts after each one before it has ended, with the pause between them that it needs.
-use Rattle.std.proofs.Common.{◌≡◌, ℕ, ◌+◌, ◌*◌, ◌≤◌, ◌⊎◌, inl, inr, Bool, true, false, List, [], ◌∷◌, refl, sym, ap, subst, ◌∙◌, arith}
-use Rattle.std.specs.Prelude.{Option, Some, ◌==◌}
-use Rattle.std.proofs.lemmas.Bool.{cases_Bool, eqb-true, both_ways}
-use Rattle.sercos_timing.specs.Views.{WishesView}
-use Rattle.sercos_timing.specs.Order.{wish, times, previous, same_slave, at_bits}
-use Rattle.sercos_timing.specs.Inequalities.{asked_2, asked_3, asked_4, asked_5, Meets, Keeps}
-use Rattle.sercos_plan.proofs.LeastLemmas.{Among}
+use Rattle.sercos_law_run.proofs.Words.{◌≡◌, ℕ, ◌+◌, ◌*◌, ◌≤◌, ◌⊎◌, inl, inr, Bool, true, false, List, [], ◌∷◌, refl, sym, ap, subst, ◌∙◌, arith, Option, Some, ◌==◌, cases_Bool, eqb-true, both_ways, WishesView, wish, times, previous, same_slave, at_bits, asked_2, asked_3, asked_4, asked_5, Meets, Among}
+use Rattle.sercos_timing.specs.Inequalities.{Keeps}
 
 -- the AT of k is sent after that of j
 pub record IsSpaced (w : WishesView) (b : ℕ → ℕ) (j k : ℕ) : Type 0 where

@@ -1,13 +1,5 @@
 -- Worked cycles: one that is sent by a plan, and two that aren't apart.
-use Rattle.std.proofs.Common.{◌≡◌, ℕ, ◌*◌, ◌<◌, ◌≤◌, inl, List, [], ◌∷◌, Option, Some, refl, sym, ◌∙◌, ap, arith}
-use Rattle.std.specs.List.{All, AllPairs}
-use Rattle.std.proofs.lemmas.List.Elements.{All-cons, All-nil}
-use Rattle.std.proofs.lemmas.List.Kept.{AllPairs-cons}
-use Rattle.sercos_timing.specs.Views.{WishesView, PlanView}
-use Rattle.sercos_timing.specs.Order.{at_bits}
-use Rattle.sercos_timing.specs.Examples.{two_drives}
-use Rattle.sercos_law_run.specs.Slots.Slots.{AtSlot, MdtSlot, Held, HasPause, IsAtItsTime, AreApart}
-use Rattle.sercos_law_run.specs.Slots.OnPlan.{held_of, IsSentBefore, AreOnPlan}
+use Rattle.sercos_law_run.proofs.Words.{◌≡◌, ℕ, ◌*◌, ◌<◌, ◌≤◌, inl, List, [], ◌∷◌, Option, Some, refl, sym, ◌∙◌, ap, arith, All, AllPairs, All-cons, All-nil, AllPairs-cons, WishesView, PlanView, at_bits, two_drives, AtSlot, MdtSlot, Held, HasPause, IsAtItsTime, AreApart, held_of, IsSentBefore, AreOnPlan}
 
 abbrev ring : WishesView
 ring = two_drives 250 10

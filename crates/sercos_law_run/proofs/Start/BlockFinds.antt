@@ -1,23 +1,10 @@
 -- Which block of a drive's store is found by an identifier number, and with which attribute.
-use Rattle.std.proofs.Common.{◌≡◌, ℕ, ◌==◌, nat_lt, Bool, true, false, cond, not, ◌&&◌, ◌||◌, List, [], ◌∷◌, ◌++◌, map, length, Option, Some, None, is_none, option_map, option_and_then, refl, sym, ◌∙◌, ap, arith}
-use Rattle.std.specs.List.{list_all}
-use Rattle.std.specs.Option.{option_or}
-use Rattle.std.proofs.lemmas.Bool.{and_parts}
-use Rattle.std.proofs.lemmas.Bool.Decides.{nat_tests}
-use Rattle.sercos_model.proofs.FaultLemmas.{none_of-or}
+use Rattle.sercos_law_run.proofs.Words.{◌≡◌, ℕ, ◌==◌, nat_lt, Bool, true, false, cond, not, ◌&&◌, ◌||◌, List, [], ◌∷◌, ◌++◌, map, length, Option, Some, None, is_none, option_map, option_and_then, refl, sym, ◌∙◌, ap, arith, list_all, option_or, and_parts, nat_tests, none_of-or, Block, BuiltIn, Field, BadBlock, DriveView, is_fixed, built_ins, is_built_in, built_in_block, has_block, block_fault, find_block, number_len, either_none, IsNew, IsNew-block_fault, is_given, kept, IsStoreOf, CarryAlike}
 use Rattle.sercos_idn.specs.Codes.{attribute_fault}
-use Rattle.sercos_block.specs.declared.block.Block.{Block}
-use Rattle.sercos_block.specs.declared.built_in.BuiltIn.{BuiltIn}
-use Rattle.sercos_block.specs.declared.check.Field.{Field}
-use Rattle.sercos_block.specs.declared.check.BadBlock.{BadBlock}
-use Rattle.sercos_block.specs.Views.{DriveView}
-use Rattle.sercos_block.specs.Blocks.{is_fixed}
-use Rattle.sercos_block.specs.BuiltIns.{built_ins, is_built_in, built_in, built_in_block}
-use Rattle.sercos_block.specs.Rules.{has_block, block_fault, blocks_fault}
-use Rattle.sercos_block.specs.Stores.{find_block, inserted, with_own, store_of}
-use Rattle.sercos_block.specs.Rings.{attribute_in, row_in, built_in_attribute, own_attribute, block_attribute, number_len, cyclic_len}
-use Rattle.sercos_block.proofs.OpenLemmas.{either_none, IsNew, IsNew-block_fault}
-use Rattle.sercos_law_run.specs.Start.StartUp.{is_given, kept, IsStoreOf, CarryAlike}
+use Rattle.sercos_block.specs.BuiltIns.{built_in}
+use Rattle.sercos_block.specs.Rules.{blocks_fault}
+use Rattle.sercos_block.specs.Stores.{inserted, with_own, store_of}
+use Rattle.sercos_block.specs.Rings.{attribute_in, row_in, built_in_attribute, own_attribute, block_attribute, cyclic_len}
 
 -- if no block has the number, none is found
 nowhere : (raw : ℕ) (blocks : List Block) → has_block raw blocks ≡ false → find_block raw blocks ≡ None

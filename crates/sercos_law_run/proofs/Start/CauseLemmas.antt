@@ -1,17 +1,9 @@
 -- Which words of the master's writes in phase 2 are refused.
-use Rattle.std.proofs.Common.{◌≡◌, inl, inr, ℕ, suc, ◌+◌, ◌*◌, ◌<◌, ◌≤◌, ◌/◌, ◌%◌, ◌==◌, nat_lt, nat_le, Bool, true, false, not, ◌&&◌, ◌||◌, List, [], ◌∷◌, length, Option, Some, None, option_map, refl, sym, ◌∙◌, ap, arith}
-use Rattle.std.specs.Bool.{then_some}
-use Rattle.std.specs.Option.{option_or}
-use Rattle.std.proofs.lemmas.Bool.{le-ltb, lt-leb, eq-eqb, eqb-true, eqb-false}
+use Rattle.sercos_law_run.proofs.Words.{◌≡◌, inl, inr, ℕ, suc, ◌+◌, ◌*◌, ◌<◌, ◌≤◌, ◌/◌, ◌%◌, ◌==◌, nat_lt, nat_le, Bool, true, false, not, ◌&&◌, ◌||◌, List, [], ◌∷◌, length, Option, Some, None, option_map, refl, sym, ◌∙◌, ap, arith, then_some, option_or, le-ltb, lt-leb, eq-eqb, eqb-true, eqb-false, Block, blocks_fault, find_block, store_of, DriveView, write_cause_in, kept, IsStoreOf, CausesAlike, CycleCause, NumberHasNoCause, ListHasNoCause}
+use Rattle.std.proofs.lemmas.Bool.{and_right}
 use Rattle.sercos_idn.specs.Attributes.{attribute_of}
-use Rattle.sercos_block.specs.declared.block.Block.{Block}
 use Rattle.sercos_block.specs.BuiltIns.{built_in}
-use Rattle.sercos_block.specs.Rules.{blocks_fault}
-use Rattle.sercos_block.specs.Stores.{find_block, store_of}
-use Rattle.sercos_block.specs.Views.{DriveView}
-use Rattle.sercos_service_drive.specs.Replies.{bytes_written, write_cause, write_cause_in}
-use Rattle.sercos_law_run.specs.Start.StartUp.{kept, IsStoreOf}
-use Rattle.sercos_law_run.specs.Start.Causes.{CausesAlike, CycleCause, NumberHasNoCause, ListHasNoCause}
+use Rattle.sercos_service_drive.specs.Replies.{bytes_written, write_cause}
 use Rattle.sercos_law_run.proofs.Start.BlockFinds.{find_store_of, kept_field, same_kept}
 use Rattle.sercos_law_run.proofs.Start.LimitLemmas.{or_first, in_order}
 
@@ -44,9 +36,6 @@ pub number_has_no_cause : NumberHasNoCause
 unfolding built_in write_cause bytes_written attribute_of
 number_has_no_cause d blocks raw word none is start = at (1 == raw) refl (6 == raw) refl (7 == raw) refl (8 == raw) refl (9 == raw) refl (10 == raw) refl (15 == raw) refl (89 == raw) refl start
   where
-    Free : ℕ → Type 0
-    Free n = write_cause_in (find_block n blocks) 2 true (word ∷ []) ≡ None
-
     at_number : (n : ℕ) → (n == raw) ≡ true → write_cause_in (find_block n blocks) 2 true (word ∷ []) ≡ None → write_cause_in (find_block raw blocks) 2 true (word ∷ []) ≡ None
     at_number n e free = let same : n ≡ raw = eqb-true n raw e in rw same at free
 
@@ -68,10 +57,6 @@ no_cause : (a c d e f g : Bool) → a ≡ false → c ≡ false → d ≡ false 
     → option_or {T = ℕ} (then_some a 0x7004) (option_or (then_some c 0x7002) (option_or (then_some d 0x7003) (option_or (then_some e 0x7008) (option_or (then_some f 0x7006) (then_some g 0x7007))))) ≡ None
 no_cause a c d e f g ea ec ed ee ef eg = rw (ea, ec, ed, ee, ef, eg) refl
 
-and_false : (x : Bool) → (x && false) ≡ false
-and_false true = refl
-and_false false = refl
-
 early : (n m : ℕ) → ((n == 1 + m) && nat_lt (suc n) (2 + (2 * m + 1) / 2)) ≡ false
 early n m = by (n == 1 + m) refl
   where
@@ -82,14 +67,14 @@ early n m = by (n == 1 + m) refl
 over : (n m : ℕ) → n < 2 + m → m ≤ 16 → (((suc n == 1) && nat_lt 32 (2 * m)) || (not (n == 1 + m) && nat_le (2 + (2 * m + 1) / 2) (suc n))) ≡ false
 over n m less small =
     let short : nat_lt 32 (2 * m) ≡ false = le-ltb 32 (2 * m) (omega arith) in
-    rw (short, and_false (suc n == 1)) (by (n == 1 + m) refl)
+    rw (short, and_right (suc n == 1) false refl) (by (n == 1 + m) refl)
   where
     by : (last : Bool) → (n == 1 + m) ≡ last → (not last && nat_le (2 + (2 * m + 1) / 2) (suc n)) ≡ false
     by true e = refl
     by false e = let other = eqb-false n (1 + m) e in lt-leb (2 + (2 * m + 1) / 2) (suc n) (omega (arith, other))
 
 even : (n m : ℕ) → (((suc n == 1) && not (2 * m % 2 == 0)) || false) ≡ false
-even n m = let whole : (2 * m % 2 == 0) ≡ true = eq-eqb (2 * m % 2) 0 (omega arith) in rw (whole, and_false (suc n == 1)) refl
+even n m = let whole : (2 * m % 2 == 0) ≡ true = eq-eqb (2 * m % 2) 0 (omega arith) in rw (whole, and_right (suc n == 1) false refl) refl
 
 list_free : (m : ℕ) (words : List ℕ) → m ≤ 16 → length words < 2 + m
     → option_or {T = ℕ} (then_some ((suc (length words) == 1) && false) 0x7004) (option_or (then_some ((length words == 1 + m) && nat_lt (suc (length words)) (2 + (2 * m + 1) / 2)) 0x7002)
@@ -97,7 +82,7 @@ list_free : (m : ℕ) (words : List ℕ) → m ≤ 16 → length words < 2 + m
     (option_or (then_some (((suc (length words) == 1) && not (2 * m % 2 == 0)) || false) 0x7008)
     (option_or (then_some ((length words == 1 + m) && false) 0x7006) (then_some ((length words == 1 + m) && false) 0x7007))))) ≡ None
 list_free m words small less =
-    no_cause _ _ _ _ _ _ (and_false (suc (length words) == 1)) (early (length words) m) (over (length words) m less small) (even (length words) m) (and_false (length words == 1 + m)) (and_false (length words == 1 + m))
+    no_cause _ _ _ _ _ _ (and_right (suc (length words) == 1) false refl) (early (length words) m) (over (length words) m less small) (even (length words) m) (and_right (length words == 1 + m) false refl) (and_right (length words == 1 + m) false refl)
 
 pub list_has_no_cause : ListHasNoCause
 unfolding built_in write_cause bytes_written attribute_of

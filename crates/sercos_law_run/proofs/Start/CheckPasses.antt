@@ -1,24 +1,8 @@
 -- If a drive holds the start-up values of a plan that fits, its check for phase 3 finds nothing.
-use Rattle.std.proofs.Common.{◌≡◌, ℕ, zero, suc, ◌+◌, ◌-◌, ◌*◌, ◌<◌, ◌≤◌, ◌%◌, ◌==◌, nat_lt, nat_le, Bool, true, false, not, ◌||◌, List, [], ◌∷◌, ◌++◌, length, map, Option, Some, None, is_none, slice_get, slice_index, slice_index_or, refl, ◌∙◌, ap, subst, arith}
-use Rattle.std.proofs.lemmas.Bool.{and_parts, le-ltb, ne_eqb, or_from, leb-true}
-use Rattle.std.proofs.lemmas.Bool.Decides.{nat_tests}
-use Rattle.std.proofs.lemmas.Option.{slice_get_within}
-use Rattle.sercos_model.specs.Frames.{wire_bits}
-use Rattle.sercos_timing.specs.declared.wishes.Wish.{Wish}
-use Rattle.sercos_timing.specs.declared.wishes.Times.{Times}
-use Rattle.sercos_timing.specs.Views.{WishesView, PlanView}
-use Rattle.sercos_timing.specs.Order.{no_wish, wish, times}
-use Rattle.sercos_timing.specs.Inequalities.{Fits}
-use Rattle.sercos_timing.specs.Limits.{most_cycle}
-use Rattle.sercos_timing.specs.Valid.{IsValid, is_cycle, is_control, is_address}
-use Rattle.sercos_block.specs.declared.block.Block.{Block}
-use Rattle.sercos_block.specs.declared.check.BadBlock.{BadBlock}
-use Rattle.sercos_block.specs.Rules.{blocks_fault}
-use Rattle.sercos_block.specs.Views.{DriveView, RingView}
-use Rattle.sercos_block.specs.Rings.{are_ring_numbers, has_ring_numbers, are_times, are_drive_numbers, has_drive_numbers, has_blocks, are_cyclic, has_address, is_drive, are_drives, has_drives, is_ring, is_order, at_len, record_len, wish_of, wishes_of}
-use Rattle.sercos_block.proofs.WishLemmas.{length_wishes}
-use Rattle.sercos_command.specs.Checks.{number_at, carried_len, breaks_1, breaks_2, breaks_6, breaks_7, breaks_8, breaks_9, breaks_10, breaks_15, breaks_89, listed_if, unfit_for_phase_3}
-use Rattle.sercos_law_run.specs.Start.StartUp.{PlanPassesCheck}
+use Rattle.sercos_law_run.proofs.Words.{◌≡◌, ℕ, zero, suc, ◌+◌, ◌-◌, ◌*◌, ◌<◌, ◌≤◌, ◌%◌, ◌==◌, nat_lt, nat_le, Bool, true, false, not, ◌||◌, List, [], ◌∷◌, ◌++◌, length, map, Option, Some, None, is_none, slice_get, slice_index, slice_index_or, refl, ◌∙◌, ap, subst, arith, and_parts, le-ltb, ne_eqb, or_from, leb-true, nat_tests, slice_get_within, wire_bits, Wish, Times, WishesView, PlanView, no_wish, wish, times, Fits, most_cycle, IsValid, is_address, Block, BadBlock, blocks_fault, DriveView, RingView, has_ring_numbers, has_drive_numbers, are_cyclic, has_address, is_order, record_len, wish_of, length_wishes, number_at, carried_len, listed_if, PlanPassesCheck}
+use Rattle.sercos_timing.specs.Valid.{is_cycle, is_control}
+use Rattle.sercos_block.specs.Rings.{are_ring_numbers, are_times, are_drive_numbers, has_blocks, is_drive, are_drives, has_drives, is_ring, at_len, wishes_of}
+use Rattle.sercos_command.specs.Checks.{breaks_1, breaks_2, breaks_6, breaks_7, breaks_8, breaks_9, breaks_10, breaks_15, breaks_89, unfit_for_phase_3}
 use Rattle.sercos_law_run.proofs.Start.Lengths.{number_is, are_as_long, list_fits, declares_times}
 use Rattle.sercos_law_run.proofs.Start.PlanNumbers.{HasNumbers, has_numbers}
 

@@ -1,14 +1,5 @@
 -- The master writes the start-up values, and a drive that holds them holds the plan.
-use Rattle.std.proofs.Common.{◌≡◌, ℕ, zero, suc, ◌<◌, ◌/◌, ◌%◌, List, [], ◌∷◌, map, Some, slice_get, slice_index, slice_index_or, refl, ◌∙◌, ap, arith}
-use Rattle.std.specs.Int.{w16, to_le_bytes}
-use Rattle.sercos_idn.specs.declared.idn.Idn.{Idn}
-use Rattle.sercos_step.specs.Words.{bytes_in}
-use Rattle.sercos_timing.specs.Views.{PlanView}
-use Rattle.sercos_block.specs.Views.{RingView, DriveView}
-use Rattle.sercos_command.specs.Checks.{list_bytes}
-use Rattle.sercos_law_run.specs.Slots.Slots.{Held}
-use Rattle.sercos_seat.specs.Ring.{MemberView, no_member, member, member_of, known_of}
-use Rattle.sercos_law_run.specs.Start.Held.{HoldsPlan, WritesStartUp}
+use Rattle.sercos_law_run.proofs.Words.{◌≡◌, ℕ, zero, suc, ◌<◌, ◌/◌, ◌%◌, List, [], ◌∷◌, map, Some, slice_get, slice_index, slice_index_or, refl, ◌∙◌, ap, arith, w16, to_le_bytes, Idn, bytes_in, PlanView, RingView, DriveView, list_bytes, Held, MemberView, no_member, member, member_of, known_of, HoldsPlan, WritesStartUp}
 use Rattle.sercos_law_run.proofs.Start.Lengths.{number_is}
 use Rattle.sercos_law_run.proofs.Start.CheckPasses.{FitDrive, fit_in_ring, ring_cycles, small_control}
 

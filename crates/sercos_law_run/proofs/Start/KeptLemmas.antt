@@ -1,18 +1,6 @@
 -- What no write changes of a store.
-use Rattle.std.proofs.Common.{◌≡◌, ℕ, ◌≤◌, ◌==◌, nat_lt, Bool, true, false, cond, not, ◌&&◌, ◌||◌, List, [], ◌∷◌, map, Option, Some, None, IfSome, option_map, unwrap_or, refl, sym, ◌∙◌, ap, arith}
-use Rattle.std.specs.Bool.{then_some}
-use Rattle.std.specs.List.{list_all}
-use Rattle.std.proofs.lemmas.Bool.{and_parts}
-use Rattle.std.proofs.lemmas.Bool.Decides.{nat_tests}
-use Rattle.sercos_model.proofs.FaultLemmas.{none_of-or, none_of-then}
-use Rattle.sercos_block.specs.declared.block.Block.{Block}
-use Rattle.sercos_block.specs.Blocks.{is_fixed, is_protected}
-use Rattle.sercos_block.specs.Rules.{has_block}
-use Rattle.sercos_block.specs.Stores.{find_block, with_value, with_data, write_fault, data_fault, put_fault, are_ascending, store_of}
-use Rattle.sercos_block.proofs.PutLemmas.{with_data-nowhere}
-use Rattle.sercos_command.specs.Checks.{data_at}
-use Rattle.sercos_law_run.specs.Start.StartUp.{is_given, kept}
-use Rattle.sercos_law_run.specs.Start.Kept.{WritesKeep, WritesHold, RefuseAlike}
+use Rattle.sercos_law_run.proofs.Words.{◌≡◌, ℕ, ◌≤◌, ◌==◌, nat_lt, Bool, true, false, cond, not, ◌&&◌, ◌||◌, List, [], ◌∷◌, map, Option, Some, None, IfSome, option_map, unwrap_or, refl, sym, ◌∙◌, ap, arith, then_some, list_all, and_parts, nat_tests, none_of-or, none_of-then, Block, is_fixed, is_protected, has_block, find_block, with_value, with_data, write_fault, put_fault, store_of, with_data-nowhere, data_at, is_given, kept, WritesKeep, WritesHold, RefuseAlike}
+use Rattle.sercos_block.specs.Stores.{data_fault, are_ascending}
 use Rattle.sercos_law_run.proofs.Start.BlockFinds.{kept_field, same_kept}
 
 -- a block whose value may change

@@ -1,32 +1,11 @@
 -- Which start-up values a store holds while the master writes them, and after.
-use Rattle.std.proofs.Common.{◌≡◌, ℕ, zero, suc, ◌+◌, ◌*◌, ◌/◌, ◌%◌, ◌==◌, nat_lt, Bool, true, false, cond, not, ◌&&◌, List, [], ◌∷◌, ◌++◌, map, take, Option, Some, None, option_map, slice_get, slice_index, refl, sym, ◌∙◌, ap, arith}
-use Rattle.std.specs.Int.{w16, to_le_bytes}
-use Rattle.std.specs.List.{list_all}
-use Rattle.std.specs.Prelude.{if◌then◌else◌}
-use Rattle.std.proofs.lemmas.Bool.{eq-eqb, cond-true}
-use Rattle.std.proofs.lemmas.List.Folds.{list_any-append}
-use Rattle.std.proofs.lemmas.List.Sorted.{list_any-IsPermutation}
-use Rattle.sercos_idn.specs.declared.idn.Idn.{Idn}
-use Rattle.sercos_idn.specs.declared.attribute.Attribute.{Attribute}
+use Rattle.sercos_law_run.proofs.Words.{◌≡◌, ℕ, zero, suc, ◌+◌, ◌*◌, ◌/◌, ◌%◌, ◌==◌, nat_lt, Bool, true, false, cond, not, ◌&&◌, List, [], ◌∷◌, ◌++◌, map, take, Option, Some, None, option_map, slice_get, slice_index, refl, sym, ◌∙◌, ap, arith, w16, to_le_bytes, list_all, if◌then◌else◌, eq-eqb, cond-true, list_any-append, list_any-IsPermutation, Idn, Attribute, is_list, words_of, bytes_in, at_least_one, PlanView, Block, is_built_in, has_block, blocks_fault, find_block, with_data, store_of, DriveView, store_of-permutes, data_at, unfit_for_phase_3, unfit_for_phase_4, list_bytes, is_command, is_set, CommandHistory, kept, IsStoreOf, Holds, start_up, command_value, blocks_with, BlocksKeep, NoneOf, StayHeld, HoldsNext, IsProtectedLater, StartUpIsProtected, ChecksAreProtected, StoresStartUpWhole, ListsStay}
 use Rattle.sercos_idn.specs.Codes.{attribute_fault}
 use Rattle.sercos_idn.specs.Attributes.{attribute_of}
-use Rattle.sercos_idn.specs.Codes.{is_list}
-use Rattle.sercos_step.specs.Words.{words_of, bytes_in, at_least_one}
-use Rattle.sercos_timing.specs.Views.{PlanView}
-use Rattle.sercos_block.specs.declared.block.Block.{Block}
-use Rattle.sercos_block.specs.BuiltIns.{is_built_in, built_in}
-use Rattle.sercos_block.specs.Rules.{has_block, blocks_fault}
+use Rattle.sercos_block.specs.BuiltIns.{built_in}
 use Rattle.sercos_block.specs.Rings.{attribute_in, row_in, built_in_attribute, block_attribute}
-use Rattle.sercos_block.specs.Stores.{find_block, with_data, are_ascending, store_of}
-use Rattle.sercos_block.specs.Views.{DriveView}
-use Rattle.sercos_block.proofs.OpenLemmas.{store_of-permutes}
-use Rattle.sercos_command.specs.Checks.{data_at, unfit_for_phase_3, unfit_for_phase_4, list_bytes}
-use Rattle.sercos_command.specs.Settings.{is_command}
-use Rattle.sercos_command.specs.Calls.{is_set, CommandHistory, with_check_list}
-use Rattle.sercos_law_run.specs.Start.StartUp.{kept, IsStoreOf, Holds, start_up}
-use Rattle.sercos_service_drive.specs.Writes.{command_value, blocks_with}
-use Rattle.sercos_law_run.specs.Start.Kept.{BlocksKeep}
-use Rattle.sercos_law_run.specs.Start.Later.{NoneOf, StayHeld, HoldsNext, IsProtectedLater, StartUpIsProtected, ChecksAreProtected, StoresStartUpWhole, ListsStay}
+use Rattle.sercos_block.specs.Stores.{are_ascending}
+use Rattle.sercos_command.specs.Calls.{with_check_list}
 use Rattle.sercos_law_run.proofs.Start.BlockFinds.{kept_idn, same_attribute}
 use Rattle.sercos_law_run.proofs.Start.KeptLemmas.{stays, writes_hold, writes_keep}
 

@@ -1,21 +1,11 @@
 -- Numbers and lists that a drive holds, and the lengths of what its telegrams carry.
-use Rattle.std.proofs.Common.{◌≡◌, ℕ, ◌+◌, ◌*◌, ◌<◌, ◌/◌, ◌%◌, Bool, true, false, cond, not, ◌&&◌, List, [], ◌∷◌, Option, Some, None, is_some, option_map, unwrap_or, refl, ◌∙◌, ap, arith}
-use Rattle.std.specs.List.{list_all, fold}
-use Rattle.std.specs.Option.{option_or}
-use Rattle.std.specs.Int.{w16, to_le_bytes}
-use Rattle.std.proofs.lemmas.Bool.{and_parts, and_from}
-use Rattle.sercos_idn.specs.declared.idn.Idn.{Idn}
-use Rattle.sercos_block.specs.declared.block.Block.{Block}
-use Rattle.sercos_block.specs.Views.{DriveView}
-use Rattle.sercos_block.specs.Blocks.{is_fixed}
+use Rattle.sercos_law_run.proofs.Words.{◌≡◌, ℕ, ◌+◌, ◌*◌, ◌<◌, ◌/◌, ◌%◌, Bool, true, false, cond, not, ◌&&◌, List, [], ◌∷◌, Option, Some, None, is_some, option_map, unwrap_or, refl, ◌∙◌, ap, arith, list_all, fold, w16, to_le_bytes, and_parts, and_from, Idn, Block, DriveView, is_fixed, blocks_fault, find_block, store_of, cyclic_len, data_at, list_bytes, is_given, kept, IsStoreOf, AreAsLong}
 use Rattle.sercos_block.specs.BuiltIns.{built_in}
-use Rattle.sercos_block.specs.Rules.{blocks_fault}
-use Rattle.sercos_block.specs.Stores.{find_block, store_of}
-use Rattle.sercos_block.specs.Rings.{cyclic_len, listed_len, are_cyclic}
+use Rattle.sercos_block.specs.Rings.{listed_len, are_cyclic}
 use Rattle.sercos_command.specs.Checks as checks
-use Rattle.sercos_command.specs.Checks.{data_at, number_at, idns_in, idns_at, carried_len, list_bytes, breaks_list}
-use Rattle.sercos_law_run.specs.Start.StartUp.{is_given, kept, IsStoreOf, AreAsLong}
+use Rattle.sercos_command.specs.Checks.{number_at, idns_in, idns_at, carried_len, breaks_list}
 use Rattle.sercos_law_run.proofs.Start.BlockFinds.{find_store_of, same_kept, carry_alike}
+use Rattle.sercos_law_run.proofs.Start.LimitLemmas.{or_first}
 
 pub number_is : (blocks : List Block) (raw n : ℕ) → data_at blocks raw ≡ to_le_bytes w16 n → n < 65536 → number_at blocks raw ≡ n
 unfolding number_at
@@ -71,9 +61,6 @@ value_kept (Some b) c x xs e is = by (is_fixed b && not (is_given b.idn.raw)) e
         let same : record b { value = [] } ≡ c = cc in
         let empty : [] ≡ c.value = ap (λ (b : Block). b.value) same in
         cc
-
-or_first : (o p : Option Block) (b : Block) → o ≡ Some b → option_or o p ≡ Some b
-or_first o p b e = rw e refl
 
 -- the times that the drive declares
 pub record DeclaresTimes (d : DriveView) (blocks : List Block) : Type 0 where

@@ -1,28 +1,11 @@
 -- Which blocks can be outside their limits, and which of the start-up values can be refused.
-use Rattle.std.proofs.Common.{◌≡◌, ◌↔◌, ℕ, ◌+◌, ◌*◌, ◌/◌, ◌<◌, ◌≤◌, ◌%◌, ◌==◌, nat_lt, Bool, true, false, cond, not, ◌&&◌, ◌||◌, List, [], ◌∷◌, map, length, Option, Some, None, option_map, refl, sym, ◌∙◌, ap, arith}
-use Rattle.std.specs.Prelude.{slice_index}
-use Rattle.std.specs.Bool.{then_some}
-use Rattle.std.specs.Int.{w16, to_le_bytes, from_le_bytes}
-use Rattle.std.specs.List.{list_all, list_any, filter}
-use Rattle.std.specs.Option.{option_or}
-use Rattle.std.proofs.lemmas.Bool.{and_parts, le-ltb, eq-eqb, eqb-true}
-use Rattle.std.proofs.lemmas.Nat.{from_le_bytes-to_le_bytes_2}
-use Rattle.std.proofs.lemmas.Bool.Decides.{nat_tests}
-use Rattle.sercos_idn.specs.declared.idn.Idn.{Idn}
+use Rattle.sercos_law_run.proofs.Words.{◌≡◌, ◌↔◌, ℕ, ◌+◌, ◌*◌, ◌/◌, ◌<◌, ◌≤◌, ◌%◌, ◌==◌, nat_lt, Bool, true, false, cond, not, ◌&&◌, ◌||◌, List, [], ◌∷◌, map, length, Option, Some, None, option_map, refl, sym, ◌∙◌, ap, arith, slice_index, then_some, w16, to_le_bytes, list_all, list_any, filter, option_or, and_parts, le-ltb, eq-eqb, eqb-true, or_from, nat_tests, Idn, Block, BuiltIn, Opening, CycleTime, built_ins, is_built_in, built_in_block, opening_limit, blocks_fault, find_block, put_fault, store_of, DriveView, data_at, is_outside, list_bytes, kept, IsStoreOf, RefusesCycle, TakesStartUp, is_own_outside, NamesOwn, PassesForPhase4, BuiltInIsSteady}
 use Rattle.sercos_idn.specs.Attributes.{attribute_of}
-use Rattle.sercos_block.specs.declared.block.Block.{Block}
-use Rattle.sercos_block.specs.declared.built_in.BuiltIn.{BuiltIn}
-use Rattle.sercos_block.specs.declared.built_in.Opening.{Opening}
-use Rattle.sercos_block.specs.declared.built_in.Opening.TheVariants.{CycleTime}
-use Rattle.sercos_block.specs.BuiltIns.{built_ins, is_built_in, built_in, built_in_block, opening_limit}
-use Rattle.sercos_block.specs.Rules.{blocks_fault}
-use Rattle.sercos_block.specs.Stores.{find_block, data_fault, put_fault, are_ascending, store_of}
+use Rattle.sercos_block.specs.BuiltIns.{built_in}
+use Rattle.sercos_block.specs.Stores.{data_fault, are_ascending}
 use Rattle.sercos_block.specs.Rings.{row_in}
-use Rattle.sercos_block.specs.Views.{DriveView}
-use Rattle.sercos_command.specs.Checks.{data_at, is_outside, unfit_for_phase_4, list_bytes}
+use Rattle.sercos_command.specs.Checks.{unfit_for_phase_4}
 use Rattle.sercos_service_drive.specs.Replies.{data_in}
-use Rattle.sercos_law_run.specs.Start.StartUp.{kept, IsStoreOf}
-use Rattle.sercos_law_run.specs.Start.Kept.{RefusesCycle, TakesStartUp, is_own_outside, NamesOwn, PassesForPhase4, BuiltInIsSteady}
 use Rattle.sercos_law_run.proofs.Start.BlockFinds.{find_store_of, find_built_in, kept_field, same_kept}
 use Rattle.sercos_law_run.proofs.Start.KeptLemmas.{refuse_alike}
 
@@ -34,9 +17,6 @@ refused_as : (d : DriveView) (blocks : List Block) (raw : ℕ) (c : Block) (byte
     → put_fault (find_block raw blocks) 2 bytes ≡ put_fault (Some c) 2 bytes
 refused_as d blocks raw c bytes none is there =
     refuse_alike d blocks is raw 2 bytes ∙ ap (λ (o : Option Block). put_fault o 2 bytes) (find_store_of raw d none ∙ or_first _ _ c there)
-
-number_back : (n : ℕ) → n < 65536 → from_le_bytes w16 (to_le_bytes w16 n) ≡ n
-number_back n small = from_le_bytes-to_le_bytes_2 n small
 
 pub in_order : (a b : Bool) (x y : ℕ) → option_or (then_some a x) (then_some b y) ≡ cond a (Some x) (cond b (Some y) None)
 in_order true b x y = refl
@@ -57,9 +37,6 @@ number_taken d blocks raw n c none is there taken = refused_as d blocks raw c (t
 pub length_list : (idns : List Idn) → length (list_bytes idns) ≡ 2 * length idns
 length_list [] = refl
 length_list (idn ∷ idns) = let rest = length_list idns in omega arith
-
-list_taken : (long odd : Bool) → long ≡ false → odd ≡ true → option_or {T = ℕ} (then_some long 0x7003) (option_or (then_some (not odd) 0x7008) None) ≡ None
-list_taken long odd e f = rw (e, f) refl
 
 pub takes_start_up : TakesStartUp
 unfolding built_in data_fault attribute_of
@@ -180,9 +157,6 @@ not_or true y h e = cc
 not_or false true h e = cc
 not_or false false h e = refl
 
-neither_way : (low high : Bool) → low ≡ false → high ≡ false → (low || high) ≡ false
-neither_way low high e f = rw (e, f) refl
-
 cycle_inside : (d : DriveView) (b : Block) (cycle : ℕ) (c : Block) → find_block 2 (built_in d) ≡ Some c → kept b ≡ kept c → b.value ≡ to_le_bytes w16 cycle
     → cycle < 65536 → d.cycle_min ≤ cycle → cycle ≤ d.cycle_max → is_outside b ≡ false
 unfolding built_in attribute_of
@@ -190,7 +164,7 @@ cycle_inside d b cycle c there same value small low high =
     let at : built_in_block d (record { idn = record { raw = 2 }; attribute = 0x60110001; fixed = false; opening = CycleTime }) ≡ c = cc in
     let same' = same ∙ ap kept (sym at) in
     let back : cycle % 256 + cycle / 256 % 256 * 256 ≡ cycle = omega arith in
-    outside_kept b ∙ ap (λ (k : Block). is_outside (record k { value = b.value })) same' ∙ rw (value, back) (neither_way _ _ (le-ltb cycle d.cycle_min low) (le-ltb d.cycle_max cycle high))
+    outside_kept b ∙ ap (λ (k : Block). is_outside (record k { value = b.value })) same' ∙ rw (value, back) (or_from _ _ (le-ltb cycle d.cycle_min low) (le-ltb d.cycle_max cycle high))
 
 option_same : (b : Block) (o : Option Block) (c : Block) → option_map kept (Some b) ≡ option_map kept o → o ≡ Some c → kept b ≡ kept c
 option_same b None c e f = cc
@@ -251,7 +225,7 @@ passes_for_phase_4 d blocks cycle store none is value small low high =
     rw (names_own d blocks cycle store none is value small low high) (none_passes is_own_outside blocks)
 
 -- a built-in block has no step
-kept_step : (b : Block) → (kept b).step ≡ b.step
+pub kept_step : (b : Block) → (kept b).step ≡ b.step
 kept_step = kept_field (λ b. b.step) (λ b. refl)
 
 steady : (cycle : ℕ) (b : Block) → b.step ≡ 0 → data_in cycle b ≡ b.value

@@ -1,21 +1,6 @@
 -- Which of a drive's own blocks are outside their limits, during the start-up.
-use Rattle.std.proofs.Common.{◌≡◌, ℕ, ◌==◌, Bool, true, false, cond, not, ◌&&◌, ◌||◌, List, [], ◌∷◌, ◌++◌, None, refl, sym, ◌∙◌, ap}
-use Rattle.std.specs.List.{list_any, filter}
-use Rattle.std.proofs.lemmas.Bool.{eqb-true}
-use Rattle.std.proofs.lemmas.List.Folds.{list_any-append}
-use Rattle.std.proofs.lemmas.List.Sorted.{list_any-IsPermutation}
-use Rattle.sercos_block.specs.declared.block.Block.{Block}
-use Rattle.sercos_block.specs.BuiltIns.{is_built_in, built_in}
-use Rattle.sercos_block.specs.Rules.{has_block, blocks_fault}
-use Rattle.sercos_block.specs.Stores.{with_data, store_of}
-use Rattle.sercos_block.specs.Views.{DriveView}
-use Rattle.sercos_block.proofs.OpenLemmas.{either_none, store_of-permutes}
-use Rattle.sercos_command.specs.Checks.{is_outside}
-use Rattle.sercos_command.specs.Settings.{is_command}
-use Rattle.sercos_command.specs.Calls.{CommandHistory, with_check_list}
-use Rattle.sercos_service_drive.specs.Writes.{command_value}
-use Rattle.sercos_law_run.specs.Start.Kept.{is_own_outside}
-use Rattle.sercos_law_run.specs.Start.Own.{OwnStay, OwnAtOpening}
+use Rattle.sercos_law_run.proofs.Words.{◌≡◌, ℕ, ◌==◌, Bool, true, false, cond, not, ◌&&◌, ◌||◌, List, [], ◌∷◌, ◌++◌, None, refl, sym, ◌∙◌, ap, list_any, filter, eqb-true, list_any-append, list_any-IsPermutation, Block, is_built_in, has_block, blocks_fault, with_data, store_of, DriveView, either_none, store_of-permutes, is_outside, is_command, CommandHistory, with_check_list, command_value, is_own_outside, OwnStay, OwnAtOpening}
+use Rattle.sercos_block.specs.BuiltIns.{built_in}
 use Rattle.sercos_law_run.proofs.Start.BlockFinds.{first_is_new}
 use Rattle.sercos_law_run.proofs.Start.LaterLemmas.{after_check}
 

@@ -1,13 +1,8 @@
 -- What the numbers of a plan that fits keep for one drive.
-use Rattle.std.proofs.Common.{◌≡◌, ℕ, zero, suc, ◌+◌, ◌*◌, ◌<◌, ◌≤◌, inl, inr, List, length, slice_index, refl, ap, arith}
-use Rattle.std.proofs.Math.Nat.{le_of_mul-le-mul_left}
-use Rattle.sercos_timing.specs.Views.{WishesView, PlanView}
-use Rattle.sercos_timing.specs.Order.{wish, times, sent, at_bits, mdt_bits, bits_of}
-use Rattle.sercos_timing.specs.Inequalities.{positions, Fits}
-use Rattle.sercos_timing.specs.Valid.{IsValid}
-use Rattle.sercos_plan.proofs.PlanLemmas.{rate_some}
+use Rattle.sercos_law_run.proofs.Words.{◌≡◌, ℕ, zero, suc, ◌+◌, ◌*◌, ◌<◌, ◌≤◌, inl, inr, List, length, slice_index, refl, ap, arith, le_of_mul-le-mul_left, WishesView, PlanView, wish, times, sent, at_bits, mdt_bits, bits_of, positions, Fits, IsValid, rate_some}
+use Rattle.sercos_plan.proofs.ListedLemmas.{listed}
 use Rattle.sercos_law_run.proofs.Slots.Spacing.{kept_at}
-use Rattle.sercos_law_run.proofs.Slots.Places.{has_turn, place_from, place_within}
+use Rattle.sercos_law_run.proofs.Slots.Places.{place_from, place_within}
 
 pub record HasNumbers (w : WishesView) (p : PlanView) (k : ℕ) : Type 0 where
   pub t1 : (times w k).t1min ≤ slice_index p.t1 k
@@ -25,7 +20,7 @@ pub record HasNumbers (w : WishesView) (p : PlanView) (k : ℕ) : Type 0 where
 
 pub has_numbers : (w : WishesView) (p : PlanView) (k : ℕ) → IsValid w → Fits w p → k < length w.drives → HasNumbers w p k
 has_numbers w p k valid fits within =
-    let turn = has_turn w valid k within in
+    let turn = listed w valid k within in
     let some = rate_some w valid in
     let one : w.rate * (times w k).t1min ≤ w.rate * slice_index p.t1 k = kept_at _ (λ k. w.rate * (times w k).t1min) (bits_of w p.t1) (sent w) (λ k before. refl) fits.rule_1 k turn in
     let six : bits_of w p.t1 k + (at_bits w k + w.rate * (times w k).tatmt) ≤ w.rate * p.t2 =

@@ -1,26 +1,12 @@
 -- The time slots of a ring whose drives hold one plan are apart.
-use Rattle.std.proofs.Common.{◌≡◌, ℕ, zero, suc, ◌+◌, ◌*◌, ◌<◌, ◌≤◌, Bool, true, false, cond, List, [], ◌∷◌, map, length, Some, None, slice_get, slice_index_or, refl, sym, ◌∙◌, ap, arith}
-use Rattle.std.proofs.lemmas.Bool.{cond-true}
-use Rattle.sercos_model.specs.Frames.{wire_bits}
-use Rattle.sercos_timing.specs.declared.wishes.Wish.{Wish}
-use Rattle.sercos_timing.specs.Views.{PlanView}
-use Rattle.sercos_timing.specs.Order.{at_bits, record_bytes}
-use Rattle.sercos_timing.specs.Valid.{IsValid}
-use Rattle.sercos_timing.specs.Inequalities.{Fits}
-use Rattle.sercos_block.specs.declared.block.Block.{Block}
-use Rattle.sercos_block.specs.Rings.{is_ring, record_len, wish_of, wishes_of}
-use Rattle.sercos_block.specs.Views.{RingView, DriveView}
-use Rattle.sercos_block.proofs.WishLemmas.{length_wishes}
-use Rattle.sercos_command.specs.Checks.{number_at, carried_len}
-use Rattle.sercos_law_run.specs.Slots.Slots.{AtSlot, MdtSlot, Held, IsAtItsTime}
-use Rattle.sercos_law_run.specs.Slots.OnPlan.{held_of, AreOnPlan}
+use Rattle.sercos_law_run.proofs.Words.{◌≡◌, ℕ, zero, suc, ◌+◌, ◌*◌, ◌<◌, ◌≤◌, Bool, true, false, cond, List, [], ◌∷◌, map, length, Some, None, slice_get, slice_index_or, refl, sym, ◌∙◌, ap, arith, cond-true, wire_bits, Wish, PlanView, at_bits, record_bytes, IsValid, Fits, Block, is_ring, record_len, wish_of, RingView, DriveView, number_at, carried_len, AtSlot, MdtSlot, Held, IsAtItsTime, held_of, AreOnPlan, held_in, held_by, AreSent, AllHold, RingKeepsApart, RingSendsApart}
+use Rattle.sercos_block.specs.Rings.{wishes_of}
 use Rattle.sercos_law_run.proofs.Slots.SlotLemmas.{keeps_apart}
 use Rattle.sercos_law_run.proofs.Slots.SendingLemmas.{sends_slots}
-use Rattle.sercos_law_run.specs.Start.Held.{held_in}
-use Rattle.sercos_law_run.specs.Start.RingSlots.{held_by, AreSent, AllHold, RingKeepsApart, RingSendsApart}
 use Rattle.sercos_law_run.proofs.Start.Lengths.{are_as_long}
 use Rattle.sercos_law_run.proofs.Start.CheckPasses.{ring_drive, wish_is}
 use Rattle.sercos_law_run.proofs.Start.HeldLemmas.{holds_plan}
+use Rattle.sercos_law_run.proofs.Held.Agreed.{wishes_count}
 
 -- the drive at a place
 record DriveAt (drives : List DriveView) (k : ℕ) : Type 0 where
@@ -31,10 +17,6 @@ drive_at : (drives : List DriveView) (k : ℕ) → k < length drives → DriveAt
 drive_at [] k in' = absurd (omega arith)
 drive_at (d ∷ drives) zero in' = record { drive = d; is = refl }
 drive_at (d ∷ drives) (suc k) in' = let found = drive_at drives k (omega arith) in record { drive = found.drive; is = found.is }
-
-count : (r : RingView) → length (wishes_of r).drives ≡ length r.drives
-unfolding wishes_of
-count r = length_wishes r.drives
 
 lengths_from : (drives : List DriveView) → map record_len drives ≡ map (λ (d : Wish). d.record_len) (map wish_of drives)
 lengths_from [] = refl
@@ -70,7 +52,7 @@ on_plan : (r : RingView) (p : PlanView) (takes_part : ℕ → Bool) (stores : �
 on_plan r p takes_part stores ats mdt ok valid fits hold sent =
     record {
       holds = λ k h in' e. holds k h in' e;
-      drives = λ i d in'. lt_eq _ _ _ (sent.senders i d in').0 (sym (count r));
+      drives = λ i d in'. lt_eq _ _ _ (sent.senders i d in').0 (sym (wishes_count r));
       starts = λ i d in'. start (slice_index_or ats i d) (sent.senders i d in').1 (sent.starts i d in');
       bits = λ i d in'. bits (slice_index_or ats i d) (sent.senders i d in').0 (sent.senders i d in').1 (sent.bits i d in');
       in_order = sent.in_order;
@@ -82,7 +64,7 @@ on_plan r p takes_part stores ats mdt ok valid fits hold sent =
     holds : (k : ℕ) (h : Held) → k < length (wishes_of r).drives → held_by takes_part stores k ≡ Some h → h ≡ held_of p k
     holds k h in' e =
         let (up, same) = held_is (takes_part k) (held_in (stores k)) h e in
-        let at = drive_at r.drives k (lt_eq _ _ _ in' (count r)) in
+        let at = drive_at r.drives k (lt_eq _ _ _ in' (wishes_count r)) in
         sym same ∙ holds_plan r p k at.drive (stores k) valid fits at.is (hold k at.drive at.is up).1
 
     start : (s : AtSlot) → takes_part s.drive ≡ true → s.start ≡ r.rate * number_at (stores s.drive) 6 → IsAtItsTime (wishes_of r) (held_by takes_part stores) s

@@ -1,27 +1,12 @@
 -- A ring's wishes are valid, and how the checks end.
-use Rattle.std.proofs.Common.{◌≡◌, ℕ, suc, ◌+◌, ◌*◌, ◌/◌, ◌%◌, ◌<◌, ◌≤◌, ◌==◌, Bool, true, false, cond, List, [], ◌∷◌, map, take, length, Option, Some, None, slice_get, option_and_then, unwrap_or, refl, ap, arith}
-use Rattle.std.specs.List.{fold, filter, All}
-use Rattle.std.proofs.lemmas.Bool.{eqb-true}
-use Rattle.std.proofs.lemmas.List.{take_all}
-use Rattle.std.proofs.lemmas.List.Elements.{All-cons, All-nil}
-use Rattle.sercos_idn.specs.declared.idn.Idn.{Idn}
-use Rattle.sercos_idn.specs.declared.attribute.Attribute.{Attribute}
-use Rattle.sercos_idn.specs.declared.kinds.Length.{Length}
-use Rattle.sercos_idn.specs.declared.kinds.Length.TheVariants.{Two, Four, List1, List2, List4}
-use Rattle.sercos_idn.specs.Codes.{item_len}
-use Rattle.sercos_block.specs.declared.block.Block.{Block}
-use Rattle.sercos_block.specs.Blocks.{is_number}
-use Rattle.sercos_block.specs.Views.{DriveView}
-use Rattle.sercos_block.specs.Rings.{HasLens, number_len, block_attribute, cyclic_len, value_len, listed_len, wish_of}
-use Rattle.sercos_block.proofs.WishLemmas.{IsValid-wishes_of}
-use Rattle.sercos_command.specs.Checks.{breaks_1, breaks_2, breaks_6, breaks_7, breaks_8, breaks_9, breaks_10, breaks_15, breaks_list, breaks_89, listed_if, list_bytes, is_outside, unfit_for_phase_3, unfit_for_phase_4}
+use Rattle.sercos_law_run.proofs.Words.{◌≡◌, ℕ, suc, ◌+◌, ◌*◌, ◌/◌, ◌%◌, ◌<◌, ◌≤◌, ◌==◌, Bool, true, false, cond, List, [], ◌∷◌, map, take, length, Option, Some, None, slice_get, option_and_then, unwrap_or, refl, ap, arith, fold, filter, All, eqb-true, take_all, All-cons, All-nil, Idn, Attribute, Length, Two, Four, List1, List2, List4, item_len, Block, is_number, DriveView, HasLens, number_len, block_attribute, value_len, wish_of, IsValid-wishes_of, breaks_1, breaks_2, breaks_6, breaks_7, breaks_8, breaks_9, breaks_10, breaks_15, breaks_list, breaks_89, listed_if, list_bytes, is_outside, idns_in, RingIsValid, ChecksEndWell, StopsWithList}
+use Rattle.sercos_block.specs.Rings.{cyclic_len, listed_len}
+use Rattle.sercos_command.specs.Checks.{unfit_for_phase_3, unfit_for_phase_4}
 use Rattle.sercos_trace.specs.declared.events.Stop.TheVariants as stop
-use Rattle.sercos_seat.specs.Agenda.{idns_in}
-use Rattle.sercos_law_run.specs.Start.Causes.{RingIsValid, ChecksEndWell, StopsWithList}
 use Rattle.sercos_law_run.proofs.Start.CheckPasses.{plan_passes_check, ring_drive, fit_in_ring}
 use Rattle.sercos_law_run.proofs.Start.LimitLemmas.{passes_for_phase_4}
 
-item_small : (l : Length) → item_len l ≤ 4
+pub item_small : (l : Length) → item_len l ≤ 4
 item_small Two = omega arith
 item_small Four = omega arith
 item_small List1 = omega arith
@@ -65,7 +50,7 @@ has_lens (d ∷ drives) few =
 pub ring_is_valid : RingIsValid
 ring_is_valid r ok few = IsValid-wishes_of r ok (has_lens r.drives few)
 
-none_long : (xs : List Idn) → (length xs == 0) ≡ true → xs ≡ []
+pub none_long : (xs : List Idn) → (length xs == 0) ≡ true → xs ≡ []
 none_long [] e = refl
 none_long (x ∷ xs) e = let zero' : length (x ∷ xs) ≡ 0 = eqb-true (length (x ∷ xs)) 0 e in absurd (omega arith)
 
@@ -116,7 +101,7 @@ unfit_4_short : (blocks : List Block) → length (unfit_for_phase_4 blocks) ≤ 
 unfolding unfit_for_phase_4
 unfit_4_short blocks = outside_short is_outside blocks
 
-read_back : (idns : List Idn) → idns_in (list_bytes idns) ≡ idns
+pub read_back : (idns : List Idn) → idns_in (list_bytes idns) ≡ idns
 read_back [] = refl
 read_back (i ∷ idns) =
     let same : i.raw % 256 + 256 * (i.raw / 256) ≡ i.raw = omega arith in

@@ -1,35 +1,17 @@
 -- A worked start-up: two drives, each with one block of its own, which is in both lists.
-use Rattle.std.proofs.Common.{◌≡◌, ℕ, zero, suc, ◌+◌, ◌*◌, ◌<◌, ◌≤◌, inl, true, false, List, [], ◌∷◌, ◌++◌, map, length, Some, None, slice_get, refl, subst, arith}
-use Rattle.std.specs.List.{All}
-use Rattle.std.proofs.lemmas.List.Elements.{All-cons, All-nil}
-use Rattle.sercos_model.specs.Frames.{wire_bits}
-use Rattle.sercos_idn.specs.declared.idn.Idn.{Idn}
+use Rattle.sercos_law_run.proofs.Words.{◌≡◌, ℕ, zero, suc, ◌+◌, ◌*◌, ◌<◌, ◌≤◌, inl, true, false, List, [], ◌∷◌, ◌++◌, map, length, Some, None, slice_get, refl, subst, arith, All, All-cons, All-nil, wire_bits, Idn, Request, Outcome, PlanView, IsValid, Fits, fits_from, Block, with_data, DriveView, RingView, record_len, unfit_for_phase_3, member_of, known_of, idn, declared_times, reads, wishes_given, AtSlot, MdtSlot, AreApart, IsSentBefore, IsStoreOf, Holds, start_up, element_read, AreAnswers, HaveFactors, held_by, AreSent, AllHold}
 use Rattle.sercos_idn.specs.Codes.{attribute_fault}
 use Rattle.sercos_idn.specs.Attributes.{attribute_of}
-use Rattle.sercos_step.specs.declared.request.Request.{Request}
 use Rattle.sercos_step.specs.declared.request.Request.TheVariants as request
-use Rattle.sercos_step.specs.declared.request.Outcome.{Outcome}
 use Rattle.sercos_step.specs.declared.request.Outcome.TheVariants as outcome
-use Rattle.sercos_timing.specs.Views.{PlanView}
-use Rattle.sercos_timing.specs.Valid.{is_rate, IsValid, is_cycle, is_control}
+use Rattle.sercos_timing.specs.Valid.{is_rate, is_cycle, is_control}
 use Rattle.sercos_timing.specs.FirstBroken.{first_broken, broken_by, broken_position}
-use Rattle.sercos_timing.specs.Inequalities.{Fits}
-use Rattle.sercos_timing.proofs.BreakLemmas.{fits_from}
-use Rattle.sercos_block.specs.declared.block.Block.{Block}
 use Rattle.sercos_block.specs.BuiltIns.{built_in}
 use Rattle.sercos_block.specs.Rules.{block_fault, blocks_fault}
-use Rattle.sercos_block.specs.Stores.{inserted, with_own, with_data, store_of}
-use Rattle.sercos_block.specs.Views.{DriveView, RingView}
-use Rattle.sercos_block.specs.Rings.{are_ring_numbers, are_times, are_drive_numbers, has_blocks, attribute_in, row_in, built_in_attribute, own_attribute, block_attribute, cyclic_len, are_cyclic, has_address, is_drive, are_drives, is_turn, are_turns, is_order, mdt_len, record_len, listed_len, has_drives, is_ring, wishes_of}
-use Rattle.sercos_command.specs.Checks.{number_at, idns_at, carried_len, unfit_for_phase_3}
-use Rattle.sercos_seat.specs.Ring.{member_of, known_of}
-use Rattle.sercos_seat.specs.Agenda.{idn, declared_times, reads, wishes_given}
-use Rattle.sercos_law_run.specs.Slots.Slots.{AtSlot, MdtSlot, AreApart}
-use Rattle.sercos_law_run.specs.Slots.OnPlan.{IsSentBefore}
+use Rattle.sercos_block.specs.Stores.{inserted, with_own, store_of}
+use Rattle.sercos_block.specs.Rings.{are_ring_numbers, are_times, are_drive_numbers, has_blocks, attribute_in, row_in, built_in_attribute, own_attribute, block_attribute, cyclic_len, are_cyclic, has_address, is_drive, are_drives, is_turn, are_turns, is_order, mdt_len, listed_len, has_drives, is_ring, wishes_of}
+use Rattle.sercos_command.specs.Checks.{number_at, idns_at, carried_len}
 use Rattle.sercos_law_run.proofs.Slots.Worked.{slot, each_two, pair_of_two}
-use Rattle.sercos_law_run.specs.Start.StartUp.{IsStoreOf, Holds, start_up}
-use Rattle.sercos_law_run.specs.Start.Answers.{element_read, AreAnswers, HaveFactors}
-use Rattle.sercos_law_run.specs.Start.RingSlots.{held_by, AreSent, AllHold}
 use Rattle.sercos_law_run.proofs.Start.CheckPasses.{plan_passes_check}
 use Rattle.sercos_law_run.proofs.Start.WellLemmas.{ring_is_valid}
 use Rattle.sercos_law_run.proofs.Start.AnswerLemmas.{asks_as_ring}

@@ -1,12 +1,5 @@
 -- What each drive of a ring keeps in a cycle.
-use Rattle.std.proofs.Common.{◌≡◌, ℕ, List, [], ◌∷◌, None}
-use Rattle.sercos_block.specs.Rules.{blocks_fault}
-use Rattle.sercos_block.specs.Stores.{store_of, IsStore}
-use Rattle.sercos_block.specs.Views.{DriveView}
-use Rattle.sercos_drive.specs.Heard.{DriveCall}
-use Rattle.sercos_law_run.specs.Journal.Runs.{drive_at, given_mst, given_mdt}
-use Rattle.sercos_law_run.specs.Typed.Keeps.{KeepsAlways}
-use Rattle.sercos_law_run.specs.Stations.Cycles.{ArePlain, AlwaysPlain, given_start}
+use Rattle.sercos_law_run.proofs.Words.{◌≡◌, ℕ, List, [], ◌∷◌, None, blocks_fault, store_of, IsStore, DriveView, DriveCall, drive_at, given_mst, given_mdt, KeepsAlways, ArePlain, AlwaysPlain, given_start}
 use Rattle.sercos_law_run.proofs.Start.CheckPasses.{ring_drive}
 use Rattle.sercos_law_run.proofs.Held.Runs.{drive_got}
 use Rattle.sercos_law_run.proofs.Stations.FitInThree.{fit_in_three}

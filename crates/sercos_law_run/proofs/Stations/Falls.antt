@@ -1,39 +1,15 @@
 -- Why a ring falls, by what arrived at the master in its last cycles.
-use Rattle.std.proofs.Common.{◌≡◌, ℕ, zero, suc, ◌+◌, ◌<◌, ◌≤◌, ◌==◌, Bool, true, false, not, ◌&&◌, List, [], ◌∷◌, length, Option, Some, None, refl, sym, ◌∙◌, ap, subst, arith, eq-eqb, if◌then◌else◌}
-use Rattle.std.specs.Prelude.{nat_le, min, is_some, is_none, option_map, slice_index, unwrap_or}
-use Rattle.std.specs.Bool.{then_some}
-use Rattle.std.specs.Option.{option_or}
-use Rattle.std.proofs.lemmas.Bool.{and_parts, false_from_ne_true, false≢true, not-true}
-use Rattle.std.proofs.lemmas.Bool.Decides.{nat_tests}
-use Rattle.sercos_telegram.specs.Faults.{at_fault, head_fault}
-use Rattle.sercos_telegram.specs.declared.layout.Layout.{Layout}
-use Rattle.sercos_telegram.specs.declared.layout.Layout.TheVariants.{Address, Length}
-use Rattle.sercos_step.specs.declared.request.Outcome.{Outcome}
+use Rattle.sercos_law_run.proofs.Words.{◌≡◌, ℕ, zero, suc, ◌+◌, ◌<◌, ◌≤◌, ◌==◌, Bool, true, false, not, ◌&&◌, List, [], ◌∷◌, length, Option, Some, None, refl, sym, ◌∙◌, ap, subst, arith, if◌then◌else◌, nat_le, min, is_some, is_none, option_map, slice_index, unwrap_or, then_some, option_or, and_parts, false_from_ne_true, false≢true, not-true, nat_tests, at_fault, Layout, Address, Outcome, Job, RingView, answer_in, answers_it, open_in, with_answer, Begin, Send, Hear, EndCycle, age_of, begun_by, cycles_open, at_len, is_place, outcomes_in, Known, MemberView, known_of, member, tasks_for, Past, Turn, Call, after_at, after_at_of, after_taken, count_addressed, fall_at, fall_of, first_place, goes_on, has_lost_at, has_lost_mst, is_at_limit, is_done, is_mst, is_taken, new_epoch, next_phase, outcomes, place_of, still_waiting, restart_told, CycleView, EventsView, Fall, MstLost, AtLost, StepLimit, Carry, Restarts, heard, passage, mst_in, ats_in, IsRun, IsNext, at_calls, begins, drive_at, looks_back, master_calls, middle, no_events, own_mst, station_of, with_at, at_start, behind_ats, behind_mdt, behind_mst, IsOpened, AreTo, FallsHaveCause, HasCause, Identification, IsLate, IsOpenFor, MissesAt, MissesMst, MstComesFirst, NoneReads, NoneReadsIn, comes_back, was_sent, first_found}
+use Rattle.std.proofs.Common.{eq-eqb}
+use Rattle.sercos_telegram.specs.Faults.{head_fault}
+use Rattle.sercos_telegram.specs.declared.layout.Layout.TheVariants.{Length}
 use Rattle.sercos_telegram.specs.declared.layout.Kind.TheVariants as kinds
-use Rattle.sercos_step.specs.declared.request.Job.{Job}
-use Rattle.sercos_block.specs.Views.{RingView}
-use Rattle.sercos_service_master.specs.Begun.{answer_in, answers_it, open_in, with_answer}
-use Rattle.sercos_service_master.specs.Calls.{Begin, Send, Hear, EndCycle, age_of, begun_by, cycles_open}
 use Rattle.sercos_service_master.specs.Calls as channel
-use Rattle.sercos_seat.specs.Agenda.{at_len}
-use Rattle.sercos_seat.specs.Channel.{is_place, outcomes_in}
-use Rattle.sercos_seat.specs.Ring.{Known, MemberView, known_of, member, tasks_for}
-use Rattle.sercos_master.specs.Annals.{Past, Turn, Call, after_at, after_at_of, after_taken, count_addressed, fall_at, fall_of, first_place, goes_on, has_lost_at, has_lost_mst, is_at_limit, is_done, is_mst, is_taken, new_epoch, next_phase, outcomes, place_of, still_waiting}
-use Rattle.sercos_master.specs.Reports.{restart_told}
-use Rattle.sercos_trace.specs.Views.{CycleView, EventsView}
-use Rattle.sercos_trace.specs.declared.events.Fall.{Fall}
-use Rattle.sercos_trace.specs.declared.events.Fall.TheVariants.{MstLost, AtLost, StepLimit, Restart}
-use Rattle.sercos_script.specs.Links.{Carry, Restarts}
-use Rattle.sercos_law_run.specs.Journal.Arrivals.{heard, passage}
-use Rattle.sercos_law_run.specs.Journal.Records.{mst_in, ats_in}
-use Rattle.sercos_law_run.specs.Journal.Runs.{IsRun, IsNext, at_calls, begins, drive_at, looks_back, master_calls, middle, no_events, own_mst, station_of, with_at}
-use Rattle.sercos_law_run.specs.Views.RingViews.{at_start, behind_ats, behind_mdt, behind_mst}
-use Rattle.sercos_law_run.specs.Held.Opened.{IsOpened}
-use Rattle.sercos_law_run.specs.Stations.Falls.{AreTo, FallsHaveCause, HasCause, Identification, IsLate, IsOpenFor, MissesAt, MissesMst, MstComesFirst, NoneReads, NoneReadsIn, Step, comes_back, was_sent}
+use Rattle.sercos_trace.specs.declared.events.Fall.TheVariants.{Restart}
+use Rattle.sercos_law_run.specs.Stations.Falls.{Step}
 use Rattle.sercos_law_run.proofs.Stations.Limits.{IsWithin, within}
-use Rattle.sercos_law_run.proofs.Undisturbed.Arriving.Addressed.{place_found}
+use Rattle.sercos_law_run.proofs.Undisturbed.Arriving.Addressed.{place_found, place_so}
 use Rattle.sercos_law_run.proofs.Undisturbed.NoFalls.{heard_mdt}
-use Rattle.sercos_master.proofs.Keeping.{first_found}
 use Rattle.sercos_law_run.proofs.Views.MasterSame.{SameTurn, begun_cycle, turn_mdt}
 use Rattle.sercos_law_run.proofs.Views.Members.{member_is, members_count}
 use Rattle.sercos_law_run.proofs.Views.ViewRuns.{started}
@@ -103,10 +79,6 @@ late_step h late few = by (age_of h) refl late
         open_for h 64 (is ∙ ap Some (omega (arith, most, least)))
 
 -- AN IDENTIFICATION goes to one drive.
-place_is_so : (k : ℕ) (o : Option ℕ) → is_place k o ≡ true → o ≡ Some k
-place_is_so k None e = absurd (false≢true e)
-place_is_so k (Some i) e = let same : i ≡ k = grind (arith, nat_tests, e) in ap Some same
-
 are_to : (k n : ℕ) (turns : List Turn) → n ≤ count_addressed k turns → AreTo k n turns
 are_to k zero turns many = tt
 are_to k (suc n) [] many = absurd (omega (arith, many))
@@ -114,7 +86,7 @@ are_to k (suc n) (t ∷ turns) many = by ((t.phase == 1) && is_place k t.address
   where
     by : (b : Bool) → ((t.phase == 1) && is_place k t.addressed) ≡ b → suc n ≤ (if b then count_addressed k turns + 1 else 0)
         → (n ≤ count_addressed k turns → AreTo k n turns) → AreTo k (suc n) (t ∷ turns)
-    by true is many more = let (one, to) = and_parts (t.phase == 1) (is_place k t.addressed) is in (grind (arith, nat_tests, one), place_is_so k t.addressed to, more (omega (arith, many)))
+    by true is many more = let (one, to) = and_parts (t.phase == 1) (is_place k t.addressed) is in (grind (arith, nat_tests, one), place_so k t.addressed to, more (omega (arith, many)))
     by false is many more = absurd (omega (arith, many))
 
 -- .. and to no other in so many cycles
@@ -137,7 +109,7 @@ late_so p k within limit = by (p.now.phase == 1) refl limit
         let (to, many) = and_parts (is_place k p.now.addressed) (nat_le 64 (count_addressed k p.turns)) limit in
         let is : p.now.phase ≡ 1 = grind (arith, nat_tests, one) in
         let few = within.few in
-        Identification is (is, place_is_so k p.now.addressed to, are_to k 64 p.turns (grind (arith, nat_tests, many)))
+        Identification is (is, place_so k p.now.addressed to, are_to k 64 p.turns (grind (arith, nat_tests, many)))
         (λ are. let more = no_more k 65 p.turns are.2 in omega (arith, few, more))
     by false one limit = Step (late_step (p.calls k) limit within.aged.1)
 
@@ -274,10 +246,6 @@ module _ (r : RingView) (jobs : List Job) (carry : Carry) (restarts : Restarts) 
                   ∙ unread (known_of r) k got (looks_back r jobs h) found late before)
 
   -- THE TURN of a cycle.
-  leaves_at : (t : CycleView) (j : List CycleView) (k : ℕ) → k < length r.drives
-      → AtsLeave k (behind_mst r jobs carry restarts t.sent j) (behind_ats r jobs carry restarts t.sent j)
-  leaves_at t j k below = (ats_are (length j) k below (ats_in t.sent) (own_mst carry (length j) (mst_in t.sent) (begins r carry restarts j))).leaves
-
   -- it is there whether or not the ring has drives
   ats_turn : (cycle : ℕ) (ats : List (List ℕ)) (h : List Call)
       → SameTurn (looks_back r jobs (at_calls r carry cycle ats h)) (looks_back r jobs h)

@@ -1,26 +1,12 @@
 -- In phase 4 no block of a drive has operation data outside its limits.
-use Rattle.std.proofs.Common.{◌≡◌, ℕ, ◌≤◌, ◌==◌, nat_lt, Bool, true, false, cond, not, ◌&&◌, ◌||◌, List, [], ◌∷◌, map, length, Option, Some, None, IfSome, refl, sym, ◌∙◌, ap, ap₂, subst, arith, if◌then◌else◌}
-use Rattle.std.specs.Prelude.{option_map}
-use Rattle.std.specs.List.{list_all, filter}
-use Rattle.std.proofs.lemmas.Bool.{and_parts, false≢true}
-use Rattle.std.proofs.lemmas.Bool.Decides.{nat_tests}
-use Rattle.sercos_model.proofs.FaultLemmas.{none_of-or}
-use Rattle.sercos_idn.specs.declared.attribute.Attribute.{Attribute}
+use Rattle.sercos_law_run.proofs.Words.{◌≡◌, ℕ, ◌≤◌, ◌==◌, nat_lt, Bool, true, false, cond, not, ◌&&◌, ◌||◌, List, [], ◌∷◌, map, length, Option, Some, None, IfSome, refl, sym, ◌∙◌, ap, ap₂, subst, arith, if◌then◌else◌, option_map, list_all, filter, and_parts, false≢true, nat_tests, none_of-or, Attribute, Block, is_number, blocks_fault, find_block, with_data, write_fault, data_fault, put_fault, is_below, is_above, DriveView, with_data-nowhere, is_outside, is_passed-kept, may_rise, FitInFour}
 use Rattle.sercos_idn.specs.Attributes.{attribute_of}
 use Rattle.sercos_idn.specs.Codes.{attribute_fault}
-use Rattle.sercos_block.specs.declared.block.Block.{Block}
-use Rattle.sercos_block.specs.Blocks.{is_number}
-use Rattle.sercos_block.specs.Rules.{blocks_fault}
 use Rattle.sercos_block.specs.Rings.{attribute_in, row_in, built_in_attribute, block_attribute}
-use Rattle.sercos_block.specs.Stores.{find_block, with_data, write_fault, data_fault, put_fault, is_below, is_above, are_ascending}
-use Rattle.sercos_block.specs.Views.{DriveView}
-use Rattle.sercos_block.proofs.PutLemmas.{with_data-nowhere}
-use Rattle.sercos_command.specs.Checks.{is_outside, unfit_for_phase_4}
-use Rattle.sercos_command.proofs.History.{is_passed-kept}
+use Rattle.sercos_block.specs.Stores.{are_ascending}
+use Rattle.sercos_command.specs.Checks.{unfit_for_phase_4}
 use Rattle.sercos_drive.specs.Moments.{calls_in}
-use Rattle.sercos_drive.specs.Annals.{may_rise}
 use Rattle.sercos_law_run.proofs.Undisturbed.Checks.OwnInside.{within}
-use Rattle.sercos_law_run.specs.Stations.Fit.{FitInFour}
 use Rattle.sercos_law_run.proofs.Start.BlockFinds.{same_attribute}
 use Rattle.sercos_law_run.proofs.Start.KeptLemmas.{above_none}
 use Rattle.sercos_law_run.proofs.Held.StoreOf.{IsOf}

@@ -1,31 +1,13 @@
 -- In phases 3 and 4 the check for phase 3 finds nothing in a drive's store.
-use Rattle.std.proofs.Common.{◌≡◌, ℕ, ◌+◌, ◌≤◌, ◌==◌, Bool, true, false, ◌&&◌, List, [], ◌∷◌, length, Option, Some, None, refl, sym, ◌∙◌, ap, ap₂, subst, arith, if◌then◌else◌}
-use Rattle.std.specs.Prelude.{is_some, option_map, unwrap_or}
-use Rattle.std.specs.Bool.{then_some}
-use Rattle.std.specs.List.{list_all, sum_by}
-use Rattle.std.proofs.lemmas.Bool.{false≢true}
-use Rattle.std.proofs.lemmas.Bool.Decides.{nat_tests}
-use Rattle.std.proofs.lemmas.List.Sums.{sum_by-cons}
-use Rattle.sercos_model.proofs.FaultLemmas.{none_of-or, none_of-then}
-use Rattle.sercos_idn.specs.declared.idn.Idn.{Idn}
-use Rattle.sercos_idn.specs.declared.attribute.Attribute.{Attribute}
+use Rattle.sercos_law_run.proofs.Words.{◌≡◌, ℕ, ◌+◌, ◌≤◌, ◌==◌, Bool, true, false, ◌&&◌, List, [], ◌∷◌, Option, Some, None, refl, sym, ◌∙◌, ap, ap₂, subst, arith, if◌then◌else◌, is_some, option_map, unwrap_or, then_some, list_all, sum_by, false≢true, nat_tests, sum_by-cons, none_of-or, none_of-then, other_place, Idn, Attribute, Block, is_fixed, is_protected, blocks_fault, find_block, with_data, write_fault, data_fault, put_fault, DriveView, data_at, is_cyclic, is_command, is_passed-kept, may_rise, IsStoreOf, FitInThree}
 use Rattle.sercos_idn.specs.Attributes.{attribute_of}
 use Rattle.sercos_idn.specs.Codes.{attribute_fault}
-use Rattle.sercos_block.specs.declared.block.Block.{Block}
-use Rattle.sercos_block.specs.Blocks.{is_fixed, is_protected}
-use Rattle.sercos_block.specs.Rules.{blocks_fault}
 use Rattle.sercos_block.specs.Rings.{attribute_in, row_in, built_in_attribute, block_attribute}
-use Rattle.sercos_block.specs.Stores.{find_block, with_data, write_fault, data_fault, put_fault}
-use Rattle.sercos_block.specs.Views.{DriveView}
-use Rattle.sercos_command.specs.Checks.{data_at, number_at, idns_at, cyclic_len, is_cyclic, carried_len, breaks_1, breaks_2, breaks_6, breaks_7, breaks_8, breaks_9, breaks_10, breaks_15, breaks_list, breaks_89, unfit_for_phase_3}
-use Rattle.sercos_command.specs.Settings.{is_command}
-use Rattle.sercos_command.proofs.History.{is_passed-kept}
+use Rattle.sercos_command.specs.Checks.{number_at, idns_at, cyclic_len, carried_len, breaks_1, breaks_2, breaks_6, breaks_7, breaks_8, breaks_9, breaks_10, breaks_15, breaks_list, breaks_89, unfit_for_phase_3}
 use Rattle.sercos_drive.specs.Moments.{calls_in}
-use Rattle.sercos_drive.specs.Annals.{may_rise}
-use Rattle.sercos_law_run.specs.Start.StartUp.{IsStoreOf}
-use Rattle.sercos_law_run.specs.Stations.Fit.{FitInThree}
 use Rattle.sercos_law_run.proofs.Start.BlockFinds.{carry_alike, same_attribute}
 use Rattle.sercos_law_run.proofs.Start.KeptLemmas.{stays, writes_keep}
+use Rattle.sercos_law_run.proofs.Start.WellLemmas.{none_long}
 use Rattle.sercos_law_run.proofs.Stations.KeepsFit.{IsFound, holds_at}
 
 -- The block with a number is no procedure command, and protected in phases 3 and 4.
@@ -57,24 +39,17 @@ locked (Some b) a phase bytes e three four late none =
     by false false is = four
 
 -- so a write that is accepted there, and one to a procedure command, is to another block
-other_by : (n raw : ℕ) → (n ≡ raw → ⊥) → (n == raw) ≡ false
-other_by n raw never = by (n == raw) refl
-  where
-    by : (b : Bool) → (n == raw) ≡ b → b ≡ false
-    by true is = absurd (never (grind (arith, nat_tests, is)))
-    by false is = refl
-
 pub other_later : (d : DriveView) (n : ℕ) (blocks : List Block) (raw phase : ℕ) (bytes : List ℕ) → blocks_fault [] d.blocks ≡ None
     → IsStoreOf d blocks → IsLater d n → 3 ≤ phase
     → put_fault (find_block raw blocks) phase bytes ≡ None → (n == raw) ≡ false
 other_later d n blocks raw phase bytes none is later late fine =
-    other_by n raw (λ same. locked (find_block n blocks) later.attribute phase bytes (same_attribute n d blocks none is ∙ later.has) later.three later.four late
+    other_place n raw (λ same. locked (find_block n blocks) later.attribute phase bytes (same_attribute n d blocks none is ∙ later.has) later.three later.four late
     (subst (λ (m : ℕ). put_fault (find_block m blocks) phase bytes ≡ None) (sym same) fine))
 
 pub other_command : (d : DriveView) (n : ℕ) (blocks : List Block) (raw : ℕ) → blocks_fault [] d.blocks ≡ None → IsStoreOf d blocks
     → IsLater d n → is_command blocks raw ≡ true → (n == raw) ≡ false
 other_command d n blocks raw none is later command =
-    other_by n raw (λ same. false≢true (sym (of_attribute (find_block n blocks) later.attribute (λ (a : Attribute). a.command) (same_attribute n d blocks none is ∙ later.has) ∙ later.plain)
+    other_place n raw (λ same. false≢true (sym (of_attribute (find_block n blocks) later.attribute (λ (a : Attribute). a.command) (same_attribute n d blocks none is ∙ later.has) ∙ later.plain)
     ∙ subst (λ (m : ℕ). is_command blocks m ≡ true) (sym same) command))
 
 -- WHAT THE CHECK LOOKS AT: the operation data of these blocks, and of each block whether it is a number.
@@ -180,10 +155,6 @@ module _ (d : DriveView) (rate : ℕ) (none : blocks_fault [] d.blocks ≡ None)
   each_other : (raw : ℕ) → ((n : ℕ) → IsLater d n → (n == raw) ≡ false) → AreEach (λ n. (n == raw) ≡ false) looks_at
   each_other raw other = mapped (IsLater d) (λ n. (n == raw) ≡ false) looks_at other (all_later d)
 
-  none_there : (xs : List Idn) → (length xs == 0) ≡ true → xs ≡ []
-  none_there [] e = refl
-  none_there (x ∷ xs) e = absurd (grind (arith, nat_tests, e))
-
   -- the lists of the checks are none of these blocks
   beside_21 : AreEach (λ n. (n == 21) ≡ false) looks_at
   beside_21 = (refl, (refl, (refl, (refl, (refl, (refl, (refl, (refl, (refl, (refl, (refl, (refl, (refl, (refl, tt))))))))))))))
@@ -194,7 +165,7 @@ module _ (d : DriveView) (rate : ℕ) (none : blocks_fault [] d.blocks ≡ None)
   pub found_in_3 : IsFound d rate 127 3 IsFit
   found_in_3 = record {
     above = omega arith;
-    set = λ blocks well. none_there (unfit_for_phase_3 rate blocks) well;
+    set = λ blocks well. none_long (unfit_for_phase_3 rate blocks) well;
     listed = λ blocks bytes is fit. (
       written blocks 21 bytes is.0 ((writes_keep d blocks 21 0 bytes is.1 is.0).1 refl) beside_21 fit,
       written blocks 22 bytes is.0 ((writes_keep d blocks 22 0 bytes is.1 is.0).1 refl) beside_22 fit,

@@ -1,10 +1,6 @@
 -- In phases 3 and 4 a drive's data record lies within its MDT.
-use Rattle.std.proofs.Common.{◌≡◌, true, List, refl}
-use Rattle.sercos_block.specs.declared.block.Block.{Block}
-use Rattle.sercos_command.specs.Checks.{number_at, carried_len}
-use Rattle.sercos_drive.specs.Annals.{store_at}
-use Rattle.sercos_drive.specs.Heard.{joint_in, lies_within}
-use Rattle.sercos_law_run.specs.Stations.Fit.{AlwaysLies}
+use Rattle.sercos_law_run.proofs.Words.{◌≡◌, true, List, refl, Block, number_at, carried_len, store_at, lies_within, AlwaysLies}
+use Rattle.sercos_drive.specs.Heard.{joint_in}
 use Rattle.sercos_law_run.proofs.Stations.FitInThree.{fit_in_three}
 use Rattle.sercos_law_run.proofs.Stations.Times.{empty_keeps_times}
 

@@ -1,22 +1,8 @@
 -- What a check found of a drive's store stays true in the phases that need the check, whatever the drive is handed.
-use Rattle.std.proofs.Common.{◌≡◌, ℕ, ◌+◌, ◌≤◌, ◌==◌, Bool, true, false, not, ◌&&◌, ◌||◌, List, [], ◌∷◌, Option, Some, None, IfSome, refl, sym, ◌∙◌, arith, if◌then◌else◌}
-use Rattle.std.specs.Prelude.{nat_le, is_none, min}
-use Rattle.std.proofs.lemmas.Bool.{and_parts, false≢true}
-use Rattle.std.proofs.lemmas.Bool.Decides.{nat_tests}
-use Rattle.sercos_idn.specs.Commands.{to_cancel}
-use Rattle.sercos_block.specs.declared.block.Block.{Block}
-use Rattle.sercos_block.specs.Stores.{find_block, with_data, put_fault, are_ascending, store_of}
-use Rattle.sercos_block.specs.Views.{DriveView}
-use Rattle.sercos_command.specs.Settings.{is_command, ends_well}
-use Rattle.sercos_command.specs.Calls.{CommandCall, Wrote, Other, Reset, CommandHistory, with_check_list}
-use Rattle.sercos_command.specs.Kept.{find_set, settings, passed_so_far}
-use Rattle.sercos_service_drive.specs.Writes.{Write, AreThose, added_on, command_value, blocks_with, calls_with}
-use Rattle.sercos_service_drive.proofs.AllowedWrites.{allowed}
-use Rattle.sercos_drive.specs.declared.hearing.Told.{Told}
-use Rattle.sercos_drive.specs.Heard.{DriveCall, Mst, Mdt, Restart, mst_got, mdt_got}
-use Rattle.sercos_drive.specs.Moments.{Moment, phase_in, has_mst, has_missed, records_in, blocks_in, blocks_after, commands_in, calls_in, calls_after, with_reset}
-use Rattle.sercos_drive.specs.Annals.{annals, may_rise, processed_in, stands_in, ends_in, takes}
-use Rattle.sercos_drive.proofs.RecordLemmas.{phase_below}
+use Rattle.sercos_law_run.proofs.Words.{◌≡◌, ℕ, ◌+◌, ◌≤◌, ◌==◌, Bool, true, false, not, ◌&&◌, ◌||◌, List, [], ◌∷◌, Option, Some, None, IfSome, refl, sym, ◌∙◌, arith, if◌then◌else◌, nat_le, is_none, min, and_parts, false≢true, nat_tests, to_cancel, Block, find_block, with_data, put_fault, are_ascending, store_of, DriveView, is_command, ends_well, CommandCall, Wrote, Other, Reset, CommandHistory, with_check_list, find_set, settings, passed_so_far, Write, AreThose, added_on, command_value, blocks_with, calls_with, allowed, Told, DriveCall, Mst, Mdt, mst_got, mdt_got, Moment, phase_in, has_mst, has_missed, records_in, blocks_in, blocks_after, commands_in, calls_after, with_reset, annals, may_rise, stands_in, ends_in, takes, phase_below}
+use Rattle.sercos_drive.specs.Heard.{Restart}
+use Rattle.sercos_drive.specs.Moments.{calls_in}
+use Rattle.sercos_drive.specs.Annals.{processed_in}
 use Rattle.sercos_law_run.proofs.Start.LaterLemmas.{after_check, still_ascending}
 use Rattle.sercos_law_run.proofs.Start.KeptLemmas.{writes_keep}
 use Rattle.sercos_law_run.proofs.Held.Processed.{processed_keeps, taken_at}

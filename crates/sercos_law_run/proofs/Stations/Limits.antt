@@ -1,22 +1,9 @@
 -- No step is open for more than 64 cycles, and no identification goes to one drive in more: then the ring falls, whatever arrived.
-use Rattle.std.proofs.Common.{◌≡◌, ◌⊎◌, inl, inr, ℕ, ◌+◌, ◌<◌, ◌≤◌, ◌==◌, Bool, true, false, ◌&&◌, ◌||◌, List, [], ◌∷◌, length, Option, Some, None, refl, sym, ◌∙◌, ap, subst, arith, if◌then◌else◌}
-use Rattle.std.specs.Prelude.{nat_le, min, is_some, option_map, slice_index, unwrap_or}
-use Rattle.std.specs.Option.{option_or}
-use Rattle.std.proofs.lemmas.Bool.{and_parts, cases_lt, cond_both, false_from_ne_true, or_cases}
-use Rattle.std.proofs.lemmas.Bool.Decides.{nat_tests}
-use Rattle.sercos_telegram.specs.Spells.{word_at}
-use Rattle.sercos_telegram.specs.Words.{status_of}
-use Rattle.sercos_service_master.specs.Begun.{answers_it, open_in}
-use Rattle.sercos_service_master.specs.Calls.{Begin, Send, Hear, EndCycle, age_of, begun_by, cycles_open}
+use Rattle.sercos_law_run.proofs.Words.{◌≡◌, ◌⊎◌, inl, inr, ℕ, ◌+◌, ◌<◌, ◌≤◌, ◌==◌, Bool, true, false, ◌&&◌, List, [], ◌∷◌, length, Option, Some, None, refl, sym, ◌∙◌, ap, subst, arith, if◌then◌else◌, nat_le, min, is_some, option_map, slice_index, unwrap_or, option_or, and_parts, cases_lt, cond_both, false_from_ne_true, or_cases, nat_tests, word_at, status_of, answers_it, open_in, Send, age_of, begun_by, cycles_open, is_place, Known, Task, Fall, Past, Call, HearMst, HearAt, End, Restart, addressed_in, after_mdt, after_taken, count_addressed, fall_at, fall_of, first_place, goes_on, has_lost_at, has_lost_mst, is_at_limit, is_done, is_sent_to, new_epoch, next_phase, past, place_of, ready_to_send, settled, still_waiting, with_begin, leaves, at_keeps, channel_keeps}
 use Rattle.sercos_service_master.specs.Calls as channel
-use Rattle.sercos_seat.specs.Channel.{is_place}
-use Rattle.sercos_seat.specs.Ring.{Known, Task}
-use Rattle.sercos_trace.specs.declared.events.Fall.{Fall}
 use Rattle.sercos_trace.specs.declared.events.Fall.TheVariants as fall
-use Rattle.sercos_master.specs.Annals.{Past, Call, HearMst, HearAt, Mdt, End, Restart, addressed_in, after_mdt, after_taken, begins, begun, count_addressed, fall_at, fall_of, first_place, goes_on, has_lost_at, has_lost_mst, is_at_limit, is_done, is_sent_to, new_epoch, next_phase, past, place_of, ready_to_send, settled, still_waiting, with_begin}
-use Rattle.sercos_master.proofs.Configured.{leaves}
-use Rattle.sercos_master.proofs.Keeping.{at_keeps, channel_keeps}
-use Rattle.sercos_law_run.proofs.Recovery.LateDown.{found}
+use Rattle.sercos_master.specs.Annals.{Mdt, begins}
+use Rattle.sercos_law_run.proofs.Undisturbed.Arriving.Addressed.{finds}
 
 -- what is known of a channel, in a phase
 abbrev IsAged : ℕ → Option ℕ → Type 0
@@ -36,9 +23,10 @@ no_first None None (Some k) f is = absurd (cc)
 no_first None (Some x) l f is = absurd (cc)
 no_first (Some x) a l f is = absurd (cc)
 
-not_at_limit : (s : Known) (p : Past) (k : ℕ) → k < length s.drives → fall_of s p ≡ None → is_at_limit p k ≡ false
+pub not_at_limit : (s : Known) (p : Past) (k : ℕ) → k < length s.drives → fall_of s p ≡ None → is_at_limit p k ≡ false
 not_at_limit s p k there none = false_from_ne_true (is_at_limit p k) (λ on.
-    let some : is_some (first_place s (is_at_limit p)) ≡ true = found (length s.drives) 0 k (is_at_limit p) low below on in
+    let some : is_some (first_place s (is_at_limit p)) ≡ true =
+    ap (λ (o : Option ℕ). is_some o) (finds 0 (length s.drives) k (is_at_limit p) low below on).found in
     never (sym some ∙ ap (λ (o : Option ℕ). is_some o) first))
   where
     low : 0 ≤ k

@@ -1,32 +1,12 @@
 -- What a drive's lists of invalid operation data contain.
-use Rattle.std.proofs.Common.{◌≡◌, ℕ, ◌==◌, Bool, true, false, not, ◌&&◌, List, [], ◌∷◌, Option, Some, None, IfSome, refl, sym, ◌∙◌, subst, arith, if◌then◌else◌}
-use Rattle.std.specs.Prelude.{option_map, unwrap_or}
-use Rattle.std.specs.Bool.{then_some}
-use Rattle.std.proofs.lemmas.Bool.{cond_both, false≢true}
-use Rattle.std.proofs.lemmas.Bool.Decides.{nat_tests}
-use Rattle.sercos_model.proofs.FaultLemmas.{none_of-or, none_of-then}
+use Rattle.sercos_law_run.proofs.Words.{◌≡◌, ℕ, ◌==◌, Bool, true, false, not, ◌&&◌, List, [], ◌∷◌, Option, Some, None, IfSome, refl, sym, ◌∙◌, subst, arith, if◌then◌else◌, option_map, unwrap_or, then_some, cond_both, false≢true, nat_tests, option_or, none_of-or, none_of-then, to_cancel, Block, is_fixed, is_protected, built_in_block, built_ins, blocks_fault, has_block, find_block, with_data, write_fault, data_fault, put_fault, are_ascending, store_of, DriveView, data_at, list_bytes, unfit_for_phase_3, unfit_for_phase_4, is_command, CommandCall, Wrote, Other, Reset, is_set, CommandHistory, Write, added_on, command_value, blocks_with, calls_with, allowed, Told, DriveCall, Mst, Mdt, mst_got, mdt_got, Moment, phase_in, records_in, blocks_in, blocks_after, calls_after, with_reset, annals, stands_in, ends_in, IsStoreOf, found_for_3, found_for_4, ListsAreFound}
 use Rattle.sercos_idn.specs.Attributes.{attribute_of}
 use Rattle.sercos_idn.specs.Codes.{attribute_fault}
-use Rattle.sercos_idn.specs.Commands.{to_cancel}
-use Rattle.sercos_block.specs.declared.block.Block.{Block}
-use Rattle.sercos_block.specs.Blocks.{is_fixed, is_protected}
-use Rattle.std.specs.Option.{option_or}
-use Rattle.sercos_block.specs.BuiltIns.{built_in_block, built_ins}
-use Rattle.sercos_block.specs.Rules.{blocks_fault, has_block}
 use Rattle.sercos_block.specs.Rings.{attribute_in, row_in, built_in_attribute, block_attribute}
-use Rattle.sercos_block.specs.Stores.{find_block, with_data, write_fault, data_fault, put_fault, are_ascending, store_of}
-use Rattle.sercos_block.specs.Views.{DriveView}
-use Rattle.sercos_command.specs.Checks.{data_at, list_bytes, unfit_for_phase_3, unfit_for_phase_4}
-use Rattle.sercos_command.specs.Settings.{is_command}
-use Rattle.sercos_command.specs.Calls.{CommandCall, Wrote, Other, Reset, is_set, CommandHistory, with_check_list}
-use Rattle.sercos_service_drive.specs.Writes.{Write, added_on, command_value, blocks_with, calls_with}
-use Rattle.sercos_service_drive.proofs.AllowedWrites.{allowed}
-use Rattle.sercos_drive.specs.declared.hearing.Told.{Told}
-use Rattle.sercos_drive.specs.Heard.{DriveCall, Mst, Mdt, Restart, mst_got, mdt_got}
-use Rattle.sercos_drive.specs.Moments.{Moment, phase_in, records_in, blocks_in, blocks_after, calls_in, calls_after, with_reset}
-use Rattle.sercos_drive.specs.Annals.{annals, processed_in, stands_in, ends_in}
-use Rattle.sercos_law_run.specs.Start.StartUp.{IsStoreOf}
-use Rattle.sercos_law_run.specs.Stations.Lists.{found_for_3, found_for_4, ListsAreFound}
+use Rattle.sercos_command.specs.Calls.{with_check_list}
+use Rattle.sercos_drive.specs.Heard.{Restart}
+use Rattle.sercos_drive.specs.Moments.{calls_in}
+use Rattle.sercos_drive.specs.Annals.{processed_in}
 use Rattle.sercos_law_run.proofs.Start.BlockFinds.{find_built_in, find_store_of, same_attribute}
 use Rattle.sercos_law_run.proofs.Start.LaterLemmas.{has_of}
 use Rattle.sercos_law_run.proofs.Start.KeptLemmas.{stays, writes_hold, writes_keep}

@@ -1,16 +1,7 @@
 -- In which phase a drive stands, and why.
-use Rattle.std.proofs.Common.{◌≡◌, ◌⊎◌, inl, inr, ℕ, ◌+◌, ◌≤◌, ◌==◌, Bool, true, false, not, ◌&&◌, ◌||◌, List, [], ◌∷◌, Option, Some, None, IfSome, refl, sym, ◌∙◌, ap, subst, arith, if◌then◌else◌}
-use Rattle.std.specs.Prelude.{nat_le, is_some}
-use Rattle.std.proofs.lemmas.Bool.{and_parts, false≢true}
-use Rattle.std.proofs.lemmas.Bool.Decides.{nat_tests}
-use Rattle.sercos_block.specs.Views.{DriveView}
-use Rattle.sercos_command.specs.Calls.{is_passed}
-use Rattle.sercos_drive.specs.declared.hearing.Told.{Told}
-use Rattle.sercos_drive.specs.Heard.{DriveCall, Mst, Mdt, Restart, mst_got, mdt_got}
-use Rattle.sercos_drive.specs.Moments.{Moment, phase_in, has_mst, has_missed, calls_in}
-use Rattle.sercos_drive.specs.Annals.{annals, phase_at, store_at, may_rise, stands_in, ends_in, takes}
-use Rattle.sercos_drive.proofs.RecordLemmas.{mst_below}
-use Rattle.sercos_law_run.specs.Stations.Phases.{newest_got, IsByMst, StandsByMst, Rises, HasPassed, RisesByOne, misses, missed_before, Drops, ByPhase, ByMst, ByMdt, ByRestart, DropsByCause}
+use Rattle.sercos_law_run.proofs.Words.{◌≡◌, ◌⊎◌, inl, inr, ℕ, ◌+◌, ◌≤◌, ◌==◌, Bool, true, false, not, ◌&&◌, ◌||◌, List, [], ◌∷◌, Option, Some, None, IfSome, refl, sym, ◌∙◌, ap, subst, arith, if◌then◌else◌, nat_le, is_some, and_parts, false≢true, nat_tests, DriveView, is_passed, Told, DriveCall, Mst, Mdt, mst_got, mdt_got, Moment, phase_in, has_mst, has_missed, annals, phase_at, store_at, may_rise, stands_in, ends_in, takes, mst_below, newest_got, IsByMst, StandsByMst, Rises, HasPassed, RisesByOne, misses, missed_before, Drops, ByPhase, ByMst, ByMdt, ByRestart, DropsByCause}
+use Rattle.sercos_drive.specs.Heard.{Restart}
+use Rattle.sercos_drive.specs.Moments.{calls_in}
 
 got_same : (d : DriveView) (rate : ℕ) (h : List DriveCall) → has_mst (annals d rate h) ≡ is_some (newest_got h)
 got_same d rate [] = refl

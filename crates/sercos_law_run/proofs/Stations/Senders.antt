@@ -1,33 +1,10 @@
 -- Which drive sends in the phases 0 to 2.
-use Rattle.std.proofs.Common.{◌≡◌, ◌⊎◌, inl, inr, ℕ, zero, suc, ◌+◌, ◌<◌, ◌≤◌, ◌==◌, Bool, true, false, not, ◌&&◌, ◌||◌, List, [], ◌∷◌, length, Option, Some, None, refl, sym, ◌∙◌, ap, subst, arith, if◌then◌else◌}
-use Rattle.std.specs.Prelude.{nat_le, is_some, is_none, slice_index}
-use Rattle.std.specs.Bool.{then_some}
-use Rattle.std.specs.Option.{option_or}
-use Rattle.std.proofs.lemmas.Bool.{and_parts, false≢true}
-use Rattle.std.proofs.lemmas.Bool.Decides.{nat_tests}
+use Rattle.sercos_law_run.proofs.Words.{◌≡◌, ◌⊎◌, inl, inr, ℕ, zero, suc, ◌+◌, ◌<◌, ◌≤◌, ◌==◌, Bool, true, false, not, ◌&&◌, ◌||◌, List, [], ◌∷◌, length, Option, Some, None, refl, sym, ◌∙◌, ap, subst, arith, if◌then◌else◌, nat_le, is_some, is_none, slice_index, then_some, option_or, and_parts, false≢true, nat_tests, Address, Job, Block, DriveView, RingView, Told, DriveCall, Mst, Mdt, mst_got, mdt_got, joint_in, told_at, Moment, phase_in, has_mst, has_taken, has_missed, blocks_in, annals, may_rise, stands_in, takes, Said, drive_says, sends, CycleView, known_of, tasks_for, Sent, mdt_said, Carry, Restarts, heard, passage, unseen_at, sum_below, mst_in, ats_in, mdt_in, IsRun, IsNext, IsClear, begins, content_of, contents, drive_at, given_before, given_mst, mdt_heard, said_below, unseen_ats, unseen_mdt, unseen_mst, with_restart, with_said, at_start, behind_mdt, IsSpelled, SpelledNext, IsOpened, SendsAlone}
 use Rattle.sercos_telegram.specs.declared.layout.Kind.TheVariants as kinds
-use Rattle.sercos_telegram.specs.declared.layout.Layout.TheVariants.{Length, Address}
+use Rattle.sercos_telegram.specs.declared.layout.Layout.TheVariants.{Length}
 use Rattle.sercos_telegram.specs.Faults.{head_fault}
-use Rattle.sercos_step.specs.declared.request.Job.{Job}
-use Rattle.sercos_block.specs.declared.block.Block.{Block}
-use Rattle.sercos_block.specs.Views.{DriveView, RingView}
-use Rattle.sercos_drive.specs.declared.hearing.Told.{Told}
-use Rattle.sercos_drive.specs.Heard.{DriveCall, Mst, Mdt, mst_got, mdt_got, joint_in, single_in, told_at}
-use Rattle.sercos_drive.specs.Moments.{Moment, phase_in, has_mst, has_taken, has_missed, blocks_in}
-use Rattle.sercos_drive.specs.Annals.{annals, may_rise, stands_in, takes}
-use Rattle.sercos_drive.specs.Says.{Said, drive_says, sends}
-use Rattle.sercos_trace.specs.Views.{CycleView}
-use Rattle.sercos_seat.specs.Ring.{known_of, tasks_for}
-use Rattle.sercos_master.specs.Says.{Sent, mdt_said}
-use Rattle.sercos_script.specs.Links.{Carry, Restarts}
-use Rattle.sercos_law_run.specs.Journal.Arrivals.{heard, passage, unseen_at, sum_below}
-use Rattle.sercos_law_run.specs.Journal.Records.{mst_in, ats_in, mdt_in}
-use Rattle.sercos_law_run.specs.Journal.Runs.{IsRun, IsNext, IsClear, begins, content_of, contents, drive_at, given_before, given_mst, mdt_heard, said_below, unseen_ats, unseen_mdt, unseen_mst, with_restart, with_said}
-use Rattle.sercos_law_run.specs.Views.RingViews.{at_start, behind_mdt}
-use Rattle.sercos_law_run.specs.Views.Spelled.{IsSpelled}
-use Rattle.sercos_law_run.specs.Typed.Spelled.{SpelledNext}
-use Rattle.sercos_law_run.specs.Held.Opened.{IsOpened}
-use Rattle.sercos_law_run.specs.Stations.Senders.{IsAnswer, SendsAlone}
+use Rattle.sercos_drive.specs.Heard.{single_in}
+use Rattle.sercos_law_run.specs.Stations.Senders.{IsAnswer}
 use Rattle.sercos_law_run.proofs.Journal.RunLemmas.{ats_in-said, mdt_in-said}
 use Rattle.sercos_law_run.proofs.Journal.StationLemmas.{said_address}
 use Rattle.sercos_law_run.proofs.Typed.Mdts.{phase_low}

@@ -1,14 +1,6 @@
 -- What an empty list of the check for phase 3 says of a store, in times and places.
-use Rattle.std.proofs.Common.{◌≡◌, ℕ, ◌+◌, ◌-◌, ◌%◌, ◌==◌, nat_lt, Bool, true, false, not, ◌||◌, List, [], refl, arith}
-use Rattle.std.specs.Prelude.{nat_le}
-use Rattle.std.specs.List.{list_all}
-use Rattle.std.proofs.lemmas.Bool.{not-false}
-use Rattle.std.proofs.lemmas.Bool.Decides.{nat_tests}
-use Rattle.sercos_idn.specs.declared.idn.Idn.{Idn}
-use Rattle.sercos_timing.specs.Valid.{is_cycle}
-use Rattle.sercos_block.proofs.OpenLemmas.{either_none}
-use Rattle.sercos_command.specs.Checks.{number_at, idns_at, is_cyclic, carried_len, breaks_1, breaks_2, breaks_6, breaks_7, breaks_8, breaks_9, breaks_10, breaks_15, breaks_list, breaks_89, listed_if, unfit_for_phase_3}
-use Rattle.sercos_law_run.specs.Stations.Fit.{EmptyKeepsTimes}
+use Rattle.sercos_law_run.proofs.Words.{◌≡◌, ℕ, ◌+◌, ◌-◌, ◌%◌, ◌==◌, nat_lt, Bool, true, false, not, ◌||◌, List, [], refl, arith, nat_le, list_all, not-false, nat_tests, Idn, is_cycle, either_none, number_at, idns_at, is_cyclic, carried_len, listed_if, EmptyKeepsTimes}
+use Rattle.sercos_command.specs.Checks.{breaks_1, breaks_2, breaks_6, breaks_7, breaks_8, breaks_9, breaks_10, breaks_15, breaks_list, breaks_89, unfit_for_phase_3}
 
 -- an empty list names none
 unnamed : (raw : ℕ) (broken : Bool) (rest : List Idn) → listed_if raw broken rest ≡ [] → (broken ≡ false) × (rest ≡ [])

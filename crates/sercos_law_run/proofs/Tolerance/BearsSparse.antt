@@ -1,48 +1,22 @@
 -- What a ring bears while disturbed cycles are sparse.
-use Rattle.std.proofs.Common.{◌≡◌, ◌⊎◌, inl, inr, ℕ, ◌+◌, ◌<◌, ◌≤◌, Bool, true, false, List, [], ◌∷◌, ◌++◌, length, ◌∙◌, ap, arith}
-use Rattle.std.proofs.lemmas.Bool.{cases_eq}
-use Rattle.sercos_step.specs.declared.request.Job.{Job}
-use Rattle.sercos_block.specs.Views.{RingView}
-use Rattle.sercos_trace.specs.Views.{CycleView}
-use Rattle.sercos_seat.specs.Ring.{known_of, tasks_for}
-use Rattle.sercos_script.specs.Links.{Carry, Restarts}
-use Rattle.sercos_law_channel.specs.Handshake.Runs.{IsRun as IsViewRun}
-use Rattle.sercos_law_channel.specs.Pace.Ages.{age_in}
-use Rattle.sercos_law_channel.specs.Pace.Passages.{IsUp}
-use Rattle.sercos_law_channel.proofs.Theorems.{nothing_old}
-use Rattle.sercos_law_run.specs.Journal.Runs.{drive_at, master_calls, IsClear, IsRun}
-use Rattle.sercos_law_run.proofs.Views.Members.{members_count}
-use Rattle.sercos_law_run.specs.Views.RingViews.{view_of, views_of}
-use Rattle.sercos_law_run.specs.Held.Opened.{IsOpened}
-use Rattle.sercos_law_run.proofs.Held.Runs.{s_known}
-use Rattle.sercos_law_run.proofs.Headline.HeadlineRuns.{all_stand, first_store}
+use Rattle.sercos_law_run.proofs.Words.{◌≡◌, ◌⊎◌, inl, inr, ℕ, ◌+◌, ◌<◌, ◌≤◌, List, [], ◌∷◌, ◌++◌, length, ◌∙◌, ap, arith, cases_eq, Job, RingView, CycleView, known_of, tasks_for, Carry, Restarts, age_in, IsUp, nothing_old, drive_at, master_calls, IsClear, IsRun, view_of, views_of, IsOpened, StartsEpoch, Bears, IsBehind, EndsSparse, EndsAnyway, RisesAnyway, ReportsSparse, RisesSparse, AreSparse, CalmIsSparse}
 use Rattle.sercos_law_run.proofs.Typed.Mdts.{phase_low}
-use Rattle.sercos_law_run.specs.Undisturbed.EpochStarts.{StartsEpoch}
 use Rattle.sercos_law_run.proofs.Undisturbed.Answered.{tells_going}
 use Rattle.sercos_law_run.proofs.Undisturbed.Arriving.Comes.{calm_in}
+use Rattle.sercos_law_run.proofs.Undisturbed.Arriving.Small.{never_both}
 use Rattle.sercos_law_run.proofs.Undisturbed.NeverFalls.{begins_so}
 use Rattle.sercos_law_run.proofs.Recovery.LateDown.{no_lower, phase_after}
-use Rattle.sercos_law_run.specs.Tolerance.Bears.{Bears, IsBehind}
-use Rattle.sercos_law_run.specs.Tolerance.Ends.{EndsSparse}
-use Rattle.sercos_law_run.specs.Tolerance.Many.{EndsAnyway, RisesAnyway}
-use Rattle.sercos_law_run.specs.Tolerance.Reports.{ReportsSparse}
-use Rattle.sercos_law_run.specs.Tolerance.Rises.{RisesSparse}
-use Rattle.sercos_law_run.specs.Tolerance.Sparse.{AreSparse, CalmIsSparse}
-use Rattle.sercos_law_run.proofs.Tolerance.Borne.{IsBorne, all_borne, calm_or_not, late_age}
+use Rattle.sercos_law_run.proofs.Tolerance.Borne.{IsBorne, all_borne, calm_or_not, late_age, is_run, some_drive}
 use Rattle.sercos_law_run.proofs.Tolerance.EarlySparse.{phase_is}
 use Rattle.sercos_law_run.proofs.Tolerance.Standing.{zero_again}
 use Rattle.sercos_law_run.proofs.Tolerance.Steps.{closed_age, oldest}
 
 -- cycles in which nothing is disturbed are sparse
-never : (b : Bool) → b ≡ true → b ≡ false → ⊥
-never true on off = cc
-never false on off = cc
-
 pub calm_is_sparse : CalmIsSparse
 calm_is_sparse r carry restarts t j calm = record {
   goes_on = (calm_in r carry restarts t j calm).stays;
-  early = λ disturbed one low. absurd (never _ disturbed calm);
-  late = λ disturbed high. absurd (never _ disturbed calm);
+  early = λ disturbed one low. absurd (never_both _ disturbed calm);
+  late = λ disturbed high. absurd (never_both _ disturbed calm);
 }
 
 module _ (rises : RisesSparse) (reports : ReportsSparse) (ends : EndsSparse) (rises_anyway : RisesAnyway) (ends_anyway : EndsAnyway)
@@ -50,21 +24,11 @@ module _ (rises : RisesSparse) (reports : ReportsSparse) (ends : EndsSparse) (ri
   abbrev Borne : CycleView → List CycleView → Type 0
   Borne t j = IsBorne r jobs carry restarts opened t j
 
-  is_run : (j : List CycleView) → IsRun r jobs carry restarts j → IsClear j → (k : ℕ) → k < length r.drives
-      → IsViewRun (drive_at r k).busy (views_of r jobs carry restarts k j)
-  is_run j run clear k below = (all_stand r jobs carry restarts opened j run clear k below).sees.run
-
-  some_drive : 0 < length r.drives
-  some_drive =
-      let count = members_count r in
-      let some = (s_known r jobs carry restarts opened (first_store r jobs carry restarts opened)).some in
-      omega (arith, count, some)
-
   -- how old a step is at the end of a cycle
   age_of : (t : CycleView) (j : List CycleView) → IsRun r jobs carry restarts (t ∷ j) → IsClear (t ∷ j) → Borne t j → (k : ℕ)
       → k < length r.drives → age_in (views_of r jobs carry restarts k (t ∷ j)) ≤ (drive_at r k).busy + 4
   age_of t j run clear is k below =
-      let most = oldest (drive_at r k).busy 1 2 (views_of r jobs carry restarts k (t ∷ j)) (is_run (t ∷ j) run clear k below) (omega arith)
+      let most = oldest (drive_at r k).busy 1 2 (views_of r jobs carry restarts k (t ∷ j)) (is_run r jobs carry restarts opened (t ∷ j) run clear k below) (omega arith)
       (is.aged k below).any in omega (arith, most)
 
   late_age_of : (t : CycleView) (j : List CycleView) → IsRun r jobs carry restarts (t ∷ j) → IsClear (t ∷ j) → Borne t j → 3 ≤ t.phase
@@ -72,8 +36,8 @@ module _ (rises : RisesSparse) (reports : ReportsSparse) (ends : EndsSparse) (ri
       → age_in (views_of r jobs carry restarts k (t ∷ j)) ≤ (drive_at r k).busy + 3
   late_age_of t j run clear is late k below = elim (calm_or_not r carry restarts t j) [
     | inl disturbed ↦ (let most = oldest (drive_at r k).busy 1 1 (views_of r jobs carry restarts k (t ∷ j))
-        (is_run (t ∷ j) run clear k below) (omega arith) ((is.aged k below).lost disturbed) in omega (arith, most))
-    | inr calm ↦ (let most = oldest (drive_at r k).busy 0 0 (views_of r jobs carry restarts k (t ∷ j)) (is_run (t ∷ j) run clear k below)
+        (is_run r jobs carry restarts opened (t ∷ j) run clear k below) (omega arith) ((is.aged k below).lost disturbed) in omega (arith, most))
+    | inr calm ↦ (let most = oldest (drive_at r k).busy 0 0 (views_of r jobs carry restarts k (t ∷ j)) (is_run r jobs carry restarts opened (t ∷ j) run clear k below)
         (omega arith) ((is.aged k below).calm calm (inl late)) in omega (arith, most))
   ]
 
@@ -140,7 +104,7 @@ module _ (rises : RisesSparse) (reports : ReportsSparse) (ends : EndsSparse) (ri
         let at : v.phase ≡ 4 = ap (λ (x : CycleView). x.phase) same ∙ four in
         let least = no_lower r jobs carry restarts opened t v (cycles ++ before) run clear
         (all_borne r jobs carry restarts opened v cycles before run.0 clear.0 starts sparse.0).stays (sparse.1.goes_on 0 (omega arith)) 0
-        some_drive in
+        (some_drive r jobs carry restarts opened) in
         let most = phase_low (known_of r) (tasks_for (known_of r) jobs) (master_calls r carry restarts (v ∷ (cycles ++ before))) in
         let phase = phase_is r jobs carry restarts opened t (v ∷ (cycles ++ before)) run
         (borne (v ∷ cycles) run clear sparse) in omega (arith, at, least, most, phase)

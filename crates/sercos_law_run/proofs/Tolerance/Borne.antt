@@ -1,57 +1,28 @@
 -- From one cycle to the next: while disturbed cycles are sparse, the ring doesn't fall, each drive keeps near the commanded phase, and no
 -- step gets old.
-use Rattle.std.proofs.Common.{◌≡◌, ◌⊎◌, inl, inr, ℕ, ◌+◌, ◌<◌, ◌≤◌, Bool, true, false, not, ◌&&◌, List, [], ◌∷◌, ◌++◌, length, Option, None, refl, sym, ap, ◌∙◌, subst, arith, if◌then◌else◌}
-use Rattle.std.specs.Prelude.{is_some}
-use Rattle.std.proofs.lemmas.Bool.{cases_Bool, cases_eq, cases_lt, cond-false}
-use Rattle.sercos_step.specs.declared.request.Job.{Job}
-use Rattle.sercos_block.specs.Views.{RingView}
-use Rattle.sercos_service_master.specs.Begun.{open_in}
-use Rattle.sercos_service_master.specs.Calls.{age_of, cycles_open}
+use Rattle.sercos_law_run.proofs.Words.{◌≡◌, ◌⊎◌, inl, inr, ℕ, ◌+◌, ◌<◌, ◌≤◌, Bool, true, false, not, ◌&&◌, List, [], ◌∷◌, ◌++◌, length, Option, None, refl, sym, ap, ◌∙◌, subst, arith, if◌then◌else◌, is_some, cases_Bool, cases_eq, cases_lt, cond-false, Job, RingView, IsRing-is_ring, open_in, age_of, cycles_open, CycleView, Fall, is_place, known_of, tasks_for, Past, Turn, count_addressed, fall_of, has_lost_at, has_lost_mst, is_done, Carry, Restarts, begun_in, epoch_begun, View, processed_in, standing, stood_in, age_in, calls_in, channel_calls, staying, IsPassed, IsUp, IsWhole, commanded, up_by, whole_row-le, drive_at, is_disturbed_in, looks_back, master_calls, middle, IsClear, IsDisturbed, IsRun, behind_ats, behind_mdt, view_of, views_of, IsOpened, StartsEpoch, IsUndisturbed, IsBehind, IsFirst, loses_step, AreCalm, AreSparse, IsSparse, begins_empty, comes_to_zero, ages_before_end, stays_a_run}
 use Rattle.sercos_service_master.specs.Calls as channel
-use Rattle.sercos_trace.specs.Views.{CycleView}
-use Rattle.sercos_trace.specs.declared.events.Fall.{Fall}
-use Rattle.sercos_seat.specs.Channel.{is_place}
-use Rattle.sercos_seat.specs.Ring.{known_of, tasks_for}
-use Rattle.sercos_master.specs.Annals.{Past, Turn, count_addressed, fall_of, has_lost_at, has_lost_mst, is_done}
-use Rattle.sercos_script.specs.Links.{Carry, Restarts}
-use Rattle.sercos_law_channel.specs.Handshake.Epochs.{begun_in, epoch_begun}
 use Rattle.sercos_law_channel.specs.Handshake.Runs.{IsRun as IsViewRun}
-use Rattle.sercos_law_channel.specs.Handshake.Views.{View, processed_in, standing, stood_in}
-use Rattle.sercos_law_channel.specs.Pace.Ages.{age_in}
-use Rattle.sercos_law_channel.specs.Pace.ChannelCalls.{calls_in, channel_calls, staying}
-use Rattle.sercos_law_channel.specs.Pace.Passages.{IsPassed, IsUp, IsWhole}
-use Rattle.sercos_law_channel.proofs.Theorems.{commanded, up_by}
-use Rattle.sercos_law_channel.proofs.Handshake.EpochRuns.{whole_row-le}
-use Rattle.sercos_law_run.specs.Journal.Runs.{drive_at, is_disturbed_in, looks_back, master_calls, middle, IsClear, IsDisturbed, IsRun}
-use Rattle.sercos_law_run.specs.Views.RingViews.{behind_ats, behind_mdt, view_of, views_of}
 use Rattle.sercos_law_run.proofs.Views.MasterSame.{begun_cycle}
-use Rattle.sercos_law_run.proofs.Views.Members.{members_count}
+use Rattle.sercos_law_run.proofs.Views.Members.{in_ring}
 use Rattle.sercos_law_run.proofs.Views.ViewRuns.{started}
-use Rattle.sercos_law_run.specs.Held.Opened.{IsOpened}
 use Rattle.sercos_law_run.proofs.Headline.HeadlineRuns.{all_stand}
-use Rattle.sercos_law_run.specs.Undisturbed.EpochStarts.{StartsEpoch}
-use Rattle.sercos_law_run.specs.Undisturbed.Undisturbed.{IsUndisturbed}
 use Rattle.sercos_law_run.proofs.Undisturbed.ChannelsKept.{calls_now}
 use Rattle.sercos_law_run.proofs.Undisturbed.NeverFalls.{busy_low}
-use Rattle.sercos_law_run.proofs.Undisturbed.NoFalls.{IsNoLower, has_risen, heard_mdt}
+use Rattle.sercos_law_run.proofs.Undisturbed.NoFalls.{IsNoLower, has_risen, heard_mdt, limit_so, none_falls}
 use Rattle.sercos_law_run.proofs.Undisturbed.Checks.PassedRuns.{passed_in}
 use Rattle.sercos_law_run.proofs.Undisturbed.Arriving.Sending.{sends_in}
+use Rattle.sercos_law_run.proofs.Undisturbed.Arriving.Small.{never_both}
 use Rattle.sercos_law_run.proofs.Undisturbed.StaysUp.{addressed_once, begun_none, heard_then, idle_then, whole_now}
 use Rattle.sercos_law_run.proofs.Undisturbed.Arriving.WholeIn.{whole_in}
 use Rattle.sercos_law_run.proofs.Recovery.LateDown.{phase_after, phase_now, turns_now}
 use Rattle.sercos_law_run.proofs.Recovery.Limits.{are_sent}
 use Rattle.sercos_law_run.proofs.Recovery.Stretches.{whole_at}
-use Rattle.sercos_law_run.specs.Tolerance.Bears.{IsBehind, IsFirst}
-use Rattle.sercos_law_run.specs.Tolerance.Losses.{loses_step}
-use Rattle.sercos_law_run.specs.Tolerance.Sparse.{AreCalm, AreSparse, IsSparse}
 use Rattle.sercos_law_run.proofs.Tolerance.FirstCycles.{never_first}
 use Rattle.sercos_law_run.proofs.Tolerance.Losses.{early_kept, none_lost_in}
-use Rattle.sercos_law_run.proofs.Tolerance.NoFallSo.{at_second, count_next, counted, limit_so, mst_second, none_falls}
+use Rattle.sercos_law_run.proofs.Tolerance.NoFallSo.{at_second, count_next, counted, mst_second}
 use Rattle.sercos_law_run.proofs.Tolerance.Standing.{hears_whole, lost_so, stays_same, takes_whole, took_mdt, zero_up}
 use Rattle.sercos_law_run.proofs.Tolerance.Steps.{IsYoung, IsYoungSince, never_some, older, oldest, rested, young_both, young_lost, young_taken}
-use Rattle.sercos_law_channel.proofs.Cited.{begins_empty}
-use Rattle.sercos_law_channel.proofs.Handshake.RunFacts.{comes_to_zero}
-use Rattle.sercos_law_channel.proofs.Pace.CallAges.{ages_before_end, stays_a_run}
 
 -- the phase rises if the one above is commanded next
 rises_so : (rises : Bool) (n : ℕ) → (if rises then n + 1 else n) ≡ n + 1 → rises ≡ true
@@ -66,10 +37,6 @@ second_of false b is = is
 pub calm_or_not : (r : RingView) (carry : Carry) (restarts : Restarts) (t : CycleView) (j : List CycleView)
     → IsDisturbed r carry restarts t j ⊎ IsUndisturbed r carry restarts t j
 calm_or_not r carry restarts t j = cases_Bool (is_disturbed_in r carry restarts (length j) t.sent)
-
-never_both : (b : Bool) → b ≡ true → b ≡ false → ⊥
-never_both true on off = cc
-never_both false on off = cc
 
 -- How old a step may be at the end of a cycle, by whether the cycle is disturbed, and the one before.
 pub record IsAged (r : RingView) (carry : Carry) (restarts : Restarts) (since busy : ℕ) (t : CycleView) (j : List CycleView)
@@ -133,7 +100,7 @@ module _ (r : RingView) (jobs : List Job) (carry : Carry) (restarts : Restarts) 
   abbrev pub IsBorne : CycleView → List CycleView → Type 0
   IsBorne t j = IsHeld all_drives 0 t j
 
-  is_run : (j : List CycleView) → IsRun r jobs carry restarts j → IsClear j → (k : ℕ) → k < length r.drives
+  pub is_run : (j : List CycleView) → IsRun r jobs carry restarts j → IsClear j → (k : ℕ) → k < length r.drives
       → IsViewRun (busy_of k) (views k j)
   is_run j run clear k below = (all_stand r jobs carry restarts opened j run clear k below).sees.run
 
@@ -141,8 +108,8 @@ module _ (r : RingView) (jobs : List Job) (carry : Carry) (restarts : Restarts) 
       → IsViewRun (busy_of k) (staying (view k t j) ∷ views k j)
   run_on t j run clear k below = stays_a_run (busy_of k) (view k t j) (views k j) (is_run (t ∷ j) run clear k below)
 
-  inside : (k : ℕ) → k < length (known_of r).drives → k < length r.drives
-  inside k below = let count = members_count r in omega (arith, below, count)
+  pub some_drive : 0 < length r.drives
+  some_drive = let some = (IsRing-is_ring r opened.valid).some in omega (arith, some)
 
   -- in phases 0 and 1 no step is open
   idle_so : (t : CycleView) (j : List CycleView) → IsRun r jobs carry restarts (t ∷ j) → IsClear (t ∷ j) → (k : ℕ) → k < length r.drives
@@ -180,8 +147,8 @@ module _ (r : RingView) (jobs : List Job) (carry : Carry) (restarts : Restarts) 
         let risen = has_risen (known_of r) (tasks_for (known_of r) jobs) (middle r carry restarts t.sent j) in
         none_falls (known_of r) (now t j) (none_lost (now t j).turns risen) (λ k below. all_heard k (now t j).turns risen)
         (λ k below. limit_so (now t j) k (λ one. let zero_now = now_zero in absurd (omega (arith, one, zero_now)))
-        (let zero_now = zero_is in let idle = idle_then r jobs carry restarts opened t j run clear (omega (arith, zero_now)) k
-        (inside k below) in omega (arith, idle)))
+        (λ other. let zero_now = zero_is in let idle = idle_then r jobs carry restarts opened t j run clear (omega (arith, zero_now)) k
+        (in_ring r k below) in omega (arith, idle)))
 
     never_above : (j' : List CycleView) (k : ℕ) → IsFirst (view k t j) (views k j') → ⊥
     never_above [] k first = first
@@ -459,9 +426,9 @@ module _ (r : RingView) (jobs : List Job) (carry : Carry) (restarts : Restarts) 
         none_falls (known_of r) (now t (u ∷ j)) (ap (λ (l : List Turn). has_lost_mst ((now t (u ∷ j)).now ∷ l)) turns
         ∙ mst_second (now t (u ∷ j)).now (now u j).now (now u j).turns own_came)
         (λ k below. ap (λ (l : List Turn). has_lost_at k ((now t (u ∷ j)).now ∷ l)) turns
-        ∙ at_second k (now t (u ∷ j)).now (now u j).now (now u j).turns (ats_came k (every k (inside k below))))
-        (λ k below. limit_so (now t (u ∷ j)) k (λ one to. let few = (asked_now k (every k (inside k below))).any one to in
-        omega (arith, few)) (few_open k (every k (inside k below)) (young k (every k (inside k below)))))
+        ∙ at_second k (now t (u ∷ j)).now (now u j).now (now u j).turns (ats_came k (every k (in_ring r k below))))
+        (λ k below. limit_so (now t (u ∷ j)) k (λ one to. let few = (asked_now k (every k (in_ring r k below))).any one to in
+        omega (arith, few)) (λ other. few_open k (every k (in_ring r k below)) (young k (every k (in_ring r k below)))))
 
     -- Up to the second cycle of phase 3 it falls for a step at its limit alone.
     pub stays_if : u.phase ≤ 2 → 2 ≤ t.phase → ((k : ℕ) → k < length r.drives → cycles_open ((now t (u ∷ j)).calls k) ≤ 63)
@@ -474,7 +441,7 @@ module _ (r : RingView) (jobs : List Job) (carry : Carry) (restarts : Restarts) 
         ∙ mst_second (now t (u ∷ j)).now (now u j).now (now u j).turns own_came)
         (λ k below. ap (λ (l : List Turn). has_lost_at k ((now t (u ∷ j)).now ∷ l)) turns
         ∙ at_second k (now t (u ∷ j)).now (now u j).now (now u j).turns (λ high. absurd (omega (arith, was, low, high))))
-        (λ k below. limit_so (now t (u ∷ j)) k (λ one to. absurd (omega (arith, same, one, late))) (few k (inside k below)))
+        (λ k below. limit_so (now t (u ∷ j)) k (λ one to. absurd (omega (arith, same, one, late))) (λ other. few k (in_ring r k below)))
 
     -- .. so the next cycle is like it, if the ring doesn't fall.
     pub next_held : fall_of (known_of r) (now t (u ∷ j)) ≡ None → IsHeld among since t (u ∷ j)

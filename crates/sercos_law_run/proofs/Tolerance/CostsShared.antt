@@ -1,40 +1,13 @@
 -- Up to phase 2 a disturbed cycle costs all channels together no more than one.
-use Rattle.std.proofs.Common.{◌≡◌, ◌⊎◌, inl, inr, ℕ, zero, suc, ◌+◌, ◌<◌, ◌≤◌, Bool, true, false, not, ◌&&◌, ◌||◌, List, [], ◌∷◌, ◌++◌, length, Option, Some, None, refl, sym, ap, ◌∙◌, arith, if◌then◌else◌}
-use Rattle.std.specs.Prelude.{IsSome, is_some}
-use Rattle.std.proofs.lemmas.Bool.{cases_lt, cond-false, cond-true, false≢true}
-use Rattle.sercos_step.specs.declared.request.Job.{Job}
-use Rattle.sercos_step.specs.declared.request.Request.{Request}
-use Rattle.sercos_block.specs.Stores.{store_of}
-use Rattle.sercos_block.specs.Views.{RingView}
-use Rattle.sercos_service_master.specs.Begun.{Begun, open_in}
-use Rattle.sercos_trace.specs.Views.{CycleView}
-use Rattle.sercos_seat.specs.Ring.{known_of}
-use Rattle.sercos_master.specs.Annals.{in_turn}
-use Rattle.sercos_script.specs.Links.{Carry, Restarts}
-use Rattle.sercos_law_channel.specs.Handshake.Epochs.{begun_in, epoch_begun, unless_restart, with_begun, with_heard}
+use Rattle.sercos_law_run.proofs.Words.{◌≡◌, ◌⊎◌, inl, inr, ℕ, zero, suc, ◌+◌, ◌<◌, ◌≤◌, Bool, true, false, not, ◌&&◌, ◌||◌, List, [], ◌∷◌, ◌++◌, length, Option, Some, None, refl, sym, ap, ◌∙◌, arith, if◌then◌else◌, IsSome, is_some, cases_lt, false≢true, false_from_ne_true, same_Some, Job, Request, store_of, RingView, Begun, open_in, CycleView, known_of, in_turn, Carry, Restarts, begun_in, epoch_begun, unless_restart, with_begun, with_heard, Heard, View, processed_in, AreListed, cost_in, cost_of, open_since, one_more, sum_below, drive_at, is_disturbed_in, IsClear, IsDisturbed, IsRun, behind_mdt, view_of, views_of, IsOpened, IsUndisturbed, views_since, cycles_for, disturbances, loses_step, lost_since, AreSparse, IsSparse}
 use Rattle.sercos_law_channel.specs.Handshake.Runs.{IsRun as IsViewRun}
-use Rattle.sercos_law_channel.specs.Handshake.Views.{Heard, View, processed_in}
-use Rattle.sercos_law_channel.specs.Pace.Costs.{AreListed, cost_in, cost_of}
-use Rattle.sercos_law_channel.specs.Pace.Stretches.{open_since}
-use Rattle.sercos_law_channel.specs.Pace.Times.{one_more}
-use Rattle.sercos_law_run.specs.Journal.Arrivals.{sum_below}
-use Rattle.sercos_law_run.specs.Journal.Runs.{drive_at, is_disturbed_in, IsClear, IsDisturbed, IsRun}
-use Rattle.sercos_law_run.specs.Views.RingViews.{behind_mdt, view_of, views_of}
-use Rattle.sercos_law_run.proofs.Views.Members.{members_count}
-use Rattle.sercos_law_run.specs.Held.Opened.{IsOpened}
-use Rattle.sercos_law_run.proofs.Held.Runs.{s_known}
-use Rattle.sercos_law_run.proofs.Headline.HeadlineRuns.{all_stand, first_store}
-use Rattle.sercos_law_run.specs.Undisturbed.Undisturbed.{IsUndisturbed}
-use Rattle.sercos_law_run.specs.Undisturbed.ViewsSince.{views_since}
 use Rattle.sercos_law_run.proofs.Undisturbed.Checks.PassedCycles.{views_split}
-use Rattle.sercos_law_run.proofs.Undisturbed.Arriving.Small.{some_is}
-use Rattle.sercos_law_run.proofs.Recovery.LateDown.{no_lower, not_true, phase_after}
+use Rattle.sercos_law_run.proofs.Undisturbed.Sections.{sum_most}
+use Rattle.sercos_law_run.proofs.Recovery.LateDown.{no_lower, phase_after}
 use Rattle.sercos_law_run.proofs.Recovery.Turns.{opens_in_turn}
-use Rattle.sercos_law_run.specs.Tolerance.Losses.{cycles_for, disturbances, loses_step, lost_since}
-use Rattle.sercos_law_run.specs.Tolerance.Sparse.{AreSparse, IsSparse}
-use Rattle.sercos_law_run.proofs.Tolerance.Borne.{IsBase, IsBorne, IsHeld, borne_on, calm_or_not, rests_then, zero_is}
-use Rattle.sercos_law_run.proofs.Tolerance.CostsSparse.{early_for, opens_so, spare_for, two_for}
-use Rattle.sercos_law_run.proofs.Tolerance.Losses.{early_kept}
+use Rattle.sercos_law_run.proofs.Tolerance.Borne.{IsBase, IsBorne, IsHeld, borne_on, calm_or_not, rests_then, zero_is, is_run, some_drive}
+use Rattle.sercos_law_run.proofs.Tolerance.CostsSparse.{early_for, opens_so, spare_for, two_for, on_so, off_so}
+use Rattle.sercos_law_run.proofs.Tolerance.Losses.{early_kept, same_if}
 
 -- SUMS over the drives
 sum_same : (n : ℕ) (f g : ℕ → ℕ) → ((k : ℕ) → k < n → f k ≡ g k) → sum_below n f ≡ sum_below n g
@@ -43,18 +16,9 @@ sum_same (suc n) f g same =
     let rest = sum_same n f g (λ k low. same k (omega (arith, low))) in
     let last = same n (omega arith) in omega (arith, rest, last)
 
-pub sum_most : (n : ℕ) (f g : ℕ → ℕ) → ((k : ℕ) → k < n → f k ≤ g k) → sum_below n f ≤ sum_below n g
-sum_most zero f g most = omega arith
-sum_most (suc n) f g most =
-    let rest = sum_most n f g (λ k low. most k (omega (arith, low))) in
-    let last = most n (omega arith) in omega (arith, rest, last)
-
 pub sum_both : (n : ℕ) (f g : ℕ → ℕ) → sum_below n (λ k. f k + g k) ≡ sum_below n f + sum_below n g
 sum_both zero f g = refl
 sum_both (suc n) f g = let rest = sum_both n f g in omega (arith, rest)
-
-same_if : (b : Bool) (n : ℕ) → b ≡ false → one_more b n ≡ n
-same_if b n off = ap (λ (x : Bool). one_more x n) off
 
 -- if the test holds at one place at most, the sum is one more at most
 sum_one : (n : ℕ) (b : ℕ → Bool) (f : ℕ → ℕ) → ((i j : ℕ) → i < n → j < n → b i ≡ true → b j ≡ true → i ≡ j)
@@ -63,7 +27,7 @@ sum_one zero b f one = omega arith
 sum_one (suc n) b f one = by (b n) refl (sum_one n b f (λ i j low high. one i j (omega (arith, low)) (omega (arith, high))))
   where
     others : b n ≡ true → (k : ℕ) → k < n → one_more (b k) (f k) ≡ f k
-    others on k low = same_if (b k) (f k) (not_true (b k) (λ too. let same = one k n (omega (arith, low)) (omega arith) too on in
+    others on k low = same_if (b k) (f k) (false_from_ne_true (b k) (λ too. let same = one k n (omega (arith, low)) (omega arith) too on in
         omega (arith, same, low)))
 
     by : (x : Bool) → b n ≡ x → sum_below n (λ k. one_more (b k) (f k)) ≤ sum_below n f + 1
@@ -124,34 +88,11 @@ module _ (r : RingView) (jobs : List Job) (carry : Carry) (restarts : Restarts) 
   abbrev costs : CycleView → List CycleView → ℕ
   costs t j = if is_disturbed_in r carry restarts (length j) t.sent then cycles_for t.phase else 0
 
-  on_so : (t : CycleView) (j : List CycleView) → IsDisturbed r carry restarts t j
-      → (costs t j ≡ cycles_for t.phase) × (spare t j ≡ spare_for t.phase)
-  on_so t j on = (
-    cond-true (is_disturbed_in r carry restarts (length j) t.sent) (cycles_for t.phase) 0 on,
-    cond-true
-        (is_disturbed_in r carry restarts (length j) t.sent) (spare_for t.phase) 0 on,
-  )
-
-  off_so : (t : CycleView) (j : List CycleView) → IsUndisturbed r carry restarts t j → (costs t j ≡ 0) × (spare t j ≡ 0)
-  off_so t j off = (
-    cond-false (is_disturbed_in r carry restarts (length j) t.sent) (cycles_for t.phase) 0 off,
-    cond-false
-        (is_disturbed_in r carry restarts (length j) t.sent) (spare_for t.phase) 0 off,
-  )
-
   abbrev lost_at : ℕ → CycleView → List CycleView → Bool
   lost_at k t j = loses_step (view_of r jobs carry restarts k t j) (views_of r jobs carry restarts k j)
 
   abbrev lost_of : List CycleView → List CycleView → ℕ → ℕ
   lost_of cycles before k = lost_since (views_since r jobs carry restarts k cycles before) (views_of r jobs carry restarts k before)
-
-  is_run : (j : List CycleView) → IsRun r jobs carry restarts j → IsClear j → (k : ℕ) → k < length r.drives
-      → IsViewRun (drive_at r k).busy (views_of r jobs carry restarts k j)
-  is_run j run clear k below = (all_stand r jobs carry restarts opened j run clear k below).sees.run
-
-  some_drive : 0 < length r.drives
-  some_drive = let count = members_count r in let some = (s_known r jobs carry restarts opened
-      (first_store r jobs carry restarts opened)).some in omega (arith, count, some)
 
   -- THE CHANNELS OF SOME DRIVES: all but those that are down
   module _ (down : ℕ → Bool) where
@@ -194,7 +135,7 @@ module _ (r : RingView) (jobs : List Job) (carry : Carry) (restarts : Restarts) 
         → IsClear (t ∷ (cycles ++ before)) → t.phase ≤ 1 → all_lost (t ∷ cycles) before ≡ all_lost cycles before
     early_lost t cycles before run clear early = none_lost t cycles before
         (λ k low off. early_kept (drive_at r k).busy (view_of r jobs carry restarts k t (cycles ++ before))
-        (views_of r jobs carry restarts k (cycles ++ before)) (is_run (t ∷ (cycles ++ before)) run clear k low) early)
+        (views_of r jobs carry restarts k (cycles ++ before)) (is_run r jobs carry restarts opened (t ∷ (cycles ++ before)) run clear k low) early)
 
     one_lost : (t : CycleView) (cycles before : List CycleView) → IsRun r jobs carry restarts (t ∷ (cycles ++ before))
         → IsClear (t ∷ (cycles ++ before)) → t.phase ≤ 2 → all_lost (t ∷ cycles) before ≤ all_lost cycles before + 1
@@ -203,7 +144,7 @@ module _ (r : RingView) (jobs : List Job) (carry : Carry) (restarts : Restarts) 
       | inr two ↦ (
           let same = lost_next t cycles before in
           let most = sum_one (length r.drives) (λ k. lost_too k t (cycles ++ before)) (kept_lost cycles before)
-          (λ i j i_low j_low i_lost j_lost. some_is i j (sym (in_turn_of two i i_low (too i i_lost))
+          (λ i j i_low j_low i_lost j_lost. same_Some i j (sym (in_turn_of two i i_low (too i i_lost))
           ∙ in_turn_of two j j_low (too j j_lost))) in
           omega (arith, same, most))
     ]
@@ -220,7 +161,7 @@ module _ (r : RingView) (jobs : List Job) (carry : Carry) (restarts : Restarts) 
         in_turn_of two k below lost = opens_in_turn r jobs carry restarts opened t (cycles ++ before) run clear
             (omega (arith, two, low)) k below
             (lost_opens (drive_at r k).busy (view_of r jobs carry restarts k t (cycles ++ before))
-            (views_of r jobs carry restarts k (cycles ++ before)) (is_run (t ∷ (cycles ++ before)) run clear k below) lost)
+            (views_of r jobs carry restarts k (cycles ++ before)) (is_run r jobs carry restarts opened (t ∷ (cycles ++ before)) run clear k below) lost)
 
     -- a disturbed cycle
     disturbed_more : (t : CycleView) (cycles before : List CycleView) → IsRun r jobs carry restarts (t ∷ (cycles ++ before))
@@ -231,11 +172,11 @@ module _ (r : RingView) (jobs : List Job) (carry : Carry) (restarts : Restarts) 
       | inl early ↦ (
           let same = early_lost t cycles before run clear (omega (arith, early)) in
           let (a, b) = early_for t.phase (omega (arith, early)) in
-          let (c, d) = on_so t (cycles ++ before) on in omega (arith, same, a, b, c, d, le))
+          let (c, d) = on_so r jobs carry restarts opened t (cycles ++ before) on in omega (arith, same, a, b, c, d, le))
       | inr later ↦ (
           let most = one_lost t cycles before run clear low in
           let (a, b) = two_for t.phase (omega (arith, later, low)) in
-          let (c, d) = on_so t (cycles ++ before) on in omega (arith, most, a, b, c, d, le))
+          let (c, d) = on_so r jobs carry restarts opened t (cycles ++ before) on in omega (arith, most, a, b, c, d, le))
     ]
 
     none_at_first : (n : ℕ) → sum_below n (λ k. if down k then 0 else 0) ≡ 0
@@ -264,7 +205,7 @@ module _ (r : RingView) (jobs : List Job) (carry : Carry) (restarts : Restarts) 
               | inl on ↦ (let more_is = disturbed_more t [] before run clear low on 0 (omega (arith, none)) in omega (arith, more_is))
               | inr off ↦ (
                   let same = none_lost t [] before (start t run clear held.1 sparse.1 off) in
-                  let (c, d) = off_so t before off in omega (arith, same, none, c, d))
+                  let (c, d) = off_so r jobs carry restarts opened t before off in omega (arith, same, none, c, d))
             ]
         few_lost t (u ∷ cycles) run clear held sparse low = by (calm_or_not r carry restarts t (u ∷ (cycles ++ before)))
             (few_lost u cycles run.0 clear.0 held.0 sparse.0 (omega (arith, u_low, low)))
@@ -279,7 +220,7 @@ module _ (r : RingView) (jobs : List Job) (carry : Carry) (restarts : Restarts) 
             still = sparse.1.goes_on 0 (omega arith)
 
             u_low : u.phase ≤ t.phase
-            u_low = no_lower r jobs carry restarts opened t u (cycles ++ before) run clear was.stays still 0 some_drive
+            u_low = no_lower r jobs carry restarts opened t u (cycles ++ before) run clear was.stays still 0 (some_drive r jobs carry restarts opened)
 
             calm_more : IsUndisturbed r carry restarts t (u ∷ (cycles ++ before))
                 → all_lost (u ∷ cycles) before + spare u (cycles ++ before) ≤ disturbances r carry restarts (u ∷ cycles) before
@@ -291,7 +232,7 @@ module _ (r : RingView) (jobs : List Job) (carry : Carry) (restarts : Restarts) 
                     (those k below off_k))
                     in omega (arith, same, few))
                 | inl disturbed ↦ elim (phase_after r jobs carry restarts opened t u (cycles ++ before) run clear was.stays still 0
-                    some_drive) [
+                    (some_drive r jobs carry restarts opened)) [
                       | inr up ↦ (
                           let same = none_lost t (u ∷ cycles) before (λ k below off_k. is.rested_kept off k (those k below off_k)
                           (rests_then r jobs carry restarts opened among within since t u (cycles ++ before) run clear was sparse.1 k below
@@ -299,7 +240,7 @@ module _ (r : RingView) (jobs : List Job) (carry : Carry) (restarts : Restarts) 
                       | inl equal ↦ (
                           let most = one_lost t (u ∷ cycles) before run clear low in
                           let (a, b) = two_for u.phase (omega (arith, equal, two, low)) in
-                          let (e, f) = on_so u (cycles ++ before) disturbed in omega (arith, most, a, b, e, f, few))
+                          let (e, f) = on_so r jobs carry restarts opened u (cycles ++ before) disturbed in omega (arith, most, a, b, e, f, few))
                     ]
               ]
             ]
@@ -309,7 +250,7 @@ module _ (r : RingView) (jobs : List Job) (carry : Carry) (restarts : Restarts) 
                 → all_lost (t ∷ u ∷ cycles) before + spare t (u ∷ (cycles ++ before)) ≤ disturbances r carry restarts (t ∷ u ∷ cycles) before
             by (inl on) few = disturbed_more t (u ∷ cycles) before run clear low on (disturbances r carry restarts (u ∷ cycles) before)
                 (omega (arith, few))
-            by (inr off) few = let most = calm_more off few in let (c, d) = off_so t (u ∷ (cycles ++ before)) off in omega (arith, most, c, d)
+            by (inr off) few = let most = calm_more off few in let (c, d) = off_so r jobs carry restarts opened t (u ∷ (cycles ++ before)) off in omega (arith, most, c, d)
 
   -- THOSE OF ALL DRIVES
   abbrev none_down : ℕ → Bool
@@ -325,7 +266,7 @@ module _ (r : RingView) (jobs : List Job) (carry : Carry) (restarts : Restarts) 
   first_lost before (inl starts) t run clear is sparse off k below =
       let at_zero = zero_is r jobs carry restarts opened t before run clear starts (sparse.goes_on 0 (omega arith)) in
       early_kept (drive_at r k).busy (view_of r jobs carry restarts k t before) (views_of r jobs carry restarts k before)
-      (is_run (t ∷ before) run clear k below) (omega (arith, at_zero))
+      (is_run r jobs carry restarts opened (t ∷ before) run clear k below) (omega (arith, at_zero))
   first_lost [] (inr none) t run clear is sparse off k below = absurd none
   first_lost (f ∷ before) (inr stood) t run clear is sparse off k below = is.kept off (inr (tt, stood.1)) k below
 

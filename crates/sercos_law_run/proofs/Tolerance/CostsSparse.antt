@@ -1,43 +1,16 @@
 -- What sparse faults cost: the cycles with an open step to a drive, by the cost of its requests and the disturbed cycles.
-use Rattle.std.proofs.Common.{◌≡◌, inl, inr, ℕ, ◌+◌, ◌*◌, ◌<◌, ◌≤◌, Bool, true, false, List, [], ◌∷◌, ◌++◌, length, Option, None, refl, sym, ap, ◌∙◌, subst, arith, if◌then◌else◌}
-use Rattle.std.specs.Prelude.{◌==◌, nat_le, is_some}
-use Rattle.std.proofs.lemmas.Bool.{cases_lt, cond-false, cond-true}
-use Rattle.std.proofs.lemmas.Bool.Decides.{nat_tests}
-use Rattle.sercos_step.specs.declared.request.Job.{Job}
-use Rattle.sercos_step.specs.declared.request.Request.{Request}
-use Rattle.sercos_step.proofs.AnswerCounts.{times_le}
-use Rattle.sercos_block.specs.Stores.{store_of}
-use Rattle.sercos_block.specs.Views.{RingView}
-use Rattle.sercos_trace.specs.Views.{CycleView}
-use Rattle.sercos_trace.specs.declared.events.Fall.{Fall}
-use Rattle.sercos_script.specs.Links.{Carry, Restarts}
-use Rattle.sercos_service_master.specs.Begun.{Begun, answers_in, open_in}
-use Rattle.sercos_law_channel.specs.Handshake.Epochs.{epoch_begun, epoch_log}
-use Rattle.sercos_law_channel.specs.Handshake.Runs.{IsRun as IsViewRun}
-use Rattle.sercos_law_channel.specs.Handshake.Views.{View}
-use Rattle.sercos_law_channel.specs.Pace.Costs.{AreListed, AreTimed, cost_in, cost_of}
-use Rattle.sercos_law_channel.specs.Pace.Stretches.{open_since}
-use Rattle.sercos_law_channel.specs.Pace.Times.{one_more}
-use Rattle.sercos_law_run.specs.Journal.Runs.{drive_at, is_disturbed_in, IsClear, IsDisturbed, IsRun}
-use Rattle.sercos_law_run.specs.Views.RingViews.{view_of, views_of}
-use Rattle.sercos_law_run.specs.Held.Opened.{IsOpened}
+use Rattle.sercos_law_run.proofs.Words.{◌≡◌, inl, inr, ℕ, ◌+◌, ◌*◌, ◌<◌, ◌≤◌, true, false, List, [], ◌∷◌, ◌++◌, length, Option, None, refl, sym, ap, ◌∙◌, subst, arith, if◌then◌else◌, ◌==◌, nat_le, is_some, cases_lt, cond-false, cond-true, nat_tests, Job, Request, times_le, store_of, RingView, CycleView, Fall, Carry, Restarts, Begun, answers_in, open_in, epoch_begun, epoch_log, View, AreListed, AreTimed, cost_in, cost_of, open_since, one_more, drive_at, is_disturbed_in, IsClear, IsDisturbed, IsRun, view_of, views_of, IsOpened, IsUndisturbed, views_since, GoesOn, cycles_for, disturbances, loses_step, lost_since, AreSparse, IsSparse, in_cost, says_shape, stays_in_cost_since, comes_timed}
 use Rattle.sercos_law_run.proofs.Held.Runs.{Stands, small}
 use Rattle.sercos_law_run.proofs.Headline.HeadlineRuns.{all_stand, first_store}
-use Rattle.sercos_law_run.specs.Undisturbed.Undisturbed.{IsUndisturbed}
-use Rattle.sercos_law_run.specs.Undisturbed.ViewsSince.{views_since}
 use Rattle.sercos_law_run.proofs.Undisturbed.Checks.Carried.{are_carried}
 use Rattle.sercos_law_run.proofs.Undisturbed.Checks.CommandRuns.{first_commands}
 use Rattle.sercos_law_run.proofs.Undisturbed.NeverFalls.{runs_split}
 use Rattle.sercos_law_run.proofs.Undisturbed.Checks.PassedCycles.{views_split}
 use Rattle.sercos_law_run.proofs.Undisturbed.Checks.PassedRuns.{commands_so}
 use Rattle.sercos_law_run.proofs.Recovery.LateDown.{phase_after}
-use Rattle.sercos_law_run.specs.Tolerance.Losses.{GoesOn, cycles_for, disturbances, loses_step, lost_since}
-use Rattle.sercos_law_run.specs.Tolerance.Sparse.{AreSparse, IsSparse}
-use Rattle.sercos_law_run.proofs.Tolerance.Borne.{IsBase, IsBorne, borne_on, calm_or_not, rests, zero_is}
-use Rattle.sercos_law_run.proofs.Tolerance.Losses.{early_kept, takes_time_and_losses}
-use Rattle.sercos_law_channel.proofs.Cited.{in_cost, says_shape}
-use Rattle.sercos_law_channel.proofs.Pace.CostRuns.{stays_in_cost_since}
-use Rattle.sercos_law_channel.proofs.Pace.TimedCommands.{comes_timed}
+use Rattle.sercos_law_run.proofs.Recovery.DownSince.{one_at_most}
+use Rattle.sercos_law_run.proofs.Tolerance.Borne.{IsBase, IsBorne, borne_on, calm_or_not, rests, zero_is, is_run}
+use Rattle.sercos_law_run.proofs.Tolerance.Losses.{early_kept, takes_time_and_losses, same_if}
 
 -- What a disturbed cycle costs, and what of it is left for the next.
 abbrev pub spare_for : ℕ → ℕ
@@ -58,23 +31,12 @@ late_for n high =
     let other : (n == 2) ≡ false = grind (arith, nat_tests, high) in
     (cond-false (nat_le n 1) 0 (if n == 2 then 2 else 1) off ∙ cond-false (n == 2) 2 1 other, cond-false (n == 2) 1 0 other)
 
-at_most : (b : Bool) (n : ℕ) → one_more b n ≤ n + 1
-at_most true n = omega arith
-at_most false n = omega arith
-
-none_more : (b : Bool) (n : ℕ) → b ≡ false → one_more b n ≡ n
-none_more b n off = ap (λ (x : Bool). one_more x n) off
-
 module _ (r : RingView) (jobs : List Job) (carry : Carry) (restarts : Restarts) (opened : IsOpened r jobs) where
   abbrev Borne : CycleView → List CycleView → Type 0
   Borne t j = IsBorne r jobs carry restarts opened t j
 
   abbrev Base : List CycleView → Type 0
   Base before = IsBase r jobs carry restarts opened before
-
-  is_run : (j : List CycleView) → IsRun r jobs carry restarts j → IsClear j → (k : ℕ) → k < length r.drives
-      → IsViewRun (drive_at r k).busy (views_of r jobs carry restarts k j)
-  is_run j run clear k below = (all_stand r jobs carry restarts opened j run clear k below).sees.run
 
   abbrev pub spare : CycleView → List CycleView → ℕ
   spare t j = if is_disturbed_in r carry restarts (length j) t.sent then spare_for t.phase else 0
@@ -104,18 +66,18 @@ module _ (r : RingView) (jobs : List Job) (carry : Carry) (restarts : Restarts) 
         → one_more (loses_step (view_of r jobs carry restarts k t j) (views_of r jobs carry restarts k j)) lost + spare t j ≤ dist + costs t j
     disturbed_more t j run clear on lost dist le = elim (cases_lt t.phase 2) [
       | inl early ↦ (
-          let same = none_more (loses_step (view_of r jobs carry restarts k t j) (views_of r jobs carry restarts k j)) lost
+          let same = same_if (loses_step (view_of r jobs carry restarts k t j) (views_of r jobs carry restarts k j)) lost
           (early_kept (drive_at r k).busy (view_of r jobs carry restarts k t j) (views_of r jobs carry restarts k j)
-          (is_run (t ∷ j) run clear k below) (omega (arith, early))) in
+          (is_run r jobs carry restarts opened (t ∷ j) run clear k below) (omega (arith, early))) in
           let (a, b) = early_for t.phase (omega (arith, early)) in
           let (c, d) = on_so t j on in omega (arith, same, a, b, c, d, le))
       | inr later ↦ elim (cases_lt t.phase 3) [
         | inl low ↦ (
-            let most = at_most (loses_step (view_of r jobs carry restarts k t j) (views_of r jobs carry restarts k j)) lost in
+            let most = one_at_most (loses_step (view_of r jobs carry restarts k t j) (views_of r jobs carry restarts k j)) lost in
             let (a, b) = two_for t.phase (omega (arith, later, low)) in
             let (c, d) = on_so t j on in omega (arith, most, a, b, c, d, le))
         | inr high ↦ (
-            let most = at_most (loses_step (view_of r jobs carry restarts k t j) (views_of r jobs carry restarts k j)) lost in
+            let most = one_at_most (loses_step (view_of r jobs carry restarts k t j) (views_of r jobs carry restarts k j)) lost in
             let (a, b) = late_for t.phase (omega (arith, high)) in
             let (c, d) = on_so t j on in omega (arith, most, a, b, c, d, le))
       ]
@@ -125,7 +87,7 @@ module _ (r : RingView) (jobs : List Job) (carry : Carry) (restarts : Restarts) 
         → loses_step (view_of r jobs carry restarts k t j) (views_of r jobs carry restarts k j) ≡ false → (lost dist : ℕ) → lost ≤ dist
         → one_more (loses_step (view_of r jobs carry restarts k t j) (views_of r jobs carry restarts k j)) lost + spare t j ≤ dist + costs t j
     calm_more t j off none lost dist le =
-        let same = none_more (loses_step (view_of r jobs carry restarts k t j) (views_of r jobs carry restarts k j)) lost none in
+        let same = same_if (loses_step (view_of r jobs carry restarts k t j) (views_of r jobs carry restarts k j)) lost none in
         let (c, d) = off_so t j off in omega (arith, same, c, d, le)
 
     pub calm_next : (t u : CycleView) (j : List CycleView) → IsRun r jobs carry restarts (t ∷ u ∷ j) → IsClear (t ∷ u ∷ j) → Borne u j
@@ -135,7 +97,7 @@ module _ (r : RingView) (jobs : List Job) (carry : Carry) (restarts : Restarts) 
         ≤ dist + costs t (u ∷ j)
     calm_next t u j run clear was sparse is off lost dist le = elim (cases_lt t.phase 2) [
       | inl early ↦ calm_more t (u ∷ j) off (early_kept (drive_at r k).busy (view_of r jobs carry restarts k t (u ∷ j))
-          (views_of r jobs carry restarts k (u ∷ j)) (is_run (t ∷ u ∷ j) run clear k below) (omega (arith, early))) lost dist
+          (views_of r jobs carry restarts k (u ∷ j)) (is_run r jobs carry restarts opened (t ∷ u ∷ j) run clear k below) (omega (arith, early))) lost dist
           (omega (arith, le))
       | inr two ↦ elim (calm_or_not r carry restarts u j) [
         | inr calm ↦ calm_more t (u ∷ j) off (is.kept off (inr (tt, calm)) k below) lost dist (omega (arith, le))
@@ -148,7 +110,7 @@ module _ (r : RingView) (jobs : List Job) (carry : Carry) (restarts : Restarts) 
                 dist
                 (omega (arith, le))
             | inl same ↦ (
-                let most = at_most (loses_step (view_of r jobs carry restarts k t (u ∷ j)) (views_of r jobs carry restarts k (u ∷ j))) lost
+                let most = one_at_most (loses_step (view_of r jobs carry restarts k t (u ∷ j)) (views_of r jobs carry restarts k (u ∷ j))) lost
                 in
                 let (a, b) = two_for u.phase (omega (arith, same, two, low)) in
                 let (c, d) = off_so t (u ∷ j) off in
@@ -166,7 +128,7 @@ module _ (r : RingView) (jobs : List Job) (carry : Carry) (restarts : Restarts) 
     lost_first t before run clear (inl starts) sparse off =
         let at_zero = zero_is r jobs carry restarts opened t before run clear starts (sparse.goes_on 0 (omega arith)) in
         calm_more t before off (early_kept (drive_at r k).busy (view_of r jobs carry restarts k t before)
-        (views_of r jobs carry restarts k before) (is_run (t ∷ before) run clear k below) (omega (arith, at_zero))) 0 0 (omega arith)
+        (views_of r jobs carry restarts k before) (is_run r jobs carry restarts opened (t ∷ before) run clear k below) (omega (arith, at_zero))) 0 0 (omega arith)
     lost_first t [] run clear (inr none) sparse off = absurd none
     lost_first t (f ∷ before) run clear (inr stood) sparse off =
         calm_next t f before run clear stood.0 sparse (borne_on r jobs carry restarts opened t [] (f ∷ before) run clear (inr stood)

@@ -1,64 +1,31 @@
 -- How soon the ring falls while faults are sparse, if a drive is in phase 0.
-use Rattle.std.proofs.Common.{◌≡◌, inl, inr, ℕ, zero, suc, ◌+◌, ◌<◌, ◌≤◌, Bool, true, false, List, [], ◌∷◌, ◌++◌, length, Option, Some, refl, sym, ap, ◌∙◌, arith, eq-eqb, if◌then◌else◌, ◌⊎◌, None, length-append}
-use Rattle.std.specs.Prelude.{◌==◌, is_some}
-use Rattle.std.proofs.lemmas.Bool.{cases_eq, cases_lt, cond-false, cond-true, eqb-true, false≢true}
-use Rattle.sercos_step.specs.declared.request.Job.{Job}
-use Rattle.sercos_block.specs.Views.{RingView}
-use Rattle.sercos_service_master.specs.Begun.{Begun, open_in}
-use Rattle.sercos_trace.specs.Views.{CycleView}
-use Rattle.sercos_trace.specs.declared.events.Fall.{Fall}
-use Rattle.sercos_seat.specs.Ring.{known_of}
-use Rattle.sercos_master.specs.Annals.{in_turn, Past, fall_of}
-use Rattle.sercos_script.specs.Links.{Carry, Restarts}
-use Rattle.sercos_law_channel.specs.Handshake.Epochs.{begun_in, epoch_begun}
-use Rattle.sercos_law_channel.specs.Handshake.Views.{standing}
-use Rattle.sercos_law_channel.specs.Pace.Ages.{age_in}
-use Rattle.sercos_law_channel.specs.Pace.Stretches.{open_since}
-use Rattle.sercos_law_run.specs.Bounds.Bounds.{section_cycles, spared_cycles}
-use Rattle.sercos_law_run.specs.Journal.Arrivals.{sum_below}
+use Rattle.sercos_law_run.proofs.Words.{◌≡◌, inl, inr, ℕ, zero, suc, ◌+◌, ◌<◌, ◌≤◌, Bool, true, false, List, [], ◌∷◌, ◌++◌, length, Option, Some, refl, sym, ap, ◌∙◌, arith, if◌then◌else◌, ◌⊎◌, None, length-append, ◌==◌, is_some, cases_eq, cases_lt, cond-false, cond-true, eqb-true, false≢true, false_from_ne_true, same_Some, Job, RingView, Begun, open_in, CycleView, Fall, known_of, in_turn, Past, fall_of, Carry, Restarts, begun_in, epoch_begun, standing, age_in, open_since, section_cycles, spared_cycles, sum_below, drive_at, is_disturbed_in, IsClear, IsRun, looks_back, master_calls, behind_mdt, view_of, views_of, IsOpened, AreInTwo, NoneFalls, StopsForTheCycleTime, StopsForThePlan, StopsForTheCheck, IsUndisturbed, views_since, IsDown, cycles_for, disturbances, loses_step, lost_since, start_cost, start_costs, AreSparse, IsSparse, cycles_open, Stop}
+use Rattle.std.proofs.Common.{eq-eqb}
 use Rattle.sercos_law_run.proofs.Bounds.FallCycles.{least_at}
-use Rattle.sercos_law_run.specs.Journal.Runs.{drive_at, is_disturbed_in, IsClear, IsRun, looks_back, master_calls}
-use Rattle.sercos_law_run.specs.Views.RingViews.{behind_mdt, view_of, views_of}
-use Rattle.sercos_law_run.specs.Held.Opened.{IsOpened}
 use Rattle.sercos_law_run.proofs.Headline.HeadlineRuns.{all_stand}
-use Rattle.sercos_law_run.specs.Undisturbed.Sections.{AreInTwo}
-use Rattle.sercos_law_run.specs.Undisturbed.StartUps.{NoneFalls}
-use Rattle.sercos_law_run.specs.Undisturbed.StopsInTwo.{StopsForTheCycleTime, StopsForThePlan}
-use Rattle.sercos_law_run.specs.Undisturbed.StopsLater.{StopsForTheCheck}
-use Rattle.sercos_law_run.specs.Undisturbed.Undisturbed.{IsUndisturbed}
-use Rattle.sercos_law_run.specs.Undisturbed.ViewsSince.{views_since}
 use Rattle.sercos_law_run.proofs.Undisturbed.JobsBegun.{begun_end}
 use Rattle.sercos_law_run.proofs.Undisturbed.PhaseTwo.{listed_all, sum_within}
-use Rattle.sercos_law_run.proofs.Undisturbed.Sections.{none_idle}
-use Rattle.sercos_law_run.proofs.Undisturbed.Arriving.Small.{some_is}
-use Rattle.sercos_law_run.specs.Recovery.Stretches.{IsDown}
+use Rattle.sercos_law_run.proofs.Undisturbed.Sections.{none_idle, sum_most}
 use Rattle.sercos_law_run.proofs.Recovery.DownSince.{NeverRestarts, never_open, open_at_most}
 use Rattle.sercos_law_run.proofs.Recovery.FallsInTime.{goes_on_in_two, stop_before}
-use Rattle.sercos_law_run.proofs.Recovery.LateDown.{falls_if_down, no_lower, not_true, phase_after}
+use Rattle.sercos_law_run.proofs.Recovery.LateDown.{falls_if_down, no_lower, phase_after}
 use Rattle.sercos_law_run.proofs.Recovery.Limits.{ages_to_limit, open_age}
 use Rattle.sercos_law_run.proofs.Recovery.Stretches.{stays_down_in, ages_down_in}
 use Rattle.sercos_law_run.proofs.Recovery.Turns.{opens_in_turn, works_in_turn}
 use Rattle.sercos_law_run.proofs.Recovery.UpSections.{goes_on_since, section_most}
-use Rattle.sercos_law_run.specs.Tolerance.Losses.{cycles_for, disturbances, loses_step, lost_since}
-use Rattle.sercos_law_run.specs.Tolerance.Rises.{start_cost, start_costs}
-use Rattle.sercos_law_run.specs.Tolerance.Sparse.{AreSparse, IsSparse}
 use Rattle.sercos_law_run.proofs.Tolerance.Borne.{IsHeld, stays_if}
-use Rattle.sercos_law_run.proofs.Tolerance.CostsShared.{AreHeld, few_lost, kept_lost, sum_both, sum_most}
+use Rattle.sercos_law_run.proofs.Tolerance.CostsShared.{AreHeld, few_lost, kept_lost, sum_both}
 use Rattle.sercos_law_run.proofs.Tolerance.CostsSparse.{opens_if, opens_recent_if}
 use Rattle.sercos_law_run.proofs.Tolerance.NotYet.{same_for}
 use Rattle.sercos_law_run.proofs.Tolerance.Settles.{held_all}
 use Rattle.sercos_law_run.proofs.Tolerance.ThreeLasts.{sum_split, without, without_mono}
-use Rattle.sercos_service_master.specs.Calls.{cycles_open}
-use Rattle.sercos_trace.specs.declared.events.Stop.{Stop}
 use Rattle.sercos_law_run.proofs.Undisturbed.NeverFalls.{busy_low}
 use Rattle.sercos_law_run.proofs.Undisturbed.Stops.StopStays.{stop_after, stop_kept}
+use Rattle.sercos_law_run.proofs.Undisturbed.Stops.StopOnce.{same_start}
 use Rattle.sercos_law_run.proofs.Recovery.NoFallLater.{few_open}
 use Rattle.sercos_law_run.proofs.Recovery.SpareStops.{begins_none, nothing_new, open_of_age, some_above}
-use Rattle.sercos_law_run.proofs.Recovery.EpochStops.{same_start}
 use Rattle.sercos_law_run.proofs.Tolerance.Steps.{oldest, young_at_last}
 use Rattle.sercos_law_run.proofs.Views.ViewRuns.{views_count}
-use Rattle.sercos_law_channel.proofs.Pace.CallAges.{stays_a_run}
-use Rattle.sercos_law_run.proofs.Cited.{work_in_turn}
 use Rattle.sercos_law_run.proofs.Undisturbed.Cited.{stops_in_three, stops_in_two}
 
 -- no stop goes with the rise to phase 3
@@ -180,9 +147,9 @@ module _ (r : RingView) (jobs : List Job) (carry : Carry) (restarts : Restarts) 
           let same = ap (λ (l : List Begun). is_some (open_in l))
           (begun_end r jobs carry restarts opened t (cycles ++ f ∷ b) run clear stays.1 k) in
           never_open r jobs carry restarts opened (t ∷ cycles) (f ∷ b) run clear quiet stays goes_on k below is
-          (same ∙ not_true (is_some (open_in (begun_in (view_of r jobs carry restarts k t (cycles ++ f ∷ b))
+          (same ∙ false_from_ne_true (is_some (open_in (begun_in (view_of r jobs carry restarts k t (cycles ++ f ∷ b))
           (views_of r jobs carry restarts k
-          (cycles ++ f ∷ b))))) (λ opens. other (some_is k its.0 (sym (opens_in_turn r jobs carry restarts opened t (cycles ++ f ∷ b) run
+          (cycles ++ f ∷ b))))) (λ opens. other (same_Some k its.0 (sym (opens_in_turn r jobs carry restarts opened t (cycles ++ f ∷ b) run
           clear at_two k below opens) ∙ its.2))))
 
       abbrev kept : ℕ → ℕ
@@ -343,21 +310,6 @@ module _ (r : RingView) (jobs : List Job) (carry : Carry) (restarts : Restarts) 
             (are_two t (w ∷ l) run clear sparse stays.0 (omega (arith, least, low)) t_none) (omega (arith, most, low)) in omega (arith, few)
 
     -- WITH A STOP no request begins, and an open step of a drive in phase 0 gets older with each cycle.
-    down_before : (t : CycleView) (cycles : List CycleView) → IsRun r jobs carry restarts (t ∷ (cycles ++ f ∷ b))
-        → IsClear (t ∷ (cycles ++ f ∷ b)) → AreSparse r carry restarts (t ∷ cycles) (f ∷ b)
-        → NoneFalls r jobs carry restarts (t ∷ cycles) (f ∷ b) → (k : ℕ) → k < length r.drives
-        → IsDown r jobs carry restarts k (t ∷ (cycles ++ f ∷ b)) → IsDown r jobs carry restarts k (f ∷ b)
-    down_before t cycles run clear sparse stays k below is = elim (cases_eq (standing (views_of r jobs carry restarts k (f ∷ b))).ended 0) [
-      | inl was ↦ was
-      | inr up ↦ absurd (
-          let least = late_all t cycles run clear sparse stays.0 in
-          elim ((held_all r jobs carry restarts opened (λ k. IsUpAfter (f ∷ b) k) within (length (f ∷ b)) f b first (t ∷ cycles) run clear
-          sparse stays).near (omega (arith, least)) k (below, up)) [
-            | inl at ↦ (let ended = at.1 in omega (arith, ended, is, least))
-            | inr behind ↦ (let ended = behind.ended in omega (arith, ended, is, least))
-          ])
-    ]
-
     aged_few : (a : ℕ) (cycles : List CycleView) → IsRun r jobs carry restarts (cycles ++ f ∷ b) → IsClear (cycles ++ f ∷ b)
         → AreSparse r carry restarts cycles (f ∷ b) → NoneFalls r jobs carry restarts cycles (f ∷ b) → (k : ℕ) → k < length r.drives
         → IsDown r jobs carry restarts k (f ∷ b)

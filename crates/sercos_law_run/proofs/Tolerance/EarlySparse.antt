@@ -1,32 +1,16 @@
 -- How long phases 0 and 1 last while disturbed cycles are sparse.
-use Rattle.std.proofs.Common.{◌≡◌, ◌⊎◌, inl, inr, ℕ, zero, suc, ◌+◌, ◌<◌, ◌≤◌, Bool, true, false, not, ◌&&◌, ◌||◌, List, [], ◌∷◌, ◌++◌, length, Option, Some, None, refl, sym, ap, ◌∙◌, arith, if◌then◌else◌}
-use Rattle.std.specs.Prelude.{◌==◌, is_none}
-use Rattle.std.proofs.lemmas.Bool.{cases_eq, false≢true}
-use Rattle.sercos_step.specs.declared.request.Job.{Job}
-use Rattle.sercos_block.specs.Views.{RingView}
-use Rattle.sercos_trace.specs.Views.{CycleView}
-use Rattle.sercos_seat.specs.Ring.{known_of}
-use Rattle.sercos_master.specs.Annals.{Past, Turn, all_identified, first_from, first_place, has_identified, is_done, is_done_in, is_identified, whole_row}
-use Rattle.sercos_script.specs.Links.{Carry, Restarts}
-use Rattle.sercos_law_run.specs.Journal.Runs.{is_disturbed_in, looks_back, master_calls, IsClear, IsDisturbed, IsRun}
-use Rattle.sercos_law_run.specs.Views.RingViews.{at_start, behind_ats, behind_mdt, behind_mst}
+use Rattle.sercos_law_run.proofs.Words.{◌≡◌, ◌⊎◌, inl, inr, ℕ, zero, suc, ◌+◌, ◌<◌, ◌≤◌, Bool, true, false, not, ◌&&◌, ◌||◌, List, [], ◌∷◌, ◌++◌, length, Option, Some, None, refl, sym, ap, ◌∙◌, arith, if◌then◌else◌, ◌==◌, is_none, cases_eq, false≢true, not-true, Job, RingView, CycleView, known_of, Past, Turn, all_identified, first_place, has_identified, is_done, is_done_in, is_identified, whole_row, first_found, Carry, Restarts, is_disturbed_in, looks_back, master_calls, IsClear, IsDisturbed, IsRun, at_start, behind_ats, behind_mdt, behind_mst, IsOpened, came_back, IsUndisturbed, early_cost, early_costs, AreSparse}
 use Rattle.sercos_law_run.proofs.Views.MasterSame.{begun_cycle, turn_mdt}
 use Rattle.sercos_law_run.proofs.Views.Members.{members_count}
 use Rattle.sercos_law_run.proofs.Views.ViewRuns.{started}
-use Rattle.sercos_law_run.specs.Held.Opened.{IsOpened}
-use Rattle.sercos_law_run.specs.Undisturbed.EpochStarts.{came_back}
-use Rattle.sercos_law_run.specs.Undisturbed.Undisturbed.{IsUndisturbed}
 use Rattle.sercos_law_run.proofs.Undisturbed.ChannelsKept.{ats_leave}
 use Rattle.sercos_law_run.proofs.Undisturbed.Identified.{heard_next}
 use Rattle.sercos_law_run.proofs.Undisturbed.NoFalls.{heard_mdt}
 use Rattle.sercos_law_run.proofs.Undisturbed.PhaseCounts.{end_kept}
 use Rattle.sercos_law_run.proofs.Undisturbed.PhasesRise.{phase_after}
-use Rattle.sercos_law_run.proofs.Undisturbed.PhaseZero.{few_back}
+use Rattle.sercos_law_run.proofs.Undisturbed.PhaseZero.{few_back, stays_zero}
 use Rattle.sercos_law_run.proofs.Undisturbed.StaysUp.{addressed_first, found_passes, phase_now, stands_so, turns_now}
-use Rattle.sercos_law_run.specs.Tolerance.Early.{early_cost, early_costs}
-use Rattle.sercos_law_run.specs.Tolerance.Sparse.{AreSparse}
 use Rattle.sercos_law_run.proofs.Tolerance.Borne.{IsBase, IsBorne, borne_on, calm_or_not}
-use Rattle.sercos_law_channel.proofs.Pace.CallAges.{stays_a_run}
 
 -- COUNTS of places that pass a test
 abbrev pub one_if : Bool → ℕ
@@ -60,23 +44,9 @@ pub count_all : (n : ℕ) → count n (λ k. true) ≡ n
 count_all zero = refl
 count_all (suc n) = let rest = count_all n in omega (arith, rest)
 
--- the first place that passes, if one does
-found_low : (k n i : ℕ) (test : ℕ → Bool) → first_from k n test ≡ Some i → i < k + n
-found_low k zero i test found = cc
-found_low k (suc n) i test found = by (test k) found (λ rest. found_low (k + 1) n i test rest)
-  where
-    by : (b : Bool) → (if b then Some k else first_from (k + 1) n test) ≡ Some i → (first_from (k + 1) n test ≡ Some i → i < k + 1 + n)
-        → i < k + suc n
-    by true is next = let same : k ≡ i = cc in omega (arith, same)
-    by false is next = let low = next is in omega (arith, low)
-
 some_first : (o : Option ℕ) → is_none o ≡ false → (k : ℕ) × (o ≡ Some k)
 some_first None off = absurd (false≢true (sym off))
 some_first (Some k) off = (k, refl)
-
-unknown_off : (b : Bool) → not b ≡ true → b ≡ false
-unknown_off true on = absurd (false≢true on)
-unknown_off false on = refl
 
 -- what tests of a phase choose
 abbrev pub cost_by : ℕ → Bool → Bool → ℕ
@@ -103,10 +73,6 @@ row_next : (whole : Bool) (len row costs : ℕ) → len ≤ row + costs → row 
     → suc len ≤ (if whole then row + 1 else 0) + (costs + (if whole then 0 else 10))
 row_next true len row costs le few = omega (arith, le)
 row_next false len row costs le few = omega (arith, le, few)
-
-pub zero_phase : (done : Bool) (n : ℕ) → (if done then n + 1 else n) ≡ 0 → n ≡ 0
-zero_phase true n is = absurd (omega (arith, is))
-zero_phase false n is = is
 
 pub one_phase : (done : Bool) (n : ℕ) → (if done then n + 1 else n) ≡ 1 → ((done ≡ true) × (n ≡ 0)) ⊎ ((done ≡ false) × (n ≡ 1))
 one_phase true n is = inl (refl, omega (arith, is))
@@ -183,7 +149,7 @@ module _ (r : RingView) (jobs : List Job) (carry : Carry) (restarts : Restarts) 
       is = borne_on r jobs carry restarts opened t cycles before run clear starts sparse
 
       t_zero : t.phase ≡ 0
-      t_zero = zero_phase (is_done (known_of r) (now t (cycles ++ before))) t.phase (sym (phase_next t (cycles ++ before) run is) ∙ at_zero)
+      t_zero = (stays_zero (is_done (known_of r) (now t (cycles ++ before))) t.phase (sym (phase_next t (cycles ++ before) run is) ∙ at_zero)).1
 
       by : length cycles ≤ came_back r jobs carry restarts (cycles ++ before) + early_costs r jobs carry restarts cycles before
           → suc (length cycles) ≤ came_back r jobs carry restarts (t ∷ (cycles ++ before)) + early_costs r jobs carry restarts (t ∷ cycles)
@@ -218,7 +184,7 @@ module _ (r : RingView) (jobs : List Job) (carry : Carry) (restarts : Restarts) 
       first = some_first (first_place (known_of r) (λ k. not (is_identified (now u j) k))) not_all
 
       low : first.0 < length (known_of r).drives
-      low = let less = found_low 0 (length (known_of r).drives) first.0 (λ k. not (is_identified (now u j) k)) first.1 in
+      low = let less = (first_found 0 (length (known_of r).drives) first.0 (λ k. not (is_identified (now u j) k)) first.1).below in
           omega (arith, less)
 
       inside : first.0 < length r.drives
@@ -231,7 +197,7 @@ module _ (r : RingView) (jobs : List Job) (carry : Carry) (restarts : Restarts) 
       same_turns = turns_after u j run.0 was ∙ ap (λ (l : List Turn). (now u j).now ∷ l) (sym (turns_before u j run.0 was))
 
       off : has_identified first.0 (back (u ∷ j)).turns ≡ false
-      off = ap (has_identified first.0) same_turns ∙ unknown_off (is_identified (now u j) first.0)
+      off = ap (has_identified first.0) same_turns ∙ not-true (is_identified (now u j) first.0)
           (found_passes 0 (length (known_of r).drives) first.0 (λ k. not (is_identified (now u j) k)) first.1)
 
       hears : (now t (u ∷ j)).now.heard first.0 ≡ true
@@ -341,12 +307,12 @@ module _ (r : RingView) (jobs : List Job) (carry : Carry) (restarts : Restarts) 
           (sym (ap (λ (n : ℕ). is_done_in n (known_of r) (now t j)) t_phase) ∙ unfinished)
 
       low : first.0 < length (known_of r).drives
-      low = let less = found_low 0 (length (known_of r).drives) first.0 (λ k. not (is_identified (now t j) k)) first.1 in
+      low = let less = (first_found 0 (length (known_of r).drives) first.0 (λ k. not (is_identified (now t j) k)) first.1).below in
           omega (arith, less)
 
       off : has_identified first.0 (back (t ∷ j)).turns ≡ false
       off = ap (has_identified first.0) (turns_after t j run is ∙ ap (λ (l : List Turn). (now t j).now ∷ l) (sym (turns_before t j run is)))
-          ∙ unknown_off (is_identified (now t j) first.0) (found_passes 0 (length (known_of r).drives) first.0
+          ∙ not-true (is_identified (now t j) first.0) (found_passes 0 (length (known_of r).drives) first.0
           (λ k. not (is_identified (now t j) k)) first.1)
 
   -- BOTH PHASES

@@ -1,35 +1,10 @@
 -- How a start-up ends while disturbed cycles are sparse.
-use Rattle.std.proofs.Common.{◌≡◌, ◌⊎◌, inl, inr, ℕ, suc, ◌+◌, ◌*◌, ◌<◌, ◌≤◌, false, List, [], ◌∷◌, ◌++◌, length, Option, None, Some, refl, sym, ap, ◌∙◌, subst, arith}
-use Rattle.std.specs.List.{sum_by}
-use Rattle.std.proofs.lemmas.Bool.{cases_eq, cases_lt}
-use Rattle.sercos_step.specs.declared.request.Job.{Job}
-use Rattle.sercos_step.specs.declared.request.Request.{Request}
-use Rattle.sercos_block.specs.Startup.{startup_bound}
-use Rattle.sercos_block.specs.Stores.{store_of}
-use Rattle.sercos_block.specs.Views.{RingView}
-use Rattle.sercos_service_master.specs.Begun.{Begun}
-use Rattle.sercos_timing.specs.Views.{PlanView}
-use Rattle.sercos_trace.specs.Views.{CycleView}
-use Rattle.sercos_trace.specs.declared.events.Stop.{Stop}
-use Rattle.sercos_seat.specs.Agenda.{is_ready, reads_count}
-use Rattle.sercos_seat.specs.Channel.{outcomes_in}
-use Rattle.sercos_seat.specs.Ring.{known_of, member, tasks_for}
-use Rattle.sercos_script.specs.Links.{Carry, Restarts}
-use Rattle.sercos_law_channel.specs.Handshake.Epochs.{epoch_begun}
-use Rattle.sercos_law_channel.specs.Pace.Costs.{cost_in, cost_of}
-use Rattle.sercos_law_run.specs.Bounds.Bounds.{command_cycles, slowest}
-use Rattle.sercos_law_run.specs.Journal.Runs.{drive_at, looks_back, master_calls, IsClear, IsRun}
+use Rattle.sercos_law_run.proofs.Words.{◌≡◌, ◌⊎◌, inl, inr, ℕ, suc, ◌+◌, ◌*◌, ◌<◌, ◌≤◌, false, List, [], ◌∷◌, ◌++◌, length, Option, None, Some, refl, sym, ap, ◌∙◌, subst, arith, sum_by, cases_eq, cases_lt, none-some, Job, Request, startup_bound, store_of, RingView, Begun, PlanView, CycleView, Stop, is_ready, reads_count, outcomes_in, known_of, member, tasks_for, Carry, Restarts, epoch_begun, cost_in, cost_of, command_cycles, slowest, drive_at, looks_back, master_calls, IsClear, IsRun, behind_mdt, views_of, IsOpened, StartsEpoch, AreAt, jobs_of, IsRight, HasTold, StopsForCause, early_costs, IsUpOrStopped, disturbances, start_costs, AreSparse, list_read_costs, reads_cost, writes_cost}
 use Rattle.sercos_law_run.proofs.Start.CheckPasses.{KeepsRules, ring_drive}
-use Rattle.sercos_law_run.specs.Views.RingViews.{behind_mdt, views_of}
 use Rattle.sercos_law_run.proofs.Views.Members.{member_is}
-use Rattle.sercos_law_run.specs.Held.Opened.{IsOpened}
 use Rattle.sercos_law_run.proofs.Held.Runs.{drive_got}
 use Rattle.sercos_law_run.proofs.Headline.HeadlineRuns.{first_store}
 use Rattle.sercos_law_run.proofs.Typed.Mdts.{phase_low}
-use Rattle.sercos_law_run.specs.Undisturbed.EpochStarts.{StartsEpoch}
-use Rattle.sercos_law_run.specs.Undisturbed.Jobs.{AreAt, jobs_of}
-use Rattle.sercos_law_run.specs.Undisturbed.StopsLater.{IsRight}
-use Rattle.sercos_law_run.specs.Undisturbed.WholeRuns.{HasTold, StopsForCause}
 use Rattle.sercos_law_run.proofs.Undisturbed.InTime.{steps_fit, within_bound}
 use Rattle.sercos_law_run.proofs.Undisturbed.JobsBegun.{places_now}
 use Rattle.sercos_law_run.proofs.Undisturbed.JobsCost.{list_fits, two_fits}
@@ -37,23 +12,16 @@ use Rattle.sercos_law_run.proofs.Undisturbed.NeverFalls.{busy_low}
 use Rattle.sercos_law_run.proofs.Undisturbed.PhaseTwo.{section_two, sum_within}
 use Rattle.sercos_law_run.proofs.Undisturbed.PhaseZero.{in_zero}
 use Rattle.sercos_law_run.proofs.Undisturbed.Checks.ShortLists.{few_blocks, longest_list, lists_short}
-use Rattle.sercos_law_run.proofs.Undisturbed.Arriving.Small.{none_some}
 use Rattle.sercos_law_run.proofs.Undisturbed.Stops.StopStays.{stop_after}
 use Rattle.sercos_law_run.proofs.Undisturbed.Stops.StopsTold.{stop_at}
 use Rattle.sercos_law_run.proofs.Undisturbed.WholeRuns.{caused}
 use Rattle.sercos_law_run.proofs.Recovery.LateDown.{phase_now}
-use Rattle.sercos_law_run.specs.Tolerance.Early.{early_costs}
-use Rattle.sercos_law_run.specs.Tolerance.Ends.{IsUpOrStopped}
-use Rattle.sercos_law_run.specs.Tolerance.Losses.{disturbances}
-use Rattle.sercos_law_run.specs.Tolerance.Rises.{start_costs}
-use Rattle.sercos_law_run.specs.Tolerance.Sparse.{AreSparse}
 use Rattle.sercos_law_run.proofs.Tolerance.Borne.{IsBase, IsBorne, borne_on}
 use Rattle.sercos_law_run.proofs.Tolerance.CostsSparse.{opens_so}
 use Rattle.sercos_law_run.proofs.Tolerance.EarlySparse.{early_sparse, phase_is}
 use Rattle.sercos_law_run.proofs.Tolerance.NotYet.{AtRise, InEarly, InThree, InTwo, IsEpoch, IsUnready, NotYet, epoch_before, not_yet, same_costs}
 use Rattle.sercos_law_run.proofs.Tolerance.ThreeLasts.{planned, sum_split, three_counts}
 use Rattle.sercos_law_run.proofs.Tolerance.TwoLasts.{two_sparse}
-use Rattle.sercos_law_channel.proofs.Pace.JobCosts.{list_read_costs, reads_cost, writes_cost}
 use Rattle.sercos_law_run.proofs.Bounds.BoundSums.{is_below_greatest}
 use Rattle.sercos_law_run.proofs.Undisturbed.Cited.{fits_in_three, never_stops_in_four, own_fits_in_four, stops_in_three, stops_in_two}
 
@@ -90,18 +58,13 @@ module _ (r : RingView) (jobs : List Job) (carry : Carry) (restarts : Restarts) 
   abbrev Epoch : List CycleView → List CycleView → Type 0
   Epoch cycles before = IsEpoch r jobs carry restarts opened cycles before
 
-  borne : (t : CycleView) (cycles before : List CycleView) → IsRun r jobs carry restarts (t ∷ (cycles ++ before))
-      → IsClear (t ∷ (cycles ++ before)) → Base before → AreSparse r carry restarts (t ∷ cycles) before
-      → Borne t (cycles ++ before)
-  borne t cycles before run clear starts sparse = borne_on r jobs carry restarts opened t cycles before run clear starts sparse
-
   -- A STOP of an epoch was told in it.
   told_since : (cycles before : List CycleView) (x : Stop) → StartsEpoch r jobs carry restarts before → Epoch cycles before
       → (looks_back r jobs (master_calls r carry restarts (cycles ++ before))).stop ≡ Some x → HasTold x cycles
-  told_since [] before x starts e is = absurd (none_some x (sym (in_zero r jobs carry restarts before starts).stop ∙ is))
+  told_since [] before x starts e is = absurd (none-some x (sym (in_zero r jobs carry restarts before starts).stop ∙ is))
   told_since (t ∷ cycles) before x starts e is = stop_at r jobs carry restarts t (cycles ++ before) x (HasTold x cycles) e.run.1
       (λ had. told_since cycles before x starts (record { run = e.run.0; clear = e.clear.0; sparse = e.sparse.0 }) had)
-      (sym (stop_after r jobs carry restarts t (cycles ++ before) (borne t cycles before e.run e.clear (inl starts) e.sparse).stays) ∙ is)
+      (sym (stop_after r jobs carry restarts t (cycles ++ before) (borne_on r jobs carry restarts opened t cycles before e.run e.clear (inl starts) e.sparse).stays) ∙ is)
 
   -- WHAT THE REQUESTS of phases 2 and 3 to a drive cost, its list included
   pub all_fit : (t : CycleView) (j : List CycleView) → IsRun r jobs carry restarts (t ∷ j) → IsClear (t ∷ j) → Borne t j → t.phase ≡ 3
@@ -164,7 +127,7 @@ module _ (r : RingView) (jobs : List Job) (carry : Carry) (restarts : Restarts) 
       e.clear starts e.sparse k longest_list below (lists_short r jobs carry restarts k
       (ring_drive r k (drive_at r k) opened.valid (drive_got r k below)).blocks (few_blocks r k opened.valid below)
       (first_store r jobs carry restarts opened k below).ascending (t ∷ (cycles ++ before))) in
-      let cost = all_fit t (cycles ++ before) e.run e.clear (borne t cycles before e.run e.clear starts e.sparse) t_three k below in
+      let cost = all_fit t (cycles ++ before) e.run e.clear (borne_on r jobs carry restarts opened t cycles before e.run e.clear starts e.sparse) t_three k below in
       let split = sum_split (length r.drives) k (λ j. section_two (drive_at r j)) below in
       let sums = sum_within (λ j. section_two (drive_at r j)) section_two r.drives (λ j low. omega arith) in
       omega (arith, counted, opens, cost, split, sums)
@@ -182,7 +145,7 @@ module _ (r : RingView) (jobs : List Job) (carry : Carry) (restarts : Restarts) 
       high =
           let low = phase_low (known_of r) (tasks_for (known_of r) jobs) (master_calls r carry restarts (cycles ++ before)) in
           let same = phase_is r jobs carry restarts opened t (cycles ++ before) run
-          (borne t cycles before run clear starts sparse) in omega (arith, low, same)
+          (borne_on r jobs carry restarts opened t cycles before run clear starts sparse) in omega (arith, low, same)
 
       up : t.phase ≡ 4 → ((t.phase ≡ 4) × IsRight r)
           ⊎ ((x : Stop) × ((behind_mdt r jobs carry restarts t.sent (cycles ++ before)).stop ≡ Some x) × StopsForCause r x)
@@ -205,7 +168,7 @@ module _ (r : RingView) (jobs : List Job) (carry : Carry) (restarts : Restarts) 
           ]
           | inr other ↦ elim (cases_eq t.phase 3) [
             | inl is_three ↦ inr (inr (stops_in_three r jobs carry restarts t (cycles ++ before) x opened run clear is_three is))
-            | inr more_than ↦ absurd (none_some x (sym (never_stops_in_four r jobs carry restarts t (cycles ++ before) opened run clear
+            | inr more_than ↦ absurd (none-some x (sym (never_stops_in_four r jobs carry restarts t (cycles ++ before) opened run clear
                 (let most = high in omega (arith, later, other, more_than, most))) ∙ is))
           ]
         ]
@@ -230,7 +193,7 @@ module _ (r : RingView) (jobs : List Job) (carry : Carry) (restarts : Restarts) 
   since_told t cycles before run clear starts sparse (inr stop) = inr (
     stop.0,
     told_since (t ∷ cycles) before stop.0 starts (record { run = run; clear = clear; sparse = sparse })
-        (stop_after r jobs carry restarts t (cycles ++ before) (borne t cycles before run clear (inl starts) sparse).stays ∙ stop.1),
+        (stop_after r jobs carry restarts t (cycles ++ before) (borne_on r jobs carry restarts opened t cycles before run clear (inl starts) sparse).stays ∙ stop.1),
     stop.2,
   )
 

@@ -1,32 +1,10 @@
 -- No phase from 1 to 3 is left in its first cycle.
-use Rattle.std.proofs.Common.{◌≡◌, inl, inr, ℕ, suc, ◌+◌, ◌<◌, ◌≤◌, Bool, true, false, ◌&&◌, ◌||◌, List, [], ◌∷◌, length, Option, Some, None, refl, sym, ap, ◌∙◌, subst, arith, length-append, if◌then◌else◌}
-use Rattle.std.specs.Prelude.{◌==◌, option_map, slice_get, unwrap_or}
-use Rattle.std.proofs.lemmas.Bool.{and_parts, cases_eq, false≢true}
-use Rattle.std.proofs.lemmas.Option.{slice_get_within}
-use Rattle.sercos_step.specs.declared.request.Job.{Job}
-use Rattle.sercos_step.specs.declared.request.Outcome.{Outcome}
-use Rattle.sercos_step.specs.declared.request.Request.{Request}
-use Rattle.sercos_step.specs.Steps.{outcome_of}
-use Rattle.sercos_block.specs.Views.{RingView}
-use Rattle.sercos_service_master.specs.Begun.{Begun, answer_in, answers_it, with_answer}
-use Rattle.sercos_trace.specs.Views.{CycleView}
-use Rattle.sercos_seat.specs.Agenda.{bytes_of, ended_well, given, is_checked, is_ready, reads_count}
-use Rattle.sercos_seat.specs.Channel.{outcomes_in, with_outcome}
-use Rattle.sercos_seat.specs.Ring.{known_of, member}
-use Rattle.sercos_master.specs.Annals.{Past, addressed_before, fall_of, has_identified, is_awaited, is_done, is_done_in, is_identified, outcomes}
-use Rattle.sercos_master.proofs.Configured.{each_passes}
-use Rattle.sercos_script.specs.Links.{Carry, Restarts}
-use Rattle.sercos_law_channel.specs.Handshake.Epochs.{begun_in, epoch_begun, unless_restart, with_begun, with_heard}
-use Rattle.sercos_law_channel.specs.Handshake.Views.{Heard, View}
-use Rattle.sercos_law_run.specs.Journal.Records.{ats_in, mst_in}
-use Rattle.sercos_law_run.specs.Journal.Runs.{begins, drive_at, looks_back, master_calls, own_mst, IsClear, IsRun}
-use Rattle.sercos_law_run.specs.Views.RingViews.{at_start, behind_ats, behind_mdt, behind_mst, view_of, views_of}
+use Rattle.sercos_law_run.proofs.Words.{◌≡◌, inl, inr, ℕ, ◌+◌, ◌<◌, ◌≤◌, Bool, true, false, ◌&&◌, ◌||◌, List, [], ◌∷◌, length, Option, Some, None, refl, sym, ap, ◌∙◌, subst, arith, if◌then◌else◌, ◌==◌, and_parts, cases_eq, false≢true, Job, RingView, Begun, answer_in, answers_it, with_answer, CycleView, is_checked, is_ready, reads_count, outcomes_in, known_of, member, ended_there, Past, addressed_before, fall_of, has_identified, is_awaited, is_done, is_done_in, is_identified, outcomes, each_passes, not_longer, Carry, Restarts, begun_in, epoch_begun, unless_restart, with_heard, Heard, View, ats_in, mst_in, begins, drive_at, looks_back, master_calls, own_mst, IsClear, IsRun, at_start, behind_ats, behind_mdt, behind_mst, view_of, views_of, IsOpened, StartsEpoch, begins_empty}
 use Rattle.sercos_law_run.proofs.Views.MasterSame.{ats_none, begun_cycle, done_below}
 use Rattle.sercos_law_run.proofs.Views.Members.{members_count}
 use Rattle.sercos_law_run.proofs.Views.ViewRuns.{started}
-use Rattle.sercos_law_run.specs.Held.Opened.{IsOpened}
 use Rattle.sercos_law_run.proofs.Headline.HeadlineRuns.{all_stand}
-use Rattle.sercos_law_run.specs.Undisturbed.EpochStarts.{StartsEpoch}
+use Rattle.sercos_law_run.proofs.Held.Extended.{begun_same}
 use Rattle.sercos_law_run.proofs.Undisturbed.Arriving.AtsTaken.{unheard_ats}
 use Rattle.sercos_law_run.proofs.Undisturbed.JobsBegun.{begun_end, begun_then, few_now}
 use Rattle.sercos_law_run.proofs.Undisturbed.NoFalls.{heard_mdt}
@@ -36,28 +14,8 @@ use Rattle.sercos_law_run.proofs.Undisturbed.PhaseZero.{in_zero, none_addressed}
 use Rattle.sercos_law_run.proofs.Undisturbed.StaysUp.{begun_none}
 use Rattle.sercos_law_run.proofs.Undisturbed.StaysUp as undisturbed
 use Rattle.sercos_law_run.proofs.Recovery.LateDown.{phase_now, turns_now}
-use Rattle.sercos_law_channel.proofs.Cited.{begins_empty}
 
 -- OUTCOMES: one that ended well is there, and there are no more than requests begun before the cycle.
-pub well_within : (outs : List Outcome) (i : ℕ) → ended_well (given outs i) ≡ true → i < length outs
-well_within outs i well = by (slice_get outs i) refl well
-  where
-    by : (o : Option Outcome) → slice_get outs i ≡ o → ended_well (unwrap_or (option_map bytes_of o) []) ≡ true → i < length outs
-    by None is none = absurd (false≢true none)
-    by (Some x) is some = slice_get_within outs i x is
-
-few_outcomes : (begun : List Begun) → length (outcomes_in begun) ≤ length begun
-few_outcomes [] = omega arith
-few_outcomes (b ∷ begun) = by (outcome_of b.request b.answers) (few_outcomes begun)
-  where
-    by : (o : Option Outcome) → length (outcomes_in begun) ≤ length begun → length (with_outcome o (outcomes_in begun)) ≤ suc (length begun)
-    by None few = omega (arith, few)
-    by (Some x) few = let long = length-append (outcomes_in begun) (x ∷ []) in omega (arith, few, long)
-
-pub begun_outcomes : (o : Option Request) (begun : List Begun) → outcomes_in (with_begun o begun) ≡ outcomes_in begun
-begun_outcomes None begun = refl
-begun_outcomes (Some q) begun = refl
-
 as_many : (b : Bool) (a : Heard) (begun : List Begun) → length (if b then with_answer (answer_in a.status a.word) begun else begun) ≡ length
     begun
 as_many true a [] = refl
@@ -74,8 +32,8 @@ no_more false begun = omega arith
 
 few_in : (v : View) (past : List View) → length (outcomes_in (begun_in v past)) ≤ length (epoch_begun past)
 few_in v past =
-    let begun = ap length (begun_outcomes v.begins (with_heard v.heard (unless_restart v (epoch_begun past)))) in
-    let few = few_outcomes (with_heard v.heard (unless_restart v (epoch_begun past))) in
+    let begun = ap length (begun_same v.begins (with_heard v.heard (unless_restart v (epoch_begun past)))) in
+    let few = not_longer (with_heard v.heard (unless_restart v (epoch_begun past))) in
     let same = heard_count v.heard (unless_restart v (epoch_begun past)) in
     let most = no_more v.master_restarts (epoch_begun past) in omega (arith, begun, few, same, most)
 
@@ -117,7 +75,7 @@ module _ (r : RingView) (jobs : List Job) (carry : Carry) (restarts : Restarts) 
     not_two two =
         let checked : is_checked (member (known_of r) k) (outcomes now k) ≡ true = each_passes (length (known_of r).drives) 0
         (λ i. is_checked (member (known_of r) i) (outcomes now i)) (done_in 2 two) k (omega arith) (omega (arith, inside)) in
-        let within = well_within (outcomes now k) (reads_count (member (known_of r) k) + 11) checked in
+        let within = ended_there (outcomes now k) (reads_count (member (known_of r) k) + 11) checked in
         let nothing : epoch_begun (views_of r jobs carry restarts k (w ∷ j)) ≡ [] = begun_end r jobs carry restarts opened w j run.0 clear.0
         none k
         ∙ begun_none (drive_at r k).busy (begins_empty (drive_at r k).busy) (view_of r jobs carry restarts k w j)
@@ -130,7 +88,7 @@ module _ (r : RingView) (jobs : List Job) (carry : Carry) (restarts : Restarts) 
     not_three three =
         let ready : is_ready (member (known_of r) k) (outcomes now k) ≡ true = each_passes (length (known_of r).drives) 0
         (λ i. is_ready (member (known_of r) i) (outcomes now i)) (done_in 3 three) k (omega arith) (omega (arith, inside)) in
-        let within = well_within (outcomes now k) (reads_count (member (known_of r) k) + 12) (and_parts _ _ ready).1 in
+        let within = ended_there (outcomes now k) (reads_count (member (known_of r) k) + 12) (and_parts _ _ ready).1 in
         let same = phase_now r jobs carry restarts w j run.0.1 in
         let begun = few_now r jobs carry restarts opened w j run.0 clear.0 none k below (omega (arith, same, first, three)) in
         let most = few in omega (arith, within, most, begun)

@@ -1,28 +1,13 @@
 -- How long steps in a row take on a channel, if no two cycles in a row lose a record or an answer.
-use Rattle.std.proofs.Common.{◌≡◌, ◌⊎◌, inl, inr, ℕ, suc, ◌+◌, ◌*◌, ◌<◌, ◌≤◌, Bool, true, false, if◌then◌else◌, List, [], ◌∷◌, ◌++◌, length, Option, None, sym, ap, ◌∙◌, subst, arith}
-use Rattle.std.specs.Prelude.{◌==◌, is_some}
-use Rattle.std.proofs.lemmas.Bool.{cases_lt, false≢true}
-use Rattle.sercos_step.specs.declared.request.Request.{Request}
-use Rattle.sercos_step.specs.declared.step.Step.{Step}
-use Rattle.sercos_step.proofs.AnswerCounts.{times_le}
-use Rattle.sercos_block.specs.Stores.{IsStore}
-use Rattle.sercos_block.specs.declared.block.Block.{Block}
-use Rattle.sercos_service_drive.specs.Log.{Entry}
-use Rattle.sercos_service_master.specs.Begun.{Begun, answers_in, open_in, steps_in}
-use Rattle.sercos_law_channel.specs.Handshake.Epochs.{begun_in, epoch_begun, epoch_log, epoch_records, unless_restart}
-use Rattle.sercos_law_channel.specs.Handshake.InStep.{AreInStep, Idle, Kept, Sent}
+use Rattle.sercos_law_run.proofs.Words.{◌≡◌, ◌⊎◌, inl, inr, ℕ, suc, ◌+◌, ◌*◌, ◌<◌, ◌≤◌, true, false, List, [], ◌∷◌, ◌++◌, length, Option, None, sym, ap, ◌∙◌, subst, arith, is_some, cases_lt, Request, Step, times_le, IsStore, Block, Entry, Begun, answers_in, open_in, steps_in, begun_in, epoch_begun, epoch_log, epoch_records, AreInStep, Idle, Kept, View, AreSmall, AreSound, AreListed, AreTimed, cost_of, in_step, length-replies_of, length-steps_of, stays_in_cost_since, head_before, taken_before, says_shape}
+use Rattle.sercos_law_channel.specs.Handshake.InStep.{Sent}
 use Rattle.sercos_law_channel.specs.Handshake.Runs.{IsRun}
-use Rattle.sercos_law_channel.specs.Handshake.Views.{View}
-use Rattle.sercos_law_channel.specs.Handshake.WholeRun.{AreSmall, AreSound}
-use Rattle.sercos_law_channel.specs.Pace.Ages.{age_by, age_in}
-use Rattle.sercos_law_channel.specs.Pace.Costs.{AreListed, AreTimed, cost_of}
-use Rattle.sercos_law_channel.proofs.Theorems.{in_step, length-replies_of, length-steps_of}
-use Rattle.sercos_law_channel.proofs.Pace.CostRuns.{stays_in_cost_since}
-use Rattle.sercos_law_channel.proofs.Pace.LateRuns.{head_before, taken_before}
-use Rattle.sercos_law_run.proofs.Undisturbed.OneRequest.{room, steps_few, times_sum}
+use Rattle.sercos_law_run.proofs.Undisturbed.OneRequest.{room, steps_few}
 use Rattle.sercos_law_run.proofs.Undisturbed.ToldInTime.{beyond}
+use Rattle.sercos_law_run.proofs.Undisturbed.Stops.LateSteps.{few_accepted}
 use Rattle.sercos_law_run.proofs.Tolerance.Steps.{IsYoung, answers_more, begun_is, grows, never_some, same_head}
-use Rattle.sercos_law_channel.proofs.Cited.{says_shape}
+use Rattle.sercos_law_run.proofs.Recovery.Limits.{open_age}
+use Rattle.sercos_law_run.proofs.Bounds.BoundSums.{times_sum}
 
 -- WHERE A STEP IS: none is open; one is, which the drive hasn't accepted; or one that it has accepted, and that has no answer.
 pub data StandsSo (begun : List Begun) (log : List Entry) : Type 0 where
@@ -44,28 +29,6 @@ pub few_answers : (begun : List Begun) (log : List Entry) → StandsSo begun log
 few_answers begun log (Rests none a) = omega (arith, a)
 few_answers begun log (New on s a) = omega (arith, a)
 few_answers begun log (Waits e rest those on s a) = omega (arith, a)
-
-pub few_accepted : (begun : List Begun) (log : List Entry) → AreInStep begun log → length log ≤ length (steps_in begun)
-few_accepted begun log (Idle none s a) = let long = ap length s ∙ length-steps_of log in omega (arith, long)
-few_accepted begun log (Sent step opened s a) = let long = ap length s ∙ ap (λ (n : ℕ). suc n) (length-steps_of log) in omega (arith, long)
-few_accepted begun log (Kept e past opened those s a) = let long = ap length s ∙ length-steps_of log in omega (arith, long)
-
--- an open step is a cycle old at least
-aged_by : (on same : Bool) (n : ℕ) → on ≡ true → 1 ≤ age_by on same n
-aged_by true true n is = omega arith
-aged_by true false n is = omega arith
-aged_by false same n is = absurd (false≢true is)
-
-pub open_aged : (all : List View) → is_some (open_in (epoch_begun all)) ≡ true → 1 ≤ age_in all
-open_aged [] some = absurd (false≢true some)
-open_aged (v ∷ past) some = by v.falls some
-  where
-    by : (falls : Bool) → is_some (open_in (if falls then [] else begun_in v past)) ≡ true
-        → 1 ≤ (if falls then 0 else age_by (is_some (open_in (begun_in v past)))
-        (length (steps_in (begun_in v past)) == length (steps_in (unless_restart v (epoch_begun past)))) (age_in past))
-    by true is = absurd (false≢true is)
-    by false is = aged_by (is_some (open_in (begun_in v past)))
-        (length (steps_in (begun_in v past)) == length (steps_in (unless_restart v (epoch_begun past)))) (age_in past) is
 
 -- A step that waits for its answer waited in the cycle before, or was accepted in this one.
 pub waits_from : (busy : ℕ) (v : View) (past : List View) → IsRun busy (v ∷ past) → v.falls ≡ false → v.master_restarts ≡ false
@@ -112,9 +75,6 @@ module _ (busy : ℕ) where
   AreInARow [] past = Unit {0}
   AreInARow (v ∷ cycles) past = AreInARow cycles past × IsInARow v (cycles ++ past)
 
-  few : (n k : ℕ) → n ≤ k → (busy + 2) * n ≤ (busy + 2) * k
-  few n k le = times_le (busy + 2) n k le
-
   more : (n : ℕ) → (busy + 2) * suc n ≡ (busy + 2) * n + (busy + 2)
   more n = grind arith
 
@@ -139,20 +99,20 @@ module _ (busy : ℕ) where
     opens_now = ap (λ (l : List Begun). is_some (open_in l)) (begun_is busy v past run row.stays row.goes_on) ∙ row.opens
 
     product : (busy + 2) * length (epoch_log past) ≤ (busy + 2) * length (epoch_log (v ∷ past))
-    product = few (length (epoch_log past)) (length (epoch_log (v ∷ past))) (grows_one busy v past run row.stays row.goes_on)
+    product = times_le (busy + 2) (length (epoch_log past)) (length (epoch_log (v ∷ past))) (grows_one busy v past run row.stays row.goes_on)
 
     -- a step that the drive hasn't accepted: nothing was late at the end of the cycle before
     new_next : length (steps_in (epoch_begun (v ∷ past))) ≡ suc (length (epoch_log (v ∷ past)))
         → suc spent ≤ base + (busy + 2) * length (epoch_log (v ∷ past)) + 1
     new_next steps = elim row.spared [
-      | inl y ↦ (let young = y.new opens_now steps in let old = open_aged (v ∷ past) opens_now in absurd (omega (arith, young, old)))
+      | inl y ↦ (let young = y.new opens_now steps in let old = open_age (v ∷ past) opens_now in absurd (omega (arith, young, old)))
       | inr both ↦ by both.1 then_
     ]
       where
         by : IsYoung busy 0 0 past → StandsSo (epoch_begun past) (epoch_log past)
             → suc spent ≤ base + (busy + 2) * length (epoch_log (v ∷ past)) + 1
         by y (Rests none a) = let before = is.rests none in let least = product in omega (arith, before, least)
-        by y (New on s a) = let young = y.new on s in let old = open_aged past on in absurd (omega (arith, young, old))
+        by y (New on s a) = let young = y.new on s in let old = open_age past on in absurd (omega (arith, young, old))
         by y (Waits e rest those on s a) =
             let late = (y.old e rest those on s).1 in
             let before = is.waits e rest those a in
@@ -208,7 +168,7 @@ module _ (busy : ℕ) where
   }
     where
       all : (busy + 2) * length (answers_in (epoch_begun past)) ≤ (busy + 2) * length (epoch_log past)
-      all = few (length (answers_in (epoch_begun past))) (length (epoch_log past))
+      all = times_le (busy + 2) (length (answers_in (epoch_begun past))) (length (epoch_log past))
           (few_answers (epoch_begun past) (epoch_log past) (stands_so (epoch_begun past) (epoch_log past) (in_step busy past run)))
 
   are_paced : (cycles past : List View) → IsRun busy (cycles ++ past) → AreInARow cycles past

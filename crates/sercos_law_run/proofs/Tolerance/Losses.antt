@@ -1,21 +1,9 @@
 -- How long a channel is at work in a stretch of which something is lost.
-use Rattle.std.proofs.Common.{◌≡◌, inl, inr, ℕ, suc, ◌+◌, ◌*◌, ◌≤◌, Bool, true, false, not, ◌&&◌, ◌||◌, List, [], ◌∷◌, ◌++◌, length, Option, refl, sym, ap, ◌∙◌, arith}
-use Rattle.std.specs.Prelude.{is_some}
-use Rattle.std.proofs.lemmas.Bool.{cond-false, false≢true}
-use Rattle.sercos_step.specs.declared.step.Step.{Step}
-use Rattle.sercos_service_drive.specs.Log.{Entry}
-use Rattle.sercos_service_master.specs.Begun.{Begun, answers_in, open_in, steps_in}
-use Rattle.sercos_law_channel.specs.Handshake.Epochs.{begun_in, epoch_begun, epoch_log, epoch_records, unless_restart}
-use Rattle.sercos_law_channel.specs.Handshake.InStep.{AreInStep, Idle, Kept, Sent}
+use Rattle.sercos_law_run.proofs.Words.{◌≡◌, inl, inr, ℕ, suc, ◌+◌, ◌*◌, ◌≤◌, Bool, true, false, not, ◌&&◌, ◌||◌, List, [], ◌∷◌, ◌++◌, length, Option, refl, sym, ap, ◌∙◌, arith, is_some, cond-false, false≢true, Step, times_le, Entry, Begun, answers_in, open_in, steps_in, begun_in, epoch_begun, epoch_log, epoch_records, unless_restart, AreInStep, Idle, Kept, View, processed_in, open_since, one_more, in_step, length-replies_of, length-steps_of, start, start_begun, head_before, taken_before, GoesOn, TakesTimeAndLosses, loses_step, lost_since}
+use Rattle.sercos_law_channel.specs.Handshake.InStep.{Sent}
 use Rattle.sercos_law_channel.specs.Handshake.Runs.{IsRun}
-use Rattle.sercos_law_channel.specs.Handshake.Views.{View, processed_in}
-use Rattle.sercos_law_channel.specs.Pace.Stretches.{open_since}
-use Rattle.sercos_law_channel.specs.Pace.Times.{one_more}
-use Rattle.sercos_law_channel.proofs.Theorems.{in_step, length-replies_of, length-steps_of}
-use Rattle.sercos_law_channel.proofs.Handshake.EpochRuns.{start, start_begun}
-use Rattle.sercos_law_channel.proofs.Pace.LateRuns.{head_before, taken_before}
-use Rattle.sercos_law_run.specs.Tolerance.Losses.{GoesOn, TakesTimeAndLosses, loses_step, lost_since}
 use Rattle.sercos_law_run.proofs.Tolerance.Steps.{Counts, NoneOpen, NotAnswered, NotTaken, answers_more, begun_is, busy_still, counts, grows, none_new, same_head}
+use Rattle.sercos_law_run.proofs.Undisturbed.Sections.{more_or_same}
 
 -- If nothing is lost, an open step is heard, and processed.
 heard_if : (a h b p : Bool) → ((a && not h) || (b && not p)) ≡ false → a ≡ true → h ≡ true
@@ -30,17 +18,13 @@ taken_if true false true false off on = absurd (false≢true (sym off))
 taken_if false h true false off on = absurd (false≢true (sym off))
 taken_if a h false false off on = absurd (false≢true on)
 
-more_if : (b : Bool) (n : ℕ) → b ≡ true → one_more b n ≡ n + 1
+pub more_if : (b : Bool) (n : ℕ) → b ≡ true → one_more b n ≡ n + 1
 more_if true n on = refl
 more_if false n on = absurd (false≢true on)
 
-same_if : (b : Bool) (n : ℕ) → b ≡ false → one_more b n ≡ n
+pub same_if : (b : Bool) (n : ℕ) → b ≡ false → one_more b n ≡ n
 same_if true n off = absurd (false≢true (sym off))
 same_if false n off = refl
-
-no_fewer : (b : Bool) (n : ℕ) → n ≤ one_more b n
-no_fewer true n = omega arith
-no_fewer false n = omega arith
 
 -- A cycle of which nothing is lost
 kept_by : (a h b p : Bool) → (a ≡ true → h ≡ true) → (b ≡ true → p ≡ true) → ((a && not h) || (b && not p)) ≡ false
@@ -80,9 +64,6 @@ waits_open begun log (Sent step opened s a) waits = let count = ap length a ∙ 
 waits_open begun log (Kept e past opened those s a) waits = (ap (λ (o : Option Step). is_some o) opened, ap length s ∙ length-steps_of log)
 
 module _ (busy : ℕ) where
-  few : (n k : ℕ) → n ≤ k → (busy + 1) * n ≤ (busy + 1) * k
-  few n k le = grind arith
-
   more : (n : ℕ) → (busy + 1) * suc n ≡ (busy + 1) * n + (busy + 1)
   more n = grind arith
 
@@ -104,19 +85,13 @@ module _ (busy : ℕ) where
     where
       by : Counts (epoch_begun past) (epoch_log past) → (busy + 1) * length (answers_in (epoch_begun past)) ≤ (busy + 1) * length
           (epoch_log past)
-      by (NoneOpen none s a) = few (length (answers_in (epoch_begun past))) (length (epoch_log past)) (omega (arith, a))
-      by (NotTaken s a) = few (length (answers_in (epoch_begun past))) (length (epoch_log past)) (omega (arith, a))
-      by (NotAnswered s a) = few (length (answers_in (epoch_begun past))) (length (epoch_log past)) (omega (arith, a))
+      by (NoneOpen none s a) = times_le (busy + 1) (length (answers_in (epoch_begun past))) (length (epoch_log past)) (omega (arith, a))
+      by (NotTaken s a) = times_le (busy + 1) (length (answers_in (epoch_begun past))) (length (epoch_log past)) (omega (arith, a))
+      by (NotAnswered s a) = times_le (busy + 1) (length (answers_in (epoch_begun past))) (length (epoch_log past)) (omega (arith, a))
 
   -- ONE CYCLE MORE
   module _ (v : View) (cycles past : List View) (run : IsRun busy (v ∷ (cycles ++ past))) (stays : v.falls ≡ false)
       (goes_on : v.master_restarts ≡ false) (is : IsPaced cycles past) where
-    all : List View
-    all = cycles ++ past
-
-    lost_so : (b : Bool) → loses_step v (cycles ++ past) ≡ b → lost_since (v ∷ cycles) past ≡ one_more b (lost_since cycles past)
-    lost_so b is_b = ap (λ (x : Bool). one_more x (lost_since cycles past)) is_b
-
     heard_by : loses_step v (cycles ++ past) ≡ false → is_some (open_in (epoch_begun (cycles ++ past))) ≡ true → is_some v.heard ≡ true
     heard_by off some = heard_if (is_some (open_in (unless_restart v (epoch_begun (cycles ++ past))))) (is_some v.heard)
         (is_some (open_in (begun_in v (cycles ++ past)))) (is_some (processed_in v (cycles ++ past))) off
@@ -174,7 +149,7 @@ module _ (busy : ℕ) where
             by false = omega arith
 
         least : lost_since cycles past ≤ lost_since (v ∷ cycles) past
-        least = no_fewer (loses_step v (cycles ++ past)) (lost_since cycles past)
+        least = more_or_same (loses_step v (cycles ++ past)) (lost_since cycles past)
 
     total_next : open_since (v ∷ cycles) past + (busy + 1) * length (answers_in (epoch_begun past)) ≤ (busy + 1) * length
         (epoch_log (v ∷ (cycles ++ past))) + lost_since (v ∷ cycles) past
@@ -184,7 +159,7 @@ module _ (busy : ℕ) where
         some_now on = ap (λ (l : List Begun). is_some (open_in l)) (begun_is busy v (cycles ++ past) run stays goes_on) ∙ on
 
         product : (busy + 1) * length (epoch_log (cycles ++ past)) ≤ (busy + 1) * length (epoch_log (v ∷ (cycles ++ past)))
-        product = few (length (epoch_log (cycles ++ past))) (length (epoch_log (v ∷ (cycles ++ past)))) at_least
+        product = times_le (busy + 1) (length (epoch_log (cycles ++ past))) (length (epoch_log (v ∷ (cycles ++ past)))) at_least
 
         -- one more lost makes up for one more open
         lost_one : loses_step v (cycles ++ past) ≡ true → open_since (v ∷ cycles) past ≡ open_since cycles past + 1
@@ -237,7 +212,7 @@ module _ (busy : ℕ) where
             (counts (epoch_begun (v ∷ (cycles ++ past))) (epoch_log (v ∷ (cycles ++ past))) (in_step busy (v ∷ (cycles ++ past)) run))
         by false off =
             let same = same_if (is_some (open_in (begun_in v (cycles ++ past)))) (open_since cycles past) off in
-            let least = no_fewer (loses_step v (cycles ++ past)) (lost_since cycles past) in
+            let least = more_or_same (loses_step v (cycles ++ past)) (lost_since cycles past) in
             let before = is.total in
             let up = product in omega (arith, same, least, before, up)
 

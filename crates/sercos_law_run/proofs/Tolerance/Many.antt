@@ -1,36 +1,15 @@
 -- Phase 4 begins in time while disturbed cycles are sparse, however many they are, if the ring is right; else a stop is reported.
-use Rattle.std.proofs.Common.{◌≡◌, inl, inr, ℕ, suc, ◌+◌, ◌*◌, ◌<◌, ◌≤◌, Bool, true, false, List, [], ◌∷◌, ◌++◌, length, None, refl, sym, ◌∙◌, subst, arith, if◌then◌else◌}
-use Rattle.std.specs.List.{sum_by}
-use Rattle.std.proofs.lemmas.Bool.{cases_lt}
-use Rattle.sercos_step.specs.declared.request.Job.{Job}
-use Rattle.sercos_step.proofs.AnswerCounts.{times_le}
-use Rattle.sercos_block.specs.Stores.{store_of}
-use Rattle.sercos_block.specs.Views.{DriveView, RingView}
-use Rattle.sercos_trace.specs.Views.{CycleView}
-use Rattle.sercos_seat.specs.Agenda.{reads_count}
-use Rattle.sercos_seat.specs.Channel.{outcomes_in}
-use Rattle.sercos_seat.specs.Ring.{known_of, member, tasks_for}
-use Rattle.sercos_master.specs.Annals.{is_done}
-use Rattle.sercos_script.specs.Links.{Carry, Restarts}
-use Rattle.sercos_law_channel.specs.Handshake.Epochs.{epoch_begun, epoch_log}
-use Rattle.sercos_law_run.specs.Bounds.Bounds.{listed, slowest}
-use Rattle.sercos_law_run.specs.Journal.Runs.{drive_at, looks_back, master_calls, IsClear, IsRun}
+use Rattle.sercos_law_run.proofs.Words.{◌≡◌, inl, inr, ℕ, suc, ◌+◌, ◌*◌, ◌<◌, ◌≤◌, List, [], ◌∷◌, ◌++◌, length, None, refl, sym, ◌∙◌, subst, arith, sum_by, cases_lt, Job, times_le, store_of, DriveView, RingView, CycleView, reads_count, outcomes_in, known_of, member, tasks_for, is_done, Carry, Restarts, epoch_begun, epoch_log, listed, slowest, drive_at, looks_back, master_calls, IsClear, IsRun, behind_mdt, views_of, IsOpened, StartsEpoch, IsRight, IsUpOrStopped, own_costs, slow_bound, slow_startup_of, AreSparse, in_cost}
 use Rattle.sercos_law_run.proofs.Start.CheckPasses.{ring_drive}
-use Rattle.sercos_law_run.specs.Views.RingViews.{behind_mdt, views_of}
-use Rattle.sercos_law_run.specs.Held.Opened.{IsOpened}
 use Rattle.sercos_law_run.proofs.Held.Runs.{drive_got, small}
 use Rattle.sercos_law_run.proofs.Headline.HeadlineRuns.{all_stand, first_store}
 use Rattle.sercos_law_run.proofs.Typed.Mdts.{phase_low}
-use Rattle.sercos_law_run.specs.Undisturbed.EpochStarts.{StartsEpoch}
-use Rattle.sercos_law_run.specs.Undisturbed.StopsLater.{IsRight}
 use Rattle.sercos_law_run.proofs.Undisturbed.PhaseTwo.{listed_all, sum_within}
 use Rattle.sercos_law_run.proofs.Undisturbed.Checks.ShortLists.{few_blocks, longest_list, lists_short}
 use Rattle.sercos_law_run.proofs.Undisturbed.Stops.StopStays.{none_before}
-use Rattle.sercos_law_run.specs.Tolerance.Ends.{IsUpOrStopped}
-use Rattle.sercos_law_run.specs.Tolerance.Many.{own_costs, slow_bound, slow_startup_of}
-use Rattle.sercos_law_run.specs.Tolerance.Sparse.{AreSparse}
+use Rattle.sercos_law_run.proofs.Undisturbed.Sections.{sum_most}
+use Rattle.sercos_law_run.proofs.Undisturbed.NoFalls.{was_low}
 use Rattle.sercos_law_run.proofs.Tolerance.Borne.{IsBorne, all_borne}
-use Rattle.sercos_law_run.proofs.Tolerance.CostsShared.{sum_most}
 use Rattle.sercos_law_run.proofs.Tolerance.EarlySparse.{phase_is, phase_next, start_is}
 use Rattle.sercos_law_run.proofs.Tolerance.Ends.{all_fit, end_by}
 use Rattle.sercos_law_run.proofs.Tolerance.ManyEarly.{early_many}
@@ -39,9 +18,7 @@ use Rattle.sercos_law_run.proofs.Tolerance.ManyTwo.{costs_in, few_steps, ones, s
 use Rattle.sercos_law_run.proofs.Tolerance.NotYet.{AtRise, InEarly, InThree, InTwo, IsEpoch, IsUnready, NotYet, epoch_before, not_yet}
 use Rattle.sercos_law_run.proofs.Tolerance.Rises.{few_in, none_in_three, none_in_two}
 use Rattle.sercos_law_run.proofs.Tolerance.ThreeLasts.{check_fit, sum_split, without, without_mono}
-use Rattle.sercos_law_channel.proofs.Cited.{in_cost}
 use Rattle.sercos_law_run.proofs.Bounds.BoundSums.{is_below_greatest}
-use Rattle.sercos_law_run.proofs.Undisturbed.Cited.{is_ready_if_ended}
 
 -- NUMBERS: the cycles of phase 2, and of phase 3 with x steps more
 two_fits_in : (d : DriveView) → two_cycles d ≤ slow_startup_of d
@@ -56,10 +33,6 @@ three_fits busy l time x extra most = omega (arith, most)
 
 list_room : (busy most : ℕ) → busy ≤ most → (busy + 2) * 42 ≤ 41 * (most + 2) + busy + 2
 list_room busy most le = omega (arith, le)
-
-was_low : (done : Bool) (n m : ℕ) → (if done then n + 1 else n) ≤ m → n ≤ m
-was_low true n m le = omega (arith, le)
-was_low false n m le = le
 
 -- the steps of phases 2 and 3 to a drive, without the read of its list
 abbrev three_steps : DriveView → ℕ

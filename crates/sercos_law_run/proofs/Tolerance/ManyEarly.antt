@@ -1,25 +1,9 @@
 -- How long phases 0 and 1 last while disturbed cycles are sparse, however many they are.
-use Rattle.std.proofs.Common.{◌≡◌, inl, inr, ℕ, suc, ◌+◌, ◌*◌, ◌≤◌, Bool, true, false, List, [], ◌∷◌, ◌++◌, length, refl, sym, ap, ◌∙◌, arith, if◌then◌else◌}
-use Rattle.std.specs.Prelude.{◌==◌}
-use Rattle.std.proofs.lemmas.Bool.{cases_eq, cond-false}
-use Rattle.std.proofs.lemmas.Bool.Decides.{nat_tests}
-use Rattle.sercos_step.specs.declared.request.Job.{Job}
-use Rattle.sercos_block.specs.Views.{RingView}
-use Rattle.sercos_trace.specs.Views.{CycleView}
-use Rattle.sercos_seat.specs.Ring.{known_of}
-use Rattle.sercos_master.specs.Annals.{Past, has_identified, is_done}
-use Rattle.sercos_script.specs.Links.{Carry, Restarts}
-use Rattle.sercos_law_run.specs.Journal.Runs.{is_disturbed_in, looks_back, master_calls, IsClear, IsDisturbed, IsRun}
-use Rattle.sercos_law_run.specs.Views.RingViews.{behind_mdt, behind_mst}
+use Rattle.sercos_law_run.proofs.Words.{◌≡◌, inl, inr, ℕ, suc, ◌+◌, ◌*◌, ◌≤◌, Bool, true, false, List, [], ◌∷◌, ◌++◌, length, refl, sym, ap, ◌∙◌, arith, if◌then◌else◌, ◌==◌, cases_eq, Job, RingView, CycleView, known_of, Past, has_identified, is_done, Carry, Restarts, is_disturbed_in, looks_back, master_calls, IsClear, IsDisturbed, IsRun, behind_mdt, behind_mst, IsOpened, StartsEpoch, IsUndisturbed, early_costs, own_costs, AreCalm, AreSparse}
 use Rattle.sercos_law_run.proofs.Views.Members.{members_count}
-use Rattle.sercos_law_run.specs.Held.Opened.{IsOpened}
-use Rattle.sercos_law_run.specs.Undisturbed.EpochStarts.{StartsEpoch}
-use Rattle.sercos_law_run.specs.Undisturbed.Undisturbed.{IsUndisturbed}
-use Rattle.sercos_law_run.specs.Tolerance.Early.{early_costs}
-use Rattle.sercos_law_run.specs.Tolerance.Many.{own_costs}
-use Rattle.sercos_law_run.specs.Tolerance.Sparse.{AreCalm, AreSparse}
 use Rattle.sercos_law_run.proofs.Tolerance.Borne.{IsBorne, all_borne, calm_or_not}
-use Rattle.sercos_law_run.proofs.Tolerance.EarlySparse.{count_all, count_most, known, known_after, one_more, one_phase, phase_is, phase_next, risen, ten_unless, zero_cost, zero_phase}
+use Rattle.sercos_law_run.proofs.Tolerance.EarlySparse.{count_all, count_most, known, known_after, one_more, one_phase, phase_is, phase_next, risen, ten_unless, zero_cost}
+use Rattle.sercos_law_run.proofs.Undisturbed.PhaseZero.{stays_zero}
 
 -- what a cycle costs by its phase
 abbrev own_by : ℕ → Bool → ℕ
@@ -27,10 +11,6 @@ own_by n whole = if n == 0 then (if whole then 0 else 10) else 0
 
 own_zero : (n : ℕ) (whole : Bool) → n ≡ 0 → own_by n whole ≡ ten_unless whole
 own_zero n whole is = ap (λ (m : ℕ). own_by m whole) is
-
-pub own_none : (n : ℕ) (whole : Bool) → 1 ≤ n → own_by n whole ≡ 0
-own_none n whole some =
-    let off : (n == 0) ≡ false = grind (arith, nat_tests, some) in cond-false (n == 0) (if whole then 0 else 10) 0 off
 
 module _ (r : RingView) (jobs : List Job) (carry : Carry) (restarts : Restarts) (opened : IsOpened r jobs) where
   abbrev back : List CycleView → Past
@@ -45,11 +25,6 @@ module _ (r : RingView) (jobs : List Job) (carry : Carry) (restarts : Restarts) 
   abbrev found : List CycleView → ℕ
   found j = known r jobs carry restarts opened (back j).turns
 
-  borne : (t : CycleView) (cycles before : List CycleView) → IsRun r jobs carry restarts (t ∷ (cycles ++ before))
-      → IsClear (t ∷ (cycles ++ before)) → StartsEpoch r jobs carry restarts before → AreSparse r carry restarts (t ∷ cycles) before
-      → Borne t (cycles ++ before)
-  borne t cycles before run clear starts sparse = all_borne r jobs carry restarts opened t cycles before run clear starts sparse
-
   -- in phase 0 the costs are those of the own MSTs
   zero_costs : (t : CycleView) (cycles before : List CycleView) → IsRun r jobs carry restarts (t ∷ (cycles ++ before))
       → IsClear (t ∷ (cycles ++ before)) → StartsEpoch r jobs carry restarts before → AreSparse r carry restarts (t ∷ cycles) before
@@ -59,12 +34,12 @@ module _ (r : RingView) (jobs : List Job) (carry : Carry) (restarts : Restarts) 
       (is_disturbed_in r carry restarts (length before) t.sent) t_zero in
       let b = own_zero t.phase (behind_mst r jobs carry restarts t.sent before).now.whole t_zero in omega (arith, a, b)
   zero_costs t (u ∷ cycles) before run clear starts sparse t_zero =
-      let is = borne t (u ∷ cycles) before run clear starts sparse in
-      let was = borne u cycles before run.0 clear.0 starts sparse.0 in
-      let u_zero = zero_phase (done_in u (cycles ++ before)) u.phase
+      let is = all_borne r jobs carry restarts opened t (u ∷ cycles) before run clear starts sparse in
+      let was = all_borne r jobs carry restarts opened u cycles before run.0 clear.0 starts sparse.0 in
+      let u_zero = (stays_zero (done_in u (cycles ++ before)) u.phase
       (sym (phase_next r jobs carry restarts opened u (cycles ++ before) run.0 was)
       ∙ sym (phase_is r jobs carry restarts opened t (u ∷ (cycles ++ before)) run is)
-      ∙ t_zero) in
+      ∙ t_zero)).1 in
       let rest = zero_costs u cycles before run.0 clear.0 starts sparse.0 u_zero in
       let a = zero_cost t.phase (behind_mst r jobs carry restarts t.sent (u ∷ (cycles ++ before))).now.whole
       (is_disturbed_in r carry restarts (length (u ∷ (cycles ++ before))) t.sent) t_zero in
@@ -82,7 +57,7 @@ module _ (r : RingView) (jobs : List Job) (carry : Carry) (restarts : Restarts) 
       → t.phase ≡ 1 → IsInOne t (cycles ++ before) (suc (length cycles)) (own_costs r jobs carry restarts (t ∷ cycles) before) (found
       (t ∷ (cycles ++ before)))
   in_one t [] before run clear starts sparse one =
-      let is = borne t [] before run clear starts sparse in
+      let is = all_borne r jobs carry restarts opened t [] before run clear starts sparse in
       let none : t.phase ≡ 0 = phase_is r jobs carry restarts opened t before run is ∙ starts in
       absurd (omega (arith, none, one))
   in_one t (u ∷ cycles) before run clear starts sparse one =
@@ -94,10 +69,10 @@ module _ (r : RingView) (jobs : List Job) (carry : Carry) (restarts : Restarts) 
       ]
     where
       was : Borne u (cycles ++ before)
-      was = borne u cycles before run.0 clear.0 starts sparse.0
+      was = all_borne r jobs carry restarts opened u cycles before run.0 clear.0 starts sparse.0
 
       is : Borne t (u ∷ (cycles ++ before))
-      is = borne t (u ∷ cycles) before run clear starts sparse
+      is = all_borne r jobs carry restarts opened t (u ∷ cycles) before run clear starts sparse
 
       by_first : u.phase ≡ 0 → IsInOne t (u ∷ (cycles ++ before)) (suc (suc (length cycles)))
           (own_costs r jobs carry restarts (t ∷ u ∷ cycles) before) (found (t ∷ u ∷ (cycles ++ before)))

@@ -1,31 +1,11 @@
 -- How long phase 3 lasts while disturbed cycles are sparse, however many they are.
-use Rattle.std.proofs.Common.{◌≡◌, inl, inr, ℕ, suc, ◌+◌, ◌*◌, ◌<◌, ◌≤◌, List, [], ◌∷◌, ◌++◌, length, Option, None, sym, ap, ◌∙◌, arith}
-use Rattle.std.specs.Prelude.{is_some}
-use Rattle.sercos_step.specs.declared.request.Job.{Job}
-use Rattle.sercos_step.proofs.AnswerCounts.{times_le}
-use Rattle.sercos_block.specs.Views.{DriveView, RingView}
-use Rattle.sercos_service_master.specs.Begun.{answers_in, open_in}
-use Rattle.sercos_trace.specs.Views.{CycleView}
-use Rattle.sercos_trace.specs.declared.events.Fall.{Fall}
-use Rattle.sercos_seat.specs.Ring.{known_of}
-use Rattle.sercos_master.specs.Annals.{Past, is_done}
-use Rattle.sercos_script.specs.Links.{Carry, Restarts}
-use Rattle.sercos_law_channel.specs.Handshake.Epochs.{epoch_begun, epoch_log}
+use Rattle.sercos_law_run.proofs.Words.{◌≡◌, inl, inr, ℕ, suc, ◌+◌, ◌*◌, ◌<◌, ◌≤◌, List, [], ◌∷◌, ◌++◌, length, Option, None, sym, ap, ◌∙◌, arith, is_some, Job, times_le, DriveView, RingView, answers_in, open_in, CycleView, Fall, known_of, Past, is_done, Carry, Restarts, epoch_begun, epoch_log, View, in_step, sum_below, drive_at, looks_back, master_calls, IsClear, IsRun, behind_mdt, view_of, views_of, IsOpened, StartsEpoch, own_costs, AreSparse}
 use Rattle.sercos_law_channel.specs.Handshake.Runs.{IsRun as IsViewRun}
-use Rattle.sercos_law_channel.specs.Handshake.Views.{View}
-use Rattle.sercos_law_channel.proofs.Theorems.{in_step}
-use Rattle.sercos_law_run.specs.Journal.Arrivals.{sum_below}
-use Rattle.sercos_law_run.specs.Journal.Runs.{drive_at, looks_back, master_calls, IsClear, IsRun}
-use Rattle.sercos_law_run.specs.Views.RingViews.{behind_mdt, view_of, views_of}
-use Rattle.sercos_law_run.specs.Held.Opened.{IsOpened}
 use Rattle.sercos_law_run.proofs.Headline.HeadlineRuns.{all_stand}
-use Rattle.sercos_law_run.specs.Undisturbed.EpochStarts.{StartsEpoch}
 use Rattle.sercos_law_run.proofs.Undisturbed.PhaseThree.{comes_three}
 use Rattle.sercos_law_run.proofs.Undisturbed.Stops.StopStays.{none_before, stop_after}
-use Rattle.sercos_law_run.specs.Tolerance.Many.{own_costs}
-use Rattle.sercos_law_run.specs.Tolerance.Sparse.{AreSparse}
+use Rattle.sercos_law_run.proofs.Undisturbed.Sections.{sum_most}
 use Rattle.sercos_law_run.proofs.Tolerance.Borne.{IsBorne, all_borne, rests, zero_is}
-use Rattle.sercos_law_run.proofs.Tolerance.CostsShared.{sum_most}
 use Rattle.sercos_law_run.proofs.Tolerance.EarlySparse.{phase_is, phase_next, start_is}
 use Rattle.sercos_law_run.proofs.Tolerance.InARow.{IsInARow, IsPaced, New, Rests, StandsSo, Waits, paced_next, stands_so}
 use Rattle.sercos_law_run.proofs.Tolerance.ManyTwo.{steps_in_two, two_spent, two_steps, weigh_at, weight_at, weight_grows}
@@ -72,11 +52,6 @@ module _ (r : RingView) (jobs : List Job) (carry : Carry) (restarts : Restarts) 
   abbrev Unready : ℕ → List CycleView → Type 0
   Unready k j = is_unready r jobs carry restarts opened k j
 
-  borne : (t : CycleView) (cycles before : List CycleView) → IsRun r jobs carry restarts (t ∷ (cycles ++ before))
-      → IsClear (t ∷ (cycles ++ before)) → StartsEpoch r jobs carry restarts before → AreSparse r carry restarts (t ∷ cycles) before
-      → Borne t (cycles ++ before)
-  borne t cycles before run clear starts sparse = all_borne r jobs carry restarts opened t cycles before run clear starts sparse
-
   -- the cycles that all drives but one may take in phase 2
   abbrev pub others_two : ℕ → ℕ
   others_two k = sum_below (length r.drives) (without k (λ j. two_cycles (drive_at r j)))
@@ -91,7 +66,7 @@ module _ (r : RingView) (jobs : List Job) (carry : Carry) (restarts : Restarts) 
   at_rise u [] before run clear starts sparse u_two none =
       let zero = zero_is r jobs carry restarts opened u before run clear starts (sparse.1.goes_on 0 (omega arith)) in absurd (omega (arith, zero, u_two))
   at_rise u (v ∷ cycles) before run clear starts sparse u_two none =
-      let is = borne u (v ∷ cycles) before run clear starts sparse in
+      let is = all_borne r jobs carry restarts opened u (v ∷ cycles) before run clear starts sparse in
       let le = two_spent r jobs carry restarts opened v
       cycles before run.0 clear.0 starts sparse.0
       (sym (phase_is r jobs carry restarts opened u (v ∷ (cycles ++ before)) run is) ∙ u_two)
@@ -121,7 +96,7 @@ module _ (r : RingView) (jobs : List Job) (carry : Carry) (restarts : Restarts) 
         steps_so : (j : ℕ) → j < length r.drives
             → length (epoch_log (views_of r jobs carry restarts j (u ∷ (cycles ++ before)))) ≤ two_steps (drive_at r j)
         steps_so j low = steps_in_two r jobs carry restarts opened u (cycles ++ before) run clear
-            (borne u cycles before run clear starts sparse) (omega (arith, u_two)) j low
+            (all_borne r jobs carry restarts opened u cycles before run clear starts sparse) (omega (arith, u_two)) j low
 
         each : (j : ℕ) → j < length r.drives → weigh_at r jobs carry restarts (u ∷ (cycles ++ before)) j ≤ two_cycles (drive_at r j)
         each j low =
@@ -155,10 +130,10 @@ module _ (r : RingView) (jobs : List Job) (carry : Carry) (restarts : Restarts) 
         ])
       where
         was : Borne u (cycles ++ before)
-        was = borne u cycles before run.0 clear.0 starts sparse.0
+        was = all_borne r jobs carry restarts opened u cycles before run.0 clear.0 starts sparse.0
 
         is : Borne t (u ∷ (cycles ++ before))
-        is = borne t (u ∷ cycles) before run clear starts sparse
+        is = all_borne r jobs carry restarts opened t (u ∷ cycles) before run clear starts sparse
 
         back_three : (back (u ∷ (cycles ++ before))).now.phase ≡ 3
         back_three = sym (phase_is r jobs carry restarts opened t (u ∷ (cycles ++ before)) run is)

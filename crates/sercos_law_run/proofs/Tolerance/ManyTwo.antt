@@ -1,72 +1,29 @@
 -- How long phase 2 lasts while disturbed cycles are sparse, however many they are.
-use Rattle.std.proofs.Common.{◌≡◌, inl, inr, ℕ, zero, suc, ◌+◌, ◌*◌, ◌<◌, ◌≤◌, true, false, List, [], ◌∷◌, ◌++◌, length, Option, None, refl, sym, ap, ◌∙◌, subst, arith}
-use Rattle.std.specs.Prelude.{is_some}
-use Rattle.std.proofs.lemmas.Bool.{cases_eq, cases_lt}
-use Rattle.sercos_step.specs.declared.request.Job.{Job}
-use Rattle.sercos_step.proofs.AnswerCounts.{times_le}
-use Rattle.sercos_block.specs.Stores.{store_of}
-use Rattle.sercos_block.specs.Views.{DriveView, RingView}
-use Rattle.sercos_service_drive.specs.Log.{Entry}
-use Rattle.sercos_service_master.specs.Begun.{Begun, answers_in, open_in, steps_in}
-use Rattle.sercos_trace.specs.Views.{CycleView}
-use Rattle.sercos_trace.specs.declared.events.Fall.{Fall}
-use Rattle.sercos_seat.specs.Ring.{known_of}
-use Rattle.sercos_master.specs.Annals.{Past, is_done, is_done_in}
-use Rattle.sercos_script.specs.Links.{Carry, Restarts}
-use Rattle.sercos_law_channel.specs.Handshake.Epochs.{begun_in, epoch_begun, epoch_log, epoch_records}
-use Rattle.sercos_law_channel.specs.Handshake.Runs.{IsRun as IsViewRun}
-use Rattle.sercos_law_channel.specs.Handshake.Views.{View}
-use Rattle.sercos_law_channel.specs.Pace.Costs.{AreTimed}
-use Rattle.sercos_law_channel.proofs.Theorems.{in_step}
-use Rattle.sercos_law_channel.proofs.Pace.LateRuns.{head_before, taken_before}
-use Rattle.sercos_law_run.specs.Bounds.Bounds.{listed}
-use Rattle.sercos_law_run.specs.Journal.Arrivals.{sum_below}
-use Rattle.sercos_law_run.specs.Journal.Runs.{drive_at, looks_back, master_calls, IsClear, IsDisturbed, IsRun}
-use Rattle.sercos_law_run.specs.Views.RingViews.{behind_mdt, view_of, views_of}
-use Rattle.sercos_law_run.specs.Held.Opened.{IsOpened}
+use Rattle.sercos_law_run.proofs.Words.{◌≡◌, inl, inr, ℕ, zero, suc, ◌+◌, ◌*◌, ◌<◌, ◌≤◌, true, false, List, [], ◌∷◌, ◌++◌, length, Option, None, refl, sym, ap, ◌∙◌, arith, is_some, cases_lt, Job, times_le, store_of, DriveView, RingView, Entry, Begun, answers_in, open_in, steps_in, CycleView, Fall, known_of, Past, is_done, is_done_in, Carry, Restarts, begun_in, epoch_begun, epoch_log, epoch_records, View, AreTimed, in_step, head_before, taken_before, listed, sum_below, drive_at, looks_back, master_calls, IsClear, IsDisturbed, IsRun, behind_mdt, view_of, views_of, IsOpened, StartsEpoch, GoesOnInTwo, IsUndisturbed, own_costs, AreSparse, IsSparse, in_cost, comes_timed}
 use Rattle.sercos_law_run.proofs.Held.Runs.{small}
 use Rattle.sercos_law_run.proofs.Headline.HeadlineRuns.{all_stand, first_store}
-use Rattle.sercos_law_run.specs.Undisturbed.EpochStarts.{StartsEpoch}
-use Rattle.sercos_law_run.specs.Undisturbed.Sections.{GoesOnInTwo}
-use Rattle.sercos_law_run.specs.Undisturbed.Undisturbed.{IsUndisturbed}
 use Rattle.sercos_law_run.proofs.Undisturbed.Checks.Carried.{are_carried}
 use Rattle.sercos_law_run.proofs.Undisturbed.Checks.CommandRuns.{first_commands}
 use Rattle.sercos_law_run.proofs.Undisturbed.Checks.PassedRuns.{commands_so}
 use Rattle.sercos_law_run.proofs.Undisturbed.PhaseTwo.{listed_all}
 use Rattle.sercos_law_run.proofs.Undisturbed.JobsBegun.{planned_now}
-use Rattle.sercos_law_run.proofs.Undisturbed.Sections.{opens_in_two}
+use Rattle.sercos_law_run.proofs.Undisturbed.Sections.{opens_in_two, sum_most, sum_more}
 use Rattle.sercos_law_run.proofs.Undisturbed.Stops.StopStays.{none_before, stop_after}
 use Rattle.sercos_law_run.proofs.Recovery.LateDown.{phase_now}
+use Rattle.sercos_law_run.proofs.Recovery.Limits.{open_age}
 use Rattle.sercos_law_run.proofs.Recovery.Stretches.{whole_at}
-use Rattle.sercos_law_run.specs.Tolerance.Many.{own_costs}
-use Rattle.sercos_law_run.specs.Tolerance.Sparse.{AreSparse, IsSparse}
-use Rattle.sercos_law_run.proofs.Tolerance.Borne.{IsBorne, all_borne, before_lost, calm_or_not}
-use Rattle.sercos_law_run.proofs.Tolerance.CostsShared.{sum_most}
+use Rattle.sercos_law_run.proofs.Tolerance.Borne.{IsBorne, all_borne, before_lost, calm_or_not, is_run}
 use Rattle.sercos_law_run.proofs.Tolerance.EarlySparse.{phase_is, phase_next, start_is}
-use Rattle.sercos_law_run.proofs.Tolerance.InARow.{New, Rests, StandsSo, Waits, grows_one, open_aged, stands_so, waits_from}
+use Rattle.sercos_law_run.proofs.Tolerance.InARow.{New, Rests, StandsSo, Waits, grows_one, stands_so, waits_from}
 use Rattle.sercos_law_run.proofs.Tolerance.ManyEarly.{early_many}
 use Rattle.sercos_law_run.proofs.Tolerance.Standing.{takes_whole}
 use Rattle.sercos_law_run.proofs.Tolerance.Steps.{IsYoung, begun_is, never_some, none_new}
 use Rattle.sercos_law_run.proofs.Tolerance.TwoLasts.{each_fits, two_phase}
-use Rattle.sercos_law_channel.proofs.Cited.{in_cost}
-use Rattle.sercos_law_channel.proofs.Pace.TimedCommands.{comes_timed}
 
 -- SUMS
 pub ones : (n : ℕ) → sum_below n (λ k. 1) ≡ n
 ones zero = refl
 ones (suc n) = let rest = ones n in omega (arith, rest)
-
--- one of the numbers is larger by d
-sum_more : (n k d : ℕ) (f g : ℕ → ℕ) → k < n → ((j : ℕ) → j < n → f j ≤ g j) → f k + d ≤ g k → sum_below n f + d ≤ sum_below n g
-sum_more zero k d f g low most one = absurd (omega (arith, low))
-sum_more (suc n) k d f g low most one = elim (cases_eq n k) [
-  | inl same ↦ (
-      let rest = sum_most n f g (λ j j_low. most j (omega (arith, j_low))) in
-      let last : f n + d ≤ g n = subst (λ (m : ℕ). f m + d ≤ g m) (sym same) one in omega (arith, rest, last))
-  | inr other ↦ (
-      let rest = sum_more n k d f g (omega (arith, low, other)) (λ j j_low. most j (omega (arith, j_low))) one in
-      let last = most n (omega arith) in omega (arith, rest, last))
-]
 
 -- steps that cost no more than c of them and a command time are no more than both
 pub few_steps : (busy n c time : ℕ) → (busy + 1) * n ≤ (busy + 1) * c + time → n ≤ c + time
@@ -102,15 +59,6 @@ module _ (r : RingView) (jobs : List Job) (carry : Carry) (restarts : Restarts) 
   abbrev busy_of : ℕ → ℕ
   busy_of k = (drive_at r k).busy
 
-  borne : (t : CycleView) (cycles before : List CycleView) → IsRun r jobs carry restarts (t ∷ (cycles ++ before))
-      → IsClear (t ∷ (cycles ++ before)) → StartsEpoch r jobs carry restarts before → AreSparse r carry restarts (t ∷ cycles) before
-      → Borne t (cycles ++ before)
-  borne t cycles before run clear starts sparse = all_borne r jobs carry restarts opened t cycles before run clear starts sparse
-
-  is_run : (j : List CycleView) → IsRun r jobs carry restarts j → IsClear j → (k : ℕ) → k < length r.drives
-      → IsViewRun (busy_of k) (views k j)
-  is_run j run clear k below = (all_stand r jobs carry restarts opened j run clear k below).sees.run
-
   abbrev weigh : List CycleView → ℕ → ℕ
   weigh j k = weigh_at r jobs carry restarts j k
 
@@ -129,7 +77,7 @@ module _ (r : RingView) (jobs : List Job) (carry : Carry) (restarts : Restarts) 
 
     each_grows : (k : ℕ) → k < length r.drives → weigh j k ≤ weigh (t ∷ j) k
     each_grows k below =
-        let least = grows_one (busy_of k) (view_of r jobs carry restarts k t j) (views k j) (is_run (t ∷ j) run clear k below) (stays k)
+        let least = grows_one (busy_of k) (view_of r jobs carry restarts k t j) (views k j) (is_run r jobs carry restarts opened (t ∷ j) run clear k below) (stays k)
         is.goes_on in
         let product = times_le (busy_of k + 3) (length (epoch_log (views k j))) (length (epoch_log (views k (t ∷ j)))) least in
         omega (arith, product)
@@ -147,15 +95,15 @@ module _ (r : RingView) (jobs : List Job) (carry : Carry) (restarts : Restarts) 
         → is_some (open_in (epoch_begun (views k (t ∷ j)))) ≡ true
     open_now k below on = ap (λ (l : List Begun). is_some (open_in l)) (begun_is (busy_of k) (view_of r jobs carry restarts k t j)
         (views k j)
-        (is_run (t ∷ j) run clear k below) (stays k) is.goes_on) ∙ on
+        (is_run r jobs carry restarts opened (t ∷ j) run clear k below) (stays k) is.goes_on) ∙ on
 
     -- a step that the drive hasn't accepted is there only if the cycle is disturbed
     new_lost : IsUndisturbed r carry restarts t j → (k : ℕ) → k < length r.drives
         → is_some (open_in (epoch_begun (views k (t ∷ j)))) ≡ true
         → length (steps_in (epoch_begun (views k (t ∷ j)))) ≡ suc (length (epoch_log (views k (t ∷ j)))) → ⊥
     new_lost calm k below on steps = none_new (busy_of k) (view_of r jobs carry restarts k t j) (views k j)
-        (is_run (t ∷ j) run clear k below) (stays k) is.goes_on
-        (λ opens. takes_whole (busy_of k) (view_of r jobs carry restarts k t j) (views k j) (is_run (t ∷ j) run clear k below)
+        (is_run r jobs carry restarts opened (t ∷ j) run clear k below) (stays k) is.goes_on
+        (λ opens. takes_whole (busy_of k) (view_of r jobs carry restarts k t j) (views k j) (is_run r jobs carry restarts opened (t ∷ j) run clear k below)
         (whole_at r jobs carry restarts opened t j run clear calm is.stays k below) (is.up calm k below) opens) on steps
 
   -- PHASE 2 at the end of a cycle: the cycles spent, by what the steps so far allow; and where one waits for its answer, by the cycles
@@ -194,7 +142,7 @@ module _ (r : RingView) (jobs : List Job) (carry : Carry) (restarts : Restarts) 
         → suc (length (answers_in (epoch_begun (views i (t ∷ u ∷ j))))) ≡ length (epoch_log (views i (t ∷ u ∷ j)))
         → suc spent + e.processed.cycle + (busy_of i + 3) ≤ base + weight (t ∷ u ∷ j) + suc (length (views i (u ∷ j))) + 1
     waits_next i i_low e rest those a = elim (waits_from (busy_of i) (view_of r jobs carry restarts i t (u ∷ j)) (views i (u ∷ j))
-        (is_run (t ∷ u ∷ j) run clear i i_low) (stays t (u ∷ j) run clear is i) is.goes_on e rest those a) [
+        (is_run r jobs carry restarts opened (t ∷ u ∷ j) run clear i i_low) (stays t (u ∷ j) run clear is i) is.goes_on e rest those a) [
           | inl (long, same, waited) ↦ (
               let before = earlier.waits i i_low e rest same waited in
               let grows = weight_grows t (u ∷ j) run clear is in omega (arith, before, grows))
@@ -206,14 +154,14 @@ module _ (r : RingView) (jobs : List Job) (carry : Carry) (restarts : Restarts) 
     -- a step that the drive hasn't accepted: nothing was late at the end of the cycle before
     new_next : IsDisturbed r carry restarts t (u ∷ j) → suc spent ≤ base + weight (t ∷ u ∷ j)
     new_next disturbed = by (stands_so (epoch_begun (views d (u ∷ j))) (epoch_log (views d (u ∷ j)))
-        (in_step (busy_of d) (views d (u ∷ j)) (is_run (u ∷ j) run.0 clear.0 d d_low)))
+        (in_step (busy_of d) (views d (u ∷ j)) (is_run r jobs carry restarts opened (u ∷ j) run.0 clear.0 d d_low)))
       where
         young : IsYoung (busy_of d) 0 0 (views d (u ∷ j))
         young = before_lost r jobs carry restarts opened t u j run clear was sparse d d_low disturbed (omega (arith, t_two))
 
         by : StandsSo (epoch_begun (views d (u ∷ j))) (epoch_log (views d (u ∷ j))) → suc spent ≤ base + weight (t ∷ u ∷ j)
         by (Rests none a) = absurd (never_some (open_in (epoch_begun (views d (u ∷ j)))) none d_opens)
-        by (New on s a) = let few = young.new on s in let old = open_aged (views d (u ∷ j)) on in absurd (omega (arith, few, old))
+        by (New on s a) = let few = young.new on s in let old = open_age (views d (u ∷ j)) on in absurd (omega (arith, few, old))
         by (Waits e rest those on s a) =
             let late = (young.old e rest those on s).1 in
             let before = earlier.waits d d_low e rest those a in
@@ -221,7 +169,7 @@ module _ (r : RingView) (jobs : List Job) (carry : Carry) (restarts : Restarts) 
 
     total_next : suc spent ≤ base + weight (t ∷ u ∷ j) + 1
     total_next = by (stands_so (epoch_begun (views k (t ∷ u ∷ j))) (epoch_log (views k (t ∷ u ∷ j)))
-        (in_step (busy_of k) (views k (t ∷ u ∷ j)) (is_run (t ∷ u ∷ j) run clear k below)))
+        (in_step (busy_of k) (views k (t ∷ u ∷ j)) (is_run r jobs carry restarts opened (t ∷ u ∷ j) run clear k below)))
       where
         by : StandsSo (epoch_begun (views k (t ∷ u ∷ j))) (epoch_log (views k (t ∷ u ∷ j))) → suc spent ≤ base + weight (t ∷ u ∷ j) + 1
         by (Rests none a) = absurd (never_some (open_in (epoch_begun (views k (t ∷ u ∷ j)))) none opens)
@@ -271,7 +219,7 @@ module _ (r : RingView) (jobs : List Job) (carry : Carry) (restarts : Restarts) 
       → IsTwo (t ∷ (cycles ++ before)) (suc (length cycles)) (13 + 2 * length r.drives + own_costs r jobs carry restarts
       (t ∷ cycles) before)
   two_many t [] before run clear starts sparse is_two none t_two =
-      let is = borne t [] before run clear starts sparse in
+      let is = all_borne r jobs carry restarts opened t [] before run clear starts sparse in
       let zero : t.phase ≡ 0 = phase_is r jobs carry restarts opened t before run is ∙ starts in
       absurd (omega (arith, zero, t_two))
   two_many t (u ∷ cycles) before run clear starts sparse is_two none t_two =
@@ -287,10 +235,10 @@ module _ (r : RingView) (jobs : List Job) (carry : Carry) (restarts : Restarts) 
       ]
     where
       was : Borne u (cycles ++ before)
-      was = borne u cycles before run.0 clear.0 starts sparse.0
+      was = all_borne r jobs carry restarts opened u cycles before run.0 clear.0 starts sparse.0
 
       is : Borne t (u ∷ (cycles ++ before))
-      is = borne t (u ∷ cycles) before run clear starts sparse
+      is = all_borne r jobs carry restarts opened t (u ∷ cycles) before run clear starts sparse
 
       back_two : (back (u ∷ (cycles ++ before))).now.phase ≡ 2
       back_two = sym (phase_is r jobs carry restarts opened t (u ∷ (cycles ++ before)) run is)
@@ -321,7 +269,7 @@ module _ (r : RingView) (jobs : List Job) (carry : Carry) (restarts : Restarts) 
       (t ∷ (cycles ++ before)) + 1
   two_spent t cycles before run clear starts sparse is_two none =
       elim (two_phase (is_done (known_of r) (behind_mdt r jobs carry restarts t.sent (cycles ++ before))) t.phase
-      (sym (phase_next r jobs carry restarts opened t (cycles ++ before) run (borne t cycles before run clear starts sparse)) ∙ is_two)) [
+      (sym (phase_next r jobs carry restarts opened t (cycles ++ before) run (all_borne r jobs carry restarts opened t cycles before run clear starts sparse)) ∙ is_two)) [
         | inl first ↦ (
             let one = first.1 in
             let le = early_many r jobs carry restarts opened t cycles before run clear starts sparse (omega (arith, one)) in

@@ -1,35 +1,13 @@
 -- Where a start-up is that has come neither to phase 4 nor to a stop, while disturbed cycles are sparse.
-use Rattle.std.proofs.Common.{◌≡◌, inl, inr, ℕ, ◌<◌, ◌≤◌, false, not, List, [], ◌∷◌, ◌++◌, length, None, refl, sym, ap, ◌∙◌, subst, arith, ◌+◌, true, if◌then◌else◌}
-use Rattle.std.proofs.lemmas.Bool.{cases_eq, cases_lt, cond-false, cond-true}
-use Rattle.sercos_step.specs.declared.request.Job.{Job}
-use Rattle.sercos_block.specs.Views.{RingView}
-use Rattle.sercos_service_master.specs.Begun.{Begun}
-use Rattle.sercos_trace.specs.Views.{CycleView}
-use Rattle.sercos_seat.specs.Agenda.{is_ready}
-use Rattle.sercos_seat.specs.Channel.{outcomes_in}
-use Rattle.sercos_seat.specs.Ring.{known_of, member}
-use Rattle.sercos_master.specs.Annals.{Past, all_ready, is_done, is_done_in, outcomes}
-use Rattle.sercos_script.specs.Links.{Carry, Restarts}
-use Rattle.sercos_law_channel.specs.Handshake.Epochs.{epoch_begun}
-use Rattle.sercos_law_run.specs.Journal.Runs.{looks_back, master_calls, IsClear, IsRun, is_disturbed_in}
+use Rattle.sercos_law_run.proofs.Words.{◌≡◌, inl, inr, ℕ, ◌<◌, ◌≤◌, false, not, List, [], ◌∷◌, ◌++◌, length, None, refl, sym, ap, ◌∙◌, subst, arith, ◌+◌, true, if◌then◌else◌, cases_eq, cases_lt, cond-false, cond-true, not-true, ◌==◌, nat_le, nat_tests, Job, RingView, Begun, CycleView, is_ready, outcomes_in, known_of, member, Past, all_ready, is_done, is_done_in, outcomes, Carry, Restarts, epoch_begun, looks_back, master_calls, IsClear, IsRun, is_disturbed_in, behind_mdt, views_of, IsOpened, AreSparse, early_costs, cycles_for, disturbances, start_costs}
 use Rattle.sercos_law_run.proofs.Agenda.AtWork.{IsFound, found_some}
-use Rattle.sercos_law_run.specs.Views.RingViews.{behind_mdt, views_of}
 use Rattle.sercos_law_run.proofs.Views.Members.{members_count}
-use Rattle.sercos_law_run.specs.Held.Opened.{IsOpened}
-use Rattle.sercos_law_run.proofs.Held.Runs.{s_known}
-use Rattle.sercos_law_run.proofs.Headline.HeadlineRuns.{first_store}
 use Rattle.sercos_law_run.proofs.Undisturbed.JobsBegun.{begun_now}
-use Rattle.sercos_law_run.proofs.Undisturbed.PhaseThree.{comes_three, is_false}
+use Rattle.sercos_law_run.proofs.Undisturbed.PhaseThree.{comes_three}
 use Rattle.sercos_law_run.proofs.Undisturbed.Stops.StopStays.{none_before, stop_after}
 use Rattle.sercos_law_run.proofs.Recovery.LateDown.{phase_now, no_lower}
-use Rattle.sercos_law_run.specs.Tolerance.Sparse.{AreSparse}
-use Rattle.sercos_law_run.proofs.Tolerance.Borne.{IsBase, IsBorne, borne_on}
+use Rattle.sercos_law_run.proofs.Tolerance.Borne.{IsBase, IsBorne, borne_on, some_drive}
 use Rattle.sercos_law_run.proofs.Tolerance.EarlySparse.{phase_is, phase_next, start_is}
-use Rattle.std.specs.Prelude.{◌==◌, nat_le}
-use Rattle.std.proofs.lemmas.Bool.Decides.{nat_tests}
-use Rattle.sercos_law_run.specs.Tolerance.Early.{early_costs}
-use Rattle.sercos_law_run.specs.Tolerance.Losses.{cycles_for, disturbances}
-use Rattle.sercos_law_run.specs.Tolerance.Rises.{start_costs}
 
 -- What a disturbed cycle costs a channel is what it costs a start-up, up to phase 3.
 abbrev pub start_for : ℕ → ℕ
@@ -50,9 +28,6 @@ same_for n low = elim (cases_lt n 2) [
 ]
 
 module _ (r : RingView) (jobs : List Job) (carry : Carry) (restarts : Restarts) (opened : IsOpened r jobs) where
-  abbrev back : List CycleView → Past
-  back j = looks_back r jobs (master_calls r carry restarts j)
-
   abbrev now : CycleView → List CycleView → Past
   now t j = behind_mdt r jobs carry restarts t.sent j
 
@@ -61,15 +36,6 @@ module _ (r : RingView) (jobs : List Job) (carry : Carry) (restarts : Restarts) 
 
   abbrev Base : List CycleView → Type 0
   Base before = IsBase r jobs carry restarts opened before
-
-  borne : (t : CycleView) (cycles before : List CycleView) → IsRun r jobs carry restarts (t ∷ (cycles ++ before))
-      → IsClear (t ∷ (cycles ++ before)) → Base before → AreSparse r carry restarts (t ∷ cycles) before
-      → Borne t (cycles ++ before)
-  borne t cycles before run clear starts sparse = borne_on r jobs carry restarts opened t cycles before run clear starts sparse
-
-  some_drive : 0 < length r.drives
-  some_drive = let count = members_count r in let some = (s_known r jobs carry restarts opened
-      (first_store r jobs carry restarts opened)).some in omega (arith, count, some)
 
   -- what the cycles cost, as long as phase 4 hasn't been commanded
   pub same_costs : (t : CycleView) (cycles before : List CycleView) → IsRun r jobs carry restarts (t ∷ (cycles ++ before))
@@ -80,7 +46,7 @@ module _ (r : RingView) (jobs : List Job) (carry : Carry) (restarts : Restarts) 
   same_costs t [] before run clear starts sparse low = refl
   same_costs t (u ∷ cycles) before run clear starts sparse low =
       let least = no_lower r jobs carry restarts opened t u (cycles ++ before) run clear
-      (borne u cycles before run.0 clear.0 starts sparse.0).stays (sparse.1.goes_on 0 (omega arith)) 0 some_drive in
+      (borne_on r jobs carry restarts opened u cycles before run.0 clear.0 starts sparse.0).stays (sparse.1.goes_on 0 (omega arith)) 0 (some_drive r jobs carry restarts opened) in
       let rest = same_costs u cycles before run.0 clear.0 starts sparse.0 (omega (arith, least, low)) in
       let one = ap (λ (n : ℕ). if is_disturbed_in r carry restarts (length (cycles ++ before)) u.sent then n else 0)
       (same_for u.phase (omega (arith, least, low))) in
@@ -106,7 +72,7 @@ module _ (r : RingView) (jobs : List Job) (carry : Carry) (restarts : Restarts) 
     unready =
         ap (λ (l : List Begun). is_ready (member (known_of r) found.place) (outcomes_in l))
         (sym (begun_now r jobs carry restarts opened u j run clear is.stays found.place there))
-        ∙ is_false (is_ready (member (known_of r) found.place) (outcomes (behind_mdt r jobs carry restarts u.sent j) found.place))
+        ∙ not-true (is_ready (member (known_of r) found.place) (outcomes (behind_mdt r jobs carry restarts u.sent j) found.place))
         found.passes;
   }
     where

@@ -1,26 +1,7 @@
 -- The requests to a drive are reported in time while disturbed cycles are sparse.
-use Rattle.std.proofs.Common.{◌≡◌, ◌⊎◌, inl, inr, ℕ, zero, suc, ◌+◌, ◌*◌, ◌<◌, ◌≤◌, Bool, true, false, List, [], ◌∷◌, ◌++◌, length, Option, Some, refl, sym, ap, ◌∙◌, subst, arith, if◌then◌else◌}
-use Rattle.std.specs.Prelude.{◌==◌, is_some, slice_get}
-use Rattle.std.proofs.lemmas.Bool.{cases_Bool, cond-false, eqb-true}
-use Rattle.sercos_step.specs.declared.request.Job.{Job}
-use Rattle.sercos_block.specs.Stores.{store_of}
-use Rattle.sercos_block.specs.Views.{RingView}
-use Rattle.sercos_trace.specs.Views.{CycleView}
-use Rattle.sercos_trace.specs.declared.events.Fall.{Fall}
-use Rattle.sercos_seat.specs.Ring.{Task}
-use Rattle.sercos_script.specs.Links.{Carry, Restarts}
-use Rattle.sercos_law_channel.specs.Handshake.Views.{View}
-use Rattle.sercos_law_channel.specs.Handshake.WholeRun.{AreSound}
-use Rattle.sercos_law_channel.specs.Pace.Ages.{AreAtWork}
-use Rattle.sercos_law_channel.specs.Pace.Costs.{AreTimed}
-use Rattle.sercos_law_run.specs.Journal.Runs.{drive_at, looks_back, master_calls, IsClear, IsRun}
-use Rattle.sercos_law_run.specs.Views.RingViews.{view_of, views_of}
-use Rattle.sercos_law_run.specs.Held.Opened.{IsOpened}
+use Rattle.sercos_law_run.proofs.Words.{◌≡◌, ◌⊎◌, inl, inr, ℕ, zero, suc, ◌+◌, ◌*◌, ◌<◌, ◌≤◌, Bool, true, false, List, [], ◌∷◌, ◌++◌, length, Option, Some, refl, sym, ap, ◌∙◌, subst, arith, if◌then◌else◌, ◌==◌, is_some, slice_get, cases_Bool, cond-false, eqb-true, Job, store_of, RingView, CycleView, Fall, Task, Carry, Restarts, View, AreSound, AreAtWork, AreTimed, drive_at, looks_back, master_calls, IsClear, IsRun, view_of, views_of, IsOpened, StartsEpoch, HaveTold, left_after, request_cycles, waiting_after, views_since, cycles_commanded, AreSparse, comes_timed}
 use Rattle.sercos_law_run.proofs.Held.Runs.{small}
 use Rattle.sercos_law_run.proofs.Headline.HeadlineRuns.{all_stand, first_store}
-use Rattle.sercos_law_run.specs.Undisturbed.EpochStarts.{StartsEpoch}
-use Rattle.sercos_law_run.specs.Undisturbed.Reports.{HaveTold, left_after, request_cycles, waiting_after}
-use Rattle.sercos_law_run.specs.Undisturbed.ViewsSince.{views_since}
 use Rattle.sercos_law_run.proofs.Undisturbed.Checks.Carried.{are_carried}
 use Rattle.sercos_law_run.proofs.Undisturbed.Checks.CommandRuns.{first_commands}
 use Rattle.sercos_law_run.proofs.Undisturbed.EndedInTime.{LastsShort, length_since}
@@ -30,19 +11,13 @@ use Rattle.sercos_law_run.proofs.Undisturbed.OneRequest.{room}
 use Rattle.sercos_law_run.proofs.Undisturbed.Checks.PassedCycles.{views_split}
 use Rattle.sercos_law_run.proofs.Undisturbed.Checks.PassedRuns.{commands_so}
 use Rattle.sercos_law_run.proofs.Undisturbed.PhaseTwo.{listed_all}
-use Rattle.sercos_law_run.proofs.Undisturbed.ToldInTime.{IsQuiet, beyond, left_waiting, told_along, told_if_few}
+use Rattle.sercos_law_run.proofs.Undisturbed.ToldInTime.{IsQuiet, beyond, left_waiting, told_along, told_if_few, one_more_time}
 use Rattle.sercos_law_run.proofs.Recovery.LateDown.{phase_now}
-use Rattle.sercos_law_run.specs.Tolerance.Reports.{cycles_commanded}
-use Rattle.sercos_law_run.specs.Tolerance.Sparse.{AreSparse}
 use Rattle.sercos_law_run.proofs.Tolerance.Borne.{IsBorne, all_borne}
 use Rattle.sercos_law_run.proofs.Tolerance.EarlySparse.{start_is}
 use Rattle.sercos_law_run.proofs.Tolerance.InARow.{AreInARow, row_lasts}
 use Rattle.sercos_law_run.proofs.Tolerance.Spared.{spared_in}
 use Rattle.sercos_law_run.proofs.Tolerance.Steps.{IsYoung}
-use Rattle.sercos_law_channel.proofs.Pace.TimedCommands.{comes_timed}
-
-one_more_time : (i c : ℕ) → (i + 1) * c ≡ suc i * c
-one_more_time i c = grind arith
 
 fewer : (b : Bool) (n m : ℕ) → suc n < (if b then suc m else m) → n < m
 fewer true n m low = omega (arith, low)
@@ -54,11 +29,6 @@ some_times i c = grind arith
 module _ (r : RingView) (jobs : List Job) (carry : Carry) (restarts : Restarts) (opened : IsOpened r jobs) where
   abbrev Borne : CycleView → List CycleView → Type 0
   Borne t j = IsBorne r jobs carry restarts opened t j
-
-  borne : (t : CycleView) (cycles before : List CycleView) → IsRun r jobs carry restarts (t ∷ (cycles ++ before))
-      → IsClear (t ∷ (cycles ++ before)) → StartsEpoch r jobs carry restarts before → AreSparse r carry restarts (t ∷ cycles) before
-      → Borne t (cycles ++ before)
-  borne t cycles before run clear starts sparse = all_borne r jobs carry restarts opened t cycles before run clear starts sparse
 
   going_in : (t : CycleView) (j : List CycleView) → IsRun r jobs carry restarts (t ∷ j) → Borne t j → IsGoing r jobs carry restarts t j
   going_in t j run is = record {
@@ -80,7 +50,7 @@ module _ (r : RingView) (jobs : List Job) (carry : Carry) (restarts : Restarts) 
         → IsClear (t ∷ (cycles ++ before)) → StartsEpoch r jobs carry restarts before → AreSparse r carry restarts (t ∷ cycles) before
         → IsSpared t (cycles ++ before)
     spared_now t cycles before run clear starts sparse = record {
-      goes_on = going_in t (cycles ++ before) run (borne t cycles before run clear starts sparse);
+      goes_on = going_in t (cycles ++ before) run (all_borne r jobs carry restarts opened t cycles before run clear starts sparse);
       spared = λ late. spared_in r jobs carry restarts opened t cycles before run clear starts sparse late k below;
     }
 

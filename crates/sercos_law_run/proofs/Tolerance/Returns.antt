@@ -1,59 +1,26 @@
 -- After the last faults that aren't sparse the ring returns in time, while sparse ones go on.
-use Rattle.std.proofs.Common.{◌≡◌, ◌⊎◌, inl, inr, ℕ, suc, ◌+◌, ◌*◌, ◌<◌, ◌≤◌, Bool, true, false, List, [], ◌∷◌, ◌++◌, length, Option, Some, None, refl, sym, ap, ◌∙◌, subst, arith, length-append}
-use Rattle.std.specs.Prelude.{is_some}
-use Rattle.std.proofs.lemmas.Bool.{cases_eq, cases_lt, false≢true}
-use Rattle.sercos_step.specs.declared.request.Job.{Job}
-use Rattle.sercos_block.specs.Startup.{startup_bound}
-use Rattle.sercos_block.specs.Views.{RingView}
-use Rattle.sercos_trace.specs.Views.{CycleView}
-use Rattle.sercos_trace.specs.declared.events.Fall.{Fall}
-use Rattle.sercos_seat.specs.Ring.{known_of, tasks_for}
-use Rattle.sercos_master.specs.Annals.{Past, fall_of}
-use Rattle.sercos_script.specs.Links.{Carry, Restarts}
-use Rattle.sercos_law_channel.specs.Pace.Passages.{IsUp}
-use Rattle.sercos_law_run.specs.Bounds.Bounds.{recovery_bound, slowest, spared_cycles}
+use Rattle.sercos_law_run.proofs.Words.{◌≡◌, ◌⊎◌, inl, inr, ℕ, suc, ◌+◌, ◌*◌, ◌<◌, ◌≤◌, Bool, true, false, List, [], ◌∷◌, ◌++◌, length, Option, Some, None, refl, sym, ap, ◌∙◌, subst, arith, length-append, is_some, cases_eq, cases_lt, false≢true, none-some, Job, startup_bound, RingView, CycleView, Fall, known_of, tasks_for, Past, fall_of, Carry, Restarts, IsUp, recovery_bound, slowest, spared_cycles, IsClear, IsDisturbed, IsRun, begins, looks_back, master_calls, middle, behind_mdt, view_of, views_of, IsOpened, StartsEpoch, NoneFalls, TellsNoFall, IsUndisturbed, IsDown, BeginsAnew, Tolerates, HasFallen, ReturnsSparse, start_cost, start_costs, AreSparse, IsSparse, Stop, StopsForCause, IsBack}
 use Rattle.sercos_law_run.proofs.Bounds.FallCycles.{spared_room}
-use Rattle.sercos_law_run.specs.Journal.Runs.{IsClear, IsDisturbed, IsRun, begins, looks_back, master_calls, middle}
-use Rattle.sercos_law_run.specs.Views.RingViews.{behind_mdt, view_of, views_of}
-use Rattle.sercos_law_run.specs.Held.Opened.{IsOpened}
-use Rattle.sercos_law_run.specs.Undisturbed.EpochStarts.{StartsEpoch}
-use Rattle.sercos_law_run.specs.Undisturbed.StartUps.{NoneFalls, TellsNoFall}
-use Rattle.sercos_law_run.specs.Undisturbed.StopsLater.{IsRight}
-use Rattle.sercos_law_run.specs.Undisturbed.Undisturbed.{IsUndisturbed}
 use Rattle.sercos_law_run.proofs.Undisturbed.Answered.{tells_going}
+use Rattle.sercos_law_run.proofs.Undisturbed.Arriving.Small.{never_both}
 use Rattle.sercos_law_run.proofs.Undisturbed.NeverFalls.{busy_low}
 use Rattle.sercos_law_run.proofs.Undisturbed.PhaseZero.{starts_at_fall, starts_at_restart}
-use Rattle.sercos_law_run.specs.Recovery.Stretches.{IsDown}
 use Rattle.sercos_law_run.proofs.Recovery.EarlyPhases.{up_in_one}
-use Rattle.sercos_law_run.proofs.Recovery.EpochStops.{same_start}
 use Rattle.sercos_law_run.proofs.Recovery.FallsInTime.{greatest_low}
 use Rattle.sercos_law_run.proofs.Recovery.FallsSoon.{down_or_up}
 use Rattle.sercos_law_run.proofs.Recovery.LateDown.{no_lower, phase_now}
 use Rattle.sercos_law_run.proofs.Recovery.Stretches.{rest_clear, rest_runs, stays_down_in, up_in, whole_at}
-use Rattle.sercos_law_run.specs.Tolerance.Bears.{BeginsAnew, Tolerates}
-use Rattle.sercos_law_run.specs.Tolerance.Returns.{HasFallen, ReturnsSparse}
-use Rattle.sercos_law_run.specs.Tolerance.Rises.{start_cost, start_costs}
-use Rattle.sercos_law_run.specs.Tolerance.Sparse.{AreSparse, IsSparse}
-use Rattle.sercos_law_run.proofs.Tolerance.Borne.{IsBase, borne_on, calm_or_not, zero_is, IsHeld}
+use Rattle.sercos_law_run.proofs.Tolerance.Borne.{IsBase, borne_on, calm_or_not, zero_is, IsHeld, some_drive}
 use Rattle.sercos_law_run.proofs.Tolerance.DownSparse.{falls_sparse, fall_sparse}
 use Rattle.sercos_law_run.proofs.Tolerance.Settles.{IsSettled, early_few, first_held, settles}
-use Rattle.sercos_trace.specs.declared.events.Stop.{Stop}
 use Rattle.sercos_law_run.proofs.Typed.Mdts.{phase_low}
-use Rattle.sercos_law_run.specs.Undisturbed.WholeRuns.{StopsForCause}
-use Rattle.sercos_law_run.proofs.Undisturbed.Arriving.Small.{none_some}
 use Rattle.sercos_law_run.proofs.Undisturbed.Stops.StopStays.{none_before}
+use Rattle.sercos_law_run.proofs.Undisturbed.Stops.StopOnce.{same_start}
 use Rattle.sercos_law_run.proofs.Undisturbed.WholeRuns.{caused}
-use Rattle.sercos_law_run.specs.Recovery.Recovers.{IsBack}
 use Rattle.sercos_law_run.proofs.Recovery.EarlyStops.{early_in, stands_at}
 use Rattle.sercos_law_run.proofs.Recovery.Returns.{right_four}
 use Rattle.sercos_law_run.proofs.Tolerance.Ends.{ends_so}
-use Rattle.sercos_block.proofs.RingLemmas.{IsRing-is_ring}
-use Rattle.sercos_law_channel.proofs.Pace.CallAges.{stays_a_run}
 use Rattle.sercos_law_run.proofs.Undisturbed.Cited.{never_stops_in_four, stops_in_three, stops_in_two}
-
-never_both : (b : Bool) → b ≡ true → b ≡ false → ⊥
-never_both true on off = cc
-never_both false on off = cc
 
 -- A JOURNAL CUT where none of some cycles falls: the oldest of them,
 record IsOpenedBy (r : RingView) (jobs : List Job) (carry : Carry) (restarts : Restarts) (cycles rest : List CycleView) : Type 0 where
@@ -187,12 +154,9 @@ once_sparse tolerates r jobs carry restarts t j opened run clear cycles before l
     (tolerates r jobs carry restarts t j opened run clear x.newer x.before (is ∙ x.is) x.anew x.sparse).tells
 
 module _ (r : RingView) (jobs : List Job) (carry : Carry) (restarts : Restarts) (opened : IsOpened r jobs) where
-  some_drive : 0 < length r.drives
-  some_drive = let some = (IsRing-is_ring r opened.valid).some in omega (arith, some)
-
   -- all of this has room in the bound
   room : spared_cycles r + 140 + startup_bound r + 41 * (slowest r.drives + 2) ≤ recovery_bound r
-  room = spared_room r some_drive (greatest_low (λ x. x.busy) 20 r.drives (λ k low. busy_low r k opened.valid low))
+  room = spared_room r (some_drive r jobs carry restarts opened) (greatest_low (λ x. x.busy) 20 r.drives (λ k low. busy_low r k opened.valid low))
 
   abbrev Base : List CycleView → Type 0
   Base j = IsBase r jobs carry restarts opened j
@@ -253,7 +217,7 @@ module _ (r : RingView) (jobs : List Job) (carry : Carry) (restarts : Restarts) 
           (first_held r jobs carry restarts opened (λ k. k < length r.drives) (λ k below. below) f u b run_f clear_f calm stays_before
           still_before stays_f (λ k below. up_at f (u ∷ b) run_f clear_f calm stays_f k below (up k below))
           (elim known [ inl high ↦ inl high | inr before ↦ inr (before.0, λ k below. before.1 k below (up k below)) ]))
-          late some_drive newer run clear sparse stays) [
+          late (some_drive r jobs carry restarts opened) newer run clear sparse stays) [
             | inr x ↦ inr x
             | inl soon ↦ inl (soon_if 131 newer (f ∷ u ∷ b) (
                 let few = early_few r jobs carry restarts opened (length (f ∷ u ∷ b)) (newer ++ f ∷ u ∷ b) soon in
@@ -385,7 +349,7 @@ module _ (r : RingView) (jobs : List Job) (carry : Carry) (restarts : Restarts) 
         late_too : 3 ≤ third.phase
         late_too =
             let least = no_lower r jobs carry restarts opened third second (first ∷ lost ∷ before) run_three clear_three second_stays
-            (third_sparse.goes_on 0 (omega arith)) 0 some_drive in omega (arith, least, late)
+            (third_sparse.goes_on 0 (omega arith)) 0 (some_drive r jobs carry restarts opened) in omega (arith, least, late)
 
         third_calm : IsUndisturbed r carry restarts third (second ∷ first ∷ lost ∷ before)
         third_calm = elim (calm_or_not r carry restarts third (second ∷ first ∷ lost ∷ before)) [
@@ -422,7 +386,7 @@ module _ (r : RingView) (jobs : List Job) (carry : Carry) (restarts : Restarts) 
 
         least : first.phase ≤ second.phase
         least = no_lower r jobs carry restarts opened second first (lost ∷ before) run_two clear_two first_stays
-            (second_sparse.goes_on 0 (omega arith)) 0 some_drive
+            (second_sparse.goes_on 0 (omega arith)) 0 (some_drive r jobs carry restarts opened)
 
         was_up : (k : ℕ) → k < length r.drives → (IsDown r jobs carry restarts k (second ∷ first ∷ lost ∷ before) → ⊥)
             → IsUp (view_of r jobs carry restarts k first (lost ∷ before)) (views_of r jobs carry restarts k (lost ∷ before))
@@ -614,7 +578,7 @@ module _ (r : RingView) (jobs : List Job) (carry : Carry) (restarts : Restarts) 
     cause_at : (t : CycleView) (j : List CycleView) (x : Stop) → IsRun r jobs carry restarts (t ∷ j) → IsClear (t ∷ j)
         → (behind_mdt r jobs carry restarts t.sent j).stop ≡ Some x → StopsForCause r x
     cause_at t j x run clear is = caused r jobs carry restarts t j x (elim (cases_lt t.phase 2) [
-      | inl low ↦ absurd (none_some x (sym (early_in r jobs carry restarts (middle r carry restarts t.sent j)
+      | inl low ↦ absurd (none-some x (sym (early_in r jobs carry restarts (middle r carry restarts t.sent j)
           (let same = phase_now r jobs carry restarts t j run.1 in omega (arith, same, low))) ∙ is))
       | inr late ↦ elim (cases_eq t.phase 2) [
         | inl at_two ↦ elim (stops_in_two r jobs carry restarts t j x opened run clear at_two is) [
@@ -623,7 +587,7 @@ module _ (r : RingView) (jobs : List Job) (carry : Carry) (restarts : Restarts) 
         ]
         | inr other ↦ elim (cases_eq t.phase 3) [
           | inl at_three ↦ inr (inr (stops_in_three r jobs carry restarts t j x opened run clear at_three is))
-          | inr more_than ↦ absurd (none_some x (sym (never_stops_in_four r jobs carry restarts t j opened run clear
+          | inr more_than ↦ absurd (none-some x (sym (never_stops_in_four r jobs carry restarts t j opened run clear
               (let most = phase_low (known_of r) (tasks_for (known_of r) jobs) (begins r carry restarts j) in
               let same = run.1.phase in omega (arith, late, other, more_than, most, same))) ∙ is))
         ]

@@ -1,32 +1,9 @@
 -- Phase 4 begins in time while disturbed cycles are sparse, if the ring is right.
-use Rattle.std.proofs.Common.{◌≡◌, inl, inr, ℕ, suc, ◌+◌, ◌<◌, ◌≤◌, false, List, ◌∷◌, ◌++◌, length, Option, None, Some, refl, sym, ap, ◌∙◌, subst, arith}
-use Rattle.std.proofs.lemmas.Bool.{cases_lt, false≢true}
-use Rattle.sercos_step.specs.declared.request.Job.{Job}
-use Rattle.sercos_block.specs.Startup.{startup_bound}
-use Rattle.sercos_block.specs.Views.{RingView}
-use Rattle.sercos_service_master.specs.Begun.{Begun}
-use Rattle.sercos_service_master.specs.Calls.{begun_by}
-use Rattle.sercos_law_channel.specs.Handshake.Epochs.{epoch_begun}
-use Rattle.sercos_trace.specs.Views.{CycleView}
-use Rattle.sercos_trace.specs.declared.events.Stop.{Stop}
-use Rattle.sercos_seat.specs.Agenda.{is_ready, reads_count}
-use Rattle.sercos_seat.specs.Channel.{outcomes_in}
-use Rattle.sercos_seat.specs.Ring.{known_of, member, tasks_for}
-use Rattle.sercos_master.specs.Annals.{Past, outcomes}
-use Rattle.sercos_script.specs.Links.{Carry, Restarts}
-use Rattle.sercos_law_run.specs.Bounds.Bounds.{command_cycles}
-use Rattle.sercos_law_run.specs.Journal.Runs.{drive_at, looks_back, master_calls, IsClear, IsRun}
-use Rattle.sercos_law_run.specs.Views.RingViews.{behind_mdt, views_of}
-use Rattle.sercos_law_run.specs.Held.Opened.{IsOpened}
+use Rattle.sercos_law_run.proofs.Words.{◌≡◌, inl, inr, ℕ, suc, ◌+◌, ◌<◌, ◌≤◌, false, List, ◌∷◌, ◌++◌, length, Option, None, Some, refl, sym, ap, ◌∙◌, subst, arith, cases_lt, false≢true, Job, startup_bound, RingView, Begun, begun_by, epoch_begun, CycleView, Stop, is_ready, reads_count, outcomes_in, known_of, member, tasks_for, Past, outcomes, Carry, Restarts, command_cycles, drive_at, looks_back, master_calls, IsClear, IsRun, behind_mdt, views_of, IsOpened, IsRight, early_costs, disturbances, start_costs, AreSparse}
 use Rattle.sercos_law_run.proofs.Held.Runs.{drive_got}
 use Rattle.sercos_law_run.proofs.Typed.Mdts.{phase_low}
-use Rattle.sercos_law_run.specs.Undisturbed.StopsLater.{IsRight}
 use Rattle.sercos_law_run.proofs.Undisturbed.InTime.{within_bound}
 use Rattle.sercos_law_run.proofs.Undisturbed.JobsBegun.{begun_now}
-use Rattle.sercos_law_run.specs.Tolerance.Early.{early_costs}
-use Rattle.sercos_law_run.specs.Tolerance.Losses.{disturbances}
-use Rattle.sercos_law_run.specs.Tolerance.Rises.{start_costs}
-use Rattle.sercos_law_run.specs.Tolerance.Sparse.{AreSparse}
 use Rattle.sercos_law_run.proofs.Tolerance.Borne.{IsBase, IsBorne, borne_on}
 use Rattle.sercos_law_run.proofs.Tolerance.EarlySparse.{early_sparse, phase_is}
 use Rattle.sercos_law_run.proofs.Tolerance.NotYet.{AtRise, InEarly, InThree, InTwo, IsEpoch, IsUnready, NotYet, epoch_before, not_yet, same_costs}
@@ -36,9 +13,6 @@ use Rattle.sercos_law_run.proofs.Bounds.BoundSums.{is_below_greatest}
 use Rattle.sercos_law_run.proofs.Undisturbed.Cited.{is_ready_if_ended, stops_in_three, stops_in_two}
 
 module _ (r : RingView) (jobs : List Job) (carry : Carry) (restarts : Restarts) (opened : IsOpened r jobs) where
-  abbrev back : List CycleView → Past
-  back j = looks_back r jobs (master_calls r carry restarts j)
-
   abbrev now : CycleView → List CycleView → Past
   now t j = behind_mdt r jobs carry restarts t.sent j
 
@@ -50,11 +24,6 @@ module _ (r : RingView) (jobs : List Job) (carry : Carry) (restarts : Restarts) 
 
   abbrev Epoch : List CycleView → List CycleView → Type 0
   Epoch cycles before = IsEpoch r jobs carry restarts opened cycles before
-
-  borne : (t : CycleView) (cycles before : List CycleView) → IsRun r jobs carry restarts (t ∷ (cycles ++ before))
-      → IsClear (t ∷ (cycles ++ before)) → Base before → AreSparse r carry restarts (t ∷ cycles) before
-      → Borne t (cycles ++ before)
-  borne t cycles before run clear starts sparse = borne_on r jobs carry restarts opened t cycles before run clear starts sparse
 
   -- A RING THAT IS RIGHT has no stop.
   pub none_in_two : (t : CycleView) (j : List CycleView) → IsRun r jobs carry restarts (t ∷ j) → IsClear (t ∷ j) → t.phase ≡ 2 → IsRight r
@@ -99,7 +68,7 @@ module _ (r : RingView) (jobs : List Job) (carry : Carry) (restarts : Restarts) 
   rises_sparse t cycles before run clear starts sparse right long = elim (cases_lt t.phase 4) [
     | inr high ↦ (let low = phase_low (known_of r) (tasks_for (known_of r) jobs) (master_calls r carry restarts (cycles ++ before)) in
         let same = phase_is r jobs carry restarts opened t (cycles ++ before) run
-        (borne t cycles before run clear starts sparse) in omega (arith, high, low, same))
+        (borne_on r jobs carry restarts opened t cycles before run clear starts sparse) in omega (arith, high, low, same))
     | inl low ↦ absurd (late (omega (arith, low)) (not_yet r jobs carry restarts opened t cycles before run clear starts sparse
         (let bound = within_bound r in omega (arith, bound, long)) (omega (arith, low))
         (λ is_three. none_in_three t (cycles ++ before) run clear is_three right _ refl)))
@@ -145,7 +114,7 @@ module _ (r : RingView) (jobs : List Job) (carry : Carry) (restarts : Restarts) 
               ≤ suc (length older) → ⊥
           at_three v older e three_is then_is stop_none last enough =
               let le = three_sparse r jobs carry restarts opened v older before e.run e.clear starts e.sparse three_is then_is stop_none last.place last.there
-              last.unready (few_in v (older ++ before) e.run e.clear (borne v older before e.run e.clear starts e.sparse) right last.place
+              last.unready (few_in v (older ++ before) e.run e.clear (borne_on r jobs carry restarts opened v older before e.run e.clear starts e.sparse) right last.place
               last.there last.unready) in
               let most = is_below_greatest command_cycles r.drives last.place (drive_at r last.place) (command_cycles (drive_at r last.place))
               (drive_got r last.place last.there) (omega arith) in

@@ -1,47 +1,21 @@
 -- After faults that aren't sparse: once each drive is in the commanded phase in an undisturbed cycle, and the ring hasn't fallen for as
 -- long as a step may take, it bears sparse faults from there on as from phase 0.
-use Rattle.std.proofs.Common.{◌≡◌, ◌⊎◌, inl, inr, ℕ, suc, ◌+◌, ◌<◌, ◌≤◌, Bool, true, false, List, [], ◌∷◌, ◌++◌, length, Option, None, refl, sym, ap, ◌∙◌, subst, arith}
-use Rattle.std.specs.Prelude.{is_some}
-use Rattle.std.proofs.lemmas.Bool.{cases_lt}
-use Rattle.sercos_step.specs.declared.request.Job.{Job}
-use Rattle.sercos_block.specs.Views.{RingView}
-use Rattle.sercos_service_master.specs.Begun.{open_in}
-use Rattle.sercos_trace.specs.Views.{CycleView}
-use Rattle.sercos_trace.specs.declared.events.Fall.{Fall}
-use Rattle.sercos_seat.specs.Channel.{is_place}
-use Rattle.sercos_seat.specs.Ring.{known_of}
-use Rattle.sercos_master.specs.Annals.{count_addressed, fall_of}
-use Rattle.sercos_script.specs.Links.{Carry, Restarts}
-use Rattle.sercos_law_channel.specs.Handshake.Epochs.{begun_in, epoch_begun}
+use Rattle.sercos_law_run.proofs.Words.{◌≡◌, ◌⊎◌, inl, inr, ℕ, suc, ◌+◌, ◌<◌, ◌≤◌, true, false, List, [], ◌∷◌, ◌++◌, length, Option, None, refl, sym, ap, ◌∙◌, subst, arith, is_some, cases_lt, Job, RingView, open_in, CycleView, Fall, is_place, known_of, count_addressed, fall_of, Carry, Restarts, begun_in, epoch_begun, View, processed_in, staying, IsUp, IsWhole, drive_at, IsClear, IsDisturbed, IsRun, behind_mdt, view_of, views_of, IsOpened, NoneFalls, IsUndisturbed, start_cost, start_costs, AreCalm, AreSparse, IsSparse, stays_a_run}
 use Rattle.sercos_law_channel.specs.Handshake.Runs.{IsRun as IsViewRun}
-use Rattle.sercos_law_channel.specs.Handshake.Views.{View, processed_in}
-use Rattle.sercos_law_channel.specs.Pace.ChannelCalls.{staying}
-use Rattle.sercos_law_channel.specs.Pace.Passages.{IsUp, IsWhole}
-use Rattle.sercos_law_run.specs.Journal.Runs.{drive_at, IsClear, IsDisturbed, IsRun}
-use Rattle.sercos_law_run.specs.Views.RingViews.{behind_mdt, view_of, views_of}
 use Rattle.sercos_law_run.proofs.Views.ViewRuns.{views_count}
-use Rattle.sercos_law_run.specs.Held.Opened.{IsOpened}
 use Rattle.sercos_law_run.proofs.Headline.HeadlineRuns.{all_stand}
-use Rattle.sercos_law_run.specs.Undisturbed.StartUps.{NoneFalls}
-use Rattle.sercos_law_run.specs.Undisturbed.Undisturbed.{IsUndisturbed}
 use Rattle.sercos_law_run.proofs.Undisturbed.Arriving.Comes.{calm_in}
 use Rattle.sercos_law_run.proofs.Undisturbed.NeverFalls.{busy_low}
 use Rattle.sercos_law_run.proofs.Undisturbed.StaysUp.{addressed_once}
 use Rattle.sercos_law_run.proofs.Undisturbed.Arriving.WholeIn.{whole_in}
+use Rattle.sercos_law_run.proofs.Undisturbed.Arriving.Small.{never_both}
 use Rattle.sercos_law_run.proofs.Recovery.LateDown.{no_lower, phase_after, phase_now}
 use Rattle.sercos_law_run.proofs.Recovery.Stretches.{whole_at}
-use Rattle.sercos_law_run.specs.Tolerance.Rises.{start_cost, start_costs}
-use Rattle.sercos_law_run.specs.Tolerance.Sparse.{AreCalm, AreSparse, IsSparse}
 use Rattle.sercos_law_run.proofs.Tolerance.Borne.{HasStood, IsBorne, IsHeld, aged_after, aged_all, calm_or_not, next_held}
 use Rattle.sercos_law_run.proofs.Tolerance.FirstCycles.{never_first}
 use Rattle.sercos_law_run.proofs.Tolerance.Losses.{none_lost_in}
 use Rattle.sercos_law_run.proofs.Tolerance.Standing.{hears_whole, takes_whole}
 use Rattle.sercos_law_run.proofs.Tolerance.Steps.{IsYoungSince, young_at_last, young_first}
-use Rattle.sercos_law_channel.proofs.Pace.CallAges.{stays_a_run}
-
-never_both : (b : Bool) → b ≡ true → b ≡ false → ⊥
-never_both true on off = cc
-never_both false on off = cc
 
 -- of two undisturbed cycles the newest is
 newest_of : (r : RingView) (carry : Carry) (restarts : Restarts) (l : List CycleView) → AreCalm r carry restarts 2 l

@@ -1,18 +1,8 @@
 -- How a drive stands in a cycle of which it may miss something, and what is heard and processed in a whole one.
-use Rattle.std.proofs.Common.{◌≡◌, ◌⊎◌, inl, inr, ℕ, ◌+◌, ◌≤◌, Bool, true, false, not, ◌&&◌, List, [], ◌∷◌, length, Option, Some, None, refl, sym, ap, ap₂, ◌∙◌, arith, if◌then◌else◌, max}
-use Rattle.std.specs.Prelude.{nat_le, is_some}
-use Rattle.std.proofs.lemmas.Bool.{and_from, cond-false, cond-true, false≢true, le-leb, leb-true}
-use Rattle.sercos_service_master.specs.Begun.{Begun, Said, open_in}
-use Rattle.sercos_law_channel.specs.Handshake.Epochs.{begun_in, epoch_begun}
+use Rattle.sercos_law_run.proofs.Words.{◌≡◌, ◌⊎◌, inl, inr, ℕ, ◌+◌, ◌≤◌, Bool, true, false, not, ◌&&◌, List, [], ◌∷◌, length, Option, Some, None, refl, sym, ap, ap₂, ◌∙◌, arith, if◌then◌else◌, max, nat_le, is_some, and_from, cond-false, cond-true, false≢true, le-leb, leb-true, Begun, open_in, begun_in, epoch_begun, Standing, View, afresh, before_mst, got_in, moved, processed_in, processed_of, record_in, standing, stood_in, takes_in, staying, IsPassed, IsUp, IsWhole, was_addressed, comes_to, ends, open_late, moved_same, got_some, moved_next, IsBehind, stands_no_later}
+use Rattle.sercos_service_master.specs.Begun.{Said}
 use Rattle.sercos_law_channel.specs.Handshake.Runs.{IsRun}
-use Rattle.sercos_law_channel.specs.Handshake.Views.{Standing, View, afresh, before_mst, got_in, moved, processed_in, processed_of, record_in, standing, stood_in, takes_in}
-use Rattle.sercos_law_channel.specs.Pace.ChannelCalls.{staying}
-use Rattle.sercos_law_channel.specs.Pace.Passages.{IsPassed, IsUp, IsWhole, was_addressed}
-use Rattle.sercos_law_channel.proofs.Theorems.{comes_to, ends, open_late, stands_as_commanded}
-use Rattle.sercos_law_channel.proofs.Handshake.RunFacts.{moved_same}
-use Rattle.sercos_law_channel.proofs.Pace.WholeCycles.{got_some, moved_next}
-use Rattle.sercos_law_run.specs.Tolerance.Bears.{IsBehind}
-use Rattle.sercos_law_channel.proofs.Handshake.RunFacts.{stands_no_later}
+use Rattle.sercos_law_channel.proofs.Theorems.{stands_as_commanded}
 
 -- a cycle at whose end the master doesn't fall
 pub stays_same : (v : View) → v.falls ≡ false → staying v ≡ v

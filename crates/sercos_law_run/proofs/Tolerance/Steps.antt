@@ -1,26 +1,7 @@
 -- How old a step gets on a channel, if few cycles in a row lose its record or its answer.
-use Rattle.std.proofs.Common.{◌≡◌, ◌⊎◌, inl, inr, ℕ, suc, ◌+◌, ◌<◌, ◌≤◌, Bool, true, false, List, [], ◌∷◌, length, Option, Some, None, refl, sym, ap, ◌∙◌, arith, if◌then◌else◌}
-use Rattle.std.specs.Prelude.{◌==◌, IfSome, is_some}
-use Rattle.std.proofs.lemmas.Bool.{cond-false, cond-true, eqb-true, false≢true}
-use Rattle.sercos_telegram.specs.declared.words.Status.{Status}
-use Rattle.sercos_step.specs.declared.request.Request.{Request}
-use Rattle.sercos_step.specs.declared.step.Step.{Step}
-use Rattle.sercos_service_drive.specs.Log.{Entry, Processed}
-use Rattle.sercos_service_drive.specs.Replies.{log_of, reply_of}
-use Rattle.sercos_service_master.specs.Begun.{Begun, answer_in, answers_in, answers_it, open_in, steps_in, with_answer}
-use Rattle.sercos_law_channel.specs.Handshake.Epochs.{begun_in, epoch_begun, epoch_log, epoch_records, log_in, records_in_views, unless_restart, with_begun, with_heard}
-use Rattle.sercos_law_channel.specs.Handshake.InStep.{AreInStep, Idle, Kept, Sent, log_steps}
-use Rattle.sercos_law_channel.specs.Handshake.Moves.{with_processed}
-use Rattle.sercos_law_channel.specs.Handshake.Runs.{IsRun, IsShown}
-use Rattle.sercos_law_channel.specs.Handshake.Views.{Heard, View, processed_in, record_in, standing, stood_in, with_record}
-use Rattle.sercos_law_channel.specs.Pace.Ages.{age_by, age_in}
-use Rattle.sercos_law_channel.proofs.Theorems.{Nothing, Processes, Record, in_step, length-replies_of, length-steps_of, processes, said_of}
-use Rattle.sercos_law_channel.proofs.Handshake.EpochRuns.{begun_of, heard_of, joined, restarted, shown_of}
-use Rattle.sercos_law_channel.proofs.Handshake.HandshakeMoves.{log-taken}
-use Rattle.sercos_law_channel.proofs.Pace.AgeRuns.{log_grows}
-use Rattle.sercos_law_channel.proofs.Pace.LateMoves.{BusyLate, FreeLate, NewLate, WorksLate, heard_late}
-use Rattle.sercos_law_channel.proofs.Pace.LateRuns.{head_before, taken_before}
-use Rattle.sercos_law_channel.proofs.Pace.OnTime.{joins}
+use Rattle.sercos_law_run.proofs.Words.{◌≡◌, ◌⊎◌, inl, inr, ℕ, suc, ◌+◌, ◌<◌, ◌≤◌, Bool, true, false, List, [], ◌∷◌, length, Option, Some, None, refl, sym, ap, ◌∙◌, arith, if◌then◌else◌, ◌==◌, IfSome, is_some, cond-false, cond-true, eqb-true, false≢true, Status, Request, Step, Entry, Processed, log_of, reply_of, Begun, answer_in, answers_in, answers_it, open_in, steps_in, with_answer, begun_in, epoch_begun, epoch_log, epoch_records, log_in, records_in_views, unless_restart, with_begun, with_heard, AreInStep, Idle, Kept, log_steps, with_processed, IsShown, Heard, View, processed_in, record_in, standing, stood_in, with_record, age_by, age_in, Nothing, Processes, Record, in_step, length-replies_of, length-steps_of, processes, said_of, begun_of, heard_of, joined, restarted, shown_of, log-taken, log_grows, BusyLate, FreeLate, NewLate, WorksLate, heard_late, head_before, taken_before, joins}
+use Rattle.sercos_law_channel.specs.Handshake.InStep.{Sent}
+use Rattle.sercos_law_channel.specs.Handshake.Runs.{IsRun}
 
 -- WHERE A STEP IS, by the numbers of steps begun, answers taken and steps accepted: none is open; one is, which the drive hasn't accepted;
 -- or one that it has accepted, and that has no answer.

@@ -1,55 +1,24 @@
 -- How long phase 3 lasts while disturbed cycles are sparse.
-use Rattle.std.proofs.Common.{◌≡◌, inl, inr, ℕ, zero, suc, ◌+◌, ◌<◌, ◌≤◌, Bool, true, false, List, [], ◌∷◌, ◌++◌, length, Option, None, Some, refl, sym, ap, ◌∙◌, subst, arith, if◌then◌else◌}
-use Rattle.std.specs.Prelude.{◌==◌, is_some}
-use Rattle.std.specs.List.{sum_by}
-use Rattle.std.proofs.lemmas.Bool.{cases_eq, cond-false, eq-eqb, ne_eqb}
-use Rattle.sercos_step.specs.declared.request.Job.{Job}
-use Rattle.sercos_block.specs.Stores.{store_of}
-use Rattle.sercos_block.specs.Views.{RingView}
-use Rattle.sercos_service_master.specs.Begun.{Begun, open_in}
-use Rattle.sercos_timing.specs.Views.{PlanView}
-use Rattle.sercos_trace.specs.Views.{CycleView}
-use Rattle.sercos_seat.specs.Agenda.{is_ready, reads_count}
-use Rattle.sercos_seat.specs.Channel.{outcomes_in}
-use Rattle.sercos_seat.specs.Ring.{known_of, member}
-use Rattle.sercos_master.specs.Annals.{Past, is_done}
-use Rattle.sercos_script.specs.Links.{Carry, Restarts}
-use Rattle.sercos_law_channel.specs.Handshake.Epochs.{begun_in, epoch_begun, unless_restart, with_heard}
-use Rattle.sercos_law_channel.specs.Handshake.Views.{View}
-use Rattle.sercos_law_channel.specs.Pace.Costs.{cost_in, cost_of}
-use Rattle.sercos_law_channel.specs.Pace.Stretches.{open_since}
-use Rattle.sercos_law_channel.specs.Pace.Times.{one_more}
-use Rattle.sercos_law_run.specs.Bounds.Bounds.{command_cycles}
-use Rattle.sercos_law_run.specs.Journal.Arrivals.{sum_below}
-use Rattle.sercos_law_run.specs.Journal.Runs.{drive_at, is_disturbed_in, looks_back, master_calls, IsClear, IsRun}
+use Rattle.sercos_law_run.proofs.Words.{◌≡◌, inl, inr, ℕ, zero, suc, ◌+◌, ◌<◌, ◌≤◌, Bool, true, false, List, [], ◌∷◌, ◌++◌, length, Option, None, Some, refl, sym, ap, ◌∙◌, subst, arith, if◌then◌else◌, ◌==◌, is_some, sum_by, cases_eq, cond-false, eq-eqb, ne_eqb, Job, store_of, RingView, Begun, open_in, PlanView, CycleView, is_ready, reads_count, outcomes_in, known_of, member, Past, is_done, Carry, Restarts, begun_in, epoch_begun, unless_restart, with_heard, View, cost_in, cost_of, open_since, one_more, command_cycles, sum_below, drive_at, is_disturbed_in, looks_back, master_calls, IsClear, IsRun, at_start, behind_mdt, view_of, views_of, IsOpened, jobs_of, AreAt, GoesOnInThree, views_since, early_costs, cycles_for, disturbances, loses_step, lost_since, AreSparse, reads_cost, writes_cost}
 use Rattle.sercos_law_run.proofs.Start.CheckPasses.{ring_drive}
-use Rattle.sercos_law_run.specs.Views.RingViews.{at_start, behind_mdt, view_of, views_of}
-use Rattle.sercos_law_run.proofs.Held.Extended.{heard_more}
-use Rattle.sercos_law_run.specs.Held.Opened.{IsOpened}
+use Rattle.sercos_law_run.proofs.Held.Extended.{heard_more, begun_same}
 use Rattle.sercos_law_run.proofs.Held.Runs.{drive_got, holding}
 use Rattle.sercos_law_run.proofs.Headline.HeadlineRuns.{all_stand, first_store, spelled_in, stored_in}
-use Rattle.sercos_law_run.specs.Undisturbed.Jobs.{jobs_of, AreAt}
-use Rattle.sercos_law_run.specs.Undisturbed.Sections.{GoesOnInThree}
-use Rattle.sercos_law_run.specs.Undisturbed.ViewsSince.{views_since}
 use Rattle.sercos_law_run.proofs.Undisturbed.JobsBegun.{begun_end, begun_now, places_now, tasks_now}
 use Rattle.sercos_law_run.proofs.Undisturbed.JobsCost.{check_fits, two_fits}
 use Rattle.sercos_law_run.proofs.Undisturbed.Checks.PassedCycles.{views_split}
 use Rattle.sercos_law_run.proofs.Undisturbed.PhaseThree.{begun_few, comes_three, unready_before}
 use Rattle.sercos_law_run.proofs.Undisturbed.PhaseTwo.{listed_all, section_two, sum_within}
-use Rattle.sercos_law_run.proofs.Undisturbed.Sections.{never_idle}
+use Rattle.sercos_law_run.proofs.Undisturbed.Sections.{never_idle, more_or_same, sum_most}
 use Rattle.sercos_law_run.proofs.Undisturbed.Stops.StopStays.{none_before, stop_after}
 use Rattle.sercos_law_run.proofs.Views.Members.{member_is}
 use Rattle.sercos_law_run.proofs.Recovery.LateDown.{phase_now}
-use Rattle.sercos_law_run.specs.Tolerance.Early.{early_costs}
-use Rattle.sercos_law_run.specs.Tolerance.Losses.{cycles_for, disturbances, loses_step, lost_since}
-use Rattle.sercos_law_run.specs.Tolerance.Sparse.{AreSparse}
 use Rattle.sercos_law_run.proofs.Tolerance.Borne.{IsBase, IsBorne, borne_on, calm_or_not}
-use Rattle.sercos_law_run.proofs.Tolerance.CostsShared.{all_few, sum_both, sum_most}
+use Rattle.sercos_law_run.proofs.Tolerance.CostsShared.{all_few, sum_both}
 use Rattle.sercos_law_run.proofs.Tolerance.CostsSparse.{calm_next, disturbed_more, lost_few, opens_so, spare_for}
 use Rattle.sercos_law_run.proofs.Tolerance.EarlySparse.{phase_is, phase_next, start_is}
-use Rattle.sercos_law_run.proofs.Tolerance.FirstCycles.{begun_outcomes}
 use Rattle.sercos_law_run.proofs.Tolerance.TwoLasts.{each_fits, low_before, two_counts}
-use Rattle.sercos_law_channel.proofs.Pace.JobCosts.{reads_cost, writes_cost}
+use Rattle.sercos_law_run.proofs.Tolerance.Losses.{more_if}
 
 -- SUMS without one place
 abbrev pub without : ℕ → (ℕ → ℕ) → ℕ → ℕ
@@ -95,13 +64,6 @@ grown : (b : Bool) (n : ℕ) → n + 1 ≤ one_more b n → b ≡ true
 grown true n le = refl
 grown false n le = absurd (omega (arith, le))
 
-more_if : (b : Bool) (n : ℕ) → b ≡ true → one_more b n ≡ n + 1
-more_if b n on = ap (λ (x : Bool). one_more x n) on
-
-no_fewer : (b : Bool) (n : ℕ) → n ≤ one_more b n
-no_fewer true n = omega arith
-no_fewer false n = omega arith
-
 module _ (r : RingView) (jobs : List Job) (carry : Carry) (restarts : Restarts) (opened : IsOpened r jobs) where
   abbrev back : List CycleView → Past
   back j = looks_back r jobs (master_calls r carry restarts j)
@@ -136,11 +98,6 @@ module _ (r : RingView) (jobs : List Job) (carry : Carry) (restarts : Restarts) 
   abbrev pub is_unready : ℕ → List CycleView → Type 0
   is_unready k j = is_ready (member (known_of r) k) (outcomes_in (epoch_begun (views_of r jobs carry restarts k j))) ≡ false
 
-  borne : (t : CycleView) (cycles before : List CycleView) → IsRun r jobs carry restarts (t ∷ (cycles ++ before))
-      → IsClear (t ∷ (cycles ++ before)) → Base before → AreSparse r carry restarts (t ∷ cycles) before
-      → Borne t (cycles ++ before)
-  borne t cycles before run clear starts sparse = borne_on r jobs carry restarts opened t cycles before run clear starts sparse
-
   -- WHAT A CYCLE MORE LOSES of one channel
   lost_more : (t u : CycleView) (cycles before : List CycleView) → IsRun r jobs carry restarts (t ∷ u ∷ (cycles ++ before))
       → IsClear (t ∷ u ∷ (cycles ++ before)) → Base before → AreSparse r carry restarts (t ∷ u ∷ cycles) before
@@ -154,7 +111,7 @@ module _ (r : RingView) (jobs : List Job) (carry : Carry) (restarts : Restarts) 
         | inl on ↦ disturbed_more r jobs carry restarts opened k below t (u ∷ (cycles ++ before)) run clear on
             (lost_of (u ∷ cycles) before k) (lost_of (u ∷ cycles) before k + spare u (cycles ++ before)) (omega arith)
         | inr off ↦ calm_next r jobs carry restarts opened k below t u (cycles ++ before) run clear
-            (borne u cycles before run.0 clear.0 starts sparse.0) sparse.1 (borne t (u ∷ cycles) before run clear starts sparse) off
+            (borne_on r jobs carry restarts opened u cycles before run.0 clear.0 starts sparse.0) sparse.1 (borne_on r jobs carry restarts opened t (u ∷ cycles) before run clear starts sparse) off
             (lost_of (u ∷ cycles) before k) (lost_of (u ∷ cycles) before k + spare u (cycles ++ before)) (omega arith)
       ])
 
@@ -183,7 +140,7 @@ module _ (r : RingView) (jobs : List Job) (carry : Carry) (restarts : Restarts) 
           let cost = opens_so r jobs carry restarts opened (t ∷ cycles) before run clear starts sparse j (λ raw. 512) j_low
           (listed_all (views_of r jobs carry restarts j (t ∷ (cycles ++ before)))) in
           let fits = each_fits r jobs carry restarts opened t (cycles ++ before) run clear
-          (borne t cycles before run clear starts sparse).stays low j j_low in omega (arith, cost, fits)
+          (borne_on r jobs carry restarts opened t cycles before run clear starts sparse).stays low j j_low in omega (arith, cost, fits)
 
   -- a drive that isn't ready at the end of a cycle wasn't before
   pub unready_start : (t : CycleView) (j : List CycleView) → Borne t j → (k : ℕ) → is_unready k (t ∷ j)
@@ -199,7 +156,7 @@ module _ (r : RingView) (jobs : List Job) (carry : Carry) (restarts : Restarts) 
       same : outcomes_in (epoch_begun (views_of r jobs carry restarts k (t ∷ j))) ≡ outcomes_in
           (with_heard (view_of r jobs carry restarts k t j).heard (epoch_begun (views_of r jobs carry restarts k j)))
       same = ap outcomes_in (begun_end r jobs carry restarts opened t j run clear is.stays k)
-          ∙ begun_outcomes (view_of r jobs carry restarts k t j).begins
+          ∙ begun_same (view_of r jobs carry restarts k t j).begins
           (with_heard (view_of r jobs carry restarts k t j).heard (unless_restart (view_of r jobs carry restarts k t j)
           (epoch_begun (views_of r jobs carry restarts k j))))
           ∙ ap (λ (l : List Begun). outcomes_in (with_heard (view_of r jobs carry restarts k t j).heard l))
@@ -263,7 +220,7 @@ module _ (r : RingView) (jobs : List Job) (carry : Carry) (restarts : Restarts) 
         | inl rise ↦ (
             let first = at_rise u cycles before run.0 clear.0 starts sparse.0 (same_phase ∙ rise.1)
             none_then (let same = low_so rise.1 in same) k below in
-            let opens = no_fewer
+            let opens = more_or_same
             (is_some (open_in (begun_in (view_of r jobs carry restarts k t (u ∷ (cycles ++ before)))
             (views_since r jobs carry restarts k (u ∷ cycles) before ++ views_of r jobs carry restarts k before))))
             (opens_of (u ∷ cycles) before k) in
@@ -276,7 +233,7 @@ module _ (r : RingView) (jobs : List Job) (carry : Carry) (restarts : Restarts) 
       ]
     where
       is : Borne t (u ∷ (cycles ++ before))
-      is = borne t (u ∷ cycles) before run clear starts sparse
+      is = borne_on r jobs carry restarts opened t (u ∷ cycles) before run clear starts sparse
 
       same_phase : (back (u ∷ (cycles ++ before))).now.phase ≡ t.phase
       same_phase = sym (phase_is r jobs carry restarts opened t (u ∷ (cycles ++ before)) run is)
@@ -290,7 +247,7 @@ module _ (r : RingView) (jobs : List Job) (carry : Carry) (restarts : Restarts) 
 
       low_so : t.phase ≡ 2 → u.phase ≤ 2
       low_so t_two = low_before r jobs carry restarts opened u (cycles ++ before) run.0
-          (borne u cycles before run.0 clear.0 starts sparse.0) (let same = same_phase in omega (arith, same, t_two))
+          (borne_on r jobs carry restarts opened u cycles before run.0 clear.0 starts sparse.0) (let same = same_phase in omega (arith, same, t_two))
 
   -- WHAT THE REQUESTS to a drive cost as long as its check for phase 4 hasn't ended
   pub check_fit : (t : CycleView) (j : List CycleView) → IsRun r jobs carry restarts (t ∷ j) → IsClear (t ∷ j) → Borne t j → t.phase ≡ 3
@@ -345,7 +302,7 @@ module _ (r : RingView) (jobs : List Job) (carry : Carry) (restarts : Restarts) 
       let counted = three_counts t cycles before run clear starts sparse is_three none k below unready in
       let opens = opens_so r jobs carry restarts opened (t ∷ cycles) before run clear starts sparse k (λ raw. 512) below
       (listed_all (views_of r jobs carry restarts k (t ∷ (cycles ++ before)))) in
-      let cost = check_fit t (cycles ++ before) run clear (borne t cycles before run clear starts sparse) t_three k below few in
+      let cost = check_fit t (cycles ++ before) run clear (borne_on r jobs carry restarts opened t cycles before run clear starts sparse) t_three k below few in
       let split = sum_split (length r.drives) k sec below in
       let sums = sum_within sec section_two r.drives (λ j low. omega arith) in
       omega (arith, counted, opens, cost, split, sums)

@@ -1,20 +1,8 @@
 -- From the opening on, or from a record with a fall, the ring bears sparse faults.
-use Rattle.std.proofs.Common.{inl, inr, List, [], ◌∷◌, ◌++◌, length, refl, sym, ap, ◌∙◌, subst}
-use Rattle.sercos_step.specs.declared.request.Job.{Job}
-use Rattle.sercos_block.specs.Views.{RingView}
-use Rattle.sercos_trace.specs.Views.{CycleView, EventsView}
-use Rattle.sercos_seat.specs.Ring.{known_of}
-use Rattle.sercos_master.specs.Annals.{fall_of}
-use Rattle.sercos_master.specs.Reports.{restart_told}
-use Rattle.sercos_script.specs.Links.{Carry, Restarts}
-use Rattle.sercos_law_run.specs.Journal.Runs.{looks_back, master_calls, no_events, IsClear, IsRun}
-use Rattle.sercos_law_run.specs.Views.RingViews.{behind_mdt}
-use Rattle.sercos_law_run.specs.Undisturbed.EpochStarts.{StartsEpoch}
+use Rattle.sercos_law_run.proofs.Words.{inl, inr, List, [], ◌∷◌, ◌++◌, length, refl, sym, ap, ◌∙◌, subst, Job, RingView, CycleView, EventsView, known_of, fall_of, restart_told, Carry, Restarts, looks_back, master_calls, no_events, IsClear, IsRun, behind_mdt, StartsEpoch, BearsSparse, BeginsAnew, Tolerates, AreCalm, OneOfThreeIsSparse}
 use Rattle.sercos_law_run.proofs.Undisturbed.PhaseZero.{starts_at_fall, starts_at_opening, starts_at_restart}
 use Rattle.sercos_law_run.proofs.Recovery.AfterFalls.{fell_so}
 use Rattle.sercos_law_run.proofs.Recovery.Stretches.{rest_runs}
-use Rattle.sercos_law_run.specs.Tolerance.Bears.{BearsSparse, BeginsAnew, Tolerates}
-use Rattle.sercos_law_run.specs.Tolerance.Sparse.{AreCalm, OneOfThreeIsSparse}
 
 pub one_of_three : OneOfThreeIsSparse
 one_of_three r carry restarts t j goes_on spaced = record {

@@ -1,38 +1,18 @@
 -- How long phase 2 lasts while disturbed cycles are sparse.
-use Rattle.std.proofs.Common.{◌≡◌, ◌⊎◌, inl, inr, ℕ, zero, suc, ◌+◌, ◌<◌, ◌≤◌, Bool, true, false, List, [], ◌∷◌, ◌++◌, length, None, refl, sym, ap, ◌∙◌, subst, arith, if◌then◌else◌}
-use Rattle.std.specs.List.{sum_by}
-use Rattle.sercos_step.specs.declared.request.Job.{Job}
-use Rattle.sercos_block.specs.Stores.{store_of}
-use Rattle.sercos_block.specs.Views.{RingView}
-use Rattle.sercos_trace.specs.Views.{CycleView}
-use Rattle.sercos_seat.specs.Ring.{known_of}
-use Rattle.sercos_master.specs.Annals.{Past, fall_of, is_done, is_done_in}
-use Rattle.sercos_script.specs.Links.{Carry, Restarts}
-use Rattle.sercos_law_channel.specs.Handshake.Epochs.{epoch_begun}
-use Rattle.sercos_law_channel.specs.Pace.Costs.{cost_in, cost_of}
-use Rattle.sercos_law_channel.specs.Pace.Stretches.{open_since}
-use Rattle.sercos_law_run.specs.Journal.Arrivals.{sum_below}
-use Rattle.sercos_law_run.specs.Journal.Runs.{drive_at, looks_back, master_calls, IsClear, IsRun}
+use Rattle.sercos_law_run.proofs.Words.{◌≡◌, ◌⊎◌, inl, inr, ℕ, zero, suc, ◌+◌, ◌<◌, ◌≤◌, Bool, true, false, List, [], ◌∷◌, ◌++◌, length, None, refl, sym, ap, ◌∙◌, subst, arith, if◌then◌else◌, sum_by, Job, store_of, RingView, CycleView, known_of, Past, fall_of, is_done, is_done_in, Carry, Restarts, epoch_begun, cost_in, cost_of, open_since, sum_below, drive_at, looks_back, master_calls, IsClear, IsRun, behind_mdt, views_of, IsOpened, GoesOnInTwo, views_since, early_costs, disturbances, AreSparse, reads_cost, writes_cost}
 use Rattle.sercos_law_run.proofs.Start.CheckPasses.{ring_drive}
-use Rattle.sercos_law_run.specs.Views.RingViews.{behind_mdt, views_of}
 use Rattle.sercos_law_run.proofs.Views.Members.{member_is}
-use Rattle.sercos_law_run.specs.Held.Opened.{IsOpened}
 use Rattle.sercos_law_run.proofs.Held.Runs.{drive_got}
-use Rattle.sercos_law_run.specs.Undisturbed.Sections.{GoesOnInTwo}
-use Rattle.sercos_law_run.specs.Undisturbed.ViewsSince.{views_since}
 use Rattle.sercos_law_run.proofs.Undisturbed.JobsBegun.{few_now, places_now, planned_now}
 use Rattle.sercos_law_run.proofs.Undisturbed.JobsCost.{two_fits}
 use Rattle.sercos_law_run.proofs.Undisturbed.PhaseTwo.{listed_all, section_two, sum_within}
 use Rattle.sercos_law_run.proofs.Undisturbed.Sections.{one_works}
 use Rattle.sercos_law_run.proofs.Undisturbed.Stops.StopStays.{none_before, stop_after}
+use Rattle.sercos_law_run.proofs.Undisturbed.NoFalls.{was_low}
 use Rattle.sercos_law_run.proofs.Recovery.LateDown.{phase_now}
-use Rattle.sercos_law_run.specs.Tolerance.Early.{early_costs}
-use Rattle.sercos_law_run.specs.Tolerance.Losses.{disturbances}
-use Rattle.sercos_law_run.specs.Tolerance.Sparse.{AreSparse}
 use Rattle.sercos_law_run.proofs.Tolerance.Borne.{IsBase, IsBorne, borne_on}
 use Rattle.sercos_law_run.proofs.Tolerance.CostsShared.{costs_shared}
 use Rattle.sercos_law_run.proofs.Tolerance.EarlySparse.{early_sparse, phase_is, phase_next, start_is}
-use Rattle.sercos_law_channel.proofs.Pace.JobCosts.{reads_cost, writes_cost}
 
 pub two_phase : (done : Bool) (n : ℕ) → (if done then n + 1 else n) ≡ 2 → ((done ≡ true) × (n ≡ 1)) ⊎ ((done ≡ false) × (n ≡ 2))
 two_phase true n is = inl (refl, omega (arith, is))
@@ -99,14 +79,9 @@ module _ (r : RingView) (jobs : List Job) (carry : Carry) (restarts : Restarts) 
           let works = one_works r jobs carry restarts opened t cycles before run clear goes_on in
           omega (arith, works, earlier)
 
-  -- what the requests of phase 2 to a drive cost
-  was_early : (done : Bool) (n : ℕ) → (if done then n + 1 else n) ≤ 2 → n ≤ 2
-  was_early true n few = omega (arith, few)
-  was_early false n few = few
-
   pub low_before : (t : CycleView) (j : List CycleView) → IsRun r jobs carry restarts (t ∷ j) → Borne t j → (back (t ∷ j)).now.phase ≤ 2
       → t.phase ≤ 2
-  low_before t j run is low = was_early (is_done (known_of r) (now t j)) t.phase (subst (λ (n : ℕ). n ≤ 2)
+  low_before t j run is low = was_low (is_done (known_of r) (now t j)) t.phase 2 (subst (λ (n : ℕ). n ≤ 2)
       (phase_next r jobs carry restarts opened t j run is) low)
 
   pub each_fits : (t : CycleView) (j : List CycleView)

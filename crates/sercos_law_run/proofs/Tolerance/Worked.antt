@@ -1,26 +1,9 @@
 -- Worked runs whose disturbed cycles are sparse, and some whose are not, computed from the definitions.
-use Rattle.std.proofs.Common.{◌≡◌, inl, inr, ℕ, true, List, [], ◌∷◌, ◌++◌, length, ◌+◌, ◌≤◌, Option, Some, None, refl, sym, ◌∙◌, if◌then◌else◌, arith, ◌*◌}
-use Rattle.std.proofs.lemmas.Bool.{false≢true}
-use Rattle.sercos_telegram.specs.declared.layout.Kind.{Kind}
+use Rattle.sercos_law_run.proofs.Words.{◌≡◌, inl, inr, ℕ, true, List, [], ◌∷◌, ◌++◌, length, ◌+◌, ◌≤◌, Option, Some, None, refl, sym, ◌∙◌, if◌then◌else◌, arith, ◌*◌, false≢true, Kind, Deaf, Fault, startup_bound, CycleView, Fall, recovery_bound, slowest, is_disturbed_in, run_of, IsDisturbed, left_after, IsRight, IsUpOrStopped, own_costs, slow_bound, cycles_commanded, HasFallen, ReturnsSparse, start_costs, AreSparse, IsSparse, Stop, StandsAt}
 use Rattle.sercos_telegram.specs.declared.layout.Kind.TheVariants as kinds
-use Rattle.sercos_script.specs.declared.fault.Damage.TheVariants.{Deaf}
-use Rattle.sercos_script.specs.declared.fault.Fault.{Fault}
 use Rattle.sercos_script.specs.Scripts.{carried, restarts_at, acts}
-use Rattle.sercos_block.specs.Startup.{startup_bound}
-use Rattle.sercos_trace.specs.Views.{CycleView}
-use Rattle.sercos_trace.specs.declared.events.Fall.{Fall}
 use Rattle.sercos_trace.specs.declared.events.Fall.TheVariants as fall
-use Rattle.sercos_law_run.specs.Bounds.Bounds.{recovery_bound, slowest}
-use Rattle.sercos_law_run.specs.Journal.Runs.{is_disturbed_in, run_of, IsDisturbed}
 use Rattle.sercos_law_run.proofs.Journal.Worked.{fault, read, ring}
-use Rattle.sercos_law_run.specs.Undisturbed.Reports.{left_after}
-use Rattle.sercos_law_run.specs.Undisturbed.StopsLater.{IsRight}
-use Rattle.sercos_law_run.specs.Tolerance.Ends.{IsUpOrStopped}
-use Rattle.sercos_law_run.specs.Tolerance.Many.{own_costs, slow_bound}
-use Rattle.sercos_law_run.specs.Tolerance.Reports.{cycles_commanded}
-use Rattle.sercos_law_run.specs.Tolerance.Returns.{HasFallen, ReturnsSparse}
-use Rattle.sercos_law_run.specs.Tolerance.Rises.{start_costs}
-use Rattle.sercos_law_run.specs.Tolerance.Sparse.{AreSparse, IsSparse}
 use Rattle.sercos_law_run.specs.Journal.Arrivals as Arrivals
 use Rattle.sercos_model.specs.Bits as Bits
 use Rattle.sercos_model.specs.CheckSequence as CheckSequence
@@ -43,8 +26,6 @@ use Rattle.sercos_plan.specs.ChainOf as ChainOf
 use Rattle.sercos_plan.specs.LeastTimes as LeastTimes
 use Rattle.sercos_drive.specs.Heard as Heard
 use Rattle.sercos_drive.specs.Says as Says
-use Rattle.sercos_trace.specs.declared.events.Stop.{Stop}
-use Rattle.sercos_law_run.specs.Recovery.Recovers.{StandsAt}
 
 -- What a run shows, the newest first: which cycles are disturbed, and which falls are reported.
 abbrev disturbed : List Fault → List CycleView → List ℕ

@@ -1,30 +1,8 @@
 -- What is small in a cycle: the number of unseen arrivals, and the lists of its plan.
-use Rattle.std.proofs.Common.{◌≡◌, ℕ, zero, suc, ◌+◌, ◌≤◌, Bool, true, false, if◌then◌else◌, List, [], ◌∷◌, length, slice_index, Option, Some, None, IfSome, Result, Ok, Err, refl, sym, ap, subst, ◌∙◌, arith}
-use Rattle.std.proofs.lemmas.Bool.{cond_both}
-use Rattle.std.specs.Option.{option_or}
-use Rattle.std.proofs.lemmas.List.{length-map}
-use Rattle.std.proofs.lemmas.List.FromFn.{length-map-range_with_len}
-use Rattle.sercos_step.specs.declared.request.Job.{Job}
-use Rattle.sercos_timing.specs.Views.{WishesView, PlanView}
-use Rattle.sercos_timing.specs.declared.wishes.Wish.{Wish}
-use Rattle.sercos_timing.specs.Inequalities.{positions}
-use Rattle.sercos_plan.specs.LeastTimes.{least_plan, is_roomy, least_t1}
-use Rattle.sercos_timing.specs.Order.{sent}
-use Rattle.sercos_plan.specs.ChainOf.{planned, chain_of}
-use Rattle.sercos_block.specs.Views.{RingView}
-use Rattle.sercos_block.specs.Rings.{wishes_of, wish_of}
-use Rattle.sercos_trace.specs.Views.{SentView, EventsView, CycleView}
-use Rattle.sercos_seat.specs.Ring.{Known, Task, MemberView, known_of, member_of, tasks_for}
-use Rattle.sercos_step.specs.declared.request.Outcome.{Outcome}
-use Rattle.sercos_seat.specs.Agenda.{wishes_from, wishes_given}
-use Rattle.sercos_master.specs.Annals.{Past, Call, past, outcomes, IsPlanned}
-use Rattle.sercos_master.specs.Reports.{plan_told, restart_told}
+use Rattle.sercos_law_run.proofs.Words.{◌≡◌, ℕ, zero, suc, ◌+◌, ◌≤◌, Bool, true, false, if◌then◌else◌, List, [], ◌∷◌, length, slice_index, Option, Some, None, IfSome, Result, Ok, Err, refl, sym, ap, subst, ◌∙◌, arith, cond_both, option_or, length-map, length-map-range_with_len, Job, WishesView, PlanView, Wish, positions, is_roomy, least_t1, sent, planned, chain_of, RingView, wish_of, SentView, EventsView, CycleView, Known, Task, MemberView, known_of, member_of, tasks_for, Outcome, wishes_from, wishes_given, Past, Call, past, outcomes, IsPlanned, plan_told, restart_told, Carry, Restarts, passage, sum_below, unseen_at, is_at, ats_in, mst_in, mdt_in, IsNext, unseen_ats, unseen_mst, unseen_mdt, station_of, looks_back, middle, restart_events, no_events, master_calls}
+use Rattle.sercos_plan.specs.LeastTimes.{least_plan}
+use Rattle.sercos_block.specs.Rings.{wishes_of}
 use Rattle.sercos_telegram.specs.declared.layout.Kind.TheVariants as kinds
-use Rattle.sercos_script.specs.Links.{Carry, Restarts}
-use Rattle.sercos_law_run.specs.Journal.Arrivals.{passage, sum_below, unseen_at}
-use Rattle.sercos_telegram.specs.Kinds.{is_at}
-use Rattle.sercos_law_run.specs.Journal.Records.{ats_in, mst_in, mdt_in}
-use Rattle.sercos_law_run.specs.Journal.Runs.{IsNext, unseen_ats, unseen_mst, unseen_mdt, station_of, looks_back, middle, restart_events, no_events, master_calls}
 
 -- Unseen arrivals: one at most for each passage.
 at_most_one : (b : Bool) → (if b then 1 else 0) ≤ 1

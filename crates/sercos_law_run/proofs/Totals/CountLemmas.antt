@@ -1,10 +1,6 @@
 -- Counts, cycle by cycle.
-use Rattle.std.proofs.Common.{◌≡◌, ℕ, ◌+◌, ◌<◌, ◌≤◌, [], is_some, refl, arith}
-use Rattle.std.proofs.lemmas.Bool.{cond_both}
-use Rattle.sercos_trace.specs.Views.{CycleView}
-use Rattle.sercos_trace.specs.declared.record.Totals.{Totals}
-use Rattle.sercos_law_run.specs.Totals.Totals.{totals_of, falls_in}
-use Rattle.sercos_law_run.specs.Totals.Counting.{AreFew, HasRoom, IsFew, none_made, with_cycle}
+use Rattle.sercos_law_run.proofs.Words.{◌≡◌, ℕ, ◌+◌, ◌<◌, ◌≤◌, [], is_some, refl, arith, cond_both, CycleView, Totals, falls_in, AreFew, HasRoom, IsFew, none_made, with_cycle}
+use Rattle.sercos_law_run.specs.Totals.Totals.{totals_of}
 
 -- nothing was made yet
 pub none_counted : none_made ≡ totals_of []

@@ -1,15 +1,6 @@
 -- The totals of cycles and one more.
-use Rattle.std.proofs.Common.{◌≡◌, ℕ, ◌==◌, Bool, true, false, if◌then◌else◌, List, [], ◌∷◌, ◌++◌, Option, Some, None, option_map, refl, length-append}
-use Rattle.std.specs.Option.{option_or}
-use Rattle.std.specs.List.{find}
-use Rattle.std.proofs.lemmas.List.Sums.{sum_by_push, fold-append}
-use Rattle.std.proofs.lemmas.List.Folds.{find-append}
-use Rattle.sercos_trace.specs.Views.{CycleView}
-use Rattle.sercos_law_run.specs.Totals.Totals.{totals_of, ended_in, falls_in, is_complete, is_refused, is_broken}
-use Rattle.sercos_law_run.specs.Totals.Counting.{with_cycle}
-
-in_4 : CycleView → Bool
-in_4 t = t.phase == 4
+use Rattle.sercos_law_run.proofs.Words.{◌≡◌, ℕ, ◌==◌, Bool, true, false, if◌then◌else◌, List, [], ◌∷◌, ◌++◌, Option, Some, None, option_map, refl, length-append, option_or, find, sum_by_push, fold-append, find-append, CycleView, ended_in, falls_in, is_refused, is_broken, with_cycle}
+use Rattle.sercos_law_run.specs.Totals.Totals.{totals_of, is_complete}
 
 map_or : (found other : Option CycleView) → option_map (λ (t : CycleView). t.cycle) (option_or found other) ≡ option_or (option_map (λ (t : CycleView). t.cycle) found) (option_map (λ (t : CycleView). t.cycle) other)
 map_or None other = refl

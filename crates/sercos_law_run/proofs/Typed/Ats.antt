@@ -1,34 +1,14 @@
 -- The AT of a drive is whole: bytes, and no more than an AT has.
-use Rattle.std.proofs.Common.{inl, ◌≡◌, ℕ, suc, ◌+◌, ◌*◌, ◌%◌, ◌<◌, ◌≤◌, ◌==◌, nat_le, Bool, true, false, not, List, [], ◌∷◌, length, Option, Some, None, option_map, unwrap_or, refl, sym, subst, arith, if◌then◌else◌, length-append}
-use Rattle.std.specs.Prelude.{option_and_then}
-use Rattle.std.specs.List.{flat_map}
-use Rattle.std.proofs.lemmas.List.Concat.{flat_map-cons}
-use Rattle.std.proofs.lemmas.Bool.{and_parts, cond_both, not-true}
-use Rattle.std.specs.Int.{to_le_bytes}
+use Rattle.sercos_law_run.proofs.Words.{inl, ◌≡◌, ℕ, suc, ◌+◌, ◌*◌, ◌%◌, ◌<◌, ◌≤◌, ◌==◌, nat_le, Bool, true, false, not, List, [], ◌∷◌, length, Option, Some, None, option_map, unwrap_or, refl, sym, subst, arith, if◌then◌else◌, length-append, option_and_then, flat_map, flat_map-cons, and_parts, cond_both, not-true, to_le_bytes, AreBytes-append, Idn, Length, Two, Four, List1, List2, List4, is_list, Block, width_of, bytes_for, bits_in, number_end, is_number, find_block, is_sound, IsStore, DriveView, found_sound, found-carried, types, data_at, Shown, channel_says, DriveCall, phase_in, cycle_in, records_in, blocks_in, commands_in, annals, Said, shown_word, bytes_in_cycle, values_in, sends, said, drive_says, fields_length, Keeps}
 use Rattle.sercos_model.specs.Bits.{AreBytes}
-use Rattle.sercos_model.proofs.BitLemmas.{AreBytes-append}
 use Rattle.sercos_telegram.specs.Spells.{word_bytes, fields}
-use Rattle.sercos_idn.specs.declared.idn.Idn.{Idn}
-use Rattle.sercos_idn.specs.declared.kinds.Length.{Length}
-use Rattle.sercos_idn.specs.declared.kinds.Length.TheVariants.{Two, Four, List1, List2, List4}
-use Rattle.sercos_idn.specs.Codes.{is_list, item_len}
-use Rattle.sercos_block.specs.declared.block.Block.{Block}
-use Rattle.sercos_block.specs.Blocks.{width_of, bytes_for, bits_in, number_end, is_number}
-use Rattle.sercos_block.specs.Stores.{find_block, is_sound, IsStore}
-use Rattle.sercos_block.specs.Views.{DriveView}
-use Rattle.sercos_block.proofs.SoundLemmas.{found_sound, value_len, found-carried}
-use Rattle.sercos_block.proofs.TypeLemmas.{types}
-use Rattle.sercos_command.specs.Checks.{data_at, idns_in, idns_at}
+use Rattle.sercos_block.proofs.SoundLemmas.{value_len}
+use Rattle.sercos_command.specs.Checks.{idns_in, idns_at}
 use Rattle.sercos_service_drive.specs.Replies.{data_in}
-use Rattle.sercos_service_drive.specs.Says.{Shown, channel_says}
-use Rattle.sercos_drive.specs.Heard.{DriveCall}
-use Rattle.sercos_drive.specs.Moments.{phase_in, cycle_in, records_in, blocks_in, commands_in}
-use Rattle.sercos_drive.specs.Annals.{annals}
-use Rattle.sercos_drive.specs.Says.{Said, shown_word, bytes_in_cycle, value_in, values_in, sends, said, drive_says}
-use Rattle.sercos_seat.proofs.Sends.{fields_length}
-use Rattle.sercos_law_run.specs.Typed.Keeps.{Keeps}
+use Rattle.sercos_drive.specs.Says.{value_in}
 use Rattle.sercos_law_run.proofs.Typed.Words.{two_bytes}
 use Rattle.sercos_law_run.proofs.Typed.Replies.{data_bytes}
+use Rattle.sercos_law_run.proofs.Start.WellLemmas.{item_small}
 
 -- a content that has a frame
 pub record IsContent (content : List ℕ) : Type 0 where
@@ -63,19 +43,12 @@ number_long List1 n = omega arith
 number_long List2 n = omega arith
 number_long List4 n = omega arith
 
-item_few : (l : Length) → item_len l ≤ 4
-item_few Two = omega arith
-item_few Four = omega arith
-item_few List1 = omega arith
-item_few List2 = omega arith
-item_few List4 = omega arith
-
 data_long : (cycle : ℕ) (b : Block) → is_list b.attribute.length ≡ false → is_sound b ≡ true → length (data_in cycle b) ≤ 4
 unfolding data_in
 data_long cycle b single sound = cond_both (b.step == 0) b.value
     (bytes_for b.attribute ((bits_in b.attribute b.value + b.step * cycle) % number_end b.attribute.length))
     (λ v. length v ≤ 4)
-    (λ on. let same = value_len b single sound in let few = item_few b.attribute.length in omega (arith, same, few))
+    (λ on. let same = value_len b single sound in let few = item_small b.attribute.length in omega (arith, same, few))
     (λ off. number_long b.attribute.length _)
 
 block_value : (cycle : ℕ) (b : Block) → is_sound b ≡ true → AreBytes b.value → IsValue (unwrap_or (bytes_in_cycle cycle b) [])

@@ -1,29 +1,8 @@
 -- Each request that the master begins is typed.
-use Rattle.std.proofs.Common.{◌≡◌, ℕ, zero, suc, ◌+◌, ◌*◌, ◌<◌, ◌≤◌, ◌==◌, Bool, true, false, List, [], ◌∷◌, ◌++◌, map, length, drop, Option, Some, None, IfSome, refl, sym, subst, arith, if◌then◌else◌}
-use Rattle.std.proofs.lemmas.Bool.{cond_both}
-use Rattle.std.specs.Prelude.{slice_index, slice_get}
-use Rattle.std.proofs.lemmas.List.Elements.{All-head, All-tail}
-use Rattle.sercos_idn.specs.declared.idn.Idn.{Idn}
-use Rattle.sercos_telegram.specs.declared.words.Status.{Status}
-use Rattle.sercos_telegram.specs.Words.{status_of}
-use Rattle.sercos_telegram.specs.Spells.{word_at}
-use Rattle.sercos_step.specs.declared.request.Request.{Request}
+use Rattle.sercos_law_run.proofs.Words.{◌≡◌, ℕ, zero, suc, ◌+◌, ◌*◌, ◌<◌, ◌≤◌, ◌==◌, Bool, true, false, List, [], ◌∷◌, ◌++◌, map, length, drop, Option, Some, None, IfSome, refl, sym, subst, arith, if◌then◌else◌, cond_both, slice_index, slice_get, All-head, All-tail, Idn, Status, status_of, word_at, Request, Job, Outcome, Answer, bytes_in, PlanView, Begun, answers_it, answer_in, with_answer, Hear, begun_by, Known, IsKnown, MemberView, Task, member, startup, request_task, tasks_from, tasks_for, after_reads, bytes_of, idn, declared_times, reads, reads_count, writes_word, writes_list, writes, ended_well, checking, agenda, count_requests, Call, Past, IsPlanned, past, outcomes, after_taken, settled, with_begin, ready_to_send, is_sent_to, addressed_in, after_mdt, new_epoch, still_waiting, settles, begins_next, channel_keeps, past_keeps, IsTypedRequest, AreTypedJobs}
 use Rattle.sercos_step.specs.declared.request.Request.TheVariants as request
-use Rattle.sercos_step.specs.declared.request.Job.{Job}
-use Rattle.sercos_step.specs.declared.request.Outcome.{Outcome}
-use Rattle.sercos_step.specs.declared.step.Answer.{Answer}
-use Rattle.sercos_step.specs.Words.{bytes_in}
-use Rattle.sercos_timing.specs.Views.{PlanView}
-use Rattle.sercos_service_master.specs.Begun.{Begun, answers_it, answer_in, with_answer}
-use Rattle.sercos_service_master.specs.Calls.{Hear, begun_by}
 use Rattle.sercos_service_master.specs.Calls as channel
-use Rattle.sercos_seat.specs.Ring.{Known, IsKnown, MemberView, Task, member, startup, request_task, tasks_from, tasks_for}
-use Rattle.sercos_seat.specs.Agenda.{after_reads, bytes_of, idn, declared_times, reads, reads_count, writes_word, writes_list, writes, ended_well, checking, agenda}
-use Rattle.sercos_seat.specs.Channel.{count_requests}
-use Rattle.sercos_master.specs.Annals.{Call, Mdt, Past, IsPlanned, past, outcomes, after_taken, settled, begins, with_begin, ready_to_send, is_sent_to, addressed_in, after_mdt, new_epoch, still_waiting}
-use Rattle.sercos_master.proofs.Followed.{settles}
-use Rattle.sercos_master.proofs.Keeping.{begins_next, channel_keeps, past_keeps}
-use Rattle.sercos_law_run.specs.Typed.Typed.{IsTypedRequest, AreTypedJobs}
+use Rattle.sercos_master.specs.Annals.{Mdt, begins}
 use Rattle.sercos_law_run.proofs.Typed.Words.{AreWords, bytes_of_words}
 use Rattle.sercos_law_run.proofs.Typed.Steps.{AreBegun}
 use Rattle.sercos_law_run.proofs.Typed.Plans.{IsTimed, PlanWords, plan_words, AreIdns, IsMember}

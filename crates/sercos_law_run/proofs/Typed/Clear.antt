@@ -1,28 +1,11 @@
 -- Over a harmless link no arrival is unseen.
-use Rattle.std.proofs.Common.{◌≡◌, ℕ, ◌+◌, Bool, true, false, not, ◌&&◌, List, [], ◌∷◌, length, Option, Some, None, is_none, if◌then◌else◌, refl, ◌∙◌, ap, arith}
-use Rattle.std.specs.Prelude.{slice_index, IfSome}
+use Rattle.sercos_law_run.proofs.Words.{◌≡◌, ℕ, ◌+◌, Bool, true, false, not, ◌&&◌, List, [], ◌∷◌, length, Option, Some, None, is_none, if◌then◌else◌, refl, ◌∙◌, ap, arith, slice_index, IfSome, reason_of, plain, frame_of, BadFrame, Job, DriveView, RingView, DriveCall, Said, known_of, Sent, mdt_said, CycleView, Passage, Carry, Restarts, arrival, are_same, passage, sum_below, unseen_at, IsHarmless, ats_in, mdt_in, mst_in, contents, drive_at, given_mst, said_below, station_of, unseen_ats, unseen_mdt, unseen_mst, IsNext, behind_mdt, IsSaid, IsSpelled, HarmlessIsClear, SpelledNext}
 use Rattle.std.proofs.lemmas.Bool.{and_left, and_right}
-use Rattle.sercos_hdlc.specs.Reason.{reason_of, content_of, plain}
-use Rattle.sercos_hdlc.specs.Stuffed.{frame_of}
-use Rattle.sercos_hdlc.specs.declared.bad_frame.BadFrame.{BadFrame}
+use Rattle.sercos_hdlc.specs.Reason.{content_of}
 use Rattle.sercos_telegram.specs.declared.layout.Kind.TheVariants as kinds
-use Rattle.sercos_step.specs.declared.request.Job.{Job}
-use Rattle.sercos_block.specs.Views.{DriveView, RingView}
-use Rattle.sercos_drive.specs.Heard.{DriveCall}
-use Rattle.sercos_drive.specs.Says.{Said}
-use Rattle.sercos_seat.specs.Ring.{known_of}
-use Rattle.sercos_master.specs.Says.{Sent, mdt_said}
-use Rattle.sercos_trace.specs.Views.{CycleView}
-use Rattle.sercos_script.specs.declared.link.Passage.{Passage}
-use Rattle.sercos_script.specs.Links.{Carry, Restarts}
-use Rattle.sercos_law_run.specs.Journal.Arrivals.{arrival, are_same, content_in, is_unseen, passage, sum_below, unseen_at}
-use Rattle.sercos_law_run.specs.Journal.Harmless.{IsHarmless}
-use Rattle.sercos_law_run.specs.Journal.Records.{ats_in, mdt_in, mst_in}
-use Rattle.sercos_law_run.specs.Journal.Runs.{contents, content_of as content_sent, drive_at, given_mst, said_below, station_of, unseen_ats, unseen_mdt, unseen_mst, IsNext}
-use Rattle.sercos_law_run.specs.Views.RingViews.{behind_mdt}
-use Rattle.sercos_law_run.specs.Views.Spelled.{IsSaid, IsSpelled, IsWhole}
-use Rattle.sercos_law_run.specs.Typed.Clear.{HarmlessIsClear}
-use Rattle.sercos_law_run.specs.Typed.Spelled.{SpelledNext}
+use Rattle.sercos_law_run.specs.Journal.Arrivals.{content_in, is_unseen}
+use Rattle.sercos_law_run.specs.Journal.Runs.{content_of as content_sent}
+use Rattle.sercos_law_run.specs.Views.Spelled.{IsWhole}
 use Rattle.sercos_law_run.proofs.Journal.ClearLemmas.{are_same-refl, sum_none}
 use Rattle.sercos_law_run.proofs.Journal.RunLemmas.{ats_in-said, mdt_in-said}
 use Rattle.sercos_law_run.proofs.Views.Members.{AreSaid, all_said}

@@ -1,41 +1,17 @@
 -- What a drive keeps, whatever it hears: its blocks are a store, and the records that it took fit.
-use Rattle.std.proofs.Common.{◌≡◌, ℕ, zero, suc, ◌+◌, ◌<◌, ◌≤◌, ◌==◌, nat_le, Bool, true, false, ◌&&◌, List, [], ◌∷◌, ◌++◌, length, Option, Some, None, IfSome, is_none, slice_index_or, refl, sym, subst, arith, if◌then◌else◌}
-use Rattle.std.specs.Prelude.{option_and_then}
-use Rattle.std.specs.List.{list_all}
-use Rattle.std.proofs.lemmas.Bool.{and_parts, cond_both, leb-true}
-use Rattle.sercos_model.specs.Bits.{AreBytes}
-use Rattle.sercos_model.proofs.BitLemmas.{AreBytes-bytes_of}
-use Rattle.sercos_hdlc.specs.Reason.{reason_of, content_of, plain}
-use Rattle.sercos_telegram.specs.Words.{control_of, control_element}
-use Rattle.sercos_telegram.specs.Spells.{word_at}
-use Rattle.sercos_telegram.specs.Faults.{single_fault, joint_fault}
-use Rattle.sercos_block.specs.declared.block.Block.{Block}
-use Rattle.sercos_block.specs.Rules.{blocks_fault}
-use Rattle.sercos_timing.specs.Valid.{is_address}
-use Rattle.sercos_block.specs.Rings.{is_ring, is_drive, are_drives, are_drive_numbers, are_times, has_blocks}
-use Rattle.sercos_block.specs.Stores.{find_block, store_of, put_fault, is_typed, IsStore}
-use Rattle.sercos_block.specs.Views.{DriveView, RingView}
-use Rattle.sercos_command.specs.Checks.{number_at, carried_len}
-use Rattle.sercos_service_drive.specs.Log.{Processed, processed_record}
-use Rattle.sercos_service_drive.specs.Writes.{AreThose, added_on}
-use Rattle.sercos_drive.specs.declared.hearing.Told.{Told}
-use Rattle.sercos_drive.specs.Heard.{DriveCall, Mst, Mdt, Restart, mst_got, told_at, single_in, joint_in, lies_within, mdt_got}
-use Rattle.sercos_drive.specs.Moments.{Moment, phase_in, cycle_in, has_mst, unless_phase_0, with_record, records_in, blocks_in, blocks_after, commands_in}
-use Rattle.sercos_drive.specs.Annals.{processed_in, ends_in, stands_in, annals}
-use Rattle.sercos_script.specs.declared.link.Passage.{Passage}
-use Rattle.sercos_script.specs.Links.{Carry, Restarts}
+use Rattle.sercos_law_run.proofs.Words.{◌≡◌, ℕ, zero, suc, ◌+◌, ◌<◌, ◌≤◌, ◌==◌, nat_le, Bool, true, false, ◌&&◌, List, [], ◌∷◌, ◌++◌, length, Option, Some, None, IfSome, is_none, slice_index_or, refl, sym, subst, arith, if◌then◌else◌, option_and_then, and_parts, cond_both, leb-true, AreBytes, AreBytes-bytes_of, none_of, reason_of, plain, control_element, word_at, single_fault, joint_fault, Block, blocks_fault, is_address, is_ring, are_times, find_block, store_of, put_fault, IsStore, DriveView, RingView, number_at, carried_len, Processed, processed_record, AreThose, added_on, Told, DriveCall, Mst, Mdt, mst_got, told_at, lies_within, mdt_got, Moment, phase_in, cycle_in, has_mst, unless_phase_0, records_in, blocks_in, blocks_after, commands_in, ends_in, stands_in, annals, Passage, Carry, Restarts, SentView, CycleView, arrival, heard, passage, mdt_in, no_drive, drive_at, with_restart, mdt_heard, drive_calls, given_before, given_mst, IsTyped, AreTyped, IsRecord, AreRecords, Keeps, IsStore-store_of}
+use Rattle.sercos_hdlc.specs.Reason.{content_of}
+use Rattle.sercos_telegram.specs.Words.{control_of}
+use Rattle.sercos_block.specs.Rings.{is_drive, are_drives, are_drive_numbers, has_blocks}
+use Rattle.sercos_drive.specs.Heard.{Restart, single_in, joint_in}
+use Rattle.sercos_drive.specs.Moments.{with_record}
+use Rattle.sercos_drive.specs.Annals.{processed_in}
 use Rattle.sercos_telegram.specs.declared.layout.Kind.TheVariants as kinds
-use Rattle.sercos_trace.specs.Views.{SentView, CycleView}
-use Rattle.sercos_law_run.specs.Journal.Arrivals.{arrival, content_in, heard, passage}
-use Rattle.sercos_law_run.specs.Journal.Records.{mdt_in}
-use Rattle.sercos_law_run.specs.Journal.Runs.{no_drive, drive_at, with_restart, mdt_heard, drive_calls, given_before, given_mst}
+use Rattle.sercos_law_run.specs.Journal.Arrivals.{content_in}
 use Rattle.sercos_law_run.proofs.Journal.StationLemmas.{drives_so}
-use Rattle.sercos_law_run.specs.Typed.Typed.{IsTyped, AreTyped}
-use Rattle.sercos_law_run.specs.Typed.Keeps.{IsRecord, AreRecords, Keeps}
 use Rattle.sercos_law_run.proofs.Typed.Words.{read_word}
 use Rattle.sercos_law_run.proofs.Typed.StoreStays.{blocks_stay}
 use Rattle.sercos_law_run.proofs.Typed.Records.{added_bytes}
-use Rattle.sercos_block.proofs.OpenLemmas.{IsStore-store_of}
 use Rattle.sercos_law_run.proofs.Cited.{handed_those}
 
 -- AT OPENING
@@ -46,13 +22,6 @@ drive_so before (d ∷ drives) zero are below = (before, (and_parts _ _ are).0)
 drive_so before (d ∷ drives) (suc k) are below = drive_so (before ++ d ∷ []) drives k (and_parts _ _ are).1 (omega (arith, below))
 
 -- the first store of a drive
-abbrev pub Opens : Type 0
-Opens = (d : DriveView) → blocks_fault [] d.blocks ≡ None → length d.blocks ≤ 36 → list_all is_typed d.blocks ≡ true → d.cycle_min < 65536 → d.cycle_max < 65536 → IsStore (store_of d)
-
-no_fault : {A : Type 0} (o : Option A) → is_none o ≡ true → o ≡ None
-no_fault None is = refl
-no_fault (Some x) is = cc
-
 below_word : (n : ℕ) → n ≤ 64000 → n < 65536
 below_word n low = omega (arith, low)
 
@@ -69,7 +38,7 @@ opened others d is typed =
     let after_command = (and_parts (nat_le d.command 200) _ after_busy).1 in
     let limits = (and_parts (are_times d.times) _ after_command).1 in
     let both : (nat_le d.cycle_min 64000 ≡ true) × (nat_le d.cycle_max 64000 ≡ true) = and_parts (nat_le d.cycle_min 64000) (nat_le d.cycle_max 64000) limits in
-    IsStore-store_of d (no_fault _ parts.1) (leb-true _ _ parts.0) typed.blocks (below_word _ (leb-true _ _ both.0)) (below_word _ (leb-true _ _ both.1))
+    IsStore-store_of d (none_of _ parts.1) (leb-true _ _ parts.0) typed.blocks (below_word _ (leb-true _ _ both.0)) (below_word _ (leb-true _ _ both.1))
 
 -- WHAT ARRIVES are bytes
 abbrev pub IsHeard : Option (List ℕ) → Type 0

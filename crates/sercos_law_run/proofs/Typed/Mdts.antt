@@ -1,22 +1,8 @@
 -- MST and MDT are whole: bytes, and no more than a telegram has.
-use Rattle.std.proofs.Common.{◌≡◌, ℕ, zero, suc, ◌+◌, ◌<◌, ◌≤◌, ◌==◌, Bool, true, false, List, [], ◌∷◌, length, Option, Some, None, is_some, slice_index_or, refl, sym, ◌∙◌, ap, subst, arith, if◌then◌else◌, length-append}
-use Rattle.std.specs.Prelude.{nat_le, option_map}
-use Rattle.std.specs.List.{All}
-use Rattle.std.proofs.lemmas.List.Elements.{All-head, All-tail}
+use Rattle.sercos_law_run.proofs.Words.{◌≡◌, ℕ, zero, suc, ◌+◌, ◌<◌, ◌≤◌, ◌==◌, Bool, true, false, List, [], ◌∷◌, length, Option, Some, None, is_some, slice_index_or, refl, sym, ◌∙◌, ap, subst, arith, if◌then◌else◌, length-append, nat_le, option_map, All, All-head, All-tail, AreBytes-append, AreBytes-take, all_drives, mst_content, PlanView, Known, IsKnown, MemberView, member, no_member, len_or_none, mdt_attributes, word_said, value_said, values_said, fields_length, Past, IsPlanned, outcomes, seen_at, records_upto, Sent, said_to, record_to, records_from, idle, single, joint, mdt_said, fits_planned}
 use Rattle.sercos_model.specs.Bits.{AreBytes}
-use Rattle.sercos_model.proofs.BitLemmas.{AreBytes-append, AreBytes-take}
-use Rattle.sercos_telegram.specs.Spells.{all_drives, mst_content}
-use Rattle.sercos_timing.specs.Views.{PlanView}
 use Rattle.sercos_service_master.specs.Begun.{Said}
-use Rattle.sercos_seat.specs.Ring.{Known, IsKnown, MemberView, member, no_member}
-use Rattle.sercos_seat.specs.Agenda.{len_or_none, mdt_attributes}
-use Rattle.sercos_seat.specs.Records.{word_said, value_said, values_said}
-use Rattle.sercos_seat.proofs.Sends.{fields_length}
-use Rattle.sercos_master.specs.Annals.{Past, IsPlanned, outcomes}
-use Rattle.sercos_master.specs.Kept.{seen_at, records_upto}
-use Rattle.sercos_master.specs.Says.{Sent, said_to, record_to, records_from, idle, single, joint, mdt_said}
 pub use Rattle.sercos_master.proofs.Configured.{phase_low}
-use Rattle.sercos_master.proofs.Sent.{fits_planned}
 use Rattle.sercos_law_run.proofs.Typed.Ats.{IsContent, fields_bytes, address_bytes}
 
 pub mst_whole : (phase : ℕ) → phase ≤ 4 → IsContent (mst_content phase)

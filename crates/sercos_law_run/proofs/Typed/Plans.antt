@@ -1,39 +1,9 @@
 -- The numbers of a plan are words, and so are the identifier numbers that telegrams carry.
-use Rattle.std.proofs.Common.{◌≡◌, ◌⊎◌, inl, inr, ℕ, zero, suc, ◌%◌, ◌<◌, ◌≤◌, ◌==◌, nat_lt, nat_le, Bool, true, false, not, ◌&&◌, List, [], ◌∷◌, ◌++◌, length, Option, Some, None, is_some, slice_index_or, refl, sym, subst, arith, if◌then◌else◌}
-use Rattle.std.specs.Prelude.{slice_index, option_map, option_and_then, Ok, Err}
-use Rattle.std.specs.Option.{option_or}
-use Rattle.std.specs.List.{list_all, find}
-use Rattle.std.proofs.lemmas.Bool.{leb-true, and_parts, false≢true}
-use Rattle.std.proofs.lemmas.Bool.Decides.{nat_tests}
-use Rattle.std.proofs.lemmas.List.{get_or_past}
-use Rattle.std.proofs.lemmas.List.Elements.{All-map, All-from_get_or}
-use Rattle.sercos_idn.specs.declared.idn.Idn.{Idn}
-use Rattle.sercos_idn.specs.declared.attribute.Attribute.{Attribute}
-use Rattle.sercos_step.specs.declared.request.Outcome.{Outcome}
-use Rattle.sercos_timing.specs.Views.{WishesView, PlanView}
-use Rattle.sercos_timing.specs.Order.{record_bytes}
-use Rattle.sercos_timing.specs.Inequalities.{Fits}
-use Rattle.sercos_timing.specs.Valid.{IsValid, is_rate, is_cycle, is_control}
-use Rattle.sercos_plan.specs.LeastTimes.{is_roomy, least_plan}
-use Rattle.sercos_plan.specs.ChainOf.{planned, chain_of}
-use Rattle.sercos_plan.proofs.AnswerLemmas.{roomy_test, is_of_least}
-use Rattle.sercos_plan.proofs.PlanLemmas.{least_fits}
-use Rattle.sercos_block.specs.declared.block.Block.{Block}
-use Rattle.sercos_block.specs.declared.built_in.BuiltIn.{BuiltIn}
-use Rattle.sercos_block.specs.BuiltIns.{built_ins}
-use Rattle.sercos_block.specs.Rings.{is_ring, has_address, has_drive_numbers, has_blocks, has_ring_numbers, are_ring_numbers, is_drive, are_drives, attribute_in, row_in, built_in_attribute, own_attribute, block_attribute, number_len, cyclic_len, is_cyclic, are_cyclic}
-use Rattle.sercos_block.specs.Stores.{is_typed}
-use Rattle.sercos_block.specs.ValidRings.{IsRing}
-use Rattle.sercos_block.specs.Views.{DriveView, RingView}
-use Rattle.sercos_seat.specs.Ring.{Known, MemberView, HasLists, IsKnown, member, member_of, known_of}
-use Rattle.sercos_seat.specs.Agenda.{wishes_given}
+use Rattle.sercos_law_run.proofs.Words.{◌≡◌, ◌⊎◌, inl, inr, ℕ, zero, suc, ◌%◌, ◌<◌, ◌≤◌, ◌==◌, nat_lt, nat_le, Bool, true, false, not, ◌&&◌, List, [], ◌∷◌, ◌++◌, length, Option, Some, None, is_some, slice_index_or, refl, sym, subst, arith, if◌then◌else◌, slice_index, option_map, option_and_then, Ok, Err, option_or, list_all, find, leb-true, and_parts, false≢true, nat_tests, get_or_past, All-map, All-from_get_or, Idn, Attribute, Outcome, WishesView, PlanView, record_bytes, Fits, IsValid, is_rate, is_cycle, is_control, is_roomy, least_plan, planned, chain_of, roomy_test, is_of_least, least_fits, Block, BuiltIn, built_ins, has_address, has_drive_numbers, has_blocks, has_ring_numbers, attribute_in, number_len, is_typed, IsRing, DriveView, RingView, Known, MemberView, HasLists, IsKnown, member, member_of, known_of, wishes_given, known_of-IsRing, is_valid, no_drive, IsTyped, AreTyped}
+use Rattle.sercos_block.specs.Rings.{is_ring, are_ring_numbers, is_drive, are_drives, row_in, built_in_attribute, own_attribute, block_attribute, cyclic_len, is_cyclic, are_cyclic}
 use Rattle.sercos_law_run.proofs.Start.PlanNumbers.{has_numbers}
-use Rattle.sercos_master.proofs.Openings.{known_of-IsRing}
-use Rattle.sercos_master.proofs.Wishes.{is_valid}
-use Rattle.sercos_law_run.specs.Journal.Runs.{no_drive}
 use Rattle.sercos_law_run.proofs.Journal.StationLemmas.{drives_so}
 use Rattle.sercos_law_run.proofs.Views.Members.{member_is}
-use Rattle.sercos_law_run.specs.Typed.Typed.{IsTyped, AreTyped}
 use Rattle.sercos_law_run.proofs.Typed.StoreStays.{raw_typed}
 
 -- THE RING THAT THE MASTER KNOWS

@@ -1,18 +1,6 @@
 -- The records that a drive took: their elements and words fit, and their blocks are a store. So what they write are bytes.
-use Rattle.std.proofs.Common.{ℕ, zero, suc, ◌<◌, ◌==◌, Bool, true, false, not, ◌&&◌, List, [], ◌∷◌, drop, take, Option, Some, None, IfSome, option_map, if◌then◌else◌}
-use Rattle.std.proofs.lemmas.Bool.{cond_both}
-use Rattle.std.specs.Prelude.{option_and_then, slice_index}
-use mathlib.Core.Bool.{beq}
-use Rattle.sercos_model.specs.Bits.{AreBytes}
-use Rattle.sercos_model.proofs.BitLemmas.{AreBytes-take}
-use Rattle.sercos_idn.specs.Codes.{is_list}
-use Rattle.sercos_step.specs.Words.{bytes_in}
-use Rattle.sercos_block.specs.declared.block.Block.{Block}
-use Rattle.sercos_block.specs.Stores.{find_block}
-use Rattle.sercos_service_drive.specs.Log.{Processed, Entry, ahs, accepted, open_idn, run_before, selection, in_order}
-use Rattle.sercos_service_drive.specs.Replies.{bytes_written, reply_of, answered, log_of}
-use Rattle.sercos_service_drive.specs.Writes.{Write, written_by, takes_effect, adds, added_on}
-use Rattle.sercos_law_run.specs.Typed.Keeps.{IsRecord, AreRecords}
+use Rattle.sercos_law_run.proofs.Words.{ℕ, zero, suc, ◌<◌, ◌==◌, Bool, true, false, not, ◌&&◌, List, [], ◌∷◌, drop, take, Option, Some, None, IfSome, option_map, if◌then◌else◌, cond_both, option_and_then, slice_index, beq, AreBytes, AreBytes-take, is_list, bytes_in, Block, find_block, Processed, Entry, ahs, accepted, open_idn, run_before, selection, in_order, reply_of, answered, log_of, Write, written_by, takes_effect, adds, added_on, IsRecord, AreRecords}
+use Rattle.sercos_service_drive.specs.Replies.{bytes_written}
 use Rattle.sercos_law_run.proofs.Typed.Words.{AreWords, bytes_of_words}
 
 abbrev pub AreEntries : List Entry → Type 0

@@ -1,33 +1,8 @@
 -- What a drive replies, and so what it shows, are words.
-use Rattle.std.proofs.Common.{sym, ◌≡◌, ℕ, ◌+◌, ◌*◌, ◌%◌, ◌<◌, ◌≤◌, ◌==◌, nat_le, Bool, true, false, ◌&&◌, ◌||◌, List, [], ◌∷◌, length, Option, Some, None, IfSome, is_none, is_some, option_map, unwrap_or, refl, arith, if◌then◌else◌}
-use Rattle.std.specs.Prelude.{slice_index, ◌-◌}
-use Rattle.std.specs.Int.{w32, to_le_bytes}
-use Rattle.std.specs.Bool.{then_some}
-use Rattle.std.specs.Option.{option_or}
-use Rattle.std.specs.List.{list_all}
-use Rattle.std.proofs.lemmas.Bool.{and_parts, cond_both}
-use Rattle.std.proofs.lemmas.Bool.Decides.{nat_tests}
+use Rattle.sercos_law_run.proofs.Words.{sym, ◌≡◌, ℕ, ◌+◌, ◌*◌, ◌%◌, ◌<◌, ◌≤◌, ◌==◌, nat_le, Bool, true, false, ◌&&◌, ◌||◌, List, [], ◌∷◌, length, Option, Some, None, IfSome, is_none, is_some, option_map, unwrap_or, refl, arith, if◌then◌else◌, slice_index, ◌-◌, w32, to_le_bytes, then_some, option_or, list_all, and_parts, cond_both, nat_tests, attribute_word, Length, Two, Four, List1, List2, List4, Attribute, is_list, words_of, Block, width_of, bytes_for, bits_in, number_end, is_fixed, is_protected, is_text, is_printable, find_block, read_fault, is_below, is_above, IsStore, is_sound, SoundParts, SoundParts-is_sound, found_sound, max_len_bound, fits-is_len, types, SetCommand, has_ended, status_by, setting_of, CommandHistory, status_in, change_in, Processed, Entry, accepted, ahs, opens, open_idn, run_before, selection, in_order, good, refused, answer_by, list_words, copy, read_cause, write_cause_in, is_first_word, ends_early, is_over, is_uneven, is_no_command_value, bytes_written, reply_on, reply_at, reply_of, answered, Shown, shown, channel_says, IsRecord, AreRecords}
 use Rattle.sercos_model.specs.Bits.{AreBytes}
-use Rattle.sercos_idn.specs.Attributes.{attribute_word}
-use Rattle.sercos_idn.specs.declared.kinds.Length.{Length}
-use Rattle.sercos_idn.specs.declared.kinds.Length.TheVariants.{Two, Four, List1, List2, List4}
-use Rattle.sercos_idn.specs.declared.attribute.Attribute.{Attribute}
-use Rattle.sercos_idn.specs.Codes.{is_list}
-use Rattle.sercos_step.specs.Words.{words_of}
-use Rattle.sercos_block.specs.declared.block.Block.{Block}
-use Rattle.sercos_block.specs.Blocks.{width_of, bytes_for, bits_in, number_end, element_of, is_fixed, is_protected}
-use Rattle.sercos_block.specs.Rules.{is_text, is_printable}
-use Rattle.sercos_block.specs.Stores.{find_block, read_fault, is_below, is_above, IsStore, is_sound}
-use Rattle.sercos_block.proofs.SoundLemmas.{SoundParts, SoundParts-is_sound, found_sound, max_len_bound}
-use Rattle.sercos_block.proofs.PutLemmas.{fits-is_len}
-use Rattle.sercos_block.proofs.TypeLemmas.{types}
-use Rattle.sercos_command.specs.declared.commands.SetCommand.{SetCommand}
-use Rattle.sercos_command.specs.Settings.{has_ended, status_by}
-use Rattle.sercos_command.specs.Calls.{setting_of, CommandHistory, status_in, change_in}
-use Rattle.sercos_service_drive.specs.Log.{Processed, Entry, accepted, ahs, opens, open_idn, run_before, selection, in_order}
-use Rattle.sercos_service_drive.specs.Replies.{good, refused, answer_by, data_in, list_words, element_words, copy, read_cause, write_cause, write_cause_in, is_first_word, ends_early, is_over, is_uneven, is_no_command_value, bytes_written, reply_on, reply_at, reply_of, answered}
-use Rattle.sercos_service_drive.specs.Says.{Shown, shown, channel_says}
-use Rattle.sercos_law_run.specs.Typed.Keeps.{IsRecord, AreRecords}
+use Rattle.sercos_block.specs.Blocks.{element_of}
+use Rattle.sercos_service_drive.specs.Replies.{data_in, element_words, write_cause}
 use Rattle.sercos_law_run.proofs.Typed.Words.{AreWords, word_of, words_of_bytes, two_bytes, four_bytes}
 use Rattle.sercos_law_run.proofs.Typed.Records.{AreEntries, accepted_so, answered_so, run_so, selection_so}
 

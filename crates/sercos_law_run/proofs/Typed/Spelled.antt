@@ -1,17 +1,8 @@
 -- What is said in the next cycle of a typed ring is spelled.
-use Rattle.std.proofs.Common.{ℕ, ◌+◌, List, refl, sym, ap, subst, arith}
-use Rattle.sercos_hdlc.specs.Stuffed.{frame_of}
-use Rattle.sercos_drive.specs.Moments.{cycle_in, commands_in, records_in}
-use Rattle.sercos_seat.specs.Ring.{Known, IsKnown, known_of, tasks_for}
-use Rattle.sercos_master.specs.Annals.{Past}
+use Rattle.sercos_law_run.proofs.Words.{ℕ, ◌+◌, List, refl, sym, ap, subst, arith, frame_of, cycle_in, commands_in, records_in, Known, IsKnown, known_of, tasks_for, Past, mst_in, drive_at, given_before, given_mst, begins, middle, behind_mdt, after_mst, KeepsAlways, KeepsWithin, SpelledNext, IsRing-is_ring, is_planned, allowed}
 use Rattle.sercos_law_run.specs.Journal.Arrivals.{content_in}
-use Rattle.sercos_law_run.specs.Journal.Records.{mst_in}
-use Rattle.sercos_law_run.specs.Journal.Runs.{drive_at, given_before, given_mst, begins, middle}
-use Rattle.sercos_law_run.specs.Views.RingViews.{behind_mdt, after_mst}
 use Rattle.sercos_law_run.proofs.Views.Received.{address_of}
 use Rattle.sercos_law_run.specs.Views.Spelled.{IsWhole}
-use Rattle.sercos_law_run.specs.Typed.Keeps.{KeepsAlways, KeepsWithin}
-use Rattle.sercos_law_run.specs.Typed.Spelled.{SpelledNext}
 use Rattle.sercos_law_run.proofs.Typed.Steps.{says}
 use Rattle.sercos_law_run.proofs.Typed.DriveKeeps.{all_heard, mst_heard, drive_keeps}
 use Rattle.sercos_law_run.proofs.Typed.Replies.{shows_word}
@@ -19,10 +10,7 @@ use Rattle.sercos_law_run.proofs.Typed.Ats.{IsContent, at_content}
 use Rattle.sercos_law_run.proofs.Typed.Plans.{ring_known, ring_timed, all_members}
 use Rattle.sercos_law_run.proofs.Typed.Begun.{tasks_so, typed_past}
 use Rattle.sercos_law_run.proofs.Typed.Mdts.{phase_low, mst_whole, mdt_whole}
-use Rattle.sercos_block.proofs.RingLemmas.{IsRing-is_ring}
 use Rattle.sercos_law_run.proofs.Cited.{frame_only, frame_reads, is_framed}
-use Rattle.sercos_master.proofs.Planned.{is_planned}
-use Rattle.sercos_service_drive.proofs.AllowedWrites.{allowed}
 
 module _ where
   -- a content has a frame that gives it back

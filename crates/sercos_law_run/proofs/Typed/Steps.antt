@@ -1,18 +1,7 @@
 -- The steps of a typed request fit into a record.
-use Rattle.std.proofs.Common.{ℕ, zero, suc, ◌+◌, ◌*◌, ◌<◌, ◌==◌, Bool, true, false, List, [], ◌∷◌, length, replicate, drop, None, arith, if◌then◌else◌}
-use Rattle.std.proofs.lemmas.Bool.{cond_both}
-use Rattle.std.specs.Prelude.{slice_get, is_some}
-use Rattle.sercos_model.specs.Bits.{AreBytes}
-use Rattle.sercos_step.specs.declared.step.Step.{Step}
-use Rattle.sercos_step.specs.declared.shape.Shape.{Shape}
+use Rattle.sercos_law_run.proofs.Words.{ℕ, zero, suc, ◌+◌, ◌*◌, ◌<◌, ◌==◌, Bool, true, false, List, [], ◌∷◌, length, replicate, drop, None, arith, if◌then◌else◌, cond_both, slice_get, is_some, AreBytes, Step, Shape, Request, words_of, words_told, at_least_one, shape_of, words_in_list, a_step, run, reading, writing, attribute_then, asks_attribute, polling, steps_of, outcome_of, next_step, answer_words, Begun, step_or_none, master_says, IsSayable, IsTypedRequest}
 use Rattle.sercos_step.specs.declared.shape.Shape.TheVariants as shape
-use Rattle.sercos_step.specs.declared.request.Request.{Request}
 use Rattle.sercos_step.specs.declared.request.Request.TheVariants as request
-use Rattle.sercos_step.specs.Words.{words_of, words_told, at_least_one, shape_of, words_in_list}
-use Rattle.sercos_step.specs.Steps.{a_step, run, reading, writing, attribute_then, asks_attribute, polling, steps_of, outcome_of, next_step, answer_words}
-use Rattle.sercos_service_master.specs.Begun.{Begun, step_or_none, master_says}
-use Rattle.sercos_law_run.specs.Views.Spelled.{IsSayable}
-use Rattle.sercos_law_run.specs.Typed.Typed.{IsTypedRequest}
 use Rattle.sercos_law_run.proofs.Typed.Words.{AreWords, words_of_bytes}
 
 -- the element and the word of a step fit into a record

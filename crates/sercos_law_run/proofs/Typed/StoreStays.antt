@@ -1,18 +1,9 @@
 -- A drive's store stays one, whatever is written to it.
-use Rattle.std.proofs.Common.{◌≡◌, ◌⊎◌, inl, inr, ℕ, suc, ◌*◌, ◌<◌, ◌≤◌, ◌==◌, nat_lt, Bool, true, false, cond, not, ◌&&◌, List, [], ◌∷◌, length, map, Option, Some, None, IfSome, slice_get, refl, sym, subst, arith, if◌then◌else◌}
-use Rattle.std.specs.List.{list_all, position, filter}
-use Rattle.std.proofs.lemmas.Bool.{and_parts}
-use Rattle.std.proofs.lemmas.Bool.Decides.{nat_tests}
+use Rattle.sercos_law_run.proofs.Words.{◌≡◌, ◌⊎◌, inl, inr, ℕ, suc, ◌*◌, ◌<◌, ◌≤◌, ◌==◌, nat_lt, Bool, true, false, cond, not, ◌&&◌, List, [], ◌∷◌, length, map, Option, Some, None, IfSome, slice_get, refl, sym, subst, arith, if◌then◌else◌, list_all, position, filter, and_parts, nat_tests, Idn, Block, find_block, with_data, put_fault, is_len, IsStore, IsWritten-at, fits-put_fault, find_block-at, find_block-nowhere, with_data-nowhere, fits-given, bytes_from, listed_if, is_outside, list_bytes, is_command, is_set, CommandHistory, Write, command_value, blocks_with}
 use Rattle.sercos_model.specs.Bits.{AreBytes}
-use Rattle.sercos_idn.specs.declared.idn.Idn.{Idn}
-use Rattle.sercos_block.specs.declared.block.Block.{Block}
-use Rattle.sercos_block.specs.Stores.{find_block, with_data, put_fault, is_typed, is_len, IsStore}
-use Rattle.sercos_block.proofs.PutLemmas.{IsWritten-at, fits-put_fault, find_block-at, find_block-nowhere, with_data-nowhere, fits-given}
-use Rattle.sercos_block.proofs.TypeLemmas.{bytes_from}
-use Rattle.sercos_command.specs.Checks.{listed_if, unfit_for_phase_3, unfit_for_phase_4, is_outside, list_bytes}
-use Rattle.sercos_command.specs.Settings.{is_command}
-use Rattle.sercos_command.specs.Calls.{is_set, CommandHistory, with_check_list}
-use Rattle.sercos_service_drive.specs.Writes.{Write, command_value, blocks_with}
+use Rattle.sercos_block.specs.Stores.{is_typed}
+use Rattle.sercos_command.specs.Checks.{unfit_for_phase_3, unfit_for_phase_4}
+use Rattle.sercos_command.specs.Calls.{with_check_list}
 
 -- A WRITE
 put_at : (raw : ℕ) (bytes : List ℕ) (blocks : List Block) (place : Option ℕ) → IsStore blocks → position (λ b. b.idn.raw == raw) blocks ≡ place →

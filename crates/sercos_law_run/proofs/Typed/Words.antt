@@ -1,10 +1,6 @@
 -- Bytes and words.
-use Rattle.std.proofs.Common.{ℕ, zero, suc, ◌+◌, ◌<◌, List, [], ◌∷◌, ◌++◌, get_or, arith}
-use Rattle.std.specs.Prelude.{slice_index}
-use Rattle.std.specs.Int.{w16, w32, to_le_bytes}
+use Rattle.sercos_law_run.proofs.Words.{ℕ, zero, suc, ◌+◌, ◌<◌, List, [], ◌∷◌, ◌++◌, get_or, arith, slice_index, w16, w32, to_le_bytes, AreBytes-by_index, AreBytes-get_or, words_of, bytes_in}
 use Rattle.sercos_model.specs.Bits.{AreBytes}
-use Rattle.sercos_model.proofs.BitLemmas.{AreBytes-by_index, AreBytes-get_or}
-use Rattle.sercos_step.specs.Words.{words_of, bytes_in}
 use Rattle.sercos_telegram.specs.Spells.{word_at}
 
 -- each number fits into sixteen bits

@@ -1,56 +1,15 @@
 -- In an undisturbed epoch answers come in time, no request is broken, and requests take no more cycles than they cost.
-use Rattle.std.proofs.Common.{◌≡◌, ◌⊎◌, inl, inr, ℕ, ◌+◌, ◌<◌, ◌≤◌, Bool, true, false, if◌then◌else◌, List, [], ◌∷◌, ◌++◌, length, Option, Some, None, refl, sym, ap, ◌∙◌, subst, arith}
-use Rattle.std.specs.Prelude.{is_some}
-use Rattle.sercos_step.specs.declared.request.Job.{Job}
-use Rattle.sercos_idn.specs.declared.code.Code.{Code}
-use Rattle.sercos_step.specs.declared.request.Request.{Request}
-use Rattle.sercos_step.specs.declared.request.Outcome.{Outcome}
+use Rattle.sercos_law_run.proofs.Words.{◌≡◌, ◌⊎◌, inl, inr, ℕ, ◌+◌, ◌<◌, ◌≤◌, Bool, true, false, if◌then◌else◌, List, [], ◌∷◌, ◌++◌, length, Option, Some, None, refl, sym, ap, ◌∙◌, subst, arith, or_parts, is_some, Job, Code, Request, Outcome, Answer, answer_words, is_whole, outcome_of, store_of, RingView, Begun, answers_it, begun_by, CycleView, EventsView, Fall, Known, Task, known_of, Report, Past, Call, fall_of, broken, events_told, Carry, Restarts, Heard, View, epoch_begun, AreSound, AreClean, open_since, nothing_old, age_in, AreListed, AreTimed, cost_of, cost_in, drive_at, no_events, master_calls, restart_events, IsRun, IsClear, IsReportOf, with_told, told_at_end, HasOutcome, HasReport, behind_mdt, view_of, views_of, IsOpened, KeepsAll, AreUndisturbed, IsUndisturbed, StartsEpoch, views_since, TellsNoFall, start_in_cost, ages_in_time, answers_at_age, comes_timed, stays_clean}
 use Rattle.sercos_step.specs.declared.request.Outcome.TheVariants as outcome
-use Rattle.sercos_step.specs.declared.step.Answer.{Answer}
-use Rattle.sercos_step.specs.Steps.{answer_words, is_whole, outcome_of}
-use Rattle.sercos_block.specs.Stores.{store_of}
-use Rattle.sercos_block.specs.Views.{RingView}
-use Rattle.sercos_service_master.specs.Begun.{Begun, answers_it}
-use Rattle.sercos_service_master.specs.Calls.{begun_by}
-use Rattle.sercos_trace.specs.Views.{CycleView, EventsView}
-use Rattle.sercos_trace.specs.declared.events.Fall.{Fall}
-use Rattle.sercos_seat.specs.Ring.{Known, Task, known_of}
-use Rattle.sercos_seat.specs.Channel.{Report}
-use Rattle.sercos_master.specs.Annals.{Past, Call, fall_of}
-use Rattle.sercos_master.specs.Reports.{broken, events_told}
-use Rattle.sercos_script.specs.Links.{Carry, Restarts}
-use Rattle.sercos_law_channel.specs.Handshake.Views.{Heard, View}
-use Rattle.sercos_law_channel.specs.Handshake.Epochs.{epoch_begun}
-use Rattle.sercos_law_channel.specs.Handshake.WholeRun.{AreSound}
-use Rattle.sercos_law_channel.specs.Pace.Stretches.{AreClean, open_since}
-use Rattle.sercos_law_channel.proofs.Theorems.{nothing_old}
-use Rattle.sercos_law_channel.specs.Pace.Ages.{age_in}
-use Rattle.sercos_law_channel.specs.Pace.Costs.{AreListed, AreTimed, cost_of, cost_in}
-use Rattle.sercos_law_run.specs.Journal.Runs.{drive_at, no_events, master_calls, restart_events, IsRun, IsClear}
-use Rattle.sercos_law_run.specs.Agenda.Reported.{IsReportOf, with_told, told_at_end}
-use Rattle.sercos_law_run.specs.Agenda.Events.{HasOutcome, HasReport}
-use Rattle.sercos_law_run.specs.Views.RingViews.{behind_mdt, view_of, views_of}
 use Rattle.sercos_law_run.proofs.Views.Members.{members_count}
-use Rattle.sercos_law_run.specs.Held.Opened.{IsOpened}
 use Rattle.sercos_law_run.proofs.Held.Runs.{small}
-use Rattle.sercos_law_run.specs.Headline.Headline.{KeepsAll}
 use Rattle.sercos_law_run.proofs.Headline.HeadlineRuns.{all_stand, first_store, keeps_all}
-use Rattle.sercos_law_run.specs.Undisturbed.Undisturbed.{AreUndisturbed, IsUndisturbed}
-use Rattle.sercos_law_run.specs.Undisturbed.EpochStarts.{StartsEpoch}
-use Rattle.sercos_law_run.specs.Undisturbed.ViewsSince.{views_since}
-use Rattle.sercos_law_run.specs.Undisturbed.StartUps.{TellsNoFall}
 use Rattle.sercos_law_run.proofs.Undisturbed.Checks.CommandRuns.{first_commands}
 use Rattle.sercos_law_run.proofs.Undisturbed.Checks.PassedRuns.{commands_so}
 use Rattle.sercos_law_run.proofs.Undisturbed.Checks.Carried.{are_carried}
 use Rattle.sercos_law_run.proofs.Undisturbed.Checks.PassedCycles.{views_split}
 use Rattle.sercos_law_run.proofs.Undisturbed.NeverFalls.{begins_so, runs_split, never_falls}
 use Rattle.sercos_law_run.proofs.Undisturbed.Arriving.Comes.{none_below}
-use Rattle.sercos_law_run.proofs.Undisturbed.Arriving.Small.{both_off}
-use Rattle.sercos_law_channel.proofs.Cited.{start_in_cost}
-use Rattle.sercos_law_channel.proofs.Pace.AgeRuns.{ages_in_time}
-use Rattle.sercos_law_channel.proofs.Pace.ExactAges.{answers_at_age}
-use Rattle.sercos_law_channel.proofs.Pace.TimedCommands.{comes_timed}
-use Rattle.sercos_law_channel.proofs.Pace.WholeCycles.{stays_clean}
 
 young_so : (age same first most : ℕ) → age ≡ same → same ≤ first + most → first ≡ 0 → age ≤ most
 young_so age same first most is young none = omega (arith, is, young, none)
@@ -67,7 +26,7 @@ never_refused c same = cc
 never_complete : (bytes : List ℕ) → outcome.Complete bytes ≡ outcome.Broken → ⊥
 never_complete bytes same = cc
 
-outcome_unbroken : (q : Request) (answers : List Answer) → outcome_of q answers ≡ Some outcome.Broken → ⊥
+pub outcome_unbroken : (q : Request) (answers : List Answer) → outcome_of q answers ≡ Some outcome.Broken → ⊥
 outcome_unbroken q [] is = cc
 outcome_unbroken q (a ∷ answers) is = unbroken_by a.error (is_whole q (answer_words answers ++ a.word ∷ [])) _ _ (never_refused _) (never_complete _) is
 
@@ -111,7 +70,7 @@ module _ (r : RingView) (jobs : List Job) (carry : Carry) (restarts : Restarts) 
           (broken (behind_mdt r jobs carry restarts t.sent j) k) []) number outcome.Broken) none told)
 
   pub tells_in : (t : CycleView) (j : List CycleView) → IsRun r jobs carry restarts (t ∷ j) → IsClear (t ∷ j) → IsUndisturbed r carry restarts t j → fall_of (known_of r) (behind_mdt r jobs carry restarts t.sent j) ≡ None → TellsNoFall t
-  tells_in t j run clear calm none = tells_going t j run clear (none_below (length r.drives + 1) (restarts (length j)) (both_off _ _ calm).0 0 (omega arith)) none
+  tells_in t j run clear calm none = tells_going t j run clear (none_below (length r.drives + 1) (restarts (length j)) (or_parts _ _ calm).0 0 (omega arith)) none
 
 module _ (r : RingView) (jobs : List Job) (carry : Carry) (restarts : Restarts) (opened : IsOpened r jobs) where
   -- No step gets older than busy time and one cycle ..

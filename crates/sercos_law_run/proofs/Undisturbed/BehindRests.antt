@@ -1,14 +1,6 @@
 -- Behind requests that have ended whatever comes is begun after them.
-use Rattle.std.proofs.Common.{◌≡◌, Bool, true, false, if◌then◌else◌, List, [], ◌∷◌, ◌++◌, Option, Some, None, refl, sym, ap, subst}
-use Rattle.std.specs.Prelude.{is_none}
-use Rattle.sercos_step.specs.declared.request.Request.{Request}
-use Rattle.sercos_step.specs.declared.step.Step.{Step}
-use Rattle.sercos_service_master.specs.Begun.{Begun, open_in, answers_it, answer_in, with_answer}
-use Rattle.sercos_law_channel.specs.Handshake.Views.{Heard, View}
-use Rattle.sercos_law_channel.specs.Handshake.Epochs.{with_heard, with_begun, epoch_begun, begun_in}
+use Rattle.sercos_law_run.proofs.Words.{◌≡◌, Bool, true, false, if◌then◌else◌, List, [], ◌∷◌, ◌++◌, Option, Some, None, refl, sym, ap, subst, is_none, Request, Step, Begun, open_in, answers_it, answer_in, with_answer, Heard, View, with_heard, with_begun, epoch_begun, begun_in, AreWhole, GoesOn}
 use Rattle.sercos_law_run.proofs.Agenda.OneTurn.{idle_hears}
-use Rattle.sercos_law_channel.specs.Pace.Passages.{AreWhole}
-use Rattle.sercos_law_run.specs.Tolerance.Losses.{GoesOn}
 
 -- these requests were begun first, and the recent ones after them
 abbrev pub Follow : List Begun → List Begun → Type 0

@@ -1,29 +1,11 @@
 -- The calls of a master's channel are those that the views of its cycles give.
-use Rattle.std.proofs.Common.{◌≡◌, ℕ, ◌+◌, ◌<◌, ◌≤◌, ◌||◌, Bool, true, false, ◌&&◌, List, [], ◌∷◌, length, Option, Some, None, refl, sym, ◌∙◌, ap, ap₂, subst, arith, if◌then◌else◌}
-use Rattle.std.specs.Prelude.{◌==◌, nat_le, is_some}
-use Rattle.std.proofs.lemmas.Bool.Decides.{nat_tests}
-use Rattle.sercos_step.specs.declared.request.Job.{Job}
-use Rattle.sercos_block.specs.Views.{RingView}
-use Rattle.sercos_service_master.specs.Begun.{master_says}
-use Rattle.sercos_service_master.specs.Calls.{Send, EndCycle, begun_by}
+use Rattle.sercos_law_run.proofs.Words.{◌≡◌, ℕ, ◌+◌, ◌<◌, ◌≤◌, ◌||◌, Bool, true, false, ◌&&◌, List, [], ◌∷◌, length, Option, Some, None, refl, sym, ◌∙◌, ap, ap₂, subst, arith, if◌then◌else◌, ◌==◌, nat_le, is_some, nat_tests, Job, RingView, master_says, Send, EndCycle, begun_by, PlanView, is_place, Known, Task, known_of, Past, settled, with_begin, is_sent_to, addressed_in, ready_to_send, after_mdt, fall_of, new_epoch, still_waiting, goes_on, next_phase, leaves, CycleView, Carry, Restarts, unless_restart, calls_heard, calls_begun, calls_sent, calls_in, channel_calls, ats_in, master_calls, looks_back, IsRun, IsClear, at_start, behind_mst, behind_ats, behind_mdt, heard_last, is_told, told_to, request_of, view_of, views_of, IsOpened}
 use Rattle.sercos_service_master.specs.Calls as channel
-use Rattle.sercos_timing.specs.Views.{PlanView}
-use Rattle.sercos_seat.specs.Channel.{is_place}
-use Rattle.sercos_seat.specs.Ring.{Known, Task, known_of}
-use Rattle.sercos_master.specs.Annals.{Past, begins, settled, with_begin, is_sent_to, addressed_in, ready_to_send, after_mdt, fall_of, new_epoch, still_waiting, goes_on, next_phase}
-use Rattle.sercos_master.proofs.Configured.{leaves}
-use Rattle.sercos_trace.specs.Views.{CycleView}
-use Rattle.sercos_script.specs.Links.{Carry, Restarts}
-use Rattle.sercos_law_channel.specs.Handshake.Epochs.{unless_restart}
-use Rattle.sercos_law_channel.specs.Pace.ChannelCalls.{calls_heard, calls_begun, calls_sent, calls_in, channel_calls}
-use Rattle.sercos_law_run.specs.Journal.Records.{ats_in}
-use Rattle.sercos_law_run.specs.Journal.Runs.{master_calls, looks_back, IsRun, IsClear}
-use Rattle.sercos_law_run.specs.Views.RingViews.{at_start, behind_mst, behind_ats, behind_mdt, heard_last, is_told, told_to, request_of, view_of, views_of}
+use Rattle.sercos_master.specs.Annals.{begins}
 use Rattle.sercos_law_run.proofs.Views.MasterSame.{begun_cycle, HasHeard, Nothing, One, AfterAts, ats_none, turn_mdt, same_started}
 use Rattle.sercos_law_run.proofs.Views.Members.{AreHeardAs}
 use Rattle.sercos_law_run.proofs.Views.Coupled.{ats_heard}
 use Rattle.sercos_law_run.proofs.Views.ViewRuns.{started}
-use Rattle.sercos_law_run.specs.Held.Opened.{IsOpened}
 use Rattle.sercos_law_run.proofs.Held.Runs.{holding}
 use Rattle.sercos_law_run.proofs.Headline.HeadlineRuns.{first_store, stored_in, spelled_in, all_stand}
 

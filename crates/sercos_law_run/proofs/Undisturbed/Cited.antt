@@ -1,22 +1,6 @@
 -- What the laws on undisturbed cycles say of every clear run, as they state it.
-use Rattle.std.proofs.Common.{◌≡◌, ℕ, ◌+◌, ◌<◌, true, false, List, ◌∷◌, length, arith}
-use Rattle.sercos_step.specs.declared.request.Job.{Job}
-use Rattle.sercos_block.specs.Views.{RingView}
-use Rattle.sercos_trace.specs.Views.{CycleView}
-use Rattle.sercos_command.specs.Checks.{is_outside}
-use Rattle.std.specs.List.{list_any}
-use Rattle.sercos_seat.specs.Agenda.{is_ready, reads_count}
-use Rattle.sercos_seat.specs.Ring.{known_of, member}
-use Rattle.sercos_master.specs.Annals.{outcomes}
-use Rattle.sercos_script.specs.Links.{Carry, Restarts}
-use Rattle.sercos_law_run.specs.Journal.Runs.{drive_at, IsRun, IsClear}
-use Rattle.sercos_law_run.specs.Views.RingViews.{behind_mdt}
+use Rattle.sercos_law_run.proofs.Words.{◌≡◌, ℕ, ◌+◌, ◌<◌, true, false, List, ◌∷◌, length, arith, list_any, Job, RingView, CycleView, is_outside, is_ready, reads_count, known_of, member, outcomes, Carry, Restarts, drive_at, IsRun, IsClear, behind_mdt, IsOpened, ComesToPhaseFour, FitsInThree, OwnFitsInFour, StopsInTwo, NoStopInFour, StopsInThree}
 use Rattle.sercos_law_run.proofs.Views.Members.{members_count}
-use Rattle.sercos_law_run.specs.Held.Opened.{IsOpened}
-use Rattle.sercos_law_run.specs.Undisturbed.Ends.{ComesToPhaseFour}
-use Rattle.sercos_law_run.specs.Undisturbed.Fit.{FitsInThree, OwnFitsInFour}
-use Rattle.sercos_law_run.specs.Undisturbed.StopsInTwo.{StopsInTwo}
-use Rattle.sercos_law_run.specs.Undisturbed.StopsLater.{NoStopInFour, StopsInThree}
 use Rattle.sercos_law_run.proofs.Undisturbed.CycleHeld.{fits_in}
 use Rattle.sercos_law_run.proofs.Undisturbed.InTime.{comes_to_four}
 use Rattle.sercos_law_run.proofs.Undisturbed.Stops.LaterStops.{no_stop_in_four, ready_if_ended, stop_in_three}

@@ -1,54 +1,19 @@
 -- In phases 3 and 4 the cycle time lies within the limits of each drive, and a plan fits what the ring asks.
-use Rattle.std.proofs.Common.{◌≡◌, ◌⊎◌, inl, inr, ℕ, ◌+◌, ◌*◌, ◌/◌, ◌%◌, ◌<◌, ◌≤◌, Bool, true, false, List, [], ◌∷◌, length, Option, Some, None, refl, sym, ap, ◌∙◌, subst, arith, if◌then◌else◌}
-use Rattle.std.proofs.lemmas.Option.{same_Some}
-use Rattle.std.specs.Prelude.{nat_lt, unwrap_or, option_map}
-use Rattle.std.specs.Bool.{then_some}
-use Rattle.std.specs.Int.{w16, to_le_bytes}
-use Rattle.std.specs.Option.{option_or}
-use Rattle.std.proofs.lemmas.Bool.Decides.{nat_tests}
-use Rattle.sercos_step.specs.declared.request.Job.{Job}
+use Rattle.sercos_law_run.proofs.Words.{◌≡◌, ◌⊎◌, inl, inr, ℕ, ◌+◌, ◌*◌, ◌/◌, ◌%◌, ◌<◌, ◌≤◌, Bool, true, false, List, [], ◌∷◌, length, Option, Some, None, refl, sym, ap, ◌∙◌, subst, arith, if◌then◌else◌, same_Some, nat_lt, unwrap_or, option_map, then_some, w16, to_le_bytes, option_or, nat_tests, Job, bytes_in, begun_by, idn, is_checked, known_of, member, tasks_for, Past, outcomes, stored, newest_to, all_writes, IsConfigured, IsWrittenLast, IsWithin, PlanView, is_fixed, is_protected, built_in_block, row, CycleTime, blocks_fault, find_block, store_of, write_fault, put_fault, DriveView, RingView, Block, data_at, annals, blocks_in, CycleView, Carry, Restarts, IsStoreOf, Holds, start_up, drive_at, given_mst, given_before, middle, IsRun, IsClear, at_start, after_mst, behind_mdt, view_of, views_of, IsOpened, IsFit, written_stays, holds_newest}
 use Rattle.sercos_idn.specs.Attributes.{attribute_of}
-use Rattle.sercos_step.specs.Words.{bytes_in}
-use Rattle.sercos_service_master.specs.Calls.{begun_by}
-use Rattle.sercos_seat.specs.Agenda.{idn, is_checked}
-use Rattle.sercos_seat.specs.Ring.{known_of, member, tasks_for}
-use Rattle.sercos_master.specs.Annals.{Past, outcomes}
-use Rattle.sercos_law_channel.specs.Handshake.Transfers.{stored}
-use Rattle.sercos_law_channel.specs.Handshake.Values.{newest_to}
-use Rattle.sercos_law_channel.specs.Handshake.WholeRun.{all_writes}
-use Rattle.sercos_law_run.specs.Agenda.Writes.{IsConfigured, IsWrittenLast}
 use Rattle.sercos_law_run.proofs.Held.StoreOf.{store_of_so}
-use Rattle.sercos_law_run.specs.Undisturbed.StopsInTwo.{IsWithin}
 use Rattle.sercos_law_run.proofs.Undisturbed.JobsBegun.{begun_then}
 use Rattle.sercos_law_run.proofs.Settings.NoCheck127.{next_still, stays}
-use Rattle.sercos_timing.specs.Views.{PlanView}
-use Rattle.sercos_block.specs.Blocks.{is_fixed, is_protected}
-use Rattle.sercos_block.specs.BuiltIns.{built_in, built_in_block, row}
-use Rattle.sercos_block.specs.declared.built_in.Opening.TheVariants.{CycleTime}
-use Rattle.sercos_block.specs.Rules.{blocks_fault}
-use Rattle.sercos_block.specs.Stores.{find_block, store_of, write_fault, data_fault, put_fault}
-use Rattle.sercos_block.specs.Views.{DriveView, RingView}
-use Rattle.sercos_block.specs.declared.block.Block.{Block}
-use Rattle.sercos_command.specs.Checks.{data_at}
-use Rattle.sercos_drive.specs.Annals.{annals}
-use Rattle.sercos_drive.specs.Moments.{blocks_in}
-use Rattle.sercos_trace.specs.Views.{CycleView}
-use Rattle.sercos_script.specs.Links.{Carry, Restarts}
-use Rattle.sercos_law_run.specs.Start.StartUp.{IsStoreOf, Holds, start_up}
+use Rattle.sercos_block.specs.BuiltIns.{built_in}
+use Rattle.sercos_block.specs.Stores.{data_fault}
 use Rattle.sercos_law_run.proofs.Start.BlockFinds.{find_store_of}
 use Rattle.sercos_law_run.proofs.Start.LimitLemmas.{refuses_cycle}
 use Rattle.sercos_law_run.proofs.Start.CheckPasses.{ring_drive}
-use Rattle.sercos_law_run.specs.Journal.Runs.{drive_at, given_mst, given_before, middle, IsRun, IsClear}
-use Rattle.sercos_law_run.specs.Views.RingViews.{at_start, after_mst, behind_mdt, view_of, views_of}
 use Rattle.sercos_law_run.proofs.Views.Members.{members_count}
-use Rattle.sercos_law_run.specs.Held.Opened.{IsOpened}
 use Rattle.sercos_law_run.proofs.Held.Runs.{Stands, IsPlannedIn, drive_got, holding, s_known, small}
 use Rattle.sercos_law_run.proofs.Headline.HeadlineRuns.{all_stand, first_store, spelled_in, stored_in}
-use Rattle.sercos_law_run.specs.Undisturbed.Fit.{IsFit}
 use Rattle.sercos_law_run.proofs.Undisturbed.Checks.BlockStays.{IsAt, Stays, stays_at}
 use Rattle.sercos_law_run.proofs.Undisturbed.Arriving.Small.{first_is}
-use Rattle.sercos_law_channel.proofs.Cited.{written_stays}
-use Rattle.sercos_law_channel.proofs.Handshake.StoredValues.{holds_newest}
 use Rattle.sercos_law_run.proofs.Agenda.Requests.{are_requests}
 use Rattle.sercos_law_run.proofs.Cited.{configures_rise}
 

@@ -1,39 +1,8 @@
 -- In phase 4 the requests to a drive end one after the other, each within the cycles that this profile gives a request, if none lasts
 -- longer; and in undisturbed cycles none does.
-use Rattle.std.proofs.Common.{◌≡◌, inl, inr, ℕ, zero, suc, ◌+◌, ◌*◌, ◌<◌, ◌≤◌, false, List, [], ◌∷◌, ◌++◌, length, Option, Some, None, refl, sym, ap, ◌∙◌, subst, arith, if◌then◌else◌, length-append}
-use Rattle.std.specs.Prelude.{is_none, is_some}
-use Rattle.std.proofs.lemmas.Bool.{cases_lt, false≢true}
-use Rattle.sercos_step.specs.declared.request.Job.{Job}
-use Rattle.sercos_step.specs.declared.request.Outcome.{Outcome}
-use Rattle.sercos_step.specs.Steps.{next_step, outcome_of}
-use Rattle.sercos_timing.specs.Views.{PlanView}
-use Rattle.sercos_block.specs.Stores.{store_of}
-use Rattle.sercos_block.specs.Views.{RingView}
-use Rattle.sercos_service_master.specs.Begun.{Begun, open_in, answers_in}
-use Rattle.sercos_trace.specs.Views.{CycleView}
-use Rattle.sercos_trace.specs.declared.events.Fall.{Fall}
-use Rattle.sercos_seat.specs.Agenda.{reads_count}
-use Rattle.sercos_seat.specs.Channel.{outcomes_in, with_outcome}
-use Rattle.sercos_seat.specs.Ring.{Known, Task, known_of, member}
-use Rattle.sercos_master.specs.Annals.{outcomes, is_idle}
-use Rattle.sercos_master.proofs.Followed.{not_longer}
-use Rattle.sercos_script.specs.Links.{Carry, Restarts}
-use Rattle.sercos_law_channel.specs.Handshake.Epochs.{epoch_begun}
-use Rattle.sercos_law_channel.specs.Handshake.Views.{View, standing}
-use Rattle.sercos_law_channel.specs.Handshake.WholeRun.{AreSound}
-use Rattle.sercos_law_channel.specs.Pace.Ages.{AreAtWork}
-use Rattle.sercos_law_channel.specs.Pace.Costs.{AreTimed}
-use Rattle.sercos_law_channel.specs.Pace.Passages.{RecoversInTime}
-use Rattle.sercos_law_channel.specs.Pace.Stretches.{open_since}
-use Rattle.sercos_law_run.specs.Journal.Runs.{drive_at, master_calls, looks_back, IsRun, IsClear}
-use Rattle.sercos_law_run.specs.Agenda.Tasks.{AreBegunTasks}
-use Rattle.sercos_law_run.specs.Views.RingViews.{behind_mdt, view_of, views_of}
-use Rattle.sercos_law_run.specs.Held.Opened.{IsOpened}
+use Rattle.sercos_law_run.proofs.Words.{◌≡◌, inl, inr, ℕ, zero, suc, ◌+◌, ◌*◌, ◌<◌, ◌≤◌, false, List, [], ◌∷◌, ◌++◌, length, Option, Some, None, refl, sym, ap, ◌∙◌, subst, arith, if◌then◌else◌, length-append, is_none, is_some, cases_lt, false≢true, Job, Outcome, next_step, outcome_of, PlanView, store_of, RingView, Begun, open_in, answers_in, CycleView, Fall, reads_count, outcomes_in, with_outcome, Known, Task, known_of, member, outcomes, is_idle, not_longer, Carry, Restarts, epoch_begun, View, standing, AreSound, AreAtWork, AreTimed, RecoversInTime, open_since, drive_at, master_calls, looks_back, IsRun, IsClear, AreBegunTasks, behind_mdt, view_of, views_of, IsOpened, request_cycles, GoesOn, views_since, always_opens, rest_since, comes_timed}
 use Rattle.sercos_law_run.proofs.Held.Runs.{small}
 use Rattle.sercos_law_run.proofs.Headline.HeadlineRuns.{all_stand, first_store}
-use Rattle.sercos_law_run.specs.Undisturbed.Reports.{request_cycles}
-use Rattle.sercos_law_run.specs.Tolerance.Losses.{GoesOn}
-use Rattle.sercos_law_run.specs.Undisturbed.ViewsSince.{views_since}
 use Rattle.sercos_law_run.proofs.Undisturbed.BehindRests.{Follow, follow_on}
 use Rattle.sercos_law_run.proofs.Undisturbed.Checks.Carried.{are_carried}
 use Rattle.sercos_law_run.proofs.Undisturbed.Checks.CommandRuns.{first_commands}
@@ -48,9 +17,8 @@ use Rattle.sercos_law_run.proofs.Undisturbed.Checks.PassedRuns.{commands_so}
 use Rattle.sercos_law_run.proofs.Undisturbed.PhaseTwo.{listed_all}
 use Rattle.sercos_law_run.proofs.Undisturbed.Arriving.Small.{first_is}
 use Rattle.sercos_law_run.proofs.Undisturbed.Stops.StopStays.{stop_after}
-use Rattle.sercos_law_channel.proofs.Cited.{always_opens, rest_since}
-use Rattle.sercos_law_channel.proofs.Pace.TimedCommands.{comes_timed}
 use Rattle.sercos_law_run.proofs.Undisturbed.Cited.{never_stops_in_four}
+use Rattle.sercos_law_run.proofs.Bounds.BoundSums.{times_suc}
 
 -- THE REQUEST AT WORK: all that were begun before it have ended.
 record IsAlone (n : ℕ) (begun : List Begun) : Type 0 where
@@ -97,12 +65,9 @@ some_cycles : (x : ℕ) → 1 ≤ x → (n : ℕ) × (x ≡ suc n)
 some_cycles zero some = absurd (omega (arith, some))
 some_cycles (suc n) some = (n, refl)
 
-pub one_time_more : (i c : ℕ) → suc i * c ≡ i * c + c
-one_time_more i c = grind arith
-
 zero_times : (i c : ℕ) → 1 ≤ c → i * c ≤ 0 → i ≡ 0
 zero_times zero c some none = refl
-zero_times (suc i) c some none = let times = one_time_more i c in absurd (omega (arith, times, some, none))
+zero_times (suc i) c some none = let times = times_suc i c in absurd (omega (arith, times, some, none))
 
 -- NONE LASTS LONGER: in cycles of phase 4 at whose ends a step to a drive is open, of one request, which was begun after all others had
 -- ended, there are fewer of them than this profile gives a request.
@@ -261,7 +226,7 @@ module _ (r : RingView) (jobs : List Job) (carry : Carry) (restarts : Restarts) 
 
     one_more : (i : ℕ) → HaveEnded i → HaveEnded (suc i)
     one_more i earlier t cycles run clear all long x few low = elim (cases_lt x (suc (m + i))) [
-      | inl less ↦ earlier t cycles run clear all (let times = one_time_more i (request_cycles r k) in omega (arith, times, long)) x
+      | inl less ↦ earlier t cycles run clear all (let times = times_suc i (request_cycles r k) in omega (arith, times, long)) x
           (omega (arith, less)) low
       | inr most ↦ elim (cases_lt (length (outcomes (behind_mdt r jobs carry restarts t.sent (cycles ++ one ∷ old)) k)) (reads_count
           (member (known_of r) k) + (13 + x))) [
@@ -288,7 +253,7 @@ module _ (r : RingView) (jobs : List Job) (carry : Carry) (restarts : Restarts) 
             (master_calls r carry restarts old)).waiting k)
             → length cycles < request_cycles r k → ⊥
         at_first few_ended waits short =
-            let times = one_time_more i (request_cycles r k) in
+            let times = times_suc i (request_cycles r k) in
             let none = zero_times i (request_cycles r k) (omega (arith, short)) (omega (arith, times, long, short)) in
             never_so_long (m + i) t cycles one old run clear all one_is one_four t_four
             (never_stops_in_four r jobs carry restarts t (cycles ++ one ∷ old) opened run clear t_four) waits (let ended = at_one in omega
@@ -305,7 +270,7 @@ module _ (r : RingView) (jobs : List Job) (carry : Carry) (restarts : Restarts) 
             (c.older ++ one ∷ old)) opened run_cut clear_cut t_four)
             (subst (λ (l : List Task). m + i < length l) (sym (waits_along r jobs carry restarts c.older (one ∷ old) on_older.0 k
             ∙ waits_along r jobs carry restarts (one ∷ []) old (tt, first_one) k)) waits)
-            (earlier c.one c.older cut_run.0 cut_run.1 c.those_older (let is = some.1 in let times = one_time_more i
+            (earlier c.one c.older cut_run.0 cut_run.1 c.those_older (let is = some.1 in let times = times_suc i
             (request_cycles r k) in let rest = c.rest in omega (arith, is, times, rest, long)) (m + i) (omega arith) (omega
             (arith, waits)))
             (subst (λ (l : List CycleView). length (outcomes (behind_mdt r jobs carry restarts t.sent l) k)

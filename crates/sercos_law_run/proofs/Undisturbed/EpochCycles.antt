@@ -1,23 +1,8 @@
 -- The cycles of an undisturbed epoch, one by one.
 pub use Rattle.sercos_law_run.proofs.Undisturbed.GoingCycles.{longer, run_rest, stays_four}
 use Rattle.sercos_law_run.proofs.Undisturbed.GoingCycles.{AreAll, AreGoing, IsGoing, all_so, none_since, outcomes_grow, outcomes_kept}
-use Rattle.std.proofs.Common.{◌≡◌, ℕ, zero, suc, ◌+◌, ◌<◌, false, List, [], ◌∷◌, ◌++◌, length, None, refl, sym, ap, subst, arith}
-use Rattle.sercos_step.specs.declared.request.Job.{Job}
-use Rattle.sercos_block.specs.Views.{RingView}
-use Rattle.sercos_trace.specs.Views.{CycleView}
-use Rattle.sercos_seat.specs.Ring.{known_of}
-use Rattle.sercos_master.specs.Annals.{outcomes, fall_of}
-use Rattle.sercos_script.specs.Links.{Carry, Restarts}
-use Rattle.sercos_law_channel.specs.Handshake.Views.{View, standing}
-use Rattle.sercos_law_channel.specs.Pace.Passages.{IsWhole, AreWhole}
-use Rattle.sercos_law_run.specs.Journal.Runs.{master_calls, looks_back, IsRun, IsClear}
-use Rattle.sercos_law_run.specs.Views.RingViews.{at_start, behind_mdt, view_of, views_of}
-use Rattle.sercos_law_run.specs.Held.Opened.{IsOpened}
+use Rattle.sercos_law_run.proofs.Words.{◌≡◌, ℕ, zero, suc, ◌+◌, ◌<◌, false, List, [], ◌∷◌, ◌++◌, length, None, refl, sym, ap, subst, arith, Job, RingView, CycleView, known_of, outcomes, fall_of, Carry, Restarts, View, standing, IsWhole, AreWhole, master_calls, looks_back, IsRun, IsClear, at_start, behind_mdt, view_of, views_of, IsOpened, AreUndisturbed, IsUndisturbed, StartsEpoch, StaysUp, views_since}
 use Rattle.sercos_law_run.proofs.Held.Extended.{Extends}
-use Rattle.sercos_law_run.specs.Undisturbed.Undisturbed.{AreUndisturbed, IsUndisturbed}
-use Rattle.sercos_law_run.specs.Undisturbed.EpochStarts.{StartsEpoch}
-use Rattle.sercos_law_run.specs.Undisturbed.StartUps.{StaysUp}
-use Rattle.sercos_law_run.specs.Undisturbed.ViewsSince.{views_since}
 use Rattle.sercos_law_run.proofs.Undisturbed.Arriving.Comes.{calm_in}
 use Rattle.sercos_law_run.proofs.Undisturbed.Identified.{starts_so}
 use Rattle.sercos_law_run.proofs.Undisturbed.StaysUp.{phase_now}

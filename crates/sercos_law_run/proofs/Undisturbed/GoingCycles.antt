@@ -1,27 +1,7 @@
 -- Cycles at whose ends the ring doesn't fall, and in which the master doesn't restart; and what goes on from one to the next: outcomes and
 -- a stop stay, and so do the requests that wait.
-use Rattle.std.proofs.Common.{◌≡◌, ℕ, zero, suc, ◌+◌, ◌<◌, ◌≤◌, Bool, true, false, if◌then◌else◌, List, [], ◌∷◌, ◌++◌, length, Option, Some, None, refl, sym, ap, ◌∙◌, subst, arith, length-append}
-use Rattle.std.specs.Prelude.{slice_index}
-use Rattle.sercos_step.specs.declared.request.Job.{Job}
-use Rattle.sercos_step.specs.declared.request.Outcome.{Outcome}
-use Rattle.sercos_block.specs.Views.{RingView}
-use Rattle.sercos_service_master.specs.Begun.{Begun}
-use Rattle.sercos_service_master.specs.Calls.{begun_by}
-use Rattle.sercos_trace.specs.Views.{CycleView}
-use Rattle.sercos_seat.specs.Agenda.{reads_count, is_ready}
-use Rattle.sercos_seat.specs.Channel.{outcomes_in, with_outcome}
-use Rattle.sercos_seat.specs.Ring.{MemberView, Task, known_of, member, tasks_for}
-use Rattle.sercos_seat.proofs.Queues.{ready_stays}
-use Rattle.sercos_master.specs.Annals.{Past, Call, outcomes, fall_of, is_done, place_of}
-use Rattle.sercos_master.proofs.Laws.{waiting_at, waiting_settled}
-use Rattle.sercos_script.specs.Links.{Carry, Restarts}
-use Rattle.sercos_law_channel.specs.Handshake.Epochs.{with_heard, with_begun, epoch_begun}
-use Rattle.sercos_law_channel.specs.Handshake.Views.{View}
-use Rattle.sercos_law_run.specs.Journal.Records.{mst_in, ats_in}
-use Rattle.sercos_law_run.specs.Journal.Runs.{at_calls, own_mst, begins, master_calls, looks_back, IsRun, IsClear}
+use Rattle.sercos_law_run.proofs.Words.{◌≡◌, ℕ, zero, suc, ◌+◌, ◌<◌, ◌≤◌, Bool, true, false, if◌then◌else◌, List, [], ◌∷◌, ◌++◌, length, Option, Some, None, refl, sym, ap, ◌∙◌, subst, arith, length-append, slice_index, Job, Outcome, RingView, Begun, begun_by, CycleView, reads_count, is_ready, outcomes_in, with_outcome, MemberView, Task, known_of, member, tasks_for, ready_stays, Past, Call, outcomes, fall_of, is_done, place_of, waiting_at, waiting_settled, Carry, Restarts, with_heard, with_begun, epoch_begun, View, mst_in, ats_in, at_calls, own_mst, begins, master_calls, looks_back, IsRun, IsClear, at_start, behind_ats, behind_mdt, view_of, views_of, IsOpened}
 use Rattle.sercos_law_run.proofs.Typed.Mdts.{phase_low}
-use Rattle.sercos_law_run.specs.Views.RingViews.{at_start, behind_ats, behind_mdt, view_of, views_of}
-use Rattle.sercos_law_run.specs.Held.Opened.{IsOpened}
 use Rattle.sercos_law_run.proofs.Held.Extended.{Extends, heard_more, begun_same}
 use Rattle.sercos_law_run.proofs.Headline.HeadlineRuns.{all_stand}
 use Rattle.sercos_law_run.proofs.Undisturbed.PhaseCounts.{end_kept}

@@ -1,56 +1,20 @@
 -- In phase 1 a drive that is addressed in an undisturbed cycle is heard in the next.
-use Rattle.std.proofs.Common.{◌≡◌, inl, inr, ℕ, ◌+◌, ◌<◌, ◌≤◌, Bool, true, false, List, [], ◌∷◌, length, Option, Some, None, refl, sym, ◌∙◌, ap, subst, arith, if◌then◌else◌}
-use Rattle.std.specs.Prelude.{◌==◌, nat_le, is_some, is_none, slice_index, option_map}
-use Rattle.std.proofs.lemmas.Bool.Decides.{nat_tests}
+use Rattle.sercos_law_run.proofs.Words.{◌≡◌, inl, inr, ℕ, ◌+◌, ◌<◌, ◌≤◌, Bool, true, false, List, [], ◌∷◌, length, Option, Some, None, refl, sym, ◌∙◌, ap, subst, arith, if◌then◌else◌, ◌==◌, nat_le, is_some, is_none, slice_index, nat_tests, mst_content, at_fault, Job, RingView, Mst, mst_got, mdt_got, phase_in, has_mst, blocks_in, annals, CycleView, record_said, Known, MemberView, known_of, tasks_for, Past, place_of, addressed_before, is_awaited, is_mst, fall_of, next_phase, goes_on, new_epoch, still_waiting, after_end, idle, single, mdt_said, same_place, Carry, Restarts, heard, passage, mst_in, ats_in, mdt_in, drive_at, station_of, with_restart, mdt_heard, disturbs_mdt, given_before, given_mst, master_calls, begins, own_mst, content_of, contents, said_below, looks_back, IsNext, IsRun, at_start, behind_mst, behind_ats, behind_mdt, after_mst, phase_got, IsSpelled, IsOpened, IsUndisturbed}
 use Rattle.sercos_telegram.specs.declared.layout.Kind.TheVariants as kinds
-use Rattle.sercos_telegram.specs.Spells.{mst_content}
-use Rattle.sercos_telegram.specs.Faults.{at_fault}
-use Rattle.sercos_step.specs.declared.request.Job.{Job}
-use Rattle.sercos_block.specs.Views.{RingView}
-use Rattle.sercos_service_master.specs.Begun.{Said}
-use Rattle.sercos_drive.specs.declared.hearing.Told.{Told}
-use Rattle.sercos_drive.specs.Heard.{Mst, mst_got, mdt_got}
-use Rattle.sercos_drive.specs.Moments.{phase_in, has_mst, blocks_in}
-use Rattle.sercos_drive.specs.Annals.{annals}
-use Rattle.sercos_trace.specs.Views.{CycleView}
-use Rattle.sercos_seat.specs.Records.{record_said}
-use Rattle.sercos_seat.specs.Ring.{Known, MemberView, known_of, tasks_for}
-use Rattle.sercos_master.specs.Annals.{Past, place_of, addressed_before, is_awaited, is_mst, fall_of, is_done, is_done_in, next_phase, goes_on, new_epoch, still_waiting, after_end}
-use Rattle.sercos_master.specs.Says.{idle, single, mdt_said}
-use Rattle.sercos_script.specs.Links.{Carry, Restarts}
-use Rattle.sercos_law_run.specs.Journal.Arrivals.{heard, passage}
-use Rattle.sercos_law_run.specs.Journal.Records.{mst_in, ats_in, mdt_in}
-use Rattle.sercos_law_run.specs.Journal.Runs.{drive_at, station_of, with_restart, mdt_heard, disturbs_mdt, given_before, given_mst, master_calls, begins, own_mst, content_of, contents, said_below, looks_back, IsNext, IsRun}
 use Rattle.sercos_law_run.proofs.Journal.RunLemmas.{ats_in-said, mdt_in-said}
-use Rattle.sercos_law_run.specs.Views.RingViews.{at_start, behind_mst, behind_ats, behind_mdt, after_mst, phase_got}
 use Rattle.sercos_law_run.proofs.Views.MasterSame.{begun_cycle, ats_none}
 use Rattle.sercos_law_run.proofs.Views.Members.{member_is}
-use Rattle.sercos_law_run.specs.Views.Spelled.{IsWhole, IsSpelled}
+use Rattle.sercos_law_run.specs.Views.Spelled.{IsWhole}
 use Rattle.sercos_law_run.proofs.Views.Codecs.{mst_clear, single_clear}
-use Rattle.sercos_law_run.proofs.Views.DriveSame.{said_to as said_by_told}
 use Rattle.sercos_law_run.proofs.Views.ViewRuns.{started}
-use Rattle.sercos_law_run.specs.Held.Opened.{IsOpened}
 use Rattle.sercos_law_run.proofs.Headline.HeadlineRuns.{spelled_in}
-use Rattle.sercos_law_run.specs.Undisturbed.Undisturbed.{IsUndisturbed}
-use Rattle.sercos_law_run.proofs.Undisturbed.Arriving.Comes.{IsCalm, calm_in, comes, calm_at, own_mst_whole}
+use Rattle.sercos_law_run.proofs.Undisturbed.Arriving.Comes.{IsCalm, calm_in, calm_at, own_mst_whole}
 use Rattle.sercos_law_run.proofs.Undisturbed.Arriving.Taken.{IsAmong, among_said}
 use Rattle.sercos_law_run.proofs.Undisturbed.Arriving.AtsTaken.{IsWanted, takes_ats}
 use Rattle.sercos_law_run.proofs.Undisturbed.Arriving.SendsNext.{SaysOne, sends_next}
-use Rattle.sercos_law_run.proofs.Undisturbed.Arriving.Small.{same_place}
-use Rattle.sercos_law_run.proofs.Views.MasterSame.{done_below}
 use Rattle.sercos_law_run.proofs.Typed.Mdts.{phase_low}
-use Rattle.sercos_law_run.proofs.Undisturbed.Arriving.Addressed.{place_found}
-
-low_end : (s : Known) (p : Past) → p.now.phase ≤ 4 → (after_end s p).now.phase ≤ 4
-low_end s p low = by (is_some (fall_of s p))
-  where
-    up : (done : Bool) → is_done_in p.now.phase s p ≡ done → (if done then p.now.phase + 1 else p.now.phase) ≤ 4
-    up true is = let less : p.now.phase < 4 = done_below p.now.phase s p is in omega (arith, less)
-    up false is = low
-
-    by : (falls : Bool) → (if falls then new_epoch (p.cycle + 1) (still_waiting p) else goes_on (next_phase s p) p).now.phase ≤ 4
-    by true = omega arith
-    by false = up (is_done s p) refl
+use Rattle.sercos_law_run.proofs.Undisturbed.Arriving.Addressed.{place_found, some_got}
+use Rattle.sercos_law_run.proofs.Undisturbed.Arriving.Arrivals.{heard_sent}
 
 -- the MDT of a cycle of phase 1
 single_said : (s : Known) (p : Past) (k : ℕ) → p.now.phase ≡ 1 → p.now.addressed ≡ Some k → mdt_said s p ≡ Some (single s idle k)
@@ -59,10 +23,6 @@ single_said s p k one to = let is : (p.now.phase == 1) ≡ true = grind (arith, 
 -- an AT that is awaited in phase 1
 awaits_to : (q : Past) (k : ℕ) → q.now.phase ≡ 1 → addressed_before q.turns ≡ Some k → is_awaited q k ≡ true
 awaits_to q k one to = rw (one, to, same_place k) refl
-
-some_told : (o : Option Told) (s : Said) → option_map said_by_told o ≡ Some s → is_some o ≡ true
-some_told None s is = cc
-some_told (Some t) s is = refl
 
 -- the master goes on from a cycle at whose end it doesn't fall
 end_on : (s : Known) (p : Past) → 1 ≤ (after_end s p).now.phase → after_end s p ≡ goes_on (next_phase s p) p
@@ -89,12 +49,12 @@ module _ (r : RingView) (jobs : List Job) (carry : Carry) (restarts : Restarts) 
       -- the MST comes to each drive, and back
       pub phase_comes : (k : ℕ) → k < length r.drives → phase_got carry t.sent j k ≡ Some t.phase
       phase_comes k below =
-          ap mst_got (comes carry (passage (length j) kinds.Mst 0 (k + 1)) (mst_in t.sent) spelled.mst (calm.mst k below) ∙ ap (λ (c : List ℕ). Some c) mst_is)
+          ap mst_got (heard_sent carry (passage (length j) kinds.Mst 0 (k + 1)) (mst_in t.sent) spelled.mst (calm.mst k below) ∙ ap (λ (c : List ℕ). Some c) mst_is)
           ∙ mst_clear (at_start r jobs carry restarts j).now.phase (Some (mst_content (at_start r jobs carry restarts j).now.phase)) start_low (inr refl)
           ∙ ap (λ (n : ℕ). Some n) (sym next.phase)
 
       pub mst_whole : (behind_mst r jobs carry restarts t.sent j).now.whole ≡ true
-      mst_whole = ap (is_mst (at_start r jobs carry restarts j).now.phase) (comes carry (passage (length j) kinds.Mst 0 0) (mst_in t.sent) spelled.mst calm.own ∙ ap (λ (c : List ℕ). Some c) mst_is)
+      mst_whole = ap (is_mst (at_start r jobs carry restarts j).now.phase) (heard_sent carry (passage (length j) kinds.Mst 0 0) (mst_in t.sent) spelled.mst calm.own ∙ ap (λ (c : List ℕ). Some c) mst_is)
           ∙ own_mst_whole (at_start r jobs carry restarts j).now.phase start_low
 
       -- the master doesn't restart
@@ -120,7 +80,7 @@ module _ (r : RingView) (jobs : List Job) (carry : Carry) (restarts : Restarts) 
           by None none calm = cc
           by (Some c) some on =
               let same : c ≡ (single (known_of r) idle k).content = cc in
-              comes carry (passage (length j) kinds.Mdt 0 (k + 1)) c (subst IsWhole (sym same) (spelled.mdt (single (known_of r) idle k) said)) on ∙ ap (λ (l : List ℕ). Some l) (same ∙ mine)
+              heard_sent carry (passage (length j) kinds.Mdt 0 (k + 1)) c (subst IsWhole (sym same) (spelled.mdt (single (known_of r) idle k) said)) on ∙ ap (λ (l : List ℕ). Some l) (same ∙ mine)
 
   -- TWO CYCLES
   module _ (t before : CycleView) (j : List CycleView) (run : IsRun r jobs carry restarts (t ∷ before ∷ j))
@@ -156,7 +116,7 @@ module _ (r : RingView) (jobs : List Job) (carry : Carry) (restarts : Restarts) 
         told : is_some (mdt_got (drive_at r k).address (phase_in (after_mst r carry restarts before.sent j k)) (blocks_in (drive_at r k) (after_mst r carry restarts before.sent j k)) (mdt_heard carry (length j) (k + 1) (mdt_in before.sent))) ≡ true
         told = subst (λ (o : Option (List ℕ)). is_some (mdt_got (drive_at r k).address (phase_in (after_mst r carry restarts before.sent j k)) (blocks_in (drive_at r k) (after_mst r carry restarts before.sent j k)) o) ≡ true)
             (sym (mdt_comes before j run.0.1 calm_then k below was_one to))
-            (some_told _ idle (single_clear idle (drive_at r k).address (phase_in (after_mst r carry restarts before.sent j k)) (blocks_in (drive_at r k) (after_mst r carry restarts before.sent j k)) (omega (arith, stands)) (omega arith) (omega arith)))
+            (some_got _ idle (single_clear idle (drive_at r k).address (phase_in (after_mst r carry restarts before.sent j k)) (blocks_in (drive_at r k) (after_mst r carry restarts before.sent j k)) (omega (arith, stands)) (omega arith) (omega arith)))
 
         says : SaysOne (drive_at r k) r.rate (annals (drive_at r k) r.rate (given_mst carry restarts t.sent (before ∷ j) k))
         says = subst (λ (b : Bool). SaysOne (drive_at r k) r.rate (annals (drive_at r k) r.rate (Mst (length (before ∷ j)) (heard carry (passage (length (before ∷ j)) kinds.Mst 0 (k + 1)) (mst_in t.sent)) ∷ with_restart b (given_before carry restarts (before ∷ j) k))))
@@ -173,7 +133,7 @@ module _ (r : RingView) (jobs : List Job) (carry : Carry) (restarts : Restarts) 
             (among_said (length r.drives) (drive_at r) r.rate (given_mst carry restarts t.sent (before ∷ j)) k says.says below says.said_is)
 
         came : heard carry (passage (length (before ∷ j)) kinds.At (station_of r (slice_index says.says.content 0)) 0) says.says.content ≡ Some says.says.content
-        came = comes carry (passage (length (before ∷ j)) kinds.At (station_of r (slice_index says.says.content 0)) 0) says.says.content
+        came = heard_sent carry (passage (length (before ∷ j)) kinds.At (station_of r (slice_index says.says.content 0)) 0) says.says.content
             ((spelled t (before ∷ j) run.1 calm).ats says.says.content (record { place = k; says = says.says; inside = below; said = says.said_is; content_is = refl }))
             (calm_at r carry (length (before ∷ j)) says.says.content (ats_in t.sent) among calm.ats)
 

@@ -1,43 +1,12 @@
 -- In an undisturbed epoch in which phase 4 comes it is commanded from the bound of a start-up on; and in phase 4, disturbed or not, a step
 -- to a drive is open in each cycle until the first i + 1 of its requests have ended.
-use Rattle.std.proofs.Common.{◌≡◌, ◌⊎◌, inl, inr, ℕ, zero, suc, ◌+◌, ◌<◌, ◌≤◌, Bool, true, false, List, [], ◌∷◌, ◌++◌, drop, length, Option, None, refl, sym, ap, ◌∙◌, subst, arith}
-use Rattle.std.specs.Prelude.{is_none, is_some}
-use Rattle.std.proofs.lemmas.Bool.{false≢true}
-use Rattle.sercos_step.specs.declared.request.Job.{Job}
-use Rattle.sercos_step.specs.declared.request.Outcome.{Outcome}
-use Rattle.sercos_step.proofs.Ends.{has_next}
-use Rattle.sercos_timing.specs.Views.{PlanView}
-use Rattle.sercos_block.specs.Startup.{startup_bound}
-use Rattle.sercos_block.specs.Views.{RingView}
-use Rattle.sercos_service_master.specs.Begun.{Begun, open_in}
-use Rattle.sercos_service_master.specs.Calls.{begun_by}
-use Rattle.sercos_trace.specs.Views.{CycleView}
-use Rattle.sercos_trace.specs.declared.events.Stop.{Stop}
-use Rattle.sercos_seat.specs.Agenda.{reads_count, is_ready}
-use Rattle.sercos_seat.specs.Channel.{count_requests}
-use Rattle.sercos_seat.specs.Ring.{Task, known_of, member, tasks_for}
-use Rattle.sercos_master.specs.Annals.{Past, outcomes, is_idle}
-use Rattle.sercos_master.proofs.InOrder.{still_left}
-use Rattle.sercos_script.specs.Links.{Carry, Restarts}
-use Rattle.sercos_law_channel.specs.Handshake.Epochs.{begun_in}
-use Rattle.sercos_law_channel.specs.Handshake.Views.{View}
-use Rattle.sercos_law_channel.specs.Pace.Ages.{AreAtWork}
-use Rattle.sercos_law_run.specs.Journal.Records.{mst_in, ats_in}
-use Rattle.sercos_law_run.specs.Journal.Runs.{at_calls, own_mst, begin_calls, master_calls, looks_back, middle, IsRun, IsClear}
-use Rattle.sercos_law_run.specs.Agenda.Reported.{AreNumbered}
-use Rattle.sercos_law_run.specs.Agenda.Tasks.{AreBegunTasks}
+use Rattle.sercos_law_run.proofs.Words.{◌≡◌, ◌⊎◌, inl, inr, ℕ, zero, suc, ◌+◌, ◌<◌, ◌≤◌, Bool, true, false, List, [], ◌∷◌, ◌++◌, drop, length, Option, None, refl, sym, ap, ◌∙◌, subst, arith, is_none, is_some, false≢true, Job, Outcome, has_next, PlanView, startup_bound, RingView, Begun, open_in, begun_by, CycleView, Stop, reads_count, is_ready, count_requests, Task, known_of, member, tasks_for, Past, outcomes, is_idle, still_left, Carry, Restarts, begun_in, View, AreAtWork, mst_in, ats_in, at_calls, own_mst, begin_calls, master_calls, looks_back, middle, IsRun, IsClear, AreNumbered, AreBegunTasks, at_start, behind_mdt, view_of, views_of, IsOpened, StartsEpoch, HasBadCheck, AreUndisturbed, views_since}
 use Rattle.sercos_law_run.proofs.Agenda.ReportedRuns.{count_so}
 use Rattle.sercos_law_run.proofs.Agenda.Requests.{numbered_drop}
 use Rattle.sercos_law_run.proofs.Agenda.TaskRuns.{all_ended}
-use Rattle.sercos_law_run.specs.Views.RingViews.{at_start, behind_mdt, view_of, views_of}
-use Rattle.sercos_law_run.specs.Held.Opened.{IsOpened}
 use Rattle.sercos_law_run.proofs.Held.Extended.{Extends}
 use Rattle.sercos_law_run.proofs.Held.Runs.{holding}
 use Rattle.sercos_law_run.proofs.Headline.HeadlineRuns.{all_stand, first_store, keeps_all, spelled_in, stored_in}
-use Rattle.sercos_law_run.specs.Undisturbed.EpochStarts.{StartsEpoch}
-use Rattle.sercos_law_run.specs.Undisturbed.Ends.{HasBadCheck}
-use Rattle.sercos_law_run.specs.Undisturbed.Undisturbed.{AreUndisturbed}
-use Rattle.sercos_law_run.specs.Undisturbed.ViewsSince.{views_since}
 use Rattle.sercos_law_run.proofs.Undisturbed.GoingCycles.{AreGoing, HasEndedBadly, IsGoing, badly_along, badly_more, four_along, longer_so, none_since, outcomes_grow, outcomes_kept, phase_before, run_rest, waits_along, waits_now}
 use Rattle.sercos_law_run.proofs.Undisturbed.Checks.PassedCycles.{views_split}
 use Rattle.sercos_law_run.proofs.Undisturbed.Reached.{all_ready_in}
@@ -100,9 +69,6 @@ module _ (r : RingView) (jobs : List Job) (carry : Carry) (restarts : Restarts) 
 
 module _ (r : RingView) (jobs : List Job) (carry : Carry) (restarts : Restarts) (opened : IsOpened r jobs) (k : ℕ)
     (below : k < length r.drives) where
-  abbrev back : List CycleView → Past
-  back j = looks_back r jobs (master_calls r carry restarts j)
-
   abbrev now_in : CycleView → List CycleView → Past
   now_in t j = behind_mdt r jobs carry restarts t.sent j
 

@@ -1,33 +1,9 @@
 -- In phase 2, where a drive's writes have begun, the check for phase 3 of each drive before it in the ring has ended well.
-use Rattle.std.proofs.Common.{◌≡◌, inl, inr, ℕ, ◌+◌, ◌<◌, ◌≤◌, Bool, true, false, not, List, [], ◌∷◌, length, Option, Some, None, refl, sym, ap, ◌∙◌, subst, arith, if◌then◌else◌}
-use Rattle.std.specs.Option.{option_or}
-use Rattle.std.proofs.lemmas.Bool.{cases_lt, false≢true, le-leb}
-use Rattle.sercos_telegram.specs.declared.words.Status.{Status}
-use Rattle.sercos_telegram.specs.Words.{status_of}
-use Rattle.sercos_telegram.specs.Spells.{word_at}
-use Rattle.sercos_step.specs.declared.request.Request.{Request}
-use Rattle.sercos_step.specs.declared.request.Outcome.{Outcome}
-use Rattle.sercos_service_master.specs.Begun.{Begun, answers_it, answer_in, with_answer}
-use Rattle.sercos_service_master.specs.Calls.{begun_by}
+use Rattle.sercos_law_run.proofs.Words.{◌≡◌, inl, inr, ℕ, ◌+◌, ◌<◌, ◌≤◌, Bool, true, false, not, List, [], ◌∷◌, length, Option, Some, None, refl, sym, ap, ◌∙◌, subst, arith, if◌then◌else◌, option_or, cases_lt, false≢true, le-leb, not-false, same_Some, Status, status_of, word_at, Request, Outcome, Begun, answers_it, answer_in, with_answer, begun_by, reads_count, is_read, is_checked, ended_well, outcomes_in, with_outcome, Known, MemberView, Task, member, AreWaiting, ended_there, before_end, Call, Past, outcomes, first_from, first_place, after_taken, settled, in_turn, past, mdt_adds, leaves, begins_next, channel_keeps, first_found, going, past_keeps, at_adds, with_begun, with_status, AreBegunTasks, request_of}
 use Rattle.sercos_service_master.specs.Calls as channel
-use Rattle.sercos_seat.specs.Agenda.{reads_count, is_read, is_checked, ended_well}
-use Rattle.sercos_seat.specs.Channel.{outcomes_in, with_outcome}
-use Rattle.sercos_seat.specs.Ring.{Known, MemberView, Task, member}
-use Rattle.sercos_seat.specs.Seats.{AreWaiting}
-use Rattle.sercos_seat.proofs.Agendas.{ended_there}
-use Rattle.sercos_seat.proofs.Seats.{before_end}
-use Rattle.sercos_master.specs.Annals.{Call, Mdt, Past, outcomes, first_from, first_place, after_taken, settled, in_turn, begins, past}
-use Rattle.sercos_master.proofs.Configured.{mdt_adds, leaves}
-use Rattle.sercos_master.proofs.Keeping.{begins_next, channel_keeps, first_found, going, past_keeps}
-use Rattle.sercos_master.proofs.Planned.{at_adds}
-use Rattle.sercos_law_channel.specs.Handshake.Epochs.{with_begun}
-use Rattle.sercos_law_channel.specs.Handshake.Moves.{with_status}
-use Rattle.sercos_law_run.specs.Agenda.Tasks.{AreBegunTasks}
-use Rattle.sercos_law_run.specs.Views.RingViews.{request_of}
-use Rattle.sercos_law_run.proofs.Undisturbed.Arriving.Arrivals.{not_false}
+use Rattle.sercos_master.specs.Annals.{Mdt, begins}
 use Rattle.sercos_law_run.proofs.Undisturbed.StaysUp.{found_passes}
 use Rattle.sercos_law_run.proofs.Views.MasterSame.{begun_so, turn_mdt}
-use Rattle.sercos_law_run.proofs.Undisturbed.Arriving.Small.{some_is}
 use Rattle.sercos_law_run.proofs.Cited.{begins_none, begins_tasks}
 
 -- a check that has ended well stays so
@@ -62,9 +38,9 @@ turn_after : (s : Known) (p : Past) (k : ℕ) → in_turn s p ≡ Some k → is_
 turn_after s p k turn read j low = by (first_place s (λ i. not (is_read (member s i) (outcomes p i)))) refl turn
   where
     by : (o : Option ℕ) → first_place s (λ i. not (is_read (member s i) (outcomes p i))) ≡ o → option_or o (first_place s (λ i. not (is_checked (member s i) (outcomes p i)))) ≡ Some k → is_checked (member s j) (outcomes p j) ≡ true
-    by None none second = not_false _ (before_first 0 (length s.drives) (λ i. not (is_checked (member s i) (outcomes p i))) k second j (omega arith) low)
+    by None none second = not-false _ (before_first 0 (length s.drives) (λ i. not (is_checked (member s i) (outcomes p i))) k second j (omega arith) low)
     by (Some i) found first =
-        let same : i ≡ k = some_is i k first in
+        let same : i ≡ k = same_Some i k first in
         let unread = found_passes 0 (length s.drives) i (λ m. not (is_read (member s m) (outcomes p m))) found in
         absurd (false≢true (sym (ap not (subst (λ (m : ℕ). is_read (member s m) (outcomes p m) ≡ true) (sym same) read)) ∙ unread))
 

@@ -1,25 +1,8 @@
 -- Up to phase 3 each request that was begun is the one at its place of the start-up.
-use Rattle.std.proofs.Common.{◌≡◌, ◌⊎◌, inl, inr, ℕ, ◌+◌, ◌<◌, ◌≤◌, true, List, [], ◌∷◌, ◌++◌, length, Option, Some, None, refl, sym, ap, ◌∙◌, subst, arith}
-use Rattle.std.specs.Prelude.{slice_get, unwrap_or, option_map}
-use Rattle.std.proofs.lemmas.Bool.{false≢true}
-use Rattle.std.proofs.lemmas.Option.{slice_get_within}
-use Rattle.sercos_step.specs.declared.request.Request.{Request}
+use Rattle.sercos_law_run.proofs.Words.{◌≡◌, ◌⊎◌, inl, inr, ℕ, ◌+◌, ◌<◌, ◌≤◌, true, List, [], ◌∷◌, ◌++◌, length, Option, Some, None, refl, sym, ap, ◌∙◌, subst, arith, slice_get, unwrap_or, option_map, false≢true, slice_get_within, same_Some, Request, Outcome, outcome_of, PlanView, Begun, Known, Task, member, idn, reads, reads_count, writes, is_checked, ended_well, given, bytes_of, outcomes_in, with_outcome, AreWaiting, reads_length, get_left, get_right, IsTask, OfReads, OfWrites, Checks3, Lists3, Checks4, Lists4, OfWaiting, AreBegunTasks, HasEndedWell, jobs_of, AreAt}
 use Rattle.sercos_step.specs.declared.request.Request.TheVariants as request
-use Rattle.sercos_step.specs.declared.request.Outcome.{Outcome}
 use Rattle.sercos_step.specs.declared.request.Outcome.TheVariants as outcome
-use Rattle.sercos_step.specs.Steps.{outcome_of}
-use Rattle.sercos_timing.specs.Views.{PlanView}
-use Rattle.sercos_service_master.specs.Begun.{Begun}
-use Rattle.sercos_seat.specs.Ring.{Known, Task, member}
-use Rattle.sercos_seat.specs.Agenda.{idn, reads, reads_count, writes, is_checked, ended_well, given, bytes_of}
-use Rattle.sercos_seat.specs.Channel.{outcomes_in, with_outcome}
-use Rattle.sercos_seat.specs.Seats.{AreWaiting}
-use Rattle.sercos_seat.proofs.Agendas.{reads_length}
-use Rattle.sercos_seat.proofs.Gets.{get_left, get_right}
-use Rattle.sercos_law_run.specs.Agenda.Tasks.{IsTask, OfReads, OfWrites, Checks3, Lists3, Checks4, Lists4, OfWaiting, AreBegunTasks, HasEndedWell}
 use Rattle.sercos_law_run.proofs.Agenda.ReadWell.{last_is}
-use Rattle.sercos_law_run.specs.Undisturbed.Jobs.{jobs_of, AreAt}
-use Rattle.sercos_law_run.proofs.Undisturbed.Arriving.Small.{some_is}
 
 -- each complete check for phase 3 among these has ended well
 abbrev pub Give3 : List Begun → Type 0
@@ -116,7 +99,7 @@ module _ (s : Known) (k : ℕ) where
       complete = whole.1
 
       asks : c.request ≡ request.Command (idn 127)
-      asks = some_is c.request (request.Command (idn 127)) (sym at.1 ∙ is_check p (length older) eleven)
+      asks = same_Some c.request (request.Command (idn 127)) (sym at.1 ∙ is_check p (length older) eleven)
 
   -- SO EACH REQUEST THAT WAS BEGUN has its place.
   pub begun_at : (plan : Option PlanView) (waiting : List Task) (phase : ℕ) (begun : List Begun) (tasks : List Task) → AreWaiting waiting → phase ≤ 3 → AreBegunTasks s k plan waiting phase begun tasks → Give3 begun → AreAt (jobs_of s plan k) begun

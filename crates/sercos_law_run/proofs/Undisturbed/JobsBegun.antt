@@ -1,58 +1,20 @@
 -- In each cycle up to phase 3 the requests that were begun have the places of a start-up's; and if all reads have ended and there is no
 -- stop, the master has made the plan.
-use Rattle.std.proofs.Common.{◌≡◌, ℕ, ◌+◌, ◌<◌, ◌≤◌, true, false, List, [], ◌∷◌, ◌++◌, length, Option, Some, None, sym, ap, ◌∙◌, subst, arith, append_assoc, if◌then◌else◌}
-use Rattle.std.specs.Prelude.{◌==◌, nat_le, is_some, slice_get}
-use Rattle.std.proofs.lemmas.Bool.{le-leb}
-use Rattle.sercos_idn.specs.declared.idn.Idn.{Idn}
-use Rattle.sercos_step.specs.declared.request.Job.{Job}
-use Rattle.sercos_step.specs.declared.request.Request.{Request}
+use Rattle.sercos_law_run.proofs.Words.{◌≡◌, ℕ, ◌+◌, ◌<◌, ◌≤◌, true, false, List, [], ◌∷◌, ◌++◌, length, Option, Some, None, sym, ap, ◌∙◌, subst, arith, append_assoc, if◌then◌else◌, ◌==◌, nat_le, is_some, slice_get, le-leb, slice_get_within, same_Some, Idn, Job, Request, Outcome, record_bytes, IsValid, WishesView, wishes_of, store_of, DriveView, RingView, Begun, begun_by, CycleView, Fall, reads, reads_count, wishes_given, MemberView, known_of, member, member_of, tasks_for, reads_length, Past, outcomes, all_read, fall_of, jobs_waiting, mdt_adds, no_stop_before, Carry, Restarts, epoch_begun, begun_in, View, all_begun, begun_ago, all_entries, all_writes, AreExact, IsAnswer, AreAnswers, mst_in, ats_in, drive_at, at_calls, own_mst, begin_calls, master_calls, middle, IsRun, IsClear, AreBegunTasks, HasEndedAt, behind_ats, behind_mdt, view_of, views_of, IsOpened, jobs_of, AreAt, runs_exact}
 use Rattle.sercos_step.specs.declared.request.Request.TheVariants as request
-use Rattle.sercos_step.specs.declared.request.Outcome.{Outcome}
 use Rattle.sercos_step.specs.declared.request.Outcome.TheVariants as outcome
-use Rattle.sercos_timing.specs.Order.{record_bytes}
-use Rattle.sercos_timing.specs.Valid.{IsValid}
-use Rattle.sercos_timing.specs.Views.{WishesView}
-use Rattle.sercos_block.specs.Rings.{wishes_of}
-use Rattle.sercos_block.specs.Stores.{store_of}
-use Rattle.sercos_block.specs.Views.{DriveView, RingView}
-use Rattle.sercos_service_master.specs.Begun.{Begun}
-use Rattle.sercos_service_master.specs.Calls.{begun_by}
-use Rattle.sercos_trace.specs.Views.{CycleView}
-use Rattle.sercos_trace.specs.declared.events.Fall.{Fall}
-use Rattle.sercos_seat.specs.Agenda.{reads, reads_count, wishes_given}
-use Rattle.sercos_seat.specs.Ring.{MemberView, known_of, member, member_of, tasks_for}
-use Rattle.sercos_seat.proofs.Agendas.{reads_length}
-use Rattle.sercos_master.specs.Annals.{Past, outcomes, all_read, fall_of}
-use Rattle.sercos_master.proofs.Laws.{jobs_waiting}
-use Rattle.sercos_master.proofs.Configured.{mdt_adds}
-use Rattle.sercos_master.proofs.Followed.{no_stop_before}
-use Rattle.sercos_script.specs.Links.{Carry, Restarts}
-use Rattle.sercos_law_channel.specs.Handshake.Epochs.{epoch_begun, begun_in}
-use Rattle.sercos_law_channel.specs.Handshake.Views.{View}
-use Rattle.sercos_law_channel.specs.Handshake.WholeRun.{all_begun, begun_ago, all_entries, all_writes}
-use Rattle.sercos_law_channel.specs.Handshake.Exact.{AreExact}
-use Rattle.sercos_law_run.specs.Start.Answers.{IsAnswer, AreAnswers}
 use Rattle.sercos_law_run.proofs.Start.CheckPasses.{ring_drive}
-use Rattle.sercos_law_run.specs.Journal.Records.{mst_in, ats_in}
-use Rattle.sercos_law_run.specs.Journal.Runs.{drive_at, at_calls, own_mst, begin_calls, master_calls, middle, IsRun, IsClear}
-use Rattle.sercos_law_run.specs.Agenda.Tasks.{AreBegunTasks, HasEndedAt}
 use Rattle.sercos_law_run.proofs.Agenda.ReadWell.{complete}
-use Rattle.sercos_law_run.specs.Views.RingViews.{behind_ats, behind_mdt, view_of, views_of}
-use Rattle.sercos_law_run.proofs.Views.Members.{members_count, member_is}
+use Rattle.sercos_law_run.proofs.Views.Members.{member_is, in_known}
 use Rattle.sercos_law_run.proofs.Settings.CheckRuns.{checks_give_3}
 use Rattle.sercos_law_run.proofs.Settings.WellSets.{well_first}
-use Rattle.sercos_law_run.specs.Held.Opened.{IsOpened}
 use Rattle.sercos_law_run.proofs.Held.AnsweredRuns.{IsRead, is_read_request, as_read, read_of, read_answers, answered_by, entries_stored}
 use Rattle.sercos_law_run.proofs.Held.Runs.{drive_got, got_inside, small, wishes_so}
 use Rattle.sercos_law_run.proofs.Headline.HeadlineRuns.{all_stand, first_store, keeps_all, spelled_in, stored_in}
 use Rattle.sercos_law_run.proofs.Headline.WellRuns.{AllWell, all_well}
-use Rattle.sercos_law_run.specs.Undisturbed.Jobs.{jobs_of, AreAt}
 use Rattle.sercos_law_run.proofs.Undisturbed.JobPlaces.{Give3, begun_at, few_in_two, reading}
 use Rattle.sercos_law_run.proofs.Undisturbed.PlanMade.{plan_made, read_same}
-use Rattle.sercos_law_run.proofs.Undisturbed.Arriving.Small.{some_is}
 use Rattle.sercos_law_run.proofs.Settings.NoCheck127.{next_still, stays}
-use Rattle.std.proofs.lemmas.Option.{slice_get_within}
-use Rattle.sercos_law_channel.proofs.Cited.{runs_exact}
 use Rattle.sercos_law_run.proofs.Cited.{begins_tasks, tasks_end}
 use Rattle.sercos_law_run.proofs.Start.WellLemmas.{ring_is_valid}
 
@@ -62,9 +24,6 @@ place_of all [] older b at = at.1
 place_of all (x ∷ newer) older b at = place_of all newer older b at.0
 
 module _ (r : RingView) (jobs : List Job) (carry : Carry) (restarts : Restarts) (opened : IsOpened r jobs) where
-  inside : (k : ℕ) → k < length r.drives → k < length (known_of r).drives
-  inside k below = let count = members_count r in omega (arith, count, below)
-
   -- THE CHECKS FOR PHASE 3 end well.
   pub wells : (j : List CycleView) → IsRun r jobs carry restarts j → IsClear j → AllWell r jobs carry restarts opened (first_store r jobs carry restarts opened) j
   wells [] run clear = λ k below. well_first r jobs carry restarts k
@@ -95,7 +54,7 @@ module _ (r : RingView) (jobs : List Job) (carry : Carry) (restarts : Restarts) 
         stands.sound set.follow set.well set.commands newer older b bytes split asks whole
 
     pub tasks_then : (k : ℕ) → k < length r.drives → AreBegunTasks (known_of r) k now.plan (now.waiting k) now.now.phase (begun_of k) (now.tasks k)
-    tasks_then k below = subst (λ (l : List Begun). AreBegunTasks (known_of r) k now.plan (now.waiting k) now.now.phase l (now.tasks k)) (begun_then k below) (begins_tasks (known_of r) (tasks_for (known_of r) jobs) (middle r carry restarts t.sent j) k (inside k below))
+    tasks_then k below = subst (λ (l : List Begun). AreBegunTasks (known_of r) k now.plan (now.waiting k) now.now.phase l (now.tasks k)) (begun_then k below) (begins_tasks (known_of r) (tasks_for (known_of r) jobs) (middle r carry restarts t.sent j) k (in_known r k below))
 
     pub places_then : (k : ℕ) → k < length r.drives → now.now.phase ≤ 3 → AreAt (jobs_of (known_of r) now.plan k) (begun_of k)
     places_then k below low = begun_at (known_of r) k now.plan (now.waiting k) now.now.phase (begun_of k) (now.tasks k) (jobs_waiting (known_of r) jobs (middle r carry restarts t.sent j) k) low (tasks_then k below) (gives_3 k below)
@@ -134,13 +93,13 @@ module _ (r : RingView) (jobs : List Job) (carry : Carry) (restarts : Restarts) 
             early = let less = slice_get_within (reads (member (known_of r) k)) n x got in let long = reads_length (member (known_of r) k) in omega (arith, less, long)
 
             bytes : List ℕ
-            bytes = (whole k (inside k below) n early).0
+            bytes = (whole k (in_known r k below) n early).0
 
             complete_is : slice_get (outcomes (behind_mdt r jobs carry restarts t.sent j) k) n ≡ Some (outcome.Complete bytes)
-            complete_is = (whole k (inside k below) n early).1
+            complete_is = (whole k (in_known r k below) n early).1
 
             at : HasEndedAt (known_of r) k now.plan (now.waiting k) now.now.phase (begun_by (now.calls k)) n (outcome.Complete bytes)
-            at = tasks_end (known_of r) (tasks_for (known_of r) jobs) (middle r carry restarts t.sent j) k n (outcome.Complete bytes) (inside k below) complete_is
+            at = tasks_end (known_of r) (tasks_for (known_of r) jobs) (middle r carry restarts t.sent j) k n (outcome.Complete bytes) (in_known r k below) complete_is
 
             views : List View
             views = stays (view_of r jobs carry restarts k t j) ∷ views_of r jobs carry restarts k j
@@ -149,7 +108,7 @@ module _ (r : RingView) (jobs : List Job) (carry : Carry) (restarts : Restarts) 
             split = sym (begun_then k below) ∙ at.split
 
             asked_is : at.one.request ≡ x
-            asked_is = some_is at.one.request x (sym (place_of (jobs_of (known_of r) now.plan k) at.newer at.older at.one (subst (AreAt (jobs_of (known_of r) now.plan k)) split (places_then k below low)))
+            asked_is = same_Some at.one.request x (sym (place_of (jobs_of (known_of r) now.plan k) at.newer at.older at.one (subst (AreAt (jobs_of (known_of r) now.plan k)) split (places_then k below low)))
                 ∙ ap (slice_get (jobs_of (known_of r) now.plan k)) at.place ∙ reading (known_of r) k now.plan n early ∙ got)
 
             is : IsRead x

@@ -1,34 +1,10 @@
 -- What the requests of a start-up cost a drive: those of phase 2 together, and those of phase 3.
-use Rattle.std.proofs.Common.{◌≡◌, ℕ, zero, suc, ◌+◌, ◌*◌, ◌≤◌, true, false, List, [], ◌∷◌, ◌++◌, length, map, drop, Option, Some, None, refl, sym, ap, ◌∙◌, subst, arith, length-append}
-use Rattle.std.specs.Prelude.{slice_get, slice_index}
-use Rattle.std.specs.Option.{option_or}
-use Rattle.std.specs.List.{sum_by}
-use Rattle.std.proofs.lemmas.List.Sums.{sum_by-cons, sum_by-append, sum_by-take-drop}
+use Rattle.sercos_law_run.proofs.Words.{◌≡◌, ℕ, zero, suc, ◌+◌, ◌*◌, ◌≤◌, true, false, List, [], ◌∷◌, ◌++◌, length, map, drop, Option, Some, None, refl, sym, ap, ◌∙◌, subst, arith, length-append, slice_get, slice_index, option_or, sum_by, sum_by-cons, sum_by-append, sum_by-take-drop, is_list, Idn, Request, bytes_in, PlanView, Block, Zero, CycleTime, T1min, Tatmt, T4min, Tatat, Tmtsy, Tmtsg, Empty, built_in_block, row, blocks_fault, find_block, store_of, DriveView, Begun, length-bytes_in, Known, MemberView, member, member_of, idn, declared_times, reads, reads_count, writes, writes_word, reads_length, length_map, cost_of, cost_in, IsWord, AreWords, IsListBlock, IsWordWrite, AreWordWrites, ReadsCost, WritesCost, ListReadCosts, read_cycles, write_cycles, command_cycles, jobs_of, AreAt}
 use Rattle.sercos_idn.specs.Attributes.{attribute_of}
-use Rattle.sercos_idn.specs.Codes.{is_list}
-use Rattle.sercos_idn.specs.declared.idn.Idn.{Idn}
 use Rattle.sercos_idn.specs.declared.kinds.Length.TheVariants as len
-use Rattle.sercos_step.specs.declared.request.Request.{Request}
 use Rattle.sercos_step.specs.declared.request.Request.TheVariants as request
-use Rattle.sercos_step.specs.Words.{bytes_in}
-use Rattle.sercos_timing.specs.Views.{PlanView}
-use Rattle.sercos_block.specs.declared.block.Block.{Block}
-use Rattle.sercos_block.specs.declared.built_in.Opening.TheVariants.{Zero, CycleTime, T1min, Tatmt, T4min, Tatat, Tmtsy, Tmtsg, Empty}
-use Rattle.sercos_block.specs.BuiltIns.{built_in, built_in_block, row}
-use Rattle.sercos_block.specs.Rules.{blocks_fault}
-use Rattle.sercos_block.specs.Stores.{find_block, store_of}
-use Rattle.sercos_block.specs.Views.{DriveView}
-use Rattle.sercos_service_master.specs.Begun.{Begun}
-use Rattle.sercos_service_drive.proofs.WordLemmas.{length-bytes_in}
-use Rattle.sercos_seat.specs.Ring.{Known, MemberView, member, member_of}
-use Rattle.sercos_seat.specs.Agenda.{idn, declared_times, reads, reads_count, writes, writes_word}
-use Rattle.sercos_seat.proofs.Agendas.{reads_length}
-use Rattle.sercos_seat.proofs.Gets.{length_map}
+use Rattle.sercos_block.specs.BuiltIns.{built_in}
 use Rattle.sercos_law_run.proofs.Start.BlockFinds.{find_store_of}
-use Rattle.sercos_law_channel.specs.Pace.Costs.{cost_of, cost_in}
-use Rattle.sercos_law_channel.specs.Pace.Jobs.{IsWord, AreWords, IsListBlock, IsWordWrite, AreWordWrites, ReadsCost, WritesCost, ListReadCosts}
-use Rattle.sercos_law_run.specs.Bounds.Bounds.{read_cycles, write_cycles, command_cycles}
-use Rattle.sercos_law_run.specs.Undisturbed.Jobs.{jobs_of, AreAt}
 
 -- what comes after the first items of two lists
 drop_behind : (xs ys : List Request) (n i : ℕ) → n ≡ length xs + i → drop n (xs ++ ys) ≡ drop i ys

@@ -1,35 +1,12 @@
 -- In an undisturbed epoch the ring never falls, and each drive stands in the commanded phase.
-use Rattle.std.proofs.Common.{◌≡◌, ℕ, zero, suc, ◌<◌, ◌≤◌, true, false, List, [], ◌∷◌, ◌++◌, length, Option, None, sym, ap, ◌∙◌, subst, arith}
-use Rattle.std.specs.Prelude.{nat_le, is_some, slice_index_or}
-use Rattle.std.proofs.lemmas.Bool.{and_parts}
-use Rattle.std.proofs.lemmas.Bool.Decides.{nat_tests}
-use Rattle.sercos_step.specs.declared.request.Job.{Job}
-use Rattle.sercos_block.specs.Rings.{is_ring, is_drive, are_drives, are_drive_numbers}
-use Rattle.sercos_block.specs.Views.{DriveView, RingView}
-use Rattle.sercos_service_master.specs.Calls.{cycles_open}
-use Rattle.sercos_trace.specs.Views.{CycleView}
-use Rattle.sercos_trace.specs.declared.events.Fall.{Fall}
-use Rattle.sercos_seat.specs.Ring.{known_of}
-use Rattle.sercos_master.specs.Annals.{fall_of}
-use Rattle.sercos_script.specs.Links.{Carry, Restarts}
-use Rattle.sercos_law_channel.specs.Handshake.Views.{View}
+use Rattle.sercos_law_run.proofs.Words.{◌≡◌, ℕ, zero, suc, ◌<◌, ◌≤◌, true, false, List, [], ◌∷◌, ◌++◌, length, Option, None, sym, ap, ◌∙◌, subst, arith, nat_le, is_some, slice_index_or, and_parts, nat_tests, Job, is_ring, DriveView, RingView, cycles_open, CycleView, Fall, known_of, fall_of, Carry, Restarts, View, IsWhole, AreWhole, IsPassed, ArePassed, BeginsEpoch, staying, calls_in, channel_calls, no_drive, drive_at, IsRun, IsClear, behind_mdt, view_of, views_of, IsOpened, AreUndisturbed, StartsEpoch, views_since, NoneFalls, StaysUp, none_late, hears_throughout, stands_throughout}
+use Rattle.sercos_block.specs.Rings.{is_drive, are_drives, are_drive_numbers}
 use Rattle.sercos_law_channel.specs.Handshake.Runs.{IsRun as IsViewRun}
-use Rattle.sercos_law_channel.specs.Pace.Passages.{IsWhole, AreWhole, IsPassed, ArePassed, BeginsEpoch}
-use Rattle.sercos_law_channel.specs.Pace.ChannelCalls.{staying, calls_in, channel_calls}
-use Rattle.sercos_law_run.specs.Journal.Runs.{no_drive, drive_at, IsRun, IsClear}
 use Rattle.sercos_law_run.proofs.Journal.StationLemmas.{drives_so}
-use Rattle.sercos_law_run.specs.Views.RingViews.{behind_mdt, view_of, views_of}
-use Rattle.sercos_law_run.specs.Held.Opened.{IsOpened}
 use Rattle.sercos_law_run.proofs.Headline.HeadlineRuns.{all_stand}
-use Rattle.sercos_law_run.specs.Undisturbed.Undisturbed.{AreUndisturbed}
-use Rattle.sercos_law_run.specs.Undisturbed.EpochStarts.{StartsEpoch}
-use Rattle.sercos_law_run.specs.Undisturbed.ViewsSince.{views_since}
-use Rattle.sercos_law_run.specs.Undisturbed.StartUps.{NoneFalls, StaysUp}
 use Rattle.sercos_law_run.proofs.Undisturbed.Arriving.WholeIn.{whole_in}
 use Rattle.sercos_law_run.proofs.Undisturbed.Checks.PassedCycles.{views_split, passed_undisturbed}
 use Rattle.sercos_law_run.proofs.Undisturbed.StaysUp.{stays_up}
-use Rattle.sercos_law_channel.proofs.Pace.CallAges.{none_late}
-use Rattle.sercos_law_channel.proofs.Pace.WholeCycles.{hears_throughout, stands_throughout}
 
 -- no drive is busy for more than 20 cycles
 busy_in : (before drives : List DriveView) (k : ℕ) → are_drives before drives ≡ true → k < length drives → nat_le (slice_index_or drives k no_drive).busy 20 ≡ true

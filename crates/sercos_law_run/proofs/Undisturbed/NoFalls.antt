@@ -1,16 +1,7 @@
 -- Where the ring doesn't fall at the end of a cycle.
-use Rattle.std.proofs.Common.{◌≡◌, ℕ, ◌+◌, ◌<◌, ◌≤◌, Bool, true, false, not, ◌&&◌, List, [], ◌∷◌, length, Option, Some, None, refl, sym, ◌∙◌, ap, arith, if◌then◌else◌}
-use Rattle.std.specs.Prelude.{◌==◌, nat_le}
-use Rattle.std.specs.Option.{option_or}
-use Rattle.std.proofs.lemmas.Bool.{false≢true}
-use Rattle.std.proofs.lemmas.Bool.Decides.{nat_tests}
-use Rattle.sercos_service_master.specs.Calls.{cycles_open}
+use Rattle.sercos_law_run.proofs.Words.{◌≡◌, ℕ, ◌+◌, ◌<◌, ◌≤◌, Bool, true, false, not, ◌&&◌, List, [], ◌∷◌, length, Option, Some, None, refl, sym, ◌∙◌, ap, arith, if◌then◌else◌, ◌==◌, nat_le, option_or, false≢true, nat_tests, cycles_open, is_place, Known, Task, Past, Turn, Call, past, first_from, first_place, after_mdt, has_lost_mst, has_lost_at, count_addressed, is_at_limit, fall_at, fall_of, leaves, past_keeps}
+use Rattle.std.proofs.lemmas.Bool.{and_right}
 use Rattle.sercos_trace.specs.declared.events.Fall.TheVariants as fall
-use Rattle.sercos_seat.specs.Channel.{is_place}
-use Rattle.sercos_seat.specs.Ring.{Known, Task}
-use Rattle.sercos_master.specs.Annals.{Past, Turn, Call, past, first_from, first_place, after_mdt, has_lost_mst, has_lost_at, count_addressed, is_at_limit, fall_at, fall_of}
-use Rattle.sercos_master.proofs.Configured.{leaves}
-use Rattle.sercos_master.proofs.Keeping.{past_keeps}
 use Rattle.sercos_master.proofs.Rings.{none_from as none_first}
 
 -- WHAT WAS HEARD stays when the answers are looked at and the MDT goes.
@@ -28,9 +19,17 @@ HasRisen p = IsNoLower p.now.phase p.turns
 no_lower : (phase now : ℕ) (turns before : List Turn) → now ≡ phase → turns ≡ before → IsNoLower phase before → IsNoLower now turns
 no_lower phase now turns before is are risen = rw (is, are) risen
 
-no_less : (done : Bool) (n : ℕ) → n ≤ (if done then n + 1 else n)
+pub no_less : (done : Bool) (n : ℕ) → n ≤ (if done then n + 1 else n)
 no_less true n = omega arith
 no_less false n = omega arith
+
+pub was_low : (done : Bool) (n m : ℕ) → (if done then n + 1 else n) ≤ m → n ≤ m
+was_low true n m le = omega (arith, le)
+was_low false n m le = le
+
+pub stays_at : (done : Bool) (n m : ℕ) → n ≡ m → (if done then n + 1 else n) ≡ m → done ≡ false
+stays_at true n m same is = absurd (omega (arith, same, is))
+stays_at false n m same is = refl
 
 pub has_risen : (s : Known) (requests : ℕ → List Task) (h : List Call) → HasRisen (past s requests h)
 has_risen s requests = past_keeps HasRisen s requests (record {
@@ -48,13 +47,9 @@ pub none_from : (k n : ℕ) (test : ℕ → Bool) → ((i : ℕ) → k ≤ i →
 none_from k n = none_first n k
 
 -- The parts of a fall.
-never : (a : Bool) → (a && false) ≡ false
-never true = refl
-never false = refl
-
 pub mst_kept : (now : Turn) (turns : List Turn) → now.whole ≡ true → has_lost_mst (now ∷ turns) ≡ false
 mst_kept now [] whole = refl
-mst_kept now (before ∷ turns) whole = rw whole (never (nat_le 1 before.phase))
+mst_kept now (before ∷ turns) whole = rw whole (and_right (nat_le 1 before.phase) false refl)
 
 at_kept : (k : ℕ) (now : Turn) (turns : List Turn) → IsNoLower now.phase turns → (3 ≤ now.phase → now.heard k ≡ true) → has_lost_at k (now ∷ turns) ≡ false
 at_kept k now [] risen heard = refl
@@ -71,28 +66,42 @@ pub record IsKept (s : Known) (p : Past) : Type 0 where
   pub identifies : p.now.phase ≡ 1 → (k : ℕ) → k < length s.drives → is_place k p.now.addressed ≡ true → count_addressed k p.turns ≤ 63
   pub answers : (p.now.phase ≡ 1 → ⊥) → (k : ℕ) → k < length s.drives → cycles_open (p.calls k) ≤ 63
 
-within_limit : (s : Known) (p : Past) → IsKept s p → (k : ℕ) → k < length s.drives → is_at_limit p k ≡ false
-within_limit s p is k below = by (p.now.phase == 1) refl
+-- NO LIMIT is reached.
+pub limit_so : (p : Past) (k : ℕ) → (p.now.phase ≡ 1 → is_place k p.now.addressed ≡ true → count_addressed k p.turns ≤ 63)
+    → ((p.now.phase ≡ 1 → ⊥) → cycles_open (p.calls k) ≤ 63) → is_at_limit p k ≡ false
+limit_so p k identifies answers = by (p.now.phase == 1) refl
   where
     short : (n : ℕ) → n ≤ 63 → nat_le 64 n ≡ false
     short n few = grind (arith, nat_tests, few)
 
     addressed : p.now.phase ≡ 1 → (b : Bool) → is_place k p.now.addressed ≡ b → (b && nat_le 64 (count_addressed k p.turns)) ≡ false
-    addressed one true here = short (count_addressed k p.turns) (is.identifies one k below here)
+    addressed one true here = short (count_addressed k p.turns) (identifies one here)
     addressed one false here = refl
 
     not_one : (p.now.phase == 1) ≡ false → p.now.phase ≡ 1 → ⊥
     not_one other one = let yes : (p.now.phase == 1) ≡ true = grind (arith, nat_tests, one) in false≢true (sym other ∙ yes)
 
-    by : (one : Bool) → (p.now.phase == 1) ≡ one → (if one then is_place k p.now.addressed && nat_le 64 (count_addressed k p.turns) else nat_le 64 (cycles_open (p.calls k))) ≡ false
+    by : (one : Bool) → (p.now.phase == 1) ≡ one → (if one then is_place k p.now.addressed && nat_le 64 (count_addressed k p.turns) else
+        nat_le 64 (cycles_open (p.calls k))) ≡ false
     by true one = addressed (grind (arith, nat_tests, one)) (is_place k p.now.addressed) refl
-    by false other = short (cycles_open (p.calls k)) (is.answers (not_one other) k below)
+    by false other = short (cycles_open (p.calls k)) (answers (not_one other))
+
+pub none_falls : (s : Known) (p : Past) → has_lost_mst (p.now ∷ p.turns) ≡ false
+    → ((k : ℕ) → k < length s.drives → has_lost_at k (p.now ∷ p.turns) ≡ false) → ((k : ℕ) → k < length s.drives → is_at_limit p k ≡ false)
+    → fall_of s p ≡ None
+none_falls s p mst ats limits =
+    let at : first_place s (λ k. has_lost_at k (p.now ∷ p.turns)) ≡ None = none_from 0 (length s.drives)
+    (λ k. has_lost_at k (p.now ∷ p.turns)) (λ k low high. ats k (omega (arith, high))) in
+    let limit : first_place s (is_at_limit p) ≡ None = none_from 0 (length s.drives) (is_at_limit p)
+    (λ k low high. limits k (omega (arith, high))) in
+    ap (λ (b : Bool). option_or (if b then Some fall.MstLost else None)
+    (option_or (fall_at fall.AtLost s (first_place s (λ k. has_lost_at k (p.now ∷ p.turns))))
+    (fall_at fall.StepLimit s (first_place s (is_at_limit p))))) mst
+    ∙ ap (λ (o : Option ℕ). option_or None (option_or (fall_at fall.AtLost s o) (fall_at fall.StepLimit s (first_place s (is_at_limit p)))))
+    at
+    ∙ ap (λ (o : Option ℕ). option_or None (option_or None (fall_at fall.StepLimit s o))) limit
 
 pub no_fall : (s : Known) (p : Past) → HasRisen p → IsKept s p → fall_of s p ≡ None
-no_fall s p risen is =
-    let mst : has_lost_mst (p.now ∷ p.turns) ≡ false = mst_kept p.now p.turns is.whole in
-    let at : first_place s (λ k. has_lost_at k (p.now ∷ p.turns)) ≡ None = none_from 0 (length s.drives) (λ k. has_lost_at k (p.now ∷ p.turns)) (λ k low high. at_kept k p.now p.turns risen (λ late. is.hears late k (omega (arith, high)))) in
-    let limit : first_place s (is_at_limit p) ≡ None = none_from 0 (length s.drives) (is_at_limit p) (λ k low high. within_limit s p is k (omega (arith, high))) in
-    ap (λ (b : Bool). option_or (if b then Some fall.MstLost else None) (option_or (fall_at fall.AtLost s (first_place s (λ k. has_lost_at k (p.now ∷ p.turns)))) (fall_at fall.StepLimit s (first_place s (is_at_limit p))))) mst
-    ∙ ap (λ (o : Option ℕ). option_or None (option_or (fall_at fall.AtLost s o) (fall_at fall.StepLimit s (first_place s (is_at_limit p))))) at
-    ∙ ap (λ (o : Option ℕ). option_or None (option_or None (fall_at fall.StepLimit s o))) limit
+no_fall s p risen is = none_falls s p (mst_kept p.now p.turns is.whole)
+    (λ k below. at_kept k p.now p.turns risen (λ late. is.hears late k below))
+    (λ k below. limit_so p k (λ one here. is.identifies one k below here) (λ other. is.answers other k below))

@@ -1,36 +1,13 @@
 -- How many cycles one request takes: those in which its steps are open are fewer than this profile gives a request.
-use Rattle.std.proofs.Common.{◌≡◌, ◌⊎◌, inl, inr, ℕ, ◌+◌, ◌*◌, ◌<◌, ◌≤◌, List, [], ◌∷◌, ◌++◌, length, Option, None, refl, sym, ap, ◌∙◌, subst, arith, length-append}
-use Rattle.std.proofs.lemmas.Bool.{cases_lt}
-use Rattle.sercos_idn.specs.declared.idn.Idn.{Idn}
-use Rattle.sercos_step.specs.declared.request.Request.{Request}
+use Rattle.sercos_law_run.proofs.Words.{◌≡◌, ◌⊎◌, inl, inr, ℕ, ◌+◌, ◌*◌, ◌<◌, ◌≤◌, List, [], ◌∷◌, ◌++◌, length, Option, None, refl, sym, ap, ◌∙◌, subst, arith, length-append, cases_lt, Idn, Request, Answer, Step, read_ends, write_ends, times_le, IsStore, Block, Entry, accepted, Begun, open_in, step_at, with_step, steps_begun, steps_in, answers_in, command, epoch_begun, epoch_records, epoch_log, AreInStep, AreInTurn, IsRow, IsPart, Unsent, Unheard, AreParts, AreReplies, HaveBlocks, IsTransfer, View, standing, IsSound, AreSound, AreSmall, in_step, IsEpoch, epoch, split_replies, split_blocks, fall_into_parts, length-replies_of, length-steps_begun, HasReplies, answered_replies, AreTimed, AreListed, cost_of, cost_in, IsWhole, AreWhole, RecoversInTime, RecoversSince, open_since}
 use Rattle.sercos_step.specs.declared.request.Request.TheVariants as request
-use Rattle.sercos_step.specs.declared.step.Answer.{Answer}
-use Rattle.sercos_step.specs.declared.step.Step.{Step}
 use Rattle.sercos_step.specs.Steps.{AreAnswers}
-use Rattle.sercos_step.proofs.Ends.{read_ends, write_ends}
-use Rattle.sercos_step.proofs.AnswerCounts.{times_le}
-use Rattle.sercos_block.specs.Stores.{IsStore}
-use Rattle.sercos_block.specs.declared.block.Block.{Block}
-use Rattle.sercos_service_drive.specs.Log.{Entry, accepted}
-use Rattle.sercos_service_master.specs.Begun.{Begun, open_in, step_at, with_step, steps_begun, steps_in, answers_in}
-use Rattle.sercos_law_channel.specs.Handshake.Epochs.{command, epoch_begun, epoch_records, epoch_log}
-use Rattle.sercos_law_channel.specs.Handshake.InStep.{AreInStep}
-use Rattle.sercos_law_channel.specs.Handshake.Parts.{AreInTurn, IsRow, IsPart, Unsent, Heard, Unheard, AreParts}
+use Rattle.sercos_law_channel.specs.Handshake.Parts.{Heard}
 use Rattle.sercos_law_channel.specs.Handshake.Runs.{IsRun as IsViewRun}
-use Rattle.sercos_law_channel.specs.Handshake.Transfers.{AreReplies, HaveBlocks, IsTransfer}
-use Rattle.sercos_law_channel.specs.Handshake.Views.{View, standing}
-use Rattle.sercos_law_channel.specs.Handshake.WholeRun.{IsSound, AreSound, AreSmall}
-use Rattle.sercos_law_channel.proofs.Theorems.{in_step, IsEpoch, epoch, split_replies, split_blocks, fall_into_parts, length-replies_of, length-steps_begun, HasReplies, answered_replies}
-use Rattle.sercos_law_channel.specs.Pace.Costs.{AreTimed, AreListed, cost_of, cost_in}
-use Rattle.sercos_law_channel.specs.Pace.Passages.{IsWhole, AreWhole, RecoversInTime}
-use Rattle.sercos_law_channel.specs.Pace.StartCosts.{RecoversSince}
-use Rattle.sercos_law_channel.specs.Pace.Stretches.{open_since}
 use Rattle.sercos_law_run.proofs.Undisturbed.Stops.LongWrites.{ends_soon}
+use Rattle.sercos_law_run.proofs.Bounds.BoundSums.{times_sum}
 
 -- NUMBERS
-pub times_sum : (p n k : ℕ) → p * (n + k) ≡ p * n + p * k
-times_sum p n k = grind arith
-
 pub room : (busy time : ℕ) → (busy + 2) * (520 + time) ≡ 520 * busy + 1040 + busy * time + 2 * time
 room busy time = grind arith
 

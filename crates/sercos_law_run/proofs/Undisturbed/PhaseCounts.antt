@@ -1,11 +1,5 @@
 -- What a cycle of phase 0 or 1 brings in which every telegram comes: the tenth MST in a row, or one drive more that is identified.
-use Rattle.std.proofs.Common.{◌≡◌, inl, inr, ℕ, zero, suc, ◌+◌, ◌<◌, ◌≤◌, ◌||◌, Bool, true, false, not, ◌&&◌, List, [], ◌∷◌, length, Option, Some, None, refl, sym, ◌∙◌, ap, subst, arith, if◌then◌else◌}
-use Rattle.std.specs.Prelude.{◌==◌, nat_le, nat_lt, is_some, is_none}
-use Rattle.std.proofs.lemmas.Bool.{cases_eq, false≢true}
-use Rattle.std.proofs.lemmas.Bool.Decides.{nat_tests}
-use Rattle.sercos_seat.specs.Channel.{is_place}
-use Rattle.sercos_seat.specs.Ring.{Known}
-use Rattle.sercos_master.specs.Annals.{Past, Turn, first_from, first_place, addressed_before, has_identified, is_identified, count_addressed, whole_row, is_done, is_done_in, next_phase, goes_on, new_epoch, still_waiting, fall_of, after_end}
+use Rattle.sercos_law_run.proofs.Words.{◌≡◌, inl, inr, ℕ, zero, suc, ◌+◌, ◌<◌, ◌≤◌, ◌||◌, Bool, true, false, not, ◌&&◌, List, [], ◌∷◌, length, Option, Some, None, refl, sym, ◌∙◌, ap, subst, arith, if◌then◌else◌, ◌==◌, nat_le, nat_lt, is_some, is_none, cases_eq, false≢true, nat_tests, is_place, Known, Past, Turn, first_from, first_place, addressed_before, has_identified, is_identified, count_addressed, whole_row, is_done, is_done_in, next_phase, goes_on, new_epoch, still_waiting, fall_of, after_end}
 use Rattle.sercos_law_run.proofs.Undisturbed.NoFalls.{none_from}
 
 -- In phase 0, after n cycles: n MSTs in a row came back.

@@ -1,23 +1,7 @@
 -- How long phases 0 and 1 last in an undisturbed epoch.
-use Rattle.std.proofs.Common.{◌≡◌, ℕ, zero, suc, ◌+◌, ◌<◌, ◌≤◌, Bool, true, false, not, List, [], ◌∷◌, ◌++◌, length, Some, None, refl, sym, ◌∙◌, ap, subst, arith}
-use Rattle.std.specs.Prelude.{◌==◌, nat_lt, is_some}
-use Rattle.std.proofs.lemmas.Bool.{cond_both, false≢true}
-use Rattle.std.proofs.lemmas.Bool.Decides.{nat_tests}
-use Rattle.sercos_step.specs.declared.request.Job.{Job}
-use Rattle.sercos_block.specs.Views.{RingView}
-use Rattle.sercos_trace.specs.Views.{CycleView}
-use Rattle.sercos_seat.specs.Channel.{is_place}
-use Rattle.sercos_seat.specs.Ring.{Known, known_of, tasks_for}
-use Rattle.sercos_master.specs.Annals.{Past, Turn, first_place, addressed_before, is_awaited, has_identified, is_identified, count_addressed, whole_row, fall_of, next_phase, goes_on, new_epoch, still_waiting, after_end}
-use Rattle.sercos_script.specs.Links.{Carry, Restarts}
-use Rattle.sercos_law_run.specs.Journal.Records.{mst_in, ats_in}
-use Rattle.sercos_law_run.specs.Journal.Runs.{master_calls, middle, begins, own_mst, looks_back, IsRun, IsClear}
-use Rattle.sercos_law_run.specs.Views.RingViews.{at_start, behind_mst, behind_ats, behind_mdt}
+use Rattle.sercos_law_run.proofs.Words.{◌≡◌, ℕ, zero, suc, ◌+◌, ◌<◌, ◌≤◌, Bool, true, false, not, List, [], ◌∷◌, ◌++◌, length, Some, None, refl, sym, ◌∙◌, ap, subst, arith, ◌==◌, nat_lt, is_some, cond_both, false≢true, ltb-true, nat_tests, Job, RingView, CycleView, is_place, Known, known_of, tasks_for, Past, Turn, first_place, addressed_before, is_awaited, has_identified, is_identified, count_addressed, whole_row, fall_of, next_phase, goes_on, new_epoch, still_waiting, after_end, Carry, Restarts, mst_in, ats_in, master_calls, middle, begins, own_mst, looks_back, IsRun, IsClear, at_start, behind_mst, behind_ats, behind_mdt, IsOpened, IsUndisturbed, AreUndisturbed, StartsEpoch, came_back}
 use Rattle.sercos_law_run.proofs.Views.MasterSame.{ats_none}
-use Rattle.sercos_law_run.proofs.Views.Members.{members_count}
-use Rattle.sercos_law_run.specs.Held.Opened.{IsOpened}
-use Rattle.sercos_law_run.specs.Undisturbed.Undisturbed.{IsUndisturbed, AreUndisturbed}
-use Rattle.sercos_law_run.specs.Undisturbed.EpochStarts.{StartsEpoch, came_back}
+use Rattle.sercos_law_run.proofs.Views.Members.{members_count, in_ring}
 use Rattle.sercos_law_run.proofs.Undisturbed.Arriving.Comes.{calm_in}
 use Rattle.sercos_law_run.proofs.Undisturbed.Arriving.AtsTaken.{unheard_ats}
 use Rattle.sercos_law_run.proofs.Undisturbed.Identified.{starts_so, goes_so, heard_next}
@@ -46,9 +30,6 @@ fresh_at r jobs carry restarts k [] = refl
 fresh_at r jobs carry restarts k (t ∷ j) = fresh_end (known_of r) k (behind_mdt r jobs carry restarts t.sent j)
 
 -- what tests say of places
-less_of : (m n : ℕ) → nat_lt m n ≡ true → m < n
-less_of m n is = grind (arith, nat_tests, is)
-
 equal_of : (m n : ℕ) → m ≤ n → nat_lt m n ≡ false → m ≡ n
 equal_of m n most is = grind (arith, nat_tests, most, is)
 
@@ -71,9 +52,6 @@ module _ (r : RingView) (jobs : List Job) (carry : Carry) (restarts : Restarts) 
   turns_are : (t : CycleView) (j : List CycleView) → IsRun r jobs carry restarts (t ∷ j) → IsUndisturbed r carry restarts t j → (behind_mdt r jobs carry restarts t.sent j).turns ≡ (looks_back r jobs (master_calls r carry restarts j)).turns
   turns_are t j run calm = turns_now r jobs carry restarts opened t j ∙ ap (λ (p : Past). p.turns) (starts_so r jobs carry restarts opened t j run.1 (calm_in r carry restarts t j calm))
 
-  inside : (k : ℕ) → k < length (known_of r).drives → k < length r.drives
-  inside k below = let count = members_count r in omega (arith, below, count)
-
   -- A CYCLE OF PHASE 0
   module _ (t : CycleView) (j : List CycleView) (run : IsRun r jobs carry restarts (t ∷ j)) (clear : IsClear (t ∷ j))
       (calm : IsUndisturbed r carry restarts t j) (n : ℕ) (waits : Waits n (looks_back r jobs (master_calls r carry restarts j))) where
@@ -95,7 +73,7 @@ module _ (r : RingView) (jobs : List Job) (carry : Carry) (restarts : Restarts) 
       hears = λ late k below. absurd (omega (arith, late, zero_is));
       identifies = λ one k below to. absurd (omega (arith, one, zero_is));
       answers = λ other k below. let low : t.phase ≡ 0 = next_phase_is t j run calm ∙ waits.phase_is in
-          let none = idle_then r jobs carry restarts opened t j run clear (omega (arith, low)) k (inside k below) in omega (arith, none);
+          let none = idle_then r jobs carry restarts opened t j run clear (omega (arith, low)) k (in_ring r k below) in omega (arith, none);
     })
 
     zero_step : n ≤ 8 → Waits (suc n) (looks_back r jobs (master_calls r carry restarts (t ∷ j)))
@@ -161,7 +139,7 @@ module _ (r : RingView) (jobs : List Job) (carry : Carry) (restarts : Restarts) 
           where
             by : (b : Bool) → nat_lt m (length (known_of r).drives) ≡ b → count_addressed k (behind_mdt r jobs carry restarts t.sent j).turns ≤ 63
             by true less =
-                let first : (behind_mdt r jobs carry restarts t.sent j).now.addressed ≡ Some m = addressed_so (less_of m (length (known_of r).drives) less) in
+                let first : (behind_mdt r jobs carry restarts t.sent j).now.addressed ≡ Some m = addressed_so (ltb-true m (length (known_of r).drives) less) in
                 let same : m ≡ k = cc in
                 let none : count_addressed m (behind_mdt r jobs carry restarts t.sent j).turns ≡ 0 = not_twice m (behind_mdt r jobs carry restarts t.sent j).turns in_one.last in
                 subst (λ (i : ℕ). count_addressed i (behind_mdt r jobs carry restarts t.sent j).turns ≤ 63) same (omega (arith, none))

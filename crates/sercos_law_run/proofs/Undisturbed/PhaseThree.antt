@@ -1,48 +1,11 @@
 -- In an undisturbed epoch phase 3 lasts no longer than the check of a drive takes, unless one hasn't ended well.
-use Rattle.std.proofs.Common.{◌≡◌, ◌⊎◌, inl, inr, ℕ, suc, ◌+◌, ◌*◌, ◌<◌, ◌≤◌, Bool, true, false, not, ◌&&◌, List, [], ◌∷◌, ◌++◌, length, Option, Some, None, refl, sym, ap, ap₂, ◌∙◌, subst, arith, if◌then◌else◌}
-use Rattle.std.specs.Prelude.{is_some}
-use Rattle.std.specs.List.{sum_by}
-use Rattle.std.proofs.lemmas.Bool.{and_parts, false≢true}
-use Rattle.sercos_step.specs.declared.request.Job.{Job}
-use Rattle.sercos_step.specs.declared.request.Outcome.{Outcome}
-use Rattle.sercos_step.specs.Steps.{outcome_of}
-use Rattle.sercos_timing.specs.Views.{PlanView}
-use Rattle.sercos_block.specs.Stores.{store_of}
-use Rattle.sercos_block.specs.Views.{RingView}
-use Rattle.sercos_service_master.specs.Begun.{Begun, open_in}
-use Rattle.sercos_service_master.specs.Calls.{begun_by}
-use Rattle.sercos_trace.specs.Views.{CycleView}
-use Rattle.sercos_trace.specs.declared.events.Fall.{Fall}
-use Rattle.sercos_seat.specs.Agenda.{reads_count, is_checked, is_ready, ended_well, given}
-use Rattle.sercos_seat.specs.Channel.{outcomes_in, with_outcome}
-use Rattle.sercos_seat.specs.Ring.{Known, MemberView, Task, known_of, member}
-use Rattle.sercos_seat.proofs.Agendas.{ended_there}
-use Rattle.sercos_seat.proofs.Seats.{before_end}
-use Rattle.sercos_master.specs.Annals.{Past, outcomes, fall_of, is_done, is_done_in, all_ready}
-use Rattle.sercos_master.proofs.Configured.{each_passes}
-use Rattle.sercos_script.specs.Links.{Carry, Restarts}
-use Rattle.sercos_law_channel.specs.Handshake.Epochs.{epoch_begun}
-use Rattle.sercos_law_channel.specs.Handshake.Views.{View, standing}
-use Rattle.sercos_law_channel.specs.Handshake.WholeRun.{AreSound}
-use Rattle.sercos_law_channel.specs.Pace.Stretches.{open_since}
-use Rattle.sercos_law_channel.specs.Pace.Passages.{IsWhole, AreWhole}
-use Rattle.sercos_law_channel.specs.Pace.Costs.{AreTimed, AreListed, cost_of, cost_in}
-use Rattle.sercos_law_run.specs.Bounds.Bounds.{command_cycles}
-use Rattle.sercos_law_run.specs.Journal.Runs.{drive_at, master_calls, looks_back, IsRun, IsClear}
-use Rattle.sercos_law_run.specs.Agenda.Tasks.{AreBegunTasks}
+use Rattle.sercos_law_run.proofs.Words.{◌≡◌, ◌⊎◌, inl, inr, ℕ, suc, ◌+◌, ◌*◌, ◌<◌, ◌≤◌, Bool, true, false, not, ◌&&◌, List, [], ◌∷◌, ◌++◌, length, Option, Some, None, refl, sym, ap, ap₂, ◌∙◌, subst, arith, if◌then◌else◌, is_some, sum_by, and_parts, false≢true, not-true, Job, Outcome, outcome_of, PlanView, store_of, RingView, Begun, open_in, begun_by, CycleView, Fall, reads_count, is_checked, is_ready, ended_well, given, outcomes_in, with_outcome, Known, MemberView, Task, known_of, member, ended_there, before_end, Past, outcomes, fall_of, is_done, is_done_in, all_ready, each_passes, Carry, Restarts, epoch_begun, View, standing, AreSound, open_since, IsWhole, AreWhole, AreTimed, AreListed, cost_of, cost_in, command_cycles, drive_at, master_calls, looks_back, IsRun, IsClear, AreBegunTasks, at_start, behind_mdt, view_of, views_of, IsOpened, AreUndisturbed, StartsEpoch, views_since, AreInThree, jobs_of, AreAt, not_longer, rest_since, list_read_costs, comes_timed}
 use Rattle.sercos_law_run.proofs.Agenda.AtWork.{IsFound, found_some}
 use Rattle.sercos_law_run.proofs.Start.CheckPasses.{KeepsRules, ring_drive}
-use Rattle.sercos_law_run.specs.Views.RingViews.{at_start, behind_mdt, view_of, views_of}
 use Rattle.sercos_law_run.proofs.Views.Members.{members_count}
-use Rattle.sercos_law_run.specs.Held.Opened.{IsOpened}
 use Rattle.sercos_law_run.proofs.Held.Extended.{Extends}
 use Rattle.sercos_law_run.proofs.Held.Runs.{drive_got, small, holding}
 use Rattle.sercos_law_run.proofs.Headline.HeadlineRuns.{all_stand, first_store, spelled_in, stored_in}
-use Rattle.sercos_law_run.specs.Undisturbed.Undisturbed.{AreUndisturbed}
-use Rattle.sercos_law_run.specs.Undisturbed.EpochStarts.{StartsEpoch}
-use Rattle.sercos_law_run.specs.Undisturbed.ViewsSince.{views_since}
-use Rattle.sercos_law_run.specs.Undisturbed.Sections.{AreInThree}
-use Rattle.sercos_law_run.specs.Undisturbed.Jobs.{jobs_of, AreAt}
 use Rattle.sercos_law_run.proofs.Undisturbed.EpochCycles.{IsOn, AreOn, run_rest, wholes, longer, outcomes_extend, outcomes_after, on_in}
 use Rattle.sercos_law_run.proofs.Undisturbed.Arriving.Comes.{calm_in}
 use Rattle.sercos_law_run.proofs.Undisturbed.Identified.{starts_so}
@@ -54,6 +17,7 @@ use Rattle.sercos_law_run.proofs.Undisturbed.Checks.PassedRuns.{commands_so}
 use Rattle.sercos_law_run.proofs.Undisturbed.Checks.Carried.{are_carried}
 use Rattle.sercos_law_run.proofs.Undisturbed.Checks.PassedCycles.{views_split}
 use Rattle.sercos_law_run.proofs.Undisturbed.NeverFalls.{AllWhole, runs_split, never_falls}
+use Rattle.sercos_law_run.proofs.Undisturbed.NoFalls.{stays_at}
 use Rattle.sercos_law_run.proofs.Undisturbed.Sections.{never_idle}
 use Rattle.sercos_law_run.proofs.Undisturbed.Stops.StopStays.{none_before, stop_after}
 use Rattle.sercos_law_run.proofs.Undisturbed.BehindRests.{Follow, follow_since}
@@ -61,10 +25,6 @@ use Rattle.sercos_law_run.proofs.Undisturbed.JobsCost.{check_fits, list_fits}
 use Rattle.sercos_law_run.proofs.Undisturbed.Checks.ShortLists.{few_blocks, longest_list, lists_short}
 use Rattle.sercos_law_run.proofs.Undisturbed.JobsBegun.{begun_end, begun_now, tasks_now, places_now, few_now}
 use Rattle.sercos_law_run.proofs.Undisturbed.PhaseTwo.{section_two, listed_all, two_lasts}
-use Rattle.sercos_master.proofs.Followed.{not_longer}
-use Rattle.sercos_law_channel.proofs.Cited.{rest_since}
-use Rattle.sercos_law_channel.proofs.Pace.JobCosts.{list_read_costs}
-use Rattle.sercos_law_channel.proofs.Pace.TimedCommands.{comes_timed}
 
 -- A CHECK that has ended well stays so, whatever outcome comes.
 given_stays : (outs : List Outcome) (o : Outcome) (i : ℕ) → ended_well (given outs i) ≡ true → ended_well (given (outs ++ o ∷ []) i) ≡ true
@@ -82,10 +42,6 @@ unready_before m old new (o, is) unready = by (is_ready m old) refl
     by : (b : Bool) → is_ready m old ≡ b → is_ready m old ≡ false
     by false off = off
     by true on = absurd (false≢true (sym unready ∙ ap (is_ready m) is ∙ ready_stays m old o on))
-
-pub is_false : (b : Bool) → not b ≡ true → b ≡ false
-is_false false e = refl
-is_false true e = absurd (false≢true e)
 
 -- where the phase comes to 3, or stays there
 pub comes_three : (done : Bool) (n : ℕ) → (if done then n + 1 else n) ≡ 3 → ((done ≡ true) × (n ≡ 2)) ⊎ ((done ≡ false) × (n ≡ 3))
@@ -242,10 +198,6 @@ begun_few s k plan waiting phase n [] tasks are few = omega arith
 begun_few s k plan waiting phase n (b ∷ older) [] are few = absurd are
 begun_few s k plan waiting phase n (b ∷ older) (t ∷ tasks) are few = let ended = are.1.ended in let grown = longer (outcome_of b.request b.answers) (outcomes_in older) in omega (arith, ended, grown, few)
 
-stays_three : (done : Bool) (n : ℕ) → n ≡ 3 → (if done then n + 1 else n) ≡ 3 → done ≡ false
-stays_three true n three is = absurd (omega (arith, three, is))
-stays_three false n three is = refl
-
 module _ (r : RingView) (jobs : List Job) (carry : Carry) (restarts : Restarts) (opened : IsOpened r jobs) where
   module _ (t : CycleView) (three : List CycleView) (first : CycleView) (old : List CycleView)
       (run : IsRun r jobs carry restarts (t ∷ (three ++ first ∷ old))) (clear : IsClear (t ∷ (three ++ first ∷ old)))
@@ -373,7 +325,7 @@ module _ (r : RingView) (jobs : List Job) (carry : Carry) (restarts : Restarts) 
             where
               undone : all_ready (known_of r) (behind_mdt r jobs carry restarts t.sent (three ++ risen.first ∷ risen.old)) ≡ false
               undone = sym (ap (λ (m : ℕ). is_done_in m (known_of r) (behind_mdt r jobs carry restarts t.sent (three ++ risen.first ∷ risen.old))) (third.1.on.now ∙ third.1.phase))
-                  ∙ stays_three (is_done (known_of r) (behind_mdt r jobs carry restarts t.sent (three ++ risen.first ∷ risen.old))) t.phase third.1.phase (sym (phase_after r jobs carry restarts opened t (three ++ risen.first ∷ risen.old) runs third.1.on.stays) ∙ phase)
+                  ∙ stays_at (is_done (known_of r) (behind_mdt r jobs carry restarts t.sent (three ++ risen.first ∷ risen.old))) t.phase 3 third.1.phase (sym (phase_after r jobs carry restarts opened t (three ++ risen.first ∷ risen.old) runs third.1.on.stays) ∙ phase)
 
               last : IsFound 0 (length (known_of r).drives) (λ k. not (is_ready (member (known_of r) k) (outcomes (behind_mdt r jobs carry restarts t.sent (three ++ risen.first ∷ risen.old)) k)))
               last = found_some 0 (length (known_of r).drives) (λ k. not (is_ready (member (known_of r) k) (outcomes (behind_mdt r jobs carry restarts t.sent (three ++ risen.first ∷ risen.old)) k))) undone
@@ -382,7 +334,7 @@ module _ (r : RingView) (jobs : List Job) (carry : Carry) (restarts : Restarts) 
               low = let below = last.below in let count = members_count r in omega (arith, below, count)
 
               unready : is_ready (member (known_of r) last.place) (outcomes (behind_mdt r jobs carry restarts t.sent (three ++ risen.first ∷ risen.old)) last.place) ≡ false
-              unready = is_false (is_ready (member (known_of r) last.place) (outcomes (behind_mdt r jobs carry restarts t.sent (three ++ risen.first ∷ risen.old)) last.place)) last.passes
+              unready = not-true (is_ready (member (known_of r) last.place) (outcomes (behind_mdt r jobs carry restarts t.sent (three ++ risen.first ∷ risen.old)) last.place)) last.passes
 
               same : outcomes (looks_back r jobs (master_calls r carry restarts (t ∷ (three ++ risen.first ∷ risen.old)))) last.place ≡ outcomes (behind_mdt r jobs carry restarts t.sent (three ++ risen.first ∷ risen.old)) last.place
               same = outcomes_after r jobs carry restarts opened t (three ++ risen.first ∷ risen.old) third.1.on last.place

@@ -1,43 +1,20 @@
 -- In an undisturbed epoch phase 2 lasts no longer than the reads and the writes of all drives take, one drive after the other.
-use Rattle.std.proofs.Common.{◌≡◌, inl, inr, ℕ, zero, suc, ◌+◌, ◌<◌, ◌≤◌, Bool, true, false, List, [], ◌∷◌, ◌++◌, length, None, refl, sym, ap, ◌∙◌, subst, arith, if◌then◌else◌}
-use Rattle.std.specs.Prelude.{slice_index_or}
-use Rattle.std.specs.List.{sum_by}
-use Rattle.std.proofs.lemmas.Bool.{cases_lt}
-use Rattle.std.proofs.lemmas.List.Sums.{sum_by-cons}
-use Rattle.sercos_step.specs.declared.request.Job.{Job}
-use Rattle.sercos_block.specs.Views.{DriveView, RingView}
-use Rattle.sercos_trace.specs.Views.{CycleView}
-use Rattle.sercos_seat.specs.Ring.{known_of}
-use Rattle.sercos_master.specs.Annals.{Past, fall_of, is_done, is_done_in}
-use Rattle.sercos_script.specs.Links.{Carry, Restarts}
-use Rattle.sercos_law_channel.specs.Handshake.Epochs.{epoch_begun}
-use Rattle.sercos_law_channel.specs.Handshake.Views.{View}
-use Rattle.sercos_law_channel.specs.Pace.Stretches.{open_since}
-use Rattle.sercos_law_channel.specs.Pace.Costs.{AreListed}
-use Rattle.sercos_law_run.specs.Bounds.Bounds.{read_cycles, write_cycles}
-use Rattle.sercos_law_run.specs.Journal.Arrivals.{sum_below}
-use Rattle.sercos_law_run.specs.Journal.Runs.{no_drive, drive_at, master_calls, looks_back, IsRun, IsClear}
+use Rattle.sercos_law_run.proofs.Words.{◌≡◌, inl, inr, ℕ, zero, suc, ◌+◌, ◌<◌, ◌≤◌, Bool, true, false, List, [], ◌∷◌, ◌++◌, length, None, refl, sym, ap, ◌∙◌, subst, arith, if◌then◌else◌, slice_index_or, sum_by, cases_lt, sum_by-cons, Job, DriveView, RingView, CycleView, known_of, Past, fall_of, is_done, is_done_in, Carry, Restarts, epoch_begun, View, open_since, AreListed, read_cycles, write_cycles, sum_below, no_drive, drive_at, master_calls, looks_back, IsRun, IsClear, at_start, behind_mdt, views_of, IsOpened, AreUndisturbed, StartsEpoch, views_since, GoesOnInTwo, reads_cost, writes_cost}
 use Rattle.sercos_law_run.proofs.Start.CheckPasses.{ring_drive}
-use Rattle.sercos_law_run.specs.Views.RingViews.{at_start, behind_mdt, views_of}
 use Rattle.sercos_law_run.proofs.Views.Members.{member_is}
-use Rattle.sercos_law_run.specs.Held.Opened.{IsOpened}
 use Rattle.sercos_law_run.proofs.Held.Runs.{drive_got}
-use Rattle.sercos_law_run.specs.Undisturbed.Undisturbed.{AreUndisturbed}
-use Rattle.sercos_law_run.specs.Undisturbed.EpochStarts.{StartsEpoch}
-use Rattle.sercos_law_run.specs.Undisturbed.ViewsSince.{views_since}
-use Rattle.sercos_law_run.specs.Undisturbed.Sections.{GoesOnInTwo}
 use Rattle.sercos_law_run.proofs.Undisturbed.Arriving.Comes.{calm_in}
 use Rattle.sercos_law_run.proofs.Undisturbed.Identified.{starts_so}
 use Rattle.sercos_law_run.proofs.Undisturbed.StaysUp.{phase_now}
 use Rattle.sercos_law_run.proofs.Undisturbed.PhaseRuns.{next_phase_is}
 use Rattle.sercos_law_run.proofs.Undisturbed.PhasesRise.{late_in, phase_after}
 use Rattle.sercos_law_run.proofs.Undisturbed.NeverFalls.{never_falls}
+use Rattle.sercos_law_run.proofs.Undisturbed.NoFalls.{was_low}
 use Rattle.sercos_law_run.proofs.Undisturbed.Answered.{costs_undisturbed}
 use Rattle.sercos_law_run.proofs.Undisturbed.Sections.{one_works}
 use Rattle.sercos_law_run.proofs.Undisturbed.Stops.StopStays.{none_before, stop_after}
 use Rattle.sercos_law_run.proofs.Undisturbed.JobsCost.{two_fits}
 use Rattle.sercos_law_run.proofs.Undisturbed.JobsBegun.{places_now, few_now, planned_now}
-use Rattle.sercos_law_channel.proofs.Pace.JobCosts.{reads_cost, writes_cost}
 
 -- SUMS over the drives: by their places, and by the list
 pub shifted : (n : ℕ) (f : ℕ → ℕ) → sum_below (suc n) f ≡ f 0 + sum_below n (λ i. f (suc i))
@@ -117,17 +94,13 @@ module _ (r : RingView) (jobs : List Job) (carry : Carry) (restarts : Restarts) 
       let stays = (never_falls r jobs carry restarts opened (t ∷ cycles) before run clear starts calm).stays.1 in
       let phase = phase_now r jobs carry restarts opened t (cycles ++ before) run.1 in
       let after = phase_after r jobs carry restarts opened t (cycles ++ before) run stays in
-      let early = was_early (is_done (known_of r) (behind_mdt r jobs carry restarts t.sent (cycles ++ before))) t.phase (subst (λ (n : ℕ). n ≤ 2) after low) in
+      let early = was_low (is_done (known_of r) (behind_mdt r jobs carry restarts t.sent (cycles ++ before))) t.phase 2 (subst (λ (n : ℕ). n ≤ 2) after low) in
       let now : (behind_mdt r jobs carry restarts t.sent (cycles ++ before)).now.phase ≤ 2 = omega (arith, phase, early) in
       let rules = (ring_drive r k (drive_at r k) opened.valid (drive_got r k below)).blocks in
       let costs = costs_undisturbed r jobs carry restarts opened (t ∷ cycles) before run clear starts calm k (λ raw. 512) below (listed_all (views_of r jobs carry restarts k (t ∷ (cycles ++ before)))) in
       let fits = two_fits (λ raw. 512) (drive_at r k) rules (reads_cost (drive_at r k).busy) (writes_cost (drive_at r k).busy) (known_of r) (behind_mdt r jobs carry restarts t.sent (cycles ++ before)).plan k (epoch_begun (views_of r jobs carry restarts k (t ∷ (cycles ++ before))))
       (member_is r k) (places_now r jobs carry restarts opened t (cycles ++ before) run clear stays k below (omega (arith, now))) (few_now r jobs carry restarts opened t (cycles ++ before) run clear stays k below now) in
       omega (arith, costs, fits)
-    where
-      was_early : (done : Bool) (n : ℕ) → (if done then n + 1 else n) ≤ 2 → n ≤ 2
-      was_early true n low = omega (arith, low)
-      was_early false n low = low
 
   -- HOW LONG PHASE 2 LASTS
   pub two_lasts : (cycles before : List CycleView) → IsRun r jobs carry restarts (cycles ++ before) → IsClear (cycles ++ before)

@@ -1,22 +1,8 @@
 -- While phase 0 is commanded, at most nine MSTs in a row came back, no drive is identified, nothing was begun, and there is no stop.
-use Rattle.std.proofs.Common.{◌≡◌, ℕ, zero, suc, ◌+◌, ◌<◌, ◌≤◌, ◌||◌, Bool, true, false, not, ◌&&◌, List, [], ◌∷◌, length, Option, None, refl, sym, ◌∙◌, ap, subst, arith, if◌then◌else◌}
-use Rattle.std.specs.Prelude.{◌==◌, nat_le, is_none, is_some}
-use Rattle.std.proofs.lemmas.Bool.{false≢true}
-use Rattle.std.proofs.lemmas.Bool.Decides.{nat_tests}
-use Rattle.sercos_step.specs.declared.request.Job.{Job}
-use Rattle.sercos_block.specs.Views.{RingView}
-use Rattle.sercos_trace.specs.Views.{CycleView}
-use Rattle.sercos_trace.specs.declared.events.Stop.{Stop}
-use Rattle.sercos_seat.specs.Channel.{is_place, last_outcome, of_phase, trouble_by}
-use Rattle.sercos_seat.specs.Ring.{Known, Task, known_of, member}
-use Rattle.sercos_service_master.specs.Calls.{begun_by}
-use Rattle.sercos_master.specs.Annals.{Past, Turn, Restart, first_place, first_trouble, first_trouble_from, trouble, with_stop, with_due_plan, planned_by, all_read, settled, begins, in_turn, is_idle, next_task, with_task, addressed_before, addressed_in, ready_to_send, has_identified, is_identified, whole_row, is_done, is_done_in, next_phase, goes_on, new_epoch, still_waiting, fall_of, after_at, after_mdt}
-use Rattle.sercos_script.specs.Links.{Carry, Restarts}
-use Rattle.sercos_law_run.specs.Journal.Records.{mst_in, ats_in}
-use Rattle.sercos_law_run.specs.Journal.Runs.{begins as begins_cycle, own_mst, master_calls, looks_back}
-use Rattle.sercos_law_run.specs.Views.RingViews.{at_start, behind_ats, behind_mdt}
+use Rattle.sercos_law_run.proofs.Words.{◌≡◌, ℕ, zero, suc, ◌+◌, ◌<◌, ◌≤◌, ◌||◌, Bool, true, false, not, ◌&&◌, List, [], ◌∷◌, length, Option, None, refl, sym, ◌∙◌, ap, subst, arith, if◌then◌else◌, ◌==◌, nat_le, is_none, is_some, false≢true, nat_tests, Job, RingView, CycleView, Stop, is_place, last_outcome, of_phase, trouble_by, Known, Task, known_of, member, begun_by, Past, Turn, Restart, first_place, first_trouble, first_trouble_from, trouble, with_stop, with_due_plan, planned_by, all_read, settled, in_turn, is_idle, next_task, with_task, addressed_before, addressed_in, ready_to_send, has_identified, is_identified, whole_row, is_done, is_done_in, next_phase, goes_on, new_epoch, still_waiting, fall_of, after_at, after_mdt, Carry, Restarts, mst_in, ats_in, own_mst, master_calls, looks_back, at_start, behind_ats, behind_mdt, StartsEpoch, came_back, StartsAtFall, StartsAtOpening, StartsAtRestart}
+use Rattle.sercos_master.specs.Annals.{begins}
+use Rattle.sercos_law_run.specs.Journal.Runs.{begins as begins_cycle}
 use Rattle.sercos_law_run.proofs.Views.MasterSame.{turn_mdt}
-use Rattle.sercos_law_run.specs.Undisturbed.EpochStarts.{StartsEpoch, came_back, StartsAtFall, StartsAtOpening, StartsAtRestart}
 use Rattle.sercos_law_run.proofs.Undisturbed.Arriving.AfterAt.{after_at_so}
 use Rattle.sercos_law_run.proofs.Undisturbed.ChannelsKept.{ats_leave}
 use Rattle.sercos_law_run.proofs.Undisturbed.PhaseCounts.{Waits, none_identified}
@@ -77,7 +63,7 @@ at_tasks : (k : ℕ) (s : Known) (content : List ℕ) (p : Past) → (after_at s
 at_tasks k s content p = after_at_so (λ q. q.tasks k ≡ p.tasks k) s content p refl (λ i. refl)
 
 -- the end of a cycle
-stays_zero : (done : Bool) (n : ℕ) → (if done then n + 1 else n) ≡ 0 → (done ≡ false) × (n ≡ 0)
+pub stays_zero : (done : Bool) (n : ℕ) → (if done then n + 1 else n) ≡ 0 → (done ≡ false) × (n ≡ 0)
 stays_zero true n is = absurd (omega (arith, is))
 stays_zero false n is = (refl, is)
 

@@ -1,29 +1,13 @@
 -- In an undisturbed epoch in which the ring doesn't fall the phase only rises, by one at a time.
-use Rattle.std.proofs.Common.{◌≡◌, inl, inr, ℕ, suc, ◌+◌, ◌≤◌, Bool, true, false, List, [], ◌∷◌, ◌++◌, length, None, sym, ◌∙◌, ap, subst, arith, if◌then◌else◌}
-use Rattle.std.proofs.lemmas.Bool.{cases_eq}
-use Rattle.sercos_step.specs.declared.request.Job.{Job}
-use Rattle.sercos_block.specs.Views.{RingView}
-use Rattle.sercos_trace.specs.Views.{CycleView}
-use Rattle.sercos_seat.specs.Ring.{Known, known_of}
-use Rattle.sercos_master.specs.Annals.{Past, fall_of, is_done, after_end}
-use Rattle.sercos_script.specs.Links.{Carry, Restarts}
-use Rattle.sercos_law_run.specs.Journal.Runs.{master_calls, looks_back, IsRun, IsClear}
-use Rattle.sercos_law_run.specs.Views.RingViews.{behind_mdt}
-use Rattle.sercos_law_run.specs.Held.Opened.{IsOpened}
-use Rattle.sercos_law_run.specs.Undisturbed.Undisturbed.{IsUndisturbed, AreUndisturbed}
-use Rattle.sercos_law_run.specs.Undisturbed.EpochStarts.{StartsEpoch, came_back}
+use Rattle.sercos_law_run.proofs.Words.{◌≡◌, inl, inr, ℕ, suc, ◌+◌, ◌≤◌, List, [], ◌∷◌, ◌++◌, length, None, sym, ◌∙◌, ap, subst, arith, if◌then◌else◌, cases_eq, Job, RingView, CycleView, Known, known_of, Past, fall_of, is_done, after_end, Carry, Restarts, master_calls, looks_back, IsRun, IsClear, behind_mdt, IsOpened, IsUndisturbed, AreUndisturbed, StartsEpoch, came_back, NoneFalls}
 use Rattle.sercos_law_run.proofs.Undisturbed.StaysUp.{phase_now}
 use Rattle.sercos_law_run.proofs.Undisturbed.PhaseCounts.{end_kept}
 use Rattle.sercos_law_run.proofs.Undisturbed.PhaseZero.{few_back}
 use Rattle.sercos_law_run.proofs.Undisturbed.PhaseRuns.{next_phase_is, second_in}
-use Rattle.sercos_law_run.specs.Undisturbed.StartUps.{NoneFalls}
+use Rattle.sercos_law_run.proofs.Undisturbed.NoFalls.{no_less}
 
 goes_up : (s : Known) (p : Past) → fall_of s p ≡ None → (after_end s p).now.phase ≡ (if is_done s p then p.now.phase + 1 else p.now.phase)
 goes_up s p none = ap (λ (q : Past). q.now.phase) (end_kept s p none)
-
-no_lower : (done : Bool) (n : ℕ) → n ≤ (if done then n + 1 else n)
-no_lower true n = omega arith
-no_lower false n = omega arith
 
 module _ (r : RingView) (jobs : List Job) (carry : Carry) (restarts : Restarts) (opened : IsOpened r jobs) where
   -- the phase after a cycle
@@ -35,7 +19,7 @@ module _ (r : RingView) (jobs : List Job) (carry : Carry) (restarts : Restarts) 
   rises_by : (t : CycleView) (j : List CycleView) → IsRun r jobs carry restarts (t ∷ j) → IsUndisturbed r carry restarts t j → fall_of (known_of r) (behind_mdt r jobs carry restarts t.sent j) ≡ None
       → (looks_back r jobs (master_calls r carry restarts j)).now.phase ≤ (looks_back r jobs (master_calls r carry restarts (t ∷ j))).now.phase
   rises_by t j run calm none = subst (λ (n : ℕ). n ≤ (looks_back r jobs (master_calls r carry restarts (t ∷ j))).now.phase) (next_phase_is r jobs carry restarts opened t j run calm)
-      (subst (λ (n : ℕ). t.phase ≤ n) (sym (phase_after t j run none)) (no_lower (is_done (known_of r) (behind_mdt r jobs carry restarts t.sent j)) t.phase))
+      (subst (λ (n : ℕ). t.phase ≤ n) (sym (phase_after t j run none)) (no_less (is_done (known_of r) (behind_mdt r jobs carry restarts t.sent j)) t.phase))
 
   -- from the eleventh cycle and one for each drive on at the latest, phase 2 or a later one is commanded
   late_by : (cycles before : List CycleView) → IsRun r jobs carry restarts (cycles ++ before) → IsClear (cycles ++ before) → StartsEpoch r jobs carry restarts before → AreUndisturbed r carry restarts cycles before

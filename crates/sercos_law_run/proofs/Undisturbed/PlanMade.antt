@@ -1,16 +1,5 @@
 -- If all reads have ended and there is no stop, the MDT's turn has made the plan.
-use Rattle.std.proofs.Common.{◌≡◌, ℕ, ◌+◌, true, List, [], ◌∷◌, length, Option, None, refl, sym, ap, ap₂, ◌∙◌}
-use Rattle.std.specs.Prelude.{not, nat_le, is_none, is_some}
-use Rattle.sercos_step.specs.declared.request.Outcome.{Outcome}
-use Rattle.sercos_timing.specs.Order.{record_bytes}
-use Rattle.sercos_timing.specs.Views.{WishesView}
-use Rattle.sercos_timing.specs.declared.wishes.Wish.{Wish}
-use Rattle.sercos_seat.specs.Agenda.{is_read, wishes_from, wish_given, wishes_given}
-use Rattle.sercos_seat.specs.Ring.{Known, MemberView, member}
-use Rattle.sercos_master.specs.Annals.{Past, outcomes, all_read, after_mdt}
-use Rattle.sercos_master.proofs.Configured.{leaves, mdt_adds}
-use Rattle.sercos_master.proofs.Keeping.{settled_keeps}
-use Rattle.std.proofs.lemmas.Option.{none-some}
+use Rattle.sercos_law_run.proofs.Words.{◌≡◌, ℕ, ◌+◌, true, List, [], ◌∷◌, length, Option, None, refl, sym, ap, ap₂, ◌∙◌, not, nat_le, is_none, is_some, none-some, Outcome, record_bytes, WishesView, Wish, is_read, wishes_from, wish_given, wishes_given, Known, MemberView, member, Past, outcomes, all_read, after_mdt, leaves, mdt_adds, settled_keeps}
 use Rattle.sercos_law_run.proofs.Agenda.OneTurn.{from_same}
 
 -- what is asked is told by the outcomes

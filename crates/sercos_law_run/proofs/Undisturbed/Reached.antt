@@ -1,10 +1,5 @@
 -- In phase 3 and later the checks for phase 3 have ended well, and in phase 4 those for phase 4.
-use Rattle.std.proofs.Common.{◌≡◌, ℕ, ◌<◌, ◌≤◌, true, List, length}
-use Rattle.std.proofs.lemmas.Bool.{le-leb}
-use Rattle.sercos_seat.specs.Agenda.{is_checked, is_ready}
-use Rattle.sercos_seat.specs.Ring.{Known, Task, member}
-use Rattle.sercos_master.specs.Annals.{Call, outcomes, past}
-use Rattle.sercos_master.proofs.Configured.{configured, ready}
+use Rattle.sercos_law_run.proofs.Words.{◌≡◌, ℕ, ◌<◌, ◌≤◌, true, List, length, le-leb, is_checked, is_ready, Known, Task, member, Call, outcomes, past, configured, ready}
 
 pub all_checked_in : (s : Known) (requests : ℕ → List Task) (h : List Call) → 3 ≤ (past s requests h).now.phase → (k : ℕ) → k < length s.drives → is_checked (member s k) (outcomes (past s requests h) k) ≡ true
 all_checked_in s requests h high k low = configured s requests h k low (le-leb 3 (past s requests h).now.phase high)

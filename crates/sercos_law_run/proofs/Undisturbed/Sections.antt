@@ -1,46 +1,32 @@
 -- No cycle of phases 2 and 3 is idle.
-use Rattle.std.proofs.Common.{◌≡◌, inl, inr, ℕ, zero, suc, ◌+◌, ◌<◌, ◌≤◌, Bool, true, false, List, [], ◌∷◌, ◌++◌, length, Option, Some, None, refl, sym, ap, ◌∙◌, subst, arith}
-use Rattle.std.specs.Prelude.{is_none, is_some}
-use Rattle.std.proofs.lemmas.Bool.{cases_eq}
-use Rattle.sercos_step.specs.declared.request.Job.{Job}
-use Rattle.sercos_step.specs.declared.step.Step.{Step}
-use Rattle.sercos_block.specs.Views.{RingView}
-use Rattle.sercos_service_master.specs.Begun.{Begun, open_in}
-use Rattle.sercos_trace.specs.Views.{CycleView}
-use Rattle.sercos_seat.specs.Ring.{known_of, tasks_for}
-use Rattle.sercos_master.specs.Annals.{is_idle}
-use Rattle.sercos_script.specs.Links.{Carry, Restarts}
-use Rattle.sercos_law_channel.specs.Handshake.Views.{View}
-use Rattle.sercos_law_channel.specs.Handshake.Epochs.{begun_in}
-use Rattle.sercos_law_channel.specs.Pace.Times.{one_more}
-use Rattle.sercos_law_channel.specs.Pace.Stretches.{open_since}
-use Rattle.sercos_law_run.specs.Journal.Arrivals.{sum_below}
-use Rattle.sercos_law_run.specs.Journal.Records.{ats_in, mst_in}
-use Rattle.sercos_law_run.specs.Journal.Runs.{at_calls, own_mst, begin_calls, master_calls, IsRun, IsClear}
-use Rattle.sercos_law_run.specs.Views.RingViews.{behind_mdt, view_of, views_of}
+use Rattle.sercos_law_run.proofs.Words.{◌≡◌, inl, inr, ℕ, zero, suc, ◌+◌, ◌<◌, ◌≤◌, Bool, true, false, List, [], ◌∷◌, ◌++◌, length, Option, Some, None, refl, sym, ap, ◌∙◌, subst, arith, is_none, is_some, cases_eq, Job, Step, RingView, Begun, open_in, CycleView, known_of, tasks_for, is_idle, Carry, Restarts, View, begun_in, one_more, open_since, sum_below, ats_in, mst_in, at_calls, own_mst, begin_calls, master_calls, IsRun, IsClear, behind_mdt, view_of, views_of, IsOpened, GoesOnInTwo, AreInTwo, AreInThree, views_since}
 use Rattle.sercos_law_run.proofs.Views.Members.{members_count}
-use Rattle.sercos_law_run.specs.Held.Opened.{IsOpened}
 use Rattle.sercos_law_run.proofs.Held.Runs.{s_known}
 use Rattle.sercos_law_run.proofs.Headline.HeadlineRuns.{first_store, keeps_all}
-use Rattle.sercos_law_run.specs.Undisturbed.Sections.{GoesOnInTwo, AreInTwo, AreInThree}
-use Rattle.sercos_law_run.specs.Undisturbed.ViewsSince.{views_since}
 use Rattle.sercos_law_run.proofs.Undisturbed.Checks.PassedCycles.{views_split}
 use Rattle.sercos_law_run.proofs.Agenda.Requests.{are_requests}
 use Rattle.sercos_law_run.proofs.Cited.{work_in_three, work_in_two}
 
--- a sum whose terms don't fall, and of which one grows, grows
-sum_stays : (n : ℕ) (f g : ℕ → ℕ) → ((i : ℕ) → f i ≤ g i) → sum_below n f ≤ sum_below n g
-sum_stays zero f g most = omega arith
-sum_stays (suc n) f g most = let before = sum_stays n f g most in let last = most n in omega (arith, before, last)
+-- a sum whose terms don't fall doesn't fall
+pub sum_most : (n : ℕ) (f g : ℕ → ℕ) → ((k : ℕ) → k < n → f k ≤ g k) → sum_below n f ≤ sum_below n g
+sum_most zero f g most = omega arith
+sum_most (suc n) f g most =
+    let rest = sum_most n f g (λ k low. most k (omega (arith, low))) in
+    let last = most n (omega arith) in omega (arith, rest, last)
 
-sum_grows : (n : ℕ) (f g : ℕ → ℕ) (k : ℕ) → k < n → ((i : ℕ) → f i ≤ g i) → f k + 1 ≤ g k → sum_below n f + 1 ≤ sum_below n g
-sum_grows zero f g k below most more = absurd (omega (arith, below))
-sum_grows (suc n) f g k below most more = elim (cases_eq k n) [
-  | inl same ↦ let before = sum_stays n f g most in let last = subst (λ (i : ℕ). f i + 1 ≤ g i) same more in omega (arith, before, last)
-  | inr other ↦ let before = sum_grows n f g k (omega (arith, below, other)) most more in let last = most n in omega (arith, before, last)
+-- one of the numbers is larger by d
+pub sum_more : (n k d : ℕ) (f g : ℕ → ℕ) → k < n → ((j : ℕ) → j < n → f j ≤ g j) → f k + d ≤ g k → sum_below n f + d ≤ sum_below n g
+sum_more zero k d f g low most one = absurd (omega (arith, low))
+sum_more (suc n) k d f g low most one = elim (cases_eq n k) [
+  | inl same ↦ (
+      let rest = sum_most n f g (λ j j_low. most j (omega (arith, j_low))) in
+      let last : f n + d ≤ g n = subst (λ (m : ℕ). f m + d ≤ g m) (sym same) one in omega (arith, rest, last))
+  | inr other ↦ (
+      let rest = sum_more n k d f g (omega (arith, low, other)) (λ j j_low. most j (omega (arith, j_low))) one in
+      let last = most n (omega arith) in omega (arith, rest, last))
 ]
 
-more_or_same : (b : Bool) (n : ℕ) → n ≤ one_more b n
+pub more_or_same : (b : Bool) (n : ℕ) → n ≤ one_more b n
 more_or_same true n = omega arith
 more_or_same false n = omega arith
 
@@ -84,8 +70,8 @@ module _ (r : RingView) (jobs : List Job) (carry : Carry) (restarts : Restarts) 
       → IsClear (t ∷ (cycles ++ before)) → GoesOnInTwo r (behind_mdt r jobs carry restarts t.sent (cycles ++ before))
       → sum_below (length r.drives) (was cycles before) + 1 ≤ sum_below (length r.drives) (was (t ∷ cycles) before)
   one_works t cycles before run clear goes =
-      sum_grows (length r.drives) (was cycles before) (λ k. one_more (opens t cycles before k) (was cycles before k)) at_work.0 at_work.1
-      (λ k. more_or_same (opens t cycles before k) (was cycles before k)) (one_more_is (opens t cycles before at_work.0)
+      sum_more (length r.drives) at_work.0 1 (was cycles before) (λ k. one_more (opens t cycles before k) (was cycles before k)) at_work.1
+      (λ k low. more_or_same (opens t cycles before k) (was cycles before k)) (one_more_is (opens t cycles before at_work.0)
       (was cycles before at_work.0) is_open)
     where
       at_work : (k : ℕ) × (k < length r.drives) × (is_some (open_in (begun_in (view_of r jobs carry restarts k t (cycles ++ before))

@@ -1,44 +1,18 @@
 -- In an undisturbed epoch the ring doesn't fall at the end of a cycle, if no step is open too long and each drive is heard in phases 3
 -- and 4.
-use Rattle.std.proofs.Common.{◌≡◌, ℕ, ◌+◌, ◌<◌, ◌≤◌, ◌||◌, Bool, true, false, not, ◌&&◌, List, [], ◌∷◌, ◌++◌, length, Option, Some, None, refl, sym, ◌∙◌, ap, subst, arith, if◌then◌else◌}
-use Rattle.std.specs.Prelude.{◌==◌, nat_le, is_some, IsSome, option_map, unwrap_or, min}
-use Rattle.std.proofs.lemmas.Bool.{false≢true}
-use Rattle.std.proofs.lemmas.Bool.Decides.{nat_tests}
-use Rattle.sercos_step.specs.declared.request.Job.{Job}
-use Rattle.sercos_step.specs.declared.request.Request.{Request}
-use Rattle.sercos_step.specs.declared.step.Answer.{Answer}
-use Rattle.sercos_block.specs.Views.{RingView}
-use Rattle.sercos_service_master.specs.Begun.{Begun, open_in, answers_it, answer_in, with_answer}
-use Rattle.sercos_service_master.specs.Calls.{Call, Begin, Send, Hear, EndCycle, begun_by, age_of, cycles_open}
-use Rattle.sercos_drive.specs.Moments.{phase_in}
-use Rattle.sercos_trace.specs.Views.{CycleView}
-use Rattle.sercos_seat.specs.Channel.{is_place}
-use Rattle.sercos_seat.specs.Ring.{Known, known_of, tasks_for}
-use Rattle.sercos_master.proofs.Keeping.{first_found}
-use Rattle.sercos_master.specs.Annals.{Past, Turn, first_from, first_place, has_identified, is_identified, count_addressed, is_idle, addressed_in, ready_to_send, after_mdt, fall_of}
-use Rattle.sercos_script.specs.Links.{Carry, Restarts}
-use Rattle.sercos_law_channel.specs.Handshake.Views.{Heard, View}
-use Rattle.sercos_law_channel.specs.Handshake.Epochs.{command, with_heard, with_begun, unless_restart, epoch_begun, begun_in}
+use Rattle.sercos_law_run.proofs.Words.{◌≡◌, ℕ, ◌+◌, ◌<◌, ◌≤◌, ◌||◌, Bool, true, false, not, ◌&&◌, List, [], ◌∷◌, ◌++◌, length, Option, Some, None, refl, sym, ◌∙◌, ap, subst, arith, if◌then◌else◌, ◌==◌, nat_le, is_some, option_map, unwrap_or, min, false≢true, eqb-true, leb-true, nat_tests, Job, Request, Answer, RingView, Begun, open_in, answers_it, answer_in, with_answer, Begin, Send, Hear, EndCycle, begun_by, age_of, cycles_open, phase_in, CycleView, is_place, Known, known_of, tasks_for, first_found, Past, Turn, first_from, first_place, has_identified, is_identified, count_addressed, is_idle, addressed_in, ready_to_send, after_mdt, fall_of, Carry, Restarts, Heard, View, command, with_heard, with_begun, unless_restart, epoch_begun, begun_in, BeginsEmpty, calls_in, channel_calls, drive_at, master_calls, middle, looks_back, IsNext, IsRun, IsClear, at_start, behind_ats, behind_mdt, after_mst, heard_last, view_of, views_of, IsOpened, IsUndisturbed, AreUndisturbed, StartsEpoch, begins_empty, comes_up}
+use Rattle.sercos_service_master.specs.Calls.{Call}
 use Rattle.sercos_law_channel.specs.Handshake.Runs.{IsRun as IsViewRun}
-use Rattle.sercos_law_channel.specs.Handshake.RunLaws.{BeginsEmpty}
-use Rattle.sercos_law_channel.specs.Pace.ChannelCalls.{calls_in, channel_calls}
-use Rattle.sercos_law_run.specs.Journal.Runs.{drive_at, master_calls, middle, looks_back, IsNext, IsRun, IsClear}
-use Rattle.sercos_law_run.specs.Views.RingViews.{at_start, behind_ats, behind_mdt, after_mst, heard_last, view_of, views_of}
 use Rattle.sercos_law_run.proofs.Views.MasterSame.{HasHeard, Nothing, One, turn_mdt}
-use Rattle.sercos_law_run.proofs.Views.Members.{members_count}
-use Rattle.sercos_law_run.specs.Held.Opened.{IsOpened}
+use Rattle.sercos_law_run.proofs.Views.Members.{in_ring}
 use Rattle.sercos_law_run.proofs.Held.Runs.{kept_at_mst, begun_then}
 use Rattle.sercos_law_run.proofs.Headline.HeadlineRuns.{first_store, stored_in, spelled_in, all_stand}
-use Rattle.sercos_law_run.specs.Undisturbed.Undisturbed.{IsUndisturbed, AreUndisturbed}
-use Rattle.sercos_law_run.specs.Undisturbed.EpochStarts.{StartsEpoch}
 use Rattle.sercos_law_run.proofs.Undisturbed.ChannelsKept.{ats_leave, unheard_first, calls_now}
 use Rattle.sercos_law_run.proofs.Undisturbed.Arriving.Comes.{calm_in}
 use Rattle.sercos_law_run.proofs.Undisturbed.Identified.{phase_comes, mst_whole, starts_so, goes_so, heard_next}
 use Rattle.sercos_law_run.proofs.Undisturbed.NoFalls.{heard_mdt, has_risen, no_fall}
-use Rattle.sercos_law_run.proofs.Views.ViewRuns.{no_answer}
+use Rattle.sercos_law_run.proofs.Views.ViewRuns.{nothing_heard, no_request}
 use Rattle.sercos_law_run.proofs.Undisturbed.Arriving.Addressed.{place_so}
-use Rattle.sercos_law_channel.proofs.Cited.{begins_empty}
-use Rattle.sercos_law_channel.proofs.Handshake.RunFacts.{comes_up}
 
 -- what is heard on a channel is heard of the drive
 heard_of : (s : Known) (k : ℕ) (such : List ℕ → Type 0) (c : List Call) (q : Past) → HasHeard s k such c q → heard_last c ≡ None → is_some (heard_last (q.calls k)) ≡ true → q.now.heard k ≡ true
@@ -62,15 +36,6 @@ no_age (Hear status word ∷ c) none =
     let empty : begun_by c ≡ [] = none_heard (answers_it (begun_by c) status) (answer_in status word) (begun_by c) none in
     ap (λ (l : List Begun). if answers_it l status then None else age_of c) empty ∙ no_age c empty
 no_age (EndCycle ∷ c) none = ap (λ (o : Option ℕ). option_map (λ age. age + 1) o) (no_age c none)
-
--- nothing is begun in phases 0 and 1
-no_request : (o : Option Request) → (IsSome o → ⊥) → o ≡ None
-no_request None never = refl
-no_request (Some r) never = absurd (never refl)
-
-nothing_heard : (o : Option Heard) → with_heard o [] ≡ []
-nothing_heard None = refl
-nothing_heard (Some a) = no_answer (answers_it [] a.status) []
 
 pub begun_none : (busy : ℕ) → BeginsEmpty busy → (v : View) (past : List View) → IsViewRun busy (v ∷ past) → v.phase ≤ 1 → begun_in v past ≡ []
 begun_none busy empty v past (run, next) early =
@@ -108,12 +73,6 @@ unheard_addressed s p k one to =
     ∙ not_heard (after_mdt s p).now.phase ((after_mdt s p).now.heard k) (has_identified k (after_mdt s p).turns) one (found_passes 0 (length s.drives) k (λ i. not (is_identified (after_mdt s p) i)) found)
 
 -- what tests say of a phase
-eq_one : (n : ℕ) → (n == 1) ≡ true → n ≡ 1
-eq_one n is = grind (arith, nat_tests, is)
-
-late_of : (n : ℕ) → nat_le 2 n ≡ true → 2 ≤ n
-late_of n is = grind (arith, nat_tests, is)
-
 early_of : (n : ℕ) → nat_le 2 n ≡ false → n ≤ 1
 early_of n is = grind (arith, nat_tests, is)
 
@@ -168,7 +127,7 @@ module _ (r : RingView) (jobs : List Job) (carry : Carry) (restarts : Restarts) 
       by : (was here : Bool) → ((behind_mdt r jobs carry restarts before.sent j).now.phase == 1) ≡ was → is_place k (behind_mdt r jobs carry restarts before.sent j).now.addressed ≡ here
           → (if was && here then count_addressed k (behind_mdt r jobs carry restarts before.sent j).turns + 1 else 0) ≡ 0
       by true true was here =
-          let was_one : (behind_mdt r jobs carry restarts before.sent j).now.phase ≡ 1 = eq_one (behind_mdt r jobs carry restarts before.sent j).now.phase was in
+          let was_one : (behind_mdt r jobs carry restarts before.sent j).now.phase ≡ 1 = eqb-true (behind_mdt r jobs carry restarts before.sent j).now.phase 1 was in
           let first : before.phase ≡ 1 = sym (phase_now before j run.0.1) ∙ was_one in
           let heard = heard_next r jobs carry restarts opened t before j run now_calm then_calm k below one was_one
           (place_so k (behind_mdt r jobs carry restarts before.sent j).now.addressed here)
@@ -187,16 +146,13 @@ module _ (r : RingView) (jobs : List Job) (carry : Carry) (restarts : Restarts) 
       no_fall (known_of r) (behind_mdt r jobs carry restarts t.sent (cycles ++ before)) (has_risen (known_of r) (tasks_for (known_of r) jobs) (middle r carry restarts t.sent (cycles ++ before))) (record {
         whole = whole_now t (cycles ++ before) run.1 now_calm;
         hears = λ late k below. ap (λ (f : ℕ → Bool). f k) (heard_mdt (known_of r) (behind_ats r jobs carry restarts t.sent (cycles ++ before)))
-            ∙ heard_then t (cycles ++ before) run clear k (inside k below) (hears (subst (λ (n : ℕ). 3 ≤ n) (phase_now t (cycles ++ before) run.1) late) k (inside k below));
-        identifies = λ one k below to. let none : count_addressed k (behind_mdt r jobs carry restarts t.sent (cycles ++ before)).turns ≡ 0 = once cycles run clear calm now_calm (sym (phase_now t (cycles ++ before) run.1) ∙ one) k (inside k below) to in omega (arith, none);
-        answers = λ other k below. short k (inside k below) (nat_le 2 t.phase) refl;
+            ∙ heard_then t (cycles ++ before) run clear k (in_ring r k below) (hears (subst (λ (n : ℕ). 3 ≤ n) (phase_now t (cycles ++ before) run.1) late) k (in_ring r k below));
+        identifies = λ one k below to. let none : count_addressed k (behind_mdt r jobs carry restarts t.sent (cycles ++ before)).turns ≡ 0 = once cycles run clear calm now_calm (sym (phase_now t (cycles ++ before) run.1) ∙ one) k (in_ring r k below) to in omega (arith, none);
+        answers = λ other k below. short k (in_ring r k below) (nat_le 2 t.phase) refl;
       })
     where
-      inside : (k : ℕ) → k < length (known_of r).drives → k < length r.drives
-      inside k below = let count = members_count r in omega (arith, below, count)
-
       short : (k : ℕ) → k < length r.drives → (late : Bool) → nat_le 2 t.phase ≡ late → cycles_open ((behind_mdt r jobs carry restarts t.sent (cycles ++ before)).calls k) ≤ 63
-      short k below true late = subst (λ (c : List Call). cycles_open c ≤ 63) (calls_now r jobs carry restarts opened t (cycles ++ before) run clear k below) (answers (late_of t.phase late) k below)
+      short k below true late = subst (λ (c : List Call). cycles_open c ≤ 63) (calls_now r jobs carry restarts opened t (cycles ++ before) run clear k below) (answers (leb-true 2 t.phase late) k below)
       short k below false late = let none = idle_then t (cycles ++ before) run clear (early_of t.phase late) k below in omega (arith, none)
 
       once : (cs : List CycleView) → IsRun r jobs carry restarts (t ∷ (cs ++ before)) → IsClear (t ∷ (cs ++ before)) → AreUndisturbed r carry restarts cs before → IsUndisturbed r carry restarts t (cs ++ before) → t.phase ≡ 1

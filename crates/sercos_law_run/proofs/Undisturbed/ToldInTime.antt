@@ -1,55 +1,22 @@
 -- Each request that ends is told in the record of its cycle. So in an undisturbed epoch the requests to a drive are reported in time.
-use Rattle.std.proofs.Common.{◌≡◌, inl, inr, ℕ, zero, suc, ◌+◌, ◌*◌, ◌<◌, ◌≤◌, Bool, true, false, if◌then◌else◌, List, [], ◌∷◌, ◌++◌, drop, length, Option, Some, None, refl, sym, ap, ◌∙◌, subst, arith, length-append, append_assoc}
-use Rattle.std.specs.Prelude.{is_none, is_some, option_map, slice_get, slice_index}
-use Rattle.std.proofs.lemmas.Bool.{cases_lt, false≢true}
-use Rattle.std.proofs.lemmas.Option.{slice_get_within}
+use Rattle.sercos_law_run.proofs.Words.{◌≡◌, inl, inr, ℕ, zero, suc, ◌+◌, ◌*◌, ◌<◌, ◌≤◌, Bool, true, false, if◌then◌else◌, List, [], ◌∷◌, ◌++◌, drop, length, Option, Some, None, refl, sym, ap, ◌∙◌, subst, arith, length-append, append_assoc, is_none, is_some, option_map, slice_get, slice_index, cases_lt, false≢true, slice_get_within, Job, Outcome, next_step, outcome_of, has_next, PlanView, startup_bound, RingView, Begun, open_in, begun_by, CycleView, reads_count, is_ready, Report, broken_number, count_requests, number_in, outcomes_in, with_outcome, Known, Task, known_of, member, tasks_for, get_left, get_map, ready_long, Past, Call, Restart, outcomes, is_idle, fall_of, goes_on, next_phase, new_epoch, still_waiting, broken, Carry, Restarts, heard, passage, mst_in, ats_in, drive_at, station_of, with_at, at_calls, own_mst, begins, master_calls, looks_back, middle, IsRun, IsClear, Channel, channel_at, HasOutcome, HasReport, AreNumbered, told, told_at_end, with_number, after_told, still_to_tell, task_numbers, IsTask, OfReads, OfWrites, Checks3, Lists3, Checks4, Lists4, OfWaiting, AreBegunTasks, behind_mdt, IsOpened, StartsEpoch, HaveTold, left_after, request_cycles, waiting_after, AreUndisturbed, recovers_in_time}
 use Rattle.sercos_telegram.specs.declared.layout.Kind.TheVariants as kinds
-use Rattle.sercos_step.specs.declared.request.Job.{Job}
-use Rattle.sercos_step.specs.declared.request.Outcome.{Outcome}
-use Rattle.sercos_step.specs.Steps.{next_step, outcome_of}
-use Rattle.sercos_step.proofs.Ends.{has_next}
-use Rattle.sercos_timing.specs.Views.{PlanView}
-use Rattle.sercos_block.specs.Startup.{startup_bound}
-use Rattle.sercos_block.specs.Views.{RingView}
-use Rattle.sercos_service_master.specs.Begun.{Begun, open_in}
-use Rattle.sercos_service_master.specs.Calls.{begun_by}
-use Rattle.sercos_trace.specs.Views.{CycleView}
-use Rattle.sercos_seat.specs.Agenda.{reads_count, is_ready}
-use Rattle.sercos_seat.specs.Channel.{Report, broken_number, count_requests, number_in, outcomes_in, with_outcome}
-use Rattle.sercos_seat.specs.Ring.{Known, Task, known_of, member, tasks_for}
-use Rattle.sercos_seat.proofs.Gets.{get_left, get_map}
-use Rattle.sercos_seat.proofs.Queues.{ready_long}
-use Rattle.sercos_master.specs.Annals.{Past, Call, Restart, outcomes, is_idle, fall_of, goes_on, next_phase, new_epoch, still_waiting}
-use Rattle.sercos_master.specs.Reports.{broken}
-use Rattle.sercos_script.specs.Links.{Carry, Restarts}
-use Rattle.sercos_law_run.specs.Journal.Arrivals.{heard, passage}
-use Rattle.sercos_law_run.specs.Journal.Records.{mst_in, ats_in}
-use Rattle.sercos_law_run.specs.Journal.Runs.{drive_at, station_of, with_at, at_calls, own_mst, begins, master_calls, looks_back, middle, IsRun, IsClear}
-use Rattle.sercos_law_run.specs.Agenda.Channels.{Channel, channel_at}
-use Rattle.sercos_law_run.specs.Agenda.Events.{HasOutcome, HasReport}
-use Rattle.sercos_law_run.specs.Agenda.Reported.{AreNumbered, told, told_at_end, with_number, after_told, still_to_tell, task_numbers}
-use Rattle.sercos_law_run.specs.Agenda.Tasks.{IsTask, OfReads, OfWrites, Checks3, Lists3, Checks4, Lists4, OfWaiting, AreBegunTasks}
 use Rattle.sercos_law_run.proofs.Agenda.TaskRuns.{all_ended}
-use Rattle.sercos_law_run.specs.Views.RingViews.{behind_mdt}
-use Rattle.sercos_law_run.specs.Held.Opened.{IsOpened}
 use Rattle.sercos_law_run.proofs.Headline.HeadlineRuns.{keeps_all}
 use Rattle.sercos_law_run.proofs.Headline.OnceRuns.{restarts_so}
-use Rattle.sercos_law_run.specs.Undisturbed.EpochStarts.{StartsEpoch}
-use Rattle.sercos_law_run.specs.Undisturbed.Reports.{HaveTold, left_after, request_cycles, waiting_after}
-use Rattle.sercos_law_run.specs.Undisturbed.Undisturbed.{AreUndisturbed}
 use Rattle.sercos_law_run.proofs.Undisturbed.EpochCycles.{AreOn, IsCut, IsOn, are_on, cut, going, goings}
 use Rattle.sercos_law_run.proofs.Undisturbed.GoingCycles.{AreAll, AreGoing, IsGoing, all_so, run_rest, waits_along, waits_now}
 use Rattle.sercos_law_run.proofs.Undisturbed.Arriving.Comes.{calm_in}
-use Rattle.sercos_law_run.proofs.Undisturbed.EndedInTime.{LastsShort, have_ended, lasts_undisturbed, one_time_more}
+use Rattle.sercos_law_run.proofs.Undisturbed.EndedInTime.{LastsShort, have_ended, lasts_undisturbed}
 use Rattle.sercos_law_run.proofs.Undisturbed.InFour.{counted, four_since, numbered, ready_now}
 use Rattle.sercos_law_run.proofs.Undisturbed.OneRequest.{room}
 use Rattle.sercos_law_run.proofs.Undisturbed.PhaseCounts.{end_kept}
 use Rattle.sercos_law_run.proofs.Undisturbed.PhaseZero.{in_zero}
 use Rattle.sercos_law_run.proofs.Undisturbed.Arriving.Small.{first_is, never_both}
 use Rattle.sercos_law_run.proofs.Undisturbed.Cited.{inside}
-use Rattle.sercos_law_channel.proofs.Pace.WholeCycles.{recovers_in_time}
 use Rattle.sercos_law_run.proofs.Agenda.Requests.{are_requests}
 use Rattle.sercos_law_run.proofs.Cited.{begins_tasks, told_in_order}
+use Rattle.sercos_law_run.proofs.Bounds.BoundSums.{times_suc}
 
 -- NUMBERS that were told
 abbrev pub AllTold : List CycleView → List (Option ℕ) → Type 0
@@ -415,11 +382,11 @@ module _ (r : RingView) (jobs : List Job) (carry : Carry) (restarts : Restarts) 
       (lasts_undisturbed recovers_in_time r jobs carry restarts opened k below) t cycles one old run clear on first one_four four i long n
       enough
 
+pub one_more_time : (i c : ℕ) → (i + 1) * c ≡ suc i * c
+one_more_time i c = grind arith
+
 -- THE REQUESTS ARE REPORTED IN TIME.
 module _ (r : RingView) (jobs : List Job) (carry : Carry) (restarts : Restarts) (opened : IsOpened r jobs) where
-  one_more_time : (i c : ℕ) → (i + 1) * c ≡ suc i * c
-  one_more_time i c = grind arith
-
   -- HOW MANY ARE LEFT in phase 4 of an undisturbed epoch: i + 1 fewer than waited when it began, or none, from that long after the bound of
   -- a start-up on.
   module _ (t : CycleView) (cycles before : List CycleView) (run : IsRun r jobs carry restarts (t ∷ (cycles ++ before)))
@@ -430,7 +397,7 @@ module _ (r : RingView) (jobs : List Job) (carry : Carry) (restarts : Restarts) 
     on_epoch = are_on r jobs carry restarts opened (t ∷ cycles) before run clear starts calm
 
     some : 1 ≤ suc i * request_cycles r k
-    some = let all = room (drive_at r k).busy (drive_at r k).command in let parts = one_time_more i (request_cycles r k) in omega (arith, all, parts)
+    some = let all = room (drive_at r k).busy (drive_at r k).command in let parts = times_suc i (request_cycles r k) in omega (arith, all, parts)
 
     -- the cycle at the bound of a start-up is commanded phase 4
     later : (d : ℕ) × (length cycles ≡ suc (startup_bound r) + d)

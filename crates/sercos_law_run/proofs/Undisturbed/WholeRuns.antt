@@ -1,29 +1,8 @@
 -- A run in which nothing is disturbed, from its opening on.
-use Rattle.std.proofs.Common.{◌≡◌, ◌⊎◌, inl, inr, ℕ, ◌+◌, ◌<◌, ◌≤◌, true, List, [], ◌∷◌, ◌++◌, length, Some, None, refl, sym, ap, ◌∙◌, subst, arith}
+use Rattle.sercos_law_run.proofs.Words.{◌≡◌, ◌⊎◌, inl, inr, ℕ, ◌+◌, ◌<◌, ◌≤◌, true, List, [], ◌∷◌, ◌++◌, length, Some, None, refl, sym, ap, ◌∙◌, subst, arith, Idn, Job, RingView, answers_it, CycleView, Stop, MemberView, Carry, Restarts, epoch_begun, Heard, age_in, drive_at, IsRun, IsClear, behind_mdt, view_of, views_of, IsOpened, StaysAtItsEnd, ReportsInTime, AgesUndisturbed, AnswersUndisturbed, TellsNoFallUndisturbed, StopsForTheCycleTime, StopsForThePlan, EndsStartUp, IsRight, RisesIfRight, StopsForTheCheck, AreUndisturbed, IsUndisturbed, StaysClear, HasTold, NeverDisturbed, StartsUp, StopsForCause}
 use Rattle.std.proofs.lemmas.List.{append-nil}
-use Rattle.sercos_idn.specs.declared.idn.Idn.{Idn}
-use Rattle.sercos_step.specs.declared.request.Job.{Job}
-use Rattle.sercos_block.specs.Views.{RingView}
-use Rattle.sercos_service_master.specs.Begun.{answers_it}
-use Rattle.sercos_trace.specs.Views.{CycleView}
-use Rattle.sercos_trace.specs.declared.events.Stop.{Stop}
 use Rattle.sercos_trace.specs.declared.events.Stop.TheVariants as stop
-use Rattle.sercos_seat.specs.Ring.{MemberView}
-use Rattle.sercos_script.specs.Links.{Carry, Restarts}
-use Rattle.sercos_law_channel.specs.Handshake.Epochs.{epoch_begun}
-use Rattle.sercos_law_channel.specs.Handshake.Views.{Heard}
-use Rattle.sercos_law_channel.specs.Pace.Ages.{age_in}
-use Rattle.sercos_law_run.specs.Journal.Runs.{drive_at, IsRun, IsClear}
-use Rattle.sercos_law_run.specs.Views.RingViews.{behind_mdt, view_of, views_of}
 use Rattle.sercos_law_run.proofs.Views.Members.{member_is}
-use Rattle.sercos_law_run.specs.Held.Opened.{IsOpened}
-use Rattle.sercos_law_run.specs.Undisturbed.Ends.{StaysAtItsEnd}
-use Rattle.sercos_law_run.specs.Undisturbed.Reports.{ReportsInTime}
-use Rattle.sercos_law_run.specs.Undisturbed.StartUps.{AgesUndisturbed, AnswersUndisturbed, TellsNoFallUndisturbed}
-use Rattle.sercos_law_run.specs.Undisturbed.StopsInTwo.{StopsForTheCycleTime, StopsForThePlan}
-use Rattle.sercos_law_run.specs.Undisturbed.StopsLater.{EndsStartUp, IsRight, RisesIfRight, StopsForTheCheck}
-use Rattle.sercos_law_run.specs.Undisturbed.Undisturbed.{AreUndisturbed, IsUndisturbed, StaysClear}
-use Rattle.sercos_law_run.specs.Undisturbed.WholeRuns.{HasTold, NeverDisturbed, StartsUp, StopsForCause}
 use Rattle.sercos_law_run.proofs.Undisturbed.Stops.StopOnce.{TellNoFall, told_once}
 use Rattle.sercos_law_run.proofs.Undisturbed.Stops.StopsTold.{stop_told_in}
 use Rattle.sercos_law_run.proofs.Undisturbed.Cited.{fits_in_three, own_fits_in_four}

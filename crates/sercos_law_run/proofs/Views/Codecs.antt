@@ -1,23 +1,14 @@
 -- What was said is read back from what was sent.
-use Rattle.std.proofs.Common.{◌≡◌, ◌⊎◌, inl, inr, ℕ, zero, suc, ◌+◌, ◌*◌, ◌/◌, ◌%◌, ◌<◌, ◌≤◌, Bool, true, false, ◌&&◌, List, [], ◌∷◌, ◌++◌, length, refl, sym, ap, ap₂, ◌∙◌, arith, if◌then◌else◌, cond}
-use Rattle.std.specs.Prelude.{◌==◌, nat_le, Option, Some, None, is_some, is_none, option_map, slice_index}
-use Rattle.std.proofs.lemmas.Bool.{le-leb}
-use Rattle.std.proofs.lemmas.Bool.Decides.{nat_tests}
-use Rattle.sercos_telegram.specs.Words.{has, control_of, status_of}
-use Rattle.sercos_telegram.specs.Spells.{all_drives, word_at, word_bytes, fields, mst_content}
-use Rattle.sercos_telegram.specs.Faults.{head_fault, mst_fault, single_fault, joint_fault}
-use Rattle.sercos_telegram.proofs.Spellings.{head_fault-none}
-use Rattle.sercos_block.specs.declared.block.Block.{Block}
-use Rattle.sercos_command.specs.Checks.{number_at, carried_len}
-use Rattle.sercos_service_drive.specs.Says.{Shown, shown_by}
-use Rattle.sercos_service_master.specs.Begun.{Said, said_by}
-use Rattle.sercos_drive.specs.Heard.{mst_in, mst_got, told_at, single_in, lies_within, joint_in, mdt_got}
-use Rattle.sercos_drive.specs.Says.{shown_word}
-use Rattle.sercos_seat.specs.Records.{word_said, record_said}
+use Rattle.sercos_law_run.proofs.Words.{◌≡◌, ◌⊎◌, inl, inr, ℕ, zero, suc, ◌+◌, ◌*◌, ◌/◌, ◌%◌, ◌<◌, ◌≤◌, Bool, true, false, ◌&&◌, List, [], ◌∷◌, ◌++◌, length, refl, sym, ap, ap₂, ◌∙◌, arith, if◌then◌else◌, cond, ◌==◌, nat_le, Option, Some, None, is_some, is_none, option_map, slice_index, le-leb, nat_tests, has, all_drives, mst_content, single_fault, joint_fault, head_fault-none, Block, number_at, carried_len, Shown, shown_by, said_by, mst_got, told_at, lies_within, mdt_got, shown_word, word_said, record_said}
+use Rattle.sercos_telegram.specs.Words.{control_of, status_of}
+use Rattle.sercos_telegram.specs.Spells.{word_at, word_bytes, fields}
+use Rattle.sercos_telegram.specs.Faults.{head_fault, mst_fault}
+use Rattle.sercos_service_master.specs.Begun.{Said}
+use Rattle.sercos_drive.specs.Heard.{mst_in, single_in, joint_in}
 use Rattle.sercos_law_run.proofs.Views.DriveSame.{said_to}
 
 -- THE MST
-mst_sound : (p : ℕ) → p ≤ 4 → mst_fault (all_drives ∷ p ∷ []) ≡ None
+pub mst_sound : (p : ℕ) → p ≤ 4 → mst_fault (all_drives ∷ p ∷ []) ≡ None
 unfolding mst_fault head_fault
 mst_sound p low = grind (arith, nat_tests, low)
 

@@ -1,29 +1,9 @@
 -- What the master hears of a drive's AT is what the drive said.
-use Rattle.std.proofs.Common.{◌≡◌, ℕ, ◌<◌, ◌≤◌, Bool, true, false, ◌&&◌, ◌||◌, List, [], ◌∷◌, length, Option, Some, None, refl, sym, ◌∙◌, ap, subst, arith, if◌then◌else◌}
-use Rattle.std.specs.Prelude.{nat_le, slice_index, IfSome, unwrap_or}
-use Rattle.std.proofs.lemmas.Bool.Decides.{nat_tests}
+use Rattle.sercos_law_run.proofs.Words.{◌≡◌, ℕ, ◌<◌, ◌≤◌, Bool, true, false, ◌&&◌, ◌||◌, List, [], ◌∷◌, length, Option, Some, None, refl, sym, ◌∙◌, ap, subst, arith, if◌then◌else◌, nat_le, slice_index, IfSome, unwrap_or, nat_tests, status_of, word_at, Job, DriveView, RingView, is_ring, shown_by, channel_says, DriveCall, Moment, phase_in, cycle_in, has_mst, has_taken, records_in, blocks_in, commands_in, annals, Said, said, said_in, sends, values_in, Known, known_of, Past, Call, place_of, Carry, Heard, heard, passage, drive_at, station_of, with_at, at_calls, looks_back, heard_last, IsSaid}
 use Rattle.sercos_telegram.specs.declared.layout.Kind.TheVariants as kinds
-use Rattle.sercos_telegram.specs.Words.{status_of}
-use Rattle.sercos_telegram.specs.Spells.{word_at}
-use Rattle.sercos_step.specs.declared.request.Job.{Job}
-use Rattle.sercos_block.specs.Views.{DriveView, RingView}
-use Rattle.sercos_block.specs.Rings.{is_ring}
-use Rattle.sercos_service_drive.specs.Says.{shown_by, channel_says}
 use Rattle.sercos_service_master.specs.Calls as channel
-use Rattle.sercos_drive.specs.Heard.{DriveCall}
-use Rattle.sercos_drive.specs.Moments.{Moment, phase_in, cycle_in, has_mst, has_taken, records_in, blocks_in, commands_in}
-use Rattle.sercos_drive.specs.Annals.{annals}
-use Rattle.sercos_drive.specs.Says.{Said, said, said_in, sends, values_in}
-use Rattle.sercos_seat.specs.Ring.{Known, known_of}
-use Rattle.sercos_master.specs.Annals.{Past, Call, place_of}
-use Rattle.sercos_script.specs.Links.{Carry}
-use Rattle.sercos_law_channel.specs.Handshake.Views.{Heard}
-use Rattle.sercos_law_run.specs.Journal.Arrivals.{heard, passage}
-use Rattle.sercos_law_run.specs.Journal.Runs.{drive_at, station_of, with_at, at_calls, looks_back}
-use Rattle.sercos_law_run.specs.Views.RingViews.{heard_last}
 use Rattle.sercos_law_run.proofs.Views.MasterSame.{HasHeard, Nothing, One, AfterAts, ats_next}
 use Rattle.sercos_law_run.proofs.Views.Members.{AreHeardAs, place_is}
-use Rattle.sercos_law_run.specs.Views.Spelled.{IsSaid}
 use Rattle.sercos_law_run.proofs.Views.Codecs.{at_clear}
 
 -- all ATs of a cycle

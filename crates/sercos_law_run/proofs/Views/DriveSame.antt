@@ -1,19 +1,8 @@
 -- What a drive keeps of its calls is what the views of its cycles give.
-use Rattle.std.proofs.Common.{◌≡◌, ℕ, ◌+◌, Bool, true, false, ◌&&◌, ◌||◌, List, [], ◌∷◌, Option, Some, None, refl, sym, ◌∙◌, ap, ap₂, if◌then◌else◌}
-use Rattle.std.specs.Prelude.{◌==◌, nat_le, is_some, option_map}
-use Rattle.sercos_block.specs.declared.block.Block.{Block}
-use Rattle.sercos_block.specs.Views.{DriveView}
-use Rattle.sercos_block.specs.Stores.{store_of}
-use Rattle.sercos_service_drive.specs.Log.{Processed}
-use Rattle.sercos_service_drive.specs.Writes.{Write, with_added, added_on, blocks_with}
-use Rattle.sercos_service_master.specs.Begun.{Said, said_by}
-use Rattle.sercos_drive.specs.declared.hearing.Told.{Told}
-use Rattle.sercos_drive.specs.Heard.{DriveCall, mst_got}
-use Rattle.sercos_drive.specs.Moments.{Moment, AtMst, phase_in, cycle_in, has_mst, has_missed, records_in, writes_in, blocks_in, blocks_after, write_in, with_record as with_record_in, commands_in}
-use Rattle.sercos_drive.specs.Annals.{annals, may_rise, stands_in, takes, processed_in, ends_in, mdt_moment}
-use Rattle.sercos_law_channel.specs.Handshake.Views.{View, Standing, afresh, moved, stood_from, got_in, takes_in, standing_after, record_in, processed_of, with_record, kept_in_phase, kept_unless}
-use Rattle.sercos_law_channel.specs.Handshake.WholeRun.{write_of}
-use Rattle.sercos_law_run.specs.Journal.Runs.{with_restart}
+use Rattle.sercos_law_run.proofs.Words.{◌≡◌, ℕ, ◌+◌, Bool, true, false, ◌&&◌, ◌||◌, List, [], ◌∷◌, Option, Some, None, refl, sym, ◌∙◌, ap, ap₂, if◌then◌else◌, ◌==◌, nat_le, is_some, option_map, Block, DriveView, store_of, Processed, Write, with_added, added_on, blocks_with, said_by, Told, DriveCall, mst_got, Moment, AtMst, phase_in, cycle_in, has_mst, has_missed, records_in, writes_in, blocks_in, blocks_after, write_in, commands_in, annals, may_rise, stands_in, takes, ends_in, mdt_moment, View, Standing, afresh, moved, stood_from, got_in, takes_in, standing_after, record_in, processed_of, with_record, kept_in_phase, kept_unless, write_of, with_restart}
+use Rattle.sercos_service_master.specs.Begun.{Said}
+use Rattle.sercos_drive.specs.Moments.{with_record as with_record_in}
+use Rattle.sercos_drive.specs.Annals.{processed_in}
 
 -- the two words of a record, as what the master says
 abbrev pub said_to : Told → Said

@@ -1,24 +1,11 @@
 -- What the master keeps of a channel is what the views of its cycles give.
-use Rattle.std.proofs.Common.{◌≡◌, inl, inr, ℕ, ◌+◌, ◌<◌, ◌≤◌, Bool, true, false, not, ◌&&◌, List, [], ◌∷◌, Option, Some, None, refl, sym, ◌∙◌, ap, ap₂, subst, arith, if◌then◌else◌}
-use Rattle.std.specs.Prelude.{◌==◌, is_some, is_none, IsSome, IfSome, slice_index}
-use Rattle.std.proofs.lemmas.Bool.{and_parts, cases_eq, false≢true, leb-true, not-true}
-use Rattle.std.proofs.lemmas.Bool.Decides.{nat_tests}
-use Rattle.sercos_telegram.specs.Words.{status_of}
-use Rattle.sercos_telegram.specs.Spells.{word_at}
-use Rattle.sercos_step.specs.declared.request.Request.{Request}
-use Rattle.sercos_service_master.specs.Begun.{Begun, Said, open_in, master_says}
-use Rattle.sercos_service_master.specs.Calls.{Hear, Send, begun_by}
+use Rattle.sercos_law_run.proofs.Words.{◌≡◌, inl, inr, ℕ, ◌+◌, ◌<◌, ◌≤◌, Bool, true, false, not, ◌&&◌, List, [], ◌∷◌, Option, Some, None, refl, sym, ◌∙◌, ap, ap₂, subst, arith, if◌then◌else◌, ◌==◌, is_some, is_none, IsSome, IfSome, slice_index, and_parts, cases_eq, false≢true, leb-true, not-true, nat_tests, status_of, word_at, Request, Begun, open_in, master_says, Hear, Send, begun_by, Report, Known, Task, Past, place_of, is_taken, after_taken, after_at_of, after_at, with_begin, settled, is_sent_to, addressed_in, ready_to_send, after_mdt, fall_of, is_done, is_done_in, next_phase, goes_on, new_epoch, still_waiting, after_end, after_restart, is_awaited, leaves, begins_next, none_of, same_place, Heard, View, command, command_in, with_heard, with_begun, unless_restart, epoch_begun, begun_in, IsShown, heard_last, told_to, is_told, request_of}
+use Rattle.sercos_service_master.specs.Begun.{Said}
 use Rattle.sercos_service_master.specs.Calls as channel
-use Rattle.sercos_seat.specs.Channel.{Report}
-use Rattle.sercos_seat.specs.Ring.{Known, Task}
-use Rattle.sercos_master.specs.Annals.{Past, with_at, place_of, is_taken, after_taken, after_at_of, after_at, begins, with_begin, begun, settled, is_sent_to, addressed_in, ready_to_send, after_mdt, fall_of, is_done, is_done_in, next_phase, goes_on, new_epoch, still_waiting, after_end, after_restart, is_awaited}
+use Rattle.sercos_master.specs.Annals.{with_at, begins}
 use Rattle.sercos_master.specs.Annals as master
-use Rattle.sercos_master.proofs.Configured.{leaves}
-use Rattle.sercos_master.proofs.Keeping.{begins_next, none_of}
-use Rattle.sercos_law_channel.specs.Handshake.Views.{Heard, View}
-use Rattle.sercos_law_channel.specs.Handshake.Epochs.{command, command_in, whole_row, with_heard, with_begun, unless_restart, epoch_begun, begun_in}
-use Rattle.sercos_law_channel.specs.Handshake.Runs.{IsShown, IsNext}
-use Rattle.sercos_law_run.specs.Views.RingViews.{heard_last, told_to, is_told, request_of}
+use Rattle.sercos_law_channel.specs.Handshake.Epochs.{whole_row}
+use Rattle.sercos_law_channel.specs.Handshake.Runs.{IsNext}
 
 -- At the end of a cycle, and at the start of one after a restart: the phase commanded next, what was begun on the channel, and in phase
 -- 0 how many MSTs in a row came back whole. Nothing was heard since the last cycle ended.
@@ -55,9 +42,6 @@ pub record AfterAts (s : Known) (k : ℕ) (such : List ℕ → Type 0) (p q : Pa
 
 pub ats_none : (s : Known) (k : ℕ) (such : List ℕ → Type 0) (p : Past) → AfterAts s k such p p
 ats_none s k such p = record { has = Nothing refl; phase_is = refl; whole_is = refl; turns_are = refl }
-
-same_place : (k : ℕ) → (k == k) ≡ true
-same_place k = grind (arith, nat_tests)
 
 not_taken : (a b : Bool) (heard : Bool) → heard ≡ true → (a && (not heard && b)) ≡ true → ⊥
 not_taken true b true is taken = false≢true taken

@@ -1,22 +1,11 @@
 -- The drives of a ring by their places and addresses, and whose AT a content is.
-use Rattle.std.proofs.Common.{◌≡◌, ◌⊎◌, inl, inr, ℕ, zero, suc, ◌+◌, ◌<◌, Bool, true, false, List, [], ◌∷◌, length, Option, Some, None, refl, sym, ◌∙◌, ap, subst, arith, if◌then◌else◌, map}
-use Rattle.std.specs.Prelude.{nat_lt, slice_index, slice_index_or}
-use Rattle.std.proofs.lemmas.Bool.Decides.{nat_tests}
+use Rattle.sercos_law_run.proofs.Words.{◌≡◌, ◌⊎◌, inl, inr, ℕ, zero, suc, ◌+◌, ◌<◌, Bool, true, false, List, [], ◌∷◌, length, Option, Some, None, refl, sym, ◌∙◌, ap, subst, arith, if◌then◌else◌, map, nat_lt, slice_index, slice_index_or, nat_tests, DriveView, RingView, is_ring, DriveCall, Said, drive_says, MemberView, member, member_of, no_member, known_of, first_found, mapped_length, place_of, Passage, Carry, heard, passage, unseen_at, no_drive, drive_at, station_of, with_said, said_below, contents, unseen_ats, IsSaid}
 use Rattle.sercos_telegram.specs.declared.layout.Kind.TheVariants as kinds
-use Rattle.sercos_block.specs.Views.{DriveView, RingView}
-use Rattle.sercos_block.specs.Rings.{is_ring}
-use Rattle.sercos_drive.specs.Heard.{DriveCall}
-use Rattle.sercos_drive.specs.Says.{Said, drive_says}
-use Rattle.sercos_seat.specs.Ring.{MemberView, member, member_of, no_member, known_of}
-use Rattle.sercos_master.proofs.Keeping.{IsFirst, first_found}
-use Rattle.sercos_master.specs.Annals.{place_of}
-use Rattle.sercos_script.specs.declared.link.Passage.{Passage}
-use Rattle.sercos_script.specs.Links.{Carry}
-use Rattle.sercos_law_run.specs.Journal.Arrivals.{heard, passage, unseen_at}
-use Rattle.sercos_law_run.specs.Journal.Runs.{no_drive, drive_at, station_of, inserted, with_said, said_below, contents, unseen_ats}
+use Rattle.sercos_master.proofs.Keeping.{IsFirst}
+use Rattle.sercos_law_run.specs.Journal.Runs.{inserted}
 use Rattle.sercos_law_run.proofs.Journal.ClearLemmas.{heard-clear}
 use Rattle.sercos_law_run.proofs.Journal.StationLemmas.{station_found, drives_so}
-use Rattle.sercos_law_run.specs.Views.Spelled.{IsWhole, IsSaid}
+use Rattle.sercos_law_run.specs.Views.Spelled.{IsWhole}
 
 -- the master knows each drive by its place
 index_map : (drives : List DriveView) (k : ℕ) → slice_index_or (map member_of drives) k no_member ≡ member_of (slice_index_or drives k no_drive)
@@ -27,12 +16,14 @@ index_map (d ∷ drives) (suc k) = index_map drives k
 pub member_is : (r : RingView) (k : ℕ) → member (known_of r) k ≡ member_of (drive_at r k)
 member_is r k = index_map r.drives k
 
-length_map : (drives : List DriveView) → length (map member_of drives) ≡ length drives
-length_map [] = refl
-length_map (d ∷ drives) = ap suc (length_map drives)
-
 pub members_count : (r : RingView) → length (known_of r).drives ≡ length r.drives
-members_count r = length_map r.drives
+members_count r = mapped_length r.drives
+
+pub in_ring : (r : RingView) (k : ℕ) → k < length (known_of r).drives → k < length r.drives
+in_ring r k below = let count = members_count r in omega (arith, below, count)
+
+pub in_known : (r : RingView) (k : ℕ) → k < length r.drives → k < length (known_of r).drives
+in_known r k below = let count = members_count r in omega (arith, below, count)
 
 -- no two drives have one address
 pub same_drive : (r : RingView) (i k : ℕ) → is_ring r ≡ true → i < length r.drives → k < length r.drives → (drive_at r i).address ≡ (drive_at r k).address → i ≡ k

@@ -1,34 +1,14 @@
 -- What a drive gets of the MDT is what the master tells it, or nothing.
-use Rattle.std.proofs.Common.{◌≡◌, ◌⊎◌, inl, inr, ℕ, zero, suc, ◌+◌, ◌<◌, ◌≤◌, Bool, true, false, not, ◌&&◌, List, [], ◌∷◌, ◌++◌, length, Option, Some, None, refl, sym, ◌∙◌, ap, subst, arith, if◌then◌else◌, append_assoc}
-use Rattle.std.specs.Prelude.{◌==◌, nat_le, nat_lt, slice_index, slice_index_or, is_some, is_none, option_map}
-use Rattle.std.specs.Bool.{then_some}
-use Rattle.std.specs.Option.{option_or}
-use Rattle.std.proofs.lemmas.Bool.{cases_eq, and_parts}
-use Rattle.std.proofs.lemmas.Bool.Decides.{nat_tests}
-use Rattle.sercos_telegram.specs.Spells.{all_drives}
-use Rattle.sercos_telegram.specs.Faults.{head_fault, joint_fault}
-use Rattle.sercos_block.specs.declared.block.Block.{Block}
-use Rattle.sercos_block.specs.Views.{DriveView, RingView}
-use Rattle.sercos_timing.specs.Valid.{is_address}
-use Rattle.sercos_block.specs.Rings.{is_ring, is_drive, are_drives, are_drive_numbers}
-use Rattle.sercos_command.specs.Checks.{number_at, carried_len}
-use Rattle.sercos_service_master.specs.Begun.{Said, master_says}
-use Rattle.sercos_service_master.specs.Calls.{begun_by}
-use Rattle.sercos_timing.specs.Views.{PlanView}
-use Rattle.sercos_drive.specs.declared.hearing.Told.{Told}
-use Rattle.sercos_drive.specs.Heard.{mdt_got, joint_in, single_in, lies_within}
-use Rattle.sercos_seat.specs.Agenda.{mdt_attributes}
-use Rattle.sercos_seat.specs.Records.{record_said, values_said}
-use Rattle.sercos_seat.specs.Ring.{Known, MemberView, member, known_of}
-use Rattle.sercos_master.specs.Annals.{Past, outcomes}
-use Rattle.sercos_master.specs.Says.{Sent, said_to, record_to, records_from, idle, single, joint, mdt_said}
-use Rattle.sercos_law_run.specs.Journal.Runs.{no_drive, drive_at}
+use Rattle.sercos_law_run.proofs.Words.{◌≡◌, inl, inr, ℕ, zero, suc, ◌+◌, ◌<◌, ◌≤◌, Bool, true, false, not, ◌&&◌, List, [], ◌∷◌, ◌++◌, length, Option, Some, None, refl, sym, ◌∙◌, ap, subst, arith, if◌then◌else◌, append_assoc, ◌==◌, nat_le, nat_lt, slice_index, slice_index_or, is_some, is_none, option_map, then_some, option_or, cases_eq, and_parts, nat_tests, all_drives, joint_fault, Block, DriveView, RingView, is_address, is_ring, number_at, carried_len, master_says, begun_by, PlanView, Told, mdt_got, lies_within, mdt_attributes, record_said, values_said, Known, MemberView, member, known_of, Past, outcomes, Sent, said_to, record_to, records_from, idle, single, joint, mdt_said, no_drive, drive_at, told_to, IsSayable}
+use Rattle.std.proofs.lemmas.Bool.{and_right}
+use Rattle.sercos_telegram.specs.Faults.{head_fault}
+use Rattle.sercos_block.specs.Rings.{is_drive, are_drives, are_drive_numbers}
+use Rattle.sercos_service_master.specs.Begun.{Said}
+use Rattle.sercos_drive.specs.Heard.{joint_in, single_in}
 use Rattle.sercos_law_run.proofs.Journal.StationLemmas.{drives_so}
-use Rattle.sercos_law_run.specs.Views.RingViews.{told_to}
 use Rattle.sercos_law_run.proofs.Views.Codecs.{single_clear, single_other, joint_clear}
 use Rattle.sercos_law_run.proofs.Views.DriveSame.{said_to as said_by_told}
 use Rattle.sercos_law_run.proofs.Views.Members.{member_is, members_count, same_drive}
-use Rattle.sercos_law_run.specs.Views.Spelled.{IsSayable}
 
 -- the address of a drive isn't one of the master's
 address_in : (before drives : List DriveView) (k : ℕ) → are_drives before drives ≡ true → k < length drives → is_address (slice_index_or drives k no_drive).address ≡ true
@@ -48,10 +28,6 @@ beyond [] i past = refl
 beyond (d ∷ drives) zero past = absurd (omega (arith, past))
 beyond (d ∷ drives) (suc i) past = beyond drives i (omega (arith, past))
 
-and_never : (a : Bool) → (a && false) ≡ false
-and_never true = refl
-and_never false = refl
-
 -- a content with another address has a fault
 fault_later : {A : Type 0} (b : Bool) (x y : A) → is_none (option_or (then_some b x) (Some y)) ≡ false
 fault_later true x y = refl
@@ -67,7 +43,7 @@ unfolding joint_in
 single_late said address other phase blocks late off =
     let is_late : nat_le 3 phase ≡ true = grind (arith, nat_tests, late) in
     let wrong : is_none (joint_fault (number_at blocks 10) (other ∷ record_said said [])) ≡ false = wrong_head (1 + number_at blocks 10) all_drives (other ∷ record_said said []) off in
-    rw (is_late, wrong, and_never (lies_within (number_at blocks 10) (number_at blocks 9) (carried_len blocks 24))) refl
+    rw (is_late, wrong, and_right (lies_within (number_at blocks 10) (number_at blocks 9) (carried_len blocks 24)) false refl) refl
 
 joint_early : (address phase : ℕ) (blocks : List Block) (content : List ℕ) → phase ≤ 2 → (slice_index content 0 == address) ≡ false → mdt_got address phase blocks (Some content) ≡ None
 unfolding single_in
@@ -152,10 +128,6 @@ joint_got s p k address phase blocks below late (low, small) a =
     (omega (arith, place)) (omega (arith, place)) a.within (omega (arith, long))
 
 -- WHAT COMES of the MDT is what was sent, or nothing; so the drive gets what it is told, or nothing.
-told_if : (came : Bool) (o : Option Said) → (if came then o else None) ≡ o ⊎ ((if came then o else None) ≡ None)
-told_if true o = inl refl
-told_if false o = inr refl
-
 -- either nothing is got, or what is told
 pub data GotTold (got : Option Told) (told : Option Said) : Type 0 where
   NothingGot : got ≡ None → GotTold got told

@@ -1,47 +1,19 @@
 -- In a run of a ring in which nothing is unseen, each drive with its channel makes a run of views.
-use Rattle.std.proofs.Common.{◌≡◌, ◌⊎◌, inl, inr, ℕ, zero, suc, ◌+◌, ◌<◌, ◌≤◌, Bool, true, false, List, [], ◌∷◌, length, Option, Some, None, refl, sym, ◌∙◌, ap, ap₂, subst, arith, if◌then◌else◌}
-use Rattle.std.specs.Prelude.{slice_index, is_some, IsSome, IfSome}
-use Rattle.std.proofs.lemmas.Bool.{cases_eq}
+use Rattle.sercos_law_run.proofs.Words.{◌≡◌, ◌⊎◌, inl, inr, ℕ, zero, suc, ◌+◌, ◌<◌, ◌≤◌, Bool, true, false, List, [], ◌∷◌, length, Option, Some, None, refl, sym, ◌∙◌, ap, ap₂, subst, arith, if◌then◌else◌, slice_index, is_some, IsSome, IfSome, cases_eq, status_of, word_at, mst_content, Request, Job, RingView, is_ring, store_of, Processed, channel_says, Begun, open_in, answers_it, master_says, begun_by, PlanView, mst_got, mdt_got, phase_in, blocks_in, commands_in, annals, CycleView, known_of, Past, Call, is_done, past, Sent, idle, mdt_said, Carry, Restarts, Heard, View, standing, kept_in, since_reset, command, command_in, with_heard, with_begun, unless_restart, epoch_begun, IsShown, all_writes, store_in, heard, passage, sum_below, unseen_at, mst_in, ats_in, mdt_in, drive_at, given_before, given_mst, master_calls, mdt_heard, content_of, contents, said_below, unseen_mst, unseen_mdt, unseen_ats, looks_back, at_start, behind_mst, behind_ats, behind_mdt, heard_last, told_to, after_mst, view_of, views_of, IsSaid, IsSpelled, begins_empty}
 use Rattle.sercos_telegram.specs.declared.layout.Kind.TheVariants as kinds
-use Rattle.sercos_telegram.specs.Words.{status_of}
-use Rattle.sercos_telegram.specs.Spells.{word_at, mst_content}
-use Rattle.sercos_step.specs.declared.request.Request.{Request}
-use Rattle.sercos_step.specs.declared.request.Job.{Job}
-use Rattle.sercos_block.specs.Views.{RingView}
-use Rattle.sercos_block.specs.Rings.{is_ring}
-use Rattle.sercos_block.specs.Stores.{store_of}
-use Rattle.sercos_service_drive.specs.Log.{Processed}
-use Rattle.sercos_service_drive.specs.Says.{channel_says}
-use Rattle.sercos_service_master.specs.Begun.{Begun, open_in, answers_it, master_says}
-use Rattle.sercos_service_master.specs.Calls.{begun_by}
-use Rattle.sercos_timing.specs.Views.{PlanView}
-use Rattle.sercos_drive.specs.Heard.{mst_got, mdt_got}
-use Rattle.sercos_drive.specs.Moments.{phase_in, blocks_in, commands_in}
-use Rattle.sercos_drive.specs.Annals.{annals}
-use Rattle.sercos_trace.specs.Views.{CycleView}
-use Rattle.sercos_seat.specs.Ring.{known_of}
-use Rattle.sercos_master.specs.Annals.{Past, Call, is_done, past}
 use Rattle.sercos_master.specs.Annals as master
-use Rattle.sercos_master.specs.Says.{Sent, idle, mdt_said}
-use Rattle.sercos_script.specs.Links.{Carry, Restarts}
-use Rattle.sercos_law_channel.specs.Handshake.Views.{Heard, View, standing, before_mst as standing_before, kept_in, since_reset}
-use Rattle.sercos_law_channel.specs.Handshake.Epochs.{command, command_in, whole_row, with_heard, with_begun, unless_restart, epoch_begun}
-use Rattle.sercos_law_channel.specs.Handshake.Runs.{IsShown, IsRun}
-use Rattle.sercos_law_channel.specs.Handshake.WholeRun.{all_writes}
-use Rattle.sercos_law_channel.specs.Handshake.Values.{store_in}
-use Rattle.sercos_law_run.specs.Journal.Arrivals.{heard, passage, sum_below, unseen_at}
-use Rattle.sercos_law_run.specs.Journal.Records.{mst_in, ats_in, mdt_in}
-use Rattle.sercos_law_run.specs.Journal.Runs.{drive_at, given_before, given_mst, master_calls, mdt_heard, content_of, contents, said_below, unseen_mst, unseen_mdt, unseen_ats, looks_back, IsNext as IsNextCycle}
+use Rattle.sercos_law_channel.specs.Handshake.Views.{before_mst as standing_before}
+use Rattle.sercos_law_channel.specs.Handshake.Epochs.{whole_row}
+use Rattle.sercos_law_channel.specs.Handshake.Runs.{IsRun}
+use Rattle.sercos_law_run.specs.Journal.Runs.{IsNext as IsNextCycle}
 use Rattle.sercos_law_run.proofs.Journal.RunLemmas.{ats_in-said, mdt_in-said}
-use Rattle.sercos_law_run.specs.Views.RingViews.{at_start, behind_mst, behind_ats, behind_mdt, heard_last, told_to, before_mst, after_mst, view_of, views_of}
+use Rattle.sercos_law_run.specs.Views.RingViews.{before_mst}
 use Rattle.sercos_law_run.proofs.Views.DriveSame.{IsSame, same_first, same_restarted, standing_at, same_at_mst, same_at_mdt}
 use Rattle.sercos_law_run.proofs.Views.MasterSame.{IsSame as IsSameMaster, StandsAs, begun_cycle, same_started, ats_none, IsBehind, is_behind, IsLed, next_led, same_ended}
 use Rattle.sercos_law_run.proofs.Views.Members.{all_said, heard_whole, AreHeardAs, heard_as}
-use Rattle.sercos_law_run.specs.Views.Spelled.{IsSaid, IsSpelled}
 use Rattle.sercos_law_run.proofs.Views.Codecs.{mst_clear}
 use Rattle.sercos_law_run.proofs.Views.Coupled.{ats_heard, heard_one, Speaks, speaks}
 use Rattle.sercos_law_run.proofs.Views.Received.{Agrees, GotTold, NothingGot, got_or_none, mdt_told}
-use Rattle.sercos_law_channel.proofs.Cited.{begins_empty}
 
 -- What the drive at a place and its channel keep of a journal is what its views give, and these are a run.
 pub record Sees (r : RingView) (jobs : List Job) (carry : Carry) (restarts : Restarts) (k : ℕ) (j : List CycleView) : Type 0 where
@@ -92,11 +64,11 @@ pub no_answer : (b : Bool) (begun : List Begun) → (if b then begun else begun)
 no_answer true begun = refl
 no_answer false begun = refl
 
-nothing_heard : (o : Option Heard) → with_heard o [] ≡ []
+pub nothing_heard : (o : Option Heard) → with_heard o [] ≡ []
 nothing_heard None = refl
 nothing_heard (Some a) = no_answer (answers_it [] a.status) []
 
-no_request : (o : Option Request) → (IsSome o → ⊥) → o ≡ None
+pub no_request : (o : Option Request) → (IsSome o → ⊥) → o ≡ None
 no_request None never = refl
 no_request (Some r) never = absurd (never refl)
 

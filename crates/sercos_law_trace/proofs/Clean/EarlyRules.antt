@@ -1,15 +1,5 @@
 -- The telegrams of phases 0 to 2 keep the rules.
-use Rattle.std.proofs.Common.{◌≡◌, ℕ, ◌*◌, ◌<◌, ◌≤◌, ◌==◌, nat_lt, nat_le, Bool, true, false, not, ◌&&◌, ◌||◌, if◌then◌else◌, List, [], ◌∷◌, length, Option, Some, None, refl, sym, ◌∙◌, ap, subst, arith}
-use Rattle.std.specs.Prelude.{slice_index}
-use Rattle.std.proofs.lemmas.Bool.{and_from, eq-eqb}
-use Rattle.std.proofs.lemmas.Bool.Decides.{nat_tests}
-use Rattle.sercos_timing.specs.Limits.{early_at, early_mdt}
-use Rattle.sercos_timing.specs.Views.{WishesView}
-use Rattle.sercos_drive.specs.Says.{Said}
-use Rattle.sercos_master.specs.Says.{Sent}
-use Rattle.sercos_check.specs.declared.marks.Command.{Command}
-use Rattle.sercos_check.specs.Seen.{is_drive}
-use Rattle.sercos_law_run.specs.Journal.Runs.{sent_at, sent_mst}
+use Rattle.sercos_law_trace.proofs.Words.{◌≡◌, ℕ, ◌*◌, ◌<◌, ◌≤◌, ◌==◌, nat_lt, nat_le, Bool, true, false, not, ◌&&◌, ◌||◌, if◌then◌else◌, List, [], ◌∷◌, length, Option, Some, None, refl, sym, ◌∙◌, ap, subst, arith, slice_index, and_from, eq-eqb, nat_tests, early_at, early_mdt, WishesView, Said, Sent, Command, is_drive, sent_at, sent_mst}
 use Rattle.sercos_law_trace.proofs.Clean.RuleLemmas.{none_broken, broken_by, seen_of, mdt_at, AreRuled}
 use Rattle.sercos_law_trace.proofs.Clean.SeenLemmas.{Each, EachAfter, each_map, and_false, no_mdt_seen, HasOther, none_from, later_start, IsFramed, frame_kept, same_start}
 

@@ -1,43 +1,12 @@
 -- The numbers of the telegrams of a run fit the fields of their lines, whatever arrives.
-use Rattle.std.proofs.Common.{◌≡◌, ◌⊎◌, inl, inr, ℕ, pos, zero, suc, ◌+◌, ◌*◌, ◌<◌, ◌≤◌, ◌==◌, Bool, true, false, List, [], ◌∷◌, ◌++◌, length, Option, Some, None, option_map, unwrap_or, refl, sym, subst, arith, if◌then◌else◌}
-use Rattle.std.proofs.lemmas.Bool.{cond_both}
-use Rattle.std.specs.Prelude.{nat_le, slice_index}
-use Rattle.std.specs.List.{All}
-use Rattle.std.proofs.lemmas.List.Elements.{All-nil, All-cons}
+use Rattle.sercos_law_trace.proofs.Words.{◌≡◌, ◌⊎◌, inl, inr, ℕ, pos, zero, suc, ◌+◌, ◌*◌, ◌<◌, ◌≤◌, ◌==◌, Bool, true, false, List, [], ◌∷◌, ◌++◌, length, Option, Some, None, option_map, unwrap_or, refl, sym, subst, arith, if◌then◌else◌, cond_both, nat_le, slice_index, All, All-nil, All-cons, wire_bits, frame_of, Kind, mst_content, PlanView, Job, Block, find_block, IsStore, RingView, types, phase_in, blocks_in, Said, start_in, CycleView, Known, IsKnown, known_of, tasks_for, Past, IsPlanned, outcomes, Sent, said_to, idle, single, joint, mdt_said, Carry, Restarts, IsOpened, drive_at, given_mst, begins, middle, said_below, start_before, sent_at, sent_mst, sent_mdt, ats_said, IsRun, at_start, behind_mdt, after_mst, sent_by, IsContent, address_of, at_content, mdt_whole, mst_whole, phase_low, plan_words, s_known, first_store, FitsLine, RunsFitLines, length-IsFrame, is_framed, keeps_within, is_planned}
 use Rattle.sercos_model.specs.Bits.{AreBytes}
-use Rattle.sercos_model.specs.Frames.{wire_bits}
-use Rattle.sercos_hdlc.specs.Stuffed.{frame_of}
-use Rattle.sercos_telegram.specs.declared.layout.Kind.{Kind}
-use Rattle.sercos_telegram.specs.Spells.{mst_content}
-use Rattle.sercos_timing.specs.Views.{PlanView}
 use Rattle.sercos_text.specs.Templates.{IsSmall}
-use Rattle.sercos_step.specs.declared.request.Job.{Job}
-use Rattle.sercos_block.specs.declared.block.Block.{Block}
-use Rattle.sercos_block.specs.Stores.{find_block, IsStore}
-use Rattle.sercos_block.specs.Views.{RingView}
-use Rattle.sercos_block.proofs.TypeLemmas.{types}
 use Rattle.sercos_command.specs.Checks.{number_at}
-use Rattle.sercos_drive.specs.Moments.{phase_in, blocks_in}
-use Rattle.sercos_drive.specs.Says.{Said, start_in}
 use Rattle.sercos_service_master.specs.Begun.{Said as Told}
-use Rattle.sercos_trace.specs.Views.{CycleView}
-use Rattle.sercos_seat.specs.Ring.{Known, IsKnown, known_of, tasks_for}
-use Rattle.sercos_master.specs.Annals.{Past, IsPlanned, outcomes}
-use Rattle.sercos_master.specs.Says.{Sent, said_to, idle, single, joint, mdt_said}
-use Rattle.sercos_script.specs.Links.{Carry, Restarts}
-use Rattle.sercos_law_run.specs.Held.Opened.{IsOpened}
-use Rattle.sercos_law_run.specs.Journal.Runs.{drive_at, given_mst, begins, middle, said_below, start_before, sent_at, sent_mst, sent_mdt, ats_said, IsRun}
-use Rattle.sercos_law_run.specs.Views.RingViews.{at_start, behind_mdt, after_mst}
-use Rattle.sercos_law_run.proofs.Theorems.{sent_by, IsContent, address_of, at_content, mdt_whole, mst_whole, phase_low, plan_words, s_known, first_store}
-use Rattle.sercos_replay.specs.Traced.{FitsLine}
-use Rattle.sercos_law_trace.specs.Clean.Ruled.{RunsFitLines}
 use Rattle.sercos_law_trace.proofs.Clean.RuleLemmas.{mdt_at}
 use Rattle.sercos_law_trace.proofs.Clean.SaidLemmas.{each_said}
 use Rattle.sercos_law_trace.proofs.Clean.SeenLemmas.{Each}
-use Rattle.sercos_hdlc.proofs.FramingLemmas.{length-IsFrame}
-use Rattle.sercos_law_run.proofs.Cited.{is_framed}
-use Rattle.sercos_law_run.proofs.Typed.Spelled.{keeps_within}
-use Rattle.sercos_master.proofs.Planned.{is_planned}
 
 small_start : (n : ℕ) → n ≤ 2147483647 → IsSmall (pos n)
 unfolding IsSmall

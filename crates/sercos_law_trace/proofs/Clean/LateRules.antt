@@ -1,22 +1,5 @@
 -- The telegrams of phases 3 and 4 keep the rules.
-use Rattle.std.proofs.Common.{◌≡◌, ℕ, ℤ, pos, ◌+◌, ◌*◌, ◌≤◌, ◌+ℤ◌, ◌==◌, nat_lt, nat_le, Bool, true, false, not, cond, ◌&&◌, ◌||◌, if◌then◌else◌, List, [], ◌∷◌, length, max, Some, None, is_none, option_map, refl, ◌∙◌, ap, arith}
-use Rattle.std.specs.Prelude.{slice_index}
-use Rattle.std.specs.List.{list_all, find}
-use Rattle.std.specs.Int.Signed.{le_z}
-use Rattle.std.proofs.lemmas.Bool.{and_from, eq-eqb, le-leb}
-use Rattle.std.proofs.lemmas.Bool.Decides.{nat_tests}
-use Rattle.sercos_hdlc.specs.Stuffed.{frame_of}
-use Rattle.sercos_telegram.specs.Faults.{joint_fault}
-use Rattle.sercos_timing.specs.Order.{record_bytes}
-use Rattle.sercos_timing.specs.Inequalities.{bound_9, greatest_tmtsy}
-use Rattle.sercos_timing.specs.Views.{WishesView}
-use Rattle.sercos_drive.specs.Says.{Said}
-use Rattle.sercos_master.specs.Says.{Sent}
-use Rattle.sercos_check.specs.declared.marks.Command.{Command}
-use Rattle.sercos_check.specs.Seen.{is_drive, wish_for, mark_of, is_at_of}
-use Rattle.sercos_check.specs.Rules.{is_after_gap, is_after_mark, is_after_transition}
-use Rattle.sercos_law_run.specs.Journal.Runs.{start_before, sent_at, sent_mst}
-use Rattle.sercos_law_run.proofs.Theorems.{ends_at_0}
+use Rattle.sercos_law_trace.proofs.Words.{◌≡◌, ℕ, ℤ, pos, ◌+◌, ◌*◌, ◌≤◌, ◌+ℤ◌, ◌==◌, nat_lt, nat_le, Bool, true, false, not, cond, ◌&&◌, ◌||◌, if◌then◌else◌, List, [], ◌∷◌, length, max, Some, None, is_none, option_map, refl, ◌∙◌, ap, arith, slice_index, list_all, find, le_z, and_from, eq-eqb, le-leb, nat_tests, frame_of, joint_fault, record_bytes, bound_9, greatest_tmtsy, WishesView, Said, Sent, Command, is_drive, wish_for, mark_of, is_at_of, is_after_gap, is_after_mark, is_after_transition, start_before, sent_at, sent_mst, ends_at_0}
 use Rattle.sercos_law_trace.proofs.Clean.RuleLemmas.{none_broken, broken_by, seen_of, mdt_at, AreRuled, newest_by}
 use Rattle.sercos_law_trace.proofs.Clean.SeenLemmas.{Each, EachAfter, each_map, and_false, not_asked, asked, no_mdt_seen, HasOther, none_from, later_start, IsFramed, frame_kept}
 

@@ -1,42 +1,17 @@
 -- The lines of a trace that are no telegrams pass a check of captures.
-use Rattle.std.proofs.Common.{◌≡◌, ℕ, ℤ, zero, suc, ◌<◌, ◌≤◌, Bool, true, false, List, [], ◌∷◌, ◌++◌, length, take, drop, reverse, Option, Some, None, refl, sym, ◌∙◌, ap, ap₂, subst, arith, if◌then◌else◌}
-use Rattle.std.specs.List.{All, flat_map}
-use mathlib.Core.Bool.{beq}
-use Rattle.std.proofs.lemmas.Grind.{flat_map-append, reverse_onto}
-use Rattle.std.proofs.lemmas.List.Elements.{All-head, All-tail, All-take, All-drop}
-use Rattle.sercos_telegram.specs.declared.layout.Kind.{Kind}
+use Rattle.sercos_law_trace.proofs.Words.{◌≡◌, ℕ, ℤ, zero, suc, ◌<◌, ◌≤◌, Bool, true, false, List, [], ◌∷◌, ◌++◌, length, take, drop, reverse, Option, Some, None, refl, sym, ◌∙◌, ap, ap₂, subst, arith, if◌then◌else◌, All, flat_map, beq, flat_map-append, reverse_onto, All-head, All-tail, All-take, All-drop, Kind, Outcome, WishesView, PlanView, Link, ChainView, Value, number, signed, bytes, LineKind, Line, Move, Totals, Stop, Fall, line_of, line_with, SentView, EventsView, CycleView, ReadsBack, sent_kind, sent_text, move_text, ended_text, outcome_text, plan_line, slot_text, slots_text, link_text, bound_text, chain_text, events_text, moves_text, cycle_text, end_text, Told, broken_rule, awaited_after, wishes_by, has_head, TellsFollowing, told, FitsLine, FitLines, told_after, told_in, KeepRules, FitsMove, FitsEnded, FitsSlot, FitsPlan, FitsLink, FitsChain, FitsStop, FitsFall, FitsEvents, FitsCycle, FitTotals}
 use Rattle.sercos_telegram.specs.declared.layout.Kind.TheVariants as telegram
-use Rattle.sercos_step.specs.declared.request.Outcome.{Outcome}
 use Rattle.sercos_step.specs.declared.request.Outcome.TheVariants as outcome
-use Rattle.sercos_timing.specs.Views.{WishesView, PlanView}
-use Rattle.sercos_plan.specs.declared.chain.Link.{Link}
-use Rattle.sercos_plan.specs.Views.{ChainView}
 use Rattle.sercos_text.specs.Tails.{tail_text, IsTail}
-use Rattle.sercos_text.specs.Templates.{Value, field_of, AreOf, IsPart, IsOf, part_left, numbers_in, signed_by, bytes_by}
-use Rattle.sercos_text.specs.Templates.Value.{number, signed, bytes}
-use Rattle.sercos_trace.specs.declared.kind.LineKind.{LineKind}
+use Rattle.sercos_text.specs.Templates.{field_of, AreOf, IsPart, IsOf, part_left, numbers_in, signed_by, bytes_by}
 use Rattle.sercos_trace.specs.declared.kind.LineKind.TheVariants as kind
-use Rattle.sercos_trace.specs.declared.reading.Line.{Line}
 use Rattle.sercos_trace.specs.declared.reading.Line.TheVariants as line
-use Rattle.sercos_trace.specs.declared.record.Move.{Move}
-use Rattle.sercos_trace.specs.declared.record.Totals.{Totals}
-use Rattle.sercos_trace.specs.declared.events.Stop.{Stop}
 use Rattle.sercos_trace.specs.declared.events.Stop.TheVariants as stop
-use Rattle.sercos_trace.specs.declared.events.Fall.{Fall}
 use Rattle.sercos_trace.specs.declared.events.Fall.TheVariants as fall
-use Rattle.sercos_trace.specs.Kinds.{template_of, tail_for, line_of, line_with}
-use Rattle.sercos_trace.specs.Views.{SentView, EventsView, CycleView}
-use Rattle.sercos_trace.specs.Lines.{line_by, ReadsBack}
-use Rattle.sercos_trace.specs.Texts.{sent_kind, sent_text, move_text, ended_text, outcome_text, plan_line, slot_text, slots_text, plan_text, link_text, bound_text, chain_text, stop_text, fall_text, events_text, moves_text, cycle_text, end_text}
+use Rattle.sercos_trace.specs.Kinds.{template_of, tail_for}
+use Rattle.sercos_trace.specs.Lines.{line_by}
+use Rattle.sercos_trace.specs.Texts.{plan_text, stop_text, fall_text}
 use Rattle.sercos_check.specs.declared.awaited.Awaited.TheVariants as awaited
-use Rattle.sercos_check.specs.Seen.{Told}
-use Rattle.sercos_check.specs.Rules.{broken_rule}
-use Rattle.sercos_check.specs.Shape.{awaited_after, wishes_by, has_head}
-use Rattle.sercos_check.specs.Tests.{TellsFollowing}
-use Rattle.sercos_check.specs.Verdicts.{told}
-use Rattle.sercos_replay.specs.Traced.{FitsLine, FitLines}
-use Rattle.sercos_law_trace.specs.Clean.Ruled.{told_after, told_in, KeepRules}
-use Rattle.sercos_law_trace.specs.Clean.Fields.{FitsMove, FitsEnded, FitsSlot, FitsPlan, FitsLink, FitsChain, FitsStop, FitsFall, FitsEvents, FitsCycle, FitTotals}
 use Rattle.sercos_law_trace.proofs.Clean.PassLemmas.{Leads, leads_none, leads_both, leads_all, line_for, with_passes, of_passes}
 
 -- After the head: these are the wishes, and these telegrams have come.

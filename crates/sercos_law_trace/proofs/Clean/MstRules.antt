@@ -1,15 +1,6 @@
 -- An MST keeps the rules.
-use Rattle.std.proofs.Common.{◌≡◌, ℕ, pos, ◌≤◌, ◌+ℤ◌, nat_lt, nat_le, true, false, List, length, Option, None, is_none, refl, ◌∙◌, ap, arith}
-use Rattle.std.proofs.lemmas.Bool.Decides.{nat_tests, Decides-int_eq}
-use Rattle.sercos_hdlc.specs.Stuffed.{frame_of}
+use Rattle.sercos_law_trace.proofs.Words.{◌≡◌, ℕ, pos, ◌≤◌, ◌+ℤ◌, nat_lt, nat_le, true, false, List, length, Option, None, is_none, refl, ◌∙◌, ap, arith, nat_tests, Decides-int_eq, frame_of, mst_content, WishesView, Command, Told, command_before, phase_of, in_cycle, is_next_cycle, is_next_phase, broken_rule, start_before, sent_mst, ends_at_0}
 use Rattle.sercos_telegram.specs.Faults.{mst_fault, head_fault}
-use Rattle.sercos_telegram.specs.Spells.{mst_content}
-use Rattle.sercos_timing.specs.Views.{WishesView}
-use Rattle.sercos_check.specs.declared.marks.Command.{Command}
-use Rattle.sercos_check.specs.Seen.{Told, command_before, phase_of, in_cycle}
-use Rattle.sercos_check.specs.Rules.{is_next_cycle, is_next_phase, broken_rule}
-use Rattle.sercos_law_run.specs.Journal.Runs.{start_before, sent_mst}
-use Rattle.sercos_law_run.proofs.Theorems.{ends_at_0}
 use Rattle.sercos_law_trace.proofs.Clean.RuleLemmas.{none_broken, broken_by}
 use Rattle.sercos_law_trace.proofs.Clean.SeenLemmas.{not_asked, frame_kept}
 

@@ -1,47 +1,13 @@
 -- The numbers of moves, plans, falls and totals fit the fields of their lines.
-use Rattle.std.proofs.Common.{◌≡◌, ℕ, zero, suc, ◌+◌, ◌*◌, ◌<◌, ◌≤◌, ◌==◌, nat_lt, Bool, true, false, List, [], ◌∷◌, ◌++◌, length, reverse, Option, Some, None, is_some, slice_index_or, refl, sym, ◌∙◌, ap, subst, arith, if◌then◌else◌}
-use Rattle.std.proofs.lemmas.Bool.{cond_both}
-use Rattle.std.specs.Prelude.{slice_index}
-use Rattle.std.specs.List.{All}
-use Rattle.std.specs.Option.{option_or}
-use Rattle.std.proofs.lemmas.Grind.{reverse_onto}
-use Rattle.std.proofs.lemmas.List.Elements.{All-nil, All-cons, All-head, All-tail, All-append}
-use Rattle.std.proofs.lemmas.List.Sums.{length-filter, count_by-le-length}
-use Rattle.sercos_timing.specs.Order.{wish}
-use Rattle.sercos_timing.specs.Valid.{IsValid}
-use Rattle.sercos_timing.specs.Views.{WishesView, PlanView}
-use Rattle.sercos_step.specs.declared.request.Job.{Job}
-use Rattle.sercos_step.specs.declared.request.Outcome.{Outcome}
-use Rattle.sercos_block.specs.Rings.{wishes_of}
-use Rattle.sercos_block.specs.Views.{DriveView, RingView}
+use Rattle.sercos_law_trace.proofs.Words.{◌≡◌, ℕ, zero, suc, ◌+◌, ◌*◌, ◌<◌, ◌≤◌, ◌==◌, nat_lt, Bool, true, false, List, [], ◌∷◌, ◌++◌, length, reverse, Option, Some, None, is_some, slice_index_or, refl, sym, ◌∙◌, ap, subst, arith, if◌then◌else◌, cond_both, slice_index, All, option_or, reverse_onto, All-nil, All-cons, All-head, All-tail, All-append, length-filter, count_by-le-length, wish, IsValid, WishesView, PlanView, Job, Outcome, wishes_of, DriveView, RingView, DriveCall, phase_at, Move, Totals, Fall, EventsView, CycleView, Report, Known, IsKnown, MemberView, member, no_member, known_of, tasks_for, Past, IsPlanned, fall_of, fall_at, has_lost_mst, has_lost_at, first_place, is_at_limit, outcomes, inserted, with_report, with_reports, broken, with_broken, plan_told, outcomes_told, restart_told, Carry, Restarts, drive_at, move_of, moves_below, given_before, given_mst, given_mdt, master_calls, middle, looks_back, no_events, restart_events, IsNext, IsRun, IsClear, behind_mdt, address_of, plan_words, s_known, first_store, IsOpened, with_cycle, ended, falls_in, is_complete, is_refused, is_broken, FitsMove, FitsPlan, FitsFall, FitsCycle, FitTotals, FitsReports, FitReports, RunsFitOthers, phase_below, is_planned}
 use Rattle.sercos_text.specs.Templates.Value.{number as counted}
 use Rattle.sercos_text.specs.Templates.{field_of, AreOf, IsPart, IsOf, part_left}
-use Rattle.sercos_drive.specs.Heard.{DriveCall}
-use Rattle.sercos_drive.specs.Annals.{phase_at}
 use Rattle.sercos_trace.specs.declared.kind.LineKind.TheVariants as kind
-use Rattle.sercos_trace.specs.declared.record.Move.{Move}
-use Rattle.sercos_trace.specs.declared.record.Totals.{Totals}
-use Rattle.sercos_trace.specs.declared.events.Fall.{Fall}
 use Rattle.sercos_trace.specs.declared.events.Fall.TheVariants as fall
 use Rattle.sercos_trace.specs.Kinds.{template_of}
-use Rattle.sercos_trace.specs.Views.{EventsView, CycleView}
-use Rattle.sercos_seat.specs.Channel.{Report}
-use Rattle.sercos_seat.specs.Ring.{Known, IsKnown, MemberView, member, no_member, known_of, tasks_for}
-use Rattle.sercos_master.specs.Annals.{Past, IsPlanned, fall_of, fall_at, has_lost_mst, has_lost_at, first_place, is_at_limit, outcomes}
-use Rattle.sercos_master.specs.Reports.{inserted, with_report, with_reports, broken, with_broken, plan_told, outcomes_told, restart_told}
-use Rattle.sercos_script.specs.Links.{Carry, Restarts}
-use Rattle.sercos_law_run.specs.Journal.Runs.{drive_at, move_of, moves_below, given_before, given_mst, given_mdt, master_calls, middle, looks_back, no_events, restart_events, IsNext, IsRun, IsClear}
-use Rattle.sercos_law_run.specs.Views.RingViews.{behind_mdt}
-use Rattle.sercos_law_run.proofs.Theorems.{address_of, plan_words, s_known, first_store}
-use Rattle.sercos_law_run.specs.Held.Opened.{IsOpened}
-use Rattle.sercos_law_run.specs.Totals.Counting.{with_cycle}
-use Rattle.sercos_law_run.specs.Totals.Totals.{totals_of, ended, falls_in, is_complete, is_refused, is_broken}
-use Rattle.sercos_law_trace.specs.Clean.Fields.{FitsMove, FitsPlan, FitsFall, FitsCycle, FitTotals, FitsReports, FitReports}
-use Rattle.sercos_law_trace.specs.Clean.Traces.{RunsFitOthers}
+use Rattle.sercos_law_run.specs.Totals.Totals.{totals_of}
 use Rattle.sercos_law_trace.proofs.Clean.RunRules.{low}
 use Rattle.sercos_law_trace.proofs.Clean.TraceClean.{valid}
-use Rattle.sercos_drive.proofs.RecordLemmas.{phase_below}
-use Rattle.sercos_master.proofs.Planned.{is_planned}
 
 -- MOVES
 move_fits : (cycle : ℕ) (m : Move) → cycle ≤ 4294967295 → m.drive ≤ 255 → m.phase ≤ 255 → FitsMove cycle m

@@ -1,50 +1,15 @@
 -- The outcomes that a cycle reports fit the fields of their lines.
-use Rattle.std.proofs.Common.{◌≡◌, inl, inr, ℕ, zero, suc, ◌+◌, ◌-◌, ◌*◌, ◌<◌, ◌≤◌, ◌==◌, nat_lt, Bool, true, false, ◌&&◌, List, [], ◌∷◌, ◌++◌, length, drop, min, Option, Some, None, is_some, is_none, refl, sym, ◌∙◌, ap, subst, arith, if◌then◌else◌}
-use Rattle.std.proofs.lemmas.Bool.{cond_both}
-use Rattle.std.specs.Prelude.{slice_index, slice_get, option_and_then}
-use Rattle.std.specs.List.{All}
-use Rattle.std.proofs.lemmas.List.Elements.{All-nil, All-cons, All-head, All-tail}
-use Rattle.std.proofs.lemmas.List.{length-take, length-drop}
+use Rattle.sercos_law_trace.proofs.Words.{◌≡◌, inl, inr, ℕ, zero, suc, ◌+◌, ◌-◌, ◌*◌, ◌<◌, ◌≤◌, ◌==◌, nat_lt, Bool, true, false, ◌&&◌, List, [], ◌∷◌, ◌++◌, length, drop, min, Option, Some, None, is_some, is_none, refl, sym, ◌∙◌, ap, subst, arith, if◌then◌else◌, cond_both, slice_index, slice_get, option_and_then, All, All-nil, All-cons, All-head, All-tail, length-take, length-drop, AreBytes-take, AreBytes-bytes_of, reason_of, content_of, plain, Job, Request, Outcome, Shape, Answer, CountsAnswers, count_of, answer_words, next_step, outcome_of, is_whole, result_of, steps_before, attribute_read, AreAnswers, bytes_in, bytes_read, shape_of, words_in, length-answer_words, PlanView, RingView, Begun, open_in, answers_it, answer_in, with_answer, step_at, Begin, Send, Hear, EndCycle, begun_by, EventsView, CycleView, Report, number_in, broken_number, Known, Task, known_of, tasks_from, tasks_for, request_task, member, Call, HearMst, HearAt, Mdt, End, Restart, Past, past, after_taken, settled, with_begin, ready_to_send, is_sent_to, addressed_in, after_mdt, fall_of, is_idle, inserted, with_report, with_reports, broken, with_broken, outcomes_told, restart_told, settles, at_keeps, channel_keeps, end_keeps, Passage, Carry, Restarts, IsReportOf, IsTask, OfReads, OfWrites, Checks3, Lists3, Checks4, Lists4, OfWaiting, AreBegunTasks, HasBegunTasks, arrival, heard, passage, ats_in, station_of, with_at, at_calls, begin_calls, master_calls, middle, looks_back, no_events, IsNext, AreWords, word_of, words_append, bytes_of_words, read_word, words_drop, FitsEnded, begins_tasks, left_of, told_right}
 use Rattle.sercos_model.specs.Bits.{AreBytes}
-use Rattle.sercos_model.proofs.BitLemmas.{AreBytes-take, AreBytes-bytes_of}
-use Rattle.sercos_hdlc.specs.Reason.{reason_of, content_of, plain}
 use Rattle.sercos_telegram.specs.declared.layout.Kind.TheVariants as kinds
-use Rattle.sercos_step.specs.declared.request.Job.{Job}
-use Rattle.sercos_step.specs.declared.request.Request.{Request}
 use Rattle.sercos_step.specs.declared.request.Request.TheVariants as request
-use Rattle.sercos_step.specs.declared.request.Outcome.{Outcome}
 use Rattle.sercos_step.specs.declared.request.Outcome.TheVariants as outcome
-use Rattle.sercos_step.specs.declared.shape.Shape.{Shape}
 use Rattle.sercos_step.specs.declared.shape.Shape.TheVariants as shape
-use Rattle.sercos_step.specs.declared.step.Answer.{Answer}
-use Rattle.sercos_step.specs.Counts.{CountsAnswers, count_of}
-use Rattle.sercos_step.specs.Steps.{answer_words, next_step, outcome_of, is_whole, result_of, steps_before, attribute_read, AreAnswers}
-use Rattle.sercos_step.specs.Words.{bytes_in, bytes_read, shape_of, words_in}
-use Rattle.sercos_step.proofs.Ends.{length-answer_words}
-use Rattle.sercos_timing.specs.Views.{PlanView}
-use Rattle.sercos_block.specs.Views.{RingView}
-use Rattle.sercos_service_master.specs.Begun.{Begun, open_in, answers_it, answer_in, with_answer, step_at}
-use Rattle.sercos_service_master.specs.Calls.{Begin, Send, Hear, EndCycle, begun_by}
 use Rattle.sercos_service_master.specs.Calls as channel
 use Rattle.sercos_text.specs.Templates.{field_of, AreOf, IsPart, IsOf, part_left}
 use Rattle.sercos_trace.specs.Kinds.{template_of}
-use Rattle.sercos_trace.specs.Views.{EventsView, CycleView}
-use Rattle.sercos_seat.specs.Channel.{Report, number_in, broken_number}
-use Rattle.sercos_seat.specs.Ring.{Known, Task, known_of, tasks_from, tasks_for, request_task, member}
-use Rattle.sercos_master.specs.Annals.{Call, HearMst, HearAt, Mdt, End, Restart, Past, past, after_taken, place_of, settled, begins, with_begin, ready_to_send, is_sent_to, addressed_in, after_mdt, fall_of, is_idle}
-use Rattle.sercos_master.specs.Reports.{inserted, with_report, with_reports, broken, with_broken, outcomes_told, restart_told}
-use Rattle.sercos_master.proofs.Followed.{settles}
-use Rattle.sercos_master.proofs.Keeping.{at_keeps, channel_keeps, end_keeps}
-use Rattle.sercos_script.specs.declared.link.Passage.{Passage}
-use Rattle.sercos_script.specs.Links.{Carry, Restarts}
-use Rattle.sercos_law_run.specs.Agenda.Reported.{IsReportOf}
-use Rattle.sercos_law_run.specs.Agenda.Tasks.{IsTask, OfReads, OfWrites, Checks3, Lists3, Checks4, Lists4, OfWaiting, AreBegunTasks, HasBegunTasks}
-use Rattle.sercos_law_run.specs.Journal.Arrivals.{arrival, content_in, heard, passage}
-use Rattle.sercos_law_run.specs.Journal.Records.{ats_in}
-use Rattle.sercos_law_run.specs.Journal.Runs.{station_of, with_at, at_calls, begin_calls, master_calls, middle, looks_back, no_events, IsNext}
-use Rattle.sercos_law_run.proofs.Theorems.{AreWords, word_of, words_append, bytes_of_words, read_word, words_drop}
-use Rattle.sercos_law_trace.specs.Clean.Fields.{FitsEnded}
-use Rattle.sercos_law_run.proofs.Cited.{begins_tasks, left_of, told_right}
+use Rattle.sercos_master.specs.Annals.{place_of, begins}
+use Rattle.sercos_law_run.specs.Journal.Arrivals.{content_in}
 
 -- WHAT THE MASTER HEARS are bytes, whatever the links make of what is sent.
 heard_bytes : (carry : Carry) (p : Passage) (content got : List ℕ) → heard carry p content ≡ Some got → AreBytes got

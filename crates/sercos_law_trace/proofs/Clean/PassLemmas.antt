@@ -1,23 +1,9 @@
 -- Parts of a text that a check of captures passes.
-use Rattle.std.proofs.Common.{◌≡◌, ℕ, pos, ◌+◌, List, [], ◌∷◌, ◌++◌, length, Option, Some, None, is_none, refl, sym, ◌∙◌, ap, append_assoc, append-nil, if◌then◌else◌}
+use Rattle.sercos_law_trace.proofs.Words.{◌≡◌, ℕ, pos, ◌+◌, List, [], ◌∷◌, ◌++◌, length, Option, Some, None, is_none, refl, sym, ◌∙◌, ap, append_assoc, append-nil, if◌then◌else◌, All, flat_map, All-head, All-tail, tail_text, IsTail, addresses_in, Value, AreOf, line_fault, line_text, numbers_in, signed_by, bytes_by, LineKind, Line, template_of, tail_for, all_kinds, line_of, line_with, line_by, line_as, line_in, ReadsBack, CanFollow, TellsFollowing, rule_broken, read_as, column_of, read_good, column-none, or-none, NoFeed, NoFeed-append, lines_of-line, line_no_feed, tail_no_feed, template_no_feed}
 use Rattle.std.specs.Option.{option_map}
-use Rattle.std.specs.List.{All, flat_map}
-use Rattle.std.proofs.lemmas.List.Elements.{All-head, All-tail}
-use Rattle.sercos_text.specs.Tails.{tail_text, IsTail, addresses_in}
-use Rattle.sercos_text.specs.Templates.{Value, AreOf, line_fault, line_text, numbers_in, signed_by, bytes_by}
-use Rattle.sercos_trace.specs.declared.kind.LineKind.{LineKind}
-use Rattle.sercos_trace.specs.declared.reading.Line.{Line}
-use Rattle.sercos_trace.specs.Kinds.{template_of, tail_for, later, kinds_fault, first_kind, all_kinds, line_of, line_with}
-use Rattle.sercos_trace.specs.Lines.{line_by, line_as, line_in, ReadsBack}
-use Rattle.sercos_check.specs.Shape.{CanFollow}
-use Rattle.sercos_check.specs.Tests.{TellsFollowing}
-use Rattle.sercos_check.specs.Verdicts.{rule_broken}
-use Rattle.sercos_checking.specs.Checking.{read_as, grammar_fault, column_of, capture_fault, first_violation}
-use Rattle.sercos_checking.proofs.CheckingLemmas.{read_good, column-none}
+use Rattle.sercos_trace.specs.Kinds.{later, kinds_fault, first_kind}
+use Rattle.sercos_checking.specs.Checking.{grammar_fault, capture_fault, first_violation}
 use Rattle.sercos_answer.specs.Lines as answer
-use Rattle.sercos_replay.proofs.OptionLemmas.{or-none}
-use Rattle.sercos_replay.proofs.FeedLemmas.{NoFeed, NoFeed-append, lines_of-line, line_no_feed, tail_no_feed}
-use Rattle.sercos_replay.proofs.SilentLemmas.{template_no_feed}
 
 -- where some lines have come, it leads to lines of another kind
 pub record Goes (text : List ℕ) (J : List Line → Type 0) (before : List Line) : Type 0 where

@@ -1,20 +1,7 @@
 -- The telegrams of one cycle keep the rules, if each does after those before it in the cycle.
-use Rattle.std.proofs.Common.{◌≡◌, ℕ, ℤ, pos, ◌*◌, nat_lt, Bool, true, not, ◌&&◌, ◌||◌, List, [], ◌∷◌, ◌++◌, length, Option, Some, None, option_map, refl, ◌∙◌, ap, ap₂}
-use Rattle.std.specs.Prelude.{slice_index}
-use Rattle.std.specs.List.{list_all, list_any, find}
-use Rattle.sercos_hdlc.specs.Stuffed.{frame_of}
-use Rattle.sercos_telegram.specs.declared.layout.Kind.{Kind}
+use Rattle.sercos_law_trace.proofs.Words.{◌≡◌, ℕ, ℤ, pos, ◌*◌, nat_lt, Bool, true, not, ◌&&◌, ◌||◌, List, [], ◌∷◌, ◌++◌, length, Option, Some, None, option_map, refl, ◌∙◌, ap, ap₂, slice_index, list_all, list_any, find, frame_of, Kind, WishesView, SentView, Said, Sent, Command, Note, Told, is_mdt, is_mst, command_before, phase_of, in_cycle, newest_of, wish_for, slave_of, mark_of, note_of, is_at_from, is_at_of, is_next_cycle, goes_on, keeps_frame, layout_of, is_next_phase, start_of, is_cyclic, is_cyclic_at, is_cyclic_mdt, is_after_gap, is_after_mark, is_after_transition, has_room, first_broken, broken_rule, sent_at, sent_mst, sent_mdt, ats_said, told_after, KeepRules}
 use Rattle.sercos_telegram.specs.declared.layout.Kind.TheVariants as kinds
-use Rattle.sercos_timing.specs.Views.{WishesView}
-use Rattle.sercos_trace.specs.Views.{SentView}
-use Rattle.sercos_drive.specs.Says.{Said}
-use Rattle.sercos_master.specs.Says.{Sent}
-use Rattle.sercos_check.specs.declared.marks.Command.{Command}
-use Rattle.sercos_check.specs.declared.marks.Note.{Note}
-use Rattle.sercos_check.specs.Seen.{Told, is_mdt, is_mst, command_before, phase_of, in_cycle, newest_of, address_of, wish_for, slave_of, mark_of, note_of, is_at_from, is_at_of}
-use Rattle.sercos_check.specs.Rules.{is_next_cycle, goes_on, keeps_frame, layout_of, is_next_phase, start_of, is_cyclic, is_cyclic_at, is_cyclic_mdt, is_after_gap, is_after_mark, is_after_transition, has_room, first_broken, broken_rule}
-use Rattle.sercos_law_run.specs.Journal.Runs.{sent_at, sent_mst, sent_mdt, ats_said}
-use Rattle.sercos_law_trace.specs.Clean.Ruled.{told_after, KeepRules}
+use Rattle.sercos_check.specs.Seen.{address_of}
 
 -- THE RULES of a telegram, by the newest MST before it and the telegrams of its cycle before it, the newest first.
 abbrev pub newest_by : WishesView → List SentView → Option Note

@@ -1,37 +1,8 @@
 -- The telegrams of a run keep the rules, by induction over its cycles.
-use Rattle.std.proofs.Common.{◌≡◌, inl, inr, ℕ, zero, suc, ◌+◌, ◌<◌, ◌≤◌, ◌==◌, nat_le, Bool, true, false, ◌||◌, if◌then◌else◌, List, [], ◌∷◌, ◌++◌, length, Option, Some, None, is_some, refl, sym, ◌∙◌, ap, subst, arith}
-use Rattle.std.specs.Prelude.{slice_index}
-use Rattle.std.proofs.lemmas.Bool.{eq-eqb}
-use Rattle.std.proofs.lemmas.Bool.Decides.{nat_tests}
-use Rattle.sercos_telegram.specs.Spells.{mst_content}
-use Rattle.sercos_timing.specs.Valid.{IsValid, IsCycle}
-use Rattle.sercos_timing.specs.Views.{WishesView, PlanView}
-use Rattle.sercos_timing.specs.declared.wishes.Wish.{Wish}
-use Rattle.sercos_step.specs.declared.request.Job.{Job}
-use Rattle.sercos_block.specs.Rings.{wishes_of, at_len}
-use Rattle.sercos_block.specs.Views.{RingView}
-use Rattle.sercos_command.specs.Checks.{carried_len}
-use Rattle.sercos_drive.specs.Moments.{Moment, phase_in, cycle_in, blocks_in}
-use Rattle.sercos_drive.specs.Says.{Said, drive_says, values_in}
-use Rattle.sercos_trace.specs.Views.{SentView, CycleView}
-use Rattle.sercos_seat.specs.Ring.{Known, known_of, tasks_for}
-use Rattle.sercos_seat.proofs.Sends.{fields_length}
-use Rattle.sercos_law_run.specs.Start.RingSlots.{held_by}
-use Rattle.sercos_law_run.specs.Start.StartUp.{Holds, start_up}
-use Rattle.sercos_master.specs.Annals.{Past, ready_to_send, fall_of, is_done, after_end, new_epoch, goes_on, next_phase, still_waiting}
+use Rattle.sercos_law_trace.proofs.Words.{◌≡◌, inl, inr, ℕ, zero, suc, ◌+◌, ◌<◌, ◌≤◌, ◌==◌, nat_le, Bool, true, false, ◌||◌, if◌then◌else◌, List, [], ◌∷◌, ◌++◌, length, Option, Some, None, is_some, refl, sym, ◌∙◌, ap, subst, arith, slice_index, eq-eqb, nat_tests, mst_content, IsValid, IsCycle, WishesView, PlanView, Wish, Job, at_len, RingView, carried_len, Moment, phase_in, cycle_in, blocks_in, Said, drive_says, values_in, SentView, CycleView, Known, known_of, tasks_for, fields_length, held_by, Holds, start_up, Past, ready_to_send, fall_of, is_done, after_end, new_epoch, next_phase, still_waiting, Sent, mdt_said, Carry, Restarts, IsApart, Command, command_before, is_drive, wish_for, is_next_cycle, is_next_phase, drive_at, given_mst, master_calls, begins, middle, looks_back, said_below, ats_said, sent_mst, sent_mdt, IsNext, IsRun, IsClear, at_start, behind_ats, behind_mdt, after_mst, Sends, sender_phase, sent_by, same_drive, members_count, address_of, IsContent, at_content, phase_low, mdt_whole, AllStand, IsPlannedIn, s_known, phase_same, holding, rules, carried_length, first_store, stored_in, spelled_in, all_stand, keeps_all, IsOpened, takes_part, store_in_cycle, told_after, told_in, KeepRules, RunsKeepRules, are_as_long, keeps_within, is_planned}
+use Rattle.sercos_block.specs.Rings.{wishes_of}
+use Rattle.sercos_master.specs.Annals.{goes_on}
 use Rattle.sercos_master.specs.Annals as master
-use Rattle.sercos_master.specs.Says.{Sent, mdt_said}
-use Rattle.sercos_script.specs.Links.{Carry, Restarts}
-use Rattle.sercos_law_run.specs.Slots.Sending.{IsApart}
-use Rattle.sercos_check.specs.declared.marks.Command.{Command}
-use Rattle.sercos_check.specs.Seen.{command_before, is_drive, wish_for}
-use Rattle.sercos_check.specs.Rules.{is_next_cycle, is_next_phase}
-use Rattle.sercos_law_run.specs.Journal.Runs.{drive_at, given_mst, master_calls, begins, middle, looks_back, said_below, ats_said, sent_mst, sent_mdt, IsNext, IsRun, IsClear}
-use Rattle.sercos_law_run.specs.Views.RingViews.{at_start, behind_ats, behind_mdt, after_mst}
-use Rattle.sercos_law_run.proofs.Theorems.{Sends, sender_phase, sent_by, same_drive, members_count, address_of, IsContent, at_content, phase_low, mdt_whole, AllStand, IsPlannedIn, s_known, phase_same, holding, rules, carried_length, first_store, stored_in, spelled_in, all_stand, keeps_all}
-use Rattle.sercos_law_run.specs.Held.Opened.{IsOpened}
-use Rattle.sercos_law_run.specs.Headline.Cycles.{takes_part, store_in_cycle}
-use Rattle.sercos_law_trace.specs.Clean.Ruled.{told_after, told_in, KeepRules, RunsKeepRules}
 use Rattle.sercos_law_trace.proofs.Clean.RuleLemmas.{AreRuled, command_at, cycle_kept}
 use Rattle.sercos_law_trace.proofs.Clean.SeenLemmas.{Each, EachPair, each_map, each_both, all_after, IsFramed}
 use Rattle.sercos_law_trace.proofs.Clean.SaidLemmas.{each_said, IsOther, pairs_said, drive_there, wish_is_for}
@@ -40,9 +11,6 @@ use Rattle.sercos_law_trace.proofs.Clean.LateRules.{IsBefore, IsLateAt, late_rul
 use Rattle.sercos_law_trace.proofs.Clean.SlotRules.{before, early_enough, before_last, last_late, sends_one}
 use Rattle.sercos_law_trace.proofs.Clean.MstRules.{mst_ruled}
 use Rattle.sercos_law_trace.proofs.Clean.SenderLemmas.{own_address, early_said, addressed_inside, early_mdt_said, none_in_zero}
-use Rattle.sercos_law_run.proofs.Start.Lengths.{are_as_long}
-use Rattle.sercos_law_run.proofs.Typed.Spelled.{keeps_within}
-use Rattle.sercos_master.proofs.Planned.{is_planned}
 
 framed : (content : List ℕ) → IsContent content → IsFramed content
 framed content is = record { some = is.some; most = is.most }

@@ -1,20 +1,7 @@
 -- The ATs that the drives of a ring say, and the wishes of these drives.
-use Rattle.std.proofs.Common.{◌≡◌, ℕ, zero, suc, ◌+◌, ◌<◌, ◌==◌, nat_lt, Bool, true, false, cond, ◌||◌, if◌then◌else◌, List, [], ◌∷◌, length, map, Option, Some, None, unwrap_or, slice_index_or, refl, sym, ◌∙◌, ap, arith}
-use Rattle.std.specs.Prelude.{slice_index}
-use Rattle.std.specs.List.{list_any, find, position_or_len}
-use Rattle.std.proofs.lemmas.Bool.{eq-eqb, ne_eqb, eqb-true}
-use Rattle.std.proofs.lemmas.Bool.Decides.{nat_tests}
-use Rattle.sercos_timing.specs.declared.wishes.Wish.{Wish}
-use Rattle.sercos_timing.specs.Order.{wish, no_wish}
-use Rattle.sercos_timing.specs.Views.{WishesView}
-use Rattle.sercos_block.specs.Rings.{is_ring, wishes_of, wish_of}
-use Rattle.sercos_block.specs.Views.{DriveView, RingView}
-use Rattle.sercos_drive.specs.Heard.{DriveCall}
-use Rattle.sercos_drive.specs.Says.{Said, drive_says}
-use Rattle.sercos_law_run.specs.Slots.Sending.{place_of}
-use Rattle.sercos_check.specs.Seen.{is_drive, wish_for}
-use Rattle.sercos_law_run.specs.Journal.Runs.{no_drive, drive_at, inserted, with_said, said_below}
-use Rattle.sercos_law_run.proofs.Theorems.{same_drive}
+use Rattle.sercos_law_trace.proofs.Words.{◌≡◌, ℕ, zero, suc, ◌+◌, ◌<◌, ◌==◌, nat_lt, Bool, true, false, cond, ◌||◌, if◌then◌else◌, List, [], ◌∷◌, length, map, Option, Some, None, unwrap_or, slice_index_or, refl, sym, ◌∙◌, ap, arith, slice_index, list_any, find, position_or_len, eq-eqb, ne_eqb, eqb-true, nat_tests, Wish, wish, no_wish, WishesView, is_ring, wish_of, DriveView, RingView, DriveCall, Said, drive_says, place_of, is_drive, wish_for, no_drive, drive_at, with_said, said_below, same_drive}
+use Rattle.sercos_block.specs.Rings.{wishes_of}
+use Rattle.sercos_law_run.specs.Journal.Runs.{inserted}
 use Rattle.sercos_law_trace.proofs.Clean.SeenLemmas.{Each, EachPair, HasOther}
 
 -- EACH AT of a cycle is what a drive says.

@@ -1,15 +1,5 @@
 -- What a checker finds among the telegrams of a cycle so far.
-use Rattle.std.proofs.Common.{◌≡◌, ℕ, pos, zero, suc, ◌*◌, ◌<◌, ◌≤◌, ◌==◌, nat_lt, nat_le, Bool, true, false, not, ◌&&◌, ◌||◌, List, [], ◌∷◌, length, refl, ap, arith}
-use Rattle.std.specs.Prelude.{slice_index}
-use Rattle.std.specs.Int.Signed.{le_z}
-use Rattle.std.specs.Ordering.{int_eq}
-use Rattle.std.proofs.lemmas.Bool.{eq-eqb, le-leb}
-use Rattle.std.proofs.lemmas.Bool.Decides.{nat_tests, Decides-int_eq}
-use Rattle.sercos_hdlc.specs.Stuffed.{frame_of}
-use Rattle.sercos_timing.specs.Views.{WishesView}
-use Rattle.sercos_drive.specs.Says.{Said}
-use Rattle.sercos_check.specs.Rules.{starts_later}
-use Rattle.sercos_law_run.specs.Journal.Runs.{start_before, sent_mst}
+use Rattle.sercos_law_trace.proofs.Words.{◌≡◌, ℕ, pos, zero, suc, ◌*◌, ◌<◌, ◌≤◌, ◌==◌, nat_lt, nat_le, Bool, true, false, not, ◌&&◌, ◌||◌, List, [], ◌∷◌, length, refl, ap, arith, slice_index, le_z, int_eq, eq-eqb, le-leb, nat_tests, Decides-int_eq, frame_of, WishesView, Said, starts_later, start_before, sent_mst}
 use Rattle.sercos_law_trace.proofs.Clean.RuleLemmas.{newest_by, has_mdt_by, has_at_by, seen_of}
 
 -- each of a list

@@ -1,22 +1,6 @@
 -- What drives and master send in each phase.
-use Rattle.std.proofs.Common.{◌≡◌, ℕ, ◌+◌, ◌<◌, ◌≤◌, ◌==◌, nat_le, Bool, true, false, not, if◌then◌else◌, List, [], ◌∷◌, length, Option, Some, None, option_map, refl, ◌∙◌, ap, arith}
-use Rattle.std.specs.Prelude.{slice_index}
-use Rattle.std.proofs.lemmas.Bool.Decides.{nat_tests}
-use Rattle.sercos_telegram.specs.Spells.{fields}
-use Rattle.sercos_block.specs.Rings.{wishes_of}
-use Rattle.sercos_block.specs.Views.{DriveView, RingView}
-use Rattle.sercos_drive.specs.Moments.{Moment, phase_in, cycle_in, blocks_in}
-use Rattle.sercos_drive.specs.Says.{Said, said, values_in}
+use Rattle.sercos_law_trace.proofs.Words.{◌≡◌, ℕ, ◌+◌, ◌<◌, ◌≤◌, ◌==◌, nat_le, Bool, true, false, not, if◌then◌else◌, List, [], ◌∷◌, length, Option, Some, None, option_map, refl, ◌∙◌, ap, arith, slice_index, nat_tests, fields, wishes_of, DriveView, RingView, Moment, phase_in, cycle_in, blocks_in, Said, said, values_in, Known, MemberView, known_of, fields_length, word_said, Past, first_place, is_idle, is_identified, addressed_in, said_to, idle, single, joint, mdt_said, drive_at, first_found, Sends, member_is, is_drive}
 use Rattle.sercos_service_master.specs.Begun.{Said as Told}
-use Rattle.sercos_seat.specs.Ring.{Known, MemberView, known_of}
-use Rattle.sercos_seat.proofs.Sends.{fields_length}
-use Rattle.sercos_seat.specs.Records.{word_said}
-use Rattle.sercos_master.specs.Annals.{Past, first_place, is_idle, is_identified, addressed_in}
-use Rattle.sercos_master.specs.Says.{said_to, idle, single, joint, mdt_said}
-use Rattle.sercos_law_run.specs.Journal.Runs.{drive_at}
-use Rattle.sercos_master.proofs.Keeping.{first_found}
-use Rattle.sercos_law_run.proofs.Theorems.{Sends, member_is}
-use Rattle.sercos_check.specs.Seen.{is_drive}
 use Rattle.sercos_law_trace.proofs.Clean.SaidLemmas.{drive_there}
 use Rattle.sercos_law_trace.proofs.Clean.EarlyRules.{IsEarlyAt, IsEarlyMdt, IsEarlyIf}
 

@@ -1,27 +1,8 @@
 -- Telegrams that are apart keep the rules of phases 3 and 4.
-use Rattle.std.proofs.Common.{◌≡◌, inl, inr, ℕ, zero, suc, ◌+◌, ◌-◌, ◌*◌, ◌<◌, ◌≤◌, ◌==◌, true, if◌then◌else◌, List, [], ◌∷◌, ◌++◌, length, max, Option, Some, None, is_none, refl, sym, ◌∙◌, ap, subst, arith}
-use Rattle.std.specs.Prelude.{slice_index}
-use Rattle.std.specs.List.{All, AllPairs, filter, concat}
-use Rattle.std.proofs.lemmas.Bool.{eq-eqb, cases_eq}
-use Rattle.std.proofs.lemmas.List.Elements.{All-head, All-tail}
-use Rattle.sercos_model.specs.Frames.{wire_bits}
-use Rattle.sercos_hdlc.specs.Stuffed.{frame_of}
+use Rattle.sercos_law_trace.proofs.Words.{◌≡◌, inl, inr, ℕ, zero, suc, ◌+◌, ◌-◌, ◌*◌, ◌<◌, ◌≤◌, ◌==◌, true, if◌then◌else◌, List, [], ◌∷◌, ◌++◌, length, max, Option, Some, None, is_none, refl, sym, ◌∙◌, ap, subst, arith, slice_index, All, AllPairs, filter, concat, eq-eqb, cases_eq, All-head, All-tail, wire_bits, frame_of, joint_fault, all_drives, Wish, wish, times, record_bytes, first_sent, sent, greatest, greatest_tmtsy, IsValid, AreBelow, WishesView, SentView, Said, Sent, AtSlot, MdtSlot, Held, end_of, mdt_content, HasPause, HasRecovered, AreApart, place_of, at_slot, mdt_slot, IsApart, length_records, wish_for, sent_at, sent_mst, sent_mdt, ats_said}
 use Rattle.sercos_telegram.specs.Kinds.{is_mdt}
-use Rattle.sercos_telegram.specs.Faults.{joint_fault, head_fault}
-use Rattle.sercos_telegram.specs.Spells.{all_drives}
-use Rattle.sercos_timing.specs.declared.wishes.Wish.{Wish}
-use Rattle.sercos_timing.specs.Order.{wish, times, record_bytes, first_sent, sent}
-use Rattle.sercos_timing.specs.Inequalities.{greatest, greatest_tmtsy}
-use Rattle.sercos_timing.specs.Valid.{IsValid, AreBelow}
-use Rattle.sercos_timing.specs.Views.{WishesView}
-use Rattle.sercos_trace.specs.Views.{SentView}
-use Rattle.sercos_drive.specs.Says.{Said}
-use Rattle.sercos_master.specs.Says.{Sent}
-use Rattle.sercos_law_run.specs.Slots.Slots.{AtSlot, MdtSlot, Held, end_of, mdt_content, HasPause, HasRecovered, AreApart}
-use Rattle.sercos_law_run.specs.Slots.Sending.{place_of, at_slot, mdt_slot, ats_in, IsApart}
-use Rattle.sercos_law_run.proofs.Theorems.{length_records}
-use Rattle.sercos_check.specs.Seen.{wish_for}
-use Rattle.sercos_law_run.specs.Journal.Runs.{sent_at, sent_mst, sent_mdt, ats_said}
+use Rattle.sercos_telegram.specs.Faults.{head_fault}
+use Rattle.sercos_law_run.specs.Slots.Sending.{ats_in}
 use Rattle.sercos_law_trace.proofs.Clean.RuleLemmas.{mdt_at}
 use Rattle.sercos_law_trace.proofs.Clean.SeenLemmas.{Each, EachPair, each_map, each_both, pairs_both, pairs_map, IsFramed}
 use Rattle.sercos_law_trace.proofs.Clean.SaidLemmas.{IsOther, wish_found}

@@ -1,61 +1,21 @@
 -- What a cycle reports fits the fields of its lines.
-use Rattle.std.proofs.Common.{◌≡◌, ℕ, zero, suc, ◌+◌, ◌<◌, ◌≤◌, Bool, true, false, List, [], ◌∷◌, ◌++◌, length, take, drop, Option, Some, None, option_map, unwrap_or, Ok, Err, refl, sym, ◌∙◌, ap, subst, arith, if◌then◌else◌}
-use Rattle.std.specs.Prelude.{slice_get}
-use Rattle.std.specs.Option.{option_or}
-use Rattle.std.specs.List.{All}
-use Rattle.std.proofs.lemmas.List.Elements.{All-nil, All-cons, All-head, All-tail}
+use Rattle.sercos_law_trace.proofs.Words.{◌≡◌, ℕ, zero, suc, ◌+◌, ◌<◌, ◌≤◌, Bool, true, false, List, [], ◌∷◌, ◌++◌, length, take, drop, Option, Some, None, option_map, unwrap_or, Ok, Err, refl, sym, ◌∙◌, ap, subst, arith, if◌then◌else◌, slice_get, option_or, All, All-nil, All-cons, All-head, All-tail, AreBytes-get_or, Idn, Code, Job, Request, Outcome, CountsAnswers, outcome_of, RingView, Begun, begun_by, Ident, Stop, raws, EventsView, CycleView, asked_by, idns_in, with_outcome, outcomes_in, Known, IsKnown, MemberView, HasLists, known_of, tasks_for, member, Past, outcomes, restart_told, Carry, Restarts, master_calls, middle, looks_back, no_events, IsRun, IsClear, IsTypedRequest, ring_timed, all_members, tasks_so, IsTypedPast, typed_past, AreBegun, s_known, first_store, keeps_all, IsOpened, Fit, FitsStop, FitsLink, FitsChain, FitsReports, FitReports, RunsFitReports, WishesView, chain_of, planned, is_roomy, least_plan, ChainView, Link, lens, are_requests, check128_has_cause, no_fit_has_cause, refused_has_cause, is_planned}
 use Rattle.sercos_model.specs.Bits.{AreBytes}
-use Rattle.sercos_model.proofs.BitLemmas.{AreBytes-get_or}
-use Rattle.sercos_idn.specs.declared.idn.Idn.{Idn}
-use Rattle.sercos_idn.specs.declared.code.Code.{Code}
-use Rattle.sercos_step.specs.declared.request.Job.{Job}
-use Rattle.sercos_step.specs.declared.request.Request.{Request}
 use Rattle.sercos_step.specs.declared.request.Request.TheVariants as request
-use Rattle.sercos_step.specs.declared.request.Outcome.{Outcome}
 use Rattle.sercos_step.specs.declared.request.Outcome.TheVariants as outcome
-use Rattle.sercos_step.specs.Counts.{CountsAnswers}
-use Rattle.sercos_step.specs.Steps.{outcome_of}
-use Rattle.sercos_block.specs.Views.{RingView}
-use Rattle.sercos_service_master.specs.Begun.{Begun}
-use Rattle.sercos_service_master.specs.Calls.{begun_by}
 use Rattle.sercos_text.specs.Lists.{AreItems, IsItem}
-use Rattle.sercos_text.specs.declared.list.Item.TheVariants.{Ident}
 use Rattle.sercos_text.specs.Templates.Value.{number as counted}
 use Rattle.sercos_text.specs.Tails.{IsTail}
 use Rattle.sercos_text.specs.Templates.{field_of, AreOf, IsPart, IsOf, part_left}
 use Rattle.sercos_trace.specs.declared.kind.LineKind.TheVariants as kind
-use Rattle.sercos_trace.specs.declared.events.Stop.{Stop}
 use Rattle.sercos_trace.specs.declared.events.Stop.TheVariants as stop
 use Rattle.sercos_trace.specs.Kinds.{template_of, tail_for}
-use Rattle.sercos_trace.specs.Texts.{raws}
-use Rattle.sercos_trace.specs.Views.{EventsView, CycleView}
-use Rattle.sercos_seat.specs.Agenda.{asked_by, idns_in}
-use Rattle.sercos_seat.specs.Channel.{with_outcome, outcomes_in}
-use Rattle.sercos_seat.specs.Ring.{Known, IsKnown, MemberView, HasLists, known_of, tasks_for, member}
-use Rattle.sercos_master.specs.Annals.{Past, outcomes}
-use Rattle.sercos_master.specs.Reports.{restart_told}
-use Rattle.sercos_script.specs.Links.{Carry, Restarts}
-use Rattle.sercos_law_run.specs.Journal.Runs.{master_calls, middle, looks_back, no_events, IsRun, IsClear}
-use Rattle.sercos_law_run.specs.Typed.Typed.{IsTypedRequest}
-use Rattle.sercos_law_run.proofs.Theorems.{ring_timed, all_members, tasks_so, IsTypedPast, typed_past, AreBegun, s_known, first_store, keeps_all}
-use Rattle.sercos_law_run.specs.Held.Opened.{IsOpened}
-use Rattle.sercos_law_trace.specs.Clean.Fields.{Fit, FitsStop, FitsLink, FitsChain, FitsReports, FitReports}
-use Rattle.sercos_law_trace.specs.Clean.Traces.{RunsFitReports}
-use Rattle.sercos_timing.specs.Views.{WishesView}
-use Rattle.sercos_plan.specs.ChainOf.{chain_of, planned}
-use Rattle.sercos_plan.specs.LeastTimes.{is_roomy, least_plan}
-use Rattle.sercos_plan.specs.Views.{ChainView}
-use Rattle.sercos_plan.specs.declared.chain.Link.{Link}
 use Rattle.sercos_seat.specs.Agenda as agenda
-use Rattle.sercos_seat.proofs.Lengths.{lens}
 use Rattle.sercos_law_trace.proofs.Clean.ChainFits.{IsSmallWish, AreSmallWishes, IsSmallLink, IsSmallChain, chain_small}
 use Rattle.sercos_law_trace.proofs.Clean.RunRules.{cycle_low}
 use Rattle.sercos_law_trace.proofs.Clean.SeenLemmas.{Each}
 use Rattle.sercos_law_trace.proofs.Clean.OtherFits.{member_low}
 use Rattle.sercos_law_trace.proofs.Clean.OutcomeFits.{AreGoing, IsSpelt, middle_heard, all_told, all_going, outcome_fits, outcomes_spelt, all_ended_fit}
-use Rattle.sercos_law_run.proofs.Agenda.Requests.{are_requests}
-use Rattle.sercos_law_run.proofs.Cited.{check128_has_cause, no_fit_has_cause, refused_has_cause}
-use Rattle.sercos_master.proofs.Planned.{is_planned}
 
 -- THE OUTCOMES on a channel
 each_pushed : (xs : List Outcome) (x : Outcome) → Each IsSpelt xs → IsSpelt x → Each IsSpelt (xs ++ x ∷ [])

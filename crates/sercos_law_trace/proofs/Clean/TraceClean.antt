@@ -1,48 +1,17 @@
 -- The trace of a run is a clean capture that begins with cycle 0.
-use Rattle.std.proofs.Common.{◌≡◌, ◌⊎◌, inl, inr, ℕ, zero, suc, ◌<◌, ◌≤◌, nat_le, true, false, not, List, [], ◌∷◌, ◌++◌, length, map, reverse, Option, Some, None, slice_index_or, refl, sym, ◌∙◌, ap, subst, arith, append-nil}
-use Rattle.std.specs.Prelude.{option_and_then}
-use Rattle.std.specs.List.{All, flat_map}
-use Rattle.std.specs.Option.{option_or}
-use Rattle.std.proofs.lemmas.Bool.{and_parts}
-use Rattle.std.proofs.lemmas.Bool.Decides.{nat_tests}
-use Rattle.std.proofs.lemmas.List.Elements.{All-nil, All-cons}
-use Rattle.sercos_timing.specs.Valid.{IsValid, IsWish, is_address}
-use Rattle.sercos_timing.specs.Views.{WishesView}
-use Rattle.sercos_step.specs.declared.request.Job.{Job}
-use Rattle.sercos_block.specs.Rings.{is_drive, are_drives, are_drive_numbers, has_address, has_drive_numbers, wishes_of, wish_of}
-use Rattle.sercos_block.specs.ValidRings.{AreWithinLimits}
-use Rattle.sercos_block.specs.Views.{DriveView, RingView}
-use Rattle.sercos_trace.specs.declared.reading.Line.{Line}
+use Rattle.sercos_law_trace.proofs.Words.{◌≡◌, ◌⊎◌, inl, inr, ℕ, zero, suc, ◌<◌, ◌≤◌, nat_le, true, false, not, List, [], ◌∷◌, ◌++◌, length, map, reverse, Option, Some, None, slice_index_or, refl, sym, ◌∙◌, ap, subst, arith, append-nil, option_and_then, All, flat_map, option_or, and_parts, nat_tests, All-nil, All-cons, IsValid, IsWish, is_address, WishesView, Job, has_address, has_drive_numbers, wish_of, AreWithinLimits, DriveView, RingView, Line, Totals, ReadsBack, cycle_text, header_text, end_text, trace_of, SentView, CycleView, has_head, TellsFollowing, Clean, read_as, wish_is, drives_so, address_of, ring_timed, s_known, drive_got, got_inside, first_store, wishes_count, Carry, Restarts, mst_said, no_drive, drive_at, sent_mst, looks_back, begins, ats_next, mdt_next, IsRun, IsOpened, lines_with, lines_of, FitLines, ReadsTraces, reads_traces, told_in, KeepRules, FitOthers, TracesAreClean, IsRing-is_ring, ring_is_valid}
+use Rattle.sercos_block.specs.Rings.{is_drive, are_drives, are_drive_numbers, wishes_of}
 use Rattle.sercos_trace.specs.declared.reading.Line.TheVariants as line
-use Rattle.sercos_trace.specs.declared.record.Totals.{Totals}
-use Rattle.sercos_trace.specs.Lines.{ReadsBack}
-use Rattle.sercos_trace.specs.Texts.{cycle_text, header_text, end_text, trace_of}
-use Rattle.sercos_trace.specs.Views.{SentView, CycleView}
-use Rattle.sercos_check.specs.Shape.{has_head}
-use Rattle.sercos_check.specs.Tests.{TellsFollowing}
-use Rattle.sercos_checking.specs.declared.verdict.Verdict.TheVariants.{Clean}
-use Rattle.sercos_checking.specs.Checking.{read_as, capture_fault, first_violation, verdict_by, verdict_of}
+use Rattle.sercos_checking.specs.Checking.{capture_fault, first_violation, verdict_by, verdict_of}
 use Rattle.sercos_answer.specs.Lines as answer
-use Rattle.sercos_law_run.proofs.Theorems.{wish_is, drives_so, address_of, ring_timed, s_known, drive_got, got_inside, first_store, wishes_count}
-use Rattle.sercos_script.specs.Links.{Carry, Restarts}
-use Rattle.sercos_master.specs.Says.{mst_said}
-use Rattle.sercos_law_run.specs.Journal.Runs.{no_drive, drive_at, sent_mst, looks_back, begins, ats_next, mdt_next, IsRun}
-use Rattle.sercos_law_run.specs.Held.Opened.{IsOpened}
-use Rattle.sercos_replay.specs.Captured.{lines_with, lines_of, telegrams}
+use Rattle.sercos_replay.specs.Captured.{telegrams}
 use Rattle.sercos_replay.specs.Stations.{lines_after, lines_read, kind_cycle, mst_cycle}
 use Rattle.sercos_replay.specs.Replaying.{first_cycle, late, late_start}
-use Rattle.sercos_replay.specs.Traced.{FitLines, ReadsTraces}
-use Rattle.sercos_replay.proofs.TracedLemmas.{reads_traces}
-use Rattle.sercos_law_trace.specs.Clean.Ruled.{told_in, KeepRules}
-use Rattle.sercos_law_trace.specs.Clean.Fields.{FitOthers}
-use Rattle.sercos_law_trace.specs.Clean.Traces.{TracesAreClean}
 use Rattle.sercos_law_trace.proofs.Clean.PassLemmas.{Leads, leads_both}
 use Rattle.sercos_law_trace.proofs.Clean.LineLeads.{Stands, journal_leads, end_leads}
 use Rattle.sercos_law_trace.proofs.Clean.HeadLeads.{FitsDrive, FitsHead, header_leads}
 use Rattle.sercos_law_trace.proofs.Clean.RunRules.{runs_keep_rules, cycle_low}
 use Rattle.sercos_law_trace.proofs.Clean.FitRuns.{runs_fit_lines}
-use Rattle.sercos_block.proofs.RingLemmas.{IsRing-is_ring}
-use Rattle.sercos_law_run.proofs.Start.WellLemmas.{ring_is_valid}
 
 -- THE VERDICT
 ended : (lines : List Line) → has_head lines ≡ true → capture_fault lines [] ≡ None

@@ -1,19 +1,6 @@
 -- The trace of a run is clean.
-use Rattle.std.proofs.Common.{◌≡◌, ◌≤◌, nat_le, true, List, length, reverse, arith}
-use Rattle.std.proofs.lemmas.Bool.{and_parts}
-use Rattle.std.proofs.lemmas.Bool.Decides.{nat_tests}
-use Rattle.sercos_step.specs.declared.request.Job.{Job}
-use Rattle.sercos_timing.specs.Limits.{most_gap, most_cycle}
-use Rattle.sercos_timing.specs.Valid.{is_rate, is_cycle, is_control}
-use Rattle.sercos_block.specs.Limits.{most_cycles}
-use Rattle.sercos_block.specs.Rings.{is_ring, has_ring_numbers, are_ring_numbers}
-use Rattle.sercos_block.specs.Views.{RingView}
-use Rattle.sercos_script.specs.Links.{Carry, Restarts}
-use Rattle.sercos_law_run.specs.Journal.Runs.{IsRun, run_of}
-use Rattle.sercos_law_run.specs.Held.Opened.{IsOpened}
-use Rattle.sercos_law_run.specs.Totals.Totals.{totals_of}
-use Rattle.sercos_law_run.proofs.Theorems.{length-run_of}
-use Rattle.sercos_law_trace.specs.Clean.Traces.{IsCleanIfClear, RunsAreClean, RunsFitOthers, RunsFitReports, TracesAreClean}
+use Rattle.sercos_law_trace.proofs.Words.{◌≡◌, ◌≤◌, nat_le, true, List, length, reverse, arith, and_parts, nat_tests, Job, most_gap, most_cycle, is_rate, is_cycle, is_control, most_cycles, has_ring_numbers, RingView, Carry, Restarts, IsRun, run_of, IsOpened, totals_of, length-run_of, IsCleanIfClear, RunsAreClean, RunsFitOthers, RunsFitReports, TracesAreClean}
+use Rattle.sercos_block.specs.Rings.{is_ring, are_ring_numbers}
 
 pub runs_are_clean : RunsFitOthers → RunsFitReports → TracesAreClean → RunsAreClean
 runs_are_clean others reports traces r jobs carry restarts j opened few run clear short =

@@ -1,25 +1,6 @@
 -- What is told of each request of a run that is undisturbed and long enough: an outcome, and not a broken one.
-use Rattle.std.proofs.Common.{◌≡◌, inl, inr, ℕ, zero, suc, ◌+◌, ◌*◌, ◌<◌, ◌≤◌, ◌==◌, Bool, true, false, if◌then◌else◌, List, [], ◌∷◌, ◌++◌, length, Some, option_map, refl, sym, ap, ◌∙◌, subst, arith}
-use Rattle.std.proofs.lemmas.Option.{none-some, same_Some}
-use Rattle.std.specs.Prelude.{slice_get}
-use Rattle.std.specs.List.{filter, find}
-use Rattle.std.proofs.Math.Nat.{mul-le-mul_right}
-use Rattle.std.proofs.lemmas.Bool.Decides.{nat_tests}
-use Rattle.sercos_step.specs.declared.request.Job.{Job}
-use Rattle.sercos_step.specs.declared.request.Outcome.{Outcome}
+use Rattle.sercos_law_trace.proofs.Words.{◌≡◌, inl, inr, ℕ, zero, suc, ◌+◌, ◌*◌, ◌<◌, ◌≤◌, ◌==◌, Bool, true, false, if◌then◌else◌, List, [], ◌∷◌, ◌++◌, length, Some, option_map, refl, sym, ap, ◌∙◌, subst, arith, none-some, same_Some, slice_get, filter, find, mul-le-mul_right, nat_tests, Job, Outcome, startup_bound, RingView, CycleView, MemberView, Task, known_of, request_task, tasks_for, tasks_from, Carry, Restarts, drive_at, HasOutcome, HaveTold, request_cycles, IsRight, NeverDisturbed, StartsUp, member_is, told_of}
 use Rattle.sercos_step.specs.declared.request.Outcome.TheVariants as outcome
-use Rattle.sercos_block.specs.Startup.{startup_bound}
-use Rattle.sercos_block.specs.Views.{RingView}
-use Rattle.sercos_trace.specs.Views.{CycleView}
-use Rattle.sercos_seat.specs.Ring.{MemberView, Task, known_of, request_task, tasks_for, tasks_from}
-use Rattle.sercos_script.specs.Links.{Carry, Restarts}
-use Rattle.sercos_law_run.specs.Journal.Runs.{drive_at}
-use Rattle.sercos_law_run.specs.Agenda.Events.{HasOutcome}
-use Rattle.sercos_law_run.specs.Undisturbed.Reports.{HaveTold, request_cycles}
-use Rattle.sercos_law_run.specs.Undisturbed.StopsLater.{IsRight}
-use Rattle.sercos_law_run.specs.Undisturbed.WholeRuns.{NeverDisturbed, StartsUp}
-use Rattle.sercos_law_run.proofs.Theorems.{member_is}
-use Rattle.sercos_backup.specs.Tracking.{told_of}
 use Rattle.sercos_law_trace.specs.Told.Told.{told_in}
 use Rattle.sercos_law_trace.proofs.Told.ToldLemmas.{told_cut, told_more}
 

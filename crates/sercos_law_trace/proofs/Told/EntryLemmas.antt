@@ -1,29 +1,6 @@
 -- The steps that a drive accepted in a run, and the transfers that they are parts of.
-use Rattle.std.proofs.Common.{◌≡◌, ◌⊎◌, inl, inr, ℕ, ◌==◌, Bool, true, false, if◌then◌else◌, List, [], ◌∷◌, ◌++◌, length, Option, Some, None, refl, sym, ap, subst, ◌∙◌, append_assoc}
-use Rattle.std.proofs.lemmas.Bool.{cond_both}
-use Rattle.std.specs.Prelude.{nat_le, ◌&&◌}
-use mathlib.Core.Bool.{beq}
-use Rattle.sercos_step.specs.declared.request.Job.{Job}
-use Rattle.sercos_block.specs.declared.block.Block.{Block}
-use Rattle.sercos_block.specs.Stores.{IsStore}
-use Rattle.sercos_block.specs.Views.{RingView}
-use Rattle.sercos_service_drive.specs.Log.{Processed, Entry, ahs}
-use Rattle.sercos_service_drive.specs.Replies.{reply_of, log_of}
-use Rattle.sercos_service_drive.specs.Writes.{Write}
-use Rattle.sercos_service_master.specs.Begun.{Begun, Said}
-use Rattle.sercos_drive.specs.Annals.{store_at}
-use Rattle.sercos_script.specs.Links.{Carry, Restarts}
-use Rattle.sercos_trace.specs.Views.{CycleView}
-use Rattle.sercos_law_channel.specs.Handshake.Views.{View, processed_of, processed_in, kept_in, stood_in, standing, got_in}
-use Rattle.sercos_law_channel.specs.Handshake.Epochs.{begun_in, epoch_begun}
-use Rattle.sercos_law_channel.specs.Handshake.WholeRun.{all_begun, all_entries, accepted_of, leaving, begun_ago}
-use Rattle.sercos_law_channel.specs.Handshake.Exact.{AreExact, IsExact}
-use Rattle.sercos_law_channel.specs.Handshake.Parts.{AreParts}
-use Rattle.sercos_law_channel.specs.Handshake.ReadTransfers.{entry_behind}
-use Rattle.sercos_law_run.specs.Headline.Transfers.{OnStores}
-use Rattle.sercos_law_run.specs.Journal.Runs.{drive_at, given_mst}
-use Rattle.sercos_law_run.specs.Views.RingViews.{view_of, views_of}
-use Rattle.sercos_law_run.proofs.Theorems.{views_count}
+use Rattle.sercos_law_trace.proofs.Words.{◌≡◌, ◌⊎◌, inl, inr, ℕ, ◌==◌, Bool, true, false, if◌then◌else◌, List, [], ◌∷◌, ◌++◌, length, Option, Some, None, refl, sym, ap, subst, ◌∙◌, append_assoc, cond_both, nat_le, ◌&&◌, beq, Job, Block, IsStore, RingView, Processed, Entry, ahs, reply_of, log_of, Write, Begun, store_at, Carry, Restarts, CycleView, View, processed_of, processed_in, kept_in, stood_in, standing, got_in, begun_in, epoch_begun, all_begun, all_entries, accepted_of, leaving, begun_ago, AreExact, IsExact, AreParts, entry_behind, OnStores, drive_at, given_mst, view_of, views_of, views_count}
+use Rattle.sercos_service_master.specs.Begun.{Said}
 
 -- this step is among those that a drive accepted
 abbrev pub HasAccepted : Entry → List Entry → Type 0

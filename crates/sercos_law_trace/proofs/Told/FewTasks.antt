@@ -1,24 +1,6 @@
 -- Before phase 4 no request of the document is begun: so where the phase rises, a channel has begun at most the requests of the start-up,
 -- and all have ended.
-use Rattle.std.proofs.Common.{◌≡◌, ℕ, suc, ◌+◌, ◌<◌, ◌≤◌, true, List, [], ◌∷◌, length, Option, Some, None, refl, sym, ap, ◌∙◌, arith, length-append}
-use Rattle.std.specs.Prelude.{is_none}
-use Rattle.std.proofs.lemmas.Bool.{false≢true}
-use Rattle.std.proofs.lemmas.Bool.Decides.{nat_tests}
-use Rattle.sercos_step.proofs.Ends.{has_next}
-use Rattle.sercos_step.specs.declared.request.Outcome.{Outcome}
-use Rattle.sercos_step.specs.Steps.{outcome_of}
-use Rattle.sercos_service_master.specs.Begun.{Begun}
-use Rattle.sercos_service_master.specs.Calls.{begun_by}
-use Rattle.sercos_timing.specs.Views.{PlanView}
-use Rattle.sercos_seat.specs.Agenda.{reads_count, is_ready}
-use Rattle.sercos_seat.specs.Channel.{outcomes_in, with_outcome}
-use Rattle.sercos_seat.specs.Ring.{Known, Task, member}
-use Rattle.sercos_seat.specs.Seats.{AreWaiting}
-use Rattle.sercos_seat.proofs.Queues.{ready_stays}
-use Rattle.sercos_master.specs.Annals.{Past, outcomes, is_done, is_done_in, all_ready}
-use Rattle.sercos_master.proofs.Configured.{each_passes}
-use Rattle.sercos_law_run.specs.Agenda.Tasks.{IsTask, OfReads, OfWrites, Checks3, Lists3, Checks4, Lists4, OfWaiting, AreBegunTasks, HasBegunTasks}
-use Rattle.sercos_law_run.proofs.Theorems.{all_ended, rests_so}
+use Rattle.sercos_law_trace.proofs.Words.{◌≡◌, ℕ, suc, ◌+◌, ◌<◌, ◌≤◌, true, List, [], ◌∷◌, length, Option, Some, None, refl, sym, ap, ◌∙◌, arith, length-append, is_none, false≢true, nat_tests, has_next, Outcome, outcome_of, Begun, begun_by, PlanView, reads_count, is_ready, outcomes_in, with_outcome, Known, Task, member, AreWaiting, ready_stays, Past, outcomes, is_done, is_done_in, all_ready, each_passes, IsTask, OfReads, OfWrites, Checks3, Lists3, Checks4, Lists4, OfWaiting, AreBegunTasks, HasBegunTasks, all_ended, rests_so}
 use Rattle.sercos_law_trace.proofs.Told.GuardedWrites.{HaveEnded}
 
 -- the requests that have ended

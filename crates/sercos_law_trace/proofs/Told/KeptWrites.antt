@@ -1,61 +1,20 @@
 -- A complete write of operation data is kept, if no later request writes to its block: the start-up doesn't write it either.
-use Rattle.std.proofs.Common.{◌≡◌, ◌⊎◌, inl, inr, ℕ, zero, suc, ◌+◌, ◌<◌, ◌==◌, Bool, true, false, not, ◌||◌, if◌then◌else◌, List, [], ◌∷◌, ◌++◌, length, Option, Some, None, refl, sym, ap, subst, ◌∙◌, arith}
-use Rattle.std.proofs.lemmas.Option.{none-some, same_Some}
-use Rattle.std.specs.Prelude.{IfSome, option_map, nat_lt, drop, map, is_some, unwrap_or, slice_get, slice_index}
-use Rattle.std.specs.List.{list_all, list_any}
-use Rattle.std.proofs.lemmas.Bool.{cond-true}
-use Rattle.std.proofs.lemmas.Bool.Decides.{nat_tests}
-use Rattle.sercos_idn.specs.declared.idn.Idn.{Idn}
-use Rattle.sercos_step.specs.declared.request.Request.{Request}
+use Rattle.sercos_law_trace.proofs.Words.{◌≡◌, ◌⊎◌, inl, inr, ℕ, zero, suc, ◌+◌, ◌<◌, ◌==◌, Bool, true, false, not, ◌||◌, if◌then◌else◌, List, [], ◌∷◌, ◌++◌, length, Option, Some, None, refl, sym, ap, subst, ◌∙◌, arith, none-some, same_Some, IfSome, option_map, nat_lt, drop, map, is_some, unwrap_or, slice_get, slice_index, list_all, list_any, cond-true, nat_tests, Idn, Request, Job, Outcome, PlanView, Block, find_block, store_of, RingView, data_at, AreAlike, without_data, flipped, find-alike, is_fixed, blocks_in, annals, Begun, begun_by, CycleView, Carry, Restarts, Known, MemberView, Task, known_of, tasks_for, member, declared_times, reads, writes, count_requests, outcomes_in, Call, HearMst, HearAt, Mdt, End, Restart, Past, past, settled, still_waiting, with_task, channel_at, CallsAreMoves, IsTask, OfReads, OfWrites, Checks3, Lists3, Checks4, Lists4, OfWaiting, AreBegunTasks, AreNumbered, AreRequests, IsWrittenLast, WritesData, numbered_drop, member_is, members_count, stored, all_begun, all_writes, AreSound, Given, written_to, newest_to, is_plain, store_in, HoldsNewest, StaysFixed, GiveElsewhere, heard, passage, mst_in, ats_in, IsRun, IsClear, drive_at, looks_back, middle, master_calls, own_mst, at_calls, with_at, station_of, given_before, behind_ats, behind_mdt, view_of, views_of, IsOpened, Headline, KeepsAll, writes_to, IsLastTo, WritesAreKept, get_dropped, writes_data}
 use Rattle.sercos_step.specs.declared.request.Request.TheVariants as request
-use Rattle.sercos_step.specs.declared.request.Job.{Job}
-use Rattle.sercos_step.specs.declared.request.Outcome.{Outcome}
 use Rattle.sercos_step.specs.declared.request.Outcome.TheVariants as outcome
-use Rattle.sercos_timing.specs.Views.{PlanView}
-use Rattle.sercos_block.specs.declared.block.Block.{Block}
-use Rattle.sercos_block.specs.Stores.{find_block, store_of}
-use Rattle.sercos_block.specs.Views.{RingView}
-use Rattle.sercos_command.specs.Checks.{data_at}
 use Rattle.sercos_service_drive.specs.Replies.{data_in}
-use Rattle.sercos_service_drive.specs.Writes.{AreAlike, without_data}
-use Rattle.sercos_law_channel.proofs.Theorems.{flipped, find-alike}
-use Rattle.sercos_block.specs.Blocks.{is_fixed}
-use Rattle.sercos_drive.specs.Moments.{blocks_in}
-use Rattle.sercos_drive.specs.Annals.{annals}
-use Rattle.sercos_service_master.specs.Begun.{Begun}
-use Rattle.sercos_service_master.specs.Calls.{begun_by}
-use Rattle.sercos_trace.specs.Views.{CycleView}
-use Rattle.sercos_script.specs.Links.{Carry, Restarts}
-use Rattle.sercos_seat.specs.Ring.{Known, MemberView, Task, known_of, tasks_for, member}
-use Rattle.sercos_seat.specs.Agenda.{idn as number_of, declared_times, reads, writes}
-use Rattle.sercos_seat.specs.Channel.{count_requests, outcomes_in}
-use Rattle.sercos_master.specs.Annals.{Call, HearMst, HearAt, Mdt, End, Restart, Past, past, begins, settled, still_waiting, with_task}
-use Rattle.sercos_law_run.specs.Agenda.Channels.{channel_at, CallsAreMoves}
-use Rattle.sercos_law_run.specs.Agenda.Tasks.{IsTask, OfReads, OfWrites, Checks3, Lists3, Checks4, Lists4, OfWaiting, AreBegunTasks}
-use Rattle.sercos_law_run.specs.Agenda.Reported.{AreNumbered, AreRequests}
-use Rattle.sercos_law_run.specs.Agenda.Writes.{IsWrittenLast, WritesData}
-use Rattle.sercos_law_run.proofs.Theorems.{numbered_drop, member_is, members_count}
-use Rattle.sercos_law_channel.specs.Handshake.Transfers.{stored}
-use Rattle.sercos_law_channel.specs.Handshake.WholeRun.{all_begun, all_writes, AreSound}
-use Rattle.sercos_law_channel.specs.Handshake.Exact.{Given, written_to}
-use Rattle.sercos_law_channel.specs.Handshake.Values.{newest_to, is_plain, store_in, HoldsNewest, StaysFixed, GiveElsewhere}
-use Rattle.sercos_law_run.specs.Journal.Arrivals.{heard, passage}
+use Rattle.sercos_seat.specs.Agenda.{idn as number_of}
+use Rattle.sercos_master.specs.Annals.{begins}
 use Rattle.sercos_telegram.specs.declared.layout.Kind.TheVariants as kinds
-use Rattle.sercos_law_run.specs.Journal.Records.{mst_in, ats_in}
-use Rattle.sercos_law_run.specs.Journal.Runs.{IsRun, IsClear, drive_at, looks_back, middle, master_calls, own_mst, at_calls, with_at, station_of, given_before, begins as begin_of}
-use Rattle.sercos_law_run.specs.Views.RingViews.{behind_ats, behind_mdt, view_of, views_of, request_of as request_in}
-use Rattle.sercos_law_run.specs.Held.Opened.{IsOpened}
-use Rattle.sercos_law_run.specs.Headline.Headline.{Headline, KeepsAll}
-use Rattle.sercos_law_trace.specs.Told.Writes.{writes_to, IsLastTo, WritesAreKept}
+use Rattle.sercos_law_run.specs.Journal.Runs.{begins as begin_of}
+use Rattle.sercos_law_run.specs.Views.RingViews.{request_of as request_in}
 use Rattle.sercos_law_trace.proofs.Told.ToldLemmas.{told_cut, HasReported, IsRequestOf, request_of}
-use Rattle.sercos_master.proofs.Laws.{get_dropped}
 use Rattle.sercos_law_trace.proofs.Told.ReadLemmas.{run_before, clear_before, reported_at, begun_as}
 use Rattle.sercos_law_trace.proofs.Told.StartNumbers.{all_start, is_start}
 use Rattle.sercos_law_trace.proofs.Told.StartBlocks.{StartLaws, not_start}
 use Rattle.sercos_law_trace.proofs.Told.LastWrites.{Elsewhere, newest_last, last_next, last_now}
 use Rattle.sercos_law_trace.proofs.Told.KnownBlocks.{known_block}
 use Rattle.sercos_law_trace.proofs.Told.LaterTasks.{IsAbove, AreAbove, AreLater, HasEnded, later_above, still, above_call, has_ended, ended_count}
-use Rattle.sercos_law_run.proofs.Agenda.WritesDone.{writes_data}
 
 -- the laws below
 pub record KeptLaws : Type 0 where

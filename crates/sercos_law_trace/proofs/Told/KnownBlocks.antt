@@ -1,34 +1,9 @@
 -- A write that is complete went to a block that the drive has: the opening of any other is refused.
-use Rattle.std.proofs.Common.{◌≡◌, inl, inr, ℕ, suc, ◌≤◌, Bool, true, false, not, ◌&&◌, if◌then◌else◌, List, [], ◌∷◌, ◌++◌, length, Option, Some, None, refl, sym, ap, subst, ◌∙◌, arith}
-use mathlib.Core.Bool.{beq}
-use Rattle.sercos_idn.specs.declared.idn.Idn.{Idn}
-use Rattle.sercos_step.specs.declared.step.Step.{Step}
-use Rattle.sercos_step.specs.declared.step.Answer.{Answer}
-use Rattle.sercos_step.specs.declared.request.Request.{Request}
+use Rattle.sercos_law_trace.proofs.Words.{◌≡◌, inl, inr, ℕ, suc, ◌≤◌, Bool, true, false, not, ◌&&◌, if◌then◌else◌, List, [], ◌∷◌, ◌++◌, length, Option, Some, None, refl, sym, ap, subst, ◌∙◌, arith, beq, Idn, Step, Answer, Request, Job, opening, outcome_of, answer_words, is_whole, Block, find_block, store_of, RingView, Processed, Entry, ahs, reply_of, log_of, AreAlike, Begun, step_at, with_step, steps_begun, Carry, Restarts, CycleView, log_steps, replies_of, IsRow, Unsent, Unheard, idn_of, View, standing, stood_in, record_in, kept_in, accepted_of, all_entries, all_writes, AreSound, AreExact, Processes, Nothing, Record, processes, length-steps_of, length-replies_of, length-steps_begun, complete-outcome_of, goes_on-outcome_of, refused_opening, drive_at, view_of, views_of, IsExactAt}
 use Rattle.sercos_step.specs.declared.request.Request.TheVariants as request
 use Rattle.sercos_step.specs.declared.request.Outcome.TheVariants as outcome
-use Rattle.sercos_step.specs.declared.request.Job.{Job}
-use Rattle.sercos_step.specs.Steps.{opening, outcome_of, answer_words, is_whole}
-use Rattle.sercos_block.specs.declared.block.Block.{Block}
-use Rattle.sercos_block.specs.Stores.{find_block, store_of}
-use Rattle.sercos_block.specs.Views.{RingView}
-use Rattle.sercos_service_drive.specs.Log.{Processed, Entry, ahs}
-use Rattle.sercos_service_drive.specs.Replies.{reply_of, log_of}
-use Rattle.sercos_service_drive.specs.Writes.{AreAlike}
-use Rattle.sercos_service_master.specs.Begun.{Begun, step_at, with_step, steps_begun}
-use Rattle.sercos_script.specs.Links.{Carry, Restarts}
-use Rattle.sercos_trace.specs.Views.{CycleView}
-use Rattle.sercos_law_channel.specs.Handshake.InStep.{log_steps, replies_of}
-use Rattle.sercos_law_channel.specs.Handshake.Parts.{IsRow, IsPart, Unsent, Heard, Unheard}
+use Rattle.sercos_law_channel.specs.Handshake.Parts.{IsPart, Heard}
 use Rattle.sercos_law_channel.specs.Handshake.Transfers.{is_complete}
-use Rattle.sercos_law_channel.specs.Handshake.CommandTransfers.{idn_of}
-use Rattle.sercos_law_channel.specs.Handshake.Views.{View, standing, stood_in, record_in, kept_in}
-use Rattle.sercos_law_channel.specs.Handshake.WholeRun.{accepted_of, all_entries, all_writes, AreSound}
-use Rattle.sercos_law_channel.specs.Handshake.Exact.{AreExact}
-use Rattle.sercos_law_channel.proofs.Theorems.{Processes, Nothing, Record, processes, length-steps_of, length-replies_of, length-steps_begun, complete-outcome_of, goes_on-outcome_of, refused_opening}
-use Rattle.sercos_law_run.specs.Journal.Runs.{drive_at}
-use Rattle.sercos_law_run.specs.Views.RingViews.{view_of, views_of}
-use Rattle.sercos_law_run.specs.Headline.Transfers.{IsExactAt}
 use Rattle.sercos_law_trace.proofs.Told.ReadLemmas.{IsBegunAs}
 use Rattle.sercos_law_trace.proofs.Told.EntryLemmas.{HasAccepted, begun_among, one_exact, among_all}
 

@@ -1,27 +1,7 @@
 -- The last write to a block, from cycle to cycle and through all epochs.
-use Rattle.std.proofs.Common.{◌≡◌, ℕ, Bool, true, false, not, List, [], ◌∷◌, ◌++◌, Option, Some, None, refl, sym, ap, ◌∙◌, subst, if◌then◌else◌, append_assoc}
-use Rattle.std.specs.Prelude.{◌==◌, is_some, IfSome}
-use Rattle.std.specs.List.{list_all}
-use Rattle.std.proofs.lemmas.Bool.{and_parts, cond_both}
-use Rattle.sercos_idn.specs.declared.idn.Idn.{Idn}
-use Rattle.sercos_step.specs.declared.request.Request.{Request}
+use Rattle.sercos_law_trace.proofs.Words.{◌≡◌, ℕ, Bool, true, false, not, List, [], ◌∷◌, ◌++◌, Option, Some, None, refl, sym, ap, ◌∙◌, subst, if◌then◌else◌, append_assoc, ◌==◌, is_some, IfSome, list_all, and_parts, cond_both, Idn, Request, Outcome, Answer, outcome_of, Block, find_block, Entry, Write, Begun, open_in, step_at, answers_it, answer_in, with_answer, stored, Heard, View, with_heard, with_begun, unless_restart, epoch_begun, begun_in, leaving, begun_ago, all_begun, Given, given_by, AreExact, newest_to, GiveElsewhere, IsWrittenLast}
 use Rattle.sercos_step.specs.declared.request.Request.TheVariants as request
-use Rattle.sercos_step.specs.declared.request.Outcome.{Outcome}
 use Rattle.sercos_step.specs.declared.request.Outcome.TheVariants as outcome
-use Rattle.sercos_step.specs.declared.step.Answer.{Answer}
-use Rattle.sercos_step.specs.Steps.{outcome_of}
-use Rattle.sercos_block.specs.declared.block.Block.{Block}
-use Rattle.sercos_block.specs.Stores.{find_block}
-use Rattle.sercos_service_drive.specs.Log.{Entry}
-use Rattle.sercos_service_drive.specs.Writes.{Write}
-use Rattle.sercos_service_master.specs.Begun.{Begun, open_in, step_at, answers_it, answer_in, with_answer}
-use Rattle.sercos_law_channel.specs.Handshake.Transfers.{stored}
-use Rattle.sercos_law_channel.specs.Handshake.Views.{Heard, View}
-use Rattle.sercos_law_channel.specs.Handshake.Epochs.{with_heard, with_begun, unless_restart, epoch_begun, begun_in}
-use Rattle.sercos_law_channel.specs.Handshake.WholeRun.{leaving, begun_ago, all_begun}
-use Rattle.sercos_law_channel.specs.Handshake.Exact.{Given, given_by, AreExact}
-use Rattle.sercos_law_channel.specs.Handshake.Values.{newest_to, GiveElsewhere}
-use Rattle.sercos_law_run.specs.Agenda.Writes.{IsWrittenLast}
 use Rattle.sercos_law_channel.proofs.Theorems.{newest_of}
 
 -- a request gives nothing to the number

@@ -1,22 +1,5 @@
 -- Which requests still wait after a request has ended, and which were begun after it.
-use Rattle.std.proofs.Common.{◌≡◌, inl, inr, ℕ, zero, suc, ◌+◌, ◌<◌, ◌≤◌, true, List, [], ◌∷◌, ◌++◌, length, Option, Some, refl, sym, ap, ◌∙◌, subst, arith}
-use Rattle.std.proofs.lemmas.Bool.{cond_both}
-use Rattle.std.proofs.lemmas.Option.{none-some}
-use Rattle.std.specs.Prelude.{drop, is_some, slice_get}
-use Rattle.std.proofs.lemmas.List.{drop-drop}
-use Rattle.sercos_step.specs.declared.request.Outcome.{Outcome}
-use Rattle.sercos_step.specs.Steps.{outcome_of}
-use Rattle.sercos_timing.specs.Views.{PlanView}
-use Rattle.sercos_service_master.specs.Begun.{Begun}
-use Rattle.sercos_seat.specs.Ring.{Known, Task, member}
-use Rattle.sercos_seat.specs.Agenda.{reads_count, is_ready}
-use Rattle.sercos_seat.specs.Channel.{Report, count_requests, outcomes_in}
-use Rattle.sercos_master.specs.Annals.{Call, past}
-use Rattle.sercos_law_run.specs.Agenda.Channels.{Channel, channel_at, beginning, Steps, Stays, Identifies, Hears, Plans, Begins, Moves, Within, Ends, Falls, newest, AreMoves, CallsAreMoves}
-use Rattle.sercos_law_run.specs.Agenda.Tasks.{IsTask, OfReads, OfWrites, Checks3, Lists3, Checks4, Lists4, OfWaiting, AreBegunTasks}
-use Rattle.sercos_law_run.specs.Agenda.Reported.{AreNumbered, Ascend, IsReportOf}
-use Rattle.sercos_law_run.proofs.Theorems.{count_so}
-use Rattle.sercos_master.proofs.Laws.{get_dropped}
+use Rattle.sercos_law_trace.proofs.Words.{◌≡◌, inl, inr, ℕ, zero, suc, ◌+◌, ◌<◌, ◌≤◌, true, List, [], ◌∷◌, ◌++◌, length, Option, Some, refl, sym, ap, ◌∙◌, subst, arith, cond_both, none-some, drop, is_some, slice_get, drop-drop, Outcome, outcome_of, PlanView, Begun, Known, Task, member, reads_count, is_ready, Report, count_requests, outcomes_in, Call, past, Channel, channel_at, beginning, Steps, Stays, Identifies, Hears, Plans, Begins, Moves, Within, Ends, Falls, newest, AreMoves, CallsAreMoves, IsTask, OfReads, OfWrites, Checks3, Lists3, Checks4, Lists4, OfWaiting, AreBegunTasks, AreNumbered, Ascend, IsReportOf, count_so, get_dropped}
 use Rattle.sercos_law_trace.proofs.Told.FewTasks.{ready_more}
 
 -- THE NUMBERS of the requests to a drive ascend.

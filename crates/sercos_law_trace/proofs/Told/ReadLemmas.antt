@@ -1,40 +1,8 @@
 -- Complete reads of operation data are exact.
-use Rattle.std.proofs.Common.{◌≡◌, ◌⊎◌, inl, inr, ℕ, ◌+◌, ◌<◌, Bool, true, false, if◌then◌else◌, List, [], ◌∷◌, ◌++◌, length, Some, sym, ap, subst, ◌∙◌, arith}
-use Rattle.std.specs.Prelude.{is_some, slice_get}
-use Rattle.std.proofs.lemmas.List.{length-map}
-use Rattle.sercos_idn.specs.declared.idn.Idn.{Idn}
-use Rattle.sercos_idn.specs.Elements.{data_element}
+use Rattle.sercos_law_trace.proofs.Words.{◌≡◌, ◌⊎◌, inl, inr, ℕ, ◌+◌, ◌<◌, Bool, true, false, if◌then◌else◌, List, [], ◌∷◌, ◌++◌, length, Some, sym, ap, subst, ◌∙◌, arith, is_some, slice_get, length-map, Idn, data_element, Job, Outcome, outcome_of, find_block, store_of, RingView, Begun, begun_by, Entry, CycleView, Carry, Restarts, MemberView, Task, member_of, known_of, tasks_for, member, Report, number_in, Past, fall_of, is_idle, broken, restart_told, still_left, HasOutcome, HasReport, told_at_end, all_entries, all_writes, AreExact, Write, element_in, IsRun, IsClear, drive_at, looks_back, middle, master_calls, no_events, restart_events, behind_mdt, view_of, views_of, member_is, Headline, AreReportedIn, IsExactAt, IsReadFrom, ReadsAreExact, get_dropped}
 use Rattle.sercos_step.specs.declared.request.Request.TheVariants as request
-use Rattle.sercos_step.specs.declared.request.Job.{Job}
-use Rattle.sercos_step.specs.declared.request.Outcome.{Outcome}
 use Rattle.sercos_step.specs.declared.request.Outcome.TheVariants as outcome
-use Rattle.sercos_step.specs.Steps.{outcome_of}
-use Rattle.sercos_block.specs.Stores.{find_block, store_of}
-use Rattle.sercos_block.specs.Views.{RingView}
-use Rattle.sercos_service_master.specs.Begun.{Begun}
-use Rattle.sercos_service_master.specs.Calls.{begun_by}
-use Rattle.sercos_service_drive.specs.Log.{Entry}
-use Rattle.sercos_trace.specs.Views.{CycleView}
-use Rattle.sercos_script.specs.Links.{Carry, Restarts}
-use Rattle.sercos_seat.specs.Ring.{MemberView, Task, member_of, known_of, tasks_for, member}
-use Rattle.sercos_seat.specs.Channel.{Report, number_in}
-use Rattle.sercos_master.specs.Annals.{Past, fall_of, is_idle}
-use Rattle.sercos_master.specs.Reports.{broken, restart_told}
-use Rattle.sercos_master.proofs.InOrder.{still_left}
-use Rattle.sercos_law_run.specs.Agenda.Events.{HasOutcome, HasReport}
-use Rattle.sercos_law_run.specs.Agenda.Reported.{told_at_end}
-use Rattle.sercos_law_channel.specs.Handshake.WholeRun.{all_entries, all_writes}
-use Rattle.sercos_law_channel.specs.Handshake.Exact.{AreExact}
-use Rattle.sercos_service_drive.specs.Writes.{Write}
-use Rattle.sercos_law_channel.specs.Handshake.ReadTransfers.{element_in}
-use Rattle.sercos_law_run.specs.Journal.Runs.{IsRun, IsClear, drive_at, looks_back, middle, master_calls, no_events, restart_events}
-use Rattle.sercos_law_run.specs.Views.RingViews.{behind_mdt, view_of, views_of}
-use Rattle.sercos_law_run.proofs.Theorems.{member_is}
-use Rattle.sercos_law_run.specs.Headline.Headline.{Headline}
-use Rattle.sercos_law_run.specs.Headline.Transfers.{AreReportedIn, IsExactAt}
-use Rattle.sercos_law_trace.specs.Told.Reads.{IsReadFrom, ReadsAreExact}
 use Rattle.sercos_law_trace.proofs.Told.ToldLemmas.{told_cut, not_broken, HasReported, reported_at_end, ended_so, has_waited, request_of}
-use Rattle.sercos_master.proofs.Laws.{get_dropped}
 use Rattle.sercos_law_trace.proofs.Told.EntryLemmas.{HasAccepted, on_store, behind_in, begun_among, one_exact, among_all, accepted_in, accepted_later}
 
 -- the cycles up to one of a run

@@ -1,31 +1,8 @@
 -- No request of the document ends as a complete write to a block that the start-up writes.
-use Rattle.std.proofs.Common.{◌≡◌, inl, inr, ℕ, ◌+◌, ◌<◌, ◌≤◌, Bool, true, false, not, List, [], ◌∷◌, length, Option, Some, refl, sym, ap, ◌∙◌, subst, arith}
-use Rattle.std.specs.Prelude.{is_some, drop, slice_get}
-use Rattle.std.proofs.lemmas.Bool.{and_parts, cases_lt}
-use Rattle.sercos_idn.specs.declared.idn.Idn.{Idn}
+use Rattle.sercos_law_trace.proofs.Words.{◌≡◌, inl, inr, ℕ, ◌+◌, ◌<◌, ◌≤◌, Bool, true, false, not, List, [], ◌∷◌, length, Option, Some, refl, sym, ap, ◌∙◌, subst, arith, is_some, drop, slice_get, and_parts, cases_lt, Idn, Job, Block, find_block, store_of, RingView, Begun, begun_by, reads_count, Known, known_of, member, tasks_for, Call, Past, fall_of, is_done, past, get_dropped, jobs_waiting, Carry, Restarts, CycleView, begun_in, AreSound, AreSmall, Laws, ring_drive, members_count, drive_got, IsRun, IsClear, drive_at, middle, behind_mdt, view_of, views_of, IsOpened, Headline, KeepsAll}
 use Rattle.sercos_step.specs.declared.request.Request.TheVariants as request
-use Rattle.sercos_step.specs.declared.request.Job.{Job}
 use Rattle.sercos_step.specs.declared.request.Outcome.TheVariants as outcome
-use Rattle.sercos_block.specs.declared.block.Block.{Block}
-use Rattle.sercos_block.specs.Stores.{find_block, store_of}
-use Rattle.sercos_block.specs.Views.{RingView}
-use Rattle.sercos_service_master.specs.Begun.{Begun}
-use Rattle.sercos_service_master.specs.Calls.{begun_by}
-use Rattle.sercos_seat.specs.Agenda.{reads_count}
-use Rattle.sercos_seat.specs.Ring.{Known, known_of, member, tasks_for}
-use Rattle.sercos_master.specs.Annals.{Call, Past, fall_of, is_done, past}
-use Rattle.sercos_master.proofs.Laws.{get_dropped, jobs_waiting}
-use Rattle.sercos_script.specs.Links.{Carry, Restarts}
-use Rattle.sercos_trace.specs.Views.{CycleView}
-use Rattle.sercos_law_channel.specs.Handshake.Epochs.{begun_in}
 use Rattle.sercos_law_channel.specs.Handshake.Runs.{IsRun as AreNext}
-use Rattle.sercos_law_channel.specs.Handshake.WholeRun.{AreSound, AreSmall}
-use Rattle.sercos_law_channel.proofs.Theorems.{Laws}
-use Rattle.sercos_law_run.proofs.Theorems.{ring_drive, members_count, drive_got}
-use Rattle.sercos_law_run.specs.Journal.Runs.{IsRun, IsClear, drive_at, middle}
-use Rattle.sercos_law_run.specs.Views.RingViews.{behind_mdt, view_of, views_of}
-use Rattle.sercos_law_run.specs.Held.Opened.{IsOpened}
-use Rattle.sercos_law_run.specs.Headline.Headline.{Headline, KeepsAll}
 use Rattle.sercos_law_trace.proofs.Told.ToldLemmas.{HasReported, IsRequestOf, request_of}
 use Rattle.sercos_law_trace.proofs.Told.LaterTasks.{HasEnded, has_ended}
 use Rattle.sercos_law_trace.proofs.Told.GuardedWrites.{AreFewAtRise, HaveEnded, phase_most, never_complete}

@@ -1,20 +1,7 @@
 -- Each block that the start-up writes is a built-in one, and write protected in phase 4.
-use Rattle.std.proofs.Common.{◌≡◌, ℕ, ◌==◌, Bool, true, false, ◌||◌, List, [], ◌∷◌, Option, Some, None, refl, sym, ap, ◌∙◌}
-use Rattle.std.specs.Prelude.{option_map}
-use Rattle.std.specs.List.{list_all, list_any}
-use Rattle.std.specs.Option.{option_or}
-use Rattle.std.proofs.lemmas.Bool.{and_parts, eqb-true, false≢true}
+use Rattle.sercos_law_trace.proofs.Words.{◌≡◌, ℕ, ◌==◌, Bool, true, false, ◌||◌, List, [], ◌∷◌, Option, Some, None, refl, sym, ap, ◌∙◌, option_map, list_all, list_any, option_or, and_parts, eqb-true, false≢true, Block, BuiltIn, is_protected, built_ins, built_in, built_in_block, blocks_fault, find_block, store_of, DriveView, start_numbers, find_store_of, find_built_in}
 use Rattle.sercos_idn.specs.Attributes.{attribute_of}
-use Rattle.sercos_block.specs.declared.block.Block.{Block}
-use Rattle.sercos_block.specs.declared.built_in.BuiltIn.{BuiltIn}
-use Rattle.sercos_block.specs.Blocks.{is_protected}
-use Rattle.sercos_block.specs.BuiltIns.{built_ins, built_in, built_in_block}
 use Rattle.sercos_block.specs.Rings.{row_in}
-use Rattle.sercos_block.specs.Rules.{blocks_fault}
-use Rattle.sercos_block.specs.Stores.{find_block, store_of}
-use Rattle.sercos_block.specs.Views.{DriveView}
-use Rattle.sercos_law_run.specs.Agenda.Writes.{start_numbers}
-use Rattle.sercos_law_run.proofs.Theorems.{find_store_of, find_built_in}
 
 -- the blocks that the start-up writes or has written: the two lists, the two checks, and the values of the plan
 abbrev pub all_start : List ℕ

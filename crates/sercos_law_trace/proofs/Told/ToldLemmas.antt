@@ -1,29 +1,8 @@
 -- From what is told of a request to the request that was begun.
-use Rattle.std.proofs.Common.{◌≡◌, inl, inr, ℕ, zero, suc, ◌+◌, ◌==◌, Bool, true, false, if◌then◌else◌, List, [], ◌∷◌, ◌++◌, length, reverse, Option, Some, None, option_map, refl, sym, ap, ◌∙◌, arith, append-nil}
-use Rattle.std.proofs.lemmas.Option.{none-some}
-use Rattle.std.specs.Prelude.{slice_get}
-use Rattle.std.specs.List.{find, flat_map}
-use Rattle.std.specs.Option.{option_or}
-use Rattle.std.proofs.lemmas.Bool.Decides.{nat_tests}
-use Rattle.std.proofs.lemmas.Grind.{flat_map-append}
-use Rattle.std.proofs.lemmas.List.{reverse-append}
-use Rattle.std.proofs.lemmas.List.Folds.{find-append}
-use Rattle.sercos_step.specs.declared.request.Job.{Job}
-use Rattle.sercos_step.specs.declared.request.Outcome.{Outcome}
+use Rattle.sercos_law_trace.proofs.Words.{◌≡◌, inl, inr, ℕ, zero, suc, ◌+◌, ◌==◌, Bool, true, false, if◌then◌else◌, List, [], ◌∷◌, ◌++◌, length, reverse, Option, Some, None, option_map, refl, sym, ap, ◌∙◌, arith, append-nil, none-some, slice_get, find, flat_map, option_or, nat_tests, flat_map-append, reverse-append, find-append, Job, Outcome, outcome_of, PlanView, CycleView, Begun, Known, Task, tasks_from, request_task, Report, broken_number, outcomes_in, told_at_end, with_told, IsReportOf, HasOutcome, HasReport, IsTask, AreBegunTasks, told_of, map_or}
 use Rattle.sercos_step.specs.declared.request.Outcome.TheVariants as outcome
-use Rattle.sercos_step.specs.Steps.{outcome_of}
-use Rattle.sercos_timing.specs.Views.{PlanView}
-use Rattle.sercos_trace.specs.Views.{CycleView}
-use Rattle.sercos_service_master.specs.Begun.{Begun}
-use Rattle.sercos_seat.specs.Ring.{Known, Task, tasks_from, request_task}
-use Rattle.sercos_seat.specs.Channel.{Report, broken_number, outcomes_in}
-use Rattle.sercos_law_run.specs.Agenda.Reported.{told_at_end, with_told, IsReportOf}
-use Rattle.sercos_law_run.specs.Agenda.Events.{HasOutcome, HasReport}
-use Rattle.sercos_law_run.specs.Agenda.Tasks.{IsTask, AreBegunTasks}
 use Rattle.sercos_law_run.specs.Agenda.Tasks.IsTask.{OfReads, OfWrites, Checks3, Lists3, Checks4, Lists4, OfWaiting}
-use Rattle.sercos_backup.specs.Tracking.{told_of}
 use Rattle.sercos_law_trace.specs.Told.Told.{told_in}
-use Rattle.sercos_backup.proofs.TrackLemmas.{map_or}
 
 -- An outcome that is told stands in the events of a cycle.
 found_in : (xs : List (ℕ × Outcome)) (n : ℕ) (o : Outcome) → told_of xs n ≡ Some o → HasOutcome xs n o

@@ -1,4 +1,4 @@
-use Rattle.sercos_service_drive.proofs.AllowedWrites.{allowed}
+use Rattle.sercos_law_channel.proofs.Words.{allowed}
 use Rattle.sercos_law_channel.proofs.Cited.{written_stays}
 use Rattle.sercos_law_channel.proofs.Handshake.ProtectedWrites.{stays_protected, stays_quiet, stays_fixed}
 use Rattle.sercos_law_channel.proofs.Handshake.StoredValues.{holds_newest}

@@ -1,44 +1,20 @@
 -- To which drive an MDT is, and that the drive gets of it what it is told.
-use Rattle.std.proofs.Common.{◌≡◌, inl, inr, ℕ, zero, suc, ◌+◌, ◌<◌, ◌≤◌, Bool, true, false, not, ◌&&◌, ◌||◌, List, [], ◌∷◌, length, Option, Some, None, refl, sym, ◌∙◌, ap, arith, if◌then◌else◌}
-use Rattle.std.specs.Prelude.{◌==◌, nat_le, is_some, is_none, option_map}
-use Rattle.std.proofs.lemmas.Bool.{and_from, cases_eq, cond-false, cond-true, eqb-true, false≢true, not-true}
-use Rattle.std.proofs.lemmas.Bool.Decides.{nat_tests}
-use Rattle.sercos_timing.specs.Views.{PlanView}
-use Rattle.sercos_block.specs.declared.block.Block.{Block}
-use Rattle.sercos_block.specs.Rings.{is_ring}
-use Rattle.sercos_block.specs.Views.{RingView}
-use Rattle.sercos_service_master.specs.Begun.{Said, open_in, master_says}
-use Rattle.sercos_service_master.specs.Calls.{Send, begun_by}
+use Rattle.sercos_law_run.proofs.Words.{◌≡◌, inl, inr, ℕ, zero, suc, ◌+◌, ◌<◌, ◌≤◌, Bool, true, false, not, ◌&&◌, ◌||◌, List, [], ◌∷◌, length, Option, Some, None, refl, sym, ◌∙◌, ap, arith, if◌then◌else◌, ◌==◌, nat_le, is_some, is_none, option_map, and_from, cases_eq, cond-false, cond-true, eqb-true, false≢true, not-true, nat_tests, PlanView, Block, is_ring, RingView, open_in, master_says, Send, begun_by, Told, mdt_got, is_place, record_said, Known, MemberView, member, known_of, Past, first_from, first_place, place_of, is_idle, is_identified, in_turn, ready_to_send, is_sent_to, addressed_in, after_mdt, Sent, idle, said_to, single, joint, mdt_said, HasTurn, drive_at, is_told, told_to, IsSayable}
+use Rattle.sercos_service_master.specs.Begun.{Said}
 use Rattle.sercos_service_master.specs.Calls as channel
-use Rattle.sercos_drive.specs.declared.hearing.Told.{Told}
-use Rattle.sercos_drive.specs.Heard.{mdt_got}
-use Rattle.sercos_seat.specs.Channel.{is_place}
-use Rattle.sercos_seat.specs.Records.{record_said}
-use Rattle.sercos_seat.specs.Ring.{Known, MemberView, member, known_of}
-use Rattle.sercos_master.specs.Annals.{Past, first_from, first_place, place_of, is_idle, is_identified, in_turn, ready_to_send, is_sent_to, addressed_in, after_mdt}
-use Rattle.sercos_master.specs.Says.{Sent, idle, said_to, single, joint, mdt_said}
-use Rattle.sercos_law_run.specs.Agenda.Turns.{HasTurn}
-use Rattle.sercos_law_run.specs.Journal.Runs.{drive_at}
-use Rattle.sercos_law_run.specs.Views.RingViews.{is_told, told_to}
 use Rattle.sercos_law_run.proofs.Views.DriveSame.{said_to as said_by_told}
 use Rattle.sercos_law_run.proofs.Views.Members.{member_is, members_count, place_is}
 use Rattle.sercos_law_run.proofs.Views.Codecs.{single_clear}
 use Rattle.sercos_law_run.proofs.Views.Received.{Agrees, joint_got}
-use Rattle.sercos_law_run.specs.Views.Spelled.{IsSayable}
 use Rattle.sercos_law_run.proofs.Headline.ApartCycles.{joint_said}
+use Rattle.sercos_law_run.proofs.Agenda.AtWork.{IsFound}
 
 -- if some place passes the test, one is found
-record Finds (k n : ℕ) (test : ℕ → Bool) : Type 0 where
-  place : ℕ
-  found : first_from k n test ≡ Some place
-  below : place < k + n
-  passes : test place ≡ true
-
-finds : (k n i : ℕ) (test : ℕ → Bool) → k ≤ i → i < k + n → test i ≡ true → Finds k n test
+pub finds : (k n i : ℕ) (test : ℕ → Bool) → k ≤ i → i < k + n → test i ≡ true → IsFound k n test
 finds k zero i test low high passes = absurd (omega (arith, low, high))
 finds k (suc n) i test low high passes = by (test k) refl (λ above. finds (k + 1) n i test above (omega (arith, high)) passes)
   where
-    by : (b : Bool) → test k ≡ b → (k + 1 ≤ i → Finds (k + 1) n test) → Finds k (suc n) test
+    by : (b : Bool) → test k ≡ b → (k + 1 ≤ i → IsFound (k + 1) n test) → IsFound k (suc n) test
     by true is next = record { place = k; found = cond-true (test k) (Some k) (first_from (k + 1) n test) is; below = omega arith; passes = is }
     by false is next =
         let later = next (elim (cases_eq k i) [ inl same ↦ absurd (false≢true (sym is ∙ ap test same ∙ passes)) | inr other ↦ omega (arith, low, other) ]) in
@@ -121,7 +97,7 @@ pub record IsTold (r : RingView) (p : Past) (k : ℕ) (blocks : List Block) : Ty
   pub said : mdt_said (known_of r) p ≡ Some sent
   pub got : is_some (mdt_got (drive_at r k).address p.now.phase blocks (Some sent.content)) ≡ true
 
-some_got : (o : Option Told) (said : Said) → option_map said_by_told o ≡ Some said → is_some o ≡ true
+pub some_got : (o : Option Told) (said : Said) → option_map said_by_told o ≡ Some said → is_some o ≡ true
 some_got None said is = cc
 some_got (Some t) said is = refl
 

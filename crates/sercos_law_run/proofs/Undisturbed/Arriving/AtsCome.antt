@@ -1,35 +1,16 @@
 -- In an undisturbed cycle the master takes each AT that it awaits.
-use Rattle.std.proofs.Common.{◌≡◌, ℕ, ◌+◌, ◌<◌, ◌≤◌, Bool, true, false, ◌&&◌, List, ◌∷◌, length, refl, sym, ◌∙◌, ap, subst, if◌then◌else◌}
-use Rattle.std.specs.Prelude.{nat_le, is_some}
-use Rattle.sercos_step.specs.declared.request.Job.{Job}
-use Rattle.sercos_block.specs.Rings.{wishes_of}
-use Rattle.sercos_block.specs.Views.{RingView}
-use Rattle.sercos_drive.specs.Moments.{phase_in, cycle_in, blocks_in}
-use Rattle.sercos_drive.specs.Says.{sends, values_in}
-use Rattle.sercos_trace.specs.Views.{CycleView}
-use Rattle.sercos_seat.specs.Agenda.{reads, wishes_given}
+use Rattle.sercos_law_run.proofs.Words.{◌≡◌, ℕ, ◌+◌, ◌<◌, ◌≤◌, Bool, true, false, ◌&&◌, List, ◌∷◌, length, refl, sym, ◌∙◌, ap, subst, if◌then◌else◌, nat_le, is_some, Job, wishes_of, RingView, phase_in, cycle_in, blocks_in, sends, values_in, CycleView, reads, wishes_given, is_place, MemberView, member, member_of, known_of, AreAnswers, Past, outcomes, place_of, is_awaited, wanted_len, addressed_before, mdt_said, Carry, Restarts, standing, stood_in, mst_in, ats_in, drive_at, own_mst, begins, given_mst, said_below, contents, disturbs_ats, IsRun, IsClear, behind_mst, behind_ats, behind_mdt, after_mst, view_of, views_of, IsOpened, IsUndisturbed}
 use Rattle.sercos_seat.specs.Agenda as seat
-use Rattle.sercos_seat.specs.Channel.{is_place}
-use Rattle.sercos_seat.specs.Ring.{MemberView, member, member_of, known_of}
-use Rattle.sercos_law_run.specs.Start.Answers.{AreAnswers}
-use Rattle.sercos_master.specs.Annals.{Past, outcomes, place_of, is_awaited, wanted_len, addressed_before}
-use Rattle.sercos_master.specs.Says.{mdt_said}
-use Rattle.sercos_script.specs.Links.{Carry, Restarts}
-use Rattle.sercos_law_channel.specs.Handshake.Views.{standing, stood_in}
-use Rattle.sercos_law_run.specs.Journal.Records.{mst_in, ats_in}
-use Rattle.sercos_law_run.specs.Journal.Runs.{drive_at, own_mst, begins, given_mst, said_below, contents, disturbs_ats, IsRun, IsClear}
 use Rattle.sercos_law_run.proofs.Journal.RunLemmas.{ats_in-said}
-use Rattle.sercos_law_run.specs.Views.RingViews.{behind_mst, behind_ats, behind_mdt, after_mst, view_of, views_of}
 use Rattle.sercos_law_run.proofs.Views.Members.{all_said, member_is}
-use Rattle.sercos_law_run.specs.Held.Opened.{IsOpened}
 use Rattle.sercos_law_run.proofs.Held.Runs.{wishes_so, answers_at, rules, holding}
-use Rattle.sercos_law_run.specs.Undisturbed.Undisturbed.{IsUndisturbed}
+use Rattle.sercos_law_run.proofs.Headline.HeadlineRuns.{first_store}
 use Rattle.sercos_law_run.proofs.Undisturbed.Arriving.Arrivals.{AllHeard, all_heard}
 use Rattle.sercos_law_run.proofs.Undisturbed.Arriving.Taken.{Waits, Took, IsAmong, own_taken, among_said}
 use Rattle.sercos_law_run.proofs.Undisturbed.Arriving.Addressed.{place_found}
 use Rattle.sercos_law_run.proofs.Undisturbed.Arriving.Speaking.{Speaks, speaks, sends_late, at_sound, no_values, asked_len, carried_so}
 use Rattle.sercos_law_run.proofs.Undisturbed.Arriving.Phases.{late_so, early_so, is_late, two_late}
-use Rattle.sercos_law_run.proofs.Undisturbed.Arriving.Sending.{stores, spelled, stored, all, mst_is, started_late}
+use Rattle.sercos_law_run.proofs.Undisturbed.Arriving.Sending.{spelled, stored, all, mst_is, started_late}
 use Rattle.sercos_law_run.proofs.Undisturbed.Arriving.MdtComes.{still, start_is, mst_came, stands_in}
 
 module _ (r : RingView) (jobs : List Job) (carry : Carry) (restarts : Restarts) (opened : IsOpened r jobs) where
@@ -56,16 +37,16 @@ module _ (r : RingView) (jobs : List Job) (carry : Carry) (restarts : Restarts) 
             ≡ 4 + length (values_in (cycle_in (after_mst r carry restarts t.sent j k)) (phase_in (after_mst r carry restarts t.sent j k)) (blocks_in (drive_at r k) (after_mst r carry restarts t.sent j k)))
         by true is =
             let late : 3 ≤ t.phase = late_so t.phase is in
-            let (plan, planned, holds) = holding r jobs carry restarts opened (stores r jobs carry restarts opened) t j run.1 clear.1 (spelled r jobs carry restarts opened t j run clear) (stored r jobs carry restarts opened t j run clear) (all r jobs carry restarts opened t j run clear) ((started_late r jobs carry restarts opened t j run clear) late) k below in
+            let (plan, planned, holds) = holding r jobs carry restarts opened (first_store r jobs carry restarts opened) t j run.1 clear.1 (spelled r jobs carry restarts opened t j run clear) (stored r jobs carry restarts opened t j run clear) (all r jobs carry restarts opened t j run clear) ((started_late r jobs carry restarts opened t j run clear) late) k below in
             let asked : wishes_given (known_of r) (outcomes (behind_mst r jobs carry restarts t.sent j)) ≡ wishes_of r =
-            wishes_so r jobs carry restarts opened (stores r jobs carry restarts opened) (outcomes (behind_mst r jobs carry restarts t.sent j)) (λ i low.
-            subst (λ (p : Past). AreAnswers (drive_at r i) (reads (member_of (drive_at r i))) (outcomes p i)) (sym (start_is r jobs carry restarts opened t j run clear undisturbed)) (answers_at r jobs carry restarts opened (stores r jobs carry restarts opened) j plan (all r jobs carry restarts opened t j run clear) planned.before i low)) in
+            wishes_so r jobs carry restarts opened (first_store r jobs carry restarts opened) (outcomes (behind_mst r jobs carry restarts t.sent j)) (λ i low.
+            subst (λ (p : Past). AreAnswers (drive_at r i) (reads (member_of (drive_at r i))) (outcomes p i)) (sym (start_is r jobs carry restarts opened t j run clear undisturbed)) (answers_at r jobs carry restarts opened (first_store r jobs carry restarts opened) j plan (all r jobs carry restarts opened t j run clear) planned.before i low)) in
             ap (λ (b : Bool). if b then seat.at_len (member (known_of r) k) (outcomes (behind_mst r jobs carry restarts t.sent j) k) else 4) (ap (nat_le 3) (sym first) ∙ is)
             ∙ asked_len r (outcomes (behind_mst r jobs carry restarts t.sent j)) k below asked
             ∙ sym (carried_so (drive_at r k) (cycle_in (after_mst r carry restarts t.sent j k))
             (phase_in (after_mst r carry restarts t.sent j k)) r.control r.cycle k plan
             (blocks_in (drive_at r k) (after_mst r carry restarts t.sent j k))
-            (rules r jobs carry restarts opened (stores r jobs carry restarts opened) t j run.1 clear.1 (spelled r jobs carry restarts opened t j run clear) (stored r jobs carry restarts opened t j run clear) (all r jobs carry restarts opened t j run clear) k below)
+            (rules r jobs carry restarts opened (first_store r jobs carry restarts opened) t j run.1 clear.1 (spelled r jobs carry restarts opened t j run clear) (stored r jobs carry restarts opened t j run clear) (all r jobs carry restarts opened t j run clear) k below)
             ((stored r jobs carry restarts opened t j run clear) k below).0 ((stored r jobs carry restarts opened t j run clear) k below).1
             holds (subst (λ (n : ℕ). 3 ≤ n) (sym stands) late))
         by false is =

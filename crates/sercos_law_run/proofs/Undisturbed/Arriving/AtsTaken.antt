@@ -1,22 +1,8 @@
 -- Which ATs of a cycle the master takes in phases 0 to 2.
-use Rattle.std.proofs.Common.{◌≡◌, ◌⊎◌, inl, inr, ℕ, Bool, true, false, not, ◌&&◌, List, [], ◌∷◌, Option, Some, None, refl, sym, ◌∙◌, ap, ap₂, subst, arith, if◌then◌else◌}
-use Rattle.std.specs.Prelude.{◌==◌, nat_le, is_none, slice_index}
-use Rattle.std.proofs.lemmas.Bool.{cases_eq, false≢true, and_parts}
-use Rattle.std.proofs.lemmas.Bool.Decides.{nat_tests}
+use Rattle.sercos_law_run.proofs.Words.{◌≡◌, ◌⊎◌, inl, inr, ℕ, Bool, true, false, not, ◌&&◌, List, [], ◌∷◌, Option, Some, None, refl, sym, ◌∙◌, ap, ap₂, subst, arith, if◌then◌else◌, ◌==◌, nat_le, is_none, slice_index, cases_eq, false≢true, and_parts, nat_tests, at_fault, Job, RingView, at_len, is_place, Known, member, known_of, Past, Turn, Call, outcomes, addressed_before, place_of, is_awaited, wanted_len, is_taken, after_taken, after_at_of, after_at, same_place, Carry, heard, passage, station_of, with_at, at_calls, looks_back}
 use Rattle.sercos_telegram.specs.declared.layout.Kind.TheVariants as kinds
-use Rattle.sercos_telegram.specs.Faults.{at_fault}
-use Rattle.sercos_step.specs.declared.request.Job.{Job}
-use Rattle.sercos_block.specs.Views.{RingView}
-use Rattle.sercos_seat.specs.Agenda.{at_len}
-use Rattle.sercos_seat.specs.Channel.{is_place}
-use Rattle.sercos_seat.specs.Ring.{Known, member, known_of}
-use Rattle.sercos_master.specs.Annals.{Past, Turn, Call, outcomes, addressed_before, place_of, is_awaited, wanted_len, is_taken, after_taken, after_at_of, after_at}
-use Rattle.sercos_script.specs.Links.{Carry}
-use Rattle.sercos_law_run.specs.Journal.Arrivals.{heard, passage}
-use Rattle.sercos_law_run.specs.Journal.Runs.{station_of, with_at, at_calls, looks_back}
 use Rattle.sercos_law_run.proofs.Views.MasterSame.{AfterAts, ats_next}
 use Rattle.sercos_law_run.proofs.Undisturbed.Arriving.Taken.{IsAmong}
-use Rattle.sercos_law_run.proofs.Undisturbed.Arriving.Small.{same_place}
 
 -- what an AT leaves
 keeps_at : (s : Known) (k : ℕ) (content : List ℕ) (q : Past) → q.now.heard k ≡ true → (after_at s content q).now.heard k ≡ true

@@ -1,33 +1,12 @@
 -- Before phase 3 the master hears a drive with an open step, if the drive took the MDT of the cycle before.
-use Rattle.std.proofs.Common.{◌≡◌, inl, inr, ℕ, ◌+◌, ◌<◌, ◌≤◌, Bool, true, false, ◌&&◌, List, [], ◌∷◌, length, None, refl, sym, ◌∙◌, ap, subst, if◌then◌else◌}
-use Rattle.std.specs.Prelude.{nat_le, is_some}
-use Rattle.std.proofs.lemmas.Bool.{cases_eq, and_from, and_parts, cond-false, false≢true, leb-true}
-use Rattle.sercos_step.specs.declared.request.Job.{Job}
-use Rattle.sercos_block.specs.Views.{RingView}
-use Rattle.sercos_service_master.specs.Begun.{Begun, open_in}
-use Rattle.sercos_drive.specs.Moments.{phase_in, has_mst, has_taken}
-use Rattle.sercos_drive.specs.Annals.{annals}
-use Rattle.sercos_drive.specs.Says.{sends}
-use Rattle.sercos_trace.specs.Views.{CycleView}
-use Rattle.sercos_seat.specs.Channel.{is_place}
-use Rattle.sercos_seat.specs.Ring.{known_of}
-use Rattle.sercos_master.specs.Annals.{Past, is_awaited, addressed_before, next_phase, new_epoch, still_waiting, goes_on}
-use Rattle.sercos_script.specs.Links.{Carry, Restarts}
-use Rattle.sercos_law_channel.specs.Handshake.Views.{View, standing, stood_in, before_mst, moved, got_in, afresh, Standing}
-use Rattle.sercos_law_channel.specs.Handshake.Epochs.{command, epoch_begun, begun_in}
-use Rattle.sercos_law_channel.proofs.Theorems.{ends, comes_to}
-use Rattle.sercos_law_run.specs.Journal.Runs.{drive_at, with_restart, given_before, IsRun, IsClear}
-use Rattle.sercos_law_run.specs.Views.RingViews.{behind_mst, behind_mdt, after_mst, view_of, views_of}
-use Rattle.sercos_law_run.specs.Held.Opened.{IsOpened}
-use Rattle.sercos_law_channel.specs.Pace.Passages.{was_addressed}
-use Rattle.sercos_law_run.specs.Undisturbed.Undisturbed.{IsUndisturbed}
+use Rattle.sercos_law_run.proofs.Words.{◌≡◌, inl, inr, ℕ, ◌+◌, ◌<◌, ◌≤◌, Bool, true, false, ◌&&◌, List, [], ◌∷◌, length, None, refl, sym, ◌∙◌, ap, subst, if◌then◌else◌, nat_le, is_some, cases_eq, and_from, and_parts, cond-false, false≢true, leb-true, Job, RingView, Begun, open_in, phase_in, has_mst, has_taken, annals, sends, CycleView, is_place, known_of, Past, is_awaited, addressed_before, next_phase, new_epoch, still_waiting, goes_on, Carry, Restarts, View, standing, stood_in, before_mst, moved, got_in, afresh, Standing, command, epoch_begun, begun_in, ends, comes_to, drive_at, with_restart, given_before, IsRun, IsClear, behind_mst, behind_mdt, after_mst, view_of, views_of, IsOpened, was_addressed, IsUndisturbed, begins_empty}
 use Rattle.sercos_law_run.proofs.Undisturbed.Arriving.Addressed.{place_some, told_then, told_early}
 use Rattle.sercos_law_run.proofs.Undisturbed.Arriving.Speaking.{sends_early}
 use Rattle.sercos_law_run.proofs.Undisturbed.Arriving.Phases.{not_late, is_up, one_two, not_up, later_so, same_two, up_at, was_two}
-use Rattle.sercos_law_run.proofs.Undisturbed.Arriving.Sending.{stand, stood_is, mst_is, phase_then}
+use Rattle.sercos_law_run.proofs.Undisturbed.Arriving.Sending.{stood_is, mst_is, phase_then}
 use Rattle.sercos_law_run.proofs.Undisturbed.Arriving.MdtComes.{drive_in, start_is, commanded_in, mst_came, stands_in}
 use Rattle.sercos_law_run.proofs.Undisturbed.Arriving.AtsCome.{taken_if}
-use Rattle.sercos_law_channel.proofs.Cited.{begins_empty}
+use Rattle.sercos_law_run.proofs.Headline.HeadlineRuns.{all_stand}
 
 -- the parts of a record that came
 got_parts : (v : View) → is_some (got_in v) ≡ true → (v.mdt_comes ≡ true) × (is_some v.sent ≡ true)
@@ -61,7 +40,7 @@ module _ (r : RingView) (jobs : List Job) (carry : Carry) (restarts : Restarts) 
         low : (b : Bool) → nat_le t.phase 1 ≡ b → 2 ≤ t.phase
         low true is =
             let early : command (views_of r jobs carry restarts k (u ∷ j)) ≤ 1 = subst (λ (n : ℕ). n ≤ 1) commanded (leb-true t.phase 1 is) in
-            let none : epoch_begun (views_of r jobs carry restarts k (u ∷ j)) ≡ [] = (begins_empty (drive_at r k).busy (views_of r jobs carry restarts k (u ∷ j)) (stand r jobs carry restarts opened (u ∷ j) run.0 clear.0 k below).sees.run early).0 in
+            let none : epoch_begun (views_of r jobs carry restarts k (u ∷ j)) ≡ [] = (begins_empty (drive_at r k).busy (views_of r jobs carry restarts k (u ∷ j)) (all_stand r jobs carry restarts opened (u ∷ j) run.0 clear.0 k below).sees.run early).0 in
             let closed : false ≡ true = sym (ap (λ (l : List Begun). is_some (open_in l)) none) ∙ opens in
             absurd (false≢true closed)
         low false is = later_so t.phase is

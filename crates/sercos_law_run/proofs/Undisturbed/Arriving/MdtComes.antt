@@ -1,38 +1,19 @@
 -- In an undisturbed cycle MST and MDT come to each drive.
-use Rattle.std.proofs.Common.{◌≡◌, ◌⊎◌, inl, inr, ℕ, ◌+◌, ◌<◌, ◌≤◌, Bool, true, false, List, ◌∷◌, length, Option, Some, None, refl, sym, ◌∙◌, ap, ap₂, subst}
-use Rattle.std.specs.Prelude.{is_some}
-use Rattle.std.proofs.lemmas.Bool.{cond-false}
+use Rattle.sercos_law_run.proofs.Words.{◌≡◌, ◌⊎◌, inl, inr, ℕ, ◌+◌, ◌<◌, ◌≤◌, Bool, true, false, List, ◌∷◌, length, Option, Some, None, refl, sym, ◌∙◌, ap, ap₂, subst, is_some, cond-false, mst_content, Job, PlanView, RingView, mst_got, mdt_got, phase_in, blocks_in, CycleView, known_of, mdt_said, Carry, Restarts, standing, stood_in, command, passage, mst_in, mdt_in, drive_at, given_mst, master_calls, looks_back, mdt_heard, said_below, content_of, disturbs_mdt, IsRun, IsClear, at_start, behind_mdt, told_to, gets_record, after_mst, view_of, views_of, IsOpened, IsUndisturbed, stands_as_commanded}
 use Rattle.sercos_telegram.specs.declared.layout.Kind.TheVariants as kinds
-use Rattle.sercos_telegram.specs.Spells.{mst_content}
-use Rattle.sercos_step.specs.declared.request.Job.{Job}
-use Rattle.sercos_timing.specs.Views.{PlanView}
-use Rattle.sercos_block.specs.Views.{RingView}
-use Rattle.sercos_drive.specs.Heard.{mst_got, mdt_got}
-use Rattle.sercos_drive.specs.Moments.{phase_in, blocks_in}
-use Rattle.sercos_trace.specs.Views.{CycleView}
-use Rattle.sercos_seat.specs.Ring.{known_of}
-use Rattle.sercos_master.specs.Says.{mdt_said}
-use Rattle.sercos_script.specs.Links.{Carry, Restarts}
-use Rattle.sercos_law_channel.specs.Handshake.Views.{standing, stood_in}
-use Rattle.sercos_law_channel.specs.Handshake.Epochs.{command}
-use Rattle.sercos_law_run.specs.Journal.Arrivals.{passage}
-use Rattle.sercos_law_run.specs.Journal.Records.{mst_in, mdt_in}
-use Rattle.sercos_law_run.specs.Journal.Runs.{drive_at, given_mst, master_calls, looks_back, mdt_heard, said_below, content_of, disturbs_mdt, IsRun, IsClear}
 use Rattle.sercos_law_run.proofs.Journal.RunLemmas.{mdt_in-said}
-use Rattle.sercos_law_run.specs.Views.RingViews.{at_start, behind_mdt, told_to, gets_record, after_mst, view_of, views_of}
 use Rattle.sercos_law_run.proofs.Views.MasterSame.{begun_cycle}
 use Rattle.sercos_law_run.specs.Views.Spelled.{IsWhole as IsWholeContent}
 use Rattle.sercos_law_run.proofs.Views.Codecs.{mst_clear}
 use Rattle.sercos_law_run.proofs.Views.Received.{Agrees}
 use Rattle.sercos_law_run.proofs.Views.ViewRuns.{command_below, started}
-use Rattle.sercos_law_run.specs.Held.Opened.{IsOpened}
 use Rattle.sercos_law_run.proofs.Held.Runs.{holding, agrees}
-use Rattle.sercos_law_run.specs.Undisturbed.Undisturbed.{IsUndisturbed}
-use Rattle.sercos_law_run.proofs.Undisturbed.Arriving.Arrivals.{heard_sent, AllArrive, all_arrive}
+use Rattle.sercos_law_run.proofs.Headline.HeadlineRuns.{first_store, all_stand}
+use Rattle.sercos_law_run.proofs.Undisturbed.Arriving.Arrivals.{heard_sent}
 use Rattle.sercos_law_run.proofs.Undisturbed.Arriving.Addressed.{told_then, IsTold, told_got}
 use Rattle.sercos_law_run.proofs.Undisturbed.Arriving.Phases.{not_up, next_station, first_station}
-use Rattle.sercos_law_run.proofs.Undisturbed.Arriving.Sending.{stores, stand, spelled, stored, all, stood_is, phase_then, started_late}
-use Rattle.sercos_law_channel.proofs.Handshake.RunFacts.{stands_as_commanded}
+use Rattle.sercos_law_run.proofs.Undisturbed.Arriving.Sending.{spelled, stored, all, stood_is, phase_then, started_late}
+use Rattle.sercos_law_run.proofs.Undisturbed.Arriving.Comes.{IsCalm, calm_in}
 
 -- What is heard of an MDT that is sent.
 mdt_sent : (carry : Carry) (cycle k : ℕ) (o : Option (List ℕ)) (content : List ℕ) → o ≡ Some content → disturbs_mdt carry cycle o k ≡ false → IsWholeContent content → mdt_heard carry cycle (k + 1) o ≡ Some content
@@ -44,20 +25,20 @@ mdt_sent carry cycle k (Some x) content is still whole =
 module _ (r : RingView) (jobs : List Job) (carry : Carry) (restarts : Restarts) (opened : IsOpened r jobs) where
   module _ (t : CycleView) (j : List CycleView) (run : IsRun r jobs carry restarts (t ∷ j)) (clear : IsClear (t ∷ j))
       (undisturbed : IsUndisturbed r carry restarts t j) where
-    pub still : AllArrive r carry restarts (length j) t.sent
-    still = all_arrive r carry restarts (length j) t.sent undisturbed
+    pub still : IsCalm r carry restarts (length j) t.sent
+    still = calm_in r carry restarts t j undisturbed
 
     pub drive_in : (k : ℕ) → k < length r.drives → restarts (length j) (k + 1) ≡ false
-    drive_in k below = still.goes_on (k + 1) (next_station k (length r.drives) below)
+    drive_in k below = still.stays (k + 1) (next_station k (length r.drives) below)
 
     pub master_in : restarts (length j) 0 ≡ false
-    master_in = still.goes_on 0 (first_station (length r.drives))
+    master_in = still.stays 0 (first_station (length r.drives))
 
     pub start_is : at_start r jobs carry restarts j ≡ looks_back r jobs (master_calls r carry restarts j)
     start_is = started r jobs (restarts (length j) 0) (master_calls r carry restarts j) ∙ ap (λ (b : Bool). begun_cycle b (looks_back r jobs (master_calls r carry restarts j))) master_in
 
     pub commanded_in : (k : ℕ) → k < length r.drives → t.phase ≡ command (views_of r jobs carry restarts k j)
-    commanded_in k below = ((stand r jobs carry restarts opened) (t ∷ j) run clear k below).sees.run.1.commanded ∙ cond-false (restarts (length j) 0) 0 (command (views_of r jobs carry restarts k j)) master_in
+    commanded_in k below = ((all_stand r jobs carry restarts opened) (t ∷ j) run clear k below).sees.run.1.commanded ∙ cond-false (restarts (length j) 0) 0 (command (views_of r jobs carry restarts k j)) master_in
 
     -- the MST
     pub mst_came : (k : ℕ) → k < length r.drives → (view_of r jobs carry restarts k t j).mst_comes ≡ true
@@ -94,5 +75,5 @@ module _ (r : RingView) (jobs : List Job) (carry : Carry) (restarts : Restarts) 
         planned : 3 ≤ (behind_mdt r jobs carry restarts t.sent j).now.phase → phase_in (after_mst r carry restarts t.sent j k) ≡ (behind_mdt r jobs carry restarts t.sent j).now.phase
             → (plan : PlanView) × ((behind_mdt r jobs carry restarts t.sent j).plan ≡ Some plan) × Agrees (known_of r) (behind_mdt r jobs carry restarts t.sent j) k (blocks_in (drive_at r k) (after_mst r carry restarts t.sent j k))
         planned late same =
-            let (plan, of_ring, holds) = holding r jobs carry restarts opened (stores r jobs carry restarts opened) t j run.1 clear.1 (spelled r jobs carry restarts opened t j run clear) (stored r jobs carry restarts opened t j run clear) (all r jobs carry restarts opened t j run clear) ((started_late r jobs carry restarts opened t j run clear) (subst (λ (n : ℕ). 3 ≤ n) (phase_then r jobs carry restarts opened t j run clear) late)) k below in
-            (plan, of_ring.now, agrees r jobs carry restarts opened (stores r jobs carry restarts opened) t j run.1 clear.1 (spelled r jobs carry restarts opened t j run clear) (stored r jobs carry restarts opened t j run clear) (all r jobs carry restarts opened t j run clear) k below plan late (subst (λ (n : ℕ). 3 ≤ n) (sym same) late) of_ring.now)
+            let (plan, of_ring, holds) = holding r jobs carry restarts opened (first_store r jobs carry restarts opened) t j run.1 clear.1 (spelled r jobs carry restarts opened t j run clear) (stored r jobs carry restarts opened t j run clear) (all r jobs carry restarts opened t j run clear) ((started_late r jobs carry restarts opened t j run clear) (subst (λ (n : ℕ). 3 ≤ n) (phase_then r jobs carry restarts opened t j run clear) late)) k below in
+            (plan, of_ring.now, agrees r jobs carry restarts opened (first_store r jobs carry restarts opened) t j run.1 clear.1 (spelled r jobs carry restarts opened t j run clear) (stored r jobs carry restarts opened t j run clear) (all r jobs carry restarts opened t j run clear) k below plan late (subst (λ (n : ℕ). 3 ≤ n) (sym same) late) of_ring.now)

@@ -1,8 +1,5 @@
 -- Phases, by the test whether they are 3 or 4.
-use Rattle.std.proofs.Common.{◌≡◌, ℕ, ◌+◌, ◌<◌, ◌≤◌, Bool, true, false, arith, if◌then◌else◌}
-use Rattle.std.specs.Prelude.{nat_le}
-use Rattle.std.proofs.lemmas.Bool.{leb-true, le-leb}
-use Rattle.std.proofs.lemmas.Bool.Decides.{nat_tests}
+use Rattle.sercos_law_run.proofs.Words.{◌≡◌, ℕ, ◌+◌, ◌<◌, ◌≤◌, Bool, true, false, arith, if◌then◌else◌, nat_le, leb-true, le-leb, nat_tests}
 
 pub late_so : (n : ℕ) → nat_le 3 n ≡ true → 3 ≤ n
 late_so n is = leb-true 3 n is
@@ -37,10 +34,10 @@ later_so n is = grind (arith, nat_tests, is)
 pub same_two : (n : ℕ) → 2 ≤ n → n ≤ 2 → n ≡ 2
 same_two n two early = omega (arith, two, early)
 
-pub next_station : (k n : ℕ) → k < n → k + 1 < n + 1
+pub next_station : (k n : ℕ) → k < n → k + 1 ≤ n
 next_station k n below = omega (arith, below)
 
-pub first_station : (n : ℕ) → 0 < n + 1
+pub first_station : (n : ℕ) → 0 ≤ n
 first_station n = omega arith
 
 pub up_at : (n m : ℕ) → (n ≡ 0 → ⊥) → n ≡ m → 1 ≤ m

@@ -1,18 +1,7 @@
 -- Over links that change nothing no cycle is disturbed, if no station restarts.
-use Rattle.std.proofs.Common.{◌≡◌, ℕ, zero, suc, ◌+◌, Bool, false, List, [], ◌∷◌, length, Option, Some, None, refl}
-use Rattle.std.specs.Prelude.{slice_index}
-use Rattle.sercos_block.specs.Views.{RingView}
-use Rattle.sercos_trace.specs.Views.{CycleView, SentView}
-use Rattle.sercos_telegram.specs.declared.layout.Kind.{Kind}
+use Rattle.sercos_law_run.proofs.Words.{◌≡◌, ℕ, zero, suc, ◌+◌, Bool, false, List, [], ◌∷◌, length, Option, Some, None, refl, slice_index, RingView, CycleView, SentView, Kind, Carry, IsQuiet, Restarts, Passage, frame_of, any_below, disturbed_at, passage, ats_in, mdt_in, mst_in, disturbs_ats, disturbs_mdt, disturbs_mst, is_disturbed_in, station_of, NeverDisturbed}
 use Rattle.sercos_telegram.specs.declared.layout.Kind.TheVariants as kinds
-use Rattle.sercos_script.specs.Links.{Carry, IsQuiet, Restarts}
-use Rattle.sercos_script.specs.declared.link.Passage.{Passage}
-use Rattle.sercos_hdlc.specs.Stuffed.{frame_of}
-use Rattle.sercos_law_run.specs.Journal.Arrivals.{any_below, disturbed_at, passage}
-use Rattle.sercos_law_run.specs.Journal.Records.{ats_in, mdt_in, mst_in}
-use Rattle.sercos_law_run.specs.Journal.Runs.{disturbs_ats, disturbs_mdt, disturbs_mst, is_disturbed_in, station_of}
 use Rattle.sercos_law_run.proofs.Journal.ClearLemmas.{are_same-refl}
-use Rattle.sercos_law_run.specs.Undisturbed.WholeRuns.{NeverDisturbed}
 
 none_is : (n : ℕ) (f : ℕ → Bool) → ((k : ℕ) → f k ≡ false) → any_below n f ≡ false
 none_is zero f off = refl

@@ -1,16 +1,5 @@
 -- A drive that is addressed in a cycle of phase 1 sends its AT in the next.
-use Rattle.std.proofs.Common.{◌≡◌, ℕ, ◌||◌, Bool, true, not, ◌&&◌, List, ◌∷◌, length, Option, Some, None, refl, ◌∙◌, ap, arith, if◌then◌else◌}
-use Rattle.std.specs.Prelude.{◌==◌, nat_le, is_some, is_none, slice_index}
-use Rattle.sercos_telegram.specs.Faults.{at_fault}
-use Rattle.sercos_telegram.proofs.Spellings.{head_fault-none}
-use Rattle.sercos_block.specs.Views.{DriveView}
-use Rattle.sercos_service_drive.specs.Says.{Shown, channel_says}
-use Rattle.sercos_drive.specs.declared.hearing.Told.{Told}
-use Rattle.sercos_drive.specs.Heard.{DriveCall, Mst, Mdt, mst_got, mdt_got}
-use Rattle.sercos_drive.specs.Moments.{Moment, phase_in, cycle_in, has_mst, has_taken, has_missed, records_in, blocks_in, commands_in}
-use Rattle.sercos_drive.specs.Annals.{annals, stands_in, takes}
-use Rattle.sercos_drive.specs.Says.{Said, said, said_in, sends, shown_word, values_in}
-use Rattle.sercos_seat.proofs.Sends.{fields_length}
+use Rattle.sercos_law_run.proofs.Words.{◌≡◌, ℕ, ◌||◌, Bool, true, not, ◌&&◌, List, ◌∷◌, length, Option, Some, None, refl, ◌∙◌, ap, arith, if◌then◌else◌, ◌==◌, nat_le, is_some, is_none, slice_index, at_fault, head_fault-none, DriveView, Shown, channel_says, Told, DriveCall, Mst, Mdt, mst_got, mdt_got, Moment, phase_in, cycle_in, has_mst, has_taken, has_missed, records_in, blocks_in, commands_in, annals, stands_in, takes, Said, said, said_in, sends, shown_word, values_in, fields_length}
 
 ends_one : (n : ℕ) (b : Bool) → n ≡ 1 → (if nat_le 3 n && b then 0 else n) ≡ 1
 ends_one n b one = rw one refl

@@ -1,30 +1,8 @@
 -- The AT that a drive sends has its address and the bytes that the master wants of it.
-use Rattle.std.proofs.Common.{◌≡◌, ℕ, zero, suc, ◌+◌, ◌<◌, ◌≤◌, Bool, true, false, ◌&&◌, ◌||◌, List, [], ◌∷◌, length, Some, None, refl, sym, ◌∙◌, ap, arith}
-use Rattle.std.specs.Prelude.{nat_le, slice_index, slice_index_or}
-use Rattle.std.proofs.lemmas.Bool.{cond-true}
-use Rattle.std.proofs.lemmas.Bool.Decides.{nat_tests}
-use Rattle.sercos_telegram.specs.Faults.{at_fault}
-use Rattle.sercos_telegram.proofs.Spellings.{head_fault-none}
-use Rattle.sercos_step.specs.declared.request.Outcome.{Outcome}
-use Rattle.sercos_timing.specs.Views.{WishesView}
-use Rattle.sercos_timing.specs.Order.{no_wish, wish}
-use Rattle.sercos_timing.specs.declared.wishes.Wish.{Wish}
-use Rattle.sercos_block.specs.declared.block.Block.{Block}
-use Rattle.sercos_block.specs.Rings.{wishes_of, at_len}
-use Rattle.sercos_block.specs.Rules.{blocks_fault}
-use Rattle.sercos_block.specs.Stores.{IsStore}
-use Rattle.sercos_block.specs.Views.{DriveView, RingView}
-use Rattle.sercos_service_drive.specs.Says.{Shown, channel_says}
-use Rattle.sercos_drive.specs.Moments.{Moment, phase_in, cycle_in, has_mst, has_taken, records_in, blocks_in, commands_in}
-use Rattle.sercos_drive.specs.Says.{Said, said, said_in, sends, shown_word, values_in}
-use Rattle.sercos_seat.specs.Agenda.{wish_given, wishes_from, wishes_given}
+use Rattle.sercos_law_run.proofs.Words.{◌≡◌, ℕ, zero, suc, ◌+◌, ◌<◌, ◌≤◌, Bool, true, false, ◌&&◌, ◌||◌, List, [], ◌∷◌, length, Some, None, refl, sym, ◌∙◌, ap, arith, nat_le, slice_index, slice_index_or, cond-true, or_right, nat_tests, at_fault, head_fault-none, Outcome, WishesView, no_wish, wish, Wish, Block, wishes_of, blocks_fault, IsStore, DriveView, RingView, Shown, channel_says, Moment, phase_in, cycle_in, has_mst, has_taken, records_in, blocks_in, commands_in, Said, said, said_in, sends, shown_word, values_in, wish_given, wishes_from, wishes_given, MemberView, member, no_member, known_of, fields_length, IsStoreOf, start_up, Holds, PlanView, drive_at}
+use Rattle.sercos_block.specs.Rings.{at_len}
 use Rattle.sercos_seat.specs.Agenda as seat
-use Rattle.sercos_seat.specs.Ring.{MemberView, member, no_member, known_of}
-use Rattle.sercos_seat.proofs.Sends.{fields_length}
-use Rattle.sercos_law_run.specs.Start.StartUp.{IsStoreOf, start_up, Holds}
 use Rattle.sercos_law_run.proofs.Start.CheckPasses.{wish_is}
-use Rattle.sercos_timing.specs.Views.{PlanView}
-use Rattle.sercos_law_run.specs.Journal.Runs.{drive_at}
 use Rattle.sercos_law_run.proofs.Views.Members.{members_count}
 use Rattle.sercos_law_run.proofs.Held.Runs.{drive_got}
 use Rattle.sercos_law_run.proofs.Headline.AtLengths.{carried_length}
@@ -61,12 +39,8 @@ sends_late past got late = by (has_mst past) (has_taken past) (phase_in past) go
 pub sends_early : (past : List Moment) → has_mst past ≡ true → 1 ≤ phase_in past → has_taken past ≡ true → sends past ≡ true
 sends_early past got up took = by (has_mst past) (has_taken past) (phase_in past) got up took
   where
-    either : (b : Bool) → (b || true) ≡ true
-    either true = refl
-    either false = refl
-
     by : (got took : Bool) (phase : ℕ) → got ≡ true → 1 ≤ phase → took ≡ true → (got && (nat_le 3 phase || (nat_le 1 phase && took))) ≡ true
-    by got took phase is up taken = let one : nat_le 1 phase ≡ true = grind (arith, nat_tests, up) in rw (is, taken, one) (either (nat_le 3 phase))
+    by got took phase is up taken = let one : nat_le 1 phase ≡ true = grind (arith, nat_tests, up) in rw (is, taken, one) (or_right (nat_le 3 phase) true refl)
 
 -- an AT of the wanted address and length has no fault
 pub at_sound : (address wanted : ℕ) (content : List ℕ) → slice_index content 0 ≡ address → length content ≡ 1 + wanted → at_fault address wanted content ≡ None

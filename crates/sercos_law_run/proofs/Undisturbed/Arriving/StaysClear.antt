@@ -1,20 +1,9 @@
 -- In an undisturbed cycle no arrival is unseen.
-use Rattle.std.proofs.Common.{◌≡◌, ℕ, ◌+◌, Bool, true, false, ◌&&◌, List, [], ◌∷◌, ◌++◌, length, Option, Some, None, refl, ap, arith, if◌then◌else◌}
-use Rattle.std.specs.Prelude.{is_none, slice_index}
-use Rattle.sercos_hdlc.specs.Reason.{reason_of}
+use Rattle.sercos_law_run.proofs.Words.{◌≡◌, ℕ, ◌+◌, Bool, true, false, ◌&&◌, List, [], ◌∷◌, ◌++◌, length, Option, Some, None, refl, ap, arith, if◌then◌else◌, or_parts, is_none, slice_index, reason_of, Job, RingView, CycleView, Passage, Carry, Restarts, is_disturbed, disturbed_at, unseen_at, passage, mst_in, ats_in, mdt_in, disturbs_ats, disturbs_mdt, unseen_ats, unseen_mdt, unseen_mst, station_of, IsNext, IsRun, IsClear, IsUndisturbed, AreUndisturbed}
 use Rattle.sercos_telegram.specs.declared.layout.Kind.TheVariants as kinds
-use Rattle.sercos_step.specs.declared.request.Job.{Job}
-use Rattle.sercos_block.specs.Views.{RingView}
-use Rattle.sercos_trace.specs.Views.{CycleView}
-use Rattle.sercos_script.specs.declared.link.Passage.{Passage}
-use Rattle.sercos_script.specs.Links.{Carry, Restarts}
-use Rattle.sercos_law_run.specs.Journal.Arrivals.{is_disturbed, is_unseen, disturbed_at, unseen_at, passage}
-use Rattle.sercos_law_run.specs.Journal.Records.{mst_in, ats_in, mdt_in}
-use Rattle.sercos_law_run.specs.Journal.Runs.{disturbs_ats, disturbs_mdt, unseen_ats, unseen_mdt, unseen_mst, station_of, IsNext, IsRun, IsClear}
-use Rattle.sercos_law_run.specs.Undisturbed.Undisturbed.{IsUndisturbed, AreUndisturbed}
+use Rattle.sercos_law_run.specs.Journal.Arrivals.{is_unseen}
 use Rattle.sercos_law_run.proofs.Journal.ClearLemmas.{sum_none}
 use Rattle.sercos_law_run.proofs.Undisturbed.Arriving.Comes.{IsCalm, calm_in}
-use Rattle.sercos_law_run.proofs.Undisturbed.Arriving.Small.{both_off}
 
 -- what isn't disturbed isn't unseen
 seen : (sent : List Bool) (came : Option (List Bool)) → is_disturbed sent came ≡ false → is_unseen sent came ≡ false
@@ -40,7 +29,7 @@ module _ (carry : Carry) where
   none_ats : (r : RingView) (cycle : ℕ) (ats : List (List ℕ)) → disturbs_ats r carry cycle ats ≡ false → unseen_ats r carry cycle ats ≡ 0
   none_ats r cycle [] calm = refl
   none_ats r cycle (at ∷ ats) calm =
-      let parts = both_off (disturbed_at carry (passage cycle kinds.At (station_of r (slice_index at 0)) 0) at) (disturbs_ats r carry cycle ats) calm in
+      let parts = or_parts (disturbed_at carry (passage cycle kinds.At (station_of r (slice_index at 0)) 0) at) (disturbs_ats r carry cycle ats) calm in
       let first = none_at (passage cycle kinds.At (station_of r (slice_index at 0)) 0) at parts.0 in
       let rest = none_ats r cycle ats parts.1 in omega (arith, first, rest)
 

@@ -1,26 +1,9 @@
 -- The master takes the first AT of a drive in a cycle that is awaited and has the wanted bytes.
-use Rattle.std.proofs.Common.{◌≡◌, ◌⊎◌, inl, inr, ℕ, zero, suc, ◌<◌, ◌≤◌, Bool, true, false, not, ◌&&◌, List, [], ◌∷◌, Option, Some, None, refl, sym, ◌∙◌, ap, ap₂, subst, arith, if◌then◌else◌}
-use Rattle.std.specs.Prelude.{◌==◌, nat_le, nat_lt, slice_index, is_some, is_none}
-use Rattle.std.proofs.lemmas.Bool.{cases_eq, and_from, false≢true}
-use Rattle.std.proofs.lemmas.Bool.Decides.{nat_tests}
+use Rattle.sercos_law_run.proofs.Words.{◌≡◌, ◌⊎◌, inl, inr, ℕ, zero, suc, ◌<◌, ◌≤◌, Bool, true, false, not, ◌&&◌, List, [], ◌∷◌, Option, Some, None, refl, sym, ◌∙◌, ap, ap₂, subst, arith, if◌then◌else◌, ◌==◌, nat_le, nat_lt, slice_index, is_some, is_none, cases_eq, and_from, false≢true, nat_tests, at_fault, Job, DriveView, RingView, begun_by, DriveCall, Said, drive_says, at_len, is_place, outcomes_in, Known, member, known_of, Past, Turn, Call, addressed_before, place_of, is_awaited, wanted_len, is_taken, after_taken, after_at_of, after_at, hearing, same_place, Carry, heard, passage, station_of, with_said, said_below, contents, with_at, at_calls, looks_back, heard_last}
 use Rattle.sercos_telegram.specs.declared.layout.Kind.TheVariants as kinds
-use Rattle.sercos_telegram.specs.Faults.{at_fault}
-use Rattle.sercos_step.specs.declared.request.Job.{Job}
-use Rattle.sercos_block.specs.Views.{DriveView, RingView}
-use Rattle.sercos_service_master.specs.Calls.{begun_by}
 use Rattle.sercos_service_master.specs.Calls as channel
-use Rattle.sercos_drive.specs.Heard.{DriveCall}
-use Rattle.sercos_drive.specs.Says.{Said, drive_says}
-use Rattle.sercos_seat.specs.Agenda.{at_len}
-use Rattle.sercos_seat.specs.Channel.{is_place, outcomes_in}
-use Rattle.sercos_seat.specs.Ring.{Known, member, known_of}
-use Rattle.sercos_master.specs.Annals.{Past, Turn, Call, addressed_before, place_of, is_awaited, wanted_len, is_taken, after_taken, after_at_of, after_at, hearing}
-use Rattle.sercos_script.specs.Links.{Carry}
-use Rattle.sercos_law_run.specs.Journal.Arrivals.{heard, passage}
-use Rattle.sercos_law_run.specs.Journal.Runs.{station_of, inserted, with_said, said_below, contents, with_at, at_calls, looks_back}
-use Rattle.sercos_law_run.specs.Views.RingViews.{heard_last}
+use Rattle.sercos_law_run.specs.Journal.Runs.{inserted}
 use Rattle.sercos_law_run.proofs.Undisturbed.Arriving.Arrivals.{AllHeard}
-use Rattle.sercos_law_run.proofs.Undisturbed.Arriving.Small.{same_place}
 
 -- After some ATs of a cycle none was taken from the drive at a place ..
 pub record Waits (k : ℕ) (p q : Past) : Type 0 where

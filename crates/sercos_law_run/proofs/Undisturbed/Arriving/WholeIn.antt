@@ -1,19 +1,5 @@
 -- An undisturbed cycle is whole for each drive.
-use Rattle.std.proofs.Common.{◌≡◌, ℕ, ◌<◌, ◌≤◌, Bool, true, false, List, [], ◌∷◌, length, refl}
-use Rattle.std.specs.Prelude.{nat_le, is_some}
-use Rattle.sercos_step.specs.declared.request.Job.{Job}
-use Rattle.sercos_block.specs.Views.{RingView}
-use Rattle.sercos_service_master.specs.Begun.{open_in}
-use Rattle.sercos_trace.specs.Views.{CycleView}
-use Rattle.sercos_script.specs.Links.{Carry, Restarts}
-use Rattle.sercos_law_channel.specs.Handshake.Views.{standing, stood_in}
-use Rattle.sercos_law_channel.specs.Handshake.Epochs.{epoch_begun}
-use Rattle.sercos_law_run.specs.Journal.Runs.{IsRun, IsClear}
-use Rattle.sercos_law_run.specs.Views.RingViews.{view_of, views_of}
-use Rattle.sercos_law_run.specs.Held.Opened.{IsOpened}
-use Rattle.sercos_law_channel.specs.Pace.Passages.{was_addressed, IsWhole}
-use Rattle.sercos_law_channel.specs.Pace.ChannelCalls.{staying}
-use Rattle.sercos_law_run.specs.Undisturbed.Undisturbed.{IsUndisturbed}
+use Rattle.sercos_law_run.proofs.Words.{◌≡◌, ℕ, ◌<◌, ◌≤◌, Bool, true, false, List, [], ◌∷◌, length, refl, nat_le, is_some, Job, RingView, open_in, CycleView, Carry, Restarts, standing, stood_in, epoch_begun, IsRun, IsClear, view_of, views_of, IsOpened, was_addressed, IsWhole, staying, IsUndisturbed}
 use Rattle.sercos_law_run.proofs.Undisturbed.Arriving.Phases.{late_so, early_so}
 use Rattle.sercos_law_run.proofs.Undisturbed.Arriving.Sending.{joint_in, sends_in}
 use Rattle.sercos_law_run.proofs.Undisturbed.Arriving.MdtComes.{drive_in, master_in, mst_came, mdt_came}

@@ -1,24 +1,11 @@
 -- What a block of a drive keeps through a run: it is so at opening, and each accepted write and each list of a check leaves it so.
-use Rattle.std.proofs.Common.{◌≡◌, ℕ, Bool, true, false, not, ◌&&◌, List, [], ◌∷◌, Option, Some, None, refl, sym, ap, ◌∙◌, subst, arith, if◌then◌else◌}
-use Rattle.std.specs.Prelude.{◌==◌, IfSome, cond}
-use Rattle.std.proofs.lemmas.Bool.Decides.{nat_tests}
-use Rattle.sercos_block.specs.Stores.{find_block, with_data, store_of, put_fault, are_ascending}
-use Rattle.sercos_block.specs.Views.{DriveView}
-use Rattle.sercos_block.specs.declared.block.Block.{Block}
-use Rattle.sercos_command.specs.Checks.{unfit_for_phase_3, unfit_for_phase_4, list_bytes}
-use Rattle.sercos_command.specs.Settings.{is_command}
-use Rattle.sercos_command.specs.Calls.{is_set, CommandHistory, with_check_list}
-use Rattle.sercos_service_drive.specs.Writes.{Write, added_on, command_value, blocks_with}
-use Rattle.sercos_drive.specs.Heard.{DriveCall, Mst, Mdt, Restart, mdt_got}
-use Rattle.sercos_drive.specs.Moments.{phase_in, records_in, blocks_in, blocks_after, commands_in}
-use Rattle.sercos_drive.specs.Annals.{annals}
-use Rattle.sercos_law_run.specs.Start.StartUp.{IsStoreOf}
+use Rattle.sercos_law_run.proofs.Words.{◌≡◌, ℕ, Bool, true, false, not, ◌&&◌, List, [], ◌∷◌, Option, Some, None, refl, sym, ap, ◌∙◌, subst, arith, if◌then◌else◌, ◌==◌, IfSome, cond, nat_tests, same_Some, find_block, with_data, store_of, put_fault, are_ascending, DriveView, Block, unfit_for_phase_3, unfit_for_phase_4, list_bytes, is_command, is_set, CommandHistory, Write, added_on, command_value, blocks_with, DriveCall, Mst, Mdt, mdt_got, phase_in, records_in, blocks_in, blocks_after, commands_in, annals, IsStoreOf, allowed}
+use Rattle.sercos_command.specs.Calls.{with_check_list}
+use Rattle.sercos_drive.specs.Heard.{Restart}
 use Rattle.sercos_law_run.proofs.Start.KeptLemmas.{writes_keep}
-use Rattle.std.proofs.lemmas.Option.{same_Some}
 use Rattle.sercos_law_run.proofs.Held.Processed.{processed_keeps, taken_at}
 use Rattle.sercos_law_run.proofs.Held.StoreOf.{store_of_so}
 use Rattle.sercos_law_run.proofs.Cited.{handed_those}
-use Rattle.sercos_service_drive.proofs.AllowedWrites.{allowed}
 
 -- so it is of the block with this number
 abbrev pub IsAt : ℕ → (Block → Type 0) → List Block → Type 0

@@ -1,43 +1,12 @@
 -- As long as phase 4 was never commanded, built-in blocks alone were written.
-use Rattle.std.proofs.Common.{◌≡◌, ℕ, zero, suc, ◌<◌, ◌≤◌, Bool, true, false, List, [], ◌∷◌, ◌++◌, length, map, drop, Option, Some, None, refl, sym, ap, ◌∙◌, subst, arith, if◌then◌else◌}
-use Rattle.std.proofs.lemmas.Option.{same_Some}
-use Rattle.std.specs.Prelude.{◌==◌, slice_get}
-use Rattle.sercos_step.specs.declared.request.Job.{Job}
-use Rattle.sercos_step.specs.declared.request.Request.{Request}
+use Rattle.sercos_law_run.proofs.Words.{◌≡◌, ℕ, zero, suc, ◌<◌, ◌≤◌, Bool, true, false, List, [], ◌∷◌, ◌++◌, length, map, drop, Option, Some, None, refl, sym, ap, ◌∙◌, subst, arith, if◌then◌else◌, same_Some, ◌==◌, slice_get, Job, Request, Outcome, PlanView, is_built_in, find_block, store_of, RingView, Block, Entry, Write, Begun, answers_it, answer_in, with_answer, begun_by, CycleView, writes, Known, Task, known_of, member, tasks_for, AreWaiting, Past, jobs_waiting, Carry, Restarts, with_heard, with_begun, epoch_begun, begun_in, Given, given_of, given_by, written_to, AreWrites, Complete, Refused, Broken, AreExact, Heard, View, all_begun, begun_ago, all_entries, all_writes, drive_at, middle, IsRun, IsClear, IsTask, OfReads, OfWrites, Checks3, Lists3, Checks4, Lists4, OfWaiting, AreBegunTasks, start_numbers, behind_mdt, view_of, views_of, IsOpened, runs_exact}
 use Rattle.sercos_step.specs.declared.request.Request.TheVariants as request
-use Rattle.sercos_step.specs.declared.request.Outcome.{Outcome}
-use Rattle.sercos_timing.specs.Views.{PlanView}
-use Rattle.sercos_block.specs.BuiltIns.{is_built_in}
-use Rattle.sercos_block.specs.Stores.{find_block, store_of}
-use Rattle.sercos_block.specs.Views.{RingView}
-use Rattle.sercos_block.specs.declared.block.Block.{Block}
-use Rattle.sercos_service_drive.specs.Log.{Entry}
-use Rattle.sercos_service_drive.specs.Writes.{Write}
-use Rattle.sercos_service_master.specs.Begun.{Begun, answers_it, answer_in, with_answer}
-use Rattle.sercos_service_master.specs.Calls.{begun_by}
-use Rattle.sercos_trace.specs.Views.{CycleView}
-use Rattle.sercos_seat.specs.Agenda.{writes}
-use Rattle.sercos_seat.specs.Ring.{Known, Task, known_of, member, tasks_for}
-use Rattle.sercos_seat.specs.Seats.{AreWaiting}
-use Rattle.sercos_master.specs.Annals.{Past}
-use Rattle.sercos_master.proofs.Laws.{jobs_waiting}
-use Rattle.sercos_script.specs.Links.{Carry, Restarts}
-use Rattle.sercos_law_channel.specs.Handshake.Epochs.{with_heard, with_begun, epoch_begun, begun_in}
-use Rattle.sercos_law_channel.specs.Handshake.Exact.{Given, given_of, given_by, written_to, AreWrites, Complete, Refused, Broken, AreExact}
-use Rattle.sercos_law_channel.specs.Handshake.Views.{Heard, View}
-use Rattle.sercos_law_channel.specs.Handshake.WholeRun.{all_begun, begun_ago, all_entries, all_writes}
-use Rattle.sercos_law_run.specs.Journal.Runs.{drive_at, middle, IsRun, IsClear}
-use Rattle.sercos_law_run.specs.Agenda.Tasks.{IsTask, OfReads, OfWrites, Checks3, Lists3, Checks4, Lists4, OfWaiting, AreBegunTasks}
-use Rattle.sercos_law_run.specs.Agenda.Writes.{start_numbers}
-use Rattle.sercos_law_run.specs.Views.RingViews.{behind_mdt, view_of, views_of}
 use Rattle.sercos_law_run.proofs.Views.Members.{members_count}
-use Rattle.sercos_law_run.specs.Held.Opened.{IsOpened}
 use Rattle.sercos_law_run.proofs.Held.AnsweredRuns.{IsRead, Time, Attribute, is_read_request}
 use Rattle.sercos_law_run.proofs.Held.Runs.{small}
 use Rattle.sercos_law_run.proofs.Headline.HeadlineRuns.{all_stand, first_store, keeps_all}
 use Rattle.sercos_law_run.proofs.Undisturbed.StaysUp.{phase_now}
 use Rattle.sercos_law_run.proofs.Undisturbed.Checks.OwnSet.{AreBuiltIn}
-use Rattle.sercos_law_channel.proofs.Cited.{runs_exact}
 use Rattle.sercos_law_run.proofs.Agenda.WritesDone.{writes_data}
 use Rattle.sercos_law_run.proofs.Cited.{begins_tasks}
 

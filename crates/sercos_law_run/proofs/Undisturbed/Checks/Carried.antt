@@ -1,14 +1,6 @@
 -- A procedure command that is set when an MDT comes was set at the end of the cycle before, and runs for the drive's time.
-use Rattle.std.proofs.Common.{◌≡◌, ℕ, Bool, true, false, List, [], ◌∷◌, Option, Some, None, refl, ap, ◌∙◌, subst, if◌then◌else◌}
-use Rattle.std.specs.Prelude.{◌==◌}
-use Rattle.sercos_command.specs.declared.commands.SetCommand.{SetCommand}
-use Rattle.sercos_command.specs.Calls.{Reset, CommandHistory, with_call}
-use Rattle.sercos_command.specs.Kept.{find_set, set_in}
-use Rattle.sercos_law_channel.specs.Handshake.Views.{View, standing, stood_in}
-use Rattle.sercos_law_channel.specs.Pace.Carried.{set_after, AreCarried}
-use Rattle.sercos_law_run.specs.Settings.SetByWrites.{commands_left}
+use Rattle.sercos_law_run.proofs.Words.{◌≡◌, ℕ, Bool, true, false, List, [], ◌∷◌, Option, Some, None, refl, ap, ◌∙◌, subst, if◌then◌else◌, ◌==◌, SetCommand, Reset, CommandHistory, with_call, find_set, set_in, View, standing, stood_in, set_after, AreCarried, commands_left, commands_ended, commands_before, CommandsFollow}
 use Rattle.sercos_law_run.proofs.Settings.Histories.{reset_if}
-use Rattle.sercos_law_run.specs.Undisturbed.CommandsFollow.{commands_ended, commands_before, CommandsFollow}
 
 none_some : {A : Type 0} (o : Option A) (x : A) → o ≡ None → o ≡ Some x → ⊥
 none_some o x is some = cc

@@ -1,20 +1,7 @@
 -- In a log that ends with a complete check, whose status was 3, the check counts as passed. Each list has its newest item first.
-use Rattle.std.proofs.Common.{◌≡◌, ℕ, ◌+◌, ◌≤◌, Bool, true, false, not, List, [], ◌∷◌, ◌++◌, map, refl, sym, ap, ◌∙◌, subst, arith, if◌then◌else◌}
-use Rattle.std.specs.Prelude.{◌==◌, nat_le, Option, Some, None, is_some}
-use Rattle.std.proofs.lemmas.Bool.{and_parts, cond_both, eq-eqb, leb-true, not-true}
-use Rattle.sercos_block.specs.declared.block.Block.{Block}
-use Rattle.sercos_block.specs.Stores.{with_data}
-use Rattle.sercos_command.specs.declared.commands.SetCommand.{SetCommand}
-use Rattle.sercos_command.specs.Settings.{is_command, ends_well, status_by}
-use Rattle.sercos_command.specs.Calls.{Wrote, Other, CommandHistory, with_call, status_in}
-use Rattle.sercos_command.specs.Kept.{find_set, without, with_set, set_in}
-use Rattle.sercos_service_drive.specs.Log.{Entry}
-use Rattle.sercos_service_drive.specs.Writes.{Write, added_by, with_added, writes_of, command_value, commands_with}
-use Rattle.sercos_law_channel.specs.Handshake.Exact.{Given, given_of, gives}
+use Rattle.sercos_law_run.proofs.Words.{◌≡◌, ℕ, ◌+◌, ◌≤◌, Bool, true, false, not, List, [], ◌∷◌, ◌++◌, map, refl, sym, ap, ◌∙◌, subst, arith, if◌then◌else◌, ◌==◌, nat_le, Option, Some, None, is_some, and_parts, cond_both, eq-eqb, leb-true, not-true, Block, with_data, SetCommand, is_command, ends_well, status_by, Wrote, Other, CommandHistory, with_call, status_in, find_set, without, with_set, set_in, Entry, Write, added_by, with_added, writes_of, command_value, commands_with, Given, given_of, gives, sets_to, LogLeaves}
 use Rattle.sercos_law_run.proofs.Settings.Givers.{are_away}
 use Rattle.sercos_law_run.proofs.Settings.Histories.{status_set}
-use Rattle.sercos_law_channel.specs.Pace.Passes.{sets_to}
-use Rattle.sercos_law_run.specs.Undisturbed.CommandsFollow.{LogLeaves}
 use Rattle.sercos_law_run.proofs.Undisturbed.Checks.LogLeaves.{added_cycle, read_adds_none}
 use Rattle.sercos_law_run.proofs.Undisturbed.Checks.OwnSet.{none_without}
 

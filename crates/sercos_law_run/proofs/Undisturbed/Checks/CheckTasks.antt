@@ -1,30 +1,11 @@
 -- Where a check has ended well and nothing of the next phase was begun, its command is the newest request of the channel, and no request
 -- before it gives anything to its number. Requests and tasks have their newest item first, outcomes their oldest.
-use Rattle.std.proofs.Common.{◌≡◌, inl, inr, ℕ, ◌+◌, ◌<◌, ◌≤◌, Bool, true, false, not, ◌&&◌, List, [], ◌∷◌, ◌++◌, length, Option, Some, None, refl, sym, ap, ap₂, ◌∙◌, arith}
-use Rattle.std.specs.Prelude.{◌==◌, nat_lt, slice_get, option_map, unwrap_or}
-use Rattle.std.proofs.lemmas.Bool.{cases_eq, and_parts, ltb-true, ne_eqb, false≢true}
-use Rattle.sercos_step.specs.declared.request.Request.{Request}
+use Rattle.sercos_law_run.proofs.Words.{◌≡◌, inl, inr, ℕ, ◌+◌, ◌<◌, ◌≤◌, Bool, true, false, not, ◌&&◌, List, [], ◌∷◌, ◌++◌, length, Option, Some, None, refl, sym, ap, ap₂, ◌∙◌, arith, ◌==◌, nat_lt, slice_get, option_map, unwrap_or, cases_eq, and_parts, ltb-true, ne_eqb, false≢true, Request, Outcome, outcome_of, PlanView, Block, Begun, Known, Task, member, startup, bytes_of, given, ended_well, idn, reads, reads_count, writes, is_checked, is_ready, with_outcome, outcomes_in, AreWaiting, ended_there, get_right, before_end, behind_end, not_longer, given_by, GiveElsewhere, IsTask, OfReads, OfWrites, Checks3, Lists3, Checks4, Lists4, OfWaiting, IsBegunTask, AreBegunTasks, start_numbers}
 use Rattle.sercos_step.specs.declared.request.Request.TheVariants as request
-use Rattle.sercos_step.specs.declared.request.Outcome.{Outcome}
 use Rattle.sercos_step.specs.declared.request.Outcome.TheVariants as outcome
-use Rattle.sercos_step.specs.Steps.{outcome_of}
-use Rattle.sercos_timing.specs.Views.{PlanView}
-use Rattle.sercos_block.specs.declared.block.Block.{Block}
-use Rattle.sercos_service_master.specs.Begun.{Begun}
-use Rattle.sercos_seat.specs.Ring.{Known, Task, member, startup}
-use Rattle.sercos_seat.specs.Agenda.{bytes_of, given, ended_well, idn, reads, reads_count, writes, is_checked, is_ready}
-use Rattle.sercos_seat.specs.Channel.{with_outcome, outcomes_in}
-use Rattle.sercos_seat.specs.Seats.{AreWaiting}
-use Rattle.sercos_seat.proofs.Agendas.{ended_there}
-use Rattle.sercos_seat.proofs.Gets.{get_right}
-use Rattle.sercos_seat.proofs.Seats.{before_end, behind_end}
-use Rattle.sercos_master.proofs.Followed.{not_longer}
-use Rattle.sercos_law_channel.specs.Handshake.Exact.{given_by}
-use Rattle.sercos_law_channel.specs.Handshake.Values.{GiveElsewhere}
-use Rattle.sercos_law_run.specs.Agenda.Tasks.{IsTask, OfReads, OfWrites, Checks3, Lists3, Checks4, Lists4, OfWaiting, IsBegunTask, AreBegunTasks}
-use Rattle.sercos_law_run.specs.Agenda.Writes.{start_numbers}
 use Rattle.sercos_law_run.proofs.Agenda.WritesDone.{raw_of, number_at, IsDataWrite, DataWrite, all_data_writes, write_away}
-use Rattle.sercos_law_run.proofs.Settings.Givers.{all_at, are_away, is_reading, attributes_read, reading_away}
+use Rattle.sercos_law_run.proofs.Settings.Givers.{are_away, is_reading, attributes_read, reading_away}
+use Rattle.sercos_law_run.proofs.Held.Agreed.{all_at}
 
 -- The newest request is that command, which is complete and has ended well; those before it give nothing to its number.
 pub record IsCheckNewest (blocks : List Block) (raw : ℕ) (begun : List Begun) : Type 0 where

@@ -1,33 +1,10 @@
 -- At the end of a cycle in which a drive is up and its complete check is the newest request of the epoch, that check counts as passed. Each
 -- list has its newest item first.
-use Rattle.std.proofs.Common.{◌≡◌, inl, inr, ℕ, suc, ◌+◌, ◌*◌, ◌≤◌, true, false, not, List, [], ◌∷◌, ◌++◌, map, length, Option, Some, None, refl, sym, ap, ◌∙◌, subst, arith}
-use Rattle.std.specs.Prelude.{◌==◌, option_map, unwrap_or}
-use Rattle.std.proofs.lemmas.Bool.{and_parts, and_from, cond-false, eqb-true, false≢true}
+use Rattle.sercos_law_run.proofs.Words.{◌≡◌, inl, inr, ℕ, suc, ◌+◌, ◌*◌, ◌≤◌, true, false, not, List, [], ◌∷◌, ◌++◌, map, length, Option, Some, None, refl, sym, ap, ◌∙◌, subst, arith, ◌==◌, option_map, unwrap_or, and_parts, and_from, cond-false, eqb-true, false≢true, outcome_of, Block, find_block, is_command, CommandHistory, status_in, set_in, Processed, Entry, log_of, Write, writes_of, without_data, AreAlike, Begun, idn, ended_well, View, standing, since_reset, begun_in, epoch_records, records_in_views, log_in, AreBefore, HaveBlocks, GivesStatus, AreSound, AreSmall, Given, given_of, gives, given_by, AreWrites, Complete, Refused, Broken, AreExact, GiveElsewhere, find-alike, same_log, accepts_in_order, entries_ago, entries_in_epochs, Laws, epoch, cycle_exact, commands_ended, CommandsFollow, LogLeaves}
 use Rattle.sercos_step.specs.declared.request.Request.TheVariants as request
 use Rattle.sercos_step.specs.declared.request.Outcome.TheVariants as outcome
-use Rattle.sercos_step.specs.Steps.{outcome_of}
-use Rattle.sercos_block.specs.declared.block.Block.{Block}
-use Rattle.sercos_block.specs.Stores.{find_block}
-use Rattle.sercos_command.specs.Settings.{is_command}
-use Rattle.sercos_command.specs.Calls.{CommandHistory, status_in}
-use Rattle.sercos_command.specs.Kept.{set_in}
-use Rattle.sercos_service_drive.specs.Log.{Processed, Entry}
-use Rattle.sercos_service_drive.specs.Replies.{log_of}
-use Rattle.sercos_service_drive.specs.Writes.{Write, writes_of, without_data, AreAlike}
-use Rattle.sercos_service_master.specs.Begun.{Begun}
-use Rattle.sercos_seat.specs.Agenda.{idn, ended_well}
-use Rattle.sercos_law_channel.specs.Handshake.Views.{View, standing, since_reset}
-use Rattle.sercos_law_channel.specs.Handshake.Epochs.{begun_in, epoch_records, records_in_views, log_in}
 use Rattle.sercos_law_channel.specs.Handshake.Runs.{IsRun}
-use Rattle.sercos_law_channel.specs.Handshake.RunLaws.{AreBefore}
-use Rattle.sercos_law_channel.specs.Handshake.Transfers.{HaveBlocks}
-use Rattle.sercos_law_channel.specs.Handshake.CommandTransfers.{GivesStatus}
-use Rattle.sercos_law_channel.specs.Handshake.WholeRun.{AreSound, AreSmall}
-use Rattle.sercos_law_channel.specs.Handshake.Exact.{Given, given_of, gives, given_by, AreWrites, Complete, Refused, Broken, AreExact}
-use Rattle.sercos_law_channel.specs.Handshake.Values.{GiveElsewhere}
-use Rattle.sercos_law_channel.proofs.Theorems.{find-alike, same_log, accepts_in_order, entries_ago, entries_in_epochs, Laws, epoch, cycle_exact}
 use Rattle.sercos_law_run.proofs.Settings.Givers.{are_away, drop_away}
-use Rattle.sercos_law_run.specs.Undisturbed.CommandsFollow.{commands_ended, CommandsFollow, LogLeaves}
 use Rattle.sercos_law_run.proofs.Undisturbed.Checks.LogLeaves.{leaves_since}
 use Rattle.sercos_law_run.proofs.Undisturbed.Checks.CheckLogs.{AreCommandsIn, NoneTo, PassesIfSet, StaysIfCancelled, CountsBy, log_counts}
 

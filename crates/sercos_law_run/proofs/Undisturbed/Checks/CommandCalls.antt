@@ -1,29 +1,10 @@
 -- The calls on the procedure commands of a drive are in order, through all cycles of a run. So what is kept of a check tells whether it
 -- counts as passed.
-use Rattle.std.proofs.Common.{◌≡◌, ℕ, suc, ◌+◌, ◌≤◌, ◌==◌, Bool, true, false, List, [], ◌∷◌, length, Option, Some, None, refl, ◌∙◌, arith, ap, sym, if◌then◌else◌}
-use Rattle.std.specs.Prelude.{IfSome}
-use Rattle.std.proofs.lemmas.Bool.{le-leb}
-use mathlib.Core.Bool.{beq}
-use Rattle.sercos_block.specs.declared.block.Block.{Block}
-use Rattle.sercos_block.specs.Stores.{with_data}
-use Rattle.sercos_block.specs.Views.{DriveView, RingView}
-use Rattle.sercos_command.specs.Settings.{is_command}
-use Rattle.sercos_command.specs.Calls.{CommandCall, Wrote, Other, Reset}
-use Rattle.sercos_command.specs.Kept.{newest_cycle, AreInOrder, is_from, first_passed_in}
-use Rattle.sercos_service_drive.specs.Log.{Processed, ahs}
-use Rattle.sercos_service_drive.specs.Replies.{reply_of, log_of}
-use Rattle.sercos_service_drive.specs.Writes.{Write, command_value, added_by, adds, added_on, calls_with}
-use Rattle.sercos_drive.specs.declared.hearing.Told.{Told}
-use Rattle.sercos_drive.specs.Heard.{DriveCall, mdt_got}
-use Rattle.sercos_drive.specs.Moments.{Moment, phase_in, cycle_in, records_in, blocks_in, calls_after, commands_in, with_reset, calls_in}
+use Rattle.sercos_law_run.proofs.Words.{◌≡◌, ℕ, suc, ◌+◌, ◌≤◌, ◌==◌, Bool, true, false, List, [], ◌∷◌, length, Option, Some, None, refl, ◌∙◌, arith, ap, sym, if◌then◌else◌, IfSome, le-leb, beq, Block, with_data, DriveView, RingView, is_command, CommandCall, Wrote, Other, Reset, newest_cycle, AreInOrder, is_from, first_passed_in, Processed, ahs, reply_of, log_of, Write, command_value, added_by, adds, added_on, calls_with, Told, DriveCall, mdt_got, Moment, phase_in, cycle_in, records_in, blocks_in, calls_after, commands_in, with_reset, annals, may_rise, ends_in, CycleView, Carry, Restarts, mdt_in, drive_at, with_restart, mdt_heard, given_before, given_mst, passes_by_first}
+use Rattle.sercos_drive.specs.Moments.{calls_in}
 use Rattle.sercos_law_run.proofs.Held.Processed.{processed_keeps, taken_at}
-use Rattle.sercos_drive.specs.Annals.{annals, may_rise, processed_in, ends_in}
-use Rattle.sercos_trace.specs.Views.{CycleView}
-use Rattle.sercos_script.specs.Links.{Carry, Restarts}
-use Rattle.sercos_law_run.specs.Journal.Records.{mdt_in}
-use Rattle.sercos_law_run.specs.Journal.Runs.{drive_at, with_restart, mdt_heard, given_before, given_mst}
+use Rattle.sercos_drive.specs.Annals.{processed_in}
 use Rattle.sercos_law_run.proofs.Undisturbed.Checks.LogLeaves.{added_cycle}
-use Rattle.sercos_command.proofs.CallLemmas.{passes_by_first}
 
 -- Calls in order, of which none was for a later cycle than this.
 pub record StandBy (h : List CommandCall) (cycle : ℕ) : Type 0 where

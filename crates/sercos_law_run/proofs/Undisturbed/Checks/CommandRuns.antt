@@ -1,33 +1,11 @@
 -- In a run of a ring in which nothing is unseen, the procedure commands at a drive's MST's place are what the cycle before left.
-use Rattle.std.proofs.Common.{◌≡◌, ℕ, ◌<◌, ◌≤◌, ◌+◌, Bool, true, false, List, [], ◌∷◌, length, Option, Some, None, refl, sym, ap, ap₂, ◌∙◌, if◌then◌else◌}
-use Rattle.sercos_step.specs.declared.request.Job.{Job}
-use Rattle.sercos_timing.specs.Views.{PlanView}
-use Rattle.sercos_block.specs.Views.{DriveView, RingView}
-use Rattle.sercos_block.specs.Rings.{is_ring}
-use Rattle.sercos_command.specs.Calls.{Reset, CommandHistory, with_call}
-use Rattle.sercos_service_drive.specs.Log.{Processed}
-use Rattle.sercos_service_master.specs.Begun.{open_in}
-use Rattle.sercos_service_master.specs.Calls.{begun_by}
-use Rattle.sercos_drive.specs.declared.hearing.Told.{Told}
-use Rattle.sercos_drive.specs.Heard.{DriveCall, mdt_got}
-use Rattle.sercos_drive.specs.Moments.{Moment, phase_in, blocks_in, commands_in}
-use Rattle.sercos_drive.specs.Steps.{commands_after, reset_in}
-use Rattle.sercos_drive.specs.Annals.{annals, processed_in as processed_at}
-use Rattle.sercos_trace.specs.Views.{CycleView}
-use Rattle.sercos_seat.specs.Ring.{known_of}
-use Rattle.sercos_master.specs.Annals.{is_done}
-use Rattle.sercos_script.specs.Links.{Carry, Restarts}
-use Rattle.sercos_law_channel.specs.Handshake.Views.{View, standing, stood_in, got_in, processed_of, processed_in, kept_in}
-use Rattle.sercos_law_run.specs.Journal.Records.{mdt_in}
-use Rattle.sercos_law_run.specs.Journal.Runs.{drive_at, with_restart, mdt_heard, given_before, IsNext as IsNextCycle}
-use Rattle.sercos_law_run.specs.Views.RingViews.{behind_mdt, after_mst, view_of, views_of}
+use Rattle.sercos_law_run.proofs.Words.{◌≡◌, ℕ, ◌<◌, ◌≤◌, ◌+◌, Bool, true, false, List, [], ◌∷◌, length, Option, Some, None, refl, sym, ap, ap₂, ◌∙◌, if◌then◌else◌, Job, PlanView, DriveView, RingView, is_ring, Reset, CommandHistory, with_call, Processed, open_in, begun_by, Told, DriveCall, mdt_got, Moment, phase_in, blocks_in, commands_in, commands_after, reset_in, annals, CycleView, known_of, is_done, Carry, Restarts, View, standing, stood_in, got_in, processed_of, processed_in, kept_in, mdt_in, drive_at, with_restart, mdt_heard, given_before, behind_mdt, after_mst, view_of, views_of, IsSpelled, commands_left, commands_ended, CommandsFollow}
+use Rattle.sercos_drive.specs.Annals.{processed_in as processed_at}
+use Rattle.sercos_law_run.specs.Journal.Runs.{IsNext as IsNextCycle}
 use Rattle.sercos_law_run.proofs.Views.DriveSame.{processed_same}
 use Rattle.sercos_law_run.proofs.Views.Received.{Agrees, got_or_none}
 use Rattle.sercos_law_run.proofs.Views.ViewRuns.{Sees, at_mst, count, told_so, sees_next}
-use Rattle.sercos_law_run.specs.Views.Spelled.{IsSpelled}
-use Rattle.sercos_law_run.specs.Settings.SetByWrites.{commands_left}
 use Rattle.sercos_law_run.proofs.Settings.SettingsRuns.{commands_same}
-use Rattle.sercos_law_run.specs.Undisturbed.CommandsFollow.{commands_ended, CommandsFollow}
 
 -- the procedure commands of a drive at its opening, and those after a journal
 abbrev pub first_commands : RingView → ℕ → CommandHistory

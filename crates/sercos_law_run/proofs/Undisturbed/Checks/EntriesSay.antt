@@ -1,10 +1,5 @@
 -- What the procedure commands of a drive say in each cycle, they say where each step was accepted.
-use Rattle.std.proofs.Common.{◌≡◌, Bool, true, false, List, [], ◌∷◌, ◌++◌, length, Option, refl, sym, subst, if◌then◌else◌}
-use Rattle.sercos_command.specs.Calls.{CommandHistory}
-use Rattle.sercos_service_drive.specs.Log.{Processed, Entry}
-use Rattle.sercos_law_channel.specs.Handshake.Views.{View, standing, stood_in, record_in, kept_in}
-use Rattle.sercos_law_channel.specs.Handshake.WholeRun.{accepted_of, all_entries}
-use Rattle.sercos_law_channel.proofs.Theorems.{Processes, Nothing, Record, processes}
+use Rattle.sercos_law_run.proofs.Words.{◌≡◌, Bool, true, false, List, [], ◌∷◌, ◌++◌, length, Option, refl, sym, subst, if◌then◌else◌, CommandHistory, Processed, Entry, View, standing, stood_in, record_in, kept_in, accepted_of, all_entries, Processes, Nothing, Record, processes}
 
 abbrev pub EntriesSay : (CommandHistory → Type 0) → List Entry → Type 0
 EntriesSay such [] = Unit {0}

@@ -1,39 +1,15 @@
 -- A complete read of block 22 comes after a complete check for phase 4: so it finds what is so of the blocks since the check was set. Each
 -- list has its newest item first.
-use Rattle.std.proofs.Common.{◌≡◌, inl, inr, ℕ, ◌^◌, ◌<◌, Bool, true, false, not, List, [], ◌∷◌, ◌++◌, length, Some, None, refl, sym, ap, ap₂, ◌∙◌, subst, arith, if◌then◌else◌, append_assoc}
-use Rattle.std.proofs.lemmas.Bool.{cond_both}
-use Rattle.std.specs.Prelude.{◌==◌, is_some}
-use Rattle.sercos_idn.specs.Codes.{is_list}
-use Rattle.sercos_step.specs.declared.request.Request.{Request}
+use Rattle.sercos_law_run.proofs.Words.{◌≡◌, inl, inr, ℕ, ◌^◌, ◌<◌, Bool, true, false, not, List, [], ◌∷◌, ◌++◌, length, Some, None, refl, sym, ap, ap₂, ◌∙◌, subst, arith, if◌then◌else◌, append_assoc, cond_both, ◌==◌, is_some, is_list, Request, outcome_of, steps_before, find_block, store_of, DriveView, Block, is_command, find_set, set_in, Processed, Entry, accepted, data_in, Begun, idn, command, epoch_begun, epoch_records, epoch_log, IsRow, IsPart, Unsent, Unheard, AreParts, entry_behind, element_in, IsReadAt, HaveBlocks, IsTransfer, View, AreSound, all_entries, in_step, IsEpoch, epoch, split_replies, split_blocks, fall_into_parts, HasReplies, answered_replies, entries_ago, entries_in_epochs, SettingsFollow, HaveStores, IsStored, AreStored, reads_once}
 use Rattle.sercos_step.specs.declared.request.Request.TheVariants as request
 use Rattle.sercos_step.specs.declared.request.Outcome.TheVariants as outcome
-use Rattle.sercos_step.specs.Steps.{outcome_of, steps_before}
 use Rattle.sercos_block.specs.Blocks.{element_of}
-use Rattle.sercos_block.specs.Stores.{find_block, store_of}
-use Rattle.sercos_block.specs.Views.{DriveView}
-use Rattle.sercos_block.specs.declared.block.Block.{Block}
-use Rattle.sercos_command.specs.Settings.{is_command}
-use Rattle.sercos_command.specs.Kept.{find_set, set_in}
-use Rattle.sercos_service_drive.specs.Log.{Processed, Entry, accepted}
-use Rattle.sercos_service_drive.specs.Replies.{data_in}
-use Rattle.sercos_service_master.specs.Begun.{Begun}
-use Rattle.sercos_seat.specs.Agenda.{idn}
-use Rattle.sercos_law_channel.specs.Handshake.Epochs.{command, epoch_begun, epoch_records, epoch_log}
-use Rattle.sercos_law_channel.specs.Handshake.Parts.{IsRow, IsPart, Unsent, Heard, Unheard, AreParts}
-use Rattle.sercos_law_channel.specs.Handshake.ReadTransfers.{entry_behind, element_in, IsReadAt}
+use Rattle.sercos_law_channel.specs.Handshake.Parts.{Heard}
 use Rattle.sercos_law_channel.specs.Handshake.Runs.{IsRun as IsViewRun}
-use Rattle.sercos_law_channel.specs.Handshake.Transfers.{HaveBlocks, IsTransfer}
-use Rattle.sercos_law_channel.specs.Handshake.Views.{View}
-use Rattle.sercos_law_channel.specs.Handshake.WholeRun.{AreSound, all_entries}
-use Rattle.sercos_law_channel.proofs.Theorems.{in_step, IsEpoch, epoch, split_replies, split_blocks, fall_into_parts, HasReplies, answered_replies, entries_ago, entries_in_epochs}
-use Rattle.sercos_law_run.specs.Settings.SetByWrites.{SettingsFollow}
-use Rattle.sercos_law_run.specs.Settings.WellSet.{HaveStores}
 use Rattle.sercos_law_run.proofs.Settings.SetAtPoll.{IsSetAtPoll, set_at_poll}
 use Rattle.sercos_law_run.proofs.Settings.SetInEpoch.{set_at_entry}
-use Rattle.sercos_law_run.specs.Held.Stored.{IsStored, AreStored}
 use Rattle.sercos_law_run.proofs.Held.AnsweredRuns.{EntriesStored, entries_stored}
 use Rattle.sercos_law_run.proofs.Undisturbed.Checks.SinceSet.{WasSet, HaveSince, since_at, was_more}
-use Rattle.sercos_law_channel.proofs.Cited.{reads_once}
 
 -- THE PARTS of two requests that follow each other
 record ArePartsAt (log : List Entry) (b c : Begun) : Type 0 where

@@ -1,20 +1,9 @@
 -- A setting of the check for phase 4 writes its list into block 22, and nothing else changes that block.
-use Rattle.std.proofs.Common.{◌≡◌, ℕ, Bool, true, false, not, ◌&&◌, List, [], ◌∷◌, Option, Some, None, refl, sym, ap, ap₂, ◌∙◌, subst, arith, if◌then◌else◌}
-use Rattle.std.specs.Prelude.{◌==◌, is_none, cond}
-use Rattle.std.proofs.lemmas.Bool.{eqb-true}
-use Rattle.sercos_block.specs.Stores.{find_block, with_data}
-use Rattle.sercos_block.specs.declared.block.Block.{Block}
-use Rattle.sercos_command.specs.Checks.{unfit_for_phase_3, unfit_for_phase_4, list_bytes}
-use Rattle.sercos_command.specs.Settings.{is_command, ends_well}
-use Rattle.sercos_command.specs.Calls.{Wrote, Other, is_set, CommandHistory, with_call, with_check_list}
-use Rattle.sercos_command.specs.Kept.{find_set, without, with_set, set_in}
-use Rattle.sercos_command.specs.declared.commands.SetCommand.{SetCommand}
-use Rattle.sercos_command.proofs.History.{is_none-settings}
-use Rattle.sercos_service_drive.specs.Writes.{Write, command_value, blocks_with, commands_with}
+use Rattle.sercos_law_run.proofs.Words.{◌≡◌, ℕ, Bool, true, false, not, ◌&&◌, List, [], ◌∷◌, Option, Some, None, refl, sym, ap, ap₂, ◌∙◌, subst, arith, if◌then◌else◌, ◌==◌, is_none, cond, eqb-true, same_Some, none-some, find_block, with_data, Block, unfit_for_phase_3, unfit_for_phase_4, list_bytes, is_command, ends_well, Wrote, Other, is_set, CommandHistory, with_call, find_set, without, with_set, set_in, SetCommand, is_none-settings, Write, command_value, blocks_with, commands_with}
+use Rattle.sercos_command.specs.Calls.{with_check_list}
 use Rattle.sercos_law_run.proofs.Undisturbed.Checks.BlockStays.{IsAt, written_at}
 use Rattle.sercos_law_run.proofs.Undisturbed.Checks.CheckLogs.{other_unset, unset_without}
 use Rattle.sercos_law_run.proofs.Undisturbed.Checks.OwnSet.{Say}
-use Rattle.sercos_law_run.proofs.Undisturbed.Arriving.Small.{none_some, some_is}
 
 -- block 22 has these bytes
 abbrev pub HasList : List ℕ → List Block → Type 0
@@ -32,7 +21,7 @@ now_at raw bytes (b ∷ blocks) c found = by (b.idn.raw == raw) refl found (λ r
   where
     by : (x : Bool) → (b.idn.raw == raw) ≡ x → find_block raw ((if x then record b { value = bytes } else b) ∷ with_data raw bytes blocks) ≡ Some c → (find_block raw (with_data raw bytes blocks) ≡ Some c → c.value ≡ bytes) → c.value ≡ bytes
     by true is found rest =
-        ap (λ (x : Block). x.value) (sym (some_is (record b { value = bytes }) c (sym (ap (λ (v : Bool). cond v (Some (record b { value = bytes })) (find_block raw (with_data raw bytes blocks))) is) ∙ found)))
+        ap (λ (x : Block). x.value) (sym (same_Some (record b { value = bytes }) c (sym (ap (λ (v : Bool). cond v (Some (record b { value = bytes })) (find_block raw (with_data raw bytes blocks))) is) ∙ found)))
     by false is found rest = rest (sym (ap (λ (v : Bool). cond v (Some b) (find_block raw (with_data raw bytes blocks))) is) ∙ found)
 
 -- WHAT A WRITE LEAVES of it
@@ -88,12 +77,12 @@ set_lists bytes o c blocks command fair say = by (find_set 128 (set_in c)) refl
         (subst (λ (n : ℕ). HasList bytes (with_check_list c n (command_value w) (with_data w.raw w.bytes blocks))) (sym number) (list_set bytes c (command_value w) (with_data w.raw w.bytes blocks) some none (is.lists number)))
 
     written : (w : Write) → IsFair bytes w blocks → find_set 128 (set_in c) ≡ None → (x y : Bool) → (w.raw == 128) ≡ x → (command_value w == 0) ≡ y → Say (λ s. HasList bytes (blocks_with (Some w) c blocks)) (commands_with (Some w) blocks c)
-    written w is none false y other value s found = absurd (none_some s (sym (other_unset 128 w blocks c other none) ∙ found))
-    written w is none true true same value s found = absurd (none_some s (sym (cancelled w value none) ∙ found))
+    written w is none false y other value s found = absurd (none-some s (sym (other_unset 128 w blocks c other none) ∙ found))
+    written w is none true true same value s found = absurd (none-some s (sym (cancelled w value none) ∙ found))
     written w is none true false same value s found = set_now w is (eqb-true w.raw 128 same) value none
 
     fresh : (o : Option Write) → ((w : Write) → o ≡ Some w → IsFair bytes w blocks) → find_set 128 (set_in c) ≡ None → Say (λ s. HasList bytes (blocks_with o c blocks)) (commands_with o blocks c)
-    fresh None fair none = λ s found. absurd (none_some s (sym none ∙ found))
+    fresh None fair none = λ s found. absurd (none-some s (sym none ∙ found))
     fresh (Some w) fair none = written w (fair w refl) none (w.raw == 128) (command_value w == 0) refl refl
 
     by : (x : Option SetCommand) → find_set 128 (set_in c) ≡ x → Say (λ s. HasList bytes (blocks_with o c blocks)) (commands_with o blocks c)

@@ -1,43 +1,13 @@
 -- If an own block of a drive was outside its limits at opening, what the drive gives after a check for phase 4 that has ended are the numbers
 -- of these blocks. The newest cycle of a journal comes first.
-use Rattle.std.proofs.Common.{◌≡◌, ◌⊎◌, inl, inr, ℕ, ◌^◌, ◌<◌, Bool, true, false, List, [], ◌∷◌, ◌++◌, length, map, Option, Some, None, refl, sym, ap, ◌∙◌, subst, arith, if◌then◌else◌}
-use Rattle.std.specs.Prelude.{◌==◌, is_some, nat_lt, cond, option_map}
-use Rattle.std.specs.List.{filter, list_all, list_any}
-use Rattle.std.proofs.lemmas.Bool.{and_parts, false≢true}
-use Rattle.std.proofs.lemmas.Bool.Decides.{nat_tests}
-use Rattle.sercos_step.specs.declared.request.Job.{Job}
+use Rattle.sercos_law_run.proofs.Words.{◌≡◌, ◌⊎◌, inl, inr, ℕ, ◌^◌, ◌<◌, Bool, true, false, List, [], ◌∷◌, ◌++◌, length, map, Option, Some, None, refl, sym, ap, ◌∙◌, subst, arith, if◌then◌else◌, ◌==◌, is_some, nat_lt, cond, option_map, filter, list_all, list_any, and_parts, false≢true, nat_tests, same_Some, none-some, Job, outcome_of, blocks_fault, find_block, with_data, store_of, put_fault, DriveView, RingView, Block, is_outside, list_bytes, is_command, find_set, set_in, SetCommand, Write, blocks_with, without_data, Begun, CycleView, idn, Carry, Restarts, is_own_outside, IsStoreOf, begun_in, View, standing, stood_in, processed_in, kept_in, store_in, write_of, find-alike, drive_at, IsRun, IsClear, commands_left, view_of, views_of, IsOpened, IsStored}
 use Rattle.sercos_step.specs.declared.request.Request.TheVariants as request
 use Rattle.sercos_step.specs.declared.request.Outcome.TheVariants as outcome
-use Rattle.sercos_step.specs.Steps.{outcome_of}
-use Rattle.sercos_block.specs.Rules.{blocks_fault}
-use Rattle.sercos_block.specs.Stores.{find_block, with_data, store_of, put_fault, are_ascending}
-use Rattle.sercos_block.specs.Views.{DriveView, RingView}
-use Rattle.sercos_block.specs.declared.block.Block.{Block}
-use Rattle.sercos_command.specs.Checks.{is_outside, unfit_for_phase_4, list_bytes}
-use Rattle.sercos_command.specs.Settings.{is_command}
-use Rattle.sercos_command.specs.Kept.{find_set, set_in}
-use Rattle.sercos_command.specs.declared.commands.SetCommand.{SetCommand}
-use Rattle.sercos_service_drive.specs.Writes.{Write, blocks_with, without_data}
-use Rattle.sercos_service_master.specs.Begun.{Begun}
-use Rattle.sercos_trace.specs.Views.{CycleView}
-use Rattle.sercos_seat.specs.Agenda.{idn}
-use Rattle.sercos_script.specs.Links.{Carry, Restarts}
-use Rattle.sercos_law_run.specs.Start.Kept.{is_own_outside}
-use Rattle.sercos_law_run.specs.Start.StartUp.{IsStoreOf}
+use Rattle.sercos_block.specs.Stores.{are_ascending}
+use Rattle.sercos_command.specs.Checks.{unfit_for_phase_4}
 use Rattle.sercos_law_run.proofs.Start.CheckPasses.{ring_drive}
-use Rattle.sercos_law_run.proofs.Start.KeptLemmas.{refuse_alike}
 use Rattle.sercos_law_run.proofs.Start.LimitLemmas.{built_in_is_steady}
-use Rattle.sercos_law_channel.specs.Handshake.Epochs.{begun_in}
-use Rattle.sercos_law_channel.specs.Handshake.Views.{View, standing, stood_in, processed_in, kept_in}
-use Rattle.sercos_law_channel.specs.Handshake.Values.{store_in}
-use Rattle.sercos_law_channel.specs.Handshake.WholeRun.{write_of}
-use Rattle.sercos_law_channel.proofs.Theorems.{find-alike}
-use Rattle.sercos_law_run.specs.Journal.Runs.{drive_at, IsRun, IsClear}
-use Rattle.sercos_law_run.specs.Settings.SetByWrites.{commands_left}
 use Rattle.sercos_law_run.proofs.Settings.SettingsRuns.{keeps_settings}
-use Rattle.sercos_law_run.specs.Views.RingViews.{view_of, views_of}
-use Rattle.sercos_law_run.specs.Held.Opened.{IsOpened}
-use Rattle.sercos_law_run.specs.Held.Stored.{IsStored}
 use Rattle.sercos_law_run.proofs.Held.Runs.{Stands, alike_so, drive_got, small, store_is}
 use Rattle.sercos_law_run.proofs.Headline.HeadlineRuns.{all_stand, first_store, spelled_in, stored_in}
 use Rattle.sercos_law_run.proofs.Undisturbed.Checks.BlockStays.{IsAt}
@@ -51,7 +21,7 @@ use Rattle.sercos_law_run.proofs.Undisturbed.Checks.OwnSet.{Say}
 use Rattle.sercos_law_run.proofs.Undisturbed.Stops.RefusedCauses.{check_4, found_4, found_list, list_4}
 use Rattle.sercos_law_run.proofs.Undisturbed.Checks.SetsFour.{allowed_in, names_in, three_in}
 use Rattle.sercos_law_run.proofs.Undisturbed.Checks.SinceSet.{AreKept, StaysFrom, have_since}
-use Rattle.sercos_law_run.proofs.Undisturbed.Arriving.Small.{none_some, some_is}
+use Rattle.sercos_law_run.proofs.Undisturbed.Checks.ShortLists.{fixed_22}
 use Rattle.sercos_law_run.proofs.Settings.NoCheck127.{next_still, stays}
 use Rattle.sercos_law_run.proofs.Undisturbed.Checks.WellGiven.{have_commands, is_command_128}
 
@@ -97,7 +67,7 @@ inside_128 : (d : DriveView) (blocks : List Block) (bytes : List ℕ) → blocks
 inside_128 d blocks bytes rules stored b found = (unlimited b b.value low high, unlimited b bytes low high)
   where
     same : without_data b ≡ without_data (check_4 d)
-    same = some_is (without_data b) (without_data (check_4 d)) (sym (ap (λ (o : Option Block). option_map without_data o) found) ∙ find-alike 128 blocks (store_of d) (check_4 d) (alike_so d blocks stored) (found_4 d rules))
+    same = same_Some (without_data b) (without_data (check_4 d)) (sym (ap (λ (o : Option Block). option_map without_data o) found) ∙ find-alike 128 blocks (store_of d) (check_4 d) (alike_so d blocks stored) (found_4 d rules))
 
     low : b.min ≡ None
     low = ap (λ (x : Block). x.min) same
@@ -108,14 +78,6 @@ inside_128 d blocks bytes rules stored b found = (unlimited b b.value low high, 
 unfit_left : (bytes : List ℕ) (blocks : List Block) → are_ascending blocks ≡ true → IsAt 128 (IsInside bytes) blocks → unfit_for_phase_4 (with_data 128 bytes blocks) ≡ unfit_for_phase_4 blocks
 unfolding unfit_for_phase_4
 unfit_left bytes blocks ascending inside = ap (map (λ (b : Block). b.idn)) (outside_left 128 bytes blocks ascending inside)
-
--- BLOCK 22 is fixed.
-fixed_22 : (d : DriveView) (phase : ℕ) (bytes : List ℕ) → put_fault (Some (list_4 d)) phase bytes ≡ None → ⊥
-fixed_22 d phase bytes none = none_some 0x7004 (sym none)
-
-never_22 : (d : DriveView) (blocks : List Block) (phase : ℕ) (bytes : List ℕ) → blocks_fault [] d.blocks ≡ None → IsStoreOf d blocks → put_fault (find_block 22 blocks) phase bytes ≡ None → ⊥
-never_22 d blocks phase bytes rules stored none =
-    fixed_22 d phase bytes (sym (ap (λ (o : Option Block). put_fault o phase bytes) (found_list d rules)) ∙ sym (refuse_alike d blocks stored 22 phase bytes) ∙ none)
 
 set_some : (o : Option SetCommand) → is_some o ≡ true → (s : SetCommand) × (o ≡ Some s)
 set_some None on = absurd (false≢true on)
@@ -147,7 +109,7 @@ module _ (r : RingView) (jobs : List Job) (carry : Carry) (restarts : Restarts) 
       stored = stored_in r jobs carry restarts opened t j k below
 
       other : w.raw ≡ 22 → ⊥
-      other number = never_22 (drive_at r k) (view_of r jobs carry restarts k t j).blocks (stood_in (view_of r jobs carry restarts k t j) (standing (views_of r jobs carry restarts k j))) w.bytes rules stored.1
+      other number = fixed_22 (drive_at r k) (view_of r jobs carry restarts k t j).blocks (stood_in (view_of r jobs carry restarts k t j) (standing (views_of r jobs carry restarts k j))) w.bytes rules stored.1
           (ap (λ (n : ℕ). put_fault (find_block n (view_of r jobs carry restarts k t j).blocks) (stood_in (view_of r jobs carry restarts k t j) (standing (views_of r jobs carry restarts k j))) w.bytes) (sym number)
           ∙ allowed_in r jobs carry restarts opened k below t j run clear w is)
 
@@ -183,7 +145,7 @@ module _ (r : RingView) (jobs : List Job) (carry : Carry) (restarts : Restarts) 
   says_list : (t : CycleView) (j : List CycleView) → IsRun r jobs carry restarts (t ∷ j) → IsClear (t ∷ j) → Say (λ s. HasList (own_bytes (drive_at r k)) (view_of r jobs carry restarts k t j).blocks) (view_of r jobs carry restarts k t j).commands
   says_list t [] run clear = λ s found.
       let empty = keeps_settings (view_of r jobs carry restarts k t []) [] (wells r jobs carry restarts opened (t ∷ []) run clear k below).follow in
-      absurd (none_some s (sym (ap (find_set 128) empty) ∙ found))
+      absurd (none-some s (sym (ap (find_set 128) empty) ∙ found))
   says_list t (u ∷ j) run clear = by (says_list u j run.0 clear.0) (keeps_settings (view_of r jobs carry restarts k t (u ∷ j)) (views_of r jobs carry restarts k (u ∷ j)) (wells r jobs carry restarts opened (t ∷ u ∷ j) run clear k below).follow)
     where
       v : View
@@ -199,7 +161,7 @@ module _ (r : RingView) (jobs : List Job) (carry : Carry) (restarts : Restarts) 
       command = is_command_128 (drive_at r k) (view_of r jobs carry restarts k u j).blocks rules (stored_in r jobs carry restarts opened u j k below).1
 
       by : Say (λ s. HasList (own_bytes (drive_at r k)) w.blocks) w.commands → (set_in v.commands ≡ []) ⊎ (set_in v.commands ≡ set_in (commands_left w past)) → Say (λ s. HasList (own_bytes (drive_at r k)) v.blocks) v.commands
-      by before (inl empty) s found = absurd (none_some s (sym (ap (find_set 128) empty) ∙ found))
+      by before (inl empty) s found = absurd (none-some s (sym (ap (find_set 128) empty) ∙ found))
       by before (inr same) s found = subst (HasList (own_bytes (drive_at r k))) (sym (blocks_next t u j run clear))
           (set_lists (own_bytes (drive_at r k)) (write_of (processed_in w past) (kept_in w past)) w.commands w.blocks command (fair_in u j run.0 clear.0) before s (sym (ap (find_set 128) same) ∙ found))
 

@@ -1,20 +1,6 @@
 -- What the steps that a drive accepted since its reset leave of its procedure commands. Each list has its newest item first.
-use Rattle.std.proofs.Common.{◌≡◌, ℕ, Bool, true, false, not, ◌&&◌, List, [], ◌∷◌, length, refl, sym, ap, subst, if◌then◌else◌}
-use Rattle.std.specs.Prelude.{◌==◌, Option, Some, None, IfSome, option_map, option_and_then}
-use mathlib.Core.Bool.{beq}
-use Rattle.sercos_block.specs.declared.block.Block.{Block}
-use Rattle.sercos_block.specs.Stores.{find_block}
-use Rattle.sercos_command.specs.Calls.{Reset, CommandHistory, with_call}
-use Rattle.sercos_command.specs.Kept.{set_in}
-use Rattle.sercos_service_drive.specs.Log.{Processed, Entry, ahs, accepted, open_idn, run_before, in_order}
-use Rattle.sercos_service_drive.specs.Replies.{bytes_written, answered, log_of}
-use Rattle.sercos_service_drive.specs.Writes.{Write, takes_effect, written_by, added_by, adds, added_on, commands_with}
-use Rattle.sercos_law_channel.specs.Handshake.Views.{View, standing, stood_in, record_in, processed_in, with_record, since_reset, kept_in}
-use Rattle.sercos_law_channel.specs.Handshake.WholeRun.{write_of}
-use Rattle.sercos_law_channel.proofs.Theorems.{Processes, Nothing, Record, processes}
-use Rattle.sercos_law_run.specs.Settings.SetByWrites.{commands_left}
+use Rattle.sercos_law_run.proofs.Words.{◌≡◌, ℕ, Bool, true, false, not, ◌&&◌, List, [], ◌∷◌, length, refl, sym, ap, subst, if◌then◌else◌, ◌==◌, Option, Some, None, IfSome, option_map, option_and_then, beq, Block, find_block, Reset, CommandHistory, with_call, set_in, Processed, Entry, ahs, accepted, open_idn, run_before, in_order, bytes_written, answered, log_of, Write, takes_effect, written_by, added_by, adds, added_on, commands_with, View, standing, stood_in, record_in, processed_in, with_record, since_reset, kept_in, write_of, Processes, Nothing, Record, processes, commands_left, commands_ended, CommandsFollow, LogLeaves}
 use Rattle.sercos_law_run.proofs.Settings.Histories.{reset_if}
-use Rattle.sercos_law_run.specs.Undisturbed.CommandsFollow.{commands_ended, CommandsFollow, LogLeaves}
 
 -- The cycle of a write is that of its step.
 pub added_cycle : (e : Entry) (log : List Entry) (w : Write) → added_by e log ≡ Some w → w.cycle ≡ e.processed.cycle

@@ -1,41 +1,11 @@
 -- Phase 4 is commanded only if none of the drives' own blocks was outside its limits at opening.
-use Rattle.std.proofs.Common.{◌≡◌, ◌⊎◌, inl, inr, ℕ, ◌+◌, ◌<◌, ◌≤◌, Bool, true, false, List, [], ◌∷◌, ◌++◌, length, filter, Option, Some, None, refl, sym, ap, ◌∙◌, subst, arith, if◌then◌else◌}
-use Rattle.std.specs.Prelude.{is_some}
-use Rattle.std.specs.List.{list_any}
-use Rattle.std.proofs.lemmas.Bool.{cases_lt}
-use Rattle.sercos_step.specs.declared.request.Job.{Job}
-use Rattle.sercos_block.specs.Rules.{blocks_fault}
-use Rattle.sercos_block.specs.Stores.{store_of}
-use Rattle.sercos_block.specs.Views.{RingView}
-use Rattle.sercos_block.specs.declared.block.Block.{Block}
-use Rattle.sercos_command.specs.Checks.{is_outside}
-use Rattle.sercos_command.specs.Settings.{has_ended, status_by}
-use Rattle.sercos_command.specs.Calls.{status_in}
-use Rattle.sercos_command.specs.Kept.{find_set, set_in}
-use Rattle.sercos_command.specs.declared.commands.SetCommand.{SetCommand}
-use Rattle.sercos_service_drive.specs.Log.{Entry}
-use Rattle.sercos_service_master.specs.Begun.{Begun}
-use Rattle.sercos_service_master.specs.Calls.{begun_by}
-use Rattle.sercos_trace.specs.Views.{CycleView}
-use Rattle.sercos_trace.specs.declared.events.Fall.{Fall}
-use Rattle.sercos_seat.specs.Agenda.{idn, is_ready}
-use Rattle.sercos_seat.specs.Ring.{Known, known_of, member, tasks_for}
-use Rattle.sercos_master.specs.Annals.{Past, outcomes, fall_of, is_done, is_done_in, goes_on, new_epoch, still_waiting, after_end}
-use Rattle.sercos_master.proofs.Configured.{each_passes}
-use Rattle.sercos_master.proofs.Laws.{jobs_waiting}
-use Rattle.sercos_script.specs.Links.{Carry, Restarts}
-use Rattle.sercos_law_channel.specs.Handshake.CommandTransfers.{GivesStatus}
-use Rattle.sercos_law_channel.specs.Handshake.Exact.{AreExact}
-use Rattle.sercos_law_channel.specs.Handshake.WholeRun.{all_begun, begun_ago, all_entries, all_writes}
-use Rattle.sercos_law_run.specs.Start.Kept.{is_own_outside}
+use Rattle.sercos_law_run.proofs.Words.{◌≡◌, ◌⊎◌, inl, inr, ℕ, ◌+◌, ◌<◌, ◌≤◌, Bool, true, false, List, [], ◌∷◌, ◌++◌, length, Option, Some, None, refl, sym, ap, ◌∙◌, subst, arith, if◌then◌else◌, is_some, list_any, cases_lt, Job, blocks_fault, store_of, RingView, Block, is_outside, has_ended, status_by, status_in, find_set, set_in, SetCommand, Entry, Begun, begun_by, CycleView, Fall, idn, is_ready, Known, known_of, member, tasks_for, Past, outcomes, fall_of, is_done, is_done_in, goes_on, new_epoch, still_waiting, after_end, each_passes, jobs_waiting, Carry, Restarts, GivesStatus, AreExact, all_begun, begun_ago, all_entries, all_writes, is_own_outside, drive_at, given_mst, master_calls, middle, looks_back, IsRun, IsClear, behind_mdt, view_of, views_of, IsOpened}
+use Rattle.std.proofs.Common.{filter}
 use Rattle.sercos_law_run.proofs.Start.CheckPasses.{ring_drive}
 use Rattle.sercos_law_run.proofs.Start.OwnLemmas.{own_at_opening}
-use Rattle.sercos_law_run.specs.Journal.Runs.{drive_at, given_mst, master_calls, middle, looks_back, IsRun, IsClear}
-use Rattle.sercos_law_run.specs.Views.RingViews.{behind_mdt, view_of, views_of}
 use Rattle.sercos_law_run.proofs.Views.MasterSame.{begun_cycle}
 use Rattle.sercos_law_run.proofs.Views.Members.{members_count}
 use Rattle.sercos_law_run.proofs.Views.ViewRuns.{started}
-use Rattle.sercos_law_run.specs.Held.Opened.{IsOpened}
 use Rattle.sercos_law_run.proofs.Held.Runs.{drive_got, kept_at_mst}
 use Rattle.sercos_law_run.proofs.Headline.HeadlineRuns.{all_stand, first_store, keeps_all, spelled_in, stored_in}
 use Rattle.sercos_law_run.proofs.Settings.Histories.{status_set}

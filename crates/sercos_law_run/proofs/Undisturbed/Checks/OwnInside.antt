@@ -1,22 +1,9 @@
 -- If no own block of a drive was outside its limits at opening, none ever is.
-use Rattle.std.proofs.Common.{◌≡◌, ℕ, Bool, true, false, not, ◌&&◌, ◌||◌, List, [], ◌∷◌, Option, Some, None, refl, sym, ap, ap₂, ◌∙◌, subst, arith}
-use Rattle.std.specs.Prelude.{◌==◌, nat_lt, cond}
-use Rattle.std.specs.Bool.{then_some}
-use Rattle.std.specs.List.{filter, list_all, list_any}
-use Rattle.std.proofs.lemmas.Bool.{and_parts, eq-eqb, eqb-true, false≢true}
-use Rattle.std.proofs.lemmas.Bool.Decides.{nat_tests}
-use Rattle.sercos_model.proofs.FaultLemmas.{none_of-or, none_of-then}
-use Rattle.sercos_block.specs.BuiltIns.{is_built_in}
-use Rattle.sercos_block.specs.Rules.{blocks_fault}
-use Rattle.sercos_block.specs.Stores.{find_block, store_of, write_fault, data_fault, put_fault, are_ascending, is_short, is_long, is_invalid, is_below, is_above}
-use Rattle.sercos_block.specs.Views.{DriveView}
-use Rattle.sercos_block.specs.declared.block.Block.{Block}
-use Rattle.sercos_command.specs.Checks.{is_outside, list_bytes, unfit_for_phase_3, unfit_for_phase_4}
-use Rattle.sercos_law_run.specs.Start.Kept.{is_own_outside}
+use Rattle.sercos_law_run.proofs.Words.{◌≡◌, ℕ, Bool, true, false, not, ◌&&◌, ◌||◌, List, [], ◌∷◌, Option, Some, None, refl, sym, ap, ap₂, ◌∙◌, subst, arith, ◌==◌, nat_lt, cond, then_some, filter, list_all, list_any, and_parts, eq-eqb, eqb-true, false≢true, or_parts, nat_tests, same_Some, none_of-or, none_of-then, is_built_in, blocks_fault, find_block, store_of, write_fault, put_fault, is_short, is_long, is_invalid, is_below, is_above, DriveView, Block, is_outside, list_bytes, unfit_for_phase_3, unfit_for_phase_4, is_own_outside}
+use Rattle.sercos_block.specs.Stores.{data_fault, are_ascending}
 use Rattle.sercos_law_run.proofs.Start.OwnLemmas.{own_at_opening}
 use Rattle.sercos_law_run.proofs.Undisturbed.Checks.BlockStays.{IsAt, Stays}
 use Rattle.sercos_law_run.proofs.Undisturbed.CycleHeld.{second_none}
-use Rattle.sercos_law_run.proofs.Undisturbed.Arriving.Small.{both_off, some_is}
 
 -- A TEST THAT NO BLOCK PASSES, by the number of the block and by the list
 pub all_at : (q : Block → Bool) (n : ℕ) (blocks : List Block) (b : Block) → list_all q blocks ≡ true → find_block n blocks ≡ Some b → (q b ≡ true) × ((b.idn.raw == n) ≡ true)
@@ -27,7 +14,7 @@ all_at q n (c ∷ blocks) b all found = by (c.idn.raw == n) refl found (λ rest.
     parts = and_parts (q c) (list_all q blocks) all
 
     by : (x : Bool) → (c.idn.raw == n) ≡ x → cond x (Some c) (find_block n blocks) ≡ Some b → (find_block n blocks ≡ Some b → (q b ≡ true) × ((b.idn.raw == n) ≡ true)) → (q b ≡ true) × ((b.idn.raw == n) ≡ true)
-    by true is found rest = subst (λ (y : Block). (q y ≡ true) × ((y.idn.raw == n) ≡ true)) (some_is c b found) (parts.0, is)
+    by true is found rest = subst (λ (y : Block). (q y ≡ true) × ((y.idn.raw == n) ≡ true)) (same_Some c b found) (parts.0, is)
     by false is found rest = rest found
 
 pub found_number : (n : ℕ) (blocks : List Block) (b : Block) → find_block n blocks ≡ Some b → b.idn.raw ≡ n
@@ -42,10 +29,10 @@ none_at p n [] none b found = absurd (cc)
 none_at p n (c ∷ blocks) none b found = by (c.idn.raw == n) found (λ rest. none_at p n blocks parts.1 b rest)
   where
     parts : (p c ≡ false) × (list_any p blocks ≡ false)
-    parts = both_off (p c) (list_any p blocks) none
+    parts = or_parts (p c) (list_any p blocks) none
 
     by : (x : Bool) → cond x (Some c) (find_block n blocks) ≡ Some b → (find_block n blocks ≡ Some b → p b ≡ false) → p b ≡ false
-    by true found rest = subst (λ (y : Block). p y ≡ false) (some_is c b found) parts.0
+    by true found rest = subst (λ (y : Block). p y ≡ false) (same_Some c b found) parts.0
     by false found rest = rest found
 
 pub none_listed : (p : Block → Bool) (blocks : List Block) → are_ascending blocks ≡ true → ((n : ℕ) → IsAt n (λ b. p b ≡ false) blocks) → filter p blocks ≡ []

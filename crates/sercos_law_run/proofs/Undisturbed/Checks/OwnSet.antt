@@ -1,31 +1,13 @@
 -- As long as built-in blocks alone are written to a drive, those of its own that are outside their limits are the same as at opening; so
 -- if a check for phase 4 is set that ends well, there are none.
-use Rattle.std.proofs.Common.{◌≡◌, ℕ, suc, arith, Bool, true, false, not, ◌&&◌, List, [], ◌∷◌, ◌++◌, length, filter, Option, Some, None, refl, sym, ap, ◌∙◌, if◌then◌else◌, subst}
-use Rattle.std.specs.Prelude.{◌==◌, is_some, cond}
-use Rattle.std.proofs.lemmas.Bool.{false≢true, eqb-true}
+use Rattle.sercos_law_run.proofs.Words.{◌≡◌, ℕ, suc, arith, Bool, true, false, not, ◌&&◌, List, [], ◌∷◌, ◌++◌, length, Option, Some, None, refl, sym, ap, ◌∙◌, if◌then◌else◌, subst, ◌==◌, is_some, cond, false≢true, eqb-true, nat_tests, none-some, is_built_in, with_data, store_of, DriveView, Block, is_outside, is_command, ends_well, Wrote, Other, CommandHistory, with_call, find_set, without, with_set, set_in, SetCommand, Processed, Write, added_on, with_added, command_value, blocks_with, commands_with, Told, DriveCall, Mst, Mdt, mst_got, mdt_got, Moment, phase_in, records_in, writes_in, blocks_in, blocks_after, commands_in, write_in, commands_after, reset_in, annals, stands_in, ends_in, is_own_outside, length_map}
+use Rattle.std.proofs.Common.{filter}
 use Rattle.sercos_law_run.proofs.Held.Processed.{processed_keeps, taken_at}
-use Rattle.std.proofs.lemmas.Bool.Decides.{nat_tests}
-use Rattle.sercos_block.specs.BuiltIns.{is_built_in}
-use Rattle.sercos_block.specs.Stores.{with_data, store_of}
-use Rattle.sercos_block.specs.Views.{DriveView}
-use Rattle.sercos_block.specs.declared.block.Block.{Block}
-use Rattle.sercos_command.specs.Checks.{is_outside, unfit_for_phase_4}
-use Rattle.sercos_command.specs.Settings.{is_command, ends_well}
-use Rattle.sercos_command.specs.Calls.{Wrote, Other, CommandHistory, with_call}
-use Rattle.sercos_command.specs.Kept.{find_set, without, with_set, set_in}
-use Rattle.sercos_command.specs.declared.commands.SetCommand.{SetCommand}
-use Rattle.sercos_service_drive.specs.Log.{Processed}
-use Rattle.sercos_service_drive.specs.Writes.{Write, added_on, with_added, command_value, blocks_with, commands_with}
-use Rattle.sercos_drive.specs.declared.hearing.Told.{Told}
-use Rattle.sercos_drive.specs.Heard.{DriveCall, Mst, Mdt, Restart, mst_got, mdt_got}
-use Rattle.sercos_drive.specs.Moments.{Moment, phase_in, records_in, writes_in, blocks_in, blocks_after, commands_in, write_in}
-use Rattle.sercos_drive.specs.Steps.{commands_after, reset_in}
-use Rattle.sercos_drive.specs.Annals.{annals, stands_in, processed_in, ends_in}
-use Rattle.sercos_law_run.specs.Start.Kept.{is_own_outside}
+use Rattle.sercos_command.specs.Checks.{unfit_for_phase_4}
+use Rattle.sercos_drive.specs.Heard.{Restart}
+use Rattle.sercos_drive.specs.Annals.{processed_in}
 use Rattle.sercos_law_run.proofs.Start.OwnLemmas.{leaves_own, own_stay}
 use Rattle.sercos_law_run.proofs.Settings.Histories.{reset_if}
-use Rattle.sercos_law_run.proofs.Undisturbed.Arriving.Small.{none_some}
-use Rattle.sercos_seat.proofs.Gets.{length_map}
 
 -- each of these writes is to a built-in block
 abbrev pub AreBuiltIn : List Write → Type 0
@@ -109,7 +91,7 @@ say_written such raw value cycle blocks c sets say s found = by (value == 0) fou
     cancelled found = which (raw == 128) refl
       where
         which : (x : Bool) → (raw == 128) ≡ x → such s
-        which true is = let none : find_set 128 (without raw (set_in c)) ≡ None = ap (λ (n : ℕ). find_set 128 (without n (set_in c))) (eqb-true raw 128 is) ∙ none_without 128 (set_in c) in absurd (none_some s (sym none ∙ found))
+        which true is = let none : find_set 128 (without raw (set_in c)) ≡ None = ap (λ (n : ℕ). find_set 128 (without n (set_in c))) (eqb-true raw 128 is) ∙ none_without 128 (set_in c) in absurd (none-some s (sym none ∙ found))
         which false other = say s (sym (same_without 128 raw (set_in c) other) ∙ found)
 
     added : (o : Option SetCommand) → find_set 128 (set_in c) ≡ o → find_set 128 (set_in c ++ (record { idn = record { raw = raw }; cycle = cycle; well = ends_well c.rate raw blocks }) ∷ []) ≡ Some s → such s

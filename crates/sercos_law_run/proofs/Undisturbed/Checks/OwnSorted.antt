@@ -1,24 +1,10 @@
 -- The own blocks of a drive in its store are those of its description, ascending by identifier number; and the master takes the list of those
 -- that are outside from its bytes.
-use Rattle.std.proofs.Common.{◌≡◌, ℕ, Bool, true, false, not, ◌&&◌, List, [], ◌∷◌, ◌++◌, None, refl, sym, ap, ◌∙◌, arith}
-use Rattle.std.specs.Prelude.{◌+◌, ◌*◌, ◌/◌, ◌%◌, ◌≤◌, nat_le, nat_lt, cond, length, map, take}
-use Rattle.std.specs.List.{filter, list_all}
-use Rattle.std.proofs.lemmas.Bool.{and_from, and_parts}
-use Rattle.std.proofs.lemmas.Bool.Decides.{nat_tests}
-use Rattle.std.proofs.lemmas.List.{take_all}
-use Rattle.std.proofs.lemmas.List.Filters.{length-filter_both}
-use Rattle.sercos_idn.specs.declared.idn.Idn.{Idn}
-use Rattle.sercos_block.specs.BuiltIns.{built_in, is_built_in}
-use Rattle.sercos_block.specs.Rules.{blocks_fault, has_block}
+use Rattle.sercos_law_run.proofs.Words.{◌≡◌, ℕ, Bool, true, false, not, ◌&&◌, List, [], ◌∷◌, ◌++◌, None, refl, sym, ap, ◌∙◌, arith, ◌≤◌, nat_le, nat_lt, cond, length, map, take, filter, list_all, and_from, and_parts, nat_tests, take_all, length-filter_both, is_built_in, blocks_fault, has_block, DriveView, Block, all_inserted, either_none, is_outside, list_bytes, idns_in, length_map, is_own_outside}
+use Rattle.sercos_block.specs.BuiltIns.{built_in}
 use Rattle.sercos_block.specs.Stores.{inserted, with_own, store_of}
-use Rattle.sercos_block.specs.Views.{DriveView}
-use Rattle.sercos_block.specs.declared.block.Block.{Block}
-use Rattle.sercos_block.proofs.OpenLemmas.{all_inserted, either_none}
-use Rattle.sercos_command.specs.Checks.{is_outside, list_bytes}
-use Rattle.sercos_seat.specs.Agenda.{idns_in}
-use Rattle.sercos_seat.proofs.Gets.{length_map}
-use Rattle.sercos_law_run.specs.Start.Kept.{is_own_outside}
 use Rattle.sercos_law_run.proofs.Start.BlockFinds.{first_is_new}
+use Rattle.sercos_law_run.proofs.Start.WellLemmas.{read_back}
 
 abbrev is_own : Block → Bool
 is_own b = not (is_built_in b.idn.raw)
@@ -134,12 +120,6 @@ own_sorted d rules =
     ∙ ap (filter is_outside) (filter_with_own is_own d.blocks (built_in d) (ordered_built_in d) (all_own [] d.blocks rules) ∙ ap (λ (l : List Block). with_own l d.blocks) (none_own d))
 
 -- THE LIST as the master takes it from its bytes
-read_back : (idns : List Idn) → idns_in (list_bytes idns) ≡ idns
-read_back [] = refl
-read_back (i ∷ idns) =
-    let same : i.raw % 256 + 256 * (i.raw / 256) ≡ i.raw = omega arith in
-    rw (same, read_back idns) refl
-
 pub list_back : (d : DriveView) → blocks_fault [] d.blocks ≡ None → length (store_of d) ≤ 64
     → take 64 (idns_in (list_bytes (map (λ (b : Block). b.idn) (filter is_own_outside (store_of d))))) ≡ map (λ (b : Block). b.idn) (filter is_outside (with_own [] d.blocks))
 list_back d rules few =

@@ -1,46 +1,15 @@
 -- Where the master commands the next phase, a drive's check counts as passed: in every run in which nothing was unseen, if the drive doesn't
 -- restart in this very cycle.
-use Rattle.std.proofs.Common.{◌≡◌, inl, inr, ℕ, suc, ◌+◌, ◌<◌, ◌≤◌, Bool, true, false, not, List, [], ◌∷◌, length, Option, None, refl, sym, ap, ◌∙◌, subst, arith, if◌then◌else◌}
-use Rattle.std.specs.Prelude.{is_some}
-use Rattle.std.proofs.lemmas.Bool.{cases_eq, and_parts, cond-false, ne_eqb}
-use Rattle.sercos_step.specs.declared.request.Job.{Job}
-use Rattle.sercos_block.specs.Rules.{blocks_fault}
-use Rattle.sercos_block.specs.Stores.{store_of}
-use Rattle.sercos_block.specs.Views.{RingView}
-use Rattle.sercos_command.specs.Settings.{is_command}
-use Rattle.sercos_command.specs.Calls.{Reset, CommandHistory, with_call}
-use Rattle.sercos_command.specs.Kept.{first_passed_in}
-use Rattle.sercos_service_drive.specs.Log.{Processed}
-use Rattle.sercos_service_drive.specs.Writes.{commands_with}
-use Rattle.sercos_service_master.specs.Begun.{Begun}
-use Rattle.sercos_drive.specs.Annals.{annals, may_rise}
-use Rattle.sercos_drive.specs.Steps.{reset_in}
-use Rattle.sercos_trace.specs.Views.{CycleView}
-use Rattle.sercos_seat.specs.Ring.{member, known_of, tasks_for}
-use Rattle.sercos_seat.specs.Agenda.{is_checked, is_ready}
-use Rattle.sercos_seat.specs.Channel.{outcomes_in}
+use Rattle.sercos_law_run.proofs.Words.{◌≡◌, inl, inr, ℕ, suc, ◌+◌, ◌<◌, ◌≤◌, Bool, true, false, not, List, [], ◌∷◌, length, Option, None, refl, sym, ap, ◌∙◌, subst, arith, if◌then◌else◌, is_some, cases_eq, and_parts, cond-false, ne_eqb, Job, blocks_fault, store_of, RingView, is_command, Reset, CommandHistory, with_call, first_passed_in, Processed, commands_with, Begun, annals, may_rise, reset_in, CycleView, member, known_of, tasks_for, is_checked, is_ready, outcomes_in, Past, outcomes, fall_of, is_done, is_done_in, each_passes, jobs_waiting, Carry, Restarts, View, standing, stood_in, processed_in, kept_in, command, begun_in, write_of, Stands, Down, stands, ends, Processes, Nothing, Record, processes, commanded, passes_by_setting, passes_last, stays_passed, stays_passed_last, drive_at, with_restart, given_before, middle, IsRun, IsClear, AreBegunTasks, behind_mdt, view_of, views_of, IsOpened, IsPassed, commands_ended, commands_before, CommandsFollow, transfers}
 use Rattle.sercos_law_run.proofs.Start.CheckPasses.{ring_drive}
-use Rattle.sercos_master.specs.Annals.{Past, outcomes, fall_of, is_done, is_done_in}
-use Rattle.sercos_master.proofs.Configured.{each_passes}
-use Rattle.sercos_master.proofs.Laws.{jobs_waiting}
-use Rattle.sercos_script.specs.Links.{Carry, Restarts}
-use Rattle.sercos_law_channel.specs.Handshake.Views.{View, standing, stood_in, processed_in, kept_in}
-use Rattle.sercos_law_channel.specs.Handshake.Epochs.{command, begun_in}
 use Rattle.sercos_law_channel.specs.Handshake.Runs.{IsNext as IsNextView}
-use Rattle.sercos_law_channel.specs.Handshake.WholeRun.{write_of}
-use Rattle.sercos_law_channel.proofs.Theorems.{Stands, Down, Moves, Stays, stands, ends, Processes, Nothing, Record, processes, commanded, passes_by_setting, passes_last, stays_passed, stays_passed_last}
-use Rattle.sercos_law_run.specs.Journal.Runs.{drive_at, with_restart, given_before, middle, IsRun, IsClear}
-use Rattle.sercos_law_run.specs.Agenda.Tasks.{AreBegunTasks}
-use Rattle.sercos_law_run.specs.Views.RingViews.{behind_mdt, view_of, views_of}
+use Rattle.sercos_law_channel.proofs.Theorems.{Moves, Stays}
 use Rattle.sercos_law_run.proofs.Views.Members.{members_count}
 use Rattle.sercos_law_run.proofs.Views.ViewRuns.{command_below, views_count}
-use Rattle.sercos_law_run.specs.Held.Opened.{IsOpened}
 use Rattle.sercos_law_run.proofs.Held.Runs.{drive_got, small, phase_same, begun_then}
 use Rattle.sercos_law_run.proofs.Settings.Histories.{reset_if}
 use Rattle.sercos_law_run.proofs.Settings.WellSets.{is_command_127}
 use Rattle.sercos_law_run.proofs.Headline.HeadlineRuns.{first_store, stored_in, spelled_in, all_stand}
-use Rattle.sercos_law_channel.specs.Pace.Passages.{IsPassed}
-use Rattle.sercos_law_run.specs.Undisturbed.CommandsFollow.{commands_ended, commands_before, CommandsFollow}
 use Rattle.sercos_law_run.proofs.Undisturbed.Checks.CheckLogs.{PassesIfSet, StaysIfCancelled, CountsBy}
 use Rattle.sercos_law_run.proofs.Undisturbed.Checks.CheckTasks.{IsCheckNewest, check_127, check_128}
 use Rattle.sercos_law_run.proofs.Undisturbed.Checks.CheckedViews.{check_counts}
@@ -48,7 +17,6 @@ use Rattle.sercos_law_run.proofs.Undisturbed.Checks.CommandCalls.{keeps_before, 
 use Rattle.sercos_law_run.proofs.Undisturbed.Checks.CommandRuns.{first_commands, AreCommandsSo}
 use Rattle.sercos_law_run.proofs.Undisturbed.JobsBegun.{wells}
 use Rattle.sercos_law_run.proofs.Undisturbed.Checks.WellGiven.{is_command_128}
-use Rattle.sercos_law_channel.proofs.Cited.{transfers}
 use Rattle.sercos_law_run.proofs.Cited.{begins_tasks}
 
 -- A drive that is a phase below the commanded one at the end of a cycle, and was so before, got no MST in it: so all stays.

@@ -1,40 +1,9 @@
 -- A check for phase 4 that is set ends well, if no own block of the drive was outside its limits at opening.
-use Rattle.std.proofs.Common.{◌≡◌, ℕ, ◌<◌, ◌≤◌, Bool, true, false, List, [], ◌∷◌, length, map, Option, Some, None, refl, sym, ap, ◌∙◌, subst, arith, if◌then◌else◌}
-use Rattle.std.specs.Prelude.{◌==◌, IfSome, option_map}
-use Rattle.std.specs.Bool.{then_some}
-use Rattle.std.specs.List.{filter, list_any}
-use Rattle.std.proofs.lemmas.Bool.{eqb-true, false≢true}
-use Rattle.sercos_model.proofs.FaultLemmas.{none_of-or, none_of-then}
+use Rattle.sercos_law_run.proofs.Words.{◌≡◌, ℕ, ◌<◌, ◌≤◌, Bool, true, false, List, [], ◌∷◌, length, map, Option, Some, None, refl, sym, ap, ◌∙◌, subst, arith, if◌then◌else◌, ◌==◌, IfSome, option_map, then_some, filter, list_any, eqb-true, false≢true, none_of-or, none_of-then, Attribute, Job, is_fixed, is_protected, blocks_fault, find_block, with_data, store_of, write_fault, data_fault, put_fault, are_ascending, DriveView, RingView, Block, is_outside, ends_well, Processed, Write, added_on, DriveCall, blocks_in, annals, CycleView, Carry, Restarts, is_own_outside, IsStoreOf, without_data, View, standing, stood_in, record_in, processed_in, kept_in, write_of, find-alike, Processes, Nothing, Record, processes, processed_phase, those_kept, those_since, those_moved, drive_at, given_mst, IsRun, IsClear, view_of, views_of, IsOpened, IsStored, allowed}
 use Rattle.sercos_idn.specs.Attributes.{attribute_of}
-use Rattle.sercos_idn.specs.declared.attribute.Attribute.{Attribute}
-use Rattle.sercos_step.specs.declared.request.Job.{Job}
-use Rattle.sercos_block.specs.Blocks.{is_fixed, is_protected}
-use Rattle.sercos_block.specs.Rules.{blocks_fault}
-use Rattle.sercos_block.specs.Stores.{find_block, with_data, store_of, write_fault, data_fault, put_fault, are_ascending}
-use Rattle.sercos_block.specs.Views.{DriveView, RingView}
-use Rattle.sercos_block.specs.declared.block.Block.{Block}
-use Rattle.sercos_command.specs.Checks.{is_outside, unfit_for_phase_4}
-use Rattle.sercos_command.specs.Settings.{ends_well}
-use Rattle.sercos_service_drive.specs.Log.{Processed}
-use Rattle.sercos_service_drive.specs.Writes.{Write, added_on}
-use Rattle.sercos_drive.specs.Heard.{DriveCall}
-use Rattle.sercos_drive.specs.Moments.{blocks_in}
-use Rattle.sercos_drive.specs.Annals.{annals}
-use Rattle.sercos_trace.specs.Views.{CycleView}
-use Rattle.sercos_script.specs.Links.{Carry, Restarts}
-use Rattle.sercos_law_run.specs.Start.Kept.{is_own_outside}
-use Rattle.sercos_law_run.specs.Start.StartUp.{IsStoreOf}
+use Rattle.sercos_command.specs.Checks.{unfit_for_phase_4}
 use Rattle.sercos_law_run.proofs.Start.CheckPasses.{ring_drive}
 use Rattle.sercos_law_run.proofs.Start.LimitLemmas.{names_own}
-use Rattle.sercos_service_drive.specs.Writes.{without_data}
-use Rattle.sercos_law_channel.specs.Handshake.Views.{View, standing, stood_in, record_in, processed_in, kept_in}
-use Rattle.sercos_law_channel.specs.Handshake.WholeRun.{write_of}
-use Rattle.sercos_law_channel.proofs.Theorems.{find-alike, Processes, Nothing, Record, processes, processed_phase, those_kept, those_since}
-use Rattle.sercos_service_drive.proofs.AllowedWrites.{those_moved}
-use Rattle.sercos_law_run.specs.Journal.Runs.{drive_at, given_mst, IsRun, IsClear}
-use Rattle.sercos_law_run.specs.Views.RingViews.{view_of, views_of}
-use Rattle.sercos_law_run.specs.Held.Opened.{IsOpened}
-use Rattle.sercos_law_run.specs.Held.Stored.{IsStored}
 use Rattle.sercos_law_run.proofs.Held.Runs.{Stands, alike_so, drive_got, s_known}
 use Rattle.sercos_law_run.proofs.Headline.HeadlineRuns.{all_stand, first_store, stored_in}
 use Rattle.sercos_law_run.proofs.Undisturbed.Checks.BlockStays.{IsAt, stays_at, written_at}
@@ -44,7 +13,6 @@ use Rattle.sercos_law_run.proofs.Undisturbed.Checks.OwnInside.{no_data_fault, no
 use Rattle.sercos_law_run.proofs.Undisturbed.Stops.RefusedCauses.{check_4, found_4}
 use Rattle.sercos_law_run.proofs.Start.LaterLemmas.{still_ascending}
 use Rattle.sercos_law_run.proofs.Start.KeptLemmas.{writes_keep}
-use Rattle.sercos_service_drive.proofs.AllowedWrites.{allowed}
 
 -- PHASE 3 is the one in which the check for phase 4 can be set.
 bare_4 : (d : DriveView) (o : Option Block) (phase : ℕ) (bytes : List ℕ) → option_map without_data o ≡ Some (without_data (check_4 d)) → put_fault o phase bytes ≡ None → is_protected (check_4 d).attribute phase ≡ false

@@ -1,30 +1,14 @@
 -- The list of a check for phase 4 names at most 37 blocks: a drive's own ones, of which there are 36, and the cycle time.
-use Rattle.std.proofs.Common.{◌≡◌, inl, inr, ℕ, zero, suc, ◌+◌, ◌<◌, ◌≤◌, Bool, true, false, ◌||◌, List, [], ◌∷◌, ◌++◌, length, map, filter, Option, Some, None, refl, sym, ap, ◌∙◌, subst, arith, if◌then◌else◌}
-use Rattle.std.specs.Prelude.{◌==◌, nat_lt, nat_le, is_some, slice_index_or, cond}
-use Rattle.std.proofs.lemmas.Bool.{cases_eq, false≢true, and_parts, leb-true}
-use Rattle.std.proofs.lemmas.Bool.Decides.{nat_tests}
-use Rattle.sercos_step.specs.declared.request.Job.{Job}
-use Rattle.sercos_block.specs.BuiltIns.{built_in, built_in_block, row}
-use Rattle.sercos_block.specs.declared.built_in.Opening.TheVariants.{Empty}
-use Rattle.sercos_block.specs.Rings.{is_ring, is_drive, are_drives, has_blocks}
-use Rattle.sercos_block.specs.Rules.{blocks_fault}
-use Rattle.sercos_block.specs.Stores.{find_block, is_below, is_above, inserted, with_own, store_of, put_fault, are_ascending}
-use Rattle.sercos_block.specs.Views.{DriveView, RingView}
-use Rattle.sercos_block.specs.declared.block.Block.{Block}
-use Rattle.sercos_command.specs.Checks.{is_outside, unfit_for_phase_4, list_bytes}
-use Rattle.sercos_drive.specs.Moments.{blocks_in}
-use Rattle.sercos_drive.specs.Annals.{annals}
-use Rattle.sercos_trace.specs.Views.{CycleView}
-use Rattle.sercos_script.specs.Links.{Carry, Restarts}
-use Rattle.sercos_law_run.specs.Start.StartUp.{IsStoreOf, kept}
+use Rattle.sercos_law_run.proofs.Words.{◌≡◌, inl, inr, ℕ, zero, suc, ◌+◌, ◌<◌, ◌≤◌, Bool, true, false, ◌||◌, List, [], ◌∷◌, ◌++◌, length, map, Option, Some, None, refl, sym, ap, ◌∙◌, subst, arith, if◌then◌else◌, ◌==◌, nat_lt, nat_le, is_some, slice_index_or, cond, cases_eq, false≢true, and_parts, leb-true, nat_tests, none-some, Job, built_in_block, row, Empty, is_ring, blocks_fault, find_block, is_below, is_above, put_fault, are_ascending, DriveView, RingView, Block, is_outside, list_bytes, blocks_in, annals, CycleView, Carry, Restarts, IsStoreOf, kept, AreListed, no_drive, drive_at, given_mst, views_of}
+use Rattle.std.proofs.Common.{filter}
+use Rattle.sercos_block.specs.BuiltIns.{built_in}
+use Rattle.sercos_block.specs.Rings.{is_drive, are_drives, has_blocks}
+use Rattle.sercos_block.specs.Stores.{inserted, with_own, store_of}
+use Rattle.sercos_command.specs.Checks.{unfit_for_phase_4}
 use Rattle.sercos_law_run.proofs.Start.BlockFinds.{find_store_of, kept_field}
 use Rattle.sercos_law_run.proofs.Start.KeptLemmas.{refuse_alike}
-use Rattle.sercos_law_channel.specs.Pace.Costs.{AreListed}
-use Rattle.sercos_law_run.specs.Journal.Runs.{no_drive, drive_at, given_mst}
 use Rattle.sercos_law_run.proofs.Journal.StationLemmas.{drives_so}
-use Rattle.sercos_law_run.specs.Views.RingViews.{views_of}
 use Rattle.sercos_law_run.proofs.Undisturbed.Checks.BlockStays.{IsAt, Stays, stays_at}
-use Rattle.sercos_law_run.proofs.Undisturbed.Arriving.Small.{none_some}
 use Rattle.sercos_law_run.proofs.Start.LimitLemmas.{length_list}
 
 -- THE BLOCKS WITH LIMITS
@@ -116,11 +100,11 @@ short_outside d blocks few stored =
     let most = few_outside d blocks stored in omega (arith, long, many, most, few)
 
 -- THE LIST of the check: the block is fixed, so no write to it is accepted
-fixed_22 : (d : DriveView) (blocks : List Block) (phase : ℕ) (bytes : List ℕ) → blocks_fault [] d.blocks ≡ None → IsStoreOf d blocks → put_fault (find_block 22 blocks) phase bytes ≡ None → ⊥
+pub fixed_22 : (d : DriveView) (blocks : List Block) (phase : ℕ) (bytes : List ℕ) → blocks_fault [] d.blocks ≡ None → IsStoreOf d blocks → put_fault (find_block 22 blocks) phase bytes ≡ None → ⊥
 unfolding built_in
 fixed_22 d blocks phase bytes rules stored none =
     let refused : put_fault (find_block 22 (store_of d)) phase bytes ≡ Some 0x7004 = rw (find_store_of 22 d rules) refl in
-    let both : None ≡ Some 0x7004 = sym none ∙ refuse_alike d blocks stored 22 phase bytes ∙ refused in none_some (0x7004) both
+    let both : None ≡ Some 0x7004 = sym none ∙ refuse_alike d blocks stored 22 phase bytes ∙ refused in none-some (0x7004) both
 
 -- at opening it is empty
 first_22 : (d : DriveView) → blocks_fault [] d.blocks ≡ None → IsAt 22 (λ (b : Block). length b.value ≤ 74) (store_of d)

@@ -1,16 +1,6 @@
 -- What is so of a drive's blocks while its check for phase 4 is set, and then stays so, is so at each step that was accepted since. Each list
 -- has its newest item first.
-use Rattle.std.proofs.Common.{◌≡◌, ◌⊎◌, inl, inr, Bool, true, false, List, [], ◌∷◌, ◌++◌, length, Option, refl, sym, subst, if◌then◌else◌}
-use Rattle.std.specs.Prelude.{is_some}
-use mathlib.Core.Bool.{beq}
-use Rattle.sercos_block.specs.declared.block.Block.{Block}
-use Rattle.sercos_command.specs.Calls.{CommandHistory}
-use Rattle.sercos_command.specs.Kept.{find_set, set_in}
-use Rattle.sercos_service_drive.specs.Log.{Processed, Entry, ahs}
-use Rattle.sercos_service_drive.specs.Replies.{reply_of, log_of}
-use Rattle.sercos_law_channel.specs.Handshake.Views.{View, standing, stood_in, record_in, kept_in}
-use Rattle.sercos_law_channel.specs.Handshake.WholeRun.{accepted_of, all_entries}
-use Rattle.sercos_law_channel.proofs.Theorems.{Processes, Nothing, Record, processes}
+use Rattle.sercos_law_run.proofs.Words.{◌≡◌, ◌⊎◌, inl, inr, Bool, true, false, List, [], ◌∷◌, ◌++◌, length, Option, refl, sym, subst, if◌then◌else◌, is_some, beq, Block, CommandHistory, find_set, set_in, Processed, Entry, ahs, reply_of, log_of, View, standing, stood_in, record_in, kept_in, accepted_of, all_entries, Processes, Nothing, Record, processes}
 
 abbrev pub IsSet : CommandHistory → Type 0
 IsSet c = is_some (find_set 128 (set_in c)) ≡ true

@@ -1,54 +1,18 @@
 -- If no own block of a drive was outside its limits at opening, each complete check for phase 4 gives 3.
-use Rattle.std.proofs.Common.{◌≡◌, ◌⊎◌, inl, inr, ℕ, ◌/◌, ◌%◌, ◌<◌, Bool, true, false, List, [], ◌∷◌, ◌++◌, length, Option, Some, None, refl, sym, ap, ap₂, ◌∙◌, subst, arith, if◌then◌else◌, append_assoc}
-use Rattle.std.specs.Prelude.{is_some, option_map, unwrap_or}
-use Rattle.std.specs.List.{list_any}
-use Rattle.std.proofs.lemmas.Bool.{false≢true}
+use Rattle.sercos_law_run.proofs.Words.{◌≡◌, ◌⊎◌, inl, inr, ℕ, ◌<◌, Bool, true, false, List, [], ◌∷◌, ◌++◌, length, Option, Some, None, refl, sym, ap, ap₂, ◌∙◌, subst, if◌then◌else◌, append_assoc, is_some, option_map, unwrap_or, list_any, false≢true, Job, Request, outcome_of, blocks_fault, find_block, with_data, store_of, DriveView, RingView, Block, is_outside, is_command, ends_well, has_ended, status_by, Wrote, Other, CommandHistory, with_call, find_set, set_in, SetCommand, Entry, accepted, Write, commands_with, command_value, without_data, writes_of, Begun, CycleView, idn, Carry, Restarts, IsStoreOf, GivesStatus, begun_in, command, epoch_begun, epoch_records, epoch_log, replies_of, IsRow, IsPart, Unsent, Unheard, AreParts, IsTransfer, newest_to, View, processed_in, kept_in, AreSound, all_entries, write_of, find-alike, in_step, IsEpoch, epoch, fall_into_parts, answered_replies, entries_ago, entries_in_epochs, drive_at, IsRun, IsClear, SettingsFollow, commands_left, HaveStores, view_of, views_of, IsOpened, AreStored, ends_with_status}
 use Rattle.sercos_idn.specs.Attributes.{attribute_of}
-use Rattle.sercos_step.specs.declared.request.Job.{Job}
-use Rattle.sercos_step.specs.declared.request.Request.{Request}
 use Rattle.sercos_step.specs.declared.request.Request.TheVariants as request
 use Rattle.sercos_step.specs.declared.request.Outcome.TheVariants as outcome
-use Rattle.sercos_step.specs.Steps.{outcome_of}
-use Rattle.sercos_step.specs.Words.{bytes_in}
-use Rattle.sercos_block.specs.Rules.{blocks_fault}
-use Rattle.sercos_block.specs.Stores.{find_block, with_data, store_of}
-use Rattle.sercos_block.specs.Views.{DriveView, RingView}
-use Rattle.sercos_block.specs.declared.block.Block.{Block}
-use Rattle.sercos_command.specs.Checks.{is_outside}
-use Rattle.sercos_command.specs.Settings.{is_command, ends_well, has_ended, status_by}
-use Rattle.sercos_command.specs.Calls.{Wrote, Other, CommandHistory, with_call}
-use Rattle.sercos_command.specs.Kept.{find_set, set_in}
-use Rattle.sercos_command.specs.declared.commands.SetCommand.{SetCommand}
-use Rattle.sercos_service_drive.specs.Log.{Entry, accepted}
-use Rattle.sercos_service_drive.specs.Writes.{Write, commands_with, command_value, without_data, writes_of}
-use Rattle.sercos_service_master.specs.Begun.{Begun}
-use Rattle.sercos_trace.specs.Views.{CycleView}
-use Rattle.sercos_seat.specs.Agenda.{idn}
-use Rattle.sercos_script.specs.Links.{Carry, Restarts}
-use Rattle.sercos_law_run.specs.Start.StartUp.{IsStoreOf}
 use Rattle.sercos_law_run.proofs.Start.CheckPasses.{ring_drive}
-use Rattle.sercos_law_channel.specs.Handshake.CommandTransfers.{GivesStatus}
-use Rattle.sercos_law_channel.specs.Handshake.Epochs.{begun_in, command, epoch_begun, epoch_records, epoch_log}
-use Rattle.sercos_law_channel.specs.Handshake.InStep.{replies_of}
-use Rattle.sercos_law_channel.specs.Handshake.Parts.{IsRow, IsPart, Unsent, Heard, Unheard, AreParts}
+use Rattle.sercos_law_channel.specs.Handshake.Parts.{Heard}
 use Rattle.sercos_law_channel.specs.Handshake.Runs.{IsRun as IsViewRun}
-use Rattle.sercos_law_channel.specs.Handshake.Transfers.{IsTransfer}
-use Rattle.sercos_law_channel.specs.Handshake.Values.{newest_to}
-use Rattle.sercos_law_channel.specs.Handshake.Views.{View, processed_in, kept_in}
-use Rattle.sercos_law_channel.specs.Handshake.WholeRun.{AreSound, all_entries, write_of}
-use Rattle.sercos_law_channel.proofs.Theorems.{find-alike, in_step, IsEpoch, epoch, fall_into_parts, answered_replies, entries_ago, entries_in_epochs}
-use Rattle.sercos_law_run.specs.Journal.Runs.{drive_at, IsRun, IsClear}
-use Rattle.sercos_law_run.specs.Settings.SetByWrites.{SettingsFollow, commands_left}
-use Rattle.sercos_law_run.specs.Settings.WellSet.{HaveStores}
 use Rattle.sercos_law_run.proofs.Settings.Histories.{status_set}
 use Rattle.sercos_law_run.proofs.Settings.CheckRuns.{IsPartAt, part_at, poll_at, transfer_at}
+use Rattle.sercos_law_run.proofs.Settings.CheckGives3.{seven_of}
 use Rattle.sercos_law_run.proofs.Settings.SetAtPoll.{IsSetAtPoll, set_at_poll}
 use Rattle.sercos_law_run.proofs.Settings.SetInEpoch.{set_at_entry}
 use Rattle.sercos_law_run.proofs.Settings.SettingsRuns.{keeps_settings}
 use Rattle.sercos_law_run.proofs.Settings.WellRuns.{complete_status}
-use Rattle.sercos_law_run.specs.Views.RingViews.{view_of, views_of}
-use Rattle.sercos_law_run.specs.Held.Opened.{IsOpened}
-use Rattle.sercos_law_run.specs.Held.Stored.{AreStored}
 use Rattle.sercos_law_run.proofs.Held.Runs.{alike_so, drive_got}
 use Rattle.sercos_law_run.proofs.Headline.HeadlineRuns.{all_stand}
 use Rattle.sercos_law_run.proofs.Undisturbed.Checks.EntriesSay.{EntriesSay, ViewsSay, entries_say, entry_says}
@@ -58,7 +22,6 @@ use Rattle.sercos_law_run.proofs.Undisturbed.Stops.RefusedCauses.{check_4, found
 use Rattle.sercos_law_run.proofs.Undisturbed.Checks.SetsFour.{sets_well}
 use Rattle.sercos_law_run.proofs.Undisturbed.Arriving.Small.{first_is}
 use Rattle.sercos_law_run.proofs.Settings.NoCheck127.{next_still, stays}
-use Rattle.sercos_law_channel.proofs.Handshake.CommandEnds.{ends_with_status}
 
 abbrev pub IsWell : SetCommand → Type 0
 IsWell s = s.well ≡ true
@@ -83,9 +46,6 @@ have_commands d [] rules are = tt
 have_commands d (v ∷ past) rules are = (have_commands d past rules are.0, is_command_128 d v.blocks rules are.1.1)
 
 -- THE STATUS of a check that is set and ends well
-seven_of : (x : ℕ) → bytes_in (x ∷ []) ≡ 7 ∷ 0 ∷ [] → x ≡ 7
-seven_of x same = let low : x % 256 ≡ 7 = cc in let high : x / 256 ≡ 0 = cc in omega arith
-
 abbrev status_of : Bool → Bool → ℕ
 status_of x y = if x then (if y then 3 else 15) else 7
 

@@ -1,39 +1,12 @@
 -- The newest step of a request that is begun in phase 3 or later was accepted in such a phase.
-use Rattle.std.proofs.Common.{◌≡◌, inl, inr, ℕ, ◌+◌, ◌<◌, ◌≤◌, Bool, true, false, List, [], ◌∷◌, length, Option, Some, None, refl, sym, ap, ◌∙◌, subst, arith, if◌then◌else◌, length-append}
-use Rattle.std.proofs.lemmas.Option.{none-some}
-use Rattle.std.specs.Prelude.{is_some}
-use Rattle.std.proofs.lemmas.Bool.{cases_lt}
-use mathlib.Core.Bool.{beq}
-use Rattle.sercos_step.specs.declared.request.Job.{Job}
-use Rattle.sercos_step.specs.declared.request.Request.{Request}
+use Rattle.sercos_law_run.proofs.Words.{◌≡◌, inl, inr, ℕ, ◌+◌, ◌<◌, ◌≤◌, Bool, true, false, List, [], ◌∷◌, length, Option, Some, None, refl, sym, ap, ◌∙◌, subst, arith, if◌then◌else◌, length-append, none-some, is_some, cases_lt, beq, Job, Request, Idn, Answer, Step, RingView, Processed, Entry, ahs, accepted, answered, log_of, Begun, steps_begun, steps_in, step_at, with_step, answers_it, answer_in, with_answer, CycleView, Fall, reads_count, known_of, member, fall_of, Carry, Restarts, epoch_begun, begun_in, epoch_records, records_in_views, epoch_log, log_in, unless_restart, with_heard, with_begun, AreInStep, Idle, Kept, Heard, View, with_record, processed_in, IsRun, IsClear, behind_mdt, view_of, views_of, IsOpened, drive_at, length-steps_of, processes_in_phase}
 use Rattle.sercos_step.specs.declared.request.Request.TheVariants as request
-use Rattle.sercos_idn.specs.declared.idn.Idn.{Idn}
-use Rattle.sercos_step.specs.declared.step.Answer.{Answer}
-use Rattle.sercos_step.specs.declared.step.Step.{Step}
-use Rattle.sercos_block.specs.Views.{RingView}
-use Rattle.sercos_service_drive.specs.Log.{Processed, Entry, ahs, accepted}
-use Rattle.sercos_service_drive.specs.Replies.{answered, log_of}
-use Rattle.sercos_service_master.specs.Begun.{Begun, steps_begun, steps_in, step_at, with_step, answers_it, answer_in, with_answer}
-use Rattle.sercos_trace.specs.Views.{CycleView}
-use Rattle.sercos_trace.specs.declared.events.Fall.{Fall}
-use Rattle.sercos_seat.specs.Agenda.{reads_count}
-use Rattle.sercos_seat.specs.Ring.{known_of, member}
-use Rattle.sercos_master.specs.Annals.{fall_of}
-use Rattle.sercos_script.specs.Links.{Carry, Restarts}
-use Rattle.sercos_law_channel.specs.Handshake.Epochs.{epoch_begun, begun_in, epoch_records, records_in_views, epoch_log, log_in, unless_restart, with_heard, with_begun}
-use Rattle.sercos_law_channel.specs.Handshake.InStep.{AreInStep, Idle, Sent, Kept}
-use Rattle.sercos_law_channel.specs.Handshake.Views.{Heard, View, with_record, processed_in}
-use Rattle.sercos_law_run.specs.Journal.Runs.{IsRun, IsClear}
-use Rattle.sercos_law_run.specs.Views.RingViews.{behind_mdt, view_of, views_of}
-use Rattle.sercos_law_run.specs.Held.Opened.{IsOpened}
-use Rattle.sercos_law_run.specs.Journal.Runs.{drive_at}
+use Rattle.sercos_law_channel.specs.Handshake.InStep.{Sent}
 use Rattle.sercos_law_run.proofs.Headline.HeadlineRuns.{all_stand}
 use Rattle.sercos_law_run.proofs.Undisturbed.StaysUp.{phase_now}
 use Rattle.sercos_law_run.proofs.Undisturbed.JobsBegun.{few_then}
 use Rattle.sercos_law_run.proofs.Undisturbed.Arriving.Small.{first_is, nothing_there}
-use Rattle.sercos_law_channel.proofs.Theorems.{length-steps_of}
 use Rattle.sercos_law_channel.proofs.Handshake.EpochRuns.{in_step}
-use Rattle.sercos_law_channel.proofs.Handshake.RunFacts.{processes_in_phase}
 
 -- STEPS: an answer leaves those that were begun
 more_steps : (r : Request) (a : Answer) (h : List Answer) → length (steps_begun r h) ≤ length (steps_begun r (a ∷ h))
@@ -70,7 +43,7 @@ heard_head (Some a) begun one older is = by (answers_it begun a.status) begun is
     by true (b ∷ rest) is = record { first = b; split = ap (λ (l : List Begun). b ∷ l) (first_is _ one rest older is).1 }
 
 -- the drive has accepted no more steps than were begun
-few_accepted : (begun : List Begun) (log : List Entry) → AreInStep begun log → length log ≤ length (steps_in begun)
+pub few_accepted : (begun : List Begun) (log : List Entry) → AreInStep begun log → length log ≤ length (steps_in begun)
 few_accepted begun log (Idle none steps answers) = let same = ap (λ (l : List Step). length l) steps in let all = length-steps_of log in omega (arith, same, all)
 few_accepted begun log (Sent s some steps answers) = let same = ap (λ (l : List Step). length l) steps in let all = length-steps_of log in omega (arith, same, all)
 few_accepted begun log (Kept e before some is steps answers) = let same = ap (λ (l : List Step). length l) steps in let all = length-steps_of log in omega (arith, same, all)

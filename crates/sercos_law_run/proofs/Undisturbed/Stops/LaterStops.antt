@@ -1,60 +1,20 @@
 -- In phase 3 the master stops for a check for phase 4 alone, and in phase 4 for nothing.
-use Rattle.std.proofs.Common.{◌≡◌, ◌⊎◌, inl, inr, ℕ, zero, suc, ◌+◌, ◌<◌, ◌≤◌, Bool, true, false, ◌&&◌, List, [], ◌∷◌, ◌++◌, length, Option, Some, None, refl, sym, ap, ap₂, ◌∙◌, subst, arith, if◌then◌else◌, append_assoc, length-append}
-use Rattle.std.specs.Prelude.{map, slice_get, is_some, take, unwrap_or, option_map}
-use Rattle.std.proofs.lemmas.Bool.{cases_lt, and_parts, cases_eq, false≢true}
+use Rattle.sercos_law_run.proofs.Words.{◌≡◌, ◌⊎◌, inl, inr, ℕ, suc, ◌+◌, ◌<◌, ◌≤◌, Bool, true, false, ◌&&◌, List, [], ◌∷◌, ◌++◌, length, Option, Some, None, refl, sym, ap, ap₂, ◌∙◌, subst, arith, if◌then◌else◌, append_assoc, length-append, map, slice_get, is_some, take, unwrap_or, option_map, cases_lt, and_parts, cases_eq, false≢true, same_Some, filter, list_any, Code, Idn, Job, Outcome, Request, next_step, outcome_of, PlanView, Block, blocks_fault, find_block, store_of, with_own, DriveView, RingView, is_outside, write_cause_in, Begun, step_at, steps_begun, steps_in, begun_by, CycleView, Stop, idn, idns_in, reads, reads_count, writes, is_checked, is_ready, ended_well, given, bytes_of, outcomes_in, with_outcome, Known, Task, known_of, member, tasks_for, ended_there, reads_length, before_end, Past, outcomes, Carry, Restarts, begun_in, log_in, AreInStep, IsTransfer, Allows, drive_at, middle, IsRun, IsClear, AreNumbered, HasRefused, HasFailedCheck, HasEndedAt, IsTask, OfReads, OfWrites, Checks3, Lists3, Checks4, Lists4, OfWaiting, AreBegunTasks, behind_mdt, view_of, views_of, IsOpened, jobs_of, AreAt, StopsForTheCheck, not_longer, transfers, in_step_in}
 use Rattle.sercos_idn.specs.Attributes.{attribute_of}
-use Rattle.sercos_idn.specs.declared.code.Code.{Code}
-use Rattle.sercos_idn.specs.declared.idn.Idn.{Idn}
-use Rattle.sercos_step.specs.declared.request.Job.{Job}
-use Rattle.sercos_step.specs.declared.request.Outcome.{Outcome}
 use Rattle.sercos_step.specs.declared.request.Outcome.TheVariants as outcome
-use Rattle.sercos_step.specs.declared.request.Request.{Request}
 use Rattle.sercos_step.specs.declared.request.Request.TheVariants as request
-use Rattle.sercos_step.specs.Steps.{answer_words, is_whole, next_step, outcome_of, result_of}
-use Rattle.sercos_step.specs.declared.step.Answer.{Answer}
-use Rattle.sercos_timing.specs.Views.{PlanView}
-use Rattle.sercos_block.specs.declared.block.Block.{Block}
-use Rattle.sercos_block.specs.Rules.{blocks_fault}
-use Rattle.sercos_block.specs.Stores.{find_block, store_of, with_own}
-use Rattle.sercos_block.specs.Views.{DriveView, RingView}
-use Rattle.sercos_command.specs.Checks.{is_outside}
-use Rattle.std.specs.List.{filter, list_any}
-use Rattle.sercos_service_drive.specs.Replies.{write_cause_in}
-use Rattle.sercos_service_master.specs.Begun.{Begun, step_at, steps_begun, steps_in}
-use Rattle.sercos_service_master.specs.Calls.{begun_by}
-use Rattle.sercos_trace.specs.Views.{CycleView}
-use Rattle.sercos_trace.specs.declared.events.Stop.{Stop}
 use Rattle.sercos_trace.specs.declared.events.Stop.TheVariants as stop
-use Rattle.sercos_seat.specs.Agenda.{idn, idns_in, reads, reads_count, writes, is_checked, is_ready, ended_well, given, bytes_of}
-use Rattle.sercos_seat.specs.Channel.{outcomes_in, with_outcome}
-use Rattle.sercos_seat.specs.Ring.{Known, Task, known_of, member, tasks_for}
-use Rattle.sercos_seat.proofs.Agendas.{ended_there, reads_length}
-use Rattle.sercos_seat.proofs.Seats.{before_end}
-use Rattle.sercos_master.specs.Annals.{Past, outcomes}
-use Rattle.sercos_script.specs.Links.{Carry, Restarts}
-use Rattle.sercos_law_channel.specs.Handshake.Epochs.{begun_in, log_in}
-use Rattle.sercos_law_channel.specs.Handshake.InStep.{AreInStep}
-use Rattle.sercos_law_channel.specs.Handshake.Transfers.{IsTransfer}
-use Rattle.sercos_law_channel.proofs.Theorems.{Allows}
 use Rattle.sercos_law_run.proofs.Start.CheckPasses.{ring_drive}
-use Rattle.sercos_law_run.specs.Journal.Runs.{drive_at, middle, IsRun, IsClear}
-use Rattle.sercos_law_run.specs.Agenda.Reported.{AreNumbered}
-use Rattle.sercos_law_run.specs.Agenda.Stops.{HasRefused, HasFailedCheck}
-use Rattle.sercos_law_run.specs.Agenda.Tasks.{HasEndedAt, IsTask, OfReads, OfWrites, Checks3, Lists3, Checks4, Lists4, OfWaiting, AreBegunTasks}
 use Rattle.sercos_law_run.proofs.Agenda.ReadWell.{last_is}
 use Rattle.sercos_law_run.proofs.Agenda.Requests.{numbered_drop, are_requests}
-use Rattle.sercos_law_run.specs.Views.RingViews.{behind_mdt, view_of, views_of}
+use Rattle.sercos_law_run.proofs.Agenda.WritesDone.{some_at}
 use Rattle.sercos_law_run.proofs.Views.Members.{members_count}
-use Rattle.sercos_law_run.specs.Held.Opened.{IsOpened}
 use Rattle.sercos_law_run.proofs.Held.Runs.{drive_got, small}
 use Rattle.sercos_law_run.proofs.Held.Runs as held
 use Rattle.sercos_law_run.proofs.Headline.HeadlineRuns.{all_stand, first_store}
-use Rattle.sercos_law_run.specs.Undisturbed.Jobs.{jobs_of, AreAt}
-use Rattle.sercos_law_run.specs.Undisturbed.StopsLater.{StopsForTheCheck}
 use Rattle.sercos_law_run.proofs.Undisturbed.CycleHeld.{fits_in}
 use Rattle.sercos_law_run.proofs.Undisturbed.JobPlaces.{at_most, later, some_plan, unnumbered}
 use Rattle.sercos_law_run.proofs.Undisturbed.JobsBegun.{begun_then, few_then, place_of, places_then, tasks_then}
-use Rattle.sercos_master.proofs.Followed.{not_longer}
 use Rattle.sercos_law_run.proofs.Undisturbed.Checks.WellGiven.{check_gives_3}
 use Rattle.sercos_law_run.proofs.Undisturbed.Checks.ListedRuns.{list_is, own_bytes}
 use Rattle.sercos_law_run.proofs.Undisturbed.Checks.OwnSorted.{list_back}
@@ -65,9 +25,8 @@ use Rattle.sercos_law_run.proofs.Undisturbed.Stops.RefusedRuns.{IsRefused, newes
 use Rattle.sercos_law_run.proofs.Undisturbed.Stops.RefusedSteps.{command_well, data_reads_well}
 use Rattle.sercos_law_run.proofs.Undisturbed.StaysUp.{phase_now}
 use Rattle.sercos_law_run.proofs.Undisturbed.Stops.StopsTold.{stops_right}
-use Rattle.sercos_law_run.proofs.Undisturbed.Arriving.Small.{first_is, never_both, some_is}
-use Rattle.sercos_law_channel.proofs.Cited.{transfers}
-use Rattle.sercos_law_channel.proofs.Handshake.EpochRuns.{in_step_in}
+use Rattle.sercos_law_run.proofs.Undisturbed.Arriving.Small.{first_is, never_both}
+use Rattle.sercos_law_run.proofs.Undisturbed.Answered.{outcome_unbroken}
 use Rattle.sercos_law_run.proofs.Cited.{check128_has_cause, left_of, refused_has_cause, tasks_end}
 
 -- A request that was refused is no check that ended well.
@@ -83,28 +42,12 @@ pub check_is_command : (d : DriveView) → (check_4 d).attribute.command ≡ tru
 unfolding attribute_of
 check_is_command d = refl
 
--- what stands at a place of a list
-got_there : {A : Type 0} (xs : List A) (n : ℕ) → n < length xs → (x : A) × (slice_get xs n ≡ Some x)
-got_there [] n low = absurd (omega (arith, low))
-got_there (x ∷ xs) zero low = (x, refl)
-got_there (x ∷ xs) (suc n) low = got_there xs n (omega (arith, low))
-
 -- two ends of a list that are as long are the same
 same_end : (xs ys us vs : List Begun) → xs ++ us ≡ ys ++ vs → length us ≡ length vs → us ≡ vs
 same_end [] [] us vs same long = same
 same_end [] (y ∷ ys) us vs same long = let all : length us ≡ suc (length (ys ++ vs)) = ap (λ (l : List Begun). length l) same in let parts = length-append ys vs in absurd (omega (arith, all, parts, long))
 same_end (x ∷ xs) [] us vs same long = let all : suc (length (xs ++ us)) ≡ length vs = ap (λ (l : List Begun). length l) same in let parts = length-append xs us in absurd (omega (arith, all, parts, long))
 same_end (x ∷ xs) (y ∷ ys) us vs same long = same_end xs ys us vs (first_is x y (xs ++ us) (ys ++ vs) same).1 long
-
--- no request ends as broken by its answers
-never_broken : (r : Request) (h : List Answer) → outcome_of r h ≡ Some outcome.Broken → ⊥
-never_broken r [] e = let both : None ≡ Some outcome.Broken = e in cc
-never_broken r (a ∷ h) e = by a.error (is_whole r (answer_words h ++ a.word ∷ [])) e
-  where
-    by : (error whole : Bool) → (if error then Some (outcome.Refused (record { raw = a.word })) else (if whole then Some (outcome.Complete (result_of r (answer_words h ++ a.word ∷ []))) else None)) ≡ Some outcome.Broken → ⊥
-    by true whole e = cc
-    by false true e = cc
-    by false false e = cc
 
 -- the task 12 places after the reads is complete if another one was begun after it
 complete_before : (s : Known) (k : ℕ) (plan : Option PlanView) (waiting : List Task) (phase : ℕ) (x : Begun) (newer : List Begun) (one : Begun) (older : List Begun) (tasks : List Task) → AreBegunTasks s k plan waiting phase (x ∷ (newer ++ one ∷ older)) tasks
@@ -188,7 +131,7 @@ module _ (r : RingView) (jobs : List Job) (carry : Carry) (restarts : Restarts) 
         -- a read isn't refused
         at_list : length older ≡ reads_count (member (known_of r) k) + 13 → ⊥
         at_list at =
-            let asks : one.request ≡ request.Read (idn 22) 7 = some_is one.request (request.Read (idn 22) 7) (sym placed.1 ∙ later (known_of r) k made.0 (length older) 13 at) in
+            let asks : one.request ≡ request.Read (idn 22) 7 = same_Some one.request (request.Read (idn 22) 7) (sym placed.1 ∙ later (known_of r) k made.0 (length older) 13 at) in
             never_both ref.e.answer.error ref.error
             (data_reads_well (idn 22) (list_4 (drive_at r k)) (store_of (drive_at r k)) (found_list (drive_at r k) rules) ref.e ref.entries ref.log
             (subst (λ (x : Request). IsTransfer x (store_of (drive_at r k)) ref.e ref.entries ref.log) asks ref.transfer))
@@ -203,7 +146,7 @@ module _ (r : RingView) (jobs : List Job) (carry : Carry) (restarts : Restarts) 
             (ap (λ (n : ℕ). write_cause_in (find_block 128 ref.e.processed.blocks) n true (3 ∷ [])) in_three ∙ check_free_4 (drive_at r k) rules ref.e ref.stored))
           where
             asks : one.request ≡ request.Command (idn 128)
-            asks = some_is one.request (request.Command (idn 128)) (sym placed.1 ∙ later (known_of r) k made.0 (length older) 12 at)
+            asks = same_Some one.request (request.Command (idn 128)) (sym placed.1 ∙ later (known_of r) k made.0 (length older) 12 at)
 
             step : AreInStep (one ∷ older) (log_in (view_of r jobs carry restarts k t j) (views_of r jobs carry restarts k j))
             step = subst (λ (l : List Begun). AreInStep l (log_in (view_of r jobs carry restarts k t j) (views_of r jobs carry restarts k j))) split
@@ -278,7 +221,7 @@ module _ (r : RingView) (jobs : List Job) (carry : Carry) (restarts : Restarts) 
 
   asks_at : t.phase ≡ 3 → (k : ℕ) → k < length r.drives → (i : ℕ) (q : Request) → ((p : PlanView) → slice_get (writes (known_of r) p k ++ request.Command (idn 127) ∷ request.Command (idn 128) ∷ request.Read (idn 22) 7 ∷ []) i ≡ Some q) → (o : Outcome) (at : EndedAt k i o)
       → at.one.request ≡ q
-  asks_at three k below i q is o at = some_is at.one.request q
+  asks_at three k below i q is o at = same_Some at.one.request q
       (sym (place_of (jobs_of (known_of r) (Some made.0) k) at.newer at.older at.one (subst (λ (o : Option PlanView). AreAt (jobs_of (known_of r) o k) (at.newer ++ at.one ∷ at.older)) made.1 places))
       ∙ later (known_of r) k made.0 (length at.older) i at.place ∙ is made.0)
     where
@@ -364,7 +307,7 @@ module _ (r : RingView) (jobs : List Job) (carry : Carry) (restarts : Restarts) 
       by (outcome.Complete bytes) at =
           ap ended_well (check_gives_3 r jobs carry restarts opened k below none t j run clear at.newer at.older at.one bytes (split_at k below 12 (outcome.Complete bytes) at) (asks_at three k below 12 (request.Command (idn 128)) (λ p. refl) (outcome.Complete bytes) at) at.ended)
       by (outcome.Refused code) at = absurd (never_refused three k below there code at)
-      by outcome.Broken at = absurd (never_broken at.one.request at.one.answers at.ended)
+      by outcome.Broken at = absurd (outcome_unbroken at.one.request at.one.answers at.ended)
 
   pub ready_if_ended : (k : ℕ) → k < length r.drives → k < length (known_of r).drives → list_any is_outside (drive_at r k).blocks ≡ false → reads_count (member (known_of r) k) + 12 < length (outcomes now k)
       → is_ready (member (known_of r) k) (outcomes now k) ≡ true
@@ -377,7 +320,7 @@ module _ (r : RingView) (jobs : List Job) (carry : Carry) (restarts : Restarts) 
     | inr late ↦ elim (cases_eq t.phase 3) [
       | inl three ↦
           let same = phase_is in
-          let got = got_there (outcomes (behind_mdt r jobs carry restarts t.sent j) k) (reads_count (member (known_of r) k) + 12) ended in
+          let got = some_at (outcomes (behind_mdt r jobs carry restarts t.sent j) k) (reads_count (member (known_of r) k) + 12) ended in
           ap₂ (λ (a b : Bool). a && b) (all_checked_in (known_of r) (tasks_for (known_of r) jobs) (middle r carry restarts t.sent j) (omega (arith, same, three)) k there)
           (ap (λ (o : Option Outcome). ended_well (unwrap_or (option_map bytes_of o) [])) got.1 ∙ well_at three k below there none got.0 got.1)
       | inr other ↦ let same = phase_is in all_ready_in (known_of r) (tasks_for (known_of r) jobs) (middle r carry restarts t.sent j) (omega (arith, same, late, other)) k there

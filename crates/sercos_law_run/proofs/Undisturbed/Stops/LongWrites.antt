@@ -1,38 +1,12 @@
 -- A write of more than 1,024 bytes ends early: no block has room for them, and a drive refuses the word that says so.
-use Rattle.std.proofs.Common.{◌≡◌, inl, inr, ℕ, suc, ◌+◌, ◌*◌, ◌/◌, ◌<◌, ◌≤◌, Bool, true, false, ◌&&◌, ◌||◌, List, [], ◌∷◌, ◌++◌, length, Option, Some, None, refl, sym, ap, ap₂, ◌∙◌, subst, arith, if◌then◌else◌}
-use Rattle.std.specs.Prelude.{◌==◌, nat_le, nat_lt, option_map, slice_get}
-use Rattle.std.specs.Bool.{then_some}
-use Rattle.std.proofs.lemmas.Bool.{cases_eq, cond-true, cond-false, eqb-true, false≢true}
-use Rattle.std.proofs.lemmas.Bool.Decides.{nat_tests}
-use Rattle.sercos_model.proofs.FaultLemmas.{none_of-or, none_of-then}
-use Rattle.sercos_idn.specs.Codes.{is_list, item_len}
-use Rattle.sercos_idn.specs.declared.attribute.Attribute.{Attribute}
-use Rattle.sercos_idn.specs.declared.idn.Idn.{Idn}
-use Rattle.sercos_idn.specs.declared.kinds.Length.{Length}
+use Rattle.sercos_law_run.proofs.Words.{◌≡◌, inl, inr, ℕ, suc, ◌+◌, ◌*◌, ◌/◌, ◌<◌, ◌≤◌, Bool, true, false, ◌&&◌, ◌||◌, List, [], ◌∷◌, ◌++◌, length, Option, Some, None, refl, sym, ap, ap₂, ◌∙◌, subst, arith, if◌then◌else◌, ◌==◌, nat_le, nat_lt, option_map, slice_get, then_some, cases_eq, cond-true, cond-false, eqb-true, false≢true, nat_tests, same_Some, none_of-or, none_of-then, is_list, item_len, Attribute, Idn, Length, Request, Answer, Step, run, writing, steps_of, answer_words, words_of, at_least_one, words_told, shape_of, shape_by, length-words_of, length-at_least_one, is_fixed, is_protected, IsStore, find_block, Block, max_len_bound, Processed, Entry, open_idn, run_before, in_order, answer_by, is_first_word, ends_early, is_over, write_cause_in, reply_at, reply_of, without_data, replies_of, IsTransfer, AreSmall, find-alike, goes_on-outcome_of, newest_step, without_newest, only_opening, low_of, high_of, is_nil, long_words, length-in_order, says_shape}
 use Rattle.sercos_idn.specs.declared.kinds.Length.TheVariants as len
-use Rattle.sercos_step.specs.declared.request.Request.{Request}
 use Rattle.sercos_step.specs.declared.request.Request.TheVariants as request
-use Rattle.sercos_step.specs.declared.step.Answer.{Answer}
-use Rattle.sercos_step.specs.declared.step.Step.{Step}
-use Rattle.sercos_step.specs.Steps.{run, writing, steps_of, answer_words}
-use Rattle.sercos_step.specs.Words.{words_of, at_least_one, words_told, shape_of, shape_by}
-use Rattle.sercos_step.proofs.WrittenWords.{length-words_of, length-at_least_one}
-use Rattle.sercos_block.specs.Blocks.{is_fixed, is_protected}
-use Rattle.sercos_block.specs.Stores.{IsStore, find_block}
-use Rattle.sercos_block.specs.declared.block.Block.{Block}
-use Rattle.sercos_block.proofs.SoundLemmas.{max_len_bound}
-use Rattle.sercos_service_drive.specs.Log.{Processed, Entry, open_idn, run_before, in_order}
-use Rattle.sercos_service_drive.specs.Replies.{answer_by, is_first_word, ends_early, is_over, write_cause, write_cause_in, reply_at, reply_of}
-use Rattle.sercos_service_drive.specs.Writes.{without_data}
-use Rattle.sercos_law_channel.specs.Handshake.InStep.{replies_of}
-use Rattle.sercos_law_channel.specs.Handshake.Transfers.{IsTransfer}
-use Rattle.sercos_law_channel.specs.Handshake.WholeRun.{AreSmall}
-use Rattle.sercos_law_channel.proofs.Theorems.{find-alike, goes_on-outcome_of, newest_step, without_newest, only_opening, low_of, high_of, told, is_nil, long_words}
-use Rattle.sercos_service_drive.proofs.WriteAnswers.{length-in_order}
+use Rattle.sercos_service_drive.specs.Replies.{write_cause}
+use Rattle.sercos_law_channel.proofs.Theorems.{told}
 use Rattle.sercos_law_channel.proofs.Handshake.WriteStages as write
 use Rattle.sercos_law_run.proofs.Undisturbed.Stops.RefusedSteps.{reply_word}
-use Rattle.sercos_law_run.proofs.Undisturbed.Arriving.Small.{first_is, never_both, some_is}
-use Rattle.sercos_law_channel.proofs.Cited.{says_shape}
+use Rattle.sercos_law_run.proofs.Undisturbed.Arriving.Small.{first_is, never_both}
 
 -- THE CAUSE: an answer that is no error has none
 no_cause : (o : Option ℕ) (word : ℕ) (a : Answer) → a ≡ answer_by o word → a.error ≡ false → o ≡ None
@@ -98,7 +72,7 @@ record IsThere (o : Option Block) (b : Block) : Type 0 where
 
 is_there : (o : Option Block) (b : Block) → option_map without_data o ≡ Some (without_data b) → IsThere o b
 is_there None b is = absurd (cc)
-is_there (Some c) b is = let same = some_is (without_data c) (without_data b) is in record { block = c; is = refl; attribute = ap (λ (x : Block). x.attribute) same; max_len = ap (λ (x : Block). x.max_len) same }
+is_there (Some c) b is = let same = same_Some (without_data c) (without_data b) is in record { block = c; is = refl; attribute = ap (λ (x : Block). x.attribute) same; max_len = ap (λ (x : Block). x.max_len) same }
 
 module _ (idn : Idn) (bytes : List ℕ) (long : 1024 < length bytes) (b : Block)
     (said : shape_of 7 (low_of b + 65536 * high_of b) ≡ shape_by b.attribute.length) (blocks : List Block)
@@ -181,8 +155,8 @@ second_of first false some others n s one off got = ap (slice_get (first ∷ oth
 
 first_run : (e : ℕ) (words : List ℕ) (s : Step) → slice_get (run true e words) 0 ≡ Some s → (s.write ≡ true) × (s.element ≡ e)
 first_run e [] s got = absurd (cc)
-first_run e (w ∷ []) s got = let same = some_is _ s got in (ap (λ (x : Step). x.write) (sym same), ap (λ (x : Step). x.element) (sym same))
-first_run e (w ∷ v ∷ words) s got = let same = some_is _ s got in (ap (λ (x : Step). x.write) (sym same), ap (λ (x : Step). x.element) (sym same))
+first_run e (w ∷ []) s got = let same = same_Some _ s got in (ap (λ (x : Step). x.write) (sym same), ap (λ (x : Step). x.element) (sym same))
+first_run e (w ∷ v ∷ words) s got = let same = same_Some _ s got in (ap (λ (x : Step). x.write) (sym same), ap (λ (x : Step). x.element) (sym same))
 
 other_refused : (t : Processed) (all : List Entry) → t.step.write ≡ true → (t.step.element == 1) ≡ false → (t.step.element == 0) ≡ false → (t.step.element == 7) ≡ false → (reply_of t all).error ≡ true
 other_refused t all writes not_one not_zero not_seven =

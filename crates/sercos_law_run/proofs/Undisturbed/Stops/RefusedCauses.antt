@@ -1,38 +1,15 @@
 -- Of what the start-up writes, sets and reads, a drive can refuse the cycle time alone, and it refuses that by its limits.
-use Rattle.std.proofs.Common.{◌≡◌, ◌⊎◌, inl, inr, ℕ, suc, ◌+◌, ◌*◌, ◌/◌, ◌%◌, ◌<◌, ◌≤◌, Bool, true, false, List, [], ◌∷◌, ◌++◌, length, map, Some, None, refl, sym, ap, ap₂, ◌∙◌, arith, if◌then◌else◌, length-append}
-use Rattle.std.specs.Prelude.{◌==◌, nat_lt}
-use Rattle.std.proofs.lemmas.Bool.Decides.{nat_tests}
+use Rattle.sercos_law_run.proofs.Words.{◌≡◌, ◌⊎◌, inl, inr, ℕ, suc, ◌+◌, ◌*◌, ◌/◌, ◌%◌, ◌<◌, ◌≤◌, Bool, true, false, List, [], ◌∷◌, ◌++◌, length, map, Some, None, refl, sym, ap, ap₂, ◌∙◌, arith, if◌then◌else◌, length-append, ◌==◌, nat_lt, nat_tests, same_Some, none-some, is_list, Idn, Length, bytes_in, words_of, shape_by, words_told, built_in_block, row, blocks_fault, find_block, store_of, DriveView, Block, Empty, Zero, Processed, Entry, in_order, write_cause_in, length-bytes_in, idn, length_map, is_start_number, IsStoreOf, Allows, is_nil, list_shape, length-in_order, in_order-append}
 use Rattle.sercos_idn.specs.Attributes.{attribute_of}
-use Rattle.sercos_idn.specs.Codes.{is_list}
-use Rattle.sercos_idn.specs.declared.idn.Idn.{Idn}
-use Rattle.sercos_idn.specs.declared.kinds.Length.{Length}
 use Rattle.sercos_idn.specs.declared.kinds.Length.TheVariants as len
-use Rattle.sercos_step.specs.Words.{bytes_in, words_of, shape_by, words_told}
-use Rattle.sercos_block.specs.BuiltIns.{built_in, built_in_block, row}
-use Rattle.sercos_block.specs.Rules.{blocks_fault}
-use Rattle.sercos_block.specs.Stores.{find_block, store_of}
-use Rattle.sercos_block.specs.Views.{DriveView}
-use Rattle.sercos_block.specs.declared.block.Block.{Block}
-use Rattle.sercos_block.specs.declared.built_in.Opening.TheVariants.{Empty, Zero}
-use Rattle.sercos_service_drive.specs.Log.{Processed, Entry, in_order}
-use Rattle.sercos_service_drive.specs.Replies.{bytes_written, write_cause, write_cause_in}
-use Rattle.sercos_service_drive.proofs.WordLemmas.{length-bytes_in}
-use Rattle.sercos_seat.specs.Agenda.{idn}
-use Rattle.sercos_seat.proofs.Gets.{length_map}
-use Rattle.sercos_law_run.specs.Start.Causes.{is_start_number}
-use Rattle.sercos_law_run.specs.Start.StartUp.{IsStoreOf}
+use Rattle.sercos_block.specs.BuiltIns.{built_in}
+use Rattle.sercos_service_drive.specs.Replies.{bytes_written, write_cause}
 use Rattle.sercos_law_run.proofs.Start.BlockFinds.{find_store_of}
 use Rattle.sercos_law_run.proofs.Start.CauseLemmas.{causes_alike, cycle_cause, number_has_no_cause, list_has_no_cause}
-use Rattle.sercos_law_channel.proofs.Theorems.{Allows, told, is_nil, list_shape}
-use Rattle.sercos_service_drive.proofs.WriteAnswers.{length-in_order}
+use Rattle.sercos_law_channel.proofs.Theorems.{told}
 use Rattle.sercos_law_run.proofs.Undisturbed.Stops.RefusedSteps.{IsCaused}
-use Rattle.sercos_law_run.proofs.Undisturbed.Arriving.Small.{none_some, some_is}
 
 -- WORDS
-order_append : (taken : List Processed) (xs ys : List ℕ) → in_order taken (xs ++ ys) ≡ in_order taken xs ++ ys
-order_append [] xs ys = refl
-order_append (t ∷ taken) xs ys = order_append taken (t.step.word ∷ xs) ys
-
 -- the one word of a number
 one_word : (before : List Processed) (word v : ℕ) (rest : List ℕ) → in_order before (word ∷ rest) ≡ v ∷ [] → (rest ≡ []) × (in_order before (word ∷ []) ≡ v ∷ [])
 one_word before word v [] same = (refl, same)
@@ -70,7 +47,7 @@ module _ (d : DriveView) (rules : blocks_fault [] d.blocks ≡ None) (e : Entry)
 
   pub number_free : (raw value : ℕ) (b : Block) → e.processed.phase ≡ 2 → b.attribute.length ≡ len.Two → is_start_number raw ≡ true → IsCaused (idn raw) (bytes_in (value ∷ [])) b e → ⊥
   number_free raw value b two one start c =
-      none_some e.answer.word (sym (number_has_no_cause d e.processed.blocks raw (word_of value) rules stored start) ∙ number_cause raw value b two one c)
+      none-some e.answer.word (sym (number_has_no_cause d e.processed.blocks raw (word_of value) rules stored start) ∙ number_cause raw value b two one c)
 
   -- THE CYCLE TIME
   pub cycle_refused : (cycle : ℕ) (b : Block) → cycle < 65536 → e.processed.phase ≡ 2 → b.attribute.length ≡ len.Two → IsCaused (idn 2) (bytes_in (cycle ∷ [])) b e
@@ -84,14 +61,14 @@ module _ (d : DriveView) (rules : blocks_fault [] d.blocks ≡ None) (e : Entry)
 
       by : (low high : Bool) → nat_lt cycle d.cycle_min ≡ low → nat_lt d.cycle_max cycle ≡ high → (if low then Some 0x7006 else (if high then Some 0x7007 else None)) ≡ Some e.answer.word
           → ((cycle < d.cycle_min) × (e.answer.word ≡ 0x7006)) ⊎ ((d.cycle_max < cycle) × (e.answer.word ≡ 0x7007))
-      by true high is other same = inl (grind (arith, nat_tests, is), sym (some_is 0x7006 e.answer.word same))
-      by false true is other same = inr (grind (arith, nat_tests, other), sym (some_is 0x7007 e.answer.word same))
-      by false false is other same = absurd (none_some e.answer.word same)
+      by true high is other same = inl (grind (arith, nat_tests, is), sym (same_Some 0x7006 e.answer.word same))
+      by false true is other same = inr (grind (arith, nat_tests, other), sym (same_Some 0x7007 e.answer.word same))
+      by false false is other same = absurd (none-some e.answer.word same)
 
   -- A LIST
   pub list_free : (raw : ℕ) (idns : List Idn) (b : Block) → e.processed.phase ≡ 2 → is_list b.attribute.length ≡ true → ((raw == 16) ≡ true) ⊎ ((raw == 24) ≡ true) → length idns ≤ 16 → IsCaused (idn raw) (bytes_in (map (λ i. i.raw) idns)) b e → ⊥
   list_free raw idns b two list which few c =
-      none_some e.answer.word (sym (list_has_no_cause d e.processed.blocks raw (length idns) (length first.others) first.others rules stored which few refl within) ∙ same_cause)
+      none-some e.answer.word (sym (list_has_no_cause d e.processed.blocks raw (length idns) (length first.others) first.others rules stored which few refl within) ∙ same_cause)
     where
       bytes : List ℕ
       bytes = bytes_in (map (λ (i : Idn). i.raw) idns)
@@ -103,7 +80,7 @@ module _ (d : DriveView) (rules : blocks_fault [] d.blocks ≡ None) (e : Entry)
       told_is = ap (λ s. words_told s bytes) (list_shape b.attribute.length list)
 
       joined : in_order c.before (c.word ∷ []) ++ c.rest ≡ length bytes ∷ 0 ∷ words_of bytes
-      joined = sym (order_append c.before (c.word ∷ []) c.rest) ∙ c.words ∙ told_is
+      joined = sym (in_order-append c.before (c.word ∷ []) c.rest) ∙ c.words ∙ told_is
 
       first : StartsSo (length bytes) (in_order c.before (c.word ∷ []))
       first = starts_so (length bytes) (in_order c.before (c.word ∷ [])) c.rest (0 ∷ words_of bytes) (let l = length-in_order c.before (c.word ∷ []) in omega (arith, l)) joined

@@ -1,44 +1,18 @@
 -- Of the requests of phase 2 a drive can refuse the write of the cycle time alone.
-use Rattle.std.proofs.Common.{◌≡◌, ◌⊎◌, inl, inr, ℕ, zero, suc, ◌+◌, ◌<◌, ◌≤◌, true, false, List, [], ◌∷◌, ◌++◌, ◌-◌, length, map, Option, Some, None, refl, sym, ap, ◌∙◌, subst, arith}
-use Rattle.std.specs.Prelude.{◌==◌, is_some, option_map, option_and_then, slice_get, slice_index}
-use Rattle.std.specs.Option.{option_or}
-use Rattle.std.proofs.lemmas.Bool.{and_parts, cases_lt, false≢true}
+use Rattle.sercos_law_run.proofs.Words.{◌≡◌, ◌⊎◌, inl, inr, ℕ, zero, suc, ◌+◌, ◌<◌, ◌≤◌, true, false, List, [], ◌∷◌, ◌++◌, ◌-◌, length, map, Option, Some, None, refl, sym, ap, ◌∙◌, subst, arith, ◌==◌, is_some, option_map, option_and_then, slice_get, slice_index, option_or, and_parts, cases_lt, false≢true, same_Some, Code, Idn, Request, bytes_in, PlanView, built_in_block, row, cyclic_len, number_len, blocks_fault, find_block, store_of, DriveView, Block, Zero, CycleTime, Empty, idn, declared_times, reads, reads_count, writes, writes_word, writes_list, Known, MemberView, member, member_of, write_cause_in, Allows, AreSmall, IsTransfer, is_start_number, jobs_of, says_shape}
 use Rattle.sercos_idn.specs.Attributes.{attribute_of}
-use Rattle.sercos_idn.specs.declared.code.Code.{Code}
-use Rattle.sercos_idn.specs.declared.idn.Idn.{Idn}
-use Rattle.sercos_step.specs.declared.request.Request.{Request}
 use Rattle.sercos_step.specs.declared.request.Request.TheVariants as request
-use Rattle.sercos_step.specs.Words.{bytes_in}
-use Rattle.sercos_timing.specs.Views.{PlanView}
-use Rattle.sercos_block.specs.BuiltIns.{built_in, built_in_block, row}
-use Rattle.sercos_block.specs.Rings.{are_cyclic, cyclic_len, number_len}
-use Rattle.sercos_block.specs.Rules.{blocks_fault}
-use Rattle.sercos_block.specs.Stores.{find_block, store_of}
-use Rattle.sercos_block.specs.Views.{DriveView}
-use Rattle.sercos_block.specs.declared.block.Block.{Block}
-use Rattle.sercos_block.specs.declared.built_in.Opening.TheVariants.{Zero, CycleTime, Empty}
-use Rattle.sercos_seat.specs.Agenda.{idn, declared_times, reads, reads_count, writes, writes_word, writes_list}
-use Rattle.sercos_seat.specs.Ring.{Known, MemberView, member, member_of}
-use Rattle.sercos_service_drive.specs.Replies.{write_cause_in}
-use Rattle.sercos_law_channel.proofs.Theorems.{Allows}
-use Rattle.sercos_law_channel.specs.Handshake.WholeRun.{AreSmall}
-use Rattle.sercos_law_channel.specs.Handshake.Transfers.{IsTransfer}
-use Rattle.sercos_law_run.specs.Start.Causes.{is_start_number}
+use Rattle.sercos_block.specs.BuiltIns.{built_in}
+use Rattle.sercos_block.specs.Rings.{are_cyclic}
 use Rattle.sercos_law_run.proofs.Start.BlockFinds.{find_store_of, carry_alike}
 use Rattle.sercos_law_run.proofs.Agenda.AgendaTasks.{IsIn, First, After, is_in, mapped}
+use Rattle.sercos_law_run.proofs.Agenda.StopCauses.{element_asked}
 use Rattle.sercos_law_run.proofs.Held.AnsweredRuns.{IsRead, Time, Attribute, is_read_request}
-use Rattle.sercos_law_run.specs.Undisturbed.Jobs.{jobs_of}
 use Rattle.sercos_law_run.proofs.Undisturbed.JobPlaces.{reading, later}
 use Rattle.sercos_law_run.proofs.Undisturbed.Stops.RefusedSteps.{IsCaused, write_caused, attribute_reads_well, data_reads_well, command_well}
 use Rattle.sercos_law_run.proofs.Undisturbed.Stops.RefusedCauses.{number_free, cycle_refused, list_free, check_free_3, check_3, allows_3, found_3}
 use Rattle.sercos_law_run.proofs.Undisturbed.Stops.RefusedRuns.{IsRefused, IsCycle}
-use Rattle.sercos_law_run.proofs.Undisturbed.Arriving.Small.{never_both, some_is}
-use Rattle.sercos_law_channel.proofs.Cited.{says_shape}
-
-abbrev element_asked : Request → ℕ
-element_asked (request.Read i e) = e
-element_asked (request.Write i e bytes) = 0
-element_asked (request.Command i) = 0
+use Rattle.sercos_law_run.proofs.Undisturbed.Arriving.Small.{never_both}
 
 -- the blocks of the start-up's writes
 abbrev number_block : DriveView → ℕ → Block
@@ -132,17 +106,17 @@ module _ (d : DriveView) (rules : blocks_fault [] d.blocks ≡ None) (small : Ar
 
   write_is : (p : PlanView) (i : ℕ) (q : Request) → slice_get (writes s p k) i ≡ Some q → (ref : IsRefused d q code 2) → ref.e.processed.phase ≡ 2 → IsCycle d s.cycle q code
   unfolding built_in
-  write_is p zero q got ref two = number_never 1 s.control q (find_store_of 1 d rules) refl (sym (some_is _ q got)) ref two
-  write_is p (suc zero) q got ref two = cycle_is q (find_store_of 2 d rules) (sym (some_is _ q got)) ref two
-  write_is p (suc (suc zero)) q got ref two = number_never 6 (slice_index p.t1 k) q (find_store_of 6 d rules) refl (sym (some_is _ q got)) ref two
-  write_is p (suc (suc (suc zero))) q got ref two = number_never 7 p.t4 q (find_store_of 7 d rules) refl (sym (some_is _ q got)) ref two
-  write_is p (suc (suc (suc (suc zero)))) q got ref two = number_never 8 p.t3 q (find_store_of 8 d rules) refl (sym (some_is _ q got)) ref two
-  write_is p (suc (suc (suc (suc (suc zero))))) q got ref two = number_never 9 (slice_index p.position k) q (find_store_of 9 d rules) refl (sym (some_is _ q got)) ref two
-  write_is p (suc (suc (suc (suc (suc (suc zero)))))) q got ref two = number_never 10 p.mdt_len q (find_store_of 10 d rules) refl (sym (some_is _ q got)) ref two
-  write_is p (suc (suc (suc (suc (suc (suc (suc zero))))))) q got ref two = number_never 15 7 q (find_store_of 15 d rules) refl (sym (some_is _ q got)) ref two
-  write_is p (suc (suc (suc (suc (suc (suc (suc (suc zero)))))))) q got ref two = list_never 16 (member s k).at q (find_store_of 16 d rules) (inl refl) few_of_at (sym (some_is _ q got)) ref two
-  write_is p (suc (suc (suc (suc (suc (suc (suc (suc (suc zero))))))))) q got ref two = list_never 24 (member s k).mdt q (find_store_of 24 d rules) (inr refl) few_of_mdt (sym (some_is _ q got)) ref two
-  write_is p (suc (suc (suc (suc (suc (suc (suc (suc (suc (suc zero)))))))))) q got ref two = number_never 89 p.t2 q (find_store_of 89 d rules) refl (sym (some_is _ q got)) ref two
+  write_is p zero q got ref two = number_never 1 s.control q (find_store_of 1 d rules) refl (sym (same_Some _ q got)) ref two
+  write_is p (suc zero) q got ref two = cycle_is q (find_store_of 2 d rules) (sym (same_Some _ q got)) ref two
+  write_is p (suc (suc zero)) q got ref two = number_never 6 (slice_index p.t1 k) q (find_store_of 6 d rules) refl (sym (same_Some _ q got)) ref two
+  write_is p (suc (suc (suc zero))) q got ref two = number_never 7 p.t4 q (find_store_of 7 d rules) refl (sym (same_Some _ q got)) ref two
+  write_is p (suc (suc (suc (suc zero)))) q got ref two = number_never 8 p.t3 q (find_store_of 8 d rules) refl (sym (same_Some _ q got)) ref two
+  write_is p (suc (suc (suc (suc (suc zero))))) q got ref two = number_never 9 (slice_index p.position k) q (find_store_of 9 d rules) refl (sym (same_Some _ q got)) ref two
+  write_is p (suc (suc (suc (suc (suc (suc zero)))))) q got ref two = number_never 10 p.mdt_len q (find_store_of 10 d rules) refl (sym (same_Some _ q got)) ref two
+  write_is p (suc (suc (suc (suc (suc (suc (suc zero))))))) q got ref two = number_never 15 7 q (find_store_of 15 d rules) refl (sym (same_Some _ q got)) ref two
+  write_is p (suc (suc (suc (suc (suc (suc (suc (suc zero)))))))) q got ref two = list_never 16 (member s k).at q (find_store_of 16 d rules) (inl refl) few_of_at (sym (same_Some _ q got)) ref two
+  write_is p (suc (suc (suc (suc (suc (suc (suc (suc (suc zero))))))))) q got ref two = list_never 24 (member s k).mdt q (find_store_of 24 d rules) (inr refl) few_of_mdt (sym (same_Some _ q got)) ref two
+  write_is p (suc (suc (suc (suc (suc (suc (suc (suc (suc (suc zero)))))))))) q got ref two = number_never 89 p.t2 q (find_store_of 89 d rules) refl (sym (same_Some _ q got)) ref two
   write_is p (suc (suc (suc (suc (suc (suc (suc (suc (suc (suc (suc i))))))))))) q got ref two = absurd (cc)
 
   -- THE CHECK is never refused.
@@ -173,5 +147,5 @@ module _ (d : DriveView) (rules : blocks_fault [] d.blocks ≡ None) (small : Ar
 
           which : IsIn (writes s p k) (request.Command (idn 127) ∷ request.Command (idn 128) ∷ request.Read (idn 22) 7 ∷ []) (n - reads_count (member s k)) q → IsCycle d s.cycle q code
           which (First low is) = write_is p (n - reads_count (member s k)) q is ref two
-          which (After zero place is) = absurd (check_never q (sym (some_is (request.Command (idn 127)) q is)) ref two)
+          which (After zero place is) = absurd (check_never q (sym (same_Some (request.Command (idn 127)) q is)) ref two)
           which (After (suc j) place is) = let far = late_place in absurd (omega (arith, place, less, far))

@@ -1,38 +1,11 @@
 -- A request of the start-up that a drive refuses in phase 2 is the write of the cycle time, outside the drive's limits.
-use Rattle.std.proofs.Common.{◌≡◌, ◌⊎◌, ℕ, ◌+◌, ◌*◌, ◌<◌, ◌≤◌, ◌^◌, Bool, true, false, List, [], ◌∷◌, ◌++◌, Option, Some, None, refl, sym, ap, ◌∙◌, subst, arith, if◌then◌else◌}
-use mathlib.Core.Bool.{beq}
-use Rattle.sercos_idn.specs.declared.code.Code.{Code}
-use Rattle.sercos_step.specs.declared.request.Request.{Request}
+use Rattle.sercos_law_run.proofs.Words.{◌≡◌, ◌⊎◌, ℕ, ◌+◌, ◌<◌, ◌≤◌, Bool, true, false, List, [], ◌∷◌, ◌++◌, Option, Some, None, refl, sym, ap, ◌∙◌, subst, arith, if◌then◌else◌, beq, Code, Request, Answer, answer_words, is_whole, result_of, outcome_of, bytes_in, row, store_of, DriveView, Processed, Entry, ahs, accepted, answered, writes_of, Begun, idn, command, command_in, epoch_records, unless_restart, begun_in, records_in_views, log_in, AreExact, replies_of, IsPart, Unsent, Unheard, HaveBlocks, IsTransfer, View, with_record, processed_in, AreSound, AreSmall, all_entries, Laws, epoch, cycle_exact, entries_ago, entries_in_epochs, IsStoreOf, AreStored, make_transfers, have_replies, processes_in_phase}
 use Rattle.sercos_step.specs.declared.request.Request.TheVariants as request
 use Rattle.sercos_step.specs.declared.request.Outcome.TheVariants as outcome
-use Rattle.sercos_step.specs.declared.step.Answer.{Answer}
-use Rattle.sercos_step.specs.Steps.{answer_words, is_whole, result_of, outcome_of}
-use Rattle.sercos_step.specs.Words.{bytes_in, shape_of, shape_by}
-use Rattle.sercos_block.specs.BuiltIns.{row}
-use Rattle.sercos_block.specs.Stores.{store_of}
-use Rattle.sercos_block.specs.Views.{DriveView}
-use Rattle.sercos_block.specs.declared.block.Block.{Block}
-use Rattle.sercos_service_drive.specs.Log.{Processed, Entry, ahs, accepted}
-use Rattle.sercos_service_drive.specs.Replies.{answered}
-use Rattle.sercos_service_drive.specs.Writes.{writes_of}
-use Rattle.sercos_service_master.specs.Begun.{Begun}
-use Rattle.sercos_seat.specs.Agenda.{idn}
-use Rattle.sercos_law_channel.specs.Handshake.Epochs.{command, command_in, epoch_records, unless_restart, begun_in, records_in_views, log_in}
-use Rattle.sercos_law_channel.specs.Handshake.Exact.{AreExact}
-use Rattle.sercos_law_channel.specs.Handshake.InStep.{replies_of}
-use Rattle.sercos_law_channel.specs.Handshake.Parts.{IsPart, Unsent, Heard, Unheard}
+use Rattle.sercos_law_channel.specs.Handshake.Parts.{Heard}
 use Rattle.sercos_law_channel.specs.Handshake.Runs.{IsRun as IsViewRun}
-use Rattle.sercos_law_channel.specs.Handshake.Transfers.{HaveBlocks, IsTransfer}
-use Rattle.sercos_law_channel.specs.Handshake.Views.{View, with_record, processed_in}
-use Rattle.sercos_law_channel.specs.Handshake.WholeRun.{AreSound, AreSmall, all_entries}
-use Rattle.sercos_law_channel.proofs.Theorems.{Laws, epoch, cycle_exact, entries_ago, entries_in_epochs, low_of, high_of}
-use Rattle.sercos_law_run.specs.Start.StartUp.{IsStoreOf}
-use Rattle.sercos_law_run.specs.Held.Stored.{AreStored}
 use Rattle.sercos_law_run.proofs.Held.AnsweredRuns.{EntriesStored, entries_stored}
 use Rattle.sercos_law_run.proofs.Settings.NoCheck127.{next_still, stays}
-use Rattle.sercos_law_channel.proofs.Cited.{make_transfers}
-use Rattle.sercos_law_channel.proofs.Handshake.LogParts.{have_replies}
-use Rattle.sercos_law_channel.proofs.Handshake.RunFacts.{processes_in_phase}
 
 -- THE PHASES in which the steps of an epoch were accepted
 abbrev IsBetween : ℕ → Processed → Type 0
@@ -143,7 +116,3 @@ module _ (laws : Laws) (busy : ℕ) (d : DriveView) (small : AreSmall (store_of 
 pub record IsCycle (d : DriveView) (cycle : ℕ) (q : Request) (code : Code) : Type 0 where
   pub asks : q ≡ request.Write (idn 2) 7 (bytes_in (cycle ∷ []))
   pub limit : ((cycle < d.cycle_min) × (code.raw ≡ 0x7006)) ⊎ ((d.cycle_max < cycle) × (code.raw ≡ 0x7007))
-
--- what the words of an attribute say of its length
-abbrev pub SaysShape : Type 0
-SaysShape = (b : Block) → b.attribute.factor < 2 ^ 16 → shape_of 7 (low_of b + 65536 * high_of b) ≡ shape_by b.attribute.length

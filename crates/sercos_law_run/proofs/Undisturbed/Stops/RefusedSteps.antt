@@ -1,33 +1,14 @@
 -- Which step of a transfer can be refused. Of a write of operation data it is one that writes a word, by that word's cause; of a read of the
 -- attribute or of operation data none is; and of a procedure command it is the setting alone.
-use Rattle.std.proofs.Common.{◌≡◌, ℕ, ◌+◌, ◌*◌, Bool, true, false, ◌&&◌, List, [], ◌∷◌, ◌++◌, length, Option, Some, None, refl, sym, ap, ap₂, ◌∙◌, if◌then◌else◌}
-use Rattle.std.specs.Prelude.{◌==◌, is_some, is_none, option_map, slice_get, slice_index}
-use Rattle.std.specs.Bool.{then_some}
-use Rattle.std.proofs.lemmas.Bool.{cond-false, cond-true, cond_both}
-use Rattle.sercos_idn.specs.declared.idn.Idn.{Idn}
-use Rattle.sercos_step.specs.declared.request.Request.{Request}
+use Rattle.sercos_law_run.proofs.Words.{◌≡◌, ℕ, ◌+◌, ◌*◌, Bool, true, false, ◌&&◌, List, [], ◌∷◌, ◌++◌, length, Option, Some, None, refl, sym, ap, ap₂, ◌∙◌, if◌then◌else◌, ◌==◌, is_some, is_none, option_map, slice_get, slice_index, then_some, cond-false, cond-true, cond_both, Idn, Request, Answer, Step, a_step, opening, run, steps_of, answer_words, asks_attribute, shape_of, shape_by, find_block, read_fault, Block, Processed, Entry, open_idn, run_before, in_order, selection, good, refused, answer_by, copy, missing, read_cause, write_cause_in, reply_on, reply_at, reply_of, without_data, AreAlike, replies_of, IsTransfer, find-alike, IsRead-alike, reply-read, reply_low, reply_high, Poll, Reads, Cancels, next_setting, next_poll, Allows, cancels_well, newest_step, low_of, high_of, is_nil, some_same}
 use Rattle.sercos_step.specs.declared.request.Request.TheVariants as request
-use Rattle.sercos_step.specs.declared.step.Answer.{Answer}
-use Rattle.sercos_step.specs.declared.step.Step.{Step}
-use Rattle.sercos_step.specs.Steps.{a_step, opening, run, steps_of, answer_words, asks_attribute}
-use Rattle.sercos_step.specs.Words.{shape_of, shape_by}
 use Rattle.sercos_block.specs.Blocks.{element_of}
-use Rattle.sercos_block.specs.Stores.{find_block, read_fault}
-use Rattle.sercos_block.specs.declared.block.Block.{Block}
-use Rattle.sercos_service_drive.specs.Log.{Processed, Entry, open_idn, run_before, in_order, selection}
-use Rattle.sercos_service_drive.specs.Replies.{good, refused, answer_by, copy, missing, read_cause, write_cause_in, reply_on, reply_at, reply_of}
-use Rattle.sercos_service_drive.specs.Writes.{without_data, AreAlike}
-use Rattle.sercos_law_channel.specs.Handshake.InStep.{replies_of}
-use Rattle.sercos_law_channel.specs.Handshake.Transfers.{IsTransfer}
-use Rattle.sercos_law_channel.proofs.Theorems.{find-alike, IsRead-alike, reply-read, reply_low, reply_high, Poll, Reads, Cancels, next_setting, next_poll, Allows, cancels_well, newest_step, low_of, high_of, told, is_nil}
+use Rattle.sercos_law_channel.proofs.Theorems.{told}
 use Rattle.sercos_law_channel.proofs.Handshake.CommandStages as command
 use Rattle.sercos_law_channel.proofs.Handshake.ReadStages as read
 use Rattle.sercos_law_channel.proofs.Handshake.WriteStages as write
 use Rattle.sercos_law_run.proofs.Undisturbed.Arriving.Small.{never_both}
 use Rattle.sercos_law_channel.proofs.Handshake.CommandRefusals as refusals
-
-some_same : {A : Type 0} (x y : A) → Some x ≡ Some y → y ≡ x
-some_same x y is = cc
 
 good_answer : (a : Answer) (word : ℕ) → a ≡ good word → a.error ≡ false
 good_answer a word is = ap (λ (x : Answer). x.error) is

@@ -1,35 +1,13 @@
 -- A stop in phase 2 that comes of a refusal comes of the cycle time.
-use Rattle.std.proofs.Common.{◌≡◌, inl, inr, ℕ, ◌<◌, List, [], ◌∷◌, length, Some, sym, ap, ◌∙◌, subst, arith}
-use Rattle.std.proofs.lemmas.Bool.{cases_lt}
-use Rattle.sercos_idn.specs.declared.code.Code.{Code}
-use Rattle.sercos_idn.specs.declared.idn.Idn.{Idn}
-use Rattle.sercos_step.specs.declared.request.Job.{Job}
-use Rattle.sercos_step.specs.declared.request.Request.{Request}
+use Rattle.sercos_law_run.proofs.Words.{◌≡◌, inl, inr, ℕ, ◌<◌, List, [], ◌∷◌, length, Some, sym, ap, ◌∙◌, subst, arith, cases_lt, Code, Idn, Job, Request, bytes_in, PlanView, RingView, Begun, begun_by, CycleView, asked_by, idn, reads_count, MemberView, known_of, member, tasks_for, Past, Carry, Restarts, begun_in, drive_at, middle, IsRun, IsClear, HasRefused, behind_mdt, view_of, views_of, IsOpened, jobs_of, AreAt, RefusesCycleTime, transfers}
 use Rattle.sercos_step.specs.declared.request.Request.TheVariants as request
-use Rattle.sercos_step.specs.Words.{bytes_in}
-use Rattle.sercos_timing.specs.Views.{PlanView}
-use Rattle.sercos_block.specs.Views.{RingView}
-use Rattle.sercos_service_master.specs.Begun.{Begun}
-use Rattle.sercos_service_master.specs.Calls.{begun_by}
-use Rattle.sercos_trace.specs.Views.{CycleView}
 use Rattle.sercos_trace.specs.declared.events.Stop.TheVariants as stop
-use Rattle.sercos_seat.specs.Agenda.{asked_by, idn, reads_count}
-use Rattle.sercos_seat.specs.Ring.{MemberView, known_of, member, tasks_for}
-use Rattle.sercos_master.specs.Annals.{Past}
-use Rattle.sercos_script.specs.Links.{Carry, Restarts}
-use Rattle.sercos_law_channel.specs.Handshake.Epochs.{begun_in}
 use Rattle.sercos_law_run.proofs.Start.CheckPasses.{KeepsRules, ring_drive}
-use Rattle.sercos_law_run.specs.Journal.Runs.{drive_at, middle, IsRun, IsClear}
-use Rattle.sercos_law_run.specs.Agenda.Stops.{HasRefused}
-use Rattle.sercos_law_run.specs.Views.RingViews.{behind_mdt, view_of, views_of}
 use Rattle.sercos_law_run.proofs.Views.Members.{members_count, member_is}
-use Rattle.sercos_law_run.specs.Held.Opened.{IsOpened}
 use Rattle.sercos_law_run.proofs.Held.AnsweredRuns.{IsRead, Time, Attribute, is_read_request}
 use Rattle.sercos_law_run.proofs.Held.Runs.{drive_got, small, s_known}
 use Rattle.sercos_law_run.proofs.Held.Runs as held
 use Rattle.sercos_law_run.proofs.Headline.HeadlineRuns.{all_stand, first_store}
-use Rattle.sercos_law_run.specs.Undisturbed.Jobs.{jobs_of, AreAt}
-use Rattle.sercos_law_run.specs.Undisturbed.StopsInTwo.{RefusesCycleTime}
 use Rattle.sercos_law_run.proofs.Undisturbed.StaysUp.{phase_now}
 use Rattle.sercos_law_run.proofs.Undisturbed.JobsBegun.{begun_then, few_then, places_then}
 use Rattle.sercos_law_run.proofs.Undisturbed.CycleHeld.{cycle_some, checked_within}
@@ -37,7 +15,6 @@ use Rattle.sercos_law_run.proofs.Undisturbed.JobPlaces.{reading, some_plan}
 use Rattle.sercos_law_run.proofs.Undisturbed.InOrder.{in_order}
 use Rattle.sercos_law_run.proofs.Undisturbed.Stops.RefusedRuns.{IsRefused, IsCycle, newest_refused}
 use Rattle.sercos_law_run.proofs.Undisturbed.Stops.RefusedJobs.{refused_job}
-use Rattle.sercos_law_channel.proofs.Cited.{transfers}
 use Rattle.sercos_law_run.proofs.Agenda.Requests.{are_requests}
 use Rattle.sercos_law_run.proofs.Cited.{refused_has_cause}
 

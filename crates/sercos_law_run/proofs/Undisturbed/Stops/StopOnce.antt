@@ -1,25 +1,9 @@
 -- As long as no fall is told, one stop is told at most.
-use Rattle.std.proofs.Common.{◌≡◌, ◌⊎◌, inl, inr, ℕ, ◌+◌, Bool, true, false, List, [], ◌∷◌, length, Option, Some, None, refl, sym, ap, ◌∙◌, if◌then◌else◌}
-use Rattle.std.specs.Prelude.{is_some}
-use Rattle.std.specs.Option.{option_or}
-use Rattle.sercos_step.specs.declared.request.Job.{Job}
-use Rattle.sercos_block.specs.Views.{RingView}
-use Rattle.sercos_trace.specs.Views.{CycleView, EventsView}
-use Rattle.sercos_trace.specs.declared.events.Fall.{Fall}
+use Rattle.sercos_law_run.proofs.Words.{◌≡◌, ◌⊎◌, inl, inr, ℕ, ◌+◌, Bool, true, false, List, [], ◌∷◌, length, Option, Some, None, refl, sym, ap, ◌∙◌, if◌then◌else◌, is_some, option_or, Job, RingView, CycleView, EventsView, Fall, Stop, Known, known_of, Past, after_at, after_mdt, fall_of, first_trouble, goes_on, new_epoch, next_phase, still_waiting, with_due_plan, restart_told, stop_told, due_stopped, stop_stays, Carry, Restarts, ats_in, mst_in, begins, looks_back, master_calls, no_events, own_mst, IsNext, IsRun, at_start, behind_ats, behind_mdt, HasTold}
 use Rattle.sercos_trace.specs.declared.events.Fall.TheVariants as fall
-use Rattle.sercos_trace.specs.declared.events.Stop.{Stop}
-use Rattle.sercos_seat.specs.Ring.{Known, known_of}
-use Rattle.sercos_master.specs.Annals.{Past, after_at, after_mdt, fall_of, first_trouble, goes_on, new_epoch, next_phase, still_waiting, with_due_plan}
-use Rattle.sercos_master.specs.Reports.{restart_told, stop_told}
-use Rattle.sercos_master.proofs.Rings.{due_stopped, stop_stays}
-use Rattle.sercos_script.specs.Links.{Carry, Restarts}
-use Rattle.sercos_law_run.specs.Journal.Records.{ats_in, mst_in}
-use Rattle.sercos_law_run.specs.Journal.Runs.{begins, looks_back, master_calls, no_events, own_mst, IsNext, IsRun}
-use Rattle.sercos_law_run.specs.Views.RingViews.{at_start, behind_ats, behind_mdt}
 use Rattle.sercos_law_run.proofs.Views.MasterSame.{begun_cycle}
 use Rattle.sercos_law_run.proofs.Views.ViewRuns.{started}
 use Rattle.sercos_law_run.proofs.Headline.WellRuns.{event_stop}
-use Rattle.sercos_law_run.specs.Undisturbed.WholeRuns.{HasTold}
 use Rattle.sercos_law_run.proofs.Undisturbed.Arriving.AfterAt.{after_at_so}
 use Rattle.sercos_law_run.proofs.Undisturbed.Stops.StopStays.{ats_same, stop_after, stop_kept}
 
@@ -46,7 +30,7 @@ module _ (r : RingView) (jobs : List Job) (carry : Carry) (restarts : Restarts) 
       neither_told (fall_of (known_of r) (behind_mdt r jobs carry restarts t.sent j)) (restarts (length j) 0) (restart_told (known_of r) (looks_back r jobs (master_calls r carry restarts j)) no_events) no_events refl refl
       (sym (ap (λ (e : EventsView). e.fall) next.events) ∙ none)
 
-  same_start : (j : List CycleView) → restarts (length j) 0 ≡ false → at_start r jobs carry restarts j ≡ looks_back r jobs (master_calls r carry restarts j)
+  pub same_start : (j : List CycleView) → restarts (length j) 0 ≡ false → at_start r jobs carry restarts j ≡ looks_back r jobs (master_calls r carry restarts j)
   same_start j stays = started r jobs (restarts (length j) 0) (master_calls r carry restarts j) ∙ ap (λ (b : Bool). begun_cycle b (looks_back r jobs (master_calls r carry restarts j))) stays
 
   -- WHAT WAS TOLD stands.

@@ -1,19 +1,6 @@
 -- A stop stays as long as the ring doesn't fall and the master doesn't restart.
-use Rattle.std.proofs.Common.{◌≡◌, ℕ, true, List, [], ◌∷◌, length, Option, Some, None, refl, sym, ◌∙◌, ap}
-use Rattle.std.specs.Prelude.{is_some, slice_index}
+use Rattle.sercos_law_run.proofs.Words.{◌≡◌, ℕ, true, List, [], ◌∷◌, length, Option, Some, None, refl, sym, ◌∙◌, ap, is_some, slice_index, Job, RingView, Stop, CycleView, Known, known_of, Past, Call, after_at, first_trouble, with_due_plan, after_mdt, fall_of, due_stopped, stop_stays, Carry, Restarts, heard, passage, mst_in, ats_in, station_of, with_at, at_calls, looks_back, master_calls, own_mst, begins, at_start, behind_mdt, behind_ats}
 use Rattle.sercos_telegram.specs.declared.layout.Kind.TheVariants as kinds
-use Rattle.sercos_step.specs.declared.request.Job.{Job}
-use Rattle.sercos_block.specs.Views.{RingView}
-use Rattle.sercos_trace.specs.declared.events.Stop.{Stop}
-use Rattle.sercos_trace.specs.Views.{CycleView}
-use Rattle.sercos_seat.specs.Ring.{Known, known_of}
-use Rattle.sercos_master.specs.Annals.{Past, Call, after_at, first_trouble, with_due_plan, after_mdt, fall_of}
-use Rattle.sercos_master.proofs.Rings.{due_stopped, stop_stays}
-use Rattle.sercos_script.specs.Links.{Carry, Restarts}
-use Rattle.sercos_law_run.specs.Journal.Arrivals.{heard, passage}
-use Rattle.sercos_law_run.specs.Journal.Records.{mst_in, ats_in}
-use Rattle.sercos_law_run.specs.Journal.Runs.{station_of, with_at, at_calls, looks_back, master_calls, own_mst, begins}
-use Rattle.sercos_law_run.specs.Views.RingViews.{at_start, behind_mdt, behind_ats}
 use Rattle.sercos_law_run.proofs.Undisturbed.PhaseCounts.{end_kept}
 use Rattle.sercos_law_run.proofs.Undisturbed.Arriving.AfterAt.{after_at_so}
 

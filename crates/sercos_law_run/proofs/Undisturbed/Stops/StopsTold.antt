@@ -1,29 +1,9 @@
 -- Each stop was told in the record of a cycle of the run, so it is there for its cause.
-use Rattle.std.proofs.Common.{◌≡◌, ◌⊎◌, inl, inr, ◌+◌, Bool, true, false, List, [], ◌∷◌, length, Option, Some, None, refl, sym, ap, ◌∙◌, subst, if◌then◌else◌}
-use Rattle.std.specs.Prelude.{is_some}
-use Rattle.std.specs.Option.{option_or}
-use Rattle.std.proofs.lemmas.Bool.{false≢true}
-use Rattle.sercos_step.specs.declared.request.Job.{Job}
-use Rattle.sercos_block.specs.Views.{RingView}
-use Rattle.sercos_trace.specs.Views.{CycleView, EventsView}
-use Rattle.sercos_trace.specs.declared.events.Fall.{Fall}
-use Rattle.sercos_trace.specs.declared.events.Stop.{Stop}
-use Rattle.sercos_seat.specs.Ring.{Known, known_of}
-use Rattle.sercos_master.specs.Annals.{Past, after_mdt, fall_of, is_done, still_waiting, new_epoch, goes_on, after_end}
-use Rattle.sercos_master.specs.Reports.{stop_told, restart_told}
-use Rattle.sercos_master.proofs.Keeping.{settled_keeps}
-use Rattle.sercos_script.specs.Links.{Carry, Restarts}
-use Rattle.sercos_law_run.specs.Journal.Records.{mst_in, ats_in}
-use Rattle.sercos_law_run.specs.Journal.Runs.{own_mst, begins, master_calls, looks_back, no_events, IsNext, IsRun, IsClear}
-use Rattle.sercos_law_run.specs.Views.RingViews.{at_start, behind_ats, behind_mdt}
+use Rattle.sercos_law_run.proofs.Words.{◌≡◌, ◌⊎◌, inl, inr, ◌+◌, Bool, true, false, List, [], ◌∷◌, length, Option, Some, None, refl, sym, ap, ◌∙◌, subst, if◌then◌else◌, is_some, option_or, false≢true, none-some, Job, RingView, CycleView, EventsView, Fall, Stop, Known, known_of, Past, after_mdt, fall_of, is_done, still_waiting, new_epoch, goes_on, after_end, stop_told, restart_told, settled_keeps, Carry, Restarts, mst_in, ats_in, own_mst, begins, master_calls, looks_back, no_events, IsNext, IsRun, IsClear, at_start, behind_ats, behind_mdt, IsOpened, StopsRight, HasTold}
 use Rattle.sercos_law_run.proofs.Views.MasterSame.{begun_cycle}
 use Rattle.sercos_law_run.proofs.Views.ViewRuns.{started}
-use Rattle.sercos_law_run.specs.Held.Opened.{IsOpened}
-use Rattle.sercos_law_run.specs.Headline.Stops.{StopsRight}
 use Rattle.sercos_law_run.proofs.Headline.HeadlineRuns.{keeps_all}
-use Rattle.sercos_law_run.specs.Undisturbed.WholeRuns.{HasTold}
 use Rattle.sercos_law_run.proofs.Undisturbed.Stops.StopStays.{ats_stop, mdt_stop, stop_after}
-use Rattle.sercos_law_run.proofs.Undisturbed.Arriving.Small.{none_some}
 
 -- A STOP THAT COMES is told.
 abbrev IsTold : Past → Type 0
@@ -48,7 +28,7 @@ module _ (r : RingView) (jobs : List Job) (carry : Carry) (restarts : Restarts) 
   begun_stop j x is = by (restarts (length j) 0) (subst (λ (p : Past). p.stop ≡ Some x) (started r jobs (restarts (length j) 0) (master_calls r carry restarts j)) is)
     where
       by : (b : Bool) → (begun_cycle b (looks_back r jobs (master_calls r carry restarts j))).stop ≡ Some x → (looks_back r jobs (master_calls r carry restarts j)).stop ≡ Some x
-      by true is = absurd (none_some x is)
+      by true is = absurd (none-some x is)
       by false is = is
 
   -- a stop of this cycle
@@ -76,12 +56,12 @@ module _ (r : RingView) (jobs : List Job) (carry : Carry) (restarts : Restarts) 
           inr (before (begun_stop j x (sym (ats_kept t j) ∙ sym (mdt_stop (known_of r) (behind_ats r jobs carry restarts t.sent j) there) ∙ is)))
 
   at_end : (j : List CycleView) (x : Stop) → IsRun r jobs carry restarts j → (looks_back r jobs (master_calls r carry restarts j)).stop ≡ Some x → HasTold x j
-  at_end [] x run is = none_some x is
+  at_end [] x run is = none-some x is
   at_end (t ∷ j) x run is = by (fall_of (known_of r) (behind_mdt r jobs carry restarts t.sent j)) refl (at_end j x run.0)
     where
       by : (o : Option Fall) → fall_of (known_of r) (behind_mdt r jobs carry restarts t.sent j) ≡ o → ((looks_back r jobs (master_calls r carry restarts j)).stop ≡ Some x → HasTold x j) → HasTold x (t ∷ j)
       by None stays before = stop_at t j x (HasTold x j) run.1 before (sym (stop_after r jobs carry restarts t j stays) ∙ is)
-      by (Some f) falls before = absurd (none_some x (sym (fallen_stop (known_of r) (behind_mdt r jobs carry restarts t.sent j) f falls) ∙ is))
+      by (Some f) falls before = absurd (none-some x (sym (fallen_stop (known_of r) (behind_mdt r jobs carry restarts t.sent j) f falls) ∙ is))
 
   -- THE STOP after the MDT's place was told.
   pub stop_told_in : (t : CycleView) (j : List CycleView) (x : Stop) → IsRun r jobs carry restarts (t ∷ j) → (behind_mdt r jobs carry restarts t.sent j).stop ≡ Some x → HasTold x (t ∷ j)

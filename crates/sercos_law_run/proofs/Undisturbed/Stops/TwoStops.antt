@@ -1,38 +1,15 @@
 -- In phase 2 the master stops because no plan fits, or since a plan fits, but not the cycle time.
-use Rattle.std.proofs.Common.{◌≡◌, ◌⊎◌, inl, inr, ℕ, ◌+◌, ◌<◌, List, ◌∷◌, length, Some, refl, ap, ◌∙◌, arith}
-use Rattle.std.proofs.lemmas.Option.{slice_get_within}
-use Rattle.sercos_idn.specs.declared.code.Code.{Code}
-use Rattle.sercos_idn.specs.declared.idn.Idn.{Idn}
-use Rattle.sercos_step.specs.declared.request.Job.{Job}
+use Rattle.sercos_law_run.proofs.Words.{◌≡◌, ◌⊎◌, inl, inr, ℕ, ◌+◌, ◌<◌, List, ◌∷◌, length, Some, refl, ap, ◌∙◌, arith, slice_get_within, Code, Idn, Job, Fits, PlanView, wishes_of, RingView, Begun, begun_by, CycleView, Stop, reads_count, known_of, member, tasks_for, Past, outcomes, Carry, Restarts, middle, IsRun, IsClear, HasFailedCheck, behind_mdt, IsOpened, RefusesCycleTime, StopsForThePlan, StopsForTheCycleTime, not_longer, is_planned}
 use Rattle.sercos_step.specs.declared.request.Outcome.TheVariants as outcome
-use Rattle.sercos_timing.specs.Inequalities.{Fits}
-use Rattle.sercos_timing.specs.Views.{PlanView}
-use Rattle.sercos_block.specs.Rings.{wishes_of}
-use Rattle.sercos_block.specs.Views.{RingView}
-use Rattle.sercos_service_master.specs.Begun.{Begun}
-use Rattle.sercos_service_master.specs.Calls.{begun_by}
-use Rattle.sercos_trace.specs.Views.{CycleView}
-use Rattle.sercos_trace.specs.declared.events.Stop.{Stop}
 use Rattle.sercos_trace.specs.declared.events.Stop.TheVariants as stop
-use Rattle.sercos_seat.specs.Agenda.{reads_count}
-use Rattle.sercos_seat.specs.Ring.{known_of, member, tasks_for}
-use Rattle.sercos_master.specs.Annals.{Past, outcomes}
-use Rattle.sercos_script.specs.Links.{Carry, Restarts}
-use Rattle.sercos_law_run.specs.Journal.Runs.{middle, IsRun, IsClear}
-use Rattle.sercos_law_run.specs.Agenda.Stops.{HasFailedCheck}
-use Rattle.sercos_law_run.specs.Views.RingViews.{behind_mdt}
 use Rattle.sercos_law_run.proofs.Views.Members.{members_count}
-use Rattle.sercos_law_run.specs.Held.Opened.{IsOpened}
 use Rattle.sercos_law_run.proofs.Held.Runs.{plan_is}
 use Rattle.sercos_law_run.proofs.Headline.HeadlineRuns.{first_store}
-use Rattle.sercos_law_run.specs.Undisturbed.StopsInTwo.{RefusesCycleTime, StopsForThePlan, StopsForTheCycleTime}
 use Rattle.sercos_law_run.proofs.Undisturbed.StaysUp.{phase_now}
 use Rattle.sercos_law_run.proofs.Undisturbed.JobsBegun.{begun_then, few_then, asked_now}
-use Rattle.sercos_master.proofs.Followed.{not_longer}
 use Rattle.sercos_law_run.proofs.Undisturbed.Stops.StopsTold.{stops_right}
 use Rattle.sercos_law_run.proofs.Agenda.Requests.{are_requests}
 use Rattle.sercos_law_run.proofs.Cited.{check128_has_cause, reads_well}
-use Rattle.sercos_master.proofs.Planned.{is_planned}
 
 module _ (r : RingView) (jobs : List Job) (carry : Carry) (restarts : Restarts) (opened : IsOpened r jobs) (t : CycleView)
     (j : List CycleView) (run : IsRun r jobs carry restarts (t ∷ j)) (clear : IsClear (t ∷ j)) (two : t.phase ≡ 2)

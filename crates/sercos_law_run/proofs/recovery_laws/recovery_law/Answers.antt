@@ -8,8 +8,7 @@ use Rattle.sercos_law_run.proofs.Recovery.Returns.{recovers_in}
 use Rattle.sercos_law_run.proofs.Recovery.SpareStops.{falls_anyway}
 use Rattle.sercos_law_run.proofs.Recovery.Stretches.{ages_down_in, keeps_up, stays_down_in}
 use Rattle.sercos_law_run.proofs.Recovery.UpInThree.{lasts_with_list}
-use Rattle.sercos_law_run.specs.Bounds.Bounds.{slowest}
-use Rattle.std.proofs.Common.{◌+◌, ◌*◌}
+use Rattle.sercos_law_run.proofs.Words.{◌+◌, ◌*◌, slowest}
 use Rattle.sercos_law_run.proofs.recovery_laws.recovery_law.Goals as goal
 
 pub returns : goal.returns

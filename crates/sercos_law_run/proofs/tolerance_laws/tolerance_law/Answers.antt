@@ -1,9 +1,4 @@
-use Rattle.std.proofs.Common.{inl}
-use Rattle.sercos_law_run.specs.Tolerance.Bears.{BearsSparse}
-use Rattle.sercos_law_run.specs.Tolerance.Ends.{EndsSparse}
-use Rattle.sercos_law_run.specs.Tolerance.Many.{EndsAnyway, RisesAnyway}
-use Rattle.sercos_law_run.specs.Tolerance.Reports.{ReportsSparse}
-use Rattle.sercos_law_run.specs.Tolerance.Rises.{RisesSparse}
+use Rattle.sercos_law_run.proofs.Words.{inl, BearsSparse, EndsSparse, EndsAnyway, RisesAnyway, ReportsSparse, RisesSparse}
 use Rattle.sercos_law_run.proofs.Tolerance.Rises.{rises_sparse}
 use Rattle.sercos_law_run.proofs.Tolerance.BearsSparse.{bears_sparse, calm_is_sparse}
 use Rattle.sercos_law_run.proofs.Tolerance.CostsShared.{costs_shared}

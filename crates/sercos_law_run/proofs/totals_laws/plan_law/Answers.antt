@@ -1,5 +1,4 @@
-use Rattle.std.proofs.Common.{refl}
-use Rattle.sercos_block.specs.Rings.{wishes_of}
+use Rattle.sercos_law_run.proofs.Words.{refl, wishes_of}
 use Rattle.sercos_law_run.proofs.Totals.Bounds.{plan_starts, plan_positions}
 use Rattle.sercos_law_run.proofs.totals_laws.plan_law.Goals as goal
 

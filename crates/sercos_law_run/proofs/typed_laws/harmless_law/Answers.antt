@@ -1,4 +1,4 @@
-use Rattle.sercos_script.proofs.CutLemmas.{unflipped_only_cuts}
+use Rattle.sercos_law_run.proofs.Words.{unflipped_only_cuts}
 use Rattle.sercos_law_run.proofs.Journal.HarmlessLemmas.{both_are_harmless, cuts_are_harmless, quiet_is_harmless}
 use Rattle.sercos_law_run.proofs.Typed.Clear.{harmless_is_clear}
 use Rattle.sercos_law_run.proofs.typed_laws.harmless_law.Goals as goal

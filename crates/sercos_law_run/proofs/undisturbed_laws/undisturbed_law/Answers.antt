@@ -1,8 +1,4 @@
-use Rattle.sercos_law_run.specs.Undisturbed.Ends.{ComesToAnEnd, StaysAtItsEnd}
-use Rattle.sercos_law_run.specs.Undisturbed.Reports.{ReportsInTime}
-use Rattle.sercos_law_run.specs.Undisturbed.StartUps.{AgesUndisturbed, AnswersUndisturbed, TellsNoFallUndisturbed}
-use Rattle.sercos_law_run.specs.Undisturbed.StopsLater.{EndsStartUp, RisesIfRight}
-use Rattle.sercos_law_run.specs.Undisturbed.Undisturbed.{StaysClear}
+use Rattle.sercos_law_run.proofs.Words.{ComesToAnEnd, StaysAtItsEnd, ReportsInTime, AgesUndisturbed, AnswersUndisturbed, TellsNoFallUndisturbed, EndsStartUp, RisesIfRight, StaysClear}
 use Rattle.sercos_law_run.proofs.Undisturbed.Answered.{ages_undisturbed, answers_undisturbed, costs_undisturbed, tells_no_fall}
 use Rattle.sercos_law_run.proofs.Undisturbed.InTime.{comes_to_end, stays_at_end}
 use Rattle.sercos_law_run.proofs.Undisturbed.NeverFalls.{stays_throughout}

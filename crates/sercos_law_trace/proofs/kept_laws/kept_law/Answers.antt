@@ -1,6 +1,4 @@
-use Rattle.std.proofs.Common.{sym, ◌∙◌}
-use Rattle.sercos_law_run.proofs.Theorems.{first_store, all_stand, spelled_in, stored_in, alike_so, small, phase_same, store_of_so}
-use Rattle.sercos_law_run.specs.Journal.Runs.{drive_at, given_before}
+use Rattle.sercos_law_trace.proofs.Words.{sym, ◌∙◌, first_store, all_stand, spelled_in, stored_in, alike_so, small, phase_same, store_of_so, drive_at, given_before}
 use Rattle.sercos_law_trace.proofs.Told.KeptWrites.{KeptLaws, writes_kept}
 use Rattle.sercos_law_trace.proofs.Told.StartBlocks.{StartLaws}
 use Rattle.sercos_law_trace.proofs.kept_laws.kept_law.Goals as goal
