@@ -20,7 +20,7 @@ use sercos_text::{Given, Line, push_line};
 use sercos_trace::Totals;
 use std::alloc::Global;
 
-// Appends the number of drives and of cycles.
+// Appends to an empty line the number of drives, 1 to 64, that of cycles, and `phase4`, the name of the next value.
 fn push_head(n: u8, cycles: u32, line: &mut Line)
     requires { length line.old ≡ 0 }
     ensures value { line.new ≡ line.old ++ head_text n cycles }

@@ -26,14 +26,17 @@ use sercos_ring::{Ring, count_made, no_totals, standing_law};
 use sercos_script::BitLink;
 use sercos_text::Line;
 use sercos_timing::Wishes;
-use sercos_trace::{CycleRecord, Totals, write_end, write_header, write_marked_cycle};
+use sercos_trace::{
+    CycleRecord, Totals, write_marked_cycle, write_marked_end, write_marked_header,
+};
 
 // Writes the head of a trace.
-fn write_head<K: Sink>(w: &Wishes, sink: &mut K) -> Result<(), WriteFailed>
+#[tactic(auto, using(sercos_trace::proofs::MarkedLemmas::unmarked))]
+fn write_head<K: Sink>(w: &Wishes, line: &mut Line, sink: &mut K) -> Result<(), WriteFailed>
     requires { All (λ place. place < length w.now.drives) w.now.order }
     ensures { Writes (seen K.held K.faults K.room sink.old) (seen K.held K.faults K.room sink.new) result (header_text w.now) }
 {
-    write_header(w, sink)
+    write_marked_header(w, b"", line, sink)
 }
 
 // Writes the lines of a cycle.
@@ -52,10 +55,11 @@ fn write_made<K: Sink>(
 }
 
 // Writes the last line of a trace.
-fn write_totals<K: Sink>(totals: &Totals, sink: &mut K) -> Result<(), WriteFailed>
+#[tactic(auto, using(sercos_trace::proofs::MarkedLemmas::unmarked))]
+fn write_totals<K: Sink>(totals: &Totals, line: &mut Line, sink: &mut K) -> Result<(), WriteFailed>
     ensures { Writes (seen K.held K.faults K.room sink.old) (seen K.held K.faults K.room sink.new) result (end_text totals.now) }
 {
-    write_end(totals, sink)
+    write_marked_end(totals, b"", line, sink)
 }
 
 // Goes on by a cycle, counts it, and writes its lines.
@@ -85,6 +89,7 @@ fn write_cycles<L: BitLink, K: Sink>(
     ring: &mut Ring<L>,
     w: &Wishes,
     cycles: u32,
+    line: &mut Line,
     sink: &mut K,
 ) -> Result<Totals, WriteFailed>
     requires ring { IsRingOf (RingStandsFor L.carry L.restart) ring.old w.now [] }
@@ -94,9 +99,8 @@ fn write_cycles<L: BitLink, K: Sink>(
         (seen K.held K.faults K.room sink.old) (seen K.held K.faults K.room sink.new) result }
 {
     let mut totals = no_totals();
-    let mut line = Line::new();
     for _k in 0..cycles {
-        write_next(ring, w, &mut totals, &mut line, sink)?;
+        write_next(ring, w, &mut totals, line, sink)?;
     }
     Ok(totals)
 }
@@ -117,9 +121,10 @@ fn write_whole<L: BitLink, K: Sink>(
 {
     run_law();
     standing_law::<L>();
-    write_head(w, sink)?;
-    let totals = write_cycles(ring, w, cycles, sink)?;
-    write_totals(&totals, sink)?;
+    let mut line = Line::new();
+    write_head(w, &mut line, sink)?;
+    let totals = write_cycles(ring, w, cycles, &mut line, sink)?;
+    write_totals(&totals, &mut line, sink)?;
     Ok(totals)
 }
 

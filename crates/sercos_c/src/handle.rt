@@ -44,7 +44,7 @@ pub(crate) fn put_back(station: Box<Station>, handle: &mut Handle)
     };
 }
 
-/// Gives back what is held.
+/// Drops the station, if there is one, and frees its memory. The handle then holds none, and may be closed again.
 pub(crate) fn close(alloc: Global, handle: &mut Handle)
     ensures { handle.new.held.value ≡ None }
 {

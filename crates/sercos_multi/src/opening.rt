@@ -131,6 +131,7 @@ pub fn open_all(alloc: Global, bytes: &[u8], count: u8) -> Result<Vec<Part<Scrip
     let mut parts = Vec::new(alloc);
     let mut rest = bytes;
     for k in 0..count {
+        // Whether another part follows is for the proof: `count` says it.
         let (part, after, _more) = cut_part(rest);
         match open_part(alloc, k + 1, part) {
             Ok(opened) => push(&mut parts, opened)?,

@@ -52,6 +52,8 @@ fn respond<S: Source, K: Sink>(alloc: Global, words: &Words, source: &mut S, sin
 /// for the first document that is refused, then for the first one whose cycle time differs from the first one's or doesn't divide 1000;
 /// also if that line couldn't be written whole. After any other failed write the status is `WriteFault`, and the sink has accepted a prefix
 /// of the output. `No` is never returned.
+///
+/// The clauses on the bytes of source and sink hold if these expose their bytes, as those in memory do.
 pub fn rings<S: Source, K: Sink>(
     alloc: Global,
     words: &Words,

@@ -214,7 +214,7 @@ impl MasterReplay {
         }
     }
 
-    // A cycle begins.
+    // Begins a cycle with the MST of the capture: compares it with the master's own, and passes it to the master.
     fn begin(&mut self, cycle: u32, sent: &Sent)
         ensures { (s : Known) (jobs : List Job) (j : List Cycle) → MasterRests self.old s jobs j →
             MasterStandsIn self.new s jobs (begun cycle sent.now ∷ j) }

@@ -21,12 +21,11 @@ ghost use Rattle.sercos_master.specs.Reports.{restart_told};
 use crate::laws::cycle_laws;
 use crate::moves::{phases_of, push_moves};
 use crate::opening::{addresses_of, open_drives};
-use crate::receiving::{Framed, Receiver, frame_said};
+use crate::receiving::{Buffers, frame_said};
 use crate::sending::{pass_own, push_mst, send_ats, send_mdt};
 use crate::stations::{hear_msts, restart_drives};
 use crate::turns::turns_of;
 use arrayvec::ArrayVec;
-use sercos_bits::Content;
 use sercos_block::RingSetup;
 use sercos_drive::Drive;
 use sercos_master::AnyMaster;
@@ -47,28 +46,10 @@ pub struct Ring<L: Drop> {
     rate: u8,
     cycle: u32,
     made: Box<CycleRecord>,
-    desk: Box<Desk>,
+    buffers: Box<Buffers>,
     ghost few: { length drives.items ≤ 64 },
     ghost addressed: { length addresses.items ≡ length drives.items },
     ghost there: { is_some master ≡ true },
-}
-
-// Where a telegram is worked on: its content, its frame, and what arrives of it.
-#[derive(Drop)]
-struct Desk {
-    said: Content,
-    sent: Framed,
-    receiver: Receiver,
-}
-
-impl Desk {
-    fn new() -> Desk {
-        Desk {
-            said: Content::new(),
-            sent: Framed::new(),
-            receiver: Receiver::new(),
-        }
-    }
 }
 
 // The master restarts, where it does.
@@ -83,16 +64,16 @@ fn restart_master(master: AnyMaster, restarts: bool, events: &mut Events) -> Any
     master
 }
 
-// What a cycle brings beside what is put into its record.
+// The master after a cycle, the phase that was commanded in it, and the number of undetected arrivals.
 #[derive(Drop)]
-struct Turned {
+struct CycleEnd {
     master: AnyMaster,
     phase: u8,
     unseen: u32,
 }
 
-// A cycle: what is sent in it is put over what the list has, and the moves and the events into these lists, which are empty before.
-fn turn<L: BitLink>(
+// Makes a cycle: what is sent in it is put over what the list has, and the moves and the events into these lists, which are empty before.
+fn run_cycle<L: BitLink>(
     link: &mut L,
     drives: &mut Vec<Drive>,
     master: AnyMaster,
@@ -102,10 +83,8 @@ fn turn<L: BitLink>(
     list: &mut ArrayVec<Sent, 66>,
     moves: &mut ArrayVec<Move, 128>,
     events: &mut Events,
-    said: &mut Content,
-    sent: &mut Framed,
-    receiver: &mut Receiver,
-) -> Turned
+    buffers: &mut Buffers,
+) -> CycleEnd
     requires few { length drives.old.items ≤ 64 }
     requires addresses { length addresses.now ≡ length drives.old.items }
     requires moves { moves.old.items ≡ [] }
@@ -121,12 +100,19 @@ fn turn<L: BitLink>(
     let before = phases_of(drives.as_slice());
     restart_drives(link, drives, cycle);
     let phase = master.command();
-    master.mst(said);
-    frame_said(link, cycle, Kind::Mst, 0, said, sent);
+    master.mst(&mut buffers.said);
+    frame_said(link, cycle, Kind::Mst, 0, &buffers.said, &mut buffers.sent);
     let mut count = 0;
-    push_mst(list, &mut count, said, sent.len);
-    let mst = hear_msts(link, drives, cycle, said, sent, receiver);
-    let own = pass_own(link, &mut master, cycle, said, sent, receiver);
+    push_mst(list, &mut count, &buffers.said, buffers.sent.len);
+    let mst = hear_msts(
+        link,
+        drives,
+        cycle,
+        &buffers.said,
+        &buffers.sent,
+        &mut buffers.receiver,
+    );
+    let own = pass_own(link, &mut master, cycle, buffers);
     push_moves(
         moves,
         false,
@@ -144,27 +130,23 @@ fn turn<L: BitLink>(
         rate,
         list,
         &mut count,
-        said,
-        sent,
-        receiver,
+        buffers,
     );
     let middle = phases_of(drives.as_slice());
-    let start = master.mdt(said);
-    let mdt = send_mdt(
-        link, drives, start, cycle, rate, list, &mut count, said, sent, receiver,
-    );
+    let start = master.mdt(&mut buffers.said);
+    let mdt = send_mdt(link, drives, start, cycle, rate, list, &mut count, buffers);
     list.truncate(count);
     push_moves(moves, true, addresses, middle.as_slice(), drives.as_slice());
     let master = master.end_cycle(events);
-    Turned {
+    CycleEnd {
         master,
         phase,
         unseen: mst + own + ats + mdt,
     }
 }
 
-// A cycle, which makes its record.
-fn fill<L: BitLink>(
+// Makes a cycle and its record. Returns the master after it.
+fn record_cycle<L: BitLink>(
     made: &mut CycleRecord,
     link: &mut L,
     drives: &mut Vec<Drive>,
@@ -172,7 +154,7 @@ fn fill<L: BitLink>(
     addresses: &[u8],
     cycle: u32,
     rate: u8,
-    desk: &mut Desk,
+    buffers: &mut Buffers,
 ) -> AnyMaster
     requires few { length drives.old.items ≤ 64 }
     requires addresses { length addresses.now ≡ length drives.old.items }
@@ -182,11 +164,11 @@ fn fill<L: BitLink>(
         PartsStandFor (L.carry link.new) (L.restart link.new) (cycle + 1) rate addresses.now drives.new.items result r jobs carry restarts (made.new ∷ j) }
 {
     made.reuse(cycle);
-    let Turned {
+    let CycleEnd {
         master,
         phase,
         unseen,
-    } = turn(
+    } = run_cycle(
         link,
         drives,
         master,
@@ -196,9 +178,7 @@ fn fill<L: BitLink>(
         &mut made.sent,
         &mut made.moves,
         &mut made.events,
-        &mut desk.said,
-        &mut desk.sent,
-        &mut desk.receiver,
+        buffers,
     );
     made.phase = phase;
     made.unseen = unseen;
@@ -231,7 +211,7 @@ impl<L: BitLink> Ring<L> {
         let drives = open_drives(alloc, setup)?;
         let master = AnyMaster::open(alloc, setup, jobs)?;
         let made = Box::new(alloc, CycleRecord::new())?;
-        let desk = Box::new(alloc, Desk::new())?;
+        let buffers = Box::new(alloc, Buffers::new())?;
         Ok(Ring {
             link,
             drives,
@@ -240,18 +220,18 @@ impl<L: BitLink> Ring<L> {
             rate: setup.rate,
             cycle: 0,
             made,
-            desk,
+            buffers,
         })
     }
 
-    // A cycle.
-    fn go(&mut self)
+    // Makes the next cycle.
+    fn make_cycle(&mut self)
         requires room { cycles_made self.old < 2 ^ 31 }
         ensures after { AfterCycle L.carry L.restart self.old self.new }
         ensures next { IsNextOf L.carry L.restart self.old (newest self.new) }
     {
         let master = self.master.take().unwrap();
-        let master = fill(
+        let master = record_cycle(
             &mut self.made,
             &mut self.link,
             &mut self.drives,
@@ -259,7 +239,7 @@ impl<L: BitLink> Ring<L> {
             self.addresses.as_slice(),
             self.cycle,
             self.rate,
-            &mut self.desk,
+            &mut self.buffers,
         );
         self.cycle += 1;
         self.master = Some(master);
@@ -306,7 +286,7 @@ impl<L: BitLink> Ring<L> {
         ensures stations { StationsOf L.carry L.restart self.old result.now }
     {
         cycle_laws();
-        self.go();
+        self.make_cycle();
         &self.made
     }
 

@@ -10,15 +10,15 @@ ghost use Rattle.sercos_drive.specs.Kept.{DriveStandsFor};
 ghost use Rattle.sercos_seat.specs.Ring.{Known};
 ghost use Rattle.sercos_master.specs.Says.{sent_as};
 ghost use Rattle.sercos_master.specs.Any.{AnyStandsFor};
-ghost use Rattle.sercos_master.specs.Annals.{Call, HearMst};
+ghost use Rattle.sercos_master.specs.Annals.{Call};
 ghost use Rattle.sercos_law_run.specs.Journal.Arrivals.{heard, passage, sum_below, unseen_at};
 ghost use Rattle.sercos_ring.specs.Frames.{IsSent};
 ghost use Rattle.sercos_law_run.specs.Journal.Runs.{content_of, mdt_heard, own_mst, sent_at, sent_mdt, sent_mst, start_before, station_of, unseen_mdt, with_at};
 ghost use Rattle.sercos_ring.specs.Stations.{AllStand};
 ghost use Rattle.sercos_ring.specs.Sendings.{said_by, AreSent, AreTurns};
 
-use crate::receiving::{Framed, Receiver, content_of, frame_said, receive};
-use crate::stations::{hear_mdts, hear_no_mdts, one};
+use crate::receiving::{Buffers, content_of, frame_said, receive};
+use crate::stations::{as_count, hear_mdts, hear_no_mdts};
 use crate::turns::AtTurn;
 use arrayvec::ArrayVec;
 use sercos_bits::Content;
@@ -28,34 +28,20 @@ use sercos_script::{BitLink, Passage};
 use sercos_telegram::Kind;
 use sercos_trace::{Sent, put_sent};
 
-// The master processes what arrives at the place of its own MST.
-fn hear_own(master: &mut AnyMaster, framed: bool, content: &Content)
-    ensures { (s : Known) (jobs : List Job) (h : List Call) → AnyStandsFor master.old s jobs h →
-        AnyStandsFor master.new s jobs (HearMst (if framed then Some content.now else None) ∷ h) }
-{
-    if framed {
-        master.hear_mst(Some(content.as_slice()));
-    } else {
-        master.hear_mst(None);
-    }
-}
-
 /// The master processes what arrives of its own MST. Returns the number of undetected arrivals.
 pub(crate) fn pass_own<L: BitLink>(
     link: &mut L,
     master: &mut AnyMaster,
     cycle: u32,
-    said: &Content,
-    sent: &Framed,
-    receiver: &mut Receiver,
+    buffers: &mut Buffers,
 ) -> u32
-    requires sent { IsSent (L.carry link.old) cycle kinds.Mst 0 said.now sent.now }
+    requires sent { IsSent (L.carry link.old) cycle kinds.Mst 0 buffers.old.said buffers.old.sent }
     ensures carry { L.carry link.new ≡ L.carry link.old }
     ensures restart { L.restart link.new ≡ L.restart link.old }
-    ensures unseen { result ≡ unseen_at (L.carry link.old) (passage cycle kinds.Mst 0 0) said.now }
+    ensures unseen { result ≡ unseen_at (L.carry link.old) (passage cycle kinds.Mst 0 0) buffers.old.said }
     ensures bound { result ≤ 1 }
     ensures heard { (s : Known) (jobs : List Job) (h : List Call) → AnyStandsFor master.old s jobs h →
-        AnyStandsFor master.new s jobs (own_mst (L.carry link.old) cycle said.now h) }
+        AnyStandsFor master.new s jobs (own_mst (L.carry link.old) cycle buffers.old.said h) }
 {
     let p = Passage {
         cycle,
@@ -63,39 +49,26 @@ pub(crate) fn pass_own<L: BitLink>(
         from: 0,
         to: 0,
     };
-    let receipt = receive(link, p, said, sent, receiver);
-    let came = content_of(receipt.unseen, said, &receiver.content);
-    hear_own(master, receipt.framed, came);
-    one(receipt.unseen)
+    let receipt = receive(link, p, &buffers.said, &buffers.sent, &mut buffers.receiver);
+    master.hear_mst(content_of(receipt, &buffers.said, &buffers.receiver.content));
+    as_count(receipt.unseen)
 }
 
-// The master processes what arrives of an AT.
-fn hear_at(master: &mut AnyMaster, framed: bool, content: &Content)
-    ensures { (s : Known) (jobs : List Job) (h : List Call) → AnyStandsFor master.old s jobs h →
-        AnyStandsFor master.new s jobs (with_at (if framed then Some content.now else None) h) }
-{
-    if framed {
-        master.hear_at(content.as_slice());
-    }
-}
-
-// An AT passes from its station to the master. The answer is how many arrivals are unseen.
+// An AT passes from its station to the master. Returns the number of undetected arrivals.
 fn pass_at<L: BitLink>(
     link: &mut L,
     master: &mut AnyMaster,
     station: u8,
     cycle: u32,
-    said: &Content,
-    sent: &Framed,
-    receiver: &mut Receiver,
+    buffers: &mut Buffers,
 ) -> u32
-    requires sent { IsSent (L.carry link.old) cycle kinds.At station said.now sent.now }
+    requires sent { IsSent (L.carry link.old) cycle kinds.At station buffers.old.said buffers.old.sent }
     ensures carry { L.carry link.new ≡ L.carry link.old }
     ensures restart { L.restart link.new ≡ L.restart link.old }
-    ensures unseen { result ≡ unseen_at (L.carry link.old) (passage cycle kinds.At station 0) said.now }
+    ensures unseen { result ≡ unseen_at (L.carry link.old) (passage cycle kinds.At station 0) buffers.old.said }
     ensures bound { result ≤ 1 }
     ensures heard { (s : Known) (jobs : List Job) (h : List Call) → AnyStandsFor master.old s jobs h →
-        AnyStandsFor master.new s jobs (with_at (heard (L.carry link.old) (passage cycle kinds.At station 0) said.now) h) }
+        AnyStandsFor master.new s jobs (with_at (heard (L.carry link.old) (passage cycle kinds.At station 0) buffers.old.said) h) }
 {
     let p = Passage {
         cycle,
@@ -103,10 +76,11 @@ fn pass_at<L: BitLink>(
         from: station,
         to: 0,
     };
-    let receipt = receive(link, p, said, sent, receiver);
-    let came = content_of(receipt.unseen, said, &receiver.content);
-    hear_at(master, receipt.framed, came);
-    one(receipt.unseen)
+    let receipt = receive(link, p, &buffers.said, &buffers.sent, &mut buffers.receiver);
+    if let Some(content) = content_of(receipt, &buffers.said, &buffers.receiver.content) {
+        master.hear_at(content);
+    }
+    as_count(receipt.unseen)
 }
 
 // A start in bit times.
@@ -167,24 +141,37 @@ fn send_said<L: BitLink>(
     start: u16,
     list: &mut ArrayVec<Sent, 66>,
     count: &mut usize,
-    said: &Content,
-    sent: &mut Framed,
-    receiver: &mut Receiver,
+    buffers: &mut Buffers,
 ) -> u32
     requires room { count.old < 66 }
     requires within { count.old ≤ length list.old.items }
-    requires some { 0 < length said.now }
+    requires some { 0 < length buffers.old.said }
     ensures carry { L.carry link.new ≡ L.carry link.old }
     ensures restart { L.restart link.new ≡ L.restart link.old }
     ensures bound { result ≤ 1 }
     ensures count { count.new ≤ count.old + 1 }
     ensures within { count.new ≤ length list.new.items }
-    ensures sent { (r : RingView) → station_of r (slice_index said.now 0) ≡ station →
-        AreSent r (L.carry link.old) cycle rate ((record { start = start; content = said.now }) ∷ []) (take count.old list.old.items) (take count.new list.new.items) master.old master.new result }
+    ensures sent { (r : RingView) → station_of r (slice_index buffers.old.said 0) ≡ station →
+        AreSent r (L.carry link.old) cycle rate ((record { start = start; content = buffers.old.said }) ∷ []) (take count.old list.old.items) (take count.new list.new.items) master.old master.new result }
 {
-    frame_said(link, cycle, Kind::At, station, said, sent);
-    push_timed(list, count, Kind::At, rate, start, said, sent.len);
-    pass_at(link, master, station, cycle, said, sent, receiver)
+    frame_said(
+        link,
+        cycle,
+        Kind::At,
+        station,
+        &buffers.said,
+        &mut buffers.sent,
+    );
+    push_timed(
+        list,
+        count,
+        Kind::At,
+        rate,
+        start,
+        &buffers.said,
+        buffers.sent.len,
+    );
+    pass_at(link, master, station, cycle, buffers)
 }
 
 // A drive sends its AT, if it sends one.
@@ -197,9 +184,7 @@ fn send_at<L: BitLink>(
     rate: u8,
     list: &mut ArrayVec<Sent, 66>,
     count: &mut usize,
-    said: &mut Content,
-    sent: &mut Framed,
-    receiver: &mut Receiver,
+    buffers: &mut Buffers,
 ) -> u32
     requires room { count.old < 66 }
     requires within { count.old ≤ length list.old.items }
@@ -212,10 +197,10 @@ fn send_at<L: BitLink>(
         station_of r (slice_index s.content 0) ≡ station →
         AreSent r (L.carry link.old) cycle rate (s ∷ []) (take count.old list.old.items) (take count.new list.new.items) master.old master.new result }
 {
-    match drive.at(said) {
+    match drive.at(&mut buffers.said) {
         None => 0,
         Some(start) => send_said(
-            link, master, station, cycle, rate, start, list, count, said, sent, receiver,
+            link, master, station, cycle, rate, start, list, count, buffers,
         ),
     }
 }
@@ -230,9 +215,7 @@ fn send_turn<L: BitLink>(
     rate: u8,
     list: &mut ArrayVec<Sent, 66>,
     count: &mut usize,
-    said: &mut Content,
-    sent: &mut Framed,
-    receiver: &mut Receiver,
+    buffers: &mut Buffers,
 ) -> u32
     requires few { length drives.now ≤ 64 }
     requires room { count.old < 66 }
@@ -259,13 +242,11 @@ fn send_turn<L: BitLink>(
         rate,
         list,
         count,
-        said,
-        sent,
-        receiver,
+        buffers,
     )
 }
 
-/// The drives send their ATs, in turn. The answer is how many arrivals are unseen.
+/// The drives send their ATs, in turn. Returns the number of undetected arrivals.
 pub(crate) fn send_ats<L: BitLink>(
     link: &mut L,
     master: &mut AnyMaster,
@@ -275,9 +256,7 @@ pub(crate) fn send_ats<L: BitLink>(
     rate: u8,
     list: &mut ArrayVec<Sent, 66>,
     count: &mut usize,
-    said: &mut Content,
-    sent: &mut Framed,
-    receiver: &mut Receiver,
+    buffers: &mut Buffers,
 ) -> u32
     requires few { length drives.now ≤ 64 }
     requires turns { length turns.now ≤ 64 }
@@ -294,13 +273,13 @@ pub(crate) fn send_ats<L: BitLink>(
     let mut unseen = 0;
     for k in 0..turns.len() {
         unseen += send_turn(
-            link, master, drives, turns[k], cycle, rate, list, count, said, sent, receiver,
+            link, master, drives, turns[k], cycle, rate, list, count, buffers,
         );
     }
     unseen
 }
 
-/// The MDT is sent, if one is. The answer is how many arrivals are unseen.
+/// The MDT is sent, if one is. Returns the number of undetected arrivals.
 pub(crate) fn send_mdt<L: BitLink>(
     link: &mut L,
     drives: &mut Vec<Drive>,
@@ -309,22 +288,20 @@ pub(crate) fn send_mdt<L: BitLink>(
     rate: u8,
     list: &mut ArrayVec<Sent, 66>,
     count: &mut usize,
-    said: &Content,
-    sent: &mut Framed,
-    receiver: &mut Receiver,
+    buffers: &mut Buffers,
 ) -> u32
     requires few { length drives.old.items ≤ 64 }
     requires room { count.old < 66 }
     requires within { count.old ≤ length list.old.items }
-    requires some { is_some start ≡ true → 0 < length said.now }
+    requires some { is_some start ≡ true → 0 < length buffers.old.said }
     ensures count { length drives.new.items ≡ length drives.old.items }
     ensures carry { L.carry link.new ≡ L.carry link.old }
     ensures restart { L.restart link.new ≡ L.restart link.old }
     ensures bound { result ≤ 64 }
-    ensures sent { take count.new list.new.items ≡ take count.old list.old.items ++ sent_mdt rate (sent_as start said.now) }
-    ensures unseen { result ≡ sum_below (length drives.old.items) (unseen_mdt (L.carry link.old) cycle (content_of (sent_as start said.now))) }
+    ensures sent { take count.new list.new.items ≡ take count.old list.old.items ++ sent_mdt rate (sent_as start buffers.old.said) }
+    ensures unseen { result ≡ sum_below (length drives.old.items) (unseen_mdt (L.carry link.old) cycle (content_of (sent_as start buffers.old.said))) }
     ensures stand { (d : ℕ → DriveView) (speed : ℕ) (h : ℕ → List DriveCall) → AllStand drives.old.items d speed h →
-        AllStand drives.new.items d speed (λ k. Mdt (mdt_heard (L.carry link.old) cycle (k + 1) (content_of (sent_as start said.now))) ∷ h k) }
+        AllStand drives.new.items d speed (λ k. Mdt (mdt_heard (L.carry link.old) cycle (k + 1) (content_of (sent_as start buffers.old.said))) ∷ h k) }
 {
     match start {
         None => {
@@ -332,9 +309,24 @@ pub(crate) fn send_mdt<L: BitLink>(
             0
         }
         Some(start) => {
-            frame_said(link, cycle, Kind::Mdt, 0, said, sent);
-            push_timed(list, count, Kind::Mdt, rate, start, said, sent.len);
-            hear_mdts(link, drives, cycle, said, sent, receiver)
+            frame_said(link, cycle, Kind::Mdt, 0, &buffers.said, &mut buffers.sent);
+            push_timed(
+                list,
+                count,
+                Kind::Mdt,
+                rate,
+                start,
+                &buffers.said,
+                buffers.sent.len,
+            );
+            hear_mdts(
+                link,
+                drives,
+                cycle,
+                &buffers.said,
+                &buffers.sent,
+                &mut buffers.receiver,
+            )
         }
     }
 }

@@ -95,13 +95,17 @@ pub(crate) fn copy_element(
         copy_word(buffer, commands.status(idn, cycle));
         return Ok(());
     }
-    let bytes = store.element(idn, element)?;
-    let attribute = store.attribute(idn)?;
+    let Some(block) = store.find(idn) else {
+        return Err(Code::NO_IDN);
+    };
+    let Some(bytes) = block.element(element) else {
+        return Err(Code::missing(element));
+    };
     copy_found(
         buffer,
-        &attribute,
-        store.max_len(idn),
-        store.step(idn),
+        &block.attribute(),
+        block.max_len(),
+        block.step(),
         element,
         cycle,
         bytes,

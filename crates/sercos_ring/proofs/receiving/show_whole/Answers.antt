@@ -1,4 +1,5 @@
-use Rattle.std.proofs.Common.{rules, refl, sym}
+use Rattle.std.proofs.Common.{arith, refl, sym}
+use Rattle.sercos_model.proofs.BitLemmas.{AreBytes-by_index}
 use Rattle.sercos_model.specs.Frames.{IsFrame}
 use Rattle.sercos_hdlc.specs.Stuffed.{frame_of}
 use Rattle.sercos_law_run.specs.Journal.Arrivals.{content_in}
@@ -7,5 +8,5 @@ use Rattle.sercos_ring.proofs.receiving.show_whole.Goals as goal
 pub returns : goal.returns
 unfolding content_in
 returns c =
-    let is : IsFrame c.args.said.now (frame_of c.args.said.now) = c.framing_law.ensures.frame c.args.said.now (search rules) c.requires (search rules) in
+    let is : IsFrame c.args.said.now (frame_of c.args.said.now) = c.framing_law.ensures.frame c.args.said.now (AreBytes-by_index c.args.said.now (λ i. omega (arith, c.type_inv.said i))) c.requires.some c.requires.fits in
     rw (c.frame_law.ensures.none c.args.said.now (frame_of c.args.said.now) is, sym (c.frame_law.ensures.only c.args.said.now (frame_of c.args.said.now) is)) refl

@@ -12,12 +12,12 @@ returns-in-None-clause-unseen g c = rw c.in-None.is (no_unseen (length c.args.dr
 
 pub returns-in-None-clause-stand : goal.returns-in-None-clause-stand
 returns-in-None-clause-stand g c = λ d speed h all.
-    subst (λ (start : Option ℕ). AllStand c.hear_no_mdts.new.drives.items d speed (λ k. Mdt (mdt_heard (g.L.BitLink.carry c.args.link.now) c.args.cycle (k + 1) (content_of (sent_as start c.args.said.now))) ∷ h k))
+    subst (λ (start : Option ℕ). AllStand c.hear_no_mdts.new.drives.items d speed (λ k. Mdt (mdt_heard (g.L.BitLink.carry c.args.link.now) c.args.cycle (k + 1) (content_of (sent_as start c.args.buffers.now.said))) ∷ h k))
     (sym c.in-None.is) (c.hear_no_mdts.ensures.stand d speed h all)
 
 pub returns-in-Some-clause-stand : goal.returns-in-Some-clause-stand
 returns-in-Some-clause-stand g c = λ d speed h all.
-    subst (λ (start : Option ℕ). AllStand c.hear_mdts.new.drives.items d speed (λ k. Mdt (mdt_heard (g.L.BitLink.carry c.args.link.now) c.args.cycle (k + 1) (content_of (sent_as start c.args.said.now))) ∷ h k))
+    subst (λ (start : Option ℕ). AllStand c.hear_mdts.new.drives.items d speed (λ k. Mdt (mdt_heard (g.L.BitLink.carry c.args.link.now) c.args.cycle (k + 1) (content_of (sent_as start c.args.buffers.now.said))) ∷ h k))
     (sym c.in-Some.is)
-    (subst (λ (f : Carry). AllStand c.hear_mdts.new.drives.items d speed (λ k. Mdt (mdt_heard f c.args.cycle (k + 1) (Some c.args.said.now)) ∷ h k)) c.frame_said.ensures.carry
+    (subst (λ (f : Carry). AllStand c.hear_mdts.new.drives.items d speed (λ k. Mdt (mdt_heard f c.args.cycle (k + 1) (Some c.args.buffers.now.said)) ∷ h k)) c.frame_said.ensures.carry
     (c.hear_mdts.ensures.stand d speed h all))

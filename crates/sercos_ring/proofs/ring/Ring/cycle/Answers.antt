@@ -6,8 +6,8 @@ use Rattle.sercos_ring.proofs.ring.Ring.cycle.Goals as goal
 pub returns : goal.returns
 returns g c =
     let next : IsNextOf g.L.BitLink.carry g.L.BitLink.restart c.args.self.now c.deref.result.now =
-    next_lent g.L.BitLink.carry g.L.BitLink.restart c.args.self.now c.deref.result.now (newest c.go.new.self) c.deref.ensures c.go.ensures.next in (
-      (refl, λ other. tt, (c.go.ensures.after, c.deref.ensures)),
+    next_lent g.L.BitLink.carry g.L.BitLink.restart c.args.self.now c.deref.result.now (newest c.make_cycle.new.self) c.deref.ensures c.make_cycle.ensures.next in (
+      (refl, λ other. tt, (c.make_cycle.ensures.after, c.deref.ensures)),
       record {
         after = tt;
         next = next;

@@ -22,7 +22,7 @@ use Rattle.sercos_ring.proofs.TurnsSaid.{turns_said}
 use Rattle.sercos_ring.proofs.RunLemmas.{turned, before_cycle}
 use Rattle.sercos_ring.proofs.EventLemmas.{restart_fits}
 use Rattle.sercos_ring.proofs.ListLemmas.{grown, all_sent, four}
-use Rattle.sercos_ring.proofs.ring.turn.Goals as goal
+use Rattle.sercos_ring.proofs.ring.run_cycle.Goals as goal
 
 pub returns-clause-after : goal.returns-clause-after
 returns-clause-after g c = λ r jobs carry restarts j s.
