@@ -7,7 +7,7 @@ use Rattle.std.proofs.lemmas.List.Sums.{take_while-cons}
 use Rattle.sercos_idn.specs.Commands.{to_cancel}
 use Rattle.sercos_command.specs.Settings.{status_by}
 use Rattle.sercos_command.specs.Calls.{CommandWrite, writes_to_command, sets, set_by, is_set, setting_by}
-use Rattle.sercos_command.specs.Laws.{IsSet, SetByNewest, is_cancelled, IsSetFirst, SetByFirst, HasStatus, StatusSays}
+use Rattle.sercos_command.specs.Laws.{IsSet, SetByNewest, is_unset, SetByFirst, HasStatus, StatusSays}
 
 -- a list that begins with one has a last one
 last_there : {A : Type 0} (x : A) (xs : List A) → is_some (last_or (Some x) xs) ≡ true
@@ -34,7 +34,7 @@ set_by_newest raw h = (λ set. to (writes_to_command raw h) refl set, λ is. fro
         rw (is.writes, take_while-cons, other) (last_there is.newest (take_while sets is.before))
 
 -- where no write is kept, there is none or a 0
-none_kept : (writes : List CommandWrite) → take_while sets writes ≡ [] → is_cancelled writes ≡ true
+none_kept : (writes : List CommandWrite) → take_while sets writes ≡ [] → is_unset writes ≡ true
 none_kept [] none = refl
 none_kept (y ∷ writes) none = by (y.value == to_cancel) (rw take_while-cons at none)
   where
@@ -45,16 +45,16 @@ none_kept (y ∷ writes) none = by (y.value == to_cancel) (rw take_while-cons at
 -- the last of the writes that a 0 doesn't end
 last_set : (writes : List CommandWrite) (w : CommandWrite) → last_or None (take_while sets writes) ≡ Some w
     → (later : List CommandWrite) × (earlier : List CommandWrite) × (writes ≡ later ++ w ∷ earlier) × (list_all sets later ≡ true)
-    × (w.value ≢ 0) × (is_cancelled earlier ≡ true)
+    × (w.value ≢ 0) × (is_unset earlier ≡ true)
 last_set [] w is = cc
 last_set (x ∷ writes) w is = by (x.value == to_cancel) refl (rw take_while-cons at is) (last_set writes w)
   where
     kept : (rest : List CommandWrite) → take_while sets writes ≡ rest → last_or None (x ∷ rest) ≡ Some w → (x.value == to_cancel) ≡ false
         → (last_or None (take_while sets writes) ≡ Some w
         → (later : List CommandWrite) × (earlier : List CommandWrite) × (writes ≡ later ++ w ∷ earlier) × (list_all sets later ≡ true)
-        × (w.value ≢ 0) × (is_cancelled earlier ≡ true))
+        × (w.value ≢ 0) × (is_unset earlier ≡ true))
         → (later : List CommandWrite) × (earlier : List CommandWrite) × (x ∷ writes ≡ later ++ w ∷ earlier) × (list_all sets later ≡ true)
-        × (w.value ≢ 0) × (is_cancelled earlier ≡ true)
+        × (w.value ≢ 0) × (is_unset earlier ≡ true)
     kept [] e is f more =
         let same : x ≡ w = cc in
         ([], writes, rw same refl, refl, rw (← same) (grind (arith, nat_tests, f)), none_kept writes e)
@@ -66,16 +66,16 @@ last_set (x ∷ writes) w is = by (x.value == to_cancel) refl (rw take_while-con
         → last_or None (cond (not (x.value == to_cancel)) (x ∷ take_while sets writes) []) ≡ Some w
         → (last_or None (take_while sets writes) ≡ Some w
         → (later : List CommandWrite) × (earlier : List CommandWrite) × (writes ≡ later ++ w ∷ earlier) × (list_all sets later ≡ true)
-        × (w.value ≢ 0) × (is_cancelled earlier ≡ true))
+        × (w.value ≢ 0) × (is_unset earlier ≡ true))
         → (later : List CommandWrite) × (earlier : List CommandWrite) × (x ∷ writes ≡ later ++ w ∷ earlier) × (list_all sets later ≡ true)
-        × (w.value ≢ 0) × (is_cancelled earlier ≡ true)
+        × (w.value ≢ 0) × (is_unset earlier ≡ true)
     by true f is more = let none : last_or None [] ≡ Some w = rw f at is in cc
     by false f is more = kept (take_while sets writes) refl (rw f at is) f more
 
 pub set_by_first : SetByFirst
 set_by_first raw h w is =
     let (later, earlier, split, all, value, before) = last_set (writes_to_command raw h) w is in
-    record { later = later; earlier = earlier; writes = split; none_later = all; value = value; none_before = before }
+    record { later = later; earlier = earlier; writes = split; no_cancel_later = all; value = value; unset_before = before }
 
 pub status_says : StatusSays
 status_says c raw cycle = (λ unset. none (set_by raw c.calls) unset, λ w is. some w is)

@@ -7,8 +7,8 @@ use Rattle.sercos_command.specs.declared.commands.SetCommand.{SetCommand}
 use Rattle.sercos_command.specs.Settings.{ends_well, has_ended, status_by, with_list_of}
 
 -- A write to a procedure command: its number, the value, which is 0 or 3, the cycle, and the data blocks, which have the new value
--- already, but not yet the list that a check writes. Or a write to other operation data in a cycle. Or the drive is in phase 0, or
--- restarts.
+-- already, but not yet the list that a check writes. Or a write to other operation data, whose cycle is for proofs alone. Or the drive is
+-- in phase 0, or restarts.
 pub data CommandCall : Type 0 where
   Wrote : (raw value cycle : ℕ) → List Block → CommandCall
   Other : (cycle : ℕ) → CommandCall
@@ -29,7 +29,7 @@ writes_to_command raw (Wrote other value cycle blocks ∷ h) =
     if other == raw then record { value = value; cycle = cycle; blocks = blocks } ∷ writes_to_command raw h
     else writes_to_command raw h
 
--- a write of anything but 0
+-- a write of anything but 0, also a further 3, which changes nothing
 abbrev pub sets : CommandWrite → Bool
 sets w = not (w.value == to_cancel)
 
@@ -55,8 +55,8 @@ spares_check check end (Other cycle) = false
 spares_check check end Reset = false
 
 -- A write makes a check count as passed in a cycle, after the earlier calls and before the later ones: it sets the check, which wasn't
--- set; the cycle of its end has come; no later call undoes it; and the check finds nothing. The list of the earlier calls begins with
--- the write.
+-- set; the cycle of its end has come; no later call undoes it; and the check finds nothing. The last list is the write and the calls
+-- before it.
 abbrev pub passes_check : ℕ → ℕ → ℕ → ℕ → List CommandCall → List CommandCall → Bool
 passes_check rate time check cycle later (Wrote raw value at blocks ∷ earlier) =
     (raw == check) && (not (value == to_cancel) && (not (is_set check earlier)
@@ -96,7 +96,8 @@ has_command_ended c raw cycle = unwrap_or (option_map (has_ended c.time cycle) (
 abbrev pub change_in : CommandHistory → ℕ → Bool
 change_in c cycle = list_any (λ raw. has_command_ended c raw cycle) (command_numbers c.calls)
 
--- The blocks after a write to a command: a 3 that sets a check writes the list of what is unfit. A further 3, and a 0, write no list.
+-- The blocks after a write to a command, with the calls before it, and the blocks that have its value already: a 3 that sets a check
+-- writes the list of what is unfit. A further 3, and a 0, write no list.
 unfoldable pub with_check_list : CommandHistory → ℕ → ℕ → List Block → List Block
 with_check_list c raw value blocks =
     if not (value == to_cancel) && not (is_set raw c.calls) then with_list_of c.rate raw blocks else blocks

@@ -6,9 +6,9 @@ use Rattle.sercos_command.specs.Settings.{ends_well}
 use Rattle.sercos_command.specs.Calls.{CommandCall, CommandWrite, writes_to_command, sets, set_by, is_set, CommandHistory, status_in}
 
 -- there is no write, or the newest is a 0
-abbrev pub is_cancelled : List CommandWrite → Bool
-is_cancelled [] = true
-is_cancelled (w ∷ writes) = w.value == to_cancel
+abbrev pub is_unset : List CommandWrite → Bool
+is_unset [] = true
+is_unset (w ∷ writes) = w.value == to_cancel
 
 -- The newest write to a command since phase 0 isn't 0.
 pub record IsSet (raw : ℕ) (h : List CommandCall) : Type 0 where
@@ -26,9 +26,9 @@ pub record IsSetFirst (raw : ℕ) (h : List CommandCall) (w : CommandWrite) : Ty
   pub later : List CommandWrite
   pub earlier : List CommandWrite
   pub writes : writes_to_command raw h ≡ later ++ w ∷ earlier
-  pub none_later : list_all sets later ≡ true
+  pub no_cancel_later : list_all sets later ≡ true
   pub value : w.value ≢ 0
-  pub none_before : is_cancelled earlier ≡ true
+  pub unset_before : is_unset earlier ≡ true
 
 abbrev pub SetByFirst : Type 0
 SetByFirst = (raw : ℕ) (h : List CommandCall) (w : CommandWrite) → set_by raw h ≡ Some w → IsSetFirst raw h w

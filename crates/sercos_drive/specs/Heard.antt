@@ -8,7 +8,7 @@ use Rattle.sercos_command.specs.Checks.{number_at, carried_len}
 use Rattle.sercos_drive.specs.declared.hearing.Told.{Told}
 
 -- The content of the frame that arrived at the MST's place of a cycle, or none; that of the frame at the MDT's place; a restart
--- between two cycles.
+-- between two cycles. In each cycle of a ring both places come, first the MST's and then the MDT's, whether anything arrives or not.
 pub data DriveCall : Type 0 where
   Mst : (cycle : ℕ) (content : Option (List ℕ)) → DriveCall
   Mdt : (content : Option (List ℕ)) → DriveCall

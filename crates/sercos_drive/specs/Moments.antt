@@ -34,8 +34,8 @@ has_mst (AtMst cycle got phase ∷ past) = got
 has_mst (AtMdt took processed phase ∷ past) = has_mst past
 has_mst (AtRestart ∷ past) = false
 
--- Whether an MDT was taken at the newest MDT's place; a restart forgets it. Phase 0 needs no case: in it none is taken, so the MDT's
--- place of its cycle clears it.
+-- Whether an MDT was taken at the newest MDT's place; a restart forgets it. Phase 0 needs no case where in each cycle both places come:
+-- in it none is taken, so the MDT's place of its cycle clears it.
 abbrev pub has_taken : List Moment → Bool
 has_taken [] = false
 has_taken (AtMst cycle got phase ∷ past) = has_taken past
@@ -86,17 +86,19 @@ abbrev pub calls_after : Option Processed → List Processed → List CommandCal
 calls_after None h calls = calls
 calls_after (Some t) h calls = calls_with (added_on t h) t.blocks calls
 
--- The data blocks: those of the drive at its opening, with each write in its place. They outlast phase 0 and restarts.
+-- The data blocks: those of the drive at its opening, with each write in its place, and the lists that the checks wrote. They outlast
+-- phase 0 and restarts.
 abbrev pub blocks_in : DriveView → List Moment → List Block
 blocks_in d [] = store_of d
 blocks_in d (AtMst cycle got phase ∷ past) = blocks_in d past
 blocks_in d (AtMdt took processed phase ∷ past) = blocks_after processed (records_in past) (blocks_in d past)
 blocks_in d (AtRestart ∷ past) = blocks_in d past
 
--- the calls on the procedure commands: settings and cancels, writes of other operation data, and phase 0
+-- in phase 0 a reset more
 abbrev pub with_reset : ℕ → List CommandCall → List CommandCall
 with_reset phase calls = if phase == 0 then Reset ∷ calls else calls
 
+-- the calls on the procedure commands: writes to commands, writes of other operation data, phase 0 and restarts
 abbrev pub calls_in : List Moment → List CommandCall
 calls_in [] = []
 calls_in (AtMst cycle got phase ∷ past) = with_reset phase (calls_in past)

@@ -1,5 +1,6 @@
 -- What an epoch has brought so far, and what each call adds to it. An epoch begins at the opening, after a fall, and with a
--- restart. Every list has its newest item first.
+-- restart. Turns, calls and what was begun have the newest first; what waits is in the order of the requests, and outcomes have the oldest
+-- first.
 use Rattle.std.specs.Prelude.{◌≡◌, ℕ, zero, suc, ◌+◌, ◌==◌, nat_le, Bool, true, false, not, ◌&&◌, ◌||◌, if◌then◌else◌, List, [], ◌∷◌, length, drop, Option, Some, None, Result, Ok, Err, is_some, is_none, option_map, slice_get, slice_index}
 use Rattle.std.specs.Option.{option_or}
 use Rattle.sercos_telegram.specs.Words.{status_of}
@@ -274,11 +275,12 @@ abbrev pub has_lost_at : ℕ → List Turn → Bool
 has_lost_at k (t ∷ before ∷ turns) = nat_le 3 before.phase && (not (t.heard k) && not (before.heard k))
 has_lost_at k _ = false
 
--- in how many cycles of phase 1 in a row the MDT was to the drive
+-- in how many of the newest turns, without a gap, phase 1 was commanded and the MDT was to the drive
 abbrev pub count_addressed : ℕ → List Turn → ℕ
 count_addressed k [] = 0
 count_addressed k (t ∷ turns) = if (t.phase == 1) && is_place k t.addressed then count_addressed k turns + 1 else 0
 
+-- In phase 1 the MDT is to the drive in this cycle, and was in the 64 before; later its open step was first sent 64 cycles ago.
 abbrev pub is_at_limit : Past → ℕ → Bool
 is_at_limit p k =
     if p.now.phase == 1 then is_place k p.now.addressed && nat_le 64 (count_addressed k p.turns)

@@ -1,4 +1,5 @@
--- Why a ring falls: by what arrived at the master in its last cycles, or what is open on a channel, over every link. Each list has its newest item first.
+-- Why a ring falls: by what arrived at the master in its last cycles, or what is open on a channel, whatever the links do to telegrams.
+-- Journals, turns and calls have the newest first; the ATs of a cycle are in the order in which they were sent.
 use Rattle.std.specs.Prelude.{◌≡◌, ℕ, zero, suc, ◌+◌, ◌<◌, ◌≤◌, Bool, true, false, not, ◌&&◌, List, [], ◌∷◌, ◌++◌, length, Some, is_some, slice_index}
 use Rattle.sercos_telegram.specs.Faults.{at_fault}
 use Rattle.sercos_telegram.specs.declared.layout.Kind.TheVariants as kinds
@@ -41,6 +42,7 @@ NoneReads r carry cycle address len (at ∷ ats) =
     is_some (at_fault address len content) ≡ true)
     × NoneReads r carry cycle address len ats
 
+-- The same in a cycle for the drive at a place. In phases 3 and 4 its length has been fixed since the reads of phase 2.
 abbrev pub NoneReadsIn : RingView → List Job → Carry → Restarts → CycleView → List CycleView → ℕ → Type 0
 NoneReadsIn r jobs carry restarts t j k =
     NoneReads r carry (length j) (drive_at r k).address
@@ -84,7 +86,7 @@ pub record IsOpenFor (h : List Call) (n : ℕ) : Type 0 where
   pub same : begun_by h ≡ begun_by older
   pub count : cycles_ended newer ≡ n
 
--- In each of n cycles in a row phase 1 was commanded and the MDT was to the drive at this place.
+-- In each of the n newest turns phase 1 was commanded and the MDT was to the drive at this place.
 abbrev pub AreTo : ℕ → ℕ → List Turn → Type 0
 AreTo k zero turns = Unit {0}
 AreTo k (suc n) [] = ⊥
@@ -96,6 +98,7 @@ pub data IsLate (p : Past) (k : ℕ) : Type 0 where
   Identification : p.now.phase ≡ 1 → AreTo k 65 (p.now ∷ p.turns) → (AreTo k 66 (p.now ∷ p.turns) → ⊥) → IsLate p k
   Step : IsOpenFor (p.calls k) 64 → IsLate p k
 
+-- The drive with this address is late after the MDT of the cycle.
 pub record HasNoAnswer (r : RingView) (jobs : List Job) (carry : Carry) (restarts : Restarts) (t : CycleView) (j : List CycleView)
     (address : ℕ) : Type 0 where
   pub place : ℕ

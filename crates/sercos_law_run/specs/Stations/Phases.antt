@@ -43,7 +43,7 @@ pub record Rises (d : DriveView) (rate : ℕ) (call : DriveCall) (h : List Drive
   pub passed : HasPassed d rate cycle (phase_at d rate h + 1) h
   pub next : phase_at d rate (call ∷ h) ≡ phase_at d rate h + 1
 
--- A call leaves the phase, takes the drive to phase 0, or lets it rise by one.
+-- A call leaves the phase as it is, takes the drive to phase 0, or lets it rise by one.
 abbrev pub RisesByOne : Type 0
 RisesByOne = (d : DriveView) (rate : ℕ) (call : DriveCall) (h : List DriveCall) →
     (phase_at d rate (call ∷ h) ≡ phase_at d rate h) ⊎ ((phase_at d rate (call ∷ h) ≡ 0) ⊎ Rises d rate call h)
