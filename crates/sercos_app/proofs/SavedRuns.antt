@@ -9,7 +9,7 @@ use Rattle.std.proofs.lemmas.List.Elements.{All-map}
 use Rattle.sercos_step.specs.declared.request.Request.{Request}
 use Rattle.sercos_step.specs.declared.request.Request.TheVariants as request
 use Rattle.sercos_step.specs.declared.request.Job.{Job}
-use Rattle.sercos_step.specs.Jobs.{AreJobs}
+use Rattle.sercos_step.specs.Jobs.{AreJobs, AreTypedJobs, IsTypedRequest}
 use Rattle.sercos_block.specs.Views.{DriveView, RingView}
 use Rattle.sercos_block.specs.Rings.{has_address, is_ring}
 use Rattle.sercos_block.specs.Stores.{find_block, store_of}
@@ -18,7 +18,6 @@ use Rattle.sercos_script.specs.Cuts.{has_flip}
 use Rattle.sercos_script.proofs.CutLemmas.{unflipped_only_cuts}
 use Rattle.sercos_law_run.specs.Journal.Harmless.{IsHarmless}
 use Rattle.sercos_law_run.specs.Journal.Runs.{IsClear, IsRun, no_drive, drive_at, run_of}
-use Rattle.sercos_law_run.specs.Typed.Typed.{AreTypedJobs, IsTypedRequest}
 use Rattle.sercos_law_run.proofs.Theorems.{same_drive}
 use Rattle.sercos_law_run.specs.Held.Opened.{IsOpened}
 use Rattle.sercos_config.specs.Views.{DocumentView}

@@ -20,7 +20,7 @@ use sercos_call::{give_if_made, refuse};
 use sercos_config::{Document, read_ring};
 use sercos_io::{Sink, Status};
 use sercos_law_trace::told_law;
-use sercos_opened::{kept_law, show_jobs, show_opened};
+use sercos_opened::kept_law;
 use sercos_script::{BitLink, Scripted};
 use std::alloc::{AllocError, Global};
 
@@ -39,7 +39,6 @@ fn data_reply<L: BitLink>(
 {
     match data_jobs(alloc, lists) {
         Ok(jobs) => {
-            show_jobs(jobs.as_slice());
             let run = run_tracked(alloc, setup, jobs, link)?;
             saved_reply(alloc, run.list.as_slice())
         }
@@ -88,10 +87,7 @@ pub fn answer_backup<K: Sink>(alloc: Global, bytes: &[u8], sink: &mut K) -> Stat
     kept_law();
     told_law();
     match read_ring(alloc, bytes) {
-        Ok(document) => {
-            show_opened(&document);
-            back_up(alloc, document, sink)
-        }
+        Ok(document) => back_up(alloc, document, sink),
         Err(bad) => refuse(&bad, sink),
     }
 }

@@ -12,7 +12,7 @@ use sercos_block::{RingSetup, cycles_of, drives_of};
 use sercos_call::fault_status;
 use sercos_config::{Document, generate};
 use sercos_io::{Sink, Status, write_all};
-use sercos_opened::{kept_law, show_opened};
+use sercos_opened::kept_law;
 use sercos_ring::Ring;
 use sercos_script::{BitLink, Both, Scripted};
 use sercos_step::Job;
@@ -145,10 +145,7 @@ pub fn answer_gen<L: BitLink, K: Sink>(alloc: Global, n: u8, link: L, sink: &mut
 {
     kept_law();
     match generate(alloc, n) {
-        Ok(document) => {
-            show_opened(&document);
-            sum_document(alloc, n, document, link, sink)
-        }
+        Ok(document) => sum_document(alloc, n, document, link, sink),
         Err(_) => Status::Memory,
     }
 }

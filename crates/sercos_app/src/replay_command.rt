@@ -8,7 +8,7 @@ ghost use Rattle.sercos_app.specs.OwnRun.{OpensIfRead, OpensItsRing};
 
 use sercos_answer::Reply;
 use sercos_config::{BadDocument, read_ring};
-use sercos_opened::show_opened;
+use sercos_opened::kept_law;
 use sercos_replay::{capture_part, capture_place, document_part, replay_document, undivided_reply};
 use std::alloc::Global;
 
@@ -29,8 +29,8 @@ fn reply_parts(
         (λ _. OpensIfRead document.now)
         (λ bad. (bad ≡ BadDocument.Memory) ⊎ OpensIfRead document.now) }
 {
+    kept_law();
     let document = read_ring(alloc, document)?;
-    show_opened(&document);
     match replay_document(alloc, address, document, capture) {
         Ok(reply) => Ok(reply),
         Err(_) => Err(BadDocument::Memory),

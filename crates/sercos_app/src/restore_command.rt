@@ -29,7 +29,7 @@ use sercos_config::{Document, read_ring};
 use sercos_idn::{Idn, element};
 use sercos_io::{Sink, Status};
 use sercos_law_trace::kept_law;
-use sercos_opened::{kept_law as opened_law, show_opened};
+use sercos_opened::kept_law as opened_law;
 use sercos_ring::Ring;
 use sercos_script::{BitLink, Scripted};
 use sercos_service_drive::push_data;
@@ -191,10 +191,7 @@ pub fn answer_restore<K: Sink>(alloc: Global, bytes: &[u8], sink: &mut K) -> Sta
     opened_law();
     kept_law();
     match read_ring(alloc, bytes) {
-        Ok(document) => {
-            show_opened(&document);
-            restore_document(alloc, document, sink)
-        }
+        Ok(document) => restore_document(alloc, document, sink),
         Err(bad) => refuse(&bad, sink),
     }
 }

@@ -16,7 +16,7 @@ use sercos_call::{fault_status, refuse};
 use sercos_config::{Document, read_ring};
 use sercos_io::{Sink, Status};
 use sercos_law_trace::clean_law;
-use sercos_opened::{kept_law, show_opened};
+use sercos_opened::kept_law;
 use sercos_ring::Ring;
 use sercos_script::{BitLink, Both, Scripted};
 use sercos_step::Job;
@@ -92,10 +92,7 @@ pub fn answer_run<L: BitLink, K: Sink>(alloc: Global, bytes: &[u8], link: L, sin
     kept_law();
     clean_law();
     match read_ring(alloc, bytes) {
-        Ok(document) => {
-            show_opened(&document);
-            run_document(alloc, document, link, sink)
-        }
+        Ok(document) => run_document(alloc, document, link, sink),
         Err(bad) => refuse(&bad, sink),
     }
 }

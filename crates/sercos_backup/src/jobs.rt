@@ -1,6 +1,7 @@
 // The requests of a backup, and the check of those of a restore.
 ghost use Rattle.std.specs.Prelude.{◌≡◌, ℕ, ◌+◌, ◌*◌, ◌/◌, ◌<◌, ◌≤◌, true, List, [], ◌∷◌, ◌++◌, length, map, slice_index, IfOk, OnOk, IfSome, MatchResult};
 ghost use Rattle.std.specs.List.{All, sum_by};
+ghost use Rattle.sercos_step.specs.Jobs.{AreTypedJobs, IsTypedRequest};
 ghost use Rattle.sercos_step.specs.Steps.{IsRequest};
 ghost use Rattle.sercos_block.specs.Rings.{is_ring};
 ghost use Rattle.sercos_backup.specs.Jobs.{list_number, reads_data, list_jobs, numbers_in, listed_jobs, data_jobs, IsFault, writes_data, place_of_other};
@@ -31,7 +32,8 @@ pub enum DataJobs {
 
 // The read of the operation data of a block.
 fn reads_data(address: u8, raw: u16) -> Job
-    ensures { result ≡ reads_data address raw }
+    ensures value { result ≡ reads_data address raw }
+    ensures typed { IsTypedRequest result.request }
 {
     Job {
         drive: address,
@@ -88,7 +90,8 @@ fn number_at(bytes: &[u8], place: usize) -> u16
 // Appends the reads of the blocks on a list.
 fn push_listed(address: u8, bytes: &[u8], jobs: &mut Vec<Job>) -> Result<(), AllocError>
     requires { length bytes.now ≤ 1024 }
-    ensures { OnOk result (jobs.new.items ≡ jobs.old.items ++ map (reads_data address) (numbers_in bytes.now)) }
+    ensures pushed { OnOk result (jobs.new.items ≡ jobs.old.items ++ map (reads_data address) (numbers_in bytes.now)) }
+    ensures typed { AreTypedJobs jobs.old.items → OnOk result (AreTypedJobs jobs.new.items) }
 {
     for place in 0..count_on(bytes) {
         jobs.push(reads_data(address, number_at(bytes, place)))?;
@@ -100,6 +103,7 @@ fn push_listed(address: u8, bytes: &[u8], jobs: &mut Vec<Job>) -> Result<(), All
 fn all_listed(alloc: Global, lists: &[(u8, Bytes)]) -> Result<Vec<Job>, AllocError>
     ensures value { IfOk result (λ jobs. jobs.items ≡ data_jobs lists.now) }
     ensures requests { IfOk result (λ jobs. All (λ job. IsRequest job.request) jobs.items) }
+    ensures typed { IfOk result (λ jobs. AreTypedJobs jobs.items) }
 {
     let mut jobs = Vec::new(alloc);
     for list in lists {
@@ -117,6 +121,7 @@ pub fn data_jobs(alloc: Global, lists: &[(u8, Bytes)]) -> Result<Vec<Job>, DataJ
         (λ jobs. (jobs.items ≡ data_jobs lists.now) × (length jobs.items ≤ 4096))
         (λ why. IsFault (data_jobs lists.now) why) }
     ensures requests { IfOk result (λ jobs. All (λ job. IsRequest job.request) jobs.items) }
+    ensures typed { IfOk result (λ jobs. AreTypedJobs jobs.items) }
 {
     let count = count_all(lists);
     if count > MOST_JOBS {

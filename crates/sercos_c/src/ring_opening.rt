@@ -16,7 +16,7 @@ use crate::status::{MEMORY, REFUSED};
 use sercos_block::{cycles_of, drives_of, ring_law};
 use sercos_config::{BadDocument, Document, read_ring};
 use sercos_law_run::totals_law;
-use sercos_opened::show_opened;
+use sercos_opened::kept_law;
 use sercos_ring::{Ring, no_totals};
 use sercos_script::Scripted;
 use std::alloc::{AllocError, Global};
@@ -51,8 +51,8 @@ fn ring_of(alloc: Global, document: Document) -> Result<RingStation, AllocError>
 fn ring_in(alloc: Global, document: &[u8]) -> Result<RingStation, BadDocument>
     ensures { IsRingOpening document.now result }
 {
+    kept_law();
     let document = read_ring(alloc, document)?;
-    show_opened(&document);
     match ring_of(alloc, document) {
         Ok(ring) => Ok(ring),
         Err(_) => Err(BadDocument::Memory),

@@ -5,14 +5,15 @@ use Rattle.std.proofs.lemmas.Nat.{mul-le}
 use Rattle.std.proofs.lemmas.List.FromFn.{length-map-range_with_len, map-range_with_len_more, sum_by-map-range_with_len_more}
 use Rattle.std.proofs.lemmas.List.Elements.{All-push}
 use Rattle.std.proofs.lemmas.List.Folds.{list_any-append}
-use Rattle.std.specs.List.{All, list_any, range_with_len, sum_by}
+use Rattle.std.specs.List.{All, list_all, list_any, range_with_len, sum_by}
 use Rattle.sercos_idn.specs.Attributes.{attribute_of}
 use Rattle.sercos_idn.specs.Codes.{is_list, attribute_fault}
 use Rattle.sercos_timing.specs.Valid.{is_rate, is_cycle, is_control}
-use Rattle.sercos_step.specs.Jobs.{IsJob, AreJobs}
+use Rattle.sercos_step.specs.Jobs.{IsJob, AreJobs, IsTypedRequest, AreTypedJobs}
 use Rattle.sercos_block.specs.Views.{DriveView}
 use Rattle.sercos_block.specs.Blocks.{number_end}
 use Rattle.sercos_block.specs.Rules.{block_fault, blocks_fault}
+use Rattle.sercos_block.specs.Stores.{is_typed, IsTyped}
 use Rattle.sercos_block.specs.Startup.{startup_of}
 use Rattle.sercos_block.specs.Rings.{attribute_in, row_in, built_in_attribute, own_attribute, block_attribute, cyclic_len, listed_len, is_ring, are_ring_numbers, has_drives, mdt_len, record_len, is_drive, are_drives, has_address, has_other_data, are_drive_numbers, has_drive_numbers, are_times, has_blocks, are_cyclic, is_order}
 use Rattle.sercos_config.specs.Ring.{places_below}
@@ -192,7 +193,25 @@ faults_valid n = each_is (λ f. 1 ≤ f.every) (generated_fault n) n (λ k i j. 
     one : 1 ≤ 1
     one = omega arith
 
+-- the numbers of drives and requests
+blocks_typed : (k : ℕ) → list_all is_typed (generated_drive k).blocks ≡ true
+unfolding is_typed attribute_of generated_drive
+blocks_typed k = refl
+
+drive_typed : (k : ℕ) → IsTyped (generated_drive k)
+unfolding generated_drive
+drive_typed k = record { blocks = blocks_typed k; at = omega arith; mdt = omega arith }
+
+job_typed : (k : ℕ) → IsTypedRequest (generated_job k).request
+unfolding generated_job
+job_typed k = (omega arith, (omega arith, omega arith))
+
 -- the document
+pub document_is_typed : (n : ℕ) (d : DocumentView) → d ≡ generated n → All IsTyped d.setup.drives × AreTypedJobs d.jobs
+unfolding generated generated_ring
+document_is_typed n d e = subst (λ (d : DocumentView). All IsTyped d.setup.drives × AreTypedJobs d.jobs) (sym e)
+    (each_is IsTyped generated_drive n (λ k i j. drive_typed k), each_is (λ job. IsTypedRequest job.request) generated_job n (λ k i j. job_typed k))
+
 pub document_has_ring : (n : ℕ) (d : DocumentView) → 1 ≤ n → n ≤ 64 → d ≡ generated n → is_ring d.setup ≡ true
 unfolding generated
 document_has_ring n d h j e = subst (λ (d : DocumentView). is_ring d.setup ≡ true) (sym e) (ring_valid n h j)

@@ -1,9 +1,11 @@
 // The data blocks of a drive.
-ghost use Rattle.std.specs.Prelude.{◌≡◌, ◌<◌, ◌≤◌, ◌^◌, true, None, Some, [], ◌==◌, ◌&&◌, ◌||◌, not, is_none, length, map, IfOk};
+ghost use Rattle.std.specs.Prelude.{◌≡◌, ◌<◌, ◌≤◌, ◌^◌, true, None, Some, [], ◌==◌, ◌&&◌, ◌||◌, not, is_none, length, map, IfOk, IfSome};
+ghost use Rattle.std.specs.List.{list_all};
 ghost use Rattle.toml.specs.View.{table_view};
 ghost use Rattle.sercos_block.specs.Blocks.{is_number};
 ghost use Rattle.sercos_block.specs.BuiltIns.{is_built_in};
 ghost use Rattle.sercos_block.specs.Rules.{has_block, is_text, block_fault, blocks_fault};
+ghost use Rattle.sercos_block.specs.Stores.{is_typed};
 ghost use Rattle.sercos_document.specs.Paths.{path};
 ghost use Rattle.sercos_document.specs.Answers.{Gives, Shows};
 ghost use Rattle.sercos_document.specs.Tables.{known};
@@ -28,6 +30,7 @@ pub(crate) fn read_blocks(
 ) -> Result<Vec<Block>, BadDocument>
     ensures value { Shows (λ v. v.items) result (blocks_onto drive [] (map (λ t. table_view t.now) tables.now)) }
     ensures valid { IfOk result (λ v. blocks_fault [] v.items ≡ None) }
+    ensures typed { IfOk result (λ v. list_all is_typed v.items ≡ true) }
     ensures count { IfOk result (λ v. length v.items ≡ length tables.now) }
 {
     let Ok(mut blocks) = Vec::with_capacity(alloc, tables.len()) else {
@@ -50,6 +53,7 @@ pub(crate) fn read_blocks(
 fn read_block(keys: &Keys<'_>, before: &[Block]) -> Result<Block, BadDocument>
     ensures value { Gives result (block_of before.now (located keys.now)) }
     ensures valid { IfOk result (λ b. block_fault before.now b ≡ None) }
+    ensures typed { IfOk result (λ b. is_typed b ≡ true) }
 {
     known(keys)?;
     let idn = read_idn(keys, "idn")?;
@@ -102,7 +106,8 @@ fn known(keys: &Keys<'_>) -> Result<(), BadDocument>
 /// The identifier number that a text spells.
 #[tactic(auto, unfolding(crate::specs::Block::idn_of))]
 pub(crate) fn idn_of(text: &str) -> Option<Idn>
-    ensures { result ≡ idn_of text.now }
+    ensures value { result ≡ idn_of text.now }
+    ensures typed { IfSome result (λ idn. idn.raw < 65536) }
 {
     match Idn::parse(text) {
         Ok(idn) => Some(idn),
@@ -113,7 +118,8 @@ pub(crate) fn idn_of(text: &str) -> Option<Idn>
 /// The identifier number of the text under a key.
 #[tactic(auto, unfolding(crate::specs::Block::idn_in, crate::specs::Block::idn_under))]
 pub(crate) fn read_idn(keys: &Keys<'_>, key: &str) -> Result<Idn, BadDocument>
-    ensures { Gives result (idn_under (located keys.now) key.now) }
+    ensures value { Gives result (idn_under (located keys.now) key.now) }
+    ensures typed { IfOk result (λ idn. idn.raw < 65536) }
 {
     let text = keys.required_text(key)?;
     match idn_of(text) {
@@ -134,7 +140,8 @@ fn is_taken(idn: Idn, blocks: &[Block]) -> bool
 // Returns the attribute whose word is under its key.
 #[tactic(auto, unfolding(crate::specs::Block::attribute_under))]
 fn read_attribute(keys: &Keys<'_>) -> Result<Attribute, BadDocument>
-    ensures { Gives result (attribute_under (located keys.now)) }
+    ensures value { Gives result (attribute_under (located keys.now)) }
+    ensures typed { IfOk result (λ attribute. attribute.factor < 65536) }
 {
     let word = keys.number("attribute", 0, u32::MAX)?;
     match attribute_in(word) {

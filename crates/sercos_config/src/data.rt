@@ -2,6 +2,7 @@
 ghost use Rattle.std.specs.Prelude.{◌≡◌, ◌≤◌, ◌<◌, ◌/◌, ◌%◌, ◌==◌, true, false, length, IfOk, IfSome};
 ghost use Rattle.std.specs.Result.{result_ok};
 ghost use Rattle.hex.specs.Hex.{decode_of};
+ghost use Rattle.sercos_model.specs.Bits.{AreBytes};
 ghost use Rattle.sercos_idn.specs.Codes.{is_list, item_len};
 ghost use Rattle.sercos_block.specs.Blocks.{is_signed, number_end};
 ghost use Rattle.sercos_block.specs.Rules.{is_limit, is_max_len};
@@ -105,6 +106,7 @@ pub(crate) fn decoded(digits: &[u8]) -> Option<Text>
     requires { length digits.now ≤ 2048 }
     ensures value { result ≡ result_ok (decode_of digits.now) }
     ensures count { IfSome result (λ bytes. length bytes ≡ length digits.now / 2) }
+    ensures typed { IfSome result AreBytes }
 {
     let mut bytes = [0u8; MOST_DATA as usize];
     let room = &mut bytes[..digits.len() / 2];
@@ -117,7 +119,8 @@ pub(crate) fn decoded(digits: &[u8]) -> Option<Text>
 // A text of its own.
 pub(crate) fn text_of(bytes: &[u8]) -> Text
     requires { length bytes.now ≤ 1024 }
-    ensures { result ≡ bytes.now }
+    ensures value { result ≡ bytes.now }
+    ensures typed { AreBytes result }
 {
     let mut text = Text::new();
     text.assign(bytes);
@@ -131,6 +134,7 @@ fn list_bytes(most: u16, attribute: Attribute, text: &[u8]) -> Option<Text>
     ensures value { result ≡ list_bytes most attribute text.now }
     ensures count { IfSome result (λ bytes. length bytes ≤ most) }
     ensures whole { IfSome result (λ bytes. length bytes % item_len attribute.length ≡ 0) }
+    ensures typed { IfSome result AreBytes }
 {
     let item = attribute.length.item_len();
     if text.len() <= 2 * usize::from(most) && text.len() % (2 * item) == 0 {
@@ -147,6 +151,7 @@ fn read_list_data(keys: &Keys<'_>, most: u16, attribute: Attribute) -> Result<Te
     requires list { is_list attribute.length ≡ true }
     ensures value { Gives result (list_data most attribute (located keys.now)) }
     ensures valid { IfOk result (λ bytes. fits_data most attribute bytes ≡ true) }
+    ensures typed { IfOk result AreBytes }
 {
     match keys.text("data")? {
         None => Ok(Text::new()),
@@ -175,6 +180,7 @@ fn read_number_data(keys: &Keys<'_>, attribute: Attribute) -> Result<Text, BadDo
     requires { is_list attribute.length ≡ false }
     ensures value { Gives result (number_data attribute (located keys.now)) }
     ensures valid { IfOk result (λ bytes. fits_data 0 attribute bytes ≡ true) }
+    ensures typed { IfOk result AreBytes }
 {
     match keys.integer("data")? {
         None => Ok(bytes_for(attribute, 0)),
@@ -210,6 +216,7 @@ pub(crate) fn read_data(
     requires { is_max_len attribute most ≡ true }
     ensures value { Gives result (data_of most attribute (located keys.now)) }
     ensures valid { IfOk result (λ bytes. fits_data most attribute bytes ≡ true) }
+    ensures typed { IfOk result AreBytes }
 {
     if attribute.length.is_list() {
         read_list_data(keys, most, attribute)

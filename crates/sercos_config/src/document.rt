@@ -3,7 +3,8 @@ ghost use Rattle.std.specs.Prelude.{◌≡◌, ◌≤◌, true, length, map, IfO
 ghost use Rattle.std.specs.List.{All};
 ghost use Rattle.toml.specs.View.{table_view};
 ghost use Rattle.sercos_block.specs.Rings.{has_address, has_other_data, is_ring};
-ghost use Rattle.sercos_step.specs.Jobs.{AreJobs};
+ghost use Rattle.sercos_block.specs.Stores.{IsTyped};
+ghost use Rattle.sercos_step.specs.Jobs.{AreJobs, AreTypedJobs};
 ghost use Rattle.sercos_document.specs.Answers.{Gives};
 ghost use Rattle.sercos_document.specs.Tables.{known};
 ghost use Rattle.sercos_document.specs.Located.{located};
@@ -43,7 +44,7 @@ impl Model for Document {
 
 /// Reads a ring document (this profile), which is a TOML text of bytes in UTF-8. The error is its first refusal, or
 /// `Memory`. The result is a valid ring, jobs that a master of it may be opened with, and faults whose `every` is at least
-/// 1.
+/// 1; their numbers are those of their types.
 ///
 /// The tables are checked in this order: the top one, `ring`, each `drive` in turn with its `block` tables right after its
 /// own keys, each `request`, each `fault`. In each, unknown keys come first, and the least of them in the order of bytes is
@@ -56,6 +57,7 @@ pub fn read_ring(alloc: Global, bytes: &[u8]) -> Result<Document, BadDocument>
     ensures jobs { IfOk result (λ d.
         AreJobs (λ address. has_address address d.setup.drives) (λ address raw. has_other_data address raw d.setup.drives) d.jobs) }
     ensures faults { IfOk result (λ d. All (λ f. 1 ≤ f.every) d.faults) }
+    ensures typed { IfOk result (λ d. All IsTyped d.setup.drives × AreTypedJobs d.jobs) }
 {
     let Ok(text) = std::str::from_utf8(bytes) else {
         return Err(BadDocument::Toml);
@@ -75,6 +77,7 @@ fn read_table(alloc: Global, table: &Table) -> Result<Document, BadDocument>
     ensures jobs { IfOk result (λ d.
         AreJobs (λ address. has_address address d.setup.drives) (λ address raw. has_other_data address raw d.setup.drives) d.jobs) }
     ensures faults { IfOk result (λ d. All (λ f. 1 ≤ f.every) d.faults) }
+    ensures typed { IfOk result (λ d. All IsTyped d.setup.drives × AreTypedJobs d.jobs) }
 {
     let keys = Keys {
         alloc,
@@ -111,6 +114,7 @@ fn read_setup(alloc: Global, ring: &Table, tables: &[&Table]) -> Result<RingSetu
     ensures value { Gives result (ring_of (table_view ring.now) (map (λ t. table_view t.now) tables.now)) }
     ensures valid { IfOk result (λ ring. is_ring ring ≡ true) }
     ensures drives { IfOk result (λ ring. length ring.drives ≤ 64) }
+    ensures typed { IfOk result (λ ring. All IsTyped ring.drives) }
 {
     let top = Keys {
         alloc,

@@ -1,7 +1,9 @@
 // The drives of a ring.
 ghost use Rattle.std.specs.Prelude.{◌≡◌, ◌≤◌, true, false, [], length, map, IfOk};
+ghost use Rattle.std.specs.List.{All};
 ghost use Rattle.toml.specs.View.{table_view, items_view};
 ghost use Rattle.sercos_block.specs.Rings.{is_cyclic, are_cyclic, are_times, are_drive_numbers, has_address, are_drives, is_drive};
+ghost use Rattle.sercos_block.specs.Stores.{IsTyped};
 ghost use Rattle.sercos_document.specs.Paths.{item_path};
 ghost use Rattle.sercos_document.specs.Answers.{Gives, Shows};
 ghost use Rattle.sercos_document.specs.Tables.{known};
@@ -28,6 +30,7 @@ use toml::{Table, Value};
 pub(crate) fn read_drives(alloc: Global, tables: &[&Table]) -> Result<Vec<DriveSetup>, BadDocument>
     ensures value { Shows (λ v. v.items) result (drives_onto [] (map (λ t. table_view t.now) tables.now)) }
     ensures valid { IfOk result (λ v. are_drives [] v.items ≡ true) }
+    ensures typed { IfOk result (λ v. All IsTyped v.items) }
     ensures count { IfOk result (λ v. length v.items ≡ length tables.now) }
 {
     let Ok(mut drives) = Vec::with_capacity(alloc, tables.len()) else {
@@ -62,6 +65,7 @@ struct DriveNumbers {
 fn read_drive(keys: &Keys<'_>, before: &[DriveSetup]) -> Result<DriveSetup, BadDocument>
     ensures value { Gives result (drive_of before.now (located keys.now)) }
     ensures valid { IfOk result (λ d. is_drive before.now d ≡ true) }
+    ensures typed { IfOk result IsTyped }
 {
     known(keys)?;
     let numbers = read_numbers(keys, before)?;
@@ -183,6 +187,7 @@ fn read_idns(
     ensures value { Shows (λ v. v.items) result
         (idns_of blocks.now keys.now.place key.now (items_view items.now)) }
     ensures valid { IfOk result (λ v. are_cyclic blocks.now v.items ≡ true) }
+    ensures few { IfOk result (λ v. length v.items ≤ 16) }
 {
     let texts = keys.texts(key, items)?;
     read_texts(keys, blocks, key, texts.as_slice())
@@ -200,6 +205,7 @@ fn read_texts(
     ensures value { Shows (λ v. v.items) result
         (idns_onto blocks.now keys.now.place key.now [] (map (λ t. t.now) texts.now)) }
     ensures valid { IfOk result (λ v. are_cyclic blocks.now v.items ≡ true) }
+    ensures few { IfOk result (λ v. length v.items ≤ 16) }
 {
     let mut idns = ArrayVec::new();
     for text in texts {

@@ -6,7 +6,8 @@ ghost use Rattle.sercos_idn.specs.Codes.{is_list};
 ghost use Rattle.sercos_block.specs.Blocks.{number_end};
 ghost use Rattle.sercos_block.specs.Rings.{has_address, has_other_data, is_ring};
 ghost use Rattle.sercos_block.specs.Startup.{startup_of};
-ghost use Rattle.sercos_step.specs.Jobs.{AreJobs};
+ghost use Rattle.sercos_block.specs.Stores.{IsTyped};
+ghost use Rattle.sercos_step.specs.Jobs.{AreJobs, AreTypedJobs};
 ghost use Rattle.sercos_config.specs.Generated.{position_command, position_feedback, position_block, generated_times, generated_drive, generated_job, generated_fault, generated_ring, generated_cycles, generated};
 
 use crate::document::Document;
@@ -270,6 +271,7 @@ pub fn generate(alloc: Global, n: u8) -> Result<Document, AllocError>
     ensures jobs { IfOk result (λ d.
         AreJobs (λ address. has_address address d.setup.drives) (λ address raw. has_other_data address raw d.setup.drives) d.jobs) }
     ensures faults { IfOk result (λ d. All (λ f. 1 ≤ f.every) d.faults) }
+    ensures typed { IfOk result (λ d. All IsTyped d.setup.drives × AreTypedJobs d.jobs) }
 {
     document_for(alloc, n)
 }

@@ -1,10 +1,11 @@
 // The requests of a document.
-ghost use Rattle.std.specs.Prelude.{◌≡◌, ◌≤◌, [], length, map, IfOk};
+ghost use Rattle.std.specs.Prelude.{◌≡◌, ◌<◌, ◌≤◌, [], length, map, IfOk, IfSome};
 ghost use Rattle.std.specs.List.{All};
 ghost use Rattle.toml.specs.View.{table_view};
+ghost use Rattle.sercos_model.specs.Bits.{AreBytes};
 ghost use Rattle.sercos_block.specs.Rings.{has_address, has_other_data};
 ghost use Rattle.sercos_step.specs.Steps.{IsRequest};
-ghost use Rattle.sercos_step.specs.Jobs.{IsCommand, IsJob};
+ghost use Rattle.sercos_step.specs.Jobs.{IsCommand, IsJob, IsTypedRequest, AreTypedJobs};
 ghost use Rattle.sercos_document.specs.Answers.{Gives, Shows};
 ghost use Rattle.sercos_document.specs.Tables.{known};
 ghost use Rattle.sercos_document.specs.Located.{located};
@@ -41,6 +42,7 @@ pub(crate) fn read_requests(
     ensures value { Shows (λ v. v.items) result (requests_onto drives.now [] (map (λ t. table_view t.now) tables.now)) }
     ensures valid { IfOk result (λ v.
         All (IsJob (λ address. has_address address drives.now) (λ address raw. has_other_data address raw drives.now)) v.items) }
+    ensures typed { IfOk result (λ v. AreTypedJobs v.items) }
     ensures count { IfOk result (λ v. length v.items ≡ length tables.now) }
 {
     let Ok(mut jobs) = Vec::with_capacity(alloc, tables.len()) else {
@@ -64,6 +66,7 @@ fn read_request(keys: &Keys<'_>, drives: &[DriveSetup]) -> Result<Job, BadDocume
     ensures value { Gives result (request_of drives.now (located keys.now)) }
     ensures valid { IfOk result
         (IsJob (λ address. has_address address drives.now) (λ address raw. has_other_data address raw drives.now)) }
+    ensures typed { IfOk result (λ job. IsTypedRequest job.request) }
 {
     known(keys, glimpsed_kind(keys, "kind"))?;
     let drive = read_address(keys, drives, "drive")?;
@@ -160,8 +163,10 @@ fn read_asked(
     kind: RequestKind,
     idn: Idn,
 ) -> Result<Request, BadDocument>
+    requires { idn.raw < 65536 }
     ensures value { Gives result (asked_of drives.now address kind idn (located keys.now)) }
     ensures element { IfOk result IsRequest }
+    ensures typed { IfOk result IsTypedRequest }
     ensures command { IfOk result (IsCommand (λ raw. has_other_data address raw drives.now)) }
 {
     match kind {
@@ -178,8 +183,10 @@ fn read_read(
     address: u8,
     idn: Idn,
 ) -> Result<Request, BadDocument>
+    requires { idn.raw < 65536 }
     ensures value { Gives result (asked_of drives.now address RequestKind.Read idn (located keys.now)) }
     ensures element { IfOk result IsRequest }
+    ensures typed { IfOk result IsTypedRequest }
     ensures command { IfOk result (IsCommand (λ raw. has_other_data address raw drives.now)) }
 {
     let element = keys.number_or("element", 1, 7, 7)?;
@@ -196,8 +203,10 @@ fn read_write(
     address: u8,
     idn: Idn,
 ) -> Result<Request, BadDocument>
+    requires { idn.raw < 65536 }
     ensures value { Gives result (asked_of drives.now address RequestKind.Write idn (located keys.now)) }
     ensures element { IfOk result IsRequest }
+    ensures typed { IfOk result IsTypedRequest }
     ensures command { IfOk result (IsCommand (λ raw. has_other_data address raw drives.now)) }
 {
     let element = keys.number_or("element", 2, 7, 7)?;
@@ -216,8 +225,10 @@ fn read_command(
     address: u8,
     idn: Idn,
 ) -> Result<Request, BadDocument>
+    requires { idn.raw < 65536 }
     ensures value { Gives result (asked_of drives.now address RequestKind.Command idn (located keys.now)) }
     ensures element { IfOk result IsRequest }
+    ensures typed { IfOk result IsTypedRequest }
     ensures command { IfOk result (IsCommand (λ raw. has_other_data address raw drives.now)) }
 {
     let other = has_other_data(address, idn, drives);
@@ -228,7 +239,8 @@ fn read_command(
 // What is written.
 #[tactic(auto, unfolding(crate::specs::Request::bytes_under))]
 fn read_bytes(keys: &Keys<'_>, key: &str) -> Result<Bytes, BadDocument>
-    ensures { Gives result (bytes_under (located keys.now) key.now) }
+    ensures value { Gives result (bytes_under (located keys.now) key.now) }
+    ensures typed { IfOk result (λ bytes. AreBytes bytes × (length bytes < 65536)) }
 {
     let text = keys.required_text(key)?;
     match bytes_spelled(text.as_bytes()) {
@@ -240,7 +252,8 @@ fn read_bytes(keys: &Keys<'_>, key: &str) -> Result<Bytes, BadDocument>
 // The bytes that digits spell.
 #[tactic(auto, unfolding(crate::specs::Request::bytes_spelled))]
 fn bytes_spelled(digits: &[u8]) -> Option<Bytes>
-    ensures { result ≡ bytes_spelled digits.now }
+    ensures value { result ≡ bytes_spelled digits.now }
+    ensures typed { IfSome result (λ bytes. AreBytes bytes × (length bytes < 65536)) }
 {
     if digits.len() <= 2 * usize::from(MOST_DATA) {
         decoded(digits)

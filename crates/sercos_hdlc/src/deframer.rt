@@ -364,11 +364,8 @@ impl Deframer {
         ensures count { IfOk result (λ count. count ≡ length out.new) }
         ensures empty { OnErr result (out.new ≡ []) }
     {
-        let answer = read_frame(&self.scan, &self.kept, out);
-        if answer.is_err() {
-            out.clear();
-        }
-        answer
+        out.clear();
+        read_frame(&self.scan, &self.kept, out)
     }
 
     /// Replaces the content by that of the frame that the bits so far are, and returns its number of bytes, as
@@ -389,4 +386,21 @@ impl Deframer {
         self.restart();
         answer
     }
+}
+
+/// Replaces the content by that of the frame that the bits are, from the first bit of one flag to the last bit of the next, and
+/// returns its number of bytes, 1 to 2048. If the bits are not a frame, the error is the first rule that applies (see
+/// [`BadFrame`]), and the content is left empty.
+pub fn unframe(bits: &BitBuf, out: &mut Content) -> Result<usize, BadFrame>
+    ensures frame { OnOk result (IsFrame out.new bits.now) }
+    ensures only { (content : List ℕ) → IsFrame content bits.now
+        → (result ≡ Ok (length content)) × (out.new ≡ content) }
+    ensures length { IfOk result (λ count. count ≡ length out.new) }
+    ensures content { OnOk result (out.new ≡ content_of (plain bits.now)) }
+    ensures reason { result_err result ≡ reason_of bits.now }
+    ensures empty { OnErr result (out.new ≡ []) }
+{
+    let mut deframer = Deframer::new();
+    deframer.feed(bits);
+    deframer.finish(out)
 }

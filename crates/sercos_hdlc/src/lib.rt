@@ -16,6 +16,6 @@ mod stuffing;
 mod tables;
 
 pub use bad_frame::BadFrame;
-pub use deframer::Deframer;
+pub use deframer::{Deframer, unframe};
 pub use framing::{TooLong, frame, frame_len, framing_law};
-pub use reading::{frame_law, unframe};
+pub use reading::frame_law;

@@ -7,7 +7,6 @@ ghost use Rattle.sercos_hdlc.specs.Scanned.{IsScan};
 ghost use Rattle.sercos_hdlc.specs.Held.{IsKept};
 
 use crate::bad_frame::BadFrame;
-use crate::deframer::Deframer;
 use crate::kept::Kept;
 use crate::scan::Scan;
 use sercos_bits::{BitBuf, Content, byte_at, fcs};
@@ -63,51 +62,32 @@ fn test_check(found: u16, wanted: u16) -> Result<(), BadFrame>
     }
 }
 
-// Replaces the content by that of the bytes between two flags. After a refusal the content is what was read.
-fn take_content(bytes: &[u8], out: &mut Content) -> Result<usize, BadFrame>
+// Returns the content of the bytes between two flags, which are at most 2050.
+fn content_in(bytes: &[u8]) -> Result<&[u8], BadFrame>
     requires { length bytes.now ≤ 2050 }
     ensures reason { 2 ≤ length bytes.now → result_err result ≡ check_differs (bits_of bytes.now) }
-    ensures content { 2 ≤ length bytes.now → OnOk result (out.new ≡ content_of (bits_of bytes.now)) }
-    ensures count { IfOk result (λ count. count ≡ length out.new) }
+    ensures content { 2 ≤ length bytes.now → IfOk result (λ content. content.now ≡ content_of (bits_of bytes.now)) }
+    ensures few { IfOk result (λ content. length content.now ≤ 2048) }
 {
-    let split = bytes.len().saturating_sub(CHECK_BYTES);
-    let content = &bytes[..split];
-    out.assign(content);
+    let content = &bytes[..bytes.len().saturating_sub(CHECK_BYTES)];
     test_check(check_in(bytes), fcs(content))?;
-    Ok(split)
+    Ok(content)
 }
 
-// Replaces the content by that of the frame that was taken. After a refusal the content is what was read so far.
+// Replaces the content by that of the frame that was taken. After a refusal it is as it was.
 pub fn read_frame(scan: &Scan, kept: &Kept, out: &mut Content) -> Result<usize, BadFrame>
     ensures reason { (bits plain : List Bool) → IsScan bits plain scan.now → IsKept plain kept.now → result_err result ≡ reason_of bits }
     ensures content { (bits given : List Bool) → IsScan bits given scan.now → IsKept given kept.now
         → OnOk result (out.new ≡ content_of (plain bits)) }
     ensures count { IfOk result (λ count. count ≡ length out.new) }
+    ensures same { OnErr result (out.new ≡ out.old) }
 {
     let len = scan.between()?;
     test_size(len)?;
-    let count = take_content(kept.bytes.as_slice(), out)?;
+    let content = content_in(kept.bytes.as_slice())?;
     scan.test_end()?;
-    Ok(count)
-}
-
-/// Replaces the content by that of the frame that the bits are, from the first bit of one flag to the last bit of the next, and
-/// returns its number of bytes, 1 to 2048. If the bits are not a frame, the error is the first rule that applies (see
-/// [`BadFrame`]), and the content is left empty.
-pub fn unframe(bits: &BitBuf, out: &mut Content) -> Result<usize, BadFrame>
-    ensures frame { OnOk result (IsFrame out.new bits.now) }
-    ensures only { (content : List ℕ) → IsFrame content bits.now
-        → (result ≡ Ok (length content)) × (out.new ≡ content) }
-    ensures length { IfOk result (λ count. count ≡ length out.new) }
-    ensures content { OnOk result (out.new ≡ content_of (plain bits.now)) }
-    ensures reason { result_err result ≡ reason_of bits.now }
-    ensures empty { OnErr result (out.new ≡ []) }
-{
-    // Its length implies that there is room for all bits.
-    let _len = bits.len();
-    let mut deframer = Deframer::new();
-    deframer.feed(bits);
-    deframer.finish(out)
+    out.assign(content);
+    Ok(content.len())
 }
 
 /// No rule applies iff the bits are a frame, and they are that of one content alone.

@@ -67,7 +67,7 @@ pub use Rattle.sercos_block.specs.BuiltIns.{built_in_block, built_ins, is_built_
 pub use Rattle.sercos_block.specs.Rings.{HasLens, are_cyclic, are_times, attribute_in, block_attribute, cyclic_len, has_address, has_blocks, has_drive_numbers, has_ring_numbers, is_no_command, is_order, is_ring, number_len, record_len, row_in, value_len, wish_of, wishes_of}
 pub use Rattle.sercos_block.specs.Rules.{block_fault, blocks_fault, has_block, is_printable, is_text}
 pub use Rattle.sercos_block.specs.Startup.{startup_bound, startup_of}
-pub use Rattle.sercos_block.specs.Stores.{IsStore, are_ascending, data_fault, find_block, is_above, is_below, is_invalid, is_len, is_long, is_short, is_sound, is_typed, put_fault, read_fault, store_of, with_data, with_own, with_value, write_fault}
+pub use Rattle.sercos_block.specs.Stores.{IsStore, are_ascending, data_fault, find_block, is_above, is_below, is_invalid, is_len, is_long, is_short, is_sound, is_typed, put_fault, read_fault, store_of, with_data, with_own, with_value, write_fault, IsTyped}
 pub use Rattle.sercos_block.specs.ValidRings.{IsRing}
 pub use Rattle.sercos_block.specs.Views.{DriveView, RingView}
 pub use Rattle.sercos_block.specs.declared.block.Block.{Block}
@@ -88,7 +88,7 @@ pub use Rattle.sercos_step.proofs.AnswerCounts.{times_le}
 pub use Rattle.sercos_step.proofs.Ends.{has_next, read_ends, write_ends}
 pub use Rattle.sercos_step.proofs.Flags.{and_left, and_right}
 pub use Rattle.sercos_step.proofs.WrittenWords.{length-at_least_one, length-words_of}
-pub use Rattle.sercos_step.specs.Jobs.{AreJobs, IsJob}
+pub use Rattle.sercos_step.specs.Jobs.{AreJobs, IsJob, AreTypedJobs, IsTypedRequest}
 pub use Rattle.sercos_step.specs.Steps.{a_step, answer_words, asks_attribute, attribute_then, is_whole, next_step, opening, outcome_of, polling, reading, result_of, run, steps_before, steps_of, writing}
 pub use Rattle.sercos_step.specs.Words.{at_least_one, bytes_in, shape_by, shape_of, words_in_list, words_of, words_told}
 pub use Rattle.sercos_step.specs.declared.request.Job.{Job}
@@ -266,7 +266,7 @@ pub use Rattle.sercos_law_run.specs.Totals.Totals.{ended_in, falls_in, is_broken
 pub use Rattle.sercos_law_run.specs.Typed.Clear.{HarmlessIsClear}
 pub use Rattle.sercos_law_run.specs.Typed.Keeps.{AreRecords, IsRecord, Keeps, KeepsAlways, KeepsWithin}
 pub use Rattle.sercos_law_run.specs.Typed.Spelled.{SpelledNext}
-pub use Rattle.sercos_law_run.specs.Typed.Typed.{AreTyped, AreTypedJobs, IsTyped, IsTypedRequest}
+pub use Rattle.sercos_law_run.specs.Typed.Typed.{AreTyped}
 pub use Rattle.sercos_law_run.specs.Undisturbed.CommandsFollow.{CommandsFollow, LogLeaves, commands_before, commands_ended}
 pub use Rattle.sercos_law_run.specs.Undisturbed.Ends.{ComesToAnEnd, ComesToPhaseFour, HasBadCheck, StaysAtItsEnd}
 pub use Rattle.sercos_law_run.specs.Undisturbed.EpochStarts.{StartsAtFall, StartsAtOpening, StartsAtRestart, StartsEpoch, came_back}

@@ -150,7 +150,7 @@ pub use Rattle.sercos_law_run.specs.Start.RingSlots.{held_by}
 pub use Rattle.sercos_law_run.specs.Start.StartUp.{Holds, start_up}
 pub use Rattle.sercos_law_run.specs.Totals.Counting.{with_cycle}
 pub use Rattle.sercos_law_run.specs.Totals.Totals.{ended, falls_in, is_broken, is_complete, is_refused, totals_of}
-pub use Rattle.sercos_law_run.specs.Typed.Typed.{IsTypedRequest}
+pub use Rattle.sercos_step.specs.Jobs.{IsTypedRequest}
 pub use Rattle.sercos_law_run.specs.Undisturbed.Reports.{HaveTold, request_cycles}
 pub use Rattle.sercos_law_run.specs.Undisturbed.StopsLater.{IsRight}
 pub use Rattle.sercos_law_run.specs.Undisturbed.WholeRuns.{NeverDisturbed, StartsUp}

@@ -16,7 +16,7 @@ use sercos_block::{RingSetup, cycles_of, drives_of};
 use sercos_config::{BadDocument, Document, read_ring};
 use sercos_law_run::{run_law, totals_law};
 use sercos_law_trace::clean_law;
-use sercos_opened::{kept_law, show_opened};
+use sercos_opened::kept_law;
 use sercos_ring::{Ring, no_totals};
 use sercos_script::{BitLink, Scripted};
 use sercos_step::Job;
@@ -97,7 +97,6 @@ fn open_part(alloc: Global, number: u8, bytes: &[u8]) -> Result<Part<Scripted>, 
     clean_law();
     match read_ring(alloc, bytes) {
         Ok(document) => {
-            show_opened(&document);
             prove!(cycles_of(&document.setup) >= 1);
             match open_document(alloc, number, document) {
                 Ok(part) => Ok(part),

@@ -1,6 +1,10 @@
 -- What is kept in the run of a ring, for its number of cycles, and of the ring of a document.
-use Rattle.std.specs.Prelude.{◌≡◌, ℕ, List, ◌∷◌, ◌++◌, length}
+use Rattle.std.specs.Prelude.{◌≡◌, ℕ, true, List, ◌∷◌, ◌++◌, length}
+use Rattle.std.specs.List.{All}
 use Rattle.sercos_step.specs.declared.request.Job.{Job}
+use Rattle.sercos_step.specs.Jobs.{AreJobs, AreTypedJobs}
+use Rattle.sercos_block.specs.Rings.{has_address, has_other_data, is_ring}
+use Rattle.sercos_block.specs.Stores.{IsTyped}
 use Rattle.sercos_block.specs.Views.{RingView}
 use Rattle.sercos_script.specs.Links.{Carry, Restarts, carried_by_both, restarts_in_either}
 use Rattle.sercos_script.specs.Scripts.{carried, restarts_at}
@@ -108,6 +112,13 @@ IsDocumentRun carry restarts d = IsKept d.setup d.jobs (carry_under d carry) (re
 
 abbrev pub IsScriptRun : DocumentView → Type 0
 IsScriptRun d = IsKept d.setup d.jobs (script_carry d) (script_restarts d) (script_run d)
+
+-- A ring may be opened with its requests if it is valid, a master of it may be opened with them, and the numbers of both are those of
+-- their types.
+abbrev pub OpensIfTyped : Type 0
+OpensIfTyped = (r : RingView) (jobs : List Job) → is_ring r ≡ true
+    → AreJobs (λ address. has_address address r.drives) (λ address raw. has_other_data address raw r.drives) jobs
+    → All IsTyped r.drives → AreTypedJobs jobs → IsOpened r jobs
 
 -- All this holds of a ring that may be opened with its requests, over any link, and for each number of cycles.
 abbrev pub OpenedIsKept : Type 0

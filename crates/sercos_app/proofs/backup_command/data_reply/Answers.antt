@@ -14,7 +14,7 @@ returns-in-Ok g c =
           (ap saved_answer (c.as_slice-in-Ok.ensures.value ∙ c.in_ok-run-in-Ok.ensures.list) ∙ data_few c.args.setup.now carry restarts c.in-Ok.jobs.items c.in-Ok.ensures.value.1
           ∙ ap (data_answer c.args.setup.now carry restarts) c.in-Ok.ensures.value.0)
           c.saved_reply.ensures.status c.saved_reply.ensures.text;
-      typed = if_ok c.saved_reply.result (typed_few c.as_slice.result.now _ (c.as_slice.ensures.value ∙ c.in-Ok.ensures.value.0) c.show_jobs.ensures);
+      typed = if_ok c.saved_reply.result (typed_few c.as_slice.result.now _ (c.as_slice.ensures.value ∙ c.in-Ok.ensures.value.0) c.in-Ok.ensures.typed);
     }
 
 pub returns-in-Err-TooMany : goal.returns-in-Err-TooMany

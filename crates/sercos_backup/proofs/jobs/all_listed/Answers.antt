@@ -6,4 +6,4 @@ use Rattle.sercos_backup.proofs.ListLemmas.{data_requests}
 use Rattle.sercos_backup.proofs.jobs.all_listed.Goals as goal
 
 pub returns-clause-requests : goal.returns-clause-requests
-returns-clause-requests c = subst (All (λ (job : Job). IsRequest job.request)) (sym c.loop-list.invariant) (data_requests _)
+returns-clause-requests c = subst (All (λ (job : Job). IsRequest job.request)) (sym c.loop-list.invariant.0) (data_requests _)

@@ -1,5 +1,5 @@
 use Rattle.std.proofs.lemmas.Result.{IfOk-weaker}
-use Rattle.sercos_config.proofs.GeneratedLemmas.{document_has_ring, document_has_jobs, document_has_faults}
+use Rattle.sercos_config.proofs.GeneratedLemmas.{document_has_ring, document_has_jobs, document_has_faults, document_is_typed}
 use Rattle.sercos_config.proofs.generated.generate.Goals as goal
 
 pub returns-clause-setup : goal.returns-clause-setup
@@ -10,3 +10,6 @@ returns-clause-jobs c = IfOk-weaker _ _ _ (λ d e. document_has_jobs c.args.n d 
 
 pub returns-clause-faults : goal.returns-clause-faults
 returns-clause-faults c = IfOk-weaker _ _ _ (λ d e. document_has_faults c.args.n d e) c.document_for.ensures
+
+pub returns-clause-typed : goal.returns-clause-typed
+returns-clause-typed c = IfOk-weaker _ _ _ (λ d e. document_is_typed c.args.n d e) c.document_for.ensures

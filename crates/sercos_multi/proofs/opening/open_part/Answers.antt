@@ -8,6 +8,6 @@ returns-in-Ok-open_document c = (
   c.in-Ok.document,
   c.in-Ok.ensures.value,
   c.in-Ok-open_document.ensures,
-  ring_run c.kept_law.ensures.kept c.clean_law.ensures.clean c.in-Ok.document c.show_opened.ensures c.in-Ok.ensures.jobs.few
+  ring_run c.kept_law.ensures.kept c.clean_law.ensures.clean c.in-Ok.document (c.kept_law.ensures.opened c.in-Ok.document.setup c.in-Ok.document.jobs c.in-Ok.ensures.setup c.in-Ok.ensures.jobs c.in-Ok.ensures.typed.0 c.in-Ok.ensures.typed.1) c.in-Ok.ensures.jobs.few
       (subst (λ (d : DocumentView). 1 ≤ d.setup.cycles) c.document.view_is (rw (← c.cycles_of.ensures.value) c.cycles_of.ensures.some)),
 )

@@ -1,5 +1,5 @@
 use Rattle.std.proofs.Common.{[]}
-use Rattle.sercos_hdlc.proofs.reading.unframe.Goals as goal
+use Rattle.sercos_hdlc.proofs.deframer.unframe.Goals as goal
 
 pub returns-clause-only : goal.returns-clause-only
 returns-clause-only c = λ content is. c.finish.ensures.only _ content (c.feed.ensures.fed [] c.new-deframer.ensures.fed) is
