@@ -16,7 +16,7 @@ use std::alloc::Global;
 use toml::{Table, Value};
 
 /// A table of a document, and where it is. Each call returns a value or the refusal by the document's rules; the one
-/// other error is `AllocError`.
+/// other error is `Memory`.
 #[derive(Clone, Copy)]
 pub struct Keys<'a> {
     /// What takes memory for lists, and for the paths of refusals.
