@@ -274,7 +274,8 @@ impl<'a> Keys<'a> {
 
 // The least key of a table that isn't one of these.
 fn least_unknown<'t>(keys: &[&str], table: &'t Table) -> Option<&'t String>
-    ensures { option_map (λ k. string_bytes k.now) result ≡ least_unknown (map (λ k. k.now) keys.now) (table_view table.now) }
+    ensures { option_map (λ k. string_bytes k.now) result ≡
+        least_unknown (map (λ k. k.now) keys.now) (table_view table.now) }
 {
     first_unknown(keys, table)
 }
