@@ -71,7 +71,7 @@ pub fn is_text(most: usize, text: &[u8]) -> bool
 }
 
 // Returns whether a name or a unit, which may be absent, is valid.
-fn is_text_or_none(text: &Option<Text>, most: usize) -> bool
+fn is_text_or_none(most: usize, text: &Option<Text>) -> bool
     ensures { result ≡ is_text most text.now }
 {
     match text {
@@ -136,10 +136,10 @@ fn block_fault(before: &[Block], block: &Block) -> Option<Field>
     if is_built_in(block.idn) || has_block(block.idn, before) {
         return Some(Field::Idn);
     }
-    if !is_text_or_none(&block.name, MOST_NAME) {
+    if !is_text_or_none(MOST_NAME, &block.name) {
         return Some(Field::Name);
     }
-    if !is_text_or_none(&block.unit, MOST_UNIT) {
+    if !is_text_or_none(MOST_UNIT, &block.unit) {
         return Some(Field::Unit);
     }
     if !is_limit(&block.attribute, block.min) {
