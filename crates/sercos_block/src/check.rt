@@ -46,7 +46,7 @@ pub struct BadBlock {
 }
 
 /// Returns whether one of the blocks has the identifier number.
-pub fn has_block(blocks: &[Block], idn: Idn) -> bool
+pub fn has_block(idn: Idn, blocks: &[Block]) -> bool
     ensures { result ≡ has_block idn.raw blocks.now }
 {
     blocks.iter().any(|block| block.idn == idn)
@@ -60,7 +60,7 @@ fn are_printable(bytes: &[u8]) -> bool
 }
 
 /// Returns whether a text can be a name or a unit: it has 1 to `most` bytes, all of them printable ASCII (this profile).
-pub fn is_text(text: &[u8], most: usize) -> bool
+pub fn is_text(most: usize, text: &[u8]) -> bool
     ensures value { result ≡ is_text most (Some text.now) }
     ensures short { result ≡ true → length text.now ≤ most }
 {
@@ -71,12 +71,12 @@ pub fn is_text(text: &[u8], most: usize) -> bool
 }
 
 // Returns whether a name or a unit, which may be absent, is valid.
-fn is_text_or_none(text: &Option<Text>, most: usize) -> bool
+fn is_text_or_none(most: usize, text: &Option<Text>) -> bool
     ensures { result ≡ is_text most text.now }
 {
     match text {
         None => true,
-        Some(text) => is_text(text.as_slice(), most),
+        Some(text) => is_text(most, text.as_slice()),
     }
 }
 
@@ -133,13 +133,13 @@ fn is_step(block: &Block) -> bool
 fn block_fault(before: &[Block], block: &Block) -> Option<Field>
     ensures { result ≡ block_fault before.now block.now }
 {
-    if is_built_in(block.idn) || has_block(before, block.idn) {
+    if is_built_in(block.idn) || has_block(block.idn, before) {
         return Some(Field::Idn);
     }
-    if !is_text_or_none(&block.name, MOST_NAME) {
+    if !is_text_or_none(MOST_NAME, &block.name) {
         return Some(Field::Name);
     }
-    if !is_text_or_none(&block.unit, MOST_UNIT) {
+    if !is_text_or_none(MOST_UNIT, &block.unit) {
         return Some(Field::Unit);
     }
     if !is_limit(&block.attribute, block.min) {

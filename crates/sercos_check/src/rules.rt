@@ -66,7 +66,7 @@ fn starts_later(newest: Option<Note>, start: i32) -> bool
     }
 }
 
-// Whether an AT or MDT goes on with the cycle.
+// Returns whether an AT or MDT goes on with the cycle.
 pub fn goes_on(
     command: Option<Command>,
     newest: Option<Note>,
@@ -95,21 +95,21 @@ pub fn keeps_frame(sent: &Sent) -> bool
     0 < len && len <= MAX_CONTENT && sent.bits == frame_bits(&sent.content)
 }
 
-// An AT or MDT of phases 1 and 2.
+// Returns whether the content is that of an AT or MDT of phases 1 and 2.
 fn is_single(sent: &Sent, found: &Found) -> bool
     ensures { (w : WishesView) → found.now ≡ found_for w sent.now → result ≡ is_single w sent.now }
 {
     sent.content.len() == SINGLE_LEN && found.is_drive
 }
 
-// An AT of phases 3 and 4.
+// Returns whether the content is that of an AT of phases 3 and 4.
 fn is_whole_at(sent: &Sent, found: &Found) -> bool
     ensures { (w : WishesView) → found.now ≡ found_for w sent.now → result ≡ is_whole_at w sent.now }
 {
     sent.content.len() == usize::from(found.wish.at_len) + 1 && found.is_drive
 }
 
-// An MDT of phases 3 and 4.
+// Returns whether the content is that of an MDT of phases 3 and 4.
 #[tactic(auto, unfolding(sercos_telegram::specs::Faults::head_fault, sercos_telegram::specs::Spells::all_drives))]
 fn is_joint(w: &Wishes, sent: &Sent) -> bool
     ensures { result ≡ is_joint w.now sent.now }
@@ -159,7 +159,7 @@ pub fn keeps_phase(command: Option<Command>, sent: &Sent) -> bool
     sent.kind != Kind::Mst || is_next_phase(command, byte_at(sent.content.as_slice(), 1))
 }
 
-// When an AT starts.
+// Returns whether an AT starts when it may in this phase.
 fn starts_at(w: &Wishes, phase: u8, sent: &Sent, found: &Found) -> bool
     requires kind { sent.now.kind ≡ Kind.At }
     requires found { found.now ≡ found_for w.now sent.now }
@@ -185,25 +185,28 @@ pub fn keeps_start(w: &Wishes, phase: u8, sent: &Sent, found: &Found) -> bool
     }
 }
 
-// An AT or MDT of phases 3 and 4.
+// Returns whether a telegram of this kind is an AT or MDT of phases 3 and 4.
 fn is_cyclic(phase: u8, kind: Kind) -> bool
     ensures { result ≡ is_cyclic phase kind }
 {
     CYCLIC_PHASE <= phase && kind != Kind::Mst
 }
 
+// Returns whether a telegram of this kind is an AT of phases 3 and 4.
 pub fn is_cyclic_at(phase: u8, kind: Kind) -> bool
     ensures { result ≡ is_cyclic_at phase kind }
 {
     CYCLIC_PHASE <= phase && kind == Kind::At
 }
 
+// Returns whether a telegram of this kind is an MDT of phases 3 and 4.
 pub fn is_cyclic_mdt(phase: u8, kind: Kind) -> bool
     ensures { result ≡ is_cyclic_mdt phase kind }
 {
     CYCLIC_PHASE <= phase && kind == Kind::Mdt
 }
 
+// Returns whether both telegrams are ATs of the same slave.
 fn is_same_sender(sender: Option<u8>, next: Option<u8>) -> bool
     ensures { result ≡ is_same_sender sender next }
 {
@@ -213,7 +216,7 @@ fn is_same_sender(sender: Option<u8>, next: Option<u8>) -> bool
     }
 }
 
-// The bit times between two telegrams: none between ATs of one slave.
+// Returns the least distance between two telegrams, in bit times: 0 between ATs of one slave, otherwise the gap.
 fn gap_between(w: &Wishes, sender: Option<u8>, next: Option<u8>) -> u32
     ensures { result ≡ gap_between w.now sender next }
 {
@@ -224,6 +227,7 @@ fn gap_between(w: &Wishes, sender: Option<u8>, next: Option<u8>) -> u32
     }
 }
 
+// Returns whether the telegram starts at the least distance from the end of the newest one, or later. If there is none yet, it does.
 fn is_after_gap(w: &Wishes, newest: Option<Note>, sent: &Sent, found: &Found) -> bool
     requires { found.now ≡ found_for w.now sent.now }
     ensures { result ≡ is_after_gap w.now newest sent.now }

@@ -223,8 +223,8 @@ impl Seen {
         }
     }
 
-    // A cycle begins with an MST.
-    fn begin(&mut self, cycle: u32, sent: &Sent, found: &Found)
+    // Notes an MST: a cycle begins with it.
+    fn note_mst(&mut self, cycle: u32, sent: &Sent, found: &Found)
         ensures { (w : WishesView) → found.now ≡ found_for w sent.now → IsBegun self.new w cycle sent.now }
     {
         self.command = Some(Command {
@@ -247,6 +247,7 @@ impl Seen {
         }
     }
 
+    // Notes an AT: its address byte, its mark as the newest of its slave, and when its transition has passed.
     #[tactic(auto, using(crate::proofs::RoundLemmas::marked_now))]
     fn note_at(&mut self, w: &Wishes, sent: &Sent, found: &Found)
         requires { found.now ≡ found_for w.now sent.now }
@@ -265,6 +266,7 @@ impl Seen {
         self.free_at = later(self.free_at, mark.after(bit_times(w, wish.times.tatmt)));
     }
 
+    // Notes an MDT, the last telegram of a cycle.
     fn note_mdt(&mut self, sent: &Sent, found: &Found)
         ensures { (w : WishesView) → found.now ≡ found_for w sent.now → self.new ≡ with_mdt self.old w sent.now }
     {
@@ -279,7 +281,7 @@ impl Seen {
     {
         prove!(address_of(sent) <= 255 && found.wish.slave <= 255);
         match sent.kind {
-            Kind::Mst => self.begin(cycle, sent, found),
+            Kind::Mst => self.note_mst(cycle, sent, found),
             Kind::At => self.note_at(w, sent, found),
             Kind::Mdt => self.note_mdt(sent, found),
         }

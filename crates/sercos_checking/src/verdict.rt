@@ -34,7 +34,8 @@ pub enum Verdict {
     },
 }
 
-/// Returns the verdict that a checker's trouble is.
+/// Returns the verdict that a checker's trouble is. The column is 1 because no single byte is at fault: the line has the form of a
+/// line but can't follow those before it, or it is missing because the head ends early.
 #[tactic(auto, unfolding(crate::specs::Taken::verdict_on))]
 pub fn verdict_on(trouble: Trouble) -> Verdict
     ensures { result ≡ verdict_on trouble }

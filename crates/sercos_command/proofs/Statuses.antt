@@ -33,7 +33,7 @@ set_by_newest raw h = (λ set. to (writes_to_command raw h) refl set, λ is. fro
         let other : (is.newest.value == to_cancel) ≡ false = let value = is.value in grind (arith, nat_tests, value) in
         rw (is.writes, take_while-cons, other) (last_there is.newest (take_while sets is.before))
 
--- where no write is kept, there is none or a 0
+-- if no write is kept, there is no write, or the newest one writes 0
 none_kept : (writes : List CommandWrite) → take_while sets writes ≡ [] → is_unset writes ≡ true
 none_kept [] none = refl
 none_kept (y ∷ writes) none = by (y.value == to_cancel) (rw take_while-cons at none)

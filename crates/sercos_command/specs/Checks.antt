@@ -45,7 +45,7 @@ carried_len blocks list = 4 + sum_by (λ (idn : Idn). unwrap_or (cyclic_len bloc
 unfoldable pub breaks_1 : List Block → Bool
 breaks_1 blocks = (number_at blocks 2 == 0) || ((number_at blocks 1 == 0) || not (number_at blocks 1 % number_at blocks 2 == 0))
 
--- the cycle time is none of this profile
+-- the cycle time isn't one of this profile
 unfoldable pub breaks_2 : List Block → Bool
 breaks_2 blocks = not (is_cycle (number_at blocks 2))
 

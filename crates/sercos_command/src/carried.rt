@@ -98,7 +98,7 @@ fn are_cyclic(store: &Store, idns: &[Idn]) -> bool
 
 // Returns whether a list of what a telegram carries has an identifier number that no telegram can carry.
 #[tactic(auto, unfolding(crate::specs::Checks::breaks_list))]
-pub(crate) fn breaks_list(store: &Store, list: Idn) -> bool
+pub(crate) fn breaks_list(list: Idn, store: &Store) -> bool
     requires { (list.raw ≡ 16) ⊎ (list.raw ≡ 24) }
     ensures { result ≡ breaks_list list.raw store.now }
 {

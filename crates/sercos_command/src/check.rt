@@ -40,8 +40,8 @@ pub fn check127(rate: u8, store: &Store) -> ArrayVec<Idn, 64>
     add_if(&mut unfit, POSITION, breaks_9(store));
     add_if(&mut unfit, MDT_LENGTH, breaks_10(store));
     add_if(&mut unfit, TELEGRAM_TYPE, breaks_15(store));
-    add_if(&mut unfit, AT_LIST, breaks_list(store, AT_LIST));
-    add_if(&mut unfit, MDT_LIST, breaks_list(store, MDT_LIST));
+    add_if(&mut unfit, AT_LIST, breaks_list(AT_LIST, store));
+    add_if(&mut unfit, MDT_LIST, breaks_list(MDT_LIST, store));
     add_if(&mut unfit, T2, breaks_89(rate, store));
     unfit
 }

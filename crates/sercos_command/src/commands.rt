@@ -126,7 +126,7 @@ impl Commands {
     fn has(&self, idn: Idn) -> bool
         ensures { result ≡ is_some (find_set idn.raw self.now.set) }
     {
-        find_set(self.set.as_slice(), idn).is_some()
+        find_set(idn, self.set.as_slice()).is_some()
     }
 
     /// A write to other operation data than that of a command, in a cycle: no check counts as passed any more.
@@ -161,7 +161,7 @@ impl Commands {
     pub fn status(&self, idn: Idn, cycle: u32) -> u16
         ensures { (c : CommandHistory) → CommandsStandFor self.now c → result ≡ status_in c idn.raw cycle }
     {
-        status_by(find_set(self.set.as_slice(), idn), self.time, cycle)
+        status_by(self.time, find_set(idn, self.set.as_slice()), cycle)
     }
 
     /// Returns the change bit of procedure commands in a cycle: whether some command that is set has ended.

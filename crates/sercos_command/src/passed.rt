@@ -15,7 +15,7 @@ pub(crate) fn is_from(first: Option<u64>, cycle: u32) -> bool
 }
 
 // After a setting that ends well in a cycle.
-fn from_setting(first: Option<u64>, end: u64) -> Option<u64>
+fn from_setting(end: u64, first: Option<u64>) -> Option<u64>
     ensures { result ≡ from_setting end first }
 {
     match first {
@@ -25,7 +25,7 @@ fn from_setting(first: Option<u64>, end: u64) -> Option<u64>
 }
 
 // After a cancel, which undoes a check that hasn't ended.
-fn from_cancel(first: Option<u64>, cycle: u32) -> Option<u64>
+fn from_cancel(cycle: u32, first: Option<u64>) -> Option<u64>
     ensures { result ≡ from_cancel cycle first }
 {
     first.filter(|first| *first <= u64::from(cycle))
@@ -36,7 +36,7 @@ pub(crate) fn after_cancel(first: Option<u64>, check: Idn, idn: Idn, cycle: u32)
     ensures { result ≡ (if idn.raw == check.raw then from_cancel cycle first else first) }
 {
     if idn == check {
-        from_cancel(first, cycle)
+        from_cancel(cycle, first)
     } else {
         first
     }
@@ -53,7 +53,7 @@ pub(crate) fn after_setting(
     ensures { result ≡ (if (idn.raw == check.raw) && well then from_setting end first else first) }
 {
     if idn == check && well {
-        from_setting(first, end)
+        from_setting(end, first)
     } else {
         first
     }

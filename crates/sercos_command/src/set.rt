@@ -10,7 +10,7 @@ use sercos_idn::Idn;
 use sercos_idn::command::{ENDED_WELL, ENDED_WITH_ERROR, NOT_SET, RUNNING};
 
 // The setting of a command.
-pub(crate) fn find_set(set: &[SetCommand], idn: Idn) -> Option<SetCommand>
+pub(crate) fn find_set(idn: Idn, set: &[SetCommand]) -> Option<SetCommand>
     ensures { result ≡ find_set idn.raw set.now }
 {
     for command in set {
@@ -29,20 +29,20 @@ pub(crate) fn cancel(set: &mut ArrayVec<SetCommand, 64>, idn: Idn)
 }
 
 // Returns whether a command that is set has ended.
-fn has_ended(command: &SetCommand, time: u16, cycle: u32) -> bool
+fn has_ended(time: u16, cycle: u32, command: &SetCommand) -> bool
     ensures { result ≡ has_ended time cycle command.now }
 {
     u64::from(command.cycle) + u64::from(time) <= u64::from(cycle)
 }
 
 // The data status of a command by its setting.
-pub(crate) fn status_by(command: Option<SetCommand>, time: u16, cycle: u32) -> u16
+pub(crate) fn status_by(time: u16, command: Option<SetCommand>, cycle: u32) -> u16
     ensures { result ≡ status_by time command cycle }
 {
     match command {
         None => NOT_SET,
         Some(command) => {
-            if !has_ended(&command, time, cycle) {
+            if !has_ended(time, cycle, &command) {
                 RUNNING
             } else if command.well {
                 ENDED_WELL
@@ -57,5 +57,5 @@ pub(crate) fn status_by(command: Option<SetCommand>, time: u16, cycle: u32) -> u
 pub(crate) fn any_ended(set: &[SetCommand], time: u16, cycle: u32) -> bool
     ensures { result ≡ list_any (has_ended time cycle) set.now }
 {
-    set.iter().any(|command| has_ended(command, time, cycle))
+    set.iter().any(|command| has_ended(time, cycle, command))
 }

@@ -133,7 +133,7 @@ fn is_taken(idn: Idn, blocks: &[Block]) -> bool
     ensures { result ≡ (is_built_in idn.raw || has_block idn.raw blocks.now) }
 {
     let built_in = is_built_in(idn);
-    let own = has_block(blocks, idn);
+    let own = has_block(idn, blocks);
     built_in || own
 }
 
@@ -161,7 +161,7 @@ fn read_text(keys: &Keys<'_>, key: &str, most: usize) -> Result<Option<Text>, Ba
         None => Ok(None),
         Some(text) => {
             let bytes = text.as_bytes();
-            let allowed = is_text(bytes, most);
+            let allowed = is_text(most, bytes);
             keys.demand(allowed, key, bytes.len() as i64)?;
             Ok(Some(text_of(bytes)))
         }

@@ -16,7 +16,7 @@ use std::alloc::Global;
 use toml::{Table, Value};
 
 /// A table of a document, and where it is. Each call returns a value or the refusal by the document's rules; the one
-/// other error is `AllocError`.
+/// other error is `Memory`.
 #[derive(Clone, Copy)]
 pub struct Keys<'a> {
     /// What takes memory for lists, and for the paths of refusals.
@@ -265,7 +265,7 @@ impl<'a> Keys<'a> {
     pub fn known(&self, keys: &[&str]) -> Result<(), BadDocument>
         ensures { Gives result (known (located self.now) (map (λ k. k.now) keys.now)) }
     {
-        match least_unknown(self.table, keys) {
+        match least_unknown(keys, self.table) {
             Some(key) => Err(self.unknown(key.as_str())),
             None => Ok(()),
         }
@@ -273,14 +273,15 @@ impl<'a> Keys<'a> {
 }
 
 // The least key of a table that isn't one of these.
-fn least_unknown<'t>(table: &'t Table, keys: &[&str]) -> Option<&'t String>
-    ensures { option_map (λ k. string_bytes k.now) result ≡ least_unknown (map (λ k. k.now) keys.now) (table_view table.now) }
+fn least_unknown<'t>(keys: &[&str], table: &'t Table) -> Option<&'t String>
+    ensures { option_map (λ k. string_bytes k.now) result ≡
+        least_unknown (map (λ k. k.now) keys.now) (table_view table.now) }
 {
-    first_unknown(table, keys)
+    first_unknown(keys, table)
 }
 
 // The first key of a table that isn't one of these. A table has its keys in order.
-fn first_unknown<'t>(table: &'t Table, keys: &[&str]) -> Option<&'t String>
+fn first_unknown<'t>(keys: &[&str], table: &'t Table) -> Option<&'t String>
     ensures found { option_map (λ k. k.now) result ≡
         find (λ k. not (is_among (string_bytes k) (map (λ t. t.now) keys.now))) (keys_of table.now.entries) }
     ensures ordered { IsStrictlySortedBy string_cmp (keys_of table.now.entries) }

@@ -8,7 +8,7 @@ use crate::refusal::BadDocument;
 use itoa::Buffer;
 use sercos_io::{Sink, WriteFailed, write_all, write_pieces};
 
-/// Writes the line of a refusal to a sink, with its line feed: `refused 4 range ring.gap 1001`. `AllocError` is not
+/// Writes the line of a refusal to a sink, with its line feed: `refused 4 range ring.gap 1001`. `Memory` is not
 /// a refusal. After an error the sink has accepted a prefix of the line.
 #[tactic(auto, unfolding(crate::specs::Lines::line_of))]
 pub fn write_refusal<K: Sink>(bad: &BadDocument, sink: &mut K) -> Result<(), WriteFailed>

@@ -4,7 +4,7 @@ ghost use Rattle.std.specs.Prelude.{◌≡◌};
 use crate::path::Path;
 use std::alloc::AllocFailed;
 
-/// The first reason for which a document is refused, with the path of the key; or `AllocError`.
+/// The first reason for which a document is refused, with the path of the key; or `Memory`, if there was no memory.
 #[derive(Drop)]
 pub enum BadDocument {
     /// The bytes are no TOML document.

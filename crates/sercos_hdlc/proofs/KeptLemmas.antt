@@ -137,3 +137,9 @@ bits_of-appended now room written len count more word view is inside few most fi
     let long : length now ≡ len = ap length (sym view) ∙ length-take-le len room inside in
     let all : more ≡ len + count = omega (arith, long) in
     ap (λ n. bits_of (take n written)) all ∙ bits_of-written room written len count word is inside few ∙ ap (λ b. bits_of b ++ low_bits (8 * count) word) view
+
+pub length-appended : (now room written : List ℕ) (len count more : ℕ) → take len room ≡ now → 2050 ≤ length room → len ≤ 2050
+    → length written ≡ length room → more ≡ min (len + count) 2050 → length (take more written) ≡ min (length now + count) 2050
+length-appended now room written len count more view large few same most =
+    let long : length now ≡ len = ap length (sym view) ∙ length-take-le len room (omega arith) in
+    length-take-le more written (omega arith) ∙ most ∙ ap (λ n. min (n + count) 2050) (sym long)

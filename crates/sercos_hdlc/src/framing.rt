@@ -76,7 +76,7 @@ pub fn frame(content: &[u8], out: &mut BitBuf) -> Result<(), TooLong>
 
 // The check sequence of the bytes that a register has taken, as it is sent.
 #[tactic(auto, using(crate::proofs::FramingLemmas::bits_of_two))]
-fn bytes_of_check(register: &Register) -> [u8; 2]
+fn check_bytes_of_register(register: &Register) -> [u8; 2]
     ensures { (bytes : List ℕ) → register.now ≡ fold fed sixteen_ones (bits_of bytes) → bits_of result ≡ low_bits 16 (fcs_of bytes) }
 {
     register.fcs().to_le_bytes()
@@ -93,7 +93,7 @@ pub fn frame_len(content: &[u8]) -> u32
     let mut len = FLAGS_BITS;
     let mut register = Register::new();
     let ones = count_taken(content, &mut register, &mut len);
-    count_bytes(&bytes_of_check(&register), ones, &mut len);
+    count_bytes(&check_bytes_of_register(&register), ones, &mut len);
     len
 }
 

@@ -1,4 +1,4 @@
-ghost use Rattle.std.specs.Prelude.{◌≡◌, ◌+◌, ◌*◌, ◌≤◌, ◌++◌, [], length, take, replicate};
+ghost use Rattle.std.specs.Prelude.{◌≡◌, ◌+◌, ◌*◌, ◌≤◌, ◌++◌, [], min, length, take, replicate};
 ghost use Rattle.std.specs.Int.{w64, to_le_bytes};
 ghost use Rattle.sercos_model.specs.Bits.{low_bits, bits_of};
 
@@ -67,7 +67,9 @@ impl PlainBytes {
     /// Appends the lowest bytes of a number, `count` of them, the least significant first, as far as there is room.
     pub fn append_lowest(&mut self, word: u64, count: usize)
         requires { count ≤ 8 }
-        ensures { length self.old + count ≤ 2050 → bits_of self.new ≡ bits_of self.old ++ low_bits (8 * count) word }
+        ensures bits { length self.old + count ≤ 2050 →
+            bits_of self.new ≡ bits_of self.old ++ low_bits (8 * count) word }
+        ensures len { length self.new ≡ min (length self.old + count) 2050 }
     {
         put_word(&mut self.room, self.len, word);
         self.len = (self.len + count).min(MOST_BYTES);

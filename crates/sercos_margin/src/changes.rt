@@ -41,7 +41,7 @@ pub fn greatest(t: Time) -> u16
     }
 }
 
-fn time_in(times: Times, t: Time) -> u16
+fn time_in(t: Time, times: Times) -> u16
     ensures { result ≡ time_in t times }
 {
     match t {
@@ -59,11 +59,11 @@ pub fn declared(w: &Wishes, index: usize, t: Time) -> u16
     requires { index < length w.now.drives }
     ensures { result ≡ declared w.now index t }
 {
-    time_in(w.wish(index).times, t)
+    time_in(t, w.wish(index).times)
 }
 
 // The times with another value of one of them.
-fn changed(times: Times, t: Time, value: u16) -> Times
+fn changed(t: Time, value: u16, times: Times) -> Times
     ensures { result ≡ changed t value times }
 {
     let mut new = times;
@@ -78,11 +78,11 @@ fn changed(times: Times, t: Time, value: u16) -> Times
     new
 }
 
-fn changed_wish(wish: Wish, t: Time, value: u16) -> Wish
+fn changed_wish(t: Time, value: u16, wish: Wish) -> Wish
     ensures { result ≡ changed_wish t value wish }
 {
     Wish {
-        times: changed(wish.times, t, value),
+        times: changed(t, value, wish.times),
         ..wish
     }
 }
@@ -133,7 +133,7 @@ pub fn with_time(w: &Wishes, index: usize, t: Time, value: u16) -> Wishes
         control: w.control,
         gap: w.gap,
         order: order_of(w.order()),
-        drives: with_wish(w.drives(), index, changed_wish(w.wish(index), t, value)),
+        drives: with_wish(w.drives(), index, changed_wish(t, value, w.wish(index))),
     }
 }
 

@@ -27,7 +27,8 @@ impl Ring {
         }
     }
 
-    // Returns the planner's input of the ring.
+    // Returns the planner's input: the ring's settings, and for each drive, by place, its own times, and the
+    // lengths of its AT and record, as its answers to the reads of phase 2 give them. A time that wasn't read is 0.
     fn wishes(&self) -> Wishes
         ensures { (s : Known) (p : Past) → IsKnown s → CoreStandsFor self.now s p → result ≡ wishes_given s (outcomes p) }
     {

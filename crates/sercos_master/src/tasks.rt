@@ -53,7 +53,7 @@ impl Ring {
         begin_requests(self.plan.is_some(), &mut self.seats);
     }
 
-    // Each idle channel begins its next task, if that belongs to the phase and there is no stop.
+    // Begins tasks of the phase on idle channels, unless there is a stop.
     pub fn begin(&mut self)
         ensures { (s : Known) (p : Past) → ((k : ℕ) → AreWaiting (p.waiting k)) → p.now.phase ≤ 4 → CoreStandsFor self.old s p → CoreStandsFor self.new s (begun s p) }
     {
@@ -69,7 +69,8 @@ impl Ring {
         !self.stopped
     }
 
-    // Each idle channel begins its next task, if that belongs to the phase.
+    // Begins tasks of the phase on idle channels: in phase 2 only that of the drive whose turn it is, in phases 3 and 4 the next one of
+    // each drive, in phases 0 and 1 none.
     fn begin_next(&mut self)
         ensures { (s : Known) (p : Past) → ((k : ℕ) → AreWaiting (p.waiting k)) → p.now.phase ≤ 4 → p.stop ≡ None → CoreStandsFor self.old s p → CoreStandsFor self.new s (begun s p) }
     {

@@ -95,7 +95,7 @@ fn cycle_of<L: BitLink>(part: &Part<L>) -> u16
 }
 
 // The first ring after the first one whose cycle time isn't this: its number, and its cycle time.
-fn other_cycle<L: BitLink>(parts: &[Part<L>], time: u16) -> Option<(u32, u16)>
+fn other_cycle<L: BitLink>(time: u16, parts: &[Part<L>]) -> Option<(u32, u16)>
     requires few { length parts.now ≤ 8 }
     ensures { result ≡ other_cycle time 2 (drop 1 (map (λ p. p.wishes.cycle) parts.now)) }
 {
@@ -134,7 +134,7 @@ fn cycle_fault<L: BitLink>(parts: &[Part<L>]) -> Option<(u32, u16)>
     if !is_common(time) {
         return Some((1, time));
     }
-    other_cycle(parts, time)
+    other_cycle(time, parts)
 }
 
 // Writes the merged text of rings.

@@ -104,7 +104,7 @@ fn answer_wishes(alloc: Global, wishes: &Wishes) -> Result<Reply, AllocError>
 
 /// Answers a ring document: with the least cycle time with which a plan fits, and the slack of each time of each drive; or with
 /// `No`, that cycle time and the chain that proves that no plan fits with the ring's own. The error is the document's first
-/// refusal, or `AllocError`.
+/// refusal, or `Memory`.
 #[tactic(auto, unfolding(crate::specs::Margins::margin_answer, crate::specs::Margins::document_margins), using(crate::proofs::MarginLemmas::limited_wishes))]
 pub fn margins(alloc: Global, bytes: &[u8]) -> Result<Reply, BadDocument>
     ensures answer { MatchResult result

@@ -36,7 +36,7 @@ fn answer_wishes(alloc: Global, wishes: &Wishes) -> Result<Reply, AllocError>
 }
 
 /// Answers a ring document: with the least plan, or with `No` and the chain that proves that none fits. The error is
-/// the document's first refusal, or `AllocError`.
+/// the document's first refusal, or `Memory`.
 #[tactic(auto, unfolding(crate::specs::Planning::plan_answer, crate::specs::Planning::document_answer))]
 pub fn plan(alloc: Global, bytes: &[u8]) -> Result<Reply, BadDocument>
     ensures answer { MatchResult result

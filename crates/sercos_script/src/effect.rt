@@ -18,7 +18,7 @@ fn is_multiple(since: u32, every: u32) -> bool
 
 // Returns whether a fault acts in a cycle.
 #[tactic(auto, unfolding(crate::specs::Scripts::acts))]
-pub(crate) fn acts(fault: &Fault, cycle: u32) -> bool
+pub(crate) fn acts(cycle: u32, fault: &Fault) -> bool
     ensures { result ≡ acts cycle fault.now }
 {
     fault.cycle <= cycle && cycle <= fault.last && is_multiple(cycle - fault.cycle, fault.every)
@@ -34,10 +34,10 @@ fn is_kind(kind: Kind, other: Kind) -> bool
 }
 
 // Returns whether a fault concerns a passage.
-pub(crate) fn concerns(fault: &Fault, p: &Passage) -> bool
+pub(crate) fn concerns(p: &Passage, fault: &Fault) -> bool
     ensures { result ≡ concerns p.now fault.now }
 {
-    acts(fault, p.cycle) && is_kind(fault.kind, p.kind) && fault.from == p.from
+    acts(p.cycle, fault) && is_kind(fault.kind, p.kind) && fault.from == p.from
 }
 
 // Complements the bit at a place, if there is one.
@@ -88,7 +88,7 @@ pub(crate) fn over_way(damage: Damage, way: Way, bits: &mut BitBuf) -> bool
 }
 
 // Returns whether a damage is a restart of a station.
-pub(crate) fn is_restart(damage: Damage, station: u8) -> bool
+pub(crate) fn is_restart(station: u8, damage: Damage) -> bool
     ensures { result ≡ is_restart station damage }
 {
     match damage {

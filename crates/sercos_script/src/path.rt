@@ -12,10 +12,10 @@ use crate::link::Passage;
 use sercos_bits::BitBuf;
 
 // Does to the bits of a passage what a fault does, if it concerns the passage. Returns whether anything arrives.
-fn over_passage(fault: &Fault, p: &Passage, way: Way, bits: &mut BitBuf) -> bool
+fn over_passage(p: &Passage, way: Way, fault: &Fault, bits: &mut BitBuf) -> bool
     ensures { arrived result bits.new ≡ over_passage p.now way fault.now bits.old }
 {
-    if concerns(fault, p) {
+    if concerns(p, fault) {
         over_way(fault.damage, way, bits)
     } else {
         true
@@ -24,7 +24,7 @@ fn over_passage(fault: &Fault, p: &Passage, way: Way, bits: &mut BitBuf) -> bool
 
 // Does to the bits of a passage what the faults do that concern it. Their order doesn't matter. As soon as one acts on longer frames
 // alone, so do all that follow. Returns whether anything arrives.
-fn over_all(faults: &[Fault], p: &Passage, way: Way, bits: &mut BitBuf) -> bool
+fn over_all(p: &Passage, way: Way, faults: &[Fault], bits: &mut BitBuf) -> bool
     requires { AreByReach faults.now }
     ensures { arrived result bits.new ≡ over_all (over_passage p.now way) faults.now bits.old }
 {
@@ -32,7 +32,7 @@ fn over_all(faults: &[Fault], p: &Passage, way: Way, bits: &mut BitBuf) -> bool
         if (bits.len() as u32) < reach_of(fault.damage) {
             return true;
         }
-        if !over_passage(fault, p, way, bits) {
+        if !over_passage(p, way, fault, bits) {
             return false;
         }
     }
@@ -61,7 +61,7 @@ pub(crate) fn carry(faults: &[Fault], stations: u8, p: &Passage, bits: &mut BitB
         count: links_between(stations, p.from, p.to),
         to: p.to,
     };
-    over_all(faults, p, way, bits)
+    over_all(p, way, faults, bits)
 }
 
 // Returns whether one of the faults restarts a station in a cycle.
@@ -69,5 +69,5 @@ pub(crate) fn carry(faults: &[Fault], stations: u8, p: &Passage, bits: &mut BitB
 pub(crate) fn any_restart(faults: &[Fault], cycle: u32, station: u8) -> bool
     ensures { result ≡ restarts_at faults.now cycle station }
 {
-    faults.iter().any(|fault| acts(fault, cycle) && is_restart(fault.damage, station))
+    faults.iter().any(|fault| acts(cycle, fault) && is_restart(station, fault.damage))
 }

@@ -40,7 +40,7 @@ fn answer_at(request: &Request, progress: &mut Progress, word: u16) -> bool
     }
 }
 
-// Returns the result of a request whose steps are all answered.
+// Returns the result of a request whose steps are all answered. The bytes that were read are moved out of `progress`, not copied.
 fn result_at(request: &Request, progress: &mut Progress) -> Bytes
     ensures { result ≡ result_kept request.now progress.old }
 {

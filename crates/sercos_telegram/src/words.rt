@@ -62,7 +62,7 @@ pub struct Control {
 impl Control {
     ghost use Rattle.sercos_telegram.specs.Words.{control_word, control_of};
 
-    /// Returns the control word of a word. Every word has one, and `write` returns the word again.
+    /// Returns the control word that these 16 bits are. Any 16 bits are one, and `write` returns them again.
     #[tactic(auto, unfolding(crate::specs::Words::control_of))]
     pub fn read(word: u16) -> Control
         ensures value { result ≡ control_of word }
@@ -111,7 +111,7 @@ pub struct Status {
 impl Status {
     ghost use Rattle.sercos_telegram.specs.Words.{status_word, status_of};
 
-    /// Returns the status word of a word. Every word has one, and `write` returns the word again.
+    /// Returns the status word that these 16 bits are. Any 16 bits are one, and `write` returns them again.
     #[tactic(auto, unfolding(crate::specs::Words::status_of))]
     pub fn read(word: u16) -> Status
         ensures value { result ≡ status_of word }

@@ -59,7 +59,7 @@ fn word_form(word: &str) -> Option<Form>
 }
 
 // The number from the first to the last of these that a word names.
-fn number_named(word: &str, first: u32, last: u32) -> Option<u8>
+fn number_named(first: u32, last: u32, word: &str) -> Option<u8>
     requires { last ≤ 255 }
     ensures value { result ≡ number_named first last word.now }
     ensures range { IfSome result (λ number. (first ≤ number) × (number ≤ last)) }
@@ -76,7 +76,7 @@ fn gen_form(number: &str) -> Option<Form>
     ensures value { result ≡ gen_form number.now }
     ensures range { IfSome result HasNumber }
 {
-    match number_named(number, 1, 64) {
+    match number_named(1, 64, number) {
         Some(drives) => Some(Form::Gen(drives)),
         None => None,
     }
@@ -88,7 +88,7 @@ fn replay_form(number: &str) -> Option<Form>
     ensures value { result ≡ replay_form number.now }
     ensures range { IfSome result HasNumber }
 {
-    match number_named(number, 0, 254) {
+    match number_named(0, 254, number) {
         Some(address) => Some(Form::Replay(address)),
         None => None,
     }

@@ -16,7 +16,7 @@ framed c =
 counted : (c : goal.After-count_bytes) → c.count_bytes.new.len ≡ length (flag ++ stuffed 0 (plain_of c.args.content.now) ++ flag)
 counted c =
     let taken : c.count_taken-ones.new.register ≡ fold fed sixteen_ones (bits_of c.args.content.now) = rw c.new-register.ensures at c.count_taken-ones.ensures.register in
-    let check = c.bytes_of_check.ensures c.args.content.now taken in
+    let check = c.check_bytes_of_register.ensures c.args.content.now taken in
     rw (c.count_bytes.ensures.len, check, c.count_taken-ones.ensures.ones, c.count_taken-ones.ensures.len) (sym (length_framed c.args.content.now))
 
 pub returns-clause-bits : goal.returns-clause-bits
