@@ -1,8 +1,12 @@
 -- The replay of the trace that `run` writes.
 use Rattle.std.proofs.Common.{◌≡◌, ◌⊎◌, inl, inr, ℕ, ◌≤◌, true, List, [], ◌∷◌, length, reverse, Option, Some, None, Result, Ok, Err, IfOk, refl, sym, ap, ◌∙◌, subst, arith}
 use Rattle.std.specs.Prelude.{MatchResult, option_map}
+use Rattle.std.specs.List.{All}
 use Rattle.sercos_step.specs.declared.request.Job.{Job}
-use Rattle.sercos_block.specs.Rings.{wishes_of}
+use Rattle.sercos_step.specs.Jobs.{AreJobs}
+use Rattle.sercos_step.specs.Steps.{AreTypedJobs}
+use Rattle.sercos_block.specs.Rings.{has_address, has_other_data, is_ring, wishes_of}
+use Rattle.sercos_block.specs.Stores.{IsTyped}
 use Rattle.sercos_block.specs.Views.{RingView}
 use Rattle.sercos_answer.specs.Answer.{Answer}
 use Rattle.sercos_answer.specs.Lines.{lines_of}
@@ -27,8 +31,9 @@ use Rattle.sercos_law_run.specs.Totals.Totals.{totals_of}
 use Rattle.sercos_law_trace.specs.Clean.Ruled.{RunsFitLines}
 use Rattle.sercos_law_trace.specs.Clean.Traces.{IsCleanTrace, RunsAreClean}
 use Rattle.sercos_law_trace.proofs.Theorems.{few_cycles, whole_is_clean}
-use Rattle.sercos_opened.specs.Kept.{carry_under, restarts_under, document_run}
+use Rattle.sercos_opened.specs.Kept.{carry_under, restarts_under, document_run, OpensIfTyped}
 use Rattle.sercos_config.specs.Views.{DocumentView}
+use Rattle.sercos_config.specs.Document.{document_of}
 use Rattle.sercos_app.specs.OwnRun.{AgreesThroughout, IsCalm, IsOwnRun, MayBeOpened, OpensIfRead, OpensItsRing, OwnRunsHold, ReplaysItsRing}
 use Rattle.sercos_app.proofs.RunLemmas.{run_answer_of}
 
@@ -124,6 +129,14 @@ module _ (made : AreMade) (count : AreCounted) (asking : (a : ℕ) (bytes : List
     differs = no_earlier address input opens;
     clean = clean address input opens;
   }
+
+-- a document that was read may be opened
+pub opens_read : OpensIfTyped → (bytes : List ℕ) (d : DocumentView) → document_of bytes ≡ Ok d → is_ring d.setup ≡ true
+    → AreJobs (λ address. has_address address d.setup.drives) (λ address raw. has_other_data address raw d.setup.drives) d.jobs
+    → All IsTyped d.setup.drives × AreTypedJobs d.jobs → OpensIfRead bytes
+opens_read law bytes d says valid asked typed = λ e read.
+    let same : d ≡ e = cc in
+    subst MayBeOpened same (record { opened = law d.setup d.jobs valid asked typed.0 typed.1; few = asked.few })
 
 -- the document of an input that a line divides
 opens_parts : (input : List ℕ) (place : ℕ) → capture_place true input ≡ Some place → OpensIfRead (document_part input place) → OpensItsRing input

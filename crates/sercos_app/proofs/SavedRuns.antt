@@ -9,7 +9,8 @@ use Rattle.std.proofs.lemmas.List.Elements.{All-map}
 use Rattle.sercos_step.specs.declared.request.Request.{Request}
 use Rattle.sercos_step.specs.declared.request.Request.TheVariants as request
 use Rattle.sercos_step.specs.declared.request.Job.{Job}
-use Rattle.sercos_step.specs.Jobs.{AreJobs, AreTypedJobs, IsTypedRequest}
+use Rattle.sercos_step.specs.Jobs.{AreJobs}
+use Rattle.sercos_step.specs.Steps.{AreTypedJobs, IsTypedRequest}
 use Rattle.sercos_block.specs.Views.{DriveView, RingView}
 use Rattle.sercos_block.specs.Rings.{has_address, is_ring}
 use Rattle.sercos_block.specs.Stores.{find_block, store_of}

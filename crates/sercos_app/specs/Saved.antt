@@ -11,7 +11,7 @@ use Rattle.sercos_trace.specs.Views.{CycleView}
 use Rattle.sercos_law_trace.specs.Told.Writes.{stored as filled}
 use Rattle.sercos_law_run.specs.Journal.Runs.{IsClear, run_of}
 use Rattle.sercos_law_run.specs.Undisturbed.WholeRuns.{NeverDisturbed}
-use Rattle.sercos_step.specs.Jobs.{AreTypedJobs}
+use Rattle.sercos_step.specs.Steps.{AreTypedJobs}
 use Rattle.sercos_config.specs.Views.{DocumentView}
 use Rattle.sercos_config.specs.Document.{document_of}
 use Rattle.sercos_backup.specs.declared.tracked.Tracked.{Tracked}

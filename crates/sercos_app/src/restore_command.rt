@@ -28,8 +28,8 @@ use sercos_call::{give_if_made, refuse};
 use sercos_config::{Document, read_ring};
 use sercos_idn::{Idn, element};
 use sercos_io::{Sink, Status};
-use sercos_law_trace::kept_law;
-use sercos_opened::kept_law as opened_law;
+use sercos_law_trace::write_law;
+use sercos_opened::kept_law;
 use sercos_ring::Ring;
 use sercos_script::{BitLink, Scripted};
 use sercos_service_drive::push_data;
@@ -188,8 +188,8 @@ pub fn answer_restore<K: Sink>(alloc: Global, bytes: &[u8], sink: &mut K) -> Sta
     ensures { Replies (restore_answer bytes.now) (RestoresItsRing bytes.now)
         (changed K.held K.faults K.room sink.old sink.new) (sink.new ≡ sink.old) result }
 {
-    opened_law();
     kept_law();
+    write_law();
     match read_ring(alloc, bytes) {
         Ok(document) => restore_document(alloc, document, sink),
         Err(bad) => refuse(&bad, sink),

@@ -1,8 +1,7 @@
 // The requests of a backup, and the check of those of a restore.
 ghost use Rattle.std.specs.Prelude.{◌≡◌, ℕ, ◌+◌, ◌*◌, ◌/◌, ◌<◌, ◌≤◌, true, List, [], ◌∷◌, ◌++◌, length, map, slice_index, IfOk, OnOk, IfSome, MatchResult};
 ghost use Rattle.std.specs.List.{All, sum_by};
-ghost use Rattle.sercos_step.specs.Jobs.{AreTypedJobs, IsTypedRequest};
-ghost use Rattle.sercos_step.specs.Steps.{IsRequest};
+ghost use Rattle.sercos_step.specs.Steps.{IsRequest, AreTypedJobs, IsTypedRequest};
 ghost use Rattle.sercos_block.specs.Rings.{is_ring};
 ghost use Rattle.sercos_backup.specs.Jobs.{list_number, reads_data, list_jobs, numbers_in, listed_jobs, data_jobs, IsFault, writes_data, place_of_other};
 

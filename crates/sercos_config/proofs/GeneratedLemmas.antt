@@ -9,7 +9,8 @@ use Rattle.std.specs.List.{All, list_all, list_any, range_with_len, sum_by}
 use Rattle.sercos_idn.specs.Attributes.{attribute_of}
 use Rattle.sercos_idn.specs.Codes.{is_list, attribute_fault}
 use Rattle.sercos_timing.specs.Valid.{is_rate, is_cycle, is_control}
-use Rattle.sercos_step.specs.Jobs.{IsJob, AreJobs, IsTypedRequest, AreTypedJobs}
+use Rattle.sercos_step.specs.Jobs.{IsJob, AreJobs}
+use Rattle.sercos_step.specs.Steps.{IsTypedRequest, AreTypedJobs}
 use Rattle.sercos_block.specs.Views.{DriveView}
 use Rattle.sercos_block.specs.Blocks.{number_end}
 use Rattle.sercos_block.specs.Rules.{block_fault, blocks_fault}

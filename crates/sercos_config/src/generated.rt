@@ -7,7 +7,8 @@ ghost use Rattle.sercos_block.specs.Blocks.{number_end};
 ghost use Rattle.sercos_block.specs.Rings.{has_address, has_other_data, is_ring};
 ghost use Rattle.sercos_block.specs.Startup.{startup_of};
 ghost use Rattle.sercos_block.specs.Stores.{IsTyped};
-ghost use Rattle.sercos_step.specs.Jobs.{AreJobs, AreTypedJobs};
+ghost use Rattle.sercos_step.specs.Jobs.{AreJobs};
+ghost use Rattle.sercos_step.specs.Steps.{AreTypedJobs};
 ghost use Rattle.sercos_config.specs.Generated.{position_command, position_feedback, position_block, generated_times, generated_drive, generated_job, generated_fault, generated_ring, generated_cycles, generated};
 
 use crate::document::Document;

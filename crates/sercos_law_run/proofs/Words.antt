@@ -88,8 +88,8 @@ pub use Rattle.sercos_step.proofs.AnswerCounts.{times_le}
 pub use Rattle.sercos_step.proofs.Ends.{has_next, read_ends, write_ends}
 pub use Rattle.sercos_step.proofs.Flags.{and_left, and_right}
 pub use Rattle.sercos_step.proofs.WrittenWords.{length-at_least_one, length-words_of}
-pub use Rattle.sercos_step.specs.Jobs.{AreJobs, IsJob, AreTypedJobs, IsTypedRequest}
-pub use Rattle.sercos_step.specs.Steps.{a_step, answer_words, asks_attribute, attribute_then, is_whole, next_step, opening, outcome_of, polling, reading, result_of, run, steps_before, steps_of, writing}
+pub use Rattle.sercos_step.specs.Jobs.{AreJobs, IsJob}
+pub use Rattle.sercos_step.specs.Steps.{a_step, answer_words, asks_attribute, attribute_then, is_whole, next_step, opening, outcome_of, polling, reading, result_of, run, steps_before, steps_of, writing, AreTypedJobs, IsTypedRequest}
 pub use Rattle.sercos_step.specs.Words.{at_least_one, bytes_in, shape_by, shape_of, words_in_list, words_of, words_told}
 pub use Rattle.sercos_step.specs.declared.request.Job.{Job}
 pub use Rattle.sercos_step.specs.declared.request.Outcome.{Outcome}

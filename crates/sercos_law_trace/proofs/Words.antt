@@ -52,7 +52,7 @@ pub use Rattle.sercos_plan.specs.Views.{ChainView}
 pub use Rattle.sercos_plan.specs.declared.chain.Link.{Link}
 pub use Rattle.sercos_step.proofs.Ends.{has_next, length-answer_words}
 pub use Rattle.sercos_step.specs.Counts.{CountsAnswers, count_of}
-pub use Rattle.sercos_step.specs.Steps.{AreAnswers, answer_words, attribute_read, is_whole, next_step, opening, outcome_of, result_of, steps_before}
+pub use Rattle.sercos_step.specs.Steps.{AreAnswers, answer_words, attribute_read, is_whole, next_step, opening, outcome_of, result_of, steps_before, IsTypedRequest}
 pub use Rattle.sercos_step.specs.Words.{bytes_in, bytes_read, shape_of, words_in}
 pub use Rattle.sercos_step.specs.declared.request.Job.{Job}
 pub use Rattle.sercos_step.specs.declared.request.Outcome.{Outcome}
@@ -150,7 +150,6 @@ pub use Rattle.sercos_law_run.specs.Start.RingSlots.{held_by}
 pub use Rattle.sercos_law_run.specs.Start.StartUp.{Holds, start_up}
 pub use Rattle.sercos_law_run.specs.Totals.Counting.{with_cycle}
 pub use Rattle.sercos_law_run.specs.Totals.Totals.{ended, falls_in, is_broken, is_complete, is_refused, totals_of}
-pub use Rattle.sercos_step.specs.Jobs.{IsTypedRequest}
 pub use Rattle.sercos_law_run.specs.Undisturbed.Reports.{HaveTold, request_cycles}
 pub use Rattle.sercos_law_run.specs.Undisturbed.StopsLater.{IsRight}
 pub use Rattle.sercos_law_run.specs.Undisturbed.WholeRuns.{NeverDisturbed, StartsUp}

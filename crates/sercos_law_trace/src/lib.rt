@@ -2,9 +2,9 @@
 #![tactic(auto)]
 
 mod clean_laws;
-mod kept_laws;
 mod told_laws;
+mod write_laws;
 
 pub use clean_laws::clean_law;
-pub use kept_laws::kept_law;
 pub use told_laws::told_law;
+pub use write_laws::write_law;

@@ -2,7 +2,8 @@
 use Rattle.std.specs.Prelude.{◌≡◌, ℕ, true, List, ◌∷◌, ◌++◌, length}
 use Rattle.std.specs.List.{All}
 use Rattle.sercos_step.specs.declared.request.Job.{Job}
-use Rattle.sercos_step.specs.Jobs.{AreJobs, AreTypedJobs}
+use Rattle.sercos_step.specs.Jobs.{AreJobs}
+use Rattle.sercos_step.specs.Steps.{AreTypedJobs}
 use Rattle.sercos_block.specs.Rings.{has_address, has_other_data, is_ring}
 use Rattle.sercos_block.specs.Stores.{IsTyped}
 use Rattle.sercos_block.specs.Views.{RingView}

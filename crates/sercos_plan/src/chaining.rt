@@ -7,8 +7,7 @@ ghost use Rattle.sercos_plan.specs.LeastTimes.{least_t2, least_t3};
 ghost use Rattle.sercos_plan.specs.ChainOf.{is_tight, link_of, starts, bits_of_starts, is_tight_at, AreStarts, trail, trail_to, trail_to_some, time_of, greatest_of, first_with, first_greatest, first_tight, trail_t2, trail_t3, chain_of, mst_chain, cycle_chain, capture_chain};
 
 use crate::chain::{Chain, Link};
-use crate::least::{greatest_t4min, round_up};
-use crate::planning::is_mst_roomy;
+use crate::least::{greatest_t4min, is_mst_roomy, round_up};
 use arrayvec::ArrayVec;
 use sercos_timing::{Inequality, Wish, Wishes, asked_of_start, bits_after};
 

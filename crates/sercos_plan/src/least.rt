@@ -1,8 +1,8 @@
 // The least times, in one pass through the order.
-ghost use Rattle.std.specs.Prelude.{◌≡◌, ℕ, ◌+◌, ◌*◌, ◌^◌, ◌<◌, ◌≤◌, length, slice_index, unwrap_or};
+ghost use Rattle.std.specs.Prelude.{◌≡◌, ℕ, ◌+◌, ◌*◌, ◌^◌, ◌<◌, ◌≤◌, length, slice_index, unwrap_or, nat_le};
 ghost use Rattle.sercos_timing.specs.Limits.{most_drives};
 ghost use Rattle.sercos_timing.specs.Order.{first_sent, sent, times, mdt_bits, bits_of};
-ghost use Rattle.sercos_timing.specs.Inequalities.{asked_of_start, asked_5};
+ghost use Rattle.sercos_timing.specs.Inequalities.{asked_of_start, asked_5, sum_9, bound_9, greatest_tmtsy};
 ghost use Rattle.sercos_timing.specs.Valid.{IsValid};
 ghost use Rattle.sercos_plan.specs.LeastTimes.{round_up, needed, least_t1, least_t2, least_t3, greatest_t4min};
 
@@ -162,4 +162,14 @@ pub fn greatest_t4min(w: &Wishes) -> u32
         most = most.max(u32::from(w.wish(usize::from(place)).times.t4min));
     }
     most
+}
+
+// Returns whether 9 holds at the least T2.
+pub fn is_mst_roomy(w: &Wishes, t2: u32) -> bool
+    requires valid { IsValid w.now }
+    requires value { t2 ≡ least_t2 w.now }
+    ensures { result ≡ nat_le (sum_9 w.now (w.now.rate * least_t2 w.now) (greatest_tmtsy w.now)) (bound_9 w.now) }
+{
+    let pause = w.gap().max(w.greatest_tmtsy());
+    w.bits(t2) + (w.mdt_bits() + w.bits(pause)) <= w.recovered_by()
 }

@@ -1,9 +1,8 @@
 // The least plan, or the chain that proves that none fits.
-ghost use Rattle.std.specs.Prelude.{◌≡◌, ℕ, ◌+◌, ◌*◌, ◌<◌, ◌≤◌, length, slice_index, true, IfOk, IfErr, OnErr, Ok, nat_le};
+ghost use Rattle.std.specs.Prelude.{◌≡◌, ℕ, ◌+◌, ◌*◌, ◌<◌, ◌≤◌, length, slice_index, true, IfOk, IfErr, OnErr, Ok};
 ghost use Rattle.sercos_timing.specs.Views.{PlanView};
 ghost use Rattle.sercos_timing.specs.Limits.{most_drives, most_records};
 ghost use Rattle.sercos_timing.specs.Order.{sent, record_bytes};
-ghost use Rattle.sercos_timing.specs.Inequalities.{positions, sum_9, bound_9, greatest_tmtsy};
 ghost use Rattle.sercos_timing.specs.Valid.{IsValid};
 ghost use Rattle.sercos_plan.specs.Least.{IsLeast, NoneFits};
 ghost use Rattle.sercos_plan.specs.LeastTimes.{least_t1, least_t2, least_t3, is_roomy, least_plan};
@@ -12,7 +11,7 @@ ghost use Rattle.sercos_plan.specs.ChainOf.{chain_of, planned};
 
 use crate::chain::Chain;
 use crate::chaining::chain_of;
-use crate::least::{greatest_t4min, least_t2, least_t3, starts};
+use crate::least::{greatest_t4min, is_mst_roomy, least_t2, least_t3, starts};
 use arrayvec::ArrayVec;
 use sercos_timing::{Plan, Wish, Wishes};
 
@@ -42,16 +41,6 @@ fn narrowed(times: &[u32]) -> ArrayVec<u16, 64>
         narrow.push(time as u16);
     }
     narrow
-}
-
-// Returns whether 9 holds at the least T2.
-pub fn is_mst_roomy(w: &Wishes, t2: u32) -> bool
-    requires valid { IsValid w.now }
-    requires value { t2 ≡ least_t2 w.now }
-    ensures { result ≡ nat_le (sum_9 w.now (w.now.rate * least_t2 w.now) (greatest_tmtsy w.now)) (bound_9 w.now) }
-{
-    let pause = w.gap().max(w.greatest_tmtsy());
-    w.bits(t2) + (w.mdt_bits() + w.bits(pause)) <= w.recovered_by()
 }
 
 // Returns whether the least times keep the bounds 8, 9 and 10.

@@ -27,7 +27,7 @@ use Rattle.sercos_law_run.specs.Journal.Runs.{drive_at, no_drive, with_restart, 
 use Rattle.sercos_law_run.specs.Journal.Runs as journal
 use Rattle.sercos_law_run.specs.Views.Spelled.{IsSaid, IsWhole, IsSpelled}
 use Rattle.sercos_law_run.proofs.Theorems.{same_bits, ats_in-said, mdt_in-said, station_found, drives_so, AreSaid, all_said, said_address}
-use Rattle.sercos_step.specs.Jobs.{AreTypedJobs}
+use Rattle.sercos_step.specs.Steps.{AreTypedJobs}
 use Rattle.sercos_law_run.specs.Typed.Typed.{AreTyped}
 use Rattle.sercos_law_run.specs.Typed.Spelled.{SpelledNext}
 use Rattle.sercos_replay.specs.Cycles.{Cycle, with_at, with_mdt, cycles_of}

@@ -13,7 +13,7 @@ use Rattle.sercos_trace.specs.declared.reading.Line.{Line}
 use Rattle.sercos_script.specs.Links.{Carry, Restarts}
 use Rattle.sercos_seat.specs.Ring.{known_of}
 use Rattle.sercos_law_run.specs.Journal.Runs.{IsRun, drive_at, no_drive}
-use Rattle.sercos_step.specs.Jobs.{AreTypedJobs}
+use Rattle.sercos_step.specs.Steps.{AreTypedJobs}
 use Rattle.sercos_law_run.specs.Typed.Typed.{AreTyped}
 use Rattle.sercos_config.specs.Views.{DocumentView}
 use Rattle.sercos_replay.specs.Captured.{lines_of, telegrams, NeverDisturbed}

@@ -10,7 +10,7 @@ use Rattle.sercos_trace.specs.declared.record.Totals.{Totals}
 use Rattle.sercos_trace.specs.Texts.{trace_of}
 use Rattle.sercos_script.specs.Links.{Carry, Restarts}
 use Rattle.sercos_law_run.specs.Journal.Runs.{IsRun}
-use Rattle.sercos_step.specs.Jobs.{AreTypedJobs}
+use Rattle.sercos_step.specs.Steps.{AreTypedJobs}
 use Rattle.sercos_law_run.specs.Typed.Typed.{AreTyped}
 use Rattle.sercos_config.specs.Views.{DocumentView}
 use Rattle.sercos_replay.specs.Captured.{lines_of, telegrams}

@@ -5,7 +5,7 @@ use Rattle.sercos_block.specs.Views.{RingView}
 use Rattle.sercos_trace.specs.Views.{CycleView}
 use Rattle.sercos_script.specs.Links.{Carry, Restarts}
 use Rattle.sercos_law_run.specs.Journal.Runs.{IsRun}
-use Rattle.sercos_step.specs.Jobs.{AreTypedJobs}
+use Rattle.sercos_step.specs.Steps.{AreTypedJobs}
 use Rattle.sercos_law_run.specs.Typed.Typed.{AreTyped}
 use Rattle.sercos_config.specs.Views.{DocumentView}
 use Rattle.sercos_replay.specs.Captured.{lines_of, telegrams, NeverDisturbed}

@@ -8,7 +8,7 @@ ghost use Rattle.sercos_trace.specs.declared.reading.Line.{Line};
 ghost use Rattle.sercos_seat.specs.Ring.{Known, known_of};
 ghost use Rattle.sercos_script.specs.Links.{Carry, Restarts};
 ghost use Rattle.sercos_law_run.specs.Journal.Runs.{drive_at, IsRun};
-ghost use Rattle.sercos_step.specs.Jobs.{AreTypedJobs};
+ghost use Rattle.sercos_step.specs.Steps.{AreTypedJobs};
 ghost use Rattle.sercos_law_run.specs.Typed.Typed.{AreTyped};
 ghost use Rattle.sercos_check.specs.Verdicts.{IsClean};
 ghost use Rattle.sercos_replay.specs.Cycles.{cycles_of, GoesOn};

@@ -1,7 +1,6 @@
 -- The jobs that a master may be opened with. The ring enters by two functions on it.
-use Rattle.std.specs.Prelude.{◌≡◌, ℕ, ◌<◌, ◌≤◌, Bool, true, false, List, length}
+use Rattle.std.specs.Prelude.{◌≡◌, ℕ, ◌≤◌, Bool, true, false, List, length}
 use Rattle.std.specs.List.{All}
-use Rattle.sercos_model.specs.Bits.{AreBytes}
 use Rattle.sercos_step.specs.declared.request.Request.{Request}
 use Rattle.sercos_step.specs.declared.request.Request.TheVariants as request
 use Rattle.sercos_step.specs.declared.request.Job.{Job}
@@ -20,16 +19,6 @@ pub record IsJob (has_drive : ℕ → Bool) (is_other : ℕ → ℕ → Bool) (j
   pub drive : has_drive job.drive ≡ true
   pub request : IsRequest job.request
   pub command : IsCommand (is_other job.drive) job.request
-
--- The numbers of a request are those of their types: an identifier number of sixteen bits, and bytes to write, fewer than 65,536. Its
--- element is one that a transfer takes.
-abbrev pub IsTypedRequest : Request → Type 0
-IsTypedRequest (request.Read idn e) = (idn.raw < 65536) × ((1 ≤ e) × (e ≤ 7))
-IsTypedRequest (request.Write idn e bytes) = (idn.raw < 65536) × ((2 ≤ e) × (e ≤ 7)) × AreBytes bytes × (length bytes < 65536)
-IsTypedRequest (request.Command idn) = idn.raw < 65536
-
-abbrev pub AreTypedJobs : List Job → Type 0
-AreTypedJobs jobs = All (λ job. IsTypedRequest job.request) jobs
 
 -- at most 4096 of them
 pub record AreJobs (has_drive : ℕ → Bool) (is_other : ℕ → ℕ → Bool) (jobs : List Job) : Type 0 where

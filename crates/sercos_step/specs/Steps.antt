@@ -1,5 +1,7 @@
 -- The steps of a transfer, as far as the answers so far determine them, and how it ends.
-use Rattle.std.specs.Prelude.{◌≡◌, ℕ, ◌+◌, ◌-◌, ◌*◌, ◌≤◌, ◌==◌, nat_le, Bool, true, false, if◌then◌else◌, List, [], ◌∷◌, ◌++◌, length, drop, replicate, slice_index, slice_get, Option, Some, None}
+use Rattle.std.specs.Prelude.{◌≡◌, ℕ, ◌+◌, ◌-◌, ◌*◌, ◌<◌, ◌≤◌, ◌==◌, nat_le, Bool, true, false, if◌then◌else◌, List, [], ◌∷◌, ◌++◌, length, drop, replicate, slice_index, slice_get, Option, Some, None}
+use Rattle.std.specs.List.{All}
+use Rattle.sercos_model.specs.Bits.{AreBytes}
 use Rattle.sercos_idn.specs.declared.idn.Idn.{Idn}
 use Rattle.sercos_idn.specs.Elements.{identifier_element, attribute_element, minimum_element, data_element}
 use Rattle.sercos_idn.specs.Commands.{to_cancel, to_set, running_status}
@@ -9,6 +11,7 @@ use Rattle.sercos_step.specs.declared.shape.Shape.{Shape}
 use Rattle.sercos_step.specs.declared.shape.Shape.TheVariants as shape
 use Rattle.sercos_step.specs.declared.request.Request.{Request}
 use Rattle.sercos_step.specs.declared.request.Request.TheVariants as request
+use Rattle.sercos_step.specs.declared.request.Job.{Job}
 use Rattle.sercos_step.specs.declared.request.Outcome.{Outcome}
 use Rattle.sercos_step.specs.declared.request.Outcome.TheVariants as outcome
 use Rattle.sercos_step.specs.Words.{bytes_in, bytes_read, shape_of, words_in_list, words_told}
@@ -102,3 +105,13 @@ abbrev pub IsRequest : Request → Type 0
 IsRequest (request.Read idn e) = (1 ≤ e) × (e ≤ 7)
 IsRequest (request.Write idn e bytes) = (2 ≤ e) × (e ≤ 7)
 IsRequest (request.Command idn) = Unit {0}
+
+-- The numbers of a request are those of their types: an identifier number of sixteen bits, and bytes to write, fewer than 65,536. Its
+-- element is one that a transfer takes.
+abbrev pub IsTypedRequest : Request → Type 0
+IsTypedRequest (request.Read idn e) = (idn.raw < 65536) × ((1 ≤ e) × (e ≤ 7))
+IsTypedRequest (request.Write idn e bytes) = (idn.raw < 65536) × ((2 ≤ e) × (e ≤ 7)) × AreBytes bytes × (length bytes < 65536)
+IsTypedRequest (request.Command idn) = idn.raw < 65536
+
+abbrev pub AreTypedJobs : List Job → Type 0
+AreTypedJobs jobs = All (λ job. IsTypedRequest job.request) jobs

@@ -7,7 +7,7 @@ use Rattle.sercos_block.specs.Rings.{is_ring}
 use Rattle.sercos_seat.specs.Ring.{Task, known_of, tasks_for}
 use Rattle.sercos_law_channel.specs.Handshake.WholeRun.{IsSound}
 use Rattle.sercos_law_run.specs.Journal.Runs.{drive_at}
-use Rattle.sercos_step.specs.Jobs.{AreTypedJobs}
+use Rattle.sercos_step.specs.Steps.{AreTypedJobs}
 use Rattle.sercos_law_run.specs.Typed.Typed.{AreTyped}
 
 -- The setup is valid, setup and requests keep their types' ranges, and each request to a drive may be made: what it sets is a

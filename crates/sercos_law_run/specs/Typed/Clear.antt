@@ -7,7 +7,7 @@ use Rattle.sercos_script.specs.Links.{Carry, Restarts}
 use Rattle.sercos_trace.specs.Views.{CycleView}
 use Rattle.sercos_law_run.specs.Journal.Harmless.{IsHarmless}
 use Rattle.sercos_law_run.specs.Journal.Runs.{IsClear, IsRun}
-use Rattle.sercos_step.specs.Jobs.{AreTypedJobs}
+use Rattle.sercos_step.specs.Steps.{AreTypedJobs}
 use Rattle.sercos_law_run.specs.Typed.Typed.{AreTyped}
 
 -- Every run of a typed ring with typed jobs is clear if its link is harmless, whichever stations restart.

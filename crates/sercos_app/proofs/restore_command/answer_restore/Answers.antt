@@ -5,7 +5,7 @@ use Rattle.sercos_app.proofs.restore_command.answer_restore.Goals as goal
 
 pub returns-in-Ok : goal.returns-in-Ok
 unfolding restore_answer
-returns-in-Ok g c = by_replies ring_restored _ _ c.args.bytes.now c.in-Ok.document _ _ _ c.in-Ok.ensures.value (is_restored c.kept_law.ensures.kept c.kept_law-2.ensures c.in-Ok.document _ c.in-Ok.ensures.jobs (c.kept_law.ensures.opened c.in-Ok.document.setup c.in-Ok.document.jobs c.in-Ok.ensures.setup c.in-Ok.ensures.jobs c.in-Ok.ensures.typed.0 c.in-Ok.ensures.typed.1)) c.restore_document.ensures
+returns-in-Ok g c = by_replies ring_restored _ _ c.args.bytes.now c.in-Ok.document _ _ _ c.in-Ok.ensures.value (is_restored c.kept_law.ensures.kept c.write_law.ensures c.in-Ok.document _ c.in-Ok.ensures.jobs (c.kept_law.ensures.opened c.in-Ok.document.setup c.in-Ok.document.jobs c.in-Ok.ensures.setup c.in-Ok.ensures.jobs c.in-Ok.ensures.typed.0 c.in-Ok.ensures.typed.1)) c.restore_document.ensures
 
 pub returns-in-Err : goal.returns-in-Err
 unfolding restore_answer

@@ -1,5 +1,5 @@
 use Rattle.std.proofs.Common.{◌≡◌, ◌*◌, ◌++◌, map, drop}
-use Rattle.sercos_step.specs.Jobs.{AreTypedJobs}
+use Rattle.sercos_step.specs.Steps.{AreTypedJobs}
 use Rattle.sercos_backup.specs.Jobs.{reads_data, numbers_in}
 use Rattle.sercos_backup.proofs.jobs.push_listed.Given as goal
 

@@ -2,7 +2,8 @@ use Rattle.std.proofs.Common.{◌≡◌, [], map, drop, length}
 use Rattle.std.specs.List.{All}
 use Rattle.toml.specs.View.{table_view}
 use Rattle.sercos_block.specs.Rings.{has_address, has_other_data}
-use Rattle.sercos_step.specs.Jobs.{IsJob, AreTypedJobs}
+use Rattle.sercos_step.specs.Jobs.{IsJob}
+use Rattle.sercos_step.specs.Steps.{AreTypedJobs}
 use Rattle.sercos_config.specs.Request.{requests_onto}
 use Rattle.sercos_config.proofs.request.read_requests.Given as goal
 

@@ -1,7 +1,7 @@
 use Rattle.sercos_law_trace.proofs.Words.{sym, ◌∙◌, first_store, all_stand, spelled_in, stored_in, alike_so, small, phase_same, store_of_so, drive_at, given_before}
 use Rattle.sercos_law_trace.proofs.Told.KeptWrites.{KeptLaws, writes_kept}
 use Rattle.sercos_law_trace.proofs.Told.StartBlocks.{StartLaws}
-use Rattle.sercos_law_trace.proofs.kept_laws.kept_law.Goals as goal
+use Rattle.sercos_law_trace.proofs.write_laws.write_law.Goals as goal
 
 pub returns : goal.returns
 returns c =

@@ -9,7 +9,7 @@ use sercos_master::master_law;
 /// as complete, and no later request to the drive writes to the same block, then the drive has the block, and after the last cycle its
 /// store has the bytes of this write there. The bytes of a write that is not a list are filled up with zeros to whole words, at least
 /// one. No start-up changes them: the blocks that it writes are write protected in phase 4, in which all requests are made.
-pub fn kept_law()
+pub fn write_law()
     ensures { WritesAreKept }
 {
     headline_law();
