@@ -68,7 +68,7 @@ fn make(ring: &mut Ring<Scripted>, totals: &mut Totals)
     ensures sent { length (newest ring.new).sent ≤ 66 }
 {
     let made = ring.cycle();
-    let _sent = made.sent.len();
+    prove!(made.sent.len() <= 66);
     count(totals, made);
 }
 

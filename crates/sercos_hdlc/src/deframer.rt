@@ -400,6 +400,7 @@ pub fn unframe(bits: &BitBuf, out: &mut Content) -> Result<usize, BadFrame>
     ensures reason { result_err result ≡ reason_of bits.now }
     ensures empty { OnErr result (out.new ≡ []) }
 {
+    prove!(bits.len() <= 19696);
     let mut deframer = Deframer::new();
     deframer.feed(bits);
     deframer.finish(out)
