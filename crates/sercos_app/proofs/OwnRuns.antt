@@ -154,7 +154,9 @@ parts_open (Err bad) input document place at part (inl memory) = inl memory
 parts_open (Err bad) input document place at part (inr opens) = inr (opens_parts input place at (subst OpensIfRead part opens))
 
 -- what the reply says beside its text
-pub replays_ring : {A E : Type 0} (made : Result A E) (address : ℕ) (input : List ℕ) → ((a : ℕ) (bytes : List ℕ) → Replays a bytes) → OwnRunsHold
-    → IfOk made (λ _. OpensItsRing input) → IfOk made (λ _. ReplaysItsRing address input)
+pub replays_ring : {A : Type 0} (made : Result A BadDocument) (address : ℕ) (input : List ℕ) → ((a : ℕ) (bytes : List ℕ) → Replays a bytes) → OwnRunsHold
+    → MatchResult made (λ _. OpensItsRing input) (λ bad. (bad ≡ Memory) ⊎ OpensItsRing input)
+    → MatchResult made (λ _. ReplaysItsRing address input) (λ bad. (bad ≡ Memory) ⊎ ReplaysItsRing address input)
 replays_ring (Ok given) address input asking law opens = record { replays = asking address input; own = law address input opens }
-replays_ring (Err error) address input asking law opens = tt
+replays_ring (Err bad) address input asking law (inl none) = inl none
+replays_ring (Err bad) address input asking law (inr opens) = inr (record { replays = asking address input; own = law address input opens })

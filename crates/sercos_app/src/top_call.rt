@@ -3,7 +3,6 @@ ghost use Rattle.std.specs.Prelude.{◌≡◌, ◌≢◌, ℕ, ◌≤◌, ◌⊎
 ghost use Rattle.sercos_model.specs.Streams.{Rose};
 ghost use Rattle.sercos_app.specs.Answer.{answer_of, command_answer, SaysWell};
 ghost use Rattle.sercos_words.specs.Form.{form_of, reads_input, HasNumber};
-ghost use Rattle.sercos_call.specs.Given.{Gives};
 ghost use Rattle.sercos_call.specs.Outcome.{Replies, changed};
 ghost use Rattle.sercos_app.specs.Outcome.{Ends};
 ghost use Rattle.sercos_planning.specs.Margins.{MeasuresItsRing, margin_answer};
@@ -28,63 +27,21 @@ use crate::replay::replay_law;
 use crate::replay_command::replay;
 use crate::restore_command::answer_restore;
 use crate::run_command::answer_run;
-use sercos_call::{Given, give_made, refused};
+use sercos_call::{give_if_made, give_or_refuse};
 use sercos_io::{ReadAll, Sink, Source, Status, Words, read_all};
 use sercos_planning::{margins, plan};
 use sercos_replay::asking_law;
 use sercos_script::BitLink;
 use sercos_show::show::show;
 use sercos_words::{Form, form_of};
-use std::alloc::{AllocError, Global};
-
-// Answers an input of `show`.
-fn shown(alloc: Global, text: &[u8]) -> Result<Given, AllocError>
-    ensures { IfOk result (λ given. Gives given (show_answer text.now)) }
-{
-    Ok(Given::Reply(show(alloc, text)?))
-}
-
-// Answers an input of `plan`.
-fn planned(alloc: Global, bytes: &[u8]) -> Result<Given, AllocError>
-    ensures given { IfOk result (λ given. Gives given (plan_answer bytes.now)) }
-    ensures says { IfOk result (λ _. PlansItsRing bytes.now) }
-{
-    match plan(alloc, bytes) {
-        Ok(reply) => Ok(Given::Reply(reply)),
-        Err(bad) => refused(bad),
-    }
-}
-
-// Answers an input of `margin`.
-fn measured(alloc: Global, bytes: &[u8]) -> Result<Given, AllocError>
-    ensures given { IfOk result (λ given. Gives given (margin_answer bytes.now)) }
-    ensures says { IfOk result (λ _. MeasuresItsRing bytes.now) }
-{
-    match margins(alloc, bytes) {
-        Ok(reply) => Ok(Given::Reply(reply)),
-        Err(bad) => refused(bad),
-    }
-}
-
-// Answers an input of `replay`. Its stack is apart from that of the other commands: the states of a drive and of the master are large.
-#[inline(never)]
-fn replayed(alloc: Global, address: u8, bytes: &[u8]) -> Result<Given, AllocError>
-    requires few { length bytes.now ≤ 1048576 }
-    ensures given { IfOk result (λ given. Gives given (replay_answer address bytes.now)) }
-    ensures opens { IfOk result (λ _. OpensItsRing bytes.now) }
-{
-    match replay(alloc, address, bytes) {
-        Ok(reply) => Ok(Given::Reply(reply)),
-        Err(bad) => refused(bad),
-    }
-}
+use std::alloc::Global;
 
 // Answers an input by `show`.
 fn answer_show<K: Sink>(alloc: Global, text: &[u8], sink: &mut K) -> Status
     ensures { Replies (show_answer text.now) (Unit {0})
         (changed K.held K.faults K.room sink.old sink.new) (sink.new ≡ sink.old) result }
 {
-    give_made(&shown(alloc, text), sink)
+    give_if_made(&show(alloc, text), sink)
 }
 
 // Answers an input by `plan`.
@@ -92,7 +49,7 @@ fn answer_plan<K: Sink>(alloc: Global, bytes: &[u8], sink: &mut K) -> Status
     ensures { Replies (plan_answer bytes.now) (PlansItsRing bytes.now)
         (changed K.held K.faults K.room sink.old sink.new) (sink.new ≡ sink.old) result }
 {
-    give_made(&planned(alloc, bytes), sink)
+    give_or_refuse(&plan(alloc, bytes), sink)
 }
 
 // Answers an input by `margin`.
@@ -100,7 +57,7 @@ fn answer_margin<K: Sink>(alloc: Global, bytes: &[u8], sink: &mut K) -> Status
     ensures { Replies (margin_answer bytes.now) (MeasuresItsRing bytes.now)
         (changed K.held K.faults K.room sink.old sink.new) (sink.new ≡ sink.old) result }
 {
-    give_made(&measured(alloc, bytes), sink)
+    give_or_refuse(&margins(alloc, bytes), sink)
 }
 
 // Answers an input by `check`.
@@ -112,7 +69,8 @@ fn answer_check<K: Sink>(text: &[u8], sink: &mut K) -> Status
     write_verdict(text, sink)
 }
 
-// Answers an input by `replay`.
+// Answers an input by `replay`. Its stack is apart from that of the other commands: the states of a drive and of the master are large.
+#[inline(never)]
 fn answer_replay<K: Sink>(alloc: Global, address: u8, bytes: &[u8], sink: &mut K) -> Status
     requires few { length bytes.now ≤ 1048576 }
     ensures { Replies (replay_answer address bytes.now) (ReplaysItsRing address bytes.now)
@@ -120,7 +78,7 @@ fn answer_replay<K: Sink>(alloc: Global, address: u8, bytes: &[u8], sink: &mut K
 {
     asking_law();
     replay_law();
-    give_made(&replayed(alloc, address, bytes), sink)
+    give_or_refuse(&replay(alloc, address, bytes), sink)
 }
 
 // Returns whether a command reads its source.

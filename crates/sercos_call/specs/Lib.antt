@@ -1,4 +1,3 @@
-pub mod Given
 pub mod TopCall
 pub mod Outcome
 pub mod Giving

@@ -1,12 +1,10 @@
 -- How a call of a top call went: each way in which it can end, with what is known then. Its clauses are read off this.
-use Rattle.std.specs.Prelude.{◌≡◌, ℕ, ◌<◌, ◌≤◌, Bool, true, false, List, [], length, take, Option, Some, None, Result, Ok, Err}
+use Rattle.std.specs.Prelude.{◌≡◌, ℕ, ◌<◌, ◌≤◌, Bool, true, false, List, [], length, take, Option, Some, None}
 use Rattle.std.specs.Io.KnownBytes.{Appends}
 use Rattle.sercos_model.specs.Streams.{Rose}
 use Rattle.sercos_io.specs.declared.status.Status.{Status}
 use Rattle.sercos_io.specs.declared.status.Status.TheVariants.{BadWords, ReadFault, Memory, TooLong}
 use Rattle.sercos_answer.specs.Answer.{Answer}
-use Rattle.sercos_call.specs.declared.given.Given.{Given}
-use Rattle.sercos_call.specs.Given.{given_status, given_text}
 use Rattle.sercos_call.specs.TopCall.{fault_status, IsGiven, ReadsWhole, TakesAtMost, TakesTooMany}
 
 -- a source before and after: the bytes that it has left, and its count of faults
@@ -31,11 +29,6 @@ changed held faults room old new = record { held = held old; held' = held new; f
 pub data Writes (status : Status) (text : List ℕ) (sink : SinkChange) : Status → Type 0 where
   whole : Appends sink.held sink.held' text → sink.faults' ≡ sink.faults → Writes status text sink status
   short : (count : ℕ) → count < length text → Appends sink.held sink.held' (take count text) → sink.faults ≤ sink.faults' → Rose sink.faults sink.faults' → (length text ≤ sink.room → ⊥) → Writes status text sink (fault_status status)
-
--- how giving what was made ends, if memory was found for it
-abbrev pub GivesMade : {E : Type 0} → Result Given E → SinkChange → Type 0 → Status → Type 0
-GivesMade (Ok given) sink Unwritten status = Writes (given_status given) (given_text given) sink status
-GivesMade (Err error) sink Unwritten status = (status ≡ Memory) × Unwritten
 
 -- How answering an input ends: no memory was found, or the answer was written, with what it promises. Unwritten says that the sink is
 -- as it was.

@@ -1,6 +1,6 @@
 //! What a top call does with its source and its sink, regardless of its answer.
 #![tactic(auto)]
 
-mod given;
+mod giving;
 
-pub use given::{Given, fault_status, give_if_made, give_made, refuse, refused};
+pub use giving::{fault_status, give_if_made, give_or_refuse, refuse};

@@ -1,6 +1,6 @@
 use Rattle.std.proofs.lemmas.Bool.{false≢true}
 use Rattle.sercos_call.specs.Outcome.Writes.{whole, short}
-use Rattle.sercos_call.proofs.given.give_reply.Goals as goal
+use Rattle.sercos_call.proofs.giving.give_reply.Goals as goal
 
 pub returns-in-Ok : goal.returns-in-Ok
 returns-in-Ok g c = whole (rw (c.as_slice.ensures.value) at c.in-Ok.ensures.ok) c.in-Ok.ensures.cause

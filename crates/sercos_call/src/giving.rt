@@ -1,34 +1,14 @@
 // What a command writes.
-ghost use Rattle.std.specs.Prelude.{◌≡◌, ◌≢◌, ◌⊎◌, IfOk, MatchResult};
-ghost use Rattle.sercos_call.specs.Given.{IsWritable, given_status, given_text};
+ghost use Rattle.std.specs.Prelude.{◌≡◌, ◌≢◌, ◌⊎◌};
 ghost use Rattle.sercos_document.specs.Lines.{line_of};
-ghost use Rattle.sercos_call.specs.Giving.{GivesReply};
-ghost use Rattle.sercos_call.specs.Outcome.{GivesMade, Writes, changed};
+ghost use Rattle.sercos_call.specs.Giving.{GivesOrRefuses, GivesReply};
+ghost use Rattle.sercos_call.specs.Outcome.{Writes, changed};
 ghost use Rattle.sercos_call.specs.TopCall.{fault_status};
 
 use sercos_answer::Reply;
 use sercos_config::{BadDocument, write_refusal};
 use sercos_io::{Sink, Status, write_all};
 use std::alloc::AllocError;
-
-/// What a command writes: a reply, or the refusal of a document.
-#[derive(Drop)]
-pub enum Given {
-    Reply(Reply),
-    Refusal(BadDocument),
-}
-
-/// Writes the refusal of a document; `Memory` isn't written.
-pub fn refused(bad: BadDocument) -> Result<Given, AllocError>
-    ensures { MatchResult result
-        (λ given. (given ≡ Given.Refusal bad) × (bad ≢ BadDocument.Memory))
-        (λ _. bad ≡ BadDocument.Memory) }
-{
-    if matches!(&bad, BadDocument::Memory) {
-        return Err(AllocError);
-    }
-    Ok(Given::Refusal(bad))
-}
 
 /// Returns the status where writing a reply of this status fails.
 #[tactic(auto, unfolding(crate::specs::TopCall::fault_status))]
@@ -85,25 +65,12 @@ pub fn refuse<K: Sink>(bad: &BadDocument, sink: &mut K) -> Status
     give_refusal(bad, sink)
 }
 
-// Writes a command's answer, and returns its status, or that of a failed write.
-fn give<K: Sink>(given: &Given, sink: &mut K) -> Status
-    requires { IsWritable given.now }
-    ensures { Writes (given_status given.now) (given_text given.now)
-        (changed K.held K.faults K.room sink.old sink.new) result }
-{
-    match given {
-        Given::Reply(reply) => give_reply(reply, sink),
-        Given::Refusal(bad) => give_refusal(bad, sink),
-    }
-}
-
-/// Writes a command's answer if memory was found for it.
-pub fn give_made<K: Sink>(made: &Result<Given, AllocError>, sink: &mut K) -> Status
-    requires { IfOk made.now IsWritable }
-    ensures { GivesMade made.now (changed K.held K.faults K.room sink.old sink.new) (sink.new ≡ sink.old) result }
+/// Writes a reply, or the refusal of the document that it was to be made of; if that is `Memory`, nothing is written.
+pub fn give_or_refuse<K: Sink>(made: &Result<Reply, BadDocument>, sink: &mut K) -> Status
+    ensures { GivesOrRefuses made.now (changed K.held K.faults K.room sink.old sink.new) (sink.new ≡ sink.old) result }
 {
     match made {
-        Ok(given) => give(given, sink),
-        Err(_) => Status::Memory,
+        Ok(reply) => give_reply(reply, sink),
+        Err(bad) => refuse(bad, sink),
     }
 }
