@@ -3,6 +3,7 @@ ghost use Rattle.std.specs.Prelude.{◌≡◌, ℕ, ◌+◌, ◌*◌, ◌<◌, �
 ghost use Rattle.sercos_timing.specs.Views.{PlanView};
 ghost use Rattle.sercos_timing.specs.Limits.{most_drives, most_records};
 ghost use Rattle.sercos_timing.specs.Order.{sent, record_bytes};
+ghost use Rattle.sercos_timing.specs.Inequalities.{positions};
 ghost use Rattle.sercos_timing.specs.Valid.{IsValid};
 ghost use Rattle.sercos_plan.specs.Least.{IsLeast, NoneFits};
 ghost use Rattle.sercos_plan.specs.LeastTimes.{least_t1, least_t2, least_t3, is_roomy, least_plan};
