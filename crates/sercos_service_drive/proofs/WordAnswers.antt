@@ -1,8 +1,10 @@
 -- What each way to take a word of operation data comes to.
-use Rattle.std.proofs.Common.{◌≡◌, ℕ, ◌+◌, ◌*◌, ◌≤◌, ◌%◌, ◌/◌, ◌==◌, Bool, true, false, cond, List, [], ◌∷◌, ◌++◌, length, min, take, drop, Option, Some, None, refl, sym, ◌∙◌, arith, length-append}
-use Rattle.std.specs.Prelude.{slice_index}
+use Rattle.std.proofs.Common.{◌≡◌, ℕ, ◌+◌, ◌*◌, ◌≤◌, ◌%◌, ◌/◌, ◌==◌, Bool, true, false, cond, List, [], ◌∷◌, ◌++◌, length, min, take, drop, Option, Some, None, refl, ap, sym, ◌∙◌, arith, length-append}
+use Rattle.std.specs.Prelude.{slice_index, option_map, MatchResult, Result, Ok, Err}
+use Rattle.std.specs.Result.{result_err, IsErrAnd}
 use Rattle.std.proofs.lemmas.Bool.Decides.{nat_tests}
 use Rattle.sercos_idn.specs.Codes.{is_list}
+use Rattle.sercos_idn.specs.declared.code.Code.{Code}
 use Rattle.sercos_step.specs.Words.{words_of, bytes_in}
 use Rattle.sercos_block.specs.declared.block.Block.{Block}
 use Rattle.sercos_block.specs.Stores.{put_fault}
@@ -47,6 +49,15 @@ place_at b words place most is few started p =
 pub written_at : (b : Block) (words : List ℕ) {list : Bool} {first : ℕ} {bytes slice buffer : List ℕ} → bytes ≡ cond list (take first (drop 4 slice)) slice → list ≡ is_list b.attribute.length
     → first ≡ slice_index words 0 → slice ≡ buffer → buffer ≡ bytes_in words → bytes ≡ bytes_written b words
 written_at b words {list} is l f s same = is ∙ rw (s, same, f) (written-is b words list l)
+
+-- the code of an error as an option
+pub fault_is : {A : Type 0} (r : Result A Code) (o : Option ℕ) → MatchResult r (λ _. o ≡ None) (λ code. o ≡ Some code.raw) → option_map (λ code. code.raw) (result_err r) ≡ o
+fault_is (Ok a) o is = sym is
+fault_is (Err code) o is = sym is
+
+pub error_is : {A : Type 0} (r : Result A Code) (code : Code) → IsErrAnd r (λ e. e ≡ code) → option_map (λ e. e.raw) (result_err r) ≡ Some code.raw
+error_is (Ok a) code is = absurd is
+error_is (Err e) code is = ap (λ (c : Code). Some c.raw) is
 
 no_effect : (cycle : ℕ) (blocks : List Block) (commands : CommandsView) → IsEffect None cycle blocks blocks commands commands
 no_effect cycle blocks commands = record { blocks_are = λ c stood. refl; commands_are = λ c stood. stood }

@@ -1,5 +1,5 @@
 // Writes operation data that is complete.
-ghost use Rattle.std.specs.Prelude.{◌≡◌, ℕ, ◌≤◌, ◌==◌, ◌⊎◌, if◌then◌else◌, true, List, ◌∷◌, option_map};
+ghost use Rattle.std.specs.Prelude.{◌≡◌, ℕ, ◌≤◌, ◌==◌, ◌⊎◌, if◌then◌else◌, true, List, ◌∷◌, Some, None, MatchResult};
 ghost use Rattle.std.specs.Int.{w16, from_le_bytes};
 ghost use Rattle.sercos_idn.specs.Commands.{to_cancel, to_set};
 ghost use Rattle.sercos_block.specs.Stores.{find_block, put_fault};
@@ -54,10 +54,12 @@ pub(crate) fn write_data(
     phase: u8,
     store: &mut Store,
     commands: &mut Commands,
-) -> Option<Code>
+) -> Result<(), Code>
     requires phase { (2 ≤ phase) × (phase ≤ 4) }
     requires set { are_commands_of store.old commands.old ≡ true }
-    ensures fault { option_map (λ code. code.raw) result ≡ put_fault (find_block idn.raw store.old) phase bytes.now }
+    ensures fault { MatchResult result
+        (λ _. put_fault (find_block idn.raw store.old) phase bytes.now ≡ None)
+        (λ code. put_fault (find_block idn.raw store.old) phase bytes.now ≡ Some code.raw) }
     ensures blocks { (c : CommandHistory) → CommandsStandFor commands.old c →
         store.new ≡ blocks_with (unless (put_fault (find_block idn.raw store.old) phase bytes.now) (record { cycle = cycle; raw = idn.raw; bytes = bytes.now })) c store.old }
     ensures commands { (c : CommandHistory) → CommandsStandFor commands.old c →
@@ -66,11 +68,7 @@ pub(crate) fn write_data(
 {
     stored_law();
     let command = is_command(store, idn);
-    match store.put(idn, bytes, phase) {
-        Err(code) => Some(code),
-        Ok(()) => {
-            tell(commands, idn, command, bytes, cycle, store);
-            None
-        }
-    }
+    store.put(idn, bytes, phase)?;
+    tell(commands, idn, command, bytes, cycle, store);
+    Ok(())
 }
