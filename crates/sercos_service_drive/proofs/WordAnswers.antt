@@ -1,6 +1,6 @@
 -- What each way to take a word of operation data comes to.
 use Rattle.std.proofs.Common.{◌≡◌, ℕ, ◌+◌, ◌*◌, ◌≤◌, ◌%◌, ◌/◌, ◌==◌, Bool, true, false, cond, List, [], ◌∷◌, ◌++◌, length, min, take, drop, Option, Some, None, refl, ap, sym, ◌∙◌, arith, length-append}
-use Rattle.std.specs.Prelude.{slice_index, option_map, MatchResult, Result, Ok, Err}
+use Rattle.std.specs.Prelude.{slice_index, option_map, Result, Ok, Err}
 use Rattle.std.specs.Result.{result_err, IsErrAnd}
 use Rattle.std.proofs.lemmas.Bool.Decides.{nat_tests}
 use Rattle.sercos_idn.specs.Codes.{is_list}
@@ -51,10 +51,6 @@ pub written_at : (b : Block) (words : List ℕ) {list : Bool} {first : ℕ} {byt
 written_at b words {list} is l f s same = is ∙ rw (s, same, f) (written-is b words list l)
 
 -- the code of an error as an option
-pub fault_is : {A : Type 0} (r : Result A Code) (o : Option ℕ) → MatchResult r (λ _. o ≡ None) (λ code. o ≡ Some code.raw) → option_map (λ code. code.raw) (result_err r) ≡ o
-fault_is (Ok a) o is = sym is
-fault_is (Err code) o is = sym is
-
 pub error_is : {A : Type 0} (r : Result A Code) (code : Code) → IsErrAnd r (λ e. e ≡ code) → option_map (λ e. e.raw) (result_err r) ≡ Some code.raw
 error_is (Ok a) code is = absurd is
 error_is (Err e) code is = ap (λ (c : Code). Some c.raw) is
@@ -109,3 +105,11 @@ module _ (raw cycle phase : ℕ) (b : Block) (words : List ℕ) (word : ℕ) (st
       commands_are = λ c stood. rw (fault, ← put) (commands_are c stood);
     };
   }
+
+  -- it is the last, and the store refuses the bytes
+  pub refused_data : (last : Bool) (code : ℕ) (buffer bytes : List ℕ) (blocks blocks' : List Block) (commands : CommandsView) → last ≡ true
+      → None ≡ place_cause (Some b) phase last (length (words ++ word ∷ [])) (slice_index (words ++ word ∷ []) 0) → buffer ≡ bytes_in (words ++ word ∷ [])
+      → bytes ≡ bytes_written b (words ++ word ∷ []) → put_fault (Some b) phase bytes ≡ Some code → blocks' ≡ blocks
+      → IsWord raw cycle phase b last (words ++ word ∷ []) (Some code) buffer blocks blocks' commands commands
+  refused_data last code buffer bytes blocks blocks' commands on is same put fault stays =
+      last_word last (Some code) buffer bytes blocks blocks' commands commands on is same put (sym fault) (λ c stood. rw fault stays) (λ c stood. rw fault stood)

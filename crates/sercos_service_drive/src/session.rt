@@ -14,9 +14,9 @@ ghost use Rattle.sercos_service_drive.specs.Partial.{IsStarted, IsEffect, IsWord
 
 use crate::causes::check_place;
 use crate::copying::{Buffer, CAPACITY, copy_element};
-use crate::writing::write_data;
+use crate::writing::tell;
 use sercos_block::Store;
-use sercos_command::Commands;
+use sercos_command::{Commands, stored_law};
 use sercos_idn::element::{DATA, IDENTIFIER};
 use sercos_idn::{Code, Idn};
 use sercos_step::{Answer, Step, word_at};
@@ -169,8 +169,8 @@ fn push_word(buffer: &mut Buffer, word: u16)
     }
 }
 
-// Writes a word of operation data in a phase, 2 to 4, where the buffer has the words of the run before it. The error is
-// the first cause against it.
+// Writes a word of operation data in a phase, 2 to 4, where the buffer has the words of the run before it. The last word writes
+// the data to the store, and informs the procedure commands. The error is the first cause against the word.
 fn write_word(
     buffer: &mut Buffer,
     place: u16,
@@ -194,19 +194,16 @@ fn write_word(
     };
     let first = first_word(buffer, place, word);
     check_place(&block, phase, last, u32::from(place) + 1, first)?;
-    let list = block.attribute().length.is_list();
+    let attribute = block.attribute();
     push_word(buffer, word);
     if !last {
         return Ok(());
     }
-    write_data(
-        idn,
-        written(buffer.as_slice(), list, first),
-        cycle,
-        phase,
-        store,
-        commands,
-    )
+    stored_law();
+    let bytes = written(buffer.as_slice(), attribute.length.is_list(), first);
+    store.put(idn, bytes, phase)?;
+    tell(commands, idn, attribute.command, bytes, cycle, store);
+    Ok(())
 }
 
 impl Session {
