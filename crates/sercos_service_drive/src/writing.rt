@@ -6,19 +6,13 @@ ghost use Rattle.sercos_command.specs.Settings.{is_command};
 ghost use Rattle.sercos_command.specs.Calls.{Wrote, Other, CommandHistory, with_call, with_check_list};
 ghost use Rattle.sercos_command.specs.Kept.{are_commands_of, CommandsStandFor};
 
-use sercos_bits::byte_at;
 use sercos_block::Store;
 use sercos_command::Commands;
 use sercos_idn::Idn;
-
-// What is written to a procedure command.
-fn setting_in(bytes: &[u8]) -> u16
-    ensures { result ≡ from_le_bytes w16 bytes.now }
-{
-    u16::from_le_bytes([byte_at(bytes, 0), byte_at(bytes, 1)])
-}
+use sercos_step::word_at;
 
 // Informs the procedure commands that operation data was written: that of a command, or other.
+#[tactic(auto, using(crate::proofs::WritingLemmas::setting_is))]
 pub(crate) fn tell(
     commands: &mut Commands,
     idn: Idn,
@@ -37,7 +31,7 @@ pub(crate) fn tell(
     ensures set { are_commands_of store.new commands.new ≡ true }
 {
     if command {
-        commands.write(idn, setting_in(bytes), cycle, store);
+        commands.write(idn, word_at(bytes, 0), cycle, store);
     } else {
         commands.written(cycle);
     }
