@@ -286,10 +286,10 @@ impl Seat {
     // The request at an index after the reads: a write of the plan, or the check for phase 3.
     fn next_write(
         &self,
-        index: usize,
-        place: usize,
         numbers: &Numbers,
         plan: &Option<Plan>,
+        place: usize,
+        index: usize,
     ) -> Option<Request>
         ensures value { (s : Known) → member s place ≡ self.now.member → s.control ≡ numbers.now.control → s.cycle ≡ numbers.now.cycle →
             result ≡ next_write s plan.now place index }
@@ -316,7 +316,7 @@ impl Seat {
     }
 
     // Returns the next request of phase 2, if there is one.
-    fn next_in_2(&self, place: usize, numbers: &Numbers, plan: &Option<Plan>) -> Option<Request>
+    fn next_in_2(&self, numbers: &Numbers, plan: &Option<Plan>, place: usize) -> Option<Request>
         ensures value { (s : Known) → member s place ≡ self.now.member → s.control ≡ numbers.now.control → s.cycle ≡ numbers.now.cycle →
             result ≡ next_in_2 s plan.now place self.now.done self.now.checked }
         ensures request { IfSome result IsRequest }
@@ -330,7 +330,7 @@ impl Seat {
         if done == reads + CHECK_128 && plan.is_some() && !self.checked {
             return Some(read(INVALID_FOR_PHASE_2, DATA));
         }
-        self.next_write(done - reads, place, numbers, plan)
+        self.next_write(numbers, plan, place, done - reads)
     }
 
     // Returns the next request of phase 3, if there is one.
@@ -384,7 +384,7 @@ impl Seat {
         if !self.is_idle() {
             return;
         }
-        if let Some(request) = self.next_in_2(place, numbers, plan) {
+        if let Some(request) = self.next_in_2(numbers, plan, place) {
             self.begin(request, None);
         }
     }
