@@ -7,3 +7,4 @@ pub mod Queues
 pub mod Lengths
 pub mod Sends
 pub mod Longs
+pub mod ShortWords

@@ -1,15 +1,17 @@
 // The values in outcomes.
 ghost use Rattle.std.specs.Prelude.{◌%◌, ◌&&◌, nat_le, nat_lt, map, ◌≡◌, ℕ, ◌+◌, ◌*◌, ◌<◌, ◌≤◌, ◌==◌, List, [], ◌∷◌, ◌++◌, length, take, drop, Option, Some, None, IfSome, slice_index, if◌then◌else◌};
 ghost use Rattle.sercos_step.specs.declared.request.Outcome.TheVariants as outcome;
-ghost use Rattle.sercos_seat.specs.Agenda.{bytes_of, short_in, long_in, idns_in, ended_well, len_said, attribute_stop, list_stop, reads_that, reads_element, asked_by, stop_by_bytes, stop_by, stop_of_task};
+ghost use Rattle.sercos_seat.specs.Agenda.{bytes_of, long_in, idns_in, ended_well, len_said, attribute_stop, list_stop, reads_that, reads_element, asked_by, stop_by_bytes, stop_by, stop_of_task};
 ghost use Rattle.sercos_seat.specs.Seats.{last_long, long_stop, long_of, low_at, low_and_high, result_words, len_of_words, listed_len};
 ghost use Rattle.sercos_seat.specs.Records.{value_said, values_said};
 
 use arrayvec::ArrayVec;
-use sercos_bits::byte_at;
+use sercos_block::numbers::{INVALID_FOR_PHASE_2, INVALID_FOR_PHASE_3};
 use sercos_block::{attribute_in, number_len};
 use sercos_idn::Idn;
-use sercos_step::{Outcome, Request};
+use sercos_idn::command::ENDED_WELL;
+use sercos_idn::element::{ATTRIBUTE, DATA};
+use sercos_step::{Outcome, Request, word_at};
 use sercos_trace::Stop;
 
 /// The two words of up to four bytes.
@@ -50,27 +52,14 @@ pub fn asked_by(request: &Request) -> Asked
     }
 }
 
-// The first two bytes as a word, the low byte first.
-fn first_word(bytes: &[u8]) -> u16
-    ensures { result ≡ short_in bytes.now }
-{
-    u16::from_le_bytes([byte_at(bytes, 0), byte_at(bytes, 1)])
-}
-
-// The third and the fourth byte as a word.
-fn second_word(bytes: &[u8]) -> u16
-    ensures { result ≡ short_in (drop 2 bytes.now) }
-{
-    u16::from_le_bytes([byte_at(bytes, 2), byte_at(bytes, 3)])
-}
-
 /// Returns the two words of up to four bytes.
+#[tactic(auto, using(crate::proofs::ShortWords::first_short, crate::proofs::ShortWords::second_short))]
 pub fn low_and_high(bytes: &[u8]) -> Words
     ensures { result ≡ low_and_high bytes.now }
 {
     Words {
-        low: first_word(bytes),
-        high: second_word(bytes),
+        low: word_at(bytes, 0),
+        high: word_at(bytes, 1),
     }
 }
 
@@ -83,11 +72,12 @@ impl Words {
     }
 }
 
-/// Returns the data status of a procedure command that ended well.
+/// Returns whether the bytes are the data status of a procedure command that ended well.
+#[tactic(auto, using(crate::proofs::ShortWords::first_short))]
 pub fn ended_well(bytes: &[u8]) -> bool
     ensures { result ≡ ended_well bytes.now }
 {
-    first_word(bytes) == 3
+    word_at(bytes, 0) == ENDED_WELL
 }
 
 /// Returns the bytes of an outcome.
@@ -258,15 +248,15 @@ fn attribute_stop(address: u8, idn: Idn, word: u32) -> Option<Stop>
     }
 }
 
-fn list_stop(address: u8, raw: u16, bytes: &[u8]) -> Option<Stop>
-    ensures { result ≡ list_stop address raw bytes.now }
+fn list_stop(address: u8, idn: Idn, bytes: &[u8]) -> Option<Stop>
+    ensures { result ≡ list_stop address idn.raw bytes.now }
 {
-    if raw == 21 {
+    if idn == INVALID_FOR_PHASE_2 {
         Some(Stop::Check127 {
             drive: address,
             list: idns_in(bytes),
         })
-    } else if raw == 22 {
+    } else if idn == INVALID_FOR_PHASE_3 {
         Some(Stop::Check128 {
             drive: address,
             list: idns_in(bytes),
@@ -289,10 +279,10 @@ impl Asked {
     fn stop_by_bytes(&self, address: u8, bytes: &[u8]) -> Option<Stop>
         ensures { result ≡ stop_by_bytes address self.now bytes.now }
     {
-        if self.reads_element(3) {
+        if self.reads_element(ATTRIBUTE) {
             attribute_stop(address, self.idn, low_and_high(bytes).long())
-        } else if self.reads_element(7) {
-            list_stop(address, self.idn.raw, bytes)
+        } else if self.reads_element(DATA) {
+            list_stop(address, self.idn, bytes)
         } else {
             None
         }

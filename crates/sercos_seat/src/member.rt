@@ -3,12 +3,13 @@ ghost use Rattle.std.specs.Prelude.{◌≡◌, ◌+◌, ◌*◌, ◌<◌, ◌≤
 ghost use Rattle.sercos_step.specs.declared.request.Request.TheVariants as request;
 ghost use Rattle.sercos_step.specs.Words.{bytes_in};
 ghost use Rattle.sercos_step.specs.Steps.{IsRequest};
-ghost use Rattle.sercos_seat.specs.Agenda.{reads_count, reads, idn, writes_word, writes_list};
+ghost use Rattle.sercos_seat.specs.Agenda.{reads_count, reads, writes_word, writes_list};
 
 use arrayvec::ArrayVec;
 use sercos_bits::Bytes;
+use sercos_block::numbers::{T1MIN, T4MIN, TATAT, TATMT, TMTSG, TMTSY};
 use sercos_idn::Idn;
-use sercos_idn::element::DATA;
+use sercos_idn::element::{ATTRIBUTE, DATA};
 use sercos_step::Request;
 use std::marker::Model;
 
@@ -88,13 +89,13 @@ impl Member {
         ensures request { IsRequest result }
     {
         if index < 6 {
-            return read(TIMES[index], 7);
+            return read(TIMES[index], DATA);
         }
         let at_count = self.at_count();
         if index - 6 < at_count {
-            return read(idn_at(self.at(), index - 6).raw, 3);
+            return read(idn_at(self.at(), index - 6), ATTRIBUTE);
         }
-        read(idn_at(self.mdt(), index - 6 - at_count).raw, 3)
+        read(idn_at(self.mdt(), index - 6 - at_count), ATTRIBUTE)
     }
 
     /// Returns what the AT is to carry.
@@ -122,7 +123,7 @@ fn idn_at(idns: &[Idn], place: usize) -> Idn
 }
 
 // The identifier numbers of the times that a drive declares.
-const TIMES: [u16; 6] = [3, 4, 5, 87, 88, 90];
+const TIMES: [Idn; 6] = [T1MIN, TATMT, T4MIN, TATAT, TMTSY, TMTSG];
 
 /// The numbers of the ring that its drives need.
 #[derive(Clone, Copy)]
@@ -134,34 +135,31 @@ pub struct Numbers {
 }
 
 /// Returns a read.
-pub fn read(raw: u16, element: u8) -> Request
+pub fn read(idn: Idn, element: u8) -> Request
     requires { (1 ≤ element) × (element ≤ 7) }
-    ensures value { result ≡ request.Read (idn raw) element }
+    ensures value { result ≡ request.Read idn element }
     ensures request { IsRequest result }
 {
-    Request::Read {
-        idn: Idn { raw },
-        element,
-    }
+    Request::Read { idn, element }
 }
 
 /// Returns a procedure command.
-pub fn command(raw: u16) -> Request
-    ensures value { result ≡ request.Command (idn raw) }
+pub fn command(idn: Idn) -> Request
+    ensures value { result ≡ request.Command idn }
     ensures request { IsRequest result }
 {
-    Request::Command { idn: Idn { raw } }
+    Request::Command { idn }
 }
 
 /// Returns a write of operation data of one word.
-pub fn write_word(raw: u16, value: u16) -> Request
-    ensures value { result ≡ writes_word raw value }
+pub fn write_word(idn: Idn, value: u16) -> Request
+    ensures value { result ≡ writes_word idn.raw value }
     ensures request { IsRequest result }
 {
     let mut bytes = Bytes::new();
     bytes.push_word_within(value);
     Request::Write {
-        idn: Idn { raw },
+        idn,
         element: DATA,
         bytes,
     }
@@ -180,13 +178,13 @@ fn list_bytes(idns: &[Idn]) -> Bytes
 }
 
 /// Returns a write of a list of identifier numbers.
-pub fn write_list(raw: u16, idns: &[Idn]) -> Request
+pub fn write_list(idn: Idn, idns: &[Idn]) -> Request
     requires { length idns.now ≤ 16 }
-    ensures value { result ≡ writes_list raw idns.now }
+    ensures value { result ≡ writes_list idn.raw idns.now }
     ensures request { IsRequest result }
 {
     Request::Write {
-        idn: Idn { raw },
+        idn,
         element: DATA,
         bytes: list_bytes(idns),
     }

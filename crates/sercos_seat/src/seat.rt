@@ -24,7 +24,12 @@ use crate::member::{Member, Numbers, command, number_at, read, write_list, write
 use crate::queue::{Waiting, is_request};
 use arrayvec::ArrayVec;
 use sercos_bits::Content;
+use sercos_block::numbers::{
+    AT_LIST, CONTROL_CYCLE_TIME, CYCLE_TIME, INVALID_FOR_PHASE_2, INVALID_FOR_PHASE_3, MDT_LENGTH,
+    MDT_LIST, PHASE_3_CHECK, PHASE_4_CHECK, POSITION, T1, T2, T3, T4, TELEGRAM_TYPE,
+};
 use sercos_idn::Idn;
+use sercos_idn::element::DATA;
 use sercos_service_master::MasterChannel;
 use sercos_step::{Outcome, Request};
 use sercos_telegram::{Control, Record, Status, joint_record, read_at, write_single};
@@ -40,6 +45,9 @@ const MOST_OUTCOMES: u8 = 100;
 const CHECK_127: usize = 11;
 
 const CHECK_128: usize = 12;
+
+// The telegram type of this profile.
+const CONFIGURED: u16 = 7;
 
 /// One drive as the master keeps it: its channel, its answers, its telegrams, and the requests that wait. Contracts see the record
 /// of what it keeps.
@@ -278,10 +286,10 @@ impl Seat {
     // The request at an index after the reads: a write of the plan, or the check for phase 3.
     fn next_write(
         &self,
-        index: usize,
-        place: usize,
         numbers: &Numbers,
         plan: &Option<Plan>,
+        place: usize,
+        index: usize,
     ) -> Option<Request>
         ensures value { (s : Known) → member s place ≡ self.now.member → s.control ≡ numbers.now.control → s.cycle ≡ numbers.now.cycle →
             result ≡ next_write s plan.now place index }
@@ -291,24 +299,24 @@ impl Seat {
             return None;
         };
         match index {
-            0 => Some(write_word(1, numbers.control)),
-            1 => Some(write_word(2, numbers.cycle)),
-            2 => Some(write_word(6, number_at(plan.t1(), place))),
-            3 => Some(write_word(7, plan.t4)),
-            4 => Some(write_word(8, plan.t3)),
-            5 => Some(write_word(9, number_at(plan.position(), place))),
-            6 => Some(write_word(10, plan.mdt_len)),
-            7 => Some(write_word(15, 7)),
-            8 => Some(write_list(16, self.member.at())),
-            9 => Some(write_list(24, self.member.mdt())),
-            10 => Some(write_word(89, plan.t2)),
-            11 => Some(command(127)),
+            0 => Some(write_word(CONTROL_CYCLE_TIME, numbers.control)),
+            1 => Some(write_word(CYCLE_TIME, numbers.cycle)),
+            2 => Some(write_word(T1, number_at(plan.t1(), place))),
+            3 => Some(write_word(T4, plan.t4)),
+            4 => Some(write_word(T3, plan.t3)),
+            5 => Some(write_word(POSITION, number_at(plan.position(), place))),
+            6 => Some(write_word(MDT_LENGTH, plan.mdt_len)),
+            7 => Some(write_word(TELEGRAM_TYPE, CONFIGURED)),
+            8 => Some(write_list(AT_LIST, self.member.at())),
+            9 => Some(write_list(MDT_LIST, self.member.mdt())),
+            10 => Some(write_word(T2, plan.t2)),
+            11 => Some(command(PHASE_3_CHECK)),
             _ => None,
         }
     }
 
     // Returns the next request of phase 2, if there is one.
-    fn next_in_2(&self, place: usize, numbers: &Numbers, plan: &Option<Plan>) -> Option<Request>
+    fn next_in_2(&self, numbers: &Numbers, plan: &Option<Plan>, place: usize) -> Option<Request>
         ensures value { (s : Known) → member s place ≡ self.now.member → s.control ≡ numbers.now.control → s.cycle ≡ numbers.now.cycle →
             result ≡ next_in_2 s plan.now place self.now.done self.now.checked }
         ensures request { IfSome result IsRequest }
@@ -320,9 +328,9 @@ impl Seat {
             return Some(self.member.read_at(done));
         }
         if done == reads + CHECK_128 && plan.is_some() && !self.checked {
-            return Some(read(21, 7));
+            return Some(read(INVALID_FOR_PHASE_2, DATA));
         }
-        self.next_write(done - reads, place, numbers, plan)
+        self.next_write(numbers, plan, place, done - reads)
     }
 
     // Returns the next request of phase 3, if there is one.
@@ -338,10 +346,10 @@ impl Seat {
             return None;
         }
         if done == reads + CHECK_128 {
-            return Some(command(128));
+            return Some(command(PHASE_4_CHECK));
         }
         if done == reads + CHECK_128 + 1 && !self.ready {
-            return Some(read(22, 7));
+            return Some(read(INVALID_FOR_PHASE_3, DATA));
         }
         None
     }
@@ -376,7 +384,7 @@ impl Seat {
         if !self.is_idle() {
             return;
         }
-        if let Some(request) = self.next_in_2(place, numbers, plan) {
+        if let Some(request) = self.next_in_2(numbers, plan, place) {
             self.begin(request, None);
         }
     }
@@ -491,9 +499,6 @@ impl Seat {
         self.channel.end_cycle();
         self.missed = phase >= 3 && !self.heard;
         self.heard = false;
-        if self.report.is_none() {
-            return None;
-        }
         self.report.take()
     }
 

@@ -1,8 +1,10 @@
 -- What each way to take a word of operation data comes to.
-use Rattle.std.proofs.Common.{◌≡◌, ℕ, ◌+◌, ◌*◌, ◌≤◌, ◌%◌, ◌/◌, ◌==◌, Bool, true, false, cond, List, [], ◌∷◌, ◌++◌, length, min, take, drop, Option, Some, None, refl, sym, ◌∙◌, arith, length-append}
-use Rattle.std.specs.Prelude.{slice_index}
+use Rattle.std.proofs.Common.{◌≡◌, ℕ, ◌+◌, ◌*◌, ◌≤◌, ◌%◌, ◌/◌, ◌==◌, Bool, true, false, cond, List, [], ◌∷◌, ◌++◌, length, min, take, drop, Option, Some, None, refl, ap, sym, ◌∙◌, arith, length-append}
+use Rattle.std.specs.Prelude.{slice_index, option_map, Result, Ok, Err}
+use Rattle.std.specs.Result.{result_err, IsErrAnd}
 use Rattle.std.proofs.lemmas.Bool.Decides.{nat_tests}
 use Rattle.sercos_idn.specs.Codes.{is_list}
+use Rattle.sercos_idn.specs.declared.code.Code.{Code}
 use Rattle.sercos_step.specs.Words.{words_of, bytes_in}
 use Rattle.sercos_block.specs.declared.block.Block.{Block}
 use Rattle.sercos_block.specs.Stores.{put_fault}
@@ -47,6 +49,11 @@ place_at b words place most is few started p =
 pub written_at : (b : Block) (words : List ℕ) {list : Bool} {first : ℕ} {bytes slice buffer : List ℕ} → bytes ≡ cond list (take first (drop 4 slice)) slice → list ≡ is_list b.attribute.length
     → first ≡ slice_index words 0 → slice ≡ buffer → buffer ≡ bytes_in words → bytes ≡ bytes_written b words
 written_at b words {list} is l f s same = is ∙ rw (s, same, f) (written-is b words list l)
+
+-- the code of an error as an option
+pub error_is : {A : Type 0} (r : Result A Code) (code : Code) → IsErrAnd r (λ e. e ≡ code) → option_map (λ e. e.raw) (result_err r) ≡ Some code.raw
+error_is (Ok a) code is = absurd is
+error_is (Err e) code is = ap (λ (c : Code). Some c.raw) is
 
 no_effect : (cycle : ℕ) (blocks : List Block) (commands : CommandsView) → IsEffect None cycle blocks blocks commands commands
 no_effect cycle blocks commands = record { blocks_are = λ c stood. refl; commands_are = λ c stood. stood }
@@ -98,3 +105,11 @@ module _ (raw cycle phase : ℕ) (b : Block) (words : List ℕ) (word : ℕ) (st
       commands_are = λ c stood. rw (fault, ← put) (commands_are c stood);
     };
   }
+
+  -- it is the last, and the store refuses the bytes
+  pub refused_data : (last : Bool) (code : ℕ) (buffer bytes : List ℕ) (blocks blocks' : List Block) (commands : CommandsView) → last ≡ true
+      → None ≡ place_cause (Some b) phase last (length (words ++ word ∷ [])) (slice_index (words ++ word ∷ []) 0) → buffer ≡ bytes_in (words ++ word ∷ [])
+      → bytes ≡ bytes_written b (words ++ word ∷ []) → put_fault (Some b) phase bytes ≡ Some code → blocks' ≡ blocks
+      → IsWord raw cycle phase b last (words ++ word ∷ []) (Some code) buffer blocks blocks' commands commands
+  refused_data last code buffer bytes blocks blocks' commands on is same put fault stays =
+      last_word last (Some code) buffer bytes blocks blocks' commands commands on is same put (sym fault) (λ c stood. rw fault stays) (λ c stood. rw fault stood)

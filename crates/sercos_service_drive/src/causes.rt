@@ -1,5 +1,5 @@
 // Why a word of operation data is refused before the value is whole.
-ghost use Rattle.std.specs.Prelude.{◌≡◌, ◌≤◌, ◌+◌, ◌%◌, ◌==◌, nat_lt, nat_le, not, ◌&&◌, ◌||◌, option_map, Some};
+ghost use Rattle.std.specs.Prelude.{◌≡◌, ◌≤◌, ◌+◌, ◌%◌, ◌==◌, nat_lt, nat_le, not, ◌&&◌, ◌||◌, Some, None, MatchResult};
 ghost use Rattle.sercos_idn.specs.Codes.{is_list, item_len};
 ghost use Rattle.sercos_service_drive.specs.Replies.{words_by};
 ghost use Rattle.sercos_service_drive.specs.Partial.{length_cause, place_cause};
@@ -35,42 +35,44 @@ fn is_uneven(attribute: &Attribute, count: u32, first: u16) -> bool
         && usize::from(first) % attribute.length.item_len() != 0
 }
 
-// The first cause against a word by its place, where with it there are `count` words.
+// Checks a word by its place, where with it there are `count` words. The error is the first cause against it.
 #[tactic(auto, unfolding(crate::specs::Partial::length_cause))]
-fn length_cause(
+fn check_length(
     attribute: &Attribute,
     most: u16,
     last: bool,
     count: u32,
     first: u16,
-) -> Option<Code>
-    ensures { option_map (λ code. code.raw) result ≡ length_cause attribute.now most last count first }
+) -> Result<(), Code>
+    ensures { MatchResult result
+        (λ _. length_cause attribute.now most last count first ≡ None)
+        (λ code. length_cause attribute.now most last count first ≡ Some code.raw) }
 {
     if last && count < words_by(attribute, first) {
-        return Some(Code::TOO_SHORT);
+        return Err(Code::TOO_SHORT);
     }
     if is_over(attribute, most, last, count, first) {
-        return Some(Code::TOO_LONG);
+        return Err(Code::TOO_LONG);
     }
     if is_uneven(attribute, count, first) {
-        return Some(Code::INVALID);
+        return Err(Code::INVALID);
     }
-    None
+    Ok(())
 }
 
-// The first cause against a word of the operation data of a block, by its place and what the block is.
-pub(crate) fn place_cause(
+// Checks a word of the operation data of a block, by its place and what the block is. The error is the first cause against it.
+pub(crate) fn check_place(
     block: &Stored<'_>,
     phase: u8,
     last: bool,
     count: u32,
     first: u16,
-) -> Option<Code>
+) -> Result<(), Code>
     requires { (2 ≤ phase) × (phase ≤ 4) }
-    ensures { option_map (λ code. code.raw) result ≡ place_cause (Some block.now) phase last count first }
+    ensures { MatchResult result
+        (λ _. place_cause (Some block.now) phase last count first ≡ None)
+        (λ code. place_cause (Some block.now) phase last count first ≡ Some code.raw) }
 {
-    if let Err(code) = block.may_write(phase) {
-        return Some(code);
-    }
-    length_cause(&block.attribute(), block.max_len(), last, count, first)
+    block.may_write(phase)?;
+    check_length(&block.attribute(), block.max_len(), last, count, first)
 }

@@ -1,5 +1,6 @@
 // What the drive keeps between the steps of the service channel.
-ghost use Rattle.std.specs.Prelude.{◌≡◌, ℕ, ◌+◌, ◌/◌, ◌%◌, ◌≤◌, ◌<◌, ◌==◌, ◌&&◌, [], ◌∷◌, ◌++◌, List, length, take, drop, slice_index, min, if◌then◌else◌, true, false, Bool, Option, Some, None, is_some, option_map};
+ghost use Rattle.std.specs.Prelude.{◌≡◌, ℕ, ◌+◌, ◌/◌, ◌%◌, ◌≤◌, ◌<◌, ◌==◌, ◌&&◌, [], ◌∷◌, ◌++◌, List, length, take, drop, slice_index, min, if◌then◌else◌, true, false, Bool, Option, Some, None, is_some, option_map, MatchResult};
+ghost use Rattle.std.specs.Result.{result_err};
 ghost use Rattle.sercos_step.specs.Words.{bytes_in, words_of};
 ghost use Rattle.sercos_block.specs.declared.block.Block.{Block};
 ghost use Rattle.sercos_block.specs.Stores.{find_block};
@@ -11,11 +12,11 @@ ghost use Rattle.sercos_service_drive.specs.Writes.{adds};
 ghost use Rattle.sercos_service_drive.specs.Kept.{run_of, place_in, selected, GoesWith, IsAnswered, SessionStandsFor};
 ghost use Rattle.sercos_service_drive.specs.Partial.{IsStarted, IsEffect, IsWord};
 
-use crate::causes::place_cause;
+use crate::causes::check_place;
 use crate::copying::{Buffer, CAPACITY, copy_element};
-use crate::writing::write_data;
+use crate::writing::tell;
 use sercos_block::Store;
-use sercos_command::Commands;
+use sercos_command::{Commands, stored_law};
 use sercos_idn::element::{DATA, IDENTIFIER};
 use sercos_idn::{Code, Idn};
 use sercos_step::{Answer, Step, word_at};
@@ -104,7 +105,7 @@ fn selected(step: Step, place: u16) -> Option<Selection>
     }
 }
 
-// At the first word of a run copies the element, 1 to 7. The code is why it can't be read.
+// At the first word of a run copies the element, 1 to 7. The error is the code of why it can't be read.
 fn select(
     buffer: &mut Buffer,
     place: u16,
@@ -113,20 +114,19 @@ fn select(
     cycle: u32,
     store: &Store,
     commands: &Commands,
-) -> Option<Code>
+) -> Result<(), Code>
     requires { (1 ≤ element) × (element ≤ 7) }
-    ensures code { option_map (λ code. code.raw) result ≡ (if place == 0 then missing idn.raw element store.now else None) }
+    ensures fault { MatchResult result
+        (λ _. (if place == 0 then missing idn.raw element store.now else None) ≡ None)
+        (λ code. (if place == 0 then missing idn.raw element store.now else None) ≡ Some code.raw) }
     ensures copy { (c : CommandHistory) → CommandsStandFor commands.now c → place ≡ 0 → missing idn.raw element store.now ≡ None →
         words_of buffer.new ≡ words_at idn.raw element cycle store.now c }
     ensures same { (place == 0) ≡ false → buffer.new ≡ buffer.old }
 {
     if place != 0 {
-        return None;
+        return Ok(());
     }
-    match copy_element(buffer, idn, element, cycle, store, commands) {
-        Ok(()) => None,
-        Err(code) => Some(code),
-    }
+    copy_element(buffer, idn, element, cycle, store, commands)
 }
 
 // At the first word of a run drops the bytes.
@@ -169,8 +169,8 @@ fn push_word(buffer: &mut Buffer, word: u16)
     }
 }
 
-// Writes a word of operation data in a phase, 2 to 4, where the buffer has the words of the run before it. The code is the
-// first cause against it.
+// Writes a word of operation data in a phase, 2 to 4, where the buffer has the words of the run before it. The last word writes
+// the data to the store, and informs the procedure commands. The error is the first cause against the word.
 fn write_word(
     buffer: &mut Buffer,
     place: u16,
@@ -181,34 +181,29 @@ fn write_word(
     word: u16,
     store: &mut Store,
     commands: &mut Commands,
-) -> Option<Code>
+) -> Result<(), Code>
     requires phase { (2 ≤ phase) × (phase ≤ 4) }
     requires set { are_commands_of store.old commands.old ≡ true }
-    ensures none { find_block idn.raw store.old ≡ None → (option_map (λ code. code.raw) result ≡ Some 0x1001) × (store.new ≡ store.old) × (commands.new ≡ commands.old) }
+    ensures none { find_block idn.raw store.old ≡ None → (option_map (λ code. code.raw) (result_err result) ≡ Some 0x1001) × (store.new ≡ store.old) × (commands.new ≡ commands.old) }
     ensures word { (b : Block) (words : List ℕ) → find_block idn.raw store.old ≡ Some b → buffer.old ≡ bytes_in words → place ≡ min (length words) 65535 → IsStarted b words →
-        IsWord idn.raw cycle phase b last (words ++ word ∷ []) (option_map (λ code. code.raw) result) buffer.new store.old store.new commands.old commands.new }
+        IsWord idn.raw cycle phase b last (words ++ word ∷ []) (option_map (λ code. code.raw) (result_err result)) buffer.new store.old store.new commands.old commands.new }
     ensures set { are_commands_of store.new commands.new ≡ true }
 {
     let Some(block) = store.find(idn) else {
-        return Some(Code::NO_IDN);
+        return Err(Code::NO_IDN);
     };
     let first = first_word(buffer, place, word);
-    if let Some(code) = place_cause(&block, phase, last, u32::from(place) + 1, first) {
-        return Some(code);
-    }
-    let list = block.attribute().length.is_list();
+    check_place(&block, phase, last, u32::from(place) + 1, first)?;
+    let attribute = block.attribute();
     push_word(buffer, word);
     if !last {
-        return None;
+        return Ok(());
     }
-    write_data(
-        idn,
-        written(buffer.as_slice(), list, first),
-        cycle,
-        phase,
-        store,
-        commands,
-    )
+    stored_law();
+    let bytes = written(buffer.as_slice(), attribute.length.is_list(), first);
+    store.put(idn, bytes, phase)?;
+    tell(commands, idn, attribute.command, bytes, cycle, store);
+    Ok(())
 }
 
 impl Session {
@@ -278,7 +273,7 @@ impl Session {
             open_idn log ≡ Some idn.raw → IsAnswered self.new (processed_step cycle phase mhs step store.now c) log result }
     {
         let place = place_in(self.selection, false, step.element);
-        if let Some(code) = select(
+        if let Err(code) = select(
             &mut self.buffer,
             place,
             idn,
@@ -329,11 +324,11 @@ impl Session {
             store,
             commands,
         ) {
-            Some(code) => self.refuse(code),
-            None => {
+            Ok(()) => {
                 self.selection = selected(step, place);
                 good(0)
             }
+            Err(code) => self.refuse(code),
         }
     }
 
