@@ -108,7 +108,7 @@ fn are_zero(bytes: &[u8]) -> bool
     bytes.iter().all(|byte| *byte == 0)
 }
 
-// Returns whether the operation data is valid.
+// Returns whether the operation data of a block is valid: its number of bytes, and zeros alone in a procedure command.
 fn is_value(block: &Block) -> bool
     ensures { result ≡ is_value block.now }
 {
@@ -121,7 +121,7 @@ fn is_value(block: &Block) -> bool
     }
 }
 
-// Returns whether the step is valid.
+// Returns whether the step of a block is valid: 0 is no step, and only a number without limits may have one.
 fn is_step(block: &Block) -> bool
     ensures { result ≡ is_step block.now }
 {

@@ -129,7 +129,8 @@ fn known(
     )
 }
 
-// Refuses the least unknown key; `counts` is whether some of the keys are known.
+// Refuses the least unknown key, in the order of bytes. Each flag is whether the key of its name is known; `kind`, `cycle`, `last` and
+// `every` always are.
 #[tactic(auto, unfolding(crate::specs::Fault::keys_if))]
 fn known_if(
     keys: &Keys<'_>,
@@ -154,6 +155,8 @@ fn known_if(
     ])
 }
 
+// Returns whether the key `telegram` is known: not in a restart. A kind of `None` is absent or none of the words of `kind`; then every key
+// is known, so that the kind itself is refused. The same holds of the other keys below, and of a telegram of `None`.
 #[tactic(auto, unfolding(crate::specs::Fault::has_telegram))]
 fn has_telegram(kind: Option<FaultKind>) -> bool
     ensures { result ≡ has_telegram kind }
@@ -164,6 +167,7 @@ fn has_telegram(kind: Option<FaultKind>) -> bool
     }
 }
 
+// Returns whether the key `from` is known: not in a restart, nor with a telegram that has one sender, the master.
 #[tactic(auto, unfolding(crate::specs::Fault::has_from))]
 fn has_from(kind: Option<FaultKind>, telegram: Option<Kind>) -> bool
     ensures { result ≡ has_from kind telegram }
@@ -175,6 +179,7 @@ fn has_from(kind: Option<FaultKind>, telegram: Option<Kind>) -> bool
     }
 }
 
+// Returns whether the key `link` is known: not in a restart, nor where a station is deaf.
 #[tactic(auto, unfolding(crate::specs::Fault::has_link))]
 fn has_link(kind: Option<FaultKind>, telegram: Option<Kind>) -> bool
     ensures { result ≡ has_link kind telegram }
@@ -186,6 +191,7 @@ fn has_link(kind: Option<FaultKind>, telegram: Option<Kind>) -> bool
     }
 }
 
+// Returns whether the key `bit` is known: where a bit is flipped, or bits are cut off.
 #[tactic(auto, unfolding(crate::specs::Fault::has_bit))]
 fn has_bit(kind: Option<FaultKind>, telegram: Option<Kind>) -> bool
     ensures { result ≡ has_bit kind telegram }
@@ -197,6 +203,7 @@ fn has_bit(kind: Option<FaultKind>, telegram: Option<Kind>) -> bool
     }
 }
 
+// Returns whether the key `station` is known: in a restart, and where a station is deaf.
 #[tactic(auto, unfolding(crate::specs::Fault::has_station))]
 fn has_station(kind: Option<FaultKind>, telegram: Option<Kind>) -> bool
     ensures { result ≡ has_station kind telegram }

@@ -1,5 +1,5 @@
 // The requests of a document.
-ghost use Rattle.std.specs.Prelude.{◌≡◌, ◌<◌, ◌≤◌, [], length, map, IfOk, IfSome};
+ghost use Rattle.std.specs.Prelude.{◌≡◌, true, ◌<◌, ◌≤◌, [], length, map, IfOk, IfSome};
 ghost use Rattle.std.specs.List.{All};
 ghost use Rattle.toml.specs.View.{table_view};
 ghost use Rattle.sercos_model.specs.Bits.{AreBytes};
@@ -9,18 +9,19 @@ ghost use Rattle.sercos_step.specs.Jobs.{IsCommand, IsJob};
 ghost use Rattle.sercos_document.specs.Answers.{Gives, Shows};
 ghost use Rattle.sercos_document.specs.Tables.{known};
 ghost use Rattle.sercos_document.specs.Located.{located};
-ghost use Rattle.sercos_config.specs.Words.{glimpse, word};
+ghost use Rattle.sercos_config.specs.Words.{address_under, glimpse, word};
 ghost use Rattle.sercos_config.specs.Request.{request_kind, has_element, has_data, keys_if, request_keys, bytes_spelled, bytes_under, asked_of, request_of, requests_onto};
 
 use crate::block::read_idn;
 use crate::data::decoded;
-use crate::words::{glance, key_if, read_address};
+use crate::words::{glance, key_if};
 use sercos_bits::Bytes;
 use sercos_block::limits::MOST_DATA;
-use sercos_block::{DriveSetup, has_other_data};
+use sercos_block::{DriveSetup, has_address, has_other_data};
 use sercos_document::{BadDocument, Keys, Place};
 use sercos_idn::Idn;
 use sercos_step::{Job, Request};
+use sercos_timing::limits::MOST_ADDRESS;
 use std::alloc::Global;
 use toml::Table;
 
@@ -94,7 +95,7 @@ fn known(keys: &Keys<'_>, kind: Option<RequestKind>) -> Result<(), BadDocument>
     known_if(keys, has_element(kind), has_data(kind))
 }
 
-// Refuses the least unknown key; `counts` is whether some of the keys are known.
+// Refuses the least unknown key, in the order of bytes. Each flag is whether the key of its name is known.
 #[tactic(auto, unfolding(crate::specs::Request::keys_if))]
 fn known_if(keys: &Keys<'_>, element: bool, bytes: bool) -> Result<(), BadDocument>
     ensures { Gives result (known (located keys.now) (keys_if element bytes)) }
@@ -108,6 +109,8 @@ fn known_if(keys: &Keys<'_>, element: bool, bytes: bool) -> Result<(), BadDocume
     ])
 }
 
+// Returns whether the key `element` is known: not for a procedure command. A kind of `None` is absent or none of the words of `kind`; then
+// every key is known, so that the kind itself is refused.
 #[tactic(auto, unfolding(crate::specs::Request::has_element))]
 fn has_element(kind: Option<RequestKind>) -> bool
     ensures { result ≡ has_element kind }
@@ -118,6 +121,7 @@ fn has_element(kind: Option<RequestKind>) -> bool
     }
 }
 
+// Returns whether the key `data` is known: for a write alone, and where the kind is `None`.
 #[tactic(auto, unfolding(crate::specs::Request::has_data))]
 fn has_data(kind: Option<RequestKind>) -> bool
     ensures { result ≡ has_data kind }
@@ -153,6 +157,18 @@ fn read_kind(keys: &Keys<'_>, key: &str) -> Result<RequestKind, BadDocument>
         Some(kind) => Ok(kind),
         None => Err(keys.range(key, text.len() as i64)),
     }
+}
+
+// Returns the address of one of the drives.
+#[tactic(auto, unfolding(crate::specs::Words::address_under))]
+fn read_address(keys: &Keys<'_>, drives: &[DriveSetup], key: &str) -> Result<u8, BadDocument>
+    ensures value { Gives result (address_under drives.now (located keys.now) key.now) }
+    ensures has { IfOk result (λ address. has_address address drives.now ≡ true) }
+{
+    let address = keys.number(key, 1, u32::from(MOST_ADDRESS))?;
+    let stands = has_address(address as u8, drives);
+    keys.demand(stands, key, i64::from(address))?;
+    Ok(address as u8)
 }
 
 // What a request of a kind does at the drive with an address.

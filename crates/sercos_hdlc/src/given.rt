@@ -171,7 +171,7 @@ pub fn ending(byte: u8) -> u8
     ENDING[usize::from(byte)]
 }
 
-// The entry for a byte after `ones` ones in a row.
+// Returns the entry of `GIVEN` for a byte after `ones` ones in a row, 0 to 5.
 fn entry_for(ones: u8, byte: u8) -> u16
     requires { ones ≤ 5 }
     ensures { (before : Bool) → parts_of result ≡ given_of before ones (low_bits 8 byte) }
