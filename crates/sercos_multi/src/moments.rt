@@ -87,7 +87,8 @@ fn write_moment<L: BitLink, K: Sink>(
     pass_all(parts, moment, time, line, sink)
 }
 
-// The sooner of two moments, if a ring has cycles left.
+// Returns the sooner of `best` and the moment `at`, in microseconds, at which a ring begins its next cycle. It is `best` if the ring has
+// no cycles left, or if `at` is before the moment `from`, up to which all lines are written.
 fn sooner(best: Option<u32>, left: u32, at: u32, from: u32) -> Option<u32>
     ensures { result ≡ sooner best left at from }
 {
@@ -100,7 +101,7 @@ fn sooner(best: Option<u32>, left: u32, at: u32, from: u32) -> Option<u32>
     }
 }
 
-// The first moment, from one on, at which a ring begins a cycle.
+// Returns the first moment from the moment `from` on, in microseconds, at which a ring begins a cycle; `None` if no ring has one left.
 fn earliest<L: BitLink>(parts: &[Part<L>], from: u32) -> Option<u32>
     requires all { (voices : List Voice) × AllAt L.carry L.restart parts.now voices × AreFrom from voices }
     ensures is { (voices : List Voice) → AllAt L.carry L.restart parts.now voices → AreFrom from voices → IsEarliest result voices }

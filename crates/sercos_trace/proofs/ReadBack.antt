@@ -73,7 +73,7 @@ first_after (k ∷ before) kind rest text are none =
     let (here, others) = and_parts (are_apart (template_of k) (template_of kind)) (list_all (λ k. are_apart (template_of k) (template_of kind)) before) are in
     first_by k kind text (line_fault (tail_for k) (template_of k) text) _ refl here none (first_after before kind rest text others none)
 
-first_of : (kind : LineKind) (text : List ℕ) → line_fault (tail_for kind) (template_of kind) text ≡ None → first_kind all_kinds text ≡ Some kind
+pub first_of : (kind : LineKind) (text : List ℕ) → line_fault (tail_for kind) (template_of kind) text ≡ None → first_kind all_kinds text ≡ Some kind
 unfolding are_apart template_of field_of
 first_of kind.At text none = first_after (take 0 all_kinds) kind.At (drop 1 all_kinds) text refl none
 first_of kind.Mst text none = first_after (take 1 all_kinds) kind.Mst (drop 2 all_kinds) text refl none

@@ -6,7 +6,7 @@ use Rattle.sercos_timing.specs.declared.wishes.Wish.{Wish}
 use Rattle.sercos_text.specs.declared.template.Field.{Field}
 use Rattle.sercos_text.specs.declared.template.Field.TheVariants.{Number}
 use Rattle.sercos_text.specs.Tails.{addresses_in, tail_text, IsTail}
-use Rattle.sercos_text.specs.Templates.{field_of, Value, AreOf, line_text, values_of, items_of, numbers_in, signed_by, bytes_by}
+use Rattle.sercos_text.specs.Templates.{field_of, Value, AreOf, line_fault, line_text, values_of, items_of, numbers_in, signed_by, bytes_by}
 use Rattle.sercos_trace.specs.declared.kind.LineKind.{LineKind}
 use Rattle.sercos_trace.specs.declared.kind.LineKind.TheVariants as kind
 use Rattle.sercos_trace.specs.declared.reading.Line.{Line}
@@ -82,8 +82,13 @@ bounds_of (letter ∷ template) = bound_by (field_of letter) ++ bounds_of templa
 abbrev pub IsNumber : List ℕ → ℕ → ℕ → Type 0
 IsNumber numbers index bound = (index < length numbers) × (slice_index numbers index ≤ bound)
 
--- A line that is written of values of its kind's fields, and of items of its tail, is read back as that kind, with these values.
+-- A line that is written of values of its kind's fields, and of items of its tail, is read back as what is read of that kind with these
+-- values.
 abbrev pub ReadsBack : Type 0
 ReadsBack = (kind : LineKind) (values : List Value) (items : List ℕ) → AreOf (template_of kind) values → IsTail (tail_for kind) items →
     line_in (line_text (template_of kind) values ++ tail_text (tail_for kind) items)
     ≡ Some (line_by kind (numbers_in values) (signed_by (pos 0) values) (bytes_by [] values) (addresses_in (tail_for kind) items))
+
+-- A text that fits the template of a kind is a line of that kind, and of no other.
+abbrev pub HasOneKind : Type 0
+HasOneKind = (kind : LineKind) (text : List ℕ) → line_fault (tail_for kind) (template_of kind) text ≡ None → first_kind all_kinds text ≡ Some kind

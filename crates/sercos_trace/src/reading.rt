@@ -4,7 +4,7 @@ ghost use Rattle.std.specs.Result.{result_ok, result_err};
 ghost use Rattle.sercos_trace.specs.declared.kind.LineKind.TheVariants as kind;
 ghost use Rattle.sercos_trace.specs.declared.reading.Line.TheVariants as line;
 ghost use Rattle.sercos_trace.specs.Kinds.{template_of, all_kinds, kinds_fault};
-ghost use Rattle.sercos_trace.specs.Lines.{wish_by, line_by, line_in, AreWithin, IsNumber, bounds_of, ReadsBack};
+ghost use Rattle.sercos_trace.specs.Lines.{wish_by, line_by, line_in, AreWithin, IsNumber, bounds_of, HasOneKind, ReadsBack};
 
 use crate::kind::{LineKind, read_kind};
 use crate::record::Sent;
@@ -193,10 +193,11 @@ pub fn read_line(line: &[u8]) -> Result<Line, BadLine>
     }
 }
 
-/// A law: a line that is written of values of its kind's fields is read back as a line of that kind, with these values. So no
-/// text is a line of two kinds.
+/// A law: a line that is written of values of its kind's fields is read back as what is read of a line of that kind with these values.
+/// And no text is a line of two kinds.
 pub fn reading_law()
-    ensures { ReadsBack }
+    ensures back { ReadsBack }
+    ensures kind { HasOneKind }
 {
     line_law();
 }

@@ -116,7 +116,8 @@ fn write_all_drives<K: Sink>(
     write_drives(wishes.drives(), mark, line, sink)
 }
 
-// Writes the head.
+// Writes the head of a trace: the version, the ring's numbers, a line for each drive, and the order, each line after `mark` and made in
+// `line`.
 fn write_head<K: Sink>(
     wishes: &Wishes,
     mark: &[u8],

@@ -11,7 +11,7 @@ returns c =
     let fit = runs_fit_lines in
     let others = runs_fit_others c.totals_law.ensures.more in
     let reports = runs_fit_reports c.counts_law.ensures.complete in
-    let traces = traces_are_clean c.test_law.ensures.follows c.reading_law.ensures in
+    let traces = traces_are_clean c.test_law.ensures.follows c.reading_law.ensures.back in
     record {
       rules = runs_keep_rules;
       fit = fit;

@@ -1,5 +1,5 @@
 use Rattle.std.proofs.Common.{◌≡◌, ◌<◌, inl, inr, ℕ, Bool, true, false, List, Some, length, refl, arith}
-use Rattle.sercos_call.specs.TopCall.{HasInput}
+use Rattle.sercos_call.specs.TopCall.{HasInput, writes_nothing}
 use Rattle.std.proofs.lemmas.Bool.Decides.{nat_tests}
 use Rattle.sercos_model.specs.Streams.{Rose}
 use Rattle.sercos_io.specs.Memory.{SinkState, room_of}
@@ -17,8 +17,12 @@ told : (reads : Bool) (bytes : List ℕ) → HasInput reads (Some bytes) bytes
 told true bytes = refl
 told false bytes = tt
 
-pub returns : goal.returns
-returns c form fits none below spare =
+pub returns-clause-answers : goal.returns-clause-answers
+returns-clause-answers c form fits none below spare =
     let whole = room c.args.sink.now none below in
     let same = c.rings.ensures.room c.args.source.now (told _ _) (rw whole spare) in
     c.rings.ensures.answers c.args.source.now (told _ _) fits form (still 0 0 refl (omega arith)) (still _ _ same below)
+
+pub returns-clause-unwritten : goal.returns-clause-unwritten
+unfolding writes_nothing
+returns-clause-unwritten c memory = c.rings.ensures.unwritten (rw memory tt)
