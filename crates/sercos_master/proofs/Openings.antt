@@ -1,24 +1,8 @@
 -- What a master stands for when it is opened.
-use Rattle.std.proofs.Common.{◌≡◌, ℕ, zero, suc, ◌+◌, ◌<◌, ◌≤◌, ◌==◌, List, [], ◌∷◌, ◌++◌, length, ap, refl, sym, ◌∙◌, arith, subst, inl, inr, ◌⊎◌, if◌then◌else◌}
-use Rattle.std.specs.Prelude.{map, nat_lt, slice_index, slice_index_or, Some, None, false, Bool, true}
-use Rattle.std.specs.List.{All, position}
-use Rattle.std.proofs.Math.ListN.{set, length-set}
-use Rattle.std.proofs.lemmas.Bool.{cases_eq, eqb-true, eq-eqb}
-use Rattle.std.proofs.lemmas.Bool.Decides.{nat_tests}
-use Rattle.std.proofs.lemmas.Grind.{get_or-set_at}
-use Rattle.std.proofs.lemmas.List.{append_assoc, append-nil, get_or-set_other, get_or_append_left, get_or_push, length_push, nil_from_length}
+use Rattle.sercos_master.proofs.Words.{◌≡◌, ℕ, zero, suc, ◌+◌, ◌<◌, ◌≤◌, ◌==◌, List, [], ◌∷◌, ◌++◌, length, ap, refl, sym, ◌∙◌, arith, subst, inl, inr, ◌⊎◌, if◌then◌else◌, map, nat_lt, slice_index, slice_index_or, Some, None, false, Bool, true, All, position, set, length-set, cases_eq, eqb-true, eq-eqb, nat_tests, get_or-set_at, append_assoc, append-nil, get_or-set_other, get_or_append_left, get_or_push, length_push, nil_from_length, position-Some, Job, IsRequest, AreDistinct, DriveView, RingView, Known, IsKnown, MemberView, Task, HasLists, member, member_of, known_of, no_member, request_task, tasks_from, tasks_for, with_job, SeatView, SeatStandsFor, nothing_seen, first_from, new_epoch, SeatsStandFor, CoreView, CoreStandsFor, AreFresh}
 use Rattle.std.proofs.lemmas.List.Elements.{All-map}
-use Rattle.std.proofs.lemmas.List.Quantifiers.{position-Some}
-use Rattle.sercos_step.specs.declared.request.Job.{Job}
-use Rattle.sercos_step.specs.Steps.{IsRequest}
-use Rattle.sercos_timing.specs.Valid.{AreDistinct}
 use Rattle.sercos_block.specs.Rings.{wishes_of}
 use Rattle.sercos_block.specs.ValidRings.{IsRing}
-use Rattle.sercos_block.specs.Views.{DriveView, RingView}
-use Rattle.sercos_seat.specs.Ring.{Known, IsKnown, MemberView, Task, HasLists, member, member_of, known_of, no_member, request_task, tasks_from, tasks_for, with_job}
-use Rattle.sercos_seat.specs.Seats.{SeatView, SeatStandsFor, nothing_seen}
-use Rattle.sercos_master.specs.Annals.{first_from, new_epoch}
-use Rattle.sercos_master.specs.Kept.{SeatsStandFor, CoreView, CoreStandsFor, AreFresh}
 use Rattle.sercos_master.proofs.Places.{first_seat, place_same}
 
 get_mapped : (drives : List DriveView) (i : ℕ) (d : MemberView) (e : DriveView) → i < length drives → slice_index_or (map member_of drives) i d ≡ member_of (slice_index_or drives i e)

@@ -1,21 +1,7 @@
 -- Where there is a plan, it is the plan of what was read in this epoch.
-use Rattle.std.proofs.Common.{◌≡◌, ℕ, suc, ◌+◌, ◌<◌, ◌≤◌, true, List, [], ◌∷◌, ◌++◌, length, take, drop, refl, sym, ap, ap₂, ◌∙◌, subst, arith, length-append}
-use Rattle.std.specs.Prelude.{nat_le, Option, Some, None, Ok, slice_get}
-use Rattle.std.proofs.lemmas.Bool.{leb-true, le-leb}
-use Rattle.std.proofs.lemmas.Option.{get_or_from_slice_get, slice_get_within}
-use Rattle.std.proofs.lemmas.List.{take-append-le, drop-append-le, length-drop}
-use Rattle.sercos_step.specs.declared.request.Outcome.{Outcome}
-use Rattle.sercos_timing.specs.Order.{record_bytes}
-use Rattle.sercos_timing.specs.Views.{PlanView, WishesView}
-use Rattle.sercos_timing.specs.declared.wishes.Wish.{Wish}
+use Rattle.sercos_master.proofs.Words.{◌≡◌, ℕ, suc, ◌+◌, ◌<◌, ◌≤◌, true, List, [], ◌∷◌, ◌++◌, length, take, drop, refl, sym, ap, ap₂, ◌∙◌, subst, arith, length-append, nat_le, Option, Some, None, Ok, slice_get, leb-true, le-leb, get_or_from_slice_get, slice_get_within, take-append-le, drop-append-le, length-drop, Outcome, record_bytes, PlanView, WishesView, Wish, planned, begun_by, Known, Task, MemberView, member, no_member, bytes_of, long_in, short_in, given, reads_count, is_read, words_given, at_attributes, mdt_attributes, times_given, wish_given, wishes_from, wishes_given, outcomes_in, with_outcome, Call, Past, IsPlanned, outcomes, after_taken, all_read, settled, ready_to_send, after_mdt, past}
 use Rattle.sercos_timing.specs.declared.wishes.Times.{Times}
-use Rattle.sercos_plan.specs.ChainOf.{planned}
-use Rattle.sercos_service_master.specs.Calls.{begun_by}
-use Rattle.sercos_seat.specs.Ring.{Known, Task, MemberView, member, no_member}
-use Rattle.sercos_seat.specs.Agenda.{bytes_of, long_in, short_in, given, reads_count, is_read, words_given, at_attributes, mdt_attributes, times_given, wish_given, wishes_from, wishes_given}
-use Rattle.sercos_seat.specs.Channel.{outcomes_in, with_outcome}
 use Rattle.sercos_seat.proofs.Seats.{before_end}
-use Rattle.sercos_master.specs.Annals.{Call, Past, IsPlanned, outcomes, after_taken, all_read, settled, ready_to_send, after_mdt, past}
 use Rattle.sercos_master.proofs.Keeping.{came_back, going, past_keeps, settled_keeps, stopped}
 use Rattle.sercos_master.proofs.Configured.{leaves, all_pass, begun_adds, mdt_adds, each_passes}
 pub use Rattle.sercos_master.proofs.Configured.{Adds, at_adds}

@@ -1,30 +1,10 @@
 -- What the ring sends, and what that leaves.
-use Rattle.std.proofs.Common.{◌≡◌, ℕ, zero, suc, ◌+◌, ◌/◌, ◌%◌, ◌^◌, ◌<◌, ◌≤◌, ◌==◌, Bool, true, false, List, [], ◌∷◌, ◌++◌, Option, Some, None, length, ap, refl, sym, ◌∙◌, arith, subst, if◌then◌else◌}
-use Rattle.std.specs.Prelude.{not, nat_le, nat_lt, take, is_some, is_none, option_map, slice_index_or, IfSome}
-use Rattle.std.specs.List.{position}
-use Rattle.std.proofs.Math.ListN.{set, length-set}
-use Rattle.std.proofs.lemmas.Bool.{false≢true}
-use Rattle.std.proofs.lemmas.Bool.Decides.{nat_tests}
-use Rattle.sercos_telegram.specs.Spells.{all_drives}
-use Rattle.sercos_service_master.specs.Begun.{master_says}
-use Rattle.sercos_service_master.specs.Calls.{begun_by}
-use Rattle.sercos_timing.specs.Views.{PlanView}
-use Rattle.std.proofs.lemmas.Bool.{leb-true}
-use Rattle.std.proofs.lemmas.List.{length-append, take_all}
+use Rattle.sercos_master.proofs.Words.{◌≡◌, ℕ, zero, suc, ◌+◌, ◌/◌, ◌%◌, ◌^◌, ◌<◌, ◌≤◌, ◌==◌, Bool, true, false, List, [], ◌∷◌, ◌++◌, Option, Some, None, length, ap, refl, sym, ◌∙◌, arith, subst, if◌then◌else◌, not, nat_le, nat_lt, take, is_some, is_none, option_map, slice_index_or, IfSome, position, set, length-set, false≢true, nat_tests, all_drives, master_says, begun_by, PlanView, leb-true, take_all, record_bytes, Wish, Known, MemberView, member, len_or_none, mdt_attributes, record_len, wish_given, wishes_from, outcomes_seen, IsPlanned, Past, outcomes, first_place, is_idle, is_identified, addressed_in, is_sent_to, sent_to, Sent, sent_as, record_to, records_from, mdt_said, single, joint, idle, Seen, SeatView, SeatStandsFor, sent_in, record_seen, SeatsStandFor, CoreView, CoreStandsFor, seen_at, sent_now, Fits, records_upto, idle_same}
+use Rattle.std.proofs.lemmas.List.{length-append}
 use Rattle.std.proofs.lemmas.List.Sums.{sum_by-append}
-use Rattle.sercos_timing.specs.Order.{record_bytes}
-use Rattle.sercos_timing.specs.declared.wishes.Wish.{Wish}
-use Rattle.sercos_seat.specs.Ring.{Known, MemberView, member}
-use Rattle.sercos_seat.specs.Agenda.{len_or_none, mdt_attributes, record_len, wish_given, wishes_from}
 use Rattle.sercos_seat.proofs.Sends.{seen_length}
-use Rattle.sercos_seat.specs.Seats.{outcomes_seen}
-use Rattle.sercos_master.specs.Annals.{IsPlanned, Past, outcomes, first_place, is_idle, is_identified, addressed_in, is_sent_to, sent_to}
 use Rattle.sercos_seat.specs.Records.{record_said, value_said, values_said}
-use Rattle.sercos_master.specs.Says.{Sent, sent_as, record_to, records_from, mdt_said, single, joint, idle}
-use Rattle.sercos_seat.specs.Seats.{Seen, SeatView, SeatStandsFor, sent_in, record_seen}
-use Rattle.sercos_master.specs.Kept.{SeatsStandFor, CoreView, CoreStandsFor, seen_at, sent_now, Fits, records_upto}
 use Rattle.sercos_master.proofs.Places.{one_seat, with_seats, same_place, other_place}
-use Rattle.sercos_seat.proofs.Seats.{idle_same}
 use Rattle.sercos_master.proofs.Rings.{found, unidentified}
 use Rattle.sercos_master.proofs.Wishes.{wishes_more}
 

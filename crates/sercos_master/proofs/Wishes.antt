@@ -1,18 +1,5 @@
 -- What a seat tells of its drive's wish, and what the ring asks of its plan.
-use Rattle.std.proofs.Common.{◌≡◌, ℕ, zero, suc, ◌+◌, ◌<◌, ◌≤◌, Bool, true, false, List, [], ◌∷◌, ◌++◌, Option, Some, None, length, ap, refl, sym, ◌∙◌, arith, subst, if◌then◌else◌}
-use Rattle.std.specs.Prelude.{min, nat_le, nat_lt, is_some, map, take, drop, slice_index_or}
-use Rattle.std.proofs.lemmas.Bool.{false≢true}
-use Rattle.std.proofs.lemmas.Bool.Decides.{nat_tests}
-use Rattle.sercos_step.specs.declared.request.Outcome.{Outcome}
-use Rattle.sercos_timing.specs.declared.wishes.Wish.{Wish}
-use Rattle.sercos_timing.specs.Views.{WishesView}
-use Rattle.sercos_timing.specs.Order.{no_wish, record_bytes}
-use Rattle.sercos_timing.specs.Valid.{IsValid, AreDistinct}
-use Rattle.sercos_trace.specs.declared.events.Stop.{Stop}
-use Rattle.sercos_seat.specs.Ring.{Known, IsKnown, MemberView, member, no_member}
-use Rattle.sercos_seat.specs.Agenda.{wishes_from, wishes_given, mdt_attributes, words_given, wish_given}
-use Rattle.sercos_seat.specs.Seats.{last_long_from, long_stop, last_long, Seen, outcomes_seen}
-use Rattle.sercos_seat.proofs.Lengths.{drop_at, drop_all, get_there, lens}
+use Rattle.sercos_master.proofs.Words.{◌≡◌, ℕ, zero, suc, ◌+◌, ◌<◌, ◌≤◌, Bool, true, false, List, [], ◌∷◌, ◌++◌, Option, Some, None, length, ap, refl, sym, ◌∙◌, arith, subst, if◌then◌else◌, min, nat_le, nat_lt, is_some, map, take, drop, slice_index_or, false≢true, nat_tests, Outcome, Wish, WishesView, no_wish, record_bytes, IsValid, AreDistinct, Stop, Known, IsKnown, MemberView, member, no_member, wishes_from, wishes_given, mdt_attributes, words_given, wish_given, last_long_from, long_stop, last_long, Seen, outcomes_seen, drop_at, drop_all, get_there, lens}
 
 -- THE WISHES OF THE RING
 wishes_length : (drives : List MemberView) (k : ℕ) (outs : ℕ → List Outcome) → length (wishes_from drives k outs) ≡ length drives

@@ -1,7 +1,4 @@
-use Rattle.std.proofs.Common.{rules, ◌<◌, ◌≤◌, length, refl, sym, ◌∙◌}
-use Rattle.std.proofs.Math.ListN.{length-set}
-use Rattle.sercos_seat.specs.Ring.{member}
-use Rattle.sercos_seat.specs.Seats.{SeatStandsFor, sent_in}
+use Rattle.sercos_master.proofs.Words.{rules, ◌<◌, ◌≤◌, length, refl, sym, ◌∙◌, length-set, member, SeatStandsFor, sent_in}
 use Rattle.sercos_master.proofs.Rings.{one_changed, all_changed, none_changed}
 use Rattle.sercos_master.proofs.Sent.{fits_next, out_next, not_yet_sent, upto_end}
 use Rattle.sercos_master.proofs.seats.send_records.Goals as goal
