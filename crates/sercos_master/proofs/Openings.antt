@@ -238,6 +238,3 @@ known_of-IsRing r is lists =
     addresses_are : (drives : List DriveView) → map (λ d. d.address) (map member_of drives) ≡ map (λ d. d.address) drives
     addresses_are [] = refl
     addresses_are (d ∷ drives) = ap (λ (xs : List ℕ). d.address ∷ xs) (addresses_are drives)
-
-pub apart_known : (r : RingView) → IsKnown (known_of r) → AreDistinct (map (λ d. d.address) (known_of r).drives)
-apart_known r k = k.apart

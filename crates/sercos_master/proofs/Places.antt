@@ -102,10 +102,6 @@ hears_from v s p k wanted content w c within awaited is here = by (is_taken s p 
         rw e (with_seats v (set v.seats k w) v.addressed s p p c (record { cycle_is = refl; turns_is = refl; phase_is = refl; whole_is = refl; plans_is = refl; plan_is = refl; stop_is = refl; told_is = refl }) c.addressed_is (length-set v.seats k w)
         (one_seat v.seats s (seen_at p) (seen_at p) k w within c.seats (λ i n. refl) (rw f at here)))
 
--- one that isn't awaited changes nothing
-pub hears_nothing : (s : Known) (p : Past) (k : ℕ) (content : List ℕ) → is_awaited p k ≡ false → after_at_of s (Some k) content p ≡ p
-hears_nothing s p k content e = rw e refl
-
 -- what is wanted of an AT is what the code asks
 pub wanted_same : (v : CoreView) (s : Known) (p : Past) (k : ℕ) (seat : SeatView) → CoreStandsFor v s p → k < length v.seats →
     (if nat_le 3 v.phase then at_len_kept (slice_index_or v.seats k seat) else 4) ≡ wanted_len s p k

@@ -1,5 +1,5 @@
 -- What the ring keeps tells what is looked back on, and what it begins.
-use Rattle.sercos_master.proofs.Words.{cases_Bool, cases_eq, false≢true, inl, inr, ◌≡◌, ℕ, zero, suc, ◌+◌, ◌<◌, ◌≤◌, ◌==◌, Bool, true, false, List, [], ◌∷◌, Option, Some, None, length, ap, subst, refl, sym, ◌∙◌, arith, if◌then◌else◌, ◌%◌, ◌^◌, is_some, is_none, min, unwrap_or, nat_le, nat_lt, slice_index_or, option_map, not, ◌&&◌, ◌||◌, position, option_or, set, length-set, nat_tests, EndCycle, cycles_open, age_of, PlanView, record_bytes, planned, Stop, Known, MemberView, Task, member, wishes_given, last_long_stop, is_read, is_checked, is_ready, reads_count, all_read, with_due_plan, planned_by, with_plan, Past, Turn, first_from, first_place, outcomes, is_idle, is_identified, in_turn, has_turn, begins, is_done, is_at_limit, trouble, first_trouble, first_trouble_from, with_stop, new_epoch, still_waiting, after_end, next_phase, goes_on, whole_row, addressed_before, has_lost_mst, fall_of, count_addressed, next_task, with_task, with_begin, begun, has_lost_at, is_place, of_phase, Seen, SeatView, SeatStandsFor, forgotten, ended_in, cycles_kept, has_read, with_begun, begun_task, SeatsStandFor, CoreView, CoreStandsFor, seen_at, waited_with, waited_for, waited_row, has_missed, queue_same}
+use Rattle.sercos_master.proofs.Words.{cases_Bool, cases_eq, false≢true, inl, inr, ◌≡◌, ℕ, zero, suc, ◌+◌, ◌<◌, ◌≤◌, ◌==◌, Bool, true, false, List, [], ◌∷◌, Option, Some, None, length, ap, subst, refl, sym, ◌∙◌, arith, if◌then◌else◌, ◌%◌, ◌^◌, is_some, is_none, min, unwrap_or, nat_le, nat_lt, slice_index_or, option_map, not, ◌&&◌, ◌||◌, position, option_or, set, length-set, nat_tests, EndCycle, cycles_open, age_of, PlanView, record_bytes, planned, Stop, Known, MemberView, Task, member, wishes_given, last_long_stop, is_read, is_checked, is_ready, reads_count, all_read, with_due_plan, planned_by, with_plan, Past, Turn, first_from, first_place, outcomes, is_idle, is_identified, in_turn, begins, is_done, is_at_limit, trouble, first_trouble, first_trouble_from, with_stop, new_epoch, still_waiting, after_end, next_phase, goes_on, whole_row, addressed_before, has_lost_mst, fall_of, count_addressed, next_task, with_task, with_begin, begun, has_lost_at, is_place, of_phase, Seen, SeatView, SeatStandsFor, forgotten, ended_in, cycles_kept, has_read, with_begun, begun_task, SeatsStandFor, CoreView, CoreStandsFor, seen_at, waited_with, waited_for, waited_row, has_missed, queue_same}
 use Rattle.sercos_trace.specs.declared.events.Fall.TheVariants as fall
 use Rattle.sercos_master.proofs.Keeping.{first_found}
 pub use Rattle.sercos_master.proofs.Keeping.{none_of as no_stop}
@@ -209,9 +209,6 @@ waited_new v s p i c one to within new =
     waited s p i one named (rw (← c.seats_count) within) ∙ rw e refl
 
 -- the fall, by what was found
-pub fall_1 : (s : Known) (p : Past) → has_lost_mst (p.now ∷ p.turns) ≡ true → fall_of s p ≡ Some fall.MstLost
-fall_1 s p e = rw e refl
-
 pub fall_2 : (s : Known) (p : Past) (k : ℕ) → has_lost_mst (p.now ∷ p.turns) ≡ false → first_place s (λ i. has_lost_at i (p.now ∷ p.turns)) ≡ Some k →
     fall_of s p ≡ Some (fall.AtLost (member s k).address)
 fall_2 s p k e f = rw (e, f) refl
@@ -479,21 +476,6 @@ stop_found v s p k seat w c none within there is taken =
             (λ i n. refl)
             (stopped_seat seat w (member s k) (seen_at p k) None taken here)
 
--- where nothing is begun
-begun_none : (v : CoreView) (s : Known) (p : Past) → CoreStandsFor v s p → ((k : ℕ) → begins s p k ≡ None) → CoreStandsFor v s (begun s p)
-begun_none v s p c none = with_seats v v.seats v.addressed s p (begun s p) c (record { cycle_is = refl; turns_is = refl; phase_is = refl; whole_is = refl; plans_is = refl; plan_is = refl; stop_is = refl; told_is = refl }) c.addressed_is refl
-    (λ k seat below. subst (SeatStandsFor (slice_index_or v.seats k seat) (member s k)) (sym (seen_begun s p k ∙ ap (λ t. with_begun t (seen_at p k)) (none k))) (c.seats k seat below))
-
-pub begun_stopped : (v : CoreView) (s : Known) (p : Past) → CoreStandsFor v s p → is_some p.stop ≡ true → CoreStandsFor v s (begun s p)
-begun_stopped v s p c e = begun_none v s p c (λ k. none k)
-  where
-    none : (k : ℕ) → begins s p k ≡ None
-    none k = by p.stop e
-      where
-        by : (o : Option Stop) → is_some o ≡ true → (if is_none o && (is_idle p k && has_turn s p k) then of_phase p.now.phase (next_task s p k) else None) ≡ None
-        by None f = absurd (false≢true f)
-        by (Some x) f = refl
-
 pub begins_late : (s : Known) (p : Past) (k : ℕ) → p.now.phase ≤ 1 → begins s p k ≡ None
 begins_late s p k low =
     let a : nat_le 3 p.now.phase ≡ false = grind (arith, nat_tests, low) in
@@ -504,9 +486,6 @@ begins_late s p k low =
     by true true = refl
     by true false = refl
     by false y = refl
-
-pub begun_early : (v : CoreView) (s : Known) (p : Past) → CoreStandsFor v s p → p.now.phase ≤ 1 → CoreStandsFor v s (begun s p)
-begun_early v s p c low = begun_none v s p c (λ k. begins_late s p k low)
 
 no_stop_is : (o : Option Stop) → is_some o ≡ false → o ≡ None
 no_stop_is None e = refl
@@ -565,9 +544,6 @@ plans v s p q c = record {
 }
 
 -- the plan, where it is due
-pub due_other_phase : (s : Known) (p : Past) → (p.now.phase == 2) ≡ false → with_due_plan s p ≡ p
-due_other_phase s p e = rw e refl
-
 pub due_stopped : (s : Known) (p : Past) → is_some p.stop ≡ true → with_due_plan s p ≡ p
 due_stopped s p e = by (p.now.phase == 2) p.stop e
   where
@@ -575,15 +551,6 @@ due_stopped s p e = by (p.now.phase == 2) p.stop e
     by true None f = absurd (false≢true f)
     by true (Some x) f = refl
     by false o f = refl
-
-pub due_planned : (s : Known) (p : Past) → is_some p.plan ≡ true → with_due_plan s p ≡ p
-due_planned s p e = by (p.now.phase == 2) (is_none p.stop) p.plan e
-  where
-    by : (a b : Bool) (o : Option PlanView) → is_some o ≡ true → (if a && (b && (is_none o && all_read s p)) then planned_by s p else p) ≡ p
-    by true true None f = absurd (false≢true f)
-    by true true (Some x) f = refl
-    by true false o f = refl
-    by false b o f = refl
 
 pub none_of_some : {A : Type 0} (o : Option A) → is_some o ≡ true → is_none o ≡ false
 none_of_some None e = absurd (false≢true e)

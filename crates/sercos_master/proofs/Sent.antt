@@ -113,13 +113,6 @@ records_all s p h = from_upto s p 0 (length s.drives) h ∙ ap (records_upto s (
 pub said_late : (s : Known) (p : Past) → 3 ≤ p.now.phase → mdt_said s (sent_now s p) ≡ option_map (joint s (sent_to None p)) p.plan
 said_late s p h = let l = late_phase p.now.phase h in rw (now_late s p h, l.0, l.1.0, l.1.1) refl
 
-pub start_late : (s : Known) (p : Past) (plan : Option PlanView) → plan ≡ p.plan → 3 ≤ p.now.phase → option_map (λ q. q.t2) plan ≡ option_map (λ m. m.start) (mdt_said s (sent_now s p))
-start_late s p plan e h = rw (said_late s p h, e) (by p.plan)
-  where
-    by : (o : Option PlanView) → option_map (λ q. q.t2) o ≡ option_map (λ m. m.start) (option_map (joint s (sent_to None p)) o)
-    by None = refl
-    by (Some q) = refl
-
 pub content_planned : (s : Known) (p : Past) (out : List ℕ) → 3 ≤ p.now.phase → (is_some p.plan ≡ true → out ≡ all_drives ∷ records_upto s (seen_at p) p.cycle (length s.drives)) →
     IfSome (mdt_said s (sent_now s p)) (λ m. out ≡ m.content)
 content_planned s p out h e = rw (said_late s p h) (by p.plan e)
@@ -149,11 +142,6 @@ seen_there p to k e = rw e refl
 unsent : (v : CoreView) (s : Known) (p : Past) (to : Option ℕ) → CoreStandsFor v s p → ((k : ℕ) → is_sent_to p to k ≡ false) → CoreStandsFor (record v { addressed = to }) s (sent_to to p)
 unsent v s p to c none = sent_core v v.seats s p to c refl (λ k seat below. subst (SeatStandsFor (slice_index_or v.seats k seat) (member s k)) (sym (seen_unsent p to k (none k))) (c.seats k seat below))
 
-pub sent_0 : (v : CoreView) (s : Known) (p : Past) → CoreStandsFor v s p → p.now.phase ≡ 0 → CoreStandsFor (record v { addressed = None }) s (sent_now s p)
-sent_0 v s p c e =
-    let to : addressed_in s p ≡ None = rw e refl in
-    rw to (unsent v s p None c (λ k. rw e refl))
-
 pick : {A : Type 0} (b : Bool) (x y : A) → b ≡ true → (if b then x else y) ≡ x
 pick true x y e = refl
 pick false x y e = absurd (false≢true e)
@@ -169,9 +157,6 @@ to_1 v s p c e =
 pub sent_1 : (v : CoreView) (s : Known) (p : Past) → CoreStandsFor v s p → p.now.phase ≡ 1 → CoreStandsFor (record v { addressed = position (λ seat. not seat.identified) v.seats }) s (sent_now s p)
 sent_1 v s p c e = subst (λ to. CoreStandsFor (record v { addressed = position (λ seat. not seat.identified) v.seats }) s (sent_to to p)) (sym (to_1 v s p c e))
     (unsent v s p (position (λ seat. not seat.identified) v.seats) c (λ k. rw e refl))
-
-pub said_0 : (s : Known) (p : Past) → p.now.phase ≡ 0 → mdt_said s (sent_now s p) ≡ None
-said_0 s p e = rw e refl
 
 pub said_1 : (v : CoreView) (s : Known) (p : Past) → CoreStandsFor v s p → p.now.phase ≡ 1 → mdt_said s (sent_now s p) ≡ option_map (single s idle) (position (λ seat. not seat.identified) v.seats)
 said_1 v s p c e = subst (λ to. mdt_said s (sent_to to p) ≡ option_map (single s idle) (position (λ seat. not seat.identified) v.seats)) (sym (to_1 v s p c e)) (rw e refl)

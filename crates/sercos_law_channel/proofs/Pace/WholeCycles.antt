@@ -9,10 +9,6 @@ use Rattle.sercos_law_channel.proofs.Pace.EpochBegins.{none_begun}
 two_ways : (p : ℕ) → (p ≤ 1) ⊎ (2 ≤ p)
 two_ways p = elim (cases_eq p 0) [ inl z ↦ inl (omega arith) | inr nz ↦ elim (cases_eq p 1) [ inl one ↦ inl (omega arith) | inr more ↦ inr (omega arith) ] ]
 
-some_of : {A : Type 0} (o : Option A) → is_some o ≡ true → (x : A) × (o ≡ Some x)
-some_of None some = absurd (cc)
-some_of (Some x) some = (x, refl)
-
 -- a record that is sent comes to the drive
 pub got_some : (v : View) → v.mdt_comes ≡ true → is_some v.sent ≡ true → is_some (got_in v) ≡ true
 got_some v comes sent = ap is_some (cond-true v.mdt_comes v.sent None comes) ∙ sent

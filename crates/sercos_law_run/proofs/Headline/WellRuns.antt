@@ -1,5 +1,5 @@
 -- The stops that are told in a cycle.
-use Rattle.sercos_law_run.proofs.Words.{◌≡◌, ℕ, ◌<◌, Bool, true, false, List, [], ◌∷◌, length, Option, Some, None, refl, sym, ◌∙◌, ap, if◌then◌else◌, option_or, Job, IsValid, wishes_of, IsStore, store_of, RingView, blocks_in, EventsView, CycleView, Stop, member, known_of, tasks_for, Past, outcomes, restart_told, stop_told, tasks_wait, Carry, Restarts, drive_at, master_calls, looks_back, middle, no_events, IsNext, behind_mdt, after_mst, view_of, views_of, IsSpelled, IsOpened, IsStored, StopsRight, is_planned}
+use Rattle.sercos_law_run.proofs.Words.{◌≡◌, ℕ, ◌<◌, Bool, true, false, List, [], ◌∷◌, length, Option, Some, None, refl, sym, ◌∙◌, ap, if◌then◌else◌, option_or, Job, IsValid, wishes_of, IsStore, store_of, RingView, blocks_in, EventsView, CycleView, Stop, member, known_of, tasks_for, outcomes, restart_told, stop_told, tasks_wait, Carry, Restarts, drive_at, master_calls, looks_back, middle, no_events, IsNext, behind_mdt, after_mst, view_of, views_of, IsSpelled, IsOpened, IsStored, StopsRight, is_planned}
 use Rattle.sercos_trace.specs.declared.events.Stop.TheVariants as stop
 use Rattle.sercos_law_run.proofs.Settings.WellSets.{IsWellSet, well_next}
 use Rattle.sercos_law_run.proofs.Settings.NoCheck127.{stays, next_still, never_127_in}
@@ -15,9 +15,6 @@ told_stop false o x is = cc
 pub event_stop : (r : RingView) (jobs : List Job) (carry : Carry) (restarts : Restarts) (t : CycleView) (j : List CycleView) (x : Stop) → IsNext r jobs carry restarts t j → t.events.stop ≡ Some x → (behind_mdt r jobs carry restarts t.sent j).stop ≡ Some x
 event_stop r jobs carry restarts t j x next is = by (restarts (length j) 0) (sym (ap (λ (e : EventsView). e.stop) next.events) ∙ is)
   where
-    p : Past
-    p = behind_mdt r jobs carry restarts t.sent j
-
     which : (o : Option Stop) → option_or o None ≡ Some x → o ≡ Some x
     which None is = cc
     which (Some y) is = is

@@ -48,10 +48,6 @@ unfolding template_of AreOf IsPart IsOf field_of part_left
 order_fits = (tt, (tt, (tt, (tt, (tt, tt)))))
 
 -- the places of the addresses
-length_addresses : (ds : List Wish) → length (addresses ds) ≡ length ds
-length_addresses [] = refl
-length_addresses (d ∷ ds) = ap suc (length_addresses ds)
-
 places_back : (w : WishesView) (order : List ℕ) → AreDistinct (addresses w.drives) → AreBelow order (length w.drives) → places w.drives (map (address_at w) order) ≡ order
 places_back w [] apart below = refl
 places_back w (k ∷ order) apart below =

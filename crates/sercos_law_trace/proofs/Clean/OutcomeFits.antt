@@ -144,9 +144,6 @@ list_fits (actual ∷ longest ∷ words) are =
     let long = length-take (min actual 1024) (bytes_in words) in
     (AreBytes-take (min actual 1024) (bytes_in words) (bytes_of_words words are.1.1), omega (arith, long))
 
-read_fits : (s : Shape) (words : List ℕ) → AreWords words → (s ≡ shape.List → ⊥) → length words ≤ 2 → AreBytes (bytes_in words) × (length (bytes_in words) ≤ 1024)
-read_fits s words are other few = (bytes_of_words words are, let long = bytes_long words in omega (arith, long, few))
-
 result_fits : (q : Request) (words : List ℕ) → AreWords words → length words ≡ count_of q words → AreBytes (result_of q words) × (length (result_of q words) ≤ 1024)
 result_fits (request.Read idn e) words are count = by (shape_of e (attribute_read e words)) count
   where
