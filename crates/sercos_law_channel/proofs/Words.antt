@@ -20,6 +20,7 @@ pub use Rattle.sercos_idn.specs.declared.code.Code.{Code}
 pub use Rattle.sercos_idn.specs.declared.idn.Idn.{Idn}
 pub use Rattle.sercos_idn.specs.declared.kinds.Length.{Length}
 pub use Rattle.sercos_idn.specs.declared.kinds.Length.TheVariants.{Four, Two}
+pub use Rattle.sercos_block.proofs.SoundLemmas.{found_sound}
 pub use Rattle.sercos_block.proofs.TypeLemmas.{types}
 pub use Rattle.sercos_block.specs.Blocks.{bits_in, bytes_for, is_fixed, is_number, is_protected, meant, number_end, width_of}
 pub use Rattle.sercos_block.specs.Rules.{is_limit, is_max_len, is_printable, is_step, is_text}

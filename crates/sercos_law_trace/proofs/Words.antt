@@ -50,9 +50,11 @@ pub use Rattle.sercos_plan.specs.Chains.{last_place}
 pub use Rattle.sercos_plan.specs.LeastTimes.{greatest_t4min, is_roomy, least_bits, least_plan, least_t1, needed, round_up}
 pub use Rattle.sercos_plan.specs.Views.{ChainView}
 pub use Rattle.sercos_plan.specs.declared.chain.Link.{Link}
+pub use Rattle.sercos_plan.proofs.PlanLemmas.{length_first}
 pub use Rattle.sercos_step.proofs.Ends.{has_next, length-answer_words}
+pub use Rattle.sercos_step.proofs.Flags.{and_left}
 pub use Rattle.sercos_step.specs.Counts.{CountsAnswers, count_of}
-pub use Rattle.sercos_step.specs.Steps.{AreAnswers, answer_words, attribute_read, is_whole, next_step, opening, outcome_of, result_of, steps_before}
+pub use Rattle.sercos_step.specs.Steps.{AreAnswers, answer_words, attribute_read, is_whole, opening, outcome_of, result_of, steps_before}
 pub use Rattle.sercos_step.specs.Words.{bytes_in, bytes_read, shape_of, words_in}
 pub use Rattle.sercos_step.specs.declared.request.Job.{Job}
 pub use Rattle.sercos_step.specs.declared.request.Outcome.{Outcome}
@@ -64,6 +66,7 @@ pub use Rattle.sercos_command.specs.Checks.{carried_len, data_at}
 pub use Rattle.sercos_service_drive.specs.Log.{Entry, Processed, ahs}
 pub use Rattle.sercos_service_drive.specs.Replies.{log_of, reply_of}
 pub use Rattle.sercos_service_drive.specs.Writes.{AreAlike, Write, added_on, with_added, without_data, writes_of}
+pub use Rattle.sercos_service_drive.proofs.WordLemmas.{length-bytes_in}
 pub use Rattle.sercos_service_master.specs.Begun.{Begun, answer_in, answers_it, open_in, step_at, steps_begun, with_answer, with_step}
 pub use Rattle.sercos_service_master.specs.Calls.{Begin, EndCycle, Hear, Send, begun_by}
 pub use Rattle.sercos_text.specs.Tails.{IsTail, addresses_in, tail_text}
@@ -102,7 +105,7 @@ pub use Rattle.sercos_seat.specs.Records.{word_said}
 pub use Rattle.sercos_seat.specs.Ring.{HasLists, IsKnown, Known, MemberView, Task, known_of, member, member_of, no_member, request_task, tasks_for, tasks_from}
 pub use Rattle.sercos_seat.specs.Seats.{AreWaiting}
 pub use Rattle.sercos_master.proofs.Configured.{each_passes}
-pub use Rattle.sercos_master.proofs.Followed.{settles}
+pub use Rattle.sercos_master.proofs.Followed.{not_longer, settles}
 pub use Rattle.sercos_master.proofs.InOrder.{still_left}
 pub use Rattle.sercos_master.proofs.Keeping.{at_keeps, channel_keeps, end_keeps, first_found}
 pub use Rattle.sercos_master.proofs.Laws.{get_dropped, jobs_waiting}
@@ -114,7 +117,7 @@ pub use Rattle.sercos_script.specs.Links.{Carry, Restarts}
 pub use Rattle.sercos_script.specs.declared.fault.Damage.TheVariants.{Deaf}
 pub use Rattle.sercos_script.specs.declared.fault.Fault.{Fault}
 pub use Rattle.sercos_script.specs.declared.link.Passage.{Passage}
-pub use Rattle.sercos_law_channel.proofs.Theorems.{Laws, Nothing, Processes, Record, added_bare, complete-outcome_of, cycle_exact, find-alike, flipped, goes_on-outcome_of, length-replies_of, length-steps_begun, length-steps_of, processed_phase, processes, refused_opening, written}
+pub use Rattle.sercos_law_channel.proofs.Theorems.{Laws, Nothing, Processes, Record, added_bare, complete-outcome_of, cycle_exact, find-alike, flipped, goes_on-outcome_of, goes_on_at, length-replies_of, length-steps_begun, length-steps_of, processed_phase, processes, refused_opening, written}
 pub use Rattle.sercos_law_channel.specs.Handshake.CommandTransfers.{idn_of}
 pub use Rattle.sercos_law_channel.specs.Handshake.Epochs.{begun_in, command, epoch_begun, epoch_log, epoch_records, log_in, records_in_views, unless_restart, with_begun, with_heard}
 pub use Rattle.sercos_law_channel.specs.Handshake.Exact.{AreExact, AreWrites, Broken, Complete, Given, IsExact, Refused, given_by, given_of, written_to}
@@ -130,7 +133,7 @@ pub use Rattle.sercos_law_run.proofs.Agenda.WritesDone.{writes_data}
 pub use Rattle.sercos_law_run.proofs.Cited.{begins_tasks, check128_has_cause, is_framed, left_of, no_fit_has_cause, refused_has_cause, told_right}
 pub use Rattle.sercos_law_run.proofs.Start.Lengths.{are_as_long}
 pub use Rattle.sercos_law_run.proofs.Start.WellLemmas.{ring_is_valid}
-pub use Rattle.sercos_law_run.proofs.Theorems.{AllStand, AreBegun, AreWords, IsContent, IsPlannedIn, IsTypedPast, Sends, address_of, alike_so, all_ended, all_members, all_stand, at_content, bytes_of_words, carried_length, count_so, drive_got, drives_so, ends_at_0, find_built_in, find_store_of, first_store, got_inside, holding, keeps_all, length-run_of, length_records, mdt_whole, member_is, members_count, mst_whole, numbered_drop, phase_low, phase_same, place_by, plan_words, read_word, rests_so, ring_drive, ring_timed, rules, s_known, same_drive, sender_phase, sent_by, small, spelled_in, store_of_so, stored_in, tasks_so, typed_past, views_count, wish_is, wishes_count, word_of, words_append, words_drop}
+pub use Rattle.sercos_law_run.proofs.Theorems.{AllStand, AreBegun, AreWords, IsContent, IsPlannedIn, IsTypedPast, Sends, address_of, alike_so, all_ended, all_members, all_stand, at_content, bytes_of_words, carried_length, command_below, count_so, drive_got, drives_so, ends_at_0, fell_once, find_built_in, find_store_of, first_store, got_inside, holding, keeps_all, length-run_of, length_records, mdt_whole, member_is, members_count, mst_whole, numbered_drop, phase_low, phase_same, place_by, plan_words, rate_is, read_word, rest_clear, rest_runs, rests_so, ring_drive, ring_timed, rules, s_known, same_drive, sender_phase, sent_by, small, spelled_in, store_of_so, stored_in, tasks_so, typed_past, views_count, wish_is, wishes_count, word_of, words_append, words_drop}
 pub use Rattle.sercos_law_run.proofs.Typed.Spelled.{keeps_within}
 pub use Rattle.sercos_law_run.specs.Agenda.Channels.{AreMoves, Begins, CallsAreMoves, Channel, Ends, Falls, Hears, Identifies, Moves, Plans, Stays, Steps, Within, beginning, channel_at, newest}
 pub use Rattle.sercos_law_run.specs.Agenda.Events.{HasOutcome, HasReport}
@@ -149,7 +152,7 @@ pub use Rattle.sercos_law_run.specs.Slots.Slots.{AreApart, AtSlot, HasPause, Has
 pub use Rattle.sercos_law_run.specs.Start.RingSlots.{held_by}
 pub use Rattle.sercos_law_run.specs.Start.StartUp.{Holds, start_up}
 pub use Rattle.sercos_law_run.specs.Totals.Counting.{with_cycle}
-pub use Rattle.sercos_law_run.specs.Totals.Totals.{ended, falls_in, is_broken, is_complete, is_refused, totals_of}
+pub use Rattle.sercos_law_run.specs.Totals.Totals.{ended, is_broken, is_complete, is_refused, totals_of}
 pub use Rattle.sercos_law_run.specs.Typed.Typed.{IsTypedRequest}
 pub use Rattle.sercos_law_run.specs.Undisturbed.Reports.{HaveTold, request_cycles}
 pub use Rattle.sercos_law_run.specs.Undisturbed.StopsLater.{IsRight}

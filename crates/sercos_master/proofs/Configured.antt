@@ -130,7 +130,7 @@ stays_well i all (Some o) e = elim (cases_eq i (length all)) [
   | inr other ↦ rw (before_end all o i other) e
 ]
 
-stays_ready : (d : MemberView) (all : List Outcome) (o : Option Outcome) → is_ready d all ≡ true → is_ready d (with_outcome o all) ≡ true
+pub stays_ready : (d : MemberView) (all : List Outcome) (o : Option Outcome) → is_ready d all ≡ true → is_ready d (with_outcome o all) ≡ true
 stays_ready d all o e =
     let both = and_parts (is_checked d all) (ended_well (given all (reads_count d + 12))) e in
     rw (stays_well (reads_count d + 11) all o both.0, stays_well (reads_count d + 12) all o both.1) refl

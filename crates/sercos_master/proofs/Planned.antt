@@ -52,7 +52,7 @@ wish_stays d all (Some o) read = wish (times_so all o many) (ats d all o many) (
     wish : times_given (all ++ o ∷ []) ≡ times_given all → at_attributes d (all ++ o ∷ []) ≡ at_attributes d all → mdt_attributes d (all ++ o ∷ []) ≡ mdt_attributes d all → wish_given d (all ++ o ∷ []) ≡ wish_given d all
     wish a b c = rw (a, b, c) refl
 
-read_stays : (d : MemberView) (all : List Outcome) (o : Option Outcome) → is_read d all ≡ true → is_read d (with_outcome o all) ≡ true
+pub read_stays : (d : MemberView) (all : List Outcome) (o : Option Outcome) → is_read d all ≡ true → is_read d (with_outcome o all) ≡ true
 read_stays d all None read = read
 read_stays d all (Some o) read = let many = leb-true (reads_count d) (length all) read in let one = length-append all (o ∷ []) in le-leb (reads_count d) (length (all ++ o ∷ [])) (omega arith)
 

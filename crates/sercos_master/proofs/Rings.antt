@@ -1,5 +1,5 @@
 -- What the ring keeps tells what is looked back on, and what it begins.
-use Rattle.sercos_master.proofs.Words.{cases_Bool, cases_eq, false≢true, inl, inr, ◌≡◌, ℕ, zero, suc, ◌+◌, ◌<◌, ◌≤◌, ◌==◌, Bool, true, false, List, [], ◌∷◌, Option, Some, None, length, ap, subst, refl, sym, ◌∙◌, arith, if◌then◌else◌, ◌%◌, ◌^◌, is_some, is_none, min, unwrap_or, nat_le, nat_lt, slice_index_or, option_map, not, ◌&&◌, ◌||◌, position, option_or, set, length-set, nat_tests, EndCycle, cycles_open, age_of, PlanView, record_bytes, planned, Stop, Known, MemberView, Task, member, wishes_given, last_long_stop, is_read, is_checked, is_ready, reads_count, all_read, with_due_plan, planned_by, with_plan, Past, Turn, first_from, first_place, outcomes, is_idle, is_identified, in_turn, begins, is_done, is_at_limit, trouble, first_trouble, first_trouble_from, with_stop, new_epoch, still_waiting, after_end, next_phase, goes_on, whole_row, addressed_before, has_lost_mst, fall_of, count_addressed, next_task, with_task, with_begin, begun, has_lost_at, is_place, of_phase, Seen, SeatView, SeatStandsFor, forgotten, ended_in, cycles_kept, has_read, with_begun, begun_task, SeatsStandFor, CoreView, CoreStandsFor, seen_at, waited_with, waited_for, waited_row, has_missed, queue_same}
+use Rattle.sercos_master.proofs.Words.{cases_Bool, cases_eq, false≢true, inl, inr, ◌≡◌, ℕ, zero, suc, ◌+◌, ◌<◌, ◌≤◌, ◌==◌, Bool, true, false, List, [], ◌∷◌, Option, Some, None, length, ap, subst, refl, sym, ◌∙◌, arith, if◌then◌else◌, ◌%◌, ◌^◌, is_some, is_none, min, unwrap_or, nat_le, nat_lt, slice_index_or, option_map, not, ◌&&◌, ◌||◌, position, option_or, set, length-set, nat_tests, EndCycle, cycles_open, age_of, PlanView, record_bytes, planned, Stop, Known, MemberView, Task, member, wishes_given, last_long_stop, is_read, is_checked, is_ready, reads_count, all_read, with_due_plan, planned_by, with_plan, Past, Turn, first_from, first_place, outcomes, is_idle, is_identified, in_turn, begins, is_done, is_at_limit, trouble, first_trouble, first_trouble_from, with_stop, new_epoch, still_waiting, after_end, next_phase, goes_on, whole_row, addressed_before, has_lost_mst, fall_of, count_addressed, next_task, with_task, with_begin, begun, has_lost_at, is_place, of_phase, Seen, SeatView, SeatStandsFor, forgotten, ended_in, cycles_kept, has_read, with_begun, begun_task, SeatsStandFor, CoreView, CoreStandsFor, seen_at, waited_with, waited_for, waited_row, has_missed, queue_same, and_left}
 use Rattle.sercos_trace.specs.declared.events.Fall.TheVariants as fall
 use Rattle.sercos_master.proofs.Keeping.{first_found}
 pub use Rattle.sercos_master.proofs.Keeping.{none_of as no_stop}
@@ -135,10 +135,6 @@ first_only (suc n) k i test only low high = elim (cases_eq k i) [
 is_that : (k i : ℕ) → (k == i) ≡ true → k ≡ i
 is_that k i e = grind (arith, nat_tests, e)
 
-true_first : (a b : Bool) → (a && b) ≡ true → a ≡ true
-true_first true b e = refl
-true_first false b e = e
-
 -- in phase 1 it is the drive that the MDT is to, if it was to it in 64 cycles before
 pub waited : (s : Known) (p : Past) (i : ℕ) → p.now.phase ≡ 1 → p.now.addressed ≡ Some i → i < length s.drives →
     first_place s (is_at_limit p) ≡ (if nat_le 64 (min (count_addressed i p.turns) 64) then Some i else None)
@@ -146,7 +142,7 @@ waited s p i one to within =
     first_only (length s.drives) 0 i (is_at_limit p) only (omega arith) (omega (arith, within)) ∙ (ap (λ b. if b then Some i else None) here)
   where
     only : (j : ℕ) → is_at_limit p j ≡ true → j ≡ i
-    only j e = is_that j i (true_first (j == i) (nat_le 64 (count_addressed j p.turns)) (rw (one, to) at e))
+    only j e = is_that j i (and_left (j == i) (nat_le 64 (count_addressed j p.turns)) (rw (one, to) at e))
 
     enough : nat_le 64 (count_addressed i p.turns) ≡ nat_le 64 (min (count_addressed i p.turns) 64)
     enough = elim (cases_Bool (nat_le 64 (count_addressed i p.turns))) [
@@ -164,7 +160,7 @@ waits_for_none s p one to = none_from (length s.drives) 0 (is_at_limit p) (λ j 
 -- nor where it is to a place that the ring hasn't
 pub waits_beyond : (s : Known) (p : Past) (i : ℕ) → p.now.phase ≡ 1 → p.now.addressed ≡ Some i → length s.drives ≤ i → first_place s (is_at_limit p) ≡ None
 waits_beyond s p i one to beyond = none_from (length s.drives) 0 (is_at_limit p) (λ j low h. only_false (is_at_limit p) i j
-    (λ e. is_that j i (true_first (j == i) (nat_le 64 (count_addressed j p.turns)) (rw (one, to) at e))) (λ f. omega (arith, h, f, beyond)))
+    (λ e. is_that j i (and_left (j == i) (nat_le 64 (count_addressed j p.turns)) (rw (one, to) at e))) (λ f. omega (arith, h, f, beyond)))
 
 -- the count for a drive is the one that is kept, where it was the last one
 pub count_same : (turns : List Turn) (i : ℕ) → is_place i (addressed_before turns) ≡ true → min (count_addressed i turns) 64 ≡ waited_row turns

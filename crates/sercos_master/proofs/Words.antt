@@ -42,3 +42,4 @@ pub use Rattle.sercos_master.specs.Any.{AnyStandsFor, Closes}
 pub use Rattle.sercos_master.specs.Kept.{AreFresh, CoreStandsFor, CoreView, Fits, IsIn, SeatsStandFor, has_missed, place_in, records_upto, seen_at, sent_now, waited_for, waited_row, waited_with, with_pair}
 pub use Rattle.sercos_master.specs.Reports.{AreOpen, HasRestarted, closing_told, events_told, inserted, restart_told, stop_told, with_broken, with_report, with_reports}
 pub use Rattle.sercos_master.specs.Says.{Sent, idle, joint, mdt_said, record_to, records_from, sent_as, single}
+pub use Rattle.sercos_step.proofs.Flags.{and_left}

@@ -158,7 +158,7 @@ second_some : (d o : Entry) (past : List Entry) → (x : Entry) × (second_of (d
 second_some d o [] = (d, refl)
 second_some d o (p ∷ past) = second_some o p past
 
-times_suc : (k n : ℕ) → suc k * n ≡ k * n + n
+pub times_suc : (k n : ℕ) → suc k * n ≡ k * n + n
 times_suc k n = grind arith
 
 -- the second of all entries was accepted as long ago as the others take

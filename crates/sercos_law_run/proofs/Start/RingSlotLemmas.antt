@@ -26,7 +26,7 @@ lengths : (r : RingView) → map record_len r.drives ≡ map (λ (d : Wish). d.r
 unfolding wishes_of
 lengths r = lengths_from r.drives
 
-rate_is : (r : RingView) → (wishes_of r).rate ≡ r.rate
+pub rate_is : (r : RingView) → (wishes_of r).rate ≡ r.rate
 unfolding wishes_of
 rate_is r = refl
 

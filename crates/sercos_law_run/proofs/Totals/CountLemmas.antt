@@ -27,7 +27,7 @@ few_next t m k f g falls = record {
   unseen = omega (arith, f.unseen, g.unseen);
 }
 
-fell_once : (m : CycleView) → falls_in m ≤ 1
+pub fell_once : (m : CycleView) → falls_in m ≤ 1
 fell_once m = cond_both (is_some m.events.fall) 1 0 (λ (v : ℕ). v ≤ 1) (λ on. omega arith) (λ off. omega arith)
 
 pub few_more : (t : Totals) (m : CycleView) (n : ℕ) → AreFew t n → IsFew m → AreFew (with_cycle t m) (n + 1)
