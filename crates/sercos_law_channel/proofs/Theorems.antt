@@ -19,3 +19,4 @@ pub use Rattle.sercos_law_channel.proofs.Pace.JobCosts.{list_shape}
 pub use Rattle.sercos_law_channel.proofs.Pace.PassedChecks.{passes_by_setting, passes_last, stays_passed, stays_passed_last}
 pub use Rattle.sercos_law_channel.proofs.Pace.TransferCosts.{long_words, times_suc}
 pub use Rattle.sercos_law_channel.proofs.Pace.WholeCycles.{next_phase, open_late, processed_some, up_by}
+pub use Rattle.sercos_law_channel.proofs.Handshake.ElementWords.{four_bytes, printable_bytes, two_bytes}

@@ -4,7 +4,6 @@ pub use Rattle.sercos_law_run.proofs.Slots.SendingLemmas.{place_by}
 pub use Rattle.sercos_law_run.proofs.Start.BlockFinds.{find_built_in, find_store_of}
 pub use Rattle.sercos_law_run.proofs.Start.CheckPasses.{ring_drive, wish_is}
 pub use Rattle.sercos_law_run.proofs.Agenda.ReportedRuns.{count_so}
-pub use Rattle.sercos_law_run.proofs.Agenda.Requests.{numbered_drop}
 pub use Rattle.sercos_law_run.proofs.Agenda.TaskRuns.{all_ended}
 pub use Rattle.sercos_law_run.proofs.Journal.ClearLemmas.{heard-quiet, same_bits, same_heard, unseen-quiet}
 pub use Rattle.sercos_law_run.proofs.Journal.HarmlessLemmas.{both_are_harmless, cuts_are_harmless}

@@ -142,7 +142,7 @@ pub use Rattle.sercos_seat.specs.Ring.{HasLists, IsKnown, Known, MemberView, Tas
 pub use Rattle.sercos_seat.specs.Seats.{AreWaiting, next_in_2, next_in_3}
 pub use Rattle.sercos_master.proofs.Configured.{configured, each_passes, leaves, mdt_adds, ready, stays_ready}
 pub use Rattle.sercos_master.proofs.Followed.{HasNext, never_idle, no_stop_before, none_troubled, not_longer, settles}
-pub use Rattle.sercos_master.proofs.InOrder.{still_left, tasks_numbered}
+pub use Rattle.sercos_master.proofs.InOrder.{numbered_drop, still_left, tasks_numbered}
 pub use Rattle.sercos_master.proofs.Keeping.{Brings, OfChain, OfRecords, OfTrouble, at_keeps, begins_next, channel_keeps, end_keeps, first_found, going, made, never_both, none_of, past_keeps, settled_keeps, stopped}
 pub use Rattle.sercos_master.proofs.Laws.{all_waiting, jobs_waiting, tasks_wait, waiting_at, waiting_settled}
 pub use Rattle.sercos_master.proofs.Openings.{known_of-IsRing, mapped_length}
@@ -182,7 +182,7 @@ pub use Rattle.sercos_law_channel.proofs.Pace.LateRuns.{head_before, taken_befor
 pub use Rattle.sercos_law_channel.proofs.Pace.OnTime.{joins}
 pub use Rattle.sercos_law_channel.proofs.Pace.TimedCommands.{comes_timed}
 pub use Rattle.sercos_law_channel.proofs.Pace.WholeCycles.{got_some, hears_throughout, is_clean_or_down, moved_next, recovers_in_time, stands_throughout, stays_clean, stays_dead}
-pub use Rattle.sercos_law_channel.proofs.Theorems.{Allows, AreAllowed, Cancels, Down, HasReplies, IsEpoch, IsRead-alike, IsRefused, Laws, Nothing, Poll, Processes, Reads, Record, Stands, accepts_in_order, answered_replies, cancels_well, comes_to, commanded, cycle_exact, ends, ends_so, entries_ago, entries_in_epochs, epoch, fall_into_parts, few_steps, find-alike, goes_on-outcome_of, heard_none, high_of, in_step, is_nil, kept_same, length-replies_of, length-steps_begun, length-steps_of, list_shape, long_words, low_of, newest_step, next_poll, next_setting, nothing_old, only_opening, open_late, passes_by_setting, passes_last, processed_phase, processed_some, processes, reply-read, reply_high, reply_low, said_of, same_log, split_blocks, split_replies, stands, stays_passed, stays_passed_last, those_kept, those_since, times_suc, up_by, without_newest, written}
+pub use Rattle.sercos_law_channel.proofs.Theorems.{Allows, AreAllowed, Cancels, Down, HasReplies, IsEpoch, IsRead-alike, IsRefused, Laws, Nothing, Poll, Processes, Reads, Record, Stands, accepts_in_order, answered_replies, cancels_well, comes_to, commanded, cycle_exact, ends, ends_so, entries_ago, entries_in_epochs, epoch, fall_into_parts, few_steps, find-alike, four_bytes, goes_on-outcome_of, heard_none, high_of, in_step, is_nil, kept_same, length-replies_of, length-steps_begun, length-steps_of, list_shape, long_words, low_of, newest_step, next_poll, next_setting, nothing_old, only_opening, open_late, passes_by_setting, passes_last, printable_bytes, processed_phase, processed_some, processes, reply-read, reply_high, reply_low, said_of, same_log, split_blocks, split_replies, stands, stays_passed, stays_passed_last, those_kept, those_since, times_suc, two_bytes, up_by, without_newest, written}
 pub use Rattle.sercos_law_channel.specs.Handshake.CommandTransfers.{GivesStatus, added_by_setting, cancelled_by, second_of, setting}
 pub use Rattle.sercos_law_channel.specs.Handshake.Epochs.{begun_in, command, command_in, epoch_begun, epoch_log, epoch_records, log_in, records_in_views, unless_restart, with_begun, with_heard}
 pub use Rattle.sercos_law_channel.specs.Handshake.Exact.{AreExact, AreWrites, Broken, Complete, Given, Refused, given_by, given_of, gives, written_to}

@@ -28,24 +28,6 @@ unfolding AreBytes
 bytes_of_words [] are = tt
 bytes_of_words (word ∷ words) are = let a : word < 65536 = are.0 in (omega arith, (omega (arith, a), bytes_of_words words are.1))
 
-pub two_bytes : (n : ℕ) → AreBytes (to_le_bytes w16 n)
-two_bytes n = AreBytes-by_index (to_le_bytes w16 n) each
-  where
-    each : (i : ℕ) → get_or (to_le_bytes w16 n) i 0 < 256
-    each zero = omega arith
-    each (suc zero) = omega arith
-    each (suc (suc i)) = omega arith
-
-pub four_bytes : (n : ℕ) → AreBytes (to_le_bytes w32 n)
-four_bytes n = AreBytes-by_index (to_le_bytes w32 n) each
-  where
-    each : (i : ℕ) → get_or (to_le_bytes w32 n) i 0 < 256
-    each zero = omega arith
-    each (suc zero) = omega arith
-    each (suc (suc zero)) = omega arith
-    each (suc (suc (suc zero))) = omega arith
-    each (suc (suc (suc (suc i)))) = omega arith
-
 -- a word that is read from bytes
 pub read_word : (content : List ℕ) (place : ℕ) → AreBytes content → word_at content place < 65536
 unfolding word_at

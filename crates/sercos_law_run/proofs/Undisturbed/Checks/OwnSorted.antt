@@ -4,7 +4,7 @@ use Rattle.sercos_law_run.proofs.Words.{◌≡◌, ℕ, Bool, true, false, not, 
 use Rattle.sercos_block.specs.BuiltIns.{built_in}
 use Rattle.sercos_block.specs.Stores.{inserted, with_own, store_of}
 use Rattle.sercos_law_run.proofs.Start.BlockFinds.{first_is_new}
-use Rattle.sercos_law_run.proofs.Start.WellLemmas.{read_back}
+use Rattle.sercos_law_run.proofs.Start.Lengths.{idns_back}
 
 abbrev is_own : Block → Bool
 is_own b = not (is_built_in b.idn.raw)
@@ -123,7 +123,7 @@ own_sorted d rules =
 pub list_back : (d : DriveView) → blocks_fault [] d.blocks ≡ None → length (store_of d) ≤ 64
     → take 64 (idns_in (list_bytes (map (λ (b : Block). b.idn) (filter is_own_outside (store_of d))))) ≡ map (λ (b : Block). b.idn) (filter is_outside (with_own [] d.blocks))
 list_back d rules few =
-    ap (take 64) (read_back (map (λ (b : Block). b.idn) (filter is_own_outside (store_of d))))
+    ap (take 64) (idns_back (map (λ (b : Block). b.idn) (filter is_own_outside (store_of d))))
     ∙ take_all 64 (map (λ (b : Block). b.idn) (filter is_own_outside (store_of d))) short
     ∙ ap (map (λ (b : Block). b.idn)) (own_sorted d rules)
   where
