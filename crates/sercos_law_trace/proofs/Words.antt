@@ -16,11 +16,13 @@ pub use Rattle.std.specs.Ordering.{int_eq}
 pub use Rattle.std.specs.Prelude.{IfSome, is_some, option_and_then, slice_get, slice_index}
 pub use mathlib.Core.Bool.{beq}
 pub use Rattle.sercos_model.proofs.BitLemmas.{AreBytes-bytes_of, AreBytes-get_or, AreBytes-take}
+unfoldable pub use Rattle.sercos_model.specs.Bits.{AreBytes}
 pub use Rattle.sercos_model.specs.Frames.{wire_bits}
 pub use Rattle.sercos_hdlc.proofs.FramingLemmas.{length-IsFrame}
 pub use Rattle.sercos_hdlc.specs.Reason.{content_of, plain, reason_of}
 pub use Rattle.sercos_hdlc.specs.Stuffed.{frame_of}
 pub use Rattle.sercos_telegram.specs.Faults.{joint_fault}
+unfoldable pub use Rattle.sercos_telegram.specs.Faults.{head_fault, mst_fault}
 pub use Rattle.sercos_telegram.specs.Spells.{all_drives, fields, mst_content}
 pub use Rattle.sercos_telegram.specs.declared.layout.Kind.{Kind}
 pub use Rattle.sercos_idn.specs.Elements.{data_element}
@@ -37,7 +39,8 @@ pub use Rattle.sercos_block.proofs.TypeLemmas.{types}
 pub use Rattle.sercos_block.specs.Blocks.{is_fixed, is_protected}
 pub use Rattle.sercos_block.specs.BuiltIns.{built_in, built_in_block, built_ins}
 pub use Rattle.sercos_block.specs.Limits.{most_cycles}
-pub use Rattle.sercos_block.specs.Rings.{at_len, has_address, has_drive_numbers, has_ring_numbers, is_ring, wish_of, wishes_of}
+pub use Rattle.sercos_block.specs.Rings.{at_len, has_address, has_drive_numbers, has_ring_numbers, wish_of}
+unfoldable pub use Rattle.sercos_block.specs.Rings.{are_drive_numbers, are_drives, are_ring_numbers, is_ring, row_in, wishes_of}
 pub use Rattle.sercos_block.specs.Rules.{blocks_fault}
 pub use Rattle.sercos_block.specs.Startup.{startup_bound}
 pub use Rattle.sercos_block.specs.Stores.{IsStore, find_block, store_of}
@@ -45,7 +48,8 @@ pub use Rattle.sercos_block.specs.ValidRings.{AreWithinLimits}
 pub use Rattle.sercos_block.specs.Views.{DriveView, RingView}
 pub use Rattle.sercos_block.specs.declared.block.Block.{Block}
 pub use Rattle.sercos_block.specs.declared.built_in.BuiltIn.{BuiltIn}
-pub use Rattle.sercos_plan.specs.ChainOf.{back_of, bits_of_starts, capture_chain, chain_of, cycle_chain, first_greatest, first_tight, first_with, greatest_of, is_tight, link_of, mst_chain, planned, starts, trail_by_master}
+pub use Rattle.sercos_plan.specs.ChainOf.{back_of, bits_of_starts, capture_chain, cycle_chain, first_greatest, first_tight, first_with, greatest_of, is_tight, link_of, mst_chain, planned, starts, trail_by_master}
+unfoldable pub use Rattle.sercos_plan.specs.ChainOf.{chain_of}
 pub use Rattle.sercos_plan.specs.Chains.{last_place}
 pub use Rattle.sercos_plan.specs.LeastTimes.{greatest_t4min, is_roomy, least_bits, least_plan, least_t1, needed, round_up}
 pub use Rattle.sercos_plan.specs.Views.{ChainView}
@@ -69,13 +73,18 @@ pub use Rattle.sercos_service_drive.specs.Writes.{AreAlike, Write, added_on, wit
 pub use Rattle.sercos_service_drive.proofs.WordLemmas.{length-bytes_in}
 pub use Rattle.sercos_service_master.specs.Begun.{Begun, answer_in, answers_it, open_in, step_at, steps_begun, with_answer, with_step}
 pub use Rattle.sercos_service_master.specs.Calls.{Begin, EndCycle, Hear, Send, begun_by}
-pub use Rattle.sercos_text.specs.Tails.{IsTail, addresses_in, tail_text}
-pub use Rattle.sercos_text.specs.Templates.{AreOf, Value, bytes_by, line_fault, line_text, numbers_in, signed_by}
+unfoldable pub use Rattle.sercos_text.specs.Lists.{AreItems, IsItem, item_fault, item_len, item_of, item_text, kept_of, list_fault, list_len, list_of, list_text, listed_fault}
+unfoldable pub use Rattle.sercos_text.specs.Tails.{IsTail, addresses_in, end_fault, idents_text, list_end_fault, tail_fault, tail_of, tail_text}
+pub use Rattle.sercos_text.specs.Templates.{Value}
+unfoldable pub use Rattle.sercos_text.specs.Templates.{AreOf, IsOf, IsSmall, byte_fault, bytes_by, field_fault, field_len, field_of, field_value, hex_text, is_template, items_of, line_fault, line_text, numbers_in, part_fault, part_left, part_len, part_text, part_values, signed_by, value_text, values_of}
 pub use Rattle.sercos_text.specs.Templates.Value.{bytes, number, signed}
 pub use Rattle.sercos_text.specs.declared.list.Item.TheVariants.{Address, Ident}
-pub use Rattle.sercos_trace.specs.Kinds.{all_kinds, line_of, line_with, tail_for, template_of}
-pub use Rattle.sercos_trace.specs.Lines.{ReadsBack, line_as, line_by, line_in}
+pub use Rattle.sercos_trace.specs.Kinds.{all_kinds, line_of, line_with}
+unfoldable pub use Rattle.sercos_trace.specs.Kinds.{first_kind, kinds_fault, later, tail_for, template_of}
+pub use Rattle.sercos_trace.specs.Lines.{ReadsBack, line_as, line_in}
+unfoldable pub use Rattle.sercos_trace.specs.Lines.{line_by, telegram_kind}
 pub use Rattle.sercos_trace.specs.Texts.{address_at, bound_text, chain_text, cycle_text, drive_text, drive_values, end_text, ended_text, events_text, header_text, link_text, move_text, moves_text, order_text, outcome_text, plan_line, raws, ring_text, sent_kind, sent_text, slot_text, slots_text, trace_of}
+unfoldable pub use Rattle.sercos_trace.specs.Texts.{fall_text, plan_text, stop_text}
 pub use Rattle.sercos_trace.specs.Views.{CycleView, EventsView, SentView}
 pub use Rattle.sercos_trace.specs.declared.events.Fall.{Fall}
 pub use Rattle.sercos_trace.specs.declared.events.Stop.{Stop}
@@ -152,7 +161,8 @@ pub use Rattle.sercos_law_run.specs.Slots.Slots.{AreApart, AtSlot, HasPause, Has
 pub use Rattle.sercos_law_run.specs.Start.RingSlots.{held_by}
 pub use Rattle.sercos_law_run.specs.Start.StartUp.{Holds, start_up}
 pub use Rattle.sercos_law_run.specs.Totals.Counting.{with_cycle}
-pub use Rattle.sercos_law_run.specs.Totals.Totals.{ended, is_broken, is_complete, is_refused, totals_of}
+pub use Rattle.sercos_law_run.specs.Totals.Totals.{ended, is_broken, is_complete, is_refused}
+unfoldable pub use Rattle.sercos_law_run.specs.Totals.Totals.{totals_of}
 pub use Rattle.sercos_law_run.specs.Typed.Typed.{IsTypedRequest}
 pub use Rattle.sercos_law_run.specs.Undisturbed.Reports.{HaveTold, request_cycles}
 pub use Rattle.sercos_law_run.specs.Undisturbed.StopsLater.{IsRight}
@@ -161,13 +171,15 @@ pub use Rattle.sercos_law_run.specs.Views.RingViews.{after_mst, at_start, behind
 pub use Rattle.sercos_backup.proofs.TrackLemmas.{map_or}
 pub use Rattle.sercos_backup.specs.Tracking.{told_of}
 pub use Rattle.sercos_checking.proofs.CheckingLemmas.{column-none, read_good}
-pub use Rattle.sercos_checking.specs.Checking.{column_of, read_as}
+unfoldable pub use Rattle.sercos_checking.specs.Checking.{capture_fault, column_of, first_violation, grammar_fault, read_as, shape_fault, verdict_by, verdict_of}
 pub use Rattle.sercos_checking.specs.declared.verdict.Verdict.TheVariants.{Clean, Violation}
 pub use Rattle.sercos_replay.proofs.FeedLemmas.{NoFeed, NoFeed-append, line_no_feed, lines_of-line, tail_no_feed}
 pub use Rattle.sercos_replay.proofs.OptionLemmas.{or-none}
 pub use Rattle.sercos_replay.proofs.SilentLemmas.{template_no_feed}
 pub use Rattle.sercos_replay.proofs.TracedLemmas.{reads_traces}
 pub use Rattle.sercos_replay.specs.Captured.{lines_of, lines_with}
+unfoldable pub use Rattle.sercos_replay.specs.Replaying.{first_cycle, late, late_start}
+unfoldable pub use Rattle.sercos_replay.specs.Stations.{kind_cycle, lines_after, lines_read, mst_cycle}
 pub use Rattle.sercos_replay.specs.Traced.{FitLines, FitsLine, ReadsTraces}
 pub use Rattle.sercos_law_trace.specs.Clean.Fields.{Fit, FitOthers, FitReports, FitTotals, FitsChain, FitsCycle, FitsEnded, FitsEvents, FitsFall, FitsLink, FitsMove, FitsPlan, FitsReports, FitsSlot, FitsStop}
 pub use Rattle.sercos_law_trace.specs.Clean.Ruled.{KeepRules, RunsFitLines, RunsKeepRules, told_after, told_in}

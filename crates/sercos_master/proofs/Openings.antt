@@ -1,7 +1,6 @@
 -- What a master stands for when it is opened.
-use Rattle.sercos_master.proofs.Words.{◌≡◌, ℕ, zero, suc, ◌+◌, ◌<◌, ◌≤◌, ◌==◌, List, [], ◌∷◌, ◌++◌, length, ap, refl, sym, ◌∙◌, arith, subst, inl, inr, ◌⊎◌, if◌then◌else◌, map, nat_lt, slice_index, slice_index_or, Some, None, false, Bool, true, All, position, set, length-set, cases_eq, eqb-true, eq-eqb, nat_tests, get_or-set_at, append_assoc, append-nil, get_or-set_other, get_or_append_left, get_or_push, length_push, nil_from_length, position-Some, Job, IsRequest, AreDistinct, DriveView, RingView, Known, IsKnown, MemberView, Task, HasLists, member, member_of, known_of, no_member, request_task, tasks_from, tasks_for, with_job, SeatView, SeatStandsFor, nothing_seen, first_from, new_epoch, SeatsStandFor, CoreView, CoreStandsFor, AreFresh}
+use Rattle.sercos_master.proofs.Words.{◌≡◌, ℕ, zero, suc, ◌+◌, ◌<◌, ◌≤◌, ◌==◌, List, [], ◌∷◌, ◌++◌, length, ap, refl, sym, ◌∙◌, arith, subst, inl, inr, ◌⊎◌, if◌then◌else◌, map, nat_lt, slice_index, slice_index_or, Some, None, false, Bool, true, All, position, set, length-set, cases_eq, eqb-true, eq-eqb, nat_tests, get_or-set_at, append_assoc, append-nil, get_or-set_other, get_or_append_left, get_or_push, length_push, nil_from_length, position-Some, Job, IsRequest, AreDistinct, DriveView, RingView, Known, IsKnown, MemberView, Task, HasLists, member, member_of, known_of, no_member, request_task, tasks_from, tasks_for, with_job, SeatView, SeatStandsFor, nothing_seen, first_from, new_epoch, SeatsStandFor, CoreView, CoreStandsFor, AreFresh, wishes_of}
 use Rattle.std.proofs.lemmas.List.Elements.{All-map}
-use Rattle.sercos_block.specs.Rings.{wishes_of}
 use Rattle.sercos_block.specs.ValidRings.{IsRing}
 use Rattle.sercos_master.proofs.Places.{first_seat, place_same}
 

@@ -17,6 +17,8 @@ pub use Rattle.sercos_timing.specs.Order.{no_wish, record_bytes}
 pub use Rattle.sercos_timing.specs.Valid.{AreDistinct, IsValid}
 pub use Rattle.sercos_timing.specs.Views.{PlanView, WishesView}
 pub use Rattle.sercos_timing.specs.declared.wishes.Wish.{Wish}
+pub use Rattle.sercos_block.specs.Rings.{is_ring}
+unfoldable pub use Rattle.sercos_block.specs.Rings.{wishes_of}
 pub use Rattle.sercos_block.specs.Views.{DriveView, RingView}
 pub use Rattle.sercos_plan.specs.ChainOf.{planned}
 pub use Rattle.sercos_step.specs.Steps.{IsRequest, answer_words, is_whole, next_step, outcome_of, result_of}

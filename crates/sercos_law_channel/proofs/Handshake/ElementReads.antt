@@ -1,11 +1,9 @@
 -- What a selection of an element copies is read as the element's bytes.
-use Rattle.sercos_law_channel.proofs.Words.{◌≡◌, ℕ, zero, suc, ◌+◌, ◌*◌, ◌/◌, ◌%◌, ◌≤◌, ◌<◌, Bool, true, false, List, [], ◌∷◌, length, refl, ap, sym, ◌∙◌, arith, if◌then◌else◌, ◌==◌, ◌||◌, Option, Some, None, is_none, option_map, unwrap_or, and_parts, cond-false, nat_tests, AreBytes, none_of-then, Idn, Length, attribute_word, Shape, shape_of, shape_by, as_value, outcome_of, steps_before, Block, bits_in, number_end, is_text, is_limit, is_max_len, is_step, find_block, read_fault, is_len, IsStore, SetCommand, has_ended, status_by, setting_of, status_in, Processed, Entry, words_at, missing, without_data, replies_of, IsTransfer, entry_behind, element_in, bytes_at, IsReadAt, found_sound}
+use Rattle.sercos_law_channel.proofs.Words.{◌≡◌, ℕ, zero, suc, ◌+◌, ◌*◌, ◌/◌, ◌%◌, ◌≤◌, ◌<◌, Bool, true, false, List, [], ◌∷◌, length, refl, ap, sym, ◌∙◌, arith, if◌then◌else◌, ◌==◌, ◌||◌, Option, Some, None, is_none, option_map, unwrap_or, and_parts, cond-false, nat_tests, AreBytes, none_of-then, Idn, Length, attribute_word, Shape, shape_of, shape_by, as_value, outcome_of, steps_before, Block, bits_in, number_end, is_text, is_limit, is_max_len, is_step, find_block, read_fault, is_len, IsStore, SetCommand, has_ended, status_by, setting_of, status_in, Processed, Entry, words_at, missing, without_data, replies_of, IsTransfer, entry_behind, element_in, bytes_at, IsReadAt, found_sound, element_of, data_in, element_words}
 use Rattle.sercos_step.specs.declared.shape.Shape.TheVariants as shape
 use Rattle.sercos_step.specs.declared.request.Request.TheVariants as request
 use Rattle.sercos_step.specs.declared.request.Outcome.TheVariants as outcome
-use Rattle.sercos_block.specs.Blocks.{element_of}
 use Rattle.sercos_block.specs.Stores.{is_sound}
-use Rattle.sercos_service_drive.specs.Replies.{data_in, element_words}
 use Rattle.sercos_law_channel.proofs.Handshake.AttributeReplies.{find-alike}
 use Rattle.sercos_law_channel.proofs.Handshake.ElementWords.{read_from, text_read, word_read, bound_read, data_read}
 use Rattle.sercos_law_channel.proofs.Handshake.ReadStages.{low_of, high_of, shape_read, given_by}

@@ -1,6 +1,5 @@
 -- The words of an element that a store keeps, read as the attribute says, are its bytes.
-use Rattle.sercos_law_channel.proofs.Words.{◌≡◌, ℕ, ◌+◌, ◌/◌, ◌≤◌, Bool, true, false, not, ◌&&◌, List, [], ◌∷◌, length, take, refl, ap, sym, ◌∙◌, arith, if◌then◌else◌, ◌==◌, nat_le, Option, Some, None, is_none, option_map, unwrap_or, slice_index, min, list_all, w16, w32, to_le_bytes, nat_tests, Attribute, Length, is_list, item_len, Shape, words_of, bytes_in, bytes_read, words_in, shape_by, as_value, width_of, bytes_for, is_text, is_printable, is_limit, list_words, low_back, high_back, bytes_back, and_parts}
-use Rattle.sercos_model.specs.Bits.{AreBytes}
+use Rattle.sercos_law_channel.proofs.Words.{◌≡◌, ℕ, ◌+◌, ◌/◌, ◌≤◌, Bool, true, false, not, ◌&&◌, List, [], ◌∷◌, length, take, refl, ap, sym, ◌∙◌, arith, if◌then◌else◌, ◌==◌, nat_le, Option, Some, None, is_none, option_map, unwrap_or, slice_index, min, list_all, w16, w32, to_le_bytes, nat_tests, Attribute, Length, is_list, item_len, Shape, words_of, bytes_in, bytes_read, words_in, shape_by, as_value, width_of, bytes_for, is_text, is_printable, is_limit, list_words, low_back, high_back, bytes_back, and_parts, AreBytes}
 use Rattle.sercos_idn.specs.declared.kinds.Length.TheVariants as len
 use Rattle.sercos_step.specs.declared.shape.Shape.TheVariants as shape
 use Rattle.sercos_law_channel.proofs.Handshake.ReadRows.{row, row-all}

@@ -1,6 +1,5 @@
 -- Where a block is write protected, or fixed, no record adds a write to it.
-use Rattle.sercos_law_channel.proofs.Words.{◌≡◌, ℕ, Bool, true, false, not, ◌&&◌, List, [], ◌∷◌, length, refl, sym, ap, ◌∙◌, subst, arith, if◌then◌else◌, ◌==◌, Option, Some, None, IfSome, option_map, option_and_then, then_some, and_parts, cond-false, cond-true, cond_both, eqb-true, not-true, beq, none_of-or, none_of-then, Answer, Block, is_fixed, is_protected, find_block, write_fault, data_fault, put_fault, Processed, Entry, ahs, opens, open_idn, run_before, in_order, answer_by, is_first_word, bytes_written, write_cause_in, reply_at, reply_of, log_of, Write, AreAlike, AreThose, without_data, written_by, with_added, adds, added_on, those_moved, View, standing, stood_in, record_in, processed_in, with_record, kept_in_phase, kept_unless, since_reset, kept_in, write_of, all_writes, AreSound, newest_to, StaysProtected, StaysQuiet, StaysFixed}
-use Rattle.sercos_service_drive.specs.Replies.{write_cause}
+use Rattle.sercos_law_channel.proofs.Words.{◌≡◌, ℕ, Bool, true, false, not, ◌&&◌, List, [], ◌∷◌, length, refl, sym, ap, ◌∙◌, subst, arith, if◌then◌else◌, ◌==◌, Option, Some, None, IfSome, option_map, option_and_then, then_some, and_parts, cond-false, cond-true, cond_both, eqb-true, not-true, beq, none_of-or, none_of-then, Answer, Block, is_fixed, is_protected, find_block, write_fault, data_fault, put_fault, Processed, Entry, ahs, opens, open_idn, run_before, in_order, answer_by, is_first_word, bytes_written, write_cause_in, reply_at, reply_of, log_of, Write, AreAlike, AreThose, without_data, written_by, with_added, adds, added_on, those_moved, View, standing, stood_in, record_in, processed_in, with_record, kept_in_phase, kept_unless, since_reset, kept_in, write_of, all_writes, AreSound, newest_to, StaysProtected, StaysQuiet, StaysFixed, write_cause}
 use Rattle.sercos_law_channel.proofs.Handshake.AttributeReplies.{find-alike}
 use Rattle.sercos_law_channel.proofs.Handshake.PhaseMoves.{Processes, Nothing, Record, processes, processed_phase}
 

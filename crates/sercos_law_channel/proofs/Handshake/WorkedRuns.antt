@@ -1,13 +1,9 @@
 -- A run worked out from the definitions: a write, a second one that a fall breaks, the same again in the next epoch, restarts of
 -- both ends, and a read that comes through.
-use Rattle.sercos_law_channel.proofs.Words.{◌≡◌, ℕ, ◌<◌, Bool, true, false, List, [], ◌∷◌, ◌++◌, replicate, take, refl, arith, Option, Some, None, option_map, Status, Attribute, Two, Request, Outcome, Step, a_step, outcome_of, Block, CommandHistory, Entry, Write, good, Begun, Said, IsTransfer, Heard, View, standing, Choice, run_by, all_begun, all_entries, all_writes, store_in}
+use Rattle.sercos_law_channel.proofs.Words.{◌≡◌, ℕ, ◌<◌, Bool, true, false, List, [], ◌∷◌, ◌++◌, replicate, take, refl, arith, Option, Some, None, option_map, Status, Attribute, Two, Request, Outcome, Step, a_step, outcome_of, Block, CommandHistory, Entry, Write, good, Begun, Said, IsTransfer, Heard, View, standing, Choice, run_by, all_begun, all_entries, all_writes, store_in, attribute_fault, attribute_of, element_of, data_in, element_words, bytes_written, write_cause}
 use Rattle.sercos_idn.specs.declared.kinds.Form.TheVariants as forms
-use Rattle.sercos_idn.specs.Codes.{attribute_fault}
-use Rattle.sercos_idn.specs.Attributes.{attribute_of}
 use Rattle.sercos_step.specs.declared.request.Request.TheVariants as request
 use Rattle.sercos_step.specs.declared.request.Outcome.TheVariants as outcome
-use Rattle.sercos_block.specs.Blocks.{element_of}
-use Rattle.sercos_service_drive.specs.Replies.{data_in, element_words, bytes_written, write_cause}
 
 -- a number of two bytes that is written in phase 2
 abbrev number : Attribute

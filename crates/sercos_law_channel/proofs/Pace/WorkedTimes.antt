@@ -1,12 +1,7 @@
 -- A start-up worked out from the definitions: every telegram comes, and the channel never idles in phase 2.
-use Rattle.sercos_law_channel.proofs.Words.{◌≡◌, inr, ℕ, zero, suc, ◌^◌, ◌<◌, ◌≤◌, Bool, true, false, not, ◌&&◌, ◌||◌, List, [], ◌∷◌, ◌++◌, replicate, length, refl, ap, arith, if◌then◌else◌, ◌==◌, Some, None, IfSome, is_some, and_parts, eqb-true, not-true, Status, Attribute, Two, Request, Block, CommandHistory, find_set, set_in, AreAlike, answers_in, View, standing, stood_in, epoch_begun, IsRun, Choice, run_by, AreSoundChoices, IsSound, AreSound, AreSmall, open_since, IsWhole, AreWhole, ArePassed, AreTimed, AreListed, cost_of, cost_in, AreCarried, age_in}
-use Rattle.sercos_model.specs.Bits.{AreBytes}
+use Rattle.sercos_law_channel.proofs.Words.{◌≡◌, inr, ℕ, zero, suc, ◌^◌, ◌<◌, ◌≤◌, Bool, true, false, not, ◌&&◌, ◌||◌, List, [], ◌∷◌, ◌++◌, replicate, length, refl, ap, arith, if◌then◌else◌, ◌==◌, Some, None, IfSome, is_some, and_parts, eqb-true, not-true, Status, Attribute, Two, Request, Block, CommandHistory, find_set, set_in, AreAlike, answers_in, View, standing, stood_in, epoch_begun, IsRun, Choice, run_by, AreSoundChoices, IsSound, AreSound, AreSmall, open_since, IsWhole, AreWhole, ArePassed, AreTimed, AreListed, cost_of, cost_in, AreCarried, age_in, AreBytes, attribute_fault, attribute_of, element_of, element_words, bytes_written, write_cause}
 use Rattle.sercos_idn.specs.declared.kinds.Form.TheVariants as forms
-use Rattle.sercos_idn.specs.Codes.{attribute_fault}
-use Rattle.sercos_idn.specs.Attributes.{attribute_of}
 use Rattle.sercos_step.specs.declared.request.Request.TheVariants as request
-use Rattle.sercos_block.specs.Blocks.{element_of}
-use Rattle.sercos_service_drive.specs.Replies.{element_words, bytes_written, write_cause}
 use Rattle.sercos_law_channel.proofs.Handshake.RunsMade.{is_run, is_sound}
 use Rattle.sercos_law_channel.proofs.Pace.TimedCommands.{comes_timed}
 

@@ -1,7 +1,5 @@
 -- What is small in a cycle: the number of unseen arrivals, and the lists of its plan.
-use Rattle.sercos_law_run.proofs.Words.{◌≡◌, ℕ, zero, suc, ◌+◌, ◌≤◌, Bool, true, false, if◌then◌else◌, List, [], ◌∷◌, length, slice_index, Option, Some, None, IfSome, Result, Ok, Err, refl, sym, ap, subst, ◌∙◌, arith, cond_both, option_or, length-map, length-map-range_with_len, Job, WishesView, PlanView, Wish, positions, is_roomy, least_t1, sent, planned, chain_of, RingView, wish_of, SentView, EventsView, CycleView, Known, Task, known_of, member_of, tasks_for, wishes_given, Past, Call, past, outcomes, IsPlanned, plan_told, restart_told, Carry, Restarts, passage, sum_below, unseen_at, is_at, ats_in, mst_in, mdt_in, IsNext, unseen_ats, unseen_mst, unseen_mdt, station_of, looks_back, middle, restart_events, no_events, master_calls, wishes_length}
-use Rattle.sercos_plan.specs.LeastTimes.{least_plan}
-use Rattle.sercos_block.specs.Rings.{wishes_of}
+use Rattle.sercos_law_run.proofs.Words.{◌≡◌, ℕ, zero, suc, ◌+◌, ◌≤◌, Bool, true, false, if◌then◌else◌, List, [], ◌∷◌, length, slice_index, Option, Some, None, IfSome, Result, Ok, Err, refl, sym, ap, subst, ◌∙◌, arith, cond_both, option_or, length-map, length-map-range_with_len, Job, WishesView, PlanView, Wish, positions, is_roomy, least_t1, sent, planned, chain_of, RingView, wish_of, SentView, EventsView, CycleView, Known, Task, known_of, member_of, tasks_for, wishes_given, Past, Call, past, outcomes, IsPlanned, plan_told, restart_told, Carry, Restarts, passage, sum_below, unseen_at, is_at, ats_in, mst_in, mdt_in, IsNext, unseen_ats, unseen_mst, unseen_mdt, station_of, looks_back, middle, restart_events, no_events, master_calls, wishes_length, least_plan, wishes_of}
 use Rattle.sercos_telegram.specs.declared.layout.Kind.TheVariants as kinds
 
 -- Unseen arrivals: one at most for each passage.

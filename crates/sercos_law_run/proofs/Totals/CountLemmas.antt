@@ -1,6 +1,5 @@
 -- Counts, cycle by cycle.
-use Rattle.sercos_law_run.proofs.Words.{◌≡◌, ℕ, ◌+◌, ◌<◌, ◌≤◌, [], is_some, refl, arith, cond_both, CycleView, Totals, falls_in, AreFew, HasRoom, IsFew, none_made, with_cycle}
-use Rattle.sercos_law_run.specs.Totals.Totals.{totals_of}
+use Rattle.sercos_law_run.proofs.Words.{◌≡◌, ℕ, ◌+◌, ◌<◌, ◌≤◌, [], is_some, refl, arith, cond_both, CycleView, Totals, falls_in, AreFew, HasRoom, IsFew, none_made, with_cycle, totals_of}
 
 -- nothing was made yet
 pub none_counted : none_made ≡ totals_of []

@@ -1,7 +1,5 @@
 -- Bytes and words.
-use Rattle.sercos_law_run.proofs.Words.{ℕ, zero, suc, ◌+◌, ◌<◌, List, [], ◌∷◌, ◌++◌, get_or, arith, slice_index, w16, w32, to_le_bytes, AreBytes-by_index, AreBytes-get_or, words_of, bytes_in}
-use Rattle.sercos_model.specs.Bits.{AreBytes}
-use Rattle.sercos_telegram.specs.Spells.{word_at}
+use Rattle.sercos_law_run.proofs.Words.{ℕ, zero, suc, ◌+◌, ◌<◌, List, [], ◌∷◌, ◌++◌, get_or, arith, slice_index, w16, w32, to_le_bytes, AreBytes-by_index, AreBytes-get_or, words_of, bytes_in, AreBytes, word_at}
 
 -- each number fits into sixteen bits
 abbrev pub AreWords : List ℕ → Type 0

@@ -1,7 +1,7 @@
 -- The numbers of a chain that shows that no plan fits are small.
-use Rattle.sercos_law_trace.proofs.Words.{◌≡◌, ◌⊎◌, inl, inr, ℕ, zero, suc, ◌+◌, ◌*◌, ◌≤◌, ◌==◌, nat_le, Bool, true, false, List, [], ◌∷◌, ◌++◌, length, max, Option, Some, None, option_map, unwrap_or, slice_index_or, subst, arith, if◌then◌else◌, sum_by-cons, Wish, wish, no_wish, times, sent, neighbor, previous, at_bits, record_bytes, mdt_bits, asked_1, asked_2, asked_3, asked_5, asked_6, asked_7, sum_9, bound_9, greatest, greatest_tmtsy, WishesView, round_up, needed, least_t1, least_bits, greatest_t4min, last_place, is_tight, link_of, back_of, first_tight, starts, bits_of_starts, trail_by_master, greatest_of, first_with, first_greatest, mst_chain, cycle_chain, capture_chain, Link, ChainView, length_first}
+use Rattle.sercos_law_trace.proofs.Words.{◌≡◌, ◌⊎◌, inl, inr, ℕ, zero, suc, ◌+◌, ◌*◌, ◌≤◌, ◌==◌, nat_le, Bool, true, false, List, [], ◌∷◌, ◌++◌, length, max, Option, Some, None, option_map, unwrap_or, slice_index_or, subst, arith, if◌then◌else◌, sum_by-cons, Wish, wish, no_wish, times, sent, neighbor, previous, at_bits, record_bytes, mdt_bits, asked_1, asked_2, asked_3, asked_5, asked_6, asked_7, sum_9, bound_9, greatest, greatest_tmtsy, WishesView, round_up, needed, least_t1, least_bits, greatest_t4min, last_place, is_tight, link_of, back_of, first_tight, starts, bits_of_starts, trail_by_master, greatest_of, first_with, first_greatest, mst_chain, cycle_chain, capture_chain, Link, ChainView, length_first, chain_of}
 use Rattle.sercos_plan.specs.LeastTimes.{least_t2, least_t3}
-use Rattle.sercos_plan.specs.ChainOf.{trail_at, trail, trail_t2, trail_t3, chain_of}
+use Rattle.sercos_plan.specs.ChainOf.{trail_at, trail, trail_t2, trail_t3}
 use Rattle.sercos_law_trace.proofs.Clean.SeenLemmas.{Each}
 
 -- WISHES of numbers that are small

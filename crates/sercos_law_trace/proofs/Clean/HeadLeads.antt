@@ -1,12 +1,8 @@
 -- The head of a trace passes a check of captures, and spells the wishes.
-use Rattle.sercos_law_trace.proofs.Words.{◌≡◌, ℕ, suc, ◌-◌, ◌<◌, ◌≤◌, ◌==◌, false, List, [], ◌∷◌, ◌++◌, length, map, refl, sym, ◌∙◌, ap, subst, arith, append_assoc, append-nil, All, flat_map, nat_tests, All-head, All-tail, Wish, wish, IsValid, AreDistinct, AreBelow, addresses, WishesView, Address, number, Line, line_of, ReadsBack, drive_values, drive_text, address_at, ring_text, order_text, header_text, awaited_after, drives_left, drive_or_order, places, wishes_by, TellsFollowing, told, place_by}
-use Rattle.sercos_text.specs.Lists.{AreItems, IsItem}
-use Rattle.sercos_text.specs.Tails.{tail_text, IsTail, addresses_in}
-use Rattle.sercos_text.specs.Templates.{field_of, AreOf, IsPart, IsOf, part_left, numbers_in}
+use Rattle.sercos_law_trace.proofs.Words.{◌≡◌, ℕ, suc, ◌-◌, ◌<◌, ◌≤◌, ◌==◌, false, List, [], ◌∷◌, ◌++◌, length, map, refl, sym, ◌∙◌, ap, subst, arith, append_assoc, append-nil, All, flat_map, nat_tests, All-head, All-tail, Wish, wish, IsValid, AreDistinct, AreBelow, addresses, WishesView, Address, number, Line, line_of, ReadsBack, drive_values, drive_text, address_at, ring_text, order_text, header_text, awaited_after, drives_left, drive_or_order, places, wishes_by, TellsFollowing, told, place_by, AreItems, IsItem, tail_text, IsTail, addresses_in, field_of, AreOf, IsOf, part_left, numbers_in, template_of, tail_for, line_by}
+use Rattle.sercos_text.specs.Templates.{IsPart}
 use Rattle.sercos_trace.specs.declared.kind.LineKind.TheVariants as kind
 use Rattle.sercos_trace.specs.declared.reading.Line.TheVariants as line
-use Rattle.sercos_trace.specs.Kinds.{template_of, tail_for}
-use Rattle.sercos_trace.specs.Lines.{line_by}
 use Rattle.sercos_check.specs.declared.awaited.Awaited.TheVariants as awaited
 use Rattle.sercos_law_trace.proofs.Clean.PassLemmas.{Goes, Leads, leads_none, leads_both, with_passes, of_passes}
 use Rattle.sercos_law_trace.proofs.Clean.LineLeads.{Stands}

@@ -1,11 +1,9 @@
 -- The numbers of moves, plans, falls and totals fit the fields of their lines.
-use Rattle.sercos_law_trace.proofs.Words.{◌≡◌, ℕ, zero, suc, ◌+◌, ◌*◌, ◌<◌, ◌≤◌, ◌==◌, nat_lt, Bool, true, false, List, [], ◌∷◌, ◌++◌, length, reverse, Option, Some, None, is_some, slice_index_or, refl, sym, ◌∙◌, ap, subst, arith, if◌then◌else◌, slice_index, All, option_or, reverse_onto, All-nil, All-cons, All-head, All-tail, All-append, length-filter, count_by-le-length, wish, IsValid, WishesView, PlanView, Job, Outcome, wishes_of, DriveView, RingView, DriveCall, phase_at, Move, Totals, Fall, EventsView, CycleView, Report, Known, IsKnown, MemberView, member, no_member, known_of, tasks_for, Past, IsPlanned, fall_of, fall_at, has_lost_mst, has_lost_at, first_place, is_at_limit, outcomes, inserted, with_report, with_reports, broken, with_broken, plan_told, outcomes_told, restart_told, Carry, Restarts, drive_at, move_of, moves_below, given_before, given_mst, given_mdt, master_calls, middle, looks_back, no_events, restart_events, IsNext, IsRun, IsClear, behind_mdt, address_of, plan_words, s_known, first_store, IsOpened, with_cycle, ended, is_complete, is_refused, is_broken, FitsMove, FitsPlan, FitsFall, FitsCycle, FitTotals, FitsReports, FitReports, RunsFitOthers, phase_below, is_planned, fell_once}
+use Rattle.sercos_law_trace.proofs.Words.{◌≡◌, ℕ, zero, suc, ◌+◌, ◌*◌, ◌<◌, ◌≤◌, ◌==◌, nat_lt, Bool, true, false, List, [], ◌∷◌, ◌++◌, length, reverse, Option, Some, None, is_some, slice_index_or, refl, sym, ◌∙◌, ap, subst, arith, if◌then◌else◌, slice_index, All, option_or, reverse_onto, All-nil, All-cons, All-head, All-tail, All-append, length-filter, count_by-le-length, wish, IsValid, WishesView, PlanView, Job, Outcome, wishes_of, DriveView, RingView, DriveCall, phase_at, Move, Totals, Fall, EventsView, CycleView, Report, Known, IsKnown, MemberView, member, no_member, known_of, tasks_for, Past, IsPlanned, fall_of, fall_at, has_lost_mst, has_lost_at, first_place, is_at_limit, outcomes, inserted, with_report, with_reports, broken, with_broken, plan_told, outcomes_told, restart_told, Carry, Restarts, drive_at, move_of, moves_below, given_before, given_mst, given_mdt, master_calls, middle, looks_back, no_events, restart_events, IsNext, IsRun, IsClear, behind_mdt, address_of, plan_words, s_known, first_store, IsOpened, with_cycle, ended, is_complete, is_refused, is_broken, FitsMove, FitsPlan, FitsFall, FitsCycle, FitTotals, FitsReports, FitReports, RunsFitOthers, phase_below, is_planned, fell_once, field_of, AreOf, IsOf, part_left, template_of, totals_of}
 use Rattle.sercos_text.specs.Templates.Value.{number as counted}
-use Rattle.sercos_text.specs.Templates.{field_of, AreOf, IsPart, IsOf, part_left}
+use Rattle.sercos_text.specs.Templates.{IsPart}
 use Rattle.sercos_trace.specs.declared.kind.LineKind.TheVariants as kind
 use Rattle.sercos_trace.specs.declared.events.Fall.TheVariants as fall
-use Rattle.sercos_trace.specs.Kinds.{template_of}
-use Rattle.sercos_law_run.specs.Totals.Totals.{totals_of}
 use Rattle.sercos_law_trace.proofs.Clean.RunRules.{low}
 use Rattle.sercos_law_trace.proofs.Clean.TraceClean.{valid}
 

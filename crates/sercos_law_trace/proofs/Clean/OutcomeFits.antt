@@ -1,13 +1,11 @@
 -- The outcomes that a cycle reports fit the fields of their lines.
-use Rattle.sercos_law_trace.proofs.Words.{◌≡◌, inl, inr, ℕ, zero, suc, ◌+◌, ◌-◌, ◌<◌, ◌≤◌, ◌==◌, nat_lt, Bool, true, false, List, [], ◌∷◌, ◌++◌, length, drop, min, Option, Some, None, is_some, is_none, refl, sym, ◌∙◌, ap, subst, arith, if◌then◌else◌, cond_both, slice_index, slice_get, option_and_then, All, All-nil, All-cons, All-head, All-tail, length-take, length-drop, AreBytes-take, AreBytes-bytes_of, reason_of, content_of, plain, Job, Request, Outcome, Shape, Answer, CountsAnswers, count_of, answer_words, outcome_of, is_whole, result_of, steps_before, attribute_read, AreAnswers, bytes_in, bytes_read, shape_of, words_in, length-answer_words, PlanView, RingView, Begun, open_in, answers_it, answer_in, with_answer, Begin, Send, Hear, EndCycle, begun_by, EventsView, CycleView, Report, number_in, broken_number, Known, Task, known_of, tasks_from, tasks_for, request_task, member, Call, HearMst, HearAt, Mdt, End, Restart, Past, past, after_taken, settled, with_begin, ready_to_send, is_sent_to, addressed_in, after_mdt, fall_of, is_idle, inserted, with_report, with_reports, broken, with_broken, outcomes_told, restart_told, settles, at_keeps, channel_keeps, end_keeps, Passage, Carry, Restarts, IsReportOf, IsTask, OfReads, OfWrites, Checks3, Lists3, Checks4, Lists4, OfWaiting, AreBegunTasks, HasBegunTasks, arrival, heard, passage, ats_in, station_of, with_at, at_calls, begin_calls, master_calls, middle, looks_back, no_events, IsNext, AreWords, word_of, words_append, bytes_of_words, read_word, words_drop, FitsEnded, begins_tasks, left_of, told_right, goes_on_at, and_left, length-bytes_in}
-use Rattle.sercos_model.specs.Bits.{AreBytes}
+use Rattle.sercos_law_trace.proofs.Words.{◌≡◌, inl, inr, ℕ, zero, suc, ◌+◌, ◌-◌, ◌<◌, ◌≤◌, ◌==◌, nat_lt, Bool, true, false, List, [], ◌∷◌, ◌++◌, length, drop, min, Option, Some, None, is_some, is_none, refl, sym, ◌∙◌, ap, subst, arith, if◌then◌else◌, cond_both, slice_index, slice_get, option_and_then, All, All-nil, All-cons, All-head, All-tail, length-take, length-drop, AreBytes-take, AreBytes-bytes_of, reason_of, content_of, plain, Job, Request, Outcome, Shape, Answer, CountsAnswers, count_of, answer_words, outcome_of, is_whole, result_of, steps_before, attribute_read, AreAnswers, bytes_in, bytes_read, shape_of, words_in, length-answer_words, PlanView, RingView, Begun, open_in, answers_it, answer_in, with_answer, Begin, Send, Hear, EndCycle, begun_by, EventsView, CycleView, Report, number_in, broken_number, Known, Task, known_of, tasks_from, tasks_for, request_task, member, Call, HearMst, HearAt, Mdt, End, Restart, Past, past, after_taken, settled, with_begin, ready_to_send, is_sent_to, addressed_in, after_mdt, fall_of, is_idle, inserted, with_report, with_reports, broken, with_broken, outcomes_told, restart_told, settles, at_keeps, channel_keeps, end_keeps, Passage, Carry, Restarts, IsReportOf, IsTask, OfReads, OfWrites, Checks3, Lists3, Checks4, Lists4, OfWaiting, AreBegunTasks, HasBegunTasks, arrival, heard, passage, ats_in, station_of, with_at, at_calls, begin_calls, master_calls, middle, looks_back, no_events, IsNext, AreWords, word_of, words_append, bytes_of_words, read_word, words_drop, FitsEnded, begins_tasks, left_of, told_right, goes_on_at, and_left, length-bytes_in, AreBytes, field_of, AreOf, IsOf, part_left, template_of}
 use Rattle.sercos_telegram.specs.declared.layout.Kind.TheVariants as kinds
 use Rattle.sercos_step.specs.declared.request.Request.TheVariants as request
 use Rattle.sercos_step.specs.declared.request.Outcome.TheVariants as outcome
 use Rattle.sercos_step.specs.declared.shape.Shape.TheVariants as shape
 use Rattle.sercos_service_master.specs.Calls as channel
-use Rattle.sercos_text.specs.Templates.{field_of, AreOf, IsPart, IsOf, part_left}
-use Rattle.sercos_trace.specs.Kinds.{template_of}
+use Rattle.sercos_text.specs.Templates.{IsPart}
 use Rattle.sercos_master.specs.Annals.{place_of, begins}
 use Rattle.sercos_law_run.specs.Journal.Arrivals.{content_in}
 

@@ -1,6 +1,5 @@
 -- The ATs that the drives of a ring say, and the wishes of these drives.
-use Rattle.sercos_law_trace.proofs.Words.{◌≡◌, ℕ, zero, suc, ◌+◌, ◌<◌, ◌==◌, nat_lt, Bool, true, false, cond, ◌||◌, if◌then◌else◌, List, [], ◌∷◌, length, map, Option, Some, None, unwrap_or, slice_index_or, refl, sym, ◌∙◌, ap, arith, slice_index, list_any, find, position_or_len, eq-eqb, ne_eqb, eqb-true, nat_tests, Wish, wish, no_wish, WishesView, is_ring, wish_of, DriveView, RingView, DriveCall, Said, drive_says, place_of, is_drive, wish_for, no_drive, drive_at, with_said, said_below, same_drive}
-use Rattle.sercos_block.specs.Rings.{wishes_of}
+use Rattle.sercos_law_trace.proofs.Words.{◌≡◌, ℕ, zero, suc, ◌+◌, ◌<◌, ◌==◌, nat_lt, Bool, true, false, cond, ◌||◌, if◌then◌else◌, List, [], ◌∷◌, length, map, Option, Some, None, unwrap_or, slice_index_or, refl, sym, ◌∙◌, ap, arith, slice_index, list_any, find, position_or_len, eq-eqb, ne_eqb, eqb-true, nat_tests, Wish, wish, no_wish, WishesView, is_ring, wish_of, DriveView, RingView, DriveCall, Said, drive_says, place_of, is_drive, wish_for, no_drive, drive_at, with_said, said_below, same_drive, wishes_of}
 use Rattle.sercos_law_run.specs.Journal.Runs.{inserted}
 use Rattle.sercos_law_trace.proofs.Clean.SeenLemmas.{Each, EachPair, HasOther}
 

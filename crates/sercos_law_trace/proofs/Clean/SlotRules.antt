@@ -1,7 +1,6 @@
 -- Telegrams that are apart keep the rules of phases 3 and 4.
-use Rattle.sercos_law_trace.proofs.Words.{◌≡◌, inl, inr, ℕ, zero, suc, ◌+◌, ◌-◌, ◌*◌, ◌<◌, ◌≤◌, ◌==◌, true, if◌then◌else◌, List, [], ◌∷◌, ◌++◌, length, max, Option, Some, None, is_none, refl, sym, ◌∙◌, ap, subst, arith, slice_index, All, AllPairs, filter, concat, eq-eqb, cases_eq, All-head, All-tail, wire_bits, frame_of, joint_fault, all_drives, Wish, wish, times, record_bytes, first_sent, greatest, greatest_tmtsy, IsValid, AreBelow, WishesView, SentView, Said, Sent, AtSlot, MdtSlot, Held, end_of, mdt_content, HasPause, HasRecovered, AreApart, place_of, at_slot, mdt_slot, IsApart, length_records, wish_for, sent_at, sent_mst, sent_mdt, ats_said}
+use Rattle.sercos_law_trace.proofs.Words.{◌≡◌, inl, inr, ℕ, zero, suc, ◌+◌, ◌-◌, ◌*◌, ◌<◌, ◌≤◌, ◌==◌, true, if◌then◌else◌, List, [], ◌∷◌, ◌++◌, length, max, Option, Some, None, is_none, refl, sym, ◌∙◌, ap, subst, arith, slice_index, All, AllPairs, filter, concat, eq-eqb, cases_eq, All-head, All-tail, wire_bits, frame_of, joint_fault, all_drives, Wish, wish, times, record_bytes, first_sent, greatest, greatest_tmtsy, IsValid, AreBelow, WishesView, SentView, Said, Sent, AtSlot, MdtSlot, Held, end_of, mdt_content, HasPause, HasRecovered, AreApart, place_of, at_slot, mdt_slot, IsApart, length_records, wish_for, sent_at, sent_mst, sent_mdt, ats_said, head_fault}
 use Rattle.sercos_telegram.specs.Kinds.{is_mdt}
-use Rattle.sercos_telegram.specs.Faults.{head_fault}
 use Rattle.sercos_law_run.specs.Slots.Sending.{ats_in}
 use Rattle.sercos_law_trace.proofs.Clean.RuleLemmas.{mdt_at}
 use Rattle.sercos_law_trace.proofs.Clean.SeenLemmas.{Each, EachPair, each_map, each_both, pairs_both, pairs_map, IsFramed}

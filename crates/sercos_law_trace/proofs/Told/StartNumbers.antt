@@ -1,7 +1,6 @@
 -- Each block that the start-up writes is a built-in one, and write protected in phase 4.
-use Rattle.sercos_law_trace.proofs.Words.{◌≡◌, ℕ, ◌==◌, Bool, true, false, ◌||◌, List, [], ◌∷◌, Option, Some, None, refl, sym, ap, ◌∙◌, option_map, list_all, list_any, option_or, and_parts, eqb-true, false≢true, Block, BuiltIn, is_protected, built_ins, built_in, built_in_block, blocks_fault, find_block, store_of, DriveView, start_numbers, find_store_of, find_built_in}
+use Rattle.sercos_law_trace.proofs.Words.{◌≡◌, ℕ, ◌==◌, Bool, true, false, ◌||◌, List, [], ◌∷◌, Option, Some, None, refl, sym, ap, ◌∙◌, option_map, list_all, list_any, option_or, and_parts, eqb-true, false≢true, Block, BuiltIn, is_protected, built_ins, built_in, built_in_block, blocks_fault, find_block, store_of, DriveView, start_numbers, find_store_of, find_built_in, row_in}
 use Rattle.sercos_idn.specs.Attributes.{attribute_of}
-use Rattle.sercos_block.specs.Rings.{row_in}
 
 -- the blocks that the start-up writes or has written: the two lists, the two checks, and the values of the plan
 abbrev pub all_start : List ℕ

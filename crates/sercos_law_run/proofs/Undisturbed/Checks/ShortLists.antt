@@ -1,10 +1,7 @@
 -- The list of a check for phase 4 names at most 37 blocks: a drive's own ones, of which there are 36, and the cycle time.
-use Rattle.sercos_law_run.proofs.Words.{◌≡◌, inl, inr, ℕ, zero, suc, ◌+◌, ◌<◌, ◌≤◌, Bool, true, false, ◌||◌, List, [], ◌∷◌, ◌++◌, length, map, Option, Some, None, refl, sym, ap, ◌∙◌, subst, arith, if◌then◌else◌, ◌==◌, nat_lt, nat_le, is_some, slice_index_or, cond, cases_eq, false≢true, and_parts, leb-true, nat_tests, none-some, Job, built_in_block, row, Empty, is_ring, blocks_fault, find_block, is_below, is_above, put_fault, are_ascending, DriveView, RingView, Block, is_outside, list_bytes, blocks_in, annals, CycleView, Carry, Restarts, IsStoreOf, kept, AreListed, no_drive, drive_at, given_mst, views_of}
+use Rattle.sercos_law_run.proofs.Words.{◌≡◌, inl, inr, ℕ, zero, suc, ◌+◌, ◌<◌, ◌≤◌, Bool, true, false, ◌||◌, List, [], ◌∷◌, ◌++◌, length, map, Option, Some, None, refl, sym, ap, ◌∙◌, subst, arith, if◌then◌else◌, ◌==◌, nat_lt, nat_le, is_some, slice_index_or, cond, cases_eq, false≢true, and_parts, leb-true, nat_tests, none-some, Job, built_in_block, row, Empty, is_ring, blocks_fault, find_block, is_below, is_above, put_fault, are_ascending, DriveView, RingView, Block, is_outside, list_bytes, blocks_in, annals, CycleView, Carry, Restarts, IsStoreOf, kept, AreListed, no_drive, drive_at, given_mst, views_of, built_in, is_drive, are_drives, has_blocks, with_own, store_of, unfit_for_phase_4}
 use Rattle.std.proofs.Common.{filter}
-use Rattle.sercos_block.specs.BuiltIns.{built_in}
-use Rattle.sercos_block.specs.Rings.{is_drive, are_drives, has_blocks}
-use Rattle.sercos_block.specs.Stores.{inserted, with_own, store_of}
-use Rattle.sercos_command.specs.Checks.{unfit_for_phase_4}
+use Rattle.sercos_block.specs.Stores.{inserted}
 use Rattle.sercos_law_run.proofs.Start.BlockFinds.{find_store_of, kept_field}
 use Rattle.sercos_law_run.proofs.Start.KeptLemmas.{refuse_alike}
 use Rattle.sercos_law_run.proofs.Journal.StationLemmas.{drives_so}

@@ -1,5 +1,4 @@
-use Rattle.sercos_master.proofs.Words.{◌≡◌, List, length, true, refl, sym, ◌∙◌, subst, ap, map, ◌==◌, All, position, DriveView, RingView, IsKnown, HasLists, known_of, member_of, tasks_for, SeatView, AreFresh}
-use Rattle.sercos_block.specs.Rings.{is_ring}
+use Rattle.sercos_master.proofs.Words.{◌≡◌, List, length, true, refl, sym, ◌∙◌, subst, ap, map, ◌==◌, All, position, DriveView, RingView, IsKnown, HasLists, known_of, member_of, tasks_for, SeatView, AreFresh, is_ring}
 use Rattle.sercos_master.proofs.Openings.{opened, fresh_stand, known_of-IsRing, mapped_length}
 use Rattle.sercos_master.proofs.ring.Ring.open.Goals as goal
 
