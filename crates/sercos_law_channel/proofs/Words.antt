@@ -12,6 +12,7 @@ pub use mathlib.Core.Bool.{beq}
 pub use Rattle.sercos_model.proofs.FaultLemmas.{none_of-or, none_of-then}
 unfoldable pub use Rattle.sercos_model.specs.Bits.{AreBytes}
 pub use Rattle.sercos_telegram.specs.declared.words.Status.{Status}
+pub use Rattle.sercos_telegram.specs.Words.{status_rest}
 pub use Rattle.sercos_idn.proofs.AttributeLemmas.{attribute_fault-attribute_word, attribute_of-attribute_word, attribute_word-below}
 pub use Rattle.sercos_idn.specs.Attributes.{attribute_word}
 unfoldable pub use Rattle.sercos_idn.specs.Attributes.{attribute_of}
