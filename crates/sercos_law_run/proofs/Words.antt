@@ -209,7 +209,7 @@ pub use Rattle.sercos_law_channel.specs.Handshake.Moves.{with_processed, with_st
 pub use Rattle.sercos_law_channel.specs.Handshake.Parts.{AreInTurn, AreParts, IsPart, IsRow, Unheard, Unsent}
 pub use Rattle.sercos_law_channel.specs.Handshake.ReadTransfers.{IsReadAt, element_in, entry_behind}
 pub use Rattle.sercos_law_channel.specs.Handshake.RunLaws.{AreBefore, BeginsEmpty, phase_commanded}
-pub use Rattle.sercos_law_channel.specs.Handshake.Runs.{IsShown}
+pub use Rattle.sercos_law_channel.specs.Handshake.Runs.{IsShown, IsRun as IsViewRun}
 pub use Rattle.sercos_law_channel.specs.Handshake.Transfers.{AreReplies, HaveBlocks, IsTransfer, is_complete, stored}
 pub use Rattle.sercos_law_channel.specs.Handshake.Values.{GiveElsewhere, StaysWritten, is_plain, newest_to, store_in}
 pub use Rattle.sercos_law_channel.specs.Handshake.Views.{Heard, Standing, View, afresh, before_mst, got_in, kept_in, kept_in_phase, kept_unless, moved, processed_in, processed_of, record_in, since_reset, standing, standing_after, stood_from, stood_in, takes_in, with_record}

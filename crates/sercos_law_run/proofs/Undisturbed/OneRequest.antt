@@ -1,9 +1,8 @@
 -- How many cycles one request takes: those in which its steps are open are fewer than this profile gives a request.
-use Rattle.sercos_law_run.proofs.Words.{◌≡◌, ◌⊎◌, inl, inr, ℕ, ◌+◌, ◌*◌, ◌<◌, ◌≤◌, List, [], ◌∷◌, ◌++◌, length, None, refl, ap, ◌∙◌, subst, arith, length-append, cases_lt, Idn, Request, Answer, read_ends, write_ends, times_le, IsStore, Block, Entry, accepted, Begun, open_in, steps_begun, steps_in, answers_in, command, epoch_begun, epoch_records, epoch_log, AreInStep, AreInTurn, IsRow, IsPart, Unsent, Unheard, AreParts, AreReplies, HaveBlocks, IsTransfer, View, standing, IsSound, AreSound, AreSmall, in_step, IsEpoch, epoch, split_replies, split_blocks, fall_into_parts, length-replies_of, length-steps_begun, HasReplies, answered_replies, AreTimed, AreListed, cost_of, cost_in, IsWhole, AreWhole, RecoversInTime, RecoversSince, open_since, few_steps}
+use Rattle.sercos_law_run.proofs.Words.{◌≡◌, ◌⊎◌, inl, inr, ℕ, ◌+◌, ◌*◌, ◌<◌, ◌≤◌, List, [], ◌∷◌, ◌++◌, length, None, refl, ap, ◌∙◌, subst, arith, length-append, cases_lt, Idn, Request, Answer, read_ends, write_ends, times_le, IsStore, Block, Entry, accepted, Begun, open_in, steps_begun, steps_in, answers_in, command, epoch_begun, epoch_records, epoch_log, AreInStep, AreInTurn, IsRow, IsPart, Unsent, Unheard, AreParts, AreReplies, HaveBlocks, IsTransfer, View, standing, IsSound, AreSound, AreSmall, in_step, IsEpoch, epoch, split_replies, split_blocks, fall_into_parts, length-replies_of, length-steps_begun, HasReplies, answered_replies, AreTimed, AreListed, cost_of, cost_in, IsWhole, AreWhole, RecoversInTime, RecoversSince, open_since, few_steps, IsViewRun}
 use Rattle.sercos_step.specs.declared.request.Request.TheVariants as request
 use Rattle.sercos_step.specs.Steps.{AreAnswers}
 use Rattle.sercos_law_channel.specs.Handshake.Parts.{Heard}
-use Rattle.sercos_law_channel.specs.Handshake.Runs.{IsRun as IsViewRun}
 use Rattle.sercos_law_run.proofs.Undisturbed.Stops.LongWrites.{ends_soon}
 use Rattle.sercos_law_run.proofs.Bounds.BoundSums.{times_sum}
 

@@ -1,9 +1,8 @@
 -- A request of the start-up that a drive refuses in phase 2 is the write of the cycle time, outside the drive's limits.
-use Rattle.sercos_law_run.proofs.Words.{◌≡◌, ◌⊎◌, ℕ, ◌+◌, ◌<◌, ◌≤◌, Bool, true, false, List, [], ◌∷◌, ◌++◌, Option, Some, None, refl, sym, ap, ◌∙◌, subst, arith, if◌then◌else◌, beq, Code, Request, Answer, answer_words, is_whole, result_of, outcome_of, bytes_in, row, store_of, DriveView, Processed, Entry, ahs, accepted, answered, writes_of, Begun, idn, command, command_in, epoch_records, unless_restart, begun_in, records_in_views, log_in, AreExact, replies_of, IsPart, Unsent, Unheard, HaveBlocks, IsTransfer, View, with_record, processed_in, AreSound, AreSmall, all_entries, Laws, epoch, cycle_exact, entries_ago, entries_in_epochs, IsStoreOf, AreStored, make_transfers, have_replies, processes_in_phase}
+use Rattle.sercos_law_run.proofs.Words.{◌≡◌, ◌⊎◌, ℕ, ◌+◌, ◌<◌, ◌≤◌, Bool, true, false, List, [], ◌∷◌, ◌++◌, Option, Some, None, refl, sym, ap, ◌∙◌, subst, arith, if◌then◌else◌, beq, Code, Request, Answer, answer_words, is_whole, result_of, outcome_of, bytes_in, row, store_of, DriveView, Processed, Entry, ahs, accepted, answered, writes_of, Begun, idn, command, command_in, epoch_records, unless_restart, begun_in, records_in_views, log_in, AreExact, replies_of, IsPart, Unsent, Unheard, HaveBlocks, IsTransfer, View, with_record, processed_in, AreSound, AreSmall, all_entries, Laws, epoch, cycle_exact, entries_ago, entries_in_epochs, IsStoreOf, AreStored, make_transfers, have_replies, processes_in_phase, IsViewRun}
 use Rattle.sercos_step.specs.declared.request.Request.TheVariants as request
 use Rattle.sercos_step.specs.declared.request.Outcome.TheVariants as outcome
 use Rattle.sercos_law_channel.specs.Handshake.Parts.{Heard}
-use Rattle.sercos_law_channel.specs.Handshake.Runs.{IsRun as IsViewRun}
 use Rattle.sercos_law_run.proofs.Held.AnsweredRuns.{EntriesStored, entries_stored}
 use Rattle.sercos_law_run.proofs.Settings.NoCheck127.{next_still, stays}
 
