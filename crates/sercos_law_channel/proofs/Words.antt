@@ -3,6 +3,7 @@ pub use Rattle.std.proofs.Common.{Bool, List, [], ap, append_assoc, ap₂, arith
 pub use Rattle.std.proofs.lemmas.Bool.{and_from, and_parts, and_right, both_ways, cases_Bool, cases_eq, cond-false, cond-true, cond_both, eq-eqb, eqb-true, le-leb, leb-true, ltb-true, ne_eqb, not-true}
 pub use Rattle.std.proofs.lemmas.Bool.Decides.{nat_tests}
 pub use Rattle.std.proofs.lemmas.List.Sums.{sum_by-append, sum_by-cons}
+pub use Rattle.std.proofs.Math.Bool.{and-false}
 pub use Rattle.std.specs.Bool.{then_some}
 pub use Rattle.std.specs.Int.{to_le_bytes, w16, w32}
 pub use Rattle.std.specs.List.{list_all, sum_by}
@@ -35,6 +36,7 @@ pub use Rattle.sercos_step.proofs.Ends.{has_next, length-answer_words, read_ends
 pub use Rattle.sercos_step.proofs.ReadBack.{bytes_back, high_back, low_back}
 pub use Rattle.sercos_step.proofs.Runs.{length-run}
 pub use Rattle.sercos_step.proofs.WrittenWords.{few_told, length-at_least_one, length-words_of}
+pub use Rattle.sercos_step.proofs.Flags.{and_left}
 pub use Rattle.sercos_step.specs.Counts.{count_of, polls}
 pub use Rattle.sercos_step.specs.Steps.{AreAnswers, a_step, answer_words, asks_attribute, attribute_then, is_whole, next_step, opening, outcome_of, polling, reading, result_of, run, steps_before, steps_of, writing}
 pub use Rattle.sercos_step.specs.Words.{as_value, at_least_one, bytes_in, bytes_read, shape_by, shape_of, words_in, words_in_list, words_of, words_told}

@@ -14,6 +14,7 @@ pub use Rattle.std.proofs.lemmas.List.Kept.{AllPairs-cons}
 pub use Rattle.std.proofs.lemmas.List.Sorted.{list_any-IsPermutation}
 pub use Rattle.std.proofs.lemmas.List.Sums.{fold-append, sum_by-append, sum_by-cons, sum_by-take-drop, sum_by_push}
 pub use Rattle.std.proofs.lemmas.Option.{get_or_from_slice_get, none-some, same_Some, slice_get-get_or, slice_get_within}
+pub use Rattle.std.proofs.Math.Bool.{or_self_left}
 pub use Rattle.std.specs.Bool.{then_some}
 pub use Rattle.std.specs.Int.{from_le_bytes, to_le_bytes, w16, w32}
 pub use Rattle.std.specs.List.{All, AllPairs, concat, filter, find, flat_map, fold, last_or, list_all, list_any, position, position_or_len, sum, sum_by}

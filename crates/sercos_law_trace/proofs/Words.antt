@@ -9,6 +9,7 @@ pub use Rattle.std.proofs.lemmas.List.Elements.{All-append, All-cons, All-drop, 
 pub use Rattle.std.proofs.lemmas.List.Folds.{find-append}
 pub use Rattle.std.proofs.lemmas.List.Sums.{count_by-le-length, length-filter, sum_by-cons}
 pub use Rattle.std.proofs.lemmas.Option.{none-some, same_Some}
+pub use Rattle.std.proofs.Math.Bool.{and-false, or-true}
 pub use Rattle.std.specs.Int.Signed.{le_z}
 pub use Rattle.std.specs.List.{All, AllPairs, concat, filter, find, flat_map, list_all, list_any, position_or_len}
 pub use Rattle.std.specs.Option.{option_or}

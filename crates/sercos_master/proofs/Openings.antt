@@ -2,7 +2,7 @@
 use Rattle.sercos_master.proofs.Words.{◌≡◌, ℕ, zero, suc, ◌+◌, ◌<◌, ◌≤◌, ◌==◌, List, [], ◌∷◌, ◌++◌, length, ap, refl, sym, ◌∙◌, arith, subst, inl, inr, ◌⊎◌, if◌then◌else◌, map, nat_lt, slice_index, slice_index_or, Some, None, false, Bool, true, All, position, set, length-set, cases_eq, eqb-true, eq-eqb, nat_tests, get_or-set_at, append_assoc, append-nil, get_or-set_other, get_or_append_left, get_or_push, length_push, nil_from_length, position-Some, Job, IsRequest, AreDistinct, DriveView, RingView, Known, IsKnown, MemberView, Task, HasLists, member, member_of, known_of, no_member, request_task, tasks_from, tasks_for, with_job, SeatView, SeatStandsFor, nothing_seen, first_from, new_epoch, SeatsStandFor, CoreView, CoreStandsFor, AreFresh, wishes_of}
 use Rattle.std.proofs.lemmas.List.Elements.{All-map}
 use Rattle.sercos_block.specs.ValidRings.{IsRing}
-use Rattle.sercos_master.proofs.Places.{first_seat, place_same}
+use Rattle.sercos_master.proofs.Places.{first_seat, place_same, other_place}
 
 get_mapped : (drives : List DriveView) (i : ℕ) (d : MemberView) (e : DriveView) → i < length drives → slice_index_or (map member_of drives) i d ≡ member_of (slice_index_or drives i e)
 get_mapped [] i d e h = absurd (omega (arith, h))
@@ -162,12 +162,9 @@ given_one seats s tasks job number place w apart count found all here i v below 
           let yes : (job.drive == (member s place).address) ≡ true = eq-eqb job.drive (member s place).address (sym address) in
           rw (get_or-set_at seats place i w v e is.0, e, yes) here
       | inr n ↦
-          let no_one : (job.drive == (member s i).address) ≡ false = not_equal job.drive (member s i).address (λ f. other_address s i place apart (omega (arith, inside, count)) (omega (arith, is.0, count)) n (address ∙ f)) in
+          let no_one : (job.drive == (member s i).address) ≡ false = other_place job.drive (member s i).address (λ f. other_address s i place apart (omega (arith, inside, count)) (omega (arith, is.0, count)) n (address ∙ f)) in
           rw (get_or-set_other seats place i w v n, no_one) (all i v inside)
     ]
-  where
-    not_equal : (a b : ℕ) → (a ≡ b → ⊥) → (a == b) ≡ false
-    not_equal a b n = grind (arith, nat_tests, n)
 
 pub given_none : (seats : List SeatView) (s : Known) (tasks : ℕ → List Task) (job : Job) (number : ℕ) → length seats ≡ length s.drives →
     position (λ v. v.member.address == job.drive) seats ≡ None → SeatsStandFor seats s (λ k. nothing_seen (tasks k)) →

@@ -1,7 +1,7 @@
 -- The telegrams of phases 0 to 2 keep the rules.
 use Rattle.sercos_law_trace.proofs.Words.{◌≡◌, ℕ, ◌*◌, ◌<◌, ◌≤◌, ◌==◌, nat_lt, nat_le, Bool, true, false, not, ◌&&◌, ◌||◌, if◌then◌else◌, List, [], ◌∷◌, length, Option, Some, None, refl, sym, ◌∙◌, ap, subst, arith, slice_index, and_from, eq-eqb, nat_tests, early_at, early_mdt, WishesView, Said, Sent, Command, is_drive, sent_at, sent_mst}
 use Rattle.sercos_law_trace.proofs.Clean.RuleLemmas.{none_broken, broken_by, seen_of, mdt_at, AreRuled}
-use Rattle.sercos_law_trace.proofs.Clean.SeenLemmas.{Each, EachAfter, each_map, and_false, no_mdt_seen, HasOther, none_from, later_start, IsFramed, frame_kept, same_start}
+use Rattle.sercos_law_trace.proofs.Clean.SeenLemmas.{Each, EachAfter, each_map, no_mdt_seen, HasOther, none_from, later_start, IsFramed, frame_kept, same_start, fresh}
 
 -- an AT and an MDT of phases 1 and 2
 pub record IsEarlyAt (w : WishesView) (s : Said) : Type 0 where
@@ -32,9 +32,6 @@ is_early phase some low = record { some = grind (arith, nat_tests, some); low = 
 
 at_order : (a b c : Bool) → a ≡ true → b ≡ true → c ≡ false → (cycle : ℕ) → ((cycle == cycle) && (b && not c)) ≡ true
 at_order a b c ka kb kc cycle = rw (eq-eqb cycle cycle refl, kb, kc) refl
-
-fresh : (a b : Bool) → b ≡ false → not (a && b) ≡ true
-fresh a b none = ap (λ (x : Bool). not (a && x)) none ∙ ap not (and_false a)
 
 early_layout : (low some five drive whole : Bool) → some ≡ true → low ≡ true → five ≡ true → drive ≡ true → (some && (if low then five && drive else whole)) ≡ true
 early_layout low some five drive whole ks kl kf kd = rw (ks, kl, kf, kd) refl
