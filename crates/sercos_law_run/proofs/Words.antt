@@ -160,7 +160,7 @@ pub use Rattle.sercos_seat.specs.Ring.{HasLists, IsKnown, Known, MemberView, Tas
 pub use Rattle.sercos_seat.specs.Seats.{AreWaiting, next_in_2, next_in_3}
 pub use Rattle.sercos_master.proofs.Configured.{configured, each_passes, leaves, mdt_adds, ready, stays_ready}
 pub use Rattle.sercos_master.proofs.Followed.{HasNext, never_idle, no_stop_before, none_troubled, not_longer, settles}
-pub use Rattle.sercos_master.proofs.InOrder.{numbered_drop, still_left, tasks_numbered}
+pub use Rattle.sercos_master.proofs.InOrder.{still_left, tasks_numbered}
 pub use Rattle.sercos_master.proofs.Keeping.{Brings, OfChain, OfRecords, OfTrouble, at_keeps, begins_next, channel_keeps, end_keeps, first_found, going, made, never_both, none_of, past_keeps, settled_keeps, stopped}
 pub use Rattle.sercos_master.proofs.Laws.{all_waiting, jobs_waiting, tasks_wait, waiting_at, waiting_settled}
 pub use Rattle.sercos_master.proofs.Openings.{known_of-IsRing, mapped_length}

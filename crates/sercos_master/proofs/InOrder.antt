@@ -68,10 +68,10 @@ tasks_numbered address i (job ∷ jobs) = by (job.drive == address) (tasks_numbe
     by false all = all
     by true all = one_more all
 
-pub numbered_drop : (n : ℕ) (xs : List Task) → AreNumbered xs → AreNumbered (drop n xs)
-numbered_drop zero xs all = all
-numbered_drop (suc n) [] all = all
-numbered_drop (suc n) (x ∷ xs) all = numbered_drop n xs (λ i t e. all (suc i) t e)
+dropped_numbered : (n : ℕ) (xs : List Task) → AreNumbered xs → AreNumbered (drop n xs)
+dropped_numbered zero xs all = all
+dropped_numbered (suc n) [] all = all
+dropped_numbered (suc n) (x ∷ xs) all = dropped_numbered n xs (λ i t e. all (suc i) t e)
 
 -- THE REQUESTS BEGUN, by the number of requests and jobs begun on the channel.
 not_four : (t : Task) (b : Bool) → (if b then Some t else None) ≡ None → b ≡ false
@@ -188,7 +188,7 @@ first_waiting has s jobs h k t within begin number =
     numbered : AreNumbered ((settled s (past s (tasks_for s jobs) h)).waiting k)
     numbered =
         let left = still_left s (tasks_for s jobs) h k in
-        subst AreNumbered (sym (ap (λ w. w k) (waiting_settled s (past s (tasks_for s jobs) h)) ∙ left.1)) (numbered_drop left.0 (tasks_for s jobs k) (tasks_numbered (member s k).address 1 jobs))
+        subst AreNumbered (sym (ap (λ w. w k) (waiting_settled s (past s (tasks_for s jobs) h)) ∙ left.1)) (dropped_numbered left.0 (tasks_for s jobs k) (tasks_numbered (member s k).address 1 jobs))
 
     one : is_idle (settled s (past s (tasks_for s jobs) h)) k ≡ true → next_task s (settled s (past s (tasks_for s jobs) h)) k ≡ Some t → slice_get ((settled s (past s (tasks_for s jobs) h)).waiting k) (count_requests ((settled s (past s (tasks_for s jobs) h)).tasks k)) ≡ Some t
     one idle next = which (is_ready (member s k) (outcomes q k)) refl

@@ -1,5 +1,5 @@
 -- In phases 2 to 4 a channel whose turn it is has an open transfer until its tasks are done.
-use Rattle.sercos_law_run.proofs.Words.{◌≡◌, ◌⊎◌, inl, inr, ℕ, zero, suc, ◌+◌, ◌-◌, ◌<◌, ◌≤◌, Bool, true, false, not, ◌&&◌, List, [], ◌∷◌, min, drop, length, refl, sym, ap, ap₂, ◌∙◌, subst, arith, if◌then◌else◌, ◌==◌, nat_le, nat_lt, Option, Some, None, is_some, is_none, option_map, slice_get, slice_index_or, All, cases_lt, false≢true, le-leb, cond-true, cond-false, not-true, nat_tests, Step, Request, Outcome, outcome_of, next_step, PlanView, Begun, open_in, begun_by, planned, Stop, IsRefused, ends_so, Known, Task, HasLists, no_member, member, startup, idn, given, ended_well, reads, reads_count, writes, agenda, is_read, is_checked, is_ready, outcomes_in, last_outcome, trouble_by, of_phase, count_requests, AreWaiting, next_in_2, next_in_3, get_some, not_checked, reads_length, next_2, next_3, next_request, Call, Past, first_from, first_place, outcomes, is_idle, trouble, all_read, all_checked, settled, in_turn, has_turn, next_task, with_begin, with_task, is_sent_to, still_waiting, addressed_in, ready_to_send, after_mdt, past, leaves, mdt_adds, configured, ready, HasNext, never_idle, none_troubled, no_stop_before, settles, still_left, all_waiting, waiting_settled, IsTask, OfReads, OfWrites, Checks3, Lists3, Checks4, Lists4, OfWaiting, HasBegunTasks, AreBegunTasks, AreNumbered, numbered_drop}
+use Rattle.sercos_law_run.proofs.Words.{◌≡◌, ◌⊎◌, inl, inr, ℕ, zero, suc, ◌+◌, ◌-◌, ◌<◌, ◌≤◌, Bool, true, false, not, ◌&&◌, List, [], ◌∷◌, min, drop, length, refl, sym, ap, ap₂, ◌∙◌, subst, arith, if◌then◌else◌, ◌==◌, nat_le, nat_lt, Option, Some, None, is_some, is_none, option_map, slice_get, slice_index_or, All, cases_lt, false≢true, le-leb, cond-true, cond-false, not-true, nat_tests, Step, Request, Outcome, outcome_of, next_step, PlanView, Begun, open_in, begun_by, planned, Stop, IsRefused, ends_so, Known, Task, HasLists, no_member, member, startup, idn, given, ended_well, reads, reads_count, writes, agenda, is_read, is_checked, is_ready, outcomes_in, last_outcome, trouble_by, of_phase, count_requests, AreWaiting, next_in_2, next_in_3, get_some, not_checked, reads_length, next_2, next_3, next_request, Call, Past, first_from, first_place, outcomes, is_idle, trouble, all_read, all_checked, settled, in_turn, has_turn, next_task, with_begin, with_task, is_sent_to, still_waiting, addressed_in, ready_to_send, after_mdt, past, leaves, mdt_adds, configured, ready, HasNext, never_idle, none_troubled, no_stop_before, settles, still_left, all_waiting, waiting_settled, IsTask, OfReads, OfWrites, Checks3, Lists3, Checks4, Lists4, OfWaiting, HasBegunTasks, AreBegunTasks, AreNumbered}
 use Rattle.sercos_step.specs.declared.request.Request.TheVariants as request
 use Rattle.sercos_step.specs.declared.request.Outcome.TheVariants as outcome
 use Rattle.sercos_service_master.specs.Calls as channel
@@ -8,6 +8,7 @@ use Rattle.sercos_master.specs.Annals.{begins}
 use Rattle.sercos_law_run.proofs.Agenda.TaskRuns.{all_ended, begun_tasks}
 use Rattle.sercos_law_run.proofs.Agenda.OneTurn.{from_same}
 use Rattle.sercos_law_run.proofs.Agenda.ReportedRuns.{count_so}
+use Rattle.sercos_law_run.proofs.Agenda.Requests.{numbered_drop}
 
 -- THE FIRST PLACE that passes, if not each one fails.
 pub record IsFound (k n : ℕ) (test : ℕ → Bool) : Type 0 where

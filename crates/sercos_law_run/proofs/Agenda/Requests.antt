@@ -1,5 +1,10 @@
 -- The requests to a drive: all are of phase 4 and have a number, and the numbers ascend.
-use Rattle.sercos_law_run.proofs.Words.{ℕ, ◌+◌, ◌≤◌, Bool, true, false, List, [], ◌∷◌, refl, arith, if◌then◌else◌, ◌==◌, Job, Task, member, request_task, tasks_from, tasks_numbered, tasks_wait, Ascend, AreRequests}
+use Rattle.sercos_law_run.proofs.Words.{ℕ, zero, suc, ◌+◌, ◌≤◌, Bool, true, false, List, [], ◌∷◌, drop, refl, arith, if◌then◌else◌, ◌==◌, Job, Task, member, request_task, tasks_from, tasks_numbered, tasks_wait, AreNumbered, Ascend, AreRequests}
+
+pub numbered_drop : (n : ℕ) (tasks : List Task) → AreNumbered tasks → AreNumbered (drop n tasks)
+numbered_drop zero tasks are = are
+numbered_drop (suc n) [] are = are
+numbered_drop (suc n) (t ∷ tasks) are = numbered_drop n tasks (λ i u got. are (suc i) u got)
 
 lower : (i j : ℕ) (tasks : List Task) → i ≤ j → Ascend j tasks → Ascend i tasks
 lower i j [] less up = tt

@@ -1,5 +1,5 @@
 -- The cause of each kind of stop.
-use Rattle.sercos_law_run.proofs.Words.{same_Some, ◌≡◌, ◌⊎◌, inl, inr, ℕ, zero, suc, ◌+◌, ◌<◌, Bool, true, false, not, ◌&&◌, List, [], ◌∷◌, ◌++◌, map, take, length, refl, sym, ap, ap₂, ◌∙◌, subst, arith, if◌then◌else◌, ◌==◌, Option, Some, None, Err, is_some, is_none, option_map, slice_get, unwrap_or, list_all, and_parts, eqb-true, eq-eqb, not-true, Code, Idn, Request, Outcome, outcome_of, PlanView, ChainView, planned, Begun, begun_by, Stop, stop_by, asked_by, len_said, long_in, idns_in, attribute_stop, list_stop, reads, declared_times, idn, reads_count, is_checked, is_ready, given, bytes_of, ended_well, wishes_given, Known, Task, MemberView, member, startup, outcomes_in, with_outcome, last_outcome, trouble_by, get_left, before_end, HasNext, Call, past, outcomes, all_read, still_left, IsTask, OfReads, OfWrites, Checks3, Lists3, Checks4, Lists4, OfWaiting, HasEndedWell, IsBegunTask, AreBegunTasks, HasRefused, IsBadAttribute, AreTooLong, HasFailedCheck, AreNumbered, numbered_drop}
+use Rattle.sercos_law_run.proofs.Words.{same_Some, ◌≡◌, ◌⊎◌, inl, inr, ℕ, zero, suc, ◌+◌, ◌<◌, Bool, true, false, not, ◌&&◌, List, [], ◌∷◌, ◌++◌, map, take, length, refl, sym, ap, ap₂, ◌∙◌, subst, arith, if◌then◌else◌, ◌==◌, Option, Some, None, Err, is_some, is_none, option_map, slice_get, unwrap_or, list_all, and_parts, eqb-true, eq-eqb, not-true, Code, Idn, Request, Outcome, outcome_of, PlanView, ChainView, planned, Begun, begun_by, Stop, stop_by, asked_by, len_said, long_in, idns_in, attribute_stop, list_stop, reads, declared_times, idn, reads_count, is_checked, is_ready, given, bytes_of, ended_well, wishes_given, Known, Task, MemberView, member, startup, outcomes_in, with_outcome, last_outcome, trouble_by, get_left, before_end, HasNext, Call, past, outcomes, all_read, still_left, IsTask, OfReads, OfWrites, Checks3, Lists3, Checks4, Lists4, OfWaiting, HasEndedWell, IsBegunTask, AreBegunTasks, HasRefused, IsBadAttribute, AreTooLong, HasFailedCheck, AreNumbered}
 use Rattle.sercos_step.specs.declared.request.Request.TheVariants as request
 use Rattle.sercos_step.specs.declared.request.Outcome.TheVariants as outcome
 use Rattle.sercos_trace.specs.declared.events.Stop.TheVariants as stop
@@ -9,6 +9,7 @@ use Rattle.sercos_law_run.proofs.Agenda.TaskRuns.{begun_tasks}
 use Rattle.sercos_law_run.proofs.Agenda.WritesDone.{raw_of, IsDataWrite, DataWrite, all_data_writes}
 use Rattle.sercos_law_run.proofs.Agenda.ReadWell.{last_is}
 use Rattle.sercos_law_run.proofs.Agenda.StopRuns.{StopsFor, OfTask, OfPlan, OfLength, stop_has_cause}
+use Rattle.sercos_law_run.proofs.Agenda.Requests.{numbered_drop}
 
 -- WHAT AN OUTCOME SAYS, by what is asked.
 pub data Says (address : ℕ) (r : Request) (o : Outcome) (x : Stop) : Type 0 where

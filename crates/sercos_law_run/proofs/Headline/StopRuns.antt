@@ -1,5 +1,5 @@
 -- In a run of a ring in which nothing is unseen the master stops with `NoFit` only if no plan fits, and never at what is configured.
-use Rattle.sercos_law_run.proofs.Words.{◌≡◌, ℕ, zero, suc, ◌<◌, ◌≤◌, Bool, true, false, ◌||◌, List, [], ◌∷◌, ◌++◌, map, length, Option, Some, None, Result, Err, refl, sym, ap, ◌∙◌, subst, arith, if◌then◌else◌, append_assoc, ◌==◌, nat_le, slice_get, is_some, is_none, OnErr, list_any, eq-eqb, false≢true, le-leb, get_or_from_slice_get, same_Some, slice_get_within, Idn, Request, Outcome, Job, outcome_of, record_bytes, IsValid, PlanView, WishesView, wishes_of, IsStore, store_of, DriveView, RingView, NoneFits, planned, ChainView, planned_none, Begun, begun_by, Stop, idn, declared_times, reads, reads_count, asked_by, stop_by, long_in, len_said, attribute_stop, wishes_given, with_outcome, outcomes_in, Task, MemberView, member, member_of, known_of, tasks_for, reads_length, IsAnswer, AreAnswers, Call, Past, outcomes, carried_clean, never_restarts, View, epoch_begun, all_entries, all_writes, all_begun, begun_ago, AreSound, AreExact, no_drive, drive_at, looks_back, AreNumbered, IsTask, OfReads, OfWrites, Checks3, Lists3, Checks4, Lists4, OfWaiting, AreBegunTasks, HasEndedAt, IsOpened, AreStored, types, runs_exact, numbered_drop}
+use Rattle.sercos_law_run.proofs.Words.{◌≡◌, ℕ, zero, suc, ◌<◌, ◌≤◌, Bool, true, false, ◌||◌, List, [], ◌∷◌, ◌++◌, map, length, Option, Some, None, Result, Err, refl, sym, ap, ◌∙◌, subst, arith, if◌then◌else◌, append_assoc, ◌==◌, nat_le, slice_get, is_some, is_none, OnErr, list_any, eq-eqb, false≢true, le-leb, get_or_from_slice_get, same_Some, slice_get_within, Idn, Request, Outcome, Job, outcome_of, record_bytes, IsValid, PlanView, WishesView, wishes_of, IsStore, store_of, DriveView, RingView, NoneFits, planned, ChainView, planned_none, Begun, begun_by, Stop, idn, declared_times, reads, reads_count, asked_by, stop_by, long_in, len_said, attribute_stop, wishes_given, with_outcome, outcomes_in, Task, MemberView, member, member_of, known_of, tasks_for, reads_length, IsAnswer, AreAnswers, Call, Past, outcomes, carried_clean, never_restarts, View, epoch_begun, all_entries, all_writes, all_begun, begun_ago, AreSound, AreExact, no_drive, drive_at, looks_back, AreNumbered, IsTask, OfReads, OfWrites, Checks3, Lists3, Checks4, Lists4, OfWaiting, AreBegunTasks, HasEndedAt, IsOpened, AreStored, types, runs_exact}
 use Rattle.sercos_step.specs.declared.request.Request.TheVariants as request
 use Rattle.sercos_step.specs.declared.request.Outcome.TheVariants as outcome
 use Rattle.sercos_trace.specs.declared.events.Stop.TheVariants as stop
@@ -7,7 +7,7 @@ use Rattle.sercos_law_run.proofs.Start.CheckPasses.{ring_drive}
 use Rattle.sercos_law_channel.specs.Handshake.Runs.{IsRun}
 use Rattle.sercos_law_run.proofs.Agenda.AgendaTasks.{IsIn, First, After, is_in, mapped}
 use Rattle.sercos_law_run.proofs.Agenda.ReadWell.{AllComplete, last_is}
-use Rattle.sercos_law_run.proofs.Agenda.Requests.{are_requests}
+use Rattle.sercos_law_run.proofs.Agenda.Requests.{are_requests, numbered_drop}
 use Rattle.sercos_law_run.proofs.Agenda.StopCauses.{element_asked, Says, SaysRefused, SaysBad, Says127, Says128, says_so}
 use Rattle.sercos_law_run.proofs.Agenda.StopRuns.{StopsFor, OfTask, OfPlan, OfLength, stop_has_cause}
 use Rattle.sercos_law_run.proofs.Agenda.WritesDone.{raw_of, IsDataWrite, DataWrite, all_data_writes}

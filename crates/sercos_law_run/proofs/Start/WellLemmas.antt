@@ -1,10 +1,9 @@
 -- A ring's wishes are valid, and how the checks end.
-use Rattle.sercos_law_run.proofs.Words.{◌≡◌, ℕ, suc, ◌+◌, ◌*◌, ◌<◌, ◌≤◌, ◌==◌, Bool, true, false, cond, List, [], ◌∷◌, map, take, length, Option, Some, None, slice_get, option_and_then, unwrap_or, refl, ap, arith, fold, filter, All, eqb-true, take_all, All-cons, All-nil, Idn, Attribute, Length, Two, Four, List1, List2, List4, item_len, Block, is_number, DriveView, HasLens, number_len, block_attribute, value_len, wish_of, IsValid-wishes_of, breaks_1, breaks_2, breaks_6, breaks_7, breaks_8, breaks_9, breaks_10, breaks_15, breaks_list, breaks_89, listed_if, list_bytes, is_outside, idns_in, RingIsValid, ChecksEndWell, StopsWithList, listed_len, unfit_for_phase_3, unfit_for_phase_4}
+use Rattle.sercos_law_run.proofs.Words.{◌≡◌, ℕ, suc, ◌+◌, ◌*◌, ◌<◌, ◌≤◌, ◌==◌, Bool, true, false, cond, List, [], ◌∷◌, map, take, length, Option, Some, None, slice_get, option_and_then, unwrap_or, refl, ap, arith, fold, filter, All, eqb-true, take_all, All-cons, All-nil, Idn, Attribute, Length, Two, Four, List1, List2, List4, item_len, Block, is_number, DriveView, HasLens, number_len, block_attribute, value_len, wish_of, IsValid-wishes_of, breaks_1, breaks_2, breaks_6, breaks_7, breaks_8, breaks_9, breaks_10, breaks_15, breaks_list, breaks_89, listed_if, list_bytes, is_outside, idns_in, RingIsValid, ChecksEndWell, StopsWithList, listed_len, unfit_for_phase_3, unfit_for_phase_4, ◌/◌, ◌%◌}
 use Rattle.sercos_block.specs.Rings.{cyclic_len}
 use Rattle.sercos_trace.specs.declared.events.Stop.TheVariants as stop
 use Rattle.sercos_law_run.proofs.Start.CheckPasses.{plan_passes_check, ring_drive, fit_in_ring}
 use Rattle.sercos_law_run.proofs.Start.LimitLemmas.{passes_for_phase_4}
-use Rattle.sercos_law_run.proofs.Start.Lengths.{idns_back}
 
 pub item_small : (l : Length) → item_len l ≤ 4
 item_small Two = omega arith
@@ -101,8 +100,14 @@ unfit_4_short : (blocks : List Block) → length (unfit_for_phase_4 blocks) ≤ 
 unfolding unfit_for_phase_4
 unfit_4_short blocks = outside_short is_outside blocks
 
+pub read_back : (idns : List Idn) → idns_in (list_bytes idns) ≡ idns
+read_back [] = refl
+read_back (i ∷ idns) =
+    let same : i.raw % 256 + 256 * (i.raw / 256) ≡ i.raw = omega arith in
+    rw (same, read_back idns) refl
+
 whole : (idns : List Idn) → length idns ≤ 64 → take 64 (idns_in (list_bytes idns)) ≡ idns
-whole idns short = rw (idns_back idns) (take_all 64 idns short)
+whole idns short = rw (read_back idns) (take_all 64 idns short)
 
 pub stops_with_list : StopsWithList
 stops_with_list address rate blocks store = (

@@ -1,6 +1,6 @@
 -- In an undisturbed epoch in which phase 4 comes it is commanded from the bound of a start-up on; and in phase 4, disturbed or not, a step
 -- to a drive is open in each cycle until the first i + 1 of its requests have ended.
-use Rattle.sercos_law_run.proofs.Words.{◌≡◌, ◌⊎◌, inl, inr, ℕ, zero, suc, ◌+◌, ◌<◌, ◌≤◌, Bool, true, false, List, [], ◌∷◌, ◌++◌, drop, length, Option, None, refl, sym, ap, ◌∙◌, subst, arith, is_none, is_some, false≢true, Job, Outcome, has_next, PlanView, startup_bound, RingView, Begun, open_in, begun_by, CycleView, Stop, reads_count, is_ready, count_requests, Task, known_of, member, tasks_for, Past, outcomes, is_idle, still_left, Carry, Restarts, begun_in, View, AreAtWork, mst_in, ats_in, at_calls, own_mst, begin_calls, master_calls, looks_back, middle, IsRun, IsClear, AreNumbered, AreBegunTasks, at_start, behind_mdt, view_of, views_of, IsOpened, StartsEpoch, HasBadCheck, AreUndisturbed, views_since, numbered_drop}
+use Rattle.sercos_law_run.proofs.Words.{◌≡◌, ◌⊎◌, inl, inr, ℕ, zero, suc, ◌+◌, ◌<◌, ◌≤◌, Bool, true, false, List, [], ◌∷◌, ◌++◌, drop, length, Option, None, refl, sym, ap, ◌∙◌, subst, arith, is_none, is_some, false≢true, Job, Outcome, has_next, PlanView, startup_bound, RingView, Begun, open_in, begun_by, CycleView, Stop, reads_count, is_ready, count_requests, Task, known_of, member, tasks_for, Past, outcomes, is_idle, still_left, Carry, Restarts, begun_in, View, AreAtWork, mst_in, ats_in, at_calls, own_mst, begin_calls, master_calls, looks_back, middle, IsRun, IsClear, AreNumbered, AreBegunTasks, at_start, behind_mdt, view_of, views_of, IsOpened, StartsEpoch, HasBadCheck, AreUndisturbed, views_since}
 use Rattle.sercos_law_run.proofs.Agenda.ReportedRuns.{count_so}
 use Rattle.sercos_law_run.proofs.Agenda.TaskRuns.{all_ended}
 use Rattle.sercos_law_run.proofs.Held.Extended.{Extends}
@@ -12,7 +12,7 @@ use Rattle.sercos_law_run.proofs.Undisturbed.Reached.{all_ready_in}
 use Rattle.sercos_law_run.proofs.Undisturbed.Sections.{some_open}
 use Rattle.sercos_law_run.proofs.Undisturbed.Arriving.Small.{never_both}
 use Rattle.sercos_law_run.proofs.Undisturbed.Stops.StopStays.{none_before, stop_after}
-use Rattle.sercos_law_run.proofs.Agenda.Requests.{are_requests}
+use Rattle.sercos_law_run.proofs.Agenda.Requests.{are_requests, numbered_drop}
 use Rattle.sercos_law_run.proofs.Cited.{begins_tasks, work_in_four}
 use Rattle.sercos_law_run.proofs.Undisturbed.Cited.{comes_to_phase_four, never_stops_in_four}
 use Rattle.sercos_law_run.proofs.Views.Members.{in_known}

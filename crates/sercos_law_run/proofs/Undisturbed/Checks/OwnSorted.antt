@@ -3,7 +3,7 @@
 use Rattle.sercos_law_run.proofs.Words.{◌≡◌, ℕ, Bool, true, false, not, ◌&&◌, List, [], ◌∷◌, ◌++◌, None, refl, sym, ap, ◌∙◌, arith, ◌≤◌, nat_le, nat_lt, cond, length, map, take, filter, list_all, and_from, and_parts, nat_tests, take_all, length-filter_both, is_built_in, blocks_fault, has_block, DriveView, Block, all_inserted, either_none, is_outside, list_bytes, idns_in, length_map, is_own_outside, built_in, with_own, store_of}
 use Rattle.sercos_block.specs.Stores.{inserted}
 use Rattle.sercos_law_run.proofs.Start.BlockFinds.{first_is_new}
-use Rattle.sercos_law_run.proofs.Start.Lengths.{idns_back}
+use Rattle.sercos_law_run.proofs.Start.WellLemmas.{read_back}
 
 abbrev is_own : Block → Bool
 is_own b = not (is_built_in b.idn.raw)
@@ -122,7 +122,7 @@ own_sorted d rules =
 pub list_back : (d : DriveView) → blocks_fault [] d.blocks ≡ None → length (store_of d) ≤ 64
     → take 64 (idns_in (list_bytes (map (λ (b : Block). b.idn) (filter is_own_outside (store_of d))))) ≡ map (λ (b : Block). b.idn) (filter is_outside (with_own [] d.blocks))
 list_back d rules few =
-    ap (take 64) (idns_back (map (λ (b : Block). b.idn) (filter is_own_outside (store_of d))))
+    ap (take 64) (read_back (map (λ (b : Block). b.idn) (filter is_own_outside (store_of d))))
     ∙ take_all 64 (map (λ (b : Block). b.idn) (filter is_own_outside (store_of d))) short
     ∙ ap (map (λ (b : Block). b.idn)) (own_sorted d rules)
   where
