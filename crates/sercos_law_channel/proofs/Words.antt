@@ -1,6 +1,6 @@
 -- The words that the proofs speak in, of std, of the crates below and of this crate's specs, each under one name.
 pub use Rattle.std.proofs.Common.{Bool, List, [], ap, append_assoc, ap₂, arith, cond, drop, false, if◌then◌else◌, inl, inr, length, length-append, map, not, refl, replicate, subst, suc, sym, take, take-append-drop, true, zero, ℕ, ⊎_elim, ◌%◌, ◌&&◌, ◌*◌, ◌++◌, ◌+◌, ◌-◌, ◌/◌, ◌<◌, ◌^◌, ◌||◌, ◌∙◌, ◌∷◌, ◌≡◌, ◌≤◌, ◌⊎◌}
-pub use Rattle.std.proofs.lemmas.Bool.{and_from, and_parts, and_right, both_ways, cases_Bool, cases_eq, cond-false, cond-true, cond_both, eq-eqb, eqb-true, le-leb, leb-true, ltb-true, ne_eqb, not-true}
+pub use Rattle.std.proofs.lemmas.Bool.{and_from, and_parts, and_right, both_ways, cases_Bool, cases_eq, cond-false, cond-true, cond_both, eq-eqb, eqb-true, le-leb, leb-true, ltb-true, ne_eqb, not-true, not_from_true}
 pub use Rattle.std.proofs.lemmas.Bool.Decides.{nat_tests}
 pub use Rattle.std.proofs.lemmas.List.Sums.{sum_by-append, sum_by-cons}
 pub use Rattle.std.proofs.Math.Bool.{and-false}

@@ -1,7 +1,7 @@
 -- The words that the proofs speak in, of std, of the crates below and of this crate's specs, each under one name.
 pub use Rattle.std.proofs.Common.{Bool, Err, List, None, Ok, Option, Some, [], ap, append-nil, append_assoc, ap₂, arith, codes, cond, drop, false, if◌then◌else◌, inl, inr, is_none, length, length-append, map, max, min, nat_le, nat_lt, not, option_map, pos, refl, reverse, slice_index_or, subst, suc, sym, take, true, unwrap_or, zero, ℕ, ℤ, ◌&&◌, ◌*◌, ◌++◌, ◌+ℤ◌, ◌+◌, ◌-◌, ◌<◌, ◌==◌, ◌||◌, ◌∙◌, ◌∷◌, ◌≡◌, ◌≤◌, ◌⊎◌}
 pub use Rattle.std.proofs.Math.Nat.{mul-le-mul_right}
-pub use Rattle.std.proofs.lemmas.Bool.{and_from, and_parts, cases_eq, cases_lt, cond-true, cond_both, eq-eqb, eqb-true, false≢true, le-leb, ne_eqb}
+pub use Rattle.std.proofs.lemmas.Bool.{and_from, and_parts, cases_eq, cases_lt, cond-true, cond_both, eq-eqb, eqb-true, false≢true, le-leb, ne_eqb, or_left, or_parts, or_right}
 pub use Rattle.std.proofs.lemmas.Bool.Decides.{Decides-int_eq, nat_tests}
 pub use Rattle.std.proofs.lemmas.Grind.{flat_map-append, reverse_onto}
 pub use Rattle.std.proofs.lemmas.List.{drop-drop, length-drop, length-map, length-take, reverse-append}

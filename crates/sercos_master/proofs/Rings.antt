@@ -1,5 +1,5 @@
 -- What the ring keeps tells what is looked back on, and what it begins.
-use Rattle.sercos_master.proofs.Words.{cases_Bool, cases_eq, false≢true, inl, inr, ◌≡◌, ℕ, zero, suc, ◌+◌, ◌<◌, ◌≤◌, ◌==◌, Bool, true, false, List, [], ◌∷◌, Option, Some, None, length, ap, subst, refl, sym, ◌∙◌, arith, if◌then◌else◌, ◌%◌, ◌^◌, is_some, is_none, min, unwrap_or, nat_le, nat_lt, slice_index_or, option_map, not, ◌&&◌, ◌||◌, position, option_or, set, length-set, nat_tests, EndCycle, cycles_open, age_of, PlanView, record_bytes, planned, Stop, Known, MemberView, Task, member, wishes_given, last_long_stop, is_read, is_checked, is_ready, reads_count, all_read, with_due_plan, planned_by, with_plan, Past, Turn, first_from, first_place, outcomes, is_idle, is_identified, in_turn, begins, is_done, is_at_limit, trouble, first_trouble, first_trouble_from, with_stop, new_epoch, still_waiting, after_end, next_phase, goes_on, whole_row, addressed_before, has_lost_mst, fall_of, count_addressed, next_task, with_task, with_begin, begun, has_lost_at, is_place, of_phase, Seen, SeatView, SeatStandsFor, forgotten, ended_in, cycles_kept, has_read, with_begun, begun_task, SeatsStandFor, CoreView, CoreStandsFor, seen_at, waited_with, waited_for, waited_row, has_missed, queue_same, and_left}
+use Rattle.sercos_master.proofs.Words.{cases_Bool, cases_eq, false≢true, inl, inr, ◌≡◌, ℕ, zero, suc, ◌+◌, ◌<◌, ◌≤◌, ◌==◌, Bool, true, false, List, [], ◌∷◌, Option, Some, None, length, ap, subst, refl, sym, ◌∙◌, arith, if◌then◌else◌, ◌%◌, ◌^◌, is_some, is_none, min, unwrap_or, nat_le, nat_lt, slice_index_or, option_map, not, ◌&&◌, ◌||◌, position, option_or, set, length-set, nat_tests, EndCycle, cycles_open, age_of, PlanView, record_bytes, planned, Stop, Known, MemberView, Task, member, wishes_given, last_long_stop, is_read, is_checked, is_ready, reads_count, all_read, with_due_plan, planned_by, with_plan, Past, Turn, first_from, first_place, outcomes, is_idle, is_identified, in_turn, begins, is_done, is_at_limit, trouble, first_trouble, first_trouble_from, with_stop, new_epoch, still_waiting, after_end, next_phase, goes_on, whole_row, addressed_before, has_lost_mst, fall_of, count_addressed, next_task, with_task, with_begin, begun, has_lost_at, is_place, of_phase, Seen, SeatView, SeatStandsFor, forgotten, ended_in, cycles_kept, has_read, with_begun, begun_task, SeatsStandFor, CoreView, CoreStandsFor, seen_at, waited_with, waited_for, waited_row, has_missed, queue_same, and_left, and-false}
 use Rattle.sercos_trace.specs.declared.events.Fall.TheVariants as fall
 use Rattle.sercos_master.proofs.Keeping.{first_found}
 pub use Rattle.sercos_master.proofs.Keeping.{none_of as no_stop}
@@ -175,11 +175,7 @@ count_same (t ∷ turns) i e = by t.addressed refl
 
 pub count_other : (turns : List Turn) (i : ℕ) → is_place i (addressed_before turns) ≡ false → count_addressed i turns ≡ 0
 count_other [] i e = refl
-count_other (t ∷ turns) i e = rw (e, and_none (t.phase == 1)) refl
-  where
-    and_none : (a : Bool) → (a && false) ≡ false
-    and_none true = refl
-    and_none false = refl
+count_other (t ∷ turns) i e = rw (e, and-false (t.phase == 1)) refl
 
 pub waited_long : (v : CoreView) (s : Known) (p : Past) (i : ℕ) → CoreStandsFor v s p → p.now.phase ≡ 1 → v.addressed ≡ Some i → i < length v.seats → is_place i v.before ≡ true → 64 ≤ v.waited →
     first_place s (is_at_limit p) ≡ Some i

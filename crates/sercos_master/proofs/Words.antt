@@ -8,6 +8,7 @@ pub use Rattle.std.proofs.lemmas.Iterator.Adapters.{position_from-zero}
 pub use Rattle.std.proofs.lemmas.List.{append-nil, append_assoc, drop-append-le, drop-drop, get_or-set_other, get_or_append_left, get_or_push, length-drop, length_push, nil_from_length, take-append-le, take_all}
 pub use Rattle.std.proofs.lemmas.List.Quantifiers.{position-Some}
 pub use Rattle.std.proofs.lemmas.Option.{get_or_from_slice_get, none-some, same_Some, slice_get_within}
+pub use Rattle.std.proofs.Math.Bool.{and-false}
 pub use Rattle.std.specs.List.{All, insert, position, position_from, range_with_len}
 pub use Rattle.std.specs.Option.{option_or}
 pub use Rattle.sercos_telegram.specs.Faults.{at_fault}
