@@ -35,3 +35,4 @@ pub use Rattle.sercos_law_run.proofs.Totals.TotalsLemmas.{totals_more}
 pub use Rattle.sercos_law_run.proofs.Recovery.Stretches.{rest_clear, rest_runs}
 pub use Rattle.sercos_law_run.proofs.Start.RingSlotLemmas.{rate_is}
 pub use Rattle.sercos_law_run.proofs.Agenda.Requests.{numbered_drop}
+pub use Rattle.sercos_law_run.proofs.Headline.WellRuns.{or_none}
