@@ -1,9 +1,10 @@
 -- What the ring keeps tells what is looked back on, and what it begins.
-use Rattle.sercos_master.proofs.Words.{cases_Bool, cases_eq, false≢true, inl, inr, ◌≡◌, ℕ, zero, suc, ◌+◌, ◌<◌, ◌≤◌, ◌==◌, Bool, true, false, List, [], ◌∷◌, Option, Some, None, length, ap, subst, refl, sym, ◌∙◌, arith, if◌then◌else◌, ◌%◌, ◌^◌, is_some, is_none, min, unwrap_or, nat_le, nat_lt, slice_index_or, option_map, not, ◌&&◌, ◌||◌, position, option_or, set, length-set, nat_tests, EndCycle, cycles_open, age_of, PlanView, record_bytes, planned, Stop, Known, MemberView, Task, member, wishes_given, last_long_stop, is_read, is_checked, is_ready, reads_count, all_read, with_due_plan, planned_by, with_plan, Past, Turn, first_from, first_place, outcomes, is_idle, is_identified, in_turn, begins, is_done, is_at_limit, trouble, first_trouble, first_trouble_from, with_stop, new_epoch, still_waiting, after_end, next_phase, goes_on, whole_row, addressed_before, has_lost_mst, fall_of, count_addressed, next_task, with_task, with_begin, begun, has_lost_at, is_place, of_phase, Seen, SeatView, SeatStandsFor, forgotten, ended_in, cycles_kept, has_read, with_begun, begun_task, SeatsStandFor, CoreView, CoreStandsFor, seen_at, waited_with, waited_for, waited_row, has_missed, queue_same, and_left, and-false}
+use Rattle.sercos_master.proofs.Words.{cases_Bool, cases_eq, false≢true, inl, inr, ◌≡◌, ℕ, zero, suc, ◌+◌, ◌<◌, ◌≤◌, ◌==◌, Bool, true, false, List, [], ◌∷◌, Option, Some, None, length, ap, subst, refl, sym, ◌∙◌, arith, if◌then◌else◌, ◌%◌, ◌^◌, is_some, is_none, min, unwrap_or, nat_le, nat_lt, slice_index_or, option_map, not, ◌&&◌, ◌||◌, position, option_or, set, length-set, nat_tests, EndCycle, cycles_open, age_of, PlanView, record_bytes, planned, Stop, Known, MemberView, Task, member, wishes_given, last_long_stop, is_read, is_checked, is_ready, reads_count, all_read, with_due_plan, planned_by, with_plan, Past, Turn, first_from, first_place, outcomes, is_idle, is_identified, in_turn, begins, is_done, is_at_limit, trouble, first_trouble, first_trouble_from, with_stop, new_epoch, still_waiting, after_end, next_phase, goes_on, whole_row, addressed_before, has_lost_mst, fall_of, count_addressed, next_task, with_task, with_begin, begun, has_lost_at, is_place, of_phase, Seen, SeatView, SeatStandsFor, forgotten, ended_in, cycles_kept, has_read, with_begun, begun_task, SeatsStandFor, CoreView, CoreStandsFor, seen_at, waited_with, waited_for, waited_row, has_missed, queue_same, and_left, and-false, eqb-true}
 use Rattle.sercos_trace.specs.declared.events.Fall.TheVariants as fall
 use Rattle.sercos_master.proofs.Keeping.{first_found}
 pub use Rattle.sercos_master.proofs.Keeping.{none_of as no_stop}
 use Rattle.sercos_master.proofs.Places.{first_seat, one_seat, with_seats, same_place, other_place}
+use Rattle.sercos_master.proofs.Wishes.{none_is}
 
 read_same : (r done l : ℕ) → r ≤ 38 → done ≡ min l 100 → nat_le r done ≡ nat_le r l
 read_same r done l few is = by (nat_le r l) refl
@@ -132,9 +133,6 @@ first_only (suc n) k i test only low high = elim (cases_eq k i) [
 ]
 
 -- only the drive that the MDT is to can be at the limit in phase 1
-is_that : (k i : ℕ) → (k == i) ≡ true → k ≡ i
-is_that k i e = grind (arith, nat_tests, e)
-
 -- in phase 1 it is the drive that the MDT is to, if it was to it in 64 cycles before
 pub waited : (s : Known) (p : Past) (i : ℕ) → p.now.phase ≡ 1 → p.now.addressed ≡ Some i → i < length s.drives →
     first_place s (is_at_limit p) ≡ (if nat_le 64 (min (count_addressed i p.turns) 64) then Some i else None)
@@ -142,7 +140,7 @@ waited s p i one to within =
     first_only (length s.drives) 0 i (is_at_limit p) only (omega arith) (omega (arith, within)) ∙ (ap (λ b. if b then Some i else None) here)
   where
     only : (j : ℕ) → is_at_limit p j ≡ true → j ≡ i
-    only j e = is_that j i (and_left (j == i) (nat_le 64 (count_addressed j p.turns)) (rw (one, to) at e))
+    only j e = eqb-true j i (and_left (j == i) (nat_le 64 (count_addressed j p.turns)) (rw (one, to) at e))
 
     enough : nat_le 64 (count_addressed i p.turns) ≡ nat_le 64 (min (count_addressed i p.turns) 64)
     enough = elim (cases_Bool (nat_le 64 (count_addressed i p.turns))) [
@@ -160,7 +158,7 @@ waits_for_none s p one to = none_from (length s.drives) 0 (is_at_limit p) (λ j 
 -- nor where it is to a place that the ring hasn't
 pub waits_beyond : (s : Known) (p : Past) (i : ℕ) → p.now.phase ≡ 1 → p.now.addressed ≡ Some i → length s.drives ≤ i → first_place s (is_at_limit p) ≡ None
 waits_beyond s p i one to beyond = none_from (length s.drives) 0 (is_at_limit p) (λ j low h. only_false (is_at_limit p) i j
-    (λ e. is_that j i (and_left (j == i) (nat_le 64 (count_addressed j p.turns)) (rw (one, to) at e))) (λ f. omega (arith, h, f, beyond)))
+    (λ e. eqb-true j i (and_left (j == i) (nat_le 64 (count_addressed j p.turns)) (rw (one, to) at e))) (λ f. omega (arith, h, f, beyond)))
 
 -- the count for a drive is the one that is kept, where it was the last one
 pub count_same : (turns : List Turn) (i : ℕ) → is_place i (addressed_before turns) ≡ true → min (count_addressed i turns) 64 ≡ waited_row turns
@@ -170,7 +168,7 @@ count_same (t ∷ turns) i e = by t.addressed refl
     by : (a : Option ℕ) → t.addressed ≡ a → min (count_addressed i (t ∷ turns)) 64 ≡ waited_for t.addressed (t ∷ turns)
     by None f = let g : is_place i None ≡ true = subst (λ a. is_place i a ≡ true) f e in absurd (false≢true g)
     by (Some k) f =
-        let g : i ≡ k = is_that i k (subst (λ a. is_place i a ≡ true) f e) in
+        let g : i ≡ k = eqb-true i k (subst (λ a. is_place i a ≡ true) f e) in
         ap (λ n. min (count_addressed n (t ∷ turns)) 64) g ∙ sym (ap (λ a. waited_for a (t ∷ turns)) f)
 
 pub count_other : (turns : List Turn) (i : ℕ) → is_place i (addressed_before turns) ≡ false → count_addressed i turns ≡ 0
@@ -479,12 +477,8 @@ begins_late s p k low =
     by true false = refl
     by false y = refl
 
-no_stop_is : (o : Option Stop) → is_some o ≡ false → o ≡ None
-no_stop_is None e = refl
-no_stop_is (Some x) e = absurd (false≢true (sym e))
-
 pub not_stopped : (v : CoreView) (s : Known) (p : Past) → CoreStandsFor v s p → v.stopped ≡ false → p.stop ≡ None
-not_stopped v s p c e = no_stop_is p.stop (sym c.stopped_is ∙ e)
+not_stopped v s p c e = none_is p.stop (sym c.stopped_is ∙ e)
 
 -- A STOP AND A PLAN
 pub stops : (v : CoreView) (s : Known) (p : Past) (x : Stop) → CoreStandsFor v s p → p.stop ≡ None → CoreStandsFor (record v { stopped = true; stop = Some x }) s (with_stop (Some x) p)

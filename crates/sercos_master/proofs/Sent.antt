@@ -1,5 +1,5 @@
 -- What the ring sends, and what that leaves.
-use Rattle.sercos_master.proofs.Words.{◌≡◌, ℕ, zero, suc, ◌+◌, ◌/◌, ◌%◌, ◌^◌, ◌<◌, ◌≤◌, ◌==◌, Bool, true, false, List, [], ◌∷◌, ◌++◌, Option, Some, None, length, ap, refl, sym, ◌∙◌, arith, subst, if◌then◌else◌, not, nat_le, nat_lt, take, is_some, is_none, option_map, slice_index_or, IfSome, position, set, length-set, false≢true, nat_tests, all_drives, master_says, begun_by, PlanView, leb-true, take_all, record_bytes, Wish, Known, MemberView, member, len_or_none, mdt_attributes, record_len, wish_given, wishes_from, outcomes_seen, IsPlanned, Past, outcomes, first_place, is_idle, is_identified, addressed_in, is_sent_to, sent_to, Sent, sent_as, record_to, records_from, mdt_said, single, joint, idle, Seen, SeatView, SeatStandsFor, sent_in, record_seen, SeatsStandFor, CoreView, CoreStandsFor, seen_at, sent_now, Fits, records_upto, idle_same, length-append, append-nil, append_assoc}
+use Rattle.sercos_master.proofs.Words.{◌≡◌, ℕ, zero, suc, ◌+◌, ◌/◌, ◌%◌, ◌^◌, ◌<◌, ◌≤◌, ◌==◌, Bool, true, false, List, [], ◌∷◌, ◌++◌, Option, Some, None, length, ap, refl, sym, ◌∙◌, arith, subst, if◌then◌else◌, not, nat_le, nat_lt, take, is_some, is_none, option_map, slice_index_or, IfSome, position, set, length-set, false≢true, nat_tests, all_drives, master_says, begun_by, PlanView, leb-true, take_all, record_bytes, Wish, Known, MemberView, member, len_or_none, mdt_attributes, record_len, wish_given, wishes_from, outcomes_seen, IsPlanned, Past, outcomes, first_place, is_idle, is_identified, addressed_in, is_sent_to, sent_to, Sent, sent_as, record_to, records_from, mdt_said, single, joint, idle, Seen, SeatView, SeatStandsFor, sent_in, record_seen, SeatsStandFor, CoreView, CoreStandsFor, seen_at, sent_now, Fits, records_upto, idle_same, length-append, append-nil, append_assoc, cond-true}
 use Rattle.std.proofs.lemmas.List.Sums.{sum_by-append}
 use Rattle.sercos_seat.proofs.Sends.{seen_length}
 use Rattle.sercos_seat.specs.Records.{record_said, value_said, values_said}
@@ -129,16 +129,12 @@ seen_there p to k e = rw e refl
 unsent : (v : CoreView) (s : Known) (p : Past) (to : Option ℕ) → CoreStandsFor v s p → ((k : ℕ) → is_sent_to p to k ≡ false) → CoreStandsFor (record v { addressed = to }) s (sent_to to p)
 unsent v s p to c none = sent_core v v.seats s p to c refl (λ k seat below. subst (SeatStandsFor (slice_index_or v.seats k seat) (member s k)) (sym (seen_unsent p to k (none k))) (c.seats k seat below))
 
-pick : {A : Type 0} (b : Bool) (x y : A) → b ≡ true → (if b then x else y) ≡ x
-pick true x y e = refl
-pick false x y e = absurd (false≢true e)
-
 is_one : (phase : ℕ) → phase ≡ 1 → (phase == 1) ≡ true
 is_one phase e = rw e refl
 
 to_1 : (v : CoreView) (s : Known) (p : Past) → CoreStandsFor v s p → p.now.phase ≡ 1 → addressed_in s p ≡ position (λ seat. not seat.identified) v.seats
 to_1 v s p c e =
-    pick (p.now.phase == 1) (first_place s (λ k. not (is_identified p k))) (if p.now.phase == 2 then first_place s (λ k. not (is_idle p k)) else None) (is_one p.now.phase e)
+    cond-true (p.now.phase == 1) (first_place s (λ k. not (is_identified p k))) (if p.now.phase == 2 then first_place s (λ k. not (is_idle p k)) else None) (is_one p.now.phase e)
     ∙ sym (unidentified v s p c)
 
 pub sent_1 : (v : CoreView) (s : Known) (p : Past) → CoreStandsFor v s p → p.now.phase ≡ 1 → CoreStandsFor (record v { addressed = position (λ seat. not seat.identified) v.seats }) s (sent_now s p)

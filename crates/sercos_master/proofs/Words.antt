@@ -1,7 +1,7 @@
 -- The words that the proofs speak in, of std, of the crates below and of this crate's specs, each under one name.
 pub use Rattle.std.proofs.Common.{Bool, Err, IfErr, IfOk, IfSome, List, None, Ok, Option, Result, Some, [], ap, ap₂, arith, cond, drop, false, if◌then◌else◌, inl, inr, is_none, is_ok, is_some, length, length-append, map, min, nat_le, nat_lt, not, option_map, refl, replicate, rules, slice_get, slice_index, slice_index_or, subst, suc, sym, take, true, unwrap_or, zero, ℕ, ◌%◌, ◌&&◌, ◌++◌, ◌+◌, ◌-◌, ◌/◌, ◌<◌, ◌==◌, ◌^◌, ◌||◌, ◌∙◌, ◌∷◌, ◌≡◌, ◌≤◌, ◌⊎◌}
 pub use Rattle.std.proofs.Math.ListN.{length-set, set}
-pub use Rattle.std.proofs.lemmas.Bool.{and_parts, cases_Bool, cases_eq, cond_both, eq-eqb, eqb-true, false≢true, le-leb, leb-true, or_cases}
+pub use Rattle.std.proofs.lemmas.Bool.{and_parts, cases_Bool, cases_eq, cond-true, cond_both, eq-eqb, eqb-true, false≢true, le-leb, leb-true, or_cases}
 pub use Rattle.std.proofs.lemmas.Bool.Decides.{nat_tests}
 pub use Rattle.std.proofs.lemmas.Grind.{get_or-set_at}
 pub use Rattle.std.proofs.lemmas.Iterator.Adapters.{position_from-zero}
