@@ -5,6 +5,7 @@ use Rattle.sercos_law_run.proofs.Start.BlockFinds.{find_store_of}
 use Rattle.sercos_law_run.proofs.Start.CauseLemmas.{causes_alike, cycle_cause, number_has_no_cause, list_has_no_cause}
 use Rattle.sercos_law_channel.proofs.Theorems.{told}
 use Rattle.sercos_law_run.proofs.Undisturbed.Stops.RefusedSteps.{IsCaused}
+use Rattle.sercos_law_run.proofs.Undisturbed.Arriving.Small.{first_is}
 
 -- WORDS
 -- the one word of a number
@@ -21,10 +22,7 @@ record StartsSo (x : ℕ) (l : List ℕ) : Type 0 where
 
 starts_so : (x : ℕ) (l rest ys : List ℕ) → 1 ≤ length l → l ++ rest ≡ x ∷ ys → StartsSo x l
 starts_so x [] rest ys some same = absurd (omega (arith, some))
-starts_so x (y ∷ l) rest ys some same = record { others = l; is = ap (λ (n : ℕ). n ∷ l) (first_is same) }
-  where
-    first_is : {a b : ℕ} {us vs : List ℕ} → a ∷ us ≡ b ∷ vs → a ≡ b
-    first_is e = cc
+starts_so x (y ∷ l) rest ys some same = record { others = l; is = ap (λ (n : ℕ). n ∷ l) (first_is _ _ _ _ same).0 }
 
 words_back : (words : List ℕ) → length (words_of (bytes_in words)) ≡ length words
 words_back [] = refl
