@@ -4,6 +4,7 @@ pub use Rattle.std.proofs.lemmas.Bool.{and_from, and_parts, and_right, both_ways
 pub use Rattle.std.proofs.lemmas.Bool.Decides.{nat_tests}
 pub use Rattle.std.proofs.lemmas.List.Sums.{sum_by-append, sum_by-cons}
 pub use Rattle.std.proofs.Math.Bool.{and-false}
+pub use Rattle.std.proofs.lemmas.Option.{slice_get_within}
 pub use Rattle.std.specs.Bool.{then_some}
 pub use Rattle.std.specs.Int.{to_le_bytes, w16, w32}
 pub use Rattle.std.specs.List.{list_all, sum_by}

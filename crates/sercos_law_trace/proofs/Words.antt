@@ -109,6 +109,7 @@ pub use Rattle.sercos_drive.specs.Says.{Said, drive_says, said, start_in, values
 pub use Rattle.sercos_seat.proofs.Lengths.{lens}
 pub use Rattle.sercos_seat.proofs.Queues.{ready_stays}
 pub use Rattle.sercos_seat.proofs.Sends.{fields_length}
+pub use Rattle.sercos_seat.proofs.Gets.{length_map}
 pub use Rattle.sercos_seat.specs.Agenda.{asked_by, declared_times, idns_in, is_ready, reads, reads_count, writes}
 pub use Rattle.sercos_seat.specs.Channel.{Report, broken_number, count_requests, number_in, outcomes_in, with_outcome}
 pub use Rattle.sercos_seat.specs.Records.{word_said}

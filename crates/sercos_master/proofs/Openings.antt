@@ -1,5 +1,5 @@
 -- What a master stands for when it is opened.
-use Rattle.sercos_master.proofs.Words.{◌≡◌, ℕ, zero, suc, ◌+◌, ◌<◌, ◌≤◌, ◌==◌, List, [], ◌∷◌, ◌++◌, length, ap, refl, sym, ◌∙◌, arith, subst, inl, inr, ◌⊎◌, if◌then◌else◌, map, nat_lt, slice_index, slice_index_or, Some, None, false, Bool, true, All, position, set, length-set, cases_eq, eqb-true, eq-eqb, nat_tests, get_or-set_at, append_assoc, append-nil, get_or-set_other, get_or_append_left, get_or_push, length_push, nil_from_length, position-Some, Job, IsRequest, AreDistinct, DriveView, RingView, Known, IsKnown, MemberView, Task, HasLists, member, member_of, known_of, no_member, request_task, tasks_from, tasks_for, with_job, SeatView, SeatStandsFor, nothing_seen, first_from, new_epoch, SeatsStandFor, CoreView, CoreStandsFor, AreFresh, wishes_of}
+use Rattle.sercos_master.proofs.Words.{◌≡◌, ℕ, zero, suc, ◌+◌, ◌<◌, ◌≤◌, ◌==◌, List, [], ◌∷◌, ◌++◌, length, ap, refl, sym, ◌∙◌, arith, subst, inl, inr, ◌⊎◌, if◌then◌else◌, map, nat_lt, slice_index, slice_index_or, Some, None, false, Bool, true, All, position, set, length-set, cases_eq, eqb-true, eq-eqb, nat_tests, get_or-set_at, append_assoc, append-nil, get_or-set_other, get_or_append_left, get_or_push, length_push, nil_from_length, position-Some, Job, IsRequest, AreDistinct, DriveView, RingView, Known, IsKnown, MemberView, Task, HasLists, member, member_of, known_of, no_member, request_task, tasks_from, tasks_for, with_job, SeatView, SeatStandsFor, nothing_seen, first_from, new_epoch, SeatsStandFor, CoreView, CoreStandsFor, AreFresh, wishes_of, length_map}
 use Rattle.std.proofs.lemmas.List.Elements.{All-map}
 use Rattle.sercos_block.specs.ValidRings.{IsRing}
 use Rattle.sercos_master.proofs.Places.{first_seat, place_same, other_place}
@@ -129,13 +129,9 @@ address_at s i within = mapped s.drives i within
     mapped (d ∷ drives) zero h = refl
     mapped (d ∷ drives) (suc i) h = mapped drives i (omega (arith, h))
 
-addresses_count : (drives : List MemberView) → length (map (λ d. d.address) drives) ≡ length drives
-addresses_count [] = refl
-addresses_count (d ∷ drives) = ap (λ n. suc n) (addresses_count drives)
-
 other_address : (s : Known) (i k : ℕ) → AreDistinct (map (λ d. d.address) s.drives) → i < length s.drives → k < length s.drives → (i ≡ k → ⊥) → ((member s k).address ≡ (member s i).address → ⊥)
 other_address s i k apart below within other same =
-    let l = addresses_count s.drives in
+    let l = length_map (λ (d : MemberView). d.address) s.drives in
     elim (less_either i k other) [
       | inl less ↦ apart i k less (omega (arith, l, within)) (address_at s i below ∙ (sym same ∙ sym (address_at s k within)))
       | inr more ↦ apart k i more (omega (arith, l, below)) (address_at s k within ∙ (same ∙ sym (address_at s i below)))

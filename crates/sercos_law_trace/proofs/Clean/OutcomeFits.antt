@@ -1,5 +1,5 @@
 -- The outcomes that a cycle reports fit the fields of their lines.
-use Rattle.sercos_law_trace.proofs.Words.{◌≡◌, inl, inr, ℕ, zero, suc, ◌+◌, ◌-◌, ◌<◌, ◌≤◌, ◌==◌, nat_lt, Bool, true, false, List, [], ◌∷◌, ◌++◌, length, drop, min, Option, Some, None, is_some, is_none, refl, sym, ◌∙◌, ap, subst, arith, if◌then◌else◌, cond_both, slice_index, slice_get, option_and_then, All, All-nil, All-cons, All-head, All-tail, length-take, length-drop, AreBytes-take, AreBytes-bytes_of, reason_of, content_of, plain, Job, Request, Outcome, Shape, Answer, CountsAnswers, count_of, answer_words, outcome_of, is_whole, result_of, steps_before, attribute_read, AreAnswers, bytes_in, bytes_read, shape_of, words_in, length-answer_words, PlanView, RingView, Begun, open_in, answers_it, answer_in, with_answer, Begin, Send, Hear, EndCycle, begun_by, EventsView, CycleView, Report, number_in, broken_number, Known, Task, known_of, tasks_from, tasks_for, request_task, member, Call, HearMst, HearAt, Mdt, End, Restart, Past, past, after_taken, settled, with_begin, ready_to_send, is_sent_to, addressed_in, after_mdt, fall_of, is_idle, inserted, with_report, with_reports, broken, with_broken, outcomes_told, restart_told, settles, at_keeps, channel_keeps, end_keeps, Passage, Carry, Restarts, IsReportOf, IsTask, OfReads, OfWrites, Checks3, Lists3, Checks4, Lists4, OfWaiting, AreBegunTasks, HasBegunTasks, arrival, heard, passage, ats_in, station_of, with_at, at_calls, begin_calls, master_calls, middle, looks_back, no_events, IsNext, AreWords, word_of, words_append, bytes_of_words, read_word, words_drop, FitsEnded, begins_tasks, left_of, told_right, goes_on_at, and_left, length-bytes_in, AreBytes, field_of, AreOf, IsOf, part_left, template_of}
+use Rattle.sercos_law_trace.proofs.Words.{◌≡◌, inl, inr, ℕ, zero, suc, ◌+◌, ◌-◌, ◌<◌, ◌≤◌, ◌==◌, nat_lt, Bool, true, false, List, [], ◌∷◌, ◌++◌, length, drop, min, Option, Some, None, is_some, is_none, refl, sym, ◌∙◌, ap, subst, arith, if◌then◌else◌, cond_both, slice_index, slice_get, option_and_then, All, All-nil, All-cons, All-head, All-tail, length-take, length-drop, AreBytes-take, AreBytes-bytes_of, reason_of, content_of, plain, Job, Request, Outcome, Shape, Answer, CountsAnswers, count_of, answer_words, outcome_of, is_whole, result_of, steps_before, attribute_read, AreAnswers, bytes_in, bytes_read, shape_of, words_in, length-answer_words, PlanView, RingView, Begun, open_in, answers_it, answer_in, with_answer, Begin, Send, Hear, EndCycle, begun_by, EventsView, CycleView, Report, number_in, broken_number, Known, Task, known_of, tasks_from, tasks_for, request_task, member, Call, HearMst, HearAt, Mdt, End, Restart, Past, past, after_taken, settled, with_begin, ready_to_send, is_sent_to, addressed_in, after_mdt, fall_of, is_idle, inserted, with_report, with_reports, broken, with_broken, outcomes_told, restart_told, settles, at_keeps, channel_keeps, end_keeps, Passage, Carry, Restarts, IsReportOf, IsTask, OfReads, OfWrites, Checks3, Lists3, Checks4, Lists4, OfWaiting, AreBegunTasks, HasBegunTasks, arrival, heard, passage, ats_in, station_of, with_at, at_calls, begin_calls, master_calls, middle, looks_back, no_events, IsNext, AreWords, word_of, words_append, bytes_of_words, read_word, words_drop, FitsEnded, begins_tasks, left_of, told_right, goes_on_at, and_left, length-bytes_in, AreBytes, field_of, AreOf, IsOf, part_left, template_of, same_Some}
 use Rattle.sercos_telegram.specs.declared.layout.Kind.TheVariants as kinds
 use Rattle.sercos_step.specs.declared.request.Request.TheVariants as request
 use Rattle.sercos_step.specs.declared.request.Outcome.TheVariants as outcome
@@ -175,15 +175,12 @@ abbrev AreLow : List Task → Type 0
 AreLow [] = Unit {0}
 AreLow (t ∷ tasks) = ((n : ℕ) → t.number ≡ Some n → n ≤ 65535) × AreLow tasks
 
-some_same : {A : Type 0} (a b : A) → Some a ≡ Some b → a ≡ b
-some_same a b e = cc
-
 jobs_low : (address i : ℕ) (jobs : List Job) → i + length jobs ≤ 65536 → AreLow (tasks_from address i jobs)
 jobs_low address i [] few = tt
 jobs_low address i (job ∷ jobs) few = by (job.drive == address) (jobs_low address (i + 1) jobs (omega (arith, few)))
   where
     by : (b : Bool) → AreLow (tasks_from address (i + 1) jobs) → AreLow (if b then request_task i job.request ∷ tasks_from address (i + 1) jobs else tasks_from address (i + 1) jobs)
-    by true rest = (λ n is. let same = some_same i n is in omega (arith, same, few), rest)
+    by true rest = (λ n is. let same = same_Some i n is in omega (arith, same, few), rest)
     by false rest = rest
 
 drop_low : (n : ℕ) (tasks : List Task) → AreLow tasks → AreLow (drop n tasks)
@@ -271,7 +268,7 @@ module _ (counts : CountsAnswers) (r : RingView) (jobs : List Job) (few : length
         of : (o : Option ℕ) → number_in (p.tasks k) ≡ o → broken_number o ≡ Some x → FitsPair (x.number, x.outcome)
         of None has e = cc
         of (Some n) has e =
-            let same : (record { number = n; outcome = outcome.Broken }) ≡ x = some_same _ x e in
+            let same : (record { number = n; outcome = outcome.Broken }) ≡ x = same_Some _ x e in
             subst (λ (y : Report). FitsPair (y.number, y.outcome)) same (open_low (known_of r) k p.plan (p.waiting k) p.now.phase (begun_by (p.calls k)) (p.tasks k) (tasks_so k below) (waits_low k) n has, tt)
 
         by : (b : Bool) → (if b then None else broken_number (number_in (p.tasks k))) ≡ Some x → FitsPair (x.number, x.outcome)
