@@ -169,7 +169,7 @@ pub use Rattle.sercos_master.proofs.Planned.{Adds, asks_same, at_adds, is_planne
 pub use Rattle.sercos_master.proofs.Rings.{due_stopped, none_of_some, stop_stays}
 pub use Rattle.sercos_master.proofs.Sent.{fits_planned}
 pub use Rattle.sercos_master.proofs.Wishes.{is_valid, wish_there, wishes_length}
-pub use Rattle.sercos_master.specs.Annals.{Call, End, HearAt, HearMst, IsPlanned, Past, Restart, Turn, addressed_before, addressed_in, after_at, after_at_of, after_end, after_mdt, after_restart, after_taken, all_checked, all_identified, all_read, all_ready, begun, count_addressed, fall_at, fall_of, first_from, first_place, first_trouble, first_trouble_from, goes_on, has_identified, has_lost_at, has_lost_mst, has_turn, hearing, in_turn, is_at_limit, is_awaited, is_closed, is_done, is_done_in, is_identified, is_idle, is_mst, is_plan_due, is_sent_to, is_taken, new_epoch, next_phase, next_task, outcomes, past, place_of, planned_by, ready_to_send, sent_to, settled, still_waiting, trouble, wanted_len, whole_row, with_begin, with_due_plan, with_stop, with_task}
+pub use Rattle.sercos_master.specs.Annals.{Call, End, HearAt, HearMst, IsPlanned, Past, Restart, Turn, addressed_before, addressed_in, after_at, after_at_of, after_end, after_mdt, after_restart, after_taken, all_checked, all_identified, all_read, all_ready, begun, count_addressed, fall_at, fall_of, first_from, first_place, first_trouble, first_trouble_from, goes_on, has_identified, has_lost_at, has_lost_mst, has_turn, hearing, in_turn, is_at_limit, is_awaited, is_done, is_done_in, is_identified, is_idle, is_mst, is_plan_due, is_sent_to, is_taken, new_epoch, next_phase, next_task, outcomes, past, place_of, planned_by, ready_to_send, sent_to, settled, still_waiting, trouble, wanted_len, whole_row, with_begin, with_due_plan, with_stop, with_task}
 pub use Rattle.sercos_master.specs.Kept.{records_upto, seen_at}
 pub use Rattle.sercos_master.specs.Reports.{broken, events_told, plan_told, restart_told, stop_told, with_report, with_reports}
 pub use Rattle.sercos_master.specs.Says.{Sent, idle, joint, mdt_said, mst_said, record_to, records_from, said_to, single}

@@ -121,7 +121,7 @@ pub use Rattle.sercos_master.proofs.InOrder.{still_left}
 pub use Rattle.sercos_master.proofs.Keeping.{at_keeps, channel_keeps, end_keeps, first_found}
 pub use Rattle.sercos_master.proofs.Laws.{get_dropped, jobs_waiting}
 pub use Rattle.sercos_master.proofs.Planned.{is_planned}
-pub use Rattle.sercos_master.specs.Annals.{Call, End, HearAt, HearMst, IsPlanned, Mdt, Past, Restart, addressed_in, after_end, after_mdt, after_taken, all_ready, fall_at, fall_of, first_place, has_lost_at, has_lost_mst, is_at_limit, is_done, is_done_in, is_identified, is_idle, is_sent_to, new_epoch, next_phase, outcomes, past, ready_to_send, settled, still_waiting, with_begin, with_task}
+pub use Rattle.sercos_master.specs.Annals.{Call, End, HearAt, HearMst, IsPlanned, Mdt, Past, Restart, addressed_in, after_end, after_mdt, after_taken, fall_at, fall_of, first_place, has_lost_at, has_lost_mst, is_at_limit, is_done, is_done_in, is_identified, is_idle, is_sent_to, new_epoch, next_phase, outcomes, past, ready_to_send, settled, still_waiting, with_begin, with_task}
 pub use Rattle.sercos_master.specs.Reports.{broken, inserted, outcomes_told, plan_told, restart_told, with_broken, with_report, with_reports}
 pub use Rattle.sercos_master.specs.Says.{Sent, idle, joint, mdt_said, mst_said, said_to, single}
 pub use Rattle.sercos_script.specs.Links.{Carry, Restarts}
