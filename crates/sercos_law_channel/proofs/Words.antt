@@ -1,8 +1,10 @@
 -- The words that the proofs speak in, of std, of the crates below and of this crate's specs, each under one name.
 pub use Rattle.std.proofs.Common.{Bool, List, [], ap, append_assoc, ap₂, arith, cond, drop, false, if◌then◌else◌, inl, inr, length, length-append, map, not, refl, replicate, subst, suc, sym, take, take-append-drop, true, zero, ℕ, ⊎_elim, ◌%◌, ◌&&◌, ◌*◌, ◌++◌, ◌+◌, ◌-◌, ◌/◌, ◌<◌, ◌^◌, ◌||◌, ◌∙◌, ◌∷◌, ◌≡◌, ◌≤◌, ◌⊎◌}
-pub use Rattle.std.proofs.lemmas.Bool.{and_from, and_parts, and_right, both_ways, cases_Bool, cases_eq, cond-false, cond-true, cond_both, eq-eqb, eqb-true, le-leb, leb-true, ltb-true, ne_eqb, not-true}
+pub use Rattle.std.proofs.lemmas.Bool.{and_from, and_parts, and_right, both_ways, cases_Bool, cases_eq, cond-false, cond-true, cond_both, eq-eqb, eqb-true, le-leb, leb-true, ltb-true, ne_eqb, not-true, not_from_true}
 pub use Rattle.std.proofs.lemmas.Bool.Decides.{nat_tests}
 pub use Rattle.std.proofs.lemmas.List.Sums.{sum_by-append, sum_by-cons}
+pub use Rattle.std.proofs.Math.Bool.{and-false}
+pub use Rattle.std.proofs.lemmas.Option.{slice_get_within}
 pub use Rattle.std.specs.Bool.{then_some}
 pub use Rattle.std.specs.Int.{to_le_bytes, w16, w32}
 pub use Rattle.std.specs.List.{list_all, sum_by}
@@ -10,18 +12,23 @@ pub use Rattle.std.specs.Option.{option_or}
 pub use Rattle.std.specs.Prelude.{IfSome, IsSome, None, Option, Some, int_lt, is_none, is_some, max, min, nat_le, nat_lt, option_and_then, option_map, slice_get, slice_index, unwrap_or, ◌==◌}
 pub use mathlib.Core.Bool.{beq}
 pub use Rattle.sercos_model.proofs.FaultLemmas.{none_of-or, none_of-then}
-pub use Rattle.sercos_model.specs.Bits.{AreBytes}
+unfoldable pub use Rattle.sercos_model.specs.Bits.{AreBytes}
 pub use Rattle.sercos_telegram.specs.declared.words.Status.{Status}
+pub use Rattle.sercos_telegram.specs.Words.{status_rest}
 pub use Rattle.sercos_idn.proofs.AttributeLemmas.{attribute_fault-attribute_word, attribute_of-attribute_word, attribute_word-below}
-pub use Rattle.sercos_idn.specs.Attributes.{attribute_of, attribute_word}
-pub use Rattle.sercos_idn.specs.Codes.{attribute_fault, is_list, item_len}
+pub use Rattle.sercos_idn.specs.Attributes.{attribute_word}
+unfoldable pub use Rattle.sercos_idn.specs.Attributes.{attribute_of}
+pub use Rattle.sercos_idn.specs.Codes.{is_list, item_len}
+unfoldable pub use Rattle.sercos_idn.specs.Codes.{attribute_fault}
 pub use Rattle.sercos_idn.specs.declared.attribute.Attribute.{Attribute}
 pub use Rattle.sercos_idn.specs.declared.code.Code.{Code}
 pub use Rattle.sercos_idn.specs.declared.idn.Idn.{Idn}
 pub use Rattle.sercos_idn.specs.declared.kinds.Length.{Length}
 pub use Rattle.sercos_idn.specs.declared.kinds.Length.TheVariants.{Four, Two}
+pub use Rattle.sercos_block.proofs.SoundLemmas.{found_sound}
 pub use Rattle.sercos_block.proofs.TypeLemmas.{types}
 pub use Rattle.sercos_block.specs.Blocks.{bits_in, bytes_for, is_fixed, is_number, is_protected, meant, number_end, width_of}
+unfoldable pub use Rattle.sercos_block.specs.Blocks.{element_of}
 pub use Rattle.sercos_block.specs.Rules.{is_limit, is_max_len, is_printable, is_step, is_text}
 pub use Rattle.sercos_block.specs.Stores.{IsStore, data_fault, find_block, is_above, is_below, is_len, put_fault, read_fault, with_data, with_value, write_fault}
 pub use Rattle.sercos_block.specs.declared.block.Block.{Block}
@@ -30,6 +37,7 @@ pub use Rattle.sercos_step.proofs.Ends.{has_next, length-answer_words, read_ends
 pub use Rattle.sercos_step.proofs.ReadBack.{bytes_back, high_back, low_back}
 pub use Rattle.sercos_step.proofs.Runs.{length-run}
 pub use Rattle.sercos_step.proofs.WrittenWords.{few_told, length-at_least_one, length-words_of}
+pub use Rattle.sercos_step.proofs.Flags.{and_left}
 pub use Rattle.sercos_step.specs.Counts.{count_of, polls}
 pub use Rattle.sercos_step.specs.Steps.{AreAnswers, a_step, answer_words, asks_attribute, attribute_then, is_whole, next_step, opening, outcome_of, polling, reading, result_of, run, steps_before, steps_of, writing}
 pub use Rattle.sercos_step.specs.Words.{as_value, at_least_one, bytes_in, bytes_read, shape_by, shape_of, words_in, words_in_list, words_of, words_told}
@@ -48,7 +56,8 @@ pub use Rattle.sercos_service_drive.proofs.AllowedWrites.{allowed, no_cause, tho
 pub use Rattle.sercos_service_drive.proofs.WordLemmas.{length-drop_two}
 pub use Rattle.sercos_service_drive.proofs.WriteAnswers.{length-in_order}
 pub use Rattle.sercos_service_drive.specs.Log.{Entry, Processed, accepted, ahs, in_order, open_idn, opens, run_before, selection}
-pub use Rattle.sercos_service_drive.specs.Replies.{answer_by, answered, bytes_written, copy, ends_early, good, is_first_word, is_no_command_value, is_over, is_uneven, list_words, log_of, missing, read_cause, refused, reply_at, reply_of, reply_on, words_at, write_cause_in}
+pub use Rattle.sercos_service_drive.specs.Replies.{answer_by, answered, copy, ends_early, good, is_first_word, is_no_command_value, is_over, is_uneven, list_words, log_of, missing, read_cause, refused, reply_at, reply_of, reply_on, words_at, write_cause_in}
+unfoldable pub use Rattle.sercos_service_drive.specs.Replies.{bytes_written, data_in, element_words, write_cause}
 pub use Rattle.sercos_service_drive.specs.Says.{Shown, channel_says, shown, shown_by}
 pub use Rattle.sercos_service_drive.specs.Writes.{AreAlike, AreThose, Write, added_on, adds, blocks_with, command_value, commands_with, takes_effect, with_added, without_data, writes_of, written_by}
 pub use Rattle.sercos_service_master.specs.Begun.{Begun, Said, answer_in, answers_in, answers_it, is_odd, master_says, mhs_in, open_in, step_at, step_or_none, steps_begun, steps_in, with_answer, with_step}

@@ -1,7 +1,6 @@
 -- The theorems on the master alone and on frames whose proofs cite others, as the laws state them.
-use Rattle.sercos_law_run.proofs.Words.{◌≡◌, ℕ, ◌<◌, ◌≤◌, Bool, List, length, None, refl, sym, drop, plain, reason_of, IsFrame-framed, reason_of-IsFrame, AreBytes, IsFrame, has_next, Job, alike, those_at, HandedThose, Known, tasks_for, still_left, Call, past, ReadsWell, TellsInOrder, TellsOnce, TellsRight, Check127HasCause, Check128HasCause, NoFitHasCause, RefusedHasCause, BeginsNoneEarly, BeginsTasks, EndsTasks, WorkInTurn, WorksInFour, WorksInThree, WorksInTwo, ConfiguresAtRise, ConfiguresFromCheck}
+use Rattle.sercos_law_run.proofs.Words.{◌≡◌, ℕ, ◌<◌, ◌≤◌, Bool, List, length, None, refl, sym, drop, plain, reason_of, IsFrame-framed, reason_of-IsFrame, AreBytes, IsFrame, has_next, Job, alike, those_at, HandedThose, Known, tasks_for, still_left, Call, past, ReadsWell, TellsInOrder, TellsOnce, TellsRight, Check127HasCause, Check128HasCause, NoFitHasCause, RefusedHasCause, BeginsNoneEarly, BeginsTasks, EndsTasks, WorkInTurn, WorksInFour, WorksInThree, WorksInTwo, ConfiguresAtRise, ConfiguresFromCheck, frame_of}
 use Rattle.sercos_hdlc.specs.Reason.{content_of}
-use Rattle.sercos_hdlc.specs.Stuffed.{frame_of}
 use Rattle.sercos_law_run.proofs.Agenda.AtWork.{works_in_four, works_in_three, works_in_two}
 use Rattle.sercos_law_run.proofs.Agenda.OneTurn.{all_in_turn, none_early}
 use Rattle.sercos_law_run.proofs.Agenda.ReadWell.{are_read_well, ends_tasks}

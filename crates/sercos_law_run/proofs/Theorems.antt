@@ -4,7 +4,6 @@ pub use Rattle.sercos_law_run.proofs.Slots.SendingLemmas.{place_by}
 pub use Rattle.sercos_law_run.proofs.Start.BlockFinds.{find_built_in, find_store_of}
 pub use Rattle.sercos_law_run.proofs.Start.CheckPasses.{ring_drive, wish_is}
 pub use Rattle.sercos_law_run.proofs.Agenda.ReportedRuns.{count_so}
-pub use Rattle.sercos_law_run.proofs.Agenda.Requests.{numbered_drop}
 pub use Rattle.sercos_law_run.proofs.Agenda.TaskRuns.{all_ended}
 pub use Rattle.sercos_law_run.proofs.Journal.ClearLemmas.{heard-quiet, same_bits, same_heard, unseen-quiet}
 pub use Rattle.sercos_law_run.proofs.Journal.HarmlessLemmas.{both_are_harmless, cuts_are_harmless}
@@ -12,7 +11,7 @@ pub use Rattle.sercos_law_run.proofs.Journal.RunLemmas.{AreParts, ats_in-said, l
 pub use Rattle.sercos_law_run.proofs.Journal.StationLemmas.{drives_so, few_drives, said_address, sound_blocks, station_found, station_is}
 pub use Rattle.sercos_law_run.proofs.Views.Members.{AreSaid, all_said, member_is, members_count, same_drive}
 pub use Rattle.sercos_law_run.proofs.Views.Received.{address_of}
-pub use Rattle.sercos_law_run.proofs.Views.ViewRuns.{views_count}
+pub use Rattle.sercos_law_run.proofs.Views.ViewRuns.{command_below, views_count}
 pub use Rattle.sercos_law_run.proofs.Typed.Ats.{IsContent, at_content}
 pub use Rattle.sercos_law_run.proofs.Typed.Begun.{IsTypedPast, tasks_so, typed_past}
 pub use Rattle.sercos_law_run.proofs.Typed.Mdts.{mdt_whole, mst_whole, phase_low}
@@ -31,5 +30,9 @@ pub use Rattle.sercos_law_run.proofs.Headline.AtLengths.{carried_length}
 pub use Rattle.sercos_law_run.proofs.Headline.HeadlineRuns.{all_stand, first_store, keeps_all, spelled_in, stored_in}
 pub use Rattle.sercos_law_run.proofs.Undisturbed.Arriving.StaysClear.{stays_clear}
 pub use Rattle.sercos_law_run.proofs.Totals.Bounds.{unseen_few}
-pub use Rattle.sercos_law_run.proofs.Totals.CountLemmas.{few_more, none_counted, none_few, room_for}
+pub use Rattle.sercos_law_run.proofs.Totals.CountLemmas.{fell_once, few_more, none_counted, none_few, room_for}
 pub use Rattle.sercos_law_run.proofs.Totals.TotalsLemmas.{totals_more}
+pub use Rattle.sercos_law_run.proofs.Recovery.Stretches.{rest_clear, rest_runs}
+pub use Rattle.sercos_law_run.proofs.Start.RingSlotLemmas.{rate_is}
+pub use Rattle.sercos_law_run.proofs.Agenda.Requests.{numbered_drop}
+pub use Rattle.sercos_law_run.proofs.Headline.WellRuns.{or_none}

@@ -14,6 +14,7 @@ pub use Rattle.std.proofs.lemmas.List.Kept.{AllPairs-cons}
 pub use Rattle.std.proofs.lemmas.List.Sorted.{list_any-IsPermutation}
 pub use Rattle.std.proofs.lemmas.List.Sums.{fold-append, sum_by-append, sum_by-cons, sum_by-take-drop, sum_by_push}
 pub use Rattle.std.proofs.lemmas.Option.{get_or_from_slice_get, none-some, same_Some, slice_get-get_or, slice_get_within}
+pub use Rattle.std.proofs.Math.Bool.{or_self_left}
 pub use Rattle.std.specs.Bool.{then_some}
 pub use Rattle.std.specs.Int.{from_le_bytes, to_le_bytes, w16, w32}
 pub use Rattle.std.specs.List.{All, AllPairs, concat, filter, find, flat_map, fold, last_or, list_all, list_any, position, position_or_len, sum, sum_by}
@@ -22,25 +23,30 @@ pub use Rattle.std.specs.Prelude.{IfOk, IfSome, IsSome, OnErr, is_none, is_some,
 pub use mathlib.Core.Bool.{beq}
 pub use Rattle.sercos_model.proofs.BitLemmas.{AreBytes-append, AreBytes-by_index, AreBytes-bytes_of, AreBytes-get_or, AreBytes-take}
 pub use Rattle.sercos_model.proofs.FaultLemmas.{none_of-or, none_of-then}
-pub use Rattle.sercos_model.specs.Bits.{AreBytes}
+unfoldable pub use Rattle.sercos_model.specs.Bits.{AreBytes}
 pub use Rattle.sercos_model.specs.Frames.{IsFrame, wire_bits}
 pub use Rattle.sercos_hdlc.proofs.FramingLemmas.{IsFrame-framed, length-IsFrame, no_longer_frame}
 pub use Rattle.sercos_hdlc.proofs.ReasonLemmas.{IsFrame-reason_none, reason_of-IsFrame}
 pub use Rattle.sercos_hdlc.specs.Reason.{plain, reason_of}
-pub use Rattle.sercos_hdlc.specs.Stuffed.{frame_of}
+unfoldable pub use Rattle.sercos_hdlc.specs.Stuffed.{frame_of}
 pub use Rattle.sercos_hdlc.specs.declared.bad_frame.BadFrame.{BadFrame}
 pub use Rattle.sercos_telegram.proofs.Spellings.{head_fault-none}
 pub use Rattle.sercos_telegram.specs.Faults.{at_fault, joint_fault, single_fault}
+unfoldable pub use Rattle.sercos_telegram.specs.Faults.{head_fault, mst_fault}
 pub use Rattle.sercos_telegram.specs.Kinds.{is_at, is_mdt}
-pub use Rattle.sercos_telegram.specs.Spells.{all_drives, fields, mst_content, word_at}
-pub use Rattle.sercos_telegram.specs.Words.{control_element, has, status_of}
+pub use Rattle.sercos_telegram.specs.Spells.{all_drives, mst_content}
+unfoldable pub use Rattle.sercos_telegram.specs.Spells.{fields, word_at, word_bytes}
+pub use Rattle.sercos_telegram.specs.Words.{control_element, has}
+unfoldable pub use Rattle.sercos_telegram.specs.Words.{control_of, status_of}
 pub use Rattle.sercos_telegram.specs.declared.layout.Kind.{Kind}
 pub use Rattle.sercos_telegram.specs.declared.layout.Layout.{Layout}
 pub use Rattle.sercos_telegram.specs.declared.layout.Layout.TheVariants.{Address}
 pub use Rattle.sercos_telegram.specs.declared.words.Status.{Status}
 pub use Rattle.sercos_idn.proofs.AttributeLemmas.{attribute_fault-attribute_word, attribute_of-attribute_word, attribute_word-below}
-pub use Rattle.sercos_idn.specs.Attributes.{attribute_of, attribute_word}
+pub use Rattle.sercos_idn.specs.Attributes.{attribute_word}
+unfoldable pub use Rattle.sercos_idn.specs.Attributes.{attribute_of}
 pub use Rattle.sercos_idn.specs.Codes.{is_list, item_len}
+unfoldable pub use Rattle.sercos_idn.specs.Codes.{attribute_fault}
 pub use Rattle.sercos_idn.specs.Commands.{to_cancel}
 pub use Rattle.sercos_idn.specs.declared.attribute.Attribute.{Attribute}
 pub use Rattle.sercos_idn.specs.declared.code.Code.{Code}
@@ -52,7 +58,8 @@ pub use Rattle.sercos_timing.specs.Examples.{two_drives}
 pub use Rattle.sercos_timing.specs.Inequalities.{Fits, Meets, asked_2, asked_3, asked_4, asked_5, greatest_tmtsy, positions}
 pub use Rattle.sercos_timing.specs.Limits.{most_cycle}
 pub use Rattle.sercos_timing.specs.Order.{at_bits, bits_of, mdt_bits, no_wish, previous, record_bytes, same_slave, sent, times, wish}
-pub use Rattle.sercos_timing.specs.Valid.{AreDistinct, IsValid, addresses, is_address, is_control, is_cycle, is_rate}
+pub use Rattle.sercos_timing.specs.Valid.{AreDistinct, IsValid, addresses, is_address}
+unfoldable pub use Rattle.sercos_timing.specs.Valid.{is_control, is_cycle, is_rate}
 pub use Rattle.sercos_timing.specs.Views.{PlanView, WishesView}
 pub use Rattle.sercos_timing.specs.declared.wishes.Times.{Times}
 pub use Rattle.sercos_timing.specs.declared.wishes.Wish.{Wish}
@@ -63,11 +70,16 @@ pub use Rattle.sercos_block.proofs.SoundLemmas.{SoundParts, SoundParts-is_sound,
 pub use Rattle.sercos_block.proofs.TypeLemmas.{bytes_from, types}
 pub use Rattle.sercos_block.proofs.WishLemmas.{IsValid-wishes_of, length_wishes}
 pub use Rattle.sercos_block.specs.Blocks.{bits_in, bytes_for, is_fixed, is_number, is_protected, number_end, width_of}
+unfoldable pub use Rattle.sercos_block.specs.Blocks.{element_of}
 pub use Rattle.sercos_block.specs.BuiltIns.{built_in_block, built_ins, is_built_in, opening_limit, row}
-pub use Rattle.sercos_block.specs.Rings.{HasLens, are_cyclic, are_times, attribute_in, block_attribute, cyclic_len, has_address, has_blocks, has_drive_numbers, has_ring_numbers, is_no_command, is_order, is_ring, number_len, record_len, row_in, value_len, wish_of, wishes_of}
-pub use Rattle.sercos_block.specs.Rules.{block_fault, blocks_fault, has_block, is_printable, is_text}
+unfoldable pub use Rattle.sercos_block.specs.BuiltIns.{built_in}
+pub use Rattle.sercos_block.specs.Rings.{HasLens, cyclic_len, has_drive_numbers, has_ring_numbers, is_no_command, number_len, record_len, value_len, wish_of}
+unfoldable pub use Rattle.sercos_block.specs.Rings.{are_cyclic, are_drive_numbers, are_drives, are_ring_numbers, are_times, are_turns, attribute_in, block_attribute, built_in_attribute, has_address, has_blocks, has_drives, has_other_data, is_drive, is_order, is_ring, is_turn, listed_len, mdt_len, own_attribute, row_in, wishes_of}
+pub use Rattle.sercos_block.specs.Rules.{has_block, is_printable, is_text}
+unfoldable pub use Rattle.sercos_block.specs.Rules.{block_fault, blocks_fault}
 pub use Rattle.sercos_block.specs.Startup.{startup_bound, startup_of}
-pub use Rattle.sercos_block.specs.Stores.{IsStore, are_ascending, data_fault, find_block, is_above, is_below, is_invalid, is_len, is_long, is_short, is_sound, is_typed, put_fault, read_fault, store_of, with_data, with_own, with_value, write_fault, IsTyped}
+pub use Rattle.sercos_block.specs.Stores.{IsStore, IsTyped, find_block, is_above, is_below, is_invalid, is_len, is_long, is_short, is_sound, put_fault, read_fault, with_data, with_value, write_fault}
+unfoldable pub use Rattle.sercos_block.specs.Stores.{are_ascending, data_fault, is_typed, store_of, with_own}
 pub use Rattle.sercos_block.specs.ValidRings.{IsRing}
 pub use Rattle.sercos_block.specs.Views.{DriveView, RingView}
 pub use Rattle.sercos_block.specs.declared.block.Block.{Block}
@@ -82,7 +94,8 @@ pub use Rattle.sercos_plan.proofs.PlanLemmas.{among_greatest, least_fits, rate_s
 pub use Rattle.sercos_plan.proofs.ReachLemmas.{one_of}
 pub use Rattle.sercos_plan.specs.ChainOf.{chain_of, planned}
 pub use Rattle.sercos_plan.specs.Least.{IsLeast, NoneFits}
-pub use Rattle.sercos_plan.specs.LeastTimes.{is_roomy, least_plan, least_t1}
+pub use Rattle.sercos_plan.specs.LeastTimes.{is_roomy, least_t1}
+unfoldable pub use Rattle.sercos_plan.specs.LeastTimes.{least_plan}
 pub use Rattle.sercos_plan.specs.Views.{ChainView}
 pub use Rattle.sercos_step.proofs.AnswerCounts.{times_le}
 pub use Rattle.sercos_step.proofs.Ends.{has_next, read_ends, write_ends}
@@ -99,8 +112,10 @@ pub use Rattle.sercos_step.specs.declared.step.Answer.{Answer}
 pub use Rattle.sercos_step.specs.declared.step.Step.{Step}
 pub use Rattle.sercos_command.proofs.CallLemmas.{passes_by_first}
 pub use Rattle.sercos_command.proofs.History.{find-settings, is_none-settings, is_passed-kept}
-pub use Rattle.sercos_command.specs.Calls.{CommandCall, CommandHistory, Other, Reset, Wrote, change_in, is_passed, is_set, setting_of, status_in, with_call, with_check_list}
-pub use Rattle.sercos_command.specs.Checks.{breaks_1, breaks_10, breaks_15, breaks_2, breaks_6, breaks_7, breaks_8, breaks_89, breaks_9, breaks_list, carried_len, data_at, idns_at, is_cyclic, is_outside, list_bytes, listed_if, number_at, unfit_for_phase_3, unfit_for_phase_4}
+pub use Rattle.sercos_command.specs.Calls.{CommandCall, CommandHistory, Other, Reset, Wrote, change_in, is_passed, is_set, setting_of, status_in, with_call}
+unfoldable pub use Rattle.sercos_command.specs.Calls.{with_check_list}
+pub use Rattle.sercos_command.specs.Checks.{data_at, is_cyclic, is_outside, list_bytes, listed_if, number_at}
+unfoldable pub use Rattle.sercos_command.specs.Checks.{breaks_1, breaks_10, breaks_15, breaks_2, breaks_6, breaks_7, breaks_8, breaks_89, breaks_9, breaks_list, carried_len, idns_at, unfit_for_phase_3, unfit_for_phase_4}
 pub use Rattle.sercos_command.specs.Kept.{AreInOrder, find_set, first_passed_in, is_from, newest_cycle, passed_so_far, set_in, settings, with_set, without}
 pub use Rattle.sercos_command.specs.Settings.{ends_well, has_ended, is_command, status_by}
 pub use Rattle.sercos_command.specs.declared.commands.SetCommand.{SetCommand}
@@ -108,7 +123,8 @@ pub use Rattle.sercos_service_drive.proofs.AllowedWrites.{alike, allowed, those_
 pub use Rattle.sercos_service_drive.proofs.WordLemmas.{length-bytes_in}
 pub use Rattle.sercos_service_drive.proofs.WriteAnswers.{in_order-append, length-in_order}
 pub use Rattle.sercos_service_drive.specs.Log.{Entry, Processed, accepted, ahs, in_order, open_idn, opens, processed_record, run_before, selection}
-pub use Rattle.sercos_service_drive.specs.Replies.{answer_by, answered, bytes_written, copy, data_in, ends_early, good, is_first_word, is_no_command_value, is_over, is_uneven, list_words, log_of, missing, read_cause, refused, reply_at, reply_of, reply_on, write_cause_in}
+pub use Rattle.sercos_service_drive.specs.Replies.{answer_by, answered, copy, ends_early, good, is_first_word, is_no_command_value, is_over, is_uneven, list_words, log_of, missing, read_cause, refused, reply_at, reply_of, reply_on, write_cause_in}
+unfoldable pub use Rattle.sercos_service_drive.specs.Replies.{bytes_written, data_in, element_words, write_cause}
 pub use Rattle.sercos_service_drive.specs.Says.{Shown, channel_says, shown, shown_by}
 pub use Rattle.sercos_service_drive.specs.Writes.{AreAlike, AreThose, Write, added_by, added_on, adds, blocks_with, calls_with, command_value, commands_with, takes_effect, with_added, without_data, writes_of, written_by}
 pub use Rattle.sercos_service_master.specs.Begun.{Begun, answer_in, answers_in, answers_it, master_says, mhs_in, open_in, outcome_with, said_by, step_at, step_or_none, steps_begun, steps_in, with_answer, with_step}
@@ -124,9 +140,11 @@ pub use Rattle.sercos_drive.proofs.RecordLemmas.{mst_below, phase_below}
 pub use Rattle.sercos_drive.proofs.Worked.{drive}
 pub use Rattle.sercos_drive.specs.Annals.{accepted_at, annals, ends_in, may_rise, mdt_moment, phase_at, stands_in, store_at, takes}
 pub use Rattle.sercos_drive.specs.Heard.{DriveCall, Mdt, Mst, joint_in, lies_within, mdt_got, mst_got, told_at}
+unfoldable pub use Rattle.sercos_drive.specs.Heard.{single_in}
 pub use Rattle.sercos_drive.specs.Laws.{HandedThose}
 pub use Rattle.sercos_drive.specs.Moments.{AtMst, Moment, blocks_after, blocks_in, calls_after, commands_in, cycle_in, has_missed, has_mst, has_taken, phase_in, records_in, unless_phase_0, with_reset, write_in, writes_in}
 pub use Rattle.sercos_drive.specs.Says.{Said, bytes_in_cycle, drive_says, said, said_in, sends, shown_word, start_in, values_in}
+unfoldable pub use Rattle.sercos_drive.specs.Says.{value_in}
 pub use Rattle.sercos_drive.specs.Steps.{commands_after, reset_in}
 pub use Rattle.sercos_drive.specs.declared.hearing.Told.{Told}
 pub use Rattle.sercos_seat.proofs.Agendas.{ended_there, next_2, next_3, not_checked, reads_length}
@@ -140,24 +158,25 @@ pub use Rattle.sercos_seat.specs.Channel.{Report, broken_number, count_requests,
 pub use Rattle.sercos_seat.specs.Records.{record_said, value_said, values_said, word_said}
 pub use Rattle.sercos_seat.specs.Ring.{HasLists, IsKnown, Known, MemberView, Task, known_of, member, member_of, no_member, request_task, startup, tasks_for, tasks_from}
 pub use Rattle.sercos_seat.specs.Seats.{AreWaiting, next_in_2, next_in_3}
-pub use Rattle.sercos_master.proofs.Configured.{configured, each_passes, leaves, mdt_adds, ready}
+pub use Rattle.sercos_master.proofs.Configured.{configured, each_passes, leaves, mdt_adds, ready, stays_ready}
 pub use Rattle.sercos_master.proofs.Followed.{HasNext, never_idle, no_stop_before, none_troubled, not_longer, settles}
 pub use Rattle.sercos_master.proofs.InOrder.{still_left, tasks_numbered}
 pub use Rattle.sercos_master.proofs.Keeping.{Brings, OfChain, OfRecords, OfTrouble, at_keeps, begins_next, channel_keeps, end_keeps, first_found, going, made, never_both, none_of, past_keeps, settled_keeps, stopped}
 pub use Rattle.sercos_master.proofs.Laws.{all_waiting, jobs_waiting, tasks_wait, waiting_at, waiting_settled}
 pub use Rattle.sercos_master.proofs.Openings.{known_of-IsRing, mapped_length}
 pub use Rattle.sercos_master.proofs.Places.{other_place, same_place}
-pub use Rattle.sercos_master.proofs.Planned.{Adds, asks_same, at_adds, is_planned, part_before}
+pub use Rattle.sercos_master.proofs.Planned.{Adds, asks_same, at_adds, is_planned, part_before, read_stays}
 pub use Rattle.sercos_master.proofs.Rings.{due_stopped, none_of_some, stop_stays}
 pub use Rattle.sercos_master.proofs.Sent.{fits_planned}
-pub use Rattle.sercos_master.proofs.Wishes.{is_valid}
-pub use Rattle.sercos_master.specs.Annals.{Call, End, HearAt, HearMst, IsPlanned, Past, Restart, Turn, addressed_before, addressed_in, after_at, after_at_of, after_end, after_mdt, after_restart, after_taken, all_checked, all_identified, all_read, all_ready, begun, count_addressed, fall_at, fall_of, first_from, first_place, first_trouble, first_trouble_from, goes_on, has_identified, has_lost_at, has_lost_mst, has_turn, hearing, in_turn, is_at_limit, is_awaited, is_closed, is_done, is_done_in, is_identified, is_idle, is_mst, is_plan_due, is_sent_to, is_taken, new_epoch, next_phase, next_task, outcomes, past, place_of, planned_by, ready_to_send, sent_to, settled, still_waiting, trouble, wanted_len, whole_row, with_begin, with_due_plan, with_stop, with_task}
+pub use Rattle.sercos_master.proofs.Wishes.{is_valid, wish_there, wishes_length}
+pub use Rattle.sercos_master.specs.Annals.{Call, End, HearAt, HearMst, IsPlanned, Past, Restart, Turn, addressed_before, addressed_in, after_at, after_at_of, after_end, after_mdt, after_restart, after_taken, all_checked, all_identified, all_read, all_ready, begun, count_addressed, fall_at, fall_of, first_from, first_place, first_trouble, first_trouble_from, goes_on, has_identified, has_lost_at, has_lost_mst, has_turn, hearing, in_turn, is_at_limit, is_awaited, is_done, is_done_in, is_identified, is_idle, is_mst, is_plan_due, is_sent_to, is_taken, new_epoch, next_phase, next_task, outcomes, past, place_of, planned_by, ready_to_send, sent_to, settled, still_waiting, trouble, wanted_len, whole_row, with_begin, with_due_plan, with_stop, with_task}
 pub use Rattle.sercos_master.specs.Kept.{records_upto, seen_at}
 pub use Rattle.sercos_master.specs.Reports.{broken, events_told, plan_told, restart_told, stop_told, with_report, with_reports}
 pub use Rattle.sercos_master.specs.Says.{Sent, idle, joint, mdt_said, mst_said, record_to, records_from, said_to, single}
 pub use Rattle.sercos_script.proofs.CutLemmas.{unflipped_only_cuts}
 pub use Rattle.sercos_script.specs.Cuts.{IsCut, OnlyCuts}
 pub use Rattle.sercos_script.specs.Links.{Carry, IsQuiet, Restarts, carried_clean, never_restarts}
+unfoldable pub use Rattle.sercos_script.specs.Scripts.{acts, carried, restarts_at}
 pub use Rattle.sercos_script.specs.declared.fault.Damage.{Damage}
 pub use Rattle.sercos_script.specs.declared.fault.Damage.TheVariants.{Cut, Deaf, Flip, Lose}
 pub use Rattle.sercos_script.specs.declared.fault.Fault.{Fault}
@@ -182,7 +201,7 @@ pub use Rattle.sercos_law_channel.proofs.Pace.LateRuns.{head_before, taken_befor
 pub use Rattle.sercos_law_channel.proofs.Pace.OnTime.{joins}
 pub use Rattle.sercos_law_channel.proofs.Pace.TimedCommands.{comes_timed}
 pub use Rattle.sercos_law_channel.proofs.Pace.WholeCycles.{got_some, hears_throughout, is_clean_or_down, moved_next, recovers_in_time, stands_throughout, stays_clean, stays_dead}
-pub use Rattle.sercos_law_channel.proofs.Theorems.{Allows, AreAllowed, Cancels, Down, HasReplies, IsEpoch, IsRead-alike, IsRefused, Laws, Nothing, Poll, Processes, Reads, Record, Stands, accepts_in_order, answered_replies, cancels_well, comes_to, commanded, cycle_exact, ends, ends_so, entries_ago, entries_in_epochs, epoch, fall_into_parts, find-alike, goes_on-outcome_of, high_of, in_step, is_nil, kept_same, length-replies_of, length-steps_begun, length-steps_of, list_shape, long_words, low_of, newest_step, next_poll, next_setting, nothing_old, only_opening, open_late, passes_by_setting, passes_last, processed_phase, processes, reply-read, reply_high, reply_low, said_of, same_log, split_blocks, split_replies, stands, stays_passed, stays_passed_last, those_kept, those_since, up_by, without_newest, written}
+pub use Rattle.sercos_law_channel.proofs.Theorems.{Allows, AreAllowed, Cancels, Down, HasReplies, IsEpoch, IsRead-alike, IsRefused, Laws, Nothing, Poll, Processes, Reads, Record, Stands, accepts_in_order, answered_replies, cancels_well, comes_to, commanded, cycle_exact, ends, ends_so, entries_ago, entries_in_epochs, epoch, fall_into_parts, few_steps, find-alike, four_bytes, goes_on-outcome_of, heard_none, high_of, in_step, is_nil, kept_same, length-replies_of, length-steps_begun, length-steps_of, list_shape, long_words, low_of, newest_step, next_poll, next_setting, nothing_old, only_opening, open_late, passes_by_setting, passes_last, printable_bytes, processed_phase, processed_some, processes, reply-read, reply_high, reply_low, said_of, same_log, split_blocks, split_replies, stands, stays_passed, stays_passed_last, those_kept, those_since, times_suc, two_bytes, up_by, without_newest, written}
 pub use Rattle.sercos_law_channel.specs.Handshake.CommandTransfers.{GivesStatus, added_by_setting, cancelled_by, second_of, setting}
 pub use Rattle.sercos_law_channel.specs.Handshake.Epochs.{begun_in, command, command_in, epoch_begun, epoch_log, epoch_records, log_in, records_in_views, unless_restart, with_begun, with_heard}
 pub use Rattle.sercos_law_channel.specs.Handshake.Exact.{AreExact, AreWrites, Broken, Complete, Given, Refused, given_by, given_of, gives, written_to}
@@ -191,7 +210,7 @@ pub use Rattle.sercos_law_channel.specs.Handshake.Moves.{with_processed, with_st
 pub use Rattle.sercos_law_channel.specs.Handshake.Parts.{AreInTurn, AreParts, IsPart, IsRow, Unheard, Unsent}
 pub use Rattle.sercos_law_channel.specs.Handshake.ReadTransfers.{IsReadAt, element_in, entry_behind}
 pub use Rattle.sercos_law_channel.specs.Handshake.RunLaws.{AreBefore, BeginsEmpty, phase_commanded}
-pub use Rattle.sercos_law_channel.specs.Handshake.Runs.{IsShown}
+pub use Rattle.sercos_law_channel.specs.Handshake.Runs.{IsShown, IsRun as IsViewRun}
 pub use Rattle.sercos_law_channel.specs.Handshake.Transfers.{AreReplies, HaveBlocks, IsTransfer, is_complete, stored}
 pub use Rattle.sercos_law_channel.specs.Handshake.Values.{GiveElsewhere, StaysWritten, is_plain, newest_to, store_in}
 pub use Rattle.sercos_law_channel.specs.Handshake.Views.{Heard, Standing, View, afresh, before_mst, got_in, kept_in, kept_in_phase, kept_unless, moved, processed_in, processed_of, record_in, since_reset, standing, standing_after, stood_from, stood_in, takes_in, with_record}
@@ -223,7 +242,8 @@ pub use Rattle.sercos_law_run.specs.Headline.Transfers.{AreInStepAt, AreReported
 pub use Rattle.sercos_law_run.specs.Held.Held.{AreHeld, AreProtected, HoldsThePlan, IsHeld}
 pub use Rattle.sercos_law_run.specs.Held.Opened.{IsOpened}
 pub use Rattle.sercos_law_run.specs.Held.Stored.{AreStored, IsStored}
-pub use Rattle.sercos_law_run.specs.Journal.Arrivals.{any_below, are_same, arrival, content_in, disturbed_at, heard, is_disturbed, passage, sum_below, unseen_at}
+pub use Rattle.sercos_law_run.specs.Journal.Arrivals.{any_below, are_same, arrival, disturbed_at, heard, is_disturbed, passage, sum_below, unseen_at}
+unfoldable pub use Rattle.sercos_law_run.specs.Journal.Arrivals.{content_in, is_unseen}
 pub use Rattle.sercos_law_run.specs.Journal.Harmless.{BothAreHarmless, CutsAreHarmless, IsHarmless, IsHarmlessAfterCuts, QuietIsHarmless}
 pub use Rattle.sercos_law_run.specs.Journal.Records.{ats_in, mdt_in, mst_in}
 pub use Rattle.sercos_law_run.specs.Journal.Runs.{IsClear, IsDisturbed, IsNext, IsRun, at_calls, at_mdt, at_mst, ats_next, ats_said, begin_calls, begins, content_of, contents, disturbs_ats, disturbs_mdt, disturbs_mst, drive_at, drive_calls, given_before, given_mdt, given_mst, is_disturbed_in, looks_back, master_calls, mdt_heard, mdt_next, mid_calls, middle, moves_below, mst_next, next_record, no_drive, no_events, own_mst, restart_events, run_of, said_below, sent_at, sent_mdt, sent_mst, start_before, station_from, station_of, unseen_ats, unseen_in, unseen_mdt, unseen_mst, with_at, with_restart, with_said}
@@ -263,6 +283,7 @@ pub use Rattle.sercos_law_run.specs.Tolerance.Rises.{RisesSparse, start_cost, st
 pub use Rattle.sercos_law_run.specs.Tolerance.Sparse.{AreCalm, AreSparse, CalmIsSparse, IsSparse, OneOfThreeIsSparse}
 pub use Rattle.sercos_law_run.specs.Totals.Counting.{AreFew, HasRoom, IsFew, none_made, with_cycle}
 pub use Rattle.sercos_law_run.specs.Totals.Totals.{ended_in, falls_in, is_broken, is_refused}
+unfoldable pub use Rattle.sercos_law_run.specs.Totals.Totals.{totals_of}
 pub use Rattle.sercos_law_run.specs.Typed.Clear.{HarmlessIsClear}
 pub use Rattle.sercos_law_run.specs.Typed.Keeps.{AreRecords, IsRecord, Keeps, KeepsAlways, KeepsWithin}
 pub use Rattle.sercos_law_run.specs.Typed.Spelled.{SpelledNext}

@@ -1,7 +1,7 @@
 -- The words that the proofs speak in, of std, of the crates below and of this crate's specs, each under one name.
 pub use Rattle.std.proofs.Common.{Bool, Err, List, None, Ok, Option, Some, [], ap, append-nil, append_assoc, ap₂, arith, codes, cond, drop, false, if◌then◌else◌, inl, inr, is_none, length, length-append, map, max, min, nat_le, nat_lt, not, option_map, pos, refl, reverse, slice_index_or, subst, suc, sym, take, true, unwrap_or, zero, ℕ, ℤ, ◌&&◌, ◌*◌, ◌++◌, ◌+ℤ◌, ◌+◌, ◌-◌, ◌<◌, ◌==◌, ◌||◌, ◌∙◌, ◌∷◌, ◌≡◌, ◌≤◌, ◌⊎◌}
 pub use Rattle.std.proofs.Math.Nat.{mul-le-mul_right}
-pub use Rattle.std.proofs.lemmas.Bool.{and_from, and_parts, cases_eq, cases_lt, cond-true, cond_both, eq-eqb, eqb-true, false≢true, le-leb, ne_eqb}
+pub use Rattle.std.proofs.lemmas.Bool.{and_from, and_parts, cases_eq, cases_lt, cond-true, cond_both, eq-eqb, eqb-true, false≢true, le-leb, ne_eqb, or_left, or_parts, or_right}
 pub use Rattle.std.proofs.lemmas.Bool.Decides.{Decides-int_eq, nat_tests}
 pub use Rattle.std.proofs.lemmas.Grind.{flat_map-append, reverse_onto}
 pub use Rattle.std.proofs.lemmas.List.{drop-drop, length-drop, length-map, length-take, reverse-append}
@@ -9,6 +9,7 @@ pub use Rattle.std.proofs.lemmas.List.Elements.{All-append, All-cons, All-drop, 
 pub use Rattle.std.proofs.lemmas.List.Folds.{find-append}
 pub use Rattle.std.proofs.lemmas.List.Sums.{count_by-le-length, length-filter, sum_by-cons}
 pub use Rattle.std.proofs.lemmas.Option.{none-some, same_Some}
+pub use Rattle.std.proofs.Math.Bool.{and-false, or-true}
 pub use Rattle.std.specs.Int.Signed.{le_z}
 pub use Rattle.std.specs.List.{All, AllPairs, concat, filter, find, flat_map, list_all, list_any, position_or_len}
 pub use Rattle.std.specs.Option.{option_or}
@@ -16,11 +17,13 @@ pub use Rattle.std.specs.Ordering.{int_eq}
 pub use Rattle.std.specs.Prelude.{IfSome, is_some, option_and_then, slice_get, slice_index}
 pub use mathlib.Core.Bool.{beq}
 pub use Rattle.sercos_model.proofs.BitLemmas.{AreBytes-bytes_of, AreBytes-get_or, AreBytes-take}
+unfoldable pub use Rattle.sercos_model.specs.Bits.{AreBytes}
 pub use Rattle.sercos_model.specs.Frames.{wire_bits}
 pub use Rattle.sercos_hdlc.proofs.FramingLemmas.{length-IsFrame}
 pub use Rattle.sercos_hdlc.specs.Reason.{content_of, plain, reason_of}
 pub use Rattle.sercos_hdlc.specs.Stuffed.{frame_of}
 pub use Rattle.sercos_telegram.specs.Faults.{joint_fault}
+unfoldable pub use Rattle.sercos_telegram.specs.Faults.{head_fault, mst_fault}
 pub use Rattle.sercos_telegram.specs.Spells.{all_drives, fields, mst_content}
 pub use Rattle.sercos_telegram.specs.declared.layout.Kind.{Kind}
 pub use Rattle.sercos_idn.specs.Elements.{data_element}
@@ -37,7 +40,8 @@ pub use Rattle.sercos_block.proofs.TypeLemmas.{types}
 pub use Rattle.sercos_block.specs.Blocks.{is_fixed, is_protected}
 pub use Rattle.sercos_block.specs.BuiltIns.{built_in, built_in_block, built_ins}
 pub use Rattle.sercos_block.specs.Limits.{most_cycles}
-pub use Rattle.sercos_block.specs.Rings.{at_len, has_address, has_drive_numbers, has_ring_numbers, is_ring, wish_of, wishes_of}
+pub use Rattle.sercos_block.specs.Rings.{at_len, has_address, has_drive_numbers, has_ring_numbers, wish_of}
+unfoldable pub use Rattle.sercos_block.specs.Rings.{are_drive_numbers, are_drives, are_ring_numbers, is_ring, row_in, wishes_of}
 pub use Rattle.sercos_block.specs.Rules.{blocks_fault}
 pub use Rattle.sercos_block.specs.Startup.{startup_bound}
 pub use Rattle.sercos_block.specs.Stores.{IsStore, find_block, store_of}
@@ -45,14 +49,17 @@ pub use Rattle.sercos_block.specs.ValidRings.{AreWithinLimits}
 pub use Rattle.sercos_block.specs.Views.{DriveView, RingView}
 pub use Rattle.sercos_block.specs.declared.block.Block.{Block}
 pub use Rattle.sercos_block.specs.declared.built_in.BuiltIn.{BuiltIn}
-pub use Rattle.sercos_plan.specs.ChainOf.{back_of, bits_of_starts, capture_chain, chain_of, cycle_chain, first_greatest, first_tight, first_with, greatest_of, is_tight, link_of, mst_chain, planned, starts, trail_by_master}
+pub use Rattle.sercos_plan.specs.ChainOf.{back_of, bits_of_starts, capture_chain, cycle_chain, first_greatest, first_tight, first_with, greatest_of, is_tight, link_of, mst_chain, planned, starts, trail_by_master}
+unfoldable pub use Rattle.sercos_plan.specs.ChainOf.{chain_of}
 pub use Rattle.sercos_plan.specs.Chains.{last_place}
 pub use Rattle.sercos_plan.specs.LeastTimes.{greatest_t4min, is_roomy, least_bits, least_plan, least_t1, needed, round_up}
 pub use Rattle.sercos_plan.specs.Views.{ChainView}
 pub use Rattle.sercos_plan.specs.declared.chain.Link.{Link}
+pub use Rattle.sercos_plan.proofs.PlanLemmas.{length_first}
 pub use Rattle.sercos_step.proofs.Ends.{has_next, length-answer_words}
+pub use Rattle.sercos_step.proofs.Flags.{and_left}
 pub use Rattle.sercos_step.specs.Counts.{CountsAnswers, count_of}
-pub use Rattle.sercos_step.specs.Steps.{AreAnswers, answer_words, attribute_read, is_whole, next_step, opening, outcome_of, result_of, steps_before, IsTypedRequest}
+pub use Rattle.sercos_step.specs.Steps.{AreAnswers, IsTypedRequest, answer_words, attribute_read, is_whole, opening, outcome_of, result_of, steps_before}
 pub use Rattle.sercos_step.specs.Words.{bytes_in, bytes_read, shape_of, words_in}
 pub use Rattle.sercos_step.specs.declared.request.Job.{Job}
 pub use Rattle.sercos_step.specs.declared.request.Outcome.{Outcome}
@@ -64,15 +71,21 @@ pub use Rattle.sercos_command.specs.Checks.{carried_len, data_at}
 pub use Rattle.sercos_service_drive.specs.Log.{Entry, Processed, ahs}
 pub use Rattle.sercos_service_drive.specs.Replies.{log_of, reply_of}
 pub use Rattle.sercos_service_drive.specs.Writes.{AreAlike, Write, added_on, with_added, without_data, writes_of}
+pub use Rattle.sercos_service_drive.proofs.WordLemmas.{length-bytes_in}
 pub use Rattle.sercos_service_master.specs.Begun.{Begun, answer_in, answers_it, open_in, step_at, steps_begun, with_answer, with_step}
 pub use Rattle.sercos_service_master.specs.Calls.{Begin, EndCycle, Hear, Send, begun_by}
-pub use Rattle.sercos_text.specs.Tails.{IsTail, addresses_in, tail_text}
-pub use Rattle.sercos_text.specs.Templates.{AreOf, Value, bytes_by, line_fault, line_text, numbers_in, signed_by}
+unfoldable pub use Rattle.sercos_text.specs.Lists.{AreItems, IsItem, item_fault, item_len, item_of, item_text, kept_of, list_fault, list_len, list_of, list_text, listed_fault}
+unfoldable pub use Rattle.sercos_text.specs.Tails.{IsTail, addresses_in, end_fault, idents_text, list_end_fault, tail_fault, tail_of, tail_text}
+pub use Rattle.sercos_text.specs.Templates.{Value}
+unfoldable pub use Rattle.sercos_text.specs.Templates.{AreOf, IsOf, IsSmall, byte_fault, bytes_by, field_fault, field_len, field_of, field_value, hex_text, is_template, items_of, line_fault, line_text, numbers_in, part_fault, part_left, part_len, part_text, part_values, signed_by, value_text, values_of}
 pub use Rattle.sercos_text.specs.Templates.Value.{bytes, number, signed}
 pub use Rattle.sercos_text.specs.declared.list.Item.TheVariants.{Address, Ident}
-pub use Rattle.sercos_trace.specs.Kinds.{all_kinds, line_of, line_with, tail_for, template_of}
-pub use Rattle.sercos_trace.specs.Lines.{ReadsBack, line_as, line_by, line_in}
+pub use Rattle.sercos_trace.specs.Kinds.{all_kinds, line_of, line_with}
+unfoldable pub use Rattle.sercos_trace.specs.Kinds.{first_kind, kinds_fault, later, tail_for, template_of}
+pub use Rattle.sercos_trace.specs.Lines.{ReadsBack, line_as, line_in}
+unfoldable pub use Rattle.sercos_trace.specs.Lines.{line_by, telegram_kind}
 pub use Rattle.sercos_trace.specs.Texts.{address_at, bound_text, chain_text, cycle_text, drive_text, drive_values, end_text, ended_text, events_text, header_text, link_text, move_text, moves_text, order_text, outcome_text, plan_line, raws, ring_text, sent_kind, sent_text, slot_text, slots_text, trace_of}
+unfoldable pub use Rattle.sercos_trace.specs.Texts.{fall_text, plan_text, stop_text}
 pub use Rattle.sercos_trace.specs.Views.{CycleView, EventsView, SentView}
 pub use Rattle.sercos_trace.specs.declared.events.Fall.{Fall}
 pub use Rattle.sercos_trace.specs.declared.events.Stop.{Stop}
@@ -96,25 +109,26 @@ pub use Rattle.sercos_drive.specs.Says.{Said, drive_says, said, start_in, values
 pub use Rattle.sercos_seat.proofs.Lengths.{lens}
 pub use Rattle.sercos_seat.proofs.Queues.{ready_stays}
 pub use Rattle.sercos_seat.proofs.Sends.{fields_length}
+pub use Rattle.sercos_seat.proofs.Gets.{length_map}
 pub use Rattle.sercos_seat.specs.Agenda.{asked_by, declared_times, idns_in, is_ready, reads, reads_count, writes}
 pub use Rattle.sercos_seat.specs.Channel.{Report, broken_number, count_requests, number_in, outcomes_in, with_outcome}
 pub use Rattle.sercos_seat.specs.Records.{word_said}
 pub use Rattle.sercos_seat.specs.Ring.{HasLists, IsKnown, Known, MemberView, Task, known_of, member, member_of, no_member, request_task, tasks_for, tasks_from}
 pub use Rattle.sercos_seat.specs.Seats.{AreWaiting}
 pub use Rattle.sercos_master.proofs.Configured.{each_passes}
-pub use Rattle.sercos_master.proofs.Followed.{settles}
+pub use Rattle.sercos_master.proofs.Followed.{not_longer, settles}
 pub use Rattle.sercos_master.proofs.InOrder.{still_left}
 pub use Rattle.sercos_master.proofs.Keeping.{at_keeps, channel_keeps, end_keeps, first_found}
 pub use Rattle.sercos_master.proofs.Laws.{get_dropped, jobs_waiting}
 pub use Rattle.sercos_master.proofs.Planned.{is_planned}
-pub use Rattle.sercos_master.specs.Annals.{Call, End, HearAt, HearMst, IsPlanned, Mdt, Past, Restart, addressed_in, after_end, after_mdt, after_taken, all_ready, fall_at, fall_of, first_place, has_lost_at, has_lost_mst, is_at_limit, is_done, is_done_in, is_identified, is_idle, is_sent_to, new_epoch, next_phase, outcomes, past, ready_to_send, settled, still_waiting, with_begin, with_task}
+pub use Rattle.sercos_master.specs.Annals.{Call, End, HearAt, HearMst, IsPlanned, Mdt, Past, Restart, addressed_in, after_end, after_mdt, after_taken, fall_at, fall_of, first_place, has_lost_at, has_lost_mst, is_at_limit, is_done, is_done_in, is_identified, is_idle, is_sent_to, new_epoch, next_phase, outcomes, past, ready_to_send, settled, still_waiting, with_begin, with_task}
 pub use Rattle.sercos_master.specs.Reports.{broken, inserted, outcomes_told, plan_told, restart_told, with_broken, with_report, with_reports}
 pub use Rattle.sercos_master.specs.Says.{Sent, idle, joint, mdt_said, mst_said, said_to, single}
 pub use Rattle.sercos_script.specs.Links.{Carry, Restarts}
 pub use Rattle.sercos_script.specs.declared.fault.Damage.TheVariants.{Deaf}
 pub use Rattle.sercos_script.specs.declared.fault.Fault.{Fault}
 pub use Rattle.sercos_script.specs.declared.link.Passage.{Passage}
-pub use Rattle.sercos_law_channel.proofs.Theorems.{Laws, Nothing, Processes, Record, added_bare, complete-outcome_of, cycle_exact, find-alike, flipped, goes_on-outcome_of, length-replies_of, length-steps_begun, length-steps_of, processed_phase, processes, refused_opening, written}
+pub use Rattle.sercos_law_channel.proofs.Theorems.{Laws, Nothing, Processes, Record, added_bare, complete-outcome_of, cycle_exact, find-alike, flipped, goes_on-outcome_of, goes_on_at, length-replies_of, length-steps_begun, length-steps_of, processed_phase, processes, refused_opening, written}
 pub use Rattle.sercos_law_channel.specs.Handshake.CommandTransfers.{idn_of}
 pub use Rattle.sercos_law_channel.specs.Handshake.Epochs.{begun_in, command, epoch_begun, epoch_log, epoch_records, log_in, records_in_views, unless_restart, with_begun, with_heard}
 pub use Rattle.sercos_law_channel.specs.Handshake.Exact.{AreExact, AreWrites, Broken, Complete, Given, IsExact, Refused, given_by, given_of, written_to}
@@ -130,7 +144,7 @@ pub use Rattle.sercos_law_run.proofs.Agenda.WritesDone.{writes_data}
 pub use Rattle.sercos_law_run.proofs.Cited.{begins_tasks, check128_has_cause, is_framed, left_of, no_fit_has_cause, refused_has_cause, told_right}
 pub use Rattle.sercos_law_run.proofs.Start.Lengths.{are_as_long}
 pub use Rattle.sercos_law_run.proofs.Start.WellLemmas.{ring_is_valid}
-pub use Rattle.sercos_law_run.proofs.Theorems.{AllStand, AreBegun, AreWords, IsContent, IsPlannedIn, IsTypedPast, Sends, address_of, alike_so, all_ended, all_members, all_stand, at_content, bytes_of_words, carried_length, count_so, drive_got, drives_so, ends_at_0, find_built_in, find_store_of, first_store, got_inside, holding, keeps_all, length-run_of, length_records, mdt_whole, member_is, members_count, mst_whole, numbered_drop, phase_low, phase_same, place_by, plan_words, read_word, rests_so, ring_drive, ring_timed, rules, s_known, same_drive, sender_phase, sent_by, small, spelled_in, store_of_so, stored_in, tasks_so, typed_past, views_count, wish_is, wishes_count, word_of, words_append, words_drop}
+pub use Rattle.sercos_law_run.proofs.Theorems.{AllStand, AreBegun, AreWords, IsContent, IsPlannedIn, IsTypedPast, Sends, address_of, alike_so, all_ended, all_members, all_stand, at_content, bytes_of_words, carried_length, command_below, count_so, drive_got, drives_so, ends_at_0, fell_once, find_built_in, find_store_of, first_store, got_inside, holding, keeps_all, length-run_of, length_records, mdt_whole, member_is, members_count, mst_whole, numbered_drop, or_none, phase_low, phase_same, place_by, plan_words, rate_is, read_word, rest_clear, rest_runs, rests_so, ring_drive, ring_timed, rules, s_known, same_drive, sender_phase, sent_by, small, spelled_in, store_of_so, stored_in, tasks_so, typed_past, views_count, wish_is, wishes_count, word_of, words_append, words_drop}
 pub use Rattle.sercos_law_run.proofs.Typed.Spelled.{keeps_within}
 pub use Rattle.sercos_law_run.specs.Agenda.Channels.{AreMoves, Begins, CallsAreMoves, Channel, Ends, Falls, Hears, Identifies, Moves, Plans, Stays, Steps, Within, beginning, channel_at, newest}
 pub use Rattle.sercos_law_run.specs.Agenda.Events.{HasOutcome, HasReport}
@@ -149,7 +163,8 @@ pub use Rattle.sercos_law_run.specs.Slots.Slots.{AreApart, AtSlot, HasPause, Has
 pub use Rattle.sercos_law_run.specs.Start.RingSlots.{held_by}
 pub use Rattle.sercos_law_run.specs.Start.StartUp.{Holds, start_up}
 pub use Rattle.sercos_law_run.specs.Totals.Counting.{with_cycle}
-pub use Rattle.sercos_law_run.specs.Totals.Totals.{ended, falls_in, is_broken, is_complete, is_refused, totals_of}
+pub use Rattle.sercos_law_run.specs.Totals.Totals.{ended, is_broken, is_complete, is_refused}
+unfoldable pub use Rattle.sercos_law_run.specs.Totals.Totals.{totals_of}
 pub use Rattle.sercos_law_run.specs.Undisturbed.Reports.{HaveTold, request_cycles}
 pub use Rattle.sercos_law_run.specs.Undisturbed.StopsLater.{IsRight}
 pub use Rattle.sercos_law_run.specs.Undisturbed.WholeRuns.{NeverDisturbed, StartsUp}
@@ -157,13 +172,15 @@ pub use Rattle.sercos_law_run.specs.Views.RingViews.{after_mst, at_start, behind
 pub use Rattle.sercos_backup.proofs.TrackLemmas.{map_or}
 pub use Rattle.sercos_backup.specs.Tracking.{told_of}
 pub use Rattle.sercos_checking.proofs.CheckingLemmas.{column-none, read_good}
-pub use Rattle.sercos_checking.specs.Checking.{column_of, read_as}
+unfoldable pub use Rattle.sercos_checking.specs.Checking.{capture_fault, column_of, first_violation, grammar_fault, read_as, shape_fault, verdict_by, verdict_of}
 pub use Rattle.sercos_checking.specs.declared.verdict.Verdict.TheVariants.{Clean, Violation}
 pub use Rattle.sercos_replay.proofs.FeedLemmas.{NoFeed, NoFeed-append, line_no_feed, lines_of-line, tail_no_feed}
 pub use Rattle.sercos_replay.proofs.OptionLemmas.{or-none}
 pub use Rattle.sercos_replay.proofs.SilentLemmas.{template_no_feed}
 pub use Rattle.sercos_replay.proofs.TracedLemmas.{reads_traces}
 pub use Rattle.sercos_replay.specs.Captured.{lines_of, lines_with}
+unfoldable pub use Rattle.sercos_replay.specs.Replaying.{first_cycle, late, late_start}
+unfoldable pub use Rattle.sercos_replay.specs.Stations.{kind_cycle, lines_after, lines_read, mst_cycle}
 pub use Rattle.sercos_replay.specs.Traced.{FitLines, FitsLine, ReadsTraces}
 pub use Rattle.sercos_law_trace.specs.Clean.Fields.{Fit, FitOthers, FitReports, FitTotals, FitsChain, FitsCycle, FitsEnded, FitsEvents, FitsFall, FitsLink, FitsMove, FitsPlan, FitsReports, FitsSlot, FitsStop}
 pub use Rattle.sercos_law_trace.specs.Clean.Ruled.{KeepRules, RunsFitLines, RunsKeepRules, told_after, told_in}

@@ -1,17 +1,7 @@
 -- A bench for the definitions: a master, and drives that answer each step at once, with telegrams that are lost and drives that
 -- refuse. A drive answers what the master's channel waits for, so this tries the master alone.
-use Rattle.std.specs.Prelude.{ℕ, zero, suc, ◌+◌, ◌-◌, ◌/◌, ◌%◌, ◌==◌, nat_le, Bool, true, false, not, ◌&&◌, ◌||◌, if◌then◌else◌, List, [], ◌∷◌, ◌++◌, length, replicate, Option, Some, None, slice_index, slice_index_or, cond}
-use Rattle.sercos_telegram.specs.Spells.{mst_content, word_bytes}
-use Rattle.sercos_step.specs.declared.request.Request.{Request}
+use Rattle.sercos_master.proofs.Words.{ℕ, zero, suc, ◌+◌, ◌-◌, ◌/◌, ◌%◌, ◌==◌, nat_le, Bool, true, false, not, ◌&&◌, ◌||◌, if◌then◌else◌, List, [], ◌∷◌, ◌++◌, length, replicate, Option, Some, None, slice_index, slice_index_or, cond, mst_content, word_bytes, Request, Answer, Begun, mhs_in, begun_by, EventsView, is_place, Known, Task, member, Past, Turn, new_epoch, after_mst, after_at, after_mdt, after_end, after_restart, addressed_before, events_told, restart_told}
 use Rattle.sercos_step.specs.declared.request.Request.TheVariants as request
-use Rattle.sercos_step.specs.declared.step.Answer.{Answer}
-use Rattle.sercos_service_master.specs.Begun.{Begun, mhs_in}
-use Rattle.sercos_service_master.specs.Calls.{begun_by}
-use Rattle.sercos_trace.specs.Views.{EventsView}
-use Rattle.sercos_seat.specs.Channel.{is_place}
-use Rattle.sercos_seat.specs.Ring.{Known, Task, member}
-use Rattle.sercos_master.specs.Annals.{Past, Turn, new_epoch, after_mst, after_at, after_mdt, after_end, after_restart, addressed_before}
-use Rattle.sercos_master.specs.Reports.{events_told, restart_told}
 
 -- what happens in a cycle: the master restarts; its MST is lost; the AT of a drive is lost
 pub record Script : Type 0 where

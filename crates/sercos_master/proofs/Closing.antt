@@ -1,23 +1,7 @@
 -- How a cycle ends: with a fall, in the next phase, or in the same. In phase 0 there is no fall.
-use Rattle.std.proofs.Common.{inl, inr, ◌≡◌, ℕ, zero, suc, ◌+◌, ◌≤◌, Bool, true, false, List, [], ◌∷◌, Option, Some, None, Result, Ok, Err, length, ap, subst, refl, sym, ◌∙◌, arith, if◌then◌else◌}
-use Rattle.std.specs.Prelude.{◌&&◌, not, is_none, is_ok, is_some, option_map, slice_index, IfOk, IfErr}
-use Rattle.std.proofs.lemmas.Bool.{false≢true}
-use Rattle.sercos_step.specs.declared.request.Job.{Job}
-use Rattle.sercos_service_master.specs.Calls.{age_of}
+use Rattle.sercos_master.proofs.Words.{inl, inr, ◌≡◌, ℕ, zero, suc, ◌+◌, ◌≤◌, Bool, true, false, List, [], ◌∷◌, Option, Some, None, Result, Ok, Err, length, ap, subst, refl, sym, ◌∙◌, arith, if◌then◌else◌, ◌&&◌, not, is_none, is_ok, is_some, option_map, slice_index, IfOk, IfErr, false≢true, Job, age_of, EventsView, Stop, PlanView, Outcome, option_or, Report, Known, Task, member, tasks_for, at_fault, Call, HearMst, HearAt, Mdt, End, Restart, Past, Turn, past, is_awaited, is_taken, wanted_len, place_of, after_mdt, settled, begins, with_begin, ready_to_send, is_sent_to, addressed_in, after_end, fall_of, has_lost_mst, has_lost_at, is_at_limit, is_done_in, next_phase, goes_on, new_epoch, still_waiting, Closes, CoreView, CoreStandsFor, IsIn, AreOpen, HasRestarted, closing_told, events_told, with_broken, with_reports}
 use Rattle.sercos_service_master.specs.Calls as channel
-use Rattle.sercos_trace.specs.Views.{EventsView}
 use Rattle.sercos_trace.specs.declared.events.Fall.{Fall}
-use Rattle.sercos_trace.specs.declared.events.Stop.{Stop}
-use Rattle.sercos_timing.specs.Views.{PlanView}
-use Rattle.sercos_step.specs.declared.request.Outcome.{Outcome}
-use Rattle.std.specs.Option.{option_or}
-use Rattle.sercos_seat.specs.Channel.{Report}
-use Rattle.sercos_seat.specs.Ring.{Known, Task, member, tasks_for}
-use Rattle.sercos_telegram.specs.Faults.{at_fault}
-use Rattle.sercos_master.specs.Annals.{Call, HearMst, HearAt, Mdt, End, Restart, Past, Turn, past, is_awaited, is_taken, wanted_len, place_of, after_mdt, settled, begins, with_begin, ready_to_send, is_sent_to, addressed_in, after_end, fall_of, has_lost_mst, has_lost_at, is_at_limit, is_done_in, next_phase, goes_on, new_epoch, still_waiting}
-use Rattle.sercos_master.specs.Any.{Closes}
-use Rattle.sercos_master.specs.Kept.{CoreView, CoreStandsFor, IsIn}
-use Rattle.sercos_master.specs.Reports.{AreOpen, HasRestarted, closing_told, events_told, with_broken, with_reports}
 use Rattle.sercos_master.proofs.Keeping.{going, past_keeps}
 use Rattle.sercos_master.proofs.Configured.{Leaves, leaves, at_phase}
 use Rattle.sercos_master.proofs.Rings.{begins_late, ends_falling, ends_going_on, no_fall, none_from}

@@ -1,20 +1,9 @@
 -- What settling leaves, the phases, and outcomes that stay. Where phase 3 or 4 is commanded, the check for phase 3 has ended well at every
 -- drive, in this epoch, and where phase 4 is, that for phase 4.
-use Rattle.std.proofs.Common.{inl, inr, ◌⊎◌, ◌≡◌, ℕ, zero, suc, ◌+◌, ◌<◌, ◌≤◌, Bool, true, false, List, [], ◌∷◌, Option, Some, None, length, ap, subst, refl, sym, ◌∙◌, arith, if◌then◌else◌}
-use Rattle.std.specs.Prelude.{is_none, nat_le, not}
-use Rattle.std.proofs.lemmas.Bool.{and_parts, cases_Bool, cases_eq, false≢true}
-use Rattle.std.proofs.lemmas.Bool.Decides.{nat_tests}
-use Rattle.sercos_telegram.specs.Words.{status_of}
-use Rattle.sercos_telegram.specs.Spells.{word_at}
-use Rattle.sercos_step.specs.declared.request.Outcome.{Outcome}
-use Rattle.sercos_service_master.specs.Calls.{begun_by, outcome_at}
+use Rattle.sercos_master.proofs.Words.{inl, inr, ◌⊎◌, ◌≡◌, ℕ, zero, suc, ◌+◌, ◌<◌, ◌≤◌, Bool, true, false, List, [], ◌∷◌, Option, Some, None, length, ap, subst, refl, sym, ◌∙◌, arith, if◌then◌else◌, is_none, nat_le, not, and_parts, cases_Bool, cases_eq, false≢true, nat_tests, status_of, word_at, Outcome, begun_by, outcome_at, Known, MemberView, Task, member, reads_count, given, ended_well, is_checked, is_ready, all_checked, all_ready, Past, Call, past, outcomes, after_at_of, after_taken, after_mdt, begins, begun, with_begin, is_sent_to, addressed_in, ready_to_send, settled, is_done, is_done_in, first_from, outcomes_in, with_outcome, behind_end}
 use Rattle.sercos_service_master.specs.Calls as channel
-use Rattle.sercos_seat.specs.Ring.{Known, MemberView, Task, member}
-use Rattle.sercos_seat.specs.Agenda.{reads_count, given, ended_well, is_checked, is_ready}
-use Rattle.sercos_master.specs.Annals.{all_checked, all_ready, Past, Call, past, outcomes, after_at_of, after_taken, after_mdt, begins, begun, with_begin, is_sent_to, addressed_in, ready_to_send, settled, is_done, is_done_in, first_from}
-use Rattle.sercos_seat.specs.Channel.{outcomes_in, with_outcome}
 use Rattle.sercos_seat.proofs.Channels.{Heard, heard}
-use Rattle.sercos_seat.proofs.Seats.{before_end, behind_end}
+use Rattle.sercos_seat.proofs.Seats.{before_end}
 use Rattle.sercos_master.proofs.Keeping.{at_keeps, channel_keeps, past_keeps, settled_keeps}
 
 -- WHAT SETTLING LEAVES. A plan comes where there was none.
@@ -141,7 +130,7 @@ stays_well i all (Some o) e = elim (cases_eq i (length all)) [
   | inr other ↦ rw (before_end all o i other) e
 ]
 
-stays_ready : (d : MemberView) (all : List Outcome) (o : Option Outcome) → is_ready d all ≡ true → is_ready d (with_outcome o all) ≡ true
+pub stays_ready : (d : MemberView) (all : List Outcome) (o : Option Outcome) → is_ready d all ≡ true → is_ready d (with_outcome o all) ≡ true
 stays_ready d all o e =
     let both = and_parts (is_checked d all) (ended_well (given all (reads_count d + 12))) e in
     rw (stays_well (reads_count d + 11) all o both.0, stays_well (reads_count d + 12) all o both.1) refl

@@ -1,34 +1,13 @@
 -- What was begun on a channel in an epoch followed its agenda: each task was the next one after the outcomes of those begun before,
 -- which had all ended, those of the start-up without error.
-use Rattle.std.proofs.Common.{◌≡◌, ◌⊎◌, inl, inr, ℕ, zero, suc, ◌+◌, ◌<◌, ◌≤◌, Bool, true, false, List, [], ◌∷◌, ◌++◌, length, refl, sym, ap, ◌∙◌, subst, arith, if◌then◌else◌, length-append}
-use Rattle.std.specs.Prelude.{Option, Some, None, is_some, is_none, map, slice_get}
-use Rattle.std.specs.Option.{option_or}
-use Rattle.std.proofs.lemmas.Bool.{cases_eq}
+use Rattle.sercos_master.proofs.Words.{◌≡◌, ◌⊎◌, inl, inr, ℕ, zero, suc, ◌+◌, ◌<◌, ◌≤◌, Bool, true, false, List, [], ◌∷◌, ◌++◌, length, refl, sym, ap, ◌∙◌, subst, arith, if◌then◌else◌, length-append, Option, Some, None, is_some, is_none, map, slice_get, option_or, cases_eq, status_of, word_at, Request, Outcome, Answer, is_whole, answer_words, result_of, outcome_of, next_step, PlanView, Begun, open_in, answers_it, answer_in, with_answer, Hear, begun_by, Stop, Known, Task, member, startup, agenda, reads, reads_count, writes, is_checked, asked_by, stop_of_task, with_outcome, outcomes_in, last_outcome, trouble_by, get_map, get_left, get_right, get_none, length_map, length_append, reads_length, ended_there, Call, Past, past, outcomes, all_checked, is_idle, after_taken, trouble, first_trouble, first_trouble_from, settled, with_task, with_begin, begun, ready_to_send, is_sent_to, addressed_in, after_mdt, begins, CoreView, IsIn, none-some, same_Some}
 use Rattle.sercos_telegram.specs.declared.words.Status.{Status}
-use Rattle.sercos_telegram.specs.Words.{status_of}
-use Rattle.sercos_telegram.specs.Spells.{word_at}
-use Rattle.sercos_step.specs.declared.request.Request.{Request}
-use Rattle.sercos_step.specs.declared.request.Outcome.{Outcome}
 use Rattle.sercos_step.specs.declared.request.Outcome.TheVariants as outcome
-use Rattle.sercos_step.specs.declared.step.Answer.{Answer}
-use Rattle.sercos_step.specs.Steps.{is_whole, answer_words, result_of, outcome_of, next_step}
 use Rattle.sercos_step.proofs.Ends.{has_next}
-use Rattle.sercos_timing.specs.Views.{PlanView}
-use Rattle.sercos_service_master.specs.Begun.{Begun, open_in, answers_it, answer_in, with_answer}
-use Rattle.sercos_service_master.specs.Calls.{Hear, begun_by}
 use Rattle.sercos_service_master.specs.Calls as channel
-use Rattle.sercos_trace.specs.declared.events.Stop.{Stop}
-use Rattle.sercos_seat.specs.Ring.{Known, Task, member, startup}
-use Rattle.sercos_seat.specs.Agenda.{agenda, reads, reads_count, writes, is_checked, asked_by, stop_of_task}
-use Rattle.sercos_seat.specs.Channel.{with_outcome, outcomes_in, last_outcome, trouble_by}
-use Rattle.sercos_seat.proofs.Gets.{get_map, get_left, get_right, get_none, length_map, length_append}
-use Rattle.sercos_seat.proofs.Agendas.{reads_length, ended_there}
-use Rattle.sercos_master.specs.Annals.{Call, Past, past, outcomes, all_checked, is_idle, after_taken, trouble, first_trouble, first_trouble_from, settled, with_task, with_begin, begun, ready_to_send, is_sent_to, addressed_in, after_mdt, begins}
-use Rattle.sercos_master.specs.Kept.{CoreView, IsIn}
 use Rattle.sercos_master.specs.Written.{IsWritten, AreWritten, HoldsPlan}
 use Rattle.sercos_master.proofs.Keeping.{begins_next, channel_keeps, never_both, past_keeps, settled_keeps}
 use Rattle.sercos_master.proofs.Configured.{Leaves, each_passes, leaves}
-use Rattle.std.proofs.lemmas.Option.{none-some, same_Some}
 
 -- a transfer without an outcome has a next step
 abbrev pub HasNext : Type 0

@@ -1,25 +1,7 @@
 -- A request that begins is the first one that still waits.
-use Rattle.std.proofs.Common.{◌≡◌, ℕ, zero, suc, ◌+◌, ◌<◌, ◌≤◌, Bool, true, false, List, [], ◌∷◌, ◌++◌, length, refl, sym, ap, ◌∙◌, subst, arith, if◌then◌else◌, length-append}
-use Rattle.std.proofs.lemmas.Option.{none-some}
-use Rattle.std.specs.Prelude.{◌==◌, nat_lt, Option, Some, None, is_some, map, drop, slice_get}
-use Rattle.std.proofs.lemmas.Bool.{false≢true}
-use Rattle.std.proofs.lemmas.Bool.Decides.{nat_tests}
-use Rattle.std.proofs.lemmas.List.{drop-drop}
-use Rattle.sercos_step.specs.declared.request.Job.{Job}
-use Rattle.sercos_step.specs.declared.request.Request.{Request}
+use Rattle.sercos_master.proofs.Words.{◌≡◌, ℕ, zero, suc, ◌+◌, ◌<◌, ◌≤◌, Bool, true, false, List, [], ◌∷◌, ◌++◌, length, refl, sym, ap, ◌∙◌, subst, arith, if◌then◌else◌, length-append, none-some, ◌==◌, nat_lt, Option, Some, None, is_some, map, drop, slice_get, false≢true, nat_tests, drop-drop, Job, Request, Outcome, outcome_of, PlanView, Begun, begun_by, Known, Task, member, startup, request_task, tasks_from, tasks_for, agenda, checking, reads, reads_count, writes, bytes_of, ended_well, is_ready, with_outcome, outcomes_in, of_phase, count_requests, get_none, length_map, length_append, reads_length, ready_long, ready_stays, next_request, none_4, Call, Past, past, outcomes, is_idle, next_task, begins, settled, still_waiting}
 use Rattle.sercos_step.specs.declared.request.Request.TheVariants as request
-use Rattle.sercos_step.specs.declared.request.Outcome.{Outcome}
-use Rattle.sercos_step.specs.Steps.{outcome_of}
-use Rattle.sercos_timing.specs.Views.{PlanView}
-use Rattle.sercos_service_master.specs.Begun.{Begun}
-use Rattle.sercos_service_master.specs.Calls.{begun_by}
-use Rattle.sercos_seat.specs.Ring.{Known, Task, member, startup, request_task, tasks_from, tasks_for}
-use Rattle.sercos_seat.specs.Agenda.{agenda, checking, reads, reads_count, writes, idn, bytes_of, ended_well, is_ready}
-use Rattle.sercos_seat.specs.Channel.{with_outcome, outcomes_in, of_phase, count_requests}
-use Rattle.sercos_seat.proofs.Gets.{get_none, length_map, length_append}
-use Rattle.sercos_seat.proofs.Agendas.{reads_length}
-use Rattle.sercos_seat.proofs.Queues.{ready_long, ready_stays, next_request, none_4}
-use Rattle.sercos_master.specs.Annals.{Call, Past, past, outcomes, is_idle, next_task, begins, settled, still_waiting}
+use Rattle.sercos_seat.specs.Agenda.{idn}
 use Rattle.sercos_master.proofs.Keeping.{begins_next, past_keeps}
 use Rattle.sercos_master.proofs.Laws.{get_dropped, waiting_settled}
 use Rattle.sercos_master.proofs.Followed.{HasNext, AllFollow, Followed, Follows, followed, settled_follows, all_ended}

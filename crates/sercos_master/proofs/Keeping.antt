@@ -1,23 +1,8 @@
 -- What holds after any calls: each kind of call keeps it, and so do its parts.
-use Rattle.std.proofs.Common.{inl, inr, ◌≡◌, ℕ, zero, suc, ◌+◌, ◌<◌, ◌≤◌, Bool, true, false, List, [], ◌∷◌, Option, Some, None, Result, Ok, Err, length, refl, sym, ◌∙◌, ap, subst, arith, if◌then◌else◌}
-use Rattle.std.specs.Prelude.{◌==◌, ◌&&◌, nat_le, is_some, is_none, slice_index}
-use Rattle.std.specs.Option.{option_or}
-use Rattle.std.proofs.lemmas.Bool.{and_parts, cases_eq, cond_both, eqb-true, false≢true, leb-true, or_cases}
-use Rattle.std.proofs.lemmas.Option.{none-some, same_Some}
-use Rattle.sercos_telegram.specs.Words.{status_of}
-use Rattle.sercos_telegram.specs.Spells.{word_at}
-use Rattle.sercos_service_master.specs.Calls.{Hear}
+use Rattle.sercos_master.proofs.Words.{inl, inr, ◌≡◌, ℕ, zero, suc, ◌+◌, ◌<◌, ◌≤◌, Bool, true, false, List, [], ◌∷◌, Option, Some, None, Result, Ok, Err, length, refl, sym, ◌∙◌, ap, subst, arith, if◌then◌else◌, ◌==◌, ◌&&◌, nat_le, is_some, is_none, slice_index, option_or, and_parts, cases_eq, cond_both, eqb-true, false≢true, leb-true, or_cases, none-some, same_Some, status_of, word_at, Hear, record_bytes, PlanView, planned, Stop, wishes_given, last_long_stop, is_place, of_phase, Known, Task, member, Call, HearMst, HearAt, Mdt, End, Restart, Past, IsPlannedBy, past, outcomes, is_idle, first_from, is_mst, place_of, is_taken, hearing, after_taken, after_at_of, trouble, first_trouble, first_trouble_from, with_stop, is_plan_due, all_read, with_plan, planned_by, with_due_plan, settled, in_turn, has_turn, next_task, begins, fall_of, is_done, goes_on, new_epoch, still_waiting, after_mdt, after_end}
 use Rattle.sercos_service_master.specs.Calls as channel
-use Rattle.sercos_timing.specs.Order.{record_bytes}
-use Rattle.sercos_timing.specs.Views.{PlanView}
 use Rattle.sercos_plan.specs.Views.{ChainView}
-use Rattle.sercos_plan.specs.ChainOf.{planned}
-use Rattle.sercos_trace.specs.declared.events.Stop.{Stop}
 use Rattle.sercos_trace.specs.declared.events.Stop.TheVariants as stop
-use Rattle.sercos_seat.specs.Agenda.{wishes_given, last_long_stop}
-use Rattle.sercos_seat.specs.Channel.{is_place, of_phase}
-use Rattle.sercos_seat.specs.Ring.{Known, Task, member}
-use Rattle.sercos_master.specs.Annals.{Call, HearMst, HearAt, Mdt, End, Restart, Past, IsPlannedBy, past, outcomes, is_idle, first_from, is_mst, place_of, is_taken, hearing, after_taken, after_at_of, trouble, first_trouble, first_trouble_from, with_stop, is_plan_due, all_read, with_plan, planned_by, with_due_plan, settled, in_turn, has_turn, next_task, begins, fall_of, is_done, goes_on, new_epoch, still_waiting, after_mdt, after_end}
 
 -- THE FIRST PLACE that passes a test is one of them, and those before it fail.
 pub record IsFirst (k n i : ℕ) (test : ℕ → Bool) : Type 0 where

@@ -1,12 +1,5 @@
 -- Laws on what the master looks back on, after any calls.
-use Rattle.std.proofs.Common.{◌≡◌, ℕ, zero, suc, ◌+◌, ◌==◌, Bool, true, false, List, [], ◌∷◌, Option, Some, None, ap, subst, refl, sym, ◌∙◌, arith, if◌then◌else◌}
-use Rattle.std.proofs.lemmas.Option.{none-some}
-use Rattle.std.specs.Prelude.{slice_get, drop}
-use Rattle.sercos_step.specs.declared.request.Job.{Job}
-use Rattle.sercos_seat.specs.Ring.{Known, Task, tasks_from, tasks_for, member}
-use Rattle.sercos_master.specs.Annals.{Past, Call, past, after_at_of, settled}
-use Rattle.sercos_seat.specs.Channel.{count_requests}
-use Rattle.sercos_seat.specs.Seats.{AreWaiting}
+use Rattle.sercos_master.proofs.Words.{◌≡◌, ℕ, zero, suc, ◌+◌, ◌==◌, Bool, true, false, List, [], ◌∷◌, Option, Some, None, ap, subst, refl, sym, ◌∙◌, arith, if◌then◌else◌, none-some, slice_get, drop, Job, Known, Task, tasks_from, tasks_for, member, Past, Call, past, after_at_of, settled, count_requests, AreWaiting}
 use Rattle.sercos_master.proofs.Keeping.{at_keeps, past_keeps}
 use Rattle.sercos_master.proofs.Configured.{leaves}
 

@@ -1,6 +1,7 @@
 mod Bench
 mod Runs
 mod WorkedTogether
+mod Words
 pub mod Places
 pub mod Rings
 pub mod Wishes

@@ -1,25 +1,8 @@
 -- What a master stands for when it is opened.
-use Rattle.std.proofs.Common.{◌≡◌, ℕ, zero, suc, ◌+◌, ◌<◌, ◌≤◌, ◌==◌, List, [], ◌∷◌, ◌++◌, length, ap, refl, sym, ◌∙◌, arith, subst, inl, inr, ◌⊎◌, if◌then◌else◌}
-use Rattle.std.specs.Prelude.{map, nat_lt, slice_index, slice_index_or, Some, None, false, Bool, true}
-use Rattle.std.specs.List.{All, position}
-use Rattle.std.proofs.Math.ListN.{set, length-set}
-use Rattle.std.proofs.lemmas.Bool.{cases_eq, eqb-true, eq-eqb}
-use Rattle.std.proofs.lemmas.Bool.Decides.{nat_tests}
-use Rattle.std.proofs.lemmas.Grind.{get_or-set_at}
-use Rattle.std.proofs.lemmas.List.{append_assoc, append-nil, get_or-set_other, get_or_append_left, get_or_push, length_push, nil_from_length}
+use Rattle.sercos_master.proofs.Words.{◌≡◌, ℕ, zero, suc, ◌+◌, ◌<◌, ◌≤◌, ◌==◌, List, [], ◌∷◌, ◌++◌, length, ap, refl, sym, ◌∙◌, arith, subst, inl, inr, ◌⊎◌, if◌then◌else◌, map, nat_lt, slice_index, slice_index_or, Some, None, false, Bool, true, All, position, set, length-set, cases_eq, eqb-true, eq-eqb, nat_tests, get_or-set_at, append_assoc, append-nil, get_or-set_other, get_or_append_left, get_or_push, length_push, nil_from_length, position-Some, Job, IsRequest, AreDistinct, DriveView, RingView, Known, IsKnown, MemberView, Task, HasLists, member, member_of, known_of, no_member, request_task, tasks_from, tasks_for, with_job, SeatView, SeatStandsFor, nothing_seen, first_from, new_epoch, SeatsStandFor, CoreView, CoreStandsFor, AreFresh, wishes_of, length_map}
 use Rattle.std.proofs.lemmas.List.Elements.{All-map}
-use Rattle.std.proofs.lemmas.List.Quantifiers.{position-Some}
-use Rattle.sercos_step.specs.declared.request.Job.{Job}
-use Rattle.sercos_step.specs.Steps.{IsRequest}
-use Rattle.sercos_timing.specs.Valid.{AreDistinct}
-use Rattle.sercos_block.specs.Rings.{wishes_of}
 use Rattle.sercos_block.specs.ValidRings.{IsRing}
-use Rattle.sercos_block.specs.Views.{DriveView, RingView}
-use Rattle.sercos_seat.specs.Ring.{Known, IsKnown, MemberView, Task, HasLists, member, member_of, known_of, no_member, request_task, tasks_from, tasks_for, with_job}
-use Rattle.sercos_seat.specs.Seats.{SeatView, SeatStandsFor, nothing_seen}
-use Rattle.sercos_master.specs.Annals.{first_from, new_epoch}
-use Rattle.sercos_master.specs.Kept.{SeatsStandFor, CoreView, CoreStandsFor, AreFresh}
-use Rattle.sercos_master.proofs.Places.{first_seat, place_same}
+use Rattle.sercos_master.proofs.Places.{first_seat, place_same, other_place}
 
 get_mapped : (drives : List DriveView) (i : ℕ) (d : MemberView) (e : DriveView) → i < length drives → slice_index_or (map member_of drives) i d ≡ member_of (slice_index_or drives i e)
 get_mapped [] i d e h = absurd (omega (arith, h))
@@ -146,13 +129,9 @@ address_at s i within = mapped s.drives i within
     mapped (d ∷ drives) zero h = refl
     mapped (d ∷ drives) (suc i) h = mapped drives i (omega (arith, h))
 
-addresses_count : (drives : List MemberView) → length (map (λ d. d.address) drives) ≡ length drives
-addresses_count [] = refl
-addresses_count (d ∷ drives) = ap (λ n. suc n) (addresses_count drives)
-
 other_address : (s : Known) (i k : ℕ) → AreDistinct (map (λ d. d.address) s.drives) → i < length s.drives → k < length s.drives → (i ≡ k → ⊥) → ((member s k).address ≡ (member s i).address → ⊥)
 other_address s i k apart below within other same =
-    let l = addresses_count s.drives in
+    let l = length_map (λ (d : MemberView). d.address) s.drives in
     elim (less_either i k other) [
       | inl less ↦ apart i k less (omega (arith, l, within)) (address_at s i below ∙ (sym same ∙ sym (address_at s k within)))
       | inr more ↦ apart k i more (omega (arith, l, below)) (address_at s k within ∙ (same ∙ sym (address_at s i below)))
@@ -179,12 +158,9 @@ given_one seats s tasks job number place w apart count found all here i v below 
           let yes : (job.drive == (member s place).address) ≡ true = eq-eqb job.drive (member s place).address (sym address) in
           rw (get_or-set_at seats place i w v e is.0, e, yes) here
       | inr n ↦
-          let no_one : (job.drive == (member s i).address) ≡ false = not_equal job.drive (member s i).address (λ f. other_address s i place apart (omega (arith, inside, count)) (omega (arith, is.0, count)) n (address ∙ f)) in
+          let no_one : (job.drive == (member s i).address) ≡ false = other_place job.drive (member s i).address (λ f. other_address s i place apart (omega (arith, inside, count)) (omega (arith, is.0, count)) n (address ∙ f)) in
           rw (get_or-set_other seats place i w v n, no_one) (all i v inside)
     ]
-  where
-    not_equal : (a b : ℕ) → (a ≡ b → ⊥) → (a == b) ≡ false
-    not_equal a b n = grind (arith, nat_tests, n)
 
 pub given_none : (seats : List SeatView) (s : Known) (tasks : ℕ → List Task) (job : Job) (number : ℕ) → length seats ≡ length s.drives →
     position (λ v. v.member.address == job.drive) seats ≡ None → SeatsStandFor seats s (λ k. nothing_seen (tasks k)) →
@@ -254,6 +230,3 @@ known_of-IsRing r is lists =
     addresses_are : (drives : List DriveView) → map (λ d. d.address) (map member_of drives) ≡ map (λ d. d.address) drives
     addresses_are [] = refl
     addresses_are (d ∷ drives) = ap (λ (xs : List ℕ). d.address ∷ xs) (addresses_are drives)
-
-pub apart_known : (r : RingView) → IsKnown (known_of r) → AreDistinct (map (λ d. d.address) (known_of r).drives)
-apart_known r k = k.apart

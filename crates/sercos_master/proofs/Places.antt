@@ -1,25 +1,5 @@
 -- Places of the ring, and what a call changes at one of them.
-use Rattle.std.proofs.Common.{◌≡◌, ℕ, suc, ◌+◌, ◌<◌, ◌==◌, Bool, true, false, List, [], ◌∷◌, Option, Some, length, ap, refl, sym, ◌∙◌, arith, if◌then◌else◌, inl, inr}
-use Rattle.std.specs.Prelude.{is_none, nat_le, slice_index_or, ◌&&◌, not}
-use Rattle.std.specs.List.{position, position_from}
-use Rattle.std.proofs.Math.ListN.{set, length-set}
-use Rattle.std.proofs.lemmas.List.{get_or-set_other}
-use Rattle.std.proofs.lemmas.Grind.{get_or-set_at}
-use Rattle.std.proofs.lemmas.Bool.{cases_eq}
-use Rattle.std.proofs.lemmas.Bool.Decides.{nat_tests}
-use Rattle.std.proofs.lemmas.Iterator.Adapters.{position_from-zero}
-use Rattle.std.proofs.lemmas.List.Quantifiers.{position-Some}
-use Rattle.sercos_telegram.specs.Words.{status_of}
-use Rattle.sercos_telegram.specs.Spells.{word_at}
-use Rattle.sercos_telegram.specs.Faults.{at_fault}
-use Rattle.sercos_seat.specs.Ring.{Known, member}
-use Rattle.sercos_seat.proofs.Lengths.{at_len_same}
-use Rattle.sercos_seat.specs.Agenda.{at_len}
-use Rattle.sercos_master.specs.Annals.{Past, first_from, is_awaited, wanted_len, is_taken, place_of, after_taken, after_at_of, outcomes}
-use Rattle.sercos_seat.specs.Channel.{is_place}
-use Rattle.sercos_seat.specs.Seats.{Seen, SeatView, SeatStandsFor, seen_with_status, at_in, at_len_kept}
-use Rattle.sercos_master.specs.Reports.{stop_told}
-use Rattle.sercos_master.specs.Kept.{SeatsStandFor, CoreView, CoreStandsFor, seen_at}
+use Rattle.sercos_master.proofs.Words.{◌≡◌, ℕ, suc, ◌+◌, ◌<◌, ◌==◌, Bool, true, false, List, [], ◌∷◌, Option, Some, length, ap, refl, sym, ◌∙◌, arith, if◌then◌else◌, inl, inr, is_none, nat_le, slice_index_or, ◌&&◌, not, position, position_from, set, length-set, get_or-set_other, get_or-set_at, cases_eq, nat_tests, position_from-zero, position-Some, status_of, word_at, at_fault, Known, member, at_len_same, at_len, Past, first_from, is_awaited, wanted_len, is_taken, place_of, after_taken, after_at_of, outcomes, is_place, Seen, SeatView, SeatStandsFor, seen_with_status, at_in, at_len_kept, stop_told, SeatsStandFor, CoreView, CoreStandsFor, seen_at}
 
 -- The first seat that passes a test is at the first place that passes the like.
 pub first_like : (seats : List SeatView) (test : SeatView → Bool) (like : ℕ → Bool) (k : ℕ) → ((i : ℕ) (v : SeatView) → i < length seats → test (slice_index_or seats i v) ≡ like (k + i)) →
@@ -121,10 +101,6 @@ hears_from v s p k wanted content w c within awaited is here = by (is_taken s p 
         let f : (not (p.now.heard k) && is_none (at_fault (member s k).address wanted content)) ≡ false = rw is (sym (taken_by s p k content awaited) ∙ e) in
         rw e (with_seats v (set v.seats k w) v.addressed s p p c (record { cycle_is = refl; turns_is = refl; phase_is = refl; whole_is = refl; plans_is = refl; plan_is = refl; stop_is = refl; told_is = refl }) c.addressed_is (length-set v.seats k w)
         (one_seat v.seats s (seen_at p) (seen_at p) k w within c.seats (λ i n. refl) (rw f at here)))
-
--- one that isn't awaited changes nothing
-pub hears_nothing : (s : Known) (p : Past) (k : ℕ) (content : List ℕ) → is_awaited p k ≡ false → after_at_of s (Some k) content p ≡ p
-hears_nothing s p k content e = rw e refl
 
 -- what is wanted of an AT is what the code asks
 pub wanted_same : (v : CoreView) (s : Known) (p : Past) (k : ℕ) (seat : SeatView) → CoreStandsFor v s p → k < length v.seats →

@@ -1,21 +1,7 @@
 -- Where there is a plan, it is the plan of what was read in this epoch.
-use Rattle.std.proofs.Common.{◌≡◌, ℕ, suc, ◌+◌, ◌<◌, ◌≤◌, true, List, [], ◌∷◌, ◌++◌, length, take, drop, refl, sym, ap, ap₂, ◌∙◌, subst, arith, length-append}
-use Rattle.std.specs.Prelude.{nat_le, Option, Some, None, Ok, slice_get}
-use Rattle.std.proofs.lemmas.Bool.{leb-true, le-leb}
-use Rattle.std.proofs.lemmas.Option.{get_or_from_slice_get, slice_get_within}
-use Rattle.std.proofs.lemmas.List.{take-append-le, drop-append-le, length-drop}
-use Rattle.sercos_step.specs.declared.request.Outcome.{Outcome}
-use Rattle.sercos_timing.specs.Order.{record_bytes}
-use Rattle.sercos_timing.specs.Views.{PlanView, WishesView}
-use Rattle.sercos_timing.specs.declared.wishes.Wish.{Wish}
+use Rattle.sercos_master.proofs.Words.{◌≡◌, ℕ, suc, ◌+◌, ◌<◌, ◌≤◌, true, List, [], ◌∷◌, ◌++◌, length, take, drop, refl, sym, ap, ap₂, ◌∙◌, subst, arith, length-append, nat_le, Option, Some, None, Ok, slice_get, leb-true, le-leb, get_or_from_slice_get, slice_get_within, take-append-le, drop-append-le, length-drop, Outcome, record_bytes, PlanView, WishesView, Wish, planned, begun_by, Known, Task, MemberView, member, no_member, bytes_of, long_in, short_in, given, reads_count, is_read, words_given, at_attributes, mdt_attributes, times_given, wish_given, wishes_from, wishes_given, outcomes_in, with_outcome, Call, Past, IsPlanned, outcomes, after_taken, all_read, settled, ready_to_send, after_mdt, past}
 use Rattle.sercos_timing.specs.declared.wishes.Times.{Times}
-use Rattle.sercos_plan.specs.ChainOf.{planned}
-use Rattle.sercos_service_master.specs.Calls.{begun_by}
-use Rattle.sercos_seat.specs.Ring.{Known, Task, MemberView, member, no_member}
-use Rattle.sercos_seat.specs.Agenda.{bytes_of, long_in, short_in, given, reads_count, is_read, words_given, at_attributes, mdt_attributes, times_given, wish_given, wishes_from, wishes_given}
-use Rattle.sercos_seat.specs.Channel.{outcomes_in, with_outcome}
 use Rattle.sercos_seat.proofs.Seats.{before_end}
-use Rattle.sercos_master.specs.Annals.{Call, Past, IsPlanned, outcomes, after_taken, all_read, settled, ready_to_send, after_mdt, past}
 use Rattle.sercos_master.proofs.Keeping.{came_back, going, past_keeps, settled_keeps, stopped}
 use Rattle.sercos_master.proofs.Configured.{leaves, all_pass, begun_adds, mdt_adds, each_passes}
 pub use Rattle.sercos_master.proofs.Configured.{Adds, at_adds}
@@ -66,7 +52,7 @@ wish_stays d all (Some o) read = wish (times_so all o many) (ats d all o many) (
     wish : times_given (all ++ o ∷ []) ≡ times_given all → at_attributes d (all ++ o ∷ []) ≡ at_attributes d all → mdt_attributes d (all ++ o ∷ []) ≡ mdt_attributes d all → wish_given d (all ++ o ∷ []) ≡ wish_given d all
     wish a b c = rw (a, b, c) refl
 
-read_stays : (d : MemberView) (all : List Outcome) (o : Option Outcome) → is_read d all ≡ true → is_read d (with_outcome o all) ≡ true
+pub read_stays : (d : MemberView) (all : List Outcome) (o : Option Outcome) → is_read d all ≡ true → is_read d (with_outcome o all) ≡ true
 read_stays d all None read = read
 read_stays d all (Some o) read = let many = leb-true (reads_count d) (length all) read in let one = length-append all (o ∷ []) in le-leb (reads_count d) (length (all ++ o ∷ [])) (omega arith)
 

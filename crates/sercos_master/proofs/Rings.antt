@@ -1,27 +1,10 @@
 -- What the ring keeps tells what is looked back on, and what it begins.
-use Rattle.std.proofs.lemmas.Bool.{cases_Bool, cases_eq, false≢true}
-use Rattle.std.proofs.Common.{inl, inr, ◌≡◌, ℕ, zero, suc, ◌+◌, ◌<◌, ◌≤◌, ◌==◌, Bool, true, false, List, [], ◌∷◌, Option, Some, None, length, ap, subst, refl, sym, ◌∙◌, arith, if◌then◌else◌}
-use Rattle.std.specs.Prelude.{◌%◌, ◌^◌, is_some, is_none, min, unwrap_or, nat_le, nat_lt, slice_index_or, option_map, not, ◌&&◌, ◌||◌}
-use Rattle.std.specs.List.{position}
-use Rattle.std.specs.Option.{option_or}
-use Rattle.std.proofs.Math.ListN.{set, length-set}
-use Rattle.std.proofs.lemmas.Bool.Decides.{nat_tests}
-use Rattle.sercos_service_master.specs.Calls.{EndCycle, cycles_open, age_of}
-use Rattle.sercos_timing.specs.Views.{PlanView}
-use Rattle.sercos_timing.specs.Order.{record_bytes}
-use Rattle.sercos_plan.specs.ChainOf.{planned}
-use Rattle.sercos_trace.specs.declared.events.Stop.{Stop}
+use Rattle.sercos_master.proofs.Words.{cases_Bool, cases_eq, false≢true, inl, inr, ◌≡◌, ℕ, zero, suc, ◌+◌, ◌<◌, ◌≤◌, ◌==◌, Bool, true, false, List, [], ◌∷◌, Option, Some, None, length, ap, subst, refl, sym, ◌∙◌, arith, if◌then◌else◌, ◌%◌, ◌^◌, is_some, is_none, min, unwrap_or, nat_le, nat_lt, slice_index_or, option_map, not, ◌&&◌, ◌||◌, position, option_or, set, length-set, nat_tests, EndCycle, cycles_open, age_of, PlanView, record_bytes, planned, Stop, Known, MemberView, Task, member, wishes_given, last_long_stop, is_read, is_checked, is_ready, reads_count, all_read, with_due_plan, planned_by, with_plan, Past, Turn, first_from, first_place, outcomes, is_idle, is_identified, in_turn, begins, is_done, is_at_limit, trouble, first_trouble, first_trouble_from, with_stop, new_epoch, still_waiting, after_end, next_phase, goes_on, whole_row, addressed_before, has_lost_mst, fall_of, count_addressed, next_task, with_task, with_begin, begun, has_lost_at, is_place, of_phase, Seen, SeatView, SeatStandsFor, forgotten, ended_in, cycles_kept, has_read, with_begun, begun_task, SeatsStandFor, CoreView, CoreStandsFor, seen_at, waited_with, waited_for, waited_row, has_missed, queue_same, and_left, and-false, eqb-true}
 use Rattle.sercos_trace.specs.declared.events.Fall.TheVariants as fall
-use Rattle.sercos_seat.specs.Ring.{Known, MemberView, Task, member}
-use Rattle.sercos_seat.specs.Agenda.{wishes_given, last_long_stop, is_read, is_checked, is_ready, reads_count}
 use Rattle.sercos_master.proofs.Keeping.{first_found}
 pub use Rattle.sercos_master.proofs.Keeping.{none_of as no_stop}
-use Rattle.sercos_master.specs.Annals.{all_read, with_due_plan, planned_by, with_plan, Past, Turn, first_from, first_place, outcomes, is_idle, is_identified, in_turn, has_turn, begins, is_done, is_at_limit, trouble, first_trouble, first_trouble_from, with_stop, new_epoch, still_waiting, after_end, next_phase, goes_on, whole_row, addressed_before, has_lost_mst, fall_of, count_addressed, next_task, with_task, with_begin, begun, has_lost_at}
-use Rattle.sercos_seat.specs.Channel.{is_place, of_phase}
-use Rattle.sercos_seat.specs.Seats.{Seen, SeatView, SeatStandsFor, forgotten, ended_in, cycles_kept, has_read, with_begun, begun_task}
-use Rattle.sercos_master.specs.Kept.{SeatsStandFor, CoreView, CoreStandsFor, seen_at, waited_with, waited_for, waited_row, has_missed}
-use Rattle.sercos_seat.proofs.Queues.{queue_same}
 use Rattle.sercos_master.proofs.Places.{first_seat, one_seat, with_seats, same_place, other_place}
+use Rattle.sercos_master.proofs.Wishes.{none_is}
 
 read_same : (r done l : ℕ) → r ≤ 38 → done ≡ min l 100 → nat_le r done ≡ nat_le r l
 read_same r done l few is = by (nat_le r l) refl
@@ -150,13 +133,6 @@ first_only (suc n) k i test only low high = elim (cases_eq k i) [
 ]
 
 -- only the drive that the MDT is to can be at the limit in phase 1
-is_that : (k i : ℕ) → (k == i) ≡ true → k ≡ i
-is_that k i e = grind (arith, nat_tests, e)
-
-true_first : (a b : Bool) → (a && b) ≡ true → a ≡ true
-true_first true b e = refl
-true_first false b e = e
-
 -- in phase 1 it is the drive that the MDT is to, if it was to it in 64 cycles before
 pub waited : (s : Known) (p : Past) (i : ℕ) → p.now.phase ≡ 1 → p.now.addressed ≡ Some i → i < length s.drives →
     first_place s (is_at_limit p) ≡ (if nat_le 64 (min (count_addressed i p.turns) 64) then Some i else None)
@@ -164,7 +140,7 @@ waited s p i one to within =
     first_only (length s.drives) 0 i (is_at_limit p) only (omega arith) (omega (arith, within)) ∙ (ap (λ b. if b then Some i else None) here)
   where
     only : (j : ℕ) → is_at_limit p j ≡ true → j ≡ i
-    only j e = is_that j i (true_first (j == i) (nat_le 64 (count_addressed j p.turns)) (rw (one, to) at e))
+    only j e = eqb-true j i (and_left (j == i) (nat_le 64 (count_addressed j p.turns)) (rw (one, to) at e))
 
     enough : nat_le 64 (count_addressed i p.turns) ≡ nat_le 64 (min (count_addressed i p.turns) 64)
     enough = elim (cases_Bool (nat_le 64 (count_addressed i p.turns))) [
@@ -182,7 +158,7 @@ waits_for_none s p one to = none_from (length s.drives) 0 (is_at_limit p) (λ j 
 -- nor where it is to a place that the ring hasn't
 pub waits_beyond : (s : Known) (p : Past) (i : ℕ) → p.now.phase ≡ 1 → p.now.addressed ≡ Some i → length s.drives ≤ i → first_place s (is_at_limit p) ≡ None
 waits_beyond s p i one to beyond = none_from (length s.drives) 0 (is_at_limit p) (λ j low h. only_false (is_at_limit p) i j
-    (λ e. is_that j i (true_first (j == i) (nat_le 64 (count_addressed j p.turns)) (rw (one, to) at e))) (λ f. omega (arith, h, f, beyond)))
+    (λ e. eqb-true j i (and_left (j == i) (nat_le 64 (count_addressed j p.turns)) (rw (one, to) at e))) (λ f. omega (arith, h, f, beyond)))
 
 -- the count for a drive is the one that is kept, where it was the last one
 pub count_same : (turns : List Turn) (i : ℕ) → is_place i (addressed_before turns) ≡ true → min (count_addressed i turns) 64 ≡ waited_row turns
@@ -192,16 +168,12 @@ count_same (t ∷ turns) i e = by t.addressed refl
     by : (a : Option ℕ) → t.addressed ≡ a → min (count_addressed i (t ∷ turns)) 64 ≡ waited_for t.addressed (t ∷ turns)
     by None f = let g : is_place i None ≡ true = subst (λ a. is_place i a ≡ true) f e in absurd (false≢true g)
     by (Some k) f =
-        let g : i ≡ k = is_that i k (subst (λ a. is_place i a ≡ true) f e) in
+        let g : i ≡ k = eqb-true i k (subst (λ a. is_place i a ≡ true) f e) in
         ap (λ n. min (count_addressed n (t ∷ turns)) 64) g ∙ sym (ap (λ a. waited_for a (t ∷ turns)) f)
 
 pub count_other : (turns : List Turn) (i : ℕ) → is_place i (addressed_before turns) ≡ false → count_addressed i turns ≡ 0
 count_other [] i e = refl
-count_other (t ∷ turns) i e = rw (e, and_none (t.phase == 1)) refl
-  where
-    and_none : (a : Bool) → (a && false) ≡ false
-    and_none true = refl
-    and_none false = refl
+count_other (t ∷ turns) i e = rw (e, and-false (t.phase == 1)) refl
 
 pub waited_long : (v : CoreView) (s : Known) (p : Past) (i : ℕ) → CoreStandsFor v s p → p.now.phase ≡ 1 → v.addressed ≡ Some i → i < length v.seats → is_place i v.before ≡ true → 64 ≤ v.waited →
     first_place s (is_at_limit p) ≡ Some i
@@ -227,9 +199,6 @@ waited_new v s p i c one to within new =
     waited s p i one named (rw (← c.seats_count) within) ∙ rw e refl
 
 -- the fall, by what was found
-pub fall_1 : (s : Known) (p : Past) → has_lost_mst (p.now ∷ p.turns) ≡ true → fall_of s p ≡ Some fall.MstLost
-fall_1 s p e = rw e refl
-
 pub fall_2 : (s : Known) (p : Past) (k : ℕ) → has_lost_mst (p.now ∷ p.turns) ≡ false → first_place s (λ i. has_lost_at i (p.now ∷ p.turns)) ≡ Some k →
     fall_of s p ≡ Some (fall.AtLost (member s k).address)
 fall_2 s p k e f = rw (e, f) refl
@@ -497,21 +466,6 @@ stop_found v s p k seat w c none within there is taken =
             (λ i n. refl)
             (stopped_seat seat w (member s k) (seen_at p k) None taken here)
 
--- where nothing is begun
-begun_none : (v : CoreView) (s : Known) (p : Past) → CoreStandsFor v s p → ((k : ℕ) → begins s p k ≡ None) → CoreStandsFor v s (begun s p)
-begun_none v s p c none = with_seats v v.seats v.addressed s p (begun s p) c (record { cycle_is = refl; turns_is = refl; phase_is = refl; whole_is = refl; plans_is = refl; plan_is = refl; stop_is = refl; told_is = refl }) c.addressed_is refl
-    (λ k seat below. subst (SeatStandsFor (slice_index_or v.seats k seat) (member s k)) (sym (seen_begun s p k ∙ ap (λ t. with_begun t (seen_at p k)) (none k))) (c.seats k seat below))
-
-pub begun_stopped : (v : CoreView) (s : Known) (p : Past) → CoreStandsFor v s p → is_some p.stop ≡ true → CoreStandsFor v s (begun s p)
-begun_stopped v s p c e = begun_none v s p c (λ k. none k)
-  where
-    none : (k : ℕ) → begins s p k ≡ None
-    none k = by p.stop e
-      where
-        by : (o : Option Stop) → is_some o ≡ true → (if is_none o && (is_idle p k && has_turn s p k) then of_phase p.now.phase (next_task s p k) else None) ≡ None
-        by None f = absurd (false≢true f)
-        by (Some x) f = refl
-
 pub begins_late : (s : Known) (p : Past) (k : ℕ) → p.now.phase ≤ 1 → begins s p k ≡ None
 begins_late s p k low =
     let a : nat_le 3 p.now.phase ≡ false = grind (arith, nat_tests, low) in
@@ -523,15 +477,8 @@ begins_late s p k low =
     by true false = refl
     by false y = refl
 
-pub begun_early : (v : CoreView) (s : Known) (p : Past) → CoreStandsFor v s p → p.now.phase ≤ 1 → CoreStandsFor v s (begun s p)
-begun_early v s p c low = begun_none v s p c (λ k. begins_late s p k low)
-
-no_stop_is : (o : Option Stop) → is_some o ≡ false → o ≡ None
-no_stop_is None e = refl
-no_stop_is (Some x) e = absurd (false≢true (sym e))
-
 pub not_stopped : (v : CoreView) (s : Known) (p : Past) → CoreStandsFor v s p → v.stopped ≡ false → p.stop ≡ None
-not_stopped v s p c e = no_stop_is p.stop (sym c.stopped_is ∙ e)
+not_stopped v s p c e = none_is p.stop (sym c.stopped_is ∙ e)
 
 -- A STOP AND A PLAN
 pub stops : (v : CoreView) (s : Known) (p : Past) (x : Stop) → CoreStandsFor v s p → p.stop ≡ None → CoreStandsFor (record v { stopped = true; stop = Some x }) s (with_stop (Some x) p)
@@ -583,9 +530,6 @@ plans v s p q c = record {
 }
 
 -- the plan, where it is due
-pub due_other_phase : (s : Known) (p : Past) → (p.now.phase == 2) ≡ false → with_due_plan s p ≡ p
-due_other_phase s p e = rw e refl
-
 pub due_stopped : (s : Known) (p : Past) → is_some p.stop ≡ true → with_due_plan s p ≡ p
 due_stopped s p e = by (p.now.phase == 2) p.stop e
   where
@@ -593,15 +537,6 @@ due_stopped s p e = by (p.now.phase == 2) p.stop e
     by true None f = absurd (false≢true f)
     by true (Some x) f = refl
     by false o f = refl
-
-pub due_planned : (s : Known) (p : Past) → is_some p.plan ≡ true → with_due_plan s p ≡ p
-due_planned s p e = by (p.now.phase == 2) (is_none p.stop) p.plan e
-  where
-    by : (a b : Bool) (o : Option PlanView) → is_some o ≡ true → (if a && (b && (is_none o && all_read s p)) then planned_by s p else p) ≡ p
-    by true true None f = absurd (false≢true f)
-    by true true (Some x) f = refl
-    by true false o f = refl
-    by false b o f = refl
 
 pub none_of_some : {A : Type 0} (o : Option A) → is_some o ≡ true → is_none o ≡ false
 none_of_some None e = absurd (false≢true e)

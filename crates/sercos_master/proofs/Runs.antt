@@ -1,12 +1,10 @@
 -- Runs whose cycles were worked out by hand, computed from the definitions: what is commanded, reported and sent.
-use Rattle.std.specs.Prelude.{◌≡◌, ℕ, ◌==◌, nat_le, ◌&&◌, ◌||◌, if◌then◌else◌, List, [], ◌∷◌, map, Option, Some, refl}
+use Rattle.sercos_master.proofs.Words.{◌≡◌, ℕ, ◌==◌, nat_le, ◌&&◌, ◌||◌, if◌then◌else◌, List, [], ◌∷◌, map, Option, Some, refl, Known, Task, Sent, mdt_said}
 use Rattle.sercos_idn.specs.declared.idn.Idn.{Idn}
 use Rattle.sercos_step.specs.declared.request.Request.TheVariants as request
 use Rattle.sercos_step.specs.declared.request.Outcome.TheVariants as outcome
 use Rattle.sercos_trace.specs.declared.events.Stop.TheVariants as stop
 use Rattle.sercos_trace.specs.declared.events.Fall.TheVariants as fall
-use Rattle.sercos_seat.specs.Ring.{Known, Task}
-use Rattle.sercos_master.specs.Says.{Sent, mdt_said}
 use Rattle.sercos_telegram.specs.Faults as Faults
 use Rattle.sercos_telegram.specs.Spells as Spells
 use Rattle.sercos_telegram.specs.Words as Words

@@ -1,44 +1,11 @@
 -- What the ring sends, and what that leaves.
-use Rattle.std.proofs.Common.{◌≡◌, ℕ, zero, suc, ◌+◌, ◌/◌, ◌%◌, ◌^◌, ◌<◌, ◌≤◌, ◌==◌, Bool, true, false, List, [], ◌∷◌, ◌++◌, Option, Some, None, length, ap, refl, sym, ◌∙◌, arith, subst, if◌then◌else◌}
-use Rattle.std.specs.Prelude.{not, nat_le, nat_lt, take, is_some, is_none, option_map, slice_index_or, IfSome}
-use Rattle.std.specs.List.{position}
-use Rattle.std.proofs.Math.ListN.{set, length-set}
-use Rattle.std.proofs.lemmas.Bool.{false≢true}
-use Rattle.std.proofs.lemmas.Bool.Decides.{nat_tests}
-use Rattle.sercos_telegram.specs.Spells.{all_drives}
-use Rattle.sercos_service_master.specs.Begun.{master_says}
-use Rattle.sercos_service_master.specs.Calls.{begun_by}
-use Rattle.sercos_timing.specs.Views.{PlanView}
-use Rattle.std.proofs.lemmas.Bool.{leb-true}
-use Rattle.std.proofs.lemmas.List.{length-append, take_all}
+use Rattle.sercos_master.proofs.Words.{◌≡◌, ℕ, zero, suc, ◌+◌, ◌/◌, ◌%◌, ◌^◌, ◌<◌, ◌≤◌, ◌==◌, Bool, true, false, List, [], ◌∷◌, ◌++◌, Option, Some, None, length, ap, refl, sym, ◌∙◌, arith, subst, if◌then◌else◌, not, nat_le, nat_lt, take, is_some, is_none, option_map, slice_index_or, IfSome, position, set, length-set, false≢true, nat_tests, all_drives, master_says, begun_by, PlanView, leb-true, take_all, record_bytes, Wish, Known, MemberView, member, len_or_none, mdt_attributes, record_len, wish_given, wishes_from, outcomes_seen, IsPlanned, Past, outcomes, first_place, is_idle, is_identified, addressed_in, is_sent_to, sent_to, Sent, sent_as, record_to, records_from, mdt_said, single, joint, idle, Seen, SeatView, SeatStandsFor, sent_in, record_seen, SeatsStandFor, CoreView, CoreStandsFor, seen_at, sent_now, Fits, records_upto, idle_same, length-append, append-nil, append_assoc, cond-true}
 use Rattle.std.proofs.lemmas.List.Sums.{sum_by-append}
-use Rattle.sercos_timing.specs.Order.{record_bytes}
-use Rattle.sercos_timing.specs.declared.wishes.Wish.{Wish}
-use Rattle.sercos_seat.specs.Ring.{Known, MemberView, member}
-use Rattle.sercos_seat.specs.Agenda.{len_or_none, mdt_attributes, record_len, wish_given, wishes_from}
 use Rattle.sercos_seat.proofs.Sends.{seen_length}
-use Rattle.sercos_seat.specs.Seats.{outcomes_seen}
-use Rattle.sercos_master.specs.Annals.{IsPlanned, Past, outcomes, first_place, is_idle, is_identified, addressed_in, is_sent_to, sent_to}
 use Rattle.sercos_seat.specs.Records.{record_said, value_said, values_said}
-use Rattle.sercos_master.specs.Says.{Sent, sent_as, record_to, records_from, mdt_said, single, joint, idle}
-use Rattle.sercos_seat.specs.Seats.{Seen, SeatView, SeatStandsFor, sent_in, record_seen}
-use Rattle.sercos_master.specs.Kept.{SeatsStandFor, CoreView, CoreStandsFor, seen_at, sent_now, Fits, records_upto}
 use Rattle.sercos_master.proofs.Places.{one_seat, with_seats, same_place, other_place}
-use Rattle.sercos_seat.proofs.Seats.{idle_same}
 use Rattle.sercos_master.proofs.Rings.{found, unidentified}
 use Rattle.sercos_master.proofs.Wishes.{wishes_more}
-
-append_again : (xs ys zs : List ℕ) → (xs ++ ys) ++ zs ≡ xs ++ (ys ++ zs)
-append_again [] ys zs = refl
-append_again (x ∷ xs) ys zs = ap (λ ws. x ∷ ws) (append_again xs ys zs)
-
-length_both : (xs ys : List ℕ) → length (xs ++ ys) ≡ length xs + length ys
-length_both [] ys = omega arith
-length_both (x ∷ xs) ys = let e : length (xs ++ ys) ≡ length xs + length ys = length_both xs ys in rw e (omega arith)
-
-append_nil : (xs : List ℕ) → xs ++ [] ≡ xs
-append_nil [] = refl
-append_nil (x ∷ xs) = ap (λ ys. x ∷ ys) (append_nil xs)
 
 -- THE RECORDS ONE BEHIND THE OTHER
 upto_longer : (s : Known) (seen : ℕ → Seen) (count i n : ℕ) → i < n → length (records_upto s seen count i) + length (record_seen count (member s i) (seen i)) ≤ length (records_upto s seen count n)
@@ -50,18 +17,18 @@ upto_longer s seen count i (suc n) h = by (nat_lt i n) refl (λ below. upto_long
     by true e again =
         let below : i < n = grind (arith, nat_tests, e) in
         let rest = again below in
-        let l : length (records_upto s seen count n ++ record_seen count (member s n) (seen n)) ≡ length (records_upto s seen count n) + length (record_seen count (member s n) (seen n)) = length_both (records_upto s seen count n) (record_seen count (member s n) (seen n)) in
+        let l : length (records_upto s seen count n ++ record_seen count (member s n) (seen n)) ≡ length (records_upto s seen count n) + length (record_seen count (member s n) (seen n)) = length-append (records_upto s seen count n) (record_seen count (member s n) (seen n)) in
         omega (arith, rest, l)
     by false e again =
         let same : i ≡ n = grind (arith, nat_tests, e, h) in
-        let l : length (records_upto s seen count n ++ record_seen count (member s n) (seen n)) ≡ length (records_upto s seen count n) + length (record_seen count (member s n) (seen n)) = length_both (records_upto s seen count n) (record_seen count (member s n) (seen n)) in
+        let l : length (records_upto s seen count n ++ record_seen count (member s n) (seen n)) ≡ length (records_upto s seen count n) + length (record_seen count (member s n) (seen n)) = length-append (records_upto s seen count n) (record_seen count (member s n) (seen n)) in
         rw (same, l) (omega arith)
 
 pub fits_next : (s : Known) (seen : ℕ → Seen) (count i n : ℕ) (first out : List ℕ) → i < n → length (first ++ records_upto s seen count n) ≤ 2048 → out ≡ first ++ records_upto s seen count i →
     length out + length (record_seen count (member s i) (seen i)) ≤ 2048
 fits_next s seen count i n first out below fits is =
-    let a = length_both first (records_upto s seen count n) in
-    let b = length_both first (records_upto s seen count i) in
+    let a = length-append first (records_upto s seen count n) in
+    let b = length-append first (records_upto s seen count i) in
     let more = upto_longer s seen count i n below in
     rw is (omega (arith, a, b, more, fits))
 
@@ -69,7 +36,7 @@ pub out_next : (s : Known) (seen : ℕ → Seen) (count i : ℕ) (first out now 
     now ≡ first ++ records_upto s seen count (i + 1)
 out_next s seen count i first out now is next =
     let e : i + 1 ≡ suc i = omega arith in
-    rw (next, is, e) (append_again first (records_upto s seen count i) (record_seen count (member s i) (seen i)))
+    rw (next, is, e) (append_assoc first (records_upto s seen count i) (record_seen count (member s i) (seen i)))
 
 pub not_yet_sent : (seats : List SeatView) (s : Known) (seen : ℕ → Seen) (i : ℕ) (v : SeatView) → i < length seats → v ≡ slice_index_or seats i v →
     SeatsStandFor seats s (λ k. if nat_lt k i then sent_in (seen k) else seen k) → SeatStandsFor v (member s i) (seen i)
@@ -112,7 +79,7 @@ record_sent s p k h = let l = late_phase p.now.phase h in rw l.1.1 refl
 
 from_upto : (s : Known) (p : Past) (k n : ℕ) → 3 ≤ p.now.phase →
     records_upto s (seen_at p) p.cycle k ++ records_from s (sent_to None p) k n ≡ records_upto s (seen_at p) p.cycle (k + n)
-from_upto s p k zero h = append_nil (records_upto s (seen_at p) p.cycle k) ∙ ap (records_upto s (seen_at p) p.cycle) zero_more
+from_upto s p k zero h = append-nil (records_upto s (seen_at p) p.cycle k) ∙ ap (records_upto s (seen_at p) p.cycle) zero_more
   where
     zero_more : k ≡ k + 0
     zero_more = omega arith
@@ -120,7 +87,7 @@ from_upto s p k (suc n) h =
     let e : k + 1 ≡ suc k = omega arith in
     let f : suc k + n ≡ k + suc n = omega arith in
     ap (λ r. records_upto s (seen_at p) p.cycle k ++ (r ++ records_from s (sent_to None p) (k + 1) n)) (record_sent s p k h)
-    ∙ (sym (append_again (records_upto s (seen_at p) p.cycle k) (record_seen p.cycle (member s k) (seen_at p k)) (records_from s (sent_to None p) (k + 1) n))
+    ∙ (sym (append_assoc (records_upto s (seen_at p) p.cycle k) (record_seen p.cycle (member s k) (seen_at p k)) (records_from s (sent_to None p) (k + 1) n))
     ∙ (ap (λ i. records_upto s (seen_at p) p.cycle (suc k) ++ records_from s (sent_to None p) i n) e
     ∙ (from_upto s p (suc k) n h ∙ ap (records_upto s (seen_at p) p.cycle) f)))
 
@@ -132,13 +99,6 @@ records_all s p h = from_upto s p 0 (length s.drives) h ∙ ap (records_upto s (
 
 pub said_late : (s : Known) (p : Past) → 3 ≤ p.now.phase → mdt_said s (sent_now s p) ≡ option_map (joint s (sent_to None p)) p.plan
 said_late s p h = let l = late_phase p.now.phase h in rw (now_late s p h, l.0, l.1.0, l.1.1) refl
-
-pub start_late : (s : Known) (p : Past) (plan : Option PlanView) → plan ≡ p.plan → 3 ≤ p.now.phase → option_map (λ q. q.t2) plan ≡ option_map (λ m. m.start) (mdt_said s (sent_now s p))
-start_late s p plan e h = rw (said_late s p h, e) (by p.plan)
-  where
-    by : (o : Option PlanView) → option_map (λ q. q.t2) o ≡ option_map (λ m. m.start) (option_map (joint s (sent_to None p)) o)
-    by None = refl
-    by (Some q) = refl
 
 pub content_planned : (s : Known) (p : Past) (out : List ℕ) → 3 ≤ p.now.phase → (is_some p.plan ≡ true → out ≡ all_drives ∷ records_upto s (seen_at p) p.cycle (length s.drives)) →
     IfSome (mdt_said s (sent_now s p)) (λ m. out ≡ m.content)
@@ -169,29 +129,17 @@ seen_there p to k e = rw e refl
 unsent : (v : CoreView) (s : Known) (p : Past) (to : Option ℕ) → CoreStandsFor v s p → ((k : ℕ) → is_sent_to p to k ≡ false) → CoreStandsFor (record v { addressed = to }) s (sent_to to p)
 unsent v s p to c none = sent_core v v.seats s p to c refl (λ k seat below. subst (SeatStandsFor (slice_index_or v.seats k seat) (member s k)) (sym (seen_unsent p to k (none k))) (c.seats k seat below))
 
-pub sent_0 : (v : CoreView) (s : Known) (p : Past) → CoreStandsFor v s p → p.now.phase ≡ 0 → CoreStandsFor (record v { addressed = None }) s (sent_now s p)
-sent_0 v s p c e =
-    let to : addressed_in s p ≡ None = rw e refl in
-    rw to (unsent v s p None c (λ k. rw e refl))
-
-pick : {A : Type 0} (b : Bool) (x y : A) → b ≡ true → (if b then x else y) ≡ x
-pick true x y e = refl
-pick false x y e = absurd (false≢true e)
-
 is_one : (phase : ℕ) → phase ≡ 1 → (phase == 1) ≡ true
 is_one phase e = rw e refl
 
 to_1 : (v : CoreView) (s : Known) (p : Past) → CoreStandsFor v s p → p.now.phase ≡ 1 → addressed_in s p ≡ position (λ seat. not seat.identified) v.seats
 to_1 v s p c e =
-    pick (p.now.phase == 1) (first_place s (λ k. not (is_identified p k))) (if p.now.phase == 2 then first_place s (λ k. not (is_idle p k)) else None) (is_one p.now.phase e)
+    cond-true (p.now.phase == 1) (first_place s (λ k. not (is_identified p k))) (if p.now.phase == 2 then first_place s (λ k. not (is_idle p k)) else None) (is_one p.now.phase e)
     ∙ sym (unidentified v s p c)
 
 pub sent_1 : (v : CoreView) (s : Known) (p : Past) → CoreStandsFor v s p → p.now.phase ≡ 1 → CoreStandsFor (record v { addressed = position (λ seat. not seat.identified) v.seats }) s (sent_now s p)
 sent_1 v s p c e = subst (λ to. CoreStandsFor (record v { addressed = position (λ seat. not seat.identified) v.seats }) s (sent_to to p)) (sym (to_1 v s p c e))
     (unsent v s p (position (λ seat. not seat.identified) v.seats) c (λ k. rw e refl))
-
-pub said_0 : (s : Known) (p : Past) → p.now.phase ≡ 0 → mdt_said s (sent_now s p) ≡ None
-said_0 s p e = rw e refl
 
 pub said_1 : (v : CoreView) (s : Known) (p : Past) → CoreStandsFor v s p → p.now.phase ≡ 1 → mdt_said s (sent_now s p) ≡ option_map (single s idle) (position (λ seat. not seat.identified) v.seats)
 said_1 v s p c e = subst (λ to. mdt_said s (sent_to to p) ≡ option_map (single s idle) (position (λ seat. not seat.identified) v.seats)) (sym (to_1 v s p c e)) (rw e refl)
@@ -221,9 +169,6 @@ said_none_2 v s p c e f = rw (to_2 v s p None c e f) (rw e refl)
 pub said_one_2 : (v : CoreView) (s : Known) (p : Past) (k : ℕ) → CoreStandsFor v s p → p.now.phase ≡ 2 → position (λ seat. not (is_none seat.channel.transfer)) v.seats ≡ Some k →
     mdt_said s (sent_now s p) ≡ Some (record { start = 650; content = (member s k).address ∷ record_said (master_says (begun_by (p.calls k))) [] })
 said_one_2 v s p k c e f = rw (to_2 v s p (Some k) c e f) (rw (e, same_place k) refl)
-
-pub upto_end : (xs : List ℕ) → xs ++ [] ≡ xs
-upto_end xs = append_nil xs
 
 pub start_none : (s : Known) (q : Past) → mdt_said s q ≡ None → None ≡ option_map (λ m. m.start) (mdt_said s q)
 start_none s q e = rw e refl

@@ -1,21 +1,8 @@
 -- What a seat tells of its drive's wish, and what the ring asks of its plan.
-use Rattle.std.proofs.Common.{◌≡◌, ℕ, zero, suc, ◌+◌, ◌<◌, ◌≤◌, Bool, true, false, List, [], ◌∷◌, ◌++◌, Option, Some, None, length, ap, refl, sym, ◌∙◌, arith, subst, if◌then◌else◌}
-use Rattle.std.specs.Prelude.{min, nat_le, nat_lt, is_some, map, take, drop, slice_index_or}
-use Rattle.std.proofs.lemmas.Bool.{false≢true}
-use Rattle.std.proofs.lemmas.Bool.Decides.{nat_tests}
-use Rattle.sercos_step.specs.declared.request.Outcome.{Outcome}
-use Rattle.sercos_timing.specs.declared.wishes.Wish.{Wish}
-use Rattle.sercos_timing.specs.Views.{WishesView}
-use Rattle.sercos_timing.specs.Order.{no_wish, record_bytes}
-use Rattle.sercos_timing.specs.Valid.{IsValid, AreDistinct}
-use Rattle.sercos_trace.specs.declared.events.Stop.{Stop}
-use Rattle.sercos_seat.specs.Ring.{Known, IsKnown, MemberView, member, no_member}
-use Rattle.sercos_seat.specs.Agenda.{wishes_from, wishes_given, mdt_attributes, words_given, wish_given}
-use Rattle.sercos_seat.specs.Seats.{last_long_from, long_stop, last_long, Seen, outcomes_seen}
-use Rattle.sercos_seat.proofs.Lengths.{drop_at, drop_all, get_there, lens}
+use Rattle.sercos_master.proofs.Words.{◌≡◌, ℕ, zero, suc, ◌+◌, ◌<◌, ◌≤◌, Bool, true, false, List, [], ◌∷◌, ◌++◌, Option, Some, None, length, ap, refl, sym, ◌∙◌, arith, subst, if◌then◌else◌, min, nat_le, nat_lt, is_some, map, take, drop, slice_index_or, false≢true, nat_tests, Outcome, Wish, WishesView, no_wish, record_bytes, IsValid, AreDistinct, Stop, Known, IsKnown, MemberView, member, no_member, wishes_from, wishes_given, mdt_attributes, words_given, wish_given, last_long_from, long_stop, last_long, Seen, outcomes_seen, drop_at, drop_all, get_there, lens, take_all}
 
 -- THE WISHES OF THE RING
-wishes_length : (drives : List MemberView) (k : ℕ) (outs : ℕ → List Outcome) → length (wishes_from drives k outs) ≡ length drives
+pub wishes_length : (drives : List MemberView) (k : ℕ) (outs : ℕ → List Outcome) → length (wishes_from drives k outs) ≡ length drives
 wishes_length [] k outs = refl
 wishes_length (d ∷ drives) k outs = ap (λ n. suc n) (wishes_length drives (k + 1) outs)
 
@@ -32,17 +19,11 @@ pub list_more : (s : Known) (seen : ℕ → Seen) (n : ℕ) (wishes : List Wish)
     wishes ≡ wishes_from (take n s.drives) 0 (λ k. outcomes_seen (seen k)) → wishes ++ w ∷ [] ≡ wishes_from (take (n + 1) s.drives) 0 (λ k. outcomes_seen (seen k))
 list_more s seen n wishes w h is so = rw (wishes_more s.drives 0 n (λ k. outcomes_seen (seen k)) h, so, is) (ap (λ i. wishes_from (take n s.drives) 0 (λ k. outcomes_seen (seen k)) ++ wish_given (member s n) (outcomes_seen (seen i)) ∷ []) (omega arith))
 
-take_whole : {A : Type 0} (xs : List A) (n : ℕ) → length xs ≤ n → take n xs ≡ xs
-take_whole [] zero h = refl
-take_whole [] (suc n) h = refl
-take_whole (x ∷ xs) zero h = absurd (omega (arith, h))
-take_whole (x ∷ xs) (suc n) h = ap (λ ys. x ∷ ys) (take_whole xs n (omega (arith, h)))
-
 pub list_whole : (s : Known) (seen : ℕ → Seen) (n : ℕ) (wishes : List Wish) → length s.drives ≤ n →
     wishes ≡ wishes_from (take n s.drives) 0 (λ k. outcomes_seen (seen k)) → wishes ≡ wishes_from s.drives 0 (λ k. outcomes_seen (seen k))
-list_whole s seen n wishes h so = so ∙ ap (λ ds. wishes_from ds 0 (λ k. outcomes_seen (seen k))) (take_whole s.drives n h)
+list_whole s seen n wishes h so = so ∙ ap (λ ds. wishes_from ds 0 (λ k. outcomes_seen (seen k))) (take_all n s.drives h)
 
-wish_there : (drives : List MemberView) (k n : ℕ) (outs : ℕ → List Outcome) → n < length drives → slice_index_or (wishes_from drives k outs) n no_wish ≡ wish_given (slice_index_or drives n no_member) (outs (k + n))
+pub wish_there : (drives : List MemberView) (k n : ℕ) (outs : ℕ → List Outcome) → n < length drives → slice_index_or (wishes_from drives k outs) n no_wish ≡ wish_given (slice_index_or drives n no_member) (outs (k + n))
 wish_there [] k n outs h = absurd (omega (arith, h))
 wish_there (d ∷ drives) k zero outs h = ap (λ i. wish_given d (outs i)) (omega arith)
 wish_there (d ∷ drives) k (suc n) outs h = wish_there drives (k + 1) n outs (omega (arith, h)) ∙ ap (λ i. wish_given (slice_index_or drives n no_member) (outs i)) (omega arith)

@@ -1,14 +1,9 @@
 -- What happens together in one cycle, computed from the definitions: two falls, two stops, two outcomes of one drive; and data records
 -- that are too long for an MDT.
-use Rattle.std.specs.Prelude.{◌≡◌, ℕ, ◌+◌, ◌==◌, nat_le, ◌&&◌, if◌then◌else◌, List, [], ◌∷◌, ◌++◌, map, replicate, Some, refl}
-use Rattle.std.specs.List.{range_with_len}
-use Rattle.sercos_step.specs.declared.request.Outcome.{Outcome}
+use Rattle.sercos_master.proofs.Words.{◌≡◌, ℕ, ◌+◌, ◌==◌, nat_le, ◌&&◌, if◌then◌else◌, List, [], ◌∷◌, ◌++◌, map, replicate, Some, refl, range_with_len, Outcome, record_bytes, wishes_given, last_long_stop, Known}
 use Rattle.sercos_step.specs.declared.request.Outcome.TheVariants as outcome
-use Rattle.sercos_timing.specs.Order.{record_bytes}
 use Rattle.sercos_trace.specs.declared.events.Stop.TheVariants as stop
 use Rattle.sercos_trace.specs.declared.events.Fall.TheVariants as fall
-use Rattle.sercos_seat.specs.Agenda.{wishes_given, last_long_stop}
-use Rattle.sercos_seat.specs.Ring.{Known}
 use Rattle.sercos_telegram.specs.Faults as Faults
 use Rattle.sercos_telegram.specs.Spells as Spells
 use Rattle.sercos_telegram.specs.Words as Words

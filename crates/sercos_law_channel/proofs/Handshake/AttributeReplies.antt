@@ -1,7 +1,5 @@
 -- What the two replies to the reads of a block's attribute are.
-use Rattle.sercos_law_channel.proofs.Words.{◌≡◌, ℕ, ◌+◌, ◌*◌, ◌^◌, ◌<◌, Bool, true, false, ◌&&◌, List, [], ◌∷◌, map, length, refl, ap, ap₂, sym, ◌∙◌, arith, cond, if◌then◌else◌, ◌==◌, Option, Some, None, option_map, unwrap_or, slice_index, w32, to_le_bytes, cond-false, Attribute, attribute_fault, attribute_word, attribute_of, Step, words_of, shape_of, shape_by, a_step, Block, find_block, read_fault, status_in, Processed, Entry, open_idn, run_before, selection, good, answer_by, copy, read_cause, reply_on, reply_at, reply_of, AreAlike, without_data}
-use Rattle.sercos_block.specs.Blocks.{element_of}
-use Rattle.sercos_service_drive.specs.Replies.{element_words}
+use Rattle.sercos_law_channel.proofs.Words.{◌≡◌, ℕ, ◌+◌, ◌*◌, ◌^◌, ◌<◌, Bool, true, false, ◌&&◌, List, [], ◌∷◌, map, length, refl, ap, ap₂, sym, ◌∙◌, arith, cond, if◌then◌else◌, ◌==◌, Option, Some, None, option_map, unwrap_or, slice_index, w32, to_le_bytes, cond-false, Attribute, attribute_fault, attribute_word, attribute_of, Step, words_of, shape_of, shape_by, a_step, Block, find_block, read_fault, status_in, Processed, Entry, open_idn, run_before, selection, good, answer_by, copy, read_cause, reply_on, reply_at, reply_of, AreAlike, without_data, element_of, element_words}
 
 -- the block that was found has the same attribute
 found_without_data : (v : Bool) (b : Block) (o p : Option Block) → option_map without_data o ≡ p → option_map without_data (cond v (Some b) o) ≡ cond v (Some (without_data b)) p

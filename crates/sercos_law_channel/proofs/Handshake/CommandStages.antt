@@ -1,5 +1,5 @@
 -- How far a transfer that sets a procedure command has come, and what it adds to the writes.
-use Rattle.sercos_law_channel.proofs.Words.{◌≡◌, ℕ, suc, ◌<◌, Bool, true, false, not, ◌&&◌, List, [], ◌∷◌, ◌++◌, length, refl, ap, ap₂, sym, ◌∙◌, arith, if◌then◌else◌, length-append, cond_both, ◌==◌, nat_le, Option, Some, None, slice_get, nat_tests, Idn, Step, Answer, Request, a_step, opening, polling, steps_of, outcome_of, answer_words, is_whole, Block, find_block, Entry, open_idn, run_before, reply_of, Write, AreAlike, writes_of, replies_of, IsTransfer, is_complete, SetsAndCancels, setting, second_of, added_by_setting, cancelled_by}
+use Rattle.sercos_law_channel.proofs.Words.{◌≡◌, ℕ, suc, ◌<◌, Bool, true, false, not, ◌&&◌, List, [], ◌∷◌, ◌++◌, length, refl, ap, ap₂, sym, ◌∙◌, arith, if◌then◌else◌, length-append, cond_both, ◌==◌, nat_le, Option, Some, None, slice_get, nat_tests, Idn, Step, Answer, Request, a_step, opening, polling, steps_of, outcome_of, answer_words, is_whole, Block, find_block, Entry, open_idn, run_before, reply_of, Write, AreAlike, writes_of, replies_of, IsTransfer, is_complete, SetsAndCancels, setting, second_of, added_by_setting, cancelled_by, and-false}
 use Rattle.sercos_idn.specs.declared.kinds.Length.TheVariants as len
 use Rattle.sercos_step.specs.declared.request.Request.TheVariants as request
 use Rattle.sercos_law_channel.proofs.Handshake.TransferSteps.{newest_step, without_newest, complete-outcome_of, goes_on-outcome_of, adds_none, effect_by}
@@ -197,10 +197,6 @@ sets_nowhere idn blocks e entries log none is =
     ap (λ (l : List Entry). is_complete (outcome_of (request.Command idn) (replies_of (e ∷ l)))) only.0 ∙ complete-outcome_of (request.Command idn) e.answer [] ∙ and-false (not e.answer.error) in
     writes_nowhere (request.Command idn) blocks e entries log none is
     ∙ ap₂ (λ (v : Bool) (l : List Entry). cancelled_by idn.raw v e ++ (added_by_setting idn.raw (second_of (e ∷ l)) ++ writes_of log)) (sym incomplete) (sym only.0)
-  where
-    and-false : (v : Bool) → (v && false) ≡ false
-    and-false true = refl
-    and-false false = refl
 
 pub sets_and_cancels : SetsAndCancels
 sets_and_cancels idn blocks e entries log is = by (find_block idn.raw blocks) refl

@@ -1,11 +1,9 @@
 -- What a selection of an element copies is read as the element's bytes.
-use Rattle.sercos_law_channel.proofs.Words.{◌≡◌, ℕ, zero, suc, ◌+◌, ◌*◌, ◌/◌, ◌%◌, ◌≤◌, ◌<◌, Bool, true, false, List, [], ◌∷◌, length, refl, ap, sym, ◌∙◌, arith, cond, if◌then◌else◌, ◌==◌, ◌||◌, Option, Some, None, is_none, option_map, unwrap_or, list_all, and_parts, cond-false, nat_tests, AreBytes, none_of-then, Idn, Length, attribute_word, Shape, shape_of, shape_by, as_value, outcome_of, steps_before, Block, bits_in, number_end, is_text, is_limit, is_max_len, is_step, find_block, read_fault, is_len, IsStore, SetCommand, has_ended, status_by, setting_of, status_in, Processed, Entry, words_at, missing, without_data, replies_of, IsTransfer, entry_behind, element_in, bytes_at, IsReadAt}
+use Rattle.sercos_law_channel.proofs.Words.{◌≡◌, ℕ, zero, suc, ◌+◌, ◌*◌, ◌/◌, ◌%◌, ◌≤◌, ◌<◌, Bool, true, false, List, [], ◌∷◌, length, refl, ap, sym, ◌∙◌, arith, if◌then◌else◌, ◌==◌, ◌||◌, Option, Some, None, is_none, option_map, unwrap_or, and_parts, cond-false, nat_tests, AreBytes, none_of-then, Idn, Length, attribute_word, Shape, shape_of, shape_by, as_value, outcome_of, steps_before, Block, bits_in, number_end, is_text, is_limit, is_max_len, is_step, find_block, read_fault, is_len, IsStore, SetCommand, has_ended, status_by, setting_of, status_in, Processed, Entry, words_at, missing, without_data, replies_of, IsTransfer, entry_behind, element_in, bytes_at, IsReadAt, found_sound, element_of, data_in, element_words}
 use Rattle.sercos_step.specs.declared.shape.Shape.TheVariants as shape
 use Rattle.sercos_step.specs.declared.request.Request.TheVariants as request
 use Rattle.sercos_step.specs.declared.request.Outcome.TheVariants as outcome
-use Rattle.sercos_block.specs.Blocks.{element_of}
 use Rattle.sercos_block.specs.Stores.{is_sound}
-use Rattle.sercos_service_drive.specs.Replies.{data_in, element_words}
 use Rattle.sercos_law_channel.proofs.Handshake.AttributeReplies.{find-alike}
 use Rattle.sercos_law_channel.proofs.Handshake.ElementWords.{read_from, text_read, word_read, bound_read, data_read}
 use Rattle.sercos_law_channel.proofs.Handshake.ReadStages.{low_of, high_of, shape_read, given_by}
@@ -86,17 +84,6 @@ shape_is (suc (suc (suc (suc (suc zero))))) b low high said = ap as_value said
 shape_is (suc (suc (suc (suc (suc (suc zero)))))) b low high said = ap as_value said
 shape_is (suc (suc (suc (suc (suc (suc (suc zero))))))) b low high said = said
 shape_is (suc (suc (suc (suc (suc (suc (suc (suc e)))))))) b low high said = absurd (omega arith)
-
-found_sound : (raw : ℕ) (blocks : List Block) (c : Block) → list_all is_sound blocks ≡ true → find_block raw blocks ≡ Some c → is_sound c ≡ true
-found_sound raw [] c all found = absurd (cc)
-found_sound raw (d ∷ blocks) c all found = by (d.idn.raw == raw) (found_sound raw blocks c parts.1) found
-  where
-    parts : (is_sound d ≡ true) × (list_all is_sound blocks ≡ true)
-    parts = and_parts (is_sound d) (list_all is_sound blocks) all
-
-    by : (same : Bool) → (find_block raw blocks ≡ Some c → is_sound c ≡ true) → cond same (Some d) (find_block raw blocks) ≡ Some c → is_sound c ≡ true
-    by true behind is = let e : d ≡ c = cc in ap is_sound (sym e) ∙ parts.0
-    by false behind is = behind is
 
 -- the block that was found
 block_there : (b : Block) (o : Option Block) → option_map without_data o ≡ Some (without_data b) → (c : Block) × (o ≡ Some c) × (without_data c ≡ without_data b)

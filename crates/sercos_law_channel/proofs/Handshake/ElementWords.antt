@@ -1,6 +1,5 @@
 -- The words of an element that a store keeps, read as the attribute says, are its bytes.
-use Rattle.sercos_law_channel.proofs.Words.{◌≡◌, ℕ, ◌+◌, ◌/◌, ◌≤◌, ◌<◌, Bool, true, false, not, ◌&&◌, List, [], ◌∷◌, length, take, refl, ap, sym, ◌∙◌, arith, if◌then◌else◌, ◌==◌, nat_le, Option, Some, None, is_none, option_map, unwrap_or, slice_index, min, list_all, w16, w32, to_le_bytes, nat_tests, Attribute, Length, is_list, item_len, Shape, words_of, bytes_in, bytes_read, words_in, shape_by, as_value, width_of, bytes_for, is_text, is_printable, is_limit, list_words, low_back, high_back, bytes_back}
-use Rattle.sercos_model.specs.Bits.{AreBytes}
+use Rattle.sercos_law_channel.proofs.Words.{◌≡◌, ℕ, ◌+◌, ◌/◌, ◌≤◌, Bool, true, false, not, ◌&&◌, List, [], ◌∷◌, length, take, refl, ap, sym, ◌∙◌, arith, if◌then◌else◌, ◌==◌, nat_le, Option, Some, None, is_none, option_map, unwrap_or, slice_index, min, list_all, w16, w32, to_le_bytes, nat_tests, Attribute, Length, is_list, item_len, Shape, words_of, bytes_in, bytes_read, words_in, shape_by, as_value, width_of, bytes_for, is_text, is_printable, is_limit, list_words, low_back, high_back, bytes_back, and_parts, AreBytes}
 use Rattle.sercos_idn.specs.declared.kinds.Length.TheVariants as len
 use Rattle.sercos_step.specs.declared.shape.Shape.TheVariants as shape
 use Rattle.sercos_law_channel.proofs.Handshake.ReadRows.{row, row-all}
@@ -41,20 +40,20 @@ four_read (a ∷ b ∷ c ∷ []) is are = absurd (omega arith)
 four_read (a ∷ b ∷ c ∷ d ∷ []) is are = rw (low_back a b are.0, high_back a b are.0, low_back c d are.1.1.0, high_back c d are.1.1.0) refl
 four_read (a ∷ b ∷ c ∷ d ∷ e ∷ bytes) is are = absurd (omega arith)
 
-are_two : (n : ℕ) → AreBytes (to_le_bytes w16 n)
+pub two_bytes : (n : ℕ) → AreBytes (to_le_bytes w16 n)
 unfolding AreBytes
-are_two n = (omega arith, (omega arith, tt))
+two_bytes n = (omega arith, (omega arith, tt))
 
-are_four : (n : ℕ) → AreBytes (to_le_bytes w32 n)
+pub four_bytes : (n : ℕ) → AreBytes (to_le_bytes w32 n)
 unfolding AreBytes
-are_four n = (omega arith, (omega arith, (omega arith, (omega arith, tt))))
+four_bytes n = (omega arith, (omega arith, (omega arith, (omega arith, tt))))
 
 pub word_read : (n : ℕ) → read_from shape.Two (words_of (to_le_bytes w32 n)) ≡ to_le_bytes w32 n
-word_read n = four_read (to_le_bytes w32 n) refl (are_four n)
+word_read n = four_read (to_le_bytes w32 n) refl (four_bytes n)
 
 limit_read : (l : Length) (n : ℕ) → is_list l ≡ false → read_from (as_value (shape_by l)) (words_of (to_le_bytes (width_of l) n)) ≡ to_le_bytes (width_of l) n
-limit_read len.Two n no_list = two_read (to_le_bytes w16 n) refl (are_two n)
-limit_read len.Four n no_list = four_read (to_le_bytes w32 n) refl (are_four n)
+limit_read len.Two n no_list = two_read (to_le_bytes w16 n) refl (two_bytes n)
+limit_read len.Four n no_list = four_read (to_le_bytes w32 n) refl (four_bytes n)
 limit_read len.List1 n no_list = absurd (cc)
 limit_read len.List2 n no_list = absurd (cc)
 limit_read len.List4 n no_list = absurd (cc)
@@ -68,19 +67,13 @@ bound_read a (Some bits) fits there = limit_read a.length bits (number (is_list 
     number false u w on = refl
     number true u w on = absurd (cc)
 
-printable_bytes : (text : List ℕ) → list_all is_printable text ≡ true → AreBytes text
+pub printable_bytes : (text : List ℕ) → list_all is_printable text ≡ true → AreBytes text
 unfolding AreBytes
-printable_bytes [] all = tt
-printable_bytes (byte ∷ text) all = (by (nat_le 0x20 byte) (nat_le byte 0x7e) (list_all is_printable text) refl all, printable_bytes text (rest (is_printable byte) (list_all is_printable text) all))
-  where
-    by : (u v w : Bool) → nat_le byte 0x7e ≡ v → ((u && v) && w) ≡ true → byte < 256
-    by true true w is on = grind (arith, nat_tests)
-    by true false w is on = absurd (cc)
-    by false v w is on = absurd (cc)
-
-    rest : (u v : Bool) → (u && v) ≡ true → v ≡ true
-    rest true v on = on
-    rest false v on = absurd (cc)
+printable_bytes [] are = tt
+printable_bytes (byte ∷ text) are =
+    let parts = and_parts (is_printable byte) (list_all is_printable text) are in
+    let high = (and_parts (nat_le 0x20 byte) (nat_le byte 0x7e) parts.0).1 in
+    (grind (arith, nat_tests, high), printable_bytes text parts.1)
 
 pub text_read : (most : ℕ) (o : Option (List ℕ)) → most ≤ 1024 → is_text most o ≡ true → read_from shape.List (list_words most (unwrap_or o [])) ≡ unwrap_or o []
 text_read most None small fits = list_read [] most (omega arith) (printable_bytes [] refl)
@@ -107,8 +100,8 @@ length-grown len.List4 false value n no_list is = absurd (cc)
 
 are_grown : (l : Length) (still : Bool) (value : List ℕ) (n : ℕ) → is_list l ≡ false → AreBytes value → AreBytes (grown l still value n)
 are_grown l true value n no_list are = are
-are_grown len.Two false value n no_list are = are_two n
-are_grown len.Four false value n no_list are = are_four n
+are_grown len.Two false value n no_list are = two_bytes n
+are_grown len.Four false value n no_list are = four_bytes n
 are_grown len.List1 false value n no_list are = absurd (cc)
 are_grown len.List2 false value n no_list are = absurd (cc)
 are_grown len.List4 false value n no_list are = absurd (cc)

@@ -48,7 +48,7 @@ unless_restart-none v xs none = elim (chosen v.master_restarts [] xs) [ inl r �
 
 -- Before phase 2 nothing is begun and nothing accepted.
 
-heard_none : (o : Option Heard) → with_heard o [] ≡ []
+pub heard_none : (o : Option Heard) → with_heard o [] ≡ []
 heard_none None = refl
 heard_none (Some a) = refl
 

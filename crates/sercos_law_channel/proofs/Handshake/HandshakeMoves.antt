@@ -9,7 +9,7 @@ beq-not : (b : Bool) → beq b (not b) ≡ false
 beq-not true = refl
 beq-not false = refl
 
-beq-not_left : (b : Bool) → beq (not b) b ≡ false
+pub beq-not_left : (b : Bool) → beq (not b) b ≡ false
 beq-not_left true = refl
 beq-not_left false = refl
 

@@ -33,7 +33,7 @@ ended_steps : (r : Request) (h : List Answer) → step_at r h ≡ None → lengt
 ended_steps r [] none = rw none (omega arith)
 ended_steps r (a ∷ h) none = let few = length-steps_begun r h in rw none few
 
-few_steps : (past : List Begun) → AreInTurn past → open_in past ≡ None → length (steps_in past) ≤ length (answers_in past)
+pub few_steps : (past : List Begun) → AreInTurn past → open_in past ≡ None → length (steps_in past) ≤ length (answers_in past)
 few_steps [] are none = omega arith
 few_steps (b ∷ past) are none =
     let these = ended_steps b.request b.answers none in

@@ -1,6 +1,5 @@
 -- Where a block is write protected, or fixed, no record adds a write to it.
-use Rattle.sercos_law_channel.proofs.Words.{◌≡◌, ℕ, Bool, true, false, not, ◌&&◌, List, [], ◌∷◌, length, refl, sym, ap, ◌∙◌, subst, arith, if◌then◌else◌, ◌==◌, Option, Some, None, IfSome, option_map, option_and_then, then_some, and_parts, cond-false, cond-true, cond_both, eqb-true, not-true, beq, none_of-or, none_of-then, Answer, Block, is_fixed, is_protected, find_block, write_fault, data_fault, put_fault, Processed, Entry, ahs, opens, open_idn, run_before, in_order, answer_by, is_first_word, bytes_written, write_cause_in, reply_at, reply_of, log_of, Write, AreAlike, AreThose, without_data, written_by, with_added, adds, added_on, those_moved, View, standing, stood_in, record_in, processed_in, with_record, kept_in_phase, kept_unless, since_reset, kept_in, write_of, all_writes, AreSound, newest_to, StaysProtected, StaysQuiet, StaysFixed}
-use Rattle.sercos_service_drive.specs.Replies.{write_cause}
+use Rattle.sercos_law_channel.proofs.Words.{◌≡◌, ℕ, Bool, true, false, not, ◌&&◌, List, [], ◌∷◌, length, refl, sym, ap, ◌∙◌, subst, arith, if◌then◌else◌, ◌==◌, Option, Some, None, IfSome, option_map, option_and_then, then_some, and_parts, cond-false, cond-true, cond_both, eqb-true, not-true, beq, none_of-or, none_of-then, Answer, Block, is_fixed, is_protected, find_block, write_fault, data_fault, put_fault, Processed, Entry, ahs, opens, open_idn, run_before, in_order, answer_by, is_first_word, bytes_written, write_cause_in, reply_at, reply_of, log_of, Write, AreAlike, AreThose, without_data, written_by, with_added, adds, added_on, those_moved, View, standing, stood_in, record_in, processed_in, with_record, kept_in_phase, kept_unless, since_reset, kept_in, write_of, all_writes, AreSound, newest_to, StaysProtected, StaysQuiet, StaysFixed, write_cause, and_right}
 use Rattle.sercos_law_channel.proofs.Handshake.AttributeReplies.{find-alike}
 use Rattle.sercos_law_channel.proofs.Handshake.PhaseMoves.{Processes, Nothing, Record, processes, processed_phase}
 
@@ -32,13 +31,9 @@ reply-word t log raw write seven opened =
     let e = eqb-true t.step.element 7 seven in
     let not_one : (t.step.element == 1) ≡ false = ap (λ (n : ℕ). n == 1) e in
     let not_zero : (t.step.element == 0) ≡ false = ap (λ (n : ℕ). n == 0) e in
-    let shut : opens t.step ≡ false = right t.step.write (t.step.element == 1) not_one in
+    let shut : opens t.step ≡ false = and_right t.step.write (t.step.element == 1) not_one in
     cond-false (opens t.step) _ _ shut ∙ cond-false (t.step.element == 0) _ _ not_zero ∙ ap (λ (o : Option ℕ). reply_at o t (run_before t.step.write t.step.element log)) opened
     ∙ cond-true t.step.write _ _ write ∙ ap (λ (o : Option ℕ). answer_by o 0) (cond-true (t.step.element == 7) _ _ seven)
-  where
-    right : (a b : Bool) → b ≡ false → (a && b) ≡ false
-    right true b off = off
-    right false b off = refl
 
 -- what a step writes is not protected
 adds_bare : (t : Processed) (log : List Entry) (w : Write) (blocks : List Block) (b : Block) → adds t log ≡ Some w → AreAlike t.blocks blocks → find_block w.raw blocks ≡ Some b → is_protected b.attribute t.phase ≡ false

@@ -1,5 +1,5 @@
 -- The steps that read an element's words, and the words that they answer.
-use Rattle.sercos_law_channel.proofs.Words.{◌≡◌, ℕ, zero, suc, ◌+◌, ◌/◌, ◌≤◌, ◌<◌, Bool, true, false, List, [], ◌∷◌, ◌++◌, length, drop, replicate, refl, ap, ap₂, sym, ◌∙◌, arith, length-append, nat_le, Some, slice_get, slice_index, min, nat_tests, Step, Shape, words_in, words_in_list, a_step, run, reading, length-run}
+use Rattle.sercos_law_channel.proofs.Words.{◌≡◌, ℕ, zero, suc, ◌+◌, ◌/◌, ◌≤◌, Bool, true, false, List, [], ◌∷◌, ◌++◌, length, drop, replicate, refl, ap, ap₂, sym, ◌∙◌, arith, length-append, nat_le, Some, slice_get, slice_index, min, nat_tests, Step, Shape, words_in, words_in_list, a_step, run, reading, length-run, slice_get_within}
 use Rattle.sercos_step.specs.declared.shape.Shape.TheVariants as shape
 
 -- the first words of a list, filled up with zeros
@@ -22,11 +22,6 @@ row-all (word ∷ words) = ap (λ (l : List ℕ). word ∷ l) (row-all words)
 
 pub some_same : {A : Type 0} (x y : A) → Some x ≡ Some y → y ≡ x
 some_same x y is = cc
-
-pub below_length : {A : Type 0} (xs : List A) (k : ℕ) (x : A) → slice_get xs k ≡ Some x → k < length xs
-below_length [] k x got = absurd (cc)
-below_length (y ∷ xs) zero x got = omega arith
-below_length (y ∷ xs) (suc k) x got = let less = below_length xs k x got in omega arith
 
 length-zeros : (n : ℕ) → length {A = ℕ} (replicate n 0) ≡ n
 length-zeros zero = refl
@@ -75,7 +70,7 @@ reading_next shape.List e (actual ∷ own) step x got = next_zeros e (words_in_l
 full_zeros : (e n : ℕ) (own : List ℕ) (s : Step) (x : ℕ) → slice_get (run false e (replicate n 0)) (length own) ≡ Some s →
     nat_le (length (run false e (replicate n 0))) (length (own ++ x ∷ [])) ≡ true → length (own ++ x ∷ []) ≡ n
 full_zeros e n own s x got whole =
-    let less = below_length (run false e (replicate n 0)) (length own) s got in
+    let less = slice_get_within (run false e (replicate n 0)) (length own) s got in
     let long = length-run_zeros e n in
     let most = at_most (length (run false e (replicate n 0))) (length (own ++ x ∷ [])) whole in
     omega (arith, length-append own (x ∷ []))

@@ -1,5 +1,5 @@
 -- How far a read has come, and what it gives.
-use Rattle.sercos_law_channel.proofs.Words.{◌≡◌, ℕ, suc, ◌+◌, ◌*◌, ◌≤◌, Bool, true, false, ◌&&◌, List, [], ◌∷◌, ◌++◌, length, drop, refl, ap, ap₂, sym, ◌∙◌, arith, if◌then◌else◌, length-append, ◌==◌, nat_le, Option, Some, None, slice_get, slice_index, cond-true, cond-false, nat_tests, Idn, Step, Answer, Shape, Request, shape_of, words_in, bytes_read, a_step, opening, reading, attribute_then, asks_attribute, steps_of, steps_before, result_of, outcome_of, answer_words, is_whole, Block, find_block, Processed, Entry, open_idn, run_before, selection, answer_by, copy, read_cause, reply_of, AreAlike, replies_of, IsTransfer, entry_behind, length-answer_words}
+use Rattle.sercos_law_channel.proofs.Words.{◌≡◌, ℕ, suc, ◌+◌, ◌*◌, ◌≤◌, Bool, true, false, ◌&&◌, List, [], ◌∷◌, ◌++◌, length, drop, refl, ap, ap₂, sym, ◌∙◌, arith, if◌then◌else◌, length-append, ◌==◌, nat_le, Option, Some, None, slice_get, slice_index, cond-true, cond-false, nat_tests, Idn, Step, Answer, Shape, Request, shape_of, words_in, bytes_read, a_step, opening, reading, attribute_then, asks_attribute, steps_of, steps_before, result_of, outcome_of, answer_words, is_whole, Block, find_block, Processed, Entry, open_idn, run_before, selection, answer_by, copy, read_cause, reply_of, AreAlike, replies_of, IsTransfer, entry_behind, length-answer_words, and-false}
 use Rattle.sercos_step.specs.declared.request.Request.TheVariants as request
 use Rattle.sercos_step.specs.declared.request.Outcome.TheVariants as outcome
 use Rattle.sercos_law_channel.proofs.Handshake.TransferSteps.{newest_step, without_newest, goes_on-outcome_of, length-replies_of}
@@ -189,12 +189,8 @@ module _ (idn : Idn) (e : ℕ) (b : Block) (blocks : List Block) (found : find_b
       let two : length words ≡ 2 = ap length is in
       let three : 3 ≡ steps_before e = ap before_by (sym asks) in
       AtWord [] [] (Long asks w (ap₂ (λ (ws : List ℕ) (x : ℕ). ws ++ x ∷ []) is word)) refl
-      (open_by (a_step false true 3 0) d (entries ++ log) step well ∙ opened) (run_starts (a_step false true 3 0) false e d (entries ++ log) step (never (3 == e)))
+      (open_by (a_step false true 3 0) d (entries ++ log) step well ∙ opened) (run_starts (a_step false true 3 0) false e d (entries ++ log) step (and-false (3 == e)))
       (λ x. first_chosen (d ∷ entries) x (omega arith))
-    where
-      never : (v : Bool) → (v && false) ≡ false
-      never true = refl
-      never false = refl
   grows words d entries log (AtWord own taken behind long opened before chosen) count next reply alike well goes_on =
       let step : d.processed.step ≡ a_step false false e 0 = next_word words own d.processed.step d.answer.word behind next ∙ ap (λ (v : Bool). a_step false v e 0) goes_on in
       let answered = word_answered own taken entries log d false step opened before reply well (chosen d) in

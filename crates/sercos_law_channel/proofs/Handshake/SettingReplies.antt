@@ -1,8 +1,7 @@
 -- Where the setting of a procedure command isn't refused, the block has two bytes, and its cancel isn't refused either, unless
 -- it is write protected then.
-use Rattle.sercos_law_channel.proofs.Words.{◌≡◌, ℕ, ◌/◌, ◌%◌, ◌<◌, Bool, true, false, not, ◌&&◌, List, [], ◌∷◌, refl, ap, ap₂, sym, ◌∙◌, arith, ◌==◌, ◌||◌, Option, Some, None, option_map, int_lt, then_some, option_or, cond-true, cond-false, none_of-or, none_of-then, Attribute, Length, is_list, Step, Answer, a_step, Block, is_number, bits_in, meant, is_fixed, is_protected, find_block, is_below, is_above, Processed, Entry, opens, open_idn, run_before, answer_by, is_first_word, ends_early, is_over, is_uneven, is_no_command_value, write_cause_in, reply_of, reply_at, AreAlike, without_data, no_cause}
+use Rattle.sercos_law_channel.proofs.Words.{◌≡◌, ℕ, ◌/◌, ◌%◌, ◌<◌, Bool, true, false, not, ◌&&◌, List, [], ◌∷◌, refl, ap, ap₂, sym, ◌∙◌, arith, ◌==◌, ◌||◌, Option, Some, None, option_map, int_lt, then_some, option_or, cond-true, cond-false, none_of-or, none_of-then, Attribute, Length, is_list, Step, Answer, a_step, Block, is_number, bits_in, meant, is_fixed, is_protected, find_block, is_below, is_above, Processed, Entry, opens, open_idn, run_before, answer_by, is_first_word, ends_early, is_over, is_uneven, is_no_command_value, write_cause_in, reply_of, reply_at, AreAlike, without_data, no_cause, bytes_written, write_cause, and-false, and_right, not_from_true}
 use Rattle.sercos_idn.specs.declared.kinds.Length.TheVariants as len
-use Rattle.sercos_service_drive.specs.Replies.{bytes_written, write_cause}
 use Rattle.sercos_law_channel.proofs.Handshake.AttributeReplies.{find-alike}
 
 -- A block that takes one word as the last has two bytes.
@@ -89,17 +88,9 @@ no_longer b two = rw two refl
 is_setting : (b : Block) → b.attribute.length ≡ len.Two → (is_uneven b (0 ∷ []) || is_no_command_value b true (0 ∷ [])) ≡ false
 unfolding bytes_written
 is_setting b two = rw two (and-false b.attribute.command)
-  where
-    and-false : (v : Bool) → (v && false) ≡ false
-    and-false true = refl
-    and-false false = refl
 
 no_number : (a : Attribute) → a.command ≡ true → is_number a ≡ false
-no_number a command = by (not (is_list a.length)) a.command command
-  where
-    by : (u v : Bool) → v ≡ true → (u && not v) ≡ false
-    by true v on = rw on refl
-    by false v on = refl
+no_number a command = and_right (not (is_list a.length)) (not a.command) (not_from_true a.command command)
 
 below_none : (b : Block) (bytes : List ℕ) (o : Option ℕ) → is_number b.attribute ≡ false → is_below b bytes o ≡ false
 below_none b bytes None off = refl

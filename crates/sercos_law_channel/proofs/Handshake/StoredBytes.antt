@@ -1,7 +1,6 @@
 -- What the words of a write leave as operation data.
-use Rattle.sercos_law_channel.proofs.Words.{◌≡◌, ℕ, List, take, drop, refl, if◌then◌else◌, slice_index, AreBytes, Length, is_list, words_of, bytes_in, shape_by, words_told, at_least_one, Block, bytes_back, stored}
+use Rattle.sercos_law_channel.proofs.Words.{◌≡◌, ℕ, List, take, drop, refl, if◌then◌else◌, slice_index, AreBytes, Length, is_list, words_of, bytes_in, shape_by, words_told, at_least_one, Block, bytes_back, stored, bytes_written}
 use Rattle.sercos_idn.specs.declared.kinds.Length.TheVariants as len
-use Rattle.sercos_service_drive.specs.Replies.{bytes_written}
 
 stored_by : (l : Length) (bytes : List ℕ) → AreBytes bytes → (let words = words_told (shape_by l) bytes in
     (if is_list l then take (slice_index words 0) (bytes_in (drop 2 words)) else bytes_in words) ≡ (if is_list l then bytes else bytes_in (at_least_one (words_of bytes))))

@@ -1,9 +1,8 @@
 -- Transfers that are refused at the cancel, worked out from the definitions: so neither condition of the law can be left out.
-use Rattle.sercos_law_channel.proofs.Words.{◌≡◌, ℕ, ◌<◌, Bool, true, false, List, [], ◌∷◌, refl, arith, Option, Some, None, Attribute, Two, Request, Step, Answer, a_step, outcome_of, Block, CommandHistory, Entry, good, refused, writes_of, replies_of, IsTransfer, setting}
+use Rattle.sercos_law_channel.proofs.Words.{◌≡◌, ℕ, ◌<◌, Bool, true, false, List, [], ◌∷◌, refl, arith, Option, Some, None, Attribute, Two, Request, Step, Answer, a_step, outcome_of, Block, CommandHistory, Entry, good, refused, writes_of, replies_of, IsTransfer, setting, bytes_written, write_cause}
 use Rattle.sercos_idn.specs.declared.kinds.Form.TheVariants as forms
 use Rattle.sercos_step.specs.declared.request.Request.TheVariants as request
 use Rattle.sercos_step.specs.declared.request.Outcome.TheVariants as outcome
-use Rattle.sercos_service_drive.specs.Replies.{bytes_written, write_cause}
 
 -- a procedure command, or a number, that is write protected from phase 3 on
 abbrev attribute : Bool → Attribute

@@ -1,14 +1,9 @@
 -- A read worked out from the definitions: of a number of four bytes, 64500, that grows by 10 in each cycle.
-use Rattle.sercos_law_channel.proofs.Words.{◌≡◌, ℕ, ◌<◌, ◌≤◌, Bool, true, false, List, [], ◌∷◌, refl, arith, Some, None, Attribute, Two, Four, Request, Step, a_step, outcome_of, Block, IsStore, CommandHistory, Processed, Entry, good, replies_of, IsTransfer, entry_behind, bytes_at}
-use Rattle.sercos_model.specs.Bits.{AreBytes}
+use Rattle.sercos_law_channel.proofs.Words.{◌≡◌, ℕ, ◌<◌, ◌≤◌, Bool, true, false, List, [], ◌∷◌, refl, arith, Some, None, Attribute, Two, Four, Request, Step, a_step, outcome_of, Block, IsStore, CommandHistory, Processed, Entry, good, replies_of, IsTransfer, entry_behind, bytes_at, AreBytes, attribute_fault, attribute_of, element_of, data_in, element_words}
 use Rattle.sercos_idn.specs.declared.kinds.Form.TheVariants as forms
-use Rattle.sercos_idn.specs.Codes.{attribute_fault}
-use Rattle.sercos_idn.specs.Attributes.{attribute_of}
 use Rattle.sercos_step.specs.declared.request.Request.TheVariants as request
 use Rattle.sercos_step.specs.declared.request.Outcome.TheVariants as outcome
-use Rattle.sercos_block.specs.Blocks.{element_of}
 use Rattle.sercos_block.specs.Stores.{are_ascending, is_sound, is_typed}
-use Rattle.sercos_service_drive.specs.Replies.{data_in, element_words}
 
 no_command : false ≡ true → Four ≡ Two
 no_command off = absurd (cc)

@@ -1,13 +1,9 @@
 -- A run worked out from the definitions: a write, a second one that a fall breaks, the same again in the next epoch, restarts of
 -- both ends, and a read that comes through.
-use Rattle.sercos_law_channel.proofs.Words.{◌≡◌, ℕ, ◌<◌, Bool, true, false, List, [], ◌∷◌, ◌++◌, replicate, take, refl, arith, Option, Some, None, option_map, Status, Attribute, Two, Request, Outcome, Step, a_step, outcome_of, Block, CommandHistory, Entry, Write, good, Begun, Said, IsTransfer, Heard, View, standing, Choice, run_by, all_begun, all_entries, all_writes, store_in}
+use Rattle.sercos_law_channel.proofs.Words.{◌≡◌, ℕ, ◌<◌, Bool, true, false, List, [], ◌∷◌, ◌++◌, replicate, take, refl, arith, Option, Some, None, option_map, Status, Attribute, Two, Request, Outcome, Step, a_step, outcome_of, Block, CommandHistory, Entry, Write, good, Begun, Said, IsTransfer, Heard, View, standing, Choice, run_by, all_begun, all_entries, all_writes, store_in, attribute_fault, attribute_of, element_of, data_in, element_words, bytes_written, write_cause, status_rest}
 use Rattle.sercos_idn.specs.declared.kinds.Form.TheVariants as forms
-use Rattle.sercos_idn.specs.Codes.{attribute_fault}
-use Rattle.sercos_idn.specs.Attributes.{attribute_of}
 use Rattle.sercos_step.specs.declared.request.Request.TheVariants as request
 use Rattle.sercos_step.specs.declared.request.Outcome.TheVariants as outcome
-use Rattle.sercos_block.specs.Blocks.{element_of}
-use Rattle.sercos_service_drive.specs.Replies.{data_in, element_words, bytes_written, write_cause}
 
 -- a number of two bytes that is written in phase 2
 abbrev number : Attribute
@@ -33,14 +29,11 @@ number = record {
 abbrev block : ℕ → ℕ → Block
 block low high = record { idn = record { raw = 1 }; attribute = number; name = None; unit = None; min = None; max = None; value = low ∷ high ∷ []; max_len = 0; fixed = false; step = 0; fails = false }
 
-abbrev commands : CommandHistory
+abbrev pub commands : CommandHistory
 commands = record { rate = 2; time = 3; calls = [] }
 
-abbrev status : Status
-status = record { ahs = false; busy = false; error = false; change = false; cyclic = 0; cyclic_low = refl; cyclic_apart = apart }
-  where
-    apart : 0 < 32
-    apart = omega arith
+abbrev pub status : Status
+status = record { ahs = false; busy = false; error = false; change = false; cyclic = 0; cyclic_low = refl; cyclic_apart = status_rest 0 }
 
 -- a write of the bytes and 1
 abbrev asked : ℕ → Request
@@ -57,7 +50,7 @@ abbrev at_last : List Block
 at_last = block 9 1 ∷ []
 
 -- a step is open, and both telegrams come
-abbrev stepping : List Block → Choice
+abbrev pub stepping : List Block → Choice
 stepping blocks = record {
   master_restarts = false;
   drive_restarts = false;

@@ -1,6 +1,5 @@
 -- A run of steps that write words, and what it adds to the writes.
-use Rattle.sercos_law_channel.proofs.Words.{◌≡◌, ℕ, suc, ◌+◌, Bool, true, false, not, ◌&&◌, List, [], ◌∷◌, length, take, drop, refl, ap, ap₂, ◌∙◌, arith, if◌then◌else◌, ◌==◌, Option, Some, None, slice_get, slice_index, option_map, option_and_then, beq, cond-true, cond-false, is_list, bytes_in, Step, a_step, run, Block, find_block, Processed, Entry, opens, open_idn, run_before, in_order, Write, AreAlike, without_data, written_by, with_added, writes_of, takes_effect}
-use Rattle.sercos_service_drive.specs.Replies.{bytes_written}
+use Rattle.sercos_law_channel.proofs.Words.{◌≡◌, ℕ, suc, ◌+◌, Bool, true, false, not, ◌&&◌, List, [], ◌∷◌, length, take, drop, refl, ap, ap₂, ◌∙◌, arith, if◌then◌else◌, ◌==◌, Option, Some, None, slice_get, slice_index, option_map, option_and_then, beq, cond-true, cond-false, is_list, bytes_in, Step, a_step, run, Block, find_block, Processed, Entry, opens, open_idn, run_before, in_order, Write, AreAlike, without_data, written_by, with_added, writes_of, takes_effect, bytes_written}
 use Rattle.sercos_law_channel.proofs.Handshake.AttributeReplies.{find-alike}
 use Rattle.sercos_law_channel.proofs.Handshake.TransferSteps.{effect_by}
 

@@ -1,5 +1,5 @@
 -- The calls of the master's channel in a run.
-use Rattle.sercos_law_channel.proofs.Words.{◌≡◌, ℕ, suc, ◌+◌, ◌≤◌, Bool, true, false, not, ◌&&◌, List, [], ◌∷◌, ◌++◌, length, refl, min, sym, ap, ◌∙◌, subst, arith, if◌then◌else◌, nat_le, ◌==◌, Option, Some, None, IsSome, IfSome, is_some, option_map, unwrap_or, cond-true, cond-false, and_from, le-leb, eq-eqb, ne_eqb, Step, Answer, Request, Begun, step_at, with_step, steps_begun, open_in, steps_in, answers_it, answer_in, with_answer, Call, EndCycle, begun_by, age_of, AreCalls, Heard, View, whole_row, with_heard, with_begun, unless_restart, epoch_begun, begun_in, IsShown, IsRun, AreWhole, BeginsEpoch, age_by, age_in, staying, StaysARun, calls_heard, calls_begun, calls_sent, calls_in, channel_calls, IsSent, AreSent, CallsBegin, age_if_open, AgesAreThose, AgesBeforeEnd, NoneLate}
+use Rattle.sercos_law_channel.proofs.Words.{◌≡◌, ℕ, suc, ◌+◌, ◌≤◌, Bool, true, false, not, ◌&&◌, List, [], ◌∷◌, ◌++◌, length, refl, min, sym, ap, ◌∙◌, subst, arith, if◌then◌else◌, nat_le, ◌==◌, Option, Some, None, IsSome, IfSome, is_some, option_map, unwrap_or, cond-true, cond-false, and_from, le-leb, eq-eqb, ne_eqb, Step, Answer, Request, Begun, step_at, with_step, steps_begun, open_in, steps_in, answers_it, answer_in, with_answer, Call, EndCycle, begun_by, age_of, AreCalls, Heard, View, whole_row, with_heard, with_begun, unless_restart, epoch_begun, begun_in, IsShown, IsRun, AreWhole, BeginsEpoch, age_by, age_in, staying, StaysARun, calls_heard, calls_begun, calls_sent, calls_in, channel_calls, IsSent, AreSent, CallsBegin, age_if_open, AgesAreThose, AgesBeforeEnd, NoneLate, and_left}
 use Rattle.sercos_law_channel.proofs.Pace.WholeCycles.{open_late, stays_clean, hears_throughout}
 use Rattle.sercos_law_channel.proofs.Pace.EpochBegins.{run_after, Early, early_in}
 use Rattle.sercos_law_channel.proofs.Pace.AgeRuns.{nothing_old, ages_in_time}
@@ -111,13 +111,9 @@ heard_comes : (o : Option Heard) (h : List Call) → Comes (begun_by h) (begun_b
 heard_comes None h = Same refl refl
 heard_comes (Some a) h = by (answers_it (begun_by h) a.status) refl
   where
-    open_so : (b rest : Bool) → (b && rest) ≡ true → b ≡ true
-    open_so true rest is = refl
-    open_so false rest is = absurd (cc)
-
     by : (v : Bool) → answers_it (begun_by h) a.status ≡ v → Comes (begun_by h) (if v then with_answer (answer_in a.status a.word) (begun_by h) else begun_by h) (age_of h) (if v then None else age_of h)
     by true is =
-        let steps = answered_steps (answer_in a.status a.word) (begun_by h) (open_so (is_some (open_in (begun_by h))) _ is) in
+        let steps = answered_steps (answer_in a.status a.word) (begun_by h) (and_left (is_some (open_in (begun_by h))) _ is) in
         Fresh refl (λ some. steps ∙ cond-true _ _ _ some) (λ none. steps ∙ cond-false _ _ _ none)
     by false is = Same refl refl
 

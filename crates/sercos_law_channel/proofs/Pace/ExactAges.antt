@@ -1,5 +1,5 @@
 -- If nothing is lost, an open step is exactly as old as its entry.
-use Rattle.sercos_law_channel.proofs.Words.{◌≡◌, inl, inr, ℕ, suc, ◌+◌, Bool, true, false, ◌&&◌, List, [], ◌∷◌, ◌++◌, length, refl, sym, ap, ◌∙◌, arith, if◌then◌else◌, ◌==◌, None, is_some, cond-true, cond-false, eq-eqb, ne_eqb, Entry, Begun, open_in, steps_in, answers_in, answers_it, AreInStep, Idle, Sent, Kept, log_steps, replies_of, View, unless_restart, epoch_begun, begun_in, epoch_log, log_in, IsRun, one_more, time_for, open_cycles, AreUndisturbed, IsOnTime, Rests, Waits, IsClean, AreClean, BeginsEpoch, age_in, AnswersAtAge}
+use Rattle.sercos_law_channel.proofs.Words.{◌≡◌, inl, inr, ℕ, suc, ◌+◌, Bool, true, false, List, [], ◌∷◌, ◌++◌, length, sym, ap, ◌∙◌, arith, if◌then◌else◌, ◌==◌, None, is_some, cond-true, cond-false, eq-eqb, ne_eqb, Entry, Begun, open_in, steps_in, answers_in, answers_it, AreInStep, Idle, Sent, Kept, log_steps, replies_of, View, unless_restart, epoch_begun, begun_in, epoch_log, log_in, IsRun, one_more, time_for, open_cycles, AreUndisturbed, IsOnTime, Rests, Waits, IsClean, AreClean, BeginsEpoch, age_in, AnswersAtAge, and_left}
 use Rattle.sercos_law_channel.proofs.Handshake.TransferSteps.{length-steps_of}
 use Rattle.sercos_law_channel.proofs.Handshake.EpochRuns.{in_step}
 use Rattle.sercos_law_channel.proofs.Pace.OnTime.{one_waits}
@@ -97,9 +97,5 @@ module _ (busy : ℕ) where
       let still = begins_whole past (run_after busy cycles past run.0) begins in
       let same : unless_restart v (epoch_begun (cycles ++ past)) ≡ epoch_begun (cycles ++ past) = cond-false v.master_restarts [] (epoch_begun (cycles ++ past)) goes_on in
       let got = answers_on_time busy v (cycles ++ past) a run (undisturbed_on busy cycles past clean still) hears (ap (λ (l : List Begun). answers_it l a.status) same ∙ takes) in
-      let old = olds cycles past run.0 begins clean still got.0 got.1 got.2 (opened (is_some (open_in (epoch_begun (cycles ++ past)))) _ takes) in
+      let old = olds cycles past run.0 begins clean still got.0 got.1 got.2 (and_left (is_some (open_in (epoch_begun (cycles ++ past)))) _ takes) in
       let late = got.3 in omega (arith, old, late)
-    where
-      opened : (b rest : Bool) → (b && rest) ≡ true → b ≡ true
-      opened true rest is = refl
-      opened false rest is = absurd (cc)

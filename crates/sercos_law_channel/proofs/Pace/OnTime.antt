@@ -1,6 +1,6 @@
 -- If nothing is lost, each answer comes busy time and one cycle after its step, and in time if nothing is lost from some cycle on.
 use Rattle.sercos_law_channel.proofs.Words.{◌≡◌, ℕ, ◌+◌, ◌-◌, ◌<◌, ◌≤◌, Bool, true, false, not, ◌&&◌, List, [], ◌∷◌, refl, sym, ap, ◌∙◌, subst, arith, if◌then◌else◌, nat_le, Option, Some, None, IsSome, is_some, and_right, both_ways, cond-true, cond-false, leb-true, nat_tests, beq, Status, Step, Answer, Request, CommandHistory, change_in, Processed, Entry, ahs, log_of, Shown, shown, channel_says, shown_by, Begun, open_in, steps_in, answers_in, is_odd, answers_it, answer_in, with_answer, master_says, step_or_none, AreInStep, Idle, Sent, Kept, log_steps, replies_of, with_status, said_in, with_processed, with_begun, time_for}
-use Rattle.sercos_law_channel.proofs.Handshake.HandshakeMoves.{ahs-shown, quiet_bit, said_bit, said_step, parity, parity_sent, ahs-log}
+use Rattle.sercos_law_channel.proofs.Handshake.HandshakeMoves.{ahs-shown, quiet_bit, said_bit, said_step, parity, parity_sent, ahs-log, beq-self, beq-not_left}
 use Rattle.sercos_law_channel.proofs.Handshake.OnePhase.{no_longer}
 
 -- At a place in cycle c, with `spent` cycles before it that `Fits` compares with the time for the answers: no step is open; or one that
@@ -117,20 +117,12 @@ module _ (Fits : ℕ → ℕ → Type 0) (busy c spent : ℕ) (showing : Command
 module _ (begun : List Begun) (log : List Entry) where
   -- a record that was sent before is dropped
   pub dropped : (t : Processed) (answer : Answer) → said_in t ≡ master_says begun → steps_in begun ≡ log_steps log → with_processed t answer log ≡ log
-  dropped t answer says all = cond-true (beq t.mhs (is_odd log)) log _ (ap (λ (b : Bool). beq b (is_odd log)) (said_bit t begun says ∙ parity (steps_in begun) log all) ∙ same (is_odd log))
-    where
-      same : (b : Bool) → beq b b ≡ true
-      same true = refl
-      same false = refl
+  dropped t answer says all = cond-true (beq t.mhs (is_odd log)) log _ (ap (λ (b : Bool). beq b (is_odd log)) (said_bit t begun says ∙ parity (steps_in begun) log all) ∙ beq-self (is_odd log))
 
   pub joins_log : (t : Processed) (answer : Answer) (s : Step) → said_in t ≡ master_says begun → steps_in begun ≡ s ∷ log_steps log
       → with_processed t answer log ≡ (record { processed = t; answer = answer }) ∷ log
   joins_log t answer s says more = cond-false (beq t.mhs (is_odd log)) log _
-      (ap (λ (b : Bool). beq b (is_odd log)) (said_bit t begun says ∙ parity_sent (steps_in begun) s log more) ∙ other (is_odd log))
-    where
-      other : (b : Bool) → beq (not b) b ≡ false
-      other true = refl
-      other false = refl
+      (ap (λ (b : Bool). beq b (is_odd log)) (said_bit t begun says ∙ parity_sent (steps_in begun) s log more) ∙ beq-not_left (is_odd log))
 
 pub joins : (busy c spent : ℕ) (begun : List Begun) (log : List Entry) (t : Processed) (answer : Answer) (s : Step)
     → said_in t ≡ master_says begun → steps_in begun ≡ s ∷ log_steps log

@@ -1,6 +1,6 @@
 -- The steps that a drive accepts are busy time and one apart.
 use Rattle.sercos_law_channel.proofs.Words.{◌≡◌, inl, inr, ℕ, suc, ◌+◌, ◌<◌, ◌≤◌, Bool, true, false, List, [], ◌∷◌, length, refl, sym, ap, ◌∙◌, subst, arith, if◌then◌else◌, Option, Some, None, IfSome, beq, Answer, Request, Processed, Entry, reply_of, log_of, channel_says, shown_by, Begun, steps_in, answers_in, is_odd, answers_it, answer_in, with_answer, master_says, AreInStep, Idle, Sent, Kept, replies_of, said_in, with_processed, Heard, View, standing, stood_in, record_in, with_record, with_heard, with_begun, unless_restart, epoch_begun, begun_in, epoch_records, records_in_views, epoch_log, log_in, IsShown, IsRun, AreSpaced, SpacesSteps}
-use Rattle.sercos_law_channel.proofs.Handshake.HandshakeMoves.{said_bit, parity, log-taken}
+use Rattle.sercos_law_channel.proofs.Handshake.HandshakeMoves.{said_bit, parity, log-taken, beq-self}
 use Rattle.sercos_law_channel.proofs.Handshake.PhaseMoves.{Processes, Nothing, Record, processes}
 use Rattle.sercos_law_channel.proofs.Handshake.EpochRuns.{joined, restarted, shown_of, heard_of, begun_of, said_of, in_step}
 use Rattle.sercos_law_channel.proofs.Handshake.OnePhase.{no_longer}
@@ -39,11 +39,7 @@ taken_spaced busy c begun log t answer h says at is = by (beq t.mhs (is_odd log)
     answered (Idle none s a) other = a
     answered (Sent step opened s a) other = a
     answered (Kept e past opened those s a) other =
-        let same : beq t.mhs (is_odd log) ≡ true = ap (λ (b : Bool). beq b (is_odd log)) (said_bit t begun says ∙ parity (steps_in begun) log s) ∙ self (is_odd log) in absurd (cc)
-      where
-        self : (b : Bool) → beq b b ≡ true
-        self true = refl
-        self false = refl
+        let same : beq t.mhs (is_odd log) ≡ true = ap (λ (b : Bool). beq b (is_odd log)) (said_bit t begun says ∙ parity (steps_in begun) log s) ∙ beq-self (is_odd log) in absurd (cc)
 
     by : (v : Bool) → beq t.mhs (is_odd log) ≡ v → IsSpaced busy c begun (if v then log else (record { processed = t; answer = answer }) ∷ log)
     by true same = is

@@ -1,9 +1,8 @@
 -- How many steps a transfer has, and how long one that sets a procedure command takes.
-use Rattle.sercos_law_channel.proofs.Words.{◌≡◌, ◌⊎◌, inl, inr, ℕ, zero, suc, ◌+◌, ◌*◌, ◌<◌, ◌≤◌, Bool, true, false, List, [], ◌∷◌, ◌++◌, length, drop, refl, sym, ap, ◌∙◌, subst, arith, if◌then◌else◌, ◌==◌, Option, Some, None, is_some, slice_index, option_map, unwrap_or, nat_tests, cases_eq, cond-true, cond-false, eq-eqb, Idn, Length, is_list, Step, Answer, Shape, Request, shape_of, shape_by, words_in, words_told, steps_of, answer_words, polls, count_of, length-drop_two, read_ends, length-answer_words, steps_most, get_below, polls_by, times_le, times_more, Block, find_block, status_in, Processed, Entry, words_at, copy, Write, writes_of, AreAlike, without_data, replies_of, IsTransfer, entry_behind, idn_of, setting, second_of, added_by_setting, AreSpaced, IsListed, newest_at, value_steps, read_steps, write_steps}
+use Rattle.sercos_law_channel.proofs.Words.{◌≡◌, ◌⊎◌, inl, inr, ℕ, zero, suc, ◌+◌, ◌*◌, ◌<◌, ◌≤◌, Bool, true, false, List, [], ◌∷◌, ◌++◌, length, drop, refl, sym, ap, ◌∙◌, subst, arith, if◌then◌else◌, ◌==◌, Option, Some, None, is_some, slice_index, option_map, unwrap_or, nat_tests, cases_eq, cond-true, cond-false, eq-eqb, Idn, Length, is_list, Step, Answer, Shape, Request, shape_of, shape_by, words_in, words_told, steps_of, answer_words, polls, count_of, length-drop_two, read_ends, length-answer_words, steps_most, get_below, polls_by, times_le, times_more, Block, find_block, status_in, Processed, Entry, words_at, copy, Write, writes_of, AreAlike, without_data, replies_of, IsTransfer, entry_behind, idn_of, setting, second_of, added_by_setting, AreSpaced, IsListed, newest_at, value_steps, read_steps, write_steps, element_words}
 use Rattle.sercos_idn.specs.declared.kinds.Length.TheVariants as len
 use Rattle.sercos_step.specs.declared.shape.Shape.TheVariants as shape
 use Rattle.sercos_step.specs.declared.request.Request.TheVariants as request
-use Rattle.sercos_service_drive.specs.Replies.{element_words}
 use Rattle.sercos_law_channel.proofs.Handshake.AttributeReplies.{find-alike}
 use Rattle.sercos_law_channel.proofs.Handshake.ReadRows.{row}
 use Rattle.sercos_law_channel.proofs.Handshake.TransferSteps.{newest_step, without_newest, goes_on-outcome_of, length-replies_of}
@@ -158,7 +157,7 @@ second_some : (d o : Entry) (past : List Entry) → (x : Entry) × (second_of (d
 second_some d o [] = (d, refl)
 second_some d o (p ∷ past) = second_some o p past
 
-times_suc : (k n : ℕ) → suc k * n ≡ k * n + n
+pub times_suc : (k n : ℕ) → suc k * n ≡ k * n + n
 times_suc k n = grind arith
 
 -- the second of all entries was accepted as long ago as the others take

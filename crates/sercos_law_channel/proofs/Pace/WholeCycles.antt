@@ -9,15 +9,11 @@ use Rattle.sercos_law_channel.proofs.Pace.EpochBegins.{none_begun}
 two_ways : (p : ℕ) → (p ≤ 1) ⊎ (2 ≤ p)
 two_ways p = elim (cases_eq p 0) [ inl z ↦ inl (omega arith) | inr nz ↦ elim (cases_eq p 1) [ inl one ↦ inl (omega arith) | inr more ↦ inr (omega arith) ] ]
 
-some_of : {A : Type 0} (o : Option A) → is_some o ≡ true → (x : A) × (o ≡ Some x)
-some_of None some = absurd (cc)
-some_of (Some x) some = (x, refl)
-
 -- a record that is sent comes to the drive
 pub got_some : (v : View) → v.mdt_comes ≡ true → is_some v.sent ≡ true → is_some (got_in v) ≡ true
 got_some v comes sent = ap is_some (cond-true v.mdt_comes v.sent None comes) ∙ sent
 
-processed_some : (v : View) (cycle stood : ℕ) (o : Option Said) → v.mst_comes ≡ true → 2 ≤ stood → is_some o ≡ true → is_some (processed_of v cycle stood o) ≡ true
+pub processed_some : (v : View) (cycle stood : ℕ) (o : Option Said) → v.mst_comes ≡ true → 2 ≤ stood → is_some o ≡ true → is_some (processed_of v cycle stood o) ≡ true
 processed_some v cycle stood None came two some = absurd (cc)
 processed_some v cycle stood (Some s) came two some = ap is_some (cond-true (v.mst_comes && nat_le 2 stood) (Some (record_in v cycle stood s)) None (and_from v.mst_comes (nat_le 2 stood) came (le-leb 2 stood two)))
 

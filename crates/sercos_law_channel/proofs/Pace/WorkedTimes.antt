@@ -1,14 +1,10 @@
 -- A start-up worked out from the definitions: every telegram comes, and the channel never idles in phase 2.
-use Rattle.sercos_law_channel.proofs.Words.{◌≡◌, inr, ℕ, zero, suc, ◌^◌, ◌<◌, ◌≤◌, Bool, true, false, not, ◌&&◌, ◌||◌, List, [], ◌∷◌, ◌++◌, replicate, length, refl, ap, arith, if◌then◌else◌, ◌==◌, Some, None, IfSome, is_some, and_parts, eqb-true, not-true, Status, Attribute, Two, Request, Block, CommandHistory, find_set, set_in, AreAlike, answers_in, View, standing, stood_in, epoch_begun, IsRun, Choice, run_by, AreSoundChoices, IsSound, AreSound, AreSmall, open_since, IsWhole, AreWhole, ArePassed, AreTimed, AreListed, cost_of, cost_in, AreCarried, age_in}
-use Rattle.sercos_model.specs.Bits.{AreBytes}
+use Rattle.sercos_law_channel.proofs.Words.{◌≡◌, inr, ℕ, zero, suc, ◌^◌, ◌<◌, ◌≤◌, Bool, true, false, not, ◌&&◌, ◌||◌, List, [], ◌∷◌, ◌++◌, replicate, length, refl, ap, arith, if◌then◌else◌, ◌==◌, Some, None, IfSome, is_some, and_parts, eqb-true, not-true, Attribute, Two, Request, Block, CommandHistory, find_set, set_in, AreAlike, answers_in, View, standing, stood_in, epoch_begun, IsRun, Choice, run_by, AreSoundChoices, IsSound, AreSound, AreSmall, open_since, IsWhole, AreWhole, ArePassed, AreTimed, AreListed, cost_of, cost_in, AreCarried, age_in, AreBytes, attribute_fault, attribute_of, element_of, element_words, bytes_written, write_cause}
 use Rattle.sercos_idn.specs.declared.kinds.Form.TheVariants as forms
-use Rattle.sercos_idn.specs.Codes.{attribute_fault}
-use Rattle.sercos_idn.specs.Attributes.{attribute_of}
 use Rattle.sercos_step.specs.declared.request.Request.TheVariants as request
-use Rattle.sercos_block.specs.Blocks.{element_of}
-use Rattle.sercos_service_drive.specs.Replies.{element_words, bytes_written, write_cause}
 use Rattle.sercos_law_channel.proofs.Handshake.RunsMade.{is_run, is_sound}
 use Rattle.sercos_law_channel.proofs.Pace.TimedCommands.{comes_timed}
+use Rattle.sercos_law_channel.proofs.Handshake.WorkedRuns.{stepping, commands}
 
 -- a number of two bytes that is written in every phase
 abbrev number : Attribute
@@ -34,38 +30,13 @@ number = record {
 abbrev block : Block
 block = record { idn = record { raw = 1 }; attribute = number; name = None; unit = None; min = None; max = None; value = 0 ∷ 0 ∷ []; max_len = 0; fixed = false; step = 0; fails = false }
 
-abbrev commands : CommandHistory
-commands = record { rate = 2; time = 3; calls = [] }
-
-abbrev status : Status
-status = record { ahs = false; busy = false; error = false; change = false; cyclic = 0; cyclic_low = refl; cyclic_apart = apart }
-  where
-    apart : 0 < 32
-    apart = omega arith
-
 -- a write of that block
 abbrev asked : Request
 asked = request.Write (record { raw = 1 }) 7 (5 ∷ 1 ∷ [])
 
 -- all telegrams come, and nothing is wanted
 abbrev usual : Choice
-usual = record {
-  master_restarts = false;
-  drive_restarts = false;
-  mst_comes = true;
-  whole = true;
-  checked = true;
-  showing = commands;
-  others = status;
-  at_comes = true;
-  wants = None;
-  sends = true;
-  mdt_comes = true;
-  blocks = block ∷ [];
-  commands = commands;
-  falls = false;
-  rises = false;
-}
+usual = stepping (block ∷ [])
 
 -- the master rises if it may
 abbrev rising : Choice

@@ -232,6 +232,12 @@ module _ (has_next : HasNext) (s : Known) (requests : ℕ → List Task) (h : Li
   waits : (k : ℕ) → AreWaiting (p0.waiting k)
   waits k = all_waiting s requests h wait k
 
+  settled_waits : (k : ℕ) → AreWaiting (settled_p.waiting k)
+  settled_waits k = subst AreWaiting (ap (λ (w : ℕ → List Task). w k) (sym (waiting_settled s p0))) (waits k)
+
+  idle_before : (k : ℕ) → is_idle settled_p k ≡ true → is_none (open_in (begun_by (p0.calls k))) ≡ true
+  idle_before k idle = ap (λ (calls : ℕ → List channel.Call). is_none (open_in (begun_by (calls k)))) (sym (leaves s p0).calls) ∙ idle
+
   -- PHASE 4
   pub works_in_four : ((j : ℕ) → AreNumbered (requests j)) → (k : ℕ) → k < length s.drives → (after_mdt s p0).now.phase ≡ 4 → (after_mdt s p0).stop ≡ None → is_some (after_mdt s p0).plan ≡ true → is_idle (after_mdt s p0) k ≡ true →
       still_waiting (after_mdt s p0) k ≡ []
@@ -239,9 +245,6 @@ module _ (has_next : HasNext) (s : Known) (requests : ℕ → List Task) (h : Li
     where
       in_four : p0.now.phase ≡ 4
       in_four = sym (leaves s p0).phase ∙ four
-
-      waits_so : AreWaiting (settled_p.waiting k)
-      waits_so = subst AreWaiting (ap (λ (w : ℕ → List Task). w k) (sym (waiting_settled s p0))) (waits k)
 
       ready_so : is_ready (member s k) (outcomes settled_p k) ≡ true
       ready_so = ap (λ (l : List Outcome). is_ready (member s k) l) (same_outcomes k) ∙ ready s requests h k there (rw in_four refl)
@@ -260,13 +263,10 @@ module _ (has_next : HasNext) (s : Known) (requests : ℕ → List Task) (h : Li
           has_plan None some = absurd (false≢true some)
           has_plan (Some plan) some = (plan, refl)
 
-          idle_before : is_none (open_in (begun_by (p0.calls k))) ≡ true
-          idle_before = ap (λ (calls : ℕ → List channel.Call). is_none (open_in (begun_by (calls k)))) (sym (leaves s p0).calls) ∙ rests
-
           long : length (outcomes settled_p k) ≡ reads_count (member s k) + 13 + count_requests (settled_p.tasks k)
           long =
               let same : length (outcomes settled_p k) ≡ length (outcomes p0 k) = ap (λ (l : List Outcome). length l) (same_outcomes k) in
-              let ended : length (outcomes p0 k) ≡ length (begun_by (p0.calls k)) = all_ended s k has_next p0.plan (p0.waiting k) p0.now.phase (begun_by (p0.calls k)) (p0.tasks k) (begun_then k there) idle_before in
+              let ended : length (outcomes p0 k) ≡ length (begun_by (p0.calls k)) = all_ended s k has_next p0.plan (p0.waiting k) p0.now.phase (begun_by (p0.calls k)) (p0.tasks k) (begun_then k there) (idle_before k rests) in
               let count : count_requests (p0.tasks k) + (reads_count (member s k) + 13) ≡ length (begun_by (p0.calls k)) =
               count_so s k p0.plan (p0.waiting k) numbered_so p0.now.phase (begun_by (p0.calls k)) (p0.tasks k) (begun_then k there) (ready s requests h k there (rw in_four refl)) in
               let tasks : count_requests (settled_p.tasks k) ≡ count_requests (p0.tasks k) = ap (λ (ts : ℕ → List Task). count_requests (ts k)) (settles s p0).tasks in
@@ -274,7 +274,7 @@ module _ (has_next : HasNext) (s : Known) (requests : ℕ → List Task) (h : Li
 
           empty : (o : Option Task) → slice_get (settled_p.waiting k) (count_requests (settled_p.tasks k)) ≡ o → of_phase 4 o ≡ None → slice_get (settled_p.waiting k) (count_requests (settled_p.tasks k)) ≡ None
           empty None got nothing = got
-          empty (Some t) got nothing = absurd (cc (kept t (waits_so (count_requests (settled_p.tasks k)) t got), nothing))
+          empty (Some t) got nothing = absurd (cc (kept t (settled_waits k (count_requests (settled_p.tasks k)) t got), nothing))
             where
               kept : (t : Task) → t.phase ≡ 4 → of_phase 4 (Some t) ≡ Some t
               kept t in_phase = let same : (t.phase == 4) ≡ true = grind (arith, nat_tests, in_phase) in rw same refl
@@ -299,27 +299,21 @@ module _ (has_next : HasNext) (s : Known) (requests : ℕ → List Task) (h : Li
         by false busy = still_open has_next s p0 k busy
         by true idle = opens has_next s p0 k (startup 2 more.0) (begins_so has_next s p0 k 2 more.0 free idle has_turn_so two next)
           where
-            idle_before : is_none (open_in (begun_by (p0.calls k))) ≡ true
-            idle_before = ap (λ (calls : ℕ → List channel.Call). is_none (open_in (begun_by (calls k)))) (sym (leaves s p0).calls) ∙ idle
-
             in_two : p0.now.phase ≡ 2
             in_two = sym (leaves s p0).phase ∙ two
 
             low : length (outcomes settled_p k) ≤ reads_count (member s k) + 12
             low = subst (λ (l : List Outcome). length l ≤ reads_count (member s k) + 12) (sym (same_outcomes k))
                 (not_far has_next s k p0.plan (p0.waiting k) (begun_by (p0.calls k)) (p0.tasks k) (waits k)
-                (subst (λ (n : ℕ). AreBegunTasks s k p0.plan (p0.waiting k) n (begun_by (p0.calls k)) (p0.tasks k)) in_two (begun_then k there)) idle_before (quiet_at free k there)
+                (subst (λ (n : ℕ). AreBegunTasks s k p0.plan (p0.waiting k) n (begun_by (p0.calls k)) (p0.tasks k)) in_two (begun_then k there)) (idle_before k idle) (quiet_at free k there)
                 (ap (λ (l : List Outcome). is_checked (member s k) l) (sym (same_outcomes k)) ∙ fails))
 
             more : (r : Request) × (next_in_2 s settled_p.plan k (min (length (outcomes settled_p k)) 100) (is_checked (member s k) (outcomes settled_p k)) ≡ Some r)
             more = two_more has_next s k settled_p.plan (outcomes settled_p k) (few_reads s k there lists) planned low fails
 
             next : of_phase 2 (next_task s settled_p k) ≡ Some (startup 2 more.0)
-            next = next_2 s settled_p.plan (settled_p.waiting k) k (outcomes settled_p k) (min (length (outcomes settled_p k)) 100) (is_checked (member s k) (outcomes settled_p k)) (few_reads s k there lists) settled_waits refl refl
+            next = next_2 s settled_p.plan (settled_p.waiting k) k (outcomes settled_p k) (min (length (outcomes settled_p k)) 100) (is_checked (member s k) (outcomes settled_p k)) (few_reads s k there lists) (settled_waits k) refl refl
                 ∙ ap (option_map (startup 2)) more.1
-              where
-                settled_waits : AreWaiting (settled_p.waiting k)
-                settled_waits = subst AreWaiting (ap (λ (w : ℕ → List Task). w k) (sym (waiting_settled s p0))) (waits k)
 
             has_turn_so : has_turn s settled_p k ≡ true
             has_turn_so = rw (two, turn) (let here : (k == k) ≡ true = grind (arith, nat_tests) in rw here refl)
@@ -372,23 +366,17 @@ module _ (has_next : HasNext) (s : Known) (requests : ℕ → List Task) (h : Li
         by false busy = still_open has_next s p0 k busy
         by true idle = opens has_next s p0 k (startup 3 more.0) (begins_so has_next s p0 k 3 more.0 free idle has_turn_so three next)
           where
-            idle_before : is_none (open_in (begun_by (p0.calls k))) ≡ true
-            idle_before = ap (λ (calls : ℕ → List channel.Call). is_none (open_in (begun_by (calls k)))) (sym (leaves s p0).calls) ∙ idle
-
             low : length (outcomes settled_p k) ≤ reads_count (member s k) + 13
             low = subst (λ (l : List Outcome). length l ≤ reads_count (member s k) + 13) (sym (same_outcomes k))
                 (not_further has_next s k p0.plan (p0.waiting k) (begun_by (p0.calls k)) (p0.tasks k) (waits k)
-                (subst (λ (n : ℕ). AreBegunTasks s k p0.plan (p0.waiting k) n (begun_by (p0.calls k)) (p0.tasks k)) in_three (begun_then k there)) idle_before (quiet_at free k there))
+                (subst (λ (n : ℕ). AreBegunTasks s k p0.plan (p0.waiting k) n (begun_by (p0.calls k)) (p0.tasks k)) in_three (begun_then k there)) (idle_before k idle) (quiet_at free k there))
 
             more : (r : Request) × (next_in_3 (reads_count (member s k)) (is_some settled_p.plan) (min (length (outcomes settled_p k)) 100) (is_checked (member s k) (outcomes settled_p k)) (is_ready (member s k) (outcomes settled_p k)) ≡ Some r)
             more = three_more (reads_count (member s k)) (outcomes settled_p k) (is_some settled_p.plan) _ _ (few_reads s k there lists) planned checked unready (long_enough (outcomes settled_p k) (reads_count (member s k)) checked) low
 
             next : of_phase 3 (next_task s settled_p k) ≡ Some (startup 3 more.0)
-            next = next_3 s settled_p.plan (settled_p.waiting k) k (outcomes settled_p k) (min (length (outcomes settled_p k)) 100) (is_checked (member s k) (outcomes settled_p k)) (is_ready (member s k) (outcomes settled_p k)) (few_reads s k there lists) settled_waits refl refl refl
+            next = next_3 s settled_p.plan (settled_p.waiting k) k (outcomes settled_p k) (min (length (outcomes settled_p k)) 100) (is_checked (member s k) (outcomes settled_p k)) (is_ready (member s k) (outcomes settled_p k)) (few_reads s k there lists) (settled_waits k) refl refl refl
                 ∙ ap (option_map (startup 3)) more.1
-              where
-                settled_waits : AreWaiting (settled_p.waiting k)
-                settled_waits = subst AreWaiting (ap (λ (w : ℕ → List Task). w k) (sym (waiting_settled s p0))) (waits k)
 
             has_turn_so : has_turn s settled_p k ≡ true
             has_turn_so = rw three refl

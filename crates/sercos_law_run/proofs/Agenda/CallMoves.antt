@@ -1,7 +1,8 @@
 -- With each call of the master each channel goes by moves.
-use Rattle.sercos_law_run.proofs.Words.{◌≡◌, inl, inr, ℕ, ◌<◌, Bool, true, false, not, ◌&&◌, List, [], ◌∷◌, length, refl, sym, ap, ap₂, ◌∙◌, subst, arith, if◌then◌else◌, ◌==◌, Option, Some, None, is_none, slice_index, and_parts, eqb-true, not-true, cases_eq, status_of, word_at, at_fault, begun_by, Send, Begun, last_outcome, trouble_by, Known, Task, member, is_checked, is_ready, is_done_in, is_closed, all_identified, all_checked, all_ready, Call, HearMst, HearAt, End, Restart, Past, outcomes, is_awaited, wanted_len, after_taken, after_at, place_of, is_done, after_end, settled, with_begin, with_task, begun, sent_to, is_sent_to, addressed_in, ready_to_send, past, hearing, none_troubled, no_stop_before, settles, each_passes, at_keeps, begins_next, end_keeps, settled_keeps, same_place, CallsAreMoves, GoesByMoves, AreMoves, newest, Channel, channel_at, new_channel, IsNextTask, IsDoneWith, Steps, Stays, Identifies, Hears, Plans, Begins, Moves, Within, Ends, Falls}
+use Rattle.sercos_law_run.proofs.Words.{◌≡◌, inl, inr, ℕ, ◌<◌, Bool, true, false, not, ◌&&◌, List, [], ◌∷◌, length, refl, sym, ap, ap₂, ◌∙◌, subst, arith, if◌then◌else◌, ◌==◌, Option, Some, None, is_none, slice_index, and_parts, eqb-true, not-true, cases_eq, status_of, word_at, at_fault, begun_by, Send, Begun, last_outcome, trouble_by, Known, Task, member, is_checked, is_ready, is_done_in, Call, HearMst, HearAt, End, Restart, Past, outcomes, is_awaited, wanted_len, after_taken, after_at, place_of, is_done, after_end, settled, with_begin, with_task, begun, sent_to, is_sent_to, addressed_in, ready_to_send, past, hearing, none_troubled, no_stop_before, settles, each_passes, at_keeps, begins_next, end_keeps, settled_keeps, same_place, CallsAreMoves, GoesByMoves, AreMoves, newest, Channel, channel_at, new_channel, IsNextTask, IsDoneWith, Steps, Stays, Identifies, Hears, Plans, Begins, Moves, Within, Ends, Falls}
 use Rattle.sercos_service_master.specs.Calls as channel
 use Rattle.sercos_master.specs.Annals.{Mdt, begins}
+use Rattle.sercos_law_run.proofs.Views.MasterSame.{done_below}
 
 module _ (s : Known) (k : ℕ) where
   -- an AT
@@ -110,20 +111,10 @@ module _ (s : Known) (k : ℕ) where
     -- the end of the cycle
     pub end_done : (p : Past) → is_done s p ≡ true → IsDoneWith s k (channel_at p k)
     end_done p done = record {
-      below = low p.now.phase (is_closed p) (all_identified s p) (all_checked s p) (all_ready s p) done;
+      below = done_below p.now.phase s p done;
       checked = λ two. each_passes (length s.drives) 0 (λ j. is_checked (member s j) (outcomes p j)) (subst (λ (n : ℕ). is_done_in n s p ≡ true) two done) k (omega arith) (omega (arith, there));
       ready = λ three. each_passes (length s.drives) 0 (λ j. is_ready (member s j) (outcomes p j)) (subst (λ (n : ℕ). is_done_in n s p ≡ true) three done) k (omega arith) (omega (arith, there));
     }
-      where
-        low : (n : ℕ) (w x y z : Bool) → (if n == 0 then w else (if n == 1 then x else (if n == 2 then y else ((n == 3) && z)))) ≡ true → n < 4
-        low n w x y z done = by (n == 0) (n == 1) (n == 2) (n == 3) refl refl refl refl done
-          where
-            by : (a b c d : Bool) → (n == 0) ≡ a → (n == 1) ≡ b → (n == 2) ≡ c → (n == 3) ≡ d → (if a then w else (if b then x else (if c then y else (d && z)))) ≡ true → n < 4
-            by true b c d e f g h done = let is = eqb-true n 0 e in omega (arith, is)
-            by false true c d e f g h done = let is = eqb-true n 1 f in omega (arith, is)
-            by false false true d e f g h done = let is = eqb-true n 2 g in omega (arith, is)
-            by false false false true e f g h done = let is = eqb-true n 3 h in omega (arith, is)
-            by false false false false e f g h done = absurd (cc)
 
     pub end_moves : (p : Past) → Moves s k (channel_at p k) (channel_at (after_end s p) k)
     end_moves p = end_keeps (λ q. Moves s k (channel_at p k) (channel_at q k)) s p (Falls refl)

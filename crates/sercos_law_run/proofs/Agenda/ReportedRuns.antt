@@ -2,10 +2,10 @@
 use Rattle.sercos_law_run.proofs.Words.{◌≡◌, ◌⊎◌, inl, inr, ℕ, zero, suc, ◌+◌, ◌<◌, ◌≤◌, Bool, true, false, List, [], ◌∷◌, drop, length, refl, sym, ap, ◌∙◌, subst, arith, if◌then◌else◌, Option, Some, None, is_some, is_none, option_map, slice_get, option_or, and_parts, cases_eq, Status, Step, Answer, Outcome, outcome_of, next_step, PlanView, Begun, open_in, answers_it, answer_in, with_answer, outcome_with, ready_long, ready_stays, broken_number, numbered, Report, report_of, number_in, count_requests, with_outcome, outcomes_in, Known, Task, member, reads_count, is_ready, HasNext, not_longer, end_keeps, Restart, Call, HearMst, HearAt, End, Past, settled, begun, addressed_in, ready_to_send, fall_of, goes_on, next_phase, new_epoch, still_waiting, past, task_numbers, IsAtStart, RestartsAtStart, TellsInOrder, broken_in, AreNumbered, with_told, told_at_end, told, with_number, after_told, still_to_tell, Ends, Channel, channel_at, beginning, Steps, Stays, Identifies, Hears, Plans, Begins, Moves, Within, Falls, IsTask, OfReads, OfWrites, Checks3, Lists3, Checks4, Lists4, OfWaiting, AreBegunTasks}
 use Rattle.sercos_master.specs.Annals.{Mdt}
 use Rattle.sercos_law_run.specs.Agenda.Channels.{hearing}
-use Rattle.sercos_law_run.proofs.Agenda.Requests.{numbered_drop}
 use Rattle.sercos_law_run.proofs.Agenda.AgendaTasks.{is_task}
 use Rattle.sercos_law_run.proofs.Agenda.CallMoves.{at_moves, settled_moves, begun_moves, sent_same, always}
 use Rattle.sercos_law_run.proofs.Agenda.TaskRuns.{tasks_step, all_ended}
+use Rattle.sercos_law_run.proofs.Agenda.Requests.{numbered_drop}
 
 drop_get : (tasks : List Task) (j : ℕ) (t : Task) → slice_get tasks j ≡ Some t → task_numbers (drop j tasks) ≡ t.number ∷ task_numbers (drop (suc j) tasks)
 drop_get [] j t got = absurd (cc)

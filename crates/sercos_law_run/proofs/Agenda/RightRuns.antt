@@ -1,5 +1,5 @@
 -- After any calls a request that is reported as ended was begun in this epoch, and ended so.
-use Rattle.sercos_law_run.proofs.Words.{◌≡◌, ◌⊎◌, inl, inr, ℕ, ◌<◌, Bool, true, false, List, [], ◌∷◌, length, refl, sym, ap, ◌∙◌, subst, if◌then◌else◌, Option, Some, None, option_or, Status, Answer, Outcome, outcome_of, Begun, answers_it, answer_in, with_answer, outcome_with, Known, Task, Report, report_of, number_in, numbered, Call, past, IsReportOf, Ends, Channel, channel_at, Stays, Identifies, Hears, Plans, Begins, Moves, Within, Falls}
+use Rattle.sercos_law_run.proofs.Words.{◌≡◌, ◌⊎◌, inl, inr, ℕ, ◌<◌, Bool, true, false, List, [], ◌∷◌, length, refl, sym, ap, ◌∙◌, subst, if◌then◌else◌, Option, Some, None, option_or, Status, Answer, Outcome, outcome_of, Begun, answers_it, answer_in, with_answer, outcome_with, Known, Task, Report, report_of, number_in, numbered, Call, past, IsReportOf, Ends, Channel, channel_at, Stays, Identifies, Hears, Plans, Begins, Moves, Within, Falls, same_Some}
 use Rattle.sercos_law_run.specs.Agenda.Channels.{hearing}
 use Rattle.sercos_law_run.proofs.Agenda.CallMoves.{always}
 
@@ -28,11 +28,8 @@ answer_right a (b ∷ older) (t ∷ tasks) r is = by (outcome_of b.request (a �
     by None n outcome number is = absurd (cc)
     by (Some o) None outcome number is = absurd (cc)
     by (Some o) (Some i) outcome number is =
-        let same : numbered o i ≡ r = one (numbered o i) is in
+        let same : numbered o i ≡ r = same_Some (numbered o i) r is in
         inl (number ∙ ap (λ (x : Report). Some x.number) same, outcome ∙ ap (λ (x : Report). Some x.outcome) same)
-      where
-        one : (x : Report) → Some x ≡ Some r → x ≡ r
-        one x e = cc
 
 hearing_right : (status : Status) (word : ℕ) (c : Channel) → c.report ≡ None → ReportsRight (hearing status word c)
 hearing_right status word c none r is = by (answers_it c.begun status) (sym (ap (λ (x : Option Report). option_or (report_of (if answers_it c.begun status then outcome_with (answer_in status word) c.begun else None) (number_in c.tasks)) x) none) ∙ is)

@@ -8,8 +8,8 @@ use Rattle.sercos_law_run.proofs.Agenda.AgendaTasks.{IsIn, First, After, is_in, 
 use Rattle.sercos_law_run.proofs.Agenda.TaskRuns.{begun_tasks}
 use Rattle.sercos_law_run.proofs.Agenda.WritesDone.{raw_of, IsDataWrite, DataWrite, all_data_writes}
 use Rattle.sercos_law_run.proofs.Agenda.ReadWell.{last_is}
-use Rattle.sercos_law_run.proofs.Agenda.Requests.{numbered_drop}
 use Rattle.sercos_law_run.proofs.Agenda.StopRuns.{StopsFor, OfTask, OfPlan, OfLength, stop_has_cause}
+use Rattle.sercos_law_run.proofs.Agenda.Requests.{numbered_drop}
 
 -- WHAT AN OUTCOME SAYS, by what is asked.
 pub data Says (address : ℕ) (r : Request) (o : Outcome) (x : Stop) : Type 0 where

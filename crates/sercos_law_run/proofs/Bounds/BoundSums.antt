@@ -1,12 +1,9 @@
 -- The bounds, from sums over the drives.
-use Rattle.sercos_law_run.proofs.Words.{◌≡◌, ◌⊎◌, inl, inr, ℕ, zero, suc, ◌+◌, ◌*◌, ◌≤◌, List, [], ◌∷◌, ◌++◌, length, refl, ap, arith, max, ◌∙◌, sum_by, sum, sum_by-cons, DriveView, RingView, startup_bound, startup_of, listed, greatest, slowest, read_cycles, write_cycles, command_cycles, refusal_cycles, section_cycles, recovery_bound, FewWrites, FewStatuses, IsStarted, IsRefusedEarly, IsRefusedLate, AreShort, IsReported, IsBackAtOnce, IsBackLater, AreSections, IsBelowGreatest, times_le, one_of}
+use Rattle.sercos_law_run.proofs.Words.{◌≡◌, ◌⊎◌, inl, inr, ℕ, zero, suc, ◌+◌, ◌*◌, ◌≤◌, List, [], ◌∷◌, ◌++◌, length, refl, ap, arith, max, ◌∙◌, sum_by, sum, sum_by-cons, DriveView, RingView, startup_bound, startup_of, listed, greatest, slowest, read_cycles, write_cycles, command_cycles, refusal_cycles, section_cycles, recovery_bound, FewWrites, FewStatuses, IsStarted, IsRefusedEarly, IsRefusedLate, AreShort, IsReported, IsBackAtOnce, IsBackLater, AreSections, IsBelowGreatest, times_le, one_of, times_suc}
 
 -- Products over plain numbers, each by itself, so that everything else is linear.
 pub times_sum : (p n k : ℕ) → p * (n + k) ≡ p * n + p * k
 times_sum p n k = grind arith
-
-pub times_suc : (n k : ℕ) → suc n * k ≡ n * k + k
-times_suc n k = grind arith
 
 opened_startup : (b m t : ℕ) → (b + 2) * (82 + 4 * m + 2 * t) ≡ 82 * b + 164 + 4 * (b * m) + 8 * m + 2 * (b * t) + 4 * t
 opened_startup b m t = grind arith

@@ -1,7 +1,6 @@
 -- In a cycle commanded 3 or 4 the telegrams are apart.
-use Rattle.sercos_law_run.proofs.Words.{◌≡◌, ◌⊎◌, inl, inr, ℕ, ◌+◌, ◌*◌, ◌<◌, ◌≤◌, Bool, true, false, List, [], ◌∷◌, ◌++◌, map, length, Option, Some, refl, sym, ◌∙◌, ap, ap₂, subst, arith, if◌then◌else◌, ◌==◌, nat_le, slice_index, pos, nat_tests, wire_bits, frame_of, all_drives, Job, WishesView, PlanView, record_bytes, Wish, wish_of, record_len, IsStore, store_of, DriveView, RingView, number_at, carried_len, phase_in, cycle_in, blocks_in, Said, values_in, SentView, CycleView, AtSlot, MdtSlot, IsSending, IsApart, Known, known_of, fields_length, IsStoreOf, start_up, Holds, held_by, AreSent, AllHold, Past, Sent, records_from, joint, mdt_said, Carry, Restarts, standing, stood_in, drive_at, given_mst, sent_mdt, ats_said, mst_next, ats_next, mdt_next, IsNext, at_start, behind_mdt, after_mst, view_of, views_of, IsSaid, IsSpelled, IsOpened, IsStored, takes_part, store_in_cycle, AreApartIn, stands_as_commanded}
+use Rattle.sercos_law_run.proofs.Words.{◌≡◌, ◌⊎◌, inl, inr, ℕ, ◌+◌, ◌*◌, ◌<◌, ◌≤◌, Bool, true, false, List, [], ◌∷◌, ◌++◌, map, length, Option, Some, refl, sym, ◌∙◌, ap, ap₂, subst, arith, if◌then◌else◌, ◌==◌, nat_le, slice_index, pos, nat_tests, wire_bits, frame_of, all_drives, Job, WishesView, PlanView, record_bytes, Wish, wish_of, record_len, IsStore, store_of, DriveView, RingView, number_at, carried_len, phase_in, cycle_in, blocks_in, Said, values_in, SentView, CycleView, AtSlot, MdtSlot, IsSending, IsApart, Known, known_of, fields_length, IsStoreOf, start_up, Holds, held_by, AreSent, AllHold, Past, Sent, records_from, joint, mdt_said, Carry, Restarts, standing, stood_in, drive_at, given_mst, sent_mdt, ats_said, mst_next, ats_next, mdt_next, IsNext, at_start, behind_mdt, after_mst, view_of, views_of, IsSaid, IsSpelled, IsOpened, IsStored, takes_part, store_in_cycle, AreApartIn, stands_as_commanded, wishes_of}
 use Rattle.sercos_telegram.specs.declared.layout.Kind.TheVariants as kinds
-use Rattle.sercos_block.specs.Rings.{wishes_of}
 use Rattle.sercos_law_run.proofs.Slots.Places.{length_records}
 use Rattle.sercos_law_run.proofs.Start.CheckPasses.{wish_is}
 use Rattle.sercos_law_run.proofs.Views.Members.{members_count}

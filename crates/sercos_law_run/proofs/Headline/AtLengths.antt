@@ -1,8 +1,6 @@
 -- An AT is as long as the list in its drive's store says.
-use Rattle.sercos_law_run.proofs.Words.{◌≡◌, ℕ, ◌+◌, ◌*◌, ◌%◌, Bool, true, false, not, ◌&&◌, List, [], ◌∷◌, length, Option, Some, None, refl, ◌∙◌, ap, arith, if◌then◌else◌, length-append, cond_both, ◌==◌, nat_le, option_and_then, unwrap_or, sum_by, flat_map, to_le_bytes, nat_tests, flat_map-cons, sum_by-cons, Idn, Length, Two, Four, List1, List2, List4, is_list, item_len, Block, is_number, width_of, bits_in, number_end, bytes_for, number_len, IsStore, find_block, is_sound, is_len, SoundParts-is_sound, idns_at, bytes_in_cycle, values_in, found_sound}
-use Rattle.sercos_command.specs.Checks.{cyclic_len, carried_len}
-use Rattle.sercos_service_drive.specs.Replies.{data_in}
-use Rattle.sercos_drive.specs.Says.{value_in}
+use Rattle.sercos_law_run.proofs.Words.{◌≡◌, ℕ, ◌+◌, ◌*◌, ◌%◌, Bool, true, false, not, ◌&&◌, List, [], ◌∷◌, length, Option, Some, None, refl, ◌∙◌, ap, arith, if◌then◌else◌, length-append, cond_both, ◌==◌, nat_le, option_and_then, unwrap_or, sum_by, flat_map, to_le_bytes, nat_tests, flat_map-cons, sum_by-cons, Idn, Length, Two, Four, List1, List2, List4, is_list, item_len, Block, is_number, width_of, bits_in, number_end, bytes_for, number_len, IsStore, find_block, is_sound, is_len, SoundParts-is_sound, idns_at, bytes_in_cycle, values_in, found_sound, carried_len, data_in, value_in}
+use Rattle.sercos_command.specs.Checks.{cyclic_len}
 
 number_length : (l : Length) (n : ℕ) → is_list l ≡ false → length (to_le_bytes (width_of l) n) ≡ item_len l
 number_length Two n single = refl

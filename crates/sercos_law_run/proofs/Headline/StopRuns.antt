@@ -7,7 +7,7 @@ use Rattle.sercos_law_run.proofs.Start.CheckPasses.{ring_drive}
 use Rattle.sercos_law_channel.specs.Handshake.Runs.{IsRun}
 use Rattle.sercos_law_run.proofs.Agenda.AgendaTasks.{IsIn, First, After, is_in, mapped}
 use Rattle.sercos_law_run.proofs.Agenda.ReadWell.{AllComplete, last_is}
-use Rattle.sercos_law_run.proofs.Agenda.Requests.{numbered_drop, are_requests}
+use Rattle.sercos_law_run.proofs.Agenda.Requests.{are_requests, numbered_drop}
 use Rattle.sercos_law_run.proofs.Agenda.StopCauses.{element_asked, Says, SaysRefused, SaysBad, Says127, Says128, says_so}
 use Rattle.sercos_law_run.proofs.Agenda.StopRuns.{StopsFor, OfTask, OfPlan, OfLength, stop_has_cause}
 use Rattle.sercos_law_run.proofs.Agenda.WritesDone.{raw_of, IsDataWrite, DataWrite, all_data_writes}

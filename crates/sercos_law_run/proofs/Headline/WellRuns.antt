@@ -1,5 +1,5 @@
 -- The stops that are told in a cycle.
-use Rattle.sercos_law_run.proofs.Words.{◌≡◌, ℕ, ◌<◌, Bool, true, false, List, [], ◌∷◌, length, Option, Some, None, refl, sym, ◌∙◌, ap, if◌then◌else◌, option_or, Job, IsValid, wishes_of, IsStore, store_of, RingView, blocks_in, EventsView, CycleView, Stop, member, known_of, tasks_for, Past, outcomes, restart_told, stop_told, tasks_wait, Carry, Restarts, drive_at, master_calls, looks_back, middle, no_events, IsNext, behind_mdt, after_mst, view_of, views_of, IsSpelled, IsOpened, IsStored, StopsRight, is_planned}
+use Rattle.sercos_law_run.proofs.Words.{◌≡◌, ℕ, ◌<◌, Bool, true, false, List, [], ◌∷◌, length, Option, Some, None, refl, sym, ◌∙◌, ap, if◌then◌else◌, option_or, Job, IsValid, wishes_of, IsStore, store_of, RingView, blocks_in, EventsView, CycleView, Stop, member, known_of, tasks_for, outcomes, restart_told, stop_told, tasks_wait, Carry, Restarts, drive_at, master_calls, looks_back, middle, no_events, IsNext, behind_mdt, after_mst, view_of, views_of, IsSpelled, IsOpened, IsStored, StopsRight, is_planned}
 use Rattle.sercos_trace.specs.declared.events.Stop.TheVariants as stop
 use Rattle.sercos_law_run.proofs.Settings.WellSets.{IsWellSet, well_next}
 use Rattle.sercos_law_run.proofs.Settings.NoCheck127.{stays, next_still, never_127_in}
@@ -7,25 +7,22 @@ use Rattle.sercos_law_run.proofs.Held.Runs.{AllStand, answers_at, wishes_so, pla
 use Rattle.sercos_law_run.proofs.Headline.StopRuns.{IsFollowed, valid_wishes, no_fit, no_bad_config}
 use Rattle.sercos_law_run.proofs.Agenda.Requests.{are_requests}
 
--- the stop of a cycle's events is that of the master when its MDT is sent
-told_stop : (told : Bool) (o : Option Stop) (x : Stop) → (if told then o else None) ≡ Some x → o ≡ Some x
-told_stop true o x is = is
-told_stop false o x is = cc
+-- what a cycle's events tell once is that of the master when its MDT is sent
+pub told_once : {A : Type 0} (told : Bool) (o : Option A) (x : A) → (if told then o else None) ≡ Some x → o ≡ Some x
+told_once true o x is = is
+told_once false o x is = cc
+
+pub or_none : {A : Type 0} (o : Option A) (x : A) → option_or o None ≡ Some x → o ≡ Some x
+or_none None x is = is
+or_none (Some y) x is = is
 
 pub event_stop : (r : RingView) (jobs : List Job) (carry : Carry) (restarts : Restarts) (t : CycleView) (j : List CycleView) (x : Stop) → IsNext r jobs carry restarts t j → t.events.stop ≡ Some x → (behind_mdt r jobs carry restarts t.sent j).stop ≡ Some x
 event_stop r jobs carry restarts t j x next is = by (restarts (length j) 0) (sym (ap (λ (e : EventsView). e.stop) next.events) ∙ is)
   where
-    p : Past
-    p = behind_mdt r jobs carry restarts t.sent j
-
-    which : (o : Option Stop) → option_or o None ≡ Some x → o ≡ Some x
-    which None is = cc
-    which (Some y) is = is
-
     by : (b : Bool) → option_or (stop_told (behind_mdt r jobs carry restarts t.sent j)) (if b then restart_told (known_of r) (looks_back r jobs (master_calls r carry restarts j)) no_events else no_events).stop ≡ Some x
         → (behind_mdt r jobs carry restarts t.sent j).stop ≡ Some x
-    by true is = told_stop (behind_mdt r jobs carry restarts t.sent j).now.stops (behind_mdt r jobs carry restarts t.sent j).stop x (which (stop_told (behind_mdt r jobs carry restarts t.sent j)) is)
-    by false is = told_stop (behind_mdt r jobs carry restarts t.sent j).now.stops (behind_mdt r jobs carry restarts t.sent j).stop x (which (stop_told (behind_mdt r jobs carry restarts t.sent j)) is)
+    by true is = told_once (behind_mdt r jobs carry restarts t.sent j).now.stops (behind_mdt r jobs carry restarts t.sent j).stop x (or_none (stop_told (behind_mdt r jobs carry restarts t.sent j)) x is)
+    by false is = told_once (behind_mdt r jobs carry restarts t.sent j).now.stops (behind_mdt r jobs carry restarts t.sent j).stop x (or_none (stop_told (behind_mdt r jobs carry restarts t.sent j)) x is)
 
 module _ (r : RingView) (jobs : List Job) (carry : Carry) (restarts : Restarts) (opened : IsOpened r jobs)
     (first : (k : ℕ) → k < length r.drives → IsStore (store_of (drive_at r k))) where

@@ -1,8 +1,7 @@
 -- A worked run in which each request ends once, and altered journals in which one doesn't, computed from the definitions.
-use Rattle.sercos_law_run.proofs.Words.{◌≡◌, inl, inr, ℕ, ◌+◌, ◌==◌, Bool, true, false, ◌||◌, List, [], ◌∷◌, ◌++◌, refl, sym, ◌∙◌, ap, subst, arith, flat_map, list_any, nat_le, not, ◌&&◌, and_parts, false≢true, nat_tests, Outcome, Lose, Fault, CycleView, run_of, HasOutcome, AreOnce, HasEnded, NumbersAscend}
+use Rattle.sercos_law_run.proofs.Words.{◌≡◌, inl, inr, ℕ, ◌+◌, ◌==◌, Bool, true, false, ◌||◌, List, [], ◌∷◌, ◌++◌, refl, sym, ◌∙◌, ap, subst, arith, flat_map, list_any, nat_le, not, ◌&&◌, and_parts, false≢true, nat_tests, Outcome, Lose, Fault, CycleView, run_of, HasOutcome, AreOnce, HasEnded, NumbersAscend, carried, restarts_at, acts}
 use Rattle.sercos_telegram.specs.declared.layout.Kind.TheVariants as kinds
 use Rattle.sercos_step.specs.declared.request.Outcome.TheVariants as outcome
-use Rattle.sercos_script.specs.Scripts.{carried, restarts_at, acts}
 use Rattle.sercos_law_run.proofs.Journal.Worked.{ring, fault, write, read}
 use Rattle.sercos_law_run.specs.Journal.Arrivals as Arrivals
 use Rattle.sercos_model.specs.Bits as Bits

@@ -1,7 +1,6 @@
 -- A drive that holds the plan agrees with the MDT that the master lays.
-use Rattle.sercos_law_run.proofs.Words.{◌≡◌, ℕ, zero, suc, ◌+◌, ◌<◌, true, List, [], ◌∷◌, map, length, take, Option, Some, None, refl, sym, ap, ◌∙◌, subst, arith, cond, ◌==◌, ◌||◌, Bool, false, slice_index, slice_get, unwrap_or, is_some, concat, list_all, and_parts, slice_get_within, Request, WishesView, PlanView, IsValid, Fits, positions, record_bytes, wish, Wish, Block, is_ring, record_len, is_built_in, has_block, blocks_fault, find_block, store_of, DriveView, RingView, length_wishes, data_at, number_at, carried_len, Held, held_of, wishes_given, writes, Known, known_of, IsStoreOf, start_up, Holds, held_in, AreStoredWhole, Past, outcomes, records_from, stored, View, all_writes, store_in, is_plain, start_numbers, AreHeld, holds_newest}
+use Rattle.sercos_law_run.proofs.Words.{◌≡◌, ℕ, zero, suc, ◌+◌, ◌<◌, true, List, [], ◌∷◌, map, length, take, Option, Some, None, refl, sym, ap, ◌∙◌, subst, arith, cond, ◌==◌, ◌||◌, Bool, false, slice_index, slice_get, unwrap_or, is_some, concat, list_all, and_parts, slice_get_within, Request, WishesView, PlanView, IsValid, Fits, positions, record_bytes, wish, Wish, Block, is_ring, record_len, is_built_in, has_block, blocks_fault, find_block, store_of, DriveView, RingView, length_wishes, data_at, number_at, carried_len, Held, held_of, wishes_given, writes, Known, known_of, IsStoreOf, start_up, Holds, held_in, AreStoredWhole, Past, outcomes, records_from, stored, View, all_writes, store_in, is_plain, start_numbers, AreHeld, holds_newest, wishes_of}
 use Rattle.sercos_step.specs.declared.request.Request.TheVariants as request
-use Rattle.sercos_block.specs.Rings.{wishes_of}
 use Rattle.sercos_law_run.proofs.Slots.Places.{record_place_is, length_records}
 use Rattle.sercos_law_run.specs.Start.Held.{written_by}
 use Rattle.sercos_law_run.proofs.Start.PlanNumbers.{HasNumbers, has_numbers}

@@ -1,10 +1,7 @@
 -- If there is a plan, a drive has answered the first reads as it has its elements.
-use Rattle.sercos_law_run.proofs.Words.{◌≡◌, ℕ, zero, suc, ◌<◌, Bool, true, false, not, List, [], ◌∷◌, ◌++◌, length, Option, Some, None, refl, sym, ap, ◌∙◌, subst, arith, if◌then◌else◌, append_assoc, ◌==◌, slice_get, option_map, unwrap_or, option_or, beq, same_Some, slice_get_within, Idn, is_list, Request, Outcome, outcome_of, steps_before, Job, PlanView, Block, blocks_fault, find_block, store_of, DriveView, RingView, Processed, Entry, ahs, reply_of, log_of, Write, Begun, begun_by, CycleView, idn, reads, reads_count, outcomes_in, Task, MemberView, member, known_of, tasks_for, reads_length, IsStoreOf, kept, IsAnswer, AreAnswers, Past, outcomes, Carry, Restarts, entry_behind, element_in, View, standing, stood_in, record_in, kept_in, accepted_of, all_entries, all_writes, all_begun, begun_ago, AreSound, AreSmall, AreExact, Processes, Nothing, Record, processes, drive_at, master_calls, looks_back, IsTask, OfReads, OfWrites, Checks3, Lists3, Checks4, Lists4, OfWaiting, HasEndedAt, views_of, IsStored, AreStored, runs_exact}
+use Rattle.sercos_law_run.proofs.Words.{◌≡◌, ℕ, zero, suc, ◌<◌, Bool, true, false, not, List, [], ◌∷◌, ◌++◌, length, Option, Some, None, refl, sym, ap, ◌∙◌, subst, arith, if◌then◌else◌, append_assoc, ◌==◌, slice_get, option_map, unwrap_or, option_or, beq, same_Some, slice_get_within, Idn, is_list, Request, Outcome, outcome_of, steps_before, Job, PlanView, Block, blocks_fault, find_block, store_of, DriveView, RingView, Processed, Entry, ahs, reply_of, log_of, Write, Begun, begun_by, CycleView, idn, reads, reads_count, outcomes_in, Task, MemberView, member, known_of, tasks_for, reads_length, IsStoreOf, kept, IsAnswer, AreAnswers, Past, outcomes, Carry, Restarts, entry_behind, element_in, View, standing, stood_in, record_in, kept_in, accepted_of, all_entries, all_writes, all_begun, begun_ago, AreSound, AreSmall, AreExact, Processes, Nothing, Record, processes, drive_at, master_calls, looks_back, IsTask, OfReads, OfWrites, Checks3, Lists3, Checks4, Lists4, OfWaiting, HasEndedAt, views_of, IsStored, AreStored, runs_exact, element_of, built_in, data_in}
 use Rattle.sercos_step.specs.declared.request.Request.TheVariants as request
 use Rattle.sercos_step.specs.declared.request.Outcome.TheVariants as outcome
-use Rattle.sercos_block.specs.Blocks.{element_of}
-use Rattle.sercos_block.specs.BuiltIns.{built_in}
-use Rattle.sercos_service_drive.specs.Replies.{data_in}
 use Rattle.sercos_law_run.proofs.Start.BlockFinds.{find_store_of, same_kept}
 use Rattle.sercos_law_run.proofs.Start.LimitLemmas.{kept_step}
 use Rattle.sercos_law_run.proofs.Agenda.AgendaTasks.{mapped}

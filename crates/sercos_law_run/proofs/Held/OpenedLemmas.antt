@@ -1,7 +1,6 @@
 -- A ring may be opened with requests that keep the rules of requests.
-use Rattle.sercos_law_run.proofs.Words.{◌≡◌, ℕ, drop, zero, suc, ◌+◌, ◌<◌, Bool, true, false, ◌&&◌, ◌||◌, List, [], ◌∷◌, length, Option, Some, None, refl, sym, ◌∙◌, ap, subst, arith, if◌then◌else◌, not-false, ◌==◌, slice_get, slice_index_or, IfSome, option_map, All, list_any, nat_tests, All-cons, Request, Job, IsJob, AreJobs, Block, DriveView, RingView, find_block, store_of, block_attribute, has_address, is_no_command, is_ring, Task, tasks_from, request_task, drive_at, no_drive, AreTyped, AreTypedJobs, IsTypedRequest, IsOpened, same_place}
+use Rattle.sercos_law_run.proofs.Words.{◌≡◌, ℕ, drop, zero, suc, ◌+◌, ◌<◌, Bool, true, false, ◌&&◌, ◌||◌, List, [], ◌∷◌, length, Option, Some, None, refl, sym, ◌∙◌, ap, subst, arith, if◌then◌else◌, not-false, ◌==◌, slice_get, slice_index_or, IfSome, option_map, All, list_any, nat_tests, All-cons, Request, Job, IsJob, AreJobs, Block, DriveView, RingView, find_block, store_of, block_attribute, has_address, is_no_command, is_ring, Task, tasks_from, request_task, drive_at, no_drive, AreTyped, AreTypedJobs, IsTypedRequest, IsOpened, same_place, has_other_data}
 use Rattle.sercos_step.specs.declared.request.Request.TheVariants as request
-use Rattle.sercos_block.specs.Rings.{has_other_data}
 use Rattle.sercos_law_run.proofs.Start.BlockFinds.{attribute_store_of}
 use Rattle.sercos_law_run.proofs.Start.CheckPasses.{ring_drive}
 use Rattle.sercos_law_run.proofs.Views.Members.{member_is}

@@ -1,5 +1,6 @@
 -- The phase rises only where no step is open.
-use Rattle.sercos_law_run.proofs.Words.{◌≡◌, inl, inr, ℕ, ◌+◌, ◌<◌, ◌≤◌, true, List, [], ◌∷◌, length, Option, Some, None, refl, sym, ap, ◌∙◌, subst, arith, and_parts, cases_eq, false≢true, nat_tests, Outcome, outcome_of, Begun, open_in, step_at, begun_by, PlanView, given, ended_well, reads_count, is_checked, is_ready, outcomes_in, Known, Task, member, AreWaiting, ended_there, Past, outcomes, is_done, is_done_in, all_checked, all_ready, each_passes, IsTask, OfReads, OfWrites, Checks3, Lists3, Checks4, Lists4, OfWaiting, AreBegunTasks}
+use Rattle.sercos_law_run.proofs.Words.{◌≡◌, inl, inr, ℕ, ◌+◌, ◌<◌, ◌≤◌, true, List, [], ◌∷◌, length, Option, Some, None, refl, sym, ap, ◌∙◌, subst, arith, and_parts, cases_eq, false≢true, Outcome, outcome_of, Begun, open_in, step_at, begun_by, PlanView, given, ended_well, reads_count, is_checked, is_ready, outcomes_in, Known, Task, member, AreWaiting, ended_there, Past, outcomes, is_done, is_done_in, each_passes, IsTask, OfReads, OfWrites, Checks3, Lists3, Checks4, Lists4, OfWaiting, AreBegunTasks}
+use Rattle.sercos_law_run.proofs.Views.MasterSame.{done_below}
 
 -- No request is open if the drive's part of the phase is done.
 pub record IsDoneAt (s : Known) (k phase : ℕ) (outs : List Outcome) : Type 0 where
@@ -62,16 +63,7 @@ open_none s k phase plan waiting (b ∷ older) (t ∷ tasks) waits are done = by
 
 pub rests_so : (s : Known) (p : Past) (k : ℕ) → k < length s.drives → AreWaiting (p.waiting k) → AreBegunTasks s k p.plan (p.waiting k) p.now.phase (begun_by (p.calls k)) (p.tasks k) → is_done s p ≡ true → open_in (begun_by (p.calls k)) ≡ None
 rests_so s p k below waits are done = open_none s k p.now.phase p.plan (p.waiting k) (begun_by (p.calls k)) (p.tasks k) waits are (record {
-  below = low p.now.phase done;
-  checked = λ two. each_passes (length s.drives) 0 (λ j. is_checked (member s j) (outcomes p j)) (second p.now.phase two done) k (omega arith) (omega (arith, below));
-  ready = λ three. each_passes (length s.drives) 0 (λ j. is_ready (member s j) (outcomes p j)) (third p.now.phase three done) k (omega arith) (omega (arith, below));
+  below = done_below p.now.phase s p done;
+  checked = λ two. each_passes (length s.drives) 0 (λ j. is_checked (member s j) (outcomes p j)) (subst (λ (n : ℕ). is_done_in n s p ≡ true) two done) k (omega arith) (omega (arith, below));
+  ready = λ three. each_passes (length s.drives) 0 (λ j. is_ready (member s j) (outcomes p j)) (subst (λ (n : ℕ). is_done_in n s p ≡ true) three done) k (omega arith) (omega (arith, below));
 })
-  where
-    low : (n : ℕ) → is_done_in n s p ≡ true → n < 4
-    low n is = grind (arith, nat_tests, is)
-
-    second : (n : ℕ) → n ≡ 2 → is_done_in n s p ≡ true → all_checked s p ≡ true
-    second n two is = rw two at is
-
-    third : (n : ℕ) → n ≡ 3 → is_done_in n s p ≡ true → all_ready s p ≡ true
-    third n three is = rw three at is

@@ -1,8 +1,6 @@
 -- Each request that the master begins is one that a transfer takes.
-use Rattle.sercos_law_run.proofs.Words.{◌≡◌, ℕ, zero, suc, List, [], ◌∷◌, drop, Option, Some, None, refl, sym, ap, ◌∙◌, subst, same_Some, slice_get, Idn, Request, Outcome, PlanView, Block, blocks_fault, store_of, DriveView, Begun, idn, Known, Task, member, IsSound, IsTask, OfReads, OfWrites, Checks3, Lists3, Checks4, Lists4, OfWaiting, AreBegunTasks, IsTypedRequest}
-use Rattle.sercos_idn.specs.Attributes.{attribute_of}
+use Rattle.sercos_law_run.proofs.Words.{◌≡◌, ℕ, zero, suc, List, [], ◌∷◌, drop, Option, Some, None, refl, sym, ap, ◌∙◌, subst, same_Some, slice_get, Idn, Request, Outcome, PlanView, Block, blocks_fault, store_of, DriveView, Begun, idn, Known, Task, member, IsSound, IsTask, OfReads, OfWrites, Checks3, Lists3, Checks4, Lists4, OfWaiting, AreBegunTasks, IsTypedRequest, attribute_of, built_in}
 use Rattle.sercos_step.specs.declared.request.Request.TheVariants as request
-use Rattle.sercos_block.specs.BuiltIns.{built_in}
 use Rattle.sercos_law_run.proofs.Start.BlockFinds.{find_store_of}
 use Rattle.sercos_law_run.proofs.Held.AnsweredRuns.{IsRead, Time, Attribute, is_read_request}
 use Rattle.sercos_law_run.proofs.Agenda.WritesDone.{writes_data}

@@ -1,6 +1,5 @@
 -- Where no arrival is unseen, a station hears what was sent, or nothing.
-use Rattle.sercos_law_run.proofs.Words.{◌≡◌, inl, inr, ◌⊎◌, ℕ, zero, suc, ◌<◌, Bool, true, false, not, ◌&&◌, List, [], ◌∷◌, Option, Some, None, is_none, refl, sym, ◌∙◌, ap, arith, option_and_then, is_some, IfSome, reason_of, frame_of, Passage, arrival, heard, are_same, sum_below, Carry, IsQuiet}
-use Rattle.sercos_law_run.specs.Journal.Arrivals.{content_in, is_unseen}
+use Rattle.sercos_law_run.proofs.Words.{◌≡◌, inl, inr, ◌⊎◌, ℕ, zero, suc, ◌<◌, Bool, true, false, not, ◌&&◌, List, [], ◌∷◌, Option, Some, None, is_none, refl, sym, ◌∙◌, ap, arith, option_and_then, is_some, IfSome, reason_of, frame_of, Passage, arrival, heard, are_same, sum_below, Carry, IsQuiet, content_in, is_unseen}
 
 pub same_bits : (xs ys : List Bool) → are_same xs ys ≡ true → xs ≡ ys
 same_bits [] [] same = refl

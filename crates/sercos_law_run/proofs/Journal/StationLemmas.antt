@@ -1,6 +1,5 @@
 -- The station of a drive is found by its address, since no two drives have one address.
-use Rattle.sercos_law_run.proofs.Words.{◌≡◌, ℕ, suc, zero, ◌+◌, ◌<◌, ◌≤◌, nat_le, Bool, true, false, ◌||◌, List, [], ◌∷◌, ◌++◌, length, Option, Some, None, refl, sym, ◌∙◌, ap, subst, arith, if◌then◌else◌, slice_index, slice_index_or, ◌==◌, unwrap_or, list_any, eq-eqb, leb-true, not-true, or_parts, list_any-append, DriveView, RingView, blocks_fault, DriveCall, annals, Said, drive_says, sends, no_drive, drive_at, station_from, station_of, none_of, and_left, and_right}
-use Rattle.sercos_block.specs.Rings.{has_address, has_blocks, is_drive, are_drives, has_drives, is_ring}
+use Rattle.sercos_law_run.proofs.Words.{◌≡◌, ℕ, suc, zero, ◌+◌, ◌<◌, ◌≤◌, nat_le, Bool, true, false, ◌||◌, List, [], ◌∷◌, ◌++◌, length, Option, Some, None, refl, sym, ◌∙◌, ap, subst, arith, if◌then◌else◌, slice_index, slice_index_or, ◌==◌, unwrap_or, list_any, eq-eqb, leb-true, not-true, or_parts, list_any-append, DriveView, RingView, blocks_fault, DriveCall, annals, Said, drive_says, sends, no_drive, drive_at, station_from, station_of, none_of, and_left, and_right, has_address, has_blocks, is_drive, are_drives, has_drives, is_ring}
 
 shorter : (a : ℕ) (before : List DriveView) (d : DriveView) → has_address a (before ++ d ∷ []) ≡ false → (has_address a before ≡ false) × ((d.address == a) ≡ false)
 unfolding has_address

@@ -1,9 +1,8 @@
 -- Runs of worked rings, computed from the definitions, down to the bits of each telegram.
-use Rattle.sercos_law_run.proofs.Words.{◌≡◌, ℕ, ◌+◌, ◌==◌, Bool, false, List, [], ◌∷◌, length, Option, Some, None, if◌then◌else◌, refl, ap, arith, take, drop, pos, negsuc, slice_index_or, true≢false, attribute_of, DriveView, RingView, Job, Carry, carried_clean, never_restarts, unflipped_only_cuts, Damage, Lose, Flip, Cut, Deaf, Fault, Kind, Outcome, Fall, SentView, CycleView, frame_of, IsHarmless, IsHarmlessAfterCuts, IsClear, run_of, Move, drive}
+use Rattle.sercos_law_run.proofs.Words.{◌≡◌, ℕ, ◌+◌, ◌==◌, Bool, false, List, [], ◌∷◌, length, Option, Some, None, if◌then◌else◌, refl, ap, arith, take, drop, pos, negsuc, slice_index_or, true≢false, attribute_of, DriveView, RingView, Job, Carry, carried_clean, never_restarts, unflipped_only_cuts, Damage, Lose, Flip, Cut, Deaf, Fault, Kind, Outcome, Fall, SentView, CycleView, frame_of, IsHarmless, IsHarmlessAfterCuts, IsClear, run_of, Move, drive, carried, restarts_at, acts}
 use Rattle.sercos_telegram.specs.declared.layout.Kind.TheVariants as kinds
 use Rattle.sercos_step.specs.declared.request.Request.TheVariants as request
 use Rattle.sercos_script.specs.declared.fault.Damage.TheVariants.{Restart}
-use Rattle.sercos_script.specs.Scripts.{carried, restarts_at, acts}
 use Rattle.sercos_step.specs.declared.request.Outcome.TheVariants as outcome
 use Rattle.sercos_trace.specs.declared.events.Fall.TheVariants as fall
 use Rattle.sercos_law_run.proofs.Journal.HarmlessLemmas.{cuts_are_harmless, quiet_is_harmless}

@@ -1,7 +1,6 @@
 -- A step to a drive in phase 0 makes the ring fall at its limit.
-use Rattle.sercos_law_run.proofs.Words.{◌≡◌, ℕ, ◌+◌, ◌<◌, ◌≤◌, Bool, true, false, ◌&&◌, List, [], ◌∷◌, length, Option, Some, None, refl, sym, ap, ◌∙◌, subst, arith, if◌then◌else◌, ◌==◌, nat_le, is_some, option_map, unwrap_or, min, cond-false, false≢true, nat_tests, Job, RingView, open_in, steps_in, age_of, cycles_open, CycleView, Fall, known_of, is_place, Past, count_addressed, fall_of, is_at_limit, Carry, Restarts, begun_in, epoch_begun, unless_restart, View, age_by, age_in, age_if_open, calls_in, channel_calls, open_late, drive_at, IsClear, IsRun, behind_mdt, view_of, views_of, IsOpened, ages_before_end}
+use Rattle.sercos_law_run.proofs.Words.{◌≡◌, ℕ, ◌+◌, ◌<◌, ◌≤◌, Bool, true, false, ◌&&◌, List, [], ◌∷◌, length, Option, Some, None, refl, sym, ap, ◌∙◌, subst, arith, if◌then◌else◌, ◌==◌, nat_le, is_some, option_map, unwrap_or, min, cond-false, false≢true, nat_tests, Job, RingView, open_in, steps_in, age_of, cycles_open, CycleView, Fall, known_of, is_place, Past, count_addressed, fall_of, is_at_limit, Carry, Restarts, begun_in, epoch_begun, unless_restart, View, age_by, age_in, age_if_open, calls_in, channel_calls, open_late, drive_at, IsClear, IsRun, behind_mdt, view_of, views_of, IsOpened, ages_before_end, IsViewRun}
 use Rattle.sercos_service_master.specs.Calls as channel
-use Rattle.sercos_law_channel.specs.Handshake.Runs.{IsRun as IsViewRun}
 use Rattle.sercos_law_channel.specs.Pace.ChannelCalls.{AreSent}
 use Rattle.sercos_law_run.proofs.Views.Members.{members_count}
 use Rattle.sercos_law_run.proofs.Headline.HeadlineRuns.{all_stand}

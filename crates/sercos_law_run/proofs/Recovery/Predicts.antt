@@ -1,12 +1,12 @@
 -- What a cycle reports is the planner's answer to the ring's requirements, and each stop has its cause.
-use Rattle.sercos_law_run.proofs.Words.{◌≡◌, ◌⊎◌, inl, inr, ℕ, ◌<◌, ◌≤◌, Bool, true, false, List, ◌∷◌, length, Option, Some, None, Ok, sym, ap, ◌∙◌, arith, if◌then◌else◌, option_or, cases_eq, cases_lt, Job, PlanView, planned, wishes_of, RingView, CycleView, EventsView, Stop, wishes_given, known_of, tasks_for, Past, outcomes, plan_told, restart_told, Carry, Restarts, begins, drive_at, looks_back, master_calls, middle, no_events, IsClear, IsRun, behind_mdt, view_of, views_of, IsOpened, StopsForTheCycleTime, StopsForThePlan, StopsForCause, IsPredicted, IsRing-is_ring, is_planned}
+use Rattle.sercos_law_run.proofs.Words.{◌≡◌, ◌⊎◌, inl, inr, ℕ, ◌<◌, ◌≤◌, Bool, true, false, List, ◌∷◌, length, Some, None, Ok, sym, ap, ◌∙◌, arith, if◌then◌else◌, option_or, cases_eq, cases_lt, Job, PlanView, planned, wishes_of, RingView, CycleView, EventsView, Stop, wishes_given, known_of, tasks_for, Past, outcomes, plan_told, restart_told, Carry, Restarts, begins, drive_at, looks_back, master_calls, middle, no_events, IsClear, IsRun, behind_mdt, view_of, views_of, IsOpened, StopsForTheCycleTime, StopsForThePlan, StopsForCause, IsPredicted, IsRing-is_ring, is_planned}
 use Rattle.sercos_trace.specs.declared.events.Stop.TheVariants as stop
 use Rattle.sercos_law_run.proofs.Typed.Mdts.{phase_low}
 use Rattle.sercos_law_run.proofs.Settings.NoCheck127.{next_still, stays}
 use Rattle.sercos_law_run.proofs.Held.Runs.{holding}
 use Rattle.sercos_law_run.proofs.Headline.HeadlineRuns.{all_stand, first_store, spelled_in, stored_in}
 use Rattle.sercos_law_run.proofs.Headline.StopRuns.{IsFollowed, no_plan_made}
-use Rattle.sercos_law_run.proofs.Headline.WellRuns.{event_stop}
+use Rattle.sercos_law_run.proofs.Headline.WellRuns.{event_stop, told_once, or_none}
 use Rattle.sercos_law_run.proofs.Undisturbed.JobsBegun.{asked_now, begun_then}
 use Rattle.sercos_law_run.proofs.Undisturbed.WholeRuns.{caused}
 use Rattle.sercos_law_run.proofs.Recovery.EarlyStops.{early_in}
@@ -39,21 +39,13 @@ module _ (r : RingView) (jobs : List Job) (carry : Carry) (restarts : Restarts) 
   plan_made plan has = sym (ap planned (asked plan has)) ∙ (is_planned (known_of r) (tasks_for (known_of r) jobs) (middle r carry restarts t.sent j) plan has).planned_is
 
   -- the plan of a cycle's events is that of the master when its MDT is sent
-  told_plan : (told : Bool) (o : Option PlanView) (p : PlanView) → (if told then o else None) ≡ Some p → o ≡ Some p
-  told_plan true o p is = is
-  told_plan false o p is = cc
-
   event_plan : (p : PlanView) → t.events.plan ≡ Some p → (behind_mdt r jobs carry restarts t.sent j).plan ≡ Some p
   event_plan p is = by (restarts (length j) 0) (sym (ap (λ (e : EventsView). e.plan) run.1.events) ∙ is)
     where
-      which : (o : Option PlanView) → option_or o None ≡ Some p → o ≡ Some p
-      which None is = cc
-      which (Some y) is = is
-
       by : (b : Bool) → option_or (plan_told (behind_mdt r jobs carry restarts t.sent j)) (if b then restart_told (known_of r) (looks_back r jobs (master_calls r carry restarts j)) no_events else no_events).plan ≡ Some p
           → (behind_mdt r jobs carry restarts t.sent j).plan ≡ Some p
-      by true is = told_plan (behind_mdt r jobs carry restarts t.sent j).now.plans (behind_mdt r jobs carry restarts t.sent j).plan p (which (plan_told (behind_mdt r jobs carry restarts t.sent j)) is)
-      by false is = told_plan (behind_mdt r jobs carry restarts t.sent j).now.plans (behind_mdt r jobs carry restarts t.sent j).plan p (which (plan_told (behind_mdt r jobs carry restarts t.sent j)) is)
+      by true is = told_once (behind_mdt r jobs carry restarts t.sent j).now.plans (behind_mdt r jobs carry restarts t.sent j).plan p (or_none (plan_told (behind_mdt r jobs carry restarts t.sent j)) p is)
+      by false is = told_once (behind_mdt r jobs carry restarts t.sent j).now.plans (behind_mdt r jobs carry restarts t.sent j).plan p (or_none (plan_told (behind_mdt r jobs carry restarts t.sent j)) p is)
 
   -- THE CHAIN
   followed : (k : ℕ) → k < length r.drives → IsFollowed r jobs (middle r carry restarts t.sent j) (λ i. stays (view_of r jobs carry restarts i t j) ∷ views_of r jobs carry restarts i j) k

@@ -1,16 +1,9 @@
 -- Up to phase 2, where something of a drive has begun, each drive before it in the ring has been read.
-use Rattle.sercos_law_run.proofs.Words.{◌≡◌, inl, inr, ℕ, ◌<◌, ◌≤◌, Bool, true, false, not, List, ◌∷◌, length, Option, Some, None, refl, sym, ap, ◌∙◌, arith, is_none, option_or, cases_lt, leb-true, le-leb, not-false, same_Some, Outcome, Begun, begun_by, reads_count, is_checked, is_read, outcomes_in, with_outcome, Known, MemberView, Task, member, Call, Past, outcomes, first_place, after_taken, settled, in_turn, past, each_passes, leaves, mdt_adds, at_adds, going, past_keeps, with_begun, request_of}
+use Rattle.sercos_law_run.proofs.Words.{◌≡◌, inl, inr, ℕ, ◌<◌, ◌≤◌, Bool, true, false, not, List, ◌∷◌, length, Option, Some, None, refl, sym, ap, ◌∙◌, arith, is_none, option_or, cases_lt, not-false, same_Some, Begun, begun_by, is_checked, is_read, outcomes_in, Known, Task, member, Call, Past, outcomes, first_place, after_taken, settled, in_turn, past, each_passes, leaves, mdt_adds, at_adds, going, past_keeps, with_begun, request_of, read_stays}
 use Rattle.sercos_service_master.specs.Calls as channel
 use Rattle.sercos_master.specs.Annals.{Mdt, begins}
 use Rattle.sercos_law_run.proofs.Views.MasterSame.{begun_so, turn_mdt}
-use Rattle.sercos_law_run.proofs.Undisturbed.EpochCycles.{longer}
 use Rattle.sercos_law_run.proofs.Undisturbed.InOrder.{at_leaves_count, before_first, begins_in_turn}
-
--- a drive that has been read stays so
-read_stays : (m : MemberView) (outs : List Outcome) (o : Option Outcome) → is_read m outs ≡ true → is_read m (with_outcome o outs) ≡ true
-read_stays m outs o read =
-    let had = leb-true (reads_count m) (length outs) read in
-    let more = longer o outs in le-leb (reads_count m) (length (with_outcome o outs)) (omega (arith, had, more))
 
 -- a drive that has its turn comes after drives that have been read
 turn_reads : (s : Known) (p : Past) (k : ℕ) → k < length s.drives → in_turn s p ≡ Some k → (j : ℕ) → j < k → is_read (member s j) (outcomes p j) ≡ true

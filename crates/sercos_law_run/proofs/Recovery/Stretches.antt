@@ -1,6 +1,5 @@
 -- In undisturbed cycles in which the ring doesn't fall each cycle is whole for each drive, whatever was lost before them.
-use Rattle.sercos_law_run.proofs.Words.{◌≡◌, ◌⊎◌, inl, inr, ℕ, ◌+◌, ◌<◌, ◌≤◌, true, false, List, [], ◌∷◌, ◌++◌, length, Option, None, refl, sym, ap, ◌∙◌, subst, is_some, cases_eq, Job, store_of, RingView, Begun, answers_in, open_in, CycleView, Fall, known_of, fall_of, Carry, Restarts, epoch_begun, View, standing, AreSound, ends, age_in, AreListed, AreTimed, cost_in, cost_of, AreWhole, IsDead, IsUp, IsWhole, AreClean, open_since, drive_at, IsClear, IsRun, behind_mdt, view_of, views_of, IsOpened, NoneFalls, AreUndisturbed, IsUndisturbed, views_since, IsDown, IsStretch, IsUpNow, KeepsUp, rest_in_cost, rest_since, ages_where_dead, comes_timed, is_clean_or_down, stays_dead}
-use Rattle.sercos_law_channel.specs.Handshake.Runs.{IsRun as IsViewRun}
+use Rattle.sercos_law_run.proofs.Words.{◌≡◌, ◌⊎◌, inl, inr, ℕ, ◌+◌, ◌<◌, ◌≤◌, true, false, List, [], ◌∷◌, ◌++◌, length, Option, None, refl, sym, ap, ◌∙◌, subst, is_some, cases_eq, Job, store_of, RingView, Begun, answers_in, open_in, CycleView, Fall, known_of, fall_of, Carry, Restarts, epoch_begun, View, standing, AreSound, ends, age_in, AreListed, AreTimed, cost_in, cost_of, AreWhole, IsDead, IsUp, IsWhole, AreClean, open_since, drive_at, IsClear, IsRun, behind_mdt, view_of, views_of, IsOpened, NoneFalls, AreUndisturbed, IsUndisturbed, views_since, IsDown, IsStretch, IsUpNow, KeepsUp, rest_in_cost, rest_since, ages_where_dead, comes_timed, is_clean_or_down, stays_dead, IsViewRun}
 use Rattle.sercos_law_channel.proofs.Theorems.{stands_as_commanded}
 use Rattle.sercos_law_run.proofs.Held.Runs.{small}
 use Rattle.sercos_law_run.proofs.Headline.HeadlineRuns.{all_stand, first_store}

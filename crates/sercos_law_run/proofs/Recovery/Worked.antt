@@ -1,9 +1,8 @@
 -- What a worked run reports of the plan, and of the requests that are left; and altered cycles that are rejected, computed from the
 -- definitions.
-use Rattle.sercos_law_run.proofs.Words.{◌≡◌, inl, inr, ℕ, ◌+◌, ◌≤◌, List, [], ◌∷◌, ◌++◌, length, Option, Some, None, Result, Ok, Err, refl, sym, ap, ◌∙◌, arith, option_or, PlanView, ChainView, planned, wishes_of, Lose, Fault, CycleView, fall_cycles, return_cycles, run_of, HaveTold, left_after, TellsNoFall, IsRight, AreUndisturbed, IsPredicted, ReturnsIn}
+use Rattle.sercos_law_run.proofs.Words.{◌≡◌, inl, inr, ℕ, ◌+◌, ◌≤◌, List, [], ◌∷◌, ◌++◌, length, Option, Some, None, Result, Ok, Err, refl, sym, ap, ◌∙◌, arith, option_or, PlanView, ChainView, planned, wishes_of, Lose, Fault, CycleView, fall_cycles, return_cycles, run_of, HaveTold, left_after, TellsNoFall, IsRight, AreUndisturbed, IsPredicted, ReturnsIn, carried, restarts_at, acts}
 use Rattle.sercos_telegram.specs.declared.layout.Kind.TheVariants as kinds
 use Rattle.sercos_step.specs.declared.request.Outcome.TheVariants as outcome
-use Rattle.sercos_script.specs.Scripts.{carried, restarts_at, acts}
 use Rattle.sercos_trace.specs.declared.events.Fall.TheVariants as fall
 use Rattle.sercos_trace.specs.declared.events.Stop.TheVariants as stop
 use Rattle.sercos_law_run.proofs.Journal.Worked.{ring, fault, write, read}

@@ -4,6 +4,7 @@ use Rattle.sercos_step.specs.declared.request.Request.TheVariants as request
 use Rattle.sercos_step.specs.declared.request.Outcome.TheVariants as outcome
 use Rattle.sercos_law_run.proofs.Settings.WellRuns.{well_status, complete_status}
 use Rattle.sercos_law_run.proofs.Settings.SetAtPoll.{IsSetAtPoll, set_at_poll}
+use Rattle.sercos_law_run.proofs.Undisturbed.Arriving.Small.{first_is}
 
 none_or_set : (o : Option SetCommand) → is_some o ≡ true → o ≡ None → ⊥
 none_or_set None on none = cc
@@ -19,17 +20,11 @@ module _ (blocks : List Block) where
       bytes ≡ 3 ∷ 0 ∷ []
   check_gives_3 e entries log bytes is complete well set = by (ends_with_status (idn 127) bytes blocks e entries log is complete) (set_at_poll (idn 127) blocks e entries log bytes is complete)
     where
-      tail : (x y : Entry) (xs ys : List Entry) → x ∷ xs ≡ y ∷ ys → xs ≡ ys
-      tail x y xs ys same = cc
-
-      head : (x y : Entry) (xs ys : List Entry) → x ∷ xs ≡ y ∷ ys → x ≡ y
-      head x y xs ys same = cc
-
       by : GivesStatus 127 bytes (e ∷ entries) → IsSetAtPoll 127 e entries log → bytes ≡ 3 ∷ 0 ∷ []
       by (cancel, poll, before, split, reads, element, gives) behind =
-          let here : entries ≡ poll ∷ before = tail e cancel entries (poll ∷ before) split in
+          let here : entries ≡ poll ∷ before = (first_is e cancel entries (poll ∷ before) split).1 in
           let both : behind.poll ∷ behind.before ≡ poll ∷ before = sym behind.behind ∙ here in
-          let on = subst (λ (x : Entry). is_some (find_set 127 (set_in x.processed.commands)) ≡ true) (head behind.poll poll behind.before before both) (set behind.poll behind.before behind.behind behind.newest) in
+          let on = subst (λ (x : Entry). is_some (find_set 127 (set_in x.processed.commands)) ≡ true) (first_is behind.poll poll behind.before before both).0 (set behind.poll behind.before behind.behind behind.newest) in
           let status = complete_status (idn 127) e.answer (replies_of entries) bytes (is.in_turn, is.goes_on) complete in
           elim (well_status poll.processed.commands poll.processed.cycle (well poll before here)) [
             | inl none ↦ absurd (none_or_set (find_set 127 (set_in poll.processed.commands)) on none)

@@ -3,6 +3,7 @@ use Rattle.sercos_law_run.proofs.Words.{◌≡◌, ℕ, ◌≤◌, Bool, true, f
 use Rattle.sercos_step.specs.declared.request.Request.TheVariants as request
 use Rattle.sercos_step.specs.declared.request.Outcome.TheVariants as outcome
 use Rattle.sercos_step.specs.Steps.{AreAnswers}
+use Rattle.sercos_law_run.proofs.Undisturbed.Arriving.Small.{first_is}
 
 -- if a transfer goes on, its second step wasn't refused
 second_fine : (r : Request) (x : Entry) (entries : List Entry) → AreAnswers r (replies_of (x ∷ entries)) → outcome_of r (replies_of (x ∷ entries)) ≡ None → 1 ≤ length entries → (y : Entry) × (second_of (x ∷ entries) ≡ Some y) × (y.answer.error ≡ false)
@@ -42,12 +43,9 @@ module _ (idn : Idn) (blocks : List Block) where
   pub set_at_poll : (e : Entry) (entries log : List Entry) (bytes : List ℕ) → IsTransfer (request.Command idn) blocks e entries log → outcome_of (request.Command idn) (replies_of (e ∷ entries)) ≡ Some (outcome.Complete bytes) → IsSetAtPoll idn.raw e entries log
   set_at_poll e entries log bytes is complete = by (ends_with_status idn bytes blocks e entries log is complete)
     where
-      tail : (x y : Entry) (xs ys : List Entry) → x ∷ xs ≡ y ∷ ys → xs ≡ ys
-      tail x y xs ys same = cc
-
       by : GivesStatus idn.raw bytes (e ∷ entries) → IsSetAtPoll idn.raw e entries log
       by (cancel, poll, before, split, reads, element, gives) =
-          let behind : entries ≡ poll ∷ before = tail e cancel entries (poll ∷ before) split in
+          let behind : entries ≡ poll ∷ before = (first_is e cancel entries (poll ∷ before) split).1 in
           let whole = subst (λ (l : List Entry). IsTransfer (request.Command idn) blocks e l log) behind is in
           record {
             poll = poll;

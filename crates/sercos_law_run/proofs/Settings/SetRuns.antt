@@ -1,5 +1,6 @@
 -- A procedure command is set if the newest write to it isn't 0.
 use Rattle.sercos_law_run.proofs.Words.{◌≡◌, ℕ, Bool, true, false, not, List, [], ◌∷◌, ◌++◌, refl, sym, ap, ◌∙◌, if◌then◌else◌, ◌==◌, Option, Some, None, is_some, w16, from_le_bytes, cond_both, eq-eqb, eqb-true, Block, with_data, SetCommand, is_command, ends_well, Wrote, Other, CommandHistory, with_call, find_set, without, with_set, set_in, log_of, Write, with_added, added_on, command_value, commands_with, writes_of, newest_to, written, IsSetByWrites}
+use Rattle.sercos_law_run.proofs.Undisturbed.Arriving.Small.{never_both}
 
 -- other settings stay
 find_append : (raw : ℕ) (set : List SetCommand) (s : SetCommand) → is_some (find_set raw set) ≡ true → is_some (find_set raw (set ++ s ∷ [])) ≡ true
@@ -31,13 +32,9 @@ kept_without : (raw other : ℕ) (set : List SetCommand) → (other == raw) ≡ 
 kept_without raw other [] off on = absurd (cc)
 kept_without raw other (x ∷ set) off on = by (x.idn.raw == other) (x.idn.raw == raw) refl refl on (kept_without raw other set off)
   where
-    both : (v : Bool) → v ≡ true → v ≡ false → ⊥
-    both true on off = cc
-    both false on off = cc
-
     by : (a b : Bool) → (x.idn.raw == other) ≡ a → (x.idn.raw == raw) ≡ b → is_some (if b then Some x else find_set raw set) ≡ true → (is_some (find_set raw set) ≡ true → is_some (find_set raw (without other set)) ≡ true) →
         is_some (find_set raw (if not a then x ∷ without other set else without other set)) ≡ true
-    by true true is_other is_raw on more = absurd (both (other == raw) (eq-eqb other raw (sym (eqb-true x.idn.raw other is_other) ∙ eqb-true x.idn.raw raw is_raw)) off)
+    by true true is_other is_raw on more = absurd (never_both (other == raw) (eq-eqb other raw (sym (eqb-true x.idn.raw other is_other) ∙ eqb-true x.idn.raw raw is_raw)) off)
     by true false is_other is_raw on more = more on
     by false true is_other is_raw on more = ap (λ (v : Bool). is_some (if v then Some x else find_set raw (without other set))) is_raw
     by false false is_other is_raw on more = ap (λ (v : Bool). is_some (if v then Some x else find_set raw (without other set))) is_raw ∙ more on

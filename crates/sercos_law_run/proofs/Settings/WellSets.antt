@@ -1,8 +1,5 @@
 -- In a run of a ring whose plan fits, in which nothing is unseen, each check for phase 3 is set well.
-use Rattle.sercos_law_run.proofs.Words.{◌≡◌, ℕ, ◌<◌, ◌≤◌, true, false, List, [], ◌∷◌, length, refl, ap, ◌∙◌, Option, Some, None, option_map, unwrap_or, slice_get-get_or, Attribute, Job, PlanView, IsValid, Fits, Block, is_ring, wishes_of, blocks_fault, find_block, store_of, IsStore, DriveView, RingView, is_command, open_in, begun_by, phase_in, blocks_in, CycleView, known_of, tasks_for, AreWaiting, is_done, Carry, Restarts, IsStoreOf, AreSound, AreSmall, drive_at, master_calls, looks_back, behind_mdt, after_mst, view_of, views_of, IsSpelled, HaveStores, AreSetWell, SettingsFollow}
-use Rattle.sercos_idn.specs.Codes.{attribute_fault}
-use Rattle.sercos_idn.specs.Attributes.{attribute_of}
-use Rattle.sercos_block.specs.Rings.{block_attribute, built_in_attribute, row_in, attribute_in}
+use Rattle.sercos_law_run.proofs.Words.{◌≡◌, ℕ, ◌<◌, ◌≤◌, true, false, List, [], ◌∷◌, length, refl, ap, ◌∙◌, Option, Some, None, option_map, unwrap_or, slice_get-get_or, Attribute, Job, PlanView, IsValid, Fits, Block, is_ring, wishes_of, blocks_fault, find_block, store_of, IsStore, DriveView, RingView, is_command, open_in, begun_by, phase_in, blocks_in, CycleView, known_of, tasks_for, AreWaiting, is_done, Carry, Restarts, IsStoreOf, AreSound, AreSmall, drive_at, master_calls, looks_back, behind_mdt, after_mst, view_of, views_of, IsSpelled, HaveStores, AreSetWell, SettingsFollow, attribute_fault, attribute_of, block_attribute, built_in_attribute, row_in, attribute_in}
 use Rattle.sercos_law_run.proofs.Start.BlockFinds.{same_attribute}
 use Rattle.sercos_law_run.proofs.Start.CheckPasses.{ring_drive}
 use Rattle.sercos_law_run.specs.Journal.Runs.{IsNext as IsNextCycle}

@@ -1,11 +1,7 @@
 -- From the answers of its drives the master asks of the plan what the ring asks.
-use Rattle.sercos_law_run.proofs.Words.{◌≡◌, ℕ, suc, ◌+◌, ◌<◌, ◌≤◌, ◌^◌, ◌==◌, nat_le, nat_lt, Bool, true, false, cond, List, [], ◌∷◌, ◌++◌, map, length, take, drop, Option, Some, None, IfSome, is_none, is_some, inl, inr, slice_get, option_map, option_and_then, unwrap_or, refl, sym, ◌∙◌, ap, append_assoc, arith, w16, w32, to_le_bytes, All, fold, find, list_all, list_any, option_or, and_parts, or_cases, eqb-true, leb-true, ltb-true, take-append_seam, drop-append_seam, length-map, map-append, list_any-append, All-nil, All-cons, All-tail, All-head, Attribute, Idn, attribute_word, attribute_word-below, attribute_fault-attribute_word, attribute_of-attribute_word, Outcome, Wish, Times, Block, BuiltIn, built_ins, blocks_fault, find_block, row_in, number_len, value_len, wish_of, DriveView, data_at, IsStoreOf, member_of, bytes_of, short_in, long_in, reads, words_given, len_said, len_or_none, wish_given, wishes_from, attribute_stop, element_read, IsAnswer, AreAnswers, HaveFactors, TypedHaveFactors, AsksAsRing, SaysLength, NoAttributeStops}
-use Rattle.sercos_idn.specs.Codes.{attribute_fault}
-use Rattle.sercos_idn.specs.Attributes.{attribute_of}
+use Rattle.sercos_law_run.proofs.Words.{◌≡◌, ℕ, suc, ◌+◌, ◌<◌, ◌≤◌, ◌^◌, ◌==◌, nat_le, nat_lt, Bool, true, false, cond, List, [], ◌∷◌, ◌++◌, map, length, take, drop, Option, Some, None, IfSome, is_none, is_some, inl, inr, slice_get, option_map, option_and_then, unwrap_or, refl, sym, ◌∙◌, ap, append_assoc, arith, w16, w32, to_le_bytes, All, fold, find, list_all, list_any, option_or, and_parts, or_cases, eqb-true, leb-true, ltb-true, take-append_seam, drop-append_seam, length-map, map-append, list_any-append, All-nil, All-cons, All-tail, All-head, Attribute, Idn, attribute_word, attribute_word-below, attribute_fault-attribute_word, attribute_of-attribute_word, Outcome, Wish, Times, Block, BuiltIn, built_ins, blocks_fault, find_block, row_in, number_len, value_len, wish_of, DriveView, data_at, IsStoreOf, member_of, bytes_of, short_in, long_in, reads, words_given, len_said, len_or_none, wish_given, wishes_from, attribute_stop, element_read, IsAnswer, AreAnswers, HaveFactors, TypedHaveFactors, AsksAsRing, SaysLength, NoAttributeStops, attribute_fault, attribute_of, element_of, is_typed, attribute_in, built_in_attribute, own_attribute, block_attribute, listed_len, are_cyclic, are_times, wishes_of}
 use Rattle.sercos_step.specs.declared.request.Request.TheVariants as request
-use Rattle.sercos_block.specs.Blocks.{element_of}
-use Rattle.sercos_block.specs.Stores.{is_typed}
-use Rattle.sercos_block.specs.Rings.{attribute_in, built_in_attribute, own_attribute, block_attribute, cyclic_len, listed_len, are_cyclic, are_times, wishes_of}
+use Rattle.sercos_block.specs.Rings.{cyclic_len}
 use Rattle.sercos_law_run.proofs.Start.BlockFinds.{same_attribute}
 use Rattle.sercos_law_run.proofs.Start.Lengths.{declares_times}
 use Rattle.sercos_law_run.proofs.Start.CheckPasses.{ring_drive, KeepsRules}

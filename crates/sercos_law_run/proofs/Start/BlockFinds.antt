@@ -1,10 +1,7 @@
 -- Which block of a drive's store is found by an identifier number, and with which attribute.
-use Rattle.sercos_law_run.proofs.Words.{◌≡◌, ℕ, ◌==◌, nat_lt, Bool, true, false, cond, not, ◌&&◌, ◌||◌, List, [], ◌∷◌, ◌++◌, map, length, Option, Some, None, is_none, option_map, option_and_then, refl, sym, ◌∙◌, ap, arith, list_all, option_or, and_parts, nat_tests, none_of-or, Block, BuiltIn, Field, BadBlock, DriveView, is_fixed, built_ins, is_built_in, built_in_block, has_block, block_fault, find_block, number_len, either_none, IsNew, IsNew-block_fault, is_given, kept, IsStoreOf, CarryAlike}
-use Rattle.sercos_idn.specs.Codes.{attribute_fault}
-use Rattle.sercos_block.specs.BuiltIns.{built_in}
-use Rattle.sercos_block.specs.Rules.{blocks_fault}
-use Rattle.sercos_block.specs.Stores.{inserted, with_own, store_of}
-use Rattle.sercos_block.specs.Rings.{attribute_in, row_in, built_in_attribute, own_attribute, block_attribute, cyclic_len}
+use Rattle.sercos_law_run.proofs.Words.{◌≡◌, ℕ, ◌==◌, nat_lt, Bool, true, false, cond, not, ◌&&◌, ◌||◌, List, [], ◌∷◌, ◌++◌, map, length, Option, Some, None, is_none, option_map, option_and_then, refl, sym, ◌∙◌, ap, arith, list_all, option_or, and_parts, nat_tests, none_of-or, Block, BuiltIn, Field, BadBlock, DriveView, is_fixed, built_ins, is_built_in, built_in_block, has_block, block_fault, find_block, number_len, either_none, IsNew, IsNew-block_fault, is_given, kept, IsStoreOf, CarryAlike, attribute_fault, built_in, blocks_fault, with_own, store_of, attribute_in, row_in, built_in_attribute, own_attribute, block_attribute}
+use Rattle.sercos_block.specs.Stores.{inserted}
+use Rattle.sercos_block.specs.Rings.{cyclic_len}
 
 -- if no block has the number, none is found
 nowhere : (raw : ℕ) (blocks : List Block) → has_block raw blocks ≡ false → find_block raw blocks ≡ None

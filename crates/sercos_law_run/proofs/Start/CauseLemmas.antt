@@ -1,9 +1,6 @@
 -- Which words of the master's writes in phase 2 are refused.
-use Rattle.sercos_law_run.proofs.Words.{◌≡◌, inl, inr, ℕ, suc, ◌+◌, ◌*◌, ◌<◌, ◌≤◌, ◌/◌, ◌%◌, ◌==◌, nat_lt, nat_le, Bool, true, false, not, ◌&&◌, ◌||◌, List, [], ◌∷◌, length, Option, Some, None, option_map, refl, sym, ◌∙◌, ap, arith, then_some, option_or, le-ltb, lt-leb, eq-eqb, eqb-true, eqb-false, Block, blocks_fault, find_block, store_of, DriveView, write_cause_in, kept, IsStoreOf, CausesAlike, CycleCause, NumberHasNoCause, ListHasNoCause}
+use Rattle.sercos_law_run.proofs.Words.{◌≡◌, inl, inr, ℕ, suc, ◌+◌, ◌*◌, ◌<◌, ◌≤◌, ◌/◌, ◌%◌, ◌==◌, nat_lt, nat_le, Bool, true, false, not, ◌&&◌, ◌||◌, List, [], ◌∷◌, length, Option, Some, None, option_map, refl, sym, ◌∙◌, ap, arith, then_some, option_or, le-ltb, lt-leb, eq-eqb, eqb-true, eqb-false, Block, blocks_fault, find_block, store_of, DriveView, write_cause_in, kept, IsStoreOf, CausesAlike, CycleCause, NumberHasNoCause, ListHasNoCause, attribute_of, built_in, bytes_written, write_cause}
 use Rattle.std.proofs.lemmas.Bool.{and_right}
-use Rattle.sercos_idn.specs.Attributes.{attribute_of}
-use Rattle.sercos_block.specs.BuiltIns.{built_in}
-use Rattle.sercos_service_drive.specs.Replies.{bytes_written, write_cause}
 use Rattle.sercos_law_run.proofs.Start.BlockFinds.{find_store_of, kept_field, same_kept}
 use Rattle.sercos_law_run.proofs.Start.LimitLemmas.{or_first, in_order}
 

@@ -1,8 +1,6 @@
 -- If a drive holds the start-up values of a plan that fits, its check for phase 3 finds nothing.
-use Rattle.sercos_law_run.proofs.Words.{◌≡◌, ℕ, zero, suc, ◌+◌, ◌-◌, ◌*◌, ◌<◌, ◌≤◌, ◌%◌, ◌==◌, nat_lt, nat_le, Bool, true, false, not, ◌||◌, List, [], ◌∷◌, ◌++◌, length, map, Option, Some, None, is_none, slice_get, slice_index, slice_index_or, refl, ◌∙◌, ap, subst, arith, and_parts, le-ltb, ne_eqb, or_from, leb-true, nat_tests, slice_get_within, wire_bits, Wish, Times, WishesView, PlanView, no_wish, wish, times, Fits, most_cycle, IsValid, is_address, Block, BadBlock, blocks_fault, DriveView, RingView, has_ring_numbers, has_drive_numbers, are_cyclic, has_address, is_order, record_len, wish_of, length_wishes, number_at, carried_len, listed_if, PlanPassesCheck}
-use Rattle.sercos_timing.specs.Valid.{is_cycle, is_control}
-use Rattle.sercos_block.specs.Rings.{are_ring_numbers, are_times, are_drive_numbers, has_blocks, is_drive, are_drives, has_drives, is_ring, at_len, wishes_of}
-use Rattle.sercos_command.specs.Checks.{breaks_1, breaks_2, breaks_6, breaks_7, breaks_8, breaks_9, breaks_10, breaks_15, breaks_89, unfit_for_phase_3}
+use Rattle.sercos_law_run.proofs.Words.{◌≡◌, ℕ, zero, suc, ◌+◌, ◌-◌, ◌*◌, ◌<◌, ◌≤◌, ◌%◌, ◌==◌, nat_lt, nat_le, Bool, true, false, not, ◌||◌, List, [], ◌∷◌, ◌++◌, length, map, Option, Some, None, is_none, slice_get, slice_index, slice_index_or, refl, ◌∙◌, ap, subst, arith, and_parts, le-ltb, ne_eqb, or_from, leb-true, nat_tests, slice_get_within, wire_bits, Wish, Times, WishesView, PlanView, no_wish, wish, times, Fits, most_cycle, IsValid, is_address, Block, BadBlock, blocks_fault, DriveView, RingView, has_ring_numbers, has_drive_numbers, are_cyclic, has_address, is_order, record_len, wish_of, length_wishes, number_at, carried_len, listed_if, PlanPassesCheck, is_cycle, is_control, are_ring_numbers, are_times, are_drive_numbers, has_blocks, is_drive, are_drives, has_drives, is_ring, wishes_of, breaks_1, breaks_2, breaks_6, breaks_7, breaks_8, breaks_9, breaks_10, breaks_15, breaks_89, unfit_for_phase_3}
+use Rattle.sercos_block.specs.Rings.{at_len}
 use Rattle.sercos_law_run.proofs.Start.Lengths.{number_is, are_as_long, list_fits, declares_times}
 use Rattle.sercos_law_run.proofs.Start.PlanNumbers.{HasNumbers, has_numbers}
 

@@ -1,6 +1,5 @@
 -- What no write changes of a store.
-use Rattle.sercos_law_run.proofs.Words.{◌≡◌, ℕ, ◌≤◌, ◌==◌, nat_lt, Bool, true, false, cond, not, ◌&&◌, ◌||◌, List, [], ◌∷◌, map, Option, Some, None, IfSome, option_map, unwrap_or, refl, sym, ◌∙◌, ap, arith, then_some, list_all, and_parts, nat_tests, none_of-or, none_of-then, Block, is_fixed, is_protected, has_block, find_block, with_value, with_data, write_fault, put_fault, store_of, with_data-nowhere, data_at, is_given, kept, WritesKeep, WritesHold, RefuseAlike}
-use Rattle.sercos_block.specs.Stores.{data_fault, are_ascending}
+use Rattle.sercos_law_run.proofs.Words.{◌≡◌, ℕ, ◌≤◌, ◌==◌, nat_lt, Bool, true, false, cond, not, ◌&&◌, ◌||◌, List, [], ◌∷◌, map, Option, Some, None, IfSome, option_map, unwrap_or, refl, sym, ◌∙◌, ap, arith, then_some, list_all, and_parts, nat_tests, none_of-or, none_of-then, Block, is_fixed, is_protected, has_block, find_block, with_value, with_data, write_fault, put_fault, store_of, with_data-nowhere, data_at, is_given, kept, WritesKeep, WritesHold, RefuseAlike, data_fault, are_ascending}
 use Rattle.sercos_law_run.proofs.Start.BlockFinds.{kept_field, same_kept}
 
 -- a block whose value may change

@@ -1,11 +1,5 @@
 -- Which start-up values a store holds while the master writes them, and after.
-use Rattle.sercos_law_run.proofs.Words.{◌≡◌, ℕ, zero, suc, ◌+◌, ◌*◌, ◌/◌, ◌%◌, ◌==◌, nat_lt, Bool, true, false, cond, not, ◌&&◌, List, [], ◌∷◌, ◌++◌, map, take, Option, Some, None, option_map, slice_get, slice_index, refl, sym, ◌∙◌, ap, arith, w16, to_le_bytes, list_all, if◌then◌else◌, eq-eqb, cond-true, list_any-append, list_any-IsPermutation, Idn, Attribute, is_list, words_of, bytes_in, at_least_one, PlanView, Block, is_built_in, has_block, blocks_fault, find_block, with_data, store_of, DriveView, store_of-permutes, data_at, unfit_for_phase_3, unfit_for_phase_4, list_bytes, is_command, is_set, CommandHistory, kept, IsStoreOf, Holds, start_up, command_value, blocks_with, BlocksKeep, NoneOf, StayHeld, HoldsNext, IsProtectedLater, StartUpIsProtected, ChecksAreProtected, StoresStartUpWhole, ListsStay}
-use Rattle.sercos_idn.specs.Codes.{attribute_fault}
-use Rattle.sercos_idn.specs.Attributes.{attribute_of}
-use Rattle.sercos_block.specs.BuiltIns.{built_in}
-use Rattle.sercos_block.specs.Rings.{attribute_in, row_in, built_in_attribute, block_attribute}
-use Rattle.sercos_block.specs.Stores.{are_ascending}
-use Rattle.sercos_command.specs.Calls.{with_check_list}
+use Rattle.sercos_law_run.proofs.Words.{◌≡◌, ℕ, zero, suc, ◌+◌, ◌*◌, ◌/◌, ◌%◌, ◌==◌, nat_lt, Bool, true, false, cond, not, ◌&&◌, List, [], ◌∷◌, ◌++◌, map, take, Option, Some, None, option_map, slice_get, slice_index, refl, sym, ◌∙◌, ap, arith, w16, to_le_bytes, list_all, if◌then◌else◌, eq-eqb, cond-true, list_any-append, list_any-IsPermutation, Idn, Attribute, is_list, words_of, bytes_in, at_least_one, PlanView, Block, is_built_in, has_block, blocks_fault, find_block, with_data, store_of, DriveView, store_of-permutes, data_at, unfit_for_phase_3, unfit_for_phase_4, list_bytes, is_command, is_set, CommandHistory, kept, IsStoreOf, Holds, start_up, command_value, blocks_with, BlocksKeep, NoneOf, StayHeld, HoldsNext, IsProtectedLater, StartUpIsProtected, ChecksAreProtected, StoresStartUpWhole, ListsStay, attribute_fault, attribute_of, built_in, attribute_in, row_in, built_in_attribute, block_attribute, are_ascending, with_check_list}
 use Rattle.sercos_law_run.proofs.Start.BlockFinds.{kept_idn, same_attribute}
 use Rattle.sercos_law_run.proofs.Start.KeptLemmas.{stays, writes_hold, writes_keep}
 

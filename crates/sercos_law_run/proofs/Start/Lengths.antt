@@ -1,9 +1,7 @@
 -- Numbers and lists that a drive holds, and the lengths of what its telegrams carry.
-use Rattle.sercos_law_run.proofs.Words.{◌≡◌, ℕ, ◌+◌, ◌*◌, ◌<◌, ◌/◌, ◌%◌, Bool, true, false, cond, not, ◌&&◌, List, [], ◌∷◌, Option, Some, None, is_some, option_map, unwrap_or, refl, ◌∙◌, ap, arith, list_all, fold, w16, to_le_bytes, and_parts, and_from, Idn, Block, DriveView, is_fixed, blocks_fault, find_block, store_of, cyclic_len, data_at, list_bytes, is_given, kept, IsStoreOf, AreAsLong}
-use Rattle.sercos_block.specs.BuiltIns.{built_in}
-use Rattle.sercos_block.specs.Rings.{listed_len, are_cyclic}
+use Rattle.sercos_law_run.proofs.Words.{◌≡◌, ℕ, ◌+◌, ◌*◌, ◌<◌, ◌/◌, ◌%◌, Bool, true, false, cond, not, ◌&&◌, List, [], ◌∷◌, Option, Some, None, is_some, option_map, unwrap_or, refl, ◌∙◌, ap, arith, list_all, fold, w16, to_le_bytes, and_parts, and_from, Idn, Block, DriveView, is_fixed, blocks_fault, find_block, store_of, cyclic_len, data_at, list_bytes, is_given, kept, IsStoreOf, AreAsLong, built_in, listed_len, are_cyclic, idns_at, carried_len, breaks_list}
 use Rattle.sercos_command.specs.Checks as checks
-use Rattle.sercos_command.specs.Checks.{number_at, idns_in, idns_at, carried_len, breaks_list}
+use Rattle.sercos_command.specs.Checks.{number_at, idns_in}
 use Rattle.sercos_law_run.proofs.Start.BlockFinds.{find_store_of, same_kept, carry_alike}
 use Rattle.sercos_law_run.proofs.Start.LimitLemmas.{or_first}
 

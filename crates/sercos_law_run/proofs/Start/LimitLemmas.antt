@@ -1,11 +1,5 @@
 -- Which blocks can be outside their limits, and which of the start-up values can be refused.
-use Rattle.sercos_law_run.proofs.Words.{◌≡◌, ◌↔◌, ℕ, ◌+◌, ◌*◌, ◌/◌, ◌<◌, ◌≤◌, ◌%◌, ◌==◌, nat_lt, Bool, true, false, cond, not, ◌&&◌, ◌||◌, List, [], ◌∷◌, map, length, Option, Some, None, option_map, refl, sym, ◌∙◌, ap, arith, slice_index, then_some, w16, to_le_bytes, list_all, list_any, filter, option_or, and_parts, le-ltb, eq-eqb, eqb-true, or_from, nat_tests, Idn, Block, BuiltIn, Opening, CycleTime, built_ins, is_built_in, built_in_block, opening_limit, blocks_fault, find_block, put_fault, store_of, DriveView, data_at, is_outside, list_bytes, kept, IsStoreOf, RefusesCycle, TakesStartUp, is_own_outside, NamesOwn, PassesForPhase4, BuiltInIsSteady}
-use Rattle.sercos_idn.specs.Attributes.{attribute_of}
-use Rattle.sercos_block.specs.BuiltIns.{built_in}
-use Rattle.sercos_block.specs.Stores.{data_fault, are_ascending}
-use Rattle.sercos_block.specs.Rings.{row_in}
-use Rattle.sercos_command.specs.Checks.{unfit_for_phase_4}
-use Rattle.sercos_service_drive.specs.Replies.{data_in}
+use Rattle.sercos_law_run.proofs.Words.{◌≡◌, ◌↔◌, ℕ, ◌+◌, ◌*◌, ◌/◌, ◌<◌, ◌≤◌, ◌%◌, ◌==◌, nat_lt, Bool, true, false, cond, not, ◌&&◌, ◌||◌, List, [], ◌∷◌, map, length, Option, Some, None, option_map, refl, sym, ◌∙◌, ap, arith, slice_index, then_some, w16, to_le_bytes, list_all, list_any, filter, option_or, and_parts, le-ltb, eq-eqb, eqb-true, or_from, nat_tests, Idn, Block, BuiltIn, Opening, CycleTime, built_ins, is_built_in, built_in_block, opening_limit, blocks_fault, find_block, put_fault, store_of, DriveView, data_at, is_outside, list_bytes, kept, IsStoreOf, RefusesCycle, TakesStartUp, is_own_outside, NamesOwn, PassesForPhase4, BuiltInIsSteady, attribute_of, built_in, data_fault, are_ascending, row_in, unfit_for_phase_4, data_in}
 use Rattle.sercos_law_run.proofs.Start.BlockFinds.{find_store_of, find_built_in, kept_field, same_kept}
 use Rattle.sercos_law_run.proofs.Start.KeptLemmas.{refuse_alike}
 

@@ -1,6 +1,5 @@
 -- Which of a drive's own blocks are outside their limits, during the start-up.
-use Rattle.sercos_law_run.proofs.Words.{◌≡◌, ℕ, ◌==◌, Bool, true, false, cond, not, ◌&&◌, ◌||◌, List, [], ◌∷◌, ◌++◌, None, refl, sym, ◌∙◌, ap, list_any, filter, eqb-true, list_any-append, list_any-IsPermutation, Block, is_built_in, has_block, blocks_fault, with_data, store_of, DriveView, either_none, store_of-permutes, is_outside, is_command, CommandHistory, with_check_list, command_value, is_own_outside, OwnStay, OwnAtOpening}
-use Rattle.sercos_block.specs.BuiltIns.{built_in}
+use Rattle.sercos_law_run.proofs.Words.{◌≡◌, ℕ, ◌==◌, Bool, true, false, cond, not, ◌&&◌, ◌||◌, List, [], ◌∷◌, ◌++◌, None, refl, sym, ◌∙◌, ap, list_any, filter, eqb-true, list_any-append, list_any-IsPermutation, Block, is_built_in, has_block, blocks_fault, with_data, store_of, DriveView, either_none, store_of-permutes, is_outside, is_command, CommandHistory, with_check_list, command_value, is_own_outside, OwnStay, OwnAtOpening, built_in}
 use Rattle.sercos_law_run.proofs.Start.BlockFinds.{first_is_new}
 use Rattle.sercos_law_run.proofs.Start.LaterLemmas.{after_check}
 

@@ -1,6 +1,5 @@
 -- The time slots of a ring whose drives hold one plan are apart.
-use Rattle.sercos_law_run.proofs.Words.{◌≡◌, ℕ, zero, suc, ◌+◌, ◌*◌, ◌<◌, ◌≤◌, Bool, true, false, cond, List, [], ◌∷◌, map, length, Some, None, slice_get, slice_index_or, refl, sym, ◌∙◌, ap, arith, cond-true, wire_bits, Wish, PlanView, at_bits, record_bytes, IsValid, Fits, Block, is_ring, record_len, wish_of, RingView, DriveView, number_at, carried_len, AtSlot, MdtSlot, Held, IsAtItsTime, held_of, AreOnPlan, held_in, held_by, AreSent, AllHold, RingKeepsApart, RingSendsApart}
-use Rattle.sercos_block.specs.Rings.{wishes_of}
+use Rattle.sercos_law_run.proofs.Words.{◌≡◌, ℕ, zero, suc, ◌+◌, ◌*◌, ◌<◌, ◌≤◌, Bool, true, false, cond, List, [], ◌∷◌, map, length, Some, None, slice_get, slice_index_or, refl, sym, ◌∙◌, ap, arith, cond-true, wire_bits, Wish, PlanView, at_bits, record_bytes, IsValid, Fits, Block, is_ring, record_len, wish_of, RingView, DriveView, number_at, carried_len, AtSlot, MdtSlot, Held, IsAtItsTime, held_of, AreOnPlan, held_in, held_by, AreSent, AllHold, RingKeepsApart, RingSendsApart, wishes_of}
 use Rattle.sercos_law_run.proofs.Slots.SlotLemmas.{keeps_apart}
 use Rattle.sercos_law_run.proofs.Slots.SendingLemmas.{sends_slots}
 use Rattle.sercos_law_run.proofs.Start.Lengths.{are_as_long}
@@ -26,7 +25,7 @@ lengths : (r : RingView) → map record_len r.drives ≡ map (λ (d : Wish). d.r
 unfolding wishes_of
 lengths r = lengths_from r.drives
 
-rate_is : (r : RingView) → (wishes_of r).rate ≡ r.rate
+pub rate_is : (r : RingView) → (wishes_of r).rate ≡ r.rate
 unfolding wishes_of
 rate_is r = refl
 

@@ -1,7 +1,6 @@
 -- A ring's wishes are valid, and how the checks end.
-use Rattle.sercos_law_run.proofs.Words.{◌≡◌, ℕ, suc, ◌+◌, ◌*◌, ◌/◌, ◌%◌, ◌<◌, ◌≤◌, ◌==◌, Bool, true, false, cond, List, [], ◌∷◌, map, take, length, Option, Some, None, slice_get, option_and_then, unwrap_or, refl, ap, arith, fold, filter, All, eqb-true, take_all, All-cons, All-nil, Idn, Attribute, Length, Two, Four, List1, List2, List4, item_len, Block, is_number, DriveView, HasLens, number_len, block_attribute, value_len, wish_of, IsValid-wishes_of, breaks_1, breaks_2, breaks_6, breaks_7, breaks_8, breaks_9, breaks_10, breaks_15, breaks_list, breaks_89, listed_if, list_bytes, is_outside, idns_in, RingIsValid, ChecksEndWell, StopsWithList}
-use Rattle.sercos_block.specs.Rings.{cyclic_len, listed_len}
-use Rattle.sercos_command.specs.Checks.{unfit_for_phase_3, unfit_for_phase_4}
+use Rattle.sercos_law_run.proofs.Words.{◌≡◌, ℕ, suc, ◌+◌, ◌*◌, ◌<◌, ◌≤◌, ◌==◌, Bool, true, false, cond, List, [], ◌∷◌, map, take, length, Option, Some, None, slice_get, option_and_then, unwrap_or, refl, ap, arith, fold, filter, All, eqb-true, take_all, All-cons, All-nil, Idn, Attribute, Length, Two, Four, List1, List2, List4, item_len, Block, is_number, DriveView, HasLens, number_len, block_attribute, value_len, wish_of, IsValid-wishes_of, breaks_1, breaks_2, breaks_6, breaks_7, breaks_8, breaks_9, breaks_10, breaks_15, breaks_list, breaks_89, listed_if, list_bytes, is_outside, idns_in, RingIsValid, ChecksEndWell, StopsWithList, listed_len, unfit_for_phase_3, unfit_for_phase_4, ◌/◌, ◌%◌}
+use Rattle.sercos_block.specs.Rings.{cyclic_len}
 use Rattle.sercos_trace.specs.declared.events.Stop.TheVariants as stop
 use Rattle.sercos_law_run.proofs.Start.CheckPasses.{plan_passes_check, ring_drive, fit_in_ring}
 use Rattle.sercos_law_run.proofs.Start.LimitLemmas.{passes_for_phase_4}

@@ -1,16 +1,11 @@
 -- A worked start-up: two drives, each with one block of its own, which is in both lists.
-use Rattle.sercos_law_run.proofs.Words.{◌≡◌, ℕ, zero, suc, ◌+◌, ◌*◌, ◌<◌, ◌≤◌, inl, true, false, List, [], ◌∷◌, ◌++◌, map, length, Some, None, slice_get, refl, subst, arith, All, All-cons, All-nil, wire_bits, Idn, Request, Outcome, PlanView, IsValid, Fits, fits_from, Block, with_data, DriveView, RingView, record_len, unfit_for_phase_3, member_of, known_of, idn, declared_times, reads, wishes_given, AtSlot, MdtSlot, AreApart, IsSentBefore, IsStoreOf, Holds, start_up, element_read, AreAnswers, HaveFactors, held_by, AreSent, AllHold}
-use Rattle.sercos_idn.specs.Codes.{attribute_fault}
-use Rattle.sercos_idn.specs.Attributes.{attribute_of}
+use Rattle.sercos_law_run.proofs.Words.{◌≡◌, ℕ, zero, suc, ◌+◌, ◌*◌, ◌<◌, ◌≤◌, inl, true, false, List, [], ◌∷◌, ◌++◌, map, length, Some, None, slice_get, refl, subst, arith, All, All-cons, All-nil, wire_bits, Idn, Request, Outcome, PlanView, IsValid, Fits, fits_from, Block, with_data, DriveView, RingView, record_len, unfit_for_phase_3, member_of, known_of, idn, declared_times, reads, wishes_given, AtSlot, MdtSlot, AreApart, IsSentBefore, IsStoreOf, Holds, start_up, element_read, AreAnswers, HaveFactors, held_by, AreSent, AllHold, attribute_fault, attribute_of, is_rate, is_cycle, is_control, built_in, block_fault, blocks_fault, with_own, store_of, are_ring_numbers, are_times, are_drive_numbers, has_blocks, attribute_in, row_in, built_in_attribute, own_attribute, block_attribute, are_cyclic, has_address, is_drive, are_drives, is_turn, are_turns, is_order, mdt_len, listed_len, has_drives, is_ring, wishes_of, idns_at, carried_len}
 use Rattle.sercos_step.specs.declared.request.Request.TheVariants as request
 use Rattle.sercos_step.specs.declared.request.Outcome.TheVariants as outcome
-use Rattle.sercos_timing.specs.Valid.{is_rate, is_cycle, is_control}
 use Rattle.sercos_timing.specs.FirstBroken.{first_broken, broken_by, broken_position}
-use Rattle.sercos_block.specs.BuiltIns.{built_in}
-use Rattle.sercos_block.specs.Rules.{block_fault, blocks_fault}
-use Rattle.sercos_block.specs.Stores.{inserted, with_own, store_of}
-use Rattle.sercos_block.specs.Rings.{are_ring_numbers, are_times, are_drive_numbers, has_blocks, attribute_in, row_in, built_in_attribute, own_attribute, block_attribute, cyclic_len, are_cyclic, has_address, is_drive, are_drives, is_turn, are_turns, is_order, mdt_len, listed_len, has_drives, is_ring, wishes_of}
-use Rattle.sercos_command.specs.Checks.{number_at, idns_at, carried_len}
+use Rattle.sercos_block.specs.Stores.{inserted}
+use Rattle.sercos_block.specs.Rings.{cyclic_len}
+use Rattle.sercos_command.specs.Checks.{number_at}
 use Rattle.sercos_law_run.proofs.Slots.Worked.{slot, each_two, pair_of_two}
 use Rattle.sercos_law_run.proofs.Start.CheckPasses.{plan_passes_check}
 use Rattle.sercos_law_run.proofs.Start.WellLemmas.{ring_is_valid}

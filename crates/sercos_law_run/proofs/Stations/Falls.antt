@@ -1,7 +1,6 @@
 -- Why a ring falls, by what arrived at the master in its last cycles.
-use Rattle.sercos_law_run.proofs.Words.{◌≡◌, ℕ, zero, suc, ◌+◌, ◌<◌, ◌≤◌, ◌==◌, Bool, true, false, not, ◌&&◌, List, [], ◌∷◌, length, Option, Some, None, refl, sym, ◌∙◌, ap, subst, arith, if◌then◌else◌, nat_le, min, is_some, is_none, option_map, slice_index, unwrap_or, then_some, option_or, and_parts, false_from_ne_true, false≢true, not-true, nat_tests, at_fault, Layout, Address, Outcome, Job, RingView, answer_in, answers_it, open_in, with_answer, Begin, Send, Hear, EndCycle, age_of, begun_by, cycles_open, at_len, is_place, outcomes_in, Known, MemberView, known_of, member, tasks_for, Past, Turn, Call, after_at, after_at_of, after_taken, count_addressed, fall_at, fall_of, first_place, goes_on, has_lost_at, has_lost_mst, is_at_limit, is_done, is_mst, is_taken, new_epoch, next_phase, outcomes, place_of, still_waiting, restart_told, CycleView, EventsView, Fall, MstLost, AtLost, StepLimit, Carry, Restarts, heard, passage, mst_in, ats_in, IsRun, IsNext, at_calls, begins, drive_at, looks_back, master_calls, middle, no_events, own_mst, station_of, with_at, at_start, behind_ats, behind_mdt, behind_mst, IsOpened, AreTo, FallsHaveCause, HasCause, Identification, IsLate, IsOpenFor, MissesAt, MissesMst, MstComesFirst, NoneReads, NoneReadsIn, comes_back, was_sent, first_found}
+use Rattle.sercos_law_run.proofs.Words.{◌≡◌, ℕ, zero, suc, ◌+◌, ◌<◌, ◌≤◌, ◌==◌, Bool, true, false, not, ◌&&◌, List, [], ◌∷◌, length, Option, Some, None, refl, sym, ◌∙◌, ap, subst, arith, if◌then◌else◌, nat_le, min, is_some, is_none, option_map, slice_index, unwrap_or, then_some, option_or, and_parts, false_from_ne_true, false≢true, not-true, nat_tests, at_fault, Layout, Address, Outcome, Job, RingView, answer_in, answers_it, open_in, with_answer, Begin, Send, Hear, EndCycle, age_of, begun_by, cycles_open, at_len, is_place, outcomes_in, Known, MemberView, known_of, member, tasks_for, Past, Turn, Call, after_at, after_at_of, after_taken, count_addressed, fall_at, fall_of, first_place, goes_on, has_lost_at, has_lost_mst, is_at_limit, is_done, is_mst, is_taken, new_epoch, next_phase, outcomes, place_of, still_waiting, restart_told, CycleView, EventsView, Fall, MstLost, AtLost, StepLimit, Carry, Restarts, heard, passage, mst_in, ats_in, IsRun, IsNext, at_calls, begins, drive_at, looks_back, master_calls, middle, no_events, own_mst, station_of, with_at, at_start, behind_ats, behind_mdt, behind_mst, IsOpened, AreTo, FallsHaveCause, HasCause, Identification, IsLate, IsOpenFor, MissesAt, MissesMst, MstComesFirst, NoneReads, NoneReadsIn, comes_back, was_sent, first_found, head_fault}
 use Rattle.std.proofs.Common.{eq-eqb}
-use Rattle.sercos_telegram.specs.Faults.{head_fault}
 use Rattle.sercos_telegram.specs.declared.layout.Layout.TheVariants.{Length}
 use Rattle.sercos_telegram.specs.declared.layout.Kind.TheVariants as kinds
 use Rattle.sercos_service_master.specs.Calls as channel

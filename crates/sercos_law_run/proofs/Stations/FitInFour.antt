@@ -1,10 +1,5 @@
 -- In phase 4 no block of a drive has operation data outside its limits.
-use Rattle.sercos_law_run.proofs.Words.{◌≡◌, ℕ, ◌≤◌, ◌==◌, nat_lt, Bool, true, false, cond, not, ◌&&◌, ◌||◌, List, [], ◌∷◌, map, length, Option, Some, None, IfSome, refl, sym, ◌∙◌, ap, ap₂, subst, arith, if◌then◌else◌, option_map, list_all, filter, and_parts, false≢true, nat_tests, none_of-or, Attribute, Block, is_number, blocks_fault, find_block, with_data, write_fault, data_fault, put_fault, is_below, is_above, DriveView, with_data-nowhere, is_outside, is_passed-kept, may_rise, FitInFour}
-use Rattle.sercos_idn.specs.Attributes.{attribute_of}
-use Rattle.sercos_idn.specs.Codes.{attribute_fault}
-use Rattle.sercos_block.specs.Rings.{attribute_in, row_in, built_in_attribute, block_attribute}
-use Rattle.sercos_block.specs.Stores.{are_ascending}
-use Rattle.sercos_command.specs.Checks.{unfit_for_phase_4}
+use Rattle.sercos_law_run.proofs.Words.{◌≡◌, ℕ, ◌≤◌, ◌==◌, nat_lt, Bool, true, false, cond, not, ◌&&◌, ◌||◌, List, [], ◌∷◌, map, length, Option, Some, None, IfSome, refl, sym, ◌∙◌, ap, ap₂, subst, arith, if◌then◌else◌, option_map, list_all, filter, and_parts, false≢true, nat_tests, none_of-or, Attribute, Block, is_number, blocks_fault, find_block, with_data, write_fault, data_fault, put_fault, is_below, is_above, DriveView, with_data-nowhere, is_outside, is_passed-kept, may_rise, FitInFour, attribute_of, attribute_fault, attribute_in, row_in, built_in_attribute, block_attribute, are_ascending, unfit_for_phase_4}
 use Rattle.sercos_drive.specs.Moments.{calls_in}
 use Rattle.sercos_law_run.proofs.Undisturbed.Checks.OwnInside.{within}
 use Rattle.sercos_law_run.proofs.Start.BlockFinds.{same_attribute}

@@ -1,9 +1,6 @@
 -- In phases 3 and 4 the check for phase 3 finds nothing in a drive's store.
-use Rattle.sercos_law_run.proofs.Words.{◌≡◌, ℕ, ◌+◌, ◌≤◌, ◌==◌, Bool, true, false, ◌&&◌, List, [], ◌∷◌, Option, Some, None, refl, sym, ◌∙◌, ap, ap₂, subst, arith, if◌then◌else◌, is_some, option_map, unwrap_or, then_some, list_all, sum_by, false≢true, nat_tests, sum_by-cons, none_of-or, none_of-then, other_place, Idn, Attribute, Block, is_fixed, is_protected, blocks_fault, find_block, with_data, write_fault, data_fault, put_fault, DriveView, data_at, is_cyclic, is_command, is_passed-kept, may_rise, IsStoreOf, FitInThree}
-use Rattle.sercos_idn.specs.Attributes.{attribute_of}
-use Rattle.sercos_idn.specs.Codes.{attribute_fault}
-use Rattle.sercos_block.specs.Rings.{attribute_in, row_in, built_in_attribute, block_attribute}
-use Rattle.sercos_command.specs.Checks.{number_at, idns_at, cyclic_len, carried_len, breaks_1, breaks_2, breaks_6, breaks_7, breaks_8, breaks_9, breaks_10, breaks_15, breaks_list, breaks_89, unfit_for_phase_3}
+use Rattle.sercos_law_run.proofs.Words.{◌≡◌, ℕ, ◌+◌, ◌≤◌, ◌==◌, Bool, true, false, ◌&&◌, List, [], ◌∷◌, Option, Some, None, refl, sym, ◌∙◌, ap, ap₂, subst, arith, if◌then◌else◌, is_some, option_map, unwrap_or, then_some, list_all, sum_by, false≢true, nat_tests, sum_by-cons, none_of-or, none_of-then, other_place, Idn, Attribute, Block, is_fixed, is_protected, blocks_fault, find_block, with_data, write_fault, data_fault, put_fault, DriveView, data_at, is_cyclic, is_command, is_passed-kept, may_rise, IsStoreOf, FitInThree, attribute_of, attribute_fault, attribute_in, row_in, built_in_attribute, block_attribute, idns_at, carried_len, breaks_1, breaks_2, breaks_6, breaks_7, breaks_8, breaks_9, breaks_10, breaks_15, breaks_list, breaks_89, unfit_for_phase_3}
+use Rattle.sercos_command.specs.Checks.{number_at, cyclic_len}
 use Rattle.sercos_drive.specs.Moments.{calls_in}
 use Rattle.sercos_law_run.proofs.Start.BlockFinds.{carry_alike, same_attribute}
 use Rattle.sercos_law_run.proofs.Start.KeptLemmas.{stays, writes_keep}

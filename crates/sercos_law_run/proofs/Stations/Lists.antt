@@ -1,9 +1,5 @@
 -- What a drive's lists of invalid operation data contain.
-use Rattle.sercos_law_run.proofs.Words.{◌≡◌, ℕ, ◌==◌, Bool, true, false, not, ◌&&◌, List, [], ◌∷◌, Option, Some, None, IfSome, refl, sym, ◌∙◌, subst, arith, if◌then◌else◌, option_map, unwrap_or, then_some, cond_both, false≢true, nat_tests, option_or, none_of-or, none_of-then, to_cancel, Block, is_fixed, is_protected, built_in_block, built_ins, blocks_fault, has_block, find_block, with_data, write_fault, data_fault, put_fault, are_ascending, store_of, DriveView, data_at, list_bytes, unfit_for_phase_3, unfit_for_phase_4, is_command, CommandCall, Wrote, Other, Reset, is_set, CommandHistory, Write, added_on, command_value, blocks_with, calls_with, allowed, Told, DriveCall, Mst, Mdt, mst_got, mdt_got, Moment, phase_in, records_in, blocks_in, blocks_after, calls_after, with_reset, annals, stands_in, ends_in, IsStoreOf, found_for_3, found_for_4, ListsAreFound}
-use Rattle.sercos_idn.specs.Attributes.{attribute_of}
-use Rattle.sercos_idn.specs.Codes.{attribute_fault}
-use Rattle.sercos_block.specs.Rings.{attribute_in, row_in, built_in_attribute, block_attribute}
-use Rattle.sercos_command.specs.Calls.{with_check_list}
+use Rattle.sercos_law_run.proofs.Words.{◌≡◌, ℕ, ◌==◌, Bool, true, false, not, ◌&&◌, List, [], ◌∷◌, Option, Some, None, IfSome, refl, sym, ◌∙◌, subst, arith, if◌then◌else◌, option_map, unwrap_or, then_some, cond_both, false≢true, nat_tests, option_or, none_of-or, none_of-then, to_cancel, Block, is_fixed, is_protected, built_in_block, built_ins, blocks_fault, has_block, find_block, with_data, write_fault, data_fault, put_fault, are_ascending, store_of, DriveView, data_at, list_bytes, unfit_for_phase_3, unfit_for_phase_4, is_command, CommandCall, Wrote, Other, Reset, is_set, CommandHistory, Write, added_on, command_value, blocks_with, calls_with, allowed, Told, DriveCall, Mst, Mdt, mst_got, mdt_got, Moment, phase_in, records_in, blocks_in, blocks_after, calls_after, with_reset, annals, stands_in, ends_in, IsStoreOf, found_for_3, found_for_4, ListsAreFound, attribute_of, attribute_fault, attribute_in, row_in, built_in_attribute, block_attribute, with_check_list}
 use Rattle.sercos_drive.specs.Heard.{Restart}
 use Rattle.sercos_drive.specs.Moments.{calls_in}
 use Rattle.sercos_drive.specs.Annals.{processed_in}

@@ -1,9 +1,7 @@
 -- Which drive sends in the phases 0 to 2.
-use Rattle.sercos_law_run.proofs.Words.{◌≡◌, ◌⊎◌, inl, inr, ℕ, zero, suc, ◌+◌, ◌<◌, ◌≤◌, ◌==◌, Bool, true, false, not, ◌&&◌, ◌||◌, List, [], ◌∷◌, length, Option, Some, None, refl, sym, ◌∙◌, ap, subst, arith, if◌then◌else◌, nat_le, is_some, is_none, slice_index, then_some, option_or, and_parts, false≢true, nat_tests, Address, Job, Block, DriveView, RingView, Told, DriveCall, Mst, Mdt, mst_got, mdt_got, joint_in, told_at, Moment, phase_in, has_mst, has_taken, has_missed, blocks_in, annals, may_rise, stands_in, takes, Said, drive_says, sends, CycleView, known_of, tasks_for, Sent, mdt_said, Carry, Restarts, heard, passage, unseen_at, sum_below, mst_in, ats_in, mdt_in, IsRun, IsNext, IsClear, begins, content_of, contents, drive_at, given_before, given_mst, mdt_heard, said_below, unseen_ats, unseen_mdt, unseen_mst, with_restart, with_said, at_start, behind_mdt, IsSpelled, SpelledNext, IsOpened, SendsAlone}
+use Rattle.sercos_law_run.proofs.Words.{◌≡◌, ◌⊎◌, inl, inr, ℕ, zero, suc, ◌+◌, ◌<◌, ◌≤◌, ◌==◌, Bool, true, false, not, ◌&&◌, ◌||◌, List, [], ◌∷◌, length, Option, Some, None, refl, sym, ◌∙◌, ap, subst, arith, if◌then◌else◌, nat_le, is_some, is_none, slice_index, then_some, option_or, and_parts, false≢true, nat_tests, Address, Job, Block, DriveView, RingView, Told, DriveCall, Mst, Mdt, mst_got, mdt_got, joint_in, told_at, Moment, phase_in, has_mst, has_taken, has_missed, blocks_in, annals, may_rise, stands_in, takes, Said, drive_says, sends, CycleView, known_of, tasks_for, Sent, mdt_said, Carry, Restarts, heard, passage, unseen_at, sum_below, mst_in, ats_in, mdt_in, IsRun, IsNext, IsClear, begins, content_of, contents, drive_at, given_before, given_mst, mdt_heard, said_below, unseen_ats, unseen_mdt, unseen_mst, with_restart, with_said, at_start, behind_mdt, IsSpelled, SpelledNext, IsOpened, SendsAlone, head_fault, single_in}
 use Rattle.sercos_telegram.specs.declared.layout.Kind.TheVariants as kinds
 use Rattle.sercos_telegram.specs.declared.layout.Layout.TheVariants.{Length}
-use Rattle.sercos_telegram.specs.Faults.{head_fault}
-use Rattle.sercos_drive.specs.Heard.{single_in}
 use Rattle.sercos_law_run.specs.Stations.Senders.{IsAnswer}
 use Rattle.sercos_law_run.proofs.Journal.RunLemmas.{ats_in-said, mdt_in-said}
 use Rattle.sercos_law_run.proofs.Journal.StationLemmas.{said_address}

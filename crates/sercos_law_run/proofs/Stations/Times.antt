@@ -1,6 +1,5 @@
 -- What an empty list of the check for phase 3 says of a store, in times and places.
-use Rattle.sercos_law_run.proofs.Words.{◌≡◌, ℕ, ◌+◌, ◌-◌, ◌%◌, ◌==◌, nat_lt, Bool, true, false, not, ◌||◌, List, [], refl, arith, nat_le, list_all, not-false, nat_tests, Idn, is_cycle, either_none, number_at, idns_at, is_cyclic, carried_len, listed_if, EmptyKeepsTimes}
-use Rattle.sercos_command.specs.Checks.{breaks_1, breaks_2, breaks_6, breaks_7, breaks_8, breaks_9, breaks_10, breaks_15, breaks_list, breaks_89, unfit_for_phase_3}
+use Rattle.sercos_law_run.proofs.Words.{◌≡◌, ℕ, ◌+◌, ◌-◌, ◌%◌, ◌==◌, nat_lt, Bool, true, false, not, ◌||◌, List, [], refl, arith, nat_le, list_all, not-false, nat_tests, Idn, is_cycle, either_none, number_at, idns_at, is_cyclic, carried_len, listed_if, EmptyKeepsTimes, breaks_1, breaks_2, breaks_6, breaks_7, breaks_8, breaks_9, breaks_10, breaks_15, breaks_list, breaks_89, unfit_for_phase_3}
 
 -- an empty list names none
 unnamed : (raw : ℕ) (broken : Bool) (rest : List Idn) → listed_if raw broken rest ≡ [] → (broken ≡ false) × (rest ≡ [])

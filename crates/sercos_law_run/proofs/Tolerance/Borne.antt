@@ -1,8 +1,7 @@
 -- From one cycle to the next: while disturbed cycles are sparse, the ring doesn't fall, each drive keeps near the commanded phase, and no
 -- step gets old.
-use Rattle.sercos_law_run.proofs.Words.{◌≡◌, ◌⊎◌, inl, inr, ℕ, ◌+◌, ◌<◌, ◌≤◌, Bool, true, false, not, ◌&&◌, List, [], ◌∷◌, ◌++◌, length, Option, None, refl, sym, ap, ◌∙◌, subst, arith, if◌then◌else◌, is_some, cases_Bool, cases_eq, cases_lt, cond-false, Job, RingView, IsRing-is_ring, open_in, age_of, cycles_open, CycleView, Fall, is_place, known_of, tasks_for, Past, Turn, count_addressed, fall_of, has_lost_at, has_lost_mst, is_done, Carry, Restarts, begun_in, epoch_begun, View, processed_in, standing, stood_in, age_in, calls_in, channel_calls, staying, IsPassed, IsUp, IsWhole, commanded, up_by, whole_row-le, drive_at, is_disturbed_in, looks_back, master_calls, middle, IsClear, IsDisturbed, IsRun, behind_ats, behind_mdt, view_of, views_of, IsOpened, StartsEpoch, IsUndisturbed, IsBehind, IsFirst, loses_step, AreCalm, AreSparse, IsSparse, begins_empty, comes_to_zero, ages_before_end, stays_a_run}
+use Rattle.sercos_law_run.proofs.Words.{◌≡◌, ◌⊎◌, inl, inr, ℕ, ◌+◌, ◌<◌, ◌≤◌, Bool, true, false, not, ◌&&◌, List, [], ◌∷◌, ◌++◌, length, Option, None, refl, sym, ap, ◌∙◌, subst, arith, if◌then◌else◌, is_some, cases_Bool, cases_eq, cases_lt, cond-false, Job, RingView, IsRing-is_ring, open_in, age_of, cycles_open, CycleView, Fall, is_place, known_of, tasks_for, Past, Turn, count_addressed, fall_of, has_lost_at, has_lost_mst, is_done, Carry, Restarts, begun_in, epoch_begun, View, processed_in, standing, stood_in, age_in, calls_in, channel_calls, staying, IsPassed, IsUp, IsWhole, commanded, up_by, whole_row-le, drive_at, is_disturbed_in, looks_back, master_calls, middle, IsClear, IsDisturbed, IsRun, behind_ats, behind_mdt, view_of, views_of, IsOpened, StartsEpoch, IsUndisturbed, IsBehind, IsFirst, loses_step, AreCalm, AreSparse, IsSparse, begins_empty, comes_to_zero, ages_before_end, stays_a_run, IsViewRun}
 use Rattle.sercos_service_master.specs.Calls as channel
-use Rattle.sercos_law_channel.specs.Handshake.Runs.{IsRun as IsViewRun}
 use Rattle.sercos_law_run.proofs.Views.MasterSame.{begun_cycle}
 use Rattle.sercos_law_run.proofs.Views.Members.{in_ring}
 use Rattle.sercos_law_run.proofs.Views.ViewRuns.{started}

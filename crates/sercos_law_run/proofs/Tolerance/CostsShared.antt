@@ -1,6 +1,5 @@
 -- Up to phase 2 a disturbed cycle costs all channels together no more than one.
-use Rattle.sercos_law_run.proofs.Words.{◌≡◌, ◌⊎◌, inl, inr, ℕ, zero, suc, ◌+◌, ◌<◌, ◌≤◌, Bool, true, false, not, ◌&&◌, ◌||◌, List, [], ◌∷◌, ◌++◌, length, Option, Some, None, refl, sym, ap, ◌∙◌, arith, if◌then◌else◌, IsSome, is_some, cases_lt, false≢true, false_from_ne_true, same_Some, Job, Request, store_of, RingView, Begun, open_in, CycleView, known_of, in_turn, Carry, Restarts, begun_in, epoch_begun, unless_restart, with_begun, with_heard, Heard, View, processed_in, AreListed, cost_in, cost_of, open_since, one_more, sum_below, drive_at, is_disturbed_in, IsClear, IsDisturbed, IsRun, behind_mdt, view_of, views_of, IsOpened, IsUndisturbed, views_since, cycles_for, disturbances, loses_step, lost_since, AreSparse, IsSparse}
-use Rattle.sercos_law_channel.specs.Handshake.Runs.{IsRun as IsViewRun}
+use Rattle.sercos_law_run.proofs.Words.{◌≡◌, ◌⊎◌, inl, inr, ℕ, zero, suc, ◌+◌, ◌<◌, ◌≤◌, Bool, true, false, not, ◌&&◌, ◌||◌, List, [], ◌∷◌, ◌++◌, length, Option, Some, None, refl, sym, ap, ◌∙◌, arith, if◌then◌else◌, IsSome, is_some, cases_lt, false≢true, false_from_ne_true, same_Some, Job, Request, store_of, RingView, Begun, open_in, CycleView, known_of, in_turn, Carry, Restarts, begun_in, epoch_begun, unless_restart, with_begun, with_heard, Heard, View, processed_in, AreListed, cost_in, cost_of, open_since, one_more, sum_below, drive_at, is_disturbed_in, IsClear, IsDisturbed, IsRun, behind_mdt, view_of, views_of, IsOpened, IsUndisturbed, views_since, cycles_for, disturbances, loses_step, lost_since, AreSparse, IsSparse, IsViewRun}
 use Rattle.sercos_law_run.proofs.Undisturbed.Checks.PassedCycles.{views_split}
 use Rattle.sercos_law_run.proofs.Undisturbed.Sections.{sum_most}
 use Rattle.sercos_law_run.proofs.Recovery.LateDown.{no_lower, phase_after}

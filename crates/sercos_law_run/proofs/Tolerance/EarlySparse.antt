@@ -1,5 +1,5 @@
 -- How long phases 0 and 1 last while disturbed cycles are sparse.
-use Rattle.sercos_law_run.proofs.Words.{◌≡◌, ◌⊎◌, inl, inr, ℕ, zero, suc, ◌+◌, ◌<◌, ◌≤◌, Bool, true, false, not, ◌&&◌, ◌||◌, List, [], ◌∷◌, ◌++◌, length, Option, Some, None, refl, sym, ap, ◌∙◌, arith, if◌then◌else◌, ◌==◌, is_none, cases_eq, false≢true, not-true, Job, RingView, CycleView, known_of, Past, Turn, all_identified, first_place, has_identified, is_done, is_done_in, is_identified, whole_row, first_found, Carry, Restarts, is_disturbed_in, looks_back, master_calls, IsClear, IsDisturbed, IsRun, at_start, behind_ats, behind_mdt, behind_mst, IsOpened, came_back, IsUndisturbed, early_cost, early_costs, AreSparse}
+use Rattle.sercos_law_run.proofs.Words.{◌≡◌, ◌⊎◌, inl, inr, ℕ, zero, suc, ◌+◌, ◌<◌, ◌≤◌, Bool, true, false, not, ◌&&◌, ◌||◌, List, [], ◌∷◌, ◌++◌, length, Option, Some, None, refl, sym, ap, ◌∙◌, arith, if◌then◌else◌, ◌==◌, is_none, cases_eq, false≢true, not-true, Job, RingView, CycleView, known_of, Past, Turn, all_identified, first_place, has_identified, is_done, is_done_in, is_identified, whole_row, first_found, Carry, Restarts, is_disturbed_in, looks_back, master_calls, IsClear, IsDisturbed, IsRun, at_start, behind_ats, behind_mdt, behind_mst, IsOpened, came_back, IsUndisturbed, early_cost, early_costs, AreSparse, or_right}
 use Rattle.sercos_law_run.proofs.Views.MasterSame.{begun_cycle, turn_mdt}
 use Rattle.sercos_law_run.proofs.Views.Members.{members_count}
 use Rattle.sercos_law_run.proofs.Views.ViewRuns.{started}
@@ -128,13 +128,8 @@ module _ (r : RingView) (jobs : List Job) (carry : Carry) (restarts : Restarts) 
     pub known_after : known (back j).turns ≤ known (back (t ∷ j)).turns
     known_after = count_most (length (known_of r).drives) (λ k. has_identified k (back j).turns)
         (λ k. has_identified k (back (t ∷ j)).turns)
-        (λ k on. ap (has_identified k) turns_after ∙ still ((now t j).now.phase == 1) ((now t j).now.heard k)
+        (λ k on. ap (has_identified k) turns_after ∙ or_right (((now t j).now.phase == 1) && (now t j).now.heard k)
         (has_identified k (back j).turns) on)
-      where
-        still : (a b c : Bool) → c ≡ true → ((a && b) || c) ≡ true
-        still true true c on = refl
-        still true false c on = on
-        still false b c on = on
 
   -- PHASE 0
   pub zero_lasts : (cycles before : List CycleView) → IsRun r jobs carry restarts (cycles ++ before) → IsClear (cycles ++ before)
@@ -216,12 +211,8 @@ module _ (r : RingView) (jobs : List Job) (carry : Carry) (restarts : Restarts) 
 
       stay : (k : ℕ) → has_identified k (back (u ∷ j)).turns ≡ true → has_identified k (back (t ∷ u ∷ j)).turns ≡ true
       stay k known_is = ap (has_identified k) (turns_after t (u ∷ j) run is)
-          ∙ still ((now t (u ∷ j)).now.phase == 1) ((now t (u ∷ j)).now.heard k) (has_identified k (back (u ∷ j)).turns) known_is
-        where
-          still : (a b c : Bool) → c ≡ true → ((a && b) || c) ≡ true
-          still true true c on = refl
-          still true false c on = on
-          still false b c on = on
+          ∙ or_right (((now t (u ∷ j)).now.phase == 1) && (now t (u ∷ j)).now.heard k)
+          (has_identified k (back (u ∷ j)).turns) known_is
 
   -- PHASE 1: at its start, and after each cycle of it
   pub risen : (t : CycleView) (cycles before : List CycleView) → IsRun r jobs carry restarts (t ∷ (cycles ++ before))

@@ -1,6 +1,5 @@
 -- How long phase 3 lasts while disturbed cycles are sparse, however many they are.
-use Rattle.sercos_law_run.proofs.Words.{◌≡◌, inl, inr, ℕ, suc, ◌+◌, ◌*◌, ◌<◌, ◌≤◌, List, [], ◌∷◌, ◌++◌, length, Option, None, sym, ap, ◌∙◌, arith, is_some, Job, times_le, DriveView, RingView, answers_in, open_in, CycleView, Fall, known_of, Past, is_done, Carry, Restarts, epoch_begun, epoch_log, View, in_step, sum_below, drive_at, looks_back, master_calls, IsClear, IsRun, behind_mdt, view_of, views_of, IsOpened, StartsEpoch, own_costs, AreSparse}
-use Rattle.sercos_law_channel.specs.Handshake.Runs.{IsRun as IsViewRun}
+use Rattle.sercos_law_run.proofs.Words.{◌≡◌, inl, inr, ℕ, suc, ◌+◌, ◌*◌, ◌<◌, ◌≤◌, List, [], ◌∷◌, ◌++◌, length, Option, None, sym, ap, ◌∙◌, arith, is_some, Job, times_le, DriveView, RingView, answers_in, open_in, CycleView, Fall, known_of, Past, is_done, Carry, Restarts, epoch_begun, epoch_log, View, in_step, sum_below, drive_at, looks_back, master_calls, IsClear, IsRun, behind_mdt, view_of, views_of, IsOpened, StartsEpoch, own_costs, AreSparse, IsViewRun}
 use Rattle.sercos_law_run.proofs.Headline.HeadlineRuns.{all_stand}
 use Rattle.sercos_law_run.proofs.Undisturbed.PhaseThree.{comes_three}
 use Rattle.sercos_law_run.proofs.Undisturbed.Stops.StopStays.{none_before, stop_after}

@@ -1,7 +1,6 @@
 -- After faults that aren't sparse: once each drive is in the commanded phase in an undisturbed cycle, and the ring hasn't fallen for as
 -- long as a step may take, it bears sparse faults from there on as from phase 0.
-use Rattle.sercos_law_run.proofs.Words.{◌≡◌, ◌⊎◌, inl, inr, ℕ, suc, ◌+◌, ◌<◌, ◌≤◌, true, false, List, [], ◌∷◌, ◌++◌, length, Option, None, refl, sym, ap, ◌∙◌, subst, arith, is_some, cases_lt, Job, RingView, open_in, CycleView, Fall, is_place, known_of, count_addressed, fall_of, Carry, Restarts, begun_in, epoch_begun, View, processed_in, staying, IsUp, IsWhole, drive_at, IsClear, IsDisturbed, IsRun, behind_mdt, view_of, views_of, IsOpened, NoneFalls, IsUndisturbed, start_cost, start_costs, AreCalm, AreSparse, IsSparse, stays_a_run}
-use Rattle.sercos_law_channel.specs.Handshake.Runs.{IsRun as IsViewRun}
+use Rattle.sercos_law_run.proofs.Words.{◌≡◌, ◌⊎◌, inl, inr, ℕ, suc, ◌+◌, ◌<◌, ◌≤◌, true, false, List, [], ◌∷◌, ◌++◌, length, Option, None, refl, sym, ap, ◌∙◌, subst, arith, is_some, cases_lt, Job, RingView, open_in, CycleView, Fall, is_place, known_of, count_addressed, fall_of, Carry, Restarts, begun_in, epoch_begun, View, processed_in, staying, IsUp, IsWhole, drive_at, IsClear, IsDisturbed, IsRun, behind_mdt, view_of, views_of, IsOpened, NoneFalls, IsUndisturbed, start_cost, start_costs, AreCalm, AreSparse, IsSparse, stays_a_run, IsViewRun}
 use Rattle.sercos_law_run.proofs.Views.ViewRuns.{views_count}
 use Rattle.sercos_law_run.proofs.Headline.HeadlineRuns.{all_stand}
 use Rattle.sercos_law_run.proofs.Undisturbed.Arriving.Comes.{calm_in}

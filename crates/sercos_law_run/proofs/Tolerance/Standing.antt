@@ -1,6 +1,5 @@
 -- How a drive stands in a cycle of which it may miss something, and what is heard and processed in a whole one.
-use Rattle.sercos_law_run.proofs.Words.{◌≡◌, ◌⊎◌, inl, inr, ℕ, ◌+◌, ◌≤◌, Bool, true, false, not, ◌&&◌, List, [], ◌∷◌, length, Option, Some, None, refl, sym, ap, ap₂, ◌∙◌, arith, if◌then◌else◌, max, nat_le, is_some, and_from, cond-false, cond-true, false≢true, le-leb, leb-true, Begun, open_in, begun_in, epoch_begun, Standing, View, afresh, before_mst, got_in, moved, processed_in, processed_of, record_in, standing, stood_in, takes_in, staying, IsPassed, IsUp, IsWhole, was_addressed, comes_to, ends, open_late, moved_same, got_some, moved_next, IsBehind, stands_no_later}
-use Rattle.sercos_service_master.specs.Begun.{Said}
+use Rattle.sercos_law_run.proofs.Words.{◌≡◌, ◌⊎◌, inl, inr, ℕ, ◌+◌, ◌≤◌, Bool, true, false, not, ◌&&◌, List, [], ◌∷◌, length, refl, sym, ap, ap₂, ◌∙◌, arith, if◌then◌else◌, max, nat_le, is_some, and_from, cond-false, cond-true, le-leb, leb-true, Begun, open_in, begun_in, epoch_begun, Standing, View, afresh, before_mst, got_in, moved, processed_in, standing, stood_in, takes_in, staying, IsPassed, IsUp, IsWhole, was_addressed, comes_to, ends, open_late, moved_same, got_some, moved_next, IsBehind, stands_no_later, processed_some}
 use Rattle.sercos_law_channel.specs.Handshake.Runs.{IsRun}
 use Rattle.sercos_law_channel.proofs.Theorems.{stands_as_commanded}
 
@@ -85,13 +84,6 @@ lost_so v u past still comes took up next passed = by v.mst_comes refl
             ∙ cond-true u.mst_comes (standing (u ∷ past)).ended 0 comes ∙ up.1
 
 -- WHAT A WHOLE CYCLE BRINGS: an open step is processed, if the drive is in the commanded phase,
-processed_some : (v : View) (cycle stood : ℕ) (o : Option Said) → v.mst_comes ≡ true → 2 ≤ stood → is_some o ≡ true
-    → is_some (processed_of v cycle stood o) ≡ true
-processed_some v cycle stood None came two some = absurd (false≢true some)
-processed_some v cycle stood (Some s) came two some = ap (λ (o : Option _). is_some o)
-    (cond-true (v.mst_comes && nat_le 2 stood) (Some (record_in v cycle stood s)) None
-    (and_from v.mst_comes (nat_le 2 stood) came (le-leb 2 stood two)))
-
 pub takes_whole : (busy : ℕ) (v : View) (past : List View) → IsRun busy (v ∷ past) → IsWhole v past → IsUp v past
     → is_some (open_in (begun_in v past)) ≡ true → is_some (processed_in v past) ≡ true
 takes_whole busy v past run whole up some =

@@ -1,7 +1,5 @@
 -- What is small in a cycle: the number of unseen arrivals, and the lists of its plan.
-use Rattle.sercos_law_run.proofs.Words.{◌≡◌, ℕ, zero, suc, ◌+◌, ◌≤◌, Bool, true, false, if◌then◌else◌, List, [], ◌∷◌, length, slice_index, Option, Some, None, IfSome, Result, Ok, Err, refl, sym, ap, subst, ◌∙◌, arith, cond_both, option_or, length-map, length-map-range_with_len, Job, WishesView, PlanView, Wish, positions, is_roomy, least_t1, sent, planned, chain_of, RingView, wish_of, SentView, EventsView, CycleView, Known, Task, MemberView, known_of, member_of, tasks_for, Outcome, wishes_from, wishes_given, Past, Call, past, outcomes, IsPlanned, plan_told, restart_told, Carry, Restarts, passage, sum_below, unseen_at, is_at, ats_in, mst_in, mdt_in, IsNext, unseen_ats, unseen_mst, unseen_mdt, station_of, looks_back, middle, restart_events, no_events, master_calls}
-use Rattle.sercos_plan.specs.LeastTimes.{least_plan}
-use Rattle.sercos_block.specs.Rings.{wishes_of}
+use Rattle.sercos_law_run.proofs.Words.{◌≡◌, ℕ, zero, suc, ◌+◌, ◌≤◌, Bool, true, false, if◌then◌else◌, List, [], ◌∷◌, length, slice_index, Option, Some, None, IfSome, Result, Ok, Err, refl, sym, ap, subst, ◌∙◌, arith, cond_both, option_or, length-map, length-map-range_with_len, Job, WishesView, PlanView, Wish, positions, is_roomy, least_t1, sent, planned, chain_of, RingView, wish_of, SentView, EventsView, CycleView, Known, Task, known_of, member_of, tasks_for, wishes_given, Past, Call, past, outcomes, IsPlanned, plan_told, restart_told, Carry, Restarts, passage, sum_below, unseen_at, is_at, ats_in, mst_in, mdt_in, IsNext, unseen_ats, unseen_mst, unseen_mdt, station_of, looks_back, middle, restart_events, no_events, master_calls, wishes_length, least_plan, wishes_of}
 use Rattle.sercos_telegram.specs.declared.layout.Kind.TheVariants as kinds
 
 -- Unseen arrivals: one at most for each passage.
@@ -62,10 +60,6 @@ if_counts w e false p is = absurd (cc)
 planned_counts : (w : WishesView) (p : PlanView) → planned w ≡ Ok p → Counts w p
 planned_counts w p is = if_counts w (chain_of w) (is_roomy w) p is
 
-wishes_count : (drives : List MemberView) (k : ℕ) (outs : ℕ → List Outcome) → length (wishes_from drives k outs) ≡ length drives
-wishes_count [] k outs = refl
-wishes_count (d ∷ drives) k outs = ap suc (wishes_count drives (k + 1) outs)
-
 -- what a plan has of a ring
 abbrev pub HasEach : RingView → Option PlanView → Type 0
 HasEach r plan = IfSome plan (λ p. (length p.t1 ≡ length r.drives) × (length p.position ≡ length r.drives))
@@ -75,7 +69,7 @@ told_each r p None planned is = tt
 told_each r p (Some plan) planned is =
     let w : WishesView = wishes_given (known_of r) (outcomes p) in
     let counts : Counts w plan = planned_counts w plan (planned plan is).planned_is in
-    let drives : length w.drives ≡ length r.drives = wishes_count (known_of r).drives 0 (outcomes p) ∙ length-map r.drives member_of in
+    let drives : length w.drives ≡ length r.drives = wishes_length (known_of r).drives 0 (outcomes p) ∙ length-map r.drives member_of in
     both w plan drives counts
   where
     both : (w : WishesView) (plan : PlanView) → length w.drives ≡ length r.drives → Counts w plan → (length plan.t1 ≡ length r.drives) × (length plan.position ≡ length r.drives)

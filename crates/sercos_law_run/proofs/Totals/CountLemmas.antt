@@ -1,6 +1,5 @@
 -- Counts, cycle by cycle.
-use Rattle.sercos_law_run.proofs.Words.{◌≡◌, ℕ, ◌+◌, ◌<◌, ◌≤◌, [], is_some, refl, arith, cond_both, CycleView, Totals, falls_in, AreFew, HasRoom, IsFew, none_made, with_cycle}
-use Rattle.sercos_law_run.specs.Totals.Totals.{totals_of}
+use Rattle.sercos_law_run.proofs.Words.{◌≡◌, ℕ, ◌+◌, ◌<◌, ◌≤◌, [], is_some, refl, arith, cond_both, CycleView, Totals, falls_in, AreFew, HasRoom, IsFew, none_made, with_cycle, totals_of}
 
 -- nothing was made yet
 pub none_counted : none_made ≡ totals_of []
@@ -27,7 +26,7 @@ few_next t m k f g falls = record {
   unseen = omega (arith, f.unseen, g.unseen);
 }
 
-fell_once : (m : CycleView) → falls_in m ≤ 1
+pub fell_once : (m : CycleView) → falls_in m ≤ 1
 fell_once m = cond_both (is_some m.events.fall) 1 0 (λ (v : ℕ). v ≤ 1) (λ on. omega arith) (λ off. omega arith)
 
 pub few_more : (t : Totals) (m : CycleView) (n : ℕ) → AreFew t n → IsFew m → AreFew (with_cycle t m) (n + 1)

@@ -1,12 +1,7 @@
 -- The AT of a drive is whole: bytes, and no more than an AT has.
-use Rattle.sercos_law_run.proofs.Words.{inl, ◌≡◌, ℕ, suc, ◌+◌, ◌*◌, ◌%◌, ◌<◌, ◌≤◌, ◌==◌, nat_le, Bool, true, false, not, List, [], ◌∷◌, length, Option, Some, None, option_map, unwrap_or, refl, sym, subst, arith, if◌then◌else◌, length-append, option_and_then, flat_map, flat_map-cons, and_parts, cond_both, not-true, to_le_bytes, AreBytes-append, Idn, Length, Two, Four, List1, List2, List4, is_list, Block, width_of, bytes_for, bits_in, number_end, is_number, find_block, is_sound, IsStore, DriveView, found_sound, found-carried, types, data_at, Shown, channel_says, DriveCall, phase_in, cycle_in, records_in, blocks_in, commands_in, annals, Said, shown_word, bytes_in_cycle, values_in, sends, said, drive_says, fields_length, Keeps}
-use Rattle.sercos_model.specs.Bits.{AreBytes}
-use Rattle.sercos_telegram.specs.Spells.{word_bytes, fields}
+use Rattle.sercos_law_run.proofs.Words.{inl, ◌≡◌, ℕ, suc, ◌+◌, ◌*◌, ◌%◌, ◌<◌, ◌≤◌, ◌==◌, nat_le, Bool, true, false, not, List, [], ◌∷◌, length, Option, Some, None, option_map, unwrap_or, refl, sym, subst, arith, if◌then◌else◌, length-append, option_and_then, flat_map, flat_map-cons, and_parts, cond_both, not-true, to_le_bytes, AreBytes-append, Idn, Length, Two, Four, List1, List2, List4, is_list, Block, width_of, bytes_for, bits_in, number_end, is_number, find_block, is_sound, IsStore, DriveView, found_sound, found-carried, types, data_at, Shown, channel_says, DriveCall, phase_in, cycle_in, records_in, blocks_in, commands_in, annals, Said, shown_word, bytes_in_cycle, values_in, sends, said, drive_says, fields_length, Keeps, two_bytes, AreBytes, word_bytes, fields, idns_at, data_in, value_in}
 use Rattle.sercos_block.proofs.SoundLemmas.{value_len}
-use Rattle.sercos_command.specs.Checks.{idns_in, idns_at}
-use Rattle.sercos_service_drive.specs.Replies.{data_in}
-use Rattle.sercos_drive.specs.Says.{value_in}
-use Rattle.sercos_law_run.proofs.Typed.Words.{two_bytes}
+use Rattle.sercos_command.specs.Checks.{idns_in}
 use Rattle.sercos_law_run.proofs.Typed.Replies.{data_bytes}
 use Rattle.sercos_law_run.proofs.Start.WellLemmas.{item_small}
 

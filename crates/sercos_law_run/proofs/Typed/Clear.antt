@@ -1,9 +1,8 @@
 -- Over a harmless link no arrival is unseen.
-use Rattle.sercos_law_run.proofs.Words.{◌≡◌, ℕ, ◌+◌, Bool, true, false, not, ◌&&◌, List, [], ◌∷◌, length, Option, Some, None, is_none, if◌then◌else◌, refl, ◌∙◌, ap, arith, slice_index, IfSome, reason_of, plain, frame_of, BadFrame, Job, DriveView, RingView, DriveCall, Said, known_of, Sent, mdt_said, CycleView, Passage, Carry, Restarts, arrival, are_same, passage, sum_below, unseen_at, IsHarmless, ats_in, mdt_in, mst_in, contents, drive_at, given_mst, said_below, station_of, unseen_ats, unseen_mdt, unseen_mst, IsNext, behind_mdt, IsSaid, IsSpelled, HarmlessIsClear, SpelledNext}
+use Rattle.sercos_law_run.proofs.Words.{◌≡◌, ℕ, ◌+◌, Bool, true, false, not, ◌&&◌, List, [], ◌∷◌, length, Option, Some, None, is_none, if◌then◌else◌, refl, ◌∙◌, ap, arith, slice_index, IfSome, reason_of, plain, frame_of, BadFrame, Job, DriveView, RingView, DriveCall, Said, known_of, Sent, mdt_said, CycleView, Passage, Carry, Restarts, arrival, are_same, passage, sum_below, unseen_at, IsHarmless, ats_in, mdt_in, mst_in, contents, drive_at, given_mst, said_below, station_of, unseen_ats, unseen_mdt, unseen_mst, IsNext, behind_mdt, IsSaid, IsSpelled, HarmlessIsClear, SpelledNext, content_in, is_unseen}
 use Rattle.std.proofs.lemmas.Bool.{and_left, and_right}
 use Rattle.sercos_hdlc.specs.Reason.{content_of}
 use Rattle.sercos_telegram.specs.declared.layout.Kind.TheVariants as kinds
-use Rattle.sercos_law_run.specs.Journal.Arrivals.{content_in, is_unseen}
 use Rattle.sercos_law_run.specs.Journal.Runs.{content_of as content_sent}
 use Rattle.sercos_law_run.specs.Views.Spelled.{IsWhole}
 use Rattle.sercos_law_run.proofs.Journal.ClearLemmas.{are_same-refl, sum_none}

@@ -1,13 +1,10 @@
 -- What a drive keeps, whatever it hears: its blocks are a store, and the records that it took fit.
-use Rattle.sercos_law_run.proofs.Words.{◌≡◌, ℕ, zero, suc, ◌+◌, ◌<◌, ◌≤◌, ◌==◌, nat_le, Bool, true, false, ◌&&◌, List, [], ◌∷◌, ◌++◌, length, Option, Some, None, IfSome, is_none, slice_index_or, refl, sym, subst, arith, if◌then◌else◌, option_and_then, and_parts, cond_both, leb-true, AreBytes, AreBytes-bytes_of, none_of, reason_of, plain, control_element, word_at, single_fault, joint_fault, Block, blocks_fault, is_address, is_ring, are_times, find_block, store_of, put_fault, IsStore, DriveView, RingView, number_at, carried_len, Processed, processed_record, AreThose, added_on, Told, DriveCall, Mst, Mdt, mst_got, told_at, lies_within, mdt_got, Moment, phase_in, cycle_in, has_mst, unless_phase_0, records_in, blocks_in, blocks_after, commands_in, ends_in, stands_in, annals, Passage, Carry, Restarts, SentView, CycleView, arrival, heard, passage, mdt_in, no_drive, drive_at, with_restart, mdt_heard, drive_calls, given_before, given_mst, IsTyped, AreTyped, IsRecord, AreRecords, Keeps, IsStore-store_of}
+use Rattle.sercos_law_run.proofs.Words.{◌≡◌, ℕ, zero, suc, ◌+◌, ◌<◌, ◌≤◌, ◌==◌, nat_le, Bool, true, false, ◌&&◌, List, [], ◌∷◌, ◌++◌, length, Option, Some, None, IfSome, is_none, slice_index_or, refl, sym, subst, arith, if◌then◌else◌, option_and_then, and_parts, cond_both, leb-true, AreBytes, AreBytes-bytes_of, none_of, reason_of, plain, control_element, word_at, single_fault, joint_fault, Block, blocks_fault, is_address, is_ring, are_times, find_block, store_of, put_fault, IsStore, DriveView, RingView, number_at, carried_len, Processed, processed_record, AreThose, added_on, Told, DriveCall, Mst, Mdt, mst_got, told_at, lies_within, mdt_got, Moment, phase_in, cycle_in, has_mst, unless_phase_0, records_in, blocks_in, blocks_after, commands_in, ends_in, stands_in, annals, Passage, Carry, Restarts, SentView, CycleView, arrival, heard, passage, mdt_in, no_drive, drive_at, with_restart, mdt_heard, drive_calls, given_before, given_mst, IsTyped, AreTyped, IsRecord, AreRecords, Keeps, IsStore-store_of, control_of, is_drive, are_drives, are_drive_numbers, has_blocks, single_in, content_in}
 use Rattle.sercos_hdlc.specs.Reason.{content_of}
-use Rattle.sercos_telegram.specs.Words.{control_of}
-use Rattle.sercos_block.specs.Rings.{is_drive, are_drives, are_drive_numbers, has_blocks}
-use Rattle.sercos_drive.specs.Heard.{Restart, single_in, joint_in}
+use Rattle.sercos_drive.specs.Heard.{Restart, joint_in}
 use Rattle.sercos_drive.specs.Moments.{with_record}
 use Rattle.sercos_drive.specs.Annals.{processed_in}
 use Rattle.sercos_telegram.specs.declared.layout.Kind.TheVariants as kinds
-use Rattle.sercos_law_run.specs.Journal.Arrivals.{content_in}
 use Rattle.sercos_law_run.proofs.Journal.StationLemmas.{drives_so}
 use Rattle.sercos_law_run.proofs.Typed.Words.{read_word}
 use Rattle.sercos_law_run.proofs.Typed.StoreStays.{blocks_stay}

@@ -1,6 +1,5 @@
 -- MST and MDT are whole: bytes, and no more than a telegram has.
-use Rattle.sercos_law_run.proofs.Words.{◌≡◌, ℕ, zero, suc, ◌+◌, ◌<◌, ◌≤◌, ◌==◌, Bool, true, false, List, [], ◌∷◌, length, Option, Some, None, is_some, slice_index_or, refl, sym, ◌∙◌, ap, subst, arith, if◌then◌else◌, length-append, nat_le, option_map, All, All-head, All-tail, AreBytes-append, AreBytes-take, all_drives, mst_content, PlanView, Known, IsKnown, MemberView, member, no_member, len_or_none, mdt_attributes, word_said, value_said, values_said, fields_length, Past, IsPlanned, outcomes, seen_at, records_upto, Sent, said_to, record_to, records_from, idle, single, joint, mdt_said, fits_planned}
-use Rattle.sercos_model.specs.Bits.{AreBytes}
+use Rattle.sercos_law_run.proofs.Words.{◌≡◌, ℕ, zero, suc, ◌+◌, ◌<◌, ◌≤◌, ◌==◌, Bool, true, false, List, [], ◌∷◌, length, Option, Some, None, is_some, slice_index_or, refl, sym, ◌∙◌, ap, subst, arith, if◌then◌else◌, length-append, nat_le, option_map, All, All-head, All-tail, AreBytes-append, AreBytes-take, all_drives, mst_content, PlanView, Known, IsKnown, MemberView, member, no_member, len_or_none, mdt_attributes, word_said, value_said, values_said, fields_length, Past, IsPlanned, outcomes, seen_at, records_upto, Sent, said_to, record_to, records_from, idle, single, joint, mdt_said, fits_planned, AreBytes}
 use Rattle.sercos_service_master.specs.Begun.{Said}
 pub use Rattle.sercos_master.proofs.Configured.{phase_low}
 use Rattle.sercos_law_run.proofs.Typed.Ats.{IsContent, fields_bytes, address_bytes}

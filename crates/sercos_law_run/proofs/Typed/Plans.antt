@@ -1,6 +1,6 @@
 -- The numbers of a plan are words, and so are the identifier numbers that telegrams carry.
-use Rattle.sercos_law_run.proofs.Words.{◌≡◌, ◌⊎◌, inl, inr, ℕ, zero, suc, ◌%◌, ◌<◌, ◌≤◌, ◌==◌, nat_lt, nat_le, Bool, true, false, not, ◌&&◌, List, [], ◌∷◌, ◌++◌, length, Option, Some, None, is_some, slice_index_or, refl, sym, subst, arith, if◌then◌else◌, slice_index, option_map, option_and_then, Ok, Err, option_or, list_all, find, leb-true, and_parts, false≢true, nat_tests, get_or_past, All-map, All-from_get_or, Idn, Attribute, Outcome, WishesView, PlanView, record_bytes, Fits, IsValid, is_rate, is_cycle, is_control, is_roomy, least_plan, planned, chain_of, roomy_test, is_of_least, least_fits, Block, BuiltIn, built_ins, has_address, has_drive_numbers, has_blocks, has_ring_numbers, attribute_in, number_len, is_typed, IsRing, DriveView, RingView, Known, MemberView, HasLists, IsKnown, member, member_of, known_of, wishes_given, known_of-IsRing, is_valid, no_drive, IsTyped, AreTyped}
-use Rattle.sercos_block.specs.Rings.{is_ring, are_ring_numbers, is_drive, are_drives, row_in, built_in_attribute, own_attribute, block_attribute, cyclic_len, is_cyclic, are_cyclic}
+use Rattle.sercos_law_run.proofs.Words.{◌≡◌, ◌⊎◌, inl, inr, ℕ, zero, suc, ◌%◌, ◌<◌, ◌≤◌, ◌==◌, nat_lt, nat_le, Bool, true, false, not, ◌&&◌, List, [], ◌∷◌, ◌++◌, length, Option, Some, None, is_some, slice_index_or, refl, sym, subst, arith, if◌then◌else◌, slice_index, option_map, option_and_then, Ok, Err, option_or, list_all, find, leb-true, and_parts, false≢true, nat_tests, get_or_past, All-map, All-from_get_or, Idn, Attribute, Outcome, WishesView, PlanView, record_bytes, Fits, IsValid, is_rate, is_cycle, is_control, is_roomy, least_plan, planned, chain_of, roomy_test, is_of_least, least_fits, Block, BuiltIn, built_ins, has_address, has_drive_numbers, has_blocks, has_ring_numbers, attribute_in, number_len, is_typed, IsRing, DriveView, RingView, Known, MemberView, HasLists, IsKnown, member, member_of, known_of, wishes_given, known_of-IsRing, is_valid, no_drive, IsTyped, AreTyped, is_ring, are_ring_numbers, is_drive, are_drives, row_in, built_in_attribute, own_attribute, block_attribute, are_cyclic}
+use Rattle.sercos_block.specs.Rings.{cyclic_len, is_cyclic}
 use Rattle.sercos_law_run.proofs.Start.PlanNumbers.{has_numbers}
 use Rattle.sercos_law_run.proofs.Journal.StationLemmas.{drives_so}
 use Rattle.sercos_law_run.proofs.Views.Members.{member_is}

@@ -1,6 +1,5 @@
 -- The records that a drive took: their elements and words fit, and their blocks are a store. So what they write are bytes.
-use Rattle.sercos_law_run.proofs.Words.{ℕ, zero, suc, ◌<◌, ◌==◌, Bool, true, false, not, ◌&&◌, List, [], ◌∷◌, drop, take, Option, Some, None, IfSome, option_map, if◌then◌else◌, cond_both, option_and_then, slice_index, beq, AreBytes, AreBytes-take, is_list, bytes_in, Block, find_block, Processed, Entry, ahs, accepted, open_idn, run_before, selection, in_order, reply_of, answered, log_of, Write, written_by, takes_effect, adds, added_on, IsRecord, AreRecords}
-use Rattle.sercos_service_drive.specs.Replies.{bytes_written}
+use Rattle.sercos_law_run.proofs.Words.{ℕ, zero, suc, ◌<◌, ◌==◌, Bool, true, false, not, ◌&&◌, List, [], ◌∷◌, drop, take, Option, Some, None, IfSome, option_map, if◌then◌else◌, cond_both, option_and_then, slice_index, beq, AreBytes, AreBytes-take, is_list, bytes_in, Block, find_block, Processed, Entry, ahs, accepted, open_idn, run_before, selection, in_order, reply_of, answered, log_of, Write, written_by, takes_effect, adds, added_on, IsRecord, AreRecords, bytes_written}
 use Rattle.sercos_law_run.proofs.Typed.Words.{AreWords, bytes_of_words}
 
 abbrev pub AreEntries : List Entry → Type 0

@@ -1,9 +1,6 @@
 -- What a drive replies, and so what it shows, are words.
-use Rattle.sercos_law_run.proofs.Words.{sym, ◌≡◌, ℕ, ◌+◌, ◌*◌, ◌%◌, ◌<◌, ◌≤◌, ◌==◌, nat_le, Bool, true, false, ◌&&◌, ◌||◌, List, [], ◌∷◌, length, Option, Some, None, IfSome, is_none, is_some, option_map, unwrap_or, refl, arith, if◌then◌else◌, slice_index, ◌-◌, w32, to_le_bytes, then_some, option_or, list_all, and_parts, cond_both, nat_tests, attribute_word, Length, Two, Four, List1, List2, List4, Attribute, is_list, words_of, Block, width_of, bytes_for, bits_in, number_end, is_fixed, is_protected, is_text, is_printable, find_block, read_fault, is_below, is_above, IsStore, is_sound, SoundParts, SoundParts-is_sound, found_sound, max_len_bound, fits-is_len, types, SetCommand, has_ended, status_by, setting_of, CommandHistory, status_in, change_in, Processed, Entry, accepted, ahs, opens, open_idn, run_before, selection, in_order, good, refused, answer_by, list_words, copy, read_cause, write_cause_in, is_first_word, ends_early, is_over, is_uneven, is_no_command_value, bytes_written, reply_on, reply_at, reply_of, answered, Shown, shown, channel_says, IsRecord, AreRecords}
-use Rattle.sercos_model.specs.Bits.{AreBytes}
-use Rattle.sercos_block.specs.Blocks.{element_of}
-use Rattle.sercos_service_drive.specs.Replies.{data_in, element_words, write_cause}
-use Rattle.sercos_law_run.proofs.Typed.Words.{AreWords, word_of, words_of_bytes, two_bytes, four_bytes}
+use Rattle.sercos_law_run.proofs.Words.{sym, ◌≡◌, ℕ, ◌+◌, ◌*◌, ◌%◌, ◌<◌, ◌≤◌, ◌==◌, nat_le, Bool, true, false, ◌&&◌, ◌||◌, List, [], ◌∷◌, length, Option, Some, None, IfSome, is_none, is_some, option_map, unwrap_or, refl, arith, if◌then◌else◌, slice_index, ◌-◌, w32, to_le_bytes, then_some, option_or, list_all, and_parts, cond_both, nat_tests, attribute_word, Length, Two, Four, List1, List2, List4, Attribute, is_list, words_of, Block, width_of, bytes_for, bits_in, number_end, is_fixed, is_protected, is_text, is_printable, find_block, read_fault, is_below, is_above, IsStore, is_sound, SoundParts, SoundParts-is_sound, found_sound, max_len_bound, fits-is_len, types, SetCommand, has_ended, status_by, setting_of, CommandHistory, status_in, change_in, Processed, Entry, accepted, ahs, opens, open_idn, run_before, selection, in_order, good, refused, answer_by, list_words, copy, read_cause, write_cause_in, is_first_word, ends_early, is_over, is_uneven, is_no_command_value, bytes_written, reply_on, reply_at, reply_of, answered, Shown, shown, channel_says, IsRecord, AreRecords, two_bytes, four_bytes, printable_bytes, AreBytes, element_of, data_in, element_words, write_cause}
+use Rattle.sercos_law_run.proofs.Typed.Words.{AreWords, word_of, words_of_bytes}
 use Rattle.sercos_law_run.proofs.Typed.Records.{AreEntries, accepted_so, answered_so, run_so, selection_so}
 
 -- a code is a word, if there is one
@@ -36,14 +33,6 @@ write_code_in None phase last words = omega arith
 write_code_in (Some b) phase last words = write_code b phase last words
 
 -- READING
-printable_bytes : (text : List ℕ) → list_all is_printable text ≡ true → AreBytes text
-unfolding AreBytes
-printable_bytes [] are = tt
-printable_bytes (byte ∷ text) are =
-    let parts = and_parts (is_printable byte) (list_all is_printable text) are in
-    let high = (and_parts (nat_le 0x20 byte) (nat_le byte 0x7e) parts.0).1 in
-    (grind (arith, nat_tests, high), printable_bytes text parts.1)
-
 list_so : (longest : ℕ) (bytes : List ℕ) → longest < 65536 → length bytes < 65536 → AreBytes bytes → AreWords (list_words longest bytes)
 list_so longest bytes top fits are = (fits, (top, words_of_bytes bytes are))
 

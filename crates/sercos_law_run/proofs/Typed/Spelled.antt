@@ -1,6 +1,5 @@
 -- What is said in the next cycle of a typed ring is spelled.
-use Rattle.sercos_law_run.proofs.Words.{ℕ, ◌+◌, List, refl, sym, ap, subst, arith, frame_of, cycle_in, commands_in, records_in, Known, IsKnown, known_of, tasks_for, Past, mst_in, drive_at, given_before, given_mst, begins, middle, behind_mdt, after_mst, KeepsAlways, KeepsWithin, SpelledNext, IsRing-is_ring, is_planned, allowed}
-use Rattle.sercos_law_run.specs.Journal.Arrivals.{content_in}
+use Rattle.sercos_law_run.proofs.Words.{ℕ, ◌+◌, List, refl, sym, ap, subst, arith, frame_of, cycle_in, commands_in, records_in, Known, IsKnown, known_of, tasks_for, Past, mst_in, drive_at, given_before, given_mst, begins, middle, behind_mdt, after_mst, KeepsAlways, KeepsWithin, SpelledNext, IsRing-is_ring, is_planned, allowed, content_in}
 use Rattle.sercos_law_run.proofs.Views.Received.{address_of}
 use Rattle.sercos_law_run.specs.Views.Spelled.{IsWhole}
 use Rattle.sercos_law_run.proofs.Typed.Steps.{says}

@@ -1,9 +1,5 @@
 -- A drive's store stays one, whatever is written to it.
-use Rattle.sercos_law_run.proofs.Words.{◌≡◌, ◌⊎◌, inl, inr, ℕ, suc, ◌*◌, ◌<◌, ◌≤◌, ◌==◌, nat_lt, Bool, true, false, cond, not, ◌&&◌, List, [], ◌∷◌, length, map, Option, Some, None, IfSome, slice_get, refl, sym, subst, arith, if◌then◌else◌, list_all, position, filter, and_parts, nat_tests, Idn, Block, find_block, with_data, put_fault, is_len, IsStore, IsWritten-at, fits-put_fault, find_block-at, find_block-nowhere, with_data-nowhere, fits-given, bytes_from, listed_if, is_outside, list_bytes, is_command, is_set, CommandHistory, Write, command_value, blocks_with}
-use Rattle.sercos_model.specs.Bits.{AreBytes}
-use Rattle.sercos_block.specs.Stores.{is_typed}
-use Rattle.sercos_command.specs.Checks.{unfit_for_phase_3, unfit_for_phase_4}
-use Rattle.sercos_command.specs.Calls.{with_check_list}
+use Rattle.sercos_law_run.proofs.Words.{◌≡◌, ◌⊎◌, inl, inr, ℕ, suc, ◌*◌, ◌<◌, ◌≤◌, ◌==◌, nat_lt, Bool, true, false, cond, not, ◌&&◌, List, [], ◌∷◌, length, map, Option, Some, None, IfSome, slice_get, refl, sym, subst, arith, if◌then◌else◌, list_all, position, filter, and_parts, nat_tests, Idn, Block, find_block, with_data, put_fault, is_len, IsStore, IsWritten-at, fits-put_fault, find_block-at, find_block-nowhere, with_data-nowhere, fits-given, bytes_from, listed_if, is_outside, list_bytes, is_command, is_set, CommandHistory, Write, command_value, blocks_with, AreBytes, is_typed, unfit_for_phase_3, unfit_for_phase_4, with_check_list}
 
 -- A WRITE
 put_at : (raw : ℕ) (bytes : List ℕ) (blocks : List Block) (place : Option ℕ) → IsStore blocks → position (λ b. b.idn.raw == raw) blocks ≡ place →

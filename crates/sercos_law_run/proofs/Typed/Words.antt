@@ -1,7 +1,5 @@
 -- Bytes and words.
-use Rattle.sercos_law_run.proofs.Words.{ℕ, zero, suc, ◌+◌, ◌<◌, List, [], ◌∷◌, ◌++◌, get_or, arith, slice_index, w16, w32, to_le_bytes, AreBytes-by_index, AreBytes-get_or, words_of, bytes_in}
-use Rattle.sercos_model.specs.Bits.{AreBytes}
-use Rattle.sercos_telegram.specs.Spells.{word_at}
+use Rattle.sercos_law_run.proofs.Words.{ℕ, zero, suc, ◌+◌, ◌<◌, List, [], ◌∷◌, ◌++◌, get_or, arith, slice_index, w16, w32, to_le_bytes, AreBytes-by_index, AreBytes-get_or, words_of, bytes_in, AreBytes, word_at}
 
 -- each number fits into sixteen bits
 abbrev pub AreWords : List ℕ → Type 0
@@ -27,24 +25,6 @@ pub bytes_of_words : (words : List ℕ) → AreWords words → AreBytes (bytes_i
 unfolding AreBytes
 bytes_of_words [] are = tt
 bytes_of_words (word ∷ words) are = let a : word < 65536 = are.0 in (omega arith, (omega (arith, a), bytes_of_words words are.1))
-
-pub two_bytes : (n : ℕ) → AreBytes (to_le_bytes w16 n)
-two_bytes n = AreBytes-by_index (to_le_bytes w16 n) each
-  where
-    each : (i : ℕ) → get_or (to_le_bytes w16 n) i 0 < 256
-    each zero = omega arith
-    each (suc zero) = omega arith
-    each (suc (suc i)) = omega arith
-
-pub four_bytes : (n : ℕ) → AreBytes (to_le_bytes w32 n)
-four_bytes n = AreBytes-by_index (to_le_bytes w32 n) each
-  where
-    each : (i : ℕ) → get_or (to_le_bytes w32 n) i 0 < 256
-    each zero = omega arith
-    each (suc zero) = omega arith
-    each (suc (suc zero)) = omega arith
-    each (suc (suc (suc zero))) = omega arith
-    each (suc (suc (suc (suc i)))) = omega arith
 
 -- a word that is read from bytes
 pub read_word : (content : List ℕ) (place : ℕ) → AreBytes content → word_at content place < 65536

@@ -1,13 +1,7 @@
 -- A typed ring with typed jobs: what the law asks can be met.
-use Rattle.sercos_law_run.proofs.Words.{◌≡◌, zero, suc, true, false, List, [], ◌∷◌, None, refl, arith, All-from_recursion, Job, Block, DriveView, RingView, IsTypedRequest, AreTyped, AreTypedJobs}
-use Rattle.sercos_model.specs.Bits.{AreBytes}
-use Rattle.sercos_idn.specs.Codes.{attribute_fault}
-use Rattle.sercos_idn.specs.Attributes.{attribute_of}
+use Rattle.sercos_law_run.proofs.Words.{◌≡◌, zero, suc, true, false, List, [], ◌∷◌, None, refl, arith, All-from_recursion, Job, Block, DriveView, RingView, IsTypedRequest, AreTyped, AreTypedJobs, AreBytes, attribute_fault, attribute_of, is_rate, is_cycle, is_control, blocks_fault, block_fault, is_ring, are_ring_numbers, has_drives, are_drives, is_drive, has_address, are_drive_numbers, are_times, has_blocks, are_cyclic, block_attribute, built_in_attribute, row_in, own_attribute, attribute_in, mdt_len, listed_len, is_order, are_turns, is_turn, is_typed}
 use Rattle.sercos_step.specs.declared.request.Request.TheVariants as request
-use Rattle.sercos_timing.specs.Valid.{is_rate, is_cycle, is_control}
-use Rattle.sercos_block.specs.Rules.{blocks_fault, block_fault}
-use Rattle.sercos_block.specs.Rings.{is_ring, are_ring_numbers, has_drives, are_drives, is_drive, has_address, are_drive_numbers, are_times, has_blocks, are_cyclic, cyclic_len, block_attribute, built_in_attribute, row_in, own_attribute, attribute_in, mdt_len, listed_len, is_order, are_turns, is_turn}
-use Rattle.sercos_block.specs.Stores.{is_typed}
+use Rattle.sercos_block.specs.Rings.{cyclic_len}
 
 -- one drive, whose telegrams carry its one number
 abbrev speed : Block

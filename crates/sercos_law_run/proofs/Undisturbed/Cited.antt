@@ -1,15 +1,12 @@
 -- What the laws on undisturbed cycles say of every clear run, as they state it.
-use Rattle.sercos_law_run.proofs.Words.{◌≡◌, ℕ, ◌+◌, ◌<◌, true, false, List, ◌∷◌, length, arith, list_any, Job, RingView, CycleView, is_outside, is_ready, reads_count, known_of, member, outcomes, Carry, Restarts, drive_at, IsRun, IsClear, behind_mdt, IsOpened, ComesToPhaseFour, FitsInThree, OwnFitsInFour, StopsInTwo, NoStopInFour, StopsInThree}
-use Rattle.sercos_law_run.proofs.Views.Members.{members_count}
+use Rattle.sercos_law_run.proofs.Words.{◌≡◌, ℕ, ◌+◌, ◌<◌, true, false, List, ◌∷◌, length, list_any, Job, RingView, CycleView, is_outside, is_ready, reads_count, known_of, member, outcomes, Carry, Restarts, drive_at, IsRun, IsClear, behind_mdt, IsOpened, ComesToPhaseFour, FitsInThree, OwnFitsInFour, StopsInTwo, NoStopInFour, StopsInThree}
+use Rattle.sercos_law_run.proofs.Views.Members.{in_known}
 use Rattle.sercos_law_run.proofs.Undisturbed.CycleHeld.{fits_in}
 use Rattle.sercos_law_run.proofs.Undisturbed.InTime.{comes_to_four}
 use Rattle.sercos_law_run.proofs.Undisturbed.Stops.LaterStops.{no_stop_in_four, ready_if_ended, stop_in_three}
 use Rattle.sercos_law_run.proofs.Undisturbed.Checks.OwnFit.{own_fits}
 use Rattle.sercos_law_run.proofs.Undisturbed.Stops.RefusedStops.{refused_stop}
 use Rattle.sercos_law_run.proofs.Undisturbed.Stops.TwoStops.{stop_in_two}
-
-pub inside : (r : RingView) (k : ℕ) → k < length r.drives → k < length (known_of r).drives
-inside r k below = let count = members_count r in omega (arith, count, below)
 
 -- a check for phase 4 that has ended, of a drive of which no own block was outside its limits, has ended well
 abbrev pub ReadyIfEnded : Type 0
@@ -19,7 +16,7 @@ ReadyIfEnded = (r : RingView) (jobs : List Job) (carry : Carry) (restarts : Rest
 
 pub is_ready_if_ended : ReadyIfEnded
 is_ready_if_ended r jobs carry restarts opened t j run clear k below none ended =
-    ready_if_ended r jobs carry restarts opened t j run clear k below (inside r k below) none ended
+    ready_if_ended r jobs carry restarts opened t j run clear k below (in_known r k below) none ended
 
 pub stops_in_two : StopsInTwo
 stops_in_two r jobs carry restarts t j x opened run clear two is =

@@ -1,11 +1,8 @@
 -- In phases 3 and 4 the cycle time lies within the limits of each drive, and a plan fits what the ring asks.
-use Rattle.sercos_law_run.proofs.Words.{◌≡◌, ◌⊎◌, inl, inr, ℕ, ◌+◌, ◌*◌, ◌/◌, ◌%◌, ◌<◌, ◌≤◌, Bool, true, false, List, [], ◌∷◌, length, Option, Some, None, refl, sym, ap, ◌∙◌, subst, arith, if◌then◌else◌, same_Some, nat_lt, unwrap_or, option_map, then_some, w16, to_le_bytes, option_or, nat_tests, Job, bytes_in, begun_by, idn, is_checked, known_of, member, tasks_for, Past, outcomes, stored, newest_to, all_writes, IsConfigured, IsWrittenLast, IsWithin, PlanView, is_fixed, is_protected, built_in_block, row, CycleTime, blocks_fault, find_block, store_of, write_fault, put_fault, DriveView, RingView, Block, data_at, annals, blocks_in, CycleView, Carry, Restarts, IsStoreOf, Holds, start_up, drive_at, given_mst, given_before, middle, IsRun, IsClear, at_start, after_mst, behind_mdt, view_of, views_of, IsOpened, IsFit, written_stays, holds_newest}
-use Rattle.sercos_idn.specs.Attributes.{attribute_of}
+use Rattle.sercos_law_run.proofs.Words.{◌≡◌, ◌⊎◌, inl, inr, ℕ, ◌+◌, ◌*◌, ◌/◌, ◌%◌, ◌<◌, ◌≤◌, Bool, true, false, List, [], ◌∷◌, length, Option, Some, None, refl, sym, ap, ◌∙◌, subst, arith, if◌then◌else◌, same_Some, nat_lt, unwrap_or, option_map, then_some, w16, to_le_bytes, option_or, nat_tests, Job, bytes_in, begun_by, idn, is_checked, known_of, member, tasks_for, Past, outcomes, stored, newest_to, all_writes, IsConfigured, IsWrittenLast, IsWithin, PlanView, is_fixed, is_protected, built_in_block, row, CycleTime, blocks_fault, find_block, store_of, write_fault, put_fault, DriveView, RingView, Block, data_at, annals, blocks_in, CycleView, Carry, Restarts, IsStoreOf, Holds, start_up, drive_at, given_mst, given_before, middle, IsRun, IsClear, at_start, after_mst, behind_mdt, view_of, views_of, IsOpened, IsFit, written_stays, holds_newest, attribute_of, built_in, data_fault}
 use Rattle.sercos_law_run.proofs.Held.StoreOf.{store_of_so}
 use Rattle.sercos_law_run.proofs.Undisturbed.JobsBegun.{begun_then}
 use Rattle.sercos_law_run.proofs.Settings.NoCheck127.{next_still, stays}
-use Rattle.sercos_block.specs.BuiltIns.{built_in}
-use Rattle.sercos_block.specs.Stores.{data_fault}
 use Rattle.sercos_law_run.proofs.Start.BlockFinds.{find_store_of}
 use Rattle.sercos_law_run.proofs.Start.LimitLemmas.{refuses_cycle}
 use Rattle.sercos_law_run.proofs.Start.CheckPasses.{ring_drive}

@@ -1,6 +1,6 @@
 -- In phase 4 the requests to a drive end one after the other, each within the cycles that this profile gives a request, if none lasts
 -- longer; and in undisturbed cycles none does.
-use Rattle.sercos_law_run.proofs.Words.{◌≡◌, inl, inr, ℕ, zero, suc, ◌+◌, ◌*◌, ◌<◌, ◌≤◌, false, List, [], ◌∷◌, ◌++◌, length, Option, Some, None, refl, sym, ap, ◌∙◌, subst, arith, if◌then◌else◌, length-append, is_none, is_some, cases_lt, false≢true, Job, Outcome, next_step, outcome_of, PlanView, store_of, RingView, Begun, open_in, answers_in, CycleView, Fall, reads_count, outcomes_in, with_outcome, Known, Task, known_of, member, outcomes, is_idle, not_longer, Carry, Restarts, epoch_begun, View, standing, AreSound, AreAtWork, AreTimed, RecoversInTime, open_since, drive_at, master_calls, looks_back, IsRun, IsClear, AreBegunTasks, behind_mdt, view_of, views_of, IsOpened, request_cycles, GoesOn, views_since, always_opens, rest_since, comes_timed}
+use Rattle.sercos_law_run.proofs.Words.{◌≡◌, inl, inr, ℕ, zero, suc, ◌+◌, ◌*◌, ◌<◌, ◌≤◌, false, List, [], ◌∷◌, ◌++◌, length, Option, Some, None, refl, sym, ap, ◌∙◌, subst, arith, if◌then◌else◌, length-append, is_none, is_some, cases_lt, false≢true, Job, Outcome, next_step, outcome_of, PlanView, store_of, RingView, Begun, open_in, answers_in, CycleView, Fall, reads_count, outcomes_in, with_outcome, Known, Task, known_of, member, outcomes, is_idle, not_longer, Carry, Restarts, epoch_begun, View, standing, AreSound, AreAtWork, AreTimed, RecoversInTime, open_since, drive_at, master_calls, looks_back, IsRun, IsClear, AreBegunTasks, behind_mdt, view_of, views_of, IsOpened, request_cycles, GoesOn, views_since, always_opens, rest_since, comes_timed, times_suc}
 use Rattle.sercos_law_run.proofs.Held.Runs.{small}
 use Rattle.sercos_law_run.proofs.Headline.HeadlineRuns.{all_stand, first_store}
 use Rattle.sercos_law_run.proofs.Undisturbed.BehindRests.{Follow, follow_on}
@@ -18,7 +18,6 @@ use Rattle.sercos_law_run.proofs.Undisturbed.PhaseTwo.{listed_all}
 use Rattle.sercos_law_run.proofs.Undisturbed.Arriving.Small.{first_is}
 use Rattle.sercos_law_run.proofs.Undisturbed.Stops.StopStays.{stop_after}
 use Rattle.sercos_law_run.proofs.Undisturbed.Cited.{never_stops_in_four}
-use Rattle.sercos_law_run.proofs.Bounds.BoundSums.{times_suc}
 
 -- THE REQUEST AT WORK: all that were begun before it have ended.
 record IsAlone (n : ℕ) (begun : List Begun) : Type 0 where

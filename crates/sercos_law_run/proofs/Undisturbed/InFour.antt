@@ -2,7 +2,6 @@
 -- to a drive is open in each cycle until the first i + 1 of its requests have ended.
 use Rattle.sercos_law_run.proofs.Words.{◌≡◌, ◌⊎◌, inl, inr, ℕ, zero, suc, ◌+◌, ◌<◌, ◌≤◌, Bool, true, false, List, [], ◌∷◌, ◌++◌, drop, length, Option, None, refl, sym, ap, ◌∙◌, subst, arith, is_none, is_some, false≢true, Job, Outcome, has_next, PlanView, startup_bound, RingView, Begun, open_in, begun_by, CycleView, Stop, reads_count, is_ready, count_requests, Task, known_of, member, tasks_for, Past, outcomes, is_idle, still_left, Carry, Restarts, begun_in, View, AreAtWork, mst_in, ats_in, at_calls, own_mst, begin_calls, master_calls, looks_back, middle, IsRun, IsClear, AreNumbered, AreBegunTasks, at_start, behind_mdt, view_of, views_of, IsOpened, StartsEpoch, HasBadCheck, AreUndisturbed, views_since}
 use Rattle.sercos_law_run.proofs.Agenda.ReportedRuns.{count_so}
-use Rattle.sercos_law_run.proofs.Agenda.Requests.{numbered_drop}
 use Rattle.sercos_law_run.proofs.Agenda.TaskRuns.{all_ended}
 use Rattle.sercos_law_run.proofs.Held.Extended.{Extends}
 use Rattle.sercos_law_run.proofs.Held.Runs.{holding}
@@ -12,11 +11,11 @@ use Rattle.sercos_law_run.proofs.Undisturbed.Checks.PassedCycles.{views_split}
 use Rattle.sercos_law_run.proofs.Undisturbed.Reached.{all_ready_in}
 use Rattle.sercos_law_run.proofs.Undisturbed.Sections.{some_open}
 use Rattle.sercos_law_run.proofs.Undisturbed.Arriving.Small.{never_both}
-use Rattle.sercos_law_run.proofs.Undisturbed.Cited.{inside}
 use Rattle.sercos_law_run.proofs.Undisturbed.Stops.StopStays.{none_before, stop_after}
-use Rattle.sercos_law_run.proofs.Agenda.Requests.{are_requests}
+use Rattle.sercos_law_run.proofs.Agenda.Requests.{are_requests, numbered_drop}
 use Rattle.sercos_law_run.proofs.Cited.{begins_tasks, work_in_four}
 use Rattle.sercos_law_run.proofs.Undisturbed.Cited.{comes_to_phase_four, never_stops_in_four}
+use Rattle.sercos_law_run.proofs.Views.Members.{in_known}
 
 -- nothing is left of a list of which no more items are dropped than it has
 dropped_all : (xs : List Task) (n : ℕ) → drop n xs ≡ [] → length xs ≤ n
@@ -57,7 +56,7 @@ module _ (r : RingView) (jobs : List Job) (carry : Carry) (restarts : Restarts) 
       ready : is_ready (member (known_of r) failed.place) (outcomes (looks_back r jobs (master_calls r carry restarts (t ∷ (newer ++ one ∷ (older ++ before))))) failed.place) ≡ true
       ready = ap (is_ready (member (known_of r) failed.place)) (outcomes_kept r jobs carry restarts opened t
           (newer ++ one ∷ (older ++ before)) on.1 failed.place)
-          ∙ all_ready_in (known_of r) (tasks_for (known_of r) jobs) (middle r carry restarts t.sent (newer ++ one ∷ (older ++ before))) (let now = on.1.now in omega (arith, now, four)) failed.place (inside r failed.place failed.there)
+          ∙ all_ready_in (known_of r) (tasks_for (known_of r) jobs) (middle r carry restarts t.sent (newer ++ one ∷ (older ++ before))) (let now = on.1.now in omega (arith, now, four)) failed.place (in_known r failed.place failed.there)
 
   pub four_since : startup_bound r ≤ length older → t.phase ≡ 4 → one.phase ≡ 4
   four_since long four = by (comes_to_phase_four r jobs carry restarts one older before opened rest_run.0 rest_run.1 starts calm long)
@@ -92,10 +91,10 @@ module _ (r : RingView) (jobs : List Job) (carry : Carry) (restarts : Restarts) 
         subst AreNumbered (sym left.1) (numbered_drop left.0 (tasks_for (known_of r) jobs k) (are_requests (known_of r) jobs k).1)
 
     begun_tasks : AreBegunTasks (known_of r) k (now_in t j).plan ((now_in t j).waiting k) (now_in t j).now.phase (begun_by ((now_in t j).calls k)) ((now_in t j).tasks k)
-    begun_tasks = begins_tasks (known_of r) (tasks_for (known_of r) jobs) (middle r carry restarts t.sent j) k (inside r k below)
+    begun_tasks = begins_tasks (known_of r) (tasks_for (known_of r) jobs) (middle r carry restarts t.sent j) k (in_known r k below)
 
     pub ready_now : is_ready (member (known_of r) k) (outcomes (behind_mdt r jobs carry restarts t.sent j) k) ≡ true
-    ready_now = all_ready_in (known_of r) (tasks_for (known_of r) jobs) (middle r carry restarts t.sent j) (let is = four_now in omega (arith, is)) k (inside r k below)
+    ready_now = all_ready_in (known_of r) (tasks_for (known_of r) jobs) (middle r carry restarts t.sent j) (let is = four_now in omega (arith, is)) k (in_known r k below)
 
     -- the requests begun come after the start-up's
     pub counted : count_requests ((behind_mdt r jobs carry restarts t.sent j).tasks k) + (reads_count (member (known_of r) k) + 13) ≡ length (begun_by ((behind_mdt r jobs carry restarts t.sent j).calls k))
@@ -110,7 +109,7 @@ module _ (r : RingView) (jobs : List Job) (carry : Carry) (restarts : Restarts) 
         by false is = is
         by true is =
             let empty = work_in_four (known_of r) (tasks_for (known_of r) jobs) (at_calls r carry (length j) (ats_in t.sent) (own_mst carry (length j) (mst_in t.sent) (begin_calls restarts (length j) (master_calls r carry restarts j)))) k
-            (λ n. (are_requests (known_of r) jobs n).0) (λ n. (are_requests (known_of r) jobs n).1) (inside r k below) four_now none planned is in
+            (λ n. (are_requests (known_of r) jobs n).0) (λ n. (are_requests (known_of r) jobs n).1) (in_known r k below) four_now none planned is in
             let all = dropped_all ((behind_mdt r jobs carry restarts t.sent j).waiting k) (count_requests ((behind_mdt r jobs carry restarts t.sent j).tasks k)) empty in
             let ended = all_ended (known_of r) k has_next (now_in t j).plan ((now_in t j).waiting k) (now_in t j).now.phase (begun_by ((now_in t j).calls k)) ((now_in t j).tasks k) begun_tasks is in
             let count = counted in

@@ -1,9 +1,7 @@
 -- What the requests of a start-up cost a drive: those of phase 2 together, and those of phase 3.
-use Rattle.sercos_law_run.proofs.Words.{◌≡◌, ℕ, zero, suc, ◌+◌, ◌*◌, ◌≤◌, true, false, List, [], ◌∷◌, ◌++◌, length, map, drop, Option, Some, None, refl, sym, ap, ◌∙◌, subst, arith, length-append, slice_get, slice_index, option_or, sum_by, sum_by-cons, sum_by-append, sum_by-take-drop, is_list, Idn, Request, bytes_in, PlanView, Block, Zero, CycleTime, T1min, Tatmt, T4min, Tatat, Tmtsy, Tmtsg, Empty, built_in_block, row, blocks_fault, find_block, store_of, DriveView, Begun, length-bytes_in, Known, MemberView, member, member_of, idn, declared_times, reads, reads_count, writes, writes_word, reads_length, length_map, cost_of, cost_in, IsWord, AreWords, IsListBlock, IsWordWrite, AreWordWrites, ReadsCost, WritesCost, ListReadCosts, read_cycles, write_cycles, command_cycles, jobs_of, AreAt}
-use Rattle.sercos_idn.specs.Attributes.{attribute_of}
+use Rattle.sercos_law_run.proofs.Words.{◌≡◌, ℕ, zero, suc, ◌+◌, ◌*◌, ◌≤◌, true, false, List, [], ◌∷◌, ◌++◌, length, map, drop, Option, Some, None, refl, sym, ap, ◌∙◌, subst, arith, length-append, slice_get, slice_index, option_or, sum_by, sum_by-cons, sum_by-append, sum_by-take-drop, is_list, Idn, Request, bytes_in, PlanView, Block, Zero, CycleTime, T1min, Tatmt, T4min, Tatat, Tmtsy, Tmtsg, Empty, built_in_block, row, blocks_fault, find_block, store_of, DriveView, Begun, length-bytes_in, Known, MemberView, member, member_of, idn, declared_times, reads, reads_count, writes, writes_word, reads_length, length_map, cost_of, cost_in, IsWord, AreWords, IsListBlock, IsWordWrite, AreWordWrites, ReadsCost, WritesCost, ListReadCosts, read_cycles, write_cycles, command_cycles, jobs_of, AreAt, attribute_of, built_in}
 use Rattle.sercos_idn.specs.declared.kinds.Length.TheVariants as len
 use Rattle.sercos_step.specs.declared.request.Request.TheVariants as request
-use Rattle.sercos_block.specs.BuiltIns.{built_in}
 use Rattle.sercos_law_run.proofs.Start.BlockFinds.{find_store_of}
 
 -- what comes after the first items of two lists

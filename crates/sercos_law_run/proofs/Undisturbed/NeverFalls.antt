@@ -1,7 +1,5 @@
 -- In an undisturbed epoch the ring never falls, and each drive stands in the commanded phase.
-use Rattle.sercos_law_run.proofs.Words.{◌≡◌, ℕ, zero, suc, ◌<◌, ◌≤◌, true, false, List, [], ◌∷◌, ◌++◌, length, Option, None, sym, ap, ◌∙◌, subst, arith, nat_le, is_some, slice_index_or, and_parts, nat_tests, Job, is_ring, DriveView, RingView, cycles_open, CycleView, Fall, known_of, fall_of, Carry, Restarts, View, IsWhole, AreWhole, IsPassed, ArePassed, BeginsEpoch, staying, calls_in, channel_calls, no_drive, drive_at, IsRun, IsClear, behind_mdt, view_of, views_of, IsOpened, AreUndisturbed, StartsEpoch, views_since, NoneFalls, StaysUp, none_late, hears_throughout, stands_throughout}
-use Rattle.sercos_block.specs.Rings.{is_drive, are_drives, are_drive_numbers}
-use Rattle.sercos_law_channel.specs.Handshake.Runs.{IsRun as IsViewRun}
+use Rattle.sercos_law_run.proofs.Words.{◌≡◌, ℕ, zero, suc, ◌<◌, ◌≤◌, true, false, List, [], ◌∷◌, ◌++◌, length, Option, None, sym, ap, ◌∙◌, subst, arith, nat_le, is_some, slice_index_or, and_parts, nat_tests, Job, is_ring, DriveView, RingView, cycles_open, CycleView, Fall, known_of, fall_of, Carry, Restarts, View, IsWhole, AreWhole, IsPassed, ArePassed, BeginsEpoch, staying, calls_in, channel_calls, no_drive, drive_at, IsRun, IsClear, behind_mdt, view_of, views_of, IsOpened, AreUndisturbed, StartsEpoch, views_since, NoneFalls, StaysUp, none_late, hears_throughout, stands_throughout, is_drive, are_drives, are_drive_numbers, IsViewRun}
 use Rattle.sercos_law_run.proofs.Journal.StationLemmas.{drives_so}
 use Rattle.sercos_law_run.proofs.Headline.HeadlineRuns.{all_stand}
 use Rattle.sercos_law_run.proofs.Undisturbed.Arriving.WholeIn.{whole_in}

@@ -1,9 +1,8 @@
 -- How many cycles one request takes: those in which its steps are open are fewer than this profile gives a request.
-use Rattle.sercos_law_run.proofs.Words.{◌≡◌, ◌⊎◌, inl, inr, ℕ, ◌+◌, ◌*◌, ◌<◌, ◌≤◌, List, [], ◌∷◌, ◌++◌, length, Option, None, refl, sym, ap, ◌∙◌, subst, arith, length-append, cases_lt, Idn, Request, Answer, Step, read_ends, write_ends, times_le, IsStore, Block, Entry, accepted, Begun, open_in, step_at, with_step, steps_begun, steps_in, answers_in, command, epoch_begun, epoch_records, epoch_log, AreInStep, AreInTurn, IsRow, IsPart, Unsent, Unheard, AreParts, AreReplies, HaveBlocks, IsTransfer, View, standing, IsSound, AreSound, AreSmall, in_step, IsEpoch, epoch, split_replies, split_blocks, fall_into_parts, length-replies_of, length-steps_begun, HasReplies, answered_replies, AreTimed, AreListed, cost_of, cost_in, IsWhole, AreWhole, RecoversInTime, RecoversSince, open_since}
+use Rattle.sercos_law_run.proofs.Words.{◌≡◌, ◌⊎◌, inl, inr, ℕ, ◌+◌, ◌*◌, ◌<◌, ◌≤◌, List, [], ◌∷◌, ◌++◌, length, None, refl, ap, ◌∙◌, subst, arith, length-append, cases_lt, Idn, Request, Answer, read_ends, write_ends, times_le, IsStore, Block, Entry, accepted, Begun, open_in, steps_begun, steps_in, answers_in, command, epoch_begun, epoch_records, epoch_log, AreInStep, AreInTurn, IsRow, IsPart, Unsent, Unheard, AreParts, AreReplies, HaveBlocks, IsTransfer, View, standing, IsSound, AreSound, AreSmall, in_step, IsEpoch, epoch, split_replies, split_blocks, fall_into_parts, length-replies_of, length-steps_begun, HasReplies, answered_replies, AreTimed, AreListed, cost_of, cost_in, IsWhole, AreWhole, RecoversInTime, RecoversSince, open_since, few_steps, IsViewRun}
 use Rattle.sercos_step.specs.declared.request.Request.TheVariants as request
 use Rattle.sercos_step.specs.Steps.{AreAnswers}
 use Rattle.sercos_law_channel.specs.Handshake.Parts.{Heard}
-use Rattle.sercos_law_channel.specs.Handshake.Runs.{IsRun as IsViewRun}
 use Rattle.sercos_law_run.proofs.Undisturbed.Stops.LongWrites.{ends_soon}
 use Rattle.sercos_law_run.proofs.Bounds.BoundSums.{times_sum}
 
@@ -18,27 +17,6 @@ command_fits : (busy time : ℕ) → time + 4 * (busy + 1) + 0 < (busy + 2) * (5
 command_fits busy time = let all = room busy time in omega (arith, all)
 
 -- STEPS: requests that have ended have no more steps than answers
-ended_steps : (b : Begun) → step_at b.request b.answers ≡ None → length (steps_begun b.request b.answers) ≤ length b.answers
-ended_steps b shut = by b.answers refl
-  where
-    by : (h : List Answer) → b.answers ≡ h → length (steps_begun b.request b.answers) ≤ length b.answers
-    by [] is = let none = ap (λ (o : Option Step). length (with_step o [])) (ap (step_at b.request) (sym is) ∙ shut) in let all = ap (λ (l : List Answer). length (steps_begun b.request l)) is in omega (arith, none, all)
-    by (a ∷ h) is =
-        let few = length-steps_begun b.request h in
-        let top = ap (λ (o : Option Step). length (with_step o (steps_begun b.request h))) (ap (step_at b.request) (sym is) ∙ shut) in
-        let all = ap (λ (l : List Answer). length (steps_begun b.request l)) is in
-        let long = ap (λ (l : List Answer). length l) is in
-        omega (arith, few, top, all, long)
-
-rest_steps : (begun : List Begun) → AreInTurn begun → open_in begun ≡ None → length (steps_in begun) ≤ length (answers_in begun)
-rest_steps [] turn shut = omega arith
-rest_steps (b ∷ older) turn shut =
-    let here = ended_steps b shut in
-    let before = rest_steps older turn.0 turn.1.0 in
-    let steps = length-append (steps_begun b.request b.answers) (steps_in older) in
-    let answers = length-append b.answers (answers_in older) in
-    omega (arith, here, before, steps, answers)
-
 module _ (busy time : ℕ) (blocks : List Block) (small : AreSmall blocks) (store : IsStore blocks) where
   -- A LONG WRITE has few answers.
   module _ (all : List View) (run : IsViewRun busy all) (sound : AreSound blocks all) (b : Begun) (old : List Begun)
@@ -105,7 +83,7 @@ module _ (busy time : ℕ) (blocks : List Block) (small : AreSmall blocks) (stor
         few : length b.answers ≤ 517 → length (steps_in (epoch_begun all)) ≤ 518 + length (answers_in old)
         few answers =
             let most = length-steps_begun b.request b.answers in
-            let older = rest_steps old turn_now.0 shut in
+            let older = few_steps old turn_now.0 shut in
             let long : length (steps_in (epoch_begun all)) ≡ length (steps_begun b.request b.answers) + length (steps_in old) =
             ap (λ (l : List Begun). length (steps_in l)) split ∙ length-append (steps_begun b.request b.answers) (steps_in old) in
             omega (arith, most, answers, older, long)

@@ -1,5 +1,5 @@
 -- In an undisturbed epoch phase 3 lasts no longer than the check of a drive takes, unless one hasn't ended well.
-use Rattle.sercos_law_run.proofs.Words.{◌≡◌, ◌⊎◌, inl, inr, ℕ, suc, ◌+◌, ◌*◌, ◌<◌, ◌≤◌, Bool, true, false, not, ◌&&◌, List, [], ◌∷◌, ◌++◌, length, Option, Some, None, refl, sym, ap, ap₂, ◌∙◌, subst, arith, if◌then◌else◌, is_some, sum_by, and_parts, false≢true, not-true, Job, Outcome, outcome_of, PlanView, store_of, RingView, Begun, open_in, begun_by, CycleView, Fall, reads_count, is_checked, is_ready, ended_well, given, outcomes_in, with_outcome, Known, MemberView, Task, known_of, member, ended_there, before_end, Past, outcomes, fall_of, is_done, is_done_in, all_ready, each_passes, Carry, Restarts, epoch_begun, View, standing, AreSound, open_since, IsWhole, AreWhole, AreTimed, AreListed, cost_of, cost_in, command_cycles, drive_at, master_calls, looks_back, IsRun, IsClear, AreBegunTasks, at_start, behind_mdt, view_of, views_of, IsOpened, AreUndisturbed, StartsEpoch, views_since, AreInThree, jobs_of, AreAt, not_longer, rest_since, list_read_costs, comes_timed}
+use Rattle.sercos_law_run.proofs.Words.{◌≡◌, ◌⊎◌, inl, inr, ℕ, suc, ◌+◌, ◌*◌, ◌<◌, ◌≤◌, Bool, true, false, not, ◌&&◌, List, [], ◌∷◌, ◌++◌, length, Option, Some, None, refl, sym, ap, ap₂, ◌∙◌, subst, arith, if◌then◌else◌, is_some, sum_by, false≢true, not-true, Job, Outcome, outcome_of, PlanView, store_of, RingView, Begun, open_in, begun_by, CycleView, Fall, reads_count, is_checked, is_ready, outcomes_in, Known, MemberView, Task, known_of, member, ended_there, Past, outcomes, fall_of, is_done, is_done_in, all_ready, each_passes, Carry, Restarts, epoch_begun, View, standing, AreSound, open_since, IsWhole, AreWhole, AreTimed, AreListed, cost_of, cost_in, command_cycles, drive_at, master_calls, looks_back, IsRun, IsClear, AreBegunTasks, at_start, behind_mdt, view_of, views_of, IsOpened, AreUndisturbed, StartsEpoch, views_since, AreInThree, jobs_of, AreAt, not_longer, rest_since, list_read_costs, comes_timed, stays_ready}
 use Rattle.sercos_law_run.proofs.Agenda.AtWork.{IsFound, found_some}
 use Rattle.sercos_law_run.proofs.Start.CheckPasses.{KeepsRules, ring_drive}
 use Rattle.sercos_law_run.proofs.Views.Members.{members_count}
@@ -27,21 +27,12 @@ use Rattle.sercos_law_run.proofs.Undisturbed.JobsBegun.{begun_end, begun_now, ta
 use Rattle.sercos_law_run.proofs.Undisturbed.PhaseTwo.{section_two, listed_all, two_lasts}
 
 -- A CHECK that has ended well stays so, whatever outcome comes.
-given_stays : (outs : List Outcome) (o : Outcome) (i : ℕ) → ended_well (given outs i) ≡ true → ended_well (given (outs ++ o ∷ []) i) ≡ true
-given_stays outs o i well = let there = ended_there outs i well in ap ended_well (before_end outs o i (λ e. omega (arith, e, there))) ∙ well
-
-pub ready_stays : (m : MemberView) (outs : List Outcome) (o : Option Outcome) → is_ready m outs ≡ true → is_ready m (with_outcome o outs) ≡ true
-ready_stays m outs None ready = ready
-ready_stays m outs (Some o) ready =
-    let both = and_parts (is_checked m outs) (ended_well (given outs (reads_count m + 12))) ready in
-    ap₂ (λ (a b : Bool). a && b) (given_stays outs o (reads_count m + 11) both.0) (given_stays outs o (reads_count m + 12) both.1)
-
 pub unready_before : (m : MemberView) (old new : List Outcome) → Extends old new → is_ready m new ≡ false → is_ready m old ≡ false
 unready_before m old new (o, is) unready = by (is_ready m old) refl
   where
     by : (b : Bool) → is_ready m old ≡ b → is_ready m old ≡ false
     by false off = off
-    by true on = absurd (false≢true (sym unready ∙ ap (is_ready m) is ∙ ready_stays m old o on))
+    by true on = absurd (false≢true (sym unready ∙ ap (is_ready m) is ∙ stays_ready m old o on))
 
 -- where the phase comes to 3, or stays there
 pub comes_three : (done : Bool) (n : ℕ) → (if done then n + 1 else n) ≡ 3 → ((done ≡ true) × (n ≡ 2)) ⊎ ((done ≡ false) × (n ≡ 3))

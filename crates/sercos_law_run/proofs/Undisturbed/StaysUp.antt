@@ -1,8 +1,7 @@
 -- In an undisturbed epoch the ring doesn't fall at the end of a cycle, if no step is open too long and each drive is heard in phases 3
 -- and 4.
-use Rattle.sercos_law_run.proofs.Words.{◌≡◌, ℕ, ◌+◌, ◌<◌, ◌≤◌, ◌||◌, Bool, true, false, not, ◌&&◌, List, [], ◌∷◌, ◌++◌, length, Option, Some, None, refl, sym, ◌∙◌, ap, subst, arith, if◌then◌else◌, ◌==◌, nat_le, is_some, option_map, unwrap_or, min, false≢true, eqb-true, leb-true, nat_tests, Job, Request, Answer, RingView, Begun, open_in, answers_it, answer_in, with_answer, Begin, Send, Hear, EndCycle, begun_by, age_of, cycles_open, phase_in, CycleView, is_place, Known, known_of, tasks_for, first_found, Past, Turn, first_from, first_place, has_identified, is_identified, count_addressed, is_idle, addressed_in, ready_to_send, after_mdt, fall_of, Carry, Restarts, Heard, View, command, with_heard, with_begun, unless_restart, epoch_begun, begun_in, BeginsEmpty, calls_in, channel_calls, drive_at, master_calls, middle, looks_back, IsNext, IsRun, IsClear, at_start, behind_ats, behind_mdt, after_mst, heard_last, view_of, views_of, IsOpened, IsUndisturbed, AreUndisturbed, StartsEpoch, begins_empty, comes_up}
+use Rattle.sercos_law_run.proofs.Words.{◌≡◌, ℕ, ◌+◌, ◌<◌, ◌≤◌, ◌||◌, Bool, true, false, not, ◌&&◌, List, [], ◌∷◌, ◌++◌, length, Option, Some, None, refl, sym, ◌∙◌, ap, subst, arith, if◌then◌else◌, ◌==◌, nat_le, is_some, option_map, unwrap_or, min, false≢true, eqb-true, leb-true, nat_tests, Job, Request, Answer, RingView, Begun, open_in, answers_it, answer_in, with_answer, Begin, Send, Hear, EndCycle, begun_by, age_of, cycles_open, phase_in, CycleView, is_place, Known, known_of, tasks_for, first_found, Past, Turn, first_from, first_place, has_identified, is_identified, count_addressed, is_idle, addressed_in, ready_to_send, after_mdt, fall_of, Carry, Restarts, Heard, View, command, with_heard, with_begun, unless_restart, epoch_begun, begun_in, BeginsEmpty, calls_in, channel_calls, drive_at, master_calls, middle, looks_back, IsNext, IsRun, IsClear, at_start, behind_ats, behind_mdt, after_mst, heard_last, view_of, views_of, IsOpened, IsUndisturbed, AreUndisturbed, StartsEpoch, begins_empty, comes_up, heard_none, IsViewRun}
 use Rattle.sercos_service_master.specs.Calls.{Call}
-use Rattle.sercos_law_channel.specs.Handshake.Runs.{IsRun as IsViewRun}
 use Rattle.sercos_law_run.proofs.Views.MasterSame.{HasHeard, Nothing, One, turn_mdt}
 use Rattle.sercos_law_run.proofs.Views.Members.{in_ring}
 use Rattle.sercos_law_run.proofs.Held.Runs.{kept_at_mst, begun_then}
@@ -11,7 +10,7 @@ use Rattle.sercos_law_run.proofs.Undisturbed.ChannelsKept.{ats_leave, unheard_fi
 use Rattle.sercos_law_run.proofs.Undisturbed.Arriving.Comes.{calm_in}
 use Rattle.sercos_law_run.proofs.Undisturbed.Identified.{phase_comes, mst_whole, starts_so, goes_so, heard_next}
 use Rattle.sercos_law_run.proofs.Undisturbed.NoFalls.{heard_mdt, has_risen, no_fall}
-use Rattle.sercos_law_run.proofs.Views.ViewRuns.{nothing_heard, no_request}
+use Rattle.sercos_law_run.proofs.Views.ViewRuns.{no_request}
 use Rattle.sercos_law_run.proofs.Undisturbed.Arriving.Addressed.{place_so}
 
 -- what is heard on a channel is heard of the drive
@@ -39,7 +38,7 @@ no_age (EndCycle ∷ c) none = ap (λ (o : Option ℕ). option_map (λ age. age 
 
 pub begun_none : (busy : ℕ) → BeginsEmpty busy → (v : View) (past : List View) → IsViewRun busy (v ∷ past) → v.phase ≤ 1 → begun_in v past ≡ []
 begun_none busy empty v past (run, next) early =
-    ap (λ (l : List Begun). with_begun v.begins (with_heard v.heard l)) ended ∙ ap (λ (l : List Begun). with_begun v.begins l) (nothing_heard v.heard) ∙ ap (λ (o : Option Request). with_begun o []) none
+    ap (λ (l : List Begun). with_begun v.begins (with_heard v.heard l)) ended ∙ ap (λ (l : List Begun). with_begun v.begins l) (heard_none v.heard) ∙ ap (λ (o : Option Request). with_begun o []) none
   where
     none : v.begins ≡ None
     none = no_request v.begins (λ some. let two = next.late some in omega (arith, two, early))

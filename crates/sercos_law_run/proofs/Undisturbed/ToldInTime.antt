@@ -1,5 +1,5 @@
 -- Each request that ends is told in the record of its cycle. So in an undisturbed epoch the requests to a drive are reported in time.
-use Rattle.sercos_law_run.proofs.Words.{◌≡◌, inl, inr, ℕ, zero, suc, ◌+◌, ◌*◌, ◌<◌, ◌≤◌, Bool, true, false, if◌then◌else◌, List, [], ◌∷◌, ◌++◌, drop, length, Option, Some, None, refl, sym, ap, ◌∙◌, subst, arith, length-append, append_assoc, is_none, is_some, option_map, slice_get, slice_index, cases_lt, false≢true, slice_get_within, Job, Outcome, next_step, outcome_of, has_next, PlanView, startup_bound, RingView, Begun, open_in, begun_by, CycleView, reads_count, is_ready, Report, broken_number, count_requests, number_in, outcomes_in, with_outcome, Known, Task, known_of, member, tasks_for, get_left, get_map, ready_long, Past, Call, Restart, outcomes, is_idle, fall_of, goes_on, next_phase, new_epoch, still_waiting, broken, Carry, Restarts, heard, passage, mst_in, ats_in, drive_at, station_of, with_at, at_calls, own_mst, begins, master_calls, looks_back, middle, IsRun, IsClear, Channel, channel_at, HasOutcome, HasReport, AreNumbered, told, told_at_end, with_number, after_told, still_to_tell, task_numbers, IsTask, OfReads, OfWrites, Checks3, Lists3, Checks4, Lists4, OfWaiting, AreBegunTasks, behind_mdt, IsOpened, StartsEpoch, HaveTold, left_after, request_cycles, waiting_after, AreUndisturbed, recovers_in_time}
+use Rattle.sercos_law_run.proofs.Words.{◌≡◌, inl, inr, ℕ, zero, suc, ◌+◌, ◌*◌, ◌<◌, ◌≤◌, Bool, true, false, if◌then◌else◌, List, [], ◌∷◌, ◌++◌, drop, length, Option, Some, None, refl, sym, ap, ◌∙◌, subst, arith, length-append, append_assoc, is_none, is_some, option_map, slice_get, slice_index, cases_lt, false≢true, slice_get_within, Job, Outcome, next_step, outcome_of, has_next, PlanView, startup_bound, RingView, Begun, open_in, begun_by, CycleView, reads_count, is_ready, Report, broken_number, count_requests, number_in, outcomes_in, with_outcome, Known, Task, known_of, member, tasks_for, get_left, get_map, ready_long, Past, Call, Restart, outcomes, is_idle, fall_of, goes_on, next_phase, new_epoch, still_waiting, broken, Carry, Restarts, heard, passage, mst_in, ats_in, drive_at, station_of, with_at, at_calls, own_mst, begins, master_calls, looks_back, middle, IsRun, IsClear, Channel, channel_at, HasOutcome, HasReport, AreNumbered, told, told_at_end, with_number, after_told, still_to_tell, task_numbers, IsTask, OfReads, OfWrites, Checks3, Lists3, Checks4, Lists4, OfWaiting, AreBegunTasks, behind_mdt, IsOpened, StartsEpoch, HaveTold, left_after, request_cycles, waiting_after, AreUndisturbed, recovers_in_time, times_suc}
 use Rattle.sercos_telegram.specs.declared.layout.Kind.TheVariants as kinds
 use Rattle.sercos_law_run.proofs.Agenda.TaskRuns.{all_ended}
 use Rattle.sercos_law_run.proofs.Headline.HeadlineRuns.{keeps_all}
@@ -13,10 +13,9 @@ use Rattle.sercos_law_run.proofs.Undisturbed.OneRequest.{room}
 use Rattle.sercos_law_run.proofs.Undisturbed.PhaseCounts.{end_kept}
 use Rattle.sercos_law_run.proofs.Undisturbed.PhaseZero.{in_zero}
 use Rattle.sercos_law_run.proofs.Undisturbed.Arriving.Small.{first_is, never_both}
-use Rattle.sercos_law_run.proofs.Undisturbed.Cited.{inside}
 use Rattle.sercos_law_run.proofs.Agenda.Requests.{are_requests}
 use Rattle.sercos_law_run.proofs.Cited.{begins_tasks, told_in_order}
-use Rattle.sercos_law_run.proofs.Bounds.BoundSums.{times_suc}
+use Rattle.sercos_law_run.proofs.Views.Members.{in_known}
 
 -- NUMBERS that were told
 abbrev pub AllTold : List CycleView → List (Option ℕ) → Type 0
@@ -154,7 +153,7 @@ module _ (r : RingView) (jobs : List Job) (carry : Carry) (restarts : Restarts) 
       ∙ ap (λ (b : Bool). told (known_of r) (tasks_for (known_of r) jobs) k (if b then Restart ∷ master_calls r carry restarts j else master_calls r carry restarts j)) quiet)
 
   in_order : (j : List CycleView) → after_told (told_by j) (left j) ≡ task_numbers (tasks_for (known_of r) jobs k)
-  in_order j = told_in_order (known_of r) (tasks_for (known_of r) jobs) (master_calls r carry restarts j) k (are_requests (known_of r) jobs k).1 (inside r k below) (restarts_so r carry restarts j)
+  in_order j = told_in_order (known_of r) (tasks_for (known_of r) jobs) (master_calls r carry restarts j) k (are_requests (known_of r) jobs k).1 (in_known r k below) (restarts_so r carry restarts j)
 
   left_next : (t : CycleView) (j : List CycleView) → restarts (length j) 0 ≡ false → numbers_told (falls_in t j) ((now_in t j).now.report k) (broken (now_in t j) k) ++ left (t ∷ j) ≡ left j
   left_next t j quiet = same_after (told_by j) _ _
@@ -162,7 +161,7 @@ module _ (r : RingView) (jobs : List Job) (carry : Carry) (restarts : Restarts) 
 
   told_in : (t : CycleView) (j : List CycleView) → IsRun r jobs carry restarts (t ∷ j) → IsClear (t ∷ j) → (x : Report) → HasReport (told_at_end (falls_in t j) ((now_in t j).now.report k) (broken (now_in t j) k) []) x.number x.outcome
       → HasOutcome t.events.outcomes x.number x.outcome
-  told_in t j run clear x has = ((keeps_all r jobs carry restarts opened t j run clear).reported.events x.number x.outcome).1 (inr (k, inside r k below, has))
+  told_in t j run clear x has = ((keeps_all r jobs carry restarts opened t j run clear).reported.events x.number x.outcome).1 (inr (k, in_known r k below, has))
 
   -- in phase 0 of an epoch all that wait are left
   none_reported : (before : List CycleView) → (looks_back r jobs (master_calls r carry restarts before)).now.report k ≡ None
@@ -179,7 +178,7 @@ module _ (r : RingView) (jobs : List Job) (carry : Carry) (restarts : Restarts) 
       let tasks : (looks_back r jobs (master_calls r carry restarts before)).tasks k ≡ [] = (in_zero r jobs carry restarts before starts).tasks k in
       let begun : begun_by ((looks_back r jobs (master_calls r carry restarts before)).calls k) ≡ [] =
       none_of (known_of r) k _ _ _ (begun_by ((looks_back r jobs (master_calls r carry restarts before)).calls k)) ((looks_back r jobs (master_calls r carry restarts before)).tasks k) tasks
-      (begins_tasks (known_of r) (tasks_for (known_of r) jobs) (master_calls r carry restarts before) k (inside r k below)) in
+      (begins_tasks (known_of r) (tasks_for (known_of r) jobs) (master_calls r carry restarts before) k (in_known r k below)) in
       all_left (channel_at (looks_back r jobs (master_calls r carry restarts before)) k) (none_reported before) (ap open_in begun) tasks
 
   -- THE REQUESTS THAT WERE LEFT: those that were told in these cycles, and then those that are left still; regardless of falls, if the
@@ -244,7 +243,7 @@ module _ (r : RingView) (jobs : List Job) (carry : Carry) (restarts : Restarts) 
     now = behind_mdt r jobs carry restarts t.sent j
 
     begun_tasks : AreBegunTasks (known_of r) k now.plan (now.waiting k) now.now.phase (begun_by (now.calls k)) (now.tasks k)
-    begun_tasks = begins_tasks (known_of r) (tasks_for (known_of r) jobs) (middle r carry restarts t.sent j) k (inside r k below)
+    begun_tasks = begins_tasks (known_of r) (tasks_for (known_of r) jobs) (middle r carry restarts t.sent j) k (in_known r k below)
 
     waits_numbered : AreNumbered (now.waiting k)
     waits_numbered = numbered r jobs carry restarts opened k below t j run clear on four

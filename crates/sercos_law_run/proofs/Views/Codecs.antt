@@ -1,10 +1,7 @@
 -- What was said is read back from what was sent.
-use Rattle.sercos_law_run.proofs.Words.{◌≡◌, ◌⊎◌, inl, inr, ℕ, zero, suc, ◌+◌, ◌*◌, ◌/◌, ◌%◌, ◌<◌, ◌≤◌, Bool, true, false, ◌&&◌, List, [], ◌∷◌, ◌++◌, length, refl, sym, ap, ap₂, ◌∙◌, arith, if◌then◌else◌, cond, ◌==◌, nat_le, Option, Some, None, is_some, is_none, option_map, slice_index, le-leb, nat_tests, has, all_drives, mst_content, single_fault, joint_fault, head_fault-none, Block, number_at, carried_len, Shown, shown_by, said_by, mst_got, told_at, lies_within, mdt_got, shown_word, word_said, record_said}
-use Rattle.sercos_telegram.specs.Words.{control_of, status_of}
-use Rattle.sercos_telegram.specs.Spells.{word_at, word_bytes, fields}
-use Rattle.sercos_telegram.specs.Faults.{head_fault, mst_fault}
+use Rattle.sercos_law_run.proofs.Words.{◌≡◌, ◌⊎◌, inl, inr, ℕ, zero, suc, ◌+◌, ◌*◌, ◌/◌, ◌%◌, ◌<◌, ◌≤◌, Bool, true, false, ◌&&◌, List, [], ◌∷◌, ◌++◌, length, refl, sym, ap, ap₂, ◌∙◌, arith, if◌then◌else◌, cond, ◌==◌, nat_le, Option, Some, None, is_some, is_none, option_map, slice_index, le-leb, nat_tests, has, all_drives, mst_content, single_fault, joint_fault, head_fault-none, Block, number_at, carried_len, Shown, shown_by, said_by, mst_got, told_at, lies_within, mdt_got, shown_word, word_said, record_said, control_of, status_of, word_at, word_bytes, fields, head_fault, mst_fault, single_in}
 use Rattle.sercos_service_master.specs.Begun.{Said}
-use Rattle.sercos_drive.specs.Heard.{mst_in, single_in, joint_in}
+use Rattle.sercos_drive.specs.Heard.{mst_in, joint_in}
 use Rattle.sercos_law_run.proofs.Views.DriveSame.{said_to}
 
 -- THE MST

@@ -43,7 +43,7 @@ pub record AfterAts (s : Known) (k : ℕ) (such : List ℕ → Type 0) (p q : Pa
 pub ats_none : (s : Known) (k : ℕ) (such : List ℕ → Type 0) (p : Past) → AfterAts s k such p p
 ats_none s k such p = record { has = Nothing refl; phase_is = refl; whole_is = refl; turns_are = refl }
 
-not_taken : (a b : Bool) (heard : Bool) → heard ≡ true → (a && (not heard && b)) ≡ true → ⊥
+pub not_taken : (a b : Bool) (heard : Bool) → heard ≡ true → (a && (not heard && b)) ≡ true → ⊥
 not_taken true b true is taken = false≢true taken
 not_taken true b false is taken = false≢true is
 not_taken false b heard is taken = false≢true taken

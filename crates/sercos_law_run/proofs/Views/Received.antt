@@ -1,10 +1,8 @@
 -- What a drive gets of the MDT is what the master tells it, or nothing.
-use Rattle.sercos_law_run.proofs.Words.{◌≡◌, inl, inr, ℕ, zero, suc, ◌+◌, ◌<◌, ◌≤◌, Bool, true, false, not, ◌&&◌, List, [], ◌∷◌, ◌++◌, length, Option, Some, None, refl, sym, ◌∙◌, ap, subst, arith, if◌then◌else◌, append_assoc, ◌==◌, nat_le, nat_lt, slice_index, slice_index_or, is_some, is_none, option_map, then_some, option_or, cases_eq, and_parts, nat_tests, all_drives, joint_fault, Block, DriveView, RingView, is_address, is_ring, number_at, carried_len, master_says, begun_by, PlanView, Told, mdt_got, lies_within, mdt_attributes, record_said, values_said, Known, MemberView, member, known_of, Past, outcomes, Sent, said_to, record_to, records_from, idle, single, joint, mdt_said, no_drive, drive_at, told_to, IsSayable}
+use Rattle.sercos_law_run.proofs.Words.{◌≡◌, inl, inr, ℕ, zero, suc, ◌+◌, ◌<◌, ◌≤◌, Bool, true, false, not, ◌&&◌, List, [], ◌∷◌, ◌++◌, length, Option, Some, None, refl, sym, ◌∙◌, ap, subst, arith, if◌then◌else◌, append_assoc, ◌==◌, nat_le, nat_lt, slice_index, slice_index_or, is_some, is_none, option_map, then_some, option_or, cases_eq, and_parts, nat_tests, all_drives, joint_fault, Block, DriveView, RingView, is_address, is_ring, number_at, carried_len, master_says, begun_by, PlanView, Told, mdt_got, lies_within, mdt_attributes, record_said, values_said, Known, MemberView, member, known_of, Past, outcomes, Sent, said_to, record_to, records_from, idle, single, joint, mdt_said, no_drive, drive_at, told_to, IsSayable, head_fault, is_drive, are_drives, are_drive_numbers, single_in}
 use Rattle.std.proofs.lemmas.Bool.{and_right}
-use Rattle.sercos_telegram.specs.Faults.{head_fault}
-use Rattle.sercos_block.specs.Rings.{is_drive, are_drives, are_drive_numbers}
 use Rattle.sercos_service_master.specs.Begun.{Said}
-use Rattle.sercos_drive.specs.Heard.{joint_in, single_in}
+use Rattle.sercos_drive.specs.Heard.{joint_in}
 use Rattle.sercos_law_run.proofs.Journal.StationLemmas.{drives_so}
 use Rattle.sercos_law_run.proofs.Views.Codecs.{single_clear, single_other, joint_clear}
 use Rattle.sercos_law_run.proofs.Views.DriveSame.{said_to as said_by_told}

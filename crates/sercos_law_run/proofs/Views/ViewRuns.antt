@@ -1,5 +1,5 @@
 -- In a run of a ring in which nothing is unseen, each drive with its channel makes a run of views.
-use Rattle.sercos_law_run.proofs.Words.{◌≡◌, ◌⊎◌, inl, inr, ℕ, zero, suc, ◌+◌, ◌<◌, ◌≤◌, Bool, true, false, List, [], ◌∷◌, length, Option, Some, None, refl, sym, ◌∙◌, ap, ap₂, subst, arith, if◌then◌else◌, slice_index, is_some, IsSome, IfSome, cases_eq, status_of, word_at, mst_content, Request, Job, RingView, is_ring, store_of, Processed, channel_says, Begun, open_in, answers_it, master_says, begun_by, PlanView, mst_got, mdt_got, phase_in, blocks_in, commands_in, annals, CycleView, known_of, Past, Call, is_done, past, Sent, idle, mdt_said, Carry, Restarts, Heard, View, standing, kept_in, since_reset, command, command_in, with_heard, with_begun, unless_restart, epoch_begun, IsShown, all_writes, store_in, heard, passage, sum_below, unseen_at, mst_in, ats_in, mdt_in, drive_at, given_before, given_mst, master_calls, mdt_heard, content_of, contents, said_below, unseen_mst, unseen_mdt, unseen_ats, looks_back, at_start, behind_mst, behind_ats, behind_mdt, heard_last, told_to, after_mst, view_of, views_of, IsSaid, IsSpelled, begins_empty}
+use Rattle.sercos_law_run.proofs.Words.{◌≡◌, ◌⊎◌, inl, inr, ℕ, zero, suc, ◌+◌, ◌<◌, ◌≤◌, Bool, true, false, List, [], ◌∷◌, length, Option, Some, None, refl, sym, ◌∙◌, ap, ap₂, subst, arith, if◌then◌else◌, slice_index, is_some, IsSome, IfSome, cases_eq, status_of, word_at, mst_content, Request, Job, RingView, is_ring, store_of, Processed, channel_says, Begun, open_in, master_says, begun_by, PlanView, mst_got, mdt_got, phase_in, blocks_in, commands_in, annals, CycleView, known_of, Past, Call, is_done, past, Sent, idle, mdt_said, Carry, Restarts, Heard, View, standing, kept_in, since_reset, command, command_in, with_heard, with_begun, unless_restart, epoch_begun, IsShown, all_writes, store_in, heard, passage, sum_below, unseen_at, mst_in, ats_in, mdt_in, drive_at, given_before, given_mst, master_calls, mdt_heard, content_of, contents, said_below, unseen_mst, unseen_mdt, unseen_ats, looks_back, at_start, behind_mst, behind_ats, behind_mdt, heard_last, told_to, after_mst, view_of, views_of, IsSaid, IsSpelled, begins_empty, heard_none}
 use Rattle.sercos_telegram.specs.declared.layout.Kind.TheVariants as kinds
 use Rattle.sercos_master.specs.Annals as master
 use Rattle.sercos_law_channel.specs.Handshake.Views.{before_mst as standing_before}
@@ -60,14 +60,6 @@ none_below (suc n) f none i below = elim (cases_eq i n) [
 ]
 
 -- nothing is begun before phase 2
-pub no_answer : (b : Bool) (begun : List Begun) → (if b then begun else begun) ≡ begun
-no_answer true begun = refl
-no_answer false begun = refl
-
-pub nothing_heard : (o : Option Heard) → with_heard o [] ≡ []
-nothing_heard None = refl
-nothing_heard (Some a) = no_answer (answers_it [] a.status) []
-
 pub no_request : (o : Option Request) → (IsSome o → ⊥) → o ≡ None
 no_request None never = refl
 no_request (Some r) never = absurd (never refl)
@@ -179,7 +171,7 @@ module _ (r : RingView) (jobs : List Job) (carry : Carry) (restarts : Restarts) 
 
       -- at the MDT's place
       quiet : (behind_mdt r jobs carry restarts t.sent j).now.phase ≡ 1 → master_says (begun_by ((behind_mdt r jobs carry restarts t.sent j).calls k)) ≡ idle
-      quiet one = ap master_says (behind.begun_are ∙ ap₂ (λ (o : Option Request) (l : List Begun). with_begun o l) none (ap (with_heard heard_then) ended ∙ nothing_heard heard_then))
+      quiet one = ap master_says (behind.begun_are ∙ ap₂ (λ (o : Option Request) (l : List Begun). with_begun o l) none (ap (with_heard heard_then) ended ∙ heard_none heard_then))
         where
           v : View
           v = view_of r jobs carry restarts k t j

@@ -1,7 +1,7 @@
 -- The numbers of a chain that shows that no plan fits are small.
-use Rattle.sercos_law_trace.proofs.Words.{◌≡◌, ◌⊎◌, inl, inr, ℕ, zero, suc, ◌+◌, ◌*◌, ◌≤◌, ◌==◌, nat_le, Bool, true, false, List, [], ◌∷◌, ◌++◌, length, max, Option, Some, None, option_map, unwrap_or, slice_index_or, refl, ap, subst, arith, if◌then◌else◌, sum_by-cons, Wish, wish, no_wish, times, first_sent, sent, neighbor, previous, at_bits, record_bytes, mdt_bits, asked_1, asked_2, asked_3, asked_5, asked_6, asked_7, sum_9, bound_9, greatest, greatest_tmtsy, WishesView, round_up, needed, least_t1, least_bits, greatest_t4min, last_place, is_tight, link_of, back_of, first_tight, starts, bits_of_starts, trail_by_master, greatest_of, first_with, first_greatest, mst_chain, cycle_chain, capture_chain, Link, ChainView}
+use Rattle.sercos_law_trace.proofs.Words.{◌≡◌, ◌⊎◌, inl, inr, ℕ, zero, suc, ◌+◌, ◌*◌, ◌≤◌, ◌==◌, nat_le, Bool, true, false, List, [], ◌∷◌, ◌++◌, length, max, Option, Some, None, option_map, unwrap_or, slice_index_or, subst, arith, if◌then◌else◌, sum_by-cons, Wish, wish, no_wish, times, sent, neighbor, previous, at_bits, record_bytes, mdt_bits, asked_1, asked_2, asked_3, asked_5, asked_6, asked_7, sum_9, bound_9, greatest, greatest_tmtsy, WishesView, round_up, needed, least_t1, least_bits, greatest_t4min, last_place, is_tight, link_of, back_of, first_tight, starts, bits_of_starts, trail_by_master, greatest_of, first_with, first_greatest, mst_chain, cycle_chain, capture_chain, Link, ChainView, length_first, chain_of}
 use Rattle.sercos_plan.specs.LeastTimes.{least_t2, least_t3}
-use Rattle.sercos_plan.specs.ChainOf.{trail_at, trail, trail_t2, trail_t3, chain_of}
+use Rattle.sercos_plan.specs.ChainOf.{trail_at, trail, trail_t2, trail_t3}
 use Rattle.sercos_law_trace.proofs.Clean.SeenLemmas.{Each}
 
 -- WISHES of numbers that are small
@@ -83,10 +83,6 @@ greatest_low : (f : ℕ → ℕ) (ks : List ℕ) (m : ℕ) → ((k : ℕ) → f 
 greatest_low f [] m low = omega arith
 greatest_low f (k ∷ ks) m low = max_low (f k) (greatest f ks) m (low k) (greatest_low f ks m low)
 
-sent_long : (order : List ℕ) (n : ℕ) → length (first_sent order n) ≡ n
-sent_long order zero = refl
-sent_long order (suc n) = ap suc (sent_long order n)
-
 -- a link fits its line
 pub record IsSmallLink (l : Link) : Type 0 where
   pub rule : l.rule ≤ 255
@@ -134,7 +130,7 @@ module _ (w : WishesView) (small : AreSmallWishes w) where
       by false here rest = omega (arith, rest)
 
   start_low : (j : ℕ) → least_t1 w (sent w) j ≤ 66300 * 64
-  start_low j = let low = least_low (sent w) j in let long = sent_long w.order (length w.order) in let few = small.order in omega (arith, low, long, few)
+  start_low j = let low = least_low (sent w) j in let long = length_first w.order (length w.order) in let few = small.order in omega (arith, low, long, few)
 
   -- T2 AND T3
   t2_low : least_t2 w ≤ 66300 * 65

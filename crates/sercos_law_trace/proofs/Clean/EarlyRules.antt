@@ -1,7 +1,7 @@
 -- The telegrams of phases 0 to 2 keep the rules.
 use Rattle.sercos_law_trace.proofs.Words.{◌≡◌, ℕ, ◌*◌, ◌<◌, ◌≤◌, ◌==◌, nat_lt, nat_le, Bool, true, false, not, ◌&&◌, ◌||◌, if◌then◌else◌, List, [], ◌∷◌, length, Option, Some, None, refl, sym, ◌∙◌, ap, subst, arith, slice_index, and_from, eq-eqb, nat_tests, early_at, early_mdt, WishesView, Said, Sent, Command, is_drive, sent_at, sent_mst}
 use Rattle.sercos_law_trace.proofs.Clean.RuleLemmas.{none_broken, broken_by, seen_of, mdt_at, AreRuled}
-use Rattle.sercos_law_trace.proofs.Clean.SeenLemmas.{Each, EachAfter, each_map, and_false, no_mdt_seen, HasOther, none_from, later_start, IsFramed, frame_kept, same_start}
+use Rattle.sercos_law_trace.proofs.Clean.SeenLemmas.{Each, EachAfter, each_map, no_mdt_seen, HasOther, none_from, later_start, IsFramed, frame_kept, same_start, fresh, asked}
 
 -- an AT and an MDT of phases 1 and 2
 pub record IsEarlyAt (w : WishesView) (s : Said) : Type 0 where
@@ -33,9 +33,6 @@ is_early phase some low = record { some = grind (arith, nat_tests, some); low = 
 at_order : (a b c : Bool) → a ≡ true → b ≡ true → c ≡ false → (cycle : ℕ) → ((cycle == cycle) && (b && not c)) ≡ true
 at_order a b c ka kb kc cycle = rw (eq-eqb cycle cycle refl, kb, kc) refl
 
-fresh : (a b : Bool) → b ≡ false → not (a && b) ≡ true
-fresh a b none = ap (λ (x : Bool). not (a && x)) none ∙ ap not (and_false a)
-
 early_layout : (low some five drive whole : Bool) → some ≡ true → low ≡ true → five ≡ true → drive ≡ true → (some && (if low then five && drive else whole)) ≡ true
 early_layout low some five drive whole ks kl kf kd = rw (ks, kl, kf, kd) refl
 
@@ -44,10 +41,6 @@ early_start low is other kl ki = rw (kl, ki) refl
 
 not_cyclic : (late kind kept : Bool) → late ≡ false → (not (late && kind) || kept) ≡ true
 not_cyclic late kind kept none = rw none refl
-
-early_free : (low kept : Bool) → kept ≡ true → (not low || kept) ≡ true
-early_free true kept is = is
-early_free false kept is = refl
 
 module _ (w : WishesView) (rate : ℕ) (c : Command) (mst : List ℕ) (same : w.rate ≡ rate) (some : 1 ≤ c.phase) (low : c.phase < 3) where
   tests : IsEarly c.phase
@@ -77,7 +70,7 @@ module _ (w : WishesView) (rate : ℕ) (c : Command) (mst : List ℕ) (same : w.
       (frame_kept m.content (framed_5 m.content is.long))
       (early_layout _ _ _ _ _ tests.some tests.low (eq-eqb (length m.content) 5 is.long) is.drive)
       refl
-      (early_free _ _ (same_start (rate * m.start) (w.rate * early_mdt) (ap (λ (n : ℕ). rate * n) is.start ∙ ap (λ (n : ℕ). n * early_mdt) (sym same))))
+      (asked _ _ (same_start (rate * m.start) (w.rate * early_mdt) (ap (λ (n : ℕ). rate * n) is.start ∙ ap (λ (n : ℕ). n * early_mdt) (sym same))))
       (not_cyclic _ _ _ tests.not_late)
       (not_cyclic _ _ _ tests.not_late)
       (not_cyclic _ _ _ tests.not_late)

@@ -1,7 +1,5 @@
 -- The numbers of the telegrams of a run fit the fields of their lines, whatever arrives.
-use Rattle.sercos_law_trace.proofs.Words.{◌≡◌, ◌⊎◌, inl, inr, ℕ, pos, zero, suc, ◌+◌, ◌*◌, ◌<◌, ◌≤◌, ◌==◌, Bool, true, false, List, [], ◌∷◌, ◌++◌, length, Option, Some, None, option_map, unwrap_or, refl, sym, subst, arith, if◌then◌else◌, cond_both, nat_le, slice_index, All, All-nil, All-cons, wire_bits, frame_of, Kind, mst_content, PlanView, Job, Block, find_block, IsStore, RingView, types, phase_in, blocks_in, Said, start_in, CycleView, Known, IsKnown, known_of, tasks_for, Past, IsPlanned, outcomes, Sent, said_to, idle, single, joint, mdt_said, Carry, Restarts, IsOpened, drive_at, given_mst, begins, middle, said_below, start_before, sent_at, sent_mst, sent_mdt, ats_said, IsRun, at_start, behind_mdt, after_mst, sent_by, IsContent, address_of, at_content, mdt_whole, mst_whole, phase_low, plan_words, s_known, first_store, FitsLine, RunsFitLines, length-IsFrame, is_framed, keeps_within, is_planned}
-use Rattle.sercos_model.specs.Bits.{AreBytes}
-use Rattle.sercos_text.specs.Templates.{IsSmall}
+use Rattle.sercos_law_trace.proofs.Words.{◌≡◌, ◌⊎◌, inl, inr, ℕ, pos, zero, suc, ◌+◌, ◌*◌, ◌<◌, ◌≤◌, ◌==◌, Bool, true, false, List, [], ◌∷◌, ◌++◌, length, Option, Some, None, option_map, unwrap_or, refl, sym, subst, arith, if◌then◌else◌, cond_both, nat_le, slice_index, All, All-nil, All-cons, wire_bits, frame_of, Kind, mst_content, PlanView, Job, Block, find_block, IsStore, RingView, types, phase_in, blocks_in, Said, start_in, CycleView, Known, IsKnown, known_of, tasks_for, Past, IsPlanned, outcomes, Sent, said_to, idle, single, joint, mdt_said, Carry, Restarts, IsOpened, drive_at, given_mst, begins, middle, said_below, start_before, sent_at, sent_mst, sent_mdt, ats_said, IsRun, at_start, behind_mdt, after_mst, sent_by, IsContent, address_of, at_content, mdt_whole, mst_whole, phase_low, plan_words, s_known, first_store, FitsLine, RunsFitLines, length-IsFrame, is_framed, keeps_within, is_planned, AreBytes, IsSmall}
 use Rattle.sercos_command.specs.Checks.{number_at}
 use Rattle.sercos_service_master.specs.Begun.{Said as Told}
 use Rattle.sercos_law_trace.proofs.Clean.RuleLemmas.{mdt_at}

@@ -1,12 +1,8 @@
 -- The head of a trace passes a check of captures, and spells the wishes.
-use Rattle.sercos_law_trace.proofs.Words.{◌≡◌, ℕ, suc, ◌-◌, ◌<◌, ◌≤◌, ◌==◌, false, List, [], ◌∷◌, ◌++◌, length, map, refl, sym, ◌∙◌, ap, subst, arith, append_assoc, append-nil, All, flat_map, nat_tests, All-head, All-tail, Wish, wish, IsValid, AreDistinct, AreBelow, addresses, WishesView, Address, number, Line, line_of, ReadsBack, drive_values, drive_text, address_at, ring_text, order_text, header_text, awaited_after, drives_left, drive_or_order, places, wishes_by, TellsFollowing, told, place_by}
-use Rattle.sercos_text.specs.Lists.{AreItems, IsItem}
-use Rattle.sercos_text.specs.Tails.{tail_text, IsTail, addresses_in}
-use Rattle.sercos_text.specs.Templates.{field_of, AreOf, IsPart, IsOf, part_left, numbers_in}
+use Rattle.sercos_law_trace.proofs.Words.{◌≡◌, ℕ, suc, ◌-◌, ◌<◌, ◌≤◌, ◌==◌, false, List, [], ◌∷◌, ◌++◌, length, map, refl, sym, ◌∙◌, ap, subst, arith, append_assoc, append-nil, All, flat_map, nat_tests, All-head, All-tail, Wish, wish, IsValid, AreDistinct, AreBelow, addresses, WishesView, Address, number, Line, line_of, ReadsBack, drive_values, drive_text, address_at, ring_text, order_text, header_text, awaited_after, drives_left, drive_or_order, places, wishes_by, TellsFollowing, told, place_by, AreItems, IsItem, tail_text, IsTail, addresses_in, field_of, AreOf, IsOf, part_left, numbers_in, template_of, tail_for, line_by, length_map}
+use Rattle.sercos_text.specs.Templates.{IsPart}
 use Rattle.sercos_trace.specs.declared.kind.LineKind.TheVariants as kind
 use Rattle.sercos_trace.specs.declared.reading.Line.TheVariants as line
-use Rattle.sercos_trace.specs.Kinds.{template_of, tail_for}
-use Rattle.sercos_trace.specs.Lines.{line_by}
 use Rattle.sercos_check.specs.declared.awaited.Awaited.TheVariants as awaited
 use Rattle.sercos_law_trace.proofs.Clean.PassLemmas.{Goes, Leads, leads_none, leads_both, with_passes, of_passes}
 use Rattle.sercos_law_trace.proofs.Clean.LineLeads.{Stands}
@@ -48,10 +44,6 @@ unfolding template_of AreOf IsPart IsOf field_of part_left
 order_fits = (tt, (tt, (tt, (tt, (tt, tt)))))
 
 -- the places of the addresses
-length_addresses : (ds : List Wish) → length (addresses ds) ≡ length ds
-length_addresses [] = refl
-length_addresses (d ∷ ds) = ap suc (length_addresses ds)
-
 places_back : (w : WishesView) (order : List ℕ) → AreDistinct (addresses w.drives) → AreBelow order (length w.drives) → places w.drives (map (address_at w) order) ≡ order
 places_back w [] apart below = refl
 places_back w (k ∷ order) apart below =
@@ -63,10 +55,6 @@ addresses_fit : (w : WishesView) (order : List ℕ) → ((k : ℕ) → k < lengt
 unfolding AreItems IsItem
 addresses_fit w [] low below = tt
 addresses_fit w (k ∷ order) low below = (let is = low k (below 0 (omega arith)) in omega (arith, is), addresses_fit w order low (λ i less. below (suc i) (omega (arith, less))))
-
-length_map : (f : ℕ → ℕ) (l : List ℕ) → length (map f l) ≡ length l
-length_map f [] = refl
-length_map f (x ∷ l) = ap suc (length_map f l)
 
 order_tail : (w : WishesView) → IsValid w → IsTail (tail_for kind.Order) (map (address_at w) w.order)
 unfolding tail_for IsTail

@@ -1,7 +1,7 @@
 -- The telegrams of phases 3 and 4 keep the rules.
 use Rattle.sercos_law_trace.proofs.Words.{◌≡◌, ℕ, ℤ, pos, ◌+◌, ◌*◌, ◌≤◌, ◌+ℤ◌, ◌==◌, nat_lt, nat_le, Bool, true, false, not, cond, ◌&&◌, ◌||◌, if◌then◌else◌, List, [], ◌∷◌, length, max, Some, None, is_none, option_map, refl, ◌∙◌, ap, arith, slice_index, list_all, find, le_z, and_from, eq-eqb, le-leb, nat_tests, frame_of, joint_fault, record_bytes, bound_9, greatest_tmtsy, WishesView, Said, Sent, Command, is_drive, wish_for, mark_of, is_at_of, is_after_gap, is_after_mark, is_after_transition, start_before, sent_at, sent_mst, ends_at_0}
 use Rattle.sercos_law_trace.proofs.Clean.RuleLemmas.{none_broken, broken_by, seen_of, mdt_at, AreRuled, newest_by}
-use Rattle.sercos_law_trace.proofs.Clean.SeenLemmas.{Each, EachAfter, each_map, and_false, not_asked, asked, no_mdt_seen, HasOther, none_from, later_start, IsFramed, frame_kept}
+use Rattle.sercos_law_trace.proofs.Clean.SeenLemmas.{Each, EachAfter, each_map, not_asked, asked, no_mdt_seen, HasOther, none_from, later_start, IsFramed, frame_kept, fresh}
 
 -- the drive's slave, and the end of its AT
 abbrev pub slave_by : WishesView → Said → ℕ
@@ -52,9 +52,6 @@ is_late phase late = record { some = grind (arith, nat_tests, late); not_early =
 
 order : (b c : Bool) → b ≡ true → c ≡ false → (cycle : ℕ) → ((cycle == cycle) && (b && not c)) ≡ true
 order b c kb kc cycle = rw (eq-eqb cycle cycle refl, kb, kc) refl
-
-fresh : (a b : Bool) → b ≡ false → not (a && b) ≡ true
-fresh a b none = ap (λ (x : Bool). not (a && x)) none ∙ ap not (and_false a)
 
 at_layout : (some low single long drive : Bool) → some ≡ true → low ≡ false → long ≡ true → drive ≡ true → (some && (if low then single else (long && drive))) ≡ true
 at_layout some low single long drive ks kl kg kd = rw (ks, kl, kg, kd) refl

@@ -1,16 +1,12 @@
 -- The lines of a trace that are no telegrams pass a check of captures.
-use Rattle.sercos_law_trace.proofs.Words.{◌≡◌, ℕ, ℤ, zero, suc, ◌<◌, ◌≤◌, Bool, true, false, List, [], ◌∷◌, ◌++◌, length, take, drop, reverse, Option, Some, None, refl, sym, ◌∙◌, ap, ap₂, subst, arith, if◌then◌else◌, All, flat_map, beq, flat_map-append, reverse_onto, All-head, All-tail, All-take, All-drop, Kind, Outcome, WishesView, PlanView, Link, ChainView, Value, number, signed, bytes, LineKind, Line, Move, Totals, Stop, Fall, line_of, line_with, SentView, EventsView, CycleView, ReadsBack, sent_kind, sent_text, move_text, ended_text, outcome_text, plan_line, slot_text, slots_text, link_text, bound_text, chain_text, events_text, moves_text, cycle_text, end_text, Told, broken_rule, awaited_after, wishes_by, has_head, TellsFollowing, told, FitsLine, FitLines, told_after, told_in, KeepRules, FitsMove, FitsEnded, FitsSlot, FitsPlan, FitsLink, FitsChain, FitsStop, FitsFall, FitsEvents, FitsCycle, FitTotals}
+use Rattle.sercos_law_trace.proofs.Words.{◌≡◌, ℕ, ℤ, zero, suc, ◌<◌, ◌≤◌, Bool, true, false, List, [], ◌∷◌, ◌++◌, length, take, drop, reverse, Option, Some, None, refl, sym, ◌∙◌, ap, ap₂, subst, arith, if◌then◌else◌, All, flat_map, beq, flat_map-append, reverse_onto, All-head, All-tail, All-take, All-drop, Kind, Outcome, WishesView, PlanView, Link, ChainView, Value, number, signed, bytes, LineKind, Line, Move, Totals, Stop, Fall, line_of, line_with, SentView, EventsView, CycleView, ReadsBack, sent_kind, sent_text, move_text, ended_text, outcome_text, plan_line, slot_text, slots_text, link_text, bound_text, chain_text, events_text, moves_text, cycle_text, end_text, Told, broken_rule, awaited_after, wishes_by, has_head, TellsFollowing, told, FitsLine, FitLines, told_after, told_in, KeepRules, FitsMove, FitsEnded, FitsSlot, FitsPlan, FitsLink, FitsChain, FitsStop, FitsFall, FitsEvents, FitsCycle, FitTotals, tail_text, IsTail, field_of, AreOf, IsOf, part_left, numbers_in, signed_by, bytes_by, template_of, tail_for, line_by, plan_text, stop_text, fall_text}
 use Rattle.sercos_telegram.specs.declared.layout.Kind.TheVariants as telegram
 use Rattle.sercos_step.specs.declared.request.Outcome.TheVariants as outcome
-use Rattle.sercos_text.specs.Tails.{tail_text, IsTail}
-use Rattle.sercos_text.specs.Templates.{field_of, AreOf, IsPart, IsOf, part_left, numbers_in, signed_by, bytes_by}
+use Rattle.sercos_text.specs.Templates.{IsPart}
 use Rattle.sercos_trace.specs.declared.kind.LineKind.TheVariants as kind
 use Rattle.sercos_trace.specs.declared.reading.Line.TheVariants as line
 use Rattle.sercos_trace.specs.declared.events.Stop.TheVariants as stop
 use Rattle.sercos_trace.specs.declared.events.Fall.TheVariants as fall
-use Rattle.sercos_trace.specs.Kinds.{template_of, tail_for}
-use Rattle.sercos_trace.specs.Lines.{line_by}
-use Rattle.sercos_trace.specs.Texts.{plan_text, stop_text, fall_text}
 use Rattle.sercos_check.specs.declared.awaited.Awaited.TheVariants as awaited
 use Rattle.sercos_law_trace.proofs.Clean.PassLemmas.{Leads, leads_none, leads_both, leads_all, line_for, with_passes, of_passes}
 

@@ -1,6 +1,5 @@
 -- An MST keeps the rules.
-use Rattle.sercos_law_trace.proofs.Words.{◌≡◌, ℕ, pos, ◌≤◌, ◌+ℤ◌, nat_lt, nat_le, true, false, List, length, Option, None, is_none, refl, ◌∙◌, ap, arith, nat_tests, Decides-int_eq, frame_of, mst_content, WishesView, Command, Told, command_before, phase_of, in_cycle, is_next_cycle, is_next_phase, broken_rule, start_before, sent_mst, ends_at_0}
-use Rattle.sercos_telegram.specs.Faults.{mst_fault, head_fault}
+use Rattle.sercos_law_trace.proofs.Words.{◌≡◌, ℕ, pos, ◌≤◌, ◌+ℤ◌, nat_lt, nat_le, true, false, List, length, Option, None, is_none, refl, ◌∙◌, ap, arith, nat_tests, Decides-int_eq, frame_of, mst_content, WishesView, Command, Told, command_before, phase_of, in_cycle, is_next_cycle, is_next_phase, broken_rule, start_before, sent_mst, ends_at_0, mst_fault, head_fault}
 use Rattle.sercos_law_trace.proofs.Clean.RuleLemmas.{none_broken, broken_by}
 use Rattle.sercos_law_trace.proofs.Clean.SeenLemmas.{not_asked, frame_kept}
 

@@ -1,11 +1,9 @@
 -- The numbers of moves, plans, falls and totals fit the fields of their lines.
-use Rattle.sercos_law_trace.proofs.Words.{◌≡◌, ℕ, zero, suc, ◌+◌, ◌*◌, ◌<◌, ◌≤◌, ◌==◌, nat_lt, Bool, true, false, List, [], ◌∷◌, ◌++◌, length, reverse, Option, Some, None, is_some, slice_index_or, refl, sym, ◌∙◌, ap, subst, arith, if◌then◌else◌, cond_both, slice_index, All, option_or, reverse_onto, All-nil, All-cons, All-head, All-tail, All-append, length-filter, count_by-le-length, wish, IsValid, WishesView, PlanView, Job, Outcome, wishes_of, DriveView, RingView, DriveCall, phase_at, Move, Totals, Fall, EventsView, CycleView, Report, Known, IsKnown, MemberView, member, no_member, known_of, tasks_for, Past, IsPlanned, fall_of, fall_at, has_lost_mst, has_lost_at, first_place, is_at_limit, outcomes, inserted, with_report, with_reports, broken, with_broken, plan_told, outcomes_told, restart_told, Carry, Restarts, drive_at, move_of, moves_below, given_before, given_mst, given_mdt, master_calls, middle, looks_back, no_events, restart_events, IsNext, IsRun, IsClear, behind_mdt, address_of, plan_words, s_known, first_store, IsOpened, with_cycle, ended, falls_in, is_complete, is_refused, is_broken, FitsMove, FitsPlan, FitsFall, FitsCycle, FitTotals, FitsReports, FitReports, RunsFitOthers, phase_below, is_planned}
+use Rattle.sercos_law_trace.proofs.Words.{◌≡◌, ℕ, zero, suc, ◌+◌, ◌*◌, ◌<◌, ◌≤◌, ◌==◌, nat_lt, Bool, true, false, List, [], ◌∷◌, ◌++◌, length, reverse, Option, Some, None, is_some, slice_index_or, refl, sym, ◌∙◌, ap, subst, arith, if◌then◌else◌, slice_index, All, option_or, reverse_onto, All-nil, All-cons, All-head, All-tail, All-append, length-filter, count_by-le-length, wish, IsValid, WishesView, PlanView, Job, Outcome, wishes_of, DriveView, RingView, DriveCall, phase_at, Move, Totals, Fall, EventsView, CycleView, Report, Known, IsKnown, MemberView, member, no_member, known_of, tasks_for, Past, IsPlanned, fall_of, fall_at, has_lost_mst, has_lost_at, first_place, is_at_limit, outcomes, inserted, with_report, with_reports, broken, with_broken, plan_told, outcomes_told, restart_told, Carry, Restarts, drive_at, move_of, moves_below, given_before, given_mst, given_mdt, master_calls, middle, looks_back, no_events, restart_events, IsNext, IsRun, IsClear, behind_mdt, address_of, plan_words, s_known, first_store, IsOpened, with_cycle, ended, is_complete, is_refused, is_broken, FitsMove, FitsPlan, FitsFall, FitsCycle, FitTotals, FitsReports, FitReports, RunsFitOthers, phase_below, is_planned, fell_once, field_of, AreOf, IsOf, part_left, template_of, totals_of}
 use Rattle.sercos_text.specs.Templates.Value.{number as counted}
-use Rattle.sercos_text.specs.Templates.{field_of, AreOf, IsPart, IsOf, part_left}
+use Rattle.sercos_text.specs.Templates.{IsPart}
 use Rattle.sercos_trace.specs.declared.kind.LineKind.TheVariants as kind
 use Rattle.sercos_trace.specs.declared.events.Fall.TheVariants as fall
-use Rattle.sercos_trace.specs.Kinds.{template_of}
-use Rattle.sercos_law_run.specs.Totals.Totals.{totals_of}
 use Rattle.sercos_law_trace.proofs.Clean.RunRules.{low}
 use Rattle.sercos_law_trace.proofs.Clean.TraceClean.{valid}
 
@@ -148,9 +146,6 @@ totals_fit t n low few =
     let a = few.cycles in let b = few.phase in let c = few.complete in let d = few.refused in let e = few.broken_few in let f = few.falls in let g = few.unseen in
     (tt, (tt, (tt, (tt, (omega (arith, a, low), (tt, (tt, (tt, (tt, (tt, (tt, (tt, (omega (arith, b), (tt, (tt, (tt, (tt, (tt, (tt, (tt, (tt, (tt, (tt, (omega (arith, c, low), (tt, (tt, (tt, (tt, (tt, (tt, (tt, (tt, (tt, (omega (arith, d, low), (tt, (tt, (tt, (tt, (tt, (tt, (tt, (tt, (omega (arith, e, low), (tt, (tt, (tt, (tt, (tt, (tt, (tt, (omega (arith, f, low), (tt, (tt, (tt, (tt, (tt, (tt, (tt, (tt, (omega (arith, g), tt))))))))))))))))))))))))))))))))))))))))))))))))))))))))))))
 
-falls_few : (t : CycleView) → falls_in t ≤ 1
-falls_few t = cond_both (is_some t.events.fall) 1 0 (λ (v : ℕ). v ≤ 1) (λ on. omega arith) (λ off. omega arith)
-
 abbrev TotalsGrow : Type 0
 TotalsGrow = (cycles : List CycleView) (made : CycleView) → totals_of (cycles ++ made ∷ []) ≡ with_cycle (totals_of cycles) made
 
@@ -177,7 +172,7 @@ module _ (grow : TotalsGrow) (r : RingView) (jobs : List Job) (carry : Carry) (r
   few_with : (t : CycleView) (n : ℕ) (totals : Totals) → t.phase ≤ 4 → length t.events.outcomes ≤ 192 → t.unseen ≡ 0 → AreFew totals n → AreFew (with_cycle totals t) (suc n)
   few_with t n totals phase long clear few =
       let a = few.cycles in let c = few.complete in let d = few.refused in let e = few.broken_few in let f = few.falls in let g = few.unseen in
-      let cc' = ended_few is_complete t.events.outcomes in let dd = ended_few is_refused t.events.outcomes in let ee = ended_few is_broken t.events.outcomes in let ff = falls_few t in
+      let cc' = ended_few is_complete t.events.outcomes in let dd = ended_few is_refused t.events.outcomes in let ee = ended_few is_broken t.events.outcomes in let ff = fell_once t in
       record {
         cycles = omega (arith, a);
         phase = phase;

@@ -1,13 +1,11 @@
 -- The outcomes that a cycle reports fit the fields of their lines.
-use Rattle.sercos_law_trace.proofs.Words.{◌≡◌, inl, inr, ℕ, zero, suc, ◌+◌, ◌-◌, ◌*◌, ◌<◌, ◌≤◌, ◌==◌, nat_lt, Bool, true, false, ◌&&◌, List, [], ◌∷◌, ◌++◌, length, drop, min, Option, Some, None, is_some, is_none, refl, sym, ◌∙◌, ap, subst, arith, if◌then◌else◌, cond_both, slice_index, slice_get, option_and_then, All, All-nil, All-cons, All-head, All-tail, length-take, length-drop, AreBytes-take, AreBytes-bytes_of, reason_of, content_of, plain, Job, Request, Outcome, Shape, Answer, CountsAnswers, count_of, answer_words, next_step, outcome_of, is_whole, result_of, steps_before, attribute_read, AreAnswers, bytes_in, bytes_read, shape_of, words_in, length-answer_words, PlanView, RingView, Begun, open_in, answers_it, answer_in, with_answer, step_at, Begin, Send, Hear, EndCycle, begun_by, EventsView, CycleView, Report, number_in, broken_number, Known, Task, known_of, tasks_from, tasks_for, request_task, member, Call, HearMst, HearAt, Mdt, End, Restart, Past, past, after_taken, settled, with_begin, ready_to_send, is_sent_to, addressed_in, after_mdt, fall_of, is_idle, inserted, with_report, with_reports, broken, with_broken, outcomes_told, restart_told, settles, at_keeps, channel_keeps, end_keeps, Passage, Carry, Restarts, IsReportOf, IsTask, OfReads, OfWrites, Checks3, Lists3, Checks4, Lists4, OfWaiting, AreBegunTasks, HasBegunTasks, arrival, heard, passage, ats_in, station_of, with_at, at_calls, begin_calls, master_calls, middle, looks_back, no_events, IsNext, AreWords, word_of, words_append, bytes_of_words, read_word, words_drop, FitsEnded, begins_tasks, left_of, told_right}
-use Rattle.sercos_model.specs.Bits.{AreBytes}
+use Rattle.sercos_law_trace.proofs.Words.{◌≡◌, inl, inr, ℕ, zero, suc, ◌+◌, ◌-◌, ◌<◌, ◌≤◌, ◌==◌, nat_lt, Bool, true, false, List, [], ◌∷◌, ◌++◌, length, drop, min, Option, Some, None, is_some, is_none, refl, sym, ◌∙◌, ap, subst, arith, if◌then◌else◌, cond_both, slice_index, slice_get, option_and_then, All, All-nil, All-cons, All-head, All-tail, length-take, length-drop, AreBytes-take, AreBytes-bytes_of, reason_of, content_of, plain, Job, Request, Outcome, Shape, Answer, CountsAnswers, count_of, answer_words, outcome_of, is_whole, result_of, steps_before, attribute_read, AreAnswers, bytes_in, bytes_read, shape_of, words_in, length-answer_words, PlanView, RingView, Begun, open_in, answers_it, answer_in, with_answer, Begin, Send, Hear, EndCycle, begun_by, EventsView, CycleView, Report, number_in, broken_number, Known, Task, known_of, tasks_from, tasks_for, request_task, member, Call, HearMst, HearAt, Mdt, End, Restart, Past, past, after_taken, settled, with_begin, ready_to_send, is_sent_to, addressed_in, after_mdt, fall_of, is_idle, inserted, with_report, with_reports, broken, with_broken, outcomes_told, restart_told, settles, at_keeps, channel_keeps, end_keeps, Passage, Carry, Restarts, IsReportOf, IsTask, OfReads, OfWrites, Checks3, Lists3, Checks4, Lists4, OfWaiting, AreBegunTasks, HasBegunTasks, arrival, heard, passage, ats_in, station_of, with_at, at_calls, begin_calls, master_calls, middle, looks_back, no_events, IsNext, AreWords, word_of, words_append, bytes_of_words, read_word, words_drop, FitsEnded, begins_tasks, left_of, told_right, goes_on_at, and_left, length-bytes_in, AreBytes, field_of, AreOf, IsOf, part_left, template_of, same_Some}
 use Rattle.sercos_telegram.specs.declared.layout.Kind.TheVariants as kinds
 use Rattle.sercos_step.specs.declared.request.Request.TheVariants as request
 use Rattle.sercos_step.specs.declared.request.Outcome.TheVariants as outcome
 use Rattle.sercos_step.specs.declared.shape.Shape.TheVariants as shape
 use Rattle.sercos_service_master.specs.Calls as channel
-use Rattle.sercos_text.specs.Templates.{field_of, AreOf, IsPart, IsOf, part_left}
-use Rattle.sercos_trace.specs.Kinds.{template_of}
+use Rattle.sercos_text.specs.Templates.{IsPart}
 use Rattle.sercos_master.specs.Annals.{place_of, begins}
 use Rattle.sercos_law_run.specs.Journal.Arrivals.{content_in}
 
@@ -96,17 +94,6 @@ abbrev pub AreGoing : List Begun → Type 0
 AreGoing [] = Unit {0}
 AreGoing (b ∷ older) = (AreAnswers b.request b.answers × AreWordsOf b.answers) × AreGoing older
 
-some_step : (q : Request) (answers : List Answer) → is_some (step_at q answers) ≡ true → outcome_of q answers ≡ None
-some_step q answers is = by (outcome_of q answers) is
-  where
-    by : (o : Option Outcome) → is_some (if is_some o then None else next_step q answers) ≡ true → o ≡ None
-    by None is = refl
-    by (Some x) is = cc
-
-and_left : (a b : Bool) → (a && b) ≡ true → a ≡ true
-and_left true b is = refl
-and_left false b is = cc
-
 pub all_going : (calls : List channel.Call) → AreTold calls → AreGoing (begun_by calls)
 all_going [] are = tt
 all_going (Begin q ∷ calls) are = ((tt, tt), all_going calls are)
@@ -116,7 +103,7 @@ all_going (Hear status word ∷ calls) are = by (begun_by calls) (answers_it (be
     by : (begun : List Begun) (b : Bool) → answers_it begun status ≡ b → AreGoing begun → AreGoing (if b then with_answer (answer_in status word) begun else begun)
     by begun false is going = going
     by [] true is going = tt
-    by (b ∷ older) true is going = (((going.0.0, some_step b.request b.answers (and_left (is_some (open_in (b ∷ older))) _ is)), (are.0, going.0.1)), going.1)
+    by (b ∷ older) true is going = (((going.0.0, goes_on_at b.request b.answers (and_left (is_some (open_in (b ∷ older))) _ is)), (are.0, going.0.1)), going.1)
 all_going (EndCycle ∷ calls) are = all_going calls are
 
 -- AN OUTCOME of such answers
@@ -129,10 +116,6 @@ all_words : (answers : List Answer) → AreWordsOf answers → AreWords (answer_
 all_words [] are = tt
 all_words (a ∷ answers) are = words_append (answer_words answers) (a.word ∷ []) (all_words answers are.1) (are.0, tt)
 
-bytes_long : (words : List ℕ) → length (bytes_in words) ≡ 2 * length words
-bytes_long [] = refl
-bytes_long (w ∷ words) = let rest = bytes_long words in omega (arith, rest)
-
 no_bytes : AreBytes [] × (length {A = ℕ} [] ≤ 1024)
 unfolding AreBytes
 no_bytes = (tt, omega arith)
@@ -144,9 +127,6 @@ list_fits (actual ∷ longest ∷ words) are =
     let long = length-take (min actual 1024) (bytes_in words) in
     (AreBytes-take (min actual 1024) (bytes_in words) (bytes_of_words words are.1.1), omega (arith, long))
 
-read_fits : (s : Shape) (words : List ℕ) → AreWords words → (s ≡ shape.List → ⊥) → length words ≤ 2 → AreBytes (bytes_in words) × (length (bytes_in words) ≤ 1024)
-read_fits s words are other few = (bytes_of_words words are, let long = bytes_long words in omega (arith, long, few))
-
 result_fits : (q : Request) (words : List ℕ) → AreWords words → length words ≡ count_of q words → AreBytes (result_of q words) × (length (result_of q words) ≤ 1024)
 result_fits (request.Read idn e) words are count = by (shape_of e (attribute_read e words)) count
   where
@@ -154,8 +134,8 @@ result_fits (request.Read idn e) words are count = by (shape_of e (attribute_rea
     n = steps_before e
 
     by : (s : Shape) → length words ≡ steps_before e + words_in s (slice_index words (steps_before e)) → AreBytes (bytes_read s (drop (steps_before e) words)) × (length (bytes_read s (drop (steps_before e) words)) ≤ 1024)
-    by shape.One count = let long = length-drop (steps_before e) words in let all = bytes_long (drop (steps_before e) words) in (bytes_of_words (drop (steps_before e) words) (words_drop (steps_before e) words are), omega (arith, long, all, count))
-    by shape.Two count = let long = length-drop (steps_before e) words in let all = bytes_long (drop (steps_before e) words) in (bytes_of_words (drop (steps_before e) words) (words_drop (steps_before e) words are), omega (arith, long, all, count))
+    by shape.One count = let long = length-drop (steps_before e) words in let all = length-bytes_in (drop (steps_before e) words) in (bytes_of_words (drop (steps_before e) words) (words_drop (steps_before e) words are), omega (arith, long, all, count))
+    by shape.Two count = let long = length-drop (steps_before e) words in let all = length-bytes_in (drop (steps_before e) words) in (bytes_of_words (drop (steps_before e) words) (words_drop (steps_before e) words are), omega (arith, long, all, count))
     by shape.List count = list_fits (drop (steps_before e) words) (words_drop (steps_before e) words are)
 result_fits (request.Write idn e bytes) words are count = no_bytes
 result_fits (request.Command idn) words are count = (bytes_of_words (slice_index words (length words - 2) ∷ []) (word_of words (length words - 2) are, tt), omega arith)
@@ -195,15 +175,12 @@ abbrev AreLow : List Task → Type 0
 AreLow [] = Unit {0}
 AreLow (t ∷ tasks) = ((n : ℕ) → t.number ≡ Some n → n ≤ 65535) × AreLow tasks
 
-some_same : {A : Type 0} (a b : A) → Some a ≡ Some b → a ≡ b
-some_same a b e = cc
-
 jobs_low : (address i : ℕ) (jobs : List Job) → i + length jobs ≤ 65536 → AreLow (tasks_from address i jobs)
 jobs_low address i [] few = tt
 jobs_low address i (job ∷ jobs) few = by (job.drive == address) (jobs_low address (i + 1) jobs (omega (arith, few)))
   where
     by : (b : Bool) → AreLow (tasks_from address (i + 1) jobs) → AreLow (if b then request_task i job.request ∷ tasks_from address (i + 1) jobs else tasks_from address (i + 1) jobs)
-    by true rest = (λ n is. let same = some_same i n is in omega (arith, same, few), rest)
+    by true rest = (λ n is. let same = same_Some i n is in omega (arith, same, few), rest)
     by false rest = rest
 
 drop_low : (n : ℕ) (tasks : List Task) → AreLow tasks → AreLow (drop n tasks)
@@ -291,7 +268,7 @@ module _ (counts : CountsAnswers) (r : RingView) (jobs : List Job) (few : length
         of : (o : Option ℕ) → number_in (p.tasks k) ≡ o → broken_number o ≡ Some x → FitsPair (x.number, x.outcome)
         of None has e = cc
         of (Some n) has e =
-            let same : (record { number = n; outcome = outcome.Broken }) ≡ x = some_same _ x e in
+            let same : (record { number = n; outcome = outcome.Broken }) ≡ x = same_Some _ x e in
             subst (λ (y : Report). FitsPair (y.number, y.outcome)) same (open_low (known_of r) k p.plan (p.waiting k) p.now.phase (begun_by (p.calls k)) (p.tasks k) (tasks_so k below) (waits_low k) n has, tt)
 
         by : (b : Bool) → (if b then None else broken_number (number_in (p.tasks k))) ≡ Some x → FitsPair (x.number, x.outcome)

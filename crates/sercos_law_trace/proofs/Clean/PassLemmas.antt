@@ -1,8 +1,6 @@
 -- Parts of a text that a check of captures passes.
-use Rattle.sercos_law_trace.proofs.Words.{◌≡◌, ℕ, pos, ◌+◌, List, [], ◌∷◌, ◌++◌, length, Option, Some, None, is_none, refl, sym, ◌∙◌, ap, append_assoc, append-nil, if◌then◌else◌, All, flat_map, All-head, All-tail, tail_text, IsTail, addresses_in, Value, AreOf, line_fault, line_text, numbers_in, signed_by, bytes_by, LineKind, Line, template_of, tail_for, all_kinds, line_of, line_with, line_by, line_as, line_in, ReadsBack, CanFollow, TellsFollowing, rule_broken, read_as, column_of, read_good, column-none, or-none, NoFeed, NoFeed-append, lines_of-line, line_no_feed, tail_no_feed, template_no_feed}
+use Rattle.sercos_law_trace.proofs.Words.{◌≡◌, ℕ, pos, ◌+◌, List, [], ◌∷◌, ◌++◌, length, Option, Some, None, is_none, refl, sym, ◌∙◌, ap, append_assoc, append-nil, if◌then◌else◌, All, flat_map, All-head, All-tail, tail_text, IsTail, addresses_in, Value, AreOf, line_fault, line_text, numbers_in, signed_by, bytes_by, LineKind, Line, template_of, tail_for, all_kinds, line_of, line_with, line_by, line_as, line_in, ReadsBack, CanFollow, TellsFollowing, rule_broken, read_as, column_of, read_good, column-none, or-none, NoFeed, NoFeed-append, lines_of-line, line_no_feed, tail_no_feed, template_no_feed, later, kinds_fault, first_kind, grammar_fault, capture_fault, first_violation}
 use Rattle.std.specs.Option.{option_map}
-use Rattle.sercos_trace.specs.Kinds.{later, kinds_fault, first_kind}
-use Rattle.sercos_checking.specs.Checking.{grammar_fault, capture_fault, first_violation}
 use Rattle.sercos_answer.specs.Lines as answer
 
 -- where some lines have come, it leads to lines of another kind

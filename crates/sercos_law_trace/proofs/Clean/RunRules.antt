@@ -1,6 +1,5 @@
 -- The telegrams of a run keep the rules, by induction over its cycles.
-use Rattle.sercos_law_trace.proofs.Words.{◌≡◌, inl, inr, ℕ, zero, suc, ◌+◌, ◌<◌, ◌≤◌, ◌==◌, nat_le, Bool, true, false, ◌||◌, if◌then◌else◌, List, [], ◌∷◌, ◌++◌, length, Option, Some, None, is_some, refl, sym, ◌∙◌, ap, subst, arith, slice_index, eq-eqb, nat_tests, mst_content, IsValid, IsCycle, WishesView, PlanView, Wish, Job, at_len, RingView, carried_len, Moment, phase_in, cycle_in, blocks_in, Said, drive_says, values_in, SentView, CycleView, Known, known_of, tasks_for, fields_length, held_by, Holds, start_up, Past, ready_to_send, fall_of, is_done, after_end, new_epoch, next_phase, still_waiting, Sent, mdt_said, Carry, Restarts, IsApart, Command, command_before, is_drive, wish_for, is_next_cycle, is_next_phase, drive_at, given_mst, master_calls, begins, middle, looks_back, said_below, ats_said, sent_mst, sent_mdt, IsNext, IsRun, IsClear, at_start, behind_ats, behind_mdt, after_mst, Sends, sender_phase, sent_by, same_drive, members_count, address_of, IsContent, at_content, phase_low, mdt_whole, AllStand, IsPlannedIn, s_known, phase_same, holding, rules, carried_length, first_store, stored_in, spelled_in, all_stand, keeps_all, IsOpened, takes_part, store_in_cycle, told_after, told_in, KeepRules, RunsKeepRules, are_as_long, keeps_within, is_planned}
-use Rattle.sercos_block.specs.Rings.{wishes_of}
+use Rattle.sercos_law_trace.proofs.Words.{◌≡◌, inl, inr, ℕ, zero, suc, ◌+◌, ◌<◌, ◌≤◌, ◌==◌, nat_le, Bool, true, false, ◌||◌, if◌then◌else◌, List, [], ◌∷◌, ◌++◌, length, Option, Some, None, is_some, refl, sym, ◌∙◌, ap, subst, arith, slice_index, eq-eqb, nat_tests, mst_content, IsValid, IsCycle, WishesView, PlanView, Wish, Job, at_len, RingView, carried_len, Moment, phase_in, cycle_in, blocks_in, Said, drive_says, values_in, SentView, CycleView, Known, known_of, tasks_for, fields_length, held_by, Holds, start_up, Past, ready_to_send, fall_of, is_done, after_end, new_epoch, next_phase, still_waiting, Sent, mdt_said, Carry, Restarts, IsApart, Command, command_before, is_drive, wish_for, is_next_cycle, is_next_phase, drive_at, given_mst, master_calls, begins, middle, looks_back, said_below, ats_said, sent_mst, sent_mdt, IsNext, IsRun, IsClear, at_start, behind_ats, behind_mdt, after_mst, Sends, sender_phase, sent_by, same_drive, members_count, address_of, IsContent, at_content, phase_low, mdt_whole, AllStand, IsPlannedIn, s_known, phase_same, holding, rules, carried_length, first_store, stored_in, spelled_in, all_stand, keeps_all, IsOpened, takes_part, store_in_cycle, told_after, told_in, KeepRules, RunsKeepRules, are_as_long, keeps_within, is_planned, rate_is, wishes_of, or_right, or_left, or-true}
 use Rattle.sercos_master.specs.Annals.{goes_on}
 use Rattle.sercos_master.specs.Annals as master
 use Rattle.sercos_law_trace.proofs.Clean.RuleLemmas.{AreRuled, command_at, cycle_kept}
@@ -18,10 +17,6 @@ framed content is = record { some = is.some; most = is.most }
 late_so : (p q : ℕ) → p ≡ q → 3 ≤ q → nat_le 3 p ≡ true
 late_so p q same late = grind (arith, nat_tests, same, late)
 
-rate_is : (r : RingView) → (wishes_of r).rate ≡ r.rate
-unfolding wishes_of
-rate_is r = refl
-
 pub cycle_low : (cycle : ℕ) → IsCycle cycle → cycle ≤ 64000
 cycle_low cycle (inl is) = omega (arith, is)
 cycle_low cycle (inr is) = is.1
@@ -34,31 +29,14 @@ nothing_ruled w rate c mst (s ∷ ats) o none is = absurd none.0
 
 -- the phase that is commanded next
 rises_so : (falls done : Bool) (cycle phase : ℕ) → is_next_phase (Some (record { cycle = cycle; phase = phase })) (if falls then 0 else (if done then phase + 1 else phase)) ≡ true
-rises_so true done cycle phase = by (0 == phase) (0 == phase + 1)
-  where
-    by : (a b : Bool) → (a || (b || true)) ≡ true
-    by true b = refl
-    by false true = refl
-    by false false = refl
-rises_so false true cycle phase = by (phase + 1 == phase) (phase + 1 == phase + 1) (eq-eqb (phase + 1) (phase + 1) refl)
-  where
-    by : (a b : Bool) → b ≡ true → (a || (b || (phase + 1 == 0))) ≡ true
-    by true b is = refl
-    by false true is = refl
-    by false false is = absurd (cc)
-rises_so false false cycle phase = by (phase == phase) (eq-eqb phase phase refl)
-  where
-    by : (a : Bool) → a ≡ true → (a || ((phase == phase + 1) || (phase == 0))) ≡ true
-    by true is = refl
-    by false is = absurd (cc)
+rises_so true done cycle phase = or_right (0 == phase) ((0 == phase + 1) || true) (or-true (0 == phase + 1))
+rises_so false true cycle phase =
+    or_right (phase + 1 == phase) ((phase + 1 == phase + 1) || (phase + 1 == 0))
+    (or_left (phase + 1 == phase + 1) (phase + 1 == 0) (eq-eqb (phase + 1) (phase + 1) refl))
+rises_so false false cycle phase = or_left (phase == phase) ((phase == phase + 1) || (phase == 0)) (eq-eqb phase phase refl)
 
 restarted_so : (restarts : Bool) (c : Command) (phase : ℕ) → is_next_phase (Some c) phase ≡ true → is_next_phase (Some c) (if restarts then 0 else phase) ≡ true
-restarted_so true c phase is = by (0 == c.phase) (0 == c.phase + 1)
-  where
-    by : (a b : Bool) → (a || (b || true)) ≡ true
-    by true b = refl
-    by false true = refl
-    by false false = refl
+restarted_so true c phase is = or_right (0 == c.phase) ((0 == c.phase + 1) || true) (or-true (0 == c.phase + 1))
 restarted_so false c phase is = is
 
 started_phase : (r : RingView) (jobs : List Job) (carry : Carry) (restarts : Restarts) (j : List CycleView)

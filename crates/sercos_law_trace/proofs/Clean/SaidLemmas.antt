@@ -1,6 +1,5 @@
 -- The ATs that the drives of a ring say, and the wishes of these drives.
-use Rattle.sercos_law_trace.proofs.Words.{◌≡◌, ℕ, zero, suc, ◌+◌, ◌<◌, ◌==◌, nat_lt, Bool, true, false, cond, ◌||◌, if◌then◌else◌, List, [], ◌∷◌, length, map, Option, Some, None, unwrap_or, slice_index_or, refl, sym, ◌∙◌, ap, arith, slice_index, list_any, find, position_or_len, eq-eqb, ne_eqb, eqb-true, nat_tests, Wish, wish, no_wish, WishesView, is_ring, wish_of, DriveView, RingView, DriveCall, Said, drive_says, place_of, is_drive, wish_for, no_drive, drive_at, with_said, said_below, same_drive}
-use Rattle.sercos_block.specs.Rings.{wishes_of}
+use Rattle.sercos_law_trace.proofs.Words.{◌≡◌, ℕ, zero, suc, ◌+◌, ◌<◌, ◌==◌, nat_lt, Bool, true, false, cond, ◌||◌, if◌then◌else◌, List, [], ◌∷◌, length, map, Option, Some, None, unwrap_or, slice_index_or, refl, sym, ◌∙◌, ap, arith, slice_index, list_any, find, position_or_len, eq-eqb, ne_eqb, eqb-true, nat_tests, Wish, wish, no_wish, WishesView, is_ring, wish_of, DriveView, RingView, DriveCall, Said, drive_says, place_of, is_drive, wish_for, no_drive, drive_at, with_said, said_below, same_drive, wishes_of, or-true}
 use Rattle.sercos_law_run.specs.Journal.Runs.{inserted}
 use Rattle.sercos_law_trace.proofs.Clean.SeenLemmas.{Each, EachPair, HasOther}
 
@@ -59,10 +58,6 @@ pairs_said (suc n) d rate h apart own =
     by (Some s) is from rest = pairs_inserted s (said_below n d rate h) (all_differ s (own n (omega arith) s is) (said_below n d rate h) from) rest
 
 -- THE WISHES of the drives, by their addresses
-or_true : (b : Bool) → (b || true) ≡ true
-or_true true = refl
-or_true false = refl
-
 pub drive_there : (r : RingView) (k : ℕ) → k < length r.drives → is_drive (wishes_of r) (drive_at r k).address ≡ true
 unfolding wishes_of
 drive_there r k below = by r.drives k below
@@ -70,7 +65,7 @@ drive_there r k below = by r.drives k below
     by : (drives : List DriveView) (k : ℕ) → k < length drives → list_any (λ (d : Wish). d.address == (slice_index_or drives k no_drive).address) (map wish_of drives) ≡ true
     by [] k below = absurd (omega (arith, below))
     by (d ∷ drives) zero below = rw (eq-eqb d.address d.address refl) refl
-    by (d ∷ drives) (suc k) below = ap (λ (b : Bool). (d.address == (slice_index_or drives k no_drive).address) || b) (by drives k (omega (arith, below))) ∙ or_true (d.address == (slice_index_or drives k no_drive).address)
+    by (d ∷ drives) (suc k) below = ap (λ (b : Bool). (d.address == (slice_index_or drives k no_drive).address) || b) (by drives k (omega (arith, below))) ∙ or-true (d.address == (slice_index_or drives k no_drive).address)
 
 -- a wish is found by its address, and so is the place of it
 pub wish_found : (w : WishesView) (address : ℕ) → wish w (place_of w address) ≡ wish_for w address

@@ -1,5 +1,5 @@
 -- What a checker finds among the telegrams of a cycle so far.
-use Rattle.sercos_law_trace.proofs.Words.{◌≡◌, ℕ, pos, zero, suc, ◌*◌, ◌<◌, ◌≤◌, ◌==◌, nat_lt, nat_le, Bool, true, false, not, ◌&&◌, ◌||◌, List, [], ◌∷◌, length, refl, ap, arith, slice_index, le_z, int_eq, eq-eqb, le-leb, nat_tests, Decides-int_eq, frame_of, WishesView, Said, starts_later, start_before, sent_mst}
+use Rattle.sercos_law_trace.proofs.Words.{◌≡◌, ℕ, pos, zero, suc, ◌*◌, ◌<◌, ◌≤◌, ◌==◌, nat_lt, nat_le, Bool, true, false, not, ◌&&◌, ◌||◌, List, [], ◌∷◌, length, refl, ap, arith, slice_index, le_z, int_eq, eq-eqb, le-leb, nat_tests, Decides-int_eq, frame_of, WishesView, Said, starts_later, start_before, sent_mst, and-false}
 use Rattle.sercos_law_trace.proofs.Clean.RuleLemmas.{newest_by, has_mdt_by, has_at_by, seen_of}
 
 -- each of a list
@@ -48,14 +48,13 @@ none_before R (x ∷ xs) = (tt, none_before R xs)
 pub all_after : {X : Type 0} (R : X → X → Type 0) (xs : List X) → EachPair R xs → EachAfter R [] xs
 all_after R xs pairs = after_by R xs [] pairs (none_before R xs)
 
-pub and_false : (b : Bool) → (b && false) ≡ false
-and_false true = refl
-and_false false = refl
-
 -- a rule of other telegrams
 pub not_asked : (b kept : Bool) → (not (b && false) || kept) ≡ true
 not_asked true kept = refl
 not_asked false kept = refl
+
+pub fresh : (a b : Bool) → b ≡ false → not (a && b) ≡ true
+fresh a b none = ap (λ (x : Bool). not (a && x)) none ∙ ap not (and-false a)
 
 pub asked : (b kept : Bool) → kept ≡ true → (not b || kept) ≡ true
 asked true kept is = is

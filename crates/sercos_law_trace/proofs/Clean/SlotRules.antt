@@ -1,7 +1,6 @@
 -- Telegrams that are apart keep the rules of phases 3 and 4.
-use Rattle.sercos_law_trace.proofs.Words.{◌≡◌, inl, inr, ℕ, zero, suc, ◌+◌, ◌-◌, ◌*◌, ◌<◌, ◌≤◌, ◌==◌, true, if◌then◌else◌, List, [], ◌∷◌, ◌++◌, length, max, Option, Some, None, is_none, refl, sym, ◌∙◌, ap, subst, arith, slice_index, All, AllPairs, filter, concat, eq-eqb, cases_eq, All-head, All-tail, wire_bits, frame_of, joint_fault, all_drives, Wish, wish, times, record_bytes, first_sent, sent, greatest, greatest_tmtsy, IsValid, AreBelow, WishesView, SentView, Said, Sent, AtSlot, MdtSlot, Held, end_of, mdt_content, HasPause, HasRecovered, AreApart, place_of, at_slot, mdt_slot, IsApart, length_records, wish_for, sent_at, sent_mst, sent_mdt, ats_said}
+use Rattle.sercos_law_trace.proofs.Words.{◌≡◌, inl, inr, ℕ, zero, suc, ◌+◌, ◌-◌, ◌*◌, ◌<◌, ◌≤◌, ◌==◌, true, if◌then◌else◌, List, [], ◌∷◌, ◌++◌, length, max, Option, Some, None, is_none, refl, sym, ◌∙◌, ap, subst, arith, slice_index, All, AllPairs, filter, concat, eq-eqb, cases_eq, All-head, All-tail, wire_bits, frame_of, joint_fault, all_drives, Wish, wish, times, record_bytes, first_sent, greatest, greatest_tmtsy, IsValid, AreBelow, WishesView, SentView, Said, Sent, AtSlot, MdtSlot, Held, end_of, mdt_content, HasPause, HasRecovered, AreApart, place_of, at_slot, mdt_slot, IsApart, length_records, wish_for, sent_at, sent_mst, sent_mdt, ats_said, head_fault}
 use Rattle.sercos_telegram.specs.Kinds.{is_mdt}
-use Rattle.sercos_telegram.specs.Faults.{head_fault}
 use Rattle.sercos_law_run.specs.Slots.Sending.{ats_in}
 use Rattle.sercos_law_trace.proofs.Clean.RuleLemmas.{mdt_at}
 use Rattle.sercos_law_trace.proofs.Clean.SeenLemmas.{Each, EachPair, each_map, each_both, pairs_both, pairs_map, IsFramed}
@@ -78,9 +77,6 @@ unfolding head_fault
 joint_so content n long address = rw (eq-eqb (length content) (1 + n) long, eq-eqb (slice_index content 0) all_drives address) refl
 
 module _ (w : WishesView) (rate : ℕ) (held : ℕ → Option Held) (records : List (List ℕ)) (mst : List ℕ) (ats : List Said) where
-  abbrev AreSlots : List SentView → Type 0
-  AreSlots sent = IsApart w held records sent
-
   module _ (m : Sent) (apart : IsApart w held records (sent_mst mst ∷ ats_said rate ats ++ sent_mdt rate (Some m))) (valid : IsValid w) where
     mdt_is : apart.mdt ≡ mdt_at rate m
     mdt_is = let same : mdt_at rate m ∷ [] ≡ apart.mdt ∷ [] = sym (mdts_are rate mst ats (Some m)) ∙ apart.one_mdt in ap (λ (l : List SentView). first l) (sym same)

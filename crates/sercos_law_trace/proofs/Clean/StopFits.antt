@@ -1,15 +1,11 @@
 -- What a cycle reports fits the fields of its lines.
-use Rattle.sercos_law_trace.proofs.Words.{◌≡◌, ℕ, zero, suc, ◌+◌, ◌<◌, ◌≤◌, Bool, true, false, List, [], ◌∷◌, ◌++◌, length, take, drop, Option, Some, None, option_map, unwrap_or, Ok, Err, refl, sym, ◌∙◌, ap, subst, arith, if◌then◌else◌, slice_get, option_or, All, All-nil, All-cons, All-head, All-tail, AreBytes-get_or, Idn, Code, Job, Request, Outcome, CountsAnswers, outcome_of, RingView, Begun, begun_by, Ident, Stop, raws, EventsView, CycleView, asked_by, idns_in, with_outcome, outcomes_in, Known, IsKnown, MemberView, HasLists, known_of, tasks_for, member, Past, outcomes, restart_told, Carry, Restarts, master_calls, middle, looks_back, no_events, IsRun, IsClear, IsTypedRequest, ring_timed, all_members, tasks_so, IsTypedPast, typed_past, AreBegun, s_known, first_store, keeps_all, IsOpened, Fit, FitsStop, FitsLink, FitsChain, FitsReports, FitReports, RunsFitReports, WishesView, chain_of, planned, is_roomy, least_plan, ChainView, Link, lens, are_requests, check128_has_cause, no_fit_has_cause, refused_has_cause, is_planned}
-use Rattle.sercos_model.specs.Bits.{AreBytes}
+use Rattle.sercos_law_trace.proofs.Words.{◌≡◌, ℕ, zero, suc, ◌+◌, ◌<◌, ◌≤◌, Bool, true, false, List, [], ◌∷◌, ◌++◌, length, take, drop, Option, Some, None, option_map, unwrap_or, Ok, Err, refl, sym, ◌∙◌, ap, subst, arith, if◌then◌else◌, slice_get, option_or, All, All-nil, All-cons, All-head, All-tail, AreBytes-get_or, Idn, Code, Job, Request, Outcome, CountsAnswers, outcome_of, RingView, Begun, begun_by, Ident, Stop, raws, EventsView, CycleView, asked_by, idns_in, with_outcome, outcomes_in, Known, IsKnown, MemberView, HasLists, known_of, tasks_for, member, Past, outcomes, restart_told, Carry, Restarts, master_calls, middle, looks_back, no_events, IsRun, IsClear, IsTypedRequest, ring_timed, all_members, tasks_so, IsTypedPast, typed_past, AreBegun, s_known, first_store, keeps_all, IsOpened, Fit, FitsStop, FitsLink, FitsChain, FitsReports, FitReports, RunsFitReports, WishesView, chain_of, planned, is_roomy, least_plan, ChainView, Link, lens, are_requests, check128_has_cause, no_fit_has_cause, refused_has_cause, is_planned, AreBytes, AreItems, IsItem, IsTail, field_of, AreOf, IsOf, part_left, template_of, tail_for, or_none}
 use Rattle.sercos_step.specs.declared.request.Request.TheVariants as request
 use Rattle.sercos_step.specs.declared.request.Outcome.TheVariants as outcome
-use Rattle.sercos_text.specs.Lists.{AreItems, IsItem}
 use Rattle.sercos_text.specs.Templates.Value.{number as counted}
-use Rattle.sercos_text.specs.Tails.{IsTail}
-use Rattle.sercos_text.specs.Templates.{field_of, AreOf, IsPart, IsOf, part_left}
+use Rattle.sercos_text.specs.Templates.{IsPart}
 use Rattle.sercos_trace.specs.declared.kind.LineKind.TheVariants as kind
 use Rattle.sercos_trace.specs.declared.events.Stop.TheVariants as stop
-use Rattle.sercos_trace.specs.Kinds.{template_of, tail_for}
 use Rattle.sercos_seat.specs.Agenda as agenda
 use Rattle.sercos_law_trace.proofs.Clean.ChainFits.{IsSmallWish, AreSmallWishes, IsSmallLink, IsSmallChain, chain_small}
 use Rattle.sercos_law_trace.proofs.Clean.RunRules.{cycle_low}
@@ -172,16 +168,8 @@ module _ (counts : CountsAnswers) (r : RingView) (jobs : List Job) (few : length
     stop_is x is = by p.now.stops (restarts (length j) 0) (sym (ap (λ (e : EventsView). e.stop) run.1.events) ∙ is)
       where
         by : (stops restarted : Bool) → option_or (if stops then p.stop else None) (if restarted then restart_told (known_of r) (looks_back r jobs (master_calls r carry restarts j)) no_events else no_events).stop ≡ Some x → p.stop ≡ Some x
-        by true true e = same p.stop e
-          where
-            same : (o : Option Stop) → option_or o None ≡ Some x → o ≡ Some x
-            same None e = e
-            same (Some y) e = e
-        by true false e = same p.stop e
-          where
-            same : (o : Option Stop) → option_or o None ≡ Some x → o ≡ Some x
-            same None e = e
-            same (Some y) e = e
+        by true true e = or_none p.stop x e
+        by true false e = or_none p.stop x e
         by false true e = cc
         by false false e = cc
 

@@ -1,12 +1,9 @@
 -- The trace of a run is a clean capture that begins with cycle 0.
-use Rattle.sercos_law_trace.proofs.Words.{◌≡◌, ◌⊎◌, inl, inr, ℕ, zero, suc, ◌<◌, ◌≤◌, nat_le, true, false, not, List, [], ◌∷◌, ◌++◌, length, map, reverse, Option, Some, None, slice_index_or, refl, sym, ◌∙◌, ap, subst, arith, append-nil, option_and_then, All, flat_map, option_or, and_parts, nat_tests, All-nil, All-cons, IsValid, IsWish, is_address, WishesView, Job, has_address, has_drive_numbers, wish_of, AreWithinLimits, DriveView, RingView, Line, Totals, ReadsBack, cycle_text, header_text, end_text, trace_of, SentView, CycleView, has_head, TellsFollowing, Clean, read_as, wish_is, drives_so, address_of, ring_timed, s_known, drive_got, got_inside, first_store, wishes_count, Carry, Restarts, mst_said, no_drive, drive_at, sent_mst, looks_back, begins, ats_next, mdt_next, IsRun, IsOpened, lines_with, lines_of, FitLines, ReadsTraces, reads_traces, told_in, KeepRules, FitOthers, TracesAreClean, IsRing-is_ring, ring_is_valid}
-use Rattle.sercos_block.specs.Rings.{is_drive, are_drives, are_drive_numbers, wishes_of}
+use Rattle.sercos_law_trace.proofs.Words.{◌≡◌, ◌⊎◌, inl, inr, ℕ, zero, suc, ◌<◌, ◌≤◌, nat_le, true, false, not, List, [], ◌∷◌, ◌++◌, length, map, reverse, Option, Some, None, slice_index_or, refl, sym, ◌∙◌, ap, subst, arith, append-nil, option_and_then, All, flat_map, option_or, and_parts, nat_tests, All-nil, All-cons, IsValid, IsWish, is_address, WishesView, Job, has_address, has_drive_numbers, wish_of, AreWithinLimits, DriveView, RingView, Line, Totals, ReadsBack, cycle_text, header_text, end_text, trace_of, SentView, CycleView, has_head, TellsFollowing, Clean, read_as, wish_is, drives_so, address_of, ring_timed, s_known, drive_got, got_inside, first_store, wishes_count, Carry, Restarts, mst_said, no_drive, drive_at, sent_mst, looks_back, begins, ats_next, mdt_next, IsRun, IsOpened, lines_with, lines_of, FitLines, ReadsTraces, reads_traces, told_in, KeepRules, FitOthers, TracesAreClean, IsRing-is_ring, ring_is_valid, are_drives, are_drive_numbers, wishes_of, capture_fault, first_violation, verdict_by, verdict_of, lines_after, lines_read, kind_cycle, mst_cycle, first_cycle, late, late_start}
+use Rattle.sercos_block.specs.Rings.{is_drive}
 use Rattle.sercos_trace.specs.declared.reading.Line.TheVariants as line
-use Rattle.sercos_checking.specs.Checking.{capture_fault, first_violation, verdict_by, verdict_of}
 use Rattle.sercos_answer.specs.Lines as answer
 use Rattle.sercos_replay.specs.Captured.{telegrams}
-use Rattle.sercos_replay.specs.Stations.{lines_after, lines_read, kind_cycle, mst_cycle}
-use Rattle.sercos_replay.specs.Replaying.{first_cycle, late, late_start}
 use Rattle.sercos_law_trace.proofs.Clean.PassLemmas.{Leads, leads_both}
 use Rattle.sercos_law_trace.proofs.Clean.LineLeads.{Stands, journal_leads, end_leads}
 use Rattle.sercos_law_trace.proofs.Clean.HeadLeads.{FitsDrive, FitsHead, header_leads}

@@ -1,6 +1,5 @@
 -- The trace of a run is clean.
-use Rattle.sercos_law_trace.proofs.Words.{◌≡◌, ◌≤◌, nat_le, true, List, length, reverse, arith, and_parts, nat_tests, Job, most_gap, most_cycle, is_rate, is_cycle, is_control, most_cycles, has_ring_numbers, RingView, Carry, Restarts, IsRun, run_of, IsOpened, totals_of, length-run_of, IsCleanIfClear, RunsAreClean, RunsFitOthers, RunsFitReports, TracesAreClean}
-use Rattle.sercos_block.specs.Rings.{is_ring, are_ring_numbers}
+use Rattle.sercos_law_trace.proofs.Words.{◌≡◌, ◌≤◌, nat_le, true, List, length, reverse, arith, and_parts, nat_tests, Job, most_gap, most_cycle, is_rate, is_cycle, is_control, most_cycles, has_ring_numbers, RingView, Carry, Restarts, IsRun, run_of, IsOpened, totals_of, length-run_of, IsCleanIfClear, RunsAreClean, RunsFitOthers, RunsFitReports, TracesAreClean, is_ring, are_ring_numbers}
 
 pub runs_are_clean : RunsFitOthers → RunsFitReports → TracesAreClean → RunsAreClean
 runs_are_clean others reports traces r jobs carry restarts j opened few run clear short =

@@ -1,5 +1,5 @@
 -- A worked run whose trace is clean, and an altered journal whose trace isn't, computed from the definitions, down to the bytes of each line.
-use Rattle.sercos_law_trace.proofs.Words.{◌≡◌, ℕ, List, [], ◌∷◌, ◌++◌, None, codes, length, refl, reverse, subst, sym, ◌∙◌, pos, RingView, wishes_of, Deaf, Fault, trace_of, SentView, CycleView, Clean, Violation, drive, IsClear, run_of, IsCleanIfClear, IsCleanTrace}
+use Rattle.sercos_law_trace.proofs.Words.{◌≡◌, ℕ, List, [], ◌∷◌, ◌++◌, None, codes, length, refl, reverse, subst, sym, ◌∙◌, pos, RingView, wishes_of, Deaf, Fault, trace_of, SentView, CycleView, Clean, Violation, drive, IsClear, run_of, IsCleanIfClear, IsCleanTrace, item_fault, item_len, item_of, item_text, kept_of, listed_fault, list_fault, list_len, list_of, list_text, end_fault, list_end_fault, tail_fault, tail_of, addresses_in, idents_text, tail_text, field_of, field_fault, field_len, byte_fault, part_fault, part_len, line_fault, hex_text, value_text, field_value, part_values, values_of, items_of, is_template, numbers_in, signed_by, bytes_by, part_text, part_left, line_text, template_of, tail_for, later, kinds_fault, first_kind, line_by, telegram_kind, plan_text, stop_text, fall_text, read_as, grammar_fault, shape_fault, column_of, capture_fault, first_violation, verdict_by, verdict_of, kind_cycle, mst_cycle, first_cycle, late, late_start, totals_of}
 use Rattle.std.specs.Fmt.{digits}
 use Rattle.hex.specs.Hex.{decode_pairs, encode_with}
 use Rattle.sercos_idn.specs.Idns.{idn_text, four_digits}
@@ -7,18 +7,8 @@ use Rattle.sercos_telegram.specs.declared.layout.Kind.TheVariants as kinds
 use Rattle.sercos_script.specs.Scripts.{carried, restarts_at, acts}
 use Rattle.sercos_timing.specs.Tests.{is_valid}
 use Rattle.sercos_text.specs.Fields.{number_fault, negative_fault, signed_fault, signed_len, signed_of, pairs_fault, hex_fault, hex_len, pairs_of, hex_of, digits_fault, digit_of, low_pairs, all_hex}
-use Rattle.sercos_text.specs.Lists.{item_fault, item_len, item_of, item_text, kept_of, listed_fault, list_fault, list_len, list_of, list_text}
-use Rattle.sercos_text.specs.Tails.{end_fault, list_end_fault, tail_fault, tail_of, addresses_in, idents_text, tail_text}
-use Rattle.sercos_text.specs.Templates.{field_of, field_fault, field_len, byte_fault, part_fault, part_len, line_fault, hex_text, value_text, field_value, part_values, values_of, items_of, is_template, numbers_in, signed_by, bytes_by, part_text, part_left, line_text}
-use Rattle.sercos_trace.specs.Kinds.{template_of, tail_for, later, kinds_fault, first_kind}
-use Rattle.sercos_trace.specs.Lines.{line_by, telegram_kind}
-use Rattle.sercos_trace.specs.Texts.{plan_text, stop_text, fall_text}
 use Rattle.sercos_check.specs.Tests.{can_follow}
 use Rattle.sercos_answer.specs.Lines.{lines_of}
-use Rattle.sercos_checking.specs.Checking.{read_as, grammar_fault, shape_fault, column_of, capture_fault, first_violation, verdict_by, verdict_of}
-use Rattle.sercos_replay.specs.Stations.{kind_cycle, mst_cycle}
-use Rattle.sercos_replay.specs.Replaying.{first_cycle, late, late_start}
-use Rattle.sercos_law_run.specs.Totals.Totals.{totals_of}
 use Rattle.sercos_model.specs.Bits as Bits
 use Rattle.sercos_model.specs.CheckSequence as CheckSequence
 use Rattle.sercos_hdlc.specs.Reason as Reason

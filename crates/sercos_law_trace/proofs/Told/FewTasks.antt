@@ -1,24 +1,16 @@
 -- Before phase 4 no request of the document is begun: so where the phase rises, a channel has begun at most the requests of the start-up,
 -- and all have ended.
-use Rattle.sercos_law_trace.proofs.Words.{◌≡◌, ℕ, suc, ◌+◌, ◌<◌, ◌≤◌, true, List, [], ◌∷◌, length, Option, Some, None, refl, sym, ap, ◌∙◌, arith, length-append, is_none, false≢true, nat_tests, has_next, Outcome, outcome_of, Begun, begun_by, PlanView, reads_count, is_ready, outcomes_in, with_outcome, Known, Task, member, AreWaiting, ready_stays, Past, outcomes, is_done, is_done_in, all_ready, each_passes, IsTask, OfReads, OfWrites, Checks3, Lists3, Checks4, Lists4, OfWaiting, AreBegunTasks, HasBegunTasks, all_ended, rests_so}
+use Rattle.sercos_law_trace.proofs.Words.{◌≡◌, ℕ, suc, ◌+◌, ◌<◌, ◌≤◌, true, List, [], ◌∷◌, length, Option, Some, None, refl, sym, ap, ◌∙◌, arith, length-append, is_none, false≢true, nat_tests, has_next, Outcome, outcome_of, Begun, begun_by, PlanView, reads_count, is_ready, outcomes_in, with_outcome, Known, Task, member, AreWaiting, ready_stays, Past, outcomes, is_done, is_done_in, each_passes, IsTask, OfReads, OfWrites, Checks3, Lists3, Checks4, Lists4, OfWaiting, AreBegunTasks, HasBegunTasks, all_ended, rests_so, not_longer, subst}
 use Rattle.sercos_law_trace.proofs.Told.GuardedWrites.{HaveEnded}
 
 -- the requests that have ended
-few_outcomes : (begun : List Begun) → length (outcomes_in begun) ≤ length begun
-few_outcomes [] = omega arith
-few_outcomes (b ∷ older) = by (outcome_of b.request b.answers) (few_outcomes older)
-  where
-    by : (o : Option Outcome) → length (outcomes_in older) ≤ length older → length (with_outcome o (outcomes_in older)) ≤ suc (length older)
-    by None few = omega (arith, few)
-    by (Some o) few = let one = length-append (outcomes_in older) (o ∷ []) in omega (arith, few, one)
-
 ended_each : (begun : List Begun) → length (outcomes_in begun) ≡ length begun → HaveEnded begun
 ended_each [] all = tt
 ended_each (b ∷ older) all = by (outcome_of b.request b.answers) refl all (ended_each older)
   where
     by : (o : Option Outcome) → outcome_of b.request b.answers ≡ o → length (with_outcome o (outcomes_in older)) ≡ suc (length older) → (length (outcomes_in older) ≡ length older → HaveEnded older)
         → HaveEnded older × ((x : Outcome) × (outcome_of b.request b.answers ≡ Some x))
-    by None none all rest = let few = few_outcomes older in absurd (omega (arith, all, few))
+    by None none all rest = let few = not_longer older in absurd (omega (arith, all, few))
     by (Some o) some all rest = let one = length-append (outcomes_in older) (o ∷ []) in (rest (omega (arith, all, one)), (o, some))
 
 -- one outcome more changes nothing where both checks have ended
@@ -50,12 +42,9 @@ pub few_at_end : (s : Known) (p : Past) (k : ℕ) → k < length s.drives → Ar
     → (length (begun_by (p.calls k)) ≤ reads_count (member s k) + 13) × HaveEnded (begun_by (p.calls k))
 few_at_end s p k below waits are done = (
   few_tasks s k p.plan (p.waiting k) p.now.phase (begun_by (p.calls k)) (p.tasks k) waits (low p.now.phase done) are
-      (λ three. each_passes (length s.drives) 0 (λ j. is_ready (member s j) (outcomes p j)) (third p.now.phase three done) k (omega arith) (omega (arith, below))),
+      (λ three. each_passes (length s.drives) 0 (λ j. is_ready (member s j) (outcomes p j)) (subst (λ (n : ℕ). is_done_in n s p ≡ true) three done) k (omega arith) (omega (arith, below))),
   ended_each (begun_by (p.calls k)) (all_ended s k has_next p.plan (p.waiting k) p.now.phase (begun_by (p.calls k)) (p.tasks k) are (ap (λ o. is_none o) (rests_so s p k below waits are done))),
 )
   where
     low : (n : ℕ) → is_done_in n s p ≡ true → n ≤ 3
     low n is = grind (arith, nat_tests, is)
-
-    third : (n : ℕ) → n ≡ 3 → is_done_in n s p ≡ true → all_ready s p ≡ true
-    third n three is = rw three at is

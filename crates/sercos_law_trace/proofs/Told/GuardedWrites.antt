@@ -1,6 +1,6 @@
 -- In phase 4 nothing is written to a block that is write protected in phase 4: so no request that is begun in phase 4 ends as a complete
 -- write to it.
-use Rattle.sercos_law_trace.proofs.Words.{◌≡◌, ℕ, ◌+◌, ◌≤◌, ◌==◌, Bool, true, false, List, [], ◌∷◌, ◌++◌, length, map, Option, Some, None, refl, sym, ap, ◌∙◌, subst, arith, if◌then◌else◌, length-append, none-some, is_some, and_parts, eqb-true, nat_tests, Idn, Request, Outcome, Answer, outcome_of, Block, is_protected, find_block, Processed, Entry, log_of, Write, with_added, writes_of, added_on, Begun, open_in, answers_it, answer_in, with_answer, Given, given_of, written_to, given_by, AreWrites, Complete, Refused, Broken, AreExact, Heard, View, standing, stood_in, record_in, with_record, processed_in, command, with_heard, with_begun, epoch_begun, begun_in, epoch_records, epoch_log, log_in, records_in_views, AreSound, AreSmall, cycle_exact, Laws, Processes, Nothing, Record, processes, processed_phase, added_bare, written}
+use Rattle.sercos_law_trace.proofs.Words.{◌≡◌, ℕ, ◌+◌, ◌≤◌, ◌==◌, Bool, true, false, List, [], ◌∷◌, ◌++◌, length, map, Option, Some, None, refl, sym, ap, ◌∙◌, subst, arith, if◌then◌else◌, length-append, none-some, is_some, and_parts, eqb-true, nat_tests, Idn, Request, Outcome, Answer, outcome_of, Block, is_protected, find_block, Processed, Entry, log_of, Write, with_added, writes_of, added_on, Begun, open_in, answers_it, answer_in, with_answer, Given, given_of, written_to, given_by, AreWrites, Complete, Refused, Broken, AreExact, Heard, View, standing, stood_in, record_in, with_record, processed_in, command, with_heard, with_begun, epoch_begun, begun_in, epoch_records, epoch_log, log_in, records_in_views, AreSound, AreSmall, cycle_exact, Laws, Processes, Nothing, Record, processes, processed_phase, added_bare, written, command_below}
 use Rattle.sercos_step.specs.declared.request.Request.TheVariants as request
 use Rattle.sercos_step.specs.declared.request.Outcome.TheVariants as outcome
 use Rattle.sercos_law_channel.specs.Handshake.Runs.{IsRun}
@@ -127,17 +127,8 @@ below_most busy v past run low = by v.master_restarts run.1.commanded
     by true is = omega (arith, is)
     by false is = omega (arith, is, low)
 
-most_next : (busy : ℕ) (past : List View) → IsRun busy past → command past ≤ 4
-most_next busy [] run = omega arith
-most_next busy (v ∷ past) run = by v.falls v.rises refl (below_most busy v past run (most_next busy past run.0))
-  where
-    by : (falls rises : Bool) → v.rises ≡ rises → v.phase ≤ 4 → (if falls then 0 else (if rises then v.phase + 1 else v.phase)) ≤ 4
-    by true rises on low = omega arith
-    by false true on low = let top = run.1.top on in omega (arith, top)
-    by false false on low = low
-
 pub phase_most : (busy : ℕ) (v : View) (past : List View) → IsRun busy (v ∷ past) → v.phase ≤ 4
-phase_most busy v past run = below_most busy v past run (most_next busy past run.0)
+phase_most busy v past run = below_most busy v past run (command_below busy past run.0)
 
 module _ (laws : Laws) (busy few : ℕ) (blocks : List Block) (small : AreSmall blocks) (idn : Idn) (b : Block) (found : find_block idn.raw blocks ≡ Some b) (guard : is_protected b.attribute 4 ≡ true) where
   -- a record of phase 4

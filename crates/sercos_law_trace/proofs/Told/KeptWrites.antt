@@ -1,5 +1,5 @@
 -- A complete write of operation data is kept, if no later request writes to its block: the start-up doesn't write it either.
-use Rattle.sercos_law_trace.proofs.Words.{◌≡◌, ◌⊎◌, inl, inr, ℕ, zero, suc, ◌+◌, ◌<◌, ◌==◌, Bool, true, false, not, ◌||◌, if◌then◌else◌, List, [], ◌∷◌, ◌++◌, length, Option, Some, None, refl, sym, ap, subst, ◌∙◌, arith, none-some, same_Some, IfSome, option_map, nat_lt, drop, map, is_some, unwrap_or, slice_get, slice_index, list_all, list_any, cond-true, nat_tests, Idn, Request, Job, Outcome, PlanView, Block, find_block, store_of, RingView, data_at, AreAlike, without_data, flipped, find-alike, is_fixed, blocks_in, annals, Begun, begun_by, CycleView, Carry, Restarts, Known, MemberView, Task, known_of, tasks_for, member, declared_times, reads, writes, count_requests, outcomes_in, Call, HearMst, HearAt, Mdt, End, Restart, Past, past, settled, still_waiting, with_task, channel_at, CallsAreMoves, IsTask, OfReads, OfWrites, Checks3, Lists3, Checks4, Lists4, OfWaiting, AreBegunTasks, AreNumbered, AreRequests, IsWrittenLast, WritesData, numbered_drop, member_is, members_count, stored, all_begun, all_writes, AreSound, Given, written_to, newest_to, is_plain, store_in, HoldsNewest, StaysFixed, GiveElsewhere, heard, passage, mst_in, ats_in, IsRun, IsClear, drive_at, looks_back, middle, master_calls, own_mst, at_calls, with_at, station_of, given_before, behind_ats, behind_mdt, view_of, views_of, IsOpened, Headline, KeepsAll, writes_to, IsLastTo, WritesAreKept, get_dropped, writes_data}
+use Rattle.sercos_law_trace.proofs.Words.{◌≡◌, ◌⊎◌, inl, inr, ℕ, zero, suc, ◌+◌, ◌<◌, ◌==◌, Bool, true, false, not, ◌||◌, if◌then◌else◌, List, [], ◌∷◌, ◌++◌, length, Option, Some, None, refl, sym, ap, subst, ◌∙◌, arith, none-some, same_Some, IfSome, option_map, nat_lt, drop, map, is_some, unwrap_or, slice_get, slice_index, list_all, list_any, cond-true, nat_tests, Idn, Request, Job, Outcome, PlanView, Block, find_block, store_of, RingView, data_at, AreAlike, without_data, flipped, find-alike, is_fixed, blocks_in, annals, Begun, begun_by, CycleView, Carry, Restarts, Known, MemberView, Task, known_of, tasks_for, member, declared_times, reads, writes, count_requests, outcomes_in, Call, HearMst, HearAt, Mdt, End, Restart, Past, past, settled, still_waiting, with_task, channel_at, CallsAreMoves, IsTask, OfReads, OfWrites, Checks3, Lists3, Checks4, Lists4, OfWaiting, AreBegunTasks, AreNumbered, AreRequests, IsWrittenLast, WritesData, numbered_drop, member_is, members_count, stored, all_begun, all_writes, AreSound, Given, written_to, newest_to, is_plain, store_in, HoldsNewest, StaysFixed, GiveElsewhere, heard, passage, mst_in, ats_in, IsRun, IsClear, drive_at, looks_back, middle, master_calls, own_mst, at_calls, with_at, station_of, given_before, behind_ats, behind_mdt, view_of, views_of, IsOpened, Headline, KeepsAll, writes_to, IsLastTo, WritesAreKept, get_dropped, writes_data, rest_runs, rest_clear, or_parts}
 use Rattle.sercos_step.specs.declared.request.Request.TheVariants as request
 use Rattle.sercos_step.specs.declared.request.Outcome.TheVariants as outcome
 use Rattle.sercos_service_drive.specs.Replies.{data_in}
@@ -9,7 +9,7 @@ use Rattle.sercos_telegram.specs.declared.layout.Kind.TheVariants as kinds
 use Rattle.sercos_law_run.specs.Journal.Runs.{begins as begin_of}
 use Rattle.sercos_law_run.specs.Views.RingViews.{request_of as request_in}
 use Rattle.sercos_law_trace.proofs.Told.ToldLemmas.{told_cut, HasReported, IsRequestOf, request_of}
-use Rattle.sercos_law_trace.proofs.Told.ReadLemmas.{run_before, clear_before, reported_at, begun_as}
+use Rattle.sercos_law_trace.proofs.Told.ReadLemmas.{reported_at, begun_as}
 use Rattle.sercos_law_trace.proofs.Told.StartNumbers.{all_start, is_start}
 use Rattle.sercos_law_trace.proofs.Told.StartBlocks.{StartLaws, not_start}
 use Rattle.sercos_law_trace.proofs.Told.LastWrites.{Elsewhere, newest_last, last_next, last_now}
@@ -48,16 +48,8 @@ gives_elsewhere raw blocks (request.Command idn) away = rw away refl
 -- THE START-UP writes to none but its own blocks.
 any_not : (raw : ℕ) (xs : List ℕ) (i y : ℕ) → list_any (λ (n : ℕ). n == raw) xs ≡ false → slice_get xs i ≡ Some y → (y == raw) ≡ false
 any_not raw [] i y none got = absurd (none-some _ got)
-any_not raw (x ∷ xs) zero y none got = let same : x ≡ y = cc in subst (λ (z : ℕ). (z == raw) ≡ false) same (first (x == raw) _ none)
-  where
-    first : (a b : Bool) → (a || b) ≡ false → a ≡ false
-    first false b off = refl
-    first true b off = absurd (cc)
-any_not raw (x ∷ xs) (suc i) y none got = any_not raw xs i y (second (x == raw) _ none) got
-  where
-    second : (a b : Bool) → (a || b) ≡ false → b ≡ false
-    second false b off = off
-    second true b off = absurd (cc)
+any_not raw (x ∷ xs) zero y none got = let same : x ≡ y = cc in subst (λ (z : ℕ). (z == raw) ≡ false) same (or_parts (x == raw) _ none).0
+any_not raw (x ∷ xs) (suc i) y none got = any_not raw xs i y (or_parts (x == raw) _ none).1 got
 
 start_at : (raw : ℕ) (i y : ℕ) → is_start raw ≡ false → slice_get all_start i ≡ Some y → (y == raw) ≡ false
 start_at raw i y none got = any_not raw all_start i y none got
@@ -320,8 +312,8 @@ writes_kept laws r jobs carry restarts run n job idn bytes whole opened is_run c
     let at = told_cut run (n + 1) (outcome.Complete whole) told in
     let run_so = subst (IsRun r jobs carry restarts) at.cut is_run in
     let clear_so = subst IsClear at.cut clear in
-    let run_then = run_before r jobs carry restarts at.later (at.one ∷ at.before) run_so in
-    let clear_then = clear_before at.later (at.one ∷ at.before) clear_so in
+    let run_then = rest_runs r jobs carry restarts at.later (at.one ∷ at.before) run_so in
+    let clear_then = rest_clear at.later (at.one ∷ at.before) clear_so in
     let keeps = laws.headline r jobs carry restarts at.one at.before opened run_then clear_then in
     let place = reported_at r jobs carry restarts at.one at.before (n + 1) whole keeps.reported at.told in
     let asked = begun_as r jobs carry restarts at.one at.before place.place n (outcome.Complete whole) keeps.reported place.below place.reported in

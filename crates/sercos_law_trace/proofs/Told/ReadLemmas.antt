@@ -1,18 +1,9 @@
 -- Complete reads of operation data are exact.
-use Rattle.sercos_law_trace.proofs.Words.{◌≡◌, ◌⊎◌, inl, inr, ℕ, ◌+◌, ◌<◌, Bool, true, false, if◌then◌else◌, List, [], ◌∷◌, ◌++◌, length, Some, sym, ap, subst, ◌∙◌, arith, is_some, slice_get, length-map, Idn, data_element, Job, Outcome, outcome_of, find_block, store_of, RingView, Begun, begun_by, Entry, CycleView, Carry, Restarts, MemberView, Task, member_of, known_of, tasks_for, member, Report, number_in, Past, fall_of, is_idle, broken, restart_told, still_left, HasOutcome, HasReport, told_at_end, all_entries, all_writes, AreExact, Write, element_in, IsRun, IsClear, drive_at, looks_back, middle, master_calls, no_events, restart_events, behind_mdt, view_of, views_of, member_is, Headline, AreReportedIn, IsExactAt, IsReadFrom, ReadsAreExact, get_dropped}
+use Rattle.sercos_law_trace.proofs.Words.{◌≡◌, ◌⊎◌, inl, inr, ℕ, ◌+◌, ◌<◌, Bool, true, false, if◌then◌else◌, List, [], ◌∷◌, ◌++◌, length, Some, sym, ap, subst, ◌∙◌, arith, is_some, slice_get, length-map, Idn, data_element, Job, Outcome, outcome_of, find_block, store_of, RingView, Begun, begun_by, Entry, CycleView, Carry, Restarts, MemberView, Task, member_of, known_of, tasks_for, member, Report, number_in, Past, fall_of, is_idle, broken, restart_told, still_left, HasOutcome, HasReport, told_at_end, all_entries, all_writes, AreExact, Write, element_in, IsRun, IsClear, drive_at, looks_back, middle, master_calls, no_events, restart_events, behind_mdt, view_of, views_of, member_is, Headline, AreReportedIn, IsExactAt, IsReadFrom, ReadsAreExact, get_dropped, rest_runs, rest_clear}
 use Rattle.sercos_step.specs.declared.request.Request.TheVariants as request
 use Rattle.sercos_step.specs.declared.request.Outcome.TheVariants as outcome
 use Rattle.sercos_law_trace.proofs.Told.ToldLemmas.{told_cut, not_broken, HasReported, reported_at_end, ended_so, has_waited, request_of}
 use Rattle.sercos_law_trace.proofs.Told.EntryLemmas.{HasAccepted, on_store, behind_in, begun_among, one_exact, among_all, accepted_in, accepted_later}
-
--- the cycles up to one of a run
-pub clear_before : (later j : List CycleView) → IsClear (later ++ j) → IsClear j
-clear_before [] j clear = clear
-clear_before (t ∷ later) j clear = clear_before later j clear.0
-
-pub run_before : (r : RingView) (jobs : List Job) (carry : Carry) (restarts : Restarts) (later j : List CycleView) → IsRun r jobs carry restarts (later ++ j) → IsRun r jobs carry restarts j
-run_before r jobs carry restarts [] j run = run
-run_before r jobs carry restarts (t ∷ later) j run = run_before r jobs carry restarts later j run.0
 
 -- The channel at a place reported what is told as complete.
 pub record IsReportedAt (r : RingView) (jobs : List Job) (carry : Carry) (restarts : Restarts) (t : CycleView) (j : List CycleView) (n : ℕ) (o : Outcome) : Type 0 where
@@ -151,8 +142,8 @@ one_job jobs n a b one two = let same : Some a ≡ Some b = sym one ∙ two in c
 pub reads_exact : Headline → ReadsAreExact
 reads_exact law r jobs carry restarts run n job idn bytes opened is_run clear there reads told =
     let at = told_cut run (n + 1) (outcome.Complete bytes) told in
-    let run_so = run_before r jobs carry restarts at.later (at.one ∷ at.before) (subst (IsRun r jobs carry restarts) at.cut is_run) in
-    let clear_so = clear_before at.later (at.one ∷ at.before) (subst IsClear at.cut clear) in
+    let run_so = rest_runs r jobs carry restarts at.later (at.one ∷ at.before) (subst (IsRun r jobs carry restarts) at.cut is_run) in
+    let clear_so = rest_clear at.later (at.one ∷ at.before) (subst IsClear at.cut clear) in
     let keeps = law r jobs carry restarts at.one at.before opened run_so clear_so in
     let place = reported_at r jobs carry restarts at.one at.before (n + 1) bytes keeps.reported at.told in
     let asked = begun_as r jobs carry restarts at.one at.before place.place n (outcome.Complete bytes) keeps.reported place.below place.reported in

@@ -1,5 +1,5 @@
 -- The AT that a drive sends has its address and the bytes that the master wants of it.
-use Rattle.sercos_law_run.proofs.Words.{◌≡◌, ℕ, zero, suc, ◌+◌, ◌<◌, ◌≤◌, Bool, true, false, ◌&&◌, ◌||◌, List, [], ◌∷◌, length, Some, None, refl, sym, ◌∙◌, ap, arith, nat_le, slice_index, slice_index_or, cond-true, or_right, nat_tests, at_fault, head_fault-none, Outcome, WishesView, no_wish, wish, Wish, Block, wishes_of, blocks_fault, IsStore, DriveView, RingView, Shown, channel_says, Moment, phase_in, cycle_in, has_mst, has_taken, records_in, blocks_in, commands_in, Said, said, said_in, sends, shown_word, values_in, wish_given, wishes_from, wishes_given, MemberView, member, no_member, known_of, fields_length, IsStoreOf, start_up, Holds, PlanView, drive_at}
+use Rattle.sercos_law_run.proofs.Words.{◌≡◌, ℕ, ◌+◌, ◌<◌, ◌≤◌, Bool, true, false, ◌&&◌, ◌||◌, List, [], length, Some, None, refl, sym, ◌∙◌, ap, arith, nat_le, slice_index, cond-true, or_right, nat_tests, at_fault, head_fault-none, Outcome, WishesView, wish, Wish, Block, wishes_of, blocks_fault, IsStore, DriveView, RingView, Shown, channel_says, Moment, phase_in, cycle_in, has_mst, has_taken, records_in, blocks_in, commands_in, Said, said, said_in, sends, shown_word, values_in, wishes_given, member, known_of, fields_length, IsStoreOf, start_up, Holds, PlanView, drive_at, wish_there}
 use Rattle.sercos_block.specs.Rings.{at_len}
 use Rattle.sercos_seat.specs.Agenda as seat
 use Rattle.sercos_law_run.proofs.Start.CheckPasses.{wish_is}
@@ -51,19 +51,12 @@ pub no_values : (cycle phase : ℕ) (blocks : List Block) → phase ≤ 2 → le
 no_values cycle phase blocks early = let three : nat_le 3 phase ≡ false = grind (arith, nat_tests, early) in rw three refl
 
 -- in phases 3 and 4 those that the drive's attributes say
-wish_from : (drives : List MemberView) (base n : ℕ) (outs : ℕ → List Outcome) → n < length drives → slice_index_or (wishes_from drives base outs) n no_wish ≡ wish_given (slice_index_or drives n no_member) (outs (base + n))
-wish_from [] base n outs below = absurd (omega (arith, below))
-wish_from (d ∷ drives) base zero outs below = let e : base ≡ base + 0 = omega arith in ap (λ (i : ℕ). wish_given d (outs i)) e
-wish_from (d ∷ drives) base (suc n) outs below =
-    let e : base + 1 + n ≡ base + suc n = omega arith in
-    wish_from drives (base + 1) n outs (omega (arith, below)) ∙ ap (λ (i : ℕ). wish_given (slice_index_or drives n no_member) (outs i)) e
-
 pub asked_len : (r : RingView) (outs : ℕ → List Outcome) (k : ℕ) → k < length r.drives → wishes_given (known_of r) outs ≡ wishes_of r → seat.at_len (member (known_of r) k) (outs k) ≡ at_len (drive_at r k)
 asked_len r outs k below same =
     let count = members_count r in
     let e : k ≡ 0 + k = omega arith in
     ap (λ (i : ℕ). seat.at_len (member (known_of r) k) (outs i)) e
-    ∙ sym (ap (λ (w : Wish). w.at_len) (wish_from (known_of r).drives 0 k outs (omega (arith, below, count))))
+    ∙ sym (ap (λ (w : Wish). w.at_len) (wish_there (known_of r).drives 0 k outs (omega (arith, below, count))))
     ∙ ap (λ (w : WishesView). (wish w k).at_len) same
     ∙ ap (λ (w : Wish). w.at_len) (wish_is r k (drive_at r k) (drive_got r k below))
 

@@ -1,7 +1,6 @@
 -- In an undisturbed cycle no arrival is unseen.
-use Rattle.sercos_law_run.proofs.Words.{◌≡◌, ℕ, ◌+◌, Bool, true, false, ◌&&◌, List, [], ◌∷◌, ◌++◌, length, Option, Some, None, refl, ap, arith, if◌then◌else◌, or_parts, is_none, slice_index, reason_of, Job, RingView, CycleView, Passage, Carry, Restarts, is_disturbed, disturbed_at, unseen_at, passage, mst_in, ats_in, mdt_in, disturbs_ats, disturbs_mdt, unseen_ats, unseen_mdt, unseen_mst, station_of, IsNext, IsRun, IsClear, IsUndisturbed, AreUndisturbed}
+use Rattle.sercos_law_run.proofs.Words.{◌≡◌, ℕ, ◌+◌, Bool, true, false, ◌&&◌, List, [], ◌∷◌, ◌++◌, length, Option, Some, None, refl, ap, arith, if◌then◌else◌, or_parts, is_none, slice_index, reason_of, Job, RingView, CycleView, Passage, Carry, Restarts, is_disturbed, disturbed_at, unseen_at, passage, mst_in, ats_in, mdt_in, disturbs_ats, disturbs_mdt, unseen_ats, unseen_mdt, unseen_mst, station_of, IsNext, IsRun, IsClear, IsUndisturbed, AreUndisturbed, is_unseen}
 use Rattle.sercos_telegram.specs.declared.layout.Kind.TheVariants as kinds
-use Rattle.sercos_law_run.specs.Journal.Arrivals.{is_unseen}
 use Rattle.sercos_law_run.proofs.Journal.ClearLemmas.{sum_none}
 use Rattle.sercos_law_run.proofs.Undisturbed.Arriving.Comes.{IsCalm, calm_in}
 

@@ -1,9 +1,10 @@
 -- The master takes the first AT of a drive in a cycle that is awaited and has the wanted bytes.
-use Rattle.sercos_law_run.proofs.Words.{◌≡◌, ◌⊎◌, inl, inr, ℕ, zero, suc, ◌<◌, ◌≤◌, Bool, true, false, not, ◌&&◌, List, [], ◌∷◌, Option, Some, None, refl, sym, ◌∙◌, ap, ap₂, subst, arith, if◌then◌else◌, ◌==◌, nat_le, nat_lt, slice_index, is_some, is_none, cases_eq, and_from, false≢true, nat_tests, at_fault, Job, DriveView, RingView, begun_by, DriveCall, Said, drive_says, at_len, is_place, outcomes_in, Known, member, known_of, Past, Turn, Call, addressed_before, place_of, is_awaited, wanted_len, is_taken, after_taken, after_at_of, after_at, hearing, same_place, Carry, heard, passage, station_of, with_said, said_below, contents, with_at, at_calls, looks_back, heard_last}
+use Rattle.sercos_law_run.proofs.Words.{◌≡◌, ◌⊎◌, inl, inr, ℕ, zero, suc, ◌<◌, ◌≤◌, Bool, true, false, not, ◌&&◌, List, [], ◌∷◌, Option, Some, None, refl, sym, ◌∙◌, ap, ap₂, subst, arith, if◌then◌else◌, ◌==◌, nat_le, nat_lt, slice_index, is_some, is_none, cases_eq, and_from, nat_tests, at_fault, Job, DriveView, RingView, begun_by, DriveCall, Said, drive_says, at_len, is_place, outcomes_in, Known, member, known_of, Past, Turn, Call, addressed_before, place_of, is_awaited, wanted_len, is_taken, after_taken, after_at_of, after_at, hearing, same_place, Carry, heard, passage, station_of, with_said, said_below, contents, with_at, at_calls, looks_back, heard_last}
 use Rattle.sercos_telegram.specs.declared.layout.Kind.TheVariants as kinds
 use Rattle.sercos_service_master.specs.Calls as channel
 use Rattle.sercos_law_run.specs.Journal.Runs.{inserted}
 use Rattle.sercos_law_run.proofs.Undisturbed.Arriving.Arrivals.{AllHeard}
+use Rattle.sercos_law_run.proofs.Views.MasterSame.{not_taken}
 
 -- After some ATs of a cycle none was taken from the drive at a place ..
 pub record Waits (k : ℕ) (p q : Past) : Type 0 where
@@ -17,11 +18,6 @@ pub record Took (k : ℕ) (p q : Past) : Type 0 where
   pub taken : q.now.heard k ≡ true
   pub phase_is : q.now.phase ≡ p.now.phase
   pub last : 2 ≤ p.now.phase → is_some (heard_last (q.calls k)) ≡ true
-
-not_again : (a b was : Bool) → was ≡ true → (a && (not was && b)) ≡ true → ⊥
-not_again true b true is taken = false≢true taken
-not_again true b false is taken = false≢true is
-not_again false b was is taken = false≢true taken
 
 -- one that is taken
 takes_it : (k : ℕ) (p q : Past) (content : List ℕ) → Waits k p q → Took k p (after_taken k content q)
@@ -46,7 +42,7 @@ took_stays s k p q content a = place (place_of s (slice_index content 0))
     taken : (i : ℕ) (b : Bool) → is_taken s q i content ≡ b → Took k p (if b then after_taken i content q else q)
     taken i false is = a
     taken i true is = elim (cases_eq k i) [
-      | inl same ↦ absurd (not_again (is_awaited q k) _ (q.now.heard k) a.taken (ap (λ (n : ℕ). is_taken s q n content) same ∙ is))
+      | inl same ↦ absurd (not_taken (is_awaited q k) _ (q.now.heard k) a.taken (ap (λ (n : ℕ). is_taken s q n content) same ∙ is))
       | inr other ↦ elsewhere i (grind (arith, nat_tests, other))
     ]
 

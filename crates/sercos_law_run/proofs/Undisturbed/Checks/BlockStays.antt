@@ -1,6 +1,5 @@
 -- What a block of a drive keeps through a run: it is so at opening, and each accepted write and each list of a check leaves it so.
-use Rattle.sercos_law_run.proofs.Words.{◌≡◌, ℕ, Bool, true, false, not, ◌&&◌, List, [], ◌∷◌, Option, Some, None, refl, sym, ap, ◌∙◌, subst, arith, if◌then◌else◌, ◌==◌, IfSome, cond, nat_tests, same_Some, find_block, with_data, store_of, put_fault, are_ascending, DriveView, Block, unfit_for_phase_3, unfit_for_phase_4, list_bytes, is_command, is_set, CommandHistory, Write, added_on, command_value, blocks_with, DriveCall, Mst, Mdt, mdt_got, phase_in, records_in, blocks_in, blocks_after, commands_in, annals, IsStoreOf, allowed}
-use Rattle.sercos_command.specs.Calls.{with_check_list}
+use Rattle.sercos_law_run.proofs.Words.{◌≡◌, ℕ, Bool, true, false, not, ◌&&◌, List, [], ◌∷◌, Option, Some, None, refl, sym, ap, ◌∙◌, subst, arith, if◌then◌else◌, ◌==◌, IfSome, cond, nat_tests, same_Some, find_block, with_data, store_of, put_fault, are_ascending, DriveView, Block, unfit_for_phase_3, unfit_for_phase_4, list_bytes, is_command, is_set, CommandHistory, Write, added_on, command_value, blocks_with, DriveCall, Mst, Mdt, mdt_got, phase_in, records_in, blocks_in, blocks_after, commands_in, annals, IsStoreOf, allowed, with_check_list}
 use Rattle.sercos_drive.specs.Heard.{Restart}
 use Rattle.sercos_law_run.proofs.Start.KeptLemmas.{writes_keep}
 use Rattle.sercos_law_run.proofs.Held.Processed.{processed_keeps, taken_at}

@@ -9,6 +9,7 @@ use Rattle.sercos_law_run.proofs.Undisturbed.StaysUp.{phase_now}
 use Rattle.sercos_law_run.proofs.Undisturbed.Checks.OwnSet.{AreBuiltIn}
 use Rattle.sercos_law_run.proofs.Agenda.WritesDone.{writes_data}
 use Rattle.sercos_law_run.proofs.Cited.{begins_tasks}
+use Rattle.sercos_law_run.proofs.Undisturbed.Arriving.Small.{first_is}
 
 -- A REQUEST names a built-in block, if it writes at all.
 abbrev pub is_built : Request → Bool
@@ -47,13 +48,7 @@ given_built blocks (request.Command i) built = ((tt, built), built)
 own_given : (own : List Write) (given : List Given) → map given_of own ≡ given → AreGiven given → AreBuiltIn own
 own_given [] given same are = tt
 own_given (w ∷ own) [] same are = absurd (cc)
-own_given (w ∷ own) (g ∷ given) same are = (own_given own given (tail_is same) are.0, ap (λ (x : Given). is_built_in x.raw) (head_is same) ∙ are.1)
-  where
-    head_is : {x y : Given} {xs ys : List Given} → x ∷ xs ≡ y ∷ ys → x ≡ y
-    head_is e = cc
-
-    tail_is : {x y : Given} {xs ys : List Given} → x ∷ xs ≡ y ∷ ys → xs ≡ ys
-    tail_is e = cc
+own_given (w ∷ own) (g ∷ given) same are = (own_given own given (first_is _ _ _ _ same).1 are.0, ap (λ (x : Given). is_built_in x.raw) (first_is _ _ _ _ same).0 ∙ are.1)
 
 own_built : (blocks : List Block) (b : Begun) (own : List Write) → is_built b.request ≡ true → AreWrites blocks b own → AreBuiltIn own
 own_built blocks b own built (Complete bytes complete has same) = own_given own (given_by blocks b.request) same (given_built blocks b.request built)
@@ -133,9 +128,6 @@ module _ (r : RingView) (jobs : List Job) (carry : Carry) (restarts : Restarts) 
       now_is : begun_by (p.calls k) ≡ with_begun v.begins (with_heard v.heard (if v.master_restarts then [] else epoch_begun (views_of r jobs carry restarts k j)))
       now_is = sym ((keeps_all r jobs carry restarts opened t j run clear).exact k below).begun_now
 
-      first_is : {x y : Begun} {xs ys : List Begun} → x ∷ xs ≡ y ∷ ys → x ≡ y
-      first_is e = cc
-
       by : (begun : List Begun) (tasks : List Task) → begun_by (p.calls k) ≡ begun → AreBegunTasks (known_of r) k p.plan (p.waiting k) p.now.phase begun tasks → is_built q ≡ true
       by [] tasks same are =
           let none : [] ≡ with_begun (Some q) (with_heard v.heard (if v.master_restarts then [] else epoch_begun (views_of r jobs carry restarts k j))) =
@@ -144,7 +136,7 @@ module _ (r : RingView) (jobs : List Job) (carry : Carry) (restarts : Restarts) 
       by (b ∷ older) (u ∷ tasks) same are =
           let head : b ∷ older ≡ with_begun (Some q) (with_heard v.heard (if v.master_restarts then [] else epoch_begun (views_of r jobs carry restarts k j))) =
           sym same ∙ now_is ∙ ap (λ (o : Option Request). with_begun o (with_heard v.heard (if v.master_restarts then [] else epoch_begun (views_of r jobs carry restarts k j)))) begins in
-          let asks : b.request ≡ q = ap (λ (x : Begun). x.request) (first_is head) in
+          let asks : b.request ≡ q = ap (λ (x : Begun). x.request) (first_is _ _ _ _ head).0 in
           ap is_built (sym asks ∙ are.1.asks)
           ∙ task_built (known_of r) k are.1.by_then (p.waiting k) _ u (jobs_waiting (known_of r) jobs (middle r carry restarts t.sent j) k) (let low = are.1.early in omega (arith, low, early)) are.1.task
 

@@ -4,6 +4,7 @@ use Rattle.sercos_law_run.proofs.Settings.Givers.{are_away}
 use Rattle.sercos_law_run.proofs.Settings.Histories.{status_set}
 use Rattle.sercos_law_run.proofs.Undisturbed.Checks.LogLeaves.{added_cycle, read_adds_none}
 use Rattle.sercos_law_run.proofs.Undisturbed.Checks.OwnSet.{none_without}
+use Rattle.sercos_law_run.proofs.Undisturbed.Arriving.Small.{first_is}
 
 -- THE SETTINGS. A command that isn't set isn't, once another is set or any is cancelled.
 pub unset_without : (raw other : ℕ) (set : List SetCommand) → find_set raw set ≡ None → find_set raw (without other set) ≡ None
@@ -109,22 +110,16 @@ newest_write : (raw : ℕ) (w : Write) (writes : List Write) (log : List Entry) 
 newest_write raw w writes [] c leaves commands is = absurd (cc)
 newest_write raw w writes (e ∷ log) c leaves commands is = by (added_by e log) leaves.1 is (λ more. newest_write raw w writes log e.processed.commands leaves.0 commands.0 more)
   where
-    head : (x y : Write) (xs ys : List Write) → x ∷ xs ≡ y ∷ ys → x ≡ y
-    head x y xs ys same = cc
-
-    tail : (x y : Write) (xs ys : List Write) → x ∷ xs ≡ y ∷ ys → xs ≡ ys
-    tail x y xs ys same = cc
-
     by : (o : Option Write) → c ≡ commands_with o e.processed.blocks e.processed.commands → with_added o (writes_of log) ≡ w ∷ writes → (writes_of log ≡ w ∷ writes → IsNewest raw w writes e.processed.commands) → IsNewest raw w writes c
     by None left is more = subst (λ (x : CommandHistory). IsNewest raw w writes x) (sym left) (more is)
     by (Some x) left is more = record {
       blocks = e.processed.blocks;
       commands = e.processed.commands;
       log = log;
-      is = left ∙ ap (λ (y : Write). commands_with (Some y) e.processed.blocks e.processed.commands) (head x w (writes_of log) writes is);
+      is = left ∙ ap (λ (y : Write). commands_with (Some y) e.processed.blocks e.processed.commands) (first_is x w (writes_of log) writes is).0;
       command = commands.1;
       leaves = leaves.0;
-      rest = tail x w (writes_of log) writes is;
+      rest = (first_is x w (writes_of log) writes is).1;
     }
 
 -- a write of these two bytes to the number, in its cycle
@@ -196,18 +191,12 @@ module _ (raw : ℕ) (passed : CommandHistory → Option ℕ) (sets : PassesIfSe
       before : writes_of (poll ∷ log) ≡ writes_of log
       before = ap (λ (o : Option Write). with_added o (writes_of log)) quiet
 
-      head : (x y : Write) (xs ys : List Write) → x ∷ xs ≡ y ∷ ys → x ≡ y
-      head x y xs ys same = cc
-
-      tail : (x y : Write) (xs ys : List Write) → x ∷ xs ≡ y ∷ ys → xs ≡ ys
-      tail x y xs ys same = cc
-
       by : (o : Option Write) → added_by cancel (poll ∷ log) ≡ o → c ≡ commands_with o cancel.processed.blocks cancel.processed.commands → with_added o (writes_of (poll ∷ log)) ≡ last ∷ set ∷ writes → CountsBy passed c cancel.processed.cycle
       by None adds left are =
           absurd (not_cancelled last.cycle poll.processed.cycle (set ∷ writes) log poll.processed.commands leaves.0.0 commands.0.0 (sym before ∙ are ∙ ap (λ (w : Write). w ∷ set ∷ writes) (sets_so raw 0 last last_is)) three)
       by (Some x) adds left are =
-          let first : x ≡ last = head x last (writes_of (poll ∷ log)) (set ∷ writes) are in
-          let rest : writes_of (poll ∷ log) ≡ set ∷ writes = tail x last (writes_of (poll ∷ log)) (set ∷ writes) are in
+          let first : x ≡ last = (first_is x last (writes_of (poll ∷ log)) (set ∷ writes) are).0 in
+          let rest : writes_of (poll ∷ log) ≡ set ∷ writes = (first_is x last (writes_of (poll ∷ log)) (set ∷ writes) are).1 in
           let at = set_counts set.cycle poll.processed.cycle writes log poll.processed.commands leaves.0.0 commands.0.0 (sym before ∙ rest ∙ ap (λ (w : Write). w ∷ writes) (sets_so raw 3 set set_is)) none three in
           let cycle : last.cycle ≡ cancel.processed.cycle = ap (λ (w : Write). w.cycle) (sym first) ∙ added_cycle cancel (poll ∷ log) x adds in
           let cancels : x ≡ sets_to raw 0 cancel.processed.cycle = first ∙ sets_so raw 0 last last_is ∙ ap (sets_to raw 0) cycle in

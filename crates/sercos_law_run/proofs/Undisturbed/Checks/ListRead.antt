@@ -1,11 +1,9 @@
 -- A complete read of block 22 comes after a complete check for phase 4: so it finds what is so of the blocks since the check was set. Each
 -- list has its newest item first.
-use Rattle.sercos_law_run.proofs.Words.{◌≡◌, inl, inr, ℕ, ◌^◌, ◌<◌, Bool, true, false, not, List, [], ◌∷◌, ◌++◌, length, Some, None, refl, sym, ap, ap₂, ◌∙◌, subst, arith, if◌then◌else◌, append_assoc, cond_both, ◌==◌, is_some, is_list, Request, outcome_of, steps_before, find_block, store_of, DriveView, Block, is_command, find_set, set_in, Processed, Entry, accepted, data_in, Begun, idn, command, epoch_begun, epoch_records, epoch_log, IsRow, IsPart, Unsent, Unheard, AreParts, entry_behind, element_in, IsReadAt, HaveBlocks, IsTransfer, View, AreSound, all_entries, in_step, IsEpoch, epoch, split_replies, split_blocks, fall_into_parts, HasReplies, answered_replies, entries_ago, entries_in_epochs, SettingsFollow, HaveStores, IsStored, AreStored, reads_once}
+use Rattle.sercos_law_run.proofs.Words.{◌≡◌, inl, inr, ℕ, ◌^◌, ◌<◌, Bool, true, false, not, List, [], ◌∷◌, ◌++◌, length, Some, None, refl, sym, ap, ap₂, ◌∙◌, subst, arith, if◌then◌else◌, append_assoc, cond_both, ◌==◌, is_some, is_list, Request, outcome_of, steps_before, find_block, store_of, DriveView, Block, is_command, find_set, set_in, Processed, Entry, accepted, data_in, Begun, idn, command, epoch_begun, epoch_records, epoch_log, IsRow, IsPart, Unsent, Unheard, AreParts, entry_behind, element_in, IsReadAt, HaveBlocks, IsTransfer, View, AreSound, all_entries, in_step, IsEpoch, epoch, split_replies, split_blocks, fall_into_parts, HasReplies, answered_replies, entries_ago, entries_in_epochs, SettingsFollow, HaveStores, IsStored, AreStored, reads_once, element_of, IsViewRun, same_Some}
 use Rattle.sercos_step.specs.declared.request.Request.TheVariants as request
 use Rattle.sercos_step.specs.declared.request.Outcome.TheVariants as outcome
-use Rattle.sercos_block.specs.Blocks.{element_of}
 use Rattle.sercos_law_channel.specs.Handshake.Parts.{Heard}
-use Rattle.sercos_law_channel.specs.Handshake.Runs.{IsRun as IsViewRun}
 use Rattle.sercos_law_run.proofs.Settings.SetAtPoll.{IsSetAtPoll, set_at_poll}
 use Rattle.sercos_law_run.proofs.Settings.SetInEpoch.{set_at_entry}
 use Rattle.sercos_law_run.proofs.Held.AnsweredRuns.{EntriesStored, entries_stored}
@@ -45,11 +43,8 @@ entry_in : (n : ℕ) (part : List Entry) (e : Entry) → entry_behind n part ≡
 entry_in n [] e got = absurd (cc)
 entry_in n (x ∷ part) e got = by (length part == n) got (λ more. entry_in n part e more)
   where
-    same : (x : Entry) → Some x ≡ Some e → x ≡ e
-    same x is = cc
-
     by : (v : Bool) → (if v then Some x else entry_behind n part) ≡ Some e → (entry_behind n part ≡ Some e → IsIn e part) → IsIn e (x ∷ part)
-    by true got more = record { front = []; rest = part; split = ap (λ (y : Entry). y ∷ part) (same x got) }
+    by true got more = record { front = []; rest = part; split = ap (λ (y : Entry). y ∷ part) (same_Some x e got) }
     by false got more = let is = more got in record { front = x ∷ is.front; rest = is.rest; split = ap (λ (l : List Entry). x ∷ l) is.split }
 
 stored_at : (d : DriveView) (front : List Entry) (e : Entry) (rest : List Entry) → EntriesStored d (front ++ e ∷ rest) → IsStored d e.processed.blocks

@@ -1,6 +1,5 @@
 -- A setting of the check for phase 4 writes its list into block 22, and nothing else changes that block.
-use Rattle.sercos_law_run.proofs.Words.{◌≡◌, ℕ, Bool, true, false, not, ◌&&◌, List, [], ◌∷◌, Option, Some, None, refl, sym, ap, ap₂, ◌∙◌, subst, arith, if◌then◌else◌, ◌==◌, is_none, cond, eqb-true, same_Some, none-some, find_block, with_data, Block, unfit_for_phase_3, unfit_for_phase_4, list_bytes, is_command, ends_well, Wrote, Other, is_set, CommandHistory, with_call, find_set, without, with_set, set_in, SetCommand, is_none-settings, Write, command_value, blocks_with, commands_with}
-use Rattle.sercos_command.specs.Calls.{with_check_list}
+use Rattle.sercos_law_run.proofs.Words.{◌≡◌, ℕ, Bool, true, false, not, ◌&&◌, List, [], ◌∷◌, Option, Some, None, refl, sym, ap, ap₂, ◌∙◌, subst, arith, if◌then◌else◌, ◌==◌, is_none, cond, eqb-true, same_Some, none-some, find_block, with_data, Block, unfit_for_phase_3, unfit_for_phase_4, list_bytes, is_command, ends_well, Wrote, Other, is_set, CommandHistory, with_call, find_set, without, with_set, set_in, SetCommand, is_none-settings, Write, command_value, blocks_with, commands_with, with_check_list}
 use Rattle.sercos_law_run.proofs.Undisturbed.Checks.BlockStays.{IsAt, written_at}
 use Rattle.sercos_law_run.proofs.Undisturbed.Checks.CheckLogs.{other_unset, unset_without}
 use Rattle.sercos_law_run.proofs.Undisturbed.Checks.OwnSet.{Say}

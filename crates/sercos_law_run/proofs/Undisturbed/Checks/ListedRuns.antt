@@ -1,10 +1,8 @@
 -- If an own block of a drive was outside its limits at opening, what the drive gives after a check for phase 4 that has ended are the numbers
 -- of these blocks. The newest cycle of a journal comes first.
-use Rattle.sercos_law_run.proofs.Words.{◌≡◌, ◌⊎◌, inl, inr, ℕ, ◌^◌, ◌<◌, Bool, true, false, List, [], ◌∷◌, ◌++◌, length, map, Option, Some, None, refl, sym, ap, ◌∙◌, subst, arith, if◌then◌else◌, ◌==◌, is_some, nat_lt, cond, option_map, filter, list_all, list_any, and_parts, false≢true, nat_tests, same_Some, none-some, Job, outcome_of, blocks_fault, find_block, with_data, store_of, put_fault, DriveView, RingView, Block, is_outside, list_bytes, is_command, find_set, set_in, SetCommand, Write, blocks_with, without_data, Begun, CycleView, idn, Carry, Restarts, is_own_outside, IsStoreOf, begun_in, View, standing, stood_in, processed_in, kept_in, store_in, write_of, find-alike, drive_at, IsRun, IsClear, commands_left, view_of, views_of, IsOpened, IsStored}
+use Rattle.sercos_law_run.proofs.Words.{◌≡◌, ◌⊎◌, inl, inr, ℕ, ◌^◌, ◌<◌, Bool, true, false, List, [], ◌∷◌, ◌++◌, length, map, Option, Some, None, refl, sym, ap, ◌∙◌, subst, arith, if◌then◌else◌, ◌==◌, is_some, nat_lt, cond, option_map, filter, list_all, list_any, and_parts, false≢true, nat_tests, same_Some, none-some, Job, outcome_of, blocks_fault, find_block, with_data, store_of, put_fault, DriveView, RingView, Block, is_outside, list_bytes, is_command, find_set, set_in, SetCommand, Write, blocks_with, without_data, Begun, CycleView, idn, Carry, Restarts, is_own_outside, IsStoreOf, begun_in, View, standing, stood_in, processed_in, kept_in, store_in, write_of, find-alike, drive_at, IsRun, IsClear, commands_left, view_of, views_of, IsOpened, IsStored, are_ascending, unfit_for_phase_4}
 use Rattle.sercos_step.specs.declared.request.Request.TheVariants as request
 use Rattle.sercos_step.specs.declared.request.Outcome.TheVariants as outcome
-use Rattle.sercos_block.specs.Stores.{are_ascending}
-use Rattle.sercos_command.specs.Checks.{unfit_for_phase_4}
 use Rattle.sercos_law_run.proofs.Start.CheckPasses.{ring_drive}
 use Rattle.sercos_law_run.proofs.Start.LimitLemmas.{built_in_is_steady}
 use Rattle.sercos_law_run.proofs.Settings.SettingsRuns.{keeps_settings}

@@ -1,6 +1,5 @@
 -- If no own block of a drive was outside its limits at opening, none ever is.
-use Rattle.sercos_law_run.proofs.Words.{◌≡◌, ℕ, Bool, true, false, not, ◌&&◌, ◌||◌, List, [], ◌∷◌, Option, Some, None, refl, sym, ap, ap₂, ◌∙◌, subst, arith, ◌==◌, nat_lt, cond, then_some, filter, list_all, list_any, and_parts, eq-eqb, eqb-true, false≢true, or_parts, nat_tests, same_Some, none_of-or, none_of-then, is_built_in, blocks_fault, find_block, store_of, write_fault, put_fault, is_short, is_long, is_invalid, is_below, is_above, DriveView, Block, is_outside, list_bytes, unfit_for_phase_3, unfit_for_phase_4, is_own_outside}
-use Rattle.sercos_block.specs.Stores.{data_fault, are_ascending}
+use Rattle.sercos_law_run.proofs.Words.{◌≡◌, ℕ, Bool, true, false, not, ◌&&◌, ◌||◌, List, [], ◌∷◌, Option, Some, None, refl, sym, ap, ap₂, ◌∙◌, subst, arith, ◌==◌, nat_lt, cond, then_some, filter, list_all, list_any, and_parts, eq-eqb, eqb-true, false≢true, or_parts, nat_tests, same_Some, none_of-or, none_of-then, is_built_in, blocks_fault, find_block, store_of, write_fault, put_fault, is_short, is_long, is_invalid, is_below, is_above, DriveView, Block, is_outside, list_bytes, unfit_for_phase_3, unfit_for_phase_4, is_own_outside, data_fault, are_ascending}
 use Rattle.sercos_law_run.proofs.Start.OwnLemmas.{own_at_opening}
 use Rattle.sercos_law_run.proofs.Undisturbed.Checks.BlockStays.{IsAt, Stays}
 use Rattle.sercos_law_run.proofs.Undisturbed.CycleHeld.{second_none}

@@ -1,9 +1,8 @@
 -- As long as built-in blocks alone are written to a drive, those of its own that are outside their limits are the same as at opening; so
 -- if a check for phase 4 is set that ends well, there are none.
-use Rattle.sercos_law_run.proofs.Words.{◌≡◌, ℕ, suc, arith, Bool, true, false, not, ◌&&◌, List, [], ◌∷◌, ◌++◌, length, Option, Some, None, refl, sym, ap, ◌∙◌, if◌then◌else◌, subst, ◌==◌, is_some, cond, false≢true, eqb-true, nat_tests, none-some, is_built_in, with_data, store_of, DriveView, Block, is_outside, is_command, ends_well, Wrote, Other, CommandHistory, with_call, find_set, without, with_set, set_in, SetCommand, Processed, Write, added_on, with_added, command_value, blocks_with, commands_with, Told, DriveCall, Mst, Mdt, mst_got, mdt_got, Moment, phase_in, records_in, writes_in, blocks_in, blocks_after, commands_in, write_in, commands_after, reset_in, annals, stands_in, ends_in, is_own_outside, length_map}
+use Rattle.sercos_law_run.proofs.Words.{◌≡◌, ℕ, suc, arith, Bool, true, false, not, ◌&&◌, List, [], ◌∷◌, ◌++◌, length, Option, Some, None, refl, sym, ap, ◌∙◌, if◌then◌else◌, subst, ◌==◌, is_some, cond, false≢true, eqb-true, nat_tests, none-some, is_built_in, with_data, store_of, DriveView, Block, is_outside, is_command, ends_well, Wrote, Other, CommandHistory, with_call, find_set, without, with_set, set_in, SetCommand, Processed, Write, added_on, with_added, command_value, blocks_with, commands_with, Told, DriveCall, Mst, Mdt, mst_got, mdt_got, Moment, phase_in, records_in, writes_in, blocks_in, blocks_after, commands_in, write_in, commands_after, reset_in, annals, stands_in, ends_in, is_own_outside, length_map, unfit_for_phase_4}
 use Rattle.std.proofs.Common.{filter}
 use Rattle.sercos_law_run.proofs.Held.Processed.{processed_keeps, taken_at}
-use Rattle.sercos_command.specs.Checks.{unfit_for_phase_4}
 use Rattle.sercos_drive.specs.Heard.{Restart}
 use Rattle.sercos_drive.specs.Annals.{processed_in}
 use Rattle.sercos_law_run.proofs.Start.OwnLemmas.{leaves_own, own_stay}

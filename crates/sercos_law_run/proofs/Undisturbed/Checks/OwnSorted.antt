@@ -1,8 +1,7 @@
 -- The own blocks of a drive in its store are those of its description, ascending by identifier number; and the master takes the list of those
 -- that are outside from its bytes.
-use Rattle.sercos_law_run.proofs.Words.{◌≡◌, ℕ, Bool, true, false, not, ◌&&◌, List, [], ◌∷◌, ◌++◌, None, refl, sym, ap, ◌∙◌, arith, ◌≤◌, nat_le, nat_lt, cond, length, map, take, filter, list_all, and_from, and_parts, nat_tests, take_all, length-filter_both, is_built_in, blocks_fault, has_block, DriveView, Block, all_inserted, either_none, is_outside, list_bytes, idns_in, length_map, is_own_outside}
-use Rattle.sercos_block.specs.BuiltIns.{built_in}
-use Rattle.sercos_block.specs.Stores.{inserted, with_own, store_of}
+use Rattle.sercos_law_run.proofs.Words.{◌≡◌, ℕ, Bool, true, false, not, ◌&&◌, List, [], ◌∷◌, ◌++◌, None, refl, sym, ap, ◌∙◌, arith, ◌≤◌, nat_le, nat_lt, cond, length, map, take, filter, list_all, and_from, and_parts, nat_tests, take_all, length-filter_both, is_built_in, blocks_fault, has_block, DriveView, Block, all_inserted, either_none, is_outside, list_bytes, idns_in, length_map, is_own_outside, built_in, with_own, store_of}
+use Rattle.sercos_block.specs.Stores.{inserted}
 use Rattle.sercos_law_run.proofs.Start.BlockFinds.{first_is_new}
 use Rattle.sercos_law_run.proofs.Start.WellLemmas.{read_back}
 

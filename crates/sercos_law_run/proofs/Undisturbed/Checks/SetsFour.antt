@@ -1,7 +1,5 @@
 -- A check for phase 4 that is set ends well, if no own block of the drive was outside its limits at opening.
-use Rattle.sercos_law_run.proofs.Words.{◌≡◌, ℕ, ◌<◌, ◌≤◌, Bool, true, false, List, [], ◌∷◌, length, map, Option, Some, None, refl, sym, ap, ◌∙◌, subst, arith, if◌then◌else◌, ◌==◌, IfSome, option_map, then_some, filter, list_any, eqb-true, false≢true, none_of-or, none_of-then, Attribute, Job, is_fixed, is_protected, blocks_fault, find_block, with_data, store_of, write_fault, data_fault, put_fault, are_ascending, DriveView, RingView, Block, is_outside, ends_well, Processed, Write, added_on, DriveCall, blocks_in, annals, CycleView, Carry, Restarts, is_own_outside, IsStoreOf, without_data, View, standing, stood_in, record_in, processed_in, kept_in, write_of, find-alike, Processes, Nothing, Record, processes, processed_phase, those_kept, those_since, those_moved, drive_at, given_mst, IsRun, IsClear, view_of, views_of, IsOpened, IsStored, allowed}
-use Rattle.sercos_idn.specs.Attributes.{attribute_of}
-use Rattle.sercos_command.specs.Checks.{unfit_for_phase_4}
+use Rattle.sercos_law_run.proofs.Words.{◌≡◌, ℕ, ◌<◌, ◌≤◌, Bool, true, false, List, [], ◌∷◌, length, map, Option, Some, None, refl, sym, ap, ◌∙◌, subst, arith, if◌then◌else◌, ◌==◌, IfSome, option_map, then_some, filter, list_any, eqb-true, false≢true, none_of-or, none_of-then, Attribute, Job, is_fixed, is_protected, blocks_fault, find_block, with_data, store_of, write_fault, data_fault, put_fault, are_ascending, DriveView, RingView, Block, is_outside, ends_well, Processed, Write, added_on, DriveCall, blocks_in, annals, CycleView, Carry, Restarts, is_own_outside, IsStoreOf, without_data, View, standing, stood_in, record_in, processed_in, kept_in, write_of, find-alike, Processes, Nothing, Record, processes, processed_phase, those_kept, those_since, those_moved, drive_at, given_mst, IsRun, IsClear, view_of, views_of, IsOpened, IsStored, allowed, attribute_of, unfit_for_phase_4}
 use Rattle.sercos_law_run.proofs.Start.CheckPasses.{ring_drive}
 use Rattle.sercos_law_run.proofs.Start.LimitLemmas.{names_own}
 use Rattle.sercos_law_run.proofs.Held.Runs.{Stands, alike_so, drive_got, s_known}

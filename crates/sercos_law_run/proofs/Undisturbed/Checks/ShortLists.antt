@@ -1,10 +1,7 @@
 -- The list of a check for phase 4 names at most 37 blocks: a drive's own ones, of which there are 36, and the cycle time.
-use Rattle.sercos_law_run.proofs.Words.{◌≡◌, inl, inr, ℕ, zero, suc, ◌+◌, ◌<◌, ◌≤◌, Bool, true, false, ◌||◌, List, [], ◌∷◌, ◌++◌, length, map, Option, Some, None, refl, sym, ap, ◌∙◌, subst, arith, if◌then◌else◌, ◌==◌, nat_lt, nat_le, is_some, slice_index_or, cond, cases_eq, false≢true, and_parts, leb-true, nat_tests, none-some, Job, built_in_block, row, Empty, is_ring, blocks_fault, find_block, is_below, is_above, put_fault, are_ascending, DriveView, RingView, Block, is_outside, list_bytes, blocks_in, annals, CycleView, Carry, Restarts, IsStoreOf, kept, AreListed, no_drive, drive_at, given_mst, views_of}
+use Rattle.sercos_law_run.proofs.Words.{◌≡◌, inl, inr, ℕ, zero, suc, ◌+◌, ◌<◌, ◌≤◌, Bool, true, false, ◌||◌, List, [], ◌∷◌, ◌++◌, length, map, Option, Some, None, refl, sym, ap, ◌∙◌, subst, arith, if◌then◌else◌, ◌==◌, nat_lt, nat_le, is_some, slice_index_or, cond, cases_eq, false≢true, and_parts, leb-true, nat_tests, none-some, Job, built_in_block, row, Empty, is_ring, blocks_fault, find_block, is_below, is_above, put_fault, are_ascending, DriveView, RingView, Block, is_outside, list_bytes, blocks_in, annals, CycleView, Carry, Restarts, IsStoreOf, kept, AreListed, no_drive, drive_at, given_mst, views_of, built_in, is_drive, are_drives, has_blocks, with_own, store_of, unfit_for_phase_4, length_map}
 use Rattle.std.proofs.Common.{filter}
-use Rattle.sercos_block.specs.BuiltIns.{built_in}
-use Rattle.sercos_block.specs.Rings.{is_drive, are_drives, has_blocks}
-use Rattle.sercos_block.specs.Stores.{inserted, with_own, store_of}
-use Rattle.sercos_command.specs.Checks.{unfit_for_phase_4}
+use Rattle.sercos_block.specs.Stores.{inserted}
 use Rattle.sercos_law_run.proofs.Start.BlockFinds.{find_store_of, kept_field}
 use Rattle.sercos_law_run.proofs.Start.KeptLemmas.{refuse_alike}
 use Rattle.sercos_law_run.proofs.Journal.StationLemmas.{drives_so}
@@ -88,15 +85,11 @@ few_outside d blocks stored =
     let same = sym (limited_kept blocks) ∙ ap limited stored ∙ limited_kept (store_of d) in
     let most = limited_store d in omega (arith, some, same, most)
 
-idns_many : (blocks : List Block) → length (map (λ (b : Block). b.idn) blocks) ≡ length blocks
-idns_many [] = refl
-idns_many (b ∷ blocks) = ap (λ (n : ℕ). suc n) (idns_many blocks)
-
 short_outside : (d : DriveView) (blocks : List Block) → length d.blocks ≤ 36 → IsStoreOf d blocks → length (list_bytes (unfit_for_phase_4 blocks)) ≤ 74
 unfolding unfit_for_phase_4
 short_outside d blocks few stored =
     let long = length_list (map (λ (b : Block). b.idn) (filter is_outside blocks)) in
-    let many = idns_many (filter is_outside blocks) in
+    let many = length_map (λ (b : Block). b.idn) (filter is_outside blocks) in
     let most = few_outside d blocks stored in omega (arith, long, many, most, few)
 
 -- THE LIST of the check: the block is fixed, so no write to it is accepted

@@ -1,11 +1,9 @@
 -- If no own block of a drive was outside its limits at opening, each complete check for phase 4 gives 3.
-use Rattle.sercos_law_run.proofs.Words.{◌≡◌, ◌⊎◌, inl, inr, ℕ, ◌<◌, Bool, true, false, List, [], ◌∷◌, ◌++◌, length, Option, Some, None, refl, sym, ap, ap₂, ◌∙◌, subst, if◌then◌else◌, append_assoc, is_some, option_map, unwrap_or, list_any, false≢true, Job, Request, outcome_of, blocks_fault, find_block, with_data, store_of, DriveView, RingView, Block, is_outside, is_command, ends_well, has_ended, status_by, Wrote, Other, CommandHistory, with_call, find_set, set_in, SetCommand, Entry, accepted, Write, commands_with, command_value, without_data, writes_of, Begun, CycleView, idn, Carry, Restarts, IsStoreOf, GivesStatus, begun_in, command, epoch_begun, epoch_records, epoch_log, replies_of, IsRow, IsPart, Unsent, Unheard, AreParts, IsTransfer, newest_to, View, processed_in, kept_in, AreSound, all_entries, write_of, find-alike, in_step, IsEpoch, epoch, fall_into_parts, answered_replies, entries_ago, entries_in_epochs, drive_at, IsRun, IsClear, SettingsFollow, commands_left, HaveStores, view_of, views_of, IsOpened, AreStored, ends_with_status}
-use Rattle.sercos_idn.specs.Attributes.{attribute_of}
+use Rattle.sercos_law_run.proofs.Words.{◌≡◌, ◌⊎◌, inl, inr, ℕ, ◌<◌, Bool, true, false, List, [], ◌∷◌, ◌++◌, length, Option, Some, None, refl, sym, ap, ap₂, ◌∙◌, subst, if◌then◌else◌, append_assoc, is_some, option_map, unwrap_or, list_any, false≢true, Job, Request, outcome_of, blocks_fault, find_block, with_data, store_of, DriveView, RingView, Block, is_outside, is_command, ends_well, has_ended, status_by, Wrote, Other, CommandHistory, with_call, find_set, set_in, SetCommand, Entry, accepted, Write, commands_with, command_value, without_data, writes_of, Begun, CycleView, idn, Carry, Restarts, IsStoreOf, GivesStatus, begun_in, command, epoch_begun, epoch_records, epoch_log, replies_of, IsRow, IsPart, Unsent, Unheard, AreParts, IsTransfer, newest_to, View, processed_in, kept_in, AreSound, all_entries, write_of, find-alike, in_step, IsEpoch, epoch, fall_into_parts, answered_replies, entries_ago, entries_in_epochs, drive_at, IsRun, IsClear, SettingsFollow, commands_left, HaveStores, view_of, views_of, IsOpened, AreStored, ends_with_status, attribute_of, IsViewRun}
 use Rattle.sercos_step.specs.declared.request.Request.TheVariants as request
 use Rattle.sercos_step.specs.declared.request.Outcome.TheVariants as outcome
 use Rattle.sercos_law_run.proofs.Start.CheckPasses.{ring_drive}
 use Rattle.sercos_law_channel.specs.Handshake.Parts.{Heard}
-use Rattle.sercos_law_channel.specs.Handshake.Runs.{IsRun as IsViewRun}
 use Rattle.sercos_law_run.proofs.Settings.Histories.{status_set}
 use Rattle.sercos_law_run.proofs.Settings.CheckRuns.{IsPartAt, part_at, poll_at, transfer_at}
 use Rattle.sercos_law_run.proofs.Settings.CheckGives3.{seven_of}

@@ -1,12 +1,11 @@
 -- In phase 3 the master stops for a check for phase 4 alone, and in phase 4 for nothing.
-use Rattle.sercos_law_run.proofs.Words.{◌≡◌, ◌⊎◌, inl, inr, ℕ, suc, ◌+◌, ◌<◌, ◌≤◌, Bool, true, false, ◌&&◌, List, [], ◌∷◌, ◌++◌, length, Option, Some, None, refl, sym, ap, ap₂, ◌∙◌, subst, arith, if◌then◌else◌, append_assoc, length-append, map, slice_get, is_some, take, unwrap_or, option_map, cases_lt, and_parts, cases_eq, false≢true, same_Some, filter, list_any, Code, Idn, Job, Outcome, Request, next_step, outcome_of, PlanView, Block, blocks_fault, find_block, store_of, with_own, DriveView, RingView, is_outside, write_cause_in, Begun, step_at, steps_begun, steps_in, begun_by, CycleView, Stop, idn, idns_in, reads, reads_count, writes, is_checked, is_ready, ended_well, given, bytes_of, outcomes_in, with_outcome, Known, Task, known_of, member, tasks_for, ended_there, reads_length, before_end, Past, outcomes, Carry, Restarts, begun_in, log_in, AreInStep, IsTransfer, Allows, drive_at, middle, IsRun, IsClear, AreNumbered, HasRefused, HasFailedCheck, HasEndedAt, IsTask, OfReads, OfWrites, Checks3, Lists3, Checks4, Lists4, OfWaiting, AreBegunTasks, behind_mdt, view_of, views_of, IsOpened, jobs_of, AreAt, StopsForTheCheck, not_longer, transfers, in_step_in}
-use Rattle.sercos_idn.specs.Attributes.{attribute_of}
+use Rattle.sercos_law_run.proofs.Words.{◌≡◌, ◌⊎◌, inl, inr, ℕ, suc, ◌+◌, ◌<◌, ◌≤◌, Bool, true, false, ◌&&◌, List, [], ◌∷◌, ◌++◌, length, Option, Some, None, refl, sym, ap, ap₂, ◌∙◌, subst, arith, if◌then◌else◌, append_assoc, length-append, map, slice_get, is_some, take, unwrap_or, option_map, cases_lt, and_parts, cases_eq, false≢true, same_Some, filter, list_any, Code, Idn, Job, Outcome, Request, next_step, outcome_of, PlanView, Block, blocks_fault, find_block, store_of, with_own, DriveView, RingView, is_outside, write_cause_in, Begun, step_at, steps_begun, steps_in, begun_by, CycleView, Stop, idn, idns_in, reads, reads_count, writes, is_checked, is_ready, ended_well, given, bytes_of, outcomes_in, with_outcome, Known, Task, known_of, member, tasks_for, ended_there, reads_length, before_end, Past, outcomes, Carry, Restarts, begun_in, log_in, AreInStep, IsTransfer, Allows, drive_at, middle, IsRun, IsClear, AreNumbered, HasRefused, HasFailedCheck, HasEndedAt, IsTask, OfReads, OfWrites, Checks3, Lists3, Checks4, Lists4, OfWaiting, AreBegunTasks, behind_mdt, view_of, views_of, IsOpened, jobs_of, AreAt, StopsForTheCheck, not_longer, transfers, in_step_in, attribute_of}
 use Rattle.sercos_step.specs.declared.request.Outcome.TheVariants as outcome
 use Rattle.sercos_step.specs.declared.request.Request.TheVariants as request
 use Rattle.sercos_trace.specs.declared.events.Stop.TheVariants as stop
 use Rattle.sercos_law_run.proofs.Start.CheckPasses.{ring_drive}
 use Rattle.sercos_law_run.proofs.Agenda.ReadWell.{last_is}
-use Rattle.sercos_law_run.proofs.Agenda.Requests.{numbered_drop, are_requests}
+use Rattle.sercos_law_run.proofs.Agenda.Requests.{are_requests, numbered_drop}
 use Rattle.sercos_law_run.proofs.Agenda.WritesDone.{some_at}
 use Rattle.sercos_law_run.proofs.Views.Members.{members_count}
 use Rattle.sercos_law_run.proofs.Held.Runs.{drive_got, small}

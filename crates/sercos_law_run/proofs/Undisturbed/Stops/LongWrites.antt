@@ -1,8 +1,7 @@
 -- A write of more than 1,024 bytes ends early: no block has room for them, and a drive refuses the word that says so.
-use Rattle.sercos_law_run.proofs.Words.{◌≡◌, inl, inr, ℕ, suc, ◌+◌, ◌*◌, ◌/◌, ◌<◌, ◌≤◌, Bool, true, false, ◌&&◌, ◌||◌, List, [], ◌∷◌, ◌++◌, length, Option, Some, None, refl, sym, ap, ap₂, ◌∙◌, subst, arith, if◌then◌else◌, ◌==◌, nat_le, nat_lt, option_map, slice_get, then_some, cases_eq, cond-true, cond-false, eqb-true, false≢true, nat_tests, same_Some, none_of-or, none_of-then, is_list, item_len, Attribute, Idn, Length, Request, Answer, Step, run, writing, steps_of, answer_words, words_of, at_least_one, words_told, shape_of, shape_by, length-words_of, length-at_least_one, is_fixed, is_protected, IsStore, find_block, Block, max_len_bound, Processed, Entry, open_idn, run_before, in_order, answer_by, is_first_word, ends_early, is_over, write_cause_in, reply_at, reply_of, without_data, replies_of, IsTransfer, AreSmall, find-alike, goes_on-outcome_of, newest_step, without_newest, only_opening, low_of, high_of, is_nil, long_words, length-in_order, says_shape}
+use Rattle.sercos_law_run.proofs.Words.{◌≡◌, inl, inr, ℕ, suc, ◌+◌, ◌*◌, ◌/◌, ◌<◌, ◌≤◌, Bool, true, false, ◌&&◌, ◌||◌, List, [], ◌∷◌, ◌++◌, length, Option, Some, None, refl, sym, ap, ap₂, ◌∙◌, subst, arith, if◌then◌else◌, ◌==◌, nat_le, nat_lt, option_map, slice_get, then_some, cases_eq, cond-true, cond-false, eqb-true, false≢true, nat_tests, same_Some, none_of-or, none_of-then, is_list, item_len, Attribute, Idn, Length, Request, Answer, Step, run, writing, steps_of, answer_words, words_of, at_least_one, words_told, shape_of, shape_by, length-words_of, length-at_least_one, is_fixed, is_protected, IsStore, find_block, Block, max_len_bound, Processed, Entry, open_idn, run_before, in_order, answer_by, is_first_word, ends_early, is_over, write_cause_in, reply_at, reply_of, without_data, replies_of, IsTransfer, AreSmall, find-alike, goes_on-outcome_of, newest_step, without_newest, only_opening, low_of, high_of, is_nil, long_words, length-in_order, says_shape, write_cause}
 use Rattle.sercos_idn.specs.declared.kinds.Length.TheVariants as len
 use Rattle.sercos_step.specs.declared.request.Request.TheVariants as request
-use Rattle.sercos_service_drive.specs.Replies.{write_cause}
 use Rattle.sercos_law_channel.proofs.Theorems.{told}
 use Rattle.sercos_law_channel.proofs.Handshake.WriteStages as write
 use Rattle.sercos_law_run.proofs.Undisturbed.Stops.RefusedSteps.{reply_word}

@@ -1,13 +1,11 @@
 -- Of what the start-up writes, sets and reads, a drive can refuse the cycle time alone, and it refuses that by its limits.
-use Rattle.sercos_law_run.proofs.Words.{◌≡◌, ◌⊎◌, inl, inr, ℕ, suc, ◌+◌, ◌*◌, ◌/◌, ◌%◌, ◌<◌, ◌≤◌, Bool, true, false, List, [], ◌∷◌, ◌++◌, length, map, Some, None, refl, sym, ap, ap₂, ◌∙◌, arith, if◌then◌else◌, length-append, ◌==◌, nat_lt, nat_tests, same_Some, none-some, is_list, Idn, Length, bytes_in, words_of, shape_by, words_told, built_in_block, row, blocks_fault, find_block, store_of, DriveView, Block, Empty, Zero, Processed, Entry, in_order, write_cause_in, length-bytes_in, idn, length_map, is_start_number, IsStoreOf, Allows, is_nil, list_shape, length-in_order, in_order-append}
-use Rattle.sercos_idn.specs.Attributes.{attribute_of}
+use Rattle.sercos_law_run.proofs.Words.{◌≡◌, ◌⊎◌, inl, inr, ℕ, suc, ◌+◌, ◌*◌, ◌/◌, ◌%◌, ◌<◌, ◌≤◌, Bool, true, false, List, [], ◌∷◌, ◌++◌, length, map, Some, None, refl, sym, ap, ap₂, ◌∙◌, arith, if◌then◌else◌, length-append, ◌==◌, nat_lt, nat_tests, same_Some, none-some, is_list, Idn, Length, bytes_in, words_of, shape_by, words_told, built_in_block, row, blocks_fault, find_block, store_of, DriveView, Block, Empty, Zero, Processed, Entry, in_order, write_cause_in, length-bytes_in, idn, length_map, is_start_number, IsStoreOf, Allows, is_nil, list_shape, length-in_order, in_order-append, attribute_of, built_in, bytes_written, write_cause}
 use Rattle.sercos_idn.specs.declared.kinds.Length.TheVariants as len
-use Rattle.sercos_block.specs.BuiltIns.{built_in}
-use Rattle.sercos_service_drive.specs.Replies.{bytes_written, write_cause}
 use Rattle.sercos_law_run.proofs.Start.BlockFinds.{find_store_of}
 use Rattle.sercos_law_run.proofs.Start.CauseLemmas.{causes_alike, cycle_cause, number_has_no_cause, list_has_no_cause}
 use Rattle.sercos_law_channel.proofs.Theorems.{told}
 use Rattle.sercos_law_run.proofs.Undisturbed.Stops.RefusedSteps.{IsCaused}
+use Rattle.sercos_law_run.proofs.Undisturbed.Arriving.Small.{first_is}
 
 -- WORDS
 -- the one word of a number
@@ -24,10 +22,7 @@ record StartsSo (x : ℕ) (l : List ℕ) : Type 0 where
 
 starts_so : (x : ℕ) (l rest ys : List ℕ) → 1 ≤ length l → l ++ rest ≡ x ∷ ys → StartsSo x l
 starts_so x [] rest ys some same = absurd (omega (arith, some))
-starts_so x (y ∷ l) rest ys some same = record { others = l; is = ap (λ (n : ℕ). n ∷ l) (first_is same) }
-  where
-    first_is : {a b : ℕ} {us vs : List ℕ} → a ∷ us ≡ b ∷ vs → a ≡ b
-    first_is e = cc
+starts_so x (y ∷ l) rest ys some same = record { others = l; is = ap (λ (n : ℕ). n ∷ l) (first_is _ _ _ _ same).0 }
 
 words_back : (words : List ℕ) → length (words_of (bytes_in words)) ≡ length words
 words_back [] = refl

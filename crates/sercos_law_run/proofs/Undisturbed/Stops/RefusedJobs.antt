@@ -1,9 +1,6 @@
 -- Of the requests of phase 2 a drive can refuse the write of the cycle time alone.
-use Rattle.sercos_law_run.proofs.Words.{◌≡◌, ◌⊎◌, inl, inr, ℕ, zero, suc, ◌+◌, ◌<◌, ◌≤◌, true, false, List, [], ◌∷◌, ◌++◌, ◌-◌, length, map, Option, Some, None, refl, sym, ap, ◌∙◌, subst, arith, ◌==◌, is_some, option_map, option_and_then, slice_get, slice_index, option_or, and_parts, cases_lt, false≢true, same_Some, Code, Idn, Request, bytes_in, PlanView, built_in_block, row, cyclic_len, number_len, blocks_fault, find_block, store_of, DriveView, Block, Zero, CycleTime, Empty, idn, declared_times, reads, reads_count, writes, writes_word, writes_list, Known, MemberView, member, member_of, write_cause_in, Allows, AreSmall, IsTransfer, is_start_number, jobs_of, says_shape}
-use Rattle.sercos_idn.specs.Attributes.{attribute_of}
+use Rattle.sercos_law_run.proofs.Words.{◌≡◌, ◌⊎◌, inl, inr, ℕ, zero, suc, ◌+◌, ◌<◌, ◌≤◌, true, false, List, [], ◌∷◌, ◌++◌, ◌-◌, length, map, Option, Some, None, refl, sym, ap, ◌∙◌, subst, arith, ◌==◌, is_some, option_map, option_and_then, slice_get, slice_index, option_or, and_parts, cases_lt, false≢true, same_Some, Code, Idn, Request, bytes_in, PlanView, built_in_block, row, cyclic_len, number_len, blocks_fault, find_block, store_of, DriveView, Block, Zero, CycleTime, Empty, idn, declared_times, reads, reads_count, writes, writes_word, writes_list, Known, MemberView, member, member_of, write_cause_in, Allows, AreSmall, IsTransfer, is_start_number, jobs_of, says_shape, attribute_of, built_in, are_cyclic}
 use Rattle.sercos_step.specs.declared.request.Request.TheVariants as request
-use Rattle.sercos_block.specs.BuiltIns.{built_in}
-use Rattle.sercos_block.specs.Rings.{are_cyclic}
 use Rattle.sercos_law_run.proofs.Start.BlockFinds.{find_store_of, carry_alike}
 use Rattle.sercos_law_run.proofs.Agenda.AgendaTasks.{IsIn, First, After, is_in, mapped}
 use Rattle.sercos_law_run.proofs.Agenda.StopCauses.{element_asked}

@@ -1,11 +1,11 @@
 -- A request of the start-up that a drive refuses in phase 2 is the write of the cycle time, outside the drive's limits.
-use Rattle.sercos_law_run.proofs.Words.{◌≡◌, ◌⊎◌, ℕ, ◌+◌, ◌<◌, ◌≤◌, Bool, true, false, List, [], ◌∷◌, ◌++◌, Option, Some, None, refl, sym, ap, ◌∙◌, subst, arith, if◌then◌else◌, beq, Code, Request, Answer, answer_words, is_whole, result_of, outcome_of, bytes_in, row, store_of, DriveView, Processed, Entry, ahs, accepted, answered, writes_of, Begun, idn, command, command_in, epoch_records, unless_restart, begun_in, records_in_views, log_in, AreExact, replies_of, IsPart, Unsent, Unheard, HaveBlocks, IsTransfer, View, with_record, processed_in, AreSound, AreSmall, all_entries, Laws, epoch, cycle_exact, entries_ago, entries_in_epochs, IsStoreOf, AreStored, make_transfers, have_replies, processes_in_phase}
+use Rattle.sercos_law_run.proofs.Words.{◌≡◌, ◌⊎◌, ℕ, ◌+◌, ◌<◌, ◌≤◌, Bool, true, false, List, [], ◌∷◌, ◌++◌, Option, Some, None, refl, sym, ap, ◌∙◌, subst, arith, if◌then◌else◌, beq, Code, Request, Answer, answer_words, is_whole, result_of, outcome_of, bytes_in, row, store_of, DriveView, Processed, Entry, ahs, accepted, answered, writes_of, Begun, idn, command, command_in, epoch_records, unless_restart, begun_in, records_in_views, log_in, AreExact, replies_of, IsPart, Unsent, Unheard, HaveBlocks, IsTransfer, View, with_record, processed_in, AreSound, AreSmall, all_entries, Laws, epoch, cycle_exact, entries_ago, entries_in_epochs, IsStoreOf, AreStored, make_transfers, have_replies, processes_in_phase, IsViewRun}
 use Rattle.sercos_step.specs.declared.request.Request.TheVariants as request
 use Rattle.sercos_step.specs.declared.request.Outcome.TheVariants as outcome
 use Rattle.sercos_law_channel.specs.Handshake.Parts.{Heard}
-use Rattle.sercos_law_channel.specs.Handshake.Runs.{IsRun as IsViewRun}
 use Rattle.sercos_law_run.proofs.Held.AnsweredRuns.{EntriesStored, entries_stored}
 use Rattle.sercos_law_run.proofs.Settings.NoCheck127.{next_still, stays}
+use Rattle.sercos_law_run.proofs.Undisturbed.Arriving.Small.{first_is}
 
 -- THE PHASES in which the steps of an epoch were accepted
 abbrev IsBetween : ℕ → Processed → Type 0
@@ -29,10 +29,7 @@ between_accepted n (t ∷ h) are = by (beq t.mhs (ahs h)) (between_accepted n h 
 
 newest_between : (n : ℕ) (h : List Processed) (e : Entry) (entries rest : List Entry) → answered h ≡ (e ∷ entries) ++ rest → AreBetween n h → IsBetween n e.processed
 newest_between n [] e entries rest same are = absurd (cc)
-newest_between n (t ∷ h) e entries rest same are = subst (λ (x : Entry). IsBetween n x.processed) (first_is same) are.1
-  where
-    first_is : {x y : Entry} {xs ys : List Entry} → x ∷ xs ≡ y ∷ ys → x ≡ y
-    first_is e = cc
+newest_between n (t ∷ h) e entries rest same are = subst (λ (x : Entry). IsBetween n x.processed) (first_is _ _ _ _ same).0 are.1
 
 cycle_between : (v : View) (past : List View) → v.phase ≡ command_in v past → AreBetween (command past) (epoch_records past) → AreBetween v.phase (records_in_views v past)
 cycle_between v past commanded before = by (processed_in v past) refl (restarted v.master_restarts commanded)

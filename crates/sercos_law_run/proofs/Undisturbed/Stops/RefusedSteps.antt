@@ -1,8 +1,7 @@
 -- Which step of a transfer can be refused. Of a write of operation data it is one that writes a word, by that word's cause; of a read of the
 -- attribute or of operation data none is; and of a procedure command it is the setting alone.
-use Rattle.sercos_law_run.proofs.Words.{◌≡◌, ℕ, ◌+◌, ◌*◌, Bool, true, false, ◌&&◌, List, [], ◌∷◌, ◌++◌, length, Option, Some, None, refl, sym, ap, ap₂, ◌∙◌, if◌then◌else◌, ◌==◌, is_some, is_none, option_map, slice_get, slice_index, then_some, cond-false, cond-true, cond_both, Idn, Request, Answer, Step, a_step, opening, run, steps_of, answer_words, asks_attribute, shape_of, shape_by, find_block, read_fault, Block, Processed, Entry, open_idn, run_before, in_order, selection, good, refused, answer_by, copy, missing, read_cause, write_cause_in, reply_on, reply_at, reply_of, without_data, AreAlike, replies_of, IsTransfer, find-alike, IsRead-alike, reply-read, reply_low, reply_high, Poll, Reads, Cancels, next_setting, next_poll, Allows, cancels_well, newest_step, low_of, high_of, is_nil, some_same}
+use Rattle.sercos_law_run.proofs.Words.{◌≡◌, ℕ, ◌+◌, ◌*◌, Bool, true, false, ◌&&◌, List, [], ◌∷◌, ◌++◌, length, Option, Some, None, refl, sym, ap, ap₂, ◌∙◌, if◌then◌else◌, ◌==◌, is_some, is_none, option_map, slice_get, slice_index, then_some, cond-false, cond-true, cond_both, Idn, Request, Answer, Step, a_step, opening, run, steps_of, answer_words, asks_attribute, shape_of, shape_by, find_block, read_fault, Block, Processed, Entry, open_idn, run_before, in_order, selection, good, refused, answer_by, copy, missing, read_cause, write_cause_in, reply_on, reply_at, reply_of, without_data, AreAlike, replies_of, IsTransfer, find-alike, IsRead-alike, reply-read, reply_low, reply_high, Poll, Reads, Cancels, next_setting, next_poll, Allows, cancels_well, newest_step, low_of, high_of, is_nil, some_same, element_of}
 use Rattle.sercos_step.specs.declared.request.Request.TheVariants as request
-use Rattle.sercos_block.specs.Blocks.{element_of}
 use Rattle.sercos_law_channel.proofs.Theorems.{told}
 use Rattle.sercos_law_channel.proofs.Handshake.CommandStages as command
 use Rattle.sercos_law_channel.proofs.Handshake.ReadStages as read

@@ -1,4 +1,4 @@
-use Rattle.std.proofs.Common.{rules, ◌≡◌, ◌+◌, ◌≤◌, ◌<◌, length, ap, arith}
+use Rattle.sercos_master.proofs.Words.{rules, ◌≡◌, ◌+◌, ◌≤◌, ◌<◌, length, ap, arith}
 use Rattle.sercos_master.proofs.Openings.{none_dealt, dealt_next, all_dealt, last_asks}
 use Rattle.sercos_master.proofs.opening.deal.Goals.{in-Some+in_ok-give, in_default}
 use Rattle.sercos_master.proofs.opening.deal.Goals as goal

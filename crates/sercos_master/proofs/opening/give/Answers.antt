@@ -1,8 +1,4 @@
-use Rattle.std.proofs.Common.{◌<◌, ◌∙◌, ap, sym, length}
-use Rattle.std.specs.Prelude.{◌==◌}
-use Rattle.std.specs.List.{position}
-use Rattle.sercos_seat.specs.Ring.{member}
-use Rattle.sercos_seat.specs.Seats.{SeatView, SeatStandsFor, nothing_seen}
+use Rattle.sercos_master.proofs.Words.{◌<◌, ◌∙◌, ap, sym, length, ◌==◌, position, member, SeatView, SeatStandsFor, nothing_seen}
 use Rattle.sercos_master.proofs.Openings.{given_one, given_none}
 use Rattle.sercos_master.proofs.opening.give.Goals as goal
 

@@ -1,7 +1,4 @@
-use Rattle.std.proofs.Common.{rules, ◌≡◌, ◌<◌, ◌++◌, ◌∷◌, [], subst, ap, length, sym, ◌∙◌, arith}
-use Rattle.std.specs.Prelude.{map}
-use Rattle.sercos_seat.specs.Ring.{HasLists, member_of}
-use Rattle.sercos_master.specs.Kept.{AreFresh}
+use Rattle.sercos_master.proofs.Words.{rules, ◌≡◌, ◌<◌, ◌++◌, ◌∷◌, [], subst, ap, length, sym, ◌∙◌, arith, map, HasLists, member_of, AreFresh}
 use Rattle.sercos_master.proofs.Openings.{count_more, fresh_more, nothing_fresh, lists_more, lists_all}
 use Rattle.sercos_master.proofs.opening.open_seats.Goals as goal
 

@@ -1,7 +1,4 @@
-use Rattle.std.proofs.Common.{◌≡◌, ◌<◌, ℕ, length}
-use Rattle.std.specs.Prelude.{map, slice_index_or}
-use Rattle.sercos_seat.specs.Ring.{MemberView, HasLists, member_of}
-use Rattle.sercos_master.specs.Kept.{AreFresh}
+use Rattle.sercos_master.proofs.Words.{◌≡◌, ◌<◌, ℕ, length, map, slice_index_or, MemberView, HasLists, member_of, AreFresh}
 use Rattle.sercos_master.proofs.opening.open_seats.Given as goal
 
 -- a fresh seat for each drive so far

@@ -1,6 +1,4 @@
-use Rattle.std.proofs.Common.{rules, ◌<◌, ◌≤◌, length, refl, ◌∙◌}
-use Rattle.std.proofs.Math.ListN.{length-set}
-use Rattle.sercos_seat.specs.Seats.{with_begun, begun_task}
+use Rattle.sercos_master.proofs.Words.{rules, ◌<◌, ◌≤◌, length, refl, ◌∙◌, length-set, with_begun, begun_task}
 use Rattle.sercos_master.proofs.Rings.{one_changed, all_changed, none_changed}
 use Rattle.sercos_master.proofs.seats.begin_seats.Goals as goal
 

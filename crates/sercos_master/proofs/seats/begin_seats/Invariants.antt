@@ -1,9 +1,4 @@
-use Rattle.std.proofs.Common.{◌≡◌, ℕ, Option, List, length, if◌then◌else◌}
-use Rattle.std.specs.Prelude.{nat_lt, is_some}
-use Rattle.sercos_timing.specs.Views.{PlanView}
-use Rattle.sercos_seat.specs.Ring.{Known, Task}
-use Rattle.sercos_seat.specs.Seats.{Seen, AreWaiting, with_begun, begun_task}
-use Rattle.sercos_master.specs.Kept.{SeatsStandFor}
+use Rattle.sercos_master.proofs.Words.{◌≡◌, ℕ, Option, List, length, if◌then◌else◌, nat_lt, is_some, PlanView, Known, Task, Seen, AreWaiting, with_begun, begun_task, SeatsStandFor}
 use Rattle.sercos_master.proofs.seats.begin_seats.Given as goal
 
 -- the seats so far have begun their tasks, and the others not yet

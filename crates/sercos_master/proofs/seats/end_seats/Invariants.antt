@@ -1,9 +1,4 @@
-use Rattle.std.proofs.Common.{◌≡◌, ◌≤◌, ◌+◌, ℕ, length, if◌then◌else◌}
-use Rattle.std.specs.Prelude.{nat_lt}
-use Rattle.sercos_master.specs.Reports.{with_reports}
-use Rattle.sercos_seat.specs.Ring.{Known}
-use Rattle.sercos_seat.specs.Seats.{Seen, ended_in}
-use Rattle.sercos_master.specs.Kept.{SeatsStandFor}
+use Rattle.sercos_master.proofs.Words.{◌≡◌, ◌≤◌, ◌+◌, ℕ, length, if◌then◌else◌, nat_lt, with_reports, Known, Seen, ended_in, SeatsStandFor}
 use Rattle.sercos_master.proofs.seats.end_seats.Given as goal
 
 -- the seats so far stand for the end of the cycle, and the others not yet

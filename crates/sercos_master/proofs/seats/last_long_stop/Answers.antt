@@ -1,7 +1,4 @@
-use Rattle.std.proofs.Common.{rules, ◌≡◌, ◌<◌, ◌≤◌, ◌-◌, ◌+◌, ℕ, true, false, length, sym, ◌∙◌, arith}
-use Rattle.std.specs.Prelude.{is_some}
-use Rattle.sercos_seat.specs.Ring.{member}
-use Rattle.sercos_seat.specs.Seats.{SeatStandsFor, outcomes_seen}
+use Rattle.sercos_master.proofs.Words.{rules, ◌≡◌, ◌<◌, ◌≤◌, ◌-◌, ◌+◌, ℕ, true, false, length, sym, ◌∙◌, arith, is_some, member, SeatStandsFor, outcomes_seen}
 use Rattle.sercos_seat.proofs.Longs.{last_long_stop-from}
 use Rattle.sercos_master.proofs.Wishes.{stop_more, stop_none, stop_there, none_is, some_is}
 use Rattle.sercos_master.proofs.seats.last_long_stop.Goals as goal

@@ -1,8 +1,4 @@
-use Rattle.std.proofs.Common.{◌≡◌, ℕ, length, None}
-use Rattle.std.specs.Prelude.{◌-◌, drop}
-use Rattle.sercos_seat.specs.Ring.{Known}
-use Rattle.sercos_seat.specs.Seats.{last_long_from, Seen, outcomes_seen}
-use Rattle.sercos_master.specs.Kept.{SeatsStandFor}
+use Rattle.sercos_master.proofs.Words.{◌≡◌, ℕ, length, None, ◌-◌, drop, Known, last_long_from, Seen, outcomes_seen, SeatsStandFor}
 use Rattle.sercos_master.proofs.seats.last_long_stop.Given as goal
 
 -- none of the drives after it has a long value

@@ -1,7 +1,4 @@
-use Rattle.std.proofs.Common.{rules, ◌≡◌, ◌<◌, ◌≤◌, length, refl, ◌∙◌}
-use Rattle.std.proofs.Math.ListN.{length-set}
-use Rattle.sercos_seat.specs.Ring.{member}
-use Rattle.sercos_seat.specs.Seats.{SeatStandsFor, forgotten, broken_in}
+use Rattle.sercos_master.proofs.Words.{rules, ◌≡◌, ◌<◌, ◌≤◌, length, refl, ◌∙◌, length-set, member, SeatStandsFor, forgotten, broken_in}
 use Rattle.sercos_master.proofs.Rings.{one_changed, all_changed, none_changed}
 use Rattle.sercos_master.proofs.Told.{told_next, told_room, not_yet}
 use Rattle.sercos_master.proofs.seats.reset_seats.Goals as goal

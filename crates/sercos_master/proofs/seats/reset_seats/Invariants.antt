@@ -1,9 +1,4 @@
-use Rattle.std.proofs.Common.{◌≡◌, ◌≤◌, ◌+◌, ℕ, length, if◌then◌else◌}
-use Rattle.std.specs.Prelude.{nat_lt}
-use Rattle.sercos_master.specs.Reports.{with_reports}
-use Rattle.sercos_seat.specs.Ring.{Known}
-use Rattle.sercos_seat.specs.Seats.{Seen, forgotten, broken_in}
-use Rattle.sercos_master.specs.Kept.{SeatsStandFor}
+use Rattle.sercos_master.proofs.Words.{◌≡◌, ◌≤◌, ◌+◌, ℕ, length, if◌then◌else◌, nat_lt, with_reports, Known, Seen, forgotten, broken_in, SeatsStandFor}
 use Rattle.sercos_master.proofs.seats.reset_seats.Given as goal
 
 -- of the seats so far nothing was seen, and the others are as before

@@ -1,16 +1,13 @@
-use Rattle.std.proofs.Common.{rules, ◌<◌, ◌≤◌, length, refl, sym, ◌∙◌}
-use Rattle.std.proofs.Math.ListN.{length-set}
-use Rattle.sercos_seat.specs.Ring.{member}
-use Rattle.sercos_seat.specs.Seats.{SeatStandsFor, sent_in}
+use Rattle.sercos_master.proofs.Words.{rules, ◌<◌, ◌≤◌, length, refl, sym, ◌∙◌, length-set, member, SeatStandsFor, sent_in, append-nil}
 use Rattle.sercos_master.proofs.Rings.{one_changed, all_changed, none_changed}
-use Rattle.sercos_master.proofs.Sent.{fits_next, out_next, not_yet_sent, upto_end}
+use Rattle.sercos_master.proofs.Sent.{fits_next, out_next, not_yet_sent}
 use Rattle.sercos_master.proofs.seats.send_records.Goals as goal
 
 pub loop-place-init : goal.loop-place-init
 loop-place-init c = record {
   count = refl;
   stand = λ s seen all. none_changed (λ k x. sent_in x) c.args.seats.now.items s seen all;
-  bytes = λ s seen all fits. sym (upto_end c.args.out.now);
+  bytes = λ s seen all fits. sym (append-nil c.args.out.now);
   some = λ h. h;
 }
 

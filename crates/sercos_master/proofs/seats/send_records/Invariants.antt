@@ -1,8 +1,4 @@
-use Rattle.std.proofs.Common.{◌<◌, ◌≡◌, ◌≤◌, ◌++◌, ℕ, length, if◌then◌else◌}
-use Rattle.std.specs.Prelude.{nat_lt}
-use Rattle.sercos_seat.specs.Ring.{Known}
-use Rattle.sercos_seat.specs.Seats.{Seen, sent_in}
-use Rattle.sercos_master.specs.Kept.{SeatsStandFor, records_upto}
+use Rattle.sercos_master.proofs.Words.{◌<◌, ◌≡◌, ◌≤◌, ◌++◌, ℕ, length, if◌then◌else◌, nat_lt, Known, Seen, sent_in, SeatsStandFor, records_upto}
 use Rattle.sercos_master.proofs.seats.send_records.Given as goal
 
 -- the seats so far have sent their records, and the others not yet

@@ -1,6 +1,4 @@
-use Rattle.std.proofs.Common.{rules, ◌<◌, ◌≤◌, length, arith}
-use Rattle.sercos_seat.specs.Ring.{member}
-use Rattle.sercos_seat.specs.Seats.{SeatStandsFor}
+use Rattle.sercos_master.proofs.Words.{rules, ◌<◌, ◌≤◌, length, arith, member, SeatStandsFor}
 use Rattle.sercos_master.proofs.Wishes.{list_more, list_whole, push_room, push_count}
 use Rattle.sercos_master.proofs.seats.wish_list.Goals as goal
 

@@ -1,9 +1,4 @@
-use Rattle.std.proofs.Common.{◌≡◌, ◌≤◌, ℕ, length}
-use Rattle.std.specs.Prelude.{min, take}
-use Rattle.sercos_seat.specs.Ring.{Known}
-use Rattle.sercos_seat.specs.Agenda.{wishes_from}
-use Rattle.sercos_seat.specs.Seats.{Seen, outcomes_seen}
-use Rattle.sercos_master.specs.Kept.{SeatsStandFor}
+use Rattle.sercos_master.proofs.Words.{◌≡◌, ◌≤◌, ℕ, length, min, take, Known, wishes_from, Seen, outcomes_seen, SeatsStandFor}
 use Rattle.sercos_master.proofs.seats.wish_list.Given as goal
 
 -- the wishes of the drives so far

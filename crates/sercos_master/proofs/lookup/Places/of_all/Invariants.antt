@@ -1,6 +1,4 @@
-use Rattle.std.proofs.Common.{◌≡◌, ◌<◌, ◌==◌, ℕ, length}
-use Rattle.std.specs.Prelude.{None, slice_index_or}
-use Rattle.std.specs.List.{position}
+use Rattle.sercos_master.proofs.Words.{◌≡◌, ◌<◌, ◌==◌, ℕ, length, None, slice_index_or, position}
 use Rattle.sercos_master.proofs.lookup.Places.of_all.Given as goal
 
 -- the addresses so far are looked up

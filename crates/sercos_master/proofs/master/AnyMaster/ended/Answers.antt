@@ -1,5 +1,4 @@
-use Rattle.std.proofs.Common.{Err, subst, refl}
-use Rattle.sercos_master.specs.Any.{AnyStandsFor}
+use Rattle.sercos_master.proofs.Words.{Err, subst, refl, AnyStandsFor}
 use Rattle.sercos_master.proofs.Closing.{rose, stayed, fell, none_in_0, none_due}
 use Rattle.sercos_master.proofs.master.AnyMaster.ended.Goals as goal
 

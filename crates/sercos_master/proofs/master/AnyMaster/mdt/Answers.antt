@@ -1,5 +1,4 @@
-use Rattle.std.proofs.Common.{subst}
-use Rattle.sercos_master.specs.Any.{AnyStandsFor}
+use Rattle.sercos_master.proofs.Words.{subst, AnyStandsFor}
 use Rattle.sercos_master.proofs.master.AnyMaster.mdt.Goals as goal
 
 pub returns-in-P0-clause-stands : goal.returns-in-P0-clause-stands

@@ -1,6 +1,4 @@
-use Rattle.std.proofs.Common.{◌≤◌, length, arith, refl}
-use Rattle.sercos_seat.specs.Ring.{tasks_for}
-use Rattle.sercos_master.specs.Annals.{past}
+use Rattle.sercos_master.proofs.Words.{◌≤◌, length, arith, refl, tasks_for, past}
 use Rattle.sercos_master.proofs.master.AnyMaster.restart.Goals as goal
 
 pub returns-clause-stands : goal.returns-clause-stands

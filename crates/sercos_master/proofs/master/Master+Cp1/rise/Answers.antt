@@ -1,4 +1,4 @@
-use Rattle.std.proofs.Common.{sym, ◌∙◌}
+use Rattle.sercos_master.proofs.Words.{sym, ◌∙◌}
 use Rattle.sercos_master.proofs.master.Master+Cp1.rise.Goals as goal
 
 pub returns-then-is_done-clause-exactly : goal.returns-then-is_done-clause-exactly

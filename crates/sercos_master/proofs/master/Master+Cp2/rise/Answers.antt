@@ -1,5 +1,4 @@
-use Rattle.std.proofs.Common.{rules, ◌≡◌, sym, ◌∙◌}
-use Rattle.sercos_master.specs.Annals.{past}
+use Rattle.sercos_master.proofs.Words.{rules, ◌≡◌, sym, ◌∙◌, past}
 use Rattle.sercos_master.proofs.Followed.{holds_plan}
 use Rattle.sercos_master.proofs.master.Master+Cp2.rise.Goals as goal
 

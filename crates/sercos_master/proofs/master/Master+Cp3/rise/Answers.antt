@@ -1,4 +1,4 @@
-use Rattle.std.proofs.Common.{rules, ◌≡◌, sym, ◌∙◌, refl}
+use Rattle.sercos_master.proofs.Words.{rules, ◌≡◌, sym, ◌∙◌, refl}
 use Rattle.sercos_master.proofs.Configured.{all_configured}
 use Rattle.sercos_master.proofs.Followed.{holds_plan}
 use Rattle.sercos_master.proofs.master.Master+Cp3.rise.Goals as goal

@@ -1,8 +1,5 @@
-use Rattle.std.proofs.Common.{rules, ◌≡◌, ◌≤◌, ◌+◌, None, length, sym, subst, ◌∙◌, ap, if◌then◌else◌}
-use Rattle.std.specs.Option.{option_or}
+use Rattle.sercos_master.proofs.Words.{rules, ◌≡◌, ◌≤◌, ◌+◌, None, length, sym, subst, ◌∙◌, ap, if◌then◌else◌, option_or, goes_on, CoreStandsFor}
 use Rattle.sercos_trace.specs.contracts.events.Events.{the_view}
-use Rattle.sercos_master.specs.Annals.{goes_on}
-use Rattle.sercos_master.specs.Kept.{CoreStandsFor}
 use Rattle.sercos_master.proofs.Closing.{brings}
 use Rattle.sercos_master.proofs.master.Master.close.Goals as goal
 

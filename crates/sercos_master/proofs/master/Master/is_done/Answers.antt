@@ -1,5 +1,4 @@
-use Rattle.std.proofs.Common.{◌∙◌, ap}
-use Rattle.sercos_master.specs.Annals.{is_done_in}
+use Rattle.sercos_master.proofs.Words.{◌∙◌, ap, is_done_in}
 use Rattle.sercos_master.proofs.master.Master.is_done.Goals as goal
 
 pub returns : goal.returns

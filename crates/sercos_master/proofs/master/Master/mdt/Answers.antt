@@ -1,6 +1,4 @@
-use Rattle.std.proofs.Common.{◌∙◌}
-use Rattle.sercos_seat.specs.Ring.{tasks_for}
-use Rattle.sercos_master.specs.Annals.{past}
+use Rattle.sercos_master.proofs.Words.{◌∙◌, tasks_for, past}
 use Rattle.sercos_master.proofs.Laws.{jobs_waiting}
 use Rattle.sercos_master.proofs.Configured.{leaves, phase_low}
 use Rattle.sercos_master.proofs.Planned.{is_planned}

@@ -1,7 +1,4 @@
-use Rattle.std.proofs.Common.{rules, ◌<◌, ◌∙◌, ap, length}
-use Rattle.sercos_seat.specs.Ring.{member}
-use Rattle.sercos_seat.specs.Seats.{SeatStandsFor}
-use Rattle.sercos_master.specs.Kept.{CoreStandsFor, seen_at}
+use Rattle.sercos_master.proofs.Words.{rules, ◌<◌, ◌∙◌, ap, length, member, SeatStandsFor, CoreStandsFor, seen_at}
 use Rattle.sercos_master.specs.contracts.ring.Ring.{the_view}
 use Rattle.sercos_master.proofs.ring.Ring.address_at.Goals as goal
 

@@ -1,4 +1,4 @@
-use Rattle.std.proofs.Common.{sym, ◌∙◌}
+use Rattle.sercos_master.proofs.Words.{sym, ◌∙◌}
 use Rattle.sercos_master.proofs.Rings.{no_stop}
 use Rattle.sercos_master.proofs.ring.Ring.begin.Goals as goal
 

@@ -1,10 +1,4 @@
-use Rattle.std.proofs.Common.{rules, ◌≡◌, ◌<◌, length, sym, ◌∙◌}
-use Rattle.std.specs.Prelude.{Some, None, if◌then◌else◌}
-use Rattle.sercos_seat.specs.Ring.{member}
-use Rattle.sercos_master.specs.Annals.{in_turn, is_idle, next_task}
-use Rattle.sercos_seat.specs.Channel.{of_phase}
-use Rattle.sercos_seat.specs.Seats.{SeatStandsFor, with_begun}
-use Rattle.sercos_master.specs.Kept.{CoreStandsFor, seen_at}
+use Rattle.sercos_master.proofs.Words.{rules, ◌≡◌, ◌<◌, length, sym, ◌∙◌, Some, None, if◌then◌else◌, member, in_turn, is_idle, next_task, of_phase, SeatStandsFor, with_begun, CoreStandsFor, seen_at}
 use Rattle.sercos_master.specs.contracts.ring.Ring.{the_view}
 use Rattle.sercos_master.proofs.Rings.{begun_at}
 use Rattle.sercos_master.proofs.ring.Ring.begin_in_2.Goals as goal

@@ -1,5 +1,4 @@
-use Rattle.std.proofs.Common.{subst, sym}
-use Rattle.sercos_master.specs.Kept.{CoreStandsFor, seen_at}
+use Rattle.sercos_master.proofs.Words.{subst, sym, CoreStandsFor, seen_at}
 use Rattle.sercos_master.specs.contracts.ring.Ring.{the_view}
 use Rattle.sercos_master.proofs.Rings.{went_on}
 use Rattle.sercos_master.proofs.ring.Ring.close.Goals as goal

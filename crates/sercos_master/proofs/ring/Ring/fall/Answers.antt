@@ -1,8 +1,5 @@
-use Rattle.std.proofs.Common.{rules, ◌≡◌, false, sym, ◌∙◌, ap}
-use Rattle.std.specs.Prelude.{Some, None, not, ◌&&◌}
-use Rattle.std.specs.List.{position}
+use Rattle.sercos_master.proofs.Words.{rules, ◌≡◌, false, sym, ◌∙◌, ap, Some, None, not, ◌&&◌, position, CoreStandsFor}
 use Rattle.sercos_trace.specs.declared.events.Fall.TheVariants as fall
-use Rattle.sercos_master.specs.Kept.{CoreStandsFor}
 use Rattle.sercos_master.specs.contracts.ring.Ring.{the_view}
 use Rattle.sercos_master.proofs.Rings.{lost, fall_2, fall_3, no_fall}
 use Rattle.sercos_master.proofs.ring.Ring.fall.Goals as goal

@@ -1,8 +1,4 @@
-use Rattle.std.proofs.Common.{rules, ◌≡◌, false, sym, ◌∙◌, ap}
-use Rattle.std.specs.Prelude.{◌==◌, nat_le}
-use Rattle.std.specs.List.{position}
-use Rattle.sercos_master.specs.Kept.{CoreStandsFor}
-use Rattle.sercos_seat.specs.Seats.{cycles_kept}
+use Rattle.sercos_master.proofs.Words.{rules, ◌≡◌, false, sym, ◌∙◌, ap, ◌==◌, nat_le, position, CoreStandsFor, cycles_kept}
 use Rattle.sercos_master.specs.contracts.ring.Ring.{the_view}
 use Rattle.sercos_master.proofs.Rings.{stuck}
 use Rattle.sercos_master.proofs.ring.Ring.first_at_limit.Goals as goal

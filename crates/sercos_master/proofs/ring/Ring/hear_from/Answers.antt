@@ -1,9 +1,4 @@
-use Rattle.std.proofs.Common.{rules, ◌≡◌, ◌<◌, true, sym, ◌∙◌, ap, subst}
-use Rattle.std.specs.Prelude.{length, ◌==◌}
-use Rattle.sercos_seat.specs.Ring.{member}
-use Rattle.sercos_master.specs.Annals.{is_awaited, wanted_len}
-use Rattle.sercos_seat.specs.Seats.{SeatStandsFor, at_in}
-use Rattle.sercos_master.specs.Kept.{CoreStandsFor, seen_at}
+use Rattle.sercos_master.proofs.Words.{rules, ◌≡◌, ◌<◌, true, sym, ◌∙◌, ap, subst, length, ◌==◌, member, is_awaited, wanted_len, SeatStandsFor, at_in, CoreStandsFor, seen_at}
 use Rattle.sercos_master.specs.contracts.ring.Ring.{the_view}
 use Rattle.sercos_master.proofs.Places.{hears_from, wanted_same, awaited_same}
 use Rattle.sercos_master.proofs.ring.Ring.hear_from.Goals as goal

@@ -1,9 +1,4 @@
-use Rattle.std.proofs.Common.{rules, ◌≡◌, ◌<◌, length, refl, sym, ◌∙◌}
-use Rattle.std.specs.Prelude.{Some, None, not}
-use Rattle.std.specs.List.{position}
-use Rattle.sercos_seat.specs.Ring.{member}
-use Rattle.sercos_master.specs.Kept.{sent_now, CoreStandsFor, seen_at}
-use Rattle.sercos_seat.specs.Seats.{SeatStandsFor}
+use Rattle.sercos_master.proofs.Words.{rules, ◌≡◌, ◌<◌, length, refl, sym, ◌∙◌, Some, None, not, position, member, sent_now, CoreStandsFor, seen_at, SeatStandsFor}
 use Rattle.sercos_master.specs.contracts.ring.Ring.{the_view}
 use Rattle.sercos_master.proofs.Sent.{sent_1, said_none_1, said_one_1, start_none, content_none}
 use Rattle.sercos_master.proofs.ring.Ring.identify.Goals as goal

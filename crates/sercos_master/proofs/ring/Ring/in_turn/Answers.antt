@@ -1,8 +1,4 @@
-use Rattle.std.proofs.Common.{◌≡◌, sym, ◌∙◌}
-use Rattle.std.specs.Prelude.{Some, None, not}
-use Rattle.std.specs.List.{position}
-use Rattle.sercos_master.specs.Kept.{CoreStandsFor}
-use Rattle.sercos_seat.specs.Seats.{has_read}
+use Rattle.sercos_master.proofs.Words.{◌≡◌, sym, ◌∙◌, Some, None, not, position, CoreStandsFor, has_read}
 use Rattle.sercos_master.specs.contracts.ring.Ring.{the_view}
 use Rattle.sercos_master.proofs.Rings.{unread, unchecked, turn, no_turn}
 use Rattle.sercos_master.proofs.ring.Ring.in_turn.Goals as goal

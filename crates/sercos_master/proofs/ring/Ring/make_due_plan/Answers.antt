@@ -1,8 +1,4 @@
-use Rattle.std.proofs.Common.{rules, ◌≡◌, ◌==◌, true, false, sym, ◌∙◌, ap, subst}
-use Rattle.std.specs.Prelude.{not, is_some}
-use Rattle.std.specs.List.{position}
-use Rattle.sercos_master.specs.Kept.{CoreStandsFor}
-use Rattle.sercos_seat.specs.Seats.{has_read}
+use Rattle.sercos_master.proofs.Words.{rules, ◌≡◌, ◌==◌, true, false, sym, ◌∙◌, ap, subst, not, is_some, position, CoreStandsFor, has_read}
 use Rattle.sercos_master.specs.contracts.ring.Ring.{the_view}
 use Rattle.sercos_master.proofs.Rings.{due_unread, due, not_stopped}
 use Rattle.sercos_master.proofs.ring.Ring.make_due_plan.Goals as goal

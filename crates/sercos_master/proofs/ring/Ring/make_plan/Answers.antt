@@ -1,12 +1,4 @@
-use Rattle.std.proofs.Common.{◌≡◌, false, sym, ◌∙◌, ap, subst}
-use Rattle.std.proofs.lemmas.Bool.{false≢true}
-use Rattle.std.specs.Prelude.{nat_le}
-use Rattle.sercos_timing.specs.Order.{record_bytes}
-use Rattle.sercos_timing.specs.Valid.{IsValid}
-use Rattle.sercos_plan.specs.ChainOf.{planned}
-use Rattle.sercos_seat.specs.Agenda.{wishes_given}
-use Rattle.sercos_master.specs.Annals.{outcomes}
-use Rattle.sercos_master.specs.Kept.{CoreStandsFor, seen_at}
+use Rattle.sercos_master.proofs.Words.{◌≡◌, false, sym, ◌∙◌, ap, subst, false≢true, nat_le, record_bytes, IsValid, planned, wishes_given, outcomes, CoreStandsFor, seen_at}
 use Rattle.sercos_master.specs.contracts.ring.Ring.{the_view}
 use Rattle.sercos_master.proofs.Wishes.{fits_mdt, not_fitting}
 use Rattle.sercos_master.proofs.Rings.{planned_well, planned_badly}

@@ -1,9 +1,6 @@
-use Rattle.std.proofs.Common.{◌≤◌, ℕ, sym, subst}
-use Rattle.sercos_master.specs.Annals.{after_mdt, begun, settled}
-use Rattle.sercos_master.specs.Says.{mdt_said}
+use Rattle.sercos_master.proofs.Words.{◌≤◌, ℕ, sym, subst, after_mdt, begun, settled, mdt_said, AreWaiting}
 use Rattle.sercos_master.proofs.Planned.{sent_planned}
 use Rattle.sercos_master.proofs.Sent.{fits_planned, said_both}
-use Rattle.sercos_seat.specs.Seats.{AreWaiting}
 use Rattle.sercos_master.proofs.Laws.{waiting_settled}
 use Rattle.sercos_master.proofs.Configured.{leaves}
 use Rattle.sercos_master.proofs.ring.Ring.mdt.Goals as goal

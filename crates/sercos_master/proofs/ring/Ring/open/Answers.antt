@@ -1,11 +1,4 @@
-use Rattle.std.proofs.Common.{◌≡◌, List, length, true, refl, sym, ◌∙◌, subst, ap}
-use Rattle.std.specs.Prelude.{map, ◌==◌}
-use Rattle.std.specs.List.{All, position}
-use Rattle.sercos_block.specs.Rings.{is_ring}
-use Rattle.sercos_block.specs.Views.{DriveView, RingView}
-use Rattle.sercos_seat.specs.Ring.{IsKnown, HasLists, known_of, member_of, tasks_for}
-use Rattle.sercos_seat.specs.Seats.{SeatView}
-use Rattle.sercos_master.specs.Kept.{AreFresh}
+use Rattle.sercos_master.proofs.Words.{◌≡◌, List, length, true, refl, sym, ◌∙◌, subst, ap, map, ◌==◌, All, position, DriveView, RingView, IsKnown, HasLists, known_of, member_of, tasks_for, SeatView, AreFresh, is_ring}
 use Rattle.sercos_master.proofs.Openings.{opened, fresh_stand, known_of-IsRing, mapped_length}
 use Rattle.sercos_master.proofs.ring.Ring.open.Goals as goal
 

@@ -1,7 +1,4 @@
-use Rattle.std.proofs.Common.{rules, ◌≡◌, ◌≤◌, length, sym, ◌∙◌, arith}
-use Rattle.std.specs.Prelude.{Some}
-use Rattle.sercos_master.specs.Annals.{place_of}
-use Rattle.sercos_master.specs.Kept.{CoreStandsFor}
+use Rattle.sercos_master.proofs.Words.{rules, ◌≡◌, ◌≤◌, length, sym, ◌∙◌, arith, Some, place_of, CoreStandsFor}
 use Rattle.sercos_master.specs.contracts.ring.Ring.{the_view}
 use Rattle.sercos_master.proofs.Places.{place_inside}
 use Rattle.sercos_master.proofs.ring.Ring.place_of.Goals as goal

@@ -1,6 +1,4 @@
-use Rattle.sercos_seat.specs.Channel.{is_place}
-use Rattle.std.proofs.Common.{rules, ◌≡◌, ◌<◌, ◌≤◌, true, false, sym, ◌∙◌, length}
-use Rattle.sercos_master.specs.Kept.{CoreStandsFor}
+use Rattle.sercos_master.proofs.Words.{is_place, rules, ◌≡◌, ◌<◌, ◌≤◌, true, false, sym, ◌∙◌, length, CoreStandsFor}
 use Rattle.sercos_master.specs.contracts.ring.Ring.{the_view}
 use Rattle.sercos_master.proofs.Rings.{waited_long, waited_short, waited_new, waits_for_none, waits_beyond}
 use Rattle.sercos_master.proofs.ring.Ring.waited_too_long.Goals as goal

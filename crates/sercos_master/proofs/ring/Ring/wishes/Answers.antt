@@ -1,7 +1,4 @@
-use Rattle.std.proofs.Common.{◌≡◌, refl, ◌∙◌}
-use Rattle.sercos_seat.specs.Agenda.{wishes_from}
-use Rattle.sercos_master.specs.Annals.{outcomes}
-use Rattle.sercos_master.specs.Kept.{CoreStandsFor, seen_at}
+use Rattle.sercos_master.proofs.Words.{◌≡◌, refl, ◌∙◌, wishes_from, outcomes, CoreStandsFor, seen_at}
 use Rattle.sercos_master.specs.contracts.ring.Ring.{the_view}
 use Rattle.sercos_master.proofs.ring.Ring.wishes.Goals as goal
 
