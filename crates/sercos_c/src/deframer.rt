@@ -149,7 +149,7 @@ pub extern "C" fn sercos_deframer_finish(
     status
 }
 
-/// Gives back what is held.
+/// Closes a deframer: drops it and frees its memory, if there is one. The handle then holds nothing; it may be closed again, or opened.
 #[unsafe(no_mangle)]
 pub extern "C" fn sercos_deframer_close(alloc: Global, deframer: &mut Handle)
     ensures { deframer.new.held.value ≡ None }

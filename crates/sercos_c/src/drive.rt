@@ -172,8 +172,9 @@ fn element_if(
     element_of(drive, idn, element, out, written, code)
 }
 
-// Writes an element of a data block of a station, if it is a drive.
-fn element(
+// Writes an element of a data block to the front of `out`, as `element_if` does. Returns `CLOSED`, and writes nothing, if the station isn't
+// a drive.
+fn write_element(
     station: &Station,
     idn: u16,
     element: u8,
@@ -194,7 +195,7 @@ fn element(
     }
 }
 
-/// Gives back what is held.
+/// Closes a drive: drops it and frees its memory, if there is one. The handle then holds nothing; it may be closed again, or opened.
 #[unsafe(no_mangle)]
 pub extern "C" fn sercos_drive_close(alloc: Global, drive: &mut Handle)
     ensures { drive.new.held.value ≡ None }
@@ -329,7 +330,7 @@ pub extern "C" fn sercos_drive_element(
     let Some(station) = take_out(alloc, drive) else {
         return CLOSED;
     };
-    let status = self::element(&station, idn, element, out, written, code);
+    let status = write_element(&station, idn, element, out, written, code);
     put_back(station, drive);
     status
 }

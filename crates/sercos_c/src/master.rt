@@ -277,7 +277,7 @@ pub extern "C" fn sercos_master_events(
     status
 }
 
-/// Gives back what is held.
+/// Closes a master: drops it and frees its memory, if there is one. The handle then holds nothing; it may be closed again, or opened.
 #[unsafe(no_mangle)]
 pub extern "C" fn sercos_master_close(alloc: Global, master: &mut Handle)
     ensures { master.new.held.value ≡ None }

@@ -149,7 +149,7 @@ pub extern "C" fn sercos_ring_end(
     status
 }
 
-/// Gives back what is held.
+/// Closes a ring: drops it and frees its memory, if there is one. The handle then holds nothing; it may be closed again, or opened.
 #[unsafe(no_mangle)]
 pub extern "C" fn sercos_ring_close(alloc: Global, ring: &mut Handle)
     ensures { ring.new.held.value ≡ None }

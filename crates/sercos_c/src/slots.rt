@@ -230,7 +230,8 @@ fn end_of(chain: &Chain) -> SercosChain
     }
 }
 
-// Writes the least plan or the chain of a valid ring; there is a slot for each drive.
+// Writes the least plan of a valid ring, and returns `DONE`. If no plan fits, writes the chain of inequalities that proves it, and returns
+// `NO`. There are as many slots as drives, and at least 66 links.
 fn write_plan(
     w: &Wishes,
     times: &mut SercosPlanTimes,

@@ -131,8 +131,9 @@ pub(crate) fn push_mst(list: &mut ArrayVec<Sent, 66>, count: &mut usize, said: &
     put_sent(list, count, Kind::Mst, before(bits), bits, said);
 }
 
-// Sends the AT of a drive. Returns the number of undetected arrivals.
-fn send_said<L: BitLink>(
+// Sends the AT whose content is `buffers.said`, `start` microseconds after the end of the MST: appends it to the first `count` entries of
+// `list`, and passes it to the master. Returns the number of undetected arrivals, 0 or 1.
+fn send_content<L: BitLink>(
     link: &mut L,
     master: &mut AnyMaster,
     station: u8,
@@ -149,7 +150,7 @@ fn send_said<L: BitLink>(
     ensures carry { L.carry link.new ≡ L.carry link.old }
     ensures restart { L.restart link.new ≡ L.restart link.old }
     ensures bound { result ≤ 1 }
-    ensures count { count.new ≤ count.old + 1 }
+    ensures count { count.new ≡ count.old + 1 }
     ensures within { count.new ≤ length list.new.items }
     ensures sent { (r : RingView) → station_of r (slice_index buffers.old.said 0) ≡ station →
         AreSent r (L.carry link.old) cycle rate ((record { start = start; content = buffers.old.said }) ∷ []) (take count.old list.old.items) (take count.new list.new.items) master.old master.new result }
@@ -199,7 +200,7 @@ fn send_at<L: BitLink>(
 {
     match drive.at(&mut buffers.said) {
         None => 0,
-        Some(start) => send_said(
+        Some(start) => send_content(
             link, master, station, cycle, rate, start, list, count, buffers,
         ),
     }
