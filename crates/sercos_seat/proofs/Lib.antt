@@ -8,3 +8,4 @@ pub mod Lengths
 pub mod Sends
 pub mod Longs
 pub mod ShortWords
+pub mod Requests

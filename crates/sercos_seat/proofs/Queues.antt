@@ -7,7 +7,6 @@ use Rattle.std.proofs.lemmas.List.{reverse-append}
 use Rattle.sercos_step.specs.declared.request.Outcome.{Outcome}
 use Rattle.sercos_step.specs.declared.request.Request.{Request}
 use Rattle.sercos_step.specs.declared.request.Request.TheVariants as request
-use Rattle.sercos_step.specs.Steps.{IsRequest}
 use Rattle.sercos_service_master.specs.Begun.{open_in}
 use Rattle.sercos_service_master.specs.Calls.{Begin, begun_by}
 use Rattle.sercos_timing.specs.Views.{PlanView}
@@ -15,7 +14,7 @@ use Rattle.sercos_seat.specs.declared.queue.Waiting.{Waiting}
 use Rattle.sercos_seat.specs.Ring.{Known, MemberView, Task, member, startup}
 use Rattle.sercos_seat.specs.Agenda.{idn, agenda, reads, writes, checking, given, ended_well, bytes_of, reads_count, is_ready}
 use Rattle.sercos_seat.specs.Channel.{count_requests, of_phase}
-use Rattle.sercos_seat.specs.Seats.{next_write, next_in_2, next_in_3, Seen, SeatView, SeatStandsFor, IsQueue, AreRequests, waiting_task, left_in, is_idle_in, outcomes_seen, begun_in, nothing_seen}
+use Rattle.sercos_seat.specs.Seats.{next_write, next_in_2, next_in_3, Seen, SeatView, SeatStandsFor, IsQueue, waiting_task, left_in, is_idle_in, outcomes_seen, begun_in, nothing_seen}
 use Rattle.sercos_seat.proofs.Channels.{none≢some}
 use Rattle.sercos_seat.proofs.Seats.{length_more, before_end}
 use Rattle.sercos_seat.proofs.Agendas.{ended_there, planned_task, at_check, checks}
@@ -44,7 +43,6 @@ pub queue_more : (kept : List Waiting) (d : MemberView) (x y : Seen) (o : Outcom
     outcomes_seen y ≡ outcomes_seen x ++ o ∷ [] → is_idle_in x ≡ false → is_idle_in y ≡ true → IsQueue kept d y
 queue_more kept d x y o q tasks waits more opened closed = record {
   order = rw (tasks, waits) q.order;
-  requests = q.requests;
   none = λ e. rw tasks (by_none (is_ready d (outcomes_seen x)) refl e);
   count = λ e. rw (more, closed, tasks, length_more (outcomes_seen x) o) (by_count (is_ready d (outcomes_seen x)) refl (rw more at e));
 }
@@ -78,7 +76,6 @@ pub queue_same : (kept : List Waiting) (d : MemberView) (x y : Seen) → IsQueue
     outcomes_seen y ≡ outcomes_seen x → is_idle_in y ≡ is_idle_in x → IsQueue kept d y
 queue_same kept d x y q tasks waits same idle = record {
   order = rw (tasks, waits) q.order;
-  requests = q.requests;
   none = λ e. rw tasks (q.none (rw same at e));
   count = λ e. rw (same, idle, tasks) (q.count (rw same at e));
 }
@@ -93,7 +90,6 @@ opens (request.Command i) calls = refl
 pub queue_startup : (kept : List Waiting) (d : MemberView) (x : Seen) (t : Task) → IsQueue kept d x → is_ready d (outcomes_seen x) ≡ false → t.number ≡ None → IsQueue kept d (begun_in t x)
 queue_startup kept d x t q not_ready no_number = record {
   order = rw no_number q.order;
-  requests = q.requests;
   none = λ e. rw no_number (q.none e);
   count = λ e. absurd (false≢true (sym not_ready ∙ e));
 }
@@ -101,23 +97,18 @@ queue_startup kept d x t q not_ready no_number = record {
 tasks_last : (kept : List Waiting) (w : Waiting) → map waiting_task (reverse (kept ++ w ∷ [])) ≡ waiting_task w ∷ map waiting_task (reverse kept)
 tasks_last kept w = ap (map waiting_task) (reverse-append kept (w ∷ []))
 
-requests_more : (kept : List Waiting) (w : Waiting) → AreRequests kept → IsRequest w.request → AreRequests (kept ++ w ∷ [])
-requests_more [] w all r = (r, tt)
-requests_more (v ∷ kept) w all r = (all.0, requests_more kept w all.1 r)
-
 -- one request more waits, before nothing was seen
-pub queue_wait : (kept : List Waiting) (d : MemberView) (waiting : List Task) (w : Waiting) → IsQueue kept d (nothing_seen waiting) → IsRequest w.request →
+pub queue_wait : (kept : List Waiting) (d : MemberView) (waiting : List Task) (w : Waiting) → IsQueue kept d (nothing_seen waiting) →
     IsQueue (kept ++ w ∷ []) d (nothing_seen (waiting_task w ∷ waiting))
-queue_wait kept d waiting w q r = record {
+queue_wait kept d waiting w q = record {
   order = tasks_last kept w ∙ ap (λ ts. waiting_task w ∷ ts) q.order;
-  requests = requests_more kept w q.requests r;
   none = q.none;
   count = q.count;
 }
 
-pub waits : (v : SeatView) (d : MemberView) (waiting : List Task) (w : Waiting) → SeatStandsFor v d (nothing_seen waiting) → IsRequest w.request →
+pub waits : (v : SeatView) (d : MemberView) (waiting : List Task) (w : Waiting) → SeatStandsFor v d (nothing_seen waiting) →
     SeatStandsFor (record v { waiting = v.waiting ++ w ∷ [] }) d (nothing_seen (waiting_task w ∷ waiting))
-waits v d waiting w t r = record {
+waits v d waiting w t = record {
   member_is = t.member_is;
   few = t.few;
   channel_is = t.channel_is;
@@ -133,12 +124,8 @@ waits v d waiting w t r = record {
   heard_is = t.heard_is;
   missed_is = t.missed_is;
   identified_is = t.identified_is;
-  queue = queue_wait v.waiting d waiting w t.queue r;
+  queue = queue_wait v.waiting d waiting w t.queue;
 }
-
-requests_last : (kept : List Waiting) (w : Waiting) → AreRequests (kept ++ w ∷ []) → IsRequest w.request × AreRequests kept
-requests_last [] w r = (r.0, tt)
-requests_last (v ∷ kept) w r = let rest = requests_last kept w r.1 in (rest.0, (r.0, rest.1))
 
 -- the first of the tasks that are left
 drop_first : (n : ℕ) (xs : List Task) (t : Task) (rest : List Task) → t ∷ rest ≡ drop n xs → (rest ≡ drop (n + 1) xs) × (slice_get xs n ≡ Some t)
@@ -149,19 +136,17 @@ drop_first (suc n) (x ∷ xs) t rest e = let f : suc n + 1 ≡ suc (n + 1) = ome
 
 -- the request that waits first is begun
 pub queue_next : (kept rest : List Waiting) (w : Waiting) (d : MemberView) (x : Seen) → IsQueue kept d x → kept ≡ rest ++ w ∷ [] → is_ready d (outcomes_seen x) ≡ true → is_idle_in x ≡ true →
-    IsQueue rest d (begun_in (waiting_task w) x) × (IsRequest w.request × (slice_get x.waiting (count_requests x.tasks) ≡ Some (waiting_task w)))
+    IsQueue rest d (begun_in (waiting_task w) x) × (slice_get x.waiting (count_requests x.tasks) ≡ Some (waiting_task w))
 queue_next kept rest w d x q is ready idle =
     let order : waiting_task w ∷ map waiting_task (reverse rest) ≡ left_in x = sym (tasks_last rest w) ∙ (ap (λ k. map waiting_task (reverse k)) (sym is) ∙ q.order) in
     let first = drop_first (count_requests x.tasks) x.waiting (waiting_task w) (map waiting_task (reverse rest)) order in
-    let requests = requests_last rest w (subst AreRequests is q.requests) in
     let c : length (outcomes_seen x) + 0 ≡ reads_count d + 13 + count_requests x.tasks = subst (λ b. length (outcomes_seen x) + (if b then 0 else 1) ≡ reads_count d + 13 + count_requests x.tasks) idle (q.count ready) in (
       record {
         order = first.0;
-        requests = requests.1;
         none = λ e. absurd (false≢true (sym e ∙ ready));
         count = λ e. rw (opens w.request x.calls) (omega (arith, c));
       },
-      (requests.0, first.1),
+      first.1,
     )
 
 -- the agenda goes on with what waits
@@ -321,7 +306,7 @@ pub with_next_4 : (s : Known) (k : ℕ) (x : Seen) (plan : Option PlanView) (kep
     (if is_idle_in x then of_phase 4 (slice_get (agenda s plan x.waiting k (outcomes_seen x)) (length (outcomes_seen x))) else None) ≡ Some (waiting_task w)
 with_next_4 s k x None kept rest w q is planned idle ready = absurd (false≢true planned)
 with_next_4 s k x (Some plan) kept rest w q is planned idle ready =
-    begins_4 s k x plan (waiting_task w) idle ready (long_4 s k x kept q idle ready) (queue_next kept rest w (member s k) x q is ready idle).1.1 refl
+    begins_4 s k x plan (waiting_task w) idle ready (long_4 s k x kept q idle ready) (queue_next kept rest w (member s k) x q is ready idle).1 refl
 
 pub with_none_4 : (s : Known) (k : ℕ) (x : Seen) (plan : Option PlanView) (kept : List Waiting) → IsQueue kept (member s k) x → kept ≡ [] → is_some plan ≡ true →
     is_idle_in x ≡ true → is_ready (member s k) (outcomes_seen x) ≡ true →

@@ -20,7 +20,6 @@ use Rattle.sercos_trace.specs.declared.events.Stop.TheVariants as stop
 use Rattle.sercos_seat.specs.declared.answers.Words.{Words}
 use Rattle.sercos_seat.specs.declared.answers.Asked.{Asked}
 use Rattle.sercos_seat.specs.declared.queue.Waiting.{Waiting}
-use Rattle.sercos_step.specs.Steps.{IsRequest}
 use Rattle.sercos_seat.specs.Agenda.{agenda, asked_by, bytes_of, ended_well, given, idn, is_checked, is_ready, len_or_none, mdt_attributes, reads, reads_count, short_in, stop_of_task, writes}
 use Rattle.sercos_seat.specs.Channel.{Report, broken_number, count_requests, last_outcome, number_in, of_phase, outcomes_in, report_of, trouble_by}
 use Rattle.sercos_seat.specs.Records.{record_said, values_said}
@@ -106,15 +105,10 @@ waiting_task w = request_task w.number w.request
 abbrev pub left_in : Seen → List Task
 left_in x = drop (count_requests x.tasks) x.waiting
 
-abbrev pub AreRequests : List Waiting → Type 0
-AreRequests [] = Unit {0}
-AreRequests (w ∷ waiting) = IsRequest w.request × AreRequests waiting
-
 -- What is kept of the requests to a drive, the last one first. A request is begun only after both checks. So the outcomes, with
 -- the task at work, are as many as the start-up and the requests begun have.
 pub record IsQueue (kept : List Waiting) (d : MemberView) (x : Seen) : Type 0 where
   pub order : map waiting_task (reverse kept) ≡ left_in x
-  pub requests : AreRequests kept
   pub none : is_ready d (outcomes_seen x) ≡ false → count_requests x.tasks ≡ 0
   pub count : is_ready d (outcomes_seen x) ≡ true → length (outcomes_seen x) + opened_in x ≡ reads_count d + 13 + count_requests x.tasks
 

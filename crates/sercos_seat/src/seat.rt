@@ -21,7 +21,7 @@ use crate::answers::{
     outcome_bytes, part, put_command_values,
 };
 use crate::member::{Member, Numbers, command, number_at, read, write_list, write_word};
-use crate::queue::{Waiting, is_request};
+use crate::queue::Waiting;
 use arrayvec::ArrayVec;
 use sercos_bits::Content;
 use sercos_block::numbers::{
@@ -162,6 +162,7 @@ impl Seat {
     }
 
     /// Keeps a request that comes before those that wait already.
+    #[tactic(auto, using(crate::proofs::Requests::is_one))]
     pub fn wait(&mut self, number: u16, request: Request) -> Result<(), AllocError>
         requires { IsRequest request }
         ensures { OnOk result ((d : MemberView) (waiting : List Task) → SeatStandsFor self.old d (nothing_seen waiting) →
@@ -404,6 +405,7 @@ impl Seat {
     }
 
     /// Begins the next request that waits, if no task is at work and both checks have ended well.
+    #[tactic(auto, using(crate::proofs::Requests::takes))]
     pub fn begin_in_4(&mut self, planned: bool)
         ensures { (s : Known) (k : ℕ) (x : Seen) (plan : Option PlanView) → AreWaiting x.waiting → is_some plan ≡ planned →
             SeatStandsFor self.old (member s k) x → SeatStandsFor self.new (member s k)
@@ -419,9 +421,7 @@ impl Seat {
             return;
         }
         if let Some(next) = self.waiting.pop() {
-            if is_request(&next.request) {
-                self.begin(next.request, Some(next.number));
-            }
+            self.begin(next.request, Some(next.number));
         }
     }
 

@@ -1,12 +1,22 @@
 -- What is kept between the steps, over one step more.
 use Rattle.std.proofs.Common.{◌≡◌, ℕ, ◌==◌, Bool, true, false, cond, ◌||◌, List, [], ◌∷◌, Some, None, is_some, refl}
+use Rattle.std.specs.Prelude.{Result, Ok, Err}
+use Rattle.std.specs.Result.{IsErrAnd}
 use Rattle.sercos_idn.specs.declared.idn.Idn.{Idn}
+use Rattle.sercos_idn.specs.declared.code.Code.{Code}
 use Rattle.sercos_step.specs.declared.step.Answer.{Answer}
 use Rattle.sercos_block.specs.Stores.{find_block}
 use Rattle.sercos_service_drive.specs.Log.{Processed, Entry, opens, open_idn, run_before}
 use Rattle.sercos_service_drive.specs.Replies.{good, refused, reply_of}
 use Rattle.sercos_service_drive.specs.Kept.{place_of, selection_in, selected, SessionView, IsKeptRun, HoldsRun, SessionStandsFor, IsAnswered}
+use Rattle.sercos_service_drive.specs.Partial.{IsReplied}
 use Rattle.sercos_service_drive.proofs.RunLemmas.{place_more}
+
+-- the error of a reply goes up as it is
+pub is_refused : (v : SessionView) (t : Processed) (log : List Entry) (r : Result ℕ Code) (code : Code) → IsErrAnd r (λ e. e ≡ code) →
+    IsAnswered (record v { selection = None }) t log (refused code.raw) → IsReplied v t log r
+is_refused v t log (Ok word) code is answered = absurd is
+is_refused v t log (Err e) code is answered = rw is answered
 
 abbrev entry : Processed → Answer → Entry
 entry t answer = record { processed = t; answer = answer }

@@ -1,17 +1,19 @@
 -- The effect of a written word of operation data, at its place in the run. For proofs alone.
-use Rattle.std.specs.Prelude.{◌≡◌, ℕ, ◌≤◌, ◌%◌, ◌==◌, nat_lt, nat_le, Bool, true, false, not, ◌&&◌, ◌||◌, List, [], ◌∷◌, Option, Some, None}
+use Rattle.std.specs.Prelude.{◌≡◌, ℕ, ◌≤◌, ◌%◌, ◌==◌, nat_lt, nat_le, Bool, true, false, not, ◌&&◌, ◌||◌, List, [], ◌∷◌, Option, Some, None, Result, Ok, Err}
 use Rattle.std.specs.Bool.{then_some}
 use Rattle.std.specs.Option.{option_or}
 use Rattle.sercos_idn.specs.declared.attribute.Attribute.{Attribute}
 use Rattle.sercos_idn.specs.Codes.{is_list, item_len}
+use Rattle.sercos_idn.specs.declared.code.Code.{Code}
 use Rattle.sercos_step.specs.Words.{bytes_in}
 use Rattle.sercos_block.specs.declared.block.Block.{Block}
 use Rattle.sercos_block.specs.Stores.{write_fault}
 use Rattle.sercos_command.specs.Calls.{CommandHistory}
 use Rattle.sercos_command.specs.Kept.{CommandsView, CommandsStandFor}
-use Rattle.sercos_service_drive.specs.Replies.{words_by, bytes_written, write_cause}
+use Rattle.sercos_service_drive.specs.Replies.{good, refused, words_by, bytes_written, write_cause}
+use Rattle.sercos_service_drive.specs.Log.{Processed, Entry}
 use Rattle.sercos_service_drive.specs.Writes.{Write, unless, blocks_with, commands_with}
-use Rattle.sercos_service_drive.specs.Kept.{IsMidway}
+use Rattle.sercos_service_drive.specs.Kept.{SessionView, IsMidway, IsAnswered}
 
 -- The first cause for which a word of operation data is refused by its place and the block alone, where with it there are
 -- `count` words, the first of which is this.
@@ -34,6 +36,11 @@ IsStarted b (word ∷ words) = IsMidway b (word ∷ words)
 pub record IsEffect (w : Option Write) (cycle : ℕ) (blocks blocks' : List Block) (commands commands' : CommandsView) : Type 0 where
   pub blocks_are : (c : CommandHistory) → CommandsStandFor commands c → blocks' ≡ blocks_with w c blocks
   pub commands_are : (c : CommandHistory) → CommandsStandFor commands c → CommandsStandFor commands' (commands_with w blocks c)
+
+-- a step is answered with a word, or it is refused, which ends the run
+abbrev pub IsReplied : SessionView → Processed → List Entry → Result ℕ Code → Type 0
+IsReplied v t log (Ok word) = IsAnswered v t log (good word)
+IsReplied v t log (Err code) = IsAnswered (record v { selection = None }) t log (refused code.raw)
 
 -- the write of the last word, if there is no cause against it
 abbrev pub write_by : Bool → Option ℕ → Write → Option Write

@@ -10,7 +10,7 @@ ghost use Rattle.sercos_service_drive.specs.Log.{Processed, processed_step, Entr
 ghost use Rattle.sercos_service_drive.specs.Replies.{good, refused, words_at, missing};
 ghost use Rattle.sercos_service_drive.specs.Writes.{adds};
 ghost use Rattle.sercos_service_drive.specs.Kept.{run_of, place_in, selected, GoesWith, IsAnswered, SessionStandsFor};
-ghost use Rattle.sercos_service_drive.specs.Partial.{IsStarted, IsEffect, IsWord};
+ghost use Rattle.sercos_service_drive.specs.Partial.{IsStarted, IsEffect, IsWord, IsReplied};
 
 use crate::causes::check_place;
 use crate::copying::{Buffer, CAPACITY, copy_element};
@@ -235,30 +235,28 @@ impl Session {
         refused(code)
     }
 
-    // Opens an identifier number, if the drive has it.
-    fn open(&mut self, idn: Idn, store: &Store) -> Answer
-        ensures { (t : Processed) (log : List Entry) → opens t.step ≡ true → t.step.word ≡ idn.raw → t.blocks ≡ store.now → IsAnswered self.new t log result }
+    // Opens an identifier number, if the drive has it. Returns the word of the answer.
+    fn open(&mut self, idn: Idn, store: &Store) -> Result<u16, Code>
+        ensures { (t : Processed) (log : List Entry) → opens t.step ≡ true → t.step.word ≡ idn.raw → t.blocks ≡ store.now → IsReplied self.new t log result }
     {
         self.selection = None;
-        if store.has(idn) {
-            self.opened = Some(idn);
-            good(0)
-        } else {
-            self.opened = None;
-            refused(Code::NO_IDN)
+        self.opened = None;
+        if !store.has(idn) {
+            return Err(Code::NO_IDN);
         }
+        self.opened = Some(idn);
+        Ok(0)
     }
 
     // Closes the identifier number.
-    fn close(&mut self) -> Answer
-        ensures { (t : Processed) (log : List Entry) → opens t.step ≡ false → (t.step.element == 0) ≡ true → IsAnswered self.new t log result }
+    fn close(&mut self)
+        ensures { (t : Processed) (log : List Entry) → opens t.step ≡ false → (t.step.element == 0) ≡ true → IsAnswered self.new t log (good 0) }
     {
         self.opened = None;
         self.selection = None;
-        good(0)
     }
 
-    // Reads the next word of an element, 1 to 7.
+    // Reads the next word of an element, 1 to 7. The error is why it can't be read.
     fn read(
         &mut self,
         idn: Idn,
@@ -266,14 +264,14 @@ impl Session {
         step: Step,
         store: &Store,
         commands: &Commands,
-    ) -> Answer
+    ) -> Result<u16, Code>
         requires element { (1 ≤ step.element) × (step.element ≤ 7) }
         requires read { step.write ≡ false }
         ensures { (phase : ℕ) (mhs : Bool) (log : List Entry) (c : CommandHistory) → SessionStandsFor self.old log → CommandsStandFor commands.now c →
-            open_idn log ≡ Some idn.raw → IsAnswered self.new (processed_step cycle phase mhs step store.now c) log result }
+            open_idn log ≡ Some idn.raw → IsReplied self.new (processed_step cycle phase mhs step store.now c) log result }
     {
         let place = place_in(self.selection, false, step.element);
-        if let Err(code) = select(
+        select(
             &mut self.buffer,
             place,
             idn,
@@ -281,14 +279,13 @@ impl Session {
             cycle,
             store,
             commands,
-        ) {
-            return self.refuse(code);
-        }
+        )?;
         self.selection = selected(step, place);
-        good(word_at(self.buffer.as_slice(), place))
+        Ok(word_at(self.buffer.as_slice(), place))
     }
 
-    // Writes the next word of an element, 2 to 7, of which operation data alone can be written.
+    // Writes the next word of an element, 2 to 7, of which operation data alone can be written. Returns the word of the answer; the
+    // error is the first cause against the step.
     fn write(
         &mut self,
         idn: Idn,
@@ -297,23 +294,23 @@ impl Session {
         step: Step,
         store: &mut Store,
         commands: &mut Commands,
-    ) -> Answer
+    ) -> Result<u16, Code>
         requires element { (2 ≤ step.element) × (step.element ≤ 7) }
         requires write { step.write ≡ true }
         requires phase { (2 ≤ phase) × (phase ≤ 4) }
         requires set { are_commands_of store.old commands.old ≡ true }
         ensures answered { (mhs : Bool) (log : List Entry) (c : CommandHistory) → SessionStandsFor self.old log → open_idn log ≡ Some idn.raw →
-            GoesWith store.old (run_of log) → IsAnswered self.new (processed_step cycle phase mhs step store.old c) log result }
+            GoesWith store.old (run_of log) → IsReplied self.new (processed_step cycle phase mhs step store.old c) log result }
         ensures effect { (mhs : Bool) (log : List Entry) (c : CommandHistory) → SessionStandsFor self.old log → open_idn log ≡ Some idn.raw →
             GoesWith store.old (run_of log) → IsEffect (adds (processed_step cycle phase mhs step store.old c) log) cycle store.old store.new commands.old commands.new }
         ensures set { are_commands_of store.new commands.new ≡ true }
     {
         if step.element != DATA {
-            return self.refuse(Code::protected(step.element));
+            return Err(Code::protected(step.element));
         }
         let place = place_in(self.selection, true, DATA);
         start(&mut self.buffer, place);
-        match write_word(
+        write_word(
             &mut self.buffer,
             place,
             idn,
@@ -323,12 +320,43 @@ impl Session {
             step.word,
             store,
             commands,
-        ) {
-            Ok(()) => {
-                self.selection = selected(step, place);
-                good(0)
-            }
-            Err(code) => self.refuse(code),
+        )?;
+        self.selection = selected(step, place);
+        Ok(0)
+    }
+
+    // Does what a step asks for. Returns the word of the answer; the error is why the step is refused, which is to end the run.
+    fn reply(
+        &mut self,
+        cycle: u32,
+        phase: u8,
+        step: Step,
+        store: &mut Store,
+        commands: &mut Commands,
+    ) -> Result<u16, Code>
+        requires element { step.element < 8 }
+        requires phase { (2 ≤ phase) × (phase ≤ 4) }
+        requires set { are_commands_of store.old commands.old ≡ true }
+        ensures answered { (mhs : Bool) (log : List Entry) (c : CommandHistory) → SessionStandsFor self.old log → CommandsStandFor commands.old c →
+            GoesWith store.old (run_of log) → IsReplied self.new (processed_step cycle phase mhs step store.old c) log result }
+        ensures effect { (mhs : Bool) (log : List Entry) (c : CommandHistory) → SessionStandsFor self.old log → GoesWith store.old (run_of log) →
+            IsEffect (adds (processed_step cycle phase mhs step store.old c) log) cycle store.old store.new commands.old commands.new }
+        ensures set { are_commands_of store.new commands.new ≡ true }
+    {
+        if opens(step) {
+            return self.open(Idn { raw: step.word }, store);
+        }
+        if step.element == 0 {
+            self.close();
+            return Ok(0);
+        }
+        let Some(idn) = self.opened else {
+            return Err(Code::NOT_OPEN);
+        };
+        if step.write {
+            self.write(idn, cycle, phase, step, store, commands)
+        } else {
+            self.read(idn, cycle, step, store, commands)
         }
     }
 
@@ -350,21 +378,9 @@ impl Session {
             IsEffect (adds (processed_step cycle phase mhs step store.old c) log) cycle store.old store.new commands.old commands.new }
         ensures set { are_commands_of store.new commands.new ≡ true }
     {
-        if opens(step) {
-            return self.open(Idn { raw: step.word }, store);
-        }
-        if step.element == 0 {
-            return self.close();
-        }
-        match self.opened {
-            None => self.refuse(Code::NOT_OPEN),
-            Some(idn) => {
-                if step.write {
-                    self.write(idn, cycle, phase, step, store, commands)
-                } else {
-                    self.read(idn, cycle, step, store, commands)
-                }
-            }
+        match self.reply(cycle, phase, step, store, commands) {
+            Ok(word) => good(word),
+            Err(code) => self.refuse(code),
         }
     }
 }

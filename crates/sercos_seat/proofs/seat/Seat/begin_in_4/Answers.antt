@@ -1,6 +1,4 @@
 use Rattle.std.proofs.Common.{rules, ◌≡◌, true, [], ◌∷◌, ◌++◌, sym, refl, ◌∙◌}
-use Rattle.std.proofs.lemmas.Bool.{false≢true}
-use Rattle.sercos_seat.specs.declared.queue.Waiting.{Waiting}
 use Rattle.sercos_seat.specs.Ring.{member}
 use Rattle.sercos_seat.specs.Agenda.{is_ready}
 use Rattle.sercos_seat.specs.Seats.{SeatStandsFor, is_idle_in, outcomes_seen, waiting_task}
@@ -18,28 +16,17 @@ returns-then-not-self c = λ s k x plan four planned stands.
     let t : SeatStandsFor (the_view c.self.inside) (member s k) x = rw c.self.view_is stands in
     rw (not_ready_4 s k x plan (sym t.ready_is ∙ c.if-not-self.true)) stands
 
-pub returns-then-is_request : goal.returns-then-is_request
-returns-then-is_request c = λ s k x plan four planned stands.
+pub returns-in-Some : goal.returns-in-Some
+returns-in-Some c = λ s k x plan four planned stands.
     let t : SeatStandsFor (the_view c.self.inside) (member s k) x = rw c.self.view_is stands in
     let known : c.is_idle.result ≡ true = search rules in
     let idle : is_idle_in x ≡ true = sym (idle_same c.args.self.now (member s k) x stands) ∙ (sym c.is_idle.ensures ∙ known) in
     let ready : is_ready (member s k) (outcomes_seen x) ≡ true = sym t.ready_is ∙ c.if-not-self.false in
-    let w : Waiting = record { number = c.in-Some.next.number; request = c.in-Some.next.request } in
+    let w = c.in-Some.next in
     let is : (the_view c.self.inside).waiting ≡ c.pop.new.self.items ++ w ∷ [] = c.in-Some.ensures.items in
     let next = queue_next (the_view c.self.inside).waiting c.pop.new.self.items w (member s k) x t.queue is ready idle in
     rw (with_next_4 s k x plan (the_view c.self.inside).waiting c.pop.new.self.items w t.queue is (planned ∙ c.if-not-planned.false) idle ready)
     (c.begin.ensures (member s k) x (waiting_task w) (the_view c.self.inside).waiting refl refl next.0 t)
-
-pub returns-else-is_request : goal.returns-else-is_request
-returns-else-is_request c = λ s k x plan four planned stands.
-    let t : SeatStandsFor (the_view c.self.inside) (member s k) x = rw c.self.view_is stands in
-    let known : c.is_idle.result ≡ true = search rules in
-    let idle : is_idle_in x ≡ true = sym (idle_same c.args.self.now (member s k) x stands) ∙ (sym c.is_idle.ensures ∙ known) in
-    let ready : is_ready (member s k) (outcomes_seen x) ≡ true = sym t.ready_is ∙ c.if-not-self.false in
-    let w : Waiting = record { number = c.in-Some.next.number; request = c.in-Some.next.request } in
-    let is : (the_view c.self.inside).waiting ≡ c.pop.new.self.items ++ w ∷ [] = c.in-Some.ensures.items in
-    let next = queue_next (the_view c.self.inside).waiting c.pop.new.self.items w (member s k) x t.queue is ready idle in
-    absurd (false≢true (sym c.if-is_request.false ∙ c.is_request.ensures.1 next.1.0))
 
 pub returns-in_default : goal.returns-in_default
 returns-in_default c = λ s k x plan four planned stands.

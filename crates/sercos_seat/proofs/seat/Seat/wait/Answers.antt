@@ -1,5 +1,4 @@
-use Rattle.std.proofs.Common.{◌++◌, ◌∷◌, [], subst, sym}
-use Rattle.sercos_seat.specs.declared.queue.Waiting.{Waiting}
+use Rattle.std.proofs.Common.{◌∷◌, subst, sym}
 use Rattle.sercos_seat.specs.Ring.{request_task}
 use Rattle.sercos_seat.specs.Seats.{SeatStandsFor, nothing_seen}
 use Rattle.sercos_seat.specs.contracts.seat.Seat.{the_view}
@@ -9,7 +8,5 @@ use Rattle.sercos_seat.proofs.seat.Seat.wait.Goals as goal
 pub returns : goal.returns
 returns c = λ d waiting stands.
     let t : SeatStandsFor (the_view c.self.inside) d (nothing_seen waiting) = rw c.self.view_is stands in
-    let w : Waiting = record { number = c.args.number; request = c.args.request } in
-    let more : SeatStandsFor (record (the_view c.self.inside) { waiting = (the_view c.self.inside).waiting ++ w ∷ [] }) d (nothing_seen (request_task c.args.number c.args.request ∷ waiting)) =
-    waits (the_view c.self.inside) d waiting w t c.requires in
-    subst (λ items. SeatStandsFor (record (the_view c.self.inside) { waiting = items }) d (nothing_seen (request_task c.args.number c.args.request ∷ waiting))) (sym c.in_ok-push.ensures.items) more
+    subst (λ items. SeatStandsFor (record (the_view c.self.inside) { waiting = items }) d (nothing_seen (request_task c.args.number c.args.request ∷ waiting))) (sym c.in_ok-push.ensures.items)
+    (waits (the_view c.self.inside) d waiting _ t)
