@@ -175,7 +175,7 @@ fn is_data(attribute: Attribute, number: i64) -> bool
 }
 
 // The operation data of a number or a procedure command.
-#[tactic(auto, unfolding(crate::specs::Numbers::number_data))]
+#[tactic(auto, using(crate::proofs::BlockLemmas::is_typed_bytes), unfolding(crate::specs::Numbers::number_data))]
 fn read_number_data(keys: &Keys<'_>, attribute: Attribute) -> Result<Text, BadDocument>
     requires { is_list attribute.length ≡ false }
     ensures value { Gives result (number_data attribute (located keys.now)) }
