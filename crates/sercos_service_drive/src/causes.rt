@@ -7,7 +7,8 @@ ghost use Rattle.sercos_service_drive.specs.Partial.{length_cause, place_cause};
 use sercos_block::Stored;
 use sercos_idn::{Attribute, Code};
 
-// Returns how many words the operation data has, where the first of them is known.
+// Returns how many words of 16 bits a whole write of operation data has. `first` is its first word: the length in bytes of a list, which
+// is followed by another length and by the items; for a number it doesn't matter.
 fn words_by(attribute: &Attribute, first: u16) -> u32
     ensures { result ≡ words_by attribute.now first }
 {

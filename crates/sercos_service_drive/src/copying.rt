@@ -9,8 +9,8 @@ ghost use Rattle.sercos_service_drive.specs.Replies.{list_words, element_words, 
 
 use crate::data::push_data;
 use sercos_bits::ByteList;
-use sercos_block::Store;
 use sercos_block::limits::{MOST_NAME, MOST_UNIT};
+use sercos_block::{Store, Stored};
 use sercos_command::Commands;
 use sercos_idn::element::{DATA, IDENTIFIER, NAME, UNIT};
 use sercos_idn::{Attribute, Code, Idn};
@@ -48,20 +48,11 @@ fn copy_data(buffer: &mut Buffer, attribute: &Attribute, step: u32, cycle: u32, 
     push_data(buffer, attribute, step, cycle, bytes);
 }
 
-// Copies an element, 2 to 7, which is there.
+// Replaces the buffer by the words of an element, 2 to 7, that a block has, as it is in a cycle. `bytes` are those of the element.
 #[tactic(auto, unfolding(crate::specs::Replies::element_words, sercos_block::specs::Blocks::element_of))]
-fn copy_found(
-    buffer: &mut Buffer,
-    attribute: &Attribute,
-    most: u16,
-    step: u32,
-    element: u8,
-    cycle: u32,
-    bytes: &[u8],
-)
+fn copy_found(buffer: &mut Buffer, block: &Stored<'_>, element: u8, cycle: u32, bytes: &[u8])
     requires { length bytes.now ≤ 1024 }
-    ensures { (b : Block) → b.attribute ≡ attribute.now → b.max_len ≡ most → b.step ≡ step → element_of b element ≡ Some bytes.now →
-        words_of buffer.new ≡ element_words element cycle b }
+    ensures { element_of block.now element ≡ Some bytes.now → words_of buffer.new ≡ element_words element cycle block.now }
 {
     if element == NAME {
         copy_list(buffer, MOST_NAME as u16, bytes);
@@ -69,10 +60,10 @@ fn copy_found(
         copy_list(buffer, MOST_UNIT as u16, bytes);
     } else if element != DATA {
         buffer.assign(bytes);
-    } else if attribute.length.is_list() {
-        copy_list(buffer, most, bytes);
+    } else if block.attribute().length.is_list() {
+        copy_list(buffer, block.max_len(), bytes);
     } else {
-        copy_data(buffer, attribute, step, cycle, bytes);
+        copy_data(buffer, &block.attribute(), block.step(), cycle, bytes);
     }
 }
 
@@ -101,14 +92,6 @@ pub(crate) fn copy_element(
     let Some(bytes) = block.element(element) else {
         return Err(Code::missing(element));
     };
-    copy_found(
-        buffer,
-        &block.attribute(),
-        block.max_len(),
-        block.step(),
-        element,
-        cycle,
-        bytes,
-    );
+    copy_found(buffer, &block, element, cycle, bytes);
     Ok(())
 }
