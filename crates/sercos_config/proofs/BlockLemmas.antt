@@ -3,6 +3,7 @@ use Rattle.std.proofs.Common.{◌≡◌, ℕ, zero, suc, ◌<◌, true, List, []
 use Rattle.std.specs.Prelude.{option_map}
 use Rattle.std.specs.Int.{w16, w32, to_le_bytes}
 use Rattle.std.specs.List.{list_all}
+use Rattle.std.proofs.lemmas.Bool.Decides.{nat_tests}
 use Rattle.std.proofs.lemmas.List.Folds.{list_all-append}
 use Rattle.sercos_model.specs.Bits.{AreBytes}
 use Rattle.sercos_model.proofs.BitLemmas.{AreBytes-by_index}
@@ -14,6 +15,7 @@ use Rattle.sercos_block.specs.declared.block.Block.{Block}
 use Rattle.sercos_block.specs.Blocks.{bytes_for, width_of}
 use Rattle.sercos_block.specs.Rules.{block_fault, blocks_fault}
 use Rattle.sercos_block.specs.Stores.{is_typed}
+use Rattle.sercos_block.proofs.TypeLemmas.{bytes_from, typed_from}
 
 -- one block more
 blocks_fault-append : (before xs : List Block) (b : Block) → blocks_fault before xs ≡ None → block_fault (before ++ xs) b ≡ None
@@ -66,3 +68,12 @@ bytes_typed a bits = by a.length
 
 pub is_typed_bytes : (bytes : List ℕ) (a : Attribute) (bits : ℕ) → bytes ≡ bytes_for a bits → AreBytes bytes
 is_typed_bytes bytes a bits is = subst AreBytes (sym is) (bytes_typed a bits)
+
+pub none_typed : (bytes : List ℕ) → bytes ≡ [] → AreBytes bytes
+unfolding AreBytes
+none_typed bytes is = subst AreBytes (sym is) tt
+
+-- the numbers of a block are those of their types
+pub typed_by : (b : Block) → b.idn.raw < 65536 → b.attribute.factor < 65536 → b.step < 4294967296 → AreBytes b.value → is_typed b ≡ true
+typed_by b number factor step bytes =
+    typed_from b (grind (arith, nat_tests)) (grind (arith, nat_tests)) (grind (arith, nat_tests)) (bytes_from b.value bytes)

@@ -145,7 +145,7 @@ fn list_bytes(most: u16, attribute: Attribute, text: &[u8]) -> Option<Text>
 }
 
 // The operation data of a list.
-#[tactic(auto, unfolding(crate::specs::Numbers::list_data))]
+#[tactic(auto, using(crate::proofs::BlockLemmas::none_typed), unfolding(crate::specs::Numbers::list_data))]
 fn read_list_data(keys: &Keys<'_>, most: u16, attribute: Attribute) -> Result<Text, BadDocument>
     requires most { most ≤ 1024 }
     requires list { is_list attribute.length ≡ true }
