@@ -17,4 +17,7 @@ pub returns : goal.returns
 returns c =
     let all = numbers_all c.args.bytes.now c.count_on-place-end.result c.count_on-place-end.ensures.value in
     let ended : length c.args.bytes.now ≤ 2 * c.loop-place.place + 1 = omega (arith, c.loop-place-test.false, all) in
-    (listed_end (reads_data c.args.address) c.loop-place.jobs.items _ c.args.bytes.now c.loop-place.place ended c.loop-place.invariant.0, c.loop-place.invariant.1)
+    record {
+      pushed = listed_end (reads_data c.args.address) c.loop-place.jobs.items _ c.args.bytes.now c.loop-place.place ended c.loop-place.invariant.0;
+      typed = c.loop-place.invariant.1;
+    }
