@@ -1,4 +1,4 @@
-// What holds of the replay of an own trace.
+// What holds of the replay of a trace that `run` wrote of the same document.
 ghost use Rattle.sercos_app.specs.OwnRun.{OwnRunsHold};
 
 use sercos_law_run::run_law;
