@@ -81,9 +81,10 @@ fn back_up<K: Sink>(alloc: Global, document: Document, sink: &mut K) -> Status
 }
 
 /// Writes the answer to a ring document, and returns its status: the saved data of the blocks on its drives' lists of backup operation
-/// data, the requests that failed, or the document's first refusal. The ring is run from its first cycle and over its script to read the
-/// lists, and so again to read the blocks on them. The requests of the document are ignored. All memory is taken before anything is
-/// written: if it runs out, the status is `Memory`, and the sink is as it was. The stack is apart from that of the other commands.
+/// data, the requests that failed, or the document's first refusal. The ring is run over its script, from its first cycle, to read the
+/// lists, and once more in the same way to read the blocks on them. The requests of the document are ignored. All memory is taken before
+/// anything is written: if it runs out, the status is `Memory`, and the sink is as it was. The stack is apart from that of the other
+/// commands.
 #[inline(never)]
 pub fn answer_backup<K: Sink>(alloc: Global, bytes: &[u8], sink: &mut K) -> Status
     ensures { Replies (backup_answer bytes.now) (SavesItsRing bytes.now)

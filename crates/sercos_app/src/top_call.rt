@@ -90,8 +90,8 @@ fn reads_input(form: Form) -> bool
     !matches!(form, Form::Gen(_))
 }
 
-// Writes the answer of the command that is named to an input of at most 1,048,576 bytes, and returns the status. `gen` ignores the input,
-// and only `run` and `gen` use the link. If memory runs out, the status is `Memory`, and nothing is written.
+// Writes the answer of the command with this form to an input of at most 1,048,576 bytes, and returns the status. `gen` ignores the
+// input, and only `run` and `gen` use the link. If memory runs out, the status is `Memory`, and nothing is written.
 #[tactic(auto, unfolding(crate::specs::Answer::command_answer))]
 fn answer<K: Sink, L: BitLink>(
     alloc: Global,
@@ -170,10 +170,11 @@ fn respond<S: Source, K: Sink, L: BitLink>(
 ///
 /// Of each run that `run` traces and `gen` sums, up to the first undetected damage, regardless of losses and restarts: if no cycle after a
 /// fall is disturbed, the ring starts up again; and from twice the bound of a start-up and 200 cycles after the last disturbed one on,
-/// phase 4 is commanded, or the master is at a stop for its cause. While disturbed cycles are sparse the ring doesn't fall; and after others
-/// it falls at most once, and is back by the same bound and what the disturbed cycles since cost a start-up. No damage is undetected if the
-/// script has no flip and `link` changes nothing, or is harmless after cuts: it makes no other frame of a frame or of the beginning of one.
-/// Whatever arrives, each drive's data are fit for its phase, each drive moves for its causes alone, and each fall has its cause.
+/// phase 4 is commanded, or the master is at a stop for its cause. While disturbed cycles are sparse the ring doesn't fall; and after
+/// others it falls at most once, and is back by the same bound and what the disturbed cycles since cost a start-up. No damage is
+/// undetected if the script has no flip and `link` changes nothing, or is harmless after cuts: it makes no other frame of a frame or of
+/// the beginning of one. Whatever arrives, each drive's data are fit for its phase, each drive moves for its causes alone, and each fall
+/// has its cause.
 ///
 /// If no damage is undetected in a run, what `run` wrote of it is clean: `check` finds no fault and no violation in it.
 ///
@@ -263,8 +264,8 @@ pub fn sercos<S: Source, K: Sink, L: BitLink>(
         → (result ≡ Status.Memory)
         ⊎ (AgreesThroughout address bytes own.capture × IsAnswer (place_answer None (length (cycles_in own.capture))) result (K.held sink.old) (K.held sink.new)) }
 
-    // Whatever is disturbed or undetected in that run: No is returned only with a first place that is in no cycle before the first disturbed
-    // one; or, if the capture breaks a rule, with the answer of `check`, and then some damage in the run was undetected.
+    // Whatever is disturbed or undetected in that run: No is returned only with a first place that is in no cycle before the first
+    // disturbed one; or, if the capture breaks a rule, with the answer of `check`, and then some damage in the run was undetected.
     ensures no_earlier { (address : ℕ) (bytes : List ℕ) (carry : Carry) (restarts : Restarts) (d : DocumentView) (own : IsOwnRun carry restarts address bytes d)
         → result ≡ Status.No → form_of words.now ≡ Some (Form.Replay address) → S.left source.old ≡ Some bytes →
         DiffersNoEarlier own (K.held sink.old) (K.held sink.new)
