@@ -42,7 +42,7 @@ fn write_text<K: Sink>(line: &Line, sink: &mut K) -> Result<(), WriteFailed>
     write_all(sink, line.as_slice())
 }
 
-// Writes the line that refuses `count` documents, and returns `Refused`, also if the write fails.
+// Writes the line that refuses an input of `count` documents, and returns `Refused`, also if the write fails.
 fn refuse_count<K: Sink>(count: u32, sink: &mut K) -> Status
     ensures { Writes Status.Refused (count_line count) (changed K.held K.faults K.room sink.old sink.new) result }
 {
@@ -56,8 +56,8 @@ fn refuse_count<K: Sink>(count: u32, sink: &mut K) -> Status
     ended(&write_text(&line, sink), Status::Refused)
 }
 
-// Writes the line that refuses the document with a number for its cycle time, in microseconds, and returns `Refused`, also if the write
-// fails.
+// Writes the line that refuses the document with the number `document` for its cycle time, in microseconds, and returns `Refused`, also
+// if the write fails.
 fn refuse_cycle<K: Sink>(document: u32, cycle: u16, sink: &mut K) -> Status
     ensures { Writes Status.Refused (cycle_line document cycle) (changed K.held K.faults K.room sink.old sink.new) result }
 {
@@ -68,7 +68,7 @@ fn refuse_cycle<K: Sink>(document: u32, cycle: u16, sink: &mut K) -> Status
     ended(&write_text(&line, sink), Status::Refused)
 }
 
-// Writes `document N `, where N is the number of a document that is refused.
+// Writes `document N `, the front of the line that refuses a document, where N is its number, `document`.
 fn write_document<K: Sink>(document: u32, sink: &mut K) -> Result<(), WriteFailed>
     ensures { plain.Writes (plain.seen K.held K.faults K.room sink.old) (plain.seen K.held K.faults K.room sink.new) result (line_text (codes "document D ") (number document ∷ [])) }
 {
@@ -77,7 +77,7 @@ fn write_document<K: Sink>(document: u32, sink: &mut K) -> Result<(), WriteFaile
     write_text(&line, sink)
 }
 
-// Writes the line that refuses the document with a number for the cause `bad`, and returns `Refused`, also if a write fails.
+// Writes the line that refuses the document with the number `document` for the cause `bad`, and returns `Refused`, also if a write fails.
 fn refuse_document<K: Sink>(document: u32, bad: &BadDocument, sink: &mut K) -> Status
     requires { bad.now ≢ BadDocument.Memory }
     ensures { Writes Status.Refused (document_line document bad.now) (changed K.held K.faults K.room sink.old sink.new) result }
@@ -96,8 +96,8 @@ fn cycle_of<L: BitLink>(part: &Part<L>) -> u16
     wishes.cycle
 }
 
-// Returns the number, the first ring having 1, and the cycle time, in microseconds, of the first ring after the first one whose cycle
-// time isn't `time`; `None` if there is none.
+// Returns the number, from 2 on, and the cycle time, in microseconds, of the first ring after the first one whose cycle time isn't
+// `time`; `None` if there is none.
 fn other_cycle<L: BitLink>(time: u16, parts: &[Part<L>]) -> Option<(u32, u16)>
     requires few { length parts.now ≤ 8 }
     ensures { result ≡ other_cycle time 2 (drop 1 (map (λ p. p.wishes.cycle) parts.now)) }
@@ -152,8 +152,8 @@ fn give_merged<L: BitLink, K: Sink>(parts: &mut Vec<Part<L>>, time: u16, sink: &
     ended(&write_merged(parts, time, sink), Status::Done)
 }
 
-// Runs the rings of documents, writes their merged text, and returns the status; or, if a cycle time isn't the common one, refuses the
-// first such document, and runs none.
+// Runs the rings of documents, writes their merged text, and returns the status; or, if `cycle_fault` finds one, refuses that document,
+// and runs no ring.
 fn run_all<L: BitLink, K: Sink>(parts: &mut Vec<Part<L>>, sink: &mut K) -> Status
     requires all { (documents : List DocumentView) × AllAt L.carry L.restart parts.old.items (voices_from 1 documents) × (0 < length documents) × (length documents ≤ 8) }
     ensures { (documents : List DocumentView) → AllAt L.carry L.restart parts.old.items (voices_from 1 documents) → 0 < length documents →

@@ -40,7 +40,7 @@ fn is_next(line: &[u8]) -> bool
     line == b"next".as_slice() || line == b"next\n".as_slice()
 }
 
-// Returns `count`, and one more if `next` is true.
+// Returns `count`, plus 1 if `next` is true.
 fn more_by(count: usize, next: bool) -> usize
     requires { count < 2 ^ 62 }
     ensures { result ≡ (if next then count + 1 else count) }
@@ -51,7 +51,7 @@ fn more_by(count: usize, next: bool) -> usize
     count
 }
 
-/// Returns the number of parts of an input of at most 1,048,576 bytes: one more than it has lines `next`.
+/// Returns the number of parts of an input of at most 1,048,576 bytes: one more than the number of its lines `next`.
 pub fn count_parts(text: &[u8]) -> usize
     requires { length text.now ≤ 1048576 }
     ensures value { result ≡ length (parts_of text.now) }

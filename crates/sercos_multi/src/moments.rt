@@ -50,8 +50,8 @@ fn both(a: bool, b: bool) -> bool
     a && b
 }
 
-// Makes the cycle of each ring that begins one at a moment, and writes its lines. Returns whether every ring began one, commanded phase 3
-// or 4. `time`, the common cycle time, and `moment` are in microseconds. `line` is room for each line that is made.
+// Makes the cycle of each ring that begins one at a moment, and writes its lines. Returns whether every ring began a cycle commanded
+// phase 3 or 4. `time`, the common cycle time, and `moment` are in microseconds. `line` is room for each line that is made.
 fn pass_all<L: BitLink, K: Sink>(
     parts: &mut Vec<Part<L>>,
     moment: u32,
@@ -72,8 +72,8 @@ fn pass_all<L: BitLink, K: Sink>(
     Ok(timed)
 }
 
-// Writes the line of a moment and the lines of the cycles that begin then. Returns whether every ring began one, commanded phase 3 or 4.
-// `time`, the common cycle time, and `moment` are in microseconds. `line` is room for each line that is made.
+// Writes the line of a moment and the lines of the cycles that begin then. Returns whether every ring began a cycle commanded phase 3 or
+// 4. `time`, the common cycle time, and `moment` are in microseconds. `line` is room for each line that is made.
 fn write_moment<L: BitLink, K: Sink>(
     parts: &mut Vec<Part<L>>,
     moment: u32,

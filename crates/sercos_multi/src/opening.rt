@@ -89,8 +89,8 @@ fn open_document(
     open_ring(alloc, number, &setup, jobs, script)
 }
 
-// Reads the document that a part of the input is, and opens its ring over its script. The error is the document's first refusal, with the
-// part's number, or `Memory`.
+// Reads a part of the input as a document, and opens its ring over its script. `number` is the part's number. The error is the document's
+// first refusal, with this number, or `Memory`.
 fn open_part(alloc: Global, number: u8, bytes: &[u8]) -> Result<Part<Scripted>, Unopened>
     requires { number < 10 }
     ensures { OpensPart ⟦<Scripted as BitLink>⟧.carry ⟦<Scripted as BitLink>⟧.restart number bytes.now result }
