@@ -64,8 +64,8 @@ pub fn many_reply(alloc: Global, count: u32) -> Result<Reply, AllocError>
     })
 }
 
-/// Returns the reply to requests of which one, at a place from 0 on, doesn't write operation data: `Refused`, with the line `refused 8
-/// request N`, where N is its number from 1 on. The error is `AllocError`.
+/// Returns the reply to requests of which one, at a place from 0 on, doesn't write operation data: `Refused`, and the line
+/// `refused 8 request N`, where N is its number from 1 on. The error is `AllocError`.
 pub fn other_reply(alloc: Global, place: usize) -> Result<Reply, AllocError>
     requires { place < 4096 }
     ensures status { IfOk result (λ reply. reply.status ≡ (other_answer place).status) }

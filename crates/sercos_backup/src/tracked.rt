@@ -122,7 +122,7 @@ pub fn is_well(absent: bool, outcome: Option<&Outcome>) -> bool
     }
 }
 
-/// Returns whether all requests ended well, each as [`is_well`] returns.
+/// Returns whether all requests ended well. If `absent` is true, a request that was refused because the drive has no such block did.
 pub fn all_well(absent: bool, list: &[Tracked]) -> bool
     ensures { result ≡ are_well absent list.now }
 {
