@@ -28,8 +28,8 @@ fn push_cycle(cycle: Option<u16>, out: &mut Vec<u8>) -> Result<(), AllocError>
     }
 }
 
-// Returns the greatest value, in microseconds, that the drive at a place of the ring can declare for the time `t` if a plan is to fit. A
-// plan fits the times as they are.
+// Returns the greatest value, in microseconds, that the drive at a place of the ring can declare for the time `t` so that a plan still
+// fits. A plan must fit the declared times.
 fn margin_at(wishes: &Wishes, place: usize, t: Time) -> u64
     requires valid { IsValid wishes.now }
     requires limits { AreLimited wishes.now }
