@@ -152,8 +152,8 @@ fn give_merged<L: BitLink, K: Sink>(parts: &mut Vec<Part<L>>, time: u16, sink: &
     ended(&write_merged(parts, time, sink), Status::Done)
 }
 
-// Runs the rings of documents, writes their merged text, and returns the status; or, if `cycle_fault` finds one, refuses that document,
-// and runs no ring.
+// Runs the rings of documents, writes their merged text, and returns `Done`, or `WriteFault` if a write failed; or, if `cycle_fault`
+// returns a document, refuses it, and returns `Refused`.
 fn run_all<L: BitLink, K: Sink>(parts: &mut Vec<Part<L>>, sink: &mut K) -> Status
     requires all { (documents : List DocumentView) × AllAt L.carry L.restart parts.old.items (voices_from 1 documents) × (0 < length documents) × (length documents ≤ 8) }
     ensures { (documents : List DocumentView) → AllAt L.carry L.restart parts.old.items (voices_from 1 documents) → 0 < length documents →
