@@ -24,7 +24,9 @@ use sercos_opened::kept_law;
 use sercos_script::{BitLink, Scripted};
 use std::alloc::{AllocError, Global};
 
-// The reply by the run that reads the blocks on these lists.
+// Returns the reply of the run of a ring that reads the operation data of the blocks on `lists`, each of which has the address of its
+// drive: the saved data of all, or the requests that failed. More than 4096 blocks aren't read: then the reply is `too many` with their
+// number. The error is `AllocError`.
 #[inline(never)]
 fn data_reply<L: BitLink>(
     alloc: Global,
@@ -47,7 +49,9 @@ fn data_reply<L: BitLink>(
     }
 }
 
-// The reply of a backup: of the run that reads the lists, and then of the one that reads the blocks on them, over the same link.
+// Returns the reply of a backup of a ring over a link. A first run reads the drives' lists of backup operation data; a drive without one
+// has an empty list. If another list can't be read, the reply has the requests that failed. Otherwise it is that of a second run over the
+// same link, which reads the blocks on the lists. The error is `AllocError`.
 fn backup_reply<L: BitLink>(alloc: Global, setup: &RingSetup, link: L) -> Result<Reply, AllocError>
     requires { is_ring setup.now ≡ true }
     ensures reply { (jobs : List Job) → IfOk result (λ reply. IsReply reply (ring_saved setup.now jobs (L.carry link) (L.restart link))) }
@@ -63,7 +67,8 @@ fn backup_reply<L: BitLink>(alloc: Global, setup: &RingSetup, link: L) -> Result
     data_reply(alloc, setup, lists.as_slice(), ring.into_link())
 }
 
-// Writes the backup of a document, over its script. Its requests are ignored.
+// Writes the backup of a document, over its script, and returns the status. The requests of the document are ignored. If memory runs out,
+// the status is `Memory`, and nothing is written.
 fn back_up<K: Sink>(alloc: Global, document: Document, sink: &mut K) -> Status
     requires ring { is_ring document.setup ≡ true }
     ensures { Replies (ring_saved document.setup document.jobs (script_carry document) (script_restarts document))
@@ -75,10 +80,11 @@ fn back_up<K: Sink>(alloc: Global, document: Document, sink: &mut K) -> Status
     give_if_made(&backup_reply(alloc, &setup, script), sink)
 }
 
-/// Answers a ring document by the saved data of the blocks on its drives' lists of backup operation data, by the requests that
-/// failed, or by its first refusal. It runs the ring twice, each time from its first cycle and over its script: to read the lists,
-/// and to read the blocks on them. The requests of the document are ignored. All memory is taken before anything is written. Its
-/// stack is apart from that of the other commands.
+/// Writes the answer to a ring document, and returns its status: the saved data of the blocks on its drives' lists of backup operation
+/// data, the requests that failed, or the document's first refusal. The ring is run over its script, from its first cycle, to read the
+/// lists, and once more in the same way to read the blocks on them. The requests of the document are ignored. All memory is taken before
+/// anything is written: if it runs out, the status is `Memory`, and the sink is as it was. The stack is apart from that of the other
+/// commands.
 #[inline(never)]
 pub fn answer_backup<K: Sink>(alloc: Global, bytes: &[u8], sink: &mut K) -> Status
     ensures { Replies (backup_answer bytes.now) (SavesItsRing bytes.now)

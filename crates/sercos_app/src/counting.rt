@@ -1,4 +1,4 @@
-// The totals of a run whose cycles are made and not written.
+// The totals of a run whose cycles are made but not written.
 ghost use Rattle.std.specs.Prelude.{◌≡◌, ◌<◌, ◌≤◌, ◌^◌, List, [], reverse};
 ghost use Rattle.sercos_timing.specs.Views.{WishesView};
 ghost use Rattle.sercos_trace.specs.Views.{CycleView};
@@ -12,7 +12,7 @@ use sercos_ring::{Ring, count_made, no_totals, standing_law};
 use sercos_script::BitLink;
 use sercos_trace::Totals;
 
-// Goes on by a cycle, and counts it.
+// Makes the next cycle of a ring, and adds it to the totals.
 fn count_next<L: BitLink>(ring: &mut Ring<L>, totals: &mut Totals)
     requires ring { (w : WishesView) × (j : List CycleView) × IsRingOf (RingStandsFor L.carry L.restart) ring.old w j }
     requires made { cycles_made ring.old < 2 ^ 31 }

@@ -20,7 +20,7 @@ use sercos_text::{Given, Line, push_line};
 use sercos_trace::Totals;
 use std::alloc::Global;
 
-// Appends to an empty line the number of drives, 1 to 64, that of cycles, and `phase4`, the name of the next value.
+// Appends to an empty line the number of drives, `n`, the number of cycles, and `phase4`, the name of the next value.
 fn push_head(n: u8, cycles: u32, line: &mut Line)
     requires { length line.old ≡ 0 }
     ensures value { line.new ≡ line.old ++ head_text n cycles }
@@ -30,7 +30,7 @@ fn push_head(n: u8, cycles: u32, line: &mut Line)
     push_line(b"gen D cycles D phase4 ", &values, line);
 }
 
-// Appends the first cycle commanded phase 4, or `none`.
+// Appends the number of the first cycle that was commanded phase 4, or `none` if there was none.
 #[tactic(auto, unfolding(crate::specs::Generating::first_text))]
 fn push_first(first: Option<u32>, line: &mut Line)
     requires { length line.old ≤ 50 }
@@ -43,7 +43,7 @@ fn push_first(first: Option<u32>, line: &mut Line)
     }
 }
 
-// Appends the counts.
+// Appends the counts of requests that were complete, refused and broken, of falls, and of undetected damages, each after its name.
 fn push_counts(totals: &Totals, line: &mut Line)
     requires { length line.old ≤ 70 }
     ensures value { line.new ≡ line.old ++ counts_text totals.now }
@@ -63,7 +63,7 @@ fn push_counts(totals: &Totals, line: &mut Line)
     );
 }
 
-// The summary line.
+// Returns the summary line of a run of `n` drives, with its line feed.
 #[tactic(auto, unfolding(crate::specs::Generating::gen_line))]
 fn summary(n: u8, totals: &Totals) -> Line
     ensures { result ≡ gen_line n totals.now }
@@ -76,7 +76,7 @@ fn summary(n: u8, totals: &Totals) -> Line
     line
 }
 
-// Writes the summary line, and returns the status.
+// Writes the summary line of a run of `n` drives. Returns `Done`, or `WriteFault` if the write failed.
 fn give_summary<K: Sink>(n: u8, totals: &Totals, sink: &mut K) -> Status
     ensures { Writes Status.Done (gen_line n totals.now) (changed K.held K.faults K.room sink.old sink.new) result }
 {
@@ -87,7 +87,8 @@ fn give_summary<K: Sink>(n: u8, totals: &Totals, sink: &mut K) -> Status
     }
 }
 
-// Writes the summary of the run of a setup over a link. All memory is taken before anything is written.
+// Runs a ring with these requests over a link, writes the summary line, and returns the status. `n` is the number of drives that is
+// written. All memory is taken before anything is written: if it runs out, the status is `Memory`.
 fn sum_over<L: BitLink, K: Sink>(
     alloc: Global,
     n: u8,
@@ -111,7 +112,8 @@ fn sum_over<L: BitLink, K: Sink>(
     }
 }
 
-// Writes the summary of the run of a document, under its script followed by the link handed in.
+// Runs the ring of a document under its script followed by the link handed in, writes the summary line, and returns the status. `n` is
+// the number of drives that is written. If memory runs out, the status is `Memory`, and nothing is written.
 fn sum_document<L: BitLink, K: Sink>(
     alloc: Global,
     n: u8,
@@ -134,9 +136,9 @@ fn sum_document<L: BitLink, K: Sink>(
     sum_over(alloc, n, &setup, jobs, Both::new(script, link), sink)
 }
 
-/// Answers `gen N`: runs the document that is generated for n drives, under its script followed by the link handed in, and writes
-/// one line, the summary of the run. There are 1 to 64 drives. All memory is taken before the line is written: if it runs out, the
-/// status is `Memory`, and the sink is as it was. If writing fails, the status is `WriteFault`.
+/// Answers `gen N`: runs the document that is generated for `n` drives, 1 to 64, under its script followed by the link handed in, writes
+/// one line, the summary of the run, and returns `Done`. All memory is taken before the line is written: if it runs out, the status is
+/// `Memory`, and the sink is as it was. If writing fails, the status is `WriteFault`.
 pub fn answer_gen<L: BitLink, K: Sink>(alloc: Global, n: u8, link: L, sink: &mut K) -> Status
     requires some { 1 ≤ n }
     requires few { n ≤ 64 }

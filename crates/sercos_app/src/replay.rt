@@ -1,13 +1,13 @@
-// What holds of the replay of an own trace.
+// What holds of the replay of a trace that `run` wrote of the same document.
 ghost use Rattle.sercos_app.specs.OwnRun.{OwnRunsHold};
 
 use sercos_law_run::run_law;
 use sercos_law_trace::clean_law;
 use sercos_replay::{asking_law, undisturbed_law};
 
-/// If an input has a document that may be opened with its requests, and what `run` writes of it over any link, the
-/// first place at which `replay` finds a difference is in no cycle before the first disturbed one, for the master and for each drive. If
-/// nothing is undetected in that run, `check` finds what is written clean. So if nothing is disturbed, the answer is the number of its
+/// If an input has a document that may be opened with its requests and, as its capture, what `run` writes of this document over any link,
+/// the first place at which `replay` finds a difference is in no cycle before the first disturbed one, for the master and for each drive.
+/// If nothing is undetected in that run, `check` finds what is written clean. So if nothing is disturbed, the answer is the number of its
 /// cycles.
 pub fn replay_law()
     ensures { OwnRunsHold }

@@ -1,4 +1,4 @@
-// `replay`: the document is read, and one end of its ring is replayed against the capture.
+// `replay`: the document is read, and one station of its ring is replayed against the capture.
 ghost use Rattle.std.specs.Prelude.{◌≡◌, ◌⊎◌, ◌≤◌, length, None, MatchResult};
 ghost use Rattle.sercos_io.specs.declared.status.Status.TheVariants.{Refused};
 ghost use Rattle.sercos_document.specs.Lines.{line_of};
@@ -12,7 +12,8 @@ use sercos_opened::kept_law;
 use sercos_replay::{capture_part, capture_place, document_part, replay_document, undivided_reply};
 use std::alloc::Global;
 
-// Replies to the two parts of an input.
+// Returns the reply of `replay` to the two parts of an input, for the station with an address; the master has the address 0. The error is
+// the document's first refusal, or `Memory`.
 #[tactic(auto, unfolding(sercos_replay::specs::Replaying::document_answer))]
 fn reply_parts(
     alloc: Global,
@@ -37,7 +38,7 @@ fn reply_parts(
     }
 }
 
-// Refuses an input without a capture.
+// Returns the reply that refuses an input without a line `capture`. The error is `Memory`.
 #[tactic(auto, unfolding(sercos_replay::specs::Replaying::parts_answer))]
 fn reply_undivided(alloc: Global, address: u8) -> Result<Reply, BadDocument>
     ensures { MatchResult result
@@ -50,12 +51,14 @@ fn reply_undivided(alloc: Global, address: u8) -> Result<Reply, BadDocument>
     }
 }
 
-/// Answers a ring document, a line that is exactly `capture`, and a capture: with `No` and the first place at which the station with an
-/// address deviated from its rules, given all that the capture has before that place; or with the number of cycles, if there is none.
-/// The master has the address 0. An input without such a line is refused, then a document, an address without a drive, a capture, and
-/// one that doesn't begin with cycle 0; a capture that breaks a rule is answered as `check` does. The error is the document's first
-/// refusal, or `Memory`. Unless it is `Memory`, the document of the input may be opened with its requests, if there is one that isn't
-/// refused.
+/// Returns the reply of `replay` to an input of at most 1,048,576 bytes: a ring document, a line that is exactly `capture`, and a
+/// capture. It is `No` and the first place at which the station with an address deviated from its rules, given all that the capture has
+/// before that place; or `Done` and the number of cycles, if there is none. The master has the address 0.
+///
+/// These are refused, in this order: an input without such a line, an invalid document, an address without a drive, an invalid capture,
+/// and a capture that doesn't begin with cycle 0. A capture that breaks a rule is answered as `check` does. The error is the document's
+/// first refusal, or `Memory`. Unless it is `Memory`, the document of the input may be opened with its requests, if there is one that
+/// isn't refused.
 #[tactic(auto, unfolding(sercos_replay::specs::Replaying::replay_answer, sercos_replay::specs::Replaying::parts_answer, sercos_replay::specs::Divided::divided))]
 pub fn replay(alloc: Global, address: u8, bytes: &[u8]) -> Result<Reply, BadDocument>
     requires few { length bytes.now ≤ 1048576 }

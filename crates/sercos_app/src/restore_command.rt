@@ -36,7 +36,7 @@ use sercos_service_drive::push_data;
 use sercos_step::Job;
 use std::alloc::{AllocError, Global};
 
-// The place of the drive with an address.
+// Returns the place in the ring, from 0 on, of the first drive with an address; `None` if there is none.
 fn place_of(setup: &RingSetup, address: u8) -> Option<usize>
     ensures value { result ≡ place_of setup.now address }
     ensures bound { IfSome result (λ place. place < length setup.now.drives) }
@@ -47,7 +47,7 @@ fn place_of(setup: &RingSetup, address: u8) -> Option<usize>
         .position(|drive| drive.address == address)
 }
 
-// Copies the operation data of a block of a store as it is in a cycle; nothing without the block.
+// Puts the operation data that a block of a store has in a cycle into `out`, which is empty. Without the block, `out` stays empty.
 fn put_shown(store: &Store, idn: Idn, cycle: u32, out: &mut Bytes)
     requires { out.old ≡ [] }
     ensures { out.new ≡ data_of cycle (find_block idn.raw store.now) }
@@ -59,7 +59,8 @@ fn put_shown(store: &Store, idn: Idn, cycle: u32, out: &mut Bytes)
     }
 }
 
-// The operation data that the drive with an address has in a block in the last cycle; no bytes, if it has no such block.
+// Returns the operation data that the drive with an address has in a block in the last cycle of the ring, whose setup is `setup`; no
+// bytes, if there is no such drive or block.
 fn last_data<L: BitLink>(ring: &Ring<L>, setup: &RingSetup, address: u8, idn: Idn) -> Bytes
     requires drives { drives_in ring.now ≡ length setup.now.drives }
     requires ring { is_ring setup.now ≡ true }
@@ -78,7 +79,8 @@ fn last_data<L: BitLink>(ring: &Ring<L>, setup: &RingSetup, address: u8, idn: Id
     shown
 }
 
-// Appends the line of a request.
+// Appends the line of a write: the operation data that the drive has in the last cycle of the ring, whose setup is `setup`, or how the
+// request failed. The error is `AllocError`.
 fn push_line<L: BitLink>(
     ring: &Ring<L>,
     setup: &RingSetup,
@@ -94,7 +96,7 @@ fn push_line<L: BitLink>(
     push_restored(request, shown.as_slice(), out)
 }
 
-// Appends the lines of requests.
+// Appends these lines of all requests, in order. The error is `AllocError`.
 fn push_lines<L: BitLink>(
     ring: &Ring<L>,
     setup: &RingSetup,
@@ -112,7 +114,7 @@ fn push_lines<L: BitLink>(
     Ok(())
 }
 
-// The status of a restore.
+// Returns `Done` if all requests were complete, otherwise `No`.
 fn restored_status(list: &[Tracked]) -> Status
     ensures { result ≡ (if are_well false list.now then Status.Done else Status.No) }
 {
@@ -123,7 +125,8 @@ fn restored_status(list: &[Tracked]) -> Status
     }
 }
 
-// The reply of the run of a ring with these requests, each of which writes operation data.
+// Returns the reply of the run of a ring over a link with requests that all write operation data: the line of each, and `Done` if all
+// were complete, otherwise `No`. The error is `AllocError`.
 fn restored_reply<L: BitLink>(
     alloc: Global,
     setup: &RingSetup,
@@ -144,7 +147,8 @@ fn restored_reply<L: BitLink>(
     })
 }
 
-// The reply of a restore.
+// Returns the reply of a restore of a ring over a link: the refusal of the first request that doesn't write operation data, otherwise the
+// reply of the run. The error is `AllocError`.
 fn restore_reply<L: BitLink>(
     alloc: Global,
     setup: &RingSetup,
@@ -162,7 +166,8 @@ fn restore_reply<L: BitLink>(
     }
 }
 
-// Writes the answer of a restore of a document, over its script.
+// Writes the answer of a restore of a document, over its script, and returns the status. If memory runs out, the status is `Memory`, and
+// nothing is written.
 fn restore_document<K: Sink>(alloc: Global, document: Document, sink: &mut K) -> Status
     requires ring { is_ring document.setup ≡ true }
     requires few { length document.jobs ≤ 4096 }
@@ -179,10 +184,10 @@ fn restore_document<K: Sink>(alloc: Global, document: Document, sink: &mut K) ->
     give_if_made(&restore_reply(alloc, &setup, jobs, script), sink)
 }
 
-/// Answers a ring document whose requests all write operation data: runs the ring with them, over its script, and writes a line
-/// for each: what the drive has in the end, or how the request failed. Any other document is refused:
-/// by its first refusal, or by the number of the first other request. All memory is taken before anything is written.
-/// Its stack is apart from that of the other commands.
+/// Writes the answer to a ring document whose requests all write operation data, and returns its status: runs the ring with them, over
+/// its script, and writes a line for each: what the drive has in the end, or how the request failed. Any other document is refused: by
+/// its first refusal, or by the number of the first request that doesn't. All memory is taken before anything is written: if it runs out,
+/// the status is `Memory`, and the sink is as it was. The stack is apart from that of the other commands.
 #[inline(never)]
 pub fn answer_restore<K: Sink>(alloc: Global, bytes: &[u8], sink: &mut K) -> Status
     ensures { Replies (restore_answer bytes.now) (RestoresItsRing bytes.now)

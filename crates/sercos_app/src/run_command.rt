@@ -23,7 +23,8 @@ use sercos_step::Job;
 use sercos_timing::Wishes;
 use std::alloc::Global;
 
-// Writes the trace of a ring's run.
+// Makes the first `cycles` cycles of a ring, and writes their trace. Returns `Done`, or `WriteFault` if a write failed. `w` is the
+// planner's input of the ring's setup.
 fn give_run<L: BitLink, K: Sink>(
     ring: &mut Ring<L>,
     w: &Wishes,
@@ -42,7 +43,8 @@ fn give_run<L: BitLink, K: Sink>(
     }
 }
 
-// Writes the trace of the run of a setup over a link. All memory is taken before anything is written.
+// Runs a ring with these requests over a link, writes the trace, and returns the status. All memory is taken before anything is written:
+// if it runs out, the status is `Memory`.
 fn run_over<L: BitLink, K: Sink>(
     alloc: Global,
     setup: &RingSetup,
@@ -62,7 +64,8 @@ fn run_over<L: BitLink, K: Sink>(
     }
 }
 
-// Writes the trace of the run of a document, under its script followed by the link handed in.
+// Runs the ring of a document under its script followed by the link handed in, writes the trace, and returns the status. If memory runs
+// out, the status is `Memory`, and nothing is written.
 fn run_document<L: BitLink, K: Sink>(
     alloc: Global,
     document: Document,
@@ -84,7 +87,9 @@ fn run_document<L: BitLink, K: Sink>(
     run_over(alloc, &setup, jobs, Both::new(script, link), sink)
 }
 
-/// Answers a ring document by the trace of its run, under its script followed by the link handed in, or by its first refusal.
+/// Writes the answer to a ring document, and returns its status: `Done` and the trace of its run, under its script followed by the link
+/// handed in, or `Refused` and its first refusal. If memory runs out, the status is `Memory`, and the sink is as it was. If writing the
+/// trace fails, it is `WriteFault`.
 pub fn answer_run<L: BitLink, K: Sink>(alloc: Global, bytes: &[u8], link: L, sink: &mut K) -> Status
     ensures { Replies (run_answer (L.carry link) (L.restart link) bytes.now) (RunsItsRing (L.carry link) (L.restart link) bytes.now)
         (changed K.held K.faults K.room sink.old sink.new) (sink.new ≡ sink.old) result }

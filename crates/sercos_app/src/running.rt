@@ -1,4 +1,4 @@
-// The trace of a ring's run, written as the run goes on.
+// The trace of a ring's run, written while the cycles are made.
 ghost use Rattle.std.specs.Prelude.{◌≡◌, ℕ, ◌≤◌, ◌<◌, ◌^◌, List, [], length, reverse, take, IfSome, IfOk, OnOk, OnErr, IsOk, is_ok};
 ghost use Rattle.std.specs.Io.KnownBytes.{Appends};
 ghost use Rattle.sercos_model.specs.Streams.{HasCause};
@@ -30,7 +30,7 @@ use sercos_trace::{
     CycleRecord, Totals, write_marked_cycle, write_marked_end, write_marked_header,
 };
 
-// Writes the head of a trace.
+// Writes the head of a trace. Each line is made in `line`, regardless of its contents.
 #[tactic(auto, using(sercos_trace::proofs::MarkedLemmas::unmarked))]
 fn write_head<K: Sink>(w: &Wishes, line: &mut Line, sink: &mut K) -> Result<(), WriteFailed>
     requires { All (λ place. place < length w.now.drives) w.now.order }
@@ -39,7 +39,7 @@ fn write_head<K: Sink>(w: &Wishes, line: &mut Line, sink: &mut K) -> Result<(), 
     write_marked_header(w, b"", line, sink)
 }
 
-// Writes the lines of a cycle.
+// Writes the lines of a cycle. Each is made in `line`, regardless of its contents. `w` is the planner's input of the ring.
 #[tactic(auto, using(sercos_trace::proofs::MarkedLemmas::unmarked))]
 fn write_made<K: Sink>(
     w: &Wishes,
@@ -54,7 +54,7 @@ fn write_made<K: Sink>(
     write_marked_cycle(w, made, b"", line, sink)
 }
 
-// Writes the last line of a trace.
+// Writes the last line of a trace, which has the totals. It is made in `line`, regardless of its contents.
 #[tactic(auto, using(sercos_trace::proofs::MarkedLemmas::unmarked))]
 fn write_totals<K: Sink>(totals: &Totals, line: &mut Line, sink: &mut K) -> Result<(), WriteFailed>
     ensures { Writes (seen K.held K.faults K.room sink.old) (seen K.held K.faults K.room sink.new) result (end_text totals.now) }
@@ -62,7 +62,8 @@ fn write_totals<K: Sink>(totals: &Totals, line: &mut Line, sink: &mut K) -> Resu
     write_marked_end(totals, b"", line, sink)
 }
 
-// Goes on by a cycle, counts it, and writes its lines.
+// Makes the next cycle of a ring, adds it to the totals, and writes its lines. `w` is the planner's input of the ring's setup. `line` is
+// room for each line that is made.
 fn write_next<L: BitLink, K: Sink>(
     ring: &mut Ring<L>,
     w: &Wishes,
@@ -84,7 +85,8 @@ fn write_next<L: BitLink, K: Sink>(
     write_made(w, made, line, sink)
 }
 
-// The ring's next cycles: writes their lines, and counts them.
+// Makes the first `cycles` cycles of a ring, writes the lines of each as it is made, and returns their totals. `w` is the planner's input
+// of the ring's setup. `line` is room for each line that is made.
 fn write_cycles<L: BitLink, K: Sink>(
     ring: &mut Ring<L>,
     w: &Wishes,
@@ -105,7 +107,8 @@ fn write_cycles<L: BitLink, K: Sink>(
     Ok(totals)
 }
 
-// Writes a whole run.
+// Makes the first `cycles` cycles of a ring, writes their whole trace, with its head and its last line, and returns their totals. `w` is
+// the planner's input of the ring's setup.
 fn write_whole<L: BitLink, K: Sink>(
     ring: &mut Ring<L>,
     w: &Wishes,
@@ -131,10 +134,9 @@ fn write_whole<L: BitLink, K: Sink>(
 /// Writes the trace of a ring's run: the head, the lines of each cycle as it is made, and the last line with the totals, which are
 /// returned. It takes no memory.
 ///
-/// The ring has made no cycle, and the planner's input is that of the setup with which it was opened; 1 to 50,000 cycles. After an
-/// error the sink has accepted a prefix of the text, short of the whole, and its count of faults has risen. In both cases the ring
-/// stands for the cycles that it has made. If the arguments of its opening keep their types' ranges, the run has the properties of
-/// `kept_law`.
+/// The ring has made no cycle, `w` is the planner's input of the setup with which it was opened, and `cycles` is 1 to 50,000. After an
+/// error the sink has accepted a prefix of the text, short of the whole, and its count of faults has risen. In both cases the ring stands
+/// for the cycles that it has made. If the arguments of its opening keep their types' ranges, the run has the properties of `kept_law`.
 pub fn write_run<L: BitLink, K: Sink>(
     ring: &mut Ring<L>,
     w: &Wishes,

@@ -36,7 +36,7 @@ use sercos_show::show::show;
 use sercos_words::{Form, form_of};
 use std::alloc::Global;
 
-// Answers an input by `show`.
+// Writes the answer of `show` to an input, and returns the status.
 fn answer_show<K: Sink>(alloc: Global, text: &[u8], sink: &mut K) -> Status
     ensures { Replies (show_answer text.now) (Unit {0})
         (changed K.held K.faults K.room sink.old sink.new) (sink.new ≡ sink.old) result }
@@ -44,7 +44,7 @@ fn answer_show<K: Sink>(alloc: Global, text: &[u8], sink: &mut K) -> Status
     give_if_made(&show(alloc, text), sink)
 }
 
-// Answers an input by `plan`.
+// Writes the answer of `plan` to an input, and returns the status.
 fn answer_plan<K: Sink>(alloc: Global, bytes: &[u8], sink: &mut K) -> Status
     ensures { Replies (plan_answer bytes.now) (PlansItsRing bytes.now)
         (changed K.held K.faults K.room sink.old sink.new) (sink.new ≡ sink.old) result }
@@ -52,7 +52,7 @@ fn answer_plan<K: Sink>(alloc: Global, bytes: &[u8], sink: &mut K) -> Status
     give_or_refuse(&plan(alloc, bytes), sink)
 }
 
-// Answers an input by `margin`.
+// Writes the answer of `margin` to an input, and returns the status.
 fn answer_margin<K: Sink>(alloc: Global, bytes: &[u8], sink: &mut K) -> Status
     ensures { Replies (margin_answer bytes.now) (MeasuresItsRing bytes.now)
         (changed K.held K.faults K.room sink.old sink.new) (sink.new ≡ sink.old) result }
@@ -60,7 +60,7 @@ fn answer_margin<K: Sink>(alloc: Global, bytes: &[u8], sink: &mut K) -> Status
     give_or_refuse(&margins(alloc, bytes), sink)
 }
 
-// Answers an input by `check`.
+// Writes the answer of `check` to an input of at most 1,048,576 bytes, and returns the status.
 fn answer_check<K: Sink>(text: &[u8], sink: &mut K) -> Status
     requires { length text.now ≤ 1048576 }
     ensures { Replies (check_answer text.now) (Unit {0})
@@ -69,7 +69,8 @@ fn answer_check<K: Sink>(text: &[u8], sink: &mut K) -> Status
     write_verdict(text, sink)
 }
 
-// Answers an input by `replay`. Its stack is apart from that of the other commands: the states of a drive and of the master are large.
+// Writes the answer of `replay` to an input of at most 1,048,576 bytes, for the station with an address, and returns the status. Its
+// stack is apart from that of the other commands: the states of a drive and of the master are large.
 #[inline(never)]
 fn answer_replay<K: Sink>(alloc: Global, address: u8, bytes: &[u8], sink: &mut K) -> Status
     requires few { length bytes.now ≤ 1048576 }
@@ -89,7 +90,8 @@ fn reads_input(form: Form) -> bool
     !matches!(form, Form::Gen(_))
 }
 
-// Answers an input by the command of a form.
+// Writes the answer of the command with this form to an input of at most 1,048,576 bytes, and returns the status. `gen` ignores the
+// input, and only `run` and `gen` use the link. If memory runs out, the status is `Memory`, and nothing is written.
 #[tactic(auto, unfolding(crate::specs::Answer::command_answer))]
 fn answer<K: Sink, L: BitLink>(
     alloc: Global,
@@ -116,7 +118,9 @@ fn answer<K: Sink, L: BitLink>(
     }
 }
 
-// Reads the input, and writes the reply to it.
+// Reads the words, and the input if their command has one, writes the answer, and returns the status. Words in no form are `BadWords`,
+// and nothing is read. If the input can't be read, is too long, or memory runs out, the status is `ReadFault`, `TooLong` or `Memory`. In
+// all these cases nothing is written.
 fn respond<S: Source, K: Sink, L: BitLink>(
     alloc: Global,
     words: &Words,
@@ -166,10 +170,11 @@ fn respond<S: Source, K: Sink, L: BitLink>(
 ///
 /// Of each run that `run` traces and `gen` sums, up to the first undetected damage, regardless of losses and restarts: if no cycle after a
 /// fall is disturbed, the ring starts up again; and from twice the bound of a start-up and 200 cycles after the last disturbed one on,
-/// phase 4 is commanded, or the master is at a stop for its cause. While disturbed cycles are sparse the ring doesn't fall; and after others
-/// it falls at most once, and is back by the same bound and what the disturbed cycles since cost a start-up. No damage is undetected if the
-/// script has no flip and `link` changes nothing, or is harmless after cuts: it makes no other frame of a frame or of the beginning of one.
-/// Whatever arrives, each drive's data are fit for its phase, each drive moves for its causes alone, and each fall has its cause.
+/// phase 4 is commanded, or the master is at a stop for its cause. While disturbed cycles are sparse the ring doesn't fall; and after
+/// others it falls at most once, and is back by the same bound and what the disturbed cycles since cost a start-up. No damage is
+/// undetected if the script has no flip and `link` changes nothing, or is harmless after cuts: it makes no other frame of a frame or of
+/// the beginning of one. Whatever arrives, each drive's data are fit for its phase, each drive moves for its causes alone, and each fall
+/// has its cause.
 ///
 /// If no damage is undetected in a run, what `run` wrote of it is clean: `check` finds no fault and no violation in it.
 ///
@@ -259,8 +264,8 @@ pub fn sercos<S: Source, K: Sink, L: BitLink>(
         → (result ≡ Status.Memory)
         ⊎ (AgreesThroughout address bytes own.capture × IsAnswer (place_answer None (length (cycles_in own.capture))) result (K.held sink.old) (K.held sink.new)) }
 
-    // Whatever is disturbed or undetected in that run: No is returned only with a first place that is in no cycle before the first disturbed
-    // one; or, if the capture breaks a rule, with the answer of `check`, and then some damage in the run was undetected.
+    // Whatever is disturbed or undetected in that run: No is returned only with a first place that is in no cycle before the first
+    // disturbed one; or, if the capture breaks a rule, with the answer of `check`, and then some damage in the run was undetected.
     ensures no_earlier { (address : ℕ) (bytes : List ℕ) (carry : Carry) (restarts : Restarts) (d : DocumentView) (own : IsOwnRun carry restarts address bytes d)
         → result ≡ Status.No → form_of words.now ≡ Some (Form.Replay address) → S.left source.old ≡ Some bytes →
         DiffersNoEarlier own (K.held sink.old) (K.held sink.new)

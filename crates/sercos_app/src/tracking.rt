@@ -1,4 +1,4 @@
-// The run of a ring, with the reports on its requests.
+// The run of a ring, with the reported outcomes of its requests.
 ghost use Rattle.std.specs.Prelude.{◌≡◌, ℕ, ◌<◌, ◌≤◌, ◌^◌, ◌++◌, true, List, [], length, IfOk};
 ghost use Rattle.std.specs.List.{All};
 ghost use Rattle.sercos_step.specs.declared.request.Job.{Job};
@@ -31,7 +31,7 @@ pub struct Run<L: BitLink> {
     pub ring: Ring<L>,
 }
 
-// Makes the next cycle, and notes the outcomes that are reported in it.
+// Makes the next cycle of a ring, and notes the outcomes that are reported in it as those of the requests, `list`.
 fn note_next<L: BitLink>(ring: &mut Ring<L>, list: &mut [Tracked])
     requires made { cycles_made ring.old < 2 ^ 31 }
     ensures after { AfterCycle L.carry L.restart ring.old ring.new }
@@ -41,7 +41,7 @@ fn note_next<L: BitLink>(ring: &mut Ring<L>, list: &mut [Tracked])
     note(made.events.outcomes.as_slice(), list);
 }
 
-// Makes a number of cycles of a ring that has made none, and notes all outcomes that are reported.
+// Makes the first `cycles` cycles, at most 50,000, of a ring, and notes all outcomes that are reported as those of the requests, `list`.
 fn note_cycles<L: BitLink>(ring: &mut Ring<L>, cycles: u32, list: &mut [Tracked])
     requires made { cycles_made ring.old ≡ 0 }
     requires few { cycles ≤ 50000 }
@@ -55,8 +55,8 @@ fn note_cycles<L: BitLink>(ring: &mut Ring<L>, cycles: u32, list: &mut [Tracked]
     }
 }
 
-/// Runs a ring of a valid setup over a link, for its number of cycles, with at most 4,096 requests. All memory is taken before the
-/// first cycle. The error is `AllocError`.
+/// Runs a ring of a valid setup over a link, for its number of cycles, with at most 4,096 requests. Returns the ring, and its requests
+/// with their outcomes. All memory is taken before the first cycle. The error is `AllocError`.
 #[inline(never)]
 pub fn run_tracked<L: BitLink>(
     alloc: Global,

@@ -15,7 +15,7 @@ use thiserror::Error;
 // S-0-0192, the list of backup operation data (IEC 61491:1995).
 const LIST_NUMBER: u16 = 192;
 
-/// The most requests of a run.
+// The most requests of a run.
 const MOST_JOBS: u32 = 4096;
 
 /// Why the blocks on some lists can't be read in one run.
@@ -29,7 +29,7 @@ pub enum DataJobs {
     Memory,
 }
 
-// The read of the operation data of a block.
+// Returns the request that reads the operation data of the block with the identifier number `raw` from the drive with an address.
 fn reads_data(address: u8, raw: u16) -> Job
     ensures value { result ≡ reads_data address raw }
     ensures typed { IsTypedRequest result.request }
@@ -57,7 +57,7 @@ pub fn list_jobs(alloc: Global, setup: &RingSetup) -> Result<Vec<Job>, AllocErro
     Ok(jobs)
 }
 
-// Returns how many blocks are on a list.
+// Returns how many blocks are on a list: one for each whole pair of bytes.
 #[tactic(auto, using(crate::proofs::ListLemmas::numbers_count))]
 fn count_on(bytes: &[u8]) -> usize
     ensures value { result ≡ length (numbers_in bytes.now) }
@@ -66,7 +66,7 @@ fn count_on(bytes: &[u8]) -> usize
     bytes.len() / 2
 }
 
-// Returns how many blocks are on some lists.
+// Returns how many blocks are on some lists, at most 64, in all.
 fn count_all(lists: &[(u8, Bytes)]) -> u32
     requires { length lists.now ≤ 64 }
     ensures { result ≡ length (data_jobs lists.now) }
@@ -78,7 +78,7 @@ fn count_all(lists: &[(u8, Bytes)]) -> u32
     count
 }
 
-// The number of the pair at a place.
+// Returns the identifier number of the pair of bytes at a place, the low byte first. Places count pairs from 0 on.
 fn number_at(bytes: &[u8], place: usize) -> u16
     requires { 2 * place + 1 < length bytes.now }
     ensures { result ≡ slice_index bytes.now (2 * place) + 256 * slice_index bytes.now (2 * place + 1) }
@@ -86,7 +86,8 @@ fn number_at(bytes: &[u8], place: usize) -> u16
     u16::from_le_bytes([bytes[2 * place], bytes[2 * place + 1]])
 }
 
-// Appends the reads of the blocks on a list.
+// Appends the requests that read the operation data of the blocks on a list of the drive with an address. `bytes` is the list, at most
+// 1024 bytes. The error is `AllocError`.
 fn push_listed(address: u8, bytes: &[u8], jobs: &mut Vec<Job>) -> Result<(), AllocError>
     requires { length bytes.now ≤ 1024 }
     ensures pushed { OnOk result (jobs.new.items ≡ jobs.old.items ++ map (reads_data address) (numbers_in bytes.now)) }
@@ -98,7 +99,8 @@ fn push_listed(address: u8, bytes: &[u8], jobs: &mut Vec<Job>) -> Result<(), All
     Ok(())
 }
 
-// The reads of the blocks on some lists.
+// Returns the requests that read the operation data of the blocks on some lists, in order. Each list has the address of its drive. The
+// error is `AllocError`.
 fn all_listed(alloc: Global, lists: &[(u8, Bytes)]) -> Result<Vec<Job>, AllocError>
     ensures value { IfOk result (λ jobs. jobs.items ≡ data_jobs lists.now) }
     ensures requests { IfOk result (λ jobs. All (λ job. IsRequest job.request) jobs.items) }
@@ -142,7 +144,7 @@ fn writes_data(request: &Request) -> bool
     }
 }
 
-/// Returns the place of the first request that writes no operation data, from 0 on; `None` if all do.
+/// Returns the place, from 0 on, of the first request that doesn't write operation data; `None` if all do.
 pub fn place_of_other(jobs: &[Job]) -> Option<usize>
     ensures value { result ≡ place_of_other jobs.now }
     ensures bound { IfSome result (λ place. place < length jobs.now) }

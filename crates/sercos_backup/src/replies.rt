@@ -1,4 +1,4 @@
-// What a backup and a restore answer.
+// The replies of a backup and of a restore.
 ghost use Rattle.std.specs.Prelude.{◌≡◌, ◌≤◌, ◌<◌, ◌+◌, length, IfOk};
 ghost use Rattle.sercos_backup.specs.Texts.{failed_answer, many_answer, other_answer, saved_answer, saved_lines};
 
@@ -9,8 +9,8 @@ use sercos_io::Status;
 use sercos_text::{Given, Line, push_line};
 use std::alloc::{AllocError, Global};
 
-/// Returns the reply of a run in which requests failed: `No`, with the line of each that did. Where `absent` is true, one that was
-/// refused since the drive has no such block didn't.
+/// Returns the reply of a run in which requests failed: `No`, with the line of each that did. If `absent` is true, a request that was
+/// refused because the drive has no such block didn't fail. The error is `AllocError`.
 pub fn failed_reply(alloc: Global, absent: bool, list: &[Tracked]) -> Result<Reply, AllocError>
     ensures status { IfOk result (λ reply. reply.status ≡ (failed_answer absent list.now).status) }
     ensures text { IfOk result (λ reply. reply.text.items ≡ (failed_answer absent list.now).output) }
@@ -23,7 +23,7 @@ pub fn failed_reply(alloc: Global, absent: bool, list: &[Tracked]) -> Result<Rep
     })
 }
 
-// The reply of a run in which all blocks were read: their saved data.
+// Returns the reply of a run in which all blocks were read: `Done`, with their saved data, in order. The error is `AllocError`.
 fn done_reply(alloc: Global, list: &[Tracked]) -> Result<Reply, AllocError>
     ensures status { IfOk result (λ reply. reply.status ≡ Status.Done) }
     ensures text { IfOk result (λ reply. reply.text.items ≡ saved_lines list.now) }
@@ -36,7 +36,8 @@ fn done_reply(alloc: Global, list: &[Tracked]) -> Result<Reply, AllocError>
     })
 }
 
-/// Returns the reply of the run that reads the blocks: the saved data of all, or, if some couldn't be read, the line of each of them.
+/// Returns the reply of the run that reads the blocks: `Done`, with the saved data of all; or, if some couldn't be read, `No`, with the
+/// line of each of these. The error is `AllocError`.
 pub fn saved_reply(alloc: Global, list: &[Tracked]) -> Result<Reply, AllocError>
     ensures status { IfOk result (λ reply. reply.status ≡ (saved_answer list.now).status) }
     ensures text { IfOk result (λ reply. reply.text.items ≡ (saved_answer list.now).output) }
@@ -47,7 +48,8 @@ pub fn saved_reply(alloc: Global, list: &[Tracked]) -> Result<Reply, AllocError>
     failed_reply(alloc, false, list)
 }
 
-/// Returns the reply to lists with too many blocks: `No`, with the line `too many N`.
+/// Returns the reply to lists with too many blocks: `No`, with the line `too many N`, where N is `count`, the number of blocks. The error
+/// is `AllocError`.
 pub fn many_reply(alloc: Global, count: u32) -> Result<Reply, AllocError>
     ensures status { IfOk result (λ reply. reply.status ≡ (many_answer count).status) }
     ensures text { IfOk result (λ reply. reply.text.items ≡ (many_answer count).output) }
@@ -62,8 +64,8 @@ pub fn many_reply(alloc: Global, count: u32) -> Result<Reply, AllocError>
     })
 }
 
-/// Returns the reply to requests of which one, at a place from 0 on, writes no operation data: `Refused`, with the line
-/// `refused 8 request N`, where N is its number from 1 on.
+/// Returns the reply to requests of which one, at a place from 0 on, doesn't write operation data: `Refused`, and the line
+/// `refused 8 request N`, where N is its number from 1 on. The error is `AllocError`.
 pub fn other_reply(alloc: Global, place: usize) -> Result<Reply, AllocError>
     requires { place < 4096 }
     ensures status { IfOk result (λ reply. reply.status ≡ (other_answer place).status) }

@@ -8,7 +8,8 @@ use sercos_idn::Idn;
 use sercos_io::{Sink, WriteFailed, write_all};
 use sercos_text::{Given, Line, push_line};
 
-/// Replaces a line by the five lines of a block's saved data, at most 1024 bytes.
+/// Replaces a line by the saved data of a block of the drive with an address, at most 1024 bytes: the five lines of a ring document that
+/// request these bytes to be written. For no bytes the last line is `data = ""`.
 #[tactic(auto, unfolding(crate::specs::Texts::saved_text))]
 pub(crate) fn put_saved(address: u8, idn: Idn, bytes: &[u8], line: &mut Line)
     requires { length bytes.now ≤ 1024 }

@@ -1,4 +1,4 @@
-// The lines of requests.
+// The lines about requests. Each error is `AllocError`.
 ghost use Rattle.std.specs.Prelude.{◌≡◌, ◌≤◌, ◌/◌, ◌%◌, ◌∷◌, [], ◌++◌, length, OnOk};
 ghost use Rattle.std.specs.Option.{option_copied};
 ghost use Rattle.sercos_text.specs.Templates.{line_text};
@@ -13,7 +13,7 @@ use sercos_step::Outcome;
 use sercos_text::{Given, Line, push_line};
 use std::alloc::AllocError;
 
-// Makes the line of a request that failed with a code.
+// Replaces a line by that of a template, at most 100 bytes, whose two fields are the address of a drive and an identifier number.
 fn put_plain(address: u8, idn: Idn, template: &[u8], line: &mut Line)
     requires { length template.now ≤ 100 }
     ensures { line.new ≡ line_text template.now (number address ∷ ident idn.raw ∷ []) }
@@ -23,14 +23,14 @@ fn put_plain(address: u8, idn: Idn, template: &[u8], line: &mut Line)
     push_line(template, &values, line);
 }
 
-// The two bytes of a code, the high byte first, as its hexadecimal text has them.
+// Returns the two bytes of a code, the high byte first: the order of its hexadecimal digits.
 fn big_endian(code: Code) -> [u8; 2]
     ensures { result ≡ (code.raw / 256) ∷ (code.raw % 256) ∷ [] }
 {
     code.raw.to_be_bytes()
 }
 
-// Puts the line of a request that was refused with a code.
+// Replaces a line by the line of a request that was refused with a code. The request is for a block of the drive with an address.
 #[tactic(auto, unfolding(crate::specs::Texts::failed_text))]
 fn put_refused(address: u8, idn: Idn, code: Code, line: &mut Line)
     ensures { line.new ≡ refused_text address idn.raw code.raw }
@@ -45,7 +45,8 @@ fn put_refused(address: u8, idn: Idn, code: Code, line: &mut Line)
     push_line(b"failed D I refused 0xC\n", &values, line);
 }
 
-// Puts the line of a request that failed; none, if it was complete.
+// Replaces a line by the line of a request that failed, for a block of the drive with an address: `refused` with the code, `broken`, or
+// `open` without an outcome. The line is empty if the request was complete.
 #[tactic(auto, unfolding(crate::specs::Texts::failed_text))]
 fn put_failed(address: u8, idn: Idn, outcome: Option<&Outcome>, line: &mut Line)
     ensures { line.new ≡ failed_text address idn.raw (option_copied outcome.entry) }
@@ -58,7 +59,8 @@ fn put_failed(address: u8, idn: Idn, outcome: Option<&Outcome>, line: &mut Line)
     }
 }
 
-// Puts the line of a write that was complete, with the operation data that the drive has.
+// Replaces a line by the line of a complete write, with the operation data that the drive has in the block: `content`, at most 1024
+// bytes, or `-` for none.
 fn put_restored(address: u8, idn: Idn, content: &[u8], line: &mut Line)
     requires { length content.now ≤ 1024 }
     ensures { line.new ≡ restored_text address idn.raw content.now }
@@ -72,7 +74,7 @@ fn put_restored(address: u8, idn: Idn, content: &[u8], line: &mut Line)
     push_line(b"restored D I H\n", &values, line);
 }
 
-// Appends the line of a request that failed.
+// Appends the line of a request that failed; nothing if it was complete.
 fn push_failed_text(request: &Tracked, out: &mut Vec<u8>) -> Result<(), AllocError>
     ensures { OnOk result (out.new.items ≡ out.old.items ++ failed_text request.now.drive request.now.idn.raw request.now.outcome) }
 {
@@ -86,8 +88,8 @@ fn push_failed_text(request: &Tracked, out: &mut Vec<u8>) -> Result<(), AllocErr
     out.extend_from_slice(line.as_slice())
 }
 
-// Appends the line of a request, if it failed; where `absent` is true, one that was refused since the drive has no such block
-// hasn't.
+// Appends the line of a request, if it failed. If `absent` is true, a request that was refused because the drive has no such block didn't
+// fail.
 fn push_failed(absent: bool, request: &Tracked, out: &mut Vec<u8>) -> Result<(), AllocError>
     ensures { OnOk result (out.new.items ≡ out.old.items ++ failed_line absent request.now) }
 {
@@ -97,8 +99,8 @@ fn push_failed(absent: bool, request: &Tracked, out: &mut Vec<u8>) -> Result<(),
     push_failed_text(request, out)
 }
 
-/// Appends the lines of the requests that failed, in order: `failed A IDN refused CODE`, `failed A IDN broken`, or `failed A IDN open`
-/// of one without an outcome. Where `absent` is true, one that was refused since the drive has no such block hasn't failed.
+/// Appends the lines of the requests that failed, in order: `failed A IDN refused CODE`, `failed A IDN broken`, or, without an outcome,
+/// `failed A IDN open`. If `absent` is true, a request that was refused because the drive has no such block didn't fail.
 pub(crate) fn push_all_failed(
     absent: bool,
     list: &[Tracked],
@@ -112,7 +114,7 @@ pub(crate) fn push_all_failed(
     Ok(())
 }
 
-// Appends the saved data of a block.
+// Appends the saved data of the block that a request read, with no bytes if the request wasn't complete.
 fn push_saved(request: &Tracked, out: &mut Vec<u8>) -> Result<(), AllocError>
     ensures { OnOk result (out.new.items ≡ out.old.items ++ saved_line request.now) }
 {
@@ -126,7 +128,7 @@ fn push_saved(request: &Tracked, out: &mut Vec<u8>) -> Result<(), AllocError>
     out.extend_from_slice(line.as_slice())
 }
 
-/// Appends the saved data of blocks, in order.
+/// Appends the saved data of the blocks that the requests read, in order.
 pub(crate) fn push_all_saved(list: &[Tracked], out: &mut Vec<u8>) -> Result<(), AllocError>
     ensures { OnOk result (out.new.items ≡ out.old.items ++ saved_lines list.now) }
 {
@@ -136,7 +138,7 @@ pub(crate) fn push_all_saved(list: &[Tracked], out: &mut Vec<u8>) -> Result<(), 
     Ok(())
 }
 
-// Appends the line of a write that was complete.
+// Appends the line of a complete write, with the operation data that the drive has in the block, `content`, at most 1024 bytes.
 fn push_complete(request: &Tracked, content: &[u8], out: &mut Vec<u8>) -> Result<(), AllocError>
     requires { length content.now ≤ 1024 }
     ensures { OnOk result (out.new.items ≡ out.old.items ++ restored_text request.now.drive request.now.idn.raw content.now) }
@@ -146,8 +148,8 @@ fn push_complete(request: &Tracked, content: &[u8], out: &mut Vec<u8>) -> Result
     out.extend_from_slice(line.as_slice())
 }
 
-/// Appends the line of a write of a restore: `restored A IDN HEX` if it was complete, with the operation data that the drive has in
-/// the end, at most 1024 bytes, `-` for none; otherwise a line with the way it failed, as a backup does.
+/// Appends the line of a write of a restore. If the write was complete, that is `restored A IDN HEX` with `content`, the operation data
+/// that the drive has in the end, at most 1024 bytes, `-` for none. Otherwise it is the line of a request that failed, as in a backup.
 pub fn push_restored(request: &Tracked, content: &[u8], out: &mut Vec<u8>) -> Result<(), AllocError>
     requires { length content.now ≤ 1024 }
     ensures { OnOk result (out.new.items ≡ out.old.items ++ restored_by content.now request.now) }

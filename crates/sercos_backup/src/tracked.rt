@@ -21,7 +21,7 @@ pub struct Tracked {
     pub outcome: Option<Outcome>,
 }
 
-// The identifier number that a request names.
+// Returns the identifier number of the block that a request names.
 fn idn_in(request: &Request) -> Idn
     ensures { result ≡ idn_in request.now }
 {
@@ -32,7 +32,7 @@ fn idn_in(request: &Request) -> Idn
     }
 }
 
-// A request without an outcome.
+// Returns a request, with its drive and block, without an outcome.
 fn untold(job: &Job) -> Tracked
     ensures { result ≡ with_outcome None job.now }
 {
@@ -43,7 +43,7 @@ fn untold(job: &Job) -> Tracked
     }
 }
 
-/// Returns the requests of these jobs, in their order, without outcomes.
+/// Returns the requests of these jobs, in their order, without outcomes. The error is `AllocError`.
 #[tactic(auto, using(crate::proofs::TrackLemmas::none_told))]
 pub fn track(alloc: Global, jobs: &[Job]) -> Result<Vec<Tracked>, AllocError>
     ensures { IfOk result (λ list. list.items ≡ tracked [] jobs.now) }
@@ -55,7 +55,7 @@ pub fn track(alloc: Global, jobs: &[Job]) -> Result<Vec<Tracked>, AllocError>
     Ok(list)
 }
 
-// Another outcome of the same kind and bytes.
+// Returns a copy of an outcome.
 fn copied(outcome: &Outcome) -> Outcome
     ensures { result ≡ outcome.now }
 {
@@ -70,7 +70,7 @@ fn copied(outcome: &Outcome) -> Outcome
     }
 }
 
-// Keeps an outcome if there is none yet.
+// Puts a copy of an outcome into `slot`, if there is none yet.
 fn put(slot: &mut Option<Outcome>, outcome: &Outcome)
     ensures { slot.new ≡ option_or slot.old (Some outcome.now) }
 {
@@ -79,14 +79,14 @@ fn put(slot: &mut Option<Outcome>, outcome: &Outcome)
     }
 }
 
-// Notes the outcome of a request, if it has none.
+// Notes an outcome as that of a request, if it has none yet.
 fn note_in(request: &mut Tracked, outcome: &Outcome)
     ensures { request.new ≡ noted outcome.now request.old }
 {
     put(&mut request.outcome, outcome);
 }
 
-// Notes the outcome of the request with a number, from 1 on.
+// Notes an outcome as that of the request with a number, from 1 on, if it has none yet. A number without a request is ignored.
 fn note_one(number: u16, outcome: &Outcome, list: &mut [Tracked])
     ensures { (told : List (ℕ × Outcome)) (jobs : List Job) → list.old ≡ tracked told jobs → list.new ≡ tracked (told ++ (number, outcome.now) ∷ []) jobs }
 {
@@ -100,8 +100,8 @@ fn note_one(number: u16, outcome: &Outcome, list: &mut [Tracked])
     note_in(&mut list[place], outcome);
 }
 
-/// Notes outcomes, each with the number of its request, from 1 on. Of each request the first one counts; a number without a
-/// request is ignored. It takes no memory.
+/// Notes outcomes, each with the number of its request, from 1 on. Of each request the first outcome counts; a number without a request
+/// is ignored. It takes no memory.
 pub fn note(outcomes: &[(u16, Outcome)], list: &mut [Tracked])
     ensures { (told : List (ℕ × Outcome)) (jobs : List Job) → list.old ≡ tracked told jobs → list.new ≡ tracked (told ++ outcomes.now) jobs }
 {
@@ -110,7 +110,8 @@ pub fn note(outcomes: &[(u16, Outcome)], list: &mut [Tracked])
     }
 }
 
-/// Returns whether a request ended well: it was complete, or, where `absent` is true, refused since the drive has no such block.
+/// Returns whether a request with this outcome ended well: it was complete, or, if `absent` is true, it was refused because the drive has
+/// no such block.
 pub fn is_well(absent: bool, outcome: Option<&Outcome>) -> bool
     ensures { result ≡ is_well absent (option_copied outcome.entry) }
 {
@@ -121,7 +122,7 @@ pub fn is_well(absent: bool, outcome: Option<&Outcome>) -> bool
     }
 }
 
-/// Returns whether all requests ended well.
+/// Returns whether all requests ended well. If `absent` is true, a request that was refused because the drive has no such block did.
 pub fn all_well(absent: bool, list: &[Tracked]) -> bool
     ensures { result ≡ are_well absent list.now }
 {
@@ -129,7 +130,7 @@ pub fn all_well(absent: bool, list: &[Tracked]) -> bool
         .all(|request| is_well(absent, request.outcome.as_ref()))
 }
 
-// The bytes that a request gave; none if it wasn't complete.
+/// Returns the bytes of a complete outcome; no bytes of any other, or of `None`.
 pub(crate) fn bytes_in(outcome: Option<&Outcome>) -> &[u8]
     ensures value { result.now ≡ bytes_told (option_copied outcome.entry) }
     ensures bound { length result.now ≤ 1024 }
@@ -140,7 +141,7 @@ pub(crate) fn bytes_in(outcome: Option<&Outcome>) -> &[u8]
     }
 }
 
-// Returns a copy as a list of its own.
+// Returns a copy of the bytes of a complete outcome; no bytes of any other, or of `None`.
 fn bytes_told(outcome: Option<&Outcome>) -> Bytes
     ensures { result ≡ bytes_told (option_copied outcome.entry) }
 {
@@ -149,7 +150,8 @@ fn bytes_told(outcome: Option<&Outcome>) -> Bytes
     told
 }
 
-/// Returns what the requests gave, each with the address of its drive: no bytes of one that wasn't complete.
+/// Returns the bytes of each request's outcome, in order, each with the address of its drive; no bytes for a request that wasn't
+/// complete. The error is `AllocError`.
 pub fn lists_told(alloc: Global, list: &[Tracked]) -> Result<Vec<(u8, Bytes)>, AllocError>
     ensures { IfOk result (λ lists. lists.items ≡ lists_told list.now) }
 {

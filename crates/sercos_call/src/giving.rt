@@ -10,7 +10,7 @@ use sercos_config::{BadDocument, write_refusal};
 use sercos_io::{Sink, Status, write_all};
 use std::alloc::AllocError;
 
-/// Returns the status where writing a reply of this status fails.
+/// Returns the status of a call that fails to write a reply of this status: `Refused` for a refusal, otherwise `WriteFault`.
 #[tactic(auto, unfolding(crate::specs::TopCall::fault_status))]
 pub fn fault_status(status: Status) -> Status
     ensures { result ≡ fault_status status }
@@ -21,7 +21,7 @@ pub fn fault_status(status: Status) -> Status
     }
 }
 
-// Writes a reply, and answers its status, or that of a failed write.
+// Writes a reply, and returns its status. If the write fails, the status is that of [`fault_status`].
 fn give_reply<K: Sink>(reply: &Reply, sink: &mut K) -> Status
     ensures { Writes reply.now.status reply.now.text.items
         (changed K.held K.faults K.room sink.old sink.new) result }
@@ -32,7 +32,8 @@ fn give_reply<K: Sink>(reply: &Reply, sink: &mut K) -> Status
     }
 }
 
-/// Writes a reply, if memory was found for it.
+/// Writes a reply, and returns its status. If the write fails, the status is that of [`fault_status`]. If there was no memory to make the
+/// reply, the status is `Memory`, and nothing is written.
 pub fn give_if_made<K: Sink>(made: &Result<Reply, AllocError>, sink: &mut K) -> Status
     ensures { GivesReply made.now (changed K.held K.faults K.room sink.old sink.new) (sink.new ≡ sink.old) result }
 {
@@ -42,7 +43,7 @@ pub fn give_if_made<K: Sink>(made: &Result<Reply, AllocError>, sink: &mut K) -> 
     }
 }
 
-// Writes the refusal of a document.
+// Writes the refusal of a document, and returns `Refused`, also if the write fails.
 fn give_refusal<K: Sink>(bad: &BadDocument, sink: &mut K) -> Status
     requires { bad.now ≢ BadDocument.Memory }
     ensures { Writes Status.Refused (line_of bad.now)
@@ -54,7 +55,8 @@ fn give_refusal<K: Sink>(bad: &BadDocument, sink: &mut K) -> Status
     }
 }
 
-/// Writes the refusal of a document; if that is `Memory`, nothing is written.
+/// Writes the refusal of a document, and returns `Refused`, also if the write fails. If the cause is `Memory`, the status is `Memory`,
+/// and nothing is written.
 pub fn refuse<K: Sink>(bad: &BadDocument, sink: &mut K) -> Status
     ensures { ((bad.now ≡ BadDocument.Memory) × (result ≡ Status.Memory) × (sink.new ≡ sink.old))
         ⊎ ((bad.now ≢ BadDocument.Memory) × Writes Status.Refused (line_of bad.now) (changed K.held K.faults K.room sink.old sink.new) result) }
@@ -65,7 +67,8 @@ pub fn refuse<K: Sink>(bad: &BadDocument, sink: &mut K) -> Status
     give_refusal(bad, sink)
 }
 
-/// Writes a reply, or the refusal of the document that it was to be made of; if that is `Memory`, nothing is written.
+/// Writes a reply, and returns its status; or writes the refusal of the document, as [`refuse`] does, if it was refused instead. If
+/// writing the reply fails, the status is that of [`fault_status`].
 pub fn give_or_refuse<K: Sink>(made: &Result<Reply, BadDocument>, sink: &mut K) -> Status
     ensures { GivesOrRefuses made.now (changed K.held K.faults K.room sink.old sink.new) (sink.new ≡ sink.old) result }
 {

@@ -13,8 +13,8 @@ use sercos_answer::cut_line;
 use sercos_check::{Checker, shape_law, test_law};
 use sercos_trace::{Line, Reader};
 
-// Takes a line as a check of the shape alone does. Returns whether it can follow those before it. A telegram's line is taken as
-// the other line that is passed in, since a line is large and made slowly.
+// Returns whether a line can follow those that the checker `shape` has taken, which then takes it too. `shape` checks the shape alone: it
+// takes a telegram as the line `other`, which is `Line::Other`, since a line is large and slow to make.
 fn follows(shape: &mut Checker, line: &Line, other: &Line) -> bool
     requires lines { shape.old.lines < 2 ^ 31 }
     requires other { other.now ≡ Other }
@@ -29,7 +29,8 @@ fn follows(shape: &mut Checker, line: &Line, other: &Line) -> bool
     }
 }
 
-// Takes the text of the next line. Returns the column at which it is refused.
+// Gives the next line of a capture, `text`, to both checkers. Returns the column, from 1 on, at which the line is refused; `None` if it
+// isn't. `reader` is used to read the line, and `other` is `Line::Other`.
 fn take(
     shape: &mut Checker,
     rules: &mut Checker,
@@ -56,7 +57,7 @@ fn take(
     None
 }
 
-// The verdict after the last line.
+// Returns the verdict after the last line, if no line was refused. Both checkers have taken all lines.
 fn ended(shape: &Checker, rules: &Checker) -> Verdict
     ensures { (lines : List Line) → HasTaken shape.now rules.now lines → result ≡ verdict_after lines }
 {
@@ -70,8 +71,8 @@ fn ended(shape: &Checker, rules: &Checker) -> Verdict
     }
 }
 
-/// Returns the verdict on a capture. Two checkers go through it together, and no line is kept: a fault of grammar or shape is an answer at
-/// once, and a violation only once all lines were seen.
+/// Returns the verdict on a capture of at most 1,048,576 bytes. Two checkers take its lines together, and no line is kept: a fault of
+/// grammar or shape is returned at once, a violation only after all lines were read.
 pub fn verdict(text: &[u8]) -> Verdict
     requires { length text.now ≤ 1048576 }
     ensures { result ≡ verdict_of text.now }

@@ -34,8 +34,8 @@ pub enum Verdict {
     },
 }
 
-/// Returns the verdict that a checker's trouble is. The column is 1 because no single byte is at fault: the line has the form of a
-/// line but can't follow those before it, or it is missing because the head ends early.
+/// Returns a checker's trouble as a verdict. The column is 1 because no single byte is at fault: the line has the form of a line but
+/// can't follow those before it, or it is missing because the head ends early.
 #[tactic(auto, unfolding(crate::specs::Taken::verdict_on))]
 pub fn verdict_on(trouble: Trouble) -> Verdict
     ensures { result ≡ verdict_on trouble }
@@ -46,7 +46,7 @@ pub fn verdict_on(trouble: Trouble) -> Verdict
     }
 }
 
-/// Returns the status with which `check` ends.
+/// Returns the status with which `check` ends: `Refused` for a refused capture, `No` for a violation, and `Done` for a clean capture.
 #[tactic(auto, unfolding(crate::specs::Checking::verdict_status))]
 pub fn verdict_status(verdict: Verdict) -> Status
     ensures { result ≡ verdict_status verdict }
@@ -72,7 +72,7 @@ fn push_place(text: &str, number: u64, line: &mut VerdictLine)
     line.append_within(buffer.format(number).as_bytes());
 }
 
-// The name of a rule.
+// Returns the name of a rule, 1 to 9.
 #[tactic(auto, unfolding(crate::specs::Checking::rule_name))]
 fn rule_name(rule: u8) -> &'static str
     ensures value { result.now ≡ rule_name rule }
@@ -91,7 +91,7 @@ fn rule_name(rule: u8) -> &'static str
     }
 }
 
-// Appends the line that refuses a capture.
+// Appends to an empty line the line that refuses a capture, by the number of its line and a column, both counted from 1.
 fn push_refused(number: u32, column: usize, line: &mut VerdictLine)
     requires { length line.old ≡ 0 }
     ensures { line.new ≡ line.old ++ refused_text number column }
@@ -101,7 +101,7 @@ fn push_refused(number: u32, column: usize, line: &mut VerdictLine)
     line.push_within(b'\n');
 }
 
-// Appends the line that names a violation.
+// Appends to an empty line the line that reports a violation, by the number of its line, counted from 1, and the rule.
 #[tactic(auto, unfolding(crate::specs::Checking::violation_text))]
 fn push_violation(number: u32, rule: u8, line: &mut VerdictLine)
     requires { length line.old ≡ 0 }
@@ -114,7 +114,7 @@ fn push_violation(number: u32, rule: u8, line: &mut VerdictLine)
     line.push_within(b'\n');
 }
 
-// Appends the line of a clean capture.
+// Appends to an empty line the line of a clean capture, by its number of lines.
 #[tactic(auto, unfolding(crate::specs::Checking::clean_text))]
 fn push_clean(lines: u32, line: &mut VerdictLine)
     requires { length line.old ≡ 0 }
@@ -124,7 +124,7 @@ fn push_clean(lines: u32, line: &mut VerdictLine)
     line.push_within(b'\n');
 }
 
-/// Returns the line of a verdict.
+/// Returns the line of a verdict, with its line feed.
 #[tactic(auto, unfolding(crate::specs::Checking::verdict_text))]
 pub fn verdict_line(verdict: Verdict) -> VerdictLine
     ensures { result ≡ verdict_text verdict }

@@ -1,4 +1,4 @@
-// What is answered to several ring documents.
+// The answers to several ring documents.
 ghost use Rattle.std.specs.Prelude.{◌≡◌, ◌≢◌, ℕ, ◌≤◌, ◌<◌, ◌⊎◌, ◌&&◌, nat_le, codes, ◌∷◌, [], List, length, map, drop, true, OnOk, Option, Some, None};
 ghost use Rattle.sercos_text.specs.Templates.{line_text};
 ghost use Rattle.sercos_text.specs.Templates.Value.{number};
@@ -23,7 +23,8 @@ use sercos_script::BitLink;
 use sercos_text::{Given, Line, push_line};
 use std::alloc::Global;
 
-// The status of an answer after it was written.
+// Returns the status after writing an answer of a status: the same if the write succeeded; otherwise `Refused` for a refusal, and
+// `WriteFault` for any other.
 fn ended(written: &Result<(), WriteFailed>, status: Status) -> Status
     ensures { result ≡ ended_by written.now status }
 {
@@ -33,7 +34,7 @@ fn ended(written: &Result<(), WriteFailed>, status: Status) -> Status
     }
 }
 
-// Writes a text of a template with these numbers.
+// Writes the bytes of a line.
 #[tactic(auto, using(sercos_trace::proofs::WriteLemmas::writes_all))]
 fn write_text<K: Sink>(line: &Line, sink: &mut K) -> Result<(), WriteFailed>
     ensures { plain.Writes (plain.seen K.held K.faults K.room sink.old) (plain.seen K.held K.faults K.room sink.new) result line.now }
@@ -41,7 +42,7 @@ fn write_text<K: Sink>(line: &Line, sink: &mut K) -> Result<(), WriteFailed>
     write_all(sink, line.as_slice())
 }
 
-// Refuses a number of parts.
+// Writes the line that refuses an input of `count` documents, and returns `Refused`, also if the write fails.
 fn refuse_count<K: Sink>(count: u32, sink: &mut K) -> Status
     ensures { Writes Status.Refused (count_line count) (changed K.held K.faults K.room sink.old sink.new) result }
 {
@@ -55,7 +56,8 @@ fn refuse_count<K: Sink>(count: u32, sink: &mut K) -> Status
     ended(&write_text(&line, sink), Status::Refused)
 }
 
-// Refuses a cycle time, in microseconds, of a document.
+// Writes the line that refuses the document with the number `document` for its cycle time, in microseconds, and returns `Refused`, also
+// if the write fails.
 fn refuse_cycle<K: Sink>(document: u32, cycle: u16, sink: &mut K) -> Status
     ensures { Writes Status.Refused (cycle_line document cycle) (changed K.held K.faults K.room sink.old sink.new) result }
 {
@@ -66,7 +68,7 @@ fn refuse_cycle<K: Sink>(document: u32, cycle: u16, sink: &mut K) -> Status
     ended(&write_text(&line, sink), Status::Refused)
 }
 
-// Writes the number of a document that is refused.
+// Writes `document N `, the front of the line that refuses a document, where N is its number, `document`.
 fn write_document<K: Sink>(document: u32, sink: &mut K) -> Result<(), WriteFailed>
     ensures { plain.Writes (plain.seen K.held K.faults K.room sink.old) (plain.seen K.held K.faults K.room sink.new) result (line_text (codes "document D ") (number document ∷ [])) }
 {
@@ -75,7 +77,7 @@ fn write_document<K: Sink>(document: u32, sink: &mut K) -> Result<(), WriteFaile
     write_text(&line, sink)
 }
 
-// Refuses a document.
+// Writes the line that refuses the document with the number `document` for the cause `bad`, and returns `Refused`, also if a write fails.
 fn refuse_document<K: Sink>(document: u32, bad: &BadDocument, sink: &mut K) -> Status
     requires { bad.now ≢ BadDocument.Memory }
     ensures { Writes Status.Refused (document_line document bad.now) (changed K.held K.faults K.room sink.old sink.new) result }
@@ -86,7 +88,7 @@ fn refuse_document<K: Sink>(document: u32, bad: &BadDocument, sink: &mut K) -> S
     }
 }
 
-// The cycle time of a ring, in microseconds.
+// Returns the cycle time of a ring, in microseconds.
 fn cycle_of<L: BitLink>(part: &Part<L>) -> u16
     ensures { result ≡ part.now.wishes.cycle }
 {
@@ -94,7 +96,8 @@ fn cycle_of<L: BitLink>(part: &Part<L>) -> u16
     wishes.cycle
 }
 
-// The first ring after the first one whose cycle time isn't this: its number, and its cycle time.
+// Returns the number, from 2 on, and the cycle time, in microseconds, of the first ring after the first one whose cycle time isn't
+// `time`; `None` if there is none.
 fn other_cycle<L: BitLink>(time: u16, parts: &[Part<L>]) -> Option<(u32, u16)>
     requires few { length parts.now ≤ 8 }
     ensures { result ≡ other_cycle time 2 (drop 1 (map (λ p. p.wishes.cycle) parts.now)) }
@@ -108,14 +111,14 @@ fn other_cycle<L: BitLink>(time: u16, parts: &[Part<L>]) -> Option<(u32, u16)>
     None
 }
 
-// Returns whether a cycle time divides 1000 microseconds.
+// Returns whether a cycle time is 125, 250, 500 or 1000 microseconds. Of the cycle times that a ring can have, these divide 1000.
 fn is_common(cycle: u16) -> bool
     ensures { result ≡ is_common cycle }
 {
     cycle == 125 || cycle == 250 || cycle == 500 || cycle == 1000
 }
 
-// The cycle time of the first ring.
+// Returns the cycle time of the first ring, in microseconds.
 #[tactic(auto, unfolding(crate::specs::Asking::first_cycle))]
 fn first_cycle<L: BitLink>(parts: &[Part<L>]) -> u16
     requires some { 0 < length parts.now }
@@ -124,7 +127,8 @@ fn first_cycle<L: BitLink>(parts: &[Part<L>]) -> u16
     cycle_of(&parts[0])
 }
 
-// The first ring whose cycle time isn't the first one's, or the first one if its own doesn't divide 1000 microseconds.
+// Returns the number and the cycle time, in microseconds, of the first ring if its cycle time doesn't divide 1000, otherwise of the first
+// ring whose cycle time isn't the first one's; `None` if there is none.
 fn cycle_fault<L: BitLink>(parts: &[Part<L>]) -> Option<(u32, u16)>
     requires some { 0 < length parts.now }
     requires few { length parts.now ≤ 8 }
@@ -137,7 +141,7 @@ fn cycle_fault<L: BitLink>(parts: &[Part<L>]) -> Option<(u32, u16)>
     other_cycle(time, parts)
 }
 
-// Writes the merged text of rings.
+// Writes the merged text of rings with the common cycle time `time`, in microseconds. Returns `Done`, or `WriteFault` if a write failed.
 fn give_merged<L: BitLink, K: Sink>(parts: &mut Vec<Part<L>>, time: u16, sink: &mut K) -> Status
     requires all { (voices : List Voice) × AllAt L.carry L.restart parts.old.items voices × (0 < length voices) }
     requires some { 0 < time }
@@ -148,7 +152,8 @@ fn give_merged<L: BitLink, K: Sink>(parts: &mut Vec<Part<L>>, time: u16, sink: &
     ended(&write_merged(parts, time, sink), Status::Done)
 }
 
-// Runs the rings of documents, if they have one cycle time.
+// Runs the rings of documents, writes their merged text, and returns `Done`, or `WriteFault` if a write failed; or, if `cycle_fault`
+// returns a document, refuses it, and returns `Refused`.
 fn run_all<L: BitLink, K: Sink>(parts: &mut Vec<Part<L>>, sink: &mut K) -> Status
     requires all { (documents : List DocumentView) × AllAt L.carry L.restart parts.old.items (voices_from 1 documents) × (0 < length documents) × (length documents ≤ 8) }
     ensures { (documents : List DocumentView) → AllAt L.carry L.restart parts.old.items (voices_from 1 documents) → 0 < length documents →
@@ -163,7 +168,8 @@ fn run_all<L: BitLink, K: Sink>(parts: &mut Vec<Part<L>>, sink: &mut K) -> Statu
     }
 }
 
-// Refuses a document that wasn't opened; if that is `Memory`, nothing is written.
+// Refuses the document that wasn't opened, and returns `Refused`, also if a write fails. If the cause is `Memory`, the status is
+// `Memory`, and nothing is written.
 fn refuse_unopened<K: Sink>(why: &Unopened, sink: &mut K) -> Status
     requires { IsTold why.now }
     ensures { EndsUnopened why.now (changed K.held K.faults K.room sink.old sink.new) (sink.new ≡ sink.old) result }
@@ -174,8 +180,9 @@ fn refuse_unopened<K: Sink>(why: &Unopened, sink: &mut K) -> Status
     }
 }
 
-/// Answers an input of at most 1,048,576 bytes by the merged text of the rings of its 2 to 8 documents, or by its first refusal. All
-/// rings are opened before anything is written. A number of documents is refused without memory.
+/// Writes the answer to an input of at most 1,048,576 bytes, and returns its status: `Done` with the merged text of the rings of its 2 to
+/// 8 documents, or `Refused` with its first refusal. All rings are opened before anything is written: if memory runs out, the status is
+/// `Memory`, and the sink is as it was. Any other number of documents is refused without memory.
 pub fn answer_rings<K: Sink>(alloc: Global, bytes: &[u8], sink: &mut K) -> Status
     requires few { length bytes.now ≤ 1048576 }
     ensures answer { Replies (rings_answer bytes.now) (RunsItsRings bytes.now) (changed K.held K.faults K.room sink.old sink.new) (sink.new ≡ sink.old) result }

@@ -17,7 +17,7 @@ fn line_len(text: &[u8]) -> usize
     text.len() - rest.len()
 }
 
-// The first bytes of a text, and the others.
+// Returns the first `len` bytes of a text.
 fn front_of(text: &[u8], len: usize) -> &[u8]
     requires { len ≤ length text.now }
     ensures { result.now ≡ take len text.now }
@@ -25,6 +25,7 @@ fn front_of(text: &[u8], len: usize) -> &[u8]
     &text[..len]
 }
 
+// Returns the bytes of a text after the first `len`.
 fn rest_of(text: &[u8], len: usize) -> &[u8]
     requires { len ≤ length text.now }
     ensures { result.now ≡ drop len text.now }
@@ -32,14 +33,14 @@ fn rest_of(text: &[u8], len: usize) -> &[u8]
     &text[len..]
 }
 
-// Returns whether a line divides.
+// Returns whether a line divides documents: it is `next`, with its line feed or without.
 fn is_next(line: &[u8]) -> bool
     ensures { result ≡ is_next line.now }
 {
     line == b"next".as_slice() || line == b"next\n".as_slice()
 }
 
-// One more, after a line that divides.
+// Returns `count`, plus 1 if `next` is true.
 fn more_by(count: usize, next: bool) -> usize
     requires { count < 2 ^ 62 }
     ensures { result ≡ (if next then count + 1 else count) }
@@ -50,7 +51,7 @@ fn more_by(count: usize, next: bool) -> usize
     count
 }
 
-/// Returns the number of the parts of an input of at most 1,048,576 bytes.
+/// Returns the number of parts of an input of at most 1,048,576 bytes: one more than the number of its lines `next`.
 pub fn count_parts(text: &[u8]) -> usize
     requires { length text.now ≤ 1048576 }
     ensures value { result ≡ length (parts_of text.now) }
@@ -67,7 +68,7 @@ pub fn count_parts(text: &[u8]) -> usize
     count
 }
 
-/// Returns the first part of an input, what follows the line that ends it, and whether there is such a line.
+/// Returns the first part of an input, the bytes after the line `next` that ends it, and whether there is such a line.
 pub fn cut_part(text: &[u8]) -> (&[u8], &[u8], bool)
     ensures { parts_of text.now ≡ result.0.now ∷ parts_after result.2 result.1.now }
 {

@@ -1,4 +1,4 @@
-// Rings from moment to moment.
+// Several rings, from each moment at which one of them begins a cycle to the next. Moments are in microseconds.
 ghost use Rattle.std.specs.Prelude.{◌≡◌, ℕ, ◌+◌, ◌*◌, ◌<◌, ◌≤◌, ◌++◌, ◌∷◌, ◌==◌, ◌&&◌, ◌||◌, nat_lt, min, if◌then◌else◌, List, [], length, take, Option, Some, None, true, IfSome};
 ghost use Rattle.std.specs.List.{flat_map, sum_by};
 ghost use Rattle.sercos_text.specs.Templates.{line_text};
@@ -27,7 +27,8 @@ fn end_line<K: Sink>(line: &mut Line, sink: &mut K) -> Result<(), WriteFailed>
     write_all(sink, line.as_slice())
 }
 
-// Writes a line with one number.
+// Writes a line of a template, at most 64 bytes, with `value` for its field, and a line feed. It is made in `line`, regardless of its
+// contents.
 fn write_number<K: Sink>(
     template: &[u8],
     value: u32,
@@ -42,14 +43,15 @@ fn write_number<K: Sink>(
     end_line(line, sink)
 }
 
-// Returns whether both are so.
+// Returns whether both are true.
 fn both(a: bool, b: bool) -> bool
     ensures { result ≡ (a && b) }
 {
     a && b
 }
 
-// All rings pass a moment. Returns whether each began a cycle commanded phase 3 or 4.
+// Makes the cycle of each ring that begins one at a moment, and writes its lines. Returns whether every ring began a cycle commanded
+// phase 3 or 4. `time`, the common cycle time, and `moment` are in microseconds. `line` is room for each line that is made.
 fn pass_all<L: BitLink, K: Sink>(
     parts: &mut Vec<Part<L>>,
     moment: u32,
@@ -70,7 +72,8 @@ fn pass_all<L: BitLink, K: Sink>(
     Ok(timed)
 }
 
-// Writes the line of a moment and the lines of the cycles that begin then.
+// Writes the line of a moment and the lines of the cycles that begin then. Returns whether every ring began a cycle commanded phase 3 or
+// 4. `time`, the common cycle time, and `moment` are in microseconds. `line` is room for each line that is made.
 fn write_moment<L: BitLink, K: Sink>(
     parts: &mut Vec<Part<L>>,
     moment: u32,
@@ -115,7 +118,7 @@ fn earliest<L: BitLink>(parts: &[Part<L>], from: u32) -> Option<u32>
     best
 }
 
-// One, where every ring began such a cycle.
+// Returns 1 if `timed` is true, otherwise 0.
 #[tactic(auto, unfolding(crate::specs::Going::timed_count))]
 fn count_of(timed: bool) -> u32
     ensures value { result ≡ timed_count timed }
@@ -124,7 +127,8 @@ fn count_of(timed: bool) -> u32
     u32::from(timed)
 }
 
-// Writes the text from the first moment on, and the last line.
+// Writes the text after the heads: the lines of each moment, and the last line. `time` is the common cycle time, in microseconds. `line`
+// is room for each line that is made.
 fn write_moments<L: BitLink, K: Sink>(
     parts: &mut Vec<Part<L>>,
     time: u16,
@@ -149,7 +153,7 @@ fn write_moments<L: BitLink, K: Sink>(
     }
 }
 
-// Writes the head of a ring.
+// Writes the head of a ring, each line after the ring's mark. `line` is room for each line that is made.
 fn write_head<L: BitLink, K: Sink>(
     part: &Part<L>,
     line: &mut Line,
@@ -162,7 +166,7 @@ fn write_head<L: BitLink, K: Sink>(
     write_marked_header(&part.wishes, &part.mark, line, sink)
 }
 
-// Writes the heads of all rings.
+// Writes the heads of all rings, in their order. `line` is room for each line that is made.
 fn write_heads<L: BitLink, K: Sink>(
     parts: &[Part<L>],
     line: &mut Line,
@@ -177,10 +181,10 @@ fn write_heads<L: BitLink, K: Sink>(
     Ok(())
 }
 
-/// Runs rings that have made no cycle, by moments, and writes their merged text as they go: the heads, for each moment the lines of
-/// the cycles that begin then, and the number of moments at which every ring begins a cycle commanded phase 3 or 4. `time` is the
-/// common cycle time, in microseconds. No trace is held, and no memory is taken. After an error the sink has taken a prefix of the
-/// text, short of the whole, and its count of faults has risen.
+/// Runs rings that have made no cycle, by moments, and writes their merged text as they go: the heads, for each moment the lines of the
+/// cycles that begin then, and the number of moments at which every ring begins a cycle commanded phase 3 or 4. `time` is the common
+/// cycle time, in microseconds. No trace is held, and no memory is taken. After an error the sink has accepted a prefix of the text,
+/// short of the whole, and its count of faults has risen.
 pub fn write_merged<L: BitLink, K: Sink>(
     parts: &mut Vec<Part<L>>,
     time: u16,

@@ -22,7 +22,7 @@ use sercos_script::{BitLink, Scripted};
 use sercos_step::Job;
 use std::alloc::{AllocError, Global};
 
-/// Why the rings of documents aren't opened.
+/// Why the rings of documents weren't opened.
 #[derive(Drop)]
 pub enum Unopened {
     /// No memory was found.
@@ -31,7 +31,7 @@ pub enum Unopened {
     Refused(u8, BadDocument),
 }
 
-// The number of a ring and a space.
+// Returns the mark of a ring with a number below 10: the number and a space.
 #[tactic(auto, using(crate::proofs::OpenLemmas::mark_is))]
 fn mark_of(number: u8) -> [u8; 2]
     requires { number < 10 }
@@ -40,7 +40,8 @@ fn mark_of(number: u8) -> [u8; 2]
     [b'0' + number, b' ']
 }
 
-// Opens a ring over a link.
+// Opens a ring with these requests over a link, before its first cycle. `number` is its number in the merged text. The error is
+// `AllocError`.
 fn open_ring<L: BitLink>(
     alloc: Global,
     number: u8,
@@ -67,7 +68,7 @@ fn open_ring<L: BitLink>(
     })
 }
 
-// Opens the ring of a document over its script.
+// Opens the ring of a document over its script. `number` is its number in the merged text. The error is `AllocError`.
 fn open_document(
     alloc: Global,
     number: u8,
@@ -88,7 +89,8 @@ fn open_document(
     open_ring(alloc, number, &setup, jobs, script)
 }
 
-// Opens the ring of a part's contents.
+// Reads a part of the input as a document, and opens its ring over its script. `number` is the part's number. The error is the document's
+// first refusal, with this number, or `Memory`.
 fn open_part(alloc: Global, number: u8, bytes: &[u8]) -> Result<Part<Scripted>, Unopened>
     requires { number < 10 }
     ensures { OpensPart ⟦<Scripted as BitLink>⟧.carry ⟦<Scripted as BitLink>⟧.restart number bytes.now result }
@@ -108,7 +110,7 @@ fn open_part(alloc: Global, number: u8, bytes: &[u8]) -> Result<Part<Scripted>, 
     }
 }
 
-// Appends a ring.
+// Appends a ring. The error is `Memory`.
 fn push<L: BitLink>(parts: &mut Vec<Part<L>>, part: Part<L>) -> Result<(), Unopened>
     ensures ok { OnOk result (parts.new.items ≡ parts.old.items ++ part ∷ []) }
     ensures err { IfErr result (λ why. why ≡ Unopened.Memory) }
@@ -119,8 +121,8 @@ fn push<L: BitLink>(parts: &mut Vec<Part<L>>, part: Part<L>) -> Result<(), Unope
     }
 }
 
-/// Opens the rings of all parts of an input, of which there are at most 8, in their order. The error is the first refusal, with the
-/// number of the part, or `Memory`.
+/// Opens the rings of all parts of an input, in their order. `count` is the number of parts, at most 8. The error is the first refusal,
+/// with the number of the part, from 1 on, or `Memory`.
 pub fn open_all(alloc: Global, bytes: &[u8], count: u8) -> Result<Vec<Part<Scripted>>, Unopened>
     requires count { count ≡ length (parts_of bytes.now) }
     requires few { count ≤ 8 }

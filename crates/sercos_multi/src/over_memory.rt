@@ -11,8 +11,8 @@ use std::alloc::Global;
 
 /// The top call of several rings over a source that never fails and a sink in memory. If the words are `run`, the input has at most
 /// 1,048,576 bytes, and the sink fails no call, has room for the whole output, and counts fewer than 2^64 - 1 faults, nothing outside can
-/// fail: the answer is written whole, or `Memory` is returned and nothing is written. The program doesn't call it: it says of `rings`
-/// what holds where nothing outside fails.
+/// fail: the answer is written whole, or `Memory` is returned and nothing is written. The program doesn't call it: it states what holds
+/// of `rings` if nothing outside fails.
 pub fn rings_in_memory(
     alloc: Global,
     words: &Words,

@@ -1,4 +1,4 @@
-// A ring on its way through the moments.
+// A ring in progress among several.
 ghost use Rattle.std.specs.Prelude.{◌≡◌, ℕ, ◌+◌, ◌-◌, ◌*◌, ◌<◌, ◌≤◌, ◌^◌, ◌==◌, nat_le, if◌then◌else◌, List, [], length, true, IfOk, IfSome};
 ghost use Rattle.sercos_trace.specs.Views.{CycleView};
 ghost use Rattle.sercos_trace.specs.Texts.{cycle_text, end_text};
@@ -19,19 +19,25 @@ use sercos_text::Line;
 use sercos_timing::Wishes;
 use sercos_trace::{CycleRecord, Totals, write_marked_cycle, write_marked_end};
 
-/// A ring on its way: the cycles that it has made and their totals, how many are left, when the next one begins, in microseconds, and
-/// the mark before each of its lines.
+/// A ring in progress among several.
 #[derive(Drop)]
 pub struct Part<L: BitLink> {
+    /// The ring, with the cycles that it has made.
     pub ring: Ring<L>,
+    /// The planner's input of its setup.
     pub wishes: Wishes,
+    /// The totals of the cycles that it has made.
     pub totals: Totals,
+    /// How many cycles are left.
     pub left: u32,
+    /// When its next cycle begins, in microseconds.
     pub at: u32,
+    /// The mark before each of its lines: its number and a space.
     pub mark: [u8; 2],
 }
 
-// How long a cycle takes, in microseconds.
+// Returns how long a cycle takes, in microseconds, if `phase` is commanded in it: 1000 in phases 0, 1 and 2, otherwise the common cycle
+// time, `time`.
 fn span(time: u16, phase: u8) -> u32
     ensures value { result ≡ span time phase }
     ensures bound { time ≤ 1000 → result ≤ 1000 }
@@ -42,7 +48,8 @@ fn span(time: u16, phase: u8) -> u32
     u32::from(time)
 }
 
-// Writes the lines of a cycle, and returns the phase that is commanded in it.
+// Writes the lines of a cycle, each after the mark, and returns the phase that is commanded in it. `w` is the planner's input of the
+// ring. Each line is made in `line`, regardless of its contents.
 fn write_made<K: Sink>(
     w: &Wishes,
     made: &CycleRecord,
@@ -59,7 +66,8 @@ fn write_made<K: Sink>(
     Ok(made.phase)
 }
 
-// Makes the next cycle, counts it, and writes its lines.
+// Makes the next cycle of a ring, adds it to the totals, and writes its lines, each after the mark. Returns the phase that is commanded
+// in it. `w` is the planner's input of the ring. `line` is room for each line that is made.
 fn make_next<L: BitLink, K: Sink>(
     ring: &mut Ring<L>,
     w: &Wishes,
@@ -84,7 +92,7 @@ fn make_next<L: BitLink, K: Sink>(
     write_made(w, made, mark, line, sink)
 }
 
-// Writes the end line, if no cycle is left.
+// Writes the end line of a ring, after the mark, if `left`, the number of cycles left, is 0. `line` is room for each line that is made.
 fn write_last<K: Sink>(
     left: u32,
     totals: &Totals,
@@ -100,7 +108,8 @@ fn write_last<K: Sink>(
     Ok(())
 }
 
-// Makes the next cycle of a ring, and writes its lines. Returns whether it is commanded phase 3 or 4.
+// Makes the next cycle of a ring, and writes its lines, and the end line after its last cycle. Returns whether the cycle is commanded
+// phase 3 or 4. `time` is the common cycle time, in microseconds. `line` is room for each line that is made.
 fn go_on<L: BitLink, K: Sink>(
     part: &mut Part<L>,
     time: u16,
@@ -130,8 +139,9 @@ fn go_on<L: BitLink, K: Sink>(
     Ok(phase >= 3)
 }
 
-/// Passes a moment: if the next cycle of a ring begins then, makes it, and writes its lines. Returns whether that cycle is commanded
-/// phase 3 or 4.
+/// Passes a moment: if the next cycle of a ring begins then, makes it, and writes its lines, and the end line after the last cycle.
+/// Returns whether a cycle commanded phase 3 or 4 begins then. `time`, the common cycle time, and `moment` are in microseconds. `line` is
+/// room for each line that is made.
 pub fn pass<L: BitLink, K: Sink>(
     part: &mut Part<L>,
     moment: u32,

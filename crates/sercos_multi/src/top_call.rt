@@ -12,7 +12,8 @@ use crate::words::form_of;
 use sercos_io::{ReadAll, Sink, Source, Status, Words, read_all};
 use std::alloc::Global;
 
-// Reads the input, and writes the answer to it.
+// Reads the input, writes the answer to it, and returns the status. Words in no form are `BadWords`, and nothing is read. If the input
+// can't be read, is too long, or memory runs out, the status is `ReadFault`, `TooLong` or `Memory`, and nothing is written.
 fn respond<S: Source, K: Sink>(alloc: Global, words: &Words, source: &mut S, sink: &mut K) -> Status
     ensures words { form_of words.now ≡ None → result ≡ Status.BadWords }
     ensures how { Outcome (form_of words.now) (reads_input (form_of words.now)) rings_answer RunsItsRings

@@ -4,14 +4,14 @@ ghost use Rattle.sercos_multi.specs.Words.{form_of, run_form};
 
 use sercos_io::Words;
 
-/// The form in which words name what is done.
+/// What the words of the program name.
 #[derive(Clone, Copy, Debug, PartialEq, Eq)]
 pub enum Form {
     /// `run`: the merged text of the rings of several documents.
     Run,
 }
 
-// The form of one word.
+// Returns the form of one word: `Run` for `run`, `None` for any other.
 #[tactic(auto, unfolding(crate::specs::Words::run_form))]
 fn one_form(word: &str) -> Option<Form>
     ensures { result ≡ run_form (word.now ∷ []) }
@@ -22,7 +22,7 @@ fn one_form(word: &str) -> Option<Form>
     None
 }
 
-// The form of a word alone, which may be `--`.
+// Returns the form of a word alone, which may be `--`: `Run` for `run`, `None` for any other.
 fn word_form(word: &str) -> Option<Form>
     ensures { result ≡ form_of (word.now ∷ []) }
 {
@@ -32,7 +32,7 @@ fn word_form(word: &str) -> Option<Form>
     one_form(word)
 }
 
-// The form of two words.
+// Returns the form of two words: `Run` if one is `--` and the other `run`, otherwise `None`.
 fn pair_form(first: &str, second: &str) -> Option<Form>
     ensures { result ≡ form_of (first.now ∷ second.now ∷ []) }
 {
@@ -45,7 +45,7 @@ fn pair_form(first: &str, second: &str) -> Option<Form>
     None
 }
 
-/// Returns the form in which the words are, if they are in one: the word `run`, with at most one word `--` before or after it.
+/// Returns the form of the words: `Run` for the word `run`, with at most one word `--` before or after it; `None` for any others.
 pub fn form_of(words: &Words) -> Option<Form>
     ensures { result ≡ form_of words.now }
 {

@@ -17,7 +17,7 @@ use sercos_margin::{Time, least_cycle, margin, margin_law};
 use sercos_timing::Wishes;
 use std::alloc::{AllocError, Global};
 
-// Appends the least cycle time.
+// Appends the line of the least cycle time, in microseconds, which is `cycle none` for `None`. The error is `AllocError`.
 #[tactic(auto, unfolding(crate::specs::Margins::cycle_line))]
 fn push_cycle(cycle: Option<u16>, out: &mut Vec<u8>) -> Result<(), AllocError>
     ensures { OnOk result (out.new.items ≡ out.old.items ++ cycle_line cycle) }
@@ -28,7 +28,8 @@ fn push_cycle(cycle: Option<u16>, out: &mut Vec<u8>) -> Result<(), AllocError>
     }
 }
 
-// How far a time of the drive at a place of the ring can go.
+// Returns the greatest value, in microseconds, that the drive at a place of the ring can declare for the time `t` so that a plan still
+// fits. A plan must fit the declared times.
 fn margin_at(wishes: &Wishes, place: usize, t: Time) -> u64
     requires valid { IsValid wishes.now }
     requires limits { AreLimited wishes.now }
@@ -39,7 +40,8 @@ fn margin_at(wishes: &Wishes, place: usize, t: Time) -> u64
     u64::from(margin(wishes, place, t))
 }
 
-// Appends how far each time of the drive at a place of the ring can go.
+// Appends the line of the drive at a place of the ring: its address, and the greatest value of each of its six times, in microseconds,
+// with which a plan fits. The error is `AllocError`.
 #[tactic(auto, unfolding(crate::specs::Margins::margin_line))]
 fn push_margin(wishes: &Wishes, place: usize, out: &mut Vec<u8>) -> Result<(), AllocError>
     requires valid { IsValid wishes.now }
@@ -61,7 +63,7 @@ fn push_margin(wishes: &Wishes, place: usize, out: &mut Vec<u8>) -> Result<(), A
     push_last(" tmtsg ", tmtsg, out)
 }
 
-// Appends how far each time of all drives can go.
+// Appends these lines of all drives, in the order of the ring. The error is `AllocError`.
 #[tactic(auto, unfolding(crate::specs::Margins::margin_lines))]
 fn push_margins(wishes: &Wishes, out: &mut Vec<u8>) -> Result<(), AllocError>
     requires valid { IsValid wishes.now }
@@ -75,7 +77,8 @@ fn push_margins(wishes: &Wishes, out: &mut Vec<u8>) -> Result<(), AllocError>
     Ok(())
 }
 
-// Answers wishes: by how far the times can go, or by the chain that proves that no plan fits.
+// Returns the reply of `margin` to the planner's input: the least cycle time, and either `Done` and the greatest value of each time of
+// each drive, or `No` and the chain that proves that no plan fits. The error is `AllocError`.
 #[tactic(auto, unfolding(crate::specs::Margins::wishes_margins))]
 fn answer_wishes(alloc: Global, wishes: &Wishes) -> Result<Reply, AllocError>
     requires valid { IsValid wishes.now }
@@ -102,9 +105,9 @@ fn answer_wishes(alloc: Global, wishes: &Wishes) -> Result<Reply, AllocError>
     Ok(Reply { status, text })
 }
 
-/// Answers a ring document: with the least cycle time with which a plan fits, and the slack of each time of each drive; or with
-/// `No`, that cycle time and the chain that proves that no plan fits with the ring's own. The error is the document's first
-/// refusal, or `Memory`.
+/// Returns the reply of `margin` to a ring document: `Done`, the least cycle time with which a plan fits, and the greatest value of each
+/// time of each drive, in microseconds; or `No`, that cycle time, and the chain that proves that no plan fits with the ring's own. The
+/// error is the document's first refusal, or `Memory`.
 #[tactic(auto, unfolding(crate::specs::Margins::margin_answer, crate::specs::Margins::document_margins), using(crate::proofs::MarginLemmas::limited_wishes))]
 pub fn margins(alloc: Global, bytes: &[u8]) -> Result<Reply, BadDocument>
     ensures answer { MatchResult result

@@ -1,4 +1,4 @@
-// The texts of plans and of chains, appended to what is written in the end.
+// The texts of plans and of chains, appended to the text of a reply. Each error is `AllocError`.
 ghost use Rattle.std.specs.Prelude.{◌≡◌, ◌++◌, ◌<◌, ◌≤◌, OnOk, codes, decimal, length};
 ghost use Rattle.std.specs.List.{flat_map};
 ghost use Rattle.sercos_planning.specs.Planning.{plan_line, slot_line, slot_lines, plan_text, link_line, end_line, chain_text};
@@ -33,7 +33,7 @@ fn push_last_two(
     push_text("\n", out)
 }
 
-// Appends the times of all drives, and the length of the MDT.
+// Appends the line of the times T2, T3 and T4, in microseconds, and of the length of the MDT, in bytes.
 #[tactic(auto, unfolding(crate::specs::Planning::plan_line))]
 fn push_plan_line(plan: &Plan, out: &mut Vec<u8>) -> Result<(), AllocError>
     ensures { OnOk result (out.new.items ≡ out.old.items ++ plan_line plan.now) }
@@ -54,7 +54,8 @@ fn push_plan_line(plan: &Plan, out: &mut Vec<u8>) -> Result<(), AllocError>
     )
 }
 
-// Appends the time slot of the drive at a place of the ring.
+// Appends the line of the drive at a place of the ring: its address, its T1 in microseconds, and the position of its data record in the
+// MDT.
 #[tactic(auto, unfolding(crate::specs::Planning::slot_line))]
 fn push_slot(
     wishes: &Wishes,
@@ -78,7 +79,7 @@ fn push_slot(
     push_last(" position ", u64::from(plan.position()[place]), out)
 }
 
-// Appends the time slots of all drives.
+// Appends these lines of all drives, in the order of the ring.
 #[tactic(auto, unfolding(crate::specs::Planning::slot_lines))]
 fn push_slots(wishes: &Wishes, plan: &Plan, out: &mut Vec<u8>) -> Result<(), AllocError>
     requires starts { length plan.now.t1 ≡ length wishes.now.drives }
@@ -92,7 +93,7 @@ fn push_slots(wishes: &Wishes, plan: &Plan, out: &mut Vec<u8>) -> Result<(), All
     Ok(())
 }
 
-/// Appends a plan: its times, and the time slot of each drive in the order of the ring.
+/// Appends the lines of a plan: its times, and the time slot of each drive in the order of the ring.
 #[tactic(auto, unfolding(crate::specs::Planning::plan_text))]
 pub fn push_plan(wishes: &Wishes, plan: &Plan, out: &mut Vec<u8>) -> Result<(), AllocError>
     requires starts { length plan.now.t1 ≡ length wishes.now.drives }
@@ -103,7 +104,7 @@ pub fn push_plan(wishes: &Wishes, plan: &Plan, out: &mut Vec<u8>) -> Result<(), 
     push_slots(wishes, plan, out)
 }
 
-// Appends a link of a chain.
+// Appends the line of a link of a chain: its inequality, the address of its drive, and the bit time that it requires.
 #[tactic(auto, unfolding(crate::specs::Planning::link_line))]
 fn push_link(link: &Link, out: &mut Vec<u8>) -> Result<(), AllocError>
     ensures { OnOk result (out.new.items ≡ out.old.items ++ link_line link.now) }
@@ -118,7 +119,7 @@ fn push_link(link: &Link, out: &mut Vec<u8>) -> Result<(), AllocError>
     push_last(" at ", u64::from(link.at), out)
 }
 
-// Appends the links of a chain.
+// Appends the lines of a chain's links, in their order.
 fn push_links(links: &[Link], out: &mut Vec<u8>) -> Result<(), AllocError>
     ensures { OnOk result (out.new.items ≡ out.old.items ++ flat_map link_line links.now) }
 {
@@ -128,7 +129,8 @@ fn push_links(links: &[Link], out: &mut Vec<u8>) -> Result<(), AllocError>
     Ok(())
 }
 
-// Appends the last part of a chain.
+// Appends the last line of a chain: the inequality that is broken, the address of its drive or 0, what it requires, and what there is
+// room for, both in bit times.
 #[tactic(auto, unfolding(crate::specs::Planning::end_line))]
 fn push_end(chain: &Chain, out: &mut Vec<u8>) -> Result<(), AllocError>
     ensures { OnOk result (out.new.items ≡ out.old.items ++ end_line chain.now) }
@@ -149,7 +151,7 @@ fn push_end(chain: &Chain, out: &mut Vec<u8>) -> Result<(), AllocError>
     )
 }
 
-// Appends that there is no plan.
+// Appends `head` and a line feed.
 fn push_no_plan(head: &str, out: &mut Vec<u8>) -> Result<(), AllocError>
     ensures { OnOk result (out.new.items ≡ out.old.items ++ (head.now ++ line_feed)) }
 {
@@ -157,7 +159,7 @@ fn push_no_plan(head: &str, out: &mut Vec<u8>) -> Result<(), AllocError>
     push_text("\n", out)
 }
 
-/// Appends that there is no plan, and the chain that proves it.
+/// Appends the line `no plan`, and the lines of the chain that proves it.
 #[tactic(auto, unfolding(crate::specs::Planning::chain_text))]
 pub fn push_chain(chain: &Chain, out: &mut Vec<u8>) -> Result<(), AllocError>
     ensures { OnOk result (out.new.items ≡ out.old.items ++ chain_text chain.now) }

@@ -13,7 +13,8 @@ use sercos_io::Status;
 use sercos_timing::Wishes;
 use std::alloc::{AllocError, Global};
 
-// Answers wishes: by their least plan, or by the chain that proves that none fits.
+// Returns the reply of `plan` to the planner's input: `Done` and the least plan, or `No` and the chain that proves that none fits. The
+// error is `AllocError`.
 #[tactic(auto, unfolding(crate::specs::Planning::wishes_answer))]
 fn answer_wishes(alloc: Global, wishes: &Wishes) -> Result<Reply, AllocError>
     requires { IsValid wishes.now }
@@ -35,8 +36,8 @@ fn answer_wishes(alloc: Global, wishes: &Wishes) -> Result<Reply, AllocError>
     Ok(Reply { status, text })
 }
 
-/// Answers a ring document: with the least plan, or with `No` and the chain that proves that none fits. The error is
-/// the document's first refusal, or `Memory`.
+/// Returns the reply of `plan` to a ring document: `Done` and the least plan, or `No` and the chain that proves that none fits. The error
+/// is the document's first refusal, or `Memory`.
 #[tactic(auto, unfolding(crate::specs::Planning::plan_answer, crate::specs::Planning::document_answer))]
 pub fn plan(alloc: Global, bytes: &[u8]) -> Result<Reply, BadDocument>
     ensures answer { MatchResult result

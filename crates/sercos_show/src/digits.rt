@@ -11,7 +11,7 @@ ghost use Rattle.sercos_show.specs.Line.{byte_of};
 
 use sercos_hdlc::Deframer;
 
-// The bits of a byte.
+// The number of bits of a byte.
 const BYTE_BITS: usize = 8;
 
 // The value of each byte as a hexadecimal digit, or 255.
@@ -38,7 +38,7 @@ pub const MOST_BYTES: usize = 2462;
 /// Room for the bytes of a line.
 pub type Room = [u8; MOST_BYTES];
 
-// The value of a byte as a hexadecimal digit, or at least 16 for another byte.
+// Returns the value of a byte as a hexadecimal digit; at least 16 if it isn't one.
 fn value_or(byte: u8) -> u8
     ensures digit { result < 16 → hex_digit_value byte ≡ Some result }
     ensures test { nat_lt result 16 ≡ is_ascii_hexdigit byte }
@@ -46,7 +46,7 @@ fn value_or(byte: u8) -> u8
     VALUES[usize::from(byte)]
 }
 
-// The value of a hexadecimal digit.
+// Returns the value of a hexadecimal digit.
 fn value_of(byte: u8) -> u8
     requires { is_ascii_hexdigit byte ≡ true }
     ensures value { hex_digit_value byte ≡ Some result }
@@ -55,7 +55,7 @@ fn value_of(byte: u8) -> u8
     value_or(byte)
 }
 
-// Returns whether a byte is a hexadecimal digit, by the table.
+// Returns whether a byte is a hexadecimal digit.
 fn has_value(byte: u8) -> bool
     ensures { result ≡ is_ascii_hexdigit byte }
 {
@@ -75,7 +75,7 @@ pub fn leading_digits(text: &[u8]) -> usize
     text.len()
 }
 
-/// Returns the byte that two digits spell.
+/// Returns the byte that two hexadecimal digits spell.
 pub fn byte_of(high: u8, low: u8) -> u8
     requires high { is_ascii_hexdigit high ≡ true }
     requires low { is_ascii_hexdigit low ≡ true }
@@ -84,7 +84,8 @@ pub fn byte_of(high: u8, low: u8) -> u8
     16 * value_of(high) + value_of(low)
 }
 
-/// Replaces bytes by those that digits spell, two digits each. Returns whether all are digits; if not, the bytes mean nothing.
+/// Replaces bytes by those that `digits` spells, two hexadecimal digits for each byte. Returns whether all are digits; if not, the bytes
+/// have no meaning.
 #[inline(always)]
 pub fn set_pairs(digits: &[u8], bytes: &mut [u8]) -> bool
     requires { length digits.now ≡ 2 * length bytes.old }
@@ -102,7 +103,7 @@ pub fn set_pairs(digits: &[u8], bytes: &mut [u8]) -> bool
     seen < 16
 }
 
-/// Feeds the first bits of bytes, `count` of them: whole bytes, and then the bits that are left.
+/// Feeds the first `count` bits of bytes to the deframer.
 pub fn feed_first(bytes: &[u8], count: usize, deframer: &mut Deframer)
     requires long { count ≤ 8 * length bytes.now }
     requires fits { taken_of deframer.old + count ≤ 2147483648 }

@@ -1,4 +1,4 @@
-// The rules on a line of `show`, seen from the bits, and where a line is refused.
+// The rules on a line of `show`, stated on its bits, and the place at which a line is refused.
 ghost use Rattle.std.specs.Prelude.{◌≡◌, ℕ, ◌≤◌, Bool, List, Option, Some, None, length};
 ghost use Rattle.sercos_show.specs.Line.{kind_of, line_fault, line_bits};
 ghost use Rattle.sercos_show.specs.SpelledLine.{IsLine};

@@ -1,5 +1,5 @@
-// The lines of `show`: `raw COUNT HEX`. A fault is the place, from 0 on, of the first byte that can't be there; that of a
-// missing byte is one past the end.
+// The lines of `show`: `KIND COUNT HEX`. The fault of a part of a line is the place, from 0 on, counted from the part's first byte, of
+// the first byte that doesn't fit. The place of a missing byte is the part's length.
 ghost use Rattle.std.specs.Prelude.{◌≡◌, ◌+◌, ◌/◌, ◌<◌, ◌≤◌, [], OnOk, IfOk, IfErr, IfSome, length, take, nat_eq, true, Some, None};
 ghost use Rattle.std.specs.List.{common_prefix_len};
 ghost use Rattle.std.specs.Result.{result_ok, result_err};
@@ -17,16 +17,16 @@ pub enum LineKind {
     Raw,
     /// `mst`: the frame of an MST.
     Mst,
-    /// `single`: that of an MDT of phases 1 and 2.
+    /// `single`: the frame of an MDT of phases 1 and 2.
     Single,
-    /// `at`: that of an AT.
+    /// `at`: the frame of an AT.
     At,
 }
 
-/// The largest COUNT.
+// The largest COUNT, in bits.
 const MOST_BITS: u32 = 19696;
 
-// Returns how many bytes of a text a line begins with.
+// Returns the number of bytes at the front of a line that are the same as those at the front of a text.
 fn shared_with(line: &[u8], text: &[u8]) -> usize
     ensures value { result ≡ common_prefix_len nat_eq line.now text.now }
     ensures bound { result ≤ length line.now }
@@ -39,7 +39,7 @@ fn shared_with(line: &[u8], text: &[u8]) -> usize
     text.len()
 }
 
-// The kind that a line is of, or the place of the first byte with which no kind goes on.
+// Returns the kind of a line. The error is the place of the first byte with which no kind continues.
 #[tactic(auto, unfolding(crate::specs::Line::kind_of, crate::specs::Line::kind_fault))]
 fn kind_of(line: &[u8]) -> Result<LineKind, usize>
     ensures kind { result_ok result ≡ kind_of line.now }
@@ -66,7 +66,7 @@ fn kind_of(line: &[u8]) -> Result<LineKind, usize>
     Err(raw.max(mst).max(single).max(at))
 }
 
-// Returns how many bytes there are before COUNT.
+// Returns the number of bytes of a kind and the space after it.
 fn kind_len(kind: LineKind) -> usize
     ensures { result ≡ length (kind_text kind) }
 {
@@ -77,6 +77,7 @@ fn kind_len(kind: LineKind) -> usize
     }
 }
 
+// Returns how many digits the HEX of `count` bits has: two for each eight bits begun.
 #[tactic(auto, unfolding(crate::specs::Line::wanted_digits))]
 fn wanted_digits(count: usize) -> usize
     requires { count ≤ 19696 }
@@ -87,6 +88,7 @@ fn wanted_digits(count: usize) -> usize
     2 * count.div_ceil(8)
 }
 
+// Returns whether `byte`, the last one of `count` bits, has a one after the last bit.
 #[tactic(auto, unfolding(crate::specs::Line::has_spare))]
 fn has_spare(count: usize, byte: u8) -> bool
     requires some { 0 < count }
@@ -97,7 +99,7 @@ fn has_spare(count: usize, byte: u8) -> bool
     u16::from(byte) >= 1 << used
 }
 
-// The fault of the HEX of no bits.
+// Returns the fault of the HEX of no bits, which is `-`; `None` if it has none.
 #[tactic(auto, unfolding(crate::specs::Line::dash_fault))]
 fn dash_fault(text: &[u8]) -> Option<usize>
     ensures value { result ≡ dash_fault text.now }
@@ -109,7 +111,7 @@ fn dash_fault(text: &[u8]) -> Option<usize>
     (text.len() > 1).then_some(1)
 }
 
-// The fault of the HEX of at least one bit.
+// Returns the fault of the HEX of `count` bits, at least one; `None` if it has none.
 #[tactic(auto, unfolding(crate::specs::Line::digits_fault))]
 fn digits_fault(count: usize, text: &[u8]) -> Option<usize>
     requires some { 0 < count }
@@ -135,6 +137,7 @@ fn digits_fault(count: usize, text: &[u8]) -> Option<usize>
     (text.len() > wanted).then_some(wanted)
 }
 
+// Returns the fault of the HEX of `count` bits; `None` if it has none.
 #[tactic(auto, unfolding(crate::specs::Line::hex_fault))]
 fn hex_fault(count: usize, text: &[u8]) -> Option<usize>
     requires { count ≤ 19696 }
@@ -148,7 +151,7 @@ fn hex_fault(count: usize, text: &[u8]) -> Option<usize>
     }
 }
 
-// Reads COUNT and the space after it: how many bytes they take, and COUNT.
+// Reads COUNT and the space after it. Returns how many bytes they take, and COUNT. The error is their fault.
 #[tactic(auto, unfolding(crate::specs::Line::count_fault))]
 fn read_count(text: &[u8]) -> Result<(usize, usize), usize>
     ensures fault { result_err result ≡ count_fault text.now }
@@ -165,7 +168,7 @@ fn read_count(text: &[u8]) -> Result<(usize, usize), usize>
     Ok((len + 1, count as usize))
 }
 
-// Returns how many bytes there are for a number of bits.
+// Returns how many bytes `count` bits take.
 fn byte_len(count: usize) -> usize
     requires { count ≤ 19696 }
     ensures value { result ≡ (count + 7) / 8 }
@@ -174,7 +177,8 @@ fn byte_len(count: usize) -> usize
     count.div_ceil(8)
 }
 
-// Puts the bytes of a HEX of at least one bit into the room. Returns whether it has no fault.
+// Puts the bytes of the HEX of `count` bits at the front of the room. Returns whether there is at least one bit and HEX has no fault; if
+// not, the room's bytes have no meaning.
 #[tactic(auto, unfolding(crate::specs::Line::wanted_digits))]
 fn set_hex(count: usize, text: &[u8], room: &mut Room) -> bool
     requires { count ≤ 19696 }
@@ -193,7 +197,8 @@ fn set_hex(count: usize, text: &[u8], room: &mut Room) -> bool
     set_pairs(text, &mut room[..len]) && !has_spare(count, room[len - 1])
 }
 
-// Reads HEX, and feeds its bits.
+// Reads the HEX of `count` bits, and feeds the bits to the deframer, which has taken none. The room is for their bytes. The error is the
+// fault of HEX.
 fn read_hex(
     count: usize,
     text: &[u8],
@@ -216,7 +221,8 @@ fn read_hex(
     }
 }
 
-// Reads COUNT HEX, and feeds the bits.
+// Reads COUNT HEX, and feeds the bits to the deframer, which has taken none. The room is for their bytes. The error is the fault of COUNT
+// HEX.
 #[tactic(auto, unfolding(crate::specs::Line::numbers_fault, crate::specs::Line::numbers_bits))]
 fn read_numbers(text: &[u8], room: &mut Room, deframer: &mut Deframer) -> Result<(), usize>
     requires { taken_of deframer.old ≡ 0 }
@@ -231,8 +237,8 @@ fn read_numbers(text: &[u8], room: &mut Room, deframer: &mut Deframer) -> Result
     }
 }
 
-/// Feeds the bits of a line, whose bytes are put into the room, and returns its kind. The error is the place, from 0 on, of the first byte
-/// of the line that doesn't fit.
+/// Reads a line, feeds its bits to the deframer, which has taken none, and returns its kind. The room is for the bytes of the bits. The
+/// error is the place, from 0 on, of the first byte of the line that doesn't fit.
 #[tactic(auto, unfolding(crate::specs::Line::line_fault, crate::specs::Line::fault_by, crate::specs::Line::line_bits, crate::specs::Line::bits_by))]
 pub fn read_line(line: &[u8], room: &mut Room, deframer: &mut Deframer) -> Result<LineKind, usize>
     requires { taken_of deframer.old ≡ 0 }

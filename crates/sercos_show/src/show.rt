@@ -19,7 +19,7 @@ use sercos_io::Status;
 use sercos_telegram::{Layout, read_at, read_mst, read_single};
 use std::alloc::{AllocError, Global};
 
-// The line that refuses the input.
+// Returns the line that refuses the input at a line and a column. The error is `AllocError`.
 fn refused_text(alloc: Global, line: u64, column: u64) -> Result<Vec<u8>, AllocError>
     ensures { IfOk result (λ text. text.items ≡ refused_text line column) }
 {
@@ -32,7 +32,7 @@ fn refused_text(alloc: Global, line: u64, column: u64) -> Result<Vec<u8>, AllocE
     Ok(text)
 }
 
-// The reply that refuses the input at a line and a column.
+// Returns the reply that refuses the input at a line and a column. The error is `AllocError`.
 fn refusal(alloc: Global, line: u64, column: u64) -> Result<Reply, AllocError>
     ensures status { IfOk result (λ reply. reply.status ≡ Status.Refused) }
     ensures text { IfOk result (λ reply. reply.text.items ≡ refused_text line column) }
@@ -44,7 +44,7 @@ fn refusal(alloc: Global, line: u64, column: u64) -> Result<Reply, AllocError>
     })
 }
 
-// Appends `layout` and a fault.
+// Appends `layout` and a fault of layout. The error is `AllocError`.
 #[tactic(auto, unfolding(crate::specs::Show::layout_or))]
 fn push_fault(fault: Layout, out: &mut Vec<u8>) -> Result<(), AllocError>
     ensures { OnOk result (out.new.items ≡ out.old.items ++ (codes "layout " ++ layout_text fault)) }
@@ -53,7 +53,7 @@ fn push_fault(fault: Layout, out: &mut Vec<u8>) -> Result<(), AllocError>
     push_layout(fault, out)
 }
 
-// Appends `ok` and a content.
+// Appends `ok` and a content's bytes, at most 2048, in hexadecimal digits. The error is `AllocError`.
 fn push_raw(content: &[u8], out: &mut Vec<u8>) -> Result<(), AllocError>
     requires { length content.now ≤ 2048 }
     ensures { OnOk result (out.new.items ≡ out.old.items ++ (codes "ok " ++ encode_lower content.now)) }
@@ -62,7 +62,7 @@ fn push_raw(content: &[u8], out: &mut Vec<u8>) -> Result<(), AllocError>
     push_hex(content, out)
 }
 
-// Appends the text of an MST.
+// Appends the fields of the MST that a content is, or its fault of layout. The error is `AllocError`.
 #[tactic(auto, unfolding(crate::specs::Show::layout_or))]
 fn show_mst(content: &[u8], out: &mut Vec<u8>) -> Result<(), AllocError>
     ensures { OnOk result (out.new.items
@@ -74,7 +74,7 @@ fn show_mst(content: &[u8], out: &mut Vec<u8>) -> Result<(), AllocError>
     }
 }
 
-// Returns the address that is wanted: the one found, if it is a drive's, otherwise 1.
+// Returns the address for which a content is read: its first byte if that is the address of a drive, 1 to 254, otherwise 1.
 #[tactic(auto, unfolding(crate::specs::Show::wanted_address))]
 fn wanted_address(content: &[u8]) -> u8
     ensures { result ≡ wanted_address content.now }
@@ -85,7 +85,7 @@ fn wanted_address(content: &[u8]) -> u8
     }
 }
 
-// Appends the text of an MDT of phases 1 and 2.
+// Appends the fields of the MDT of phases 1 and 2 that a content is, or its fault of layout. The error is `AllocError`.
 #[tactic(auto, unfolding(crate::specs::Show::layout_or))]
 fn show_single(content: &[u8], out: &mut Vec<u8>) -> Result<(), AllocError>
     ensures { OnOk result (out.new.items ≡ out.old.items
@@ -99,7 +99,7 @@ fn show_single(content: &[u8], out: &mut Vec<u8>) -> Result<(), AllocError>
     }
 }
 
-// Returns how many bytes an AT should have after its address: as many as were found, but at least four.
+// Returns how many bytes an AT should have after its address: as many as were found, but at least 4.
 #[tactic(auto, unfolding(crate::specs::Show::wanted_len))]
 fn wanted_len(content: &[u8]) -> u16
     requires { length content.now ≤ 2048 }
@@ -109,7 +109,7 @@ fn wanted_len(content: &[u8]) -> u16
     content.len().saturating_sub(1).max(4) as u16
 }
 
-// Appends the text of an AT.
+// Appends the fields of the AT that a content is, or its fault of layout. The error is `AllocError`.
 #[tactic(auto, unfolding(crate::specs::Show::layout_or))]
 fn show_at(content: &[u8], out: &mut Vec<u8>) -> Result<(), AllocError>
     requires { length content.now ≤ 2048 }
@@ -124,7 +124,7 @@ fn show_at(content: &[u8], out: &mut Vec<u8>) -> Result<(), AllocError>
     }
 }
 
-// Appends the text of a content, read as its line requires.
+// Appends the text of a content, read as the kind of its line requires. The error is `AllocError`.
 #[tactic(auto, unfolding(crate::specs::Show::content_text))]
 fn push_content(kind: LineKind, content: &[u8], out: &mut Vec<u8>) -> Result<(), AllocError>
     requires { length content.now ≤ 2048 }
@@ -138,7 +138,7 @@ fn push_content(kind: LineKind, content: &[u8], out: &mut Vec<u8>) -> Result<(),
     }
 }
 
-// Appends the line of a content.
+// Appends the text of a content, read as the kind of its line requires, and a line feed. The error is `AllocError`.
 fn push_content_line(kind: LineKind, content: &[u8], out: &mut Vec<u8>) -> Result<(), AllocError>
     requires { length content.now ≤ 2048 }
     ensures { OnOk result (out.new.items ≡ out.old.items ++ (content_text kind content.now ++ line_feed)) }
@@ -147,7 +147,7 @@ fn push_content_line(kind: LineKind, content: &[u8], out: &mut Vec<u8>) -> Resul
     push_text("\n", out)
 }
 
-// Appends `error` and a refusal of framing.
+// Appends `error`, the reason why the bits are not a frame, and a line feed. The error is `AllocError`.
 fn push_error(bad: BadFrame, out: &mut Vec<u8>) -> Result<(), AllocError>
     ensures { OnOk result (out.new.items
         ≡ out.old.items ++ (codes "error " ++ refusal_text bad ++ line_feed)) }
@@ -157,7 +157,8 @@ fn push_error(bad: BadFrame, out: &mut Vec<u8>) -> Result<(), AllocError>
     push_text("\n", out)
 }
 
-// Appends the answer to a line of a kind whose bits have been taken. Then the reader begins anew.
+// Appends the answer to a line of a kind whose bits the deframer has taken. The deframer then starts over. `content` is room for the
+// content of the frame. The error is `AllocError`.
 #[tactic(auto, unfolding(crate::specs::Show::frame_text))]
 fn push_answer(
     kind: LineKind,
@@ -176,8 +177,8 @@ fn push_answer(
     }
 }
 
-/// Answers the lines of a text: the refusal of the first line that has a fault, otherwise the answer to each, in
-/// order.
+/// Returns the reply of `show` to a text: `Refused`, with the line and the column of the first line that has a fault; otherwise `Done`,
+/// with the answer to each line, in order. The error is `AllocError`.
 pub fn show(alloc: Global, text: &[u8]) -> Result<Reply, AllocError>
     ensures status { IfOk result (λ reply. reply.status ≡ (show_answer text.now).status) }
     ensures text { IfOk result (λ reply. reply.text.items ≡ (show_answer text.now).output) }

@@ -1,4 +1,4 @@
-// The texts of the answers of `show`, appended to what is written in the end.
+// The texts of the answers of `show`, appended to the text of a reply. Each error is `AllocError`.
 ghost use Rattle.std.specs.Prelude.{◌≡◌, ◌*◌, [], ◌∷◌, ◌++◌, OnOk, codes, decimal, length, take, drop, ◌≤◌};
 ghost use Rattle.hex.specs.Hex.{encode_lower};
 ghost use Rattle.sercos_show.specs.Show.{word_text, bit_text, two_bits, bit_and_number, two_words, data_text, layout_text, mst_text, single_text, at_text, refusal_text};
@@ -9,8 +9,8 @@ use sercos_telegram::{At, Control, Layout, Status};
 use sercos_text::{piece_of, put_pairs};
 use std::alloc::AllocError;
 
+/// Appends a word as `0x` and four hexadecimal digits.
 #[tactic(auto, unfolding(crate::specs::Show::word_text))]
-/// Appends a word as `0x` and four digits.
 pub fn push_word(word: u16, out: &mut Vec<u8>) -> Result<(), AllocError>
     ensures { OnOk result (out.new.items ≡ out.old.items ++ word_text word) }
 {
@@ -20,7 +20,7 @@ pub fn push_word(word: u16, out: &mut Vec<u8>) -> Result<(), AllocError>
     out.extend_from_slice(&digits)
 }
 
-// Appends a text and a number.
+// Appends a text and a number in decimal.
 #[inline(always)]
 fn push_place(text: &str, place: u64, out: &mut Vec<u8>) -> Result<(), AllocError>
     ensures { OnOk result (out.new.items ≡ out.old.items ++ text.now ++ decimal place) }
@@ -29,7 +29,7 @@ fn push_place(text: &str, place: u64, out: &mut Vec<u8>) -> Result<(), AllocErro
     push_number(place, out)
 }
 
-// Appends a bit.
+// Appends a bit, as `0` or `1`.
 #[inline(always)]
 fn push_bit(bit: bool, out: &mut Vec<u8>) -> Result<(), AllocError>
     ensures { OnOk result (out.new.items ≡ out.old.items ++ bit_text bit) }
@@ -55,7 +55,7 @@ fn push_bits(
     push_bit(b, out)
 }
 
-// Appends a bit and a number, each after its name.
+// Appends a bit and a number in decimal, each after its name.
 #[tactic(auto, unfolding(crate::specs::Show::bit_and_number))]
 #[inline(always)]
 fn push_bit_and_number(
@@ -92,7 +92,7 @@ fn push_words(
     push_word(b, out)
 }
 
-/// Appends number, name and places of a refusal of framing.
+/// Appends the number, the name and the values of the reason why bits are not a frame.
 #[tactic(auto, unfolding(crate::specs::Show::refusal_text))]
 pub fn push_refusal(bad: BadFrame, out: &mut Vec<u8>) -> Result<(), AllocError>
     ensures { OnOk result (out.new.items ≡ out.old.items ++ refusal_text bad) }
@@ -111,7 +111,7 @@ pub fn push_refusal(bad: BadFrame, out: &mut Vec<u8>) -> Result<(), AllocError>
     }
 }
 
-// Appends at most 32 bytes in hexadecimal digits, by room for the digits of these.
+// Appends bytes in hexadecimal digits, two for each byte. `room` is for the digits.
 fn push_some(bytes: &[u8], room: &mut [u8], out: &mut Vec<u8>) -> Result<(), AllocError>
     requires { 2 * length bytes.now ≤ length room.old }
     ensures { OnOk result (out.new.items ≡ out.old.items ++ encode_lower bytes.now) }
@@ -121,7 +121,7 @@ fn push_some(bytes: &[u8], room: &mut [u8], out: &mut Vec<u8>) -> Result<(), All
     out.extend_from_slice(text)
 }
 
-/// Appends bytes in hexadecimal digits, 32 of them at a time.
+/// Appends bytes, at most 2048, in hexadecimal digits.
 pub fn push_hex(bytes: &[u8], out: &mut Vec<u8>) -> Result<(), AllocError>
     requires { length bytes.now ≤ 2048 }
     ensures { OnOk result (out.new.items ≡ out.old.items ++ encode_lower bytes.now) }
@@ -133,7 +133,7 @@ pub fn push_hex(bytes: &[u8], out: &mut Vec<u8>) -> Result<(), AllocError>
     Ok(())
 }
 
-// Appends bytes in hexadecimal digits, or `-` if there are none.
+// Appends bytes, at most 2048, in hexadecimal digits, or `-` if there are none.
 #[tactic(auto, unfolding(crate::specs::Show::data_text))]
 fn push_data(bytes: &[u8], out: &mut Vec<u8>) -> Result<(), AllocError>
     requires { length bytes.now ≤ 2048 }
@@ -145,7 +145,7 @@ fn push_data(bytes: &[u8], out: &mut Vec<u8>) -> Result<(), AllocError>
     }
 }
 
-/// Appends number, name and values of a fault of layout.
+/// Appends the number, the name and the values of a fault of layout.
 #[tactic(auto, unfolding(crate::specs::Show::layout_text))]
 pub fn push_layout(fault: Layout, out: &mut Vec<u8>) -> Result<(), AllocError>
     ensures { OnOk result (out.new.items ≡ out.old.items ++ layout_text fault) }
@@ -173,7 +173,7 @@ pub fn push_layout(fault: Layout, out: &mut Vec<u8>) -> Result<(), AllocError>
     }
 }
 
-/// Appends the fields of an MST.
+/// Appends the field of an MST: the phase.
 #[tactic(auto, unfolding(crate::specs::Show::mst_text))]
 pub fn push_mst(phase: u8, out: &mut Vec<u8>) -> Result<(), AllocError>
     ensures { OnOk result (out.new.items ≡ out.old.items ++ mst_text phase) }
@@ -181,7 +181,7 @@ pub fn push_mst(phase: u8, out: &mut Vec<u8>) -> Result<(), AllocError>
     push_place("mst phase ", u64::from(phase), out)
 }
 
-/// Appends the fields of an MDT of phases 1 and 2.
+/// Appends the fields of an MDT of phases 1 and 2: the address, those of the control word, and the word `info`.
 #[tactic(auto, unfolding(crate::specs::Show::single_text))]
 pub fn push_single(
     address: u8,
@@ -203,14 +203,14 @@ pub fn push_single(
     push_words(" info ", info, " cyclic ", control.cyclic, out)
 }
 
-// The digit of a bit.
+// Returns the digit of a bit, `0` or `1`.
 fn bit_digit(bit: bool) -> u8
     ensures { bit_text bit ≡ result ∷ [] }
 {
     if bit { b'1' } else { b'0' }
 }
 
-// The bits of an AT's status word, each after its name. Texts of a fixed length are put together here, and appended at once.
+// Returns the bits of an AT's status word, each after its name. Texts of a fixed length are put together here, and appended at once.
 fn status_bits(status: Status) -> [u8; 30]
     ensures { result ≡ two_bits (codes " ahs ") status.ahs (codes " busy ") status.busy
         ++ two_bits (codes " error ") status.error (codes " change ") status.change }
@@ -223,7 +223,7 @@ fn status_bits(status: Status) -> [u8; 30]
     text
 }
 
-// The words of an AT, each after its name.
+// Returns the words of an AT, `info` and the other bits of its status word, each after its name, and the name `data`.
 fn at_words(info: u16, cyclic: u16) -> [u8; 32]
     ensures { result ≡ two_words (codes " info ") info (codes " cyclic ") cyclic ++ codes " data " }
 {
@@ -233,7 +233,7 @@ fn at_words(info: u16, cyclic: u16) -> [u8; 32]
     text
 }
 
-/// Appends the fields of an AT.
+/// Appends the fields of an AT: the address, those of the status word, the word `info`, and the data, or `-` if there are none.
 #[tactic(auto, unfolding(crate::specs::Show::at_text))]
 pub fn push_at(at: &At<'_>, out: &mut Vec<u8>) -> Result<(), AllocError>
     requires { length at.now.values.now ≤ 2048 }

@@ -9,7 +9,7 @@ use clap::{Arg, Command};
 use sercos_io::Words;
 use std::alloc::{AllocError, Global};
 
-/// The form in which words name a command.
+/// A command, with its number, as the words name it.
 #[derive(Clone, Copy, Debug, PartialEq, Eq)]
 pub enum Form {
     /// `show`: lines of frames are answered by their bytes.
@@ -33,7 +33,7 @@ pub enum Form {
     Replay(u8),
 }
 
-// The form of one word.
+// Returns the form of the one word of a command without a number; `None` if the word is no such command.
 #[tactic(auto, unfolding(crate::specs::Form::word_form))]
 fn word_form(word: &str) -> Option<Form>
     ensures value { result ≡ word_form word.now }
@@ -58,7 +58,8 @@ fn word_form(word: &str) -> Option<Form>
     }
 }
 
-// The number from the first to the last of these that a word names.
+// Returns the number from `first` to `last` that a word spells in decimal digits, without leading zeros; `None` if it spells none of
+// these.
 fn number_named(first: u32, last: u32, word: &str) -> Option<u8>
     requires { last ≤ 255 }
     ensures value { result ≡ number_named first last word.now }
@@ -70,7 +71,7 @@ fn number_named(first: u32, last: u32, word: &str) -> Option<u8>
     }
 }
 
-// The form of `gen` and a number of drives.
+// Returns the form of `gen` and a number of drives; `None` unless the number is 1 to 64.
 #[tactic(auto, unfolding(crate::specs::Form::gen_form))]
 fn gen_form(number: &str) -> Option<Form>
     ensures value { result ≡ gen_form number.now }
@@ -82,7 +83,7 @@ fn gen_form(number: &str) -> Option<Form>
     }
 }
 
-// The form of `replay` and an address.
+// Returns the form of `replay` and an address; `None` unless the address is 0 to 254.
 #[tactic(auto, unfolding(crate::specs::Form::replay_form))]
 fn replay_form(number: &str) -> Option<Form>
     ensures value { result ≡ replay_form number.now }
@@ -94,7 +95,7 @@ fn replay_form(number: &str) -> Option<Form>
     }
 }
 
-// The form of a word and a number.
+// Returns the form of a command, `gen` or `replay`, and its number; `None` if the words are not such a form.
 #[tactic(auto, unfolding(crate::specs::Form::plain_form, crate::specs::Form::number_form))]
 fn number_form(word: &str, number: &str) -> Option<Form>
     ensures value { result ≡ plain_form (word.now ∷ number.now ∷ []) }
@@ -109,8 +110,8 @@ fn number_form(word: &str, number: &str) -> Option<Form>
     }
 }
 
-// The command line as `clap` reads it: a command and its number, each of which may be missing. It has no help and no
-// version of its own.
+// Returns the command line as `clap` reads it: a command and its number, each of which may be missing. It has no help and no version of
+// its own. The error is `AllocError`.
 fn command_line<'a>(alloc: Global) -> Result<Command<'a>, AllocError>
     ensures { IfOk result (λ command. app_of command ≡ command_line) }
 {
@@ -124,7 +125,7 @@ fn command_line<'a>(alloc: Global) -> Result<Command<'a>, AllocError>
         .arg(number)
 }
 
-// The form of words. Those that `clap` refuses are in none.
+// Returns the form of words; `None` if they are in none, as are all those that `clap` refuses. The error is `AllocError`.
 fn read_form(alloc: Global, words: &[&str]) -> Result<Option<Form>, AllocError>
     ensures value { IfOk result (λ form. form ≡ form_of (map (λ word. word.now) words.now)) }
     ensures range { IfOk result (λ form. IfSome form HasNumber) }
@@ -138,7 +139,7 @@ fn read_form(alloc: Global, words: &[&str]) -> Result<Option<Form>, AllocError>
     }
 }
 
-// The form of the values that `clap` found.
+// Returns the form of the command and the number that `clap` found; `None` without a command, or if these are not a form.
 #[tactic(auto, unfolding(crate::specs::Form::plain_form))]
 fn matched_form(word: Option<&str>, number: Option<&str>) -> Option<Form>
     ensures none { word.entry ≡ None → result ≡ None }
@@ -154,8 +155,8 @@ fn matched_form(word: Option<&str>, number: Option<&str>) -> Option<Form>
     }
 }
 
-/// Returns the form in which the words are, or nothing if they are in none. One word `--` may be anywhere among them. The error is
-/// `AllocError`; it is returned for one to three words alone, since no other number of words needs memory.
+/// Returns the form of the words; `None` if they are in none. One word `--` may be anywhere among them. The error is `AllocError`; it is
+/// returned only for one to three words, since no other number of words needs memory.
 pub fn form_of(alloc: Global, words: &Words) -> Result<Option<Form>, AllocError>
     ensures count { (words.now ≡ []) ⊎ (3 < length words.now) → result ≡ Ok None }
     ensures value { IfOk result (λ form. form ≡ form_of words.now) }
