@@ -10,11 +10,11 @@ pub returns-in-Ok : goal.returns-in-Ok
 returns-in-Ok g c =
     let carry = g.L.BitLink.carry c.args.link in
     let restarts = g.L.BitLink.restart c.args.link in record {
-      reply = is_reply c.saved_reply.result (saved_answer c.as_slice-in-Ok.result.now) _
-          (ap saved_answer (c.as_slice-in-Ok.ensures.value ∙ c.in_ok-run-in-Ok.ensures.list) ∙ data_few c.args.setup.now carry restarts c.in-Ok.jobs.items c.in-Ok.ensures.value.1
+      reply = is_reply c.saved_reply.result (saved_answer c.as_slice.result.now) _
+          (ap saved_answer (c.as_slice.ensures.value ∙ c.in_ok-run-in-Ok.ensures.list) ∙ data_few c.args.setup.now carry restarts c.in-Ok.jobs.items c.in-Ok.ensures.value.1
           ∙ ap (data_answer c.args.setup.now carry restarts) c.in-Ok.ensures.value.0)
           c.saved_reply.ensures.status c.saved_reply.ensures.text;
-      typed = if_ok c.saved_reply.result (typed_few c.as_slice.result.now _ (c.as_slice.ensures.value ∙ c.in-Ok.ensures.value.0) c.in-Ok.ensures.typed);
+      typed = if_ok c.saved_reply.result (typed_few c.in-Ok.jobs.items _ c.in-Ok.ensures.value.0 c.in-Ok.ensures.typed);
     }
 
 pub returns-in-Err-TooMany : goal.returns-in-Err-TooMany
