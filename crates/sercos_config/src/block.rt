@@ -155,8 +155,8 @@ fn read_attribute(keys: &Keys<'_>) -> Result<Attribute, BadDocument>
     }
 }
 
-// Returns the name or unit under `key`; `None` if the key is absent. The error is `Kind`, or `Range` with the text's length in bytes if
-// it hasn't 1 to `most` bytes, all of them printable.
+// Returns the name or unit under `key`; `None` if the key is absent. The error is `Kind`, or `Range` with the text's length in bytes
+// unless it has 1 to `most` bytes, all of them printable.
 #[tactic(auto, unfolding(crate::specs::Block::text_under))]
 fn read_text(keys: &Keys<'_>, key: &str, most: usize) -> Result<Option<Text>, BadDocument>
     requires { most ≤ 1024 }

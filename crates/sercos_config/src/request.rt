@@ -199,7 +199,8 @@ fn read_asked(
     }
 }
 
-// Reads which element of the block is read, from `element`: 1 to 7, and 7 if the key is absent. The error is `Kind` or `Range`.
+// Reads which element of the block `idn` is read, from `element`: 1 to 7, and 7 if the key is absent. The error is `Kind` or `Range`.
+// Only the contract uses `drives` and `address`.
 #[tactic(auto, unfolding(crate::specs::Request::asked_of))]
 fn read_read(
     keys: &Keys<'_>,
@@ -220,8 +221,8 @@ fn read_read(
     })
 }
 
-// Reads what is written: the element, from `element`, 2 to 7, and 7 if the key is absent; and its bytes, from `data`. The error is
-// `Missing` for `data`, or `Kind` or `Range`.
+// Reads what is written to the block `idn`: the element, from `element`, 2 to 7, and 7 if the key is absent; and its bytes, from `data`.
+// The error is `Missing` for `data`, or `Kind` or `Range`. Only the contract uses `drives` and `address`.
 #[tactic(auto, unfolding(crate::specs::Request::asked_of))]
 fn read_write(
     keys: &Keys<'_>,

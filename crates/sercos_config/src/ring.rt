@@ -60,9 +60,9 @@ fn known(keys: &Keys<'_>) -> Result<(), BadDocument>
     keys.known(&["rate", "cycle", "control", "gap", "cycles", "order"])
 }
 
-/// Returns the indices of the drives in the ring, from 0, in the order of the list of addresses under `order`; in that of the ring if the
-/// key is absent. The error is `Kind`; `Range` if the list hasn't one item for each drive, or at an item that is no drive's address; or
-/// `Twice` at an item that names a drive again.
+/// Returns the indices of the drives in the ring, from 0, in the order of the list of addresses under `order`. If the key is absent, the
+/// order is that of the ring. The error is `Kind` at the list or an item; `Range` at the list if it doesn't have one item for each drive,
+/// or at an item that is no drive's address; or `Twice` at an item that names a drive again.
 #[tactic(auto, unfolding(crate::specs::Ring::order_of))]
 pub(crate) fn read_order(
     keys: &Keys<'_>,
