@@ -76,7 +76,7 @@ fn restart(station: &mut Station) -> u8
     }
 }
 
-// Writes the phase of a station, 0 to 4, to `phase`. Returns `CLOSED`, and writes nothing, if the station isn't a drive.
+// Writes the phase of a station to `phase`. Returns `CLOSED`, and writes nothing, if the station isn't a drive.
 fn phase(station: &Station, phase: &mut u8) -> u8
     ensures status { result ≡ drive_status (Some station.now) }
     ensures phase { (d : DriveView) (rate : ℕ) (h : List DriveCall) → HoldsDrive (Some station.now) d rate h → phase.new ≡ phase_at d rate h }
