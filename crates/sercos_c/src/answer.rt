@@ -7,7 +7,8 @@ use sercos_app::{Clean, sercos};
 use sercos_io::{Status, Words};
 use std::alloc::Global;
 
-// Answers words and an input into an empty sink, which stays the same slice.
+// Runs the command of these words over an input, and writes its output to a sink that has taken nothing. Returns its status. The sink
+// stays over the same slice.
 fn answer_into(alloc: Global, words: &Words, input: &[u8], sink: &mut SliceSink<'_>) -> Status
     requires fresh { sink.old.is_full ≡ false }
     requires empty { sink.old.place ≡ 0 }
@@ -18,7 +19,8 @@ fn answer_into(alloc: Global, words: &Words, input: &[u8], sink: &mut SliceSink<
     sercos(alloc, words, &mut source, sink, Clean)
 }
 
-/// Answers words and an input. Returns the status, and how many bytes of the answer were written to the front of the room.
+/// Runs the command of these words over an input, and writes its output to the front of `output`. Returns its status, and the number of
+/// bytes of the output that were written.
 pub(crate) fn answer(
     alloc: Global,
     words: &Words,

@@ -4,20 +4,21 @@ ghost use Rattle.sercos_c.specs.Frames.{bad_frame_of, no_bad_frame};
 
 use sercos_hdlc::BadFrame;
 
-/// Why bits are not a frame: the number of the rule, 1 to 8, and what it names; all 0 if they are one.
+/// Why bits are not a frame: the number of the rule that they break, 1 to 8, and what it reports. All fields are 0 if they are a frame.
 #[repr(C)]
 #[derive(Clone, Copy)]
 pub struct SercosBadFrame {
-    /// 1: no opening flag; 2: no closing flag; 3: six ones where no flag may be; 4: no whole bytes; 5: too few bytes; 6: too
+    /// 1: no opening flag; 2: no closing flag; 3: six ones where no flag may be; 4: not whole bytes; 5: too few bytes; 6: too
     /// many; 7: another check sequence; 8: bits after the closing flag.
     pub kind: u8,
-    /// The place, number or check sequence that was found.
+    /// For kind 1: 0. 2: the number of all bits. 3 and 8: the place of a bit, from 0. 4: the number of bits between the flags, without the
+    /// inserted zeros. 5 and 6: the number of bytes between the flags. 7: the check sequence that was found.
     pub found: u32,
-    /// The check sequence that was wanted.
+    /// For kind 7 the check sequence that was wanted; otherwise 0.
     pub wanted: u32,
 }
 
-// The struct of a rule that names one number.
+// Returns the struct of a rule that reports one number.
 fn of_number(kind: u8, found: u32) -> SercosBadFrame
     ensures { result ≡ record { kind = kind; found = found; wanted = 0 } }
 {
@@ -28,14 +29,14 @@ fn of_number(kind: u8, found: u32) -> SercosBadFrame
     }
 }
 
-/// Returns the struct of bits that are a frame.
+/// Returns the struct for bits that are a frame: all fields are 0.
 pub(crate) fn no_bad_frame() -> SercosBadFrame
     ensures { result ≡ no_bad_frame }
 {
     of_number(0, 0)
 }
 
-/// Returns the struct of a reason.
+/// Returns the struct of the reason for which bits are not a frame.
 pub(crate) fn bad_frame_of(reason: BadFrame) -> SercosBadFrame
     ensures { result ≡ bad_frame_of reason }
 {

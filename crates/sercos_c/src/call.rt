@@ -9,7 +9,8 @@ use crate::words::read_words;
 use sercos_io::Status;
 use std::alloc::Global;
 
-// Answers the words of a text and an input.
+// Runs the command whose words are the lines of `words` over an input, and writes its output to the front of `output`. Returns its
+// status, and the number of bytes that were written. If a word isn't UTF-8, the status is `BadWords`, or `Memory` if no memory was found.
 fn call(alloc: Global, words: &[u8], input: &[u8], output: &mut [u8]) -> (Status, usize)
     ensures within { result.1 ≤ length output.new }
     ensures called { IsCallOf (lines_of words.now) input.now (length output.old) (status_code result.0) (take result.1 output.new) }
@@ -23,9 +24,10 @@ fn call(alloc: Global, words: &[u8], input: &[u8], output: &mut [u8]) -> (Status
     answer(alloc, &words, input, output)
 }
 
-/// Runs a command: its words, one a line, over an input, with its output at the front of a room; `written` is the number of its bytes.
-/// Returns the exit status of the program, never 4. After status 5 the output was longer than the room, and fills it; after 3 too, if the
-/// refusal was. Words that aren't UTF-8 are no command: status 2, or 6.
+/// Runs a command over `input`: the lines of `words` are its words. Its output is written to the front of `output`, and `written` is the
+/// number of its bytes. Returns the exit status of the program, 0 to 7, but never 4. After status 5 the output was longer than `output`,
+/// which has as much of it as fits; the same holds for a refusal, status 3, that was longer. Words that aren't UTF-8 are no command:
+/// status 2, or 6 if no memory was found.
 #[unsafe(no_mangle)]
 pub extern "C" fn sercos_call(
     alloc: Global,

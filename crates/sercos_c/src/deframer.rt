@@ -16,7 +16,8 @@ use sercos_bits::MAX_CONTENT;
 use sercos_hdlc::Deframer;
 use std::alloc::Global;
 
-// Takes the first bits of bytes, `count` of them, if there are as many, and a deframer can take them.
+// Feeds the first `count` bits of `bits` to a deframer. Returns `REFUSED` if there are fewer bits; otherwise `TOO_LONG` if more than 2^31
+// bits would have been taken since the frame began. Then none are taken.
 fn feed(deframer: &mut Deframer, bits: &[u8], count: usize) -> u8
     ensures status { result ≡ feed_status (taken_of deframer.old) (length bits.now) count }
     ensures fed { result ≡ done → (before : List Bool) → IsFed before deframer.old → IsFed (before ++ take count (bits_of bits.now)) deframer.new }
@@ -32,7 +33,7 @@ fn feed(deframer: &mut Deframer, bits: &[u8], count: usize) -> u8
     DONE
 }
 
-// Feeds bits to a station, if it is a deframer.
+// Feeds the first `count` bits of `bits` to a station, as `feed` does. Returns `CLOSED` if the station isn't a deframer.
 fn feed_station(station: &mut Station, bits: &[u8], count: usize) -> u8
     ensures closed { (result == closed) ≡ not (is_deframer (Some station.old)) }
     ensures status { (before : List Bool) → HoldsFed before (Some station.old) → result ≡ feed_status (length before) (length bits.now) count }
@@ -45,7 +46,8 @@ fn feed_station(station: &mut Station, bits: &[u8], count: usize) -> u8
     }
 }
 
-// Reads all bits so far as a frame, and begins anew, if a content has room.
+// Reads all bits so far as a frame, and begins anew, as `read_frame` does. Returns `WRITE_FAULT` if `out` has fewer than 2,048 bytes;
+// then `written` is 0, and the bits stay.
 fn finish(
     deframer: &mut Deframer,
     out: &mut [u8],
@@ -67,7 +69,7 @@ fn finish(
     read_frame(deframer, out, written, why)
 }
 
-// Ends the input of a station, if it is a deframer.
+// Reads all bits of a station as a frame, as `finish` does. Returns `CLOSED`, and changes nothing, if the station isn't a deframer.
 fn finish_station(
     station: &mut Station,
     out: &mut [u8],
@@ -88,8 +90,8 @@ fn finish_station(
     }
 }
 
-/// Begins a frame: no bit of it has been taken. What was held before is given back. Returns `MEMORY` if no memory was found;
-/// then nothing is held.
+/// Begins a frame: no bit of it has been taken. What the handle held before is closed. Returns `MEMORY` if no memory was found; then
+/// nothing is held.
 #[unsafe(no_mangle)]
 pub extern "C" fn sercos_deframer_open(alloc: Global, deframer: &mut Handle) -> u8
     ensures status { (result ≡ done) ⊎ (result ≡ no_memory) }
@@ -99,8 +101,9 @@ pub extern "C" fn sercos_deframer_open(alloc: Global, deframer: &mut Handle) -> 
     open(alloc, Station::Deframer(Deframer::new()), deframer)
 }
 
-/// Takes the first `count` bits. A frame may be cut anywhere. Returns `CLOSED` if no deframer is held; otherwise `REFUSED` if
-/// there are fewer bits; otherwise `TOO_LONG` if more than 2^31 bits would have been taken since it began. Then none are taken.
+/// Takes the first `count` bits of `bits`: bit n is bit n % 8 of byte n / 8. A frame may be cut anywhere. Returns `CLOSED` if no deframer
+/// is held; otherwise `REFUSED` if there are fewer bits; otherwise `TOO_LONG` if more than 2^31 bits would have been taken since the
+/// frame began. Then none are taken.
 #[unsafe(no_mangle)]
 pub extern "C" fn sercos_deframer_feed(
     alloc: Global,
@@ -122,9 +125,10 @@ pub extern "C" fn sercos_deframer_feed(
     status
 }
 
-/// Writes the content of the frame that all bits so far are to the front of `out`, and begins anew. Returns `CLOSED` if no
-/// deframer is held, and then nothing changes; otherwise `WRITE_FAULT` if `out` has fewer than 2,048 bytes, and then it doesn't
-/// begin anew; otherwise `NO`, with the reason in `why`, if the bits are not a frame.
+/// Reads all bits so far as a frame, writes its content to the front of `out`, and begins a new frame. `written` is the number of the
+/// content's bytes. Returns `CLOSED` if no deframer is held, and then nothing changes. Otherwise it returns `WRITE_FAULT` if `out` has
+/// fewer than 2,048 bytes; then the bits stay. Otherwise it returns `NO`, with the reason in `why`, if the bits are not a frame. After
+/// the last two `written` is 0.
 #[unsafe(no_mangle)]
 pub extern "C" fn sercos_deframer_finish(
     alloc: Global,

@@ -1,4 +1,4 @@
-//! A drive of its own, whose calls a program in another language makes.
+//! A drive whose calls a program in another language makes.
 ghost use Rattle.std.specs.Prelude.{◌≡◌, ◌≢◌, ℕ, ◌≤◌, ◌<◌, ◌⊎◌, ◌==◌, not, List, ◌∷◌, Option, Some, None, true};
 ghost use Rattle.std.specs.Option.{option_copied};
 ghost use Rattle.sercos_block.specs.Views.{DriveView};
@@ -21,14 +21,14 @@ use sercos_idn::Idn;
 use sercos_idn::element::{DATA, NAME};
 use std::alloc::Global;
 
-/// What arrived at a place of a cycle.
+/// Returns what arrived at a place of a cycle: the content if a frame arrived, and otherwise `None`.
 pub(crate) fn arrival(arrived: bool, content: &[u8]) -> Option<&[u8]>
     ensures { option_copied result ≡ arrival arrived content.now }
 {
     if arrived { Some(content) } else { None }
 }
 
-// Takes what arrived at the MST's place of a cycle.
+// Passes what arrived at the MST's place of a cycle to a station. Returns `CLOSED`, and changes nothing, if the station isn't a drive.
 fn hear_mst(station: &mut Station, cycle: u32, content: Option<&[u8]>) -> u8
     ensures status { result ≡ drive_status (Some station.old) }
     ensures same { result ≡ closed → station.new ≡ station.old }
@@ -44,7 +44,7 @@ fn hear_mst(station: &mut Station, cycle: u32, content: Option<&[u8]>) -> u8
     }
 }
 
-// Takes what arrived at the MDT's place.
+// Passes what arrived at the MDT's place of a cycle to a station. Returns `CLOSED`, and changes nothing, if the station isn't a drive.
 fn hear_mdt(station: &mut Station, content: Option<&[u8]>) -> u8
     ensures status { result ≡ drive_status (Some station.old) }
     ensures same { result ≡ closed → station.new ≡ station.old }
@@ -60,7 +60,7 @@ fn hear_mdt(station: &mut Station, content: Option<&[u8]>) -> u8
     }
 }
 
-// Restarts the drive.
+// Restarts a station. Returns `CLOSED`, and changes nothing, if the station isn't a drive.
 fn restart(station: &mut Station) -> u8
     ensures status { result ≡ drive_status (Some station.old) }
     ensures same { result ≡ closed → station.new ≡ station.old }
@@ -76,7 +76,7 @@ fn restart(station: &mut Station) -> u8
     }
 }
 
-// Writes the phase of the drive.
+// Writes the phase of a station to `phase`. Returns `CLOSED`, and writes nothing, if the station isn't a drive.
 fn phase(station: &Station, phase: &mut u8) -> u8
     ensures status { result ≡ drive_status (Some station.now) }
     ensures phase { (d : DriveView) (rate : ℕ) (h : List DriveCall) → HoldsDrive (Some station.now) d rate h → phase.new ≡ phase_at d rate h }
@@ -91,7 +91,9 @@ fn phase(station: &Station, phase: &mut u8) -> u8
     }
 }
 
-// Writes this cycle's AT, and its start.
+// Writes the content of this cycle's AT to the front of `out`, and its start, in microseconds after the MST's end, to `start`. Returns
+// `NO` if the drive sends none, and then the start stays as it was; otherwise `WRITE_FAULT` if there is too little room. Then `written`
+// is 0.
 fn at_of(drive: &Drive, out: &mut [u8], written: &mut usize, start: &mut u16) -> u8
     ensures open { result ≢ closed }
     ensures said { (d : DriveView) (rate : ℕ) (h : List DriveCall) → DriveStandsFor drive.now d rate h
@@ -110,7 +112,7 @@ fn at_of(drive: &Drive, out: &mut [u8], written: &mut usize, start: &mut u16) ->
     }
 }
 
-// Writes the AT of a station, if it is a drive.
+// Writes this cycle's AT of a station, as `at_of` does. Returns `CLOSED`, and writes nothing, if the station isn't a drive.
 fn at(station: &Station, out: &mut [u8], written: &mut usize, start: &mut u16) -> u8
     ensures closed { (result == closed) ≡ not (is_drive (Some station.now)) }
     ensures said { (d : DriveView) (rate : ℕ) (h : List DriveCall) → HoldsDrive (Some station.now) d rate h
@@ -123,7 +125,9 @@ fn at(station: &Station, out: &mut [u8], written: &mut usize, start: &mut u16) -
     }
 }
 
-// Writes the bytes of an element, 2 to 7, of a data block, or why there are none.
+// Writes the bytes of an element, 2 to 7, of the drive's data block `idn` to the front of `out`. Returns `NO` if there is none, and then
+// `code` is the error that a service transfer gets; otherwise `code` is 0, and the result is `WRITE_FAULT` if there is too little room.
+// In both cases `written` is 0.
 fn element_of(
     drive: &Drive,
     idn: u16,
@@ -150,7 +154,7 @@ fn element_of(
     }
 }
 
-// The same, for an element that may be another one.
+// Writes the bytes of an element, as `element_of` does. Returns `REFUSED` if the element isn't 2 to 7; then `written` and `code` are 0.
 fn element_if(
     drive: &Drive,
     idn: u16,
@@ -172,8 +176,8 @@ fn element_if(
     element_of(drive, idn, element, out, written, code)
 }
 
-// Writes an element of a data block to the front of `out`, as `element_if` does. Returns `CLOSED`, and writes nothing, if the station isn't
-// a drive.
+// Writes the bytes of an element of a station's data block, as `element_if` does. Returns `CLOSED`, and writes nothing, if the station
+// isn't a drive.
 fn write_element(
     station: &Station,
     idn: u16,
@@ -203,8 +207,8 @@ pub extern "C" fn sercos_drive_close(alloc: Global, drive: &mut Handle)
     close(alloc, drive);
 }
 
-/// Takes what arrived at the MST's place of a cycle: the content of a frame, if one arrived. The cycle isn't below an earlier
-/// one. Returns `CLOSED` if no drive is held.
+/// Takes what arrived at the MST's place of a cycle: `content` if a frame arrived, and otherwise nothing. The cycle may not be below an
+/// earlier one. Returns `CLOSED` if no drive is held.
 #[unsafe(no_mangle)]
 pub extern "C" fn sercos_drive_hear_mst(
     alloc: Global,
@@ -226,8 +230,8 @@ pub extern "C" fn sercos_drive_hear_mst(
     status
 }
 
-/// Takes what arrived at the MDT's place of this cycle: the content of a frame, if one arrived. Returns `CLOSED` if no drive is
-/// held.
+/// Takes what arrived at the MDT's place of this cycle: `content` if a frame arrived, and otherwise nothing. Returns `CLOSED` if no drive
+/// is held.
 #[unsafe(no_mangle)]
 pub extern "C" fn sercos_drive_hear_mdt(
     alloc: Global,
@@ -280,9 +284,9 @@ pub extern "C" fn sercos_drive_phase(alloc: Global, drive: &mut Handle, phase: &
     status
 }
 
-/// Writes the content of this cycle's AT to the front of `out`, and its start in microseconds after the MST's end. Returns
-/// `CLOSED` if no drive is held; otherwise `NO` if it sends none, and then the start stays as it was; otherwise `WRITE_FAULT`
-/// if there is too little room, and then `written` is 0.
+/// Writes the content of this cycle's AT to the front of `out`, and its start, in microseconds after the MST's end, to `start`. Returns
+/// `CLOSED` if no drive is held. Otherwise it returns `NO` if the drive sends none, and then the start stays as it was; or `WRITE_FAULT`
+/// if there is too little room. After the last two `written` is 0.
 #[unsafe(no_mangle)]
 pub extern "C" fn sercos_drive_at(
     alloc: Global,
@@ -305,9 +309,9 @@ pub extern "C" fn sercos_drive_at(
     status
 }
 
-/// Writes the bytes of an element of a data block, 2 to 7, at most 1,024, to the front of `out`. A number has its low byte
-/// first. Returns `CLOSED` if no drive is held; otherwise `REFUSED` if the element isn't 2 to 7; otherwise `NO` if there is
-/// none, and then `code` is the error that a service transfer gets; otherwise `WRITE_FAULT` if there is too little room. Then
+/// Writes the bytes of an element, 2 to 7, of the data block `idn` to the front of `out`: at most 1,024. A number has its low byte first.
+/// Returns `CLOSED` if no drive is held. Otherwise it returns `REFUSED` if the element isn't 2 to 7; `NO` if there is no such element,
+/// and then `code` is the error that a service transfer gets; or `WRITE_FAULT` if there is too little room. After the last three
 /// `written` is 0.
 #[unsafe(no_mangle)]
 pub extern "C" fn sercos_drive_element(

@@ -15,7 +15,7 @@ use sercos_config::{BadDocument, Document, read_ring};
 use sercos_drive::Drive;
 use std::alloc::{AllocError, Global};
 
-// Opens the drive at a place of a ring, which it has.
+// Opens the drive with the index `place`, from 0, in a ring. The error is `AllocError`.
 fn drive_in(alloc: Global, setup: &RingSetup, place: usize) -> Result<Drive, AllocError>
     requires ring { is_ring setup.now ≡ true }
     requires within { place < length setup.now.drives }
@@ -24,7 +24,8 @@ fn drive_in(alloc: Global, setup: &RingSetup, place: usize) -> Result<Drive, All
     Drive::open(alloc, &setup.drives[place], setup.rate)
 }
 
-// Opens the drive at a place of a document. `None` if there is none.
+// Opens the drive with the index `place`, from 0, in the ring of a document. `None` if the ring has no such drive. The error is the
+// document's refusal, or `Memory`.
 fn drive_at(alloc: Global, document: &[u8], place: usize) -> Result<Option<Drive>, BadDocument>
     ensures { IsOpening document.now place result }
 {
@@ -38,9 +39,9 @@ fn drive_at(alloc: Global, document: &[u8], place: usize) -> Result<Option<Drive
     }
 }
 
-/// Opens the drive at a place of a ring document, the first at 0, in phase 0. What was held before is given back. Returns
-/// `REFUSED` if the document is refused; otherwise `NO` if there is no such drive; or `MEMORY` if no memory was found. Then
-/// nothing is held.
+/// Opens the drive with the index `place`, from 0, in the ring of a document. The drive is in phase 0. What the handle held before is
+/// closed. Returns `REFUSED` if the document is refused; otherwise `NO` if there is no such drive; or `MEMORY` if no memory was found.
+/// Then nothing is held.
 #[unsafe(no_mangle)]
 pub extern "C" fn sercos_drive_open(
     alloc: Global,

@@ -33,7 +33,7 @@ fn pad(bits: &mut BitBuf)
     push_number(0, (8 - rest) % 8, bits);
 }
 
-// Writes bits, eight for each byte of a room.
+// Writes the bits to `out`, which has one byte for each eight of them.
 fn fill(bits: &BitBuf, out: &mut [u8])
     requires { length bits.now ≡ 8 * length out.old }
     ensures { bits_of out.new ≡ bits.now }
@@ -76,7 +76,7 @@ pub extern "C" fn sercos_frame(content: &[u8], out: &mut [u8], bits: &mut u32) -
     DONE
 }
 
-/// Takes the first bits of bytes, `count` of them.
+/// Feeds the first `count` bits of `bits` to a deframer.
 pub(crate) fn feed_bits(deframer: &mut Deframer, bits: &[u8], count: usize)
     requires within { count ≤ 8 * length bits.now }
     requires fits { taken_of deframer.old + count ≤ 2 ^ 31 }
@@ -91,8 +91,8 @@ pub(crate) fn feed_bits(deframer: &mut Deframer, bits: &[u8], count: usize)
     }
 }
 
-/// Writes the content of the frame that the bits so far are to the front of `out`, and begins anew. Returns `NO`, with the reason
-/// in `why`, if they are not a frame; otherwise `WRITE_FAULT` if there is too little room.
+/// Reads all bits so far as a frame, writes its content to the front of `out`, and begins a new frame. Returns `NO`, with the reason in
+/// `why`, if they are not a frame; otherwise `WRITE_FAULT` if there is too little room. Then `written` is 0.
 pub(crate) fn read_frame(
     deframer: &mut Deframer,
     out: &mut [u8],
@@ -118,9 +118,9 @@ pub(crate) fn read_frame(
     }
 }
 
-/// Writes the content of the frame that the first `count` bits are to the front of `out`. Returns `REFUSED` if there are fewer
-/// bits; otherwise `TOO_LONG` if `count` is above 2^31; otherwise `NO`, with the reason in `why`, if the bits are not a frame;
-/// otherwise `WRITE_FAULT` if there is too little room for the content. Then nothing is written, and `written` is 0.
+/// Reads the first `count` bits of `bits` as a frame, and writes its content to the front of `out`. Returns `REFUSED` if there are fewer
+/// bits; otherwise `TOO_LONG` if `count` is above 2^31; otherwise `NO`, with the reason in `why`, if the bits are not a frame; otherwise
+/// `WRITE_FAULT` if there is too little room for the content. Then nothing is written, and `written` is 0.
 #[unsafe(no_mangle)]
 pub extern "C" fn sercos_unframe(
     bits: &[u8],

@@ -8,7 +8,7 @@ use crate::status::{DONE, MEMORY};
 use std::alloc::Global;
 use std::mem;
 
-/// A station that a program holds, or none. All zeros are none.
+/// A station that a program holds, or nothing. A handle of zeros holds nothing.
 #[repr(C)]
 #[derive(Drop)]
 pub struct Handle {
@@ -17,7 +17,7 @@ pub struct Handle {
     ghost agrees: { is_open ≡ is_some held.value },
 }
 
-/// Takes the station out, if there is one.
+/// Takes the station out of a handle, which then holds nothing. `None` if it held nothing.
 pub(crate) fn take_out(alloc: Global, handle: &mut Handle) -> Option<Box<Station>>
     ensures value { option_map (λ b. b.value) result ≡ handle.old.held.value }
     ensures none { handle.new.held.value ≡ None }
@@ -34,7 +34,7 @@ pub(crate) fn take_out(alloc: Global, handle: &mut Handle) -> Option<Box<Station
     }
 }
 
-/// Puts a station back.
+/// Puts a station into a handle.
 pub(crate) fn put_back(station: Box<Station>, handle: &mut Handle)
     ensures { handle.new.held.value ≡ Some station.value }
 {
@@ -44,14 +44,14 @@ pub(crate) fn put_back(station: Box<Station>, handle: &mut Handle)
     };
 }
 
-/// Drops the station, if there is one, and frees its memory. The handle then holds none, and may be closed again.
+/// Drops the station of a handle, if it holds one, and frees its memory. The handle then holds nothing, and may be closed again.
 pub(crate) fn close(alloc: Global, handle: &mut Handle)
     ensures { handle.new.held.value ≡ None }
 {
     let _before = take_out(alloc, handle);
 }
 
-/// Closes the handle, and then holds a station with it. Returns `MEMORY` if there is none for it; then nothing is held.
+/// Closes a handle, and puts a station into it. Returns `DONE`, or `MEMORY` if there is no memory for the station; then nothing is held.
 pub(crate) fn open(alloc: Global, station: Station, handle: &mut Handle) -> u8
     ensures done { result ≡ 0 → handle.new.held.value ≡ Some station }
     ensures none { result ≢ 0 → handle.new.held.value ≡ None }

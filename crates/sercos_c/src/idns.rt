@@ -9,7 +9,7 @@ use crate::room::put;
 use crate::status::{DONE, NO};
 use sercos_idn::{Idn, idn_fault};
 
-// Returns the number that a text without a fault spells. Such a text is UTF-8, so the two other arms are never taken.
+// Returns the identifier number that a text without a fault spells. Such a text is UTF-8, so the two other arms are never taken.
 fn spelled(text: &[u8]) -> u16
     requires { idn_fault text.now ≡ None }
     ensures value { result ≡ spelled_raw text.now }
@@ -24,9 +24,9 @@ fn spelled(text: &[u8]) -> u16
     }
 }
 
-/// Writes the identifier number that a text spells, as "S-0-0127", to `idn`. Returns `NO` if it spells none: `place` is then the
-/// first byte that doesn't fit, the text's length if a byte is missing, 4 if the number is above 4095, and 8 if the text goes on
-/// after the number; `idn` stays as it was.
+/// Writes the identifier number that a text such as "S-0-0127" spells to `idn`; `place` is then 0. Returns `NO` if it spells none, and
+/// then `idn` stays as it was. `place` is then the offset of the first byte that doesn't fit, the text's length if a byte is missing, 4
+/// if the number is above 4095, or 8 if the text goes on after the number.
 #[unsafe(no_mangle)]
 pub extern "C" fn sercos_idn_parse(text: &[u8], idn: &mut u16, place: &mut usize) -> u8
     ensures status { result ≡ parse_status (idn_fault text.now) }

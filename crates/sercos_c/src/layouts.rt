@@ -4,7 +4,7 @@ ghost use Rattle.sercos_c.specs.Telegrams.{layout_of};
 
 use sercos_telegram::Layout;
 
-/// Why a content is not the telegram; all 0 if it is.
+/// Why a content is not the telegram. All fields are 0 if it is.
 #[repr(C)]
 #[derive(Clone, Copy)]
 pub struct SercosLayout {
@@ -16,7 +16,7 @@ pub struct SercosLayout {
     pub wanted: usize,
 }
 
-/// Returns the struct of a content that is the telegram.
+/// Returns the struct for a content that is the telegram: all fields are 0.
 pub(crate) fn no_fault() -> SercosLayout
     ensures { result ≡ layout_of None }
 {
@@ -27,7 +27,7 @@ pub(crate) fn no_fault() -> SercosLayout
     }
 }
 
-/// Returns the struct of a fault.
+/// Returns the struct of the fault for which a content is not the telegram.
 pub(crate) fn layout_of(fault: Layout) -> SercosLayout
     ensures { result ≡ layout_of (Some fault) }
 {

@@ -1,4 +1,4 @@
-//! A master of its own, whose calls a program in another language makes.
+//! A master whose calls a program in another language makes.
 ghost use Rattle.std.specs.Prelude.{◌≡◌, ◌≤◌, ◌<◌, ◌⊎◌, ◌==◌, ◌∷◌, not, true, false, List, length, Some, None};
 ghost use Rattle.sercos_block.specs.Rings.{wishes_of};
 ghost use Rattle.sercos_trace.specs.Texts.{cycle_text};
@@ -19,7 +19,8 @@ use crate::station::Station;
 use crate::status::CLOSED;
 use std::alloc::Global;
 
-// Writes the MST of a station, if it is a master.
+// Writes the content of a station's MST, as `MasterStation::mst` does. Returns `CLOSED`, and writes nothing, if the station isn't a
+// master.
 fn mst(station: &Station, out: &mut [u8], written: &mut usize) -> u8
     ensures closed { (result == closed) ≡ not (is_master (Some station.now)) }
     ensures said { (d : DocumentView) (h : List Call) → HoldsMaster (Some station.now) d h → IsPut (mst_said (past_of d h)) out.old out.new written.new result }
@@ -31,7 +32,8 @@ fn mst(station: &Station, out: &mut [u8], written: &mut usize) -> u8
     }
 }
 
-// Hands a station what came back of its MST, if it is a master.
+// Passes what came back of its MST to a station: the content if a frame arrived, and otherwise nothing. Returns `CLOSED`, and changes
+// nothing, if the station isn't a master.
 fn hear_mst(station: &mut Station, arrived: bool, content: &[u8]) -> u8
     ensures closed { (result == closed) ≡ not (is_master (Some station.old)) }
     ensures status { (result ≡ done) ⊎ (result ≡ closed) }
@@ -44,7 +46,7 @@ fn hear_mst(station: &mut Station, arrived: bool, content: &[u8]) -> u8
     }
 }
 
-// Hands a station an AT, if it is a master.
+// Passes the content of a frame at the place of an AT to a station. Returns `CLOSED`, and changes nothing, if the station isn't a master.
 fn hear_at(station: &mut Station, content: &[u8]) -> u8
     ensures closed { (result == closed) ≡ not (is_master (Some station.old)) }
     ensures status { (result ≡ done) ⊎ (result ≡ closed) }
@@ -57,7 +59,8 @@ fn hear_at(station: &mut Station, content: &[u8]) -> u8
     }
 }
 
-// Writes the MDT of a station, if it is a master.
+// Writes the content and the start of a station's MDT, as `MasterStation::mdt` does. Returns `CLOSED`, and changes nothing, if the
+// station isn't a master.
 fn mdt(station: &mut Station, out: &mut [u8], written: &mut usize, start: &mut u16) -> u8
     ensures closed { (result == closed) ≡ not (is_master (Some station.old)) }
     ensures fault { is_master (Some station.old) ≡ true → length out.old < 2048 → IsNothing write_fault out.old out.new written.new result × ((start.new ≡ start.old) × ((Some station.new) ≡ (Some station.old))) }
@@ -71,7 +74,7 @@ fn mdt(station: &mut Station, out: &mut [u8], written: &mut usize, start: &mut u
     }
 }
 
-// Ends the cycle of a station, if it is a master.
+// Ends the cycle of a station. Returns `CLOSED`, and changes nothing, if the station isn't a master.
 fn end_cycle(station: &mut Station) -> u8
     ensures closed { (result == closed) ≡ not (is_master (Some station.old)) }
     ensures status { (result ≡ done) ⊎ (result ≡ closed) }
@@ -84,7 +87,7 @@ fn end_cycle(station: &mut Station) -> u8
     }
 }
 
-// Restarts a station, if it is a master.
+// Restarts a station. Returns `CLOSED`, and changes nothing, if the station isn't a master.
 fn restart(station: &mut Station) -> u8
     ensures closed { (result == closed) ≡ not (is_master (Some station.old)) }
     ensures status { (result ≡ done) ⊎ (result ≡ closed) }
@@ -97,7 +100,7 @@ fn restart(station: &mut Station) -> u8
     }
 }
 
-// Tells the phase that a station commands, if it is a master.
+// Writes the phase that a station commands, 0 to 4, to `phase`. Returns `CLOSED`, and writes nothing, if the station isn't a master.
 fn command(station: &Station, phase: &mut u8) -> u8
     ensures closed { (result == closed) ≡ not (is_master (Some station.now)) }
     ensures status { (result ≡ done) ⊎ (result ≡ closed) }
@@ -111,7 +114,8 @@ fn command(station: &Station, phase: &mut u8) -> u8
     }
 }
 
-// Writes the lines of what a station reports, if it is a master.
+// Writes the trace lines of what a station reports, as `MasterStation::events` does. Returns `CLOSED`, and writes nothing, if the station
+// isn't a master.
 fn events(station: &Station, out: &mut [u8], written: &mut usize) -> u8
     ensures closed { is_master (Some station.now) ≡ false → result ≡ closed }
     ensures written { (d : DocumentView) (h : List Call) → HoldsMaster (Some station.now) d h → IsText (cycle_text (wishes_of d.setup) (silent_record (reported_in h) (reported d h))) out.old out.new written.new result }
@@ -123,7 +127,8 @@ fn events(station: &Station, out: &mut [u8], written: &mut usize) -> u8
     }
 }
 
-/// Writes the content of this cycle's MST to the front of `out`. The status is that of a write fault if it has too little room.
+/// Writes the content of this cycle's MST to the front of `out`. Returns `CLOSED` if no master is held, and then nothing is written;
+/// otherwise `WRITE_FAULT` if there is too little room, and then `written` is 0.
 #[unsafe(no_mangle)]
 pub extern "C" fn sercos_master_mst(
     alloc: Global,
@@ -144,7 +149,8 @@ pub extern "C" fn sercos_master_mst(
     status
 }
 
-/// Takes its own MST as it came back round the ring, the content of a frame, or that none did.
+/// Takes what came back of the master's own MST: `content` if a frame arrived, and otherwise nothing. Returns `CLOSED` if no master is
+/// held.
 #[unsafe(no_mangle)]
 pub extern "C" fn sercos_master_hear_mst(
     alloc: Global,
@@ -165,7 +171,7 @@ pub extern "C" fn sercos_master_hear_mst(
     status
 }
 
-/// Takes the content of a frame at a place of ATs.
+/// Takes the content of a frame that arrived at the place of an AT. Returns `CLOSED` if no master is held.
 #[unsafe(no_mangle)]
 pub extern "C" fn sercos_master_hear_at(alloc: Global, master: &mut Handle, content: &[u8]) -> u8
     ensures closed { (result == closed) ≡ not (is_master master.old.held.value) }
@@ -181,8 +187,10 @@ pub extern "C" fn sercos_master_hear_at(alloc: Global, master: &mut Handle, cont
     status
 }
 
-/// Writes the content of this cycle's MDT to the front of `out`, and its start in microseconds after the MST's end. The status is no if none
-/// is sent; that of a write fault if `out` has fewer than 2,048 bytes, and then nothing is done.
+/// Has the master send this cycle's MDT: writes its content to the front of `out`, and its start, in microseconds after the MST's end, to
+/// `start`. Returns `CLOSED` if no master is held, and then nothing changes. Otherwise it returns `WRITE_FAULT` if `out` has fewer than
+/// 2,048 bytes, and then the master hasn't had its turn; or `NO` if the master sends none. After the last two `written` is 0, and the
+/// start stays as it was.
 #[unsafe(no_mangle)]
 pub extern "C" fn sercos_master_mdt(
     alloc: Global,
@@ -205,7 +213,7 @@ pub extern "C" fn sercos_master_mdt(
     status
 }
 
-/// Ends the cycle: the master falls to phase 0, stays in its phase, or rises to the next.
+/// Ends the cycle: the master falls to phase 0, stays in its phase, or rises to the next. Returns `CLOSED` if no master is held.
 #[unsafe(no_mangle)]
 pub extern "C" fn sercos_master_end_cycle(alloc: Global, master: &mut Handle) -> u8
     ensures closed { (result == closed) ≡ not (is_master master.old.held.value) }
@@ -221,7 +229,7 @@ pub extern "C" fn sercos_master_end_cycle(alloc: Global, master: &mut Handle) ->
     status
 }
 
-/// Restarts the master between two cycles.
+/// Restarts the master between two cycles. Returns `CLOSED` if no master is held.
 #[unsafe(no_mangle)]
 pub extern "C" fn sercos_master_restart(alloc: Global, master: &mut Handle) -> u8
     ensures closed { (result == closed) ≡ not (is_master master.old.held.value) }
@@ -237,7 +245,7 @@ pub extern "C" fn sercos_master_restart(alloc: Global, master: &mut Handle) -> u
     status
 }
 
-/// Writes the phase that is commanded, 0 to 4.
+/// Writes the phase that the master commands, 0 to 4, to `phase`. Returns `CLOSED` if no master is held, and then nothing is written.
 #[unsafe(no_mangle)]
 pub extern "C" fn sercos_master_command(alloc: Global, master: &mut Handle, phase: &mut u8) -> u8
     ensures kept { master.new.held.value ≡ master.old.held.value }
@@ -255,8 +263,9 @@ pub extern "C" fn sercos_master_command(alloc: Global, master: &mut Handle, phas
     status
 }
 
-/// Writes the lines of what the master reported in the cycle that ended last, or in a restart since, to the front of `out`. The status is that
-/// of a write fault if it has too little room.
+/// Writes the trace lines of what the master reported in the cycle that ended last, or in a restart since, to the front of `out`. Returns
+/// `CLOSED` if no master is held, and then nothing is written; otherwise `WRITE_FAULT` if there is too little room, and then `written` is
+/// 0.
 #[unsafe(no_mangle)]
 pub extern "C" fn sercos_master_events(
     alloc: Global,

@@ -17,7 +17,7 @@ use sercos_master::AnyMaster;
 use sercos_trace::CycleRecord;
 use std::alloc::{AllocError, Global};
 
-// Opens the master of a document.
+// Opens the master of a document with its requests. The error is `AllocError`.
 fn master_of(alloc: Global, document: Document) -> Result<MasterStation, AllocError>
     requires ring { is_ring document.setup ≡ true }
     requires few { length document.jobs ≤ 4096 }
@@ -35,7 +35,7 @@ fn master_of(alloc: Global, document: Document) -> Result<MasterStation, AllocEr
     })
 }
 
-// Opens the master of what the bytes are.
+// Opens the master of the document that the bytes are. The error is its refusal, or `Memory`.
 fn master_in(alloc: Global, document: &[u8]) -> Result<MasterStation, BadDocument>
     ensures { IsMasterOpening document.now result }
 {
@@ -46,8 +46,8 @@ fn master_in(alloc: Global, document: &[u8]) -> Result<MasterStation, BadDocumen
     }
 }
 
-/// Opens the master of a ring document with its requests, in phase 0. What was held before is given back. The status is refused if the
-/// document is refused, or memory if none was found; after those nothing is held.
+/// Opens the master of a ring document with its requests. The master is in phase 0. What the handle held before is closed. Returns
+/// `REFUSED` if the document is refused, or `MEMORY` if no memory was found. Then nothing is held.
 #[unsafe(no_mangle)]
 pub extern "C" fn sercos_master_open(alloc: Global, document: &[u8], master: &mut Handle) -> u8
     ensures status { (result ≡ no_memory) ⊎ (result ≡ document_status (document_of document.now)) }

@@ -22,7 +22,8 @@ use sercos_master::{AnyMaster, master_law};
 use sercos_timing::Wishes;
 use sercos_trace::CycleRecord;
 
-/// A master, and what it reported in the cycle that ended last. Between calls the master is there.
+/// A master, and what it reported in the cycle that ended last, or in a restart since. `master` is `None` only during a call. `ended` is
+/// the number of cycles that have ended, which stays at the greatest `u32`.
 #[derive(Drop)]
 pub(crate) struct MasterStation {
     pub(crate) master: Option<AnyMaster>,
@@ -31,7 +32,7 @@ pub(crate) struct MasterStation {
     pub(crate) ended: u32,
 }
 
-// Restarts a master, and makes the record one of what it reports.
+// Restarts a master, and returns it. `kept` is then a record of `cycle` with what the master reports of the restart.
 #[tactic(auto, using(crate::proofs::MasterLemmas::none_few))]
 fn restart_in(master: AnyMaster, cycle: u32, kept: &mut CycleRecord) -> AnyMaster
     ensures stands { (s : Known) (jobs : List Job) (h : List Call) → AnyStandsFor master s jobs h → AnyStandsFor result s jobs (Restart ∷ h) }
@@ -45,7 +46,8 @@ fn restart_in(master: AnyMaster, cycle: u32, kept: &mut CycleRecord) -> AnyMaste
 impl MasterStation {
     ghost use Rattle.sercos_c.specs.Masters.{has_master, past_of, reported, reported_in, IsSent, MasterStandsFor};
 
-    /// Writes the content of the MST.
+    /// Writes the content of this cycle's MST to the front of `out`. Returns `CLOSED`, and writes nothing, if there is no master;
+    /// otherwise `WRITE_FAULT` if there is too little room, and then `written` is 0.
     pub(crate) fn mst(&self, out: &mut [u8], written: &mut usize) -> u8
         ensures closed { (result == closed) ≡ not (has_master self.now.master) }
         ensures said { (d : DocumentView) (h : List Call) → MasterStandsFor self.now d h → IsPut (mst_said (past_of d h)) out.old out.new written.new result }
@@ -59,7 +61,7 @@ impl MasterStation {
         put(said.as_slice(), out, written)
     }
 
-    /// Takes the own MST as it came back, or that it didn't.
+    /// Takes what came back of the master's own MST, the content of a frame or nothing. Returns `CLOSED` if there is no master.
     pub(crate) fn hear_mst(&mut self, content: Option<&[u8]>) -> u8
         ensures closed { (result == closed) ≡ not (has_master self.old.master) }
         ensures status { (result ≡ done) ⊎ (result ≡ closed) }
@@ -73,7 +75,7 @@ impl MasterStation {
         DONE
     }
 
-    /// Takes the content of a frame at a place of ATs.
+    /// Takes the content of a frame that arrived at the place of an AT. Returns `CLOSED` if there is no master.
     pub(crate) fn hear_at(&mut self, content: &[u8]) -> u8
         ensures closed { (result == closed) ≡ not (has_master self.old.master) }
         ensures status { (result ≡ done) ⊎ (result ≡ closed) }
@@ -87,7 +89,10 @@ impl MasterStation {
         DONE
     }
 
-    /// Writes the content of the MDT, and its start, if `out` has 2,048 bytes.
+    /// Has the master send this cycle's MDT: writes its content to the front of `out`, and its start, in microseconds after the MST's
+    /// end, to `start`. Returns `CLOSED`, and changes nothing, if there is no master. Otherwise it returns `WRITE_FAULT` if `out` has
+    /// fewer than 2,048 bytes, and then the master hasn't had its turn; or `NO` if the master sends none. After the last two `written` is
+    /// 0, and the start stays as it was.
     pub(crate) fn mdt(&mut self, out: &mut [u8], written: &mut usize, start: &mut u16) -> u8
         ensures closed { (result == closed) ≡ not (has_master self.old.master) }
         ensures fault { has_master self.old.master ≡ true → length out.old < 2048 →
@@ -113,7 +118,7 @@ impl MasterStation {
         }
     }
 
-    /// Ends the cycle, and keeps what the master reports in it.
+    /// Ends the cycle, and keeps what the master reports in it. Returns `CLOSED` if there is no master.
     pub(crate) fn end_cycle(&mut self) -> u8
         ensures closed { (result == closed) ≡ not (has_master self.old.master) }
         ensures status { (result ≡ done) ⊎ (result ≡ closed) }
@@ -129,7 +134,7 @@ impl MasterStation {
         DONE
     }
 
-    /// Restarts the master, and keeps what it reports of that.
+    /// Restarts the master, and keeps what it reports of that. Returns `CLOSED` if there is no master.
     pub(crate) fn restart(&mut self) -> u8
         ensures closed { (result == closed) ≡ not (has_master self.old.master) }
         ensures status { (result ≡ done) ⊎ (result ≡ closed) }
@@ -143,7 +148,7 @@ impl MasterStation {
         DONE
     }
 
-    /// Returns the phase that is commanded.
+    /// Writes the phase that the master commands, 0 to 4, to `phase`. Returns `CLOSED`, and writes nothing, if there is no master.
     pub(crate) fn command(&self, phase: &mut u8) -> u8
         ensures closed { (result == closed) ≡ not (has_master self.now.master) }
         ensures status { (result ≡ done) ⊎ (result ≡ closed) }
@@ -158,7 +163,9 @@ impl MasterStation {
         DONE
     }
 
-    /// Writes the lines of what the master reported in the cycle that ended last, or in a restart since.
+    /// Writes the trace lines of what the master reported in the cycle that ended last, or in a restart since, to the front of `out`.
+    /// Returns `CLOSED`, and writes nothing, if there is no master; otherwise `WRITE_FAULT` if there is too little room, and then
+    /// `written` is 0.
     pub(crate) fn events(&self, out: &mut [u8], written: &mut usize) -> u8
         ensures closed { has_master self.now.master ≡ false → result ≡ closed }
         ensures written { (d : DocumentView) (h : List Call) → MasterStandsFor self.now d h →

@@ -20,6 +20,7 @@ impl Model for StationPointer {
     ghost also_owns = { λ s. station_owns s.at s.value };
 }
 
+/// Returns the pointer of a box that is held, or of none, without its allocator.
 pub(crate) fn to_pointer(held: Held<Station, Global>) -> StationPointer
     ensures { result.value ≡ held.value }
 {
@@ -27,6 +28,7 @@ pub(crate) fn to_pointer(held: Held<Station, Global>) -> StationPointer
     StationPointer { at: at as *mut u8 }
 }
 
+/// Returns what a pointer holds, a box or none, with an allocator.
 pub(crate) fn to_held(pointer: StationPointer, alloc: Global) -> Held<Station, Global>
     ensures { result.value ≡ pointer.value }
 {

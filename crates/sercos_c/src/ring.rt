@@ -15,7 +15,8 @@ use crate::station::Station;
 use crate::status::CLOSED;
 use std::alloc::Global;
 
-// Writes the head of the trace of a station, if it is a ring.
+// Writes the first lines of a station's trace, as `RingStation::head` does. Returns `CLOSED`, and writes nothing, if the station isn't a
+// ring.
 fn head(station: &Station, out: &mut [u8], written: &mut usize) -> u8
     ensures closed { (result == closed) ≡ not (is_ring (Some station.now)) }
     ensures written { (d : DocumentView) (j : List CycleView) → HoldsRing (Some station.now) d j → IsText (header_text (wishes_of d.setup)) out.old out.new written.new result }
@@ -27,7 +28,7 @@ fn head(station: &Station, out: &mut [u8], written: &mut usize) -> u8
     }
 }
 
-// Makes the next cycle of a station, if it is a ring.
+// Makes the next cycle of a station, as `RingStation::cycle` does. Returns `CLOSED`, and changes nothing, if the station isn't a ring.
 fn cycle(station: &mut Station) -> u8
     ensures closed { (result == closed) ≡ not (is_ring (Some station.old)) }
     ensures status { (d : DocumentView) (j : List CycleView) → HoldsRing (Some station.old) d j → result ≡ (if nat_lt (length j) d.setup.cycles then done else answer_no) }
@@ -41,7 +42,8 @@ fn cycle(station: &mut Station) -> u8
     }
 }
 
-// Writes the lines of the newest cycle of a station, if it is a ring.
+// Writes the trace lines of the cycle that a station made last, as `RingStation::lines` does. Returns `CLOSED`, and writes nothing, if
+// the station isn't a ring.
 fn lines(station: &Station, out: &mut [u8], written: &mut usize) -> u8
     ensures closed { is_ring (Some station.now) ≡ false → result ≡ closed }
     ensures written { (d : DocumentView) (j : List CycleView) → HoldsRing (Some station.now) d j → IsText (lines_of_newest (wishes_of d.setup) j) out.old out.new written.new result }
@@ -53,7 +55,8 @@ fn lines(station: &Station, out: &mut [u8], written: &mut usize) -> u8
     }
 }
 
-// Writes the last line of the trace of a station, if it is a ring.
+// Writes the last line of a station's trace, as `RingStation::end` does. Returns `CLOSED`, and writes nothing, if the station isn't a
+// ring.
 fn end(station: &Station, out: &mut [u8], written: &mut usize) -> u8
     ensures closed { (result == closed) ≡ not (is_ring (Some station.now)) }
     ensures written { (d : DocumentView) (j : List CycleView) → HoldsRing (Some station.now) d j → IsText (end_text (totals_of (reverse j))) out.old out.new written.new result }
@@ -65,8 +68,8 @@ fn end(station: &Station, out: &mut [u8], written: &mut usize) -> u8
     }
 }
 
-/// Writes the first lines of the trace to the front of `out`: the version, the ring, the drives, the order. The status is that of a write fault if it has too little
-/// room.
+/// Writes the first lines of the trace to the front of `out`: the version, the ring, the drives, the order. Returns `CLOSED` if no ring
+/// is held, and then nothing is written; otherwise `WRITE_FAULT` if there is too little room, and then `written` is 0.
 #[unsafe(no_mangle)]
 pub extern "C" fn sercos_ring_head(
     alloc: Global,
@@ -87,8 +90,8 @@ pub extern "C" fn sercos_ring_head(
     status
 }
 
-/// Makes the next cycle. The status is no if all cycles of the document have been made. Its cycles so far have all properties that are
-/// promised of a run.
+/// Makes the next cycle. Returns `CLOSED` if no ring is held; otherwise `NO` if all cycles of the document have been made. Then nothing
+/// changes. The cycles made so far have all properties that are promised of a run.
 #[unsafe(no_mangle)]
 pub extern "C" fn sercos_ring_cycle(alloc: Global, ring: &mut Handle) -> u8
     ensures closed { (result == closed) ≡ not (is_ring ring.old.held.value) }
@@ -105,8 +108,8 @@ pub extern "C" fn sercos_ring_cycle(alloc: Global, ring: &mut Handle) -> u8
     status
 }
 
-/// Writes the lines of the cycle that was made last to the front of `out`; none before the first. The status is that of a write fault if it has too little
-/// room.
+/// Writes the trace lines of the cycle that was made last to the front of `out`; none before the first. Returns `CLOSED` if no ring is
+/// held, and then nothing is written; otherwise `WRITE_FAULT` if there is too little room, and then `written` is 0.
 #[unsafe(no_mangle)]
 pub extern "C" fn sercos_ring_lines(
     alloc: Global,
@@ -127,8 +130,8 @@ pub extern "C" fn sercos_ring_lines(
     status
 }
 
-/// Writes the last line of the trace to the front of `out`: the totals of the cycles made so far. The status is that of a write fault if it has too little
-/// room.
+/// Writes the last line of the trace to the front of `out`: the totals of the cycles made so far. Returns `CLOSED` if no ring is held,
+/// and then nothing is written; otherwise `WRITE_FAULT` if there is too little room, and then `written` is 0.
 #[unsafe(no_mangle)]
 pub extern "C" fn sercos_ring_end(
     alloc: Global,

@@ -21,7 +21,7 @@ use sercos_ring::{Ring, no_totals};
 use sercos_script::Scripted;
 use std::alloc::{AllocError, Global};
 
-// Opens the ring of a document, under its script.
+// Opens the ring of a document, with its requests and under its script. The error is `AllocError`.
 fn ring_of(alloc: Global, document: Document) -> Result<RingStation, AllocError>
     requires ring { is_ring document.setup ≡ true }
     requires few { length document.jobs ≤ 4096 }
@@ -47,7 +47,7 @@ fn ring_of(alloc: Global, document: Document) -> Result<RingStation, AllocError>
     })
 }
 
-// Opens the ring of what the bytes are.
+// Opens the ring of the document that the bytes are. The error is its refusal, or `Memory`.
 fn ring_in(alloc: Global, document: &[u8]) -> Result<RingStation, BadDocument>
     ensures { IsRingOpening document.now result }
 {
@@ -59,8 +59,8 @@ fn ring_in(alloc: Global, document: &[u8]) -> Result<RingStation, BadDocument>
     }
 }
 
-/// Opens the ring of a document under its script, before its first cycle. What was held before is given back. The status is refused if the
-/// document is refused, or memory if none was found; after those nothing is held.
+/// Opens the ring of a document under its script, before its first cycle. What the handle held before is closed. Returns `REFUSED` if the
+/// document is refused, or `MEMORY` if no memory was found. Then nothing is held.
 #[unsafe(no_mangle)]
 pub extern "C" fn sercos_ring_open(alloc: Global, document: &[u8], ring: &mut Handle) -> u8
     ensures status { (result ≡ no_memory) ⊎ (result ≡ document_status (document_of document.now)) }

@@ -22,7 +22,8 @@ use sercos_script::{BitLink, Scripted};
 use sercos_timing::Wishes;
 use sercos_trace::{CycleRecord, Totals};
 
-/// A ring under its document's script: the cycles that it has made, how many it makes, and their totals.
+/// A ring under its document's script. `cycles` is the number of cycles that it makes in all, `made` the number made so far, and `totals`
+/// has the totals of the latter.
 #[derive(Drop)]
 pub(crate) struct RingStation {
     pub(crate) ring: Ring<Scripted>,
@@ -35,7 +36,7 @@ pub(crate) struct RingStation {
     ghost few: { cycles ≤ 50000 },
 }
 
-// Returns whether there is room in the counts for a cycle more.
+// Returns whether the counts of the totals have room for one more cycle.
 fn has_room(totals: &Totals) -> bool
     ensures yes { result ≡ true → HasRoom totals.now }
     ensures room { HasRoom totals.now → result ≡ true }
@@ -48,7 +49,7 @@ fn has_room(totals: &Totals) -> bool
         && totals.unseen < u32::MAX - 194
 }
 
-// Counts a cycle, if there is room for it.
+// Adds a cycle to the totals, if their counts have room for it and its `unseen` is at most 195.
 fn count(totals: &mut Totals, made: &CycleRecord)
     ensures counted { HasRoom totals.old → made.now.unseen ≤ 195 → totals.new ≡ with_cycle totals.old made.now }
     ensures few { HasRoom totals.old → made.now.unseen ≤ 195 → IsFew made.now }
@@ -58,7 +59,7 @@ fn count(totals: &mut Totals, made: &CycleRecord)
     }
 }
 
-// Makes the next cycle, and counts it.
+// Makes the next cycle, and adds it to the totals.
 fn make(ring: &mut Ring<Scripted>, totals: &mut Totals)
     requires { cycles_made ring.old < 2 ^ 31 }
     ensures after { AfterCycle ⟦<Scripted as BitLink>⟧.carry ⟦<Scripted as BitLink>⟧.restart ring.old ring.new }
@@ -75,7 +76,7 @@ fn make(ring: &mut Ring<Scripted>, totals: &mut Totals)
 impl RingStation {
     ghost use Rattle.sercos_c.specs.Rings.{lines_of_newest, RingGoes};
 
-    /// Makes the next cycle. Returns `NO` if all cycles have been made.
+    /// Makes the next cycle. Returns `NO`, and changes nothing, if all cycles have been made.
     pub(crate) fn cycle(&mut self) -> u8
         ensures status { result ≡ (if nat_lt self.old.made self.old.cycles then done else answer_no) }
         ensures goes { (d : DocumentView) (j : List CycleView) → RingGoes self.old d j → result ≡ done → (v : CycleView) × RingGoes self.new d (v ∷ j) }
@@ -94,7 +95,8 @@ impl RingStation {
         DONE
     }
 
-    /// Writes the head of the trace.
+    /// Writes the first lines of the trace to the front of `out`: the version, the ring, the drives, the order. Returns `WRITE_FAULT` if
+    /// there is too little room, and then `written` is 0.
     pub(crate) fn head(&self, out: &mut [u8], written: &mut usize) -> u8
         ensures written { (d : DocumentView) (j : List CycleView) → RingGoes self.now d j → IsText (header_text (wishes_of d.setup)) out.old out.new written.new result }
         ensures open { result ≢ closed }
@@ -102,7 +104,8 @@ impl RingStation {
         put_head(&self.wishes, out, written)
     }
 
-    /// Writes the lines of the cycle that was made last; none before the first.
+    /// Writes the trace lines of the cycle that was made last to the front of `out`; none before the first. Returns `WRITE_FAULT` if
+    /// there is too little room, and then `written` is 0.
     pub(crate) fn lines(&self, out: &mut [u8], written: &mut usize) -> u8
         ensures written { (d : DocumentView) (j : List CycleView) → RingGoes self.now d j →
             IsText (lines_of_newest (wishes_of d.setup) j) out.old out.new written.new result }
@@ -119,7 +122,8 @@ impl RingStation {
         put_cycle(&self.wishes, self.ring.newest(), out, written)
     }
 
-    /// Writes the last line of the trace, with the totals of the cycles made so far.
+    /// Writes the last line of the trace, with the totals of the cycles made so far, to the front of `out`. Returns `WRITE_FAULT` if
+    /// there is too little room, and then `written` is 0.
     pub(crate) fn end(&self, out: &mut [u8], written: &mut usize) -> u8
         ensures written { (d : DocumentView) (j : List CycleView) → RingGoes self.now d j → IsText (end_text (totals_of (reverse j))) out.old out.new written.new result }
         ensures open { result ≢ closed }

@@ -3,8 +3,8 @@ ghost use Rattle.sercos_c.specs.Room.{IsPut};
 
 use crate::status::{DONE, WRITE_FAULT};
 
-/// Writes a content to the front of `out`, and the number of its bytes to `written`. Returns `WRITE_FAULT` if there is too little
-/// room; then nothing is written, and `written` is 0.
+/// Writes a content to the front of `out`, and the number of its bytes to `written`. Returns `WRITE_FAULT` if there is too little room;
+/// then nothing is written to `out`, and `written` is 0.
 pub(crate) fn put(content: &[u8], out: &mut [u8], written: &mut usize) -> u8
     ensures { IsPut content.now out.old out.new written.new result }
 {

@@ -4,7 +4,7 @@ ghost use Rattle.sercos_model.specs.Streams.{last_count};
 
 use sercos_io::{ReadFailed, Sink, Source, WriteFailed};
 
-// Copies bytes from the front of `from` to the front of `into`, as many as both have, and returns how many.
+// Copies bytes from the front of `from` to the front of `into`, as many as both have, and returns their number.
 fn copy_front(from: &[u8], into: &mut [u8]) -> usize
     ensures count { result ≡ min (length into.old) (length from.now) }
     ensures copied { into.new ≡ take result from.now ++ drop result into.old }
@@ -14,7 +14,7 @@ fn copy_front(from: &[u8], into: &mut [u8]) -> usize
     count
 }
 
-/// Returns the bytes of a slice, and never fails.
+/// A source of the bytes of a slice, which never fails.
 #[derive(Drop)]
 pub(crate) struct SliceSource<'a> {
     pub(crate) bytes: &'a [u8],
@@ -33,7 +33,7 @@ impl<'a> Source for SliceSource<'a> {
     }
 }
 
-/// Writes to a slice from its front on, as far as it goes.
+/// A sink that writes to the front of a slice, until it is full.
 ///
 /// What a contract sees of it as a sink begins with the name of its reference and the number of its bytes. So a caller that knows what was
 /// appended also knows that it is still the same slice.
@@ -47,7 +47,7 @@ pub(crate) struct SliceSink<'a> {
 }
 
 impl<'a> SliceSink<'a> {
-    /// A sink over a slice that has taken nothing.
+    /// Returns a sink over a slice that has taken nothing.
     pub(crate) fn new(room: &'a mut [u8]) -> SliceSink<'a>
         ensures room { result.room ≡ room.entry }
         ensures place { result.place ≡ 0 }

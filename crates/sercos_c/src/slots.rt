@@ -17,7 +17,7 @@ use sercos_timing::{Plan, Times, Wish, Wishes, valid};
 // The most links of a chain.
 const MOST_LINKS: usize = 66;
 
-/// A ring.
+/// The numbers of a ring.
 #[repr(C)]
 #[derive(Clone, Copy)]
 pub struct SercosRingTimes {
@@ -129,7 +129,7 @@ fn wish_of(drive: &SercosWish) -> Wish
     }
 }
 
-// Returns the planner's input of the drives.
+// Returns the planner's input of the drives, in their order.
 fn drives_of(drives: &[SercosWish]) -> ArrayVec<Wish, 64>
     requires { length drives.now ≤ 64 }
     ensures { result.items ≡ map wish_of drives.now }
@@ -141,7 +141,7 @@ fn drives_of(drives: &[SercosWish]) -> ArrayVec<Wish, 64>
     wishes
 }
 
-// Returns the places of an order.
+// Returns a copy of the order of the ATs: the indices of the drives in the ring, from 0.
 fn order_of(order: &[u8]) -> ArrayVec<u8, 64>
     requires { length order.now ≤ 64 }
     ensures { result.items ≡ order.now }
@@ -153,7 +153,7 @@ fn order_of(order: &[u8]) -> ArrayVec<u8, 64>
     places
 }
 
-// Returns the planner's input of a ring.
+// Returns the planner's input of a ring: its numbers, its drives, and the order of the ATs as the drives' indices, from 0.
 fn wishes_of(ring: &SercosRingTimes, drives: &[SercosWish], order: &[u8]) -> Wishes
     requires drives { length drives.now ≤ 64 }
     requires order { length order.now ≤ 64 }
@@ -169,7 +169,7 @@ fn wishes_of(ring: &SercosRingTimes, drives: &[SercosWish], order: &[u8]) -> Wis
     }
 }
 
-// Writes the slots of a plan.
+// Writes the slots of a plan: for each drive the start of its AT, `t1`, in microseconds, and the position of its record.
 fn write_slots(t1: &[u16], position: &[u16], slots: &mut [SercosSlot])
     requires t1 { length t1.now ≡ length slots.old }
     requires position { length position.now ≡ length slots.old }
@@ -184,7 +184,7 @@ fn write_slots(t1: &[u16], position: &[u16], slots: &mut [SercosSlot])
     }
 }
 
-// Returns the times of a plan.
+// Returns the times of a plan, in microseconds, and the length of its MDT, in bytes.
 fn times_of(p: &Plan) -> SercosPlanTimes
     ensures { result ≡ record { t2 = p.now.t2; t3 = p.now.t3; t4 = p.now.t4; mdt_len = p.now.mdt_len } }
 {
@@ -196,7 +196,7 @@ fn times_of(p: &Plan) -> SercosPlanTimes
     }
 }
 
-// Returns the struct of a link.
+// Returns the struct of a link of a chain.
 fn of_link(link: &Link) -> SercosLink
     ensures { link_of result ≡ link.now }
 {
@@ -207,7 +207,7 @@ fn of_link(link: &Link) -> SercosLink
     }
 }
 
-// Writes links.
+// Writes the links of a chain.
 fn write_links(from: &[Link], links: &mut [SercosLink])
     requires { length from.now ≡ length links.old }
     ensures { map link_of links.new ≡ from.now }
@@ -217,7 +217,7 @@ fn write_links(from: &[Link], links: &mut [SercosLink])
     }
 }
 
-// Returns the inequality that a chain ends at.
+// Returns the inequality that a chain ends at, and the number of links before it.
 fn end_of(chain: &Chain) -> SercosChain
     ensures { result ≡ record { rule = chain.now.rule; drive = chain.now.drive; sum = chain.now.sum; bound = chain.now.bound; links = length chain.now.links } }
 {
@@ -230,8 +230,8 @@ fn end_of(chain: &Chain) -> SercosChain
     }
 }
 
-// Writes the least plan of a valid ring, and returns `DONE`. If no plan fits, writes the chain of inequalities that proves it, and returns
-// `NO`. There are as many slots as drives, and at least 66 links.
+// Writes the times and slots of the least plan of a valid ring, and returns `DONE`. If no plan fits, writes the chain of inequalities
+// that proves it to `chain` and `links`, and returns `NO`. There are as many slots as drives, and at least 66 links.
 fn write_plan(
     w: &Wishes,
     times: &mut SercosPlanTimes,
@@ -268,10 +268,11 @@ fn write_plan(
     }
 }
 
-/// Writes the least plan of a ring: its times, and a slot for each drive in the order of the ring. `order` has the places of the
-/// drives, from 0 on, in the order of their ATs. Returns `REFUSED` if the ring or a drive is not valid, or if there are not 1 to
-/// 64 drives; otherwise `WRITE_FAULT` if there are fewer slots than drives or fewer than 66 links; otherwise `NO` if no plan fits:
-/// `chain` and `links` are then the chain of inequalities that proves it. What belongs to another status stays as it was.
+/// Writes the least plan of a ring: its times, and a slot for each drive in the order of the ring. `order` has the indices of the drives,
+/// from 0, in the order of their ATs. Returns `REFUSED` if the ring or a drive is not valid, or if there are not 1 to 64 drives.
+/// Otherwise it returns `WRITE_FAULT` if there are fewer slots than drives or fewer than 66 links. Otherwise it returns `NO` if no plan
+/// fits: `chain` and the first `chain.links` of `links` are then the chain of inequalities that proves it. `times` and `slots` change
+/// only if the result is `DONE`, and `chain` and `links` only if it is `NO`.
 #[unsafe(no_mangle)]
 pub extern "C" fn sercos_plan(
     ring: &SercosRingTimes,

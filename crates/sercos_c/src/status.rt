@@ -6,7 +6,7 @@ pub(crate) const DONE: u8 = 0;
 /// The answer is no.
 pub(crate) const NO: u8 = 1;
 
-/// What was handed over is refused.
+/// An argument is refused.
 pub(crate) const REFUSED: u8 = 3;
 
 /// The output has too little room.

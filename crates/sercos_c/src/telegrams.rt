@@ -18,7 +18,7 @@ use sercos_telegram::{
     read_single, write_at, write_mst, write_single,
 };
 
-// The greatest phase, and the bytes of the two words that an AT or a record begins with.
+// The greatest phase, and the bytes of the two words that an AT, after its address, or a record begins with.
 const LAST_PHASE: u8 = 4;
 
 const WORDS: u16 = 4;
@@ -112,8 +112,9 @@ fn at_of(at: &At<'_>) -> SercosAt
     }
 }
 
-/// Reads the AT of an address with `at_len` bytes after it. Its values are at place 5 of the content and after. Returns `REFUSED`
-/// if `at_len` is below 4; otherwise `NO`, with the reason in `why`, if the content isn't such an AT. Then `at` stays as it was.
+/// Reads the AT of an address with `at_len` bytes after the address. Its values are the bytes of the content from offset 5 on. Returns
+/// `REFUSED` if `at_len` is below 4; otherwise `NO`, with the reason in `why`, if the content isn't such an AT. Then `at` stays as it
+/// was.
 #[unsafe(no_mangle)]
 pub extern "C" fn sercos_at_read(
     address: u8,
@@ -161,8 +162,8 @@ fn record_of(control: &Control, info: u16) -> SercosRecord
     }
 }
 
-/// Reads the MDT of phases 1 and 2 to an address. Returns `NO`, with the reason in `why`, if the content isn't one; then `part`
-/// stays as it was.
+/// Reads the MDT of phases 1 and 2 to the drive with this address. Returns `NO`, with the reason in `why`, if the content isn't one; then
+/// `part` stays as it was.
 #[unsafe(no_mangle)]
 pub extern "C" fn sercos_single_read(
     address: u8,
@@ -199,9 +200,9 @@ fn has_record(mdt_len: u16, position: u16, record_len: u16) -> bool
     1 <= position && WORDS <= record_len && end <= u32::from(mdt_len) + 1
 }
 
-/// Reads the record of `record_len` bytes at a position of the MDT of phases 3 and 4, which has `mdt_len` bytes after its
-/// address. The first position is 1, and the values are at position + 4 of the content and after. Returns `REFUSED` if the
-/// position is 0, the record has fewer than 4 bytes, or it ends after the MDT; otherwise `NO`, with the reason in `why`, if the
+/// Reads the record of `record_len` bytes at a position of the MDT of phases 3 and 4, which has `mdt_len` bytes after its address. The
+/// first position is 1, and the values are at the offsets position + 4 to position + `record_len` - 1 of the content. Returns `REFUSED`
+/// if the position is 0, the record has fewer than 4 bytes, or it ends after the MDT; otherwise `NO`, with the reason in `why`, if the
 /// content isn't such an MDT. Then `part` stays as it was.
 #[unsafe(no_mangle)]
 pub extern "C" fn sercos_joint_read(
@@ -255,14 +256,14 @@ pub extern "C" fn sercos_mst_write(mst: &SercosMst, out: &mut [u8], written: &mu
     put(content.as_slice(), out, written)
 }
 
-// Returns whether the fields of an AT are in their ranges.
+// Returns whether the cyclic bits of an AT are at their places: 3, 4 and 15 to 6.
 fn is_at(at: &SercosAt) -> bool
     ensures { result ≡ is_at at.now }
 {
     at.cyclic % 8 == 0 && at.cyclic % 64 < 32
 }
 
-// Replaces a content by an AT.
+// Replaces a content by that of an AT with at most 64 bytes of values.
 fn spell_at(at: &SercosAt, values: &[u8], content: &mut Content)
     requires fields { is_at at.now ≡ true }
     requires few { length values.now ≤ 64 }
@@ -308,7 +309,7 @@ pub extern "C" fn sercos_at_write(
     put(content.as_slice(), out, written)
 }
 
-// Returns whether the fields of a record are in their ranges.
+// Returns whether the element of a record is at most 7, and its cyclic bits are at their places, 15 to 6.
 fn is_record(part: &SercosRecord) -> bool
     ensures { result ≡ is_record part.now }
 {
@@ -329,9 +330,9 @@ fn control_of(part: &SercosRecord) -> Control
     }
 }
 
-/// Writes the MDT of phases 1 and 2 to an address to the front of `out`. Returns `REFUSED` if the element is above 7, or if
-/// cyclic bits are not at their places; otherwise `WRITE_FAULT` if there is too little room. Then nothing is written, and
-/// `written` is 0.
+/// Writes the MDT of phases 1 and 2 to the drive with this address to the front of `out`. Returns `REFUSED` if the element is above 7, or
+/// if cyclic bits are not at their places; otherwise `WRITE_FAULT` if there is too little room. Then nothing is written, and `written` is
+/// 0.
 #[unsafe(no_mangle)]
 pub extern "C" fn sercos_single_write(
     address: u8,
@@ -353,7 +354,7 @@ pub extern "C" fn sercos_single_write(
     put(content.as_slice(), out, written)
 }
 
-// Replaces a content by the address of all drives and a record.
+// Replaces a content by the address of all drives, 255, and the bytes of a record with at most 2,043 bytes of values.
 fn spell_record(part: &SercosRecord, values: &[u8], content: &mut Content)
     requires fields { is_record part.now ≡ true }
     requires few { length values.now ≤ 2043 }
@@ -368,9 +369,9 @@ fn spell_record(part: &SercosRecord, values: &[u8], content: &mut Content)
     let _fits = joint_record(&record, content);
 }
 
-/// Writes the bytes of one record of the MDT of phases 3 and 4 to the front of `out`: 4 and its values. Returns `REFUSED` if the
-/// element is above 7, if cyclic bits are not at their places, or if the record has more than 2,047 bytes; otherwise
-/// `WRITE_FAULT` if there is too little room. Then nothing is written, and `written` is 0.
+/// Writes the bytes of one record of the MDT of phases 3 and 4 to the front of `out`: four, and those of its values. Returns `REFUSED` if
+/// the element is above 7, if cyclic bits are not at their places, or if the record has more than 2,047 bytes; otherwise `WRITE_FAULT` if
+/// there is too little room. Then nothing is written, and `written` is 0.
 #[unsafe(no_mangle)]
 pub extern "C" fn sercos_record_write(
     part: &SercosRecord,

@@ -9,7 +9,7 @@ use crate::status::{DONE, WRITE_FAULT};
 use sercos_timing::{Plan, Wishes};
 use sercos_trace::{CycleRecord, Totals, write_cycle, write_end, write_header};
 
-// Writes the head of a trace.
+// Writes the first lines of a trace to a sink that has taken nothing. Returns whether they fit.
 fn head_into(wishes: &Wishes, sink: &mut SliceSink<'_>) -> bool
     requires order { All (λ place. place < length wishes.now.drives) wishes.now.order }
     requires fresh { sink.old.is_full ≡ false }
@@ -20,7 +20,7 @@ fn head_into(wishes: &Wishes, sink: &mut SliceSink<'_>) -> bool
     write_header(wishes, sink).is_ok()
 }
 
-// Writes the lines of a cycle.
+// Writes the trace lines of a cycle to a sink that has taken nothing. Returns whether they fit.
 fn cycle_into(wishes: &Wishes, made: &CycleRecord, sink: &mut SliceSink<'_>) -> bool
     requires slots { has_slots wishes.now made.now ≡ true }
     requires fresh { sink.old.is_full ≡ false }
@@ -31,7 +31,7 @@ fn cycle_into(wishes: &Wishes, made: &CycleRecord, sink: &mut SliceSink<'_>) -> 
     write_cycle(wishes, made, sink).is_ok()
 }
 
-// Writes the end line of a trace.
+// Writes the last line of a trace to a sink that has taken nothing. Returns whether it fits.
 fn end_into(totals: &Totals, sink: &mut SliceSink<'_>) -> bool
     requires fresh { sink.old.is_full ≡ false }
     requires empty { sink.old.place ≡ 0 }
@@ -41,7 +41,7 @@ fn end_into(totals: &Totals, sink: &mut SliceSink<'_>) -> bool
     write_end(totals, sink).is_ok()
 }
 
-// The status of a text that was written, and the number of its bytes.
+// Returns `DONE` if a text fits, and `WRITE_FAULT` if it doesn't. `written` is then `place`, the number of its bytes, or 0.
 fn tell(fits: bool, place: usize, written: &mut usize) -> u8
     ensures status { result ≡ (if fits then 0 else 5) }
     ensures written { written.new ≡ (if fits then place else 0) }
@@ -50,7 +50,8 @@ fn tell(fits: bool, place: usize, written: &mut usize) -> u8
     if fits { DONE } else { WRITE_FAULT }
 }
 
-/// Writes the head of a trace to the front of a room.
+/// Writes the first lines of a trace to the front of `out`. `written` is the number of bytes. Returns `WRITE_FAULT` if there is too
+/// little room, and then `written` is 0.
 pub(crate) fn put_head(wishes: &Wishes, out: &mut [u8], written: &mut usize) -> u8
     requires { All (λ place. place < length wishes.now.drives) wishes.now.order }
     ensures { IsText (header_text wishes.now) out.old out.new written.new result }
@@ -60,7 +61,8 @@ pub(crate) fn put_head(wishes: &Wishes, out: &mut [u8], written: &mut usize) -> 
     tell(fits, sink.place, written)
 }
 
-/// Writes the lines of a cycle to the front of a room.
+/// Writes the trace lines of a cycle to the front of `out`. `written` is the number of bytes. Returns `WRITE_FAULT` if there is too
+/// little room, and then `written` is 0.
 pub(crate) fn put_cycle(
     wishes: &Wishes,
     made: &CycleRecord,
@@ -75,7 +77,8 @@ pub(crate) fn put_cycle(
     tell(fits, sink.place, written)
 }
 
-/// Writes the end line of a trace to the front of a room.
+/// Writes the last line of a trace, the totals, to the front of `out`. `written` is the number of bytes. Returns `WRITE_FAULT` if there
+/// is too little room, and then `written` is 0.
 pub(crate) fn put_end(totals: &Totals, out: &mut [u8], written: &mut usize) -> u8
     ensures { IsText (end_text totals.now) out.old out.new written.new result }
 {
@@ -91,7 +94,7 @@ fn has_each(plan: &Plan, n: usize) -> bool
     plan.t1().len() == n && plan.position().len() == n
 }
 
-/// Returns whether the plan that is reported in a cycle, if one is, has a slot for each drive.
+/// Returns whether the plan that is reported in a cycle has a slot for each drive; true if none is reported.
 pub(crate) fn has_slots(wishes: &Wishes, made: &CycleRecord) -> bool
     ensures { result ≡ has_slots wishes.now made.now }
 {

@@ -7,7 +7,7 @@ use sercos_answer::cut_line;
 use sercos_io::Words;
 use std::alloc::{AllocError, Global};
 
-/// Returns the words of a text, one a line. `None` if one of them isn't UTF-8, and so no word of a command.
+/// Returns the words of a text, one for each line. `None` if a line isn't UTF-8, and so no word of a command. The error is `AllocError`.
 pub(crate) fn read_words(alloc: Global, text: &[u8]) -> Result<Option<Words>, AllocError>
     ensures { IfOk result (λ words. MatchOption words (AreTexts (lines_of text.now) → ⊥) (λ words. words ≡ lines_of text.now)) }
 {

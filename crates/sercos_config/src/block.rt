@@ -21,7 +21,8 @@ use sercos_idn::{Attribute, Idn};
 use std::alloc::Global;
 use toml::Table;
 
-/// The data blocks of a drive's tables. The drive is named by its place.
+/// Reads the data blocks of a drive from its `block` tables, in their order. `drive` is the drive's index in the document, from 0; the
+/// paths of refusals name it. The error is the first refusal, or `Memory`.
 #[tactic(auto, using(crate::proofs::BlockLemmas::blocks_none, crate::proofs::BlockLemmas::blocks_more), unfolding(crate::specs::Block::blocks_onto))]
 pub(crate) fn read_blocks(
     alloc: Global,
@@ -48,7 +49,8 @@ pub(crate) fn read_blocks(
     Ok(blocks)
 }
 
-// Returns the data block of a table, after these blocks of its drive.
+// Reads a data block from its table. `before` has the drive's blocks of the tables before it: the identifier number may be neither one of
+// theirs nor that of a built-in block. The error is the first refusal, or `Memory`.
 #[tactic(auto, unfolding(crate::specs::Block::block_of, sercos_block::specs::Rules::block_fault))]
 fn read_block(keys: &Keys<'_>, before: &[Block]) -> Result<Block, BadDocument>
     ensures value { Gives result (block_of before.now (located keys.now)) }
@@ -84,6 +86,7 @@ fn read_block(keys: &Keys<'_>, before: &[Block]) -> Result<Block, BadDocument>
     })
 }
 
+// Refuses the least key, in the order of bytes, that a `block` table may not have, as `Unknown`.
 #[tactic(auto, unfolding(crate::specs::Block::block_keys))]
 fn known(keys: &Keys<'_>) -> Result<(), BadDocument>
     ensures { Gives result (known (located keys.now) block_keys) }
@@ -103,7 +106,7 @@ fn known(keys: &Keys<'_>) -> Result<(), BadDocument>
     ])
 }
 
-/// The identifier number that a text spells.
+/// Returns the identifier number that a text such as `S-0-0127` spells; `None` if it spells none.
 #[tactic(auto, unfolding(crate::specs::Block::idn_of))]
 pub(crate) fn idn_of(text: &str) -> Option<Idn>
     ensures value { result ≡ idn_of text.now }
@@ -115,7 +118,8 @@ pub(crate) fn idn_of(text: &str) -> Option<Idn>
     }
 }
 
-/// The identifier number of the text under a key.
+/// Returns the identifier number that the text under `key` spells. The error is `Missing`, `Kind`, or `Range` with the text's length in
+/// bytes if it spells none.
 #[tactic(auto, unfolding(crate::specs::Block::idn_in, crate::specs::Block::idn_under))]
 pub(crate) fn read_idn(keys: &Keys<'_>, key: &str) -> Result<Idn, BadDocument>
     ensures value { Gives result (idn_under (located keys.now) key.now) }
@@ -128,7 +132,7 @@ pub(crate) fn read_idn(keys: &Keys<'_>, key: &str) -> Result<Idn, BadDocument>
     }
 }
 
-// Returns whether a built-in block or one of these has the identifier number.
+// Returns whether a built-in block or one of `blocks` has the identifier number `idn`.
 fn is_taken(idn: Idn, blocks: &[Block]) -> bool
     ensures { result ≡ (is_built_in idn.raw || has_block idn.raw blocks.now) }
 {
@@ -137,7 +141,8 @@ fn is_taken(idn: Idn, blocks: &[Block]) -> bool
     built_in || own
 }
 
-// Returns the attribute whose word is under its key.
+// Returns the attribute that the 32-bit word under `attribute` encodes. The error is `Missing`, `Kind`, or `Range` with the number if it
+// is no attribute's word.
 #[tactic(auto, unfolding(crate::specs::Block::attribute_under))]
 fn read_attribute(keys: &Keys<'_>) -> Result<Attribute, BadDocument>
     ensures value { Gives result (attribute_under (located keys.now)) }
@@ -150,7 +155,8 @@ fn read_attribute(keys: &Keys<'_>) -> Result<Attribute, BadDocument>
     }
 }
 
-// Returns the name or unit of at most `most` bytes under a key, if the key is present.
+// Returns the name or unit under `key`; `None` if the key is absent. The error is `Kind`, or `Range` with the text's length in bytes
+// unless it has 1 to `most` bytes, all of them printable.
 #[tactic(auto, unfolding(crate::specs::Block::text_under))]
 fn read_text(keys: &Keys<'_>, key: &str, most: usize) -> Result<Option<Text>, BadDocument>
     requires { most ≤ 1024 }
@@ -168,7 +174,9 @@ fn read_text(keys: &Keys<'_>, key: &str, most: usize) -> Result<Option<Text>, Ba
     }
 }
 
-// The step under its key, or 0.
+// Returns how much the number of the block grows in each cycle, from `step`; 0 if the key is absent. `min` and `max` are the block's
+// limits. The error is `Kind`, or `Range` with the step if it isn't a number of 32 bits, or isn't 0 in a block that is not a number or
+// has a limit.
 #[tactic(auto, unfolding(crate::specs::Block::step_under))]
 fn read_step(
     keys: &Keys<'_>,
@@ -186,7 +194,8 @@ fn read_step(
     Ok(step)
 }
 
-// Returns whether the block fails.
+// Returns whether the block's procedure command fails, from `fails`; it doesn't if the key is absent. The error is `Kind`, or `Range`
+// with 1 if the key is true in a block that isn't a procedure command.
 #[tactic(auto, unfolding(crate::specs::Block::fails_under))]
 fn read_fails(keys: &Keys<'_>, attribute: Attribute) -> Result<bool, BadDocument>
     ensures value { Gives result (fails_under attribute (located keys.now)) }

@@ -16,6 +16,7 @@ use sercos_block::{bytes_for, is_number, number_end};
 use sercos_document::{BadDocument, Keys};
 use sercos_idn::{Attribute, Form};
 
+// Returns whether numbers of a form have a sign.
 fn is_signed(form: Form) -> bool
     ensures { result ≡ is_signed form }
 {
@@ -25,7 +26,7 @@ fn is_signed(form: Form) -> bool
     }
 }
 
-// Returns whether the number is one of the block.
+// Returns whether `number` fits the w bits of the attribute's length: from 0 to 2^w - 1, or with sign from -2^(w-1) to 2^(w-1) - 1.
 #[tactic(auto, unfolding(crate::specs::Numbers::is_in_range))]
 fn is_in_range(attribute: Attribute, number: i64) -> bool
     ensures { result ≡ is_in_range attribute number }
@@ -38,7 +39,8 @@ fn is_in_range(attribute: Attribute, number: i64) -> bool
     }
 }
 
-// The bits of a number of the block.
+// Returns the bits of `number`, which is in the attribute's range: a negative one in two's complement, in as many bits as the attribute's
+// length has.
 #[tactic(auto, unfolding(crate::specs::Numbers::bits_of, crate::specs::Numbers::is_in_range))]
 fn bits_of(attribute: Attribute, number: i64) -> u32
     requires { is_in_range attribute number ≡ true }
@@ -53,7 +55,8 @@ fn bits_of(attribute: Attribute, number: i64) -> u32
     }
 }
 
-/// Returns the minimum or maximum under a key, if the key is present.
+/// Returns the bits of the minimum or maximum under `key`; `None` if the key is absent. The error is `Kind`, or `Range` with the limit if
+/// the block isn't a number or the limit is out of the attribute's range.
 #[tactic(auto, unfolding(crate::specs::Numbers::limit_of))]
 pub(crate) fn read_limit(
     keys: &Keys<'_>,
@@ -73,7 +76,7 @@ pub(crate) fn read_limit(
     }
 }
 
-// The most bytes of a list.
+// Returns the most bytes that a list may have, from `max_len`: 1 to 1,024, in whole items. The error is `Missing`, `Kind` or `Range`.
 #[tactic(auto, unfolding(crate::specs::Numbers::list_max_len))]
 fn read_list_max_len(keys: &Keys<'_>, attribute: Attribute) -> Result<u16, BadDocument>
     requires { is_list attribute.length ≡ true }
@@ -86,7 +89,8 @@ fn read_list_max_len(keys: &Keys<'_>, attribute: Attribute) -> Result<u16, BadDo
     Ok(most as u16)
 }
 
-/// Returns the most bytes of a list; 0 if it is not a list.
+/// Returns the most bytes that the block's list may have, from `max_len`; 0 if the block isn't a list. For a list the error is `Missing`,
+/// `Kind` or `Range`. Other blocks may not have the key: the error is then `Kind`, or `Range` with the number.
 #[tactic(auto, unfolding(crate::specs::Numbers::max_len_of))]
 pub(crate) fn read_max_len(keys: &Keys<'_>, attribute: Attribute) -> Result<u16, BadDocument>
     ensures value { Gives result (max_len_of attribute (located keys.now)) }
@@ -101,7 +105,7 @@ pub(crate) fn read_max_len(keys: &Keys<'_>, attribute: Attribute) -> Result<u16,
     }
 }
 
-/// The bytes that digits spell, two a byte.
+/// Returns the bytes that hexadecimal digits of either case spell, two digits for each byte. `None` if `digits` aren't such pairs.
 pub(crate) fn decoded(digits: &[u8]) -> Option<Text>
     requires { length digits.now ≤ 2048 }
     ensures value { result ≡ result_ok (decode_of digits.now) }
@@ -116,7 +120,7 @@ pub(crate) fn decoded(digits: &[u8]) -> Option<Text>
     }
 }
 
-// A text of its own.
+/// Returns a copy of the bytes.
 pub(crate) fn text_of(bytes: &[u8]) -> Text
     requires { length bytes.now ≤ 1024 }
     ensures value { result ≡ bytes.now }
@@ -127,7 +131,8 @@ pub(crate) fn text_of(bytes: &[u8]) -> Text
     text
 }
 
-// The bytes of a list that a text spells.
+// Returns the bytes of a list that hexadecimal digits spell, two digits for each byte. `None` if the text has other characters, if there
+// are more than `most` bytes, or if they aren't whole items.
 #[tactic(auto, unfolding(crate::specs::Numbers::list_bytes))]
 fn list_bytes(most: u16, attribute: Attribute, text: &[u8]) -> Option<Text>
     requires { most ≤ 1024 }
@@ -144,7 +149,8 @@ fn list_bytes(most: u16, attribute: Attribute, text: &[u8]) -> Option<Text>
     }
 }
 
-// The operation data of a list.
+// Returns the operation data of a list of at most `most` bytes, which the hexadecimal digits under `data` spell; an empty list if the key
+// is absent. The error is `Kind`, or `Range` with the text's length in bytes if it spells no such list.
 #[tactic(auto, using(crate::proofs::BlockLemmas::none_typed), unfolding(crate::specs::Numbers::list_data))]
 fn read_list_data(keys: &Keys<'_>, most: u16, attribute: Attribute) -> Result<Text, BadDocument>
     requires most { most ≤ 1024 }
@@ -162,7 +168,8 @@ fn read_list_data(keys: &Keys<'_>, most: u16, attribute: Attribute) -> Result<Te
     }
 }
 
-// Returns whether the operation data of a number or a procedure command can be this number.
+// Returns whether `number` may be the operation data of a block that isn't a list: 0 for a procedure command, and otherwise a number in
+// the attribute's range.
 #[tactic(auto, unfolding(crate::specs::Numbers::is_data))]
 fn is_data(attribute: Attribute, number: i64) -> bool
     ensures { result ≡ is_data attribute number }
@@ -174,7 +181,8 @@ fn is_data(attribute: Attribute, number: i64) -> bool
     }
 }
 
-// The operation data of a number or a procedure command.
+// Returns the operation data of a number or a procedure command, from `data`, its low byte first; that of 0 if the key is absent. The
+// error is `Kind`, or `Range` with the number if the block can't have it.
 #[tactic(auto, using(crate::proofs::BlockLemmas::is_typed_bytes), unfolding(crate::specs::Numbers::number_data))]
 fn read_number_data(keys: &Keys<'_>, attribute: Attribute) -> Result<Text, BadDocument>
     requires { is_list attribute.length ≡ false }
@@ -191,7 +199,7 @@ fn read_number_data(keys: &Keys<'_>, attribute: Attribute) -> Result<Text, BadDo
     }
 }
 
-// The bits of operation data.
+// Returns the bits of `number` as operation data, which the block can have. Those of a procedure command are 0.
 #[tactic(auto, unfolding(crate::specs::Numbers::is_data, crate::specs::Numbers::is_in_range, crate::specs::Numbers::bits_of))]
 fn data_bits(attribute: Attribute, number: i64) -> u32
     requires { is_data attribute number ≡ true }
@@ -206,7 +214,8 @@ fn data_bits(attribute: Attribute, number: i64) -> u32
     }
 }
 
-/// The operation data of a block.
+/// Returns the bytes of the block's operation data, from `data`. If the key is absent, a list is empty and a number is 0. `most` is the
+/// most bytes of a list, and has no meaning for other blocks. The error is `Kind`, or `Range` if the block can't have the data.
 #[tactic(auto, unfolding(crate::specs::Numbers::data_of))]
 pub(crate) fn read_data(
     keys: &Keys<'_>,

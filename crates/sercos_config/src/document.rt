@@ -27,7 +27,7 @@ use toml::Table;
 /// The contents of a ring document. Contracts see the record of its fields, each vector as the list of its items.
 #[derive(Drop)]
 pub struct Document {
-    /// What the ring is made of. It is a valid one.
+    /// The setup of the ring, which is valid.
     pub setup: RingSetup,
     /// The requests to the drives, in the order of the document: at most 4,096.
     pub jobs: Vec<Job>,
@@ -43,14 +43,14 @@ impl Model for Document {
     ghost view = { λ d. record { setup = d.setup; jobs = d.jobs.items; faults = d.faults.items } };
 }
 
-/// Reads a ring document (this profile), which is a TOML text of bytes in UTF-8. The error is its first refusal, or
-/// `Memory`. The result is a valid ring, jobs that a master of it may be opened with, and faults whose `every` is at least
-/// 1; their numbers are those of their types.
+/// Reads a ring document (this profile), a TOML text in UTF-8. The error is its first refusal, or `Memory`; it is `Toml` if the bytes
+/// aren't UTF-8 or not TOML. The result is a valid ring, jobs that its master may be opened with, and faults whose `every` is at least 1.
+/// The numbers of the drives and the jobs are in the ranges of their types.
 ///
-/// The tables are checked in this order: the top one, `ring`, each `drive` in turn with its `block` tables right after its
-/// own keys, each `request`, each `fault`. In each, unknown keys come first, and the least of them in the order of bytes is
-/// named; then each key in the order in which the rules list it, as `Missing`, `Kind`, `Range` or `Twice`. The items of `at`
-/// and `mdt` come after the drive's blocks, and the length of the MDT and `order` after all drives.
+/// The tables are checked in this order: the top one, `ring`, each `drive` in turn with its `block` tables right after its own keys, each
+/// `request`, each `fault`. In each table unknown keys are checked first, and the least of them in the order of bytes is reported. Then
+/// each key is checked, in the order in which the rules list it, as `Missing`, `Kind`, `Range` or `Twice`. The items of `at` and `mdt`
+/// are checked after the drive's blocks, and the length of the MDT and `order` after all drives.
 #[tactic(auto, using(crate::proofs::TextLemmas::texts), unfolding(crate::specs::Document::document_of, crate::specs::Document::table_of))]
 pub fn read_ring(alloc: Global, bytes: &[u8]) -> Result<Document, BadDocument>
     ensures value { Gives result (document_of bytes.now) }
@@ -70,7 +70,7 @@ pub fn read_ring(alloc: Global, bytes: &[u8]) -> Result<Document, BadDocument>
     }
 }
 
-// Returns the contents of a document's table.
+// Reads the contents of a document from its top table. The error is the first refusal, or `Memory`.
 #[tactic(auto, unfolding(crate::specs::Document::document_in))]
 fn read_table(alloc: Global, table: &Table) -> Result<Document, BadDocument>
     ensures value { Gives result (document_in (table_view table.now)) }
@@ -100,6 +100,7 @@ fn read_table(alloc: Global, table: &Table) -> Result<Document, BadDocument>
     })
 }
 
+// Refuses the least key, in the order of bytes, that the top table may not have, as `Unknown`.
 #[tactic(auto, unfolding(crate::specs::Document::top_keys))]
 fn known(keys: &Keys<'_>) -> Result<(), BadDocument>
     ensures { Gives result (known (located keys.now) top_keys) }
@@ -107,7 +108,8 @@ fn known(keys: &Keys<'_>) -> Result<(), BadDocument>
     keys.known(&["ring", "drive", "request", "fault"])
 }
 
-// The ring of its own table, with the drives of these.
+// Reads the setup of a ring from its table `ring` and from the `drive` tables. The error is the first refusal, or `Memory`. An MDT with
+// more than 2,047 bytes after its address is a `Range` at `ring`, with their number.
 #[tactic(auto, unfolding(crate::specs::Document::ring_of, sercos_block::specs::Rings::is_ring, sercos_block::specs::Rings::has_drives))]
 fn read_setup(alloc: Global, ring: &Table, tables: &[&Table]) -> Result<RingSetup, BadDocument>
     requires some { 1 ≤ length tables.now }

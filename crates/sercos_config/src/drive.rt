@@ -25,7 +25,7 @@ use sercos_timing::limits::{
 use std::alloc::Global;
 use toml::{Table, Value};
 
-/// The drives of a document's tables.
+/// Reads the drives from their tables, in the order of the ring. The error is the first refusal, or `Memory`.
 #[tactic(auto, using(crate::proofs::DriveLemmas::drives_none, crate::proofs::DriveLemmas::drives_more), unfolding(crate::specs::Drive::drives_onto))]
 pub(crate) fn read_drives(alloc: Global, tables: &[&Table]) -> Result<Vec<DriveSetup>, BadDocument>
     ensures value { Shows (λ v. v.items) result (drives_onto [] (map (λ t. table_view t.now) tables.now)) }
@@ -60,7 +60,8 @@ struct DriveNumbers {
     cycle_max: u16,
 }
 
-// Returns the drive of a table, after these drives.
+// Reads a drive from its table. `before` has the drives of the tables before it, none of which may have its address. The error is the
+// first refusal, or `Memory`.
 #[tactic(auto, unfolding(crate::specs::Drive::drive_of, sercos_block::specs::Rings::is_drive, sercos_block::specs::Rings::has_blocks))]
 fn read_drive(keys: &Keys<'_>, before: &[DriveSetup]) -> Result<DriveSetup, BadDocument>
     ensures value { Gives result (drive_of before.now (located keys.now)) }
@@ -89,7 +90,8 @@ fn read_drive(keys: &Keys<'_>, before: &[DriveSetup]) -> Result<DriveSetup, BadD
     })
 }
 
-// An address that none of these drives has.
+// Returns the address under `address`, 1 to 254. The error is `Missing`, `Kind`, `Range`, or `Twice` if a drive of `before` has the
+// address.
 #[tactic(auto, unfolding(crate::specs::Drive::new_address))]
 fn read_new_address(keys: &Keys<'_>, before: &[DriveSetup]) -> Result<u8, BadDocument>
     ensures value { Gives result (new_address before.now (located keys.now)) }
@@ -102,7 +104,8 @@ fn read_new_address(keys: &Keys<'_>, before: &[DriveSetup]) -> Result<u8, BadDoc
     Ok(address as u8)
 }
 
-// Returns the numbers of a drive, after these drives.
+// Reads the numbers of a drive. `before` has the drives of the tables before it, none of which may have its address. The address and the
+// times are required; a slave that is absent is the address. The error is `Missing`, `Kind`, `Range`, or `Twice` for the address.
 #[tactic(auto, unfolding(crate::specs::Drive::drive_numbers_of, sercos_block::specs::Rings::are_drive_numbers))]
 fn read_numbers(keys: &Keys<'_>, before: &[DriveSetup]) -> Result<DriveNumbers, BadDocument>
     ensures value { Gives result (drive_numbers_of before.now (located keys.now)) }
@@ -129,6 +132,7 @@ fn read_numbers(keys: &Keys<'_>, before: &[DriveSetup]) -> Result<DriveNumbers, 
     })
 }
 
+// Refuses the least key, in the order of bytes, that a `drive` table may not have, as `Unknown`.
 #[tactic(auto, unfolding(crate::specs::Drive::drive_keys))]
 fn known(keys: &Keys<'_>) -> Result<(), BadDocument>
     ensures { Gives result (known (located keys.now) drive_keys) }
@@ -152,7 +156,7 @@ fn known(keys: &Keys<'_>) -> Result<(), BadDocument>
     ])
 }
 
-// The times that the drive declares.
+// Returns the times that a drive declares, in microseconds. The error is `Missing`, `Kind` or `Range`.
 #[tactic(auto, unfolding(crate::specs::Drive::times_of, sercos_block::specs::Rings::are_times))]
 fn read_times(keys: &Keys<'_>) -> Result<Times, BadDocument>
     ensures value { Gives result (times_of (located keys.now)) }
@@ -174,8 +178,8 @@ fn read_times(keys: &Keys<'_>) -> Result<Times, BadDocument>
     })
 }
 
-// Returns the identifier numbers of a list, which a telegram of a drive with these blocks can
-// carry.
+// Returns the identifier numbers that `items`, the list under `key`, spell. A telegram of a drive with these blocks can carry each of
+// them. The error is `Kind` at the first item that isn't a text. If all are texts, it is `Range` at the first that `read_item` refuses.
 #[tactic(auto, unfolding(crate::specs::Drive::idns_of))]
 fn read_idns(
     keys: &Keys<'_>,
@@ -193,7 +197,8 @@ fn read_idns(
     read_texts(keys, blocks, key, texts.as_slice())
 }
 
-// Returns the identifier numbers that the texts spell.
+// Returns the identifier numbers that the texts of the list under `key` spell. The error is `Range` at the first that `read_item`
+// refuses.
 #[tactic(auto, unfolding(crate::specs::Drive::idns_onto, sercos_block::specs::Rings::are_cyclic))]
 fn read_texts(
     keys: &Keys<'_>,
@@ -215,7 +220,8 @@ fn read_texts(
     Ok(idns)
 }
 
-// Returns the identifier number that an item spells.
+// Returns the identifier number that `text` spells, the item with index `item` of the list under `key`. The error is `Range`: with the
+// text's length in bytes if it spells none, or with the raw number if no telegram of a drive with these blocks can carry it.
 #[tactic(auto, unfolding(crate::specs::Drive::idn_at, sercos_document::specs::Answers::demand))]
 fn read_item(
     keys: &Keys<'_>,
@@ -235,7 +241,8 @@ fn read_item(
     }
 }
 
-// The identifier number that an item spells.
+// Returns the identifier number that `text` spells, the item with index `item` of the list under `key`. The error is `Range` with the
+// text's length in bytes if it spells none.
 #[tactic(auto, unfolding(crate::specs::Block::idn_in))]
 fn read_item_idn(keys: &Keys<'_>, key: &str, item: usize, text: &str) -> Result<Idn, BadDocument>
     ensures { Gives result (idn_in (item_path keys.now.place key.now item) text.now) }

@@ -24,7 +24,7 @@ const LAST_CYCLE: u32 = MOST_CYCLES - 1;
 // The last bit of the longest frame.
 const LAST_BIT: u32 = 19_695;
 
-// What a fault does, without where.
+// What a fault does: the words of `kind`.
 #[derive(Clone, Copy, Debug, PartialEq, Eq)]
 enum FaultKind {
     Lose,
@@ -34,7 +34,7 @@ enum FaultKind {
     Restart,
 }
 
-/// The faults of a document's tables, in a ring of these drives.
+/// Reads the faults from their tables, in their order, for a ring of these drives. The error is the first refusal, or `Memory`.
 #[tactic(auto, unfolding(crate::specs::Fault::faults_onto))]
 pub(crate) fn read_faults(
     alloc: Global,
@@ -60,7 +60,7 @@ pub(crate) fn read_faults(
     Ok(faults)
 }
 
-// The fault of a table.
+// Reads a fault from its table, for a ring of these drives. The error is the first refusal, or `Memory`.
 #[tactic(auto, unfolding(crate::specs::Fault::fault_of))]
 fn read_fault(keys: &Keys<'_>, drives: &[DriveSetup]) -> Result<Fault, BadDocument>
     requires { length drives.now ≤ 64 }
@@ -89,7 +89,8 @@ fn read_fault(keys: &Keys<'_>, drives: &[DriveSetup]) -> Result<Fault, BadDocume
     })
 }
 
-// The kind that a fault names, if it names one.
+// Returns the kind of fault whose word is under `key`. `None` if the key is absent, isn't a text, or has another word; nothing is
+// refused.
 #[tactic(auto, unfolding(crate::specs::Words::glimpse))]
 fn glimpsed_kind(keys: &Keys<'_>, key: &str) -> Option<FaultKind>
     ensures { result ≡ glimpse fault_kind (located keys.now) key.now }
@@ -100,7 +101,8 @@ fn glimpsed_kind(keys: &Keys<'_>, key: &str) -> Option<FaultKind>
     }
 }
 
-// The kind of telegrams that a fault names, if it names one.
+// Returns the kind of telegram whose word is under `key`. `None` if the key is absent, isn't a text, or has another word; nothing is
+// refused.
 #[tactic(auto, unfolding(crate::specs::Words::glimpse))]
 fn glimpsed_telegram(keys: &Keys<'_>, key: &str) -> Option<Kind>
     ensures { result ≡ glimpse telegram_kind (located keys.now) key.now }
@@ -111,6 +113,8 @@ fn glimpsed_telegram(keys: &Keys<'_>, key: &str) -> Option<Kind>
     }
 }
 
+// Refuses the least key, in the order of bytes, that a fault of this kind and telegram may not have, as `Unknown`. A kind or telegram of
+// `None` is absent, or isn't one of the words.
 #[tactic(auto, unfolding(crate::specs::Fault::fault_keys))]
 fn known(
     keys: &Keys<'_>,
@@ -129,8 +133,8 @@ fn known(
     )
 }
 
-// Refuses the least unknown key, in the order of bytes. Each flag is whether the key of its name is known; `kind`, `cycle`, `last` and
-// `every` always are.
+// Refuses the least unknown key, in the order of bytes, as `Unknown`. Each flag is whether the key of its name is known; `kind`, `cycle`,
+// `last` and `every` always are.
 #[tactic(auto, unfolding(crate::specs::Fault::keys_if))]
 fn known_if(
     keys: &Keys<'_>,
@@ -155,8 +159,9 @@ fn known_if(
     ])
 }
 
-// Returns whether the key `telegram` is known: not in a restart. A kind of `None` is absent or none of the words of `kind`; then every key
-// is known, so that the kind itself is refused. The same holds of the other keys below, and of a telegram of `None`.
+// Returns whether the key `telegram` is known: in every fault but a restart. A kind of `None` is absent, or isn't one of the words of
+// `kind`. Every key is then known, so that `kind` itself is refused. The same holds for the other keys below, and for a telegram of
+// `None` unless the fault is a restart.
 #[tactic(auto, unfolding(crate::specs::Fault::has_telegram))]
 fn has_telegram(kind: Option<FaultKind>) -> bool
     ensures { result ≡ has_telegram kind }
@@ -167,7 +172,7 @@ fn has_telegram(kind: Option<FaultKind>) -> bool
     }
 }
 
-// Returns whether the key `from` is known: not in a restart, nor with a telegram that has one sender, the master.
+// Returns whether the key `from` is known: not in a restart, nor with an MST or MDT, which only the master sends.
 #[tactic(auto, unfolding(crate::specs::Fault::has_from))]
 fn has_from(kind: Option<FaultKind>, telegram: Option<Kind>) -> bool
     ensures { result ≡ has_from kind telegram }
@@ -179,7 +184,7 @@ fn has_from(kind: Option<FaultKind>, telegram: Option<Kind>) -> bool
     }
 }
 
-// Returns whether the key `link` is known: not in a restart, nor where a station is deaf.
+// Returns whether the key `link` is known: not in a restart, nor if a station is deaf.
 #[tactic(auto, unfolding(crate::specs::Fault::has_link))]
 fn has_link(kind: Option<FaultKind>, telegram: Option<Kind>) -> bool
     ensures { result ≡ has_link kind telegram }
@@ -191,7 +196,7 @@ fn has_link(kind: Option<FaultKind>, telegram: Option<Kind>) -> bool
     }
 }
 
-// Returns whether the key `bit` is known: where a bit is flipped, or bits are cut off.
+// Returns whether the key `bit` is known: if a bit is flipped, or if bits are cut off.
 #[tactic(auto, unfolding(crate::specs::Fault::has_bit))]
 fn has_bit(kind: Option<FaultKind>, telegram: Option<Kind>) -> bool
     ensures { result ≡ has_bit kind telegram }
@@ -203,7 +208,7 @@ fn has_bit(kind: Option<FaultKind>, telegram: Option<Kind>) -> bool
     }
 }
 
-// Returns whether the key `station` is known: in a restart, and where a station is deaf.
+// Returns whether the key `station` is known: in a restart, and if a station is deaf.
 #[tactic(auto, unfolding(crate::specs::Fault::has_station))]
 fn has_station(kind: Option<FaultKind>, telegram: Option<Kind>) -> bool
     ensures { result ≡ has_station kind telegram }
@@ -214,6 +219,7 @@ fn has_station(kind: Option<FaultKind>, telegram: Option<Kind>) -> bool
     }
 }
 
+// Returns the kind of fault that a word of `kind` names; `None` for any other text.
 #[tactic(auto, unfolding(crate::specs::Fault::fault_kind))]
 fn fault_kind(text: &str) -> Option<FaultKind>
     ensures { result ≡ fault_kind text.now }
@@ -233,6 +239,7 @@ fn fault_kind(text: &str) -> Option<FaultKind>
     }
 }
 
+// Returns the kind of telegram that a word of `telegram` names; `None` for any other text.
 #[tactic(auto, unfolding(crate::specs::Fault::telegram_kind))]
 fn telegram_kind(text: &str) -> Option<Kind>
     ensures { result ≡ telegram_kind text.now }
@@ -248,7 +255,8 @@ fn telegram_kind(text: &str) -> Option<Kind>
     }
 }
 
-// What a fault does, without where.
+// Returns the kind of fault whose word is under `key`. The error is `Missing`, `Kind`, or `Range` with the text's length in bytes if it
+// is another word.
 #[tactic(auto, unfolding(crate::specs::Words::word))]
 fn read_kind(keys: &Keys<'_>, key: &str) -> Result<FaultKind, BadDocument>
     ensures { Gives result (word fault_kind (located keys.now) key.now) }
@@ -260,7 +268,8 @@ fn read_kind(keys: &Keys<'_>, key: &str) -> Result<FaultKind, BadDocument>
     }
 }
 
-// The kind of telegrams under a key.
+// Returns the kind of telegram whose word is under `key`. The error is `Missing`, `Kind`, or `Range` with the text's length in bytes if
+// it is another word.
 #[tactic(auto, unfolding(crate::specs::Words::word))]
 fn read_telegram_kind(keys: &Keys<'_>, key: &str) -> Result<Kind, BadDocument>
     ensures { Gives result (word telegram_kind (located keys.now) key.now) }
@@ -272,7 +281,8 @@ fn read_telegram_kind(keys: &Keys<'_>, key: &str) -> Result<Kind, BadDocument>
     }
 }
 
-// The kind of the telegrams that a fault acts on: a restart counts as one of the MST.
+// Returns the kind of the telegrams that a fault acts on, from `telegram`. A restart has no such key, and counts as a fault of the MST.
+// The error is `Missing`, `Kind` or `Range`.
 #[tactic(auto, unfolding(crate::specs::Fault::telegram_of))]
 fn read_telegram(keys: &Keys<'_>, kind: FaultKind) -> Result<Kind, BadDocument>
     ensures { Gives result (telegram_of kind (located keys.now)) }
@@ -285,7 +295,8 @@ fn read_telegram(keys: &Keys<'_>, kind: FaultKind) -> Result<Kind, BadDocument>
     }
 }
 
-// The station of a drive: drives are counted from 1 in the order of the ring.
+// Returns the number of the station with an address, if it is a drive's: drives are numbered from 1 in the order of the ring. `None` if
+// no drive has it.
 #[tactic(auto, unfolding(crate::specs::Fault::drive_station))]
 fn drive_station(drives: &[DriveSetup], address: i64) -> Option<u8>
     requires { length drives.now ≤ 64 }
@@ -297,7 +308,8 @@ fn drive_station(drives: &[DriveSetup], address: i64) -> Option<u8>
     }
 }
 
-// The station of a drive, or of the master, whose address is 0.
+// Returns the number of the station with an address: 0 for the master, whose address is 0, and otherwise that of a drive. `None` if no
+// station has it.
 #[tactic(auto, unfolding(crate::specs::Fault::any_station))]
 fn any_station(drives: &[DriveSetup], address: i64) -> Option<u8>
     requires { length drives.now ≤ 64 }
@@ -310,7 +322,8 @@ fn any_station(drives: &[DriveSetup], address: i64) -> Option<u8>
     }
 }
 
-// The station that sends the telegrams that a fault acts on.
+// Returns the number of the station that sends the telegrams: 0, the master, for MST and MDT; for an AT that of the drive whose address
+// is under `from`. The error is `Missing`, `Kind`, or `Range` with the address if no drive has it.
 #[tactic(auto, unfolding(crate::specs::Fault::from_of))]
 fn read_from(keys: &Keys<'_>, drives: &[DriveSetup], telegram: Kind) -> Result<u8, BadDocument>
     requires { length drives.now ≤ 64 }
@@ -328,8 +341,8 @@ fn read_from(keys: &Keys<'_>, drives: &[DriveSetup], telegram: Kind) -> Result<u
     }
 }
 
-// Returns whether a station receives telegrams of a kind: the master alone an AT, drives alone an
-// MDT.
+// Returns whether the station with a number, 0 being the master, receives telegrams of a kind: each an MST, only the master an AT, and
+// only drives an MDT.
 #[tactic(auto, unfolding(crate::specs::Fault::hears))]
 fn hears(telegram: Kind, station: u8) -> bool
     ensures { result ≡ hears telegram station }
@@ -341,7 +354,8 @@ fn hears(telegram: Kind, station: u8) -> bool
     }
 }
 
-// The station at which a fault acts.
+// Returns the number of the station whose address is under `station`. The error is `Missing`, `Kind`, or `Range` with the address if no
+// station has it, or if the station doesn't receive such telegrams.
 #[tactic(auto, unfolding(crate::specs::Fault::station_of))]
 fn read_station(keys: &Keys<'_>, drives: &[DriveSetup], telegram: Kind) -> Result<u8, BadDocument>
     requires { length drives.now ≤ 64 }
@@ -357,7 +371,8 @@ fn read_station(keys: &Keys<'_>, drives: &[DriveSetup], telegram: Kind) -> Resul
     }
 }
 
-// What a fault of a kind does.
+// Reads what a fault of a kind does, from `link`, `bit` and `station`. `telegram` is the kind of the telegrams that it acts on. The error
+// is `Missing`, `Kind` or `Range`.
 #[tactic(auto, unfolding(crate::specs::Fault::damage_of))]
 fn read_damage(
     keys: &Keys<'_>,
@@ -394,7 +409,7 @@ fn read_damage(
     }
 }
 
-// The link on which a fault acts: 0 to the number of drives.
+// Returns the link on which a fault acts, from `link`: 0 to the number of drives. The error is `Missing`, `Kind` or `Range`.
 #[tactic(auto, unfolding(crate::specs::Fault::link_of))]
 fn read_link(keys: &Keys<'_>, drives: &[DriveSetup]) -> Result<u8, BadDocument>
     requires { length drives.now ≤ 64 }

@@ -24,7 +24,7 @@ use sercos_timing::Times;
 use sercos_timing::limits::{LEAST_CYCLE, MOST_CYCLE};
 use std::alloc::{AllocError, Global};
 
-// S-0-0047 and S-0-0051.
+// S-0-0047, the position command, and S-0-0051, the position feedback.
 const POSITION_COMMAND: Idn = Idn { raw: 47 };
 
 const POSITION_FEEDBACK: Idn = Idn { raw: 51 };
@@ -32,7 +32,7 @@ const POSITION_FEEDBACK: Idn = Idn { raw: 51 };
 // The number of cycles that a generated ring runs beyond its start-up.
 const CYCLES_AFTER_STARTUP: u32 = 100;
 
-// The attribute of a number of four bytes with sign, which the master may write in each phase.
+// Returns the attribute of a number of four bytes with sign, which the master may write in each phase.
 #[tactic(auto, using(crate::proofs::GeneratedLemmas::position_read, crate::proofs::GeneratedLemmas::position_is_four, crate::proofs::GeneratedLemmas::position_is_number))]
 fn position_attribute() -> Attribute
     ensures value { result ≡ attribute_of 0x00220001 }
@@ -42,7 +42,7 @@ fn position_attribute() -> Attribute
     attribute_in(0x0022_0001).unwrap()
 }
 
-// The block of a position.
+// Returns the block of a position. It is `value` at first, and grows by `step` in each cycle.
 fn position_block(idn: Idn, value: u32, step: u32) -> Block
     ensures { result ≡ position_block idn value step }
 {
@@ -62,7 +62,8 @@ fn position_block(idn: Idn, value: u32, step: u32) -> Block
     }
 }
 
-// The blocks of every drive.
+// Returns the blocks of each drive: the position command, and the position feedback, which grows by 10 in each cycle. The error is
+// `AllocError`.
 fn position_blocks(alloc: Global) -> Result<Vec<Block>, AllocError>
     ensures { IfOk result (λ v. v.items ≡ position_block position_command 0 0 ∷ position_block position_feedback 64500 10 ∷ []) }
 {
@@ -72,7 +73,7 @@ fn position_blocks(alloc: Global) -> Result<Vec<Block>, AllocError>
     Ok(blocks)
 }
 
-// A list of one identifier number.
+// Returns a list of this one identifier number.
 fn one(idn: Idn) -> ArrayVec<Idn, 16>
     ensures { result.items ≡ idn ∷ [] }
 {
@@ -81,7 +82,7 @@ fn one(idn: Idn) -> ArrayVec<Idn, 16>
     idns
 }
 
-// The times that drive k declares, in microseconds.
+// Returns the times that drive k declares, in microseconds.
 fn times_of(k: u8) -> Times
     ensures { result ≡ generated_times k }
 {
@@ -95,7 +96,7 @@ fn times_of(k: u8) -> Times
     }
 }
 
-// Drive k, from 1 on.
+// Returns drive k, counted from 1. It is busy for k % 3 cycles, and its procedure commands take k % 4. The error is `AllocError`.
 #[tactic(auto, unfolding(crate::specs::Generated::generated_drive))]
 fn generated_drive(alloc: Global, k: u8) -> Result<DriveSetup, AllocError>
     requires { 1 ≤ k }
@@ -116,7 +117,7 @@ fn generated_drive(alloc: Global, k: u8) -> Result<DriveSetup, AllocError>
     })
 }
 
-// The drives 1 to n.
+// Returns the drives 1 to n, in this order. The error is `AllocError`.
 #[tactic(auto, using(crate::proofs::GeneratedLemmas::made_more, crate::proofs::GeneratedLemmas::made_count))]
 fn generated_drives(alloc: Global, n: u8) -> Result<Vec<DriveSetup>, AllocError>
     requires { n ≤ 64 }
@@ -130,7 +131,7 @@ fn generated_drives(alloc: Global, n: u8) -> Result<Vec<DriveSetup>, AllocError>
     Ok(drives)
 }
 
-// The read of the position feedback of drive k.
+// Returns the request of drive k, which reads the operation data of its position feedback.
 #[tactic(auto, unfolding(crate::specs::Generated::generated_job))]
 fn generated_job(k: u8) -> Job
     ensures { result ≡ generated_job k }
@@ -144,7 +145,7 @@ fn generated_job(k: u8) -> Job
     }
 }
 
-// One request to each of n drives.
+// Returns one request for each of the drives 1 to n, in this order. The error is `AllocError`.
 #[tactic(auto, using(crate::proofs::GeneratedLemmas::made_more))]
 fn generated_jobs(alloc: Global, n: u8) -> Result<Vec<Job>, AllocError>
     requires { n ≤ 64 }
@@ -157,7 +158,7 @@ fn generated_jobs(alloc: Global, n: u8) -> Result<Vec<Job>, AllocError>
     Ok(jobs)
 }
 
-// The AT of drive k, lost on link n.
+// Returns the fault that loses the AT of drive k on link n, once, in cycle 37 * k.
 #[tactic(auto, unfolding(crate::specs::Generated::generated_fault))]
 fn generated_fault(n: u8, k: u8) -> Fault
     ensures { result ≡ generated_fault n k }
@@ -173,7 +174,7 @@ fn generated_fault(n: u8, k: u8) -> Fault
     }
 }
 
-// One fault for each of n drives.
+// Returns one fault for each of the drives 1 to n, in this order. The error is `AllocError`.
 #[tactic(auto, using(crate::proofs::GeneratedLemmas::made_more))]
 fn generated_faults(alloc: Global, n: u8) -> Result<Vec<Fault>, AllocError>
     requires { n ≤ 64 }
@@ -186,7 +187,8 @@ fn generated_faults(alloc: Global, n: u8) -> Result<Vec<Fault>, AllocError>
     Ok(faults)
 }
 
-// The number of steps that the start-up of a drive is counted with.
+// Returns the steps that are counted for the start-up of a drive: 82, four for each identifier number that its AT and its record in the
+// MDT carry, and two for each cycle that its procedure commands take.
 fn steps_of(drive: &DriveSetup) -> u32
     ensures value { result ≡ 82 + 4 * (length drive.now.at + length drive.now.mdt) + 2 * drive.now.command }
     ensures bound { result ≤ 131280 }
@@ -196,7 +198,7 @@ fn steps_of(drive: &DriveSetup) -> u32
     82 + 4 * lists as u32 + 2 * command
 }
 
-// The cycles that the start-up of a drive takes.
+// Returns the cycles that are counted for the start-up of a drive: for each step its busy cycles and two more.
 #[tactic(auto, using(crate::proofs::GeneratedLemmas::startup_fits))]
 fn startup_of(drive: &DriveSetup) -> u32
     ensures value { result ≡ startup_of drive.now }
@@ -206,7 +208,7 @@ fn startup_of(drive: &DriveSetup) -> u32
     cycles * steps_of(drive)
 }
 
-// The cycles that the start-up of these drives takes, one after the other.
+// Returns the sum of the cycles that are counted for the start-up of each drive.
 fn startup_of_all(drives: &[DriveSetup]) -> u32
     requires { length drives.now ≤ 64 }
     ensures value { result ≡ sum_by startup_of drives.now }
@@ -219,7 +221,8 @@ fn startup_of_all(drives: &[DriveSetup]) -> u32
     cycles
 }
 
-// The number of cycles that a ring of these drives runs.
+// Returns the number of cycles that a generated ring of these drives runs: 20, two for each drive, those counted for the start-up of all
+// drives, and 100 more.
 fn cycles_for(drives: &[DriveSetup]) -> u32
     requires { length drives.now ≤ 64 }
     ensures { result ≡ 20 + 2 * length drives.now + sum_by startup_of drives.now + 100 }
@@ -227,7 +230,7 @@ fn cycles_for(drives: &[DriveSetup]) -> u32
     20 + 2 * drives.len() as u32 + startup_of_all(drives) + CYCLES_AFTER_STARTUP
 }
 
-// The ring of n drives.
+// Returns the ring of the drives 1 to n. The error is `AllocError`.
 #[tactic(auto, unfolding(crate::specs::Generated::generated_ring, crate::specs::Generated::generated_cycles))]
 fn generated_ring(alloc: Global, n: u8) -> Result<RingSetup, AllocError>
     requires { n ≤ 64 }
@@ -245,7 +248,7 @@ fn generated_ring(alloc: Global, n: u8) -> Result<RingSetup, AllocError>
     })
 }
 
-// The document of n drives.
+// Returns the document of the drives 1 to n. The error is `AllocError`.
 #[tactic(auto, unfolding(crate::specs::Generated::generated))]
 fn document_for(alloc: Global, n: u8) -> Result<Document, AllocError>
     requires { n ≤ 64 }

@@ -25,7 +25,7 @@ use sercos_timing::limits::MOST_ADDRESS;
 use std::alloc::Global;
 use toml::Table;
 
-// The contents of a request.
+// What a request does: the words of `kind`.
 #[derive(Clone, Copy, Debug, PartialEq, Eq)]
 enum RequestKind {
     Read,
@@ -33,7 +33,7 @@ enum RequestKind {
     Command,
 }
 
-/// The requests of a document's tables, to these drives.
+/// Reads the requests to these drives from their tables, in their order. The error is the first refusal, or `Memory`.
 #[tactic(auto, unfolding(crate::specs::Request::requests_onto))]
 pub(crate) fn read_requests(
     alloc: Global,
@@ -61,7 +61,7 @@ pub(crate) fn read_requests(
     Ok(jobs)
 }
 
-// The request of a table.
+// Reads a request to one of these drives from its table. The error is the first refusal, or `Memory`.
 #[tactic(auto, unfolding(crate::specs::Request::request_of))]
 fn read_request(keys: &Keys<'_>, drives: &[DriveSetup]) -> Result<Job, BadDocument>
     ensures value { Gives result (request_of drives.now (located keys.now)) }
@@ -77,7 +77,8 @@ fn read_request(keys: &Keys<'_>, drives: &[DriveSetup]) -> Result<Job, BadDocume
     Ok(Job { drive, request })
 }
 
-// The kind that a request names, if it names one.
+// Returns the kind of request whose word is under `key`. `None` if the key is absent, isn't a text, or has another word; nothing is
+// refused.
 #[tactic(auto, unfolding(crate::specs::Words::glimpse))]
 fn glimpsed_kind(keys: &Keys<'_>, key: &str) -> Option<RequestKind>
     ensures { result ≡ glimpse request_kind (located keys.now) key.now }
@@ -88,6 +89,8 @@ fn glimpsed_kind(keys: &Keys<'_>, key: &str) -> Option<RequestKind>
     }
 }
 
+// Refuses the least key, in the order of bytes, that a request of this kind may not have, as `Unknown`. A kind of `None` is absent, or
+// isn't one of the words.
 #[tactic(auto, unfolding(crate::specs::Request::request_keys))]
 fn known(keys: &Keys<'_>, kind: Option<RequestKind>) -> Result<(), BadDocument>
     ensures { Gives result (known (located keys.now) (request_keys kind)) }
@@ -95,7 +98,8 @@ fn known(keys: &Keys<'_>, kind: Option<RequestKind>) -> Result<(), BadDocument>
     known_if(keys, has_element(kind), has_data(kind))
 }
 
-// Refuses the least unknown key, in the order of bytes. Each flag is whether the key of its name is known.
+// Refuses the least unknown key, in the order of bytes, as `Unknown`. `element` is whether that key is known, and `bytes` whether `data`
+// is; `drive`, `kind` and `idn` always are.
 #[tactic(auto, unfolding(crate::specs::Request::keys_if))]
 fn known_if(keys: &Keys<'_>, element: bool, bytes: bool) -> Result<(), BadDocument>
     ensures { Gives result (known (located keys.now) (keys_if element bytes)) }
@@ -109,8 +113,8 @@ fn known_if(keys: &Keys<'_>, element: bool, bytes: bool) -> Result<(), BadDocume
     ])
 }
 
-// Returns whether the key `element` is known: not for a procedure command. A kind of `None` is absent or none of the words of `kind`; then
-// every key is known, so that the kind itself is refused.
+// Returns whether the key `element` is known: not for a procedure command. A kind of `None` is absent, or isn't one of the words of
+// `kind`. Every key is then known, so that `kind` itself is refused.
 #[tactic(auto, unfolding(crate::specs::Request::has_element))]
 fn has_element(kind: Option<RequestKind>) -> bool
     ensures { result ≡ has_element kind }
@@ -121,7 +125,7 @@ fn has_element(kind: Option<RequestKind>) -> bool
     }
 }
 
-// Returns whether the key `data` is known: for a write alone, and where the kind is `None`.
+// Returns whether the key `data` is known: only for a write, and if the kind is `None`.
 #[tactic(auto, unfolding(crate::specs::Request::has_data))]
 fn has_data(kind: Option<RequestKind>) -> bool
     ensures { result ≡ has_data kind }
@@ -132,6 +136,7 @@ fn has_data(kind: Option<RequestKind>) -> bool
     }
 }
 
+// Returns the kind of request that a word of `kind` names; `None` for any other text.
 #[tactic(auto, unfolding(crate::specs::Request::request_kind))]
 fn request_kind(text: &str) -> Option<RequestKind>
     ensures { result ≡ request_kind text.now }
@@ -147,7 +152,8 @@ fn request_kind(text: &str) -> Option<RequestKind>
     }
 }
 
-// The kind of a request.
+// Returns the kind of request whose word is under `key`. The error is `Missing`, `Kind`, or `Range` with the text's length in bytes if it
+// is another word.
 #[tactic(auto, unfolding(crate::specs::Words::word))]
 fn read_kind(keys: &Keys<'_>, key: &str) -> Result<RequestKind, BadDocument>
     ensures { Gives result (word request_kind (located keys.now) key.now) }
@@ -159,7 +165,8 @@ fn read_kind(keys: &Keys<'_>, key: &str) -> Result<RequestKind, BadDocument>
     }
 }
 
-// Returns the address of one of the drives.
+// Returns the address under `key`. The error is `Missing`, `Kind`, or `Range` with the number if none of the drives has it as its
+// address.
 #[tactic(auto, unfolding(crate::specs::Words::address_under))]
 fn read_address(keys: &Keys<'_>, drives: &[DriveSetup], key: &str) -> Result<u8, BadDocument>
     ensures value { Gives result (address_under drives.now (located keys.now) key.now) }
@@ -171,7 +178,7 @@ fn read_address(keys: &Keys<'_>, drives: &[DriveSetup], key: &str) -> Result<u8,
     Ok(address as u8)
 }
 
-// What a request of a kind does at the drive with an address.
+// Reads what a request of a kind does with the block `idn` at the drive with this address. The error is `Missing`, `Kind` or `Range`.
 fn read_asked(
     keys: &Keys<'_>,
     drives: &[DriveSetup],
@@ -192,6 +199,8 @@ fn read_asked(
     }
 }
 
+// Reads which element of the block `idn` is read, from `element`: 1 to 7, and 7 if the key is absent. The error is `Kind` or `Range`.
+// Only the contract uses `drives` and `address`.
 #[tactic(auto, unfolding(crate::specs::Request::asked_of))]
 fn read_read(
     keys: &Keys<'_>,
@@ -212,6 +221,8 @@ fn read_read(
     })
 }
 
+// Reads what is written to the block `idn`: the element, from `element`, 2 to 7, and 7 if the key is absent; and its bytes, from `data`.
+// The error is `Missing` for `data`, or `Kind` or `Range`. Only the contract uses `drives` and `address`.
 #[tactic(auto, unfolding(crate::specs::Request::asked_of))]
 fn read_write(
     keys: &Keys<'_>,
@@ -234,6 +245,8 @@ fn read_write(
     })
 }
 
+// Returns the request that runs a procedure command of the drive with this address. The error is `Range` at `idn`, with the raw number,
+// if the drive has the block and it isn't a procedure command. A drive without the block isn't refused here.
 #[tactic(auto, unfolding(crate::specs::Request::asked_of))]
 fn read_command(
     keys: &Keys<'_>,
@@ -252,7 +265,8 @@ fn read_command(
     Ok(Request::Command { idn })
 }
 
-// What is written.
+// Returns the bytes that the hexadecimal digits under `key` spell, two digits for each byte. The error is `Missing`, `Kind`, or `Range`
+// with the text's length in bytes if it isn't such pairs of digits, or spells more than 1,024 bytes.
 #[tactic(auto, unfolding(crate::specs::Request::bytes_under))]
 fn read_bytes(keys: &Keys<'_>, key: &str) -> Result<Bytes, BadDocument>
     ensures value { Gives result (bytes_under (located keys.now) key.now) }
@@ -265,7 +279,8 @@ fn read_bytes(keys: &Keys<'_>, key: &str) -> Result<Bytes, BadDocument>
     }
 }
 
-// The bytes that digits spell.
+// Returns the bytes that hexadecimal digits of either case spell, two digits for each byte. `None` if `digits` aren't such pairs, or
+// spell more than 1,024 bytes.
 #[tactic(auto, unfolding(crate::specs::Request::bytes_spelled))]
 fn bytes_spelled(digits: &[u8]) -> Option<Bytes>
     ensures value { result ≡ bytes_spelled digits.now }

@@ -16,7 +16,7 @@ use sercos_timing::limits::{LEAST_CYCLE, MOST_CYCLE, MOST_GAP};
 use sercos_timing::{is_cycle, is_rate};
 use toml::Value;
 
-/// The numbers of a ring: times in microseconds, and how many cycles it runs.
+/// The numbers of a ring: the rate in Mbit/s, times in microseconds, and how many cycles it runs.
 #[derive(Clone, Copy, Debug, PartialEq, Eq)]
 pub(crate) struct Head {
     pub rate: u8,
@@ -26,7 +26,8 @@ pub(crate) struct Head {
     pub cycles: u32,
 }
 
-/// The numbers of the ring's table.
+/// Reads the numbers of the ring from its table. A `control` that is absent is the cycle time, and an absent `gap` is 5 microseconds. The
+/// error is `Unknown`, `Missing`, `Kind` or `Range`.
 #[tactic(auto, unfolding(crate::specs::Ring::head_of, sercos_block::specs::Rings::are_ring_numbers, sercos_timing::specs::Valid::is_control))]
 pub(crate) fn read_head(keys: &Keys<'_>) -> Result<Head, BadDocument>
     ensures value { Gives result (head_of (located keys.now)) }
@@ -51,6 +52,7 @@ pub(crate) fn read_head(keys: &Keys<'_>) -> Result<Head, BadDocument>
     })
 }
 
+// Refuses the least key, in the order of bytes, that the table `ring` may not have, as `Unknown`.
 #[tactic(auto, unfolding(crate::specs::Ring::ring_keys))]
 fn known(keys: &Keys<'_>) -> Result<(), BadDocument>
     ensures { Gives result (known (located keys.now) ring_keys) }
@@ -58,7 +60,9 @@ fn known(keys: &Keys<'_>) -> Result<(), BadDocument>
     keys.known(&["rate", "cycle", "control", "gap", "cycles", "order"])
 }
 
-/// The order of the drives, by their places in the ring.
+/// Returns the indices of the drives in the ring, from 0, in the order of the list of addresses under `order`. If the key is absent, the
+/// order is that of the ring. The error is `Kind` at the list or an item; `Range` at the list if it doesn't have one item for each drive,
+/// or at an item that is no drive's address; or `Twice` at an item that names a drive again.
 #[tactic(auto, unfolding(crate::specs::Ring::order_of))]
 pub(crate) fn read_order(
     keys: &Keys<'_>,
@@ -74,7 +78,7 @@ pub(crate) fn read_order(
     }
 }
 
-// All drives, in the order of the ring.
+/// Returns the indices 0 to `count` - 1, ascending: all drives in the order of the ring.
 #[tactic(auto, using(crate::proofs::OrderLemmas::places_more, crate::proofs::OrderLemmas::is_order_places), unfolding(crate::specs::Ring::places_below))]
 pub(crate) fn all_drives(count: usize) -> ArrayVec<u8, 64>
     requires { count ≤ 64 }
@@ -88,7 +92,8 @@ pub(crate) fn all_drives(count: usize) -> ArrayVec<u8, 64>
     order
 }
 
-// The order of a list of addresses.
+// Returns the indices of the drives whose addresses are `items`, the list under `key`, in the order of the list. The errors are those of
+// `read_order`.
 #[tactic(auto, unfolding(crate::specs::Ring::listed_order, sercos_block::specs::Rings::is_order))]
 fn read_listed(
     keys: &Keys<'_>,
@@ -106,7 +111,8 @@ fn read_listed(
     read_turns(keys, drives, key, addresses.as_slice())
 }
 
-// The drives of these addresses.
+// Returns the indices of the drives with these addresses, which are the items of the list under `key`. The error is `Range` at the first
+// that no drive has, or `Twice` at the first whose drive was named before.
 #[tactic(auto, using(crate::proofs::OrderLemmas::turns_none, crate::proofs::OrderLemmas::turns_more), unfolding(crate::specs::Ring::turns_onto))]
 fn read_turns(
     keys: &Keys<'_>,
@@ -129,7 +135,8 @@ fn read_turns(
     Ok(order)
 }
 
-// Returns the drive of an address, which is not among these.
+// Returns the index of the drive with an address, the next item of the list under `key`. `done` has the indices for the items before it.
+// The error is `Range` at the item, with the address, if no drive has it; or `Twice` at the item if `done` has its drive.
 #[tactic(auto, unfolding(crate::specs::Ring::turn_of, sercos_document::specs::Answers::demand, sercos_block::specs::Rings::is_turn))]
 fn read_turn(
     keys: &Keys<'_>,
@@ -154,13 +161,14 @@ fn read_turn(
     }
 }
 
+// Returns whether `done` has the index `place`.
 fn is_among(place: u8, done: &[u8]) -> bool
     ensures { result ≡ list_any (λ k. k == place) done.now }
 {
     done.iter().any(|k| *k == place)
 }
 
-/// The place of the first drive that has this address.
+/// Returns the index, from 0, of the first drive that has this address; `None` if none has it.
 #[tactic(auto, unfolding(crate::specs::Ring::place_from))]
 pub(crate) fn place_of(address: i64, drives: &[DriveSetup]) -> Option<usize>
     ensures value { result ≡ place_from 0 address drives.now }

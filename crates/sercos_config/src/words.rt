@@ -6,7 +6,7 @@ ghost use Rattle.sercos_config.specs.Words.{key_if};
 
 use sercos_document::Keys;
 
-/// The text under a key, where the key has a text. Nothing is refused.
+/// Returns the text under `key`. `None` if the key is absent or its value isn't a text; neither is refused here.
 pub(crate) fn glance<'a>(keys: &Keys<'a>, key: &str) -> Option<&'a str>
     ensures { option_copied result ≡ option_and_then as_str (get_member key.now (located keys.now).members) }
 {
@@ -16,7 +16,8 @@ pub(crate) fn glance<'a>(keys: &Keys<'a>, key: &str) -> Option<&'a str>
     }
 }
 
-/// The key where it counts, and `kind` where it doesn't.
+/// Returns `key` if it counts, and `kind` otherwise. In a list of known keys that has `kind` already, a key that doesn't count thus adds
+/// nothing.
 #[tactic(auto, unfolding(crate::specs::Words::key_if))]
 pub(crate) fn key_if(counts: bool, key: &'static str) -> &'static str
     ensures { result.now ≡ key_if counts key.now }

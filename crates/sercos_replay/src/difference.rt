@@ -13,7 +13,7 @@ use std::marker::Model;
 /// A place of a capture at which a station deviated from its rules. Contracts see the record of its fields.
 #[derive(Debug, Drop)]
 pub struct Difference {
-    /// The cycle.
+    /// The number of the cycle.
     pub cycle: u32,
     /// The kind of the telegram.
     pub kind: Kind,
@@ -32,7 +32,7 @@ impl Model for Difference {
 }
 
 impl Difference {
-    // A place with no telegrams.
+    /// Returns a place without telegrams.
     pub(crate) fn new() -> Difference {
         Difference {
             cycle: 0,
@@ -42,7 +42,7 @@ impl Difference {
         }
     }
 
-    // A copy, to be handed out.
+    /// Returns a copy.
     pub(crate) fn copy(&self) -> Difference
         ensures { result ≡ self.now }
     {
@@ -55,6 +55,7 @@ impl Difference {
     }
 }
 
+// Returns a copy of a content.
 fn copy_of(content: &Content) -> Content
     ensures { result ≡ content.now }
 {
@@ -63,7 +64,8 @@ fn copy_of(content: &Content) -> Content
     copy
 }
 
-// A telegram that is to be sent.
+// Returns the telegram of a kind with this content. `start` is in bit times after the MST's end, and the length is that of the content's
+// frame, in bits.
 fn telegram_at(kind: Kind, content: &Content, start: i32) -> Sent
     requires { 0 < length content.now }
     ensures { result ≡ telegram_at kind content.now start }
@@ -76,6 +78,7 @@ fn telegram_at(kind: Kind, content: &Content, start: i32) -> Sent
     }
 }
 
+// Returns the telegram of a kind with this content and start, in bit times after the MST's end; `None` if it has no start.
 fn expected_as(kind: Kind, content: &Content, start: Option<i32>) -> Option<Sent>
     requires { is_some start ≡ true → 0 < length content.now }
     ensures { result ≡ expected_as kind content.now start }
@@ -86,6 +89,7 @@ fn expected_as(kind: Kind, content: &Content, start: Option<i32>) -> Option<Sent
     }
 }
 
+// Returns a copy of a telegram.
 fn sent_copy(sent: &Sent) -> Sent
     ensures { result ≡ sent.now }
 {
@@ -97,6 +101,7 @@ fn sent_copy(sent: &Sent) -> Sent
     }
 }
 
+// Returns a copy of a telegram, if there is one.
 fn found_copy(found: Option<&Sent>) -> Option<Sent>
     ensures { result ≡ option_map (λ s. s.now) found.entry }
 {
@@ -106,13 +111,14 @@ fn found_copy(found: Option<&Sent>) -> Option<Sent>
     }
 }
 
+// Returns whether a telegram has this content.
 fn has_content(sent: &Sent, content: &Content) -> bool
     ensures { result ≡ bytes_eq content.now sent.now.content }
 {
     content.as_slice() == sent.content.as_slice()
 }
 
-// Returns whether what was found is what was to be sent.
+// Returns whether `found` is what was to be sent: a telegram with this content and start, in bit times, or none if there is no start.
 fn agree(content: &Content, start: Option<i32>, found: Option<&Sent>) -> bool
     ensures { (kind : Kind) → result ≡ agree (expected_as kind content.now start) (option_map (λ s. s.now) found.entry) }
 {
@@ -125,8 +131,9 @@ fn agree(content: &Content, start: Option<i32>, found: Option<&Sent>) -> bool
     }
 }
 
-/// Compares what a station was to send at a place, this content if it has a start, with what was found there. If they differ, the
-/// place is put into `told`.
+/// Compares what a station was to send at a place with `found`, the telegram of the capture, and returns whether they differ. The station
+/// was to send `content` at `start`, in bit times after the MST's end; nothing if there is no start. If they differ, the place is put
+/// into `told`.
 pub(crate) fn compare(
     told: &mut Difference,
     cycle: u32,
@@ -148,7 +155,7 @@ pub(crate) fn compare(
     true
 }
 
-/// The start of a telegram in bit times, in a ring of a rate.
+/// Returns a telegram's start in bit times, if there is one. `start` is in microseconds, and `rate` in Mbit/s.
 pub(crate) fn in_bits(rate: u8, start: Option<u16>) -> Option<i32>
     ensures { result ≡ option_map (λ at. pos (rate * at)) start }
 {

@@ -4,7 +4,7 @@ ghost use Rattle.sercos_replay.specs.Divided.{begins_capture, capture_place, doc
 
 use sercos_answer::cut_line;
 
-/// Returns the place of the first line that is exactly `capture`.
+/// Returns the offset, in bytes, of the first line that is exactly `capture`; `None` if there is no such line.
 pub fn capture_place(text: &[u8]) -> Option<usize>
     ensures value { result ≡ capture_place true text.now }
     ensures bound { IfSome result (λ place. place ≤ length text.now) }
@@ -20,7 +20,7 @@ pub fn capture_place(text: &[u8]) -> Option<usize>
     None
 }
 
-/// Returns the bytes before the line at a place: the document.
+/// Returns the bytes before the line at the offset `place`: the document.
 pub fn document_part(bytes: &[u8], place: usize) -> &[u8]
     requires { place ≤ length bytes.now }
     ensures { result.now ≡ document_part bytes.now place }
@@ -28,7 +28,7 @@ pub fn document_part(bytes: &[u8], place: usize) -> &[u8]
     &bytes[..place]
 }
 
-/// Returns the bytes after the line at a place: the capture.
+/// Returns the bytes after the line at the offset `place`: the capture.
 pub fn capture_part(bytes: &[u8], place: usize) -> &[u8]
     requires { place ≤ length bytes.now }
     ensures value { result.now ≡ capture_part bytes.now place }

@@ -23,8 +23,9 @@ use sercos_telegram::Kind;
 use sercos_trace::{Line, Sent};
 use std::alloc::{AllocError, Global};
 
-/// The replay of a drive: it gets each MST and each MDT as the lines of a capture have it, and its ATs are compared with those of its
-/// address. It stands for the lines since it was opened; contracts list them the newest first. No call but `open` takes memory.
+/// The replay of a drive: the drive receives each MST and MDT of a capture, and the ATs that it sends are compared with those that the
+/// capture has with its address. It stands for the lines since it was opened; contracts list them the newest first. Only `open` allocates
+/// memory.
 #[derive(Drop)]
 pub struct DriveReplay {
     drive: Drive,
@@ -41,7 +42,8 @@ pub struct DriveReplay {
     said: Box<Content>,
 }
 
-// Compares what the drive sends with what was found at the place of its AT. If they differ, the place is put into `told`.
+// Compares the AT that the drive sends in this cycle with `found`, the one in the capture, and returns whether they differ. If they do,
+// the place is put into `told`. `said` is where the drive writes its AT; `rate` is in Mbit/s.
 fn compare_at(
     drive: &Drive,
     told: &mut Difference,
@@ -64,7 +66,7 @@ impl DriveReplay {
     ghost use Rattle.sercos_replay.specs.contracts.drive_replay.DriveReplay.{the_row};
     ghost use Rattle.sercos_replay.specs.Kept.{drive_kept, DriveAwaits, DriveHasPassed, DriveRests, DriveGoes, DriveStandsIn, DriveEndsIn, DriveReplayStandsFor, DriveReplayHasFinished, DriveAfterLine, DriveAfterEnd};
 
-    /// Opens the replay of the drive at a place of a valid setup, the first of which is 0. The error is `AllocError`.
+    /// Opens the replay of the drive with this index, from 0, in a valid setup. The error is `AllocError`.
     pub fn open(alloc: Global, setup: &RingSetup, index: usize) -> Result<DriveReplay, AllocError>
         requires ring { is_ring setup.now ≡ true }
         requires index { index < length setup.now.drives }
@@ -86,7 +88,7 @@ impl DriveReplay {
         })
     }
 
-    // Compares what was found at the place of the AT in the newest cycle.
+    // Compares the drive's AT in the newest cycle with `found`, the one in the capture, and keeps a difference.
     fn compare(&mut self, found: Option<&Sent>)
         ensures same { self.new ≡ record self.old { differs = self.new.differs; told = self.new.told; said = self.new.said } }
         ensures place { (d : DriveView) (h : List DriveCall) → DriveStandsFor self.old.drive d self.old.rate h →
@@ -102,7 +104,8 @@ impl DriveReplay {
         );
     }
 
-    // If the newest cycle has no AT of the drive, that is compared.
+    // Compares the drive's AT with none, if the newest cycle of the capture has no AT of the drive. An AT that it has was compared
+    // before.
     fn pass(&mut self)
         ensures { (d : DriveView) (rate : ℕ) (t : Cycle) (j : List Cycle) → DriveAwaits self.old d rate t j → self.old.differs ≡ false → DriveHasPassed self.new d rate t j }
     {
@@ -112,7 +115,7 @@ impl DriveReplay {
         self.compare(None);
     }
 
-    // The newest cycle ends.
+    // Ends the newest cycle with the content of its MDT, if it has one: the place of the AT is passed, and the drive receives the MDT.
     fn end(&mut self, content: Option<&[u8]>)
         ensures { (d : DriveView) (rate : ℕ) (t : Cycle) (j : List Cycle) (mdt : Option SentView) → DriveAwaits self.old d rate t j → self.old.differs ≡ false →
             option_map content_of mdt ≡ option_copied content.entry → DriveEndsIn self.new d rate (record t { mdt = mdt } ∷ j) }
@@ -122,7 +125,7 @@ impl DriveReplay {
         self.is_open = false;
     }
 
-    // The newest cycle ends without an MDT, if it had none.
+    // Ends the newest cycle without an MDT, if it is open.
     fn close(&mut self)
         ensures ended { (d : DriveView) (rate : ℕ) (j : List Cycle) → DriveGoes self.old d rate j → self.old.differs ≡ false → DriveEndsIn self.new d rate j }
         ensures rests { (d : DriveView) (rate : ℕ) (j : List Cycle) → DriveRests self.old d rate j → self.old.differs ≡ false → DriveEndsIn self.new d rate j }
@@ -132,7 +135,7 @@ impl DriveReplay {
         }
     }
 
-    // A cycle begins.
+    // Begins a cycle: the drive receives its MST.
     fn begin(&mut self, cycle: u32, sent: &Sent)
         ensures { (d : DriveView) (rate : ℕ) (j : List Cycle) → DriveRests self.old d rate j → self.old.differs ≡ false → newest_cycle j ≤ cycle →
             DriveStandsIn self.new d rate (begun cycle sent.now ∷ j) }
@@ -143,6 +146,7 @@ impl DriveReplay {
         self.found = false;
     }
 
+    // Takes an MST: ends the newest cycle, and begins this one unless a difference was found.
     fn take_mst(&mut self, cycle: u32, sent: &Sent)
         ensures { (d : DriveView) (rate : ℕ) (j : List Cycle) → DriveGoes self.old d rate j → self.old.differs ≡ false → newest_cycle j ≤ cycle →
             DriveStandsIn self.new d rate (begun cycle sent.now ∷ j) }
@@ -153,14 +157,14 @@ impl DriveReplay {
         }
     }
 
-    // Returns whether an AT is awaited, and this is one of the drive.
+    // Returns whether an AT is awaited, and `sent` begins with the drive's address.
     fn awaits(&self, sent: &Sent) -> bool
         ensures { result ≡ (self.now.is_open && (not self.now.found && is_of self.now.address sent.now)) }
     {
         self.is_open && !self.found && byte_at(sent.content.as_slice(), 0) == self.address
     }
 
-    // An AT that is awaited.
+    // Compares the drive's AT of the capture, which is awaited.
     fn take_own(&mut self, sent: &Sent)
         ensures { (d : DriveView) (rate : ℕ) (t : Cycle) (j : List Cycle) → DriveAwaits self.old d rate t j → self.old.differs ≡ false →
             self.old.found ≡ false → is_of self.old.address sent.now ≡ true → DriveStandsIn self.new d rate (record t { ats = t.ats ++ sent.now ∷ [] } ∷ j) }
@@ -169,6 +173,7 @@ impl DriveReplay {
         self.compare(Some(sent));
     }
 
+    // Takes an AT: compares it if it is the drive's and is awaited. Others are ignored.
     fn take_at(&mut self, sent: &Sent)
         ensures { (d : DriveView) (rate : ℕ) (j : List Cycle) → DriveGoes self.old d rate j → self.old.differs ≡ false →
             DriveStandsIn self.new d rate (with_at sent.now j) }
@@ -178,6 +183,7 @@ impl DriveReplay {
         }
     }
 
+    // Takes an MDT, which ends the newest cycle. It is ignored if no cycle is open.
     fn take_mdt(&mut self, sent: &Sent)
         ensures { (d : DriveView) (rate : ℕ) (j : List Cycle) → DriveGoes self.old d rate j → self.old.differs ≡ false →
             DriveStandsIn self.new d rate (with_mdt sent.now j) }
@@ -188,6 +194,7 @@ impl DriveReplay {
         self.end(Some(sent.content.as_slice()));
     }
 
+    // Takes a telegram of a cycle.
     fn take(&mut self, cycle: u32, sent: &Sent)
         ensures { (d : DriveView) (rate : ℕ) (j : List Cycle) → DriveGoes self.old d rate j → self.old.differs ≡ false → goes_on sent.now.kind cycle j →
             DriveStandsIn self.new d rate (with_telegram sent.now.kind cycle sent.now j) }
@@ -199,7 +206,7 @@ impl DriveReplay {
         }
     }
 
-    // Processes a line if no difference was reported yet.
+    // Takes a line before any difference was found. A line that isn't a telegram is ignored.
     fn take_line(&mut self, line: &Line)
         ensures { (d : DriveView) (rate : ℕ) (lines : List Line) → DriveReplayStandsFor self.old d rate lines → self.old.differs ≡ false → GoesOn lines line.now →
             DriveReplayStandsFor self.new d rate (line.now ∷ lines) }
@@ -209,7 +216,7 @@ impl DriveReplay {
         }
     }
 
-    // A line.
+    /// Takes a line. It is ignored after a difference.
     pub(crate) fn give(&mut self, line: &Line)
         ensures { DriveAfterLine self.old line.now self.new }
     {
@@ -219,7 +226,7 @@ impl DriveReplay {
         self.take_line(line);
     }
 
-    // The end.
+    // Ends the capture: ends the newest cycle, unless a difference was found before.
     fn end_all(&mut self)
         ensures { DriveAfterEnd self.old self.new }
     {
@@ -229,7 +236,7 @@ impl DriveReplay {
         self.close();
     }
 
-    // The difference that was found, as a copy.
+    // Returns a copy of the difference that was found, if one was.
     fn difference(&self) -> Option<Difference>
         ensures tells { (d : DriveView) (rate : ℕ) (lines : List Line) → DriveReplayStandsFor self.now d rate lines →
             result ≡ drive_tells d rate (cycles_of lines) }
@@ -243,9 +250,9 @@ impl DriveReplay {
         }
     }
 
-    /// Takes the next line of a capture, in which cycles don't go back. Returns the first place at which the drive deviated from its
-    /// rules, as soon as the capture has its telegram or one of a later place; `None` if there is none so far. After a difference each
-    /// call returns it again.
+    /// Takes the next line of a capture; the cycle of an MST isn't below that of an earlier one. Returns the first place at which the
+    /// drive deviated from its rules, as soon as the capture has its telegram or one of a later place; `None` if there is none so far.
+    /// After a difference each call returns it again.
     pub fn line(&mut self, line: &Line) -> Option<Difference>
         ensures after { DriveAfterLine self.old line.now self.new }
         ensures tells { (d : DriveView) (rate : ℕ) (lines : List Line) → DriveReplayStandsFor self.old d rate lines → GoesOn lines line.now →

@@ -19,8 +19,8 @@ ghost use Rattle.sercos_replay.specs.Asking.{Replays};
 
 use sercos_law_run::typed_law;
 
-/// In a clean capture no cycle goes back. What a replay reports of it is the first place that differs, if its
-/// telegram is there or the capture has one of a later place. Lines that are not telegrams don't affect a replay.
+/// In a clean capture the number of the cycle never decreases from one MST to the next. Over its lines so far, a replay reports the first
+/// place that differs, once the capture has its telegram or one of a later place. Lines that are not telegrams don't affect a replay.
 pub fn capture_law()
     ensures clean { (before : List Line) (line : Line) → IsClean (line ∷ before) → GoesOn before line }
     ensures drive_tells { (d : DriveView) (rate : ℕ) (lines : List Line) → IsClean lines → drive_tells d rate (cycles_of lines) ≡ if_given lines (drive_differs d rate (cycles_of lines)) }
@@ -41,8 +41,9 @@ pub fn agreement_law()
     typed_law();
 }
 
-/// `Done` is the answer iff an input is that of a replay and no place differs, and `No` iff one does, or the capture
-/// breaks a rule. Whenever an input is that of a replay, the answer is the first place that differs, or the number of cycles.
+/// If the document of an input has the station, and its capture is clean and begins with cycle 0, the answer is `No` with the first place
+/// that differs, or `Done` with the number of cycles if there is none. The status is `Done` for no other input. It is `No` for no other
+/// input either, unless the capture begins with cycle 0 and breaks a rule; the answer is then that of `check`.
 #[tactic(auto, using(crate::proofs::AskingLemmas::replays))]
 pub fn asking_law()
     ensures { (address : ℕ) (bytes : List ℕ) → Replays address bytes }

@@ -17,6 +17,7 @@ use sercos_check::test_law;
 use sercos_telegram::Kind;
 use sercos_trace::{Line, Reader, read_line};
 
+// Returns `cycle` if the kind is that of an MST.
 #[tactic(auto, unfolding(crate::specs::Stations::kind_cycle))]
 fn kind_cycle(kind: Kind, cycle: u32) -> Option<u32>
     ensures { result ≡ kind_cycle kind cycle }
@@ -27,7 +28,7 @@ fn kind_cycle(kind: Kind, cycle: u32) -> Option<u32>
     }
 }
 
-// The cycle of the MST that a line is, if it is one.
+// Returns the number of the cycle if the line is that of an MST.
 fn mst_cycle(line: &Line) -> Option<u32>
     ensures { result ≡ mst_cycle line.now }
 {
@@ -37,7 +38,7 @@ fn mst_cycle(line: &Line) -> Option<u32>
     }
 }
 
-// The same of a text.
+// Returns the number of the cycle if the text is the line of an MST.
 fn text_cycle(text: &[u8]) -> Option<u32>
     ensures { result ≡ mst_cycle (read_as text.now) }
 {
@@ -47,7 +48,7 @@ fn text_cycle(text: &[u8]) -> Option<u32>
     }
 }
 
-// The cycle of the first MST.
+// Returns the number of the cycle of a capture's first MST; `None` if the capture has no MST.
 fn first_cycle(text: &[u8]) -> Option<u32>
     ensures { result ≡ first_cycle (lines_of text.now) }
 {
@@ -62,7 +63,7 @@ fn first_cycle(text: &[u8]) -> Option<u32>
     None
 }
 
-/// Returns the cycle of the first MST of a capture, if it isn't 0.
+/// Returns the number of the cycle of a capture's first MST if it isn't 0; `None` if it is 0, or if the capture has no MST.
 #[tactic(auto, unfolding(crate::specs::Replaying::late_start, crate::specs::Replaying::late))]
 pub fn late_start(text: &[u8]) -> Option<u32>
     ensures { result ≡ late_start text.now }
@@ -73,7 +74,7 @@ pub fn late_start(text: &[u8]) -> Option<u32>
     }
 }
 
-// Passes a line to a replay, and returns how many cycles begin with it.
+// Passes a line to a replay, and returns how many cycles begin with it, 0 or 1.
 fn give_line(replay: &mut Replay, line: &Line) -> u64
     ensures stands { (s : Station) (before : List Line) → ReplayStandsFor replay.old s before → IsClean (line.now ∷ before) → ReplayStandsFor replay.new s (line.now ∷ before) }
     ensures count { (before : List Line) → length (cycles_of (line.now ∷ before)) ≡ length (cycles_of before) + result }
@@ -84,7 +85,7 @@ fn give_line(replay: &mut Replay, line: &Line) -> u64
     u64::from(mst_cycle(line).is_some())
 }
 
-// Passes the text of a clean line to a replay, and returns how many cycles begin with it.
+// Reads the text of a clean line with `reader`, passes the line to a replay, and returns how many cycles begin with it, 0 or 1.
 fn give_text(replay: &mut Replay, reader: &mut Reader, text: &[u8]) -> u64
     ensures given { (before : List Line) → IsClean before → column_of before text.now ≡ None → rule_broken before (read_as text.now) ≡ None →
         IsGiven replay.old replay.new before (read_as text.now) result }
@@ -97,8 +98,7 @@ fn give_text(replay: &mut Replay, reader: &mut Reader, text: &[u8]) -> u64
     }
 }
 
-/// Passes all lines of a clean capture to a replay, and returns how many cycles they have. No line is
-/// kept.
+/// Passes all lines of a clean capture to a replay, and returns how many cycles they have. No line is kept.
 pub fn give_all(replay: &mut Replay, text: &[u8]) -> u64
     requires { (count : ℕ) × (verdict_of text.now ≡ Clean count) }
     ensures stands { (s : Station) → ReplayStandsFor replay.old s [] → ReplayStandsFor replay.new s (lines_read text.now) }

@@ -28,11 +28,12 @@ use sercos_telegram::Kind;
 use sercos_trace::{Events, Line, Sent};
 use std::alloc::{AllocError, Global};
 
-/// The replay of the master: it receives each MST of a capture as its own, come back whole, and each AT, and what it sends is compared with
-/// the MSTs and MDTs. It stands for the lines since it was opened; contracts list them the newest first. No call but `open` takes memory.
+/// The replay of the master: the master receives each MST of a capture as its own, intact, and each AT, and what it sends is compared
+/// with the MSTs and MDTs of the capture. It stands for the lines since it was opened; contracts list them the newest first. Only `open`
+/// allocates memory.
 #[derive(Drop)]
 pub struct MasterReplay {
-    // there between the calls
+    // `None` only during a call
     master: Option<AnyMaster>,
     rate: u8,
     // the newest cycle, and whether its MDT is still missing
@@ -46,7 +47,7 @@ pub struct MasterReplay {
     events: Box<Events>,
 }
 
-// Returns the length of the frame of the master's MST, in bits.
+// Returns the length of the frame of this content, in bits: at most 19,696.
 fn len_of(said: &Content) -> u32
     requires { 0 < length said.now }
     ensures value { result ≡ length (frame_of said.now) }
@@ -56,7 +57,7 @@ fn len_of(said: &Content) -> u32
     frame_len(said.as_slice())
 }
 
-// The start of an MST whose frame has this length: it ends at 0.
+// Returns the start of an MST whose frame has this many bits, in bit times. The frame ends at 0.
 fn start_before(bits: u32) -> i32
     requires { bits ≤ 19696 }
     ensures { result ≡ start_before bits }
@@ -64,7 +65,7 @@ fn start_before(bits: u32) -> i32
     -(bits as i32)
 }
 
-// The master writes its MST. The result is its start in bit times.
+// Writes the content of the master's MST to `said`. Returns its start in bit times; the MST ends at 0.
 fn say_mst(master: &AnyMaster, said: &mut Content) -> i32
     ensures said { (s : Known) (jobs : List Job) (h : List Call) → AnyStandsFor master.now s jobs h →
         expected_as telegram.Mst said.new (Some result) ≡ Some (sent_mst (mst_said (looks_back s jobs h))) }
@@ -74,7 +75,8 @@ fn say_mst(master: &AnyMaster, said: &mut Content) -> i32
     start_before(len_of(said))
 }
 
-// The master has its turn to send the MDT, and writes it. The result is its start in bit times, if it sends one.
+// Has the master send its MDT, and writes the content to `said`. Returns its start in bit times after the MST's end; `None` if the master
+// sends none. `rate` is in Mbit/s.
 fn say_mdt(master: &mut AnyMaster, rate: u8, said: &mut Content) -> Option<i32>
     ensures stands { (s : Known) (jobs : List Job) (h : List Call) → AnyStandsFor master.old s jobs h → AnyStandsFor master.new s jobs (Mdt ∷ h) }
     ensures said { (s : Known) (jobs : List Job) (h : List Call) → AnyStandsFor master.old s jobs h →
@@ -85,7 +87,8 @@ fn say_mdt(master: &mut AnyMaster, rate: u8, said: &mut Content) -> Option<i32>
     in_bits(rate, start)
 }
 
-// Compares the MST of a cycle with that of the capture, and passes that one to the master. If they differ, the place is put into `told`.
+// Compares the master's MST of a cycle with `sent`, the one in the capture, and passes the latter to the master. Returns whether they
+// differ; if they do, the place is put into `told`. `said` is where the master writes its MST.
 fn begin_cycle(
     master: &mut AnyMaster,
     told: &mut Difference,
@@ -102,7 +105,8 @@ fn begin_cycle(
     compare(told, cycle, Kind::Mst, Some(start), said, Some(sent))
 }
 
-// Compares the MDT of a cycle with what was found at its place. If they differ, the place is put into `told`.
+// Compares the master's MDT of a cycle with `found`, the one in the capture, and returns whether they differ. If they do, the place is
+// put into `told`. `said` is where the master writes its MDT; `rate` is in Mbit/s.
 fn compare_mdt(
     master: &mut AnyMaster,
     told: &mut Difference,
@@ -119,7 +123,7 @@ fn compare_mdt(
     compare(told, cycle, Kind::Mdt, start, said, found)
 }
 
-// The master ends its cycle. What it reports isn't looked at.
+// Ends the master's cycle, and returns the master. `events` is where it writes what it reports, which isn't used.
 fn end_cycle(master: AnyMaster, events: &mut Events) -> AnyMaster
     ensures { (s : Known) (jobs : List Job) (h : List Call) → AnyStandsFor master s jobs h → AnyStandsFor result s jobs (End ∷ h) }
 {
@@ -127,6 +131,7 @@ fn end_cycle(master: AnyMaster, events: &mut Events) -> AnyMaster
     master.end_cycle(events)
 }
 
+// Puts the master into its field.
 fn put(place: &mut Option<AnyMaster>, master: AnyMaster)
     ensures { place.new ≡ Some master }
 {
@@ -176,7 +181,8 @@ impl MasterReplay {
         })
     }
 
-    // The MDT's place of the newest cycle, with the master taken out: what was found there is compared, and the cycle ends.
+    // Ends the newest cycle, the master having been taken out of its field: compares its MDT with `found`, the one in the capture, and
+    // keeps a difference.
     fn turn(&mut self, mut master: AnyMaster, found: Option<&Sent>)
         ensures { (s : Known) (jobs : List Job) (t : Cycle) (j : List Cycle) → MasterAwaits (record self.old { master = Some master }) s jobs t j →
             MasterEndsIn self.new s jobs (record t { mdt = option_map (λ m. m.now) found.entry } ∷ j) }
@@ -194,7 +200,7 @@ impl MasterReplay {
         self.is_open = false;
     }
 
-    // The same, with the master in its place.
+    // Ends the newest cycle: compares the master's MDT with `found`, the one in the capture, and keeps a difference.
     fn end(&mut self, found: Option<&Sent>)
         ensures { (s : Known) (jobs : List Job) (t : Cycle) (j : List Cycle) → MasterAwaits self.old s jobs t j →
             MasterEndsIn self.new s jobs (record t { mdt = option_map (λ m. m.now) found.entry } ∷ j) }
@@ -204,7 +210,7 @@ impl MasterReplay {
         }
     }
 
-    // The newest cycle ends without an MDT, if it had none.
+    // Ends the newest cycle without an MDT, if it is open.
     fn close(&mut self)
         ensures ended { (s : Known) (jobs : List Job) (j : List Cycle) → MasterGoes self.old s jobs j → self.old.differs ≡ false → MasterEndsIn self.new s jobs j }
         ensures rests { (s : Known) (jobs : List Job) (j : List Cycle) → MasterRests self.old s jobs j → self.old.differs ≡ false → MasterEndsIn self.new s jobs j }
@@ -226,6 +232,7 @@ impl MasterReplay {
         }
     }
 
+    // Takes an MST: ends the newest cycle, and begins this one unless a difference was found.
     fn take_mst(&mut self, cycle: u32, sent: &Sent)
         ensures { (s : Known) (jobs : List Job) (j : List Cycle) → MasterGoes self.old s jobs j → self.old.differs ≡ false →
             MasterStandsIn self.new s jobs (begun cycle sent.now ∷ j) }
@@ -236,7 +243,7 @@ impl MasterReplay {
         }
     }
 
-    // An AT of the newest cycle.
+    // Passes an AT of the newest cycle to the master.
     fn hear_at(&mut self, sent: &Sent)
         ensures stands { (s : Known) (jobs : List Job) (t : Cycle) (j : List Cycle) → MasterAwaits self.old s jobs t j →
             MasterAwaits self.new s jobs (record t { ats = t.ats ++ sent.now ∷ [] }) j }
@@ -247,6 +254,7 @@ impl MasterReplay {
         }
     }
 
+    // Takes an AT. It is ignored if no cycle is open.
     fn take_at(&mut self, sent: &Sent)
         ensures { (s : Known) (jobs : List Job) (j : List Cycle) → MasterGoes self.old s jobs j → self.old.differs ≡ false →
             MasterStandsIn self.new s jobs (with_at sent.now j) }
@@ -256,6 +264,7 @@ impl MasterReplay {
         }
     }
 
+    // Takes an MDT, which ends the newest cycle. It is ignored if no cycle is open.
     fn take_mdt(&mut self, sent: &Sent)
         ensures { (s : Known) (jobs : List Job) (j : List Cycle) → MasterGoes self.old s jobs j → self.old.differs ≡ false →
             MasterStandsIn self.new s jobs (with_mdt sent.now j) }
@@ -266,6 +275,7 @@ impl MasterReplay {
         self.end(Some(sent));
     }
 
+    // Takes a telegram of a cycle.
     fn take(&mut self, cycle: u32, sent: &Sent)
         ensures { (s : Known) (jobs : List Job) (j : List Cycle) → MasterGoes self.old s jobs j → self.old.differs ≡ false →
             MasterStandsIn self.new s jobs (with_telegram sent.now.kind cycle sent.now j) }
@@ -277,7 +287,7 @@ impl MasterReplay {
         }
     }
 
-    // Processes a line if no difference was reported yet.
+    // Takes a line before any difference was found. A line that isn't a telegram is ignored.
     fn take_line(&mut self, line: &Line)
         ensures { (s : Known) (jobs : List Job) (lines : List Line) → MasterReplayStandsFor self.old s jobs lines → self.old.differs ≡ false →
             MasterReplayStandsFor self.new s jobs (line.now ∷ lines) }
@@ -287,7 +297,7 @@ impl MasterReplay {
         }
     }
 
-    // A line.
+    /// Takes a line. It is ignored after a difference.
     pub(crate) fn give(&mut self, line: &Line)
         ensures { MasterAfterLine self.old line.now self.new }
     {
@@ -297,7 +307,7 @@ impl MasterReplay {
         self.take_line(line);
     }
 
-    // The end.
+    // Ends the capture: ends the newest cycle, unless a difference was found before.
     fn end_all(&mut self)
         ensures { MasterAfterEnd self.old self.new }
     {
@@ -307,7 +317,7 @@ impl MasterReplay {
         self.close();
     }
 
-    // The difference that was found, as a copy.
+    // Returns a copy of the difference that was found, if one was.
     fn difference(&self) -> Option<Difference>
         ensures tells { (s : Known) (jobs : List Job) (lines : List Line) → MasterReplayStandsFor self.now s jobs lines →
             result ≡ master_tells s jobs (cycles_of lines) }

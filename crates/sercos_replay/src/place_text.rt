@@ -1,4 +1,4 @@
-// The texts of what a replay finds, appended to what is written in the end.
+// The texts of what a replay finds.
 ghost use Rattle.std.specs.Prelude.{◌≡◌, ◌++◌, OnOk, IfOk, decimal, option_map};
 ghost use Rattle.std.specs.Fmt.{signed_decimal};
 ghost use Rattle.hex.specs.Hex.{encode_lower};
@@ -12,7 +12,7 @@ use sercos_telegram::Kind;
 use sercos_trace::Sent;
 use std::alloc::{AllocError, Global};
 
-// Appends a number with a sign if it is negative.
+// Appends a number in decimal digits, with a minus sign if it is negative. The error is `AllocError`.
 fn push_signed(number: i32, out: &mut Vec<u8>) -> Result<(), AllocError>
     ensures { OnOk result (out.new.items ≡ out.old.items ++ signed_decimal number) }
 {
@@ -20,7 +20,7 @@ fn push_signed(number: i32, out: &mut Vec<u8>) -> Result<(), AllocError>
     out.extend_from_slice(buffer.format(number).as_bytes())
 }
 
-// Appends bytes in hexadecimal digits.
+// Appends bytes as lowercase hexadecimal digits, two for each byte. The error is `AllocError`.
 fn push_hex(alloc: Global, bytes: &[u8], out: &mut Vec<u8>) -> Result<(), AllocError>
     ensures { OnOk result (out.new.items ≡ out.old.items ++ encode_lower bytes.now) }
 {
@@ -28,7 +28,7 @@ fn push_hex(alloc: Global, bytes: &[u8], out: &mut Vec<u8>) -> Result<(), AllocE
     out.extend_from_slice(digits.as_bytes())
 }
 
-// The name of a kind of telegrams.
+// Returns the word for a kind of telegram.
 #[tactic(auto, unfolding(crate::specs::Replaying::kind_name))]
 fn kind_name(kind: Kind) -> &'static str
     ensures { result.now ≡ kind_name kind }
@@ -40,7 +40,7 @@ fn kind_name(kind: Kind) -> &'static str
     }
 }
 
-// Appends a text, a number and a line feed.
+// Appends the line of a text and a number, with its line feed. The error is `AllocError`.
 #[tactic(auto, unfolding(crate::specs::Replaying::number_line))]
 fn push_number_line(name: &str, number: u64, out: &mut Vec<u8>) -> Result<(), AllocError>
     ensures { OnOk result (out.new.items ≡ out.old.items ++ number_line name.now number) }
@@ -50,7 +50,7 @@ fn push_number_line(name: &str, number: u64, out: &mut Vec<u8>) -> Result<(), Al
     push_text("\n", out)
 }
 
-// Appends the line that names a place.
+// Appends the line that reports the place of a telegram. The error is `AllocError`.
 #[tactic(auto, unfolding(crate::specs::Replaying::place_line))]
 fn push_place(cycle: u32, kind: Kind, out: &mut Vec<u8>) -> Result<(), AllocError>
     ensures { OnOk result (out.new.items ≡ out.old.items ++ place_line cycle kind) }
@@ -62,7 +62,8 @@ fn push_place(cycle: u32, kind: Kind, out: &mut Vec<u8>) -> Result<(), AllocErro
     push_text("\n", out)
 }
 
-// Appends start and content of a telegram.
+// Appends the start of a telegram, in bit times, and its content in hexadecimal digits; `none` if there is no telegram. The error is
+// `AllocError`.
 #[tactic(auto, unfolding(crate::specs::Replaying::sent_text))]
 fn push_sent(alloc: Global, sent: &Option<Sent>, out: &mut Vec<u8>) -> Result<(), AllocError>
     ensures { OnOk result (out.new.items ≡ out.old.items ++ sent_text sent.now) }
@@ -77,7 +78,7 @@ fn push_sent(alloc: Global, sent: &Option<Sent>, out: &mut Vec<u8>) -> Result<()
     }
 }
 
-// Appends the line of a telegram.
+// Appends the line of `name` and a telegram, with its line feed. The error is `AllocError`.
 #[tactic(auto, unfolding(crate::specs::Replaying::sent_line))]
 fn push_sent_line(
     alloc: Global,
@@ -92,7 +93,7 @@ fn push_sent_line(
     push_text("\n", out)
 }
 
-// Appends the lines of a place that differs.
+// Appends the three lines of a place that differs: the place, what was expected, and what was found. The error is `AllocError`.
 #[tactic(auto, unfolding(crate::specs::Replaying::place_text))]
 fn push_difference(
     alloc: Global,
@@ -106,7 +107,7 @@ fn push_difference(
     push_sent_line(alloc, "found ", &difference.found, out)
 }
 
-/// Returns the reply with a text.
+/// Returns the reply with this status and text. The error is `AllocError`.
 pub fn reply_with(alloc: Global, status: Status, text: &[u8]) -> Result<Reply, AllocError>
     ensures { IfOk result (λ reply. (reply.status ≡ status) × (reply.text.items ≡ text.now)) }
 {
@@ -114,7 +115,7 @@ pub fn reply_with(alloc: Global, status: Status, text: &[u8]) -> Result<Reply, A
     Ok(Reply { status, text })
 }
 
-/// The reply of a status and of a line with a text and a number.
+/// Returns the reply with this status and the line of a text and a number. The error is `AllocError`.
 pub fn number_reply(
     alloc: Global,
     status: Status,
@@ -128,7 +129,7 @@ pub fn number_reply(
     Ok(Reply { status, text })
 }
 
-// The reply of the lines of a place that differs.
+// Returns the reply `No` with the lines of a place that differs. The error is `AllocError`.
 fn difference_reply(alloc: Global, difference: &Difference) -> Result<Reply, AllocError>
     ensures { IfOk result (λ reply. (reply.status ≡ Status.No) × (reply.text.items ≡ place_text difference.now)) }
 {
@@ -140,7 +141,8 @@ fn difference_reply(alloc: Global, difference: &Difference) -> Result<Reply, All
     })
 }
 
-/// The reply of a replay of a number of cycles: the first place that differs, or that none does.
+/// Returns the reply of a replay: `No` with the place that differs, if there is one, and otherwise `Done` with the number of cycles. The
+/// error is `AllocError`.
 #[tactic(auto, unfolding(crate::specs::Replaying::place_answer))]
 pub fn place_reply(
     alloc: Global,

@@ -22,7 +22,7 @@ use sercos_config::Document;
 use sercos_io::Status;
 use std::alloc::{AllocError, Global};
 
-// Makes the reply of a verdict, as `check` does.
+// Returns the reply to a verdict, as `check` does. The error is `AllocError`.
 #[tactic(auto, unfolding(crate::specs::Replaying::verdict_answer))]
 fn verdict_reply(alloc: Global, verdict: Verdict) -> Result<Reply, AllocError>
     ensures { IfOk result (λ reply. Says reply (verdict_answer verdict)) }
@@ -34,7 +34,7 @@ fn verdict_reply(alloc: Global, verdict: Verdict) -> Result<Reply, AllocError>
     )
 }
 
-// Replies to a clean capture.
+// Replies to a clean capture with the first place that differs, or with the number of cycles. The error is `AllocError`.
 #[tactic(auto, unfolding(crate::specs::Replaying::station_answer))]
 fn reply_clean(alloc: Global, replay: &mut Replay, capture: &[u8]) -> Result<Reply, AllocError>
     requires { (count : ℕ) × (verdict_of capture.now ≡ Clean count) }
@@ -44,7 +44,8 @@ fn reply_clean(alloc: Global, replay: &mut Replay, capture: &[u8]) -> Result<Rep
     replay.reply(alloc, cycles)
 }
 
-// Replies to a capture that begins with cycle 0.
+// Replies to a capture that isn't refused, and whose verdict this is: as `reply_clean` does if it is clean, and otherwise as `check`
+// does. The error is `AllocError`.
 #[tactic(auto, unfolding(crate::specs::Replaying::ruled_answer))]
 fn reply_ruled(
     alloc: Global,
@@ -61,7 +62,8 @@ fn reply_ruled(
     }
 }
 
-// Replies to a capture whose lines have the right shape.
+// Replies to a capture whose lines have the right shape, and whose verdict this is. `start` is the cycle of its first MST if that isn't
+// 0; the capture is then refused. The others are replied to as `reply_ruled` does. The error is `AllocError`.
 #[tactic(auto, unfolding(crate::specs::Replaying::started_answer))]
 fn reply_shaped(
     alloc: Global,
@@ -84,7 +86,8 @@ fn reply_shaped(
     }
 }
 
-// Replies to a capture by its verdict.
+// Replies to a capture by its verdict: one that is refused as `check` does, and others as `reply_shaped` does. `start` is the cycle of
+// its first MST if that isn't 0. The error is `AllocError`.
 #[tactic(auto, unfolding(crate::specs::Replaying::judged_answer))]
 fn reply_judged(
     alloc: Global,
@@ -102,7 +105,7 @@ fn reply_judged(
     }
 }
 
-// Replies to a capture.
+// Replies to a capture of at most 1,048,576 bytes, given a replay before its first line. The error is `AllocError`.
 #[tactic(auto, unfolding(crate::specs::Replaying::capture_answer))]
 fn reply_capture(alloc: Global, replay: &mut Replay, capture: &[u8]) -> Result<Reply, AllocError>
     requires { length capture.now ≤ 1048576 }
@@ -113,7 +116,7 @@ fn reply_capture(alloc: Global, replay: &mut Replay, capture: &[u8]) -> Result<R
     reply_judged(alloc, verdict, start, replay, capture)
 }
 
-// Replies for the master.
+// Replies with the replay of the document's master. The error is `AllocError`.
 #[inline(never)]
 fn reply_master(alloc: Global, document: Document, capture: &[u8]) -> Result<Reply, AllocError>
     requires ring { is_ring document.setup ≡ true }
@@ -127,7 +130,7 @@ fn reply_master(alloc: Global, document: Document, capture: &[u8]) -> Result<Rep
     reply_capture(alloc, &mut replay, capture)
 }
 
-// Replies for the drive at a place of the ring.
+// Replies with the replay of the drive with this index, from 0, in the ring. The error is `AllocError`.
 #[inline(never)]
 fn reply_drive(
     alloc: Global,
@@ -144,7 +147,7 @@ fn reply_drive(
     reply_capture(alloc, &mut replay, capture)
 }
 
-// Replies for the drive with an address.
+// Replies with the replay of the drive with this address. If no drive has it, it is refused. The error is `AllocError`.
 #[tactic(auto, unfolding(crate::specs::Replaying::found_answer, crate::specs::Stations::drive_of))]
 fn reply_addressed(
     alloc: Global,
@@ -167,10 +170,16 @@ fn reply_addressed(
     }
 }
 
-/// Replies to the contents of a ring document, and a capture: with `No` and the first place at which the station with an address
-/// deviated from its rules, given all that the capture has before that place; or with the number of cycles, if there is none. The
-/// master has the address 0. An address without a drive is refused, then a capture, and one that doesn't begin with cycle 0; a
-/// capture that breaks a rule is answered as `check` does. The error is `AllocError`.
+/// Replies to the contents of a ring document and a capture. The replayed station is the one with this address; that of the master is 0.
+/// The reply is, in this order:
+///
+/// - refused, if no drive has the address;
+/// - refused, if a line of the capture is refused, and then if the capture begins with a cycle other than 0;
+/// - that of `check`, if the capture breaks a rule;
+/// - `No` and the first place at which the station deviated from its rules, given all that the capture has before that place;
+/// - `Done` and the number of cycles, if there is no such place.
+///
+/// The error is `AllocError`.
 #[tactic(auto, unfolding(crate::specs::Replaying::found_answer, crate::specs::Stations::station_of))]
 pub fn replay_document(
     alloc: Global,

@@ -28,7 +28,7 @@ pub enum Replay {
     Drive(DriveReplay),
 }
 
-// The place of the first of these drives with an address.
+// Returns the index, from 0, of the first of these drives with an address; `None` if none has it.
 fn place_in(address: u8, drives: &[DriveSetup]) -> Option<usize>
     ensures value { result ≡ position (has address) drives.now }
     ensures bound { IfSome result (λ place. place < length drives.now) }
@@ -36,7 +36,7 @@ fn place_in(address: u8, drives: &[DriveSetup]) -> Option<usize>
     drives.iter().position(|drive| drive.address == address)
 }
 
-/// Returns the place of the first drive with an address.
+/// Returns the index, from 0, of the ring's first drive with an address; `None` if none has it.
 pub fn drive_place(address: u8, setup: &RingSetup) -> Option<usize>
     ensures value { result ≡ position (has address) setup.now.drives }
     ensures bound { IfSome result (λ place. place < length setup.now.drives) }
@@ -44,7 +44,7 @@ pub fn drive_place(address: u8, setup: &RingSetup) -> Option<usize>
     place_in(address, setup.drives.as_slice())
 }
 
-/// Opens the replay of the master. The error is `AllocError`.
+/// Opens the replay of the master of a valid setup with at most 4,096 requests. The error is `AllocError`.
 pub fn open_master(alloc: Global, setup: &RingSetup, jobs: Vec<Job>) -> Result<Replay, AllocError>
     requires ring { is_ring setup.now ≡ true }
     requires few { length jobs.items ≤ 4096 }
@@ -54,7 +54,7 @@ pub fn open_master(alloc: Global, setup: &RingSetup, jobs: Vec<Job>) -> Result<R
     Ok(Replay::Master(MasterReplay::open(alloc, setup, jobs)?))
 }
 
-/// Opens the replay of the drive at a place of the ring. The error is `AllocError`.
+/// Opens the replay of the drive with this index, from 0, in a valid setup. The error is `AllocError`.
 pub fn open_drive(alloc: Global, setup: &RingSetup, index: usize) -> Result<Replay, AllocError>
     requires ring { is_ring setup.now ≡ true }
     requires index { index < length setup.now.drives }
@@ -64,7 +64,7 @@ pub fn open_drive(alloc: Global, setup: &RingSetup, index: usize) -> Result<Repl
 }
 
 impl Replay {
-    /// Takes the next line of a capture, in which cycles don't go back.
+    /// Takes the next line of a capture; the cycle of an MST isn't below that of an earlier one.
     pub fn give(&mut self, line: &Line)
         ensures { (s : Station) (before : List Line) → ReplayStandsFor self.old s before → GoesOn before line.now → ReplayStandsFor self.new s (line.now ∷ before) }
     {
@@ -74,7 +74,8 @@ impl Replay {
         }
     }
 
-    /// Replies with the first place that differs in all lines so far, which have this number of cycles.
+    /// Ends the capture, and replies with the first place that differs in all lines so far, or with `cycles`, the number of their cycles,
+    /// if there is none. The error is `AllocError`.
     pub fn reply(&mut self, alloc: Global, cycles: u64) -> Result<Reply, AllocError>
         ensures { (s : Station) (lines : List Line) → ReplayStandsFor self.old s lines → IfOk result (λ reply. Says reply (place_answer (station_differs s (cycles_of lines)) cycles)) }
     {
