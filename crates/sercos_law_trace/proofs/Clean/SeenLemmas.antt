@@ -1,5 +1,5 @@
 -- What a checker finds among the telegrams of a cycle so far.
-use Rattle.sercos_law_trace.proofs.Words.{◌≡◌, ℕ, pos, zero, suc, ◌*◌, ◌<◌, ◌≤◌, ◌==◌, nat_lt, nat_le, Bool, true, false, not, ◌&&◌, ◌||◌, List, [], ◌∷◌, length, refl, ap, arith, slice_index, le_z, int_eq, eq-eqb, le-leb, nat_tests, Decides-int_eq, frame_of, WishesView, Said, starts_later, start_before, sent_mst, and-false}
+use Rattle.sercos_law_trace.proofs.Words.{◌≡◌, ◌∙◌, ℕ, pos, zero, suc, ◌*◌, ◌<◌, ◌≤◌, ◌==◌, nat_lt, nat_le, Bool, true, false, not, ◌&&◌, ◌||◌, List, [], ◌∷◌, length, refl, ap, arith, slice_index, le_z, int_eq, eq-eqb, le-leb, nat_tests, Decides-int_eq, frame_of, WishesView, Said, starts_later, start_before, sent_mst, and-false}
 use Rattle.sercos_law_trace.proofs.Clean.RuleLemmas.{newest_by, has_mdt_by, has_at_by, seen_of}
 
 -- each of a list
