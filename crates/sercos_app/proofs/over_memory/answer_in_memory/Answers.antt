@@ -25,4 +25,4 @@ returns-clause-answers g c form fits none below spare =
 
 pub returns-clause-unwritten : goal.returns-clause-unwritten
 unfolding writes_nothing
-returns-clause-unwritten g c memory = c.sercos.ensures.unwritten (rw memory tt)
+returns-clause-unwritten g c memory = c.sercos.ensures.unwritten (rw memory refl)
