@@ -1,4 +1,4 @@
--- What a command answers, and the texts that several answers have.
+-- What a command answers, and the texts that several answers share.
 use Rattle.std.specs.Prelude.{ℕ, List, [], ◌∷◌, ◌++◌, codes, decimal}
 use Rattle.sercos_io.specs.declared.status.Status.{Status}
 
@@ -11,7 +11,7 @@ pub record Answer : Type 0 where
 abbrev pub line_feed : List ℕ
 line_feed = 10 ∷ []
 
--- two numbers, each after its name
+-- two texts, each followed by its number in decimal digits
 unfoldable pub two_numbers : List ℕ → ℕ → List ℕ → ℕ → List ℕ
 two_numbers first a second b = first ++ decimal a ++ second ++ decimal b
 

@@ -1,4 +1,4 @@
-//! What a command answers, a status and a text, and the lines of its input.
+//! The reply of a command, a status and a text, with the texts that several replies share; and the lines of a command's input.
 #![tactic(auto)]
 
 mod lines;

@@ -11,8 +11,6 @@ use Rattle.sercos_io.specs.declared.status.Status.TheVariants.{Done, No, Refused
 use Rattle.sercos_step.specs.declared.request.Job.{Job}
 use Rattle.sercos_step.specs.declared.request.Outcome.{Outcome}
 use Rattle.sercos_block.specs.declared.block.Block.{Block}
-use Rattle.sercos_block.specs.Blocks.{element_of}
-use Rattle.sercos_block.specs.Stores.{read_fault}
 use Rattle.sercos_block.specs.Views.{DriveView, RingView}
 use Rattle.sercos_service_drive.specs.Replies.{data_in}
 use Rattle.sercos_script.specs.declared.fault.Fault.{Fault}
@@ -132,22 +130,8 @@ restored_text r jobs carry restarts list old new is none same =
     is ∙ ap (λ xs. xs ++ flat_map F list) none ∙ ap (flat_map F) same
 
 -- the operation data of a block
-pub shown_block : (found : Option Block) (attribute : Attribute) (step cycle : ℕ) (bytes old new : List ℕ) → old ≡ [] → option_map (λ b. b.attribute) found ≡ Some attribute → step ≡ unwrap_or (option_map (λ b. b.step) found) 0
-    → option_and_then (λ b. element_of b 7) found ≡ Some bytes → ((b : Block) → b.attribute ≡ attribute → b.step ≡ step → b.value ≡ bytes → new ≡ old ++ data_in cycle b) → new ≡ data_of cycle found
-unfolding element_of
-shown_block None attribute step cycle bytes old new none is steps gives pushed = absurd (cc)
-shown_block (Some b) attribute step cycle bytes old new none is steps gives pushed =
-    let same : b.attribute ≡ attribute = cc in
-    let value : b.value ≡ bytes = cc in
-    pushed b same (sym steps) value ∙ ap (λ xs. xs ++ data_in cycle b) none
-
-pub shown_none : (found : Option Block) (cycle code : ℕ) (out : List ℕ) → out ≡ [] → read_fault found 7 ≡ Some code → out ≡ data_of cycle found
-unfolding element_of
-shown_none None cycle code out none fault = none
-shown_none (Some b) cycle code out none fault = absurd (cc)
-
-pub shown_never : (found : Option Block) (cycle : ℕ) (bytes out : List ℕ) → out ≡ [] → option_and_then (λ b. element_of b 7) found ≡ Some bytes → found ≡ None → out ≡ data_of cycle found
-shown_never found cycle bytes out none gives missing = none ∙ sym (ap (data_of cycle) missing)
+pub shown_block : (found : Option Block) (b : Block) (cycle : ℕ) (old new : List ℕ) → old ≡ [] → found ≡ Some b → new ≡ old ++ data_in cycle b → new ≡ data_of cycle found
+shown_block found b cycle old new none is pushed = rw is (pushed ∙ ap (λ xs. xs ++ data_in cycle b) none)
 
 -- A document, or its refusal.
 answer_of : (answer : RingView → List Job → Carry → Restarts → Answer) (read : Result DocumentView BadDocument) (d : DocumentView) → read ≡ Ok d

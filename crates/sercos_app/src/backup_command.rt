@@ -1,13 +1,6 @@
 // `backup`: the data of all blocks on the drives' lists of backup operation data.
 ghost use Rattle.std.specs.Prelude.{◌≡◌, ◌≤◌, true, List, length, IfOk};
-ghost use Rattle.sercos_step.specs.declared.request.Job.{Job};
-ghost use Rattle.sercos_block.specs.Rings.{is_ring};
-ghost use Rattle.sercos_backup.specs.Jobs.{data_jobs};
-ghost use Rattle.sercos_call.specs.Outcome.{Replies, changed};
-ghost use Rattle.sercos_opened.specs.Kept.{script_carry, script_restarts};
-ghost use Rattle.sercos_call.specs.Giving.{IsReply};
-ghost use Rattle.sercos_app.specs.Saving.{backup_answer, data_answer, ring_saved};
-ghost use Rattle.sercos_app.specs.Saved.{AreTypedIfFew, ReadsTyped, SavesItsRing};
+ghost use Rattle.sercos_app.specs.Clauses.{Job, is_ring, data_jobs, Replies, changed, script_carry, script_restarts, IsReply, backup_answer, data_answer, ring_saved, AreTypedIfFew, ReadsTyped, SavesItsRing};
 
 use crate::tracking::{Run, run_tracked};
 use sercos_answer::Reply;
@@ -24,9 +17,9 @@ use sercos_opened::kept_law;
 use sercos_script::{BitLink, Scripted};
 use std::alloc::{AllocError, Global};
 
-// Returns the reply of the run of a ring that reads the operation data of the blocks on `lists`, each of which has the address of its
-// drive: the saved data of all, or the requests that failed. More than 4096 blocks aren't read: then the reply is `too many` with their
-// number. The error is `AllocError`.
+// Returns the reply of the run of a ring that reads the operation data of the blocks on `lists`, at most 64, each of which has the address
+// of its drive: the saved data of all, or the requests that failed. The setup must be valid. More than 4096 blocks aren't read: then the
+// reply is `too many` with their number. Up to 4096 requests for them keep their types' ranges. The error is `AllocError`.
 #[inline(never)]
 fn data_reply<L: BitLink>(
     alloc: Global,
@@ -49,9 +42,10 @@ fn data_reply<L: BitLink>(
     }
 }
 
-// Returns the reply of a backup of a ring over a link. A first run reads the drives' lists of backup operation data; a drive without one
-// has an empty list. If another list can't be read, the reply has the requests that failed. Otherwise it is that of a second run over the
-// same link, which reads the blocks on the lists. The error is `AllocError`.
+// Returns the reply of a backup of a ring over a link. The setup must be valid. A first run reads the drives' lists of backup operation
+// data; a drive without one has an empty list. If another list can't be read, the reply has the requests that failed. Otherwise it is that
+// of a second run over the same link, which reads the blocks on the lists. Up to 4096 requests of the second run keep their types' ranges.
+// The error is `AllocError`.
 fn backup_reply<L: BitLink>(alloc: Global, setup: &RingSetup, link: L) -> Result<Reply, AllocError>
     requires { is_ring setup.now ≡ true }
     ensures reply { (jobs : List Job) → IfOk result (λ reply. IsReply reply (ring_saved setup.now jobs (L.carry link) (L.restart link))) }
@@ -67,8 +61,9 @@ fn backup_reply<L: BitLink>(alloc: Global, setup: &RingSetup, link: L) -> Result
     data_reply(alloc, setup, lists.as_slice(), ring.into_link())
 }
 
-// Writes the backup of a document, over its script, and returns the status. The requests of the document are ignored. If memory runs out,
-// the status is `Memory`, and nothing is written.
+// Writes the backup of a document, whose setup must be valid, over its script, and returns the status: `Done`, or `No` if requests failed
+// or blocks are too many. The requests of the document are ignored. If memory runs out, the status is `Memory`, and nothing is written. If
+// the write fails, it is `WriteFault`, and the sink has accepted a proper prefix of the reply.
 fn back_up<K: Sink>(alloc: Global, document: Document, sink: &mut K) -> Status
     requires ring { is_ring document.setup ≡ true }
     ensures { Replies (ring_saved document.setup document.jobs (script_carry document) (script_restarts document))
@@ -80,11 +75,13 @@ fn back_up<K: Sink>(alloc: Global, document: Document, sink: &mut K) -> Status
     give_if_made(&backup_reply(alloc, &setup, script), sink)
 }
 
-/// Writes the answer to a ring document, and returns its status: the saved data of the blocks on its drives' lists of backup operation
-/// data, the requests that failed, or the document's first refusal. The ring is run over its script, from its first cycle, to read the
-/// lists, and once more in the same way to read the blocks on them. The requests of the document are ignored. All memory is taken before
-/// anything is written: if it runs out, the status is `Memory`, and the sink is as it was. The stack is apart from that of the other
-/// commands.
+/// Writes the answer to a ring document, and returns its status: `Done` and the saved data of the blocks on its drives' lists of backup
+/// operation data, `No` and the requests that failed or that the blocks are too many, or `Refused` and the document's first refusal. The
+/// ring is run over its script, from its first cycle, to read the lists, and once more in the same way to read the blocks on them. Each run
+/// has the properties of `kept_law`. If nothing is undetected in it, the bytes read are those of `told_law`. The requests of the document
+/// are ignored. All memory is taken before anything is written: if it runs out, the status is `Memory`, and the sink is as it was. If a
+/// write fails, the status is `Refused` for a refused document, otherwise `WriteFault`, and the sink has accepted a proper prefix of the
+/// answer. The stack is apart from that of the other commands.
 #[inline(never)]
 pub fn answer_backup<K: Sink>(alloc: Global, bytes: &[u8], sink: &mut K) -> Status
     ensures { Replies (backup_answer bytes.now) (SavesItsRing bytes.now)

@@ -1,7 +1,7 @@
 // `check`: the verdict on a capture, written to a sink.
-ghost use Rattle.std.specs.Prelude.{◌≡◌, ◌≤◌, length};
-ghost use Rattle.sercos_checking.specs.Checking.{verdict_of, verdict_status, verdict_text, check_answer};
-ghost use Rattle.sercos_call.specs.Outcome.{Writes, changed};
+ghost use Rattle.std.specs.Prelude.{◌≤◌, length};
+ghost use Rattle.sercos_app.specs.Clauses.{verdict_status, verdict_text, check_answer, changed};
+ghost use Rattle.sercos_call.specs.Outcome.{Writes};
 
 use sercos_call::fault_status;
 use sercos_checking::capture::verdict;
@@ -9,7 +9,7 @@ use sercos_checking::{Verdict, verdict_line, verdict_status};
 use sercos_io::{Sink, Status, write_all};
 
 // Writes the line of a verdict, and returns the verdict's status. If the write fails, the status is `Refused` for a refused capture,
-// otherwise `WriteFault`.
+// otherwise `WriteFault`, and the sink has accepted a proper prefix of the line.
 fn give_verdict<K: Sink>(verdict: Verdict, sink: &mut K) -> Status
     ensures { Writes (verdict_status verdict) (verdict_text verdict)
         (changed K.held K.faults K.room sink.old sink.new) result }
@@ -22,7 +22,7 @@ fn give_verdict<K: Sink>(verdict: Verdict, sink: &mut K) -> Status
 
 /// Writes the verdict on a capture of at most 1,048,576 bytes: the first fault of grammar or shape, otherwise the first violation,
 /// otherwise the number of lines. Returns `Refused`, `No` or `Done`; if the write fails, `Refused` for a refused capture, otherwise
-/// `WriteFault`. It takes no memory.
+/// `WriteFault`, and the sink has accepted a proper prefix of the line. It takes no memory.
 pub fn write_verdict<K: Sink>(text: &[u8], sink: &mut K) -> Status
     requires { length text.now ≤ 1048576 }
     ensures { Writes (check_answer text.now).status (check_answer text.now).output (changed K.held K.faults K.room sink.old sink.new) result }

@@ -1,11 +1,7 @@
 // `gen`: the summary of the run of a generated document.
 ghost use Rattle.std.specs.Prelude.{◌≡◌, ◌≤◌, ◌++◌, true, length};
-ghost use Rattle.std.specs.List.{All};
-ghost use Rattle.sercos_step.specs.Steps.{IsRequest};
-ghost use Rattle.sercos_block.specs.Rings.{is_ring};
-ghost use Rattle.sercos_call.specs.Outcome.{Replies, Writes, changed};
-ghost use Rattle.sercos_opened.specs.Kept.{carry_under, restarts_under};
-ghost use Rattle.sercos_app.specs.Generating.{RunsGenerated, counts_text, first_text, gen_answer, gen_line, head_text, run_summed};
+ghost use Rattle.sercos_app.specs.Clauses.{All, IsRequest, is_ring, Replies, changed, carry_under, restarts_under, RunsGenerated, counts_text, first_text, gen_answer, gen_line, head_text, run_summed};
+ghost use Rattle.sercos_call.specs.Outcome.{Writes};
 
 use crate::counting::count_cycles;
 use sercos_block::{RingSetup, cycles_of, drives_of};
@@ -20,7 +16,8 @@ use sercos_text::{Given, Line, push_line};
 use sercos_trace::Totals;
 use std::alloc::Global;
 
-// Appends to an empty line the number of drives, `n`, the number of cycles, and `phase4`, the name of the next value.
+// Appends to an empty line the number of drives, `n`, the number of cycles, and `phase4`, the name of the next value. Afterwards the line
+// has at most 50 bytes.
 fn push_head(n: u8, cycles: u32, line: &mut Line)
     requires { length line.old ≡ 0 }
     ensures value { line.new ≡ line.old ++ head_text n cycles }
@@ -30,7 +27,8 @@ fn push_head(n: u8, cycles: u32, line: &mut Line)
     push_line(b"gen D cycles D phase4 ", &values, line);
 }
 
-// Appends the number of the first cycle that was commanded phase 4, or `none` if there was none.
+// Appends the number of the first cycle that was commanded phase 4, or `none` if there was none. The line must have at most 50 bytes;
+// afterwards it has at most 70.
 #[tactic(auto, unfolding(crate::specs::Generating::first_text))]
 fn push_first(first: Option<u32>, line: &mut Line)
     requires { length line.old ≤ 50 }
@@ -43,7 +41,8 @@ fn push_first(first: Option<u32>, line: &mut Line)
     }
 }
 
-// Appends the counts of requests that were complete, refused and broken, of falls, and of undetected damages, each after its name.
+// Appends the counts of requests that were complete, refused and broken, of falls, and of undetected damages, each after its name. The line
+// must have at most 70 bytes; afterwards it has at most 200.
 fn push_counts(totals: &Totals, line: &mut Line)
     requires { length line.old ≤ 70 }
     ensures value { line.new ≡ line.old ++ counts_text totals.now }
@@ -76,7 +75,8 @@ fn summary(n: u8, totals: &Totals) -> Line
     line
 }
 
-// Writes the summary line of a run of `n` drives. Returns `Done`, or `WriteFault` if the write failed.
+// Writes the summary line of a run of `n` drives. Returns `Done`, or `WriteFault` if the write failed; then the sink has accepted a proper
+// prefix of the line.
 fn give_summary<K: Sink>(n: u8, totals: &Totals, sink: &mut K) -> Status
     ensures { Writes Status.Done (gen_line n totals.now) (changed K.held K.faults K.room sink.old sink.new) result }
 {
@@ -87,8 +87,10 @@ fn give_summary<K: Sink>(n: u8, totals: &Totals, sink: &mut K) -> Status
     }
 }
 
-// Runs a ring with these requests over a link, writes the summary line, and returns the status. `n` is the number of drives that is
-// written. All memory is taken before anything is written: if it runs out, the status is `Memory`.
+// Runs a ring with these requests over a link, writes the summary line, and returns `Done`. The setup must be valid, and there must be at
+// most 4,096 requests, each a read of an element from 1 to 7, a write of one from 2 to 7, or a command. `n` is the number of drives that is
+// written. All memory is taken before anything is written: if it runs out, the status is `Memory`, and nothing is written. If the write
+// fails, it is `WriteFault`, and the sink has accepted a proper prefix of the line.
 fn sum_over<L: BitLink, K: Sink>(
     alloc: Global,
     n: u8,
@@ -112,8 +114,10 @@ fn sum_over<L: BitLink, K: Sink>(
     }
 }
 
-// Runs the ring of a document under its script followed by the link handed in, writes the summary line, and returns the status. `n` is
-// the number of drives that is written. If memory runs out, the status is `Memory`, and nothing is written.
+// Runs the ring of a document under its script followed by the link handed in, writes the summary line, and returns `Done`. The setup must
+// be valid, and there must be at most 4,096 requests, each a read of an element from 1 to 7, a write of one from 2 to 7, or a command. `n`
+// is the number of drives that is written. If memory runs out, the status is `Memory`, and nothing is written. If the write fails, it is
+// `WriteFault`, and the sink has accepted a proper prefix of the line.
 fn sum_document<L: BitLink, K: Sink>(
     alloc: Global,
     n: u8,
@@ -137,8 +141,9 @@ fn sum_document<L: BitLink, K: Sink>(
 }
 
 /// Answers `gen N`: runs the document that is generated for `n` drives, 1 to 64, under its script followed by the link handed in, writes
-/// one line, the summary of the run, and returns `Done`. All memory is taken before the line is written: if it runs out, the status is
-/// `Memory`, and the sink is as it was. If writing fails, the status is `WriteFault`.
+/// one line, the summary of the run, and returns `Done`. The run has the properties of `kept_law`. All memory is taken before the line is
+/// written: if it runs out, the status is `Memory`, and the sink is as it was. If writing fails, the status is `WriteFault`, and the sink
+/// has accepted a proper prefix of the line.
 pub fn answer_gen<L: BitLink, K: Sink>(alloc: Global, n: u8, link: L, sink: &mut K) -> Status
     requires some { 1 ≤ n }
     requires few { n ≤ 64 }

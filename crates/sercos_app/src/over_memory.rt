@@ -1,9 +1,6 @@
 // The top call over memory.
 ghost use Rattle.std.specs.Prelude.{◌≡◌, ◌≢◌, ◌≤◌, ◌<◌, ◌⊎◌, length, Some, None};
-ghost use Rattle.sercos_model.specs.Streams.{last_count};
-ghost use Rattle.sercos_app.specs.Answer.{answer_of};
-ghost use Rattle.sercos_words.specs.Form.{form_of};
-ghost use Rattle.sercos_call.specs.TopCall.{IsAnswer};
+ghost use Rattle.sercos_app.specs.Clauses.{last_count, answer_of, form_of, IsAnswer};
 
 use crate::top_call::sercos;
 use sercos_io::{MemorySink, PlainSource, Status, Words};
@@ -12,7 +9,8 @@ use std::alloc::Global;
 
 /// The top call over a source that never fails and a sink in memory. If the words are a command's, the input has at most 1,048,576 bytes,
 /// and the sink fails no call, has room for the whole output, and counts fewer than 2^64 - 1 faults, nothing outside can fail: the answer
-/// is written whole, or `Memory` is returned and nothing is written.
+/// is written whole, and its status returned, or `Memory` is returned. If `Memory` is returned, with any words, input and sink, nothing is
+/// written.
 pub fn answer_in_memory<L: BitLink>(
     alloc: Global,
     words: &Words,

@@ -1,10 +1,6 @@
 // `replay`: the document is read, and one station of its ring is replayed against the capture.
 ghost use Rattle.std.specs.Prelude.{◌≡◌, ◌⊎◌, ◌≤◌, length, None, MatchResult};
-ghost use Rattle.sercos_io.specs.declared.status.Status.TheVariants.{Refused};
-ghost use Rattle.sercos_document.specs.Lines.{line_of};
-ghost use Rattle.sercos_config.specs.Document.{document_of};
-ghost use Rattle.sercos_replay.specs.Replaying.{Says, document_answer, parts_answer, replay_answer};
-ghost use Rattle.sercos_app.specs.OwnRun.{OpensIfRead, OpensItsRing};
+ghost use Rattle.sercos_app.specs.Clauses.{Refused, line_of, document_of, Says, document_answer, parts_answer, replay_answer, OpensIfRead, OpensItsRing};
 
 use sercos_answer::Reply;
 use sercos_config::{BadDocument, read_ring};
@@ -12,8 +8,9 @@ use sercos_opened::kept_law;
 use sercos_replay::{capture_part, capture_place, document_part, replay_document, undivided_reply};
 use std::alloc::Global;
 
-// Returns the reply of `replay` to the two parts of an input, for the station with an address; the master has the address 0. The error is
-// the document's first refusal, or `Memory`.
+// Returns the reply of `replay` to the two parts of an input, for the station with an address; the master has the address 0. The capture
+// must have at most 1,048,576 bytes. The error is the document's first refusal, or `Memory`. If the result isn't `Memory` and the
+// document isn't refused, a ring may be opened with its setup and its requests, which are at most 4,096.
 #[tactic(auto, unfolding(sercos_replay::specs::Replaying::document_answer))]
 fn reply_parts(
     alloc: Global,

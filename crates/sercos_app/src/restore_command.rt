@@ -1,23 +1,6 @@
 // `restore`: the writes of a document, and what the drives then have.
-ghost use Rattle.std.specs.Prelude.{◌≡◌, ℕ, ◌+◌, ◌-◌, ◌<◌, ◌≤◌, ◌++◌, true, false, if◌then◌else◌, List, [], length, None, IfOk, IfSome, OnOk};
-ghost use Rattle.std.specs.List.{All, flat_map};
-ghost use Rattle.sercos_step.specs.declared.request.Job.{Job};
-ghost use Rattle.sercos_step.specs.Steps.{IsRequest};
-ghost use Rattle.sercos_block.specs.declared.block.Block.{Block};
-ghost use Rattle.sercos_block.specs.Views.{RingView};
-ghost use Rattle.sercos_block.specs.Stores.{find_block};
-ghost use Rattle.sercos_block.specs.Rings.{is_ring};
-ghost use Rattle.sercos_script.specs.Links.{Carry, Restarts};
-ghost use Rattle.sercos_trace.specs.Views.{CycleView};
-ghost use Rattle.sercos_law_run.specs.Journal.Runs.{run_of};
-ghost use Rattle.sercos_ring.specs.Kept.{RingStandsFor, drives_in};
-ghost use Rattle.sercos_backup.specs.Tracking.{are_well};
-ghost use Rattle.sercos_backup.specs.Texts.{restored_line};
-ghost use Rattle.sercos_call.specs.Outcome.{Replies, changed};
-ghost use Rattle.sercos_opened.specs.Kept.{script_carry, script_restarts};
-ghost use Rattle.sercos_call.specs.Giving.{IsReply};
-ghost use Rattle.sercos_app.specs.Saving.{blocks_at, data_of, last_data, place_of, restore_answer, ring_restored, writes_answer};
-ghost use Rattle.sercos_app.specs.Saved.{RestoresItsRing};
+ghost use Rattle.std.specs.Prelude.{◌≡◌, ◌+◌, ◌-◌, ◌<◌, ◌≤◌, ◌++◌, true, false, if◌then◌else◌, List, [], length, None, IfOk, IfSome, OnOk};
+ghost use Rattle.sercos_app.specs.Clauses.{All, flat_map, Job, IsRequest, find_block, is_ring, Carry, Restarts, CycleView, RingStandsFor, drives_in, are_well, restored_line, Replies, changed, script_carry, script_restarts, IsReply, data_of, last_data, place_of, restore_answer, ring_restored, writes_answer, RestoresItsRing};
 
 use crate::tracking::{Run, run_tracked};
 use sercos_answer::Reply;
@@ -26,7 +9,7 @@ use sercos_bits::Bytes;
 use sercos_block::{RingSetup, Store, cycles_of, drives_of};
 use sercos_call::{give_if_made, refuse};
 use sercos_config::{Document, read_ring};
-use sercos_idn::{Idn, element};
+use sercos_idn::Idn;
 use sercos_io::{Sink, Status};
 use sercos_law_trace::write_law;
 use sercos_opened::kept_law;
@@ -36,7 +19,7 @@ use sercos_service_drive::push_data;
 use sercos_step::Job;
 use std::alloc::{AllocError, Global};
 
-// Returns the place in the ring, from 0 on, of the first drive with an address; `None` if there is none.
+// Returns the index in the ring, from 0 on, of the first drive with an address; `None` if there is none.
 fn place_of(setup: &RingSetup, address: u8) -> Option<usize>
     ensures value { result ≡ place_of setup.now address }
     ensures bound { IfSome result (λ place. place < length setup.now.drives) }
@@ -47,20 +30,19 @@ fn place_of(setup: &RingSetup, address: u8) -> Option<usize>
         .position(|drive| drive.address == address)
 }
 
-// Puts the operation data that a block of a store has in a cycle into `out`, which is empty. Without the block, `out` stays empty.
+// Puts the operation data that a block of a store has in a cycle into `out`, which must be empty. Without the block, `out` stays empty.
 fn put_shown(store: &Store, idn: Idn, cycle: u32, out: &mut Bytes)
     requires { out.old ≡ [] }
     ensures { out.new ≡ data_of cycle (find_block idn.raw store.now) }
 {
-    if let Ok(bytes) = store.element(idn, element::DATA) {
-        if let Ok(attribute) = store.attribute(idn) {
-            push_data(out, &attribute, store.step(idn), cycle, bytes);
-        }
+    if let Some(block) = store.find(idn) {
+        let attribute = block.attribute();
+        push_data(out, &attribute, block.step(), cycle, block.value());
     }
 }
 
-// Returns the operation data that the drive with an address has in a block in the last cycle of the ring, whose setup is `setup`; no
-// bytes, if there is no such drive or block.
+// Returns the operation data that the drive with an address has in a block in the last cycle of the ring, whose setup is `setup`, which
+// must be valid; no bytes, if there is no such drive or block.
 fn last_data<L: BitLink>(ring: &Ring<L>, setup: &RingSetup, address: u8, idn: Idn) -> Bytes
     requires drives { drives_in ring.now ≡ length setup.now.drives }
     requires ring { is_ring setup.now ≡ true }
@@ -79,8 +61,8 @@ fn last_data<L: BitLink>(ring: &Ring<L>, setup: &RingSetup, address: u8, idn: Id
     shown
 }
 
-// Appends the line of a write: the operation data that the drive has in the last cycle of the ring, whose setup is `setup`, or how the
-// request failed. The error is `AllocError`.
+// Appends the line of a write: the operation data that the drive has in the last cycle of the ring, whose setup is `setup`, which must be
+// valid, or how the request failed. The error is `AllocError`; then `out` is unspecified.
 fn push_line<L: BitLink>(
     ring: &Ring<L>,
     setup: &RingSetup,
@@ -96,7 +78,8 @@ fn push_line<L: BitLink>(
     push_restored(request, shown.as_slice(), out)
 }
 
-// Appends these lines of all requests, in order. The error is `AllocError`.
+// Appends these lines of all requests, in order. `setup` must be that of the ring, and valid. The error is `AllocError`; then `out` is
+// unspecified.
 fn push_lines<L: BitLink>(
     ring: &Ring<L>,
     setup: &RingSetup,
@@ -125,8 +108,9 @@ fn restored_status(list: &[Tracked]) -> Status
     }
 }
 
-// Returns the reply of the run of a ring over a link with requests that all write operation data: the line of each, and `Done` if all
-// were complete, otherwise `No`. The error is `AllocError`.
+// Returns the reply of the run of a ring over a link with requests, which are to write operation data: the line of each, and `Done` if all
+// were complete, otherwise `No`. The setup must be valid, and there must be at most 4,096 requests, each a read of an element from 1 to 7,
+// a write of one from 2 to 7, or a command. The error is `AllocError`.
 fn restored_reply<L: BitLink>(
     alloc: Global,
     setup: &RingSetup,
@@ -148,7 +132,8 @@ fn restored_reply<L: BitLink>(
 }
 
 // Returns the reply of a restore of a ring over a link: the refusal of the first request that doesn't write operation data, otherwise the
-// reply of the run. The error is `AllocError`.
+// reply of the run. The setup must be valid. There must be at most 4,096 requests, each a read of an element from 1 to 7, a write of one
+// from 2 to 7, or a command. The error is `AllocError`.
 fn restore_reply<L: BitLink>(
     alloc: Global,
     setup: &RingSetup,
@@ -166,8 +151,10 @@ fn restore_reply<L: BitLink>(
     }
 }
 
-// Writes the answer of a restore of a document, over its script, and returns the status. If memory runs out, the status is `Memory`, and
-// nothing is written.
+// Writes the answer of a restore of a document, over its script, and returns the status: `Done`, `No` if a request failed, or `Refused` if
+// one doesn't write operation data. The setup must be valid, and there must be at most 4,096 requests, each a read of an element from 1 to
+// 7, a write of one from 2 to 7, or a command. If memory runs out, the status is `Memory`, and nothing is written. If the write fails, it
+// is `Refused` for a refusal, otherwise `WriteFault`, and the sink has accepted a proper prefix of the answer.
 fn restore_document<K: Sink>(alloc: Global, document: Document, sink: &mut K) -> Status
     requires ring { is_ring document.setup ≡ true }
     requires few { length document.jobs ≤ 4096 }
@@ -184,10 +171,12 @@ fn restore_document<K: Sink>(alloc: Global, document: Document, sink: &mut K) ->
     give_if_made(&restore_reply(alloc, &setup, jobs, script), sink)
 }
 
-/// Writes the answer to a ring document whose requests all write operation data, and returns its status: runs the ring with them, over
-/// its script, and writes a line for each: what the drive has in the end, or how the request failed. Any other document is refused: by
-/// its first refusal, or by the number of the first request that doesn't. All memory is taken before anything is written: if it runs out,
-/// the status is `Memory`, and the sink is as it was. The stack is apart from that of the other commands.
+/// Writes the answer to a ring document whose requests all write operation data, and returns its status: runs the ring with them, over its
+/// script, and writes a line for each: what the drive has in the end, or how the request failed. The run has the properties of `kept_law`.
+/// The status is `Done` if none failed, otherwise `No`. Any other document is `Refused`: by its first refusal, or by the number of the
+/// first request that doesn't write operation data. All memory is taken before anything is written: if it runs out, the status is `Memory`,
+/// and the sink is as it was. If a write fails, the status is `Refused` for a refused document, otherwise `WriteFault`, and the sink has
+/// accepted a proper prefix of the answer. The stack is apart from that of the other commands.
 #[inline(never)]
 pub fn answer_restore<K: Sink>(alloc: Global, bytes: &[u8], sink: &mut K) -> Status
     ensures { Replies (restore_answer bytes.now) (RestoresItsRing bytes.now)

@@ -1,14 +1,7 @@
 // `run`: the trace of a ring's run.
 ghost use Rattle.std.specs.Prelude.{◌≡◌, ◌≤◌, true, [], length};
-ghost use Rattle.std.specs.List.{All};
-ghost use Rattle.sercos_step.specs.declared.request.Job.{Job};
-ghost use Rattle.sercos_step.specs.Steps.{IsRequest};
-ghost use Rattle.sercos_block.specs.Rings.{is_ring};
-ghost use Rattle.sercos_ring.specs.Kept.{RingStandsFor};
-ghost use Rattle.sercos_app.specs.Journals.{IsRingOf, OfRun, journal_text};
-ghost use Rattle.sercos_call.specs.Outcome.{Replies, Writes, changed};
-ghost use Rattle.sercos_opened.specs.Kept.{carry_under, restarts_under};
-ghost use Rattle.sercos_app.specs.Running.{RunsItsRing, run_answer, run_traced};
+ghost use Rattle.sercos_app.specs.Clauses.{All, Job, IsRequest, is_ring, RingStandsFor, IsRingOf, OfRun, journal_text, Replies, changed, carry_under, restarts_under, RunsItsRing, run_answer, run_traced};
+ghost use Rattle.sercos_call.specs.Outcome.{Writes};
 
 use crate::running::write_run;
 use sercos_block::{RingSetup, cycles_of, drives_of};
@@ -23,8 +16,9 @@ use sercos_step::Job;
 use sercos_timing::Wishes;
 use std::alloc::Global;
 
-// Makes the first `cycles` cycles of a ring, and writes their trace. Returns `Done`, or `WriteFault` if a write failed. `w` is the
-// planner's input of the ring's setup.
+// Makes the first `cycles` cycles, 1 to 50,000, of a ring that has made none, and writes their trace. Returns `Done`, or `WriteFault` if a
+// write failed; then the sink has accepted a proper prefix of the trace. `w` must be the planner's input of the ring's setup, which must be
+// valid. Afterwards the ring is unspecified.
 fn give_run<L: BitLink, K: Sink>(
     ring: &mut Ring<L>,
     w: &Wishes,
@@ -43,8 +37,8 @@ fn give_run<L: BitLink, K: Sink>(
     }
 }
 
-// Runs a ring with these requests over a link, writes the trace, and returns the status. All memory is taken before anything is written:
-// if it runs out, the status is `Memory`.
+// Runs a ring with these requests over a link, and writes the trace. Returns `Done`, or `WriteFault` if a write failed. All memory is
+// taken before anything is written: if it runs out, the status is `Memory`.
 fn run_over<L: BitLink, K: Sink>(
     alloc: Global,
     setup: &RingSetup,
@@ -64,8 +58,8 @@ fn run_over<L: BitLink, K: Sink>(
     }
 }
 
-// Runs the ring of a document under its script followed by the link handed in, writes the trace, and returns the status. If memory runs
-// out, the status is `Memory`, and nothing is written.
+// Runs the ring of a document under its script followed by the link handed in, and writes the trace. Returns `Done`, or `WriteFault` if a
+// write failed. If memory runs out, the status is `Memory`, and nothing is written.
 fn run_document<L: BitLink, K: Sink>(
     alloc: Global,
     document: Document,
@@ -88,8 +82,9 @@ fn run_document<L: BitLink, K: Sink>(
 }
 
 /// Writes the answer to a ring document, and returns its status: `Done` and the trace of its run, under its script followed by the link
-/// handed in, or `Refused` and its first refusal. If memory runs out, the status is `Memory`, and the sink is as it was. If writing the
-/// trace fails, it is `WriteFault`.
+/// handed in, or `Refused` and its first refusal. The run has the properties of `kept_law`; if nothing is undetected in it, its trace is a
+/// clean capture. If memory runs out, the status is `Memory`, and the sink is as it was. If a write fails, the status is `Refused` for a
+/// refused document, otherwise `WriteFault`, and the sink has accepted a proper prefix of the answer.
 pub fn answer_run<L: BitLink, K: Sink>(alloc: Global, bytes: &[u8], link: L, sink: &mut K) -> Status
     ensures { Replies (run_answer (L.carry link) (L.restart link) bytes.now) (RunsItsRing (L.carry link) (L.restart link) bytes.now)
         (changed K.held K.faults K.room sink.old sink.new) (sink.new ≡ sink.old) result }

@@ -1,22 +1,9 @@
-// The trace of a ring's run, written while the cycles are made.
+// The trace of a ring's run, written while the cycles are made. A write fails only if the sink has less room than the text. After success
+// the sink has accepted the whole text, and its count of faults is unchanged. After an error it has accepted a proper prefix of the text,
+// and the count has risen or is 2^64 - 1. Afterwards `line` is unspecified.
 ghost use Rattle.std.specs.Prelude.{◌≡◌, ℕ, ◌≤◌, ◌<◌, ◌^◌, List, [], length, reverse, take, IfSome, IfOk, OnOk, OnErr, IsOk, is_ok};
-ghost use Rattle.std.specs.Io.KnownBytes.{Appends};
-ghost use Rattle.sercos_model.specs.Streams.{HasCause};
-ghost use Rattle.std.specs.List.{All};
-ghost use Rattle.sercos_step.specs.declared.request.Job.{Job};
-ghost use Rattle.sercos_block.specs.Views.{RingView};
-ghost use Rattle.sercos_script.specs.Links.{Carry, Restarts};
-ghost use Rattle.sercos_trace.specs.Views.{CycleView};
-ghost use Rattle.sercos_trace.specs.Texts.{header_text, cycle_text, end_text};
-ghost use Rattle.sercos_trace.specs.Written.{seen, Writes};
-ghost use Rattle.sercos_law_run.specs.Journal.Runs.{run_of};
-ghost use Rattle.sercos_law_run.specs.Held.Opened.{IsOpened};
-ghost use Rattle.sercos_ring.specs.Kept.{AfterCycle, RingStandsFor, cycles_made, newest};
-ghost use Rattle.sercos_law_run.specs.Totals.Counting.{HasRoom, IsFew, with_cycle};
-ghost use Rattle.sercos_app.specs.Journals.{HasMade, IsRingOf, OfRun, WritesCycles, journal_text};
-ghost use Rattle.sercos_law_run.specs.Totals.Totals.{totals_of};
-ghost use Rattle.sercos_app.specs.RunWriting.{WritesRun};
-ghost use Rattle.sercos_opened.specs.Kept.{IsKept};
+ghost use Rattle.sercos_app.specs.Clauses.{Appends, HasCause, All, Job, RingView, Carry, Restarts, CycleView, header_text, cycle_text, end_text, seen, run_of, IsOpened, AfterCycle, RingStandsFor, cycles_made, newest, HasRoom, IsFew, with_cycle, HasMade, IsRingOf, OfRun, WritesCycles, journal_text, totals_of, WritesRun, IsKept};
+ghost use Rattle.sercos_trace.specs.Written.{Writes};
 
 use sercos_block::ring_law;
 use sercos_io::{Sink, WriteFailed};
@@ -30,7 +17,8 @@ use sercos_trace::{
     CycleRecord, Totals, write_marked_cycle, write_marked_end, write_marked_header,
 };
 
-// Writes the head of a trace. Each line is made in `line`, regardless of its contents.
+// Writes the head of a trace. Each line is made in `line`, regardless of its contents. Each index of the order of `w` must be that of a
+// drive.
 #[tactic(auto, using(sercos_trace::proofs::MarkedLemmas::unmarked))]
 fn write_head<K: Sink>(w: &Wishes, line: &mut Line, sink: &mut K) -> Result<(), WriteFailed>
     requires { All (λ place. place < length w.now.drives) w.now.order }
@@ -39,7 +27,8 @@ fn write_head<K: Sink>(w: &Wishes, line: &mut Line, sink: &mut K) -> Result<(), 
     write_marked_header(w, b"", line, sink)
 }
 
-// Writes the lines of a cycle. Each is made in `line`, regardless of its contents. `w` is the planner's input of the ring.
+// Writes the lines of a cycle. Each is made in `line`, regardless of its contents. `w` is the planner's input of the ring. If the record
+// has a plan, it must have a T1 and a position for each drive.
 #[tactic(auto, using(sercos_trace::proofs::MarkedLemmas::unmarked))]
 fn write_made<K: Sink>(
     w: &Wishes,
@@ -62,8 +51,11 @@ fn write_totals<K: Sink>(totals: &Totals, line: &mut Line, sink: &mut K) -> Resu
     write_marked_end(totals, b"", line, sink)
 }
 
-// Makes the next cycle of a ring, adds it to the totals, and writes its lines. `w` is the planner's input of the ring's setup. `line` is
-// room for each line that is made.
+// Makes the next cycle of a ring, adds it to the totals, and writes its lines. The ring must have made fewer than 2^31 cycles. The totals
+// must have room for one more cycle: after it, with at most 128 requests of each outcome, one fall and 195 undetected arrivals, each count
+// must be below 2^32. The cycle has at most 128 requests of each outcome, and at most 195 undetected arrivals. `w` is the planner's input
+// of the ring's setup, which must be valid. `line` is room for each line that is made. Also after an error the ring has made the cycle, and
+// the totals have it.
 fn write_next<L: BitLink, K: Sink>(
     ring: &mut Ring<L>,
     w: &Wishes,
@@ -85,8 +77,9 @@ fn write_next<L: BitLink, K: Sink>(
     write_made(w, made, line, sink)
 }
 
-// Makes the first `cycles` cycles of a ring, writes the lines of each as it is made, and returns their totals. `w` is the planner's input
-// of the ring's setup. `line` is room for each line that is made.
+// Makes the first `cycles` cycles, at most 50,000, of a ring that has made none, writes the lines of each as it is made, and returns their
+// totals. `w` is the planner's input of the ring's setup, which must be valid. `line` is room for each line that is made. After success the
+// ring has made these cycles. After an error the ring has made no more than these cycles.
 fn write_cycles<L: BitLink, K: Sink>(
     ring: &mut Ring<L>,
     w: &Wishes,
@@ -107,8 +100,9 @@ fn write_cycles<L: BitLink, K: Sink>(
     Ok(totals)
 }
 
-// Makes the first `cycles` cycles of a ring, writes their whole trace, with its head and its last line, and returns their totals. `w` is
-// the planner's input of the ring's setup.
+// Makes the first `cycles` cycles, at most 50,000, of a ring that has made none, writes their whole trace, with its head and its last line,
+// and returns their totals. `w` is the planner's input of the ring's setup, which must be valid; each index of its order must be that of a
+// drive. After success the ring has made these cycles. After an error the ring has made no more than these cycles.
 fn write_whole<L: BitLink, K: Sink>(
     ring: &mut Ring<L>,
     w: &Wishes,
@@ -134,9 +128,11 @@ fn write_whole<L: BitLink, K: Sink>(
 /// Writes the trace of a ring's run: the head, the lines of each cycle as it is made, and the last line with the totals, which are
 /// returned. It takes no memory.
 ///
-/// The ring has made no cycle, `w` is the planner's input of the setup with which it was opened, and `cycles` is 1 to 50,000. After an
-/// error the sink has accepted a prefix of the text, short of the whole, and its count of faults has risen. In both cases the ring stands
-/// for the cycles that it has made. If the arguments of its opening keep their types' ranges, the run has the properties of `kept_law`.
+/// The ring must have made no cycle, `w` must be the planner's input of the setup with which it was opened, which must be valid, and
+/// `cycles` must be 1 to 50,000. A write fails only if the sink has less room than the whole text. After success the sink has accepted the
+/// whole text, and its count of faults is unchanged. After an error it has accepted a proper prefix of the text, and the count has risen or
+/// is 2^64 - 1. In both cases the ring stands for the cycles that it has made: all of them, or after an error at most `cycles`. If the ring
+/// may be opened with its requests as in `kept_law`, the run has the properties of that law.
 pub fn write_run<L: BitLink, K: Sink>(
     ring: &mut Ring<L>,
     w: &Wishes,

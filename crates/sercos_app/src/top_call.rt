@@ -1,24 +1,8 @@
-// The top call.
-ghost use Rattle.std.specs.Prelude.{◌≡◌, ◌≢◌, ℕ, ◌≤◌, ◌⊎◌, true, false, List, length, Some, None, IsTrue, IfOk};
-ghost use Rattle.sercos_model.specs.Streams.{Rose};
-ghost use Rattle.sercos_app.specs.Answer.{answer_of, command_answer, SaysWell};
-ghost use Rattle.sercos_words.specs.Form.{form_of, reads_input, HasNumber};
-ghost use Rattle.sercos_call.specs.Outcome.{Replies, changed};
-ghost use Rattle.sercos_app.specs.Outcome.{Ends};
-ghost use Rattle.sercos_planning.specs.Margins.{MeasuresItsRing, margin_answer};
-ghost use Rattle.sercos_planning.specs.Planning.{PlansItsRing, plan_answer};
-ghost use Rattle.sercos_checking.specs.Checking.{check_answer};
-ghost use Rattle.sercos_show.specs.Show.{show_answer};
-ghost use Rattle.sercos_replay.specs.Asking.{Asks, cycles_in};
-ghost use Rattle.sercos_replay.specs.Replaying.{place_answer, replay_answer};
-ghost use Rattle.sercos_replay.specs.Stations.{Station, station_differs};
-ghost use Rattle.sercos_script.specs.Links.{Carry, Restarts};
-ghost use Rattle.sercos_config.specs.Views.{DocumentView};
-ghost use Rattle.sercos_law_run.specs.Journal.Runs.{IsClear};
-ghost use Rattle.sercos_opened.specs.Kept.{document_run};
-ghost use Rattle.sercos_call.specs.TopCall.{writes_nothing, HasInput, TakesAtMost, TakesTooMany, IsAnswered, IsCutShort, IsAnswer};
-ghost use Rattle.sercos_app.specs.OwnRun.{AgreesThroughout, DiffersNoEarlier, IsCalm, IsOwnRun, OpensItsRing, ReplaysItsRing};
-ghost use Rattle.sercos_app.specs.TopCall.{NonePlanned, LeastPlanned, MarginsTold, ChainTold, ViolationTold, CleanTold, PlaceTold, AgreementTold, BreachTold, RunTraced, RunSummed, BackupSaved, BackupFailed, RestoreTold};
+// The top call. The functions that write an answer return its status. If memory runs out it is `Memory`, and nothing is written. If a write
+// fails, the sink has accepted a proper prefix of the answer, its count of faults has risen or is 2^64 - 1, and the status is `Refused` for
+// a refused input, otherwise `WriteFault`. A sink with room for the whole answer doesn't fail.
+ghost use Rattle.std.specs.Prelude.{◌≡◌, ◌≢◌, ℕ, ◌≤◌, ◌⊎◌, true, false, List, length, Some, None, IsTrue};
+ghost use Rattle.sercos_app.specs.Clauses.{Rose, answer_of, command_answer, SaysWell, form_of, reads_input, HasNumber, Replies, changed, Ends, MeasuresItsRing, margin_answer, PlansItsRing, plan_answer, check_answer, show_answer, Asks, cycles_in, place_answer, replay_answer, Station, station_differs, Carry, Restarts, DocumentView, IsClear, document_run, writes_nothing, HasInput, TakesAtMost, TakesTooMany, IsAnswered, IsCutShort, IsAnswer, AgreesThroughout, DiffersNoEarlier, IsCalm, IsOwnRun, ReplaysItsRing, NonePlanned, LeastPlanned, MarginsTold, ChainTold, ViolationTold, CleanTold, PlaceTold, AgreementTold, BreachTold, RunTraced, RunSummed, BackupSaved, BackupFailed, RestoreTold};
 
 use crate::backup_command::answer_backup;
 use crate::check_command::write_verdict;
@@ -36,7 +20,7 @@ use sercos_show::show::show;
 use sercos_words::{Form, form_of};
 use std::alloc::Global;
 
-// Writes the answer of `show` to an input, and returns the status.
+// Writes the answer of `show` to an input, and returns the status: `Done` or `Refused`.
 fn answer_show<K: Sink>(alloc: Global, text: &[u8], sink: &mut K) -> Status
     ensures { Replies (show_answer text.now) (Unit {0})
         (changed K.held K.faults K.room sink.old sink.new) (sink.new ≡ sink.old) result }
@@ -44,7 +28,7 @@ fn answer_show<K: Sink>(alloc: Global, text: &[u8], sink: &mut K) -> Status
     give_if_made(&show(alloc, text), sink)
 }
 
-// Writes the answer of `plan` to an input, and returns the status.
+// Writes the answer of `plan` to an input, and returns the status: `Done`, `No` if no plan fits, or `Refused`.
 fn answer_plan<K: Sink>(alloc: Global, bytes: &[u8], sink: &mut K) -> Status
     ensures { Replies (plan_answer bytes.now) (PlansItsRing bytes.now)
         (changed K.held K.faults K.room sink.old sink.new) (sink.new ≡ sink.old) result }
@@ -52,7 +36,7 @@ fn answer_plan<K: Sink>(alloc: Global, bytes: &[u8], sink: &mut K) -> Status
     give_or_refuse(&plan(alloc, bytes), sink)
 }
 
-// Writes the answer of `margin` to an input, and returns the status.
+// Writes the answer of `margin` to an input, and returns the status: `Done`, `No` if no plan fits, or `Refused`.
 fn answer_margin<K: Sink>(alloc: Global, bytes: &[u8], sink: &mut K) -> Status
     ensures { Replies (margin_answer bytes.now) (MeasuresItsRing bytes.now)
         (changed K.held K.faults K.room sink.old sink.new) (sink.new ≡ sink.old) result }
@@ -60,7 +44,8 @@ fn answer_margin<K: Sink>(alloc: Global, bytes: &[u8], sink: &mut K) -> Status
     give_or_refuse(&margins(alloc, bytes), sink)
 }
 
-// Writes the answer of `check` to an input of at most 1,048,576 bytes, and returns the status.
+// Writes the answer of `check` to an input of at most 1,048,576 bytes, and returns the status: `Done`, `No` if a rule is broken, or
+// `Refused`.
 fn answer_check<K: Sink>(text: &[u8], sink: &mut K) -> Status
     requires { length text.now ≤ 1048576 }
     ensures { Replies (check_answer text.now) (Unit {0})
@@ -69,8 +54,9 @@ fn answer_check<K: Sink>(text: &[u8], sink: &mut K) -> Status
     write_verdict(text, sink)
 }
 
-// Writes the answer of `replay` to an input of at most 1,048,576 bytes, for the station with an address, and returns the status. Its
-// stack is apart from that of the other commands: the states of a drive and of the master are large.
+// Writes the answer of `replay` to an input of at most 1,048,576 bytes, for the station with an address, and returns the status: `Done`,
+// `No` if a place differs or the capture breaks a rule, or `Refused`. Its stack is apart from that of the other commands: the states of a
+// drive and of the master are large.
 #[inline(never)]
 fn answer_replay<K: Sink>(alloc: Global, address: u8, bytes: &[u8], sink: &mut K) -> Status
     requires few { length bytes.now ≤ 1048576 }
@@ -82,7 +68,7 @@ fn answer_replay<K: Sink>(alloc: Global, address: u8, bytes: &[u8], sink: &mut K
     give_or_refuse(&replay(alloc, address, bytes), sink)
 }
 
-// Returns whether a command reads its source.
+// Returns whether a command reads its source: each but `gen` does.
 #[tactic(auto, unfolding(sercos_words::specs::Form::reads_input))]
 fn reads_input(form: Form) -> bool
     ensures { result ≡ reads_input (Some form) }
@@ -90,8 +76,8 @@ fn reads_input(form: Form) -> bool
     !matches!(form, Form::Gen(_))
 }
 
-// Writes the answer of the command with this form to an input of at most 1,048,576 bytes, and returns the status. `gen` ignores the
-// input, and only `run` and `gen` use the link. If memory runs out, the status is `Memory`, and nothing is written.
+// Writes the answer of the command with this form to an input of at most 1,048,576 bytes, and returns the status. The number of drives of
+// `gen` must be 1 to 64. `gen` ignores the input, and only `run` and `gen` use the link.
 #[tactic(auto, unfolding(crate::specs::Answer::command_answer))]
 fn answer<K: Sink, L: BitLink>(
     alloc: Global,
@@ -118,9 +104,9 @@ fn answer<K: Sink, L: BitLink>(
     }
 }
 
-// Reads the words, and the input if their command has one, writes the answer, and returns the status. Words in no form are `BadWords`,
-// and nothing is read. If the input can't be read, is too long, or memory runs out, the status is `ReadFault`, `TooLong` or `Memory`. In
-// all these cases nothing is written.
+// Reads the words, and the input if their command has one, writes the answer, and returns the status. Words in no form are `BadWords`, and
+// nothing is read. If a read fails, the input is longer than 1,048,576 bytes, or memory runs out, the status is `ReadFault`, `TooLong` or
+// `Memory`. In all these cases nothing is written. `gen` reads nothing either.
 fn respond<S: Source, K: Sink, L: BitLink>(
     alloc: Global,
     words: &Words,
@@ -166,15 +152,14 @@ fn respond<S: Source, K: Sink, L: BitLink>(
 /// `link`; no other command uses `link`. `backup` and `restore` run theirs over the script alone. Any other words are `BadWords`, and
 /// nothing is read. `ReadFault` is returned if a read failed, `TooLong` if the input is longer, and `Memory` if no memory was found; then
 /// nothing is written. A refused input is `Refused`, also if its line couldn't be written whole. After any other failed write the status is
-/// `WriteFault`, and the sink has accepted a prefix of the output.
+/// `WriteFault`, and the sink has accepted a proper prefix of the output.
 ///
 /// Of each run that `run` traces and `gen` sums, up to the first undetected damage, regardless of losses and restarts: if no cycle after a
 /// fall is disturbed, the ring starts up again; and from twice the bound of a start-up and 200 cycles after the last disturbed one on,
 /// phase 4 is commanded, or the master is at a stop for its cause. While disturbed cycles are sparse the ring doesn't fall; and after
-/// others it falls at most once, and is back by the same bound and what the disturbed cycles since cost a start-up. No damage is
-/// undetected if the script has no flip and `link` changes nothing, or is harmless after cuts: it makes no other frame of a frame or of
-/// the beginning of one. Whatever arrives, each drive's data are fit for its phase, each drive moves for its causes alone, and each fall
-/// has its cause.
+/// others it falls at most once, and is back by the same bound and what the disturbed cycles since cost a start-up. No damage is undetected
+/// if the script has no flip and `link` changes nothing, or is harmless after cuts: it makes no other frame of a frame or of the beginning
+/// of one. Whatever arrives, each drive's data are fit for its phase, each drive moves for its causes alone, and each fall has its cause.
 ///
 /// If no damage is undetected in a run, what `run` wrote of it is clean: `check` finds no fault and no violation in it.
 ///
@@ -201,7 +186,7 @@ pub fn sercos<S: Source, K: Sink, L: BitLink>(
     // BadWords, ReadFault, TooLong and Memory are returned before anything is written.
     ensures unwritten { IsTrue (writes_nothing result) → sink.new ≡ sink.old }
 
-    // ReadFault is returned only if the source's count rose; otherwise no read failed.
+    // ReadFault is returned only if the source's count of faults rose or is 2^64 - 1; otherwise no read failed.
     ensures read_fault { result ≡ Status.ReadFault → Rose (S.faults source.old) (S.faults source.new) }
     ensures read_count { S.faults source.old ≤ S.faults source.new }
     ensures read_well { result ≢ Status.ReadFault → S.faults source.new ≡ S.faults source.old }
@@ -241,7 +226,8 @@ pub fn sercos<S: Source, K: Sink, L: BitLink>(
 
     // No is returned by `replay A` only with the first place at which the station with the address A deviated from its rules, given all
     // that the capture has before that place; or, if the capture breaks a rule, with the answer of `check`. Done is returned only if no
-    // place differs. Whenever the input is that of a replay, and nothing outside fails, the answer is that place or the number of cycles.
+    // place differs. If the input of at most 1,048,576 bytes is that of a replay, and no count of faults rose or is 2^64 - 1, the answer is
+    // that place or the number of cycles; or Memory is returned.
     ensures differs { (address : ℕ) → result ≡ Status.No → form_of words.now ≡ Some (Form.Replay address) →
         PlaceTold address (S.left source.old) (S.left source.new) (K.held sink.old) (K.held sink.new)
         ⊎ BreachTold address (S.left source.old) (S.left source.new) (K.held sink.old) (K.held sink.new) }
@@ -256,7 +242,7 @@ pub fn sercos<S: Source, K: Sink, L: BitLink>(
 
     // If the input is a document and, as its capture, what `run` writes of this document over any link, and no cycle of that run is
     // disturbed, `check` finds the capture clean, it begins with cycle 0, and the answer is the number of its cycles, for the master and
-    // for every drive, if nothing outside fails; or Memory.
+    // for every drive, if no count of faults rose or is 2^64 - 1; or Memory is returned.
     ensures calm { (address : ℕ) (bytes : List ℕ) (carry : Carry) (restarts : Restarts) (d : DocumentView) (own : IsOwnRun carry restarts address bytes d)
         → form_of words.now ≡ Some (Form.Replay address) → S.left source.old ≡ Some bytes → length bytes ≤ 1048576 → IsCalm carry restarts d
         → (Rose (S.faults source.old) (S.faults source.new) → ⊥)
@@ -296,14 +282,16 @@ pub fn sercos<S: Source, K: Sink, L: BitLink>(
     ensures unrestored { result ≡ Status.No → form_of words.now ≡ Some Form.Restore → RestoreTold false
         (S.left source.old) (S.left source.new) (K.held sink.old) (K.held sink.new) }
 
-    // Refused too is returned only if the input was read to its end; if writing the refusal failed, a prefix of it was appended.
+    // Refused too is returned only if the input was read to its end; if writing the refusal failed, a proper prefix of it was appended, and
+    // the sink's count of faults rose or is 2^64 - 1.
     ensures refused { result ≡ Status.Refused →
         ((K.faults sink.new ≡ K.faults sink.old) × IsAnswered (reads_input (form_of words.now)) (answer_of (L.carry link) (L.restart link) words.now) Status.Refused
         (S.left source.old) (S.left source.new) (K.held sink.old) (K.held sink.new))
         ⊎ (Rose (K.faults sink.old) (K.faults sink.new) × IsCutShort (reads_input (form_of words.now)) (answer_of (L.carry link) (L.restart link) words.now) Status.Refused
         (S.left source.old) (S.left source.new) (K.held sink.old) (K.held sink.new)) }
 
-    // WriteFault is returned only if the sink's count rose, after a prefix of the output; otherwise no write failed.
+    // WriteFault is returned only if the sink's count of faults rose or is 2^64 - 1, after a proper prefix of the output. With any other
+    // status but Refused no write failed.
     ensures write_fault { result ≡ Status.WriteFault →
         Rose (K.faults sink.old) (K.faults sink.new) × IsCutShort (reads_input (form_of words.now)) (answer_of (L.carry link) (L.restart link) words.now) Status.WriteFault
         (S.left source.old) (S.left source.new) (K.held sink.old) (K.held sink.new) }
@@ -311,8 +299,8 @@ pub fn sercos<S: Source, K: Sink, L: BitLink>(
     ensures write_well { result ≢ Status.WriteFault → result ≢ Status.Refused →
         K.faults sink.new ≡ K.faults sink.old }
 
-    // Completeness: if the source exposes an input of at most 1,048,576 bytes, or nothing is read, and no count rose, the call writes the
-    // answer whole, or returns Memory. Its refusal is returned whatever the sink does.
+    // Completeness: if the source exposes an input of at most 1,048,576 bytes, or nothing is read, and no count of faults rose or is 2^64 -
+    // 1, the call writes the answer whole, or returns Memory. A refusal is returned, or Memory, whatever the sink does.
     ensures answers { (bytes : List ℕ) → HasInput (reads_input (form_of words.now)) (S.left source.old) bytes → length bytes ≤ 1048576
         → form_of words.now ≢ None
         → (Rose (S.faults source.old) (S.faults source.new) → ⊥)
@@ -325,13 +313,13 @@ pub fn sercos<S: Source, K: Sink, L: BitLink>(
         → (answer_of (L.carry link) (L.restart link) words.now bytes).status ≡ Status.Refused
         → (result ≡ Status.Memory) ⊎ (result ≡ Status.Refused) }
 
-    // A longer input is TooLong, or Memory, where it is read.
+    // A longer input that is read is TooLong, or Memory, if the source's count of faults neither rose nor is 2^64 - 1.
     ensures exceeds { (bytes : List ℕ) → S.left source.old ≡ Some bytes → 1048577 ≤ length bytes
         → reads_input (form_of words.now) ≡ true
         → (Rose (S.faults source.old) (S.faults source.new) → ⊥)
         → (result ≡ Status.Memory) ⊎ (result ≡ Status.TooLong) }
 
-    // A sink that has room for the whole output doesn't fail.
+    // If the source exposes its input, or nothing is read, a sink that has room for the whole output doesn't fail.
     ensures room { (bytes : List ℕ) → HasInput (reads_input (form_of words.now)) (S.left source.old) bytes
         → length (answer_of (L.carry link) (L.restart link) words.now bytes).output ≤ K.room sink.old
         → K.faults sink.new ≡ K.faults sink.old }

@@ -1,18 +1,6 @@
 // The run of a ring, with the reported outcomes of its requests.
 ghost use Rattle.std.specs.Prelude.{◌≡◌, ℕ, ◌<◌, ◌≤◌, ◌^◌, ◌++◌, true, List, [], length, IfOk};
-ghost use Rattle.std.specs.List.{All};
-ghost use Rattle.sercos_step.specs.declared.request.Job.{Job};
-ghost use Rattle.sercos_step.specs.declared.request.Outcome.{Outcome};
-ghost use Rattle.sercos_step.specs.Steps.{IsRequest};
-ghost use Rattle.sercos_timing.specs.Views.{WishesView};
-ghost use Rattle.sercos_block.specs.Rings.{is_ring};
-ghost use Rattle.sercos_trace.specs.Views.{CycleView};
-ghost use Rattle.sercos_law_run.specs.Journal.Runs.{run_of};
-ghost use Rattle.sercos_ring.specs.Kept.{AfterCycle, RingStandsFor, cycles_made, newest};
-ghost use Rattle.sercos_backup.specs.Tracking.{tracked};
-ghost use Rattle.sercos_app.specs.Journals.{HasMade, IsRingOf, OfRun};
-ghost use Rattle.sercos_law_trace.specs.Told.Told.{told_in};
-ghost use Rattle.sercos_app.specs.Saving.{run_tracked};
+ghost use Rattle.sercos_app.specs.Clauses.{All, Job, Outcome, IsRequest, is_ring, run_of, AfterCycle, RingStandsFor, cycles_made, newest, tracked, HasMade, OfRun, told_in, run_tracked};
 
 use sercos_backup::{Tracked, note, track};
 use sercos_block::{RingSetup, cycles_of};
@@ -31,7 +19,8 @@ pub struct Run<L: BitLink> {
     pub ring: Ring<L>,
 }
 
-// Makes the next cycle of a ring, and notes the outcomes that are reported in it as those of the requests, `list`.
+// Makes the next cycle of a ring, which must have made fewer than 2^31, and notes the outcomes that are reported in it in `list`. Before,
+// `list` must have the requests in their order, each with its outcome if it was reported already.
 fn note_next<L: BitLink>(ring: &mut Ring<L>, list: &mut [Tracked])
     requires made { cycles_made ring.old < 2 ^ 31 }
     ensures after { AfterCycle L.carry L.restart ring.old ring.new }
@@ -41,7 +30,8 @@ fn note_next<L: BitLink>(ring: &mut Ring<L>, list: &mut [Tracked])
     note(made.events.outcomes.as_slice(), list);
 }
 
-// Makes the first `cycles` cycles, at most 50,000, of a ring, and notes all outcomes that are reported as those of the requests, `list`.
+// Makes the first `cycles` cycles, at most 50,000, of a ring that has made none, and notes all outcomes that are reported in `list`.
+// Before, `list` must have the requests in their order, each without an outcome.
 fn note_cycles<L: BitLink>(ring: &mut Ring<L>, cycles: u32, list: &mut [Tracked])
     requires made { cycles_made ring.old ≡ 0 }
     requires few { cycles ≤ 50000 }
@@ -55,8 +45,9 @@ fn note_cycles<L: BitLink>(ring: &mut Ring<L>, cycles: u32, list: &mut [Tracked]
     }
 }
 
-/// Runs a ring of a valid setup over a link, for its number of cycles, with at most 4,096 requests. Returns the ring, and its requests
-/// with their outcomes. All memory is taken before the first cycle. The error is `AllocError`.
+/// Runs a ring of a valid setup over a link, for its number of cycles, with at most 4,096 requests, each a read of an element from 1 to 7,
+/// a write of one from 2 to 7, or a command. Returns the ring, and its requests with their outcomes. All memory is taken before the first
+/// cycle. The error is `AllocError`.
 #[inline(never)]
 pub fn run_tracked<L: BitLink>(
     alloc: Global,

@@ -1,3 +1,4 @@
+pub mod Clauses
 pub mod Jobs
-pub mod Tracking
 pub mod Texts
+pub mod Tracking

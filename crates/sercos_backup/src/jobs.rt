@@ -1,9 +1,6 @@
 // The requests of a backup, and the check of those of a restore.
-ghost use Rattle.std.specs.Prelude.{◌≡◌, ℕ, ◌+◌, ◌*◌, ◌/◌, ◌<◌, ◌≤◌, true, List, [], ◌∷◌, ◌++◌, length, map, slice_index, IfOk, OnOk, IfSome, MatchResult};
-ghost use Rattle.std.specs.List.{All, sum_by};
-ghost use Rattle.sercos_step.specs.Steps.{IsRequest, AreTypedJobs, IsTypedRequest};
-ghost use Rattle.sercos_block.specs.Rings.{is_ring};
-ghost use Rattle.sercos_backup.specs.Jobs.{list_number, reads_data, list_jobs, numbers_in, listed_jobs, data_jobs, IsFault, writes_data, place_of_other};
+ghost use Rattle.std.specs.Prelude.{◌≡◌, ◌+◌, ◌*◌, ◌/◌, ◌<◌, ◌≤◌, true, ◌++◌, length, map, slice_index, IfOk, OnOk, IfSome, MatchResult};
+ghost use Rattle.sercos_backup.specs.Clauses.{All, IsRequest, AreTypedJobs, IsTypedRequest, is_ring, reads_data, list_jobs, numbers_in, data_jobs, IsFault, writes_data, place_of_other};
 
 use sercos_bits::Bytes;
 use sercos_block::RingSetup;
@@ -29,7 +26,8 @@ pub enum DataJobs {
     Memory,
 }
 
-// Returns the request that reads the operation data of the block with the identifier number `raw` from the drive with an address.
+// Returns the request that reads the operation data of the block with the identifier number `raw` from the drive with an address. Its
+// numbers are in the ranges of their types.
 fn reads_data(address: u8, raw: u16) -> Job
     ensures value { result ≡ reads_data address raw }
     ensures typed { IsTypedRequest result.request }
@@ -43,8 +41,8 @@ fn reads_data(address: u8, raw: u16) -> Job
     }
 }
 
-/// Returns the requests that read the list of backup operation data, S-0-0192, of each drive of a valid setup, in the order of the
-/// ring. The error is `AllocError`.
+/// Returns the requests that read the list of backup operation data, S-0-0192, of each drive of a valid setup, in the order of the ring.
+/// Each names an element that a read may have, 1 to 7. The error is `AllocError`.
 pub fn list_jobs(alloc: Global, setup: &RingSetup) -> Result<Vec<Job>, AllocError>
     requires { is_ring setup.now ≡ true }
     ensures value { IfOk result (λ jobs. jobs.items ≡ list_jobs setup.now) }
@@ -57,7 +55,7 @@ pub fn list_jobs(alloc: Global, setup: &RingSetup) -> Result<Vec<Job>, AllocErro
     Ok(jobs)
 }
 
-// Returns how many blocks are on a list: one for each whole pair of bytes.
+// Returns how many blocks are on a list: one for each whole pair of bytes. An odd last byte is ignored.
 #[tactic(auto, using(crate::proofs::ListLemmas::numbers_count))]
 fn count_on(bytes: &[u8]) -> usize
     ensures value { result ≡ length (numbers_in bytes.now) }
@@ -78,7 +76,8 @@ fn count_all(lists: &[(u8, Bytes)]) -> u32
     count
 }
 
-// Returns the identifier number of the pair of bytes at a place, the low byte first. Places count pairs from 0 on.
+// Returns the identifier number of the pair of bytes at a place, the low byte first. Places count pairs from 0 on; both bytes are in the
+// list.
 fn number_at(bytes: &[u8], place: usize) -> u16
     requires { 2 * place + 1 < length bytes.now }
     ensures { result ≡ slice_index bytes.now (2 * place) + 256 * slice_index bytes.now (2 * place + 1) }
@@ -86,8 +85,9 @@ fn number_at(bytes: &[u8], place: usize) -> u16
     u16::from_le_bytes([bytes[2 * place], bytes[2 * place + 1]])
 }
 
-// Appends the requests that read the operation data of the blocks on a list of the drive with an address. `bytes` is the list, at most
-// 1024 bytes. The error is `AllocError`.
+// Appends the requests that read the operation data of the blocks on a list of the drive with an address. `bytes` is the list, at most 1024
+// bytes. If the numbers of all requests are in the ranges of their types before, they are afterwards. The error is `AllocError`, after
+// which `jobs` is unspecified.
 fn push_listed(address: u8, bytes: &[u8], jobs: &mut Vec<Job>) -> Result<(), AllocError>
     requires { length bytes.now ≤ 1024 }
     ensures pushed { OnOk result (jobs.new.items ≡ jobs.old.items ++ map (reads_data address) (numbers_in bytes.now)) }
@@ -99,8 +99,8 @@ fn push_listed(address: u8, bytes: &[u8], jobs: &mut Vec<Job>) -> Result<(), All
     Ok(())
 }
 
-// Returns the requests that read the operation data of the blocks on some lists, in order. Each list has the address of its drive. The
-// error is `AllocError`.
+// Returns the requests that read the operation data of the blocks on some lists, in order. Each list has the address of its drive. Each
+// request names an element that a read may have, and its numbers are in the ranges of their types. The error is `AllocError`.
 fn all_listed(alloc: Global, lists: &[(u8, Bytes)]) -> Result<Vec<Job>, AllocError>
     ensures value { IfOk result (λ jobs. jobs.items ≡ data_jobs lists.now) }
     ensures requests { IfOk result (λ jobs. All (λ job. IsRequest job.request) jobs.items) }
@@ -113,9 +113,9 @@ fn all_listed(alloc: Global, lists: &[(u8, Bytes)]) -> Result<Vec<Job>, AllocErr
     Ok(jobs)
 }
 
-/// Returns the requests that read the operation data of each block on some lists, at most 64, each with the address of its drive:
-/// one for each whole pair of bytes, the low byte first, in order. The error is `TooMany` iff there are more than 4096 of them, with
-/// their number; otherwise `Memory`.
+/// Returns the requests that read the operation data of each block on some lists, at most 64, each with the address of its drive: one for
+/// each whole pair of bytes, the low byte first, in order. The error is `TooMany` iff there are more than 4096 of them, with their number;
+/// otherwise `Memory`. Each request names an element that a read may have, and its numbers are in the ranges of their types.
 pub fn data_jobs(alloc: Global, lists: &[(u8, Bytes)]) -> Result<Vec<Job>, DataJobs>
     requires { length lists.now ≤ 64 }
     ensures value { MatchResult result

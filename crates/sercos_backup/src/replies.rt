@@ -1,6 +1,6 @@
 // The replies of a backup and of a restore.
-ghost use Rattle.std.specs.Prelude.{◌≡◌, ◌≤◌, ◌<◌, ◌+◌, length, IfOk};
-ghost use Rattle.sercos_backup.specs.Texts.{failed_answer, many_answer, other_answer, saved_answer, saved_lines};
+ghost use Rattle.std.specs.Prelude.{◌≡◌, ◌<◌, ◌+◌, IfOk};
+ghost use Rattle.sercos_backup.specs.Clauses.{failed_answer, many_answer, other_answer, saved_answer, saved_lines};
 
 use crate::texts::{push_all_failed, push_all_saved};
 use crate::tracked::{Tracked, all_well};
@@ -64,8 +64,8 @@ pub fn many_reply(alloc: Global, count: u32) -> Result<Reply, AllocError>
     })
 }
 
-/// Returns the reply to requests of which one, at a place from 0 on, doesn't write operation data: `Refused`, and the line
-/// `refused 8 request N`, where N is its number from 1 on. The error is `AllocError`.
+/// Returns the reply to requests of which one, at a place from 0 to 4095, doesn't write operation data. It is `Refused`, with the line
+/// `refused 8 request N`, where N is the number of the request, from 1 on. The error is `AllocError`.
 pub fn other_reply(alloc: Global, place: usize) -> Result<Reply, AllocError>
     requires { place < 4096 }
     ensures status { IfOk result (λ reply. reply.status ≡ (other_answer place).status) }

@@ -1,15 +1,14 @@
 // The saved data of a block.
 ghost use Rattle.std.specs.Prelude.{◌≡◌, ℕ, ◌<◌, ◌≤◌, length, take, OnOk, OnErr, IsOk};
-ghost use Rattle.std.specs.Io.KnownBytes.{Appends};
-ghost use Rattle.sercos_model.specs.Streams.{HasCause};
-ghost use Rattle.sercos_backup.specs.Texts.{saved_text};
+ghost use Rattle.sercos_backup.specs.Clauses.{Appends, HasCause, saved_text};
 
 use sercos_idn::Idn;
 use sercos_io::{Sink, WriteFailed, write_all};
 use sercos_text::{Given, Line, push_line};
 
 /// Replaces a line by the saved data of a block of the drive with an address, at most 1024 bytes: the five lines of a ring document that
-/// request these bytes to be written. For no bytes the last line is `data = ""`.
+/// request these bytes to be written. `data` has two hexadecimal digits in lower case for each byte; for no bytes the last line is
+/// `data = ""`.
 #[tactic(auto, unfolding(crate::specs::Texts::saved_text))]
 pub(crate) fn put_saved(address: u8, idn: Idn, bytes: &[u8], line: &mut Line)
     requires { length bytes.now ≤ 1024 }
@@ -35,9 +34,10 @@ pub(crate) fn put_saved(address: u8, idn: Idn, bytes: &[u8], line: &mut Line)
     }
 }
 
-/// Writes the saved data of a block of the drive with an address, at most 1024 bytes: the five lines of a ring document that
-/// request these bytes to be written. For no bytes the last line is `data = ""`. After an error the sink has accepted a prefix
-/// of them, short of the whole, and its count of faults has risen. It takes no memory.
+/// Writes the saved data of a block of the drive with an address, at most 1024 bytes: the five lines of a ring document that request these
+/// bytes to be written. `data` has two hexadecimal digits in lower case for each byte; for no bytes the last line is `data = ""`. After an
+/// error the sink has accepted a proper prefix of them, and its count of faults has risen or is 2^64 - 1. Without an error that count is
+/// unchanged. A sink with room for all of them doesn't fail.
 pub fn write_saved<K: Sink>(
     address: u8,
     idn: Idn,

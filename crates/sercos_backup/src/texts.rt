@@ -1,10 +1,6 @@
-// The lines about requests. Each error is `AllocError`.
+// The lines about requests. Each error is `AllocError`; then `out` is unspecified.
 ghost use Rattle.std.specs.Prelude.{◌≡◌, ◌≤◌, ◌/◌, ◌%◌, ◌∷◌, [], ◌++◌, length, OnOk};
-ghost use Rattle.std.specs.Option.{option_copied};
-ghost use Rattle.sercos_text.specs.Templates.{line_text};
-ghost use Rattle.sercos_text.specs.Templates.Value.{number, ident};
-ghost use Rattle.sercos_backup.specs.Tracking.{bytes_told};
-ghost use Rattle.sercos_backup.specs.Texts.{saved_text, saved_line, saved_lines, refused_text, failed_text, failed_line, failed_lines, restored_text, restored_by};
+ghost use Rattle.sercos_backup.specs.Clauses.{option_copied, line_text, number, ident, saved_line, saved_lines, refused_text, failed_text, failed_line, failed_lines, restored_text, restored_by};
 
 use crate::saved::put_saved;
 use crate::tracked::{Tracked, bytes_in, is_well};
@@ -30,7 +26,8 @@ fn big_endian(code: Code) -> [u8; 2]
     code.raw.to_be_bytes()
 }
 
-// Replaces a line by the line of a request that was refused with a code. The request is for a block of the drive with an address.
+// Replaces a line by the line of a request that was refused with a code, for a block of the drive with an address: `failed A IDN refused
+// CODE`, with the address in decimal and the code as `0x` and four hexadecimal digits in lower case.
 #[tactic(auto, unfolding(crate::specs::Texts::failed_text))]
 fn put_refused(address: u8, idn: Idn, code: Code, line: &mut Line)
     ensures { line.new ≡ refused_text address idn.raw code.raw }
@@ -45,8 +42,8 @@ fn put_refused(address: u8, idn: Idn, code: Code, line: &mut Line)
     push_line(b"failed D I refused 0xC\n", &values, line);
 }
 
-// Replaces a line by the line of a request that failed, for a block of the drive with an address: `refused` with the code, `broken`, or
-// `open` without an outcome. The line is empty if the request was complete.
+// Replaces a line by the line of a request that failed, for a block of the drive with an address: that of `put_refused`, `failed A IDN
+// broken`, or without an outcome `failed A IDN open`. The line is empty if the request was complete.
 #[tactic(auto, unfolding(crate::specs::Texts::failed_text))]
 fn put_failed(address: u8, idn: Idn, outcome: Option<&Outcome>, line: &mut Line)
     ensures { line.new ≡ failed_text address idn.raw (option_copied outcome.entry) }
@@ -59,8 +56,8 @@ fn put_failed(address: u8, idn: Idn, outcome: Option<&Outcome>, line: &mut Line)
     }
 }
 
-// Replaces a line by the line of a complete write, with the operation data that the drive has in the block: `content`, at most 1024
-// bytes, or `-` for none.
+// Replaces a line by the line of a complete write, `restored A IDN HEX`, with the operation data that the drive has in the block:
+// `content`, at most 1024 bytes, as two hexadecimal digits in lower case each, or `-` for none.
 fn put_restored(address: u8, idn: Idn, content: &[u8], line: &mut Line)
     requires { length content.now ≤ 1024 }
     ensures { line.new ≡ restored_text address idn.raw content.now }
@@ -74,7 +71,7 @@ fn put_restored(address: u8, idn: Idn, content: &[u8], line: &mut Line)
     push_line(b"restored D I H\n", &values, line);
 }
 
-// Appends the line of a request that failed; nothing if it was complete.
+// Appends the line of a request that failed, as `put_failed` makes it; nothing if it was complete.
 fn push_failed_text(request: &Tracked, out: &mut Vec<u8>) -> Result<(), AllocError>
     ensures { OnOk result (out.new.items ≡ out.old.items ++ failed_text request.now.drive request.now.idn.raw request.now.outcome) }
 {
@@ -138,24 +135,17 @@ pub(crate) fn push_all_saved(list: &[Tracked], out: &mut Vec<u8>) -> Result<(), 
     Ok(())
 }
 
-// Appends the line of a complete write, with the operation data that the drive has in the block, `content`, at most 1024 bytes.
-fn push_complete(request: &Tracked, content: &[u8], out: &mut Vec<u8>) -> Result<(), AllocError>
-    requires { length content.now ≤ 1024 }
-    ensures { OnOk result (out.new.items ≡ out.old.items ++ restored_text request.now.drive request.now.idn.raw content.now) }
-{
-    let mut line = Line::new();
-    put_restored(request.drive, request.idn, content, &mut line);
-    out.extend_from_slice(line.as_slice())
-}
-
 /// Appends the line of a write of a restore. If the write was complete, that is `restored A IDN HEX` with `content`, the operation data
-/// that the drive has in the end, at most 1024 bytes, `-` for none. Otherwise it is the line of a request that failed, as in a backup.
+/// that the drive has in the end, at most 1024 bytes: two hexadecimal digits in lower case for each, or `-` for none. Otherwise it is the
+/// line of a request that failed, as in a backup.
 pub fn push_restored(request: &Tracked, content: &[u8], out: &mut Vec<u8>) -> Result<(), AllocError>
     requires { length content.now ≤ 1024 }
     ensures { OnOk result (out.new.items ≡ out.old.items ++ restored_by content.now request.now) }
 {
-    if is_well(false, request.outcome.as_ref()) {
-        return push_complete(request, content, out);
+    if !is_well(false, request.outcome.as_ref()) {
+        return push_failed_text(request, out);
     }
-    push_failed_text(request, out)
+    let mut line = Line::new();
+    put_restored(request.drive, request.idn, content, &mut line);
+    out.extend_from_slice(line.as_slice())
 }

@@ -1,9 +1,6 @@
 // Requests with their outcomes.
 ghost use Rattle.std.specs.Prelude.{◌≡◌, ℕ, ◌≤◌, List, [], ◌∷◌, ◌++◌, length, Some, None, IfOk};
-ghost use Rattle.std.specs.Option.{option_or, option_copied};
-ghost use Rattle.sercos_step.specs.declared.request.Job.{Job};
-ghost use Rattle.sercos_step.specs.declared.request.Outcome.{Outcome};
-ghost use Rattle.sercos_backup.specs.Tracking.{idn_in, tracked, noted, is_well, are_well, bytes_told, list_told, lists_told, with_outcome};
+ghost use Rattle.sercos_backup.specs.Clauses.{option_or, option_copied, Job, Outcome, idn_in, tracked, noted, is_well, are_well, bytes_told, lists_told, with_outcome};
 
 use sercos_bits::Bytes;
 use sercos_idn::{Code, Idn};
@@ -70,7 +67,7 @@ fn copied(outcome: &Outcome) -> Outcome
     }
 }
 
-// Puts a copy of an outcome into `slot`, if there is none yet.
+// Puts a copy of an outcome into `slot`, if there is none yet; otherwise the slot is unchanged.
 fn put(slot: &mut Option<Outcome>, outcome: &Outcome)
     ensures { slot.new ≡ option_or slot.old (Some outcome.now) }
 {
@@ -86,7 +83,8 @@ fn note_in(request: &mut Tracked, outcome: &Outcome)
     put(&mut request.outcome, outcome);
 }
 
-// Notes an outcome as that of the request with a number, from 1 on, if it has none yet. A number without a request is ignored.
+// Notes an outcome as that of the request with a number, from 1 on, if it has none yet. A number without a request is ignored. The list is
+// that of some jobs with the outcomes noted before.
 fn note_one(number: u16, outcome: &Outcome, list: &mut [Tracked])
     ensures { (told : List (ℕ × Outcome)) (jobs : List Job) → list.old ≡ tracked told jobs → list.new ≡ tracked (told ++ (number, outcome.now) ∷ []) jobs }
 {
@@ -100,8 +98,8 @@ fn note_one(number: u16, outcome: &Outcome, list: &mut [Tracked])
     note_in(&mut list[place], outcome);
 }
 
-/// Notes outcomes, each with the number of its request, from 1 on. Of each request the first outcome counts; a number without a request
-/// is ignored. It takes no memory.
+/// Notes outcomes, each with the number of its request, from 1 on. Of each request the first outcome counts; a number without a request is
+/// ignored. The list is that of some jobs with the outcomes noted before. It takes no memory.
 pub fn note(outcomes: &[(u16, Outcome)], list: &mut [Tracked])
     ensures { (told : List (ℕ × Outcome)) (jobs : List Job) → list.old ≡ tracked told jobs → list.new ≡ tracked (told ++ outcomes.now) jobs }
 {
@@ -111,7 +109,7 @@ pub fn note(outcomes: &[(u16, Outcome)], list: &mut [Tracked])
 }
 
 /// Returns whether a request with this outcome ended well: it was complete, or, if `absent` is true, it was refused because the drive has
-/// no such block.
+/// no such block. Any other outcome, or none, isn't well.
 pub fn is_well(absent: bool, outcome: Option<&Outcome>) -> bool
     ensures { result ≡ is_well absent (option_copied outcome.entry) }
 {
@@ -130,7 +128,7 @@ pub fn all_well(absent: bool, list: &[Tracked]) -> bool
         .all(|request| is_well(absent, request.outcome.as_ref()))
 }
 
-/// Returns the bytes of a complete outcome; no bytes of any other, or of `None`.
+/// Returns the bytes of a complete outcome, at most 1024; no bytes of any other, or of `None`.
 pub(crate) fn bytes_in(outcome: Option<&Outcome>) -> &[u8]
     ensures value { result.now ≡ bytes_told (option_copied outcome.entry) }
     ensures bound { length result.now ≤ 1024 }
@@ -150,8 +148,8 @@ fn bytes_told(outcome: Option<&Outcome>) -> Bytes
     told
 }
 
-/// Returns the bytes of each request's outcome, in order, each with the address of its drive; no bytes for a request that wasn't
-/// complete. The error is `AllocError`.
+/// Returns the bytes of each request's outcome, in order, each with the address of its drive; no bytes for a request that wasn't complete.
+/// The error is `AllocError`.
 pub fn lists_told(alloc: Global, list: &[Tracked]) -> Result<Vec<(u8, Bytes)>, AllocError>
     ensures { IfOk result (λ lists. lists.items ≡ lists_told list.now) }
 {

@@ -1,5 +1,6 @@
-ghost use Rattle.std.specs.Prelude.{◌≡◌, ℕ, ◌+◌, ◌%◌, ◌^◌, ◌<◌, ◌≤◌, ◌↔◌, Bool, true, false, not, List, [], ◌∷◌, ◌++◌, length, take, drop, replicate, IsErr, OnOk, OnErr, slice_index_or, slice_set};
-ghost use Rattle.sercos_model.specs.Bits.{low_bits, number_of};
+// A list of bits of bounded length.
+ghost use Rattle.std.specs.Prelude.{◌≡◌, ◌+◌, ◌%◌, ◌^◌, ◌<◌, ◌≤◌, ◌↔◌, Bool, true, false, not, List, [], ◌∷◌, ◌++◌, length, take, drop, IsErr, OnOk, OnErr, slice_index_or, slice_set};
+ghost use Rattle.sercos_bits.specs.Clauses.{low_bits, number_of};
 
 use crate::byte_list::Full;
 use crate::words::{
@@ -7,21 +8,14 @@ use crate::words::{
 };
 use std::marker::Model;
 
-/// The most bits that a [`BitBuf`] holds, which the longest frame can have: sixteen of its flags, 16400 of its 2050 bytes,
-/// and an inserted zero for each five of those.
+/// The most bits that a [`BitBuf`] holds: those of the longest frame (ISO/IEC 3309). It has 16 bits of flags, 16,400 bits of content and
+/// check sequence (2,050 bytes), and an inserted zero for each five bits of these.
 pub const MAX_BITS: usize = 19696;
 
-// The words of the most bits.
-const WORDS: usize = 308;
+// The number of words of 64 bits that hold [`MAX_BITS`] bits.
+const WORDS: usize = (MAX_BITS + WORD_BITS - 1) / WORD_BITS;
 
-// Words of zeros.
-fn zeros() -> [u64; WORDS]
-    ensures { result ≡ replicate 308 0 }
-{
-    [0; WORDS]
-}
-
-// The lowest bits of a number, `len` of them, with zeros above them.
+// Returns the lowest `len` bits of a number, with zeros above them.
 fn lowest(number: u16, len: usize) -> u16
     ensures value { result ≡ number % 2 ^ len }
     ensures few { result < 2 ^ len }
@@ -36,12 +30,12 @@ fn lowest(number: u16, len: usize) -> u16
 /// A list of at most [`MAX_BITS`] bits, in the order in which they are sent.
 #[derive(Debug, Drop)]
 pub struct BitBuf {
-    // Bit n is bit n % 64 of word n / 64. Those after the last are zeros.
+    // Bit n of the list is bit n % 64 of word n / 64. All bits from `len` on are zeros.
     words: [u64; WORDS],
     len: usize,
 }
 
-// Clauses see the list of the bits.
+// Contracts see the list of the bits.
 impl Model for BitBuf {
     ghost use Rattle.std.specs.Prelude.{List, Bool};
     ghost use Rattle.sercos_bits.specs.Packed.{packed, IsPacked};
@@ -54,17 +48,17 @@ impl Model for BitBuf {
 }
 
 impl BitBuf {
-    /// Returns a list of no bits.
+    /// Returns an empty list.
     pub fn new() -> Self
         ensures { result ≡ [] }
     {
         BitBuf {
-            words: zeros(),
+            words: [0; WORDS],
             len: 0,
         }
     }
 
-    /// Returns how many bits there are.
+    /// Returns the number of bits, at most 19,696.
     pub fn len(&self) -> usize
         ensures value { result ≡ length self.now }
         ensures bound { result ≤ 19696 }
@@ -72,7 +66,7 @@ impl BitBuf {
         self.len
     }
 
-    /// Returns the bit at a place, the first being at 0.
+    /// Returns the bit at an index, counted from 0. The index must be below `len`.
     pub fn get(&self, place: usize) -> bool
         requires { place < length self.now }
         ensures { result ≡ slice_index_or self.now place false }
@@ -80,8 +74,8 @@ impl BitBuf {
         bit_in(&self.words, place)
     }
 
-    /// Returns the byte that eight bits spell, the least significant first. The first of them is at `place`, which need not
-    /// be a multiple of eight.
+    /// Returns the byte spelled by the eight bits from index `place` on, the least significant first. All eight bits must exist. `place`
+    /// need not be a multiple of eight.
     pub fn byte_at(&self, place: usize) -> u8
         requires within { place + 8 ≤ length self.now }
         ensures bits { low_bits 8 result ≡ take 8 (drop place self.now) }
@@ -90,7 +84,7 @@ impl BitBuf {
         byte_at(&self.words, place)
     }
 
-    /// Returns whether another list has the same bits. Takes 64 bits at a time.
+    /// Returns whether another list has the same bits.
     pub fn is_same(&self, other: &BitBuf) -> bool
         ensures { result ≡ true ↔ self.now ≡ other.now }
     {
@@ -98,7 +92,7 @@ impl BitBuf {
             && are_same_words(&self.words, &other.words, self.len.div_ceil(WORD_BITS))
     }
 
-    /// Appends a bit. Returns `Full` if there are [`MAX_BITS`] bits already, which then stay as they are.
+    /// Appends a bit. Returns `Full` and leaves the list unchanged iff it has [`MAX_BITS`] bits already.
     pub fn push(&mut self, bit: bool) -> Result<(), Full>
         ensures full { IsErr result ↔ (length self.old ≡ 19696) }
         ensures ok { OnOk result (self.new ≡ self.old ++ bit ∷ []) }
@@ -107,19 +101,12 @@ impl BitBuf {
         if self.len() == MAX_BITS {
             return Err(Full);
         }
-        self.push_within(bit);
+        self.push_lowest(u16::from(bit), 1);
         Ok(())
     }
 
-    // Appends a bit if there is room for it.
-    fn push_within(&mut self, bit: bool)
-        requires { length self.old < 19696 }
-        ensures { self.new ≡ self.old ++ bit ∷ [] }
-    {
-        self.push_lowest(u16::from(bit), 1);
-    }
-
-    // Appends the lowest `len` bits of a number, the least significant first, if there is room for them.
+    // Appends the lowest `len` bits of a number, the least significant first. Bits from the seventeenth on are zeros. There must be room
+    // for them.
     pub(crate) fn push_lowest(&mut self, number: u16, len: usize)
         requires { length self.old + len ≤ 19696 }
         ensures { self.new ≡ self.old ++ low_bits len number }
@@ -128,7 +115,7 @@ impl BitBuf {
         self.len += len;
     }
 
-    /// Complements the bit at a place.
+    /// Complements the bit at an index, counted from 0. The index must be below `len`.
     pub fn flip(&mut self, place: usize)
         requires { place < length self.old }
         ensures { self.new ≡ slice_set self.old place (not (slice_index_or self.old place false)) }
@@ -146,14 +133,14 @@ impl BitBuf {
         }
     }
 
-    /// Drops all bits.
+    /// Removes all bits.
     pub fn clear(&mut self)
         ensures { self.new ≡ [] }
     {
         self.cut(0);
     }
 
-    /// Makes this list the same as another. Only words in use are written.
+    /// Replaces all bits by those of another list.
     pub fn assign(&mut self, other: &BitBuf)
         ensures { self.new ≡ other.now }
     {

@@ -1,13 +1,13 @@
+// The frame check sequence of ISO/IEC 3309, computed by tables. Bit 0 of a register is the coefficient of x^15. The bits of a byte are
+// taken least significant first.
 ghost use Rattle.std.specs.Prelude.{◌≡◌, ℕ, ◌*◌, ◌≤◌, Bool, false, List, length, drop, replicate, fold};
-ghost use Rattle.sercos_model.specs.Bits.{low_bits, bits_of};
-ghost use Rattle.sercos_model.specs.CheckSequence.{fcs_of, remainder, dividend, sixteen_ones, sixteen_zeros, IsRest};
-ghost use Rattle.sercos_bits.specs.Register.{fed};
+ghost use Rattle.sercos_bits.specs.Clauses.{low_bits, bits_of, fcs_of, remainder, dividend, sixteen_ones, sixteen_zeros, IsRest, fed};
 
-/// The register before the first bit: all ones.
+/// The register before the first bit: all ones (ISO/IEC 3309).
 pub const START: u16 = 0xffff;
 
-/// For each byte, what the register holds after its eight bits, if it was zero before: the remainder by the generator
-/// x^16 + x^12 + x^5 + 1. Bit 0 is the coefficient of x^15.
+/// For each byte, the register after its eight bits, if it was zero before: the remainder by the generator x^16 + x^12 + x^5 + 1. Bit 0 is
+/// the coefficient of x^15.
 const REMAINDERS: [u16; 256] = [
     0x0000, 0x1189, 0x2312, 0x329b, 0x4624, 0x57ad, 0x6536, 0x74bf, 0x8c48, 0x9dc1, 0xaf5a, 0xbed3,
     0xca6c, 0xdbe5, 0xe97e, 0xf8f7, 0x1081, 0x0108, 0x3393, 0x221a, 0x56a5, 0x472c, 0x75b7, 0x643e,
@@ -33,7 +33,7 @@ const REMAINDERS: [u16; 256] = [
     0x3de3, 0x2c6a, 0x1ef1, 0x0f78,
 ];
 
-// For each byte, what the register holds after its eight bits and eight zeros, if it was zero before.
+// For each byte, the register after its eight bits and eight zeros, if it was zero before.
 const LATER: [u16; 256] = [
     0x0000, 0x19d8, 0x33b0, 0x2a68, 0x6760, 0x7eb8, 0x54d0, 0x4d08, 0xcec0, 0xd718, 0xfd70, 0xe4a8,
     0xa9a0, 0xb078, 0x9a10, 0x83c8, 0x9591, 0x8c49, 0xa621, 0xbff9, 0xf2f1, 0xeb29, 0xc141, 0xd899,
@@ -59,7 +59,7 @@ const LATER: [u16; 256] = [
     0xd5a8, 0xcc70, 0xe618, 0xffc0,
 ];
 
-// For each byte, what the register holds after its eight bits and sixteen zeros, if it was zero before.
+// For each byte, the register after its eight bits and 16 zeros, if it was zero before.
 const LATER_BY_TWO: [u16; 256] = [
     0x0000, 0x5adc, 0xb5b8, 0xef64, 0x6361, 0x39bd, 0xd6d9, 0x8c05, 0xc6c2, 0x9c1e, 0x737a, 0x29a6,
     0xa5a3, 0xff7f, 0x101b, 0x4ac7, 0x8595, 0xdf49, 0x302d, 0x6af1, 0xe6f4, 0xbc28, 0x534c, 0x0990,
@@ -85,7 +85,7 @@ const LATER_BY_TWO: [u16; 256] = [
     0x2997, 0x734b, 0x9c2f, 0xc6f3,
 ];
 
-// For each byte, what the register holds after its eight bits and 24 zeros, if it was zero before.
+// For each byte, the register after its eight bits and 24 zeros, if it was zero before.
 const LATER_BY_THREE: [u16; 256] = [
     0x0000, 0x1cbb, 0x3976, 0x25cd, 0x72ec, 0x6e57, 0x4b9a, 0x5721, 0xe5d8, 0xf963, 0xdcae, 0xc015,
     0x9734, 0x8b8f, 0xae42, 0xb2f9, 0xc3a1, 0xdf1a, 0xfad7, 0xe66c, 0xb14d, 0xadf6, 0x883b, 0x9480,
@@ -111,14 +111,14 @@ const LATER_BY_THREE: [u16; 256] = [
     0xe01f, 0xfca4, 0xd969, 0xc5d2,
 ];
 
-/// What the register holds after the eight bits of a byte, if it was zero before.
+/// Returns the register after the eight bits of a byte, if it was zero before.
 fn remainder_of(byte: u8) -> u16
     ensures { low_bits 16 result ≡ fold fed sixteen_zeros (low_bits 8 byte) }
 {
     REMAINDERS[usize::from(byte)]
 }
 
-/// Returns the register after the eight bits of a byte, the least significant first.
+/// Returns the register after eight more bits, those of a byte.
 pub fn with_byte(register: u16, byte: u8) -> u16
     ensures { low_bits 16 result ≡ fold fed (low_bits 16 register) (low_bits 8 byte) }
 {
@@ -126,14 +126,14 @@ pub fn with_byte(register: u16, byte: u8) -> u16
     (register >> 8) ^ remainder_of(low ^ byte)
 }
 
-// What the register holds after the eight bits of a byte and eight zeros, if it was zero before.
+// Returns the register after the eight bits of a byte and eight zeros, if it was zero before.
 fn later_of(byte: u8) -> u16
     ensures { low_bits 16 result ≡ fold fed (fold fed sixteen_zeros (low_bits 8 byte)) (replicate 8 false) }
 {
     LATER[usize::from(byte)]
 }
 
-/// Returns the register after the bits of two bytes. The tables are looked up beside each other, and not one after the other.
+/// Returns the register after the bits of two more bytes.
 pub fn with_two(register: u16, first: u8, second: u8) -> u16
     ensures { low_bits 16 result ≡ fold fed (fold fed (low_bits 16 register) (low_bits 8 first)) (low_bits 8 second) }
 {
@@ -142,21 +142,8 @@ pub fn with_two(register: u16, first: u8, second: u8) -> u16
     remainder_of(high ^ second) ^ later_of(low ^ first)
 }
 
-// What the register holds after the eight bits of a byte and sixteen zeros, if it was zero before.
-fn later_by_two(byte: u8) -> u16
-    ensures { low_bits 16 result ≡ fold fed (fold fed sixteen_zeros (low_bits 8 byte)) (replicate 16 false) }
-{
-    LATER_BY_TWO[usize::from(byte)]
-}
-
-// What the register holds after the eight bits of a byte and 24 zeros, if it was zero before.
-fn later_by_three(byte: u8) -> u16
-    ensures { low_bits 16 result ≡ fold fed (fold fed sixteen_zeros (low_bits 8 byte)) (replicate 24 false) }
-{
-    LATER_BY_THREE[usize::from(byte)]
-}
-
-// The register after the bits of four bytes, in the same way.
+// Returns the register after the bits of four more bytes. The four look-ups don't depend on one another, which makes this faster than four
+// calls of `with_byte`.
 fn with_four(register: u16, first: u8, second: u8, third: u8, fourth: u8) -> u16
     ensures { low_bits 16 result
         ≡ fold fed (fold fed (fold fed (fold fed (low_bits 16 register) (low_bits 8 first)) (low_bits 8 second)) (low_bits 8 third)) (low_bits 8 fourth) }
@@ -164,11 +151,12 @@ fn with_four(register: u16, first: u8, second: u8, third: u8, fourth: u8) -> u16
     let low = (register % 256) as u8;
     let high = (register / 256) as u8;
     let last = remainder_of(fourth) ^ later_of(third);
-    let front = later_by_two(high ^ second) ^ later_by_three(low ^ first);
+    let front = LATER_BY_TWO[usize::from(high ^ second)] ^ LATER_BY_THREE[usize::from(low ^ first)];
     last ^ front
 }
 
-// The register after the first bytes, four times `count` of them.
+// Returns the register after the first `4 * count` bytes, from [`START`] on. There are at least this many bytes. The clause states it by
+// the bytes that follow: they lead on to the register after all bytes.
 fn with_fours(bytes: &[u8], count: usize) -> u16
     requires { 4 * count ≤ length bytes.now }
     ensures { fold fed (low_bits 16 result) (bits_of (drop (4 * count) bytes.now)) ≡ fold fed sixteen_ones (bits_of bytes.now) }
@@ -186,7 +174,7 @@ fn with_fours(bytes: &[u8], count: usize) -> u16
     register
 }
 
-// The register after the bytes from a place on.
+// Returns the register after the bytes from index `from` on, which is at most the number of bytes.
 fn with_rest(register: u16, bytes: &[u8], from: usize) -> u16
     requires { from ≤ length bytes.now }
     ensures { low_bits 16 result ≡ fold fed (low_bits 16 register) (bits_of (drop from bytes.now)) }
@@ -198,8 +186,10 @@ fn with_rest(register: u16, bytes: &[u8], from: usize) -> u16
     rest
 }
 
-/// Returns the frame check sequence of ISO/IEC 3309: the complement of the remainder by the generator x^16 + x^12 + x^5 + 1, the bits taken
-/// least significant first and the first sixteen complemented. A frame carries its low byte first.
+/// Returns the frame check sequence of bytes (ISO/IEC 3309): the complement of the remainder of a division by the generator, x^16 + x^12 +
+/// x^5 + 1. What is divided are the bits of the bytes, the least significant of each byte first, and sixteen zeros after them; the first
+/// sixteen of all these bits are complemented. The coefficient of x^15 is bit 0 of the result. A frame carries the low byte of the result
+/// first.
 pub fn fcs(bytes: &[u8]) -> u16
     ensures { result ≡ fcs_of bytes.now }
 {
@@ -208,7 +198,10 @@ pub fn fcs(bytes: &[u8]) -> u16
     !with_rest(register, bytes, 4 * fours)
 }
 
-/// What the long division by the generator leaves is a rest of that division, and the only one.
+/// States two facts about the long division by the generator:
+/// - What it leaves of the bits that [`fcs`] divides is a remainder: sixteen coefficients which, added to a multiple of the generator, are
+///   these bits.
+/// - A list of bits has no other remainder than the one that the long division leaves.
 pub fn division_law()
     ensures is_rest { (bytes : List ℕ) → IsRest (dividend bytes) (remainder (dividend bytes)) }
     ensures only { (p : List Bool) (rest : List Bool) → IsRest p rest → rest ≡ remainder p }

@@ -8,7 +8,7 @@ mod register;
 mod spelling;
 mod words;
 
-pub use bit_buf::BitBuf;
+pub use bit_buf::{BitBuf, MAX_BITS};
 pub use byte_list::{ByteList, Bytes, Content, Full, MAX_CONTENT, Text, byte_at};
 pub use check_sequence::{division_law, fcs};
 pub use register::Register;

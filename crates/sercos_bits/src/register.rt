@@ -1,18 +1,17 @@
+// The check sequence's register, for callers that pass the bytes one by one.
 ghost use Rattle.std.specs.Prelude.{◌≡◌, ℕ, List, fold};
-ghost use Rattle.sercos_model.specs.Bits.{low_bits, bits_of};
-ghost use Rattle.sercos_model.specs.CheckSequence.{fcs_of, sixteen_ones};
-ghost use Rattle.sercos_bits.specs.Register.{fed};
+ghost use Rattle.sercos_bits.specs.Clauses.{low_bits, bits_of, fcs_of, sixteen_ones, fed};
 
 use crate::check_sequence::{START, with_byte, with_two};
 use std::marker::Model;
 
-/// The register in which a frame check sequence is computed, for a caller that goes over the bytes itself.
+/// The register in which a frame check sequence (ISO/IEC 3309) is computed, for a caller that passes the bytes itself.
 #[derive(Debug, Drop)]
 pub struct Register {
     register: u16,
 }
 
-// Clauses see the sixteen coefficients, that of x^15 first.
+// Contracts see the sixteen coefficients, that of x^15 first.
 impl Model for Register {
     ghost use Rattle.std.specs.Prelude.{List, Bool};
     ghost use Rattle.sercos_model.specs.Bits.{low_bits};
@@ -37,15 +36,14 @@ impl Register {
         self.register = with_byte(self.register, byte);
     }
 
-    /// Takes the next two bytes, in hardly more time than one.
+    /// Takes the next two bytes, each with its least significant bit first.
     pub fn take_two(&mut self, first: u8, second: u8)
         ensures { self.new ≡ fold fed (fold fed self.old (low_bits 8 first)) (low_bits 8 second) }
     {
         self.register = with_two(self.register, first, second);
     }
 
-    /// Returns the frame check sequence of the bytes that the register has taken: that of
-    /// [`fcs`](crate::fcs).
+    /// Returns the frame check sequence of the bytes taken since `new`, as [`fcs`](crate::fcs) does for all of them.
     pub fn fcs(&self) -> u16
         ensures { (bytes : List ℕ) → self.now ≡ fold fed sixteen_ones (bits_of bytes) → result ≡ fcs_of bytes }
     {

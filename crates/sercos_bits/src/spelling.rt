@@ -1,24 +1,24 @@
-ghost use Rattle.std.specs.Prelude.{◌≡◌, ℕ, ◌+◌, ◌*◌, ◌^◌, ◌<◌, ◌≤◌, ◌↔◌, Bool, List, [], ◌∷◌, ◌++◌, length, IsErr, OnOk, OnErr, IfOk, IfErr, Some, None};
-ghost use Rattle.sercos_model.specs.Bits.{low_bits, bits_of, bytes_of, number_of, AreBytes};
-ghost use Rattle.sercos_bits.specs.Spelling.{bad_bits_of};
+// Numbers and bytes as bits, and bits as bytes.
+ghost use Rattle.std.specs.Prelude.{◌≡◌, ◌+◌, ◌*◌, ◌<◌, ◌≤◌, ◌↔◌, ◌++◌, length, IsErr, OnOk, OnErr, IfOk, IfErr, Some, None};
+ghost use Rattle.sercos_bits.specs.Clauses.{low_bits, bits_of, bytes_of, AreBytes, bad_bits_of};
 
 use crate::bit_buf::{BitBuf, MAX_BITS};
 use crate::byte_list::{Content, Full, MAX_CONTENT};
 
-// The bits of a byte.
+// The number of bits of a byte.
 const BYTE_BITS: usize = 8;
 
-/// Why bits spell no content.
+/// Why bits are not a frame's content.
 #[derive(Clone, Copy, Debug, PartialEq, Eq)]
 pub enum BadBits {
-    /// Their number is not a multiple of eight: how many bits follow the last whole byte, 1 to 7.
+    /// The number of bits is not a multiple of eight. The value is the number of bits after the last whole byte, 1 to 7.
     Ragged(usize),
-    /// They spell more than 2048 bytes.
+    /// There are more than 2048 bytes.
     Long,
 }
 
-/// Appends the lowest `len` bits of a number, the least significant first, if there is room for them. Bits from the
-/// seventeenth on are zeros.
+/// Appends the lowest `len` bits of a number, the least significant first. Bits from the seventeenth on are zeros. There must be room for
+/// them.
 pub fn push_number(number: u16, len: usize, out: &mut BitBuf)
     requires { length out.old + len ≤ 19696 }
     ensures bits { out.new ≡ out.old ++ low_bits len number }
@@ -27,8 +27,8 @@ pub fn push_number(number: u16, len: usize, out: &mut BitBuf)
     out.push_lowest(number, len);
 }
 
-/// Appends the bits of bytes, the least significant of each byte first. Returns `Full` iff there is no room for them;
-/// then nothing is appended.
+/// Appends the bits of bytes, the least significant of each byte first. Returns `Full` iff there is no room for all of them. Then nothing
+/// is appended.
 pub fn bits_of(bytes: &[u8], out: &mut BitBuf) -> Result<(), Full>
     ensures full { IsErr result ↔ (19696 < length out.old + 8 * length bytes.now) }
     ensures ok { OnOk result (out.new ≡ out.old ++ bits_of bytes.now) }
@@ -44,9 +44,9 @@ pub fn bits_of(bytes: &[u8], out: &mut BitBuf) -> Result<(), Full>
     Ok(())
 }
 
-/// Replaces the content by the bytes that the bits spell, eight bits each, and returns their number. An error leaves the
-/// content as it was: `Ragged` if the number of bits is not a multiple of eight, otherwise `Long` if there are more than
-/// 2048 bytes.
+/// Replaces the content by the bytes that the bits spell, eight bits each, the least significant first. Returns the number of bytes. The
+/// error is `Ragged` if the number of bits is not a multiple of eight, otherwise `Long` if there are more than 2048 bytes. After an error
+/// the content is unchanged.
 pub fn bytes_of(bits: &BitBuf, out: &mut Content) -> Result<usize, BadBits>
     ensures ok { OnOk result (out.new ≡ bytes_of bits.now) }
     ensures count { IfOk result (λ count. count ≡ length out.new) }

@@ -1,12 +1,11 @@
-// Bits in words of 64 bits, the least significant bit of each word first.
+// Bits in words of 64 bits, the least significant bit of each word first. Indices count from 0 over all words.
 ghost use Rattle.std.specs.Prelude.{◌≡◌, ◌≢◌, ℕ, ◌+◌, ◌*◌, ◌/◌, ◌%◌, ◌^◌, ◌<◌, ◌≤◌, true, false, not, length};
-ghost use Rattle.sercos_model.specs.Bits.{is_odd};
-ghost use Rattle.sercos_bits.specs.Packed.{bit_in};
+ghost use Rattle.sercos_bits.specs.Clauses.{is_odd, bit_in};
 
-/// The bits of a word.
+/// The number of bits of a word.
 pub const WORD_BITS: usize = 64;
 
-/// Returns the bit at a place.
+/// Returns the bit at an index, which is within the words.
 pub fn bit_in(words: &[u64], place: usize) -> bool
     requires { place < 64 * length words.now }
     ensures { result ≡ bit_in words.now place }
@@ -14,7 +13,7 @@ pub fn bit_in(words: &[u64], place: usize) -> bool
     (words[place / WORD_BITS] >> (place % WORD_BITS)) % 2 == 1
 }
 
-/// Complements the bit at a place.
+/// Complements the bit at an index, which is within the words. All others are unchanged.
 pub fn flip_in(words: &mut [u64], place: usize)
     requires { place < 64 * length words.old }
     ensures there { bit_in words.new place ≡ not (bit_in words.old place) }
@@ -23,7 +22,8 @@ pub fn flip_in(words: &mut [u64], place: usize)
     words[place / WORD_BITS] ^= 1 << (place % WORD_BITS);
 }
 
-/// Clears the bits from a place on. Those from `end` on are zeros already, and their words aren't written.
+/// Clears all bits from index `place` on, and leaves those before it. Those from `end` on must be zeros already, so their words aren't
+/// written. `end` is at most the number of bits in the words.
 pub fn clear_from(words: &mut [u64], place: usize, end: usize)
     requires within { end ≤ 64 * length words.old }
     requires zeros { (i : ℕ) → end ≤ i → bit_in words.old i ≡ false }
@@ -40,7 +40,8 @@ pub fn clear_from(words: &mut [u64], place: usize, end: usize)
     }
 }
 
-// Sets the ones of a mask in a word.
+// Sets the bits of one word that are zeros, and ones in the mask. Bits that are zeros in the mask and those of all other words are
+// unchanged.
 fn set_ones(words: &mut [u64], word: usize, mask: u64)
     requires { word < length words.old }
     ensures there { (i : ℕ) → i / 64 ≡ word → bit_in words.old i ≡ false → bit_in words.new i ≡ is_odd (mask / 2 ^ (i % 64)) }
@@ -50,8 +51,9 @@ fn set_ones(words: &mut [u64], word: usize, mask: u64)
     words[word] |= mask;
 }
 
-/// Writes the lowest bits of a number, `len` of them, the least significant first, from a place on, where all bits are
-/// zeros. The number has no further bits.
+/// Writes the lowest `len` bits of a number from index `place` on, the least significant first. The number must be below 2^`len`. The index
+/// and all `len` bits must be within the words, and all bits from `place` on must be zeros. Those before `place` are unchanged, and those
+/// after the `len` bits remain zeros.
 pub fn put_number(words: &mut [u64], place: usize, number: u16, len: usize)
     requires begun { place < 64 * length words.old }
     requires within { place + len ≤ 64 * length words.old }
@@ -65,12 +67,12 @@ pub fn put_number(words: &mut [u64], place: usize, number: u16, len: usize)
     let shift = place % WORD_BITS;
     set_ones(words, word, bits << shift);
     if len > WORD_BITS - shift {
-        // Two shifts, since a shift by 64 does not exist.
+        // There are two shifts because one by 64 bits is not allowed.
         set_ones(words, word + 1, bits >> 1 >> (WORD_BITS - 1 - shift));
     }
 }
 
-/// Returns the byte whose bits are the eight from a place on.
+/// Returns the byte spelled by the eight bits from index `place` on, the least significant first. All eight are within the words.
 pub fn byte_at(words: &[u64], place: usize) -> u8
     requires { place + 8 ≤ 64 * length words.now }
     ensures { (i : ℕ) → i < 8 → is_odd (result / 2 ^ i) ≡ bit_in words.now (place + i) }
@@ -85,7 +87,7 @@ pub fn byte_at(words: &[u64], place: usize) -> u8
     ((low | high) % 256) as u8
 }
 
-/// Copies the first words of others, `count` of them.
+/// Replaces the first `count` words by those of `others`. Both lists have at least this many. The words after them are unchanged.
 pub fn copy_words(words: &mut [u64], others: &[u64], count: usize)
     requires within { count ≤ length words.old }
     requires of_others { count ≤ length others.now }
@@ -95,7 +97,7 @@ pub fn copy_words(words: &mut [u64], others: &[u64], count: usize)
     words[..count].copy_from_slice(&others[..count]);
 }
 
-/// Returns whether the first words are the same as those of others, `count` of them.
+/// Returns whether the first `count` words are the same as those of `others`. Both lists have at least this many.
 pub fn are_same_words(words: &[u64], others: &[u64], count: usize) -> bool
     requires within { count ≤ length words.now }
     requires of_others { count ≤ length others.now }

@@ -9,7 +9,8 @@ use Rattle.sercos_block.specs.declared.built_in.Opening.{Opening}
 use Rattle.sercos_block.specs.declared.built_in.Opening.TheVariants.{Zero, CycleTime, T1min, Tatmt, T4min, Tatat, Tmtsy, Tmtsg, Empty}
 use Rattle.sercos_block.specs.Views.{DriveView}
 
--- a row of the table: the identifier number, the word of the attribute, whether the block is fixed, and its operation data at opening
+-- a row of the table: the identifier number, the word of the attribute, whether the block is fixed,
+-- and its operation data at opening
 abbrev pub row : ℕ → ℕ → Bool → Opening → BuiltIn
 row raw word fixed opening = record { idn = record { raw = raw }; attribute = word; fixed = fixed; opening = opening }
 
@@ -54,12 +55,12 @@ opening_value d Tmtsg = to_le_bytes w16 d.times.tmtsg
 opening_value d (Empty most) = []
 opening_value d _ = 0 ∷ 0 ∷ []
 
--- the most bytes of a list
+-- the most bytes of a list; 0 if the operation data is not a list
 abbrev pub opening_max_len : Opening → ℕ
 opening_max_len (Empty most) = most
 opening_max_len _ = 0
 
--- the cycle time has the limits that the drive declares
+-- a limit of the block: only the cycle time has the limits that the drive declares
 abbrev pub opening_limit : Opening → ℕ → Option ℕ
 opening_limit CycleTime limit = Some limit
 opening_limit _ limit = None

@@ -1,10 +1,11 @@
-pub mod Limits
-pub mod Views
 pub mod Blocks
 pub mod BuiltIns
-pub mod Rules
-pub mod Stores
+pub mod Clauses
+pub mod Limits
 pub mod Regions
 pub mod Rings
-pub mod ValidRings
+pub mod Rules
 pub mod Startup
+pub mod Stores
+pub mod ValidRings
+pub mod Views

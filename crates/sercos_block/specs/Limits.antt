@@ -5,10 +5,11 @@ use Rattle.std.specs.Prelude.{ℕ}
 abbrev pub most_blocks : ℕ
 most_blocks = 36
 
--- the most cycles that a drive is busy with a step of the service channel, or that a procedure command runs
+-- the most cycles for which a drive is busy with a step of the service channel
 abbrev pub most_busy : ℕ
 most_busy = 20
 
+-- the most cycles for which a procedure command runs
 abbrev pub most_command : ℕ
 most_command = 200
 
@@ -20,12 +21,14 @@ most_carried = 16
 abbrev pub most_cycles : ℕ
 most_cycles = 50000
 
--- the most bytes of a name, of a unit and of a list
+-- the most bytes of a name
 abbrev pub most_name : ℕ
 most_name = 60
 
+-- the most bytes of a unit
 abbrev pub most_unit : ℕ
 most_unit = 12
 
+-- the most bytes of a list
 abbrev pub most_data : ℕ
 most_data = 1024

@@ -1,4 +1,4 @@
--- The region of bytes in which a store has the elements of its blocks, and the index of it.
+-- The region of bytes that holds the elements of a store's blocks, and its index.
 use Rattle.std.specs.Prelude.{◌≡◌, ℕ, ◌+◌, ◌≤◌, if◌then◌else◌, List, [], ◌∷◌, length, map, take, drop, Option, Some, None, option_map, unwrap_or, IfSome}
 use Rattle.std.specs.List.{sum_by}
 use Rattle.std.specs.Int.{w32, to_le_bytes}
@@ -16,6 +16,7 @@ use Rattle.sercos_block.specs.Stores.{IsStore}
 abbrev pub part_of : List ℕ → Part → List ℕ
 part_of region p = take p.len (drop p.place region)
 
+-- the bits of a minimum or a maximum
 abbrev pub limit_bits : Limit → ℕ
 limit_bits l = l.bits
 
@@ -35,48 +36,51 @@ block_of region e = record {
   fails = e.fails;
 }
 
+-- the blocks of entries
 abbrev pub blocks_of : List ℕ → List Entry → List Block
 blocks_of region entries = map (block_of region) entries
 
--- the bytes of an attribute, and those of a limit, which may be absent
+-- the four bytes of an attribute
 abbrev pub word_bytes : Attribute → List ℕ
 word_bytes a = to_le_bytes w32 (attribute_word a)
 
+-- the bytes of a minimum or a maximum; no bytes if it is absent
 abbrev pub limit_bytes : Attribute → Option ℕ → List ℕ
 limit_bytes a None = []
 limit_bytes a (Some bits) = bytes_for a bits
 
--- the part with bytes that begin at a place
+-- the part of these bytes if they begin at an index
 abbrev pub part_at : ℕ → List ℕ → Part
 part_at place bytes = record { place = place; len = length bytes }
 
+-- a minimum or a maximum whose bytes begin at an index
 abbrev pub limit_at : Attribute → ℕ → ℕ → Limit
 limit_at a place bits = record { bits = bits; bytes = part_at place (bytes_for a bits) }
 
--- the most bytes of the operation data
+-- the most bytes of the operation data of an entry
 abbrev pub most_value : Entry → ℕ
 most_value e = if is_list e.attribute.length then e.max_len else item_len e.attribute.length
 
--- the place after the bytes of a block, the last of which are those of its operation data
+-- the index after the bytes of a block, the last of which are those of its operation data
 abbrev pub end_of : Entry → ℕ
 end_of e = e.value.place + most_value e
 
--- how many bytes of the region a block has: those of its attribute, limits, name and unit, and room for its longest
--- operation data
+-- the number of bytes of the region that a block takes: those of its attribute, limits, name and
+-- unit, and of its longest operation data
 abbrev pub room_of : Block → ℕ
 room_of b =
     4 + length (limit_bytes b.attribute b.min) + length (limit_bytes b.attribute b.max)
     + length (unwrap_or b.name []) + length (unwrap_or b.unit [])
     + (if is_list b.attribute.length then b.max_len else item_len b.attribute.length)
 
--- a part of at most 1024 bytes between two places
+-- the part is between two indices, and has at most 1024 bytes
 pub record IsBetween (low high : ℕ) (p : Part) : Type 0 where
   pub from : low ≤ p.place
   pub to : p.place + p.len ≤ high
   pub few : p.len ≤ 1024
 
--- the bytes of a block begin at a place or after it, and its operation data, which may be short of its most bytes, is the
--- last of them
+-- All bytes of the block are at or after index `low`. Its operation data is after its other bytes,
+-- with at most its most bytes.
 pub record IsLaid (low : ℕ) (e : Entry) : Type 0 where
   pub word : IsBetween low e.value.place e.word
   pub name : IfSome e.name (IsBetween low e.value.place)
@@ -87,17 +91,18 @@ pub record IsLaid (low : ℕ) (e : Entry) : Type 0 where
   pub value : e.value.len ≤ most_value e
   pub few : most_value e ≤ 1024
 
--- the bytes of the blocks lie one after another between two places
+-- the bytes of the blocks are between two indices, one block after the other
 unfoldable pub AreLaid : ℕ → ℕ → List Entry → Type 0
 AreLaid low high [] = low ≤ high
 AreLaid low high (e ∷ entries) = IsLaid low e × AreLaid (end_of e) high entries
 
--- the numbers of a block are in the region as bytes too
+-- the attribute and the limits of an entry are in the region as bytes too
 pub record HasNumbers (region : List ℕ) (e : Entry) : Type 0 where
   pub word : part_of region e.word ≡ word_bytes e.attribute
   pub min : IfSome e.min (λ l. part_of region l.bytes ≡ bytes_for e.attribute l.bits)
   pub max : IfSome e.max (λ l. part_of region l.bytes ≡ bytes_for e.attribute l.bits)
 
+-- the same for all entries
 unfoldable pub HaveNumbers : List ℕ → List Entry → Type 0
 HaveNumbers region [] = Unit {0}
 HaveNumbers region (e ∷ entries) = HasNumbers region e × HaveNumbers region entries
@@ -108,19 +113,20 @@ pub record IsWithin (region : List ℕ) (e : Entry) : Type 0 where
   pub end : end_of e ≤ length region
   pub numbers : HasNumbers region e
 
+-- the region and the index of a store
 pub record IsRegion (region : List ℕ) (entries : List Entry) : Type 0 where
   pub store : IsStore (blocks_of region entries)
   pub laid : AreLaid 0 (length region) entries
   pub numbers : HaveNumbers region entries
 
--- the region and the index of blocks; the region has no byte more than they may need
+-- the region and the index of these blocks; the region has no more bytes than they may need
 pub record HasPacked (blocks : List Block) (region : List ℕ) (entries : List Entry) : Type 0 where
   pub len : length region ≡ sum_by room_of blocks
   pub same : blocks_of region entries ≡ blocks
   pub laid : AreLaid 0 (length region) entries
   pub numbers : HaveNumbers region entries
 
--- one more block, whose bytes come after all others
+-- the region after a block was appended: its bytes come after all others
 pub record HasAppended (b : Block) (before after : List ℕ) (e : Entry) : Type 0 where
   pub kept : take (length before) after ≡ before
   pub len : length after ≡ length before + room_of b

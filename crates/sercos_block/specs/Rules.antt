@@ -1,4 +1,4 @@
--- The rules that a drive's own data blocks keep, and the first that is broken.
+-- The rules for a drive's own data blocks, and the first that is broken.
 use Rattle.std.specs.Prelude.{ℕ, ◌%◌, ◌==◌, nat_lt, nat_le, Bool, true, not, ◌&&◌, ◌||◌, if◌then◌else◌, List, [], ◌∷◌, ◌++◌, length, Option, Some, None, is_none, option_map}
 use Rattle.std.specs.Bool.{then_some}
 use Rattle.std.specs.List.{list_all, list_any}
@@ -17,37 +17,40 @@ use Rattle.sercos_block.specs.BuiltIns.{is_built_in}
 abbrev pub has_block : ℕ → List Block → Bool
 has_block raw blocks = list_any (λ b. b.idn.raw == raw) blocks
 
--- the printable bytes of ASCII
+-- whether the byte is printable ASCII
 abbrev pub is_printable : ℕ → Bool
 is_printable byte = nat_le 0x20 byte && nat_le byte 0x7e
 
--- a name or a unit, if present, has 1 byte to the given number, all printable
+-- whether a name or a unit is absent, or has 1 to `most` bytes, all printable
 abbrev pub is_text : ℕ → Option (List ℕ) → Bool
 is_text most None = true
 is_text most (Some text) = nat_le 1 (length text) && (nat_le (length text) most && list_all is_printable text)
 
--- a minimum or a maximum, if present, is that of a number, and has the number's bits
+-- whether a minimum or a maximum is absent, or is that of a number and has no more bits than the
+-- number
 abbrev pub is_limit : Attribute → Option ℕ → Bool
 is_limit a None = true
 is_limit a (Some bits) = is_number a && nat_lt bits (number_end a.length)
 
--- the most bytes of a list are at least 1, at most the limit, and whole items; a block without a list has none
+-- whether the most bytes are valid: for a list at least 1, at most the limit, and whole items;
+-- otherwise 0
 abbrev pub is_max_len : Attribute → ℕ → Bool
 is_max_len a most = if is_list a.length then nat_le 1 most && (nat_le most most_data && (most % item_len a.length == 0)) else most == 0
 
--- The operation data of a list has at most its most bytes, in whole items; that of a number has the number's bytes; that
--- of a procedure command is 0.
+-- Whether the operation data is valid. A list has at most its most bytes, in whole items. A number
+-- has as many bytes as its length requires. A procedure command is 0.
 abbrev pub is_value : Block → Bool
 is_value b =
     if is_list b.attribute.length then nat_le (length b.value) b.max_len && (length b.value % item_len b.attribute.length == 0)
     else (length b.value == item_len b.attribute.length) && (not b.attribute.command || list_all (λ byte. byte == 0) b.value)
 
--- only a number without limits has a step
+-- whether the step is valid: only a number without limits has one
 abbrev pub is_step : Block → Bool
 is_step b = (b.step == 0) || (is_number b.attribute && (is_none b.min && is_none b.max))
 
--- The first rule that a block breaks if these blocks precede it: its identifier number is its own and not built in; then
--- the rules on name, unit, minimum, maximum, most bytes, operation data and step; and only a procedure command fails.
+-- The first rule that a block breaks if the blocks `before` precede it. The identifier number is
+-- new and not built in. Then the rules for name, unit, minimum, maximum, most bytes, operation data
+-- and step follow. Only a procedure command may fail.
 unfoldable pub block_fault : List Block → Block → Option Field
 block_fault before b =
     option_or (then_some (is_built_in b.idn.raw || has_block b.idn.raw before) Idn)
@@ -60,7 +63,8 @@ block_fault before b =
     (option_or (then_some (not (is_step b)) Step)
     (then_some (b.fails && not b.attribute.command) Fails))))))))
 
--- the first rule broken by the first block that breaks one, with the blocks before it
+-- the first block that breaks a rule, and the first rule that it breaks, if the blocks `before`
+-- precede them
 unfoldable pub blocks_fault : List Block → List Block → Option BadBlock
 blocks_fault before [] = None
 blocks_fault before (b ∷ blocks) =

@@ -1,4 +1,4 @@
--- Properties of every ring that keeps the rules.
+-- Properties of every valid ring.
 use Rattle.std.specs.Prelude.{◌≤◌, length, map}
 use Rattle.std.specs.List.{All}
 use Rattle.sercos_timing.specs.Limits.{most_drives, most_t1min, most_tatmt, most_t4min, most_tatat, most_tmtsy, most_tmtsg}
@@ -7,7 +7,7 @@ use Rattle.sercos_timing.specs.declared.wishes.Times.{Times}
 use Rattle.sercos_block.specs.Views.{RingView}
 use Rattle.sercos_block.specs.Rings.{wishes_of}
 
--- a drive declares no time above the greatest that this profile has for it, in microseconds
+-- the times that a drive declares are at most the limits of this profile, in microseconds
 pub record AreWithinLimits (t : Times) : Type 0 where
   pub t1min : t.t1min ≤ most_t1min
   pub tatmt : t.tatmt ≤ most_tatmt
@@ -16,8 +16,8 @@ pub record AreWithinLimits (t : Times) : Type 0 where
   pub tmtsy : t.tmtsy ≤ most_tmtsy
   pub tmtsg : t.tmtsg ≤ most_tmtsg
 
--- at least one drive, and not too many, with addresses of their own, which declare times within their limits; an order that
--- lists each drive once; and numbers of this profile
+-- at least one drive and not too many, with distinct addresses, which declare times within their
+-- limits; an order that lists each drive once; and numbers of this profile
 pub record IsRing (r : RingView) : Type 0 where
   pub some : 1 ≤ length r.drives
   pub few : length r.drives ≤ most_drives

@@ -1,9 +1,10 @@
--- What a drive and a ring are made of, as plain data, their vectors as lists.
+-- The setups of a drive and a ring as plain data, with lists for their vectors.
 use Rattle.std.specs.Prelude.{ℕ, List}
 use Rattle.sercos_idn.specs.declared.idn.Idn.{Idn}
 use Rattle.sercos_timing.specs.declared.wishes.Times.{Times}
 use Rattle.sercos_block.specs.declared.block.Block.{Block}
 
+-- the setup of a drive
 pub record DriveView : Type 0 where
   pub address : ℕ
   pub slave : ℕ
@@ -16,7 +17,7 @@ pub record DriveView : Type 0 where
   pub mdt : List Idn
   pub blocks : List Block
 
--- `order` has places in `drives`
+-- the setup of a ring; `order` has indices into `drives`
 pub record RingView : Type 0 where
   pub rate : ℕ
   pub cycle : ℕ

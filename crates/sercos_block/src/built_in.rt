@@ -1,8 +1,6 @@
 // The data blocks that every drive has.
 ghost use Rattle.std.specs.Prelude.{◌≡◌, None};
-ghost use Rattle.std.specs.Int.{w16, to_le_bytes};
-ghost use Rattle.sercos_idn.specs.Codes.{attribute_fault};
-ghost use Rattle.sercos_block.specs.BuiltIns.{is_built_in, opening_value, opening_max_len, opening_limit, built_in_block};
+ghost use Rattle.sercos_block.specs.Clauses.{w16, to_le_bytes, attribute_fault, is_built_in, opening_value, opening_max_len, opening_limit, built_in_block};
 
 use crate::block::Block;
 use crate::numbers::{
@@ -13,26 +11,26 @@ use crate::numbers::{
 use crate::setup::DriveSetup;
 use sercos_bits::Text;
 use sercos_idn::{Attribute, Idn};
-/// What the operation data of a built-in block is at opening.
+/// The operation data of a built-in block when the drive's store is opened.
 #[derive(Clone, Copy, Debug, PartialEq, Eq)]
 pub enum Opening {
     /// The number 0.
     Zero,
-    /// The number 0, with the shortest and the longest cycle time that the drive takes as its limits.
+    /// The number 0. The block's limits are the shortest and the longest cycle time of the drive, in microseconds.
     CycleTime,
-    /// The time that the drive declares, in microseconds.
+    /// The shortest AT starting time that the drive declares, in microseconds.
     T1min,
-    /// The time that the drive declares, in microseconds.
+    /// The transmit/receive transition time that the drive declares, in microseconds.
     Tatmt,
-    /// The time that the drive declares, in microseconds.
+    /// The minimum feedback processing time that the drive declares, in microseconds.
     T4min,
-    /// The time that the drive declares, in microseconds.
+    /// The transmit to transmit recovery time that the drive declares, in microseconds.
     Tatat,
-    /// The time that the drive declares, in microseconds.
+    /// The receive to receive recovery time that the drive declares, in microseconds.
     Tmtsy,
-    /// The time that the drive declares, in microseconds.
+    /// The command processing time that the drive declares, in microseconds.
     Tmtsg,
-    /// The empty list of at most `max_len` bytes.
+    /// An empty list. The value is the most bytes of the list.
     Empty(u16),
 }
 
@@ -41,32 +39,33 @@ pub enum Opening {
 pub struct BuiltIn {
     /// The identifier number.
     pub idn: Idn,
-    /// The word of the attribute.
+    /// The attribute, as the 32 bits of element 3.
     pub attribute: u32,
-    /// Whether the operation data can never be written.
+    /// Whether the master can never write the operation data.
     pub fixed: bool,
-    /// The operation data at opening.
+    /// The operation data when the store is opened.
     pub opening: Opening,
 }
 
-// A number that the master writes in phase 2, protected in the phases 3 and 4.
+// The attribute of a number that the master writes in phase 2, write protected in the phases 3 and 4.
 const WRITTEN: u32 = 0x6011_0001;
 
-// A number that the drive declares, always protected.
+// The attribute of a number that the drive declares, write protected in all phases.
 const DECLARED: u32 = 0x7011_0001;
 
-// A list of identifier numbers that the master writes in phase 2.
+// The attribute of a list of identifier numbers that the master writes in phase 2.
 const WRITTEN_LIST: u32 = 0x6055_0001;
 
-// A list of identifier numbers that the drive itself writes.
+// The attribute of a list of identifier numbers that the drive itself writes.
 const GIVEN_LIST: u32 = 0x7055_0001;
 
-// A procedure command for phase 2 alone, and one for phase 3 alone.
+// The attribute of a procedure command that is written in phase 2 alone.
 const FOR_PHASE_2: u32 = 0x6009_0001;
 
+// The attribute of a procedure command that is written in phase 3 alone.
 const FOR_PHASE_3: u32 = 0x5009_0001;
 
-/// The built-in blocks, ascending by identifier number.
+/// The blocks that every drive of this profile has, ascending by identifier number. The numbers are those of IEC 61491:1995.
 pub const BUILT_IN: [BuiltIn; 21] = [
     BuiltIn {
         idn: CONTROL_CYCLE_TIME,
@@ -196,7 +195,7 @@ pub const BUILT_IN: [BuiltIn; 21] = [
     },
 ];
 
-// The bytes of a number.
+// Returns the two bytes of a number, the low byte first.
 fn number_text(number: u16) -> Text
     ensures { result ≡ to_le_bytes w16 number }
 {
@@ -205,7 +204,8 @@ fn number_text(number: u16) -> Text
     text
 }
 
-// The operation data at opening.
+// Returns the operation data of a built-in block when the store is opened: an empty list, a time that the drive declares, or the number 0.
+// A number has two bytes, the low byte first.
 fn opening_value(setup: &DriveSetup, opening: Opening) -> Text
     ensures { result ≡ opening_value setup.now opening }
 {
@@ -221,7 +221,7 @@ fn opening_value(setup: &DriveSetup, opening: Opening) -> Text
     }
 }
 
-// The most bytes of the list.
+// Returns the most bytes of the list of a built-in block with this opening; 0 if its operation data is not a list.
 fn opening_max_len(opening: Opening) -> u16
     ensures { result ≡ opening_max_len opening }
 {
@@ -231,7 +231,7 @@ fn opening_max_len(opening: Opening) -> u16
     }
 }
 
-// A limit of the cycle time, where the block has it.
+// Returns `limit` as a minimum or a maximum if the opening is that of the cycle time; otherwise `None`.
 fn opening_limit(opening: Opening, limit: u16) -> Option<u32>
     ensures { result ≡ opening_limit opening limit }
 {
@@ -241,7 +241,8 @@ fn opening_limit(opening: Opening, limit: u16) -> Option<u32>
     }
 }
 
-// The built-in block of a row of the table.
+// Returns the built-in block of a row of the table. The row's attribute is a valid one. The block has no name, no unit and no step, and
+// never fails. Only that of the cycle time has a minimum and a maximum: those that the drive accepts.
 pub(crate) fn built_in_block(setup: &DriveSetup, row: &BuiltIn) -> Block
     requires { attribute_fault row.now.attribute ≡ None }
     ensures { result ≡ built_in_block setup.now row.now }
@@ -264,7 +265,7 @@ pub(crate) fn built_in_block(setup: &DriveSetup, row: &BuiltIn) -> Block
     }
 }
 
-/// Returns whether every drive has a block with this identifier number.
+/// Returns whether one of the 21 blocks that every drive has (this profile) has this identifier number.
 pub fn is_built_in(idn: Idn) -> bool
     ensures { result ≡ is_built_in idn.raw }
 {

@@ -1,6 +1,6 @@
-// What the telegrams of a drive carry, and how long they are.
+// The lengths of a drive's telegrams: what each identifier number adds.
 ghost use Rattle.std.specs.Prelude.{◌≡◌, ◌≤◌, length, IfSome};
-ghost use Rattle.sercos_block.specs.Rings.{attribute_in, row_in, built_in_attribute, own_attribute, block_attribute, number_len, cyclic_len, value_len, listed_len, at_len, record_len, mdt_len, are_cyclic};
+ghost use Rattle.sercos_block.specs.Clauses.{attribute_in, row_in, built_in_attribute, own_attribute, block_attribute, number_len, cyclic_len, value_len, listed_len, at_len, record_len, mdt_len, are_cyclic};
 
 use crate::block::Block;
 use crate::built_in::{BUILT_IN, BuiltIn};
@@ -8,7 +8,7 @@ use crate::setup::DriveSetup;
 use crate::value::is_number;
 use sercos_idn::{Attribute, Idn};
 
-/// Returns the attribute that a word is, if it is one's.
+/// Returns the attribute that the 32 bits of element 3 spell; `None` if they are no attribute.
 #[tactic(auto, unfolding(crate::specs::Rings::attribute_in))]
 pub fn attribute_in(word: u32) -> Option<Attribute>
     ensures { result ≡ attribute_in word }
@@ -19,7 +19,7 @@ pub fn attribute_in(word: u32) -> Option<Attribute>
     }
 }
 
-// The first of these rows of the table of built-in blocks with an identifier number.
+// Returns the first of these rows with the identifier number. `None` if there is none.
 #[tactic(auto, unfolding(crate::specs::Rings::row_in))]
 fn row_in(rows: &[BuiltIn], idn: Idn) -> Option<BuiltIn>
     ensures { result ≡ row_in rows.now idn.raw }
@@ -32,7 +32,7 @@ fn row_in(rows: &[BuiltIn], idn: Idn) -> Option<BuiltIn>
     None
 }
 
-// The attribute of a built-in block.
+// Returns the attribute of the built-in block with the identifier number. `None` if there is none.
 fn built_in_attribute(idn: Idn) -> Option<Attribute>
     ensures { result ≡ built_in_attribute idn.raw }
 {
@@ -42,7 +42,7 @@ fn built_in_attribute(idn: Idn) -> Option<Attribute>
     }
 }
 
-// The attribute of one of these blocks.
+// Returns the attribute of the first of these blocks with the identifier number. `None` if there is none.
 #[tactic(auto, unfolding(crate::specs::Rings::own_attribute))]
 fn own_attribute(blocks: &[Block], idn: Idn) -> Option<Attribute>
     ensures { result ≡ own_attribute blocks.now idn.raw }
@@ -53,7 +53,8 @@ fn own_attribute(blocks: &[Block], idn: Idn) -> Option<Attribute>
     }
 }
 
-/// Returns the attribute of the data block with an identifier number: a built-in one, or one of these.
+/// Returns the attribute of a drive's block with the identifier number: a built-in block, otherwise one of the drive's own `blocks`. `None`
+/// if there is no such block.
 #[tactic(auto, unfolding(crate::specs::Rings::block_attribute))]
 pub fn block_attribute(blocks: &[Block], idn: Idn) -> Option<Attribute>
     ensures { result ≡ block_attribute blocks.now idn.raw }
@@ -64,8 +65,8 @@ pub fn block_attribute(blocks: &[Block], idn: Idn) -> Option<Attribute>
     }
 }
 
-/// Returns how many bytes a block's operation data adds to a telegram: two or four for a number, `None` for a list or a
-/// procedure command, which no telegram carries.
+/// Returns the number of bytes that a block's operation data adds to a telegram: two or four for a number, `None` for a list or a procedure
+/// command, which no telegram carries.
 pub fn number_len(attribute: Attribute) -> Option<usize>
     ensures value { result ≡ number_len attribute }
     ensures bound { IfSome result (λ len. len ≤ 4) }
@@ -77,8 +78,8 @@ pub fn number_len(attribute: Attribute) -> Option<usize>
     }
 }
 
-/// Returns how many bytes an identifier number adds to a telegram of a drive with these data blocks beside the built-in
-/// ones: two or four if its block has a number. A telegram carries nothing else.
+/// Returns the number of bytes that an identifier number adds to a telegram: two or four if its block, built-in or one of `blocks`, is a
+/// number. `None` otherwise: a telegram carries nothing else.
 #[tactic(auto, unfolding(crate::specs::Rings::cyclic_len))]
 pub fn cyclic_len(blocks: &[Block], idn: Idn) -> Option<usize>
     ensures value { result ≡ cyclic_len blocks.now idn.raw }
@@ -90,7 +91,8 @@ pub fn cyclic_len(blocks: &[Block], idn: Idn) -> Option<usize>
     }
 }
 
-// Returns how many bytes the number adds to a telegram; 0 if no telegram can carry it.
+// Returns the number of bytes that an identifier number adds to a telegram of a drive with these own blocks: at most 4, and 0 if no
+// telegram can carry it.
 fn value_len(blocks: &[Block], idn: Idn) -> u16
     ensures value { result ≡ value_len blocks.now idn.raw }
     ensures bound { result ≤ 4 }
@@ -101,7 +103,8 @@ fn value_len(blocks: &[Block], idn: Idn) -> u16
     }
 }
 
-// The bytes of two words and of the values of a list.
+// Returns the number of bytes of two words and of the values of a list of at most 16 identifier numbers: 4 to 68. An identifier number that
+// no telegram can carry adds nothing.
 #[tactic(auto, unfolding(crate::specs::Rings::listed_len))]
 fn listed_len(blocks: &[Block], idns: &[Idn]) -> u16
     requires { length idns.now ≤ 16 }
@@ -115,7 +118,7 @@ fn listed_len(blocks: &[Block], idns: &[Idn]) -> u16
     len
 }
 
-// Returns whether a telegram can carry every entry of a list.
+// Returns whether a telegram of a drive with these own blocks can carry every identifier number of a list.
 #[tactic(auto, unfolding(crate::specs::Rings::are_cyclic))]
 pub(crate) fn are_cyclic(blocks: &[Block], idns: &[Idn]) -> bool
     ensures { result ≡ are_cyclic blocks.now idns.now }
@@ -123,7 +126,8 @@ pub(crate) fn are_cyclic(blocks: &[Block], idns: &[Idn]) -> bool
     idns.iter().all(|idn| cyclic_len(blocks, *idn).is_some())
 }
 
-/// Returns how many bytes the MDT of the drives has after its address.
+/// Returns the number of bytes of the MDT after its address: the sum of the lengths of the data records. There are at most 64 drives, and
+/// the result is at most 4,352.
 #[tactic(auto, unfolding(crate::specs::Rings::mdt_len))]
 pub fn mdt_len(drives: &[DriveSetup]) -> u32
     requires { length drives.now ≤ 64 }
@@ -138,8 +142,8 @@ pub fn mdt_len(drives: &[DriveSetup]) -> u32
 }
 
 impl DriveSetup {
-    // Returns how many bytes the drive's AT has after its address: the status word, the information word and the configured
-    // feedback values.
+    // Returns the number of bytes of the drive's AT after its address: the status word, the information word and the configured feedback
+    // values. There are 4 to 68.
     pub(crate) fn at_len(&self) -> u16
         ensures value { result ≡ at_len self.now }
         ensures bounds { (4 ≤ result) × (result ≤ 68) }
@@ -147,8 +151,8 @@ impl DriveSetup {
         listed_len(self.blocks.as_slice(), self.at.as_slice())
     }
 
-    // Returns how many bytes the drive's data record in the MDT has: the control word, the information word and the configured
-    // command values.
+    // Returns the number of bytes of the drive's data record in the MDT: the control word, the information word and the configured command
+    // values. There are 4 to 68.
     pub(crate) fn record_len(&self) -> u16
         ensures value { result ≡ record_len self.now }
         ensures bounds { (4 ≤ result) × (result ≤ 68) }

@@ -1,8 +1,6 @@
-// The rules that a drive's own data blocks keep.
+// The rules for a drive's own data blocks.
 ghost use Rattle.std.specs.Prelude.{◌≡◌, ◌≤◌, ◌==◌, true, [], length, Some};
-ghost use Rattle.std.specs.Result.{result_err};
-ghost use Rattle.std.specs.List.{list_all};
-ghost use Rattle.sercos_block.specs.Rules.{has_block, is_printable, is_text, is_limit, is_max_len, is_value, is_step, block_fault, blocks_fault};
+ghost use Rattle.sercos_block.specs.Clauses.{result_err, list_all, has_block, is_printable, is_text, is_limit, is_max_len, is_value, is_step, block_fault, blocks_fault};
 
 use crate::block::Block;
 use crate::built_in::is_built_in;
@@ -12,36 +10,36 @@ use crate::value::{is_number, number_end};
 use sercos_bits::Text;
 use sercos_idn::{Attribute, Idn};
 
-/// Which part of a data block breaks a rule.
+/// The part of a data block that breaks a rule of this profile.
 #[derive(Clone, Copy, Debug, PartialEq, Eq)]
 pub enum Field {
     /// A built-in block, or an earlier one of the drive, has the identifier number.
     Idn,
-    /// The name has not 1 to 60 bytes, or one that isn't printable.
+    /// The name is not 1 to 60 bytes of printable ASCII.
     Name,
-    /// The unit has not 1 to 12 bytes, or one that isn't printable.
+    /// The unit is not 1 to 12 bytes of printable ASCII.
     Unit,
-    /// There is a minimum and the operation data isn't a number, or the minimum has more bits than the number.
+    /// There is a minimum, but the operation data isn't a number; or the minimum has more bits than the number.
     Min,
-    /// The same of the maximum.
+    /// There is a maximum, but the operation data isn't a number; or the maximum has more bits than the number.
     Max,
-    /// The most bytes of a list are not 1 to 1024, or not whole items; or they are not 0 and there is no list.
+    /// The most bytes of a list are not 1 to 1024, or not whole items; or they are not 0 although the operation data isn't a list.
     MaxLen,
-    /// The operation data of a list is longer than the most bytes, or not whole items; other operation data has another
-    /// length than its attribute requires; or that of a procedure command is not 0.
+    /// The operation data of a list has more than its most bytes, or not whole items; other operation data hasn't the length that the
+    /// attribute requires; or that of a procedure command is not 0.
     Value,
-    /// There is a step and the operation data isn't a number, or it has a minimum or a maximum.
+    /// There is a step, but the operation data isn't a number, or it has a minimum or a maximum.
     Step,
-    /// The block is to fail and is not a procedure command.
+    /// The block is to fail, but it is not a procedure command.
     Fails,
 }
 
-/// A data block that a drive can't have.
+/// The first data block of a setup that breaks a rule.
 #[derive(Clone, Copy, Debug, PartialEq, Eq)]
 pub struct BadBlock {
-    /// The place of the block in the setup, from 0 on.
+    /// The index of the block in the setup, from 0.
     pub index: usize,
-    /// The part that breaks a rule.
+    /// The part that breaks the rule.
     pub field: Field,
 }
 
@@ -52,14 +50,14 @@ pub fn has_block(idn: Idn, blocks: &[Block]) -> bool
     blocks.iter().any(|block| block.idn == idn)
 }
 
-// Returns whether all bytes can be printed.
+// Returns whether all bytes are printable ASCII, 0x20 to 0x7e.
 fn are_printable(bytes: &[u8]) -> bool
     ensures { result ≡ list_all is_printable bytes.now }
 {
     bytes.iter().all(|byte| 0x20 <= *byte && *byte <= 0x7e)
 }
 
-/// Returns whether a text can be a name or a unit: it has 1 to `most` bytes, all of them printable ASCII (this profile).
+/// Returns whether a text can be a name or a unit: 1 to `most` bytes of printable ASCII (this profile).
 pub fn is_text(most: usize, text: &[u8]) -> bool
     ensures value { result ≡ is_text most (Some text.now) }
     ensures short { result ≡ true → length text.now ≤ most }
@@ -70,7 +68,7 @@ pub fn is_text(most: usize, text: &[u8]) -> bool
     some && few && plain
 }
 
-// Returns whether a name or a unit, which may be absent, is valid.
+// Returns whether a name or a unit is absent, or has 1 to `most` bytes of printable ASCII.
 fn is_text_or_none(most: usize, text: &Option<Text>) -> bool
     ensures { result ≡ is_text most text.now }
 {
@@ -80,7 +78,7 @@ fn is_text_or_none(most: usize, text: &Option<Text>) -> bool
     }
 }
 
-// Returns whether a minimum or a maximum, which may be absent, is valid.
+// Returns whether a minimum or a maximum is absent, or the operation data is a number and the limit has no more bits than the number.
 fn is_limit(attribute: &Attribute, limit: Option<u32>) -> bool
     ensures { result ≡ is_limit attribute.now limit }
 {
@@ -90,7 +88,7 @@ fn is_limit(attribute: &Attribute, limit: Option<u32>) -> bool
     }
 }
 
-// Returns whether the most bytes are valid for the list, or 0 without a list.
+// Returns whether `most` is valid as the most bytes: of a list 1 to 1024 in whole items, otherwise 0.
 fn is_max_len(attribute: &Attribute, most: u16) -> bool
     ensures { result ≡ is_max_len attribute.now most }
 {
@@ -101,14 +99,8 @@ fn is_max_len(attribute: &Attribute, most: u16) -> bool
     }
 }
 
-// Returns whether all bytes are 0.
-fn are_zero(bytes: &[u8]) -> bool
-    ensures { result ≡ list_all (λ byte. byte == 0) bytes.now }
-{
-    bytes.iter().all(|byte| *byte == 0)
-}
-
-// Returns whether the operation data of a block is valid: its number of bytes, and zeros alone in a procedure command.
+// Returns whether the operation data of a block is valid. A list has at most its most bytes, and only whole items. Other operation data has
+// as many bytes as the attribute requires, and that of a procedure command has only zeros.
 fn is_value(block: &Block) -> bool
     ensures { result ≡ is_value block.now }
 {
@@ -117,18 +109,18 @@ fn is_value(block: &Block) -> bool
     if block.attribute.length.is_list() {
         value.len() <= usize::from(block.max_len) && value.len() % item == 0
     } else {
-        value.len() == item && (!block.attribute.command || are_zero(value))
+        value.len() == item && (!block.attribute.command || value.iter().all(|byte| *byte == 0))
     }
 }
 
-// Returns whether the step of a block is valid: 0 is no step, and only a number without limits may have one.
+// Returns whether the step of a block is valid: it is 0, or the operation data is a number without a minimum and a maximum.
 fn is_step(block: &Block) -> bool
     ensures { result ≡ is_step block.now }
 {
     block.step == 0 || is_number(&block.attribute) && block.min.is_none() && block.max.is_none()
 }
 
-// Returns the first rule that a block breaks if these blocks precede it.
+// Returns the first rule that a block breaks if the blocks `before` precede it, in the order of [`Field`]; `None` if it breaks none.
 #[tactic(auto, unfolding(crate::specs::Rules::block_fault))]
 fn block_fault(before: &[Block], block: &Block) -> Option<Field>
     ensures { result ≡ block_fault before.now block.now }
@@ -163,8 +155,8 @@ fn block_fault(before: &[Block], block: &Block) -> Option<Field>
     None
 }
 
-/// Returns `Ok` if a drive can have these data blocks beside the built-in ones; otherwise the first block that breaks a
-/// rule, and the first rule that it breaks, in the order of [`Field`]. The number of blocks isn't checked.
+/// Tests that a drive can have its own data blocks beside the built-in ones (this profile). The error is the first block that breaks a
+/// rule, and the first rule that it breaks, in the order of [`Field`]. The number of blocks isn't tested.
 #[tactic(auto, unfolding(crate::specs::Rules::blocks_fault))]
 pub fn check_blocks(setup: &DriveSetup) -> Result<(), BadBlock>
     ensures { result_err result ≡ blocks_fault [] setup.now.blocks }

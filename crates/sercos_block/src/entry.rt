@@ -1,23 +1,23 @@
-// An entry of a store's index.
+// An entry of the index of a store.
 ghost use Rattle.std.specs.Prelude.{◌≡◌};
 
 use sercos_idn::{Attribute, Idn};
 
-// Where bytes are in a region: the place of the first, and how many there are.
+// A part of the region: the index of its first byte, and its number of bytes.
 #[derive(Clone, Copy)]
 pub(crate) struct Part {
     pub place: u16,
     pub len: u16,
 }
 
-// The bits of a minimum or a maximum, and where its bytes are.
+// A minimum or a maximum: its bits, and the part with its bytes.
 #[derive(Clone, Copy)]
 pub(crate) struct Limit {
     pub bits: u32,
     pub bytes: Part,
 }
 
-// A data block with the places of its bytes: those of the attribute, the name, the unit, the limits and the operation data.
+// A data block whose bytes are in the region. `word` has those of the attribute, `value` those of the operation data.
 #[derive(Clone, Copy)]
 pub(crate) struct Entry {
     pub idn: Idn,
@@ -35,7 +35,7 @@ pub(crate) struct Entry {
 }
 
 impl Entry {
-    // Returns how many bytes the operation data has.
+    // Sets the number of bytes of the operation data. All else is unchanged.
     pub(crate) fn set_len(&mut self, len: u16)
         ensures { self.new ≡ record self.old { value = record self.old.value { len = len } } }
     {

@@ -1,20 +1,11 @@
-// Laws in the words of the subject: which blocks a store has, and in which order; and the properties of every ring that keeps the
-// rules.
+// Laws on stores and rings: which blocks a store has and in which order, and what holds for every valid ring.
 ghost use Rattle.std.specs.Prelude.{◌≡◌, ℕ, ◌^◌, ◌<◌, ◌≤◌, ◌++◌, List, [], length, Some, None, true};
-ghost use Rattle.std.specs.List.{list_all};
-ghost use Rattle.std.specs.List.Sorted.{IsPermutation};
-ghost use Rattle.sercos_model.specs.Bits.{AreBytes};
-ghost use Rattle.sercos_block.specs.declared.block.Block.{Block};
-ghost use Rattle.sercos_block.specs.BuiltIns.{built_in};
-ghost use Rattle.sercos_block.specs.Rules.{blocks_fault};
-ghost use Rattle.sercos_block.specs.Stores.{find_block, store_of, is_typed, IsStore};
-ghost use Rattle.sercos_block.specs.Rings.{is_ring};
-ghost use Rattle.sercos_block.specs.ValidRings.{IsRing};
-ghost use Rattle.sercos_block.specs.Views.{DriveView, RingView};
+ghost use Rattle.sercos_block.specs.Clauses.{list_all, IsPermutation, AreBytes, Block, built_in, blocks_fault, find_block, store_of, is_typed, IsStore, is_ring, IsRing, DriveView, RingView};
 
-/// The store of a drive at its opening has its built-in blocks and its own, each once. Where its own keep the rules, they
-/// ascend by identifier number, so that no two have the same; and each is sound, and its numbers are those of their types. So
-/// in every store conversion factors are words, and operation data are bytes.
+/// States that the store of a drive at its opening has the drive's built-in blocks and its own, each once. If its own are at most 36, keep
+/// the rules and are typed, and its shortest and its longest cycle time are below 2^16 microseconds, the store keeps the invariant
+/// `IsStore`: it has at most 57 blocks, they ascend by identifier number, so that no two have the same, and each is sound and typed. In
+/// every such store conversion factors are words, and operation data are bytes. The function does nothing.
 pub fn store_law()
     ensures blocks { (d : DriveView) → IsPermutation (built_in d ++ d.blocks) (store_of d) }
     ensures store { (d : DriveView) → blocks_fault [] d.blocks ≡ None → length d.blocks ≤ 36 → list_all is_typed d.blocks ≡ true →
@@ -23,8 +14,9 @@ pub fn store_law()
         (b.attribute.factor < 2 ^ 16) × AreBytes b.value }
 {}
 
-/// A ring that keeps the rules has 1 to 64 drives with addresses of their own, which declare times within their limits, an order
-/// that lists each of them once, and numbers of this profile.
+/// States that a valid ring has 1 to 64 drives with distinct addresses, which are addresses of drives and declare times within their
+/// limits. Its order lists each drive once. Its rate, cycle time, control unit cycle time and gap are those that the planner accepts. The
+/// function does nothing.
 pub fn ring_law()
     ensures { (r : RingView) → is_ring r ≡ true → IsRing r }
 {}

@@ -1,4 +1,4 @@
-//! The data blocks of a drive: what a setup declares, what every drive has, and the store that holds them.
+//! The data blocks of a drive (IEC 61491:1995): those that a setup declares, those that every drive has, and the store that holds them.
 #![tactic(auto)]
 
 mod block;

@@ -1,5 +1,4 @@
-//! The identifier numbers of the data blocks that every drive has, after IEC 61491:1995, with short titles of this
-//! profile's own.
+//! The identifier numbers of the data blocks that every drive has (IEC 61491:1995). The short titles are this profile's own.
 use sercos_idn::Idn;
 
 /// S-0-0001: control unit cycle time.

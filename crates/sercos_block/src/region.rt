@@ -1,10 +1,11 @@
-// The region of bytes in which a store has the elements of its blocks.
+// The region of bytes that holds the elements of a store's blocks. If a function returns an error, its region is unspecified afterwards.
+//
+// A block is sound (`is_sound`) if it keeps the rules of `check_blocks` for all but its identifier number, except that a list may end
+// within an item, and a procedure command may be set. The lists S-0-0021 and S-0-0022 have at most 128 bytes then, S-0-0016 and S-0-0024 at
+// most 32. The blocks of a store keep the invariant `IsStore`: they are at most 57, ascend by identifier number, and are sound, and their
+// numbers are in the ranges of their types.
 ghost use Rattle.std.specs.Prelude.{◌≡◌, ◌+◌, ◌-◌, ◌≤◌, ◌<◌, ◌++◌, [], true, length, option_map, unwrap_or, replicate, if◌then◌else◌, IfOk, OnOk};
-ghost use Rattle.std.specs.List.{splice, sum_by};
-ghost use Rattle.sercos_idn.specs.Codes.{is_list, item_len};
-ghost use Rattle.sercos_block.specs.Rules.{is_limit};
-ghost use Rattle.sercos_block.specs.Stores.{is_sound, IsStore};
-ghost use Rattle.sercos_block.specs.Regions.{part_at, limit_at, word_bytes, limit_bytes, room_of, HasPacked, HasAppended};
+ghost use Rattle.sercos_block.specs.Clauses.{splice, sum_by, is_list, item_len, is_limit, is_sound, IsStore, part_at, limit_at, word_bytes, limit_bytes, room_of, HasPacked, HasAppended};
 
 use crate::block::Block;
 use crate::entry::{Entry, Limit, Part};
@@ -13,7 +14,7 @@ use sercos_bits::Text;
 use sercos_idn::{Attribute, Length};
 use std::alloc::{AllocError, Global};
 
-// Writes bytes over those of a region from a place on.
+// Overwrites the bytes of a region from index `place` on. They end within the region. All its other bytes are unchanged.
 pub(crate) fn put_bytes(region: &mut Vec<u8>, place: usize, bytes: &[u8])
     requires { place + length bytes.now ≤ length region.old.items }
     ensures { region.new.items ≡ splice region.old.items place (place + length bytes.now) bytes.now }
@@ -21,7 +22,8 @@ pub(crate) fn put_bytes(region: &mut Vec<u8>, place: usize, bytes: &[u8])
     region.as_mut_slice()[place..place + bytes.len()].copy_from_slice(bytes);
 }
 
-// Appends bytes to a region, and returns where they are.
+// Appends at most 1024 bytes to a region, and returns the part that they are. The region has fewer than 65,536 bytes then. The error is
+// `AllocError`.
 fn append(region: &mut Vec<u8>, bytes: &[u8]) -> Result<Part, AllocError>
     requires room { length region.old.items + length bytes.now < 65536 }
     requires few { length bytes.now ≤ 1024 }
@@ -36,7 +38,7 @@ fn append(region: &mut Vec<u8>, bytes: &[u8]) -> Result<Part, AllocError>
     })
 }
 
-// Appends zeros to a region up to a length.
+// Appends zeros to a region until it has `len` bytes. Before, it has at most as many. The error is `AllocError`.
 fn fill(region: &mut Vec<u8>, len: usize) -> Result<(), AllocError>
     requires { length region.old.items ≤ len }
     ensures { OnOk result (region.new.items ≡ region.old.items ++ replicate (len - length region.old.items) 0) }
@@ -45,7 +47,8 @@ fn fill(region: &mut Vec<u8>, len: usize) -> Result<(), AllocError>
     Ok(())
 }
 
-// Appends a name or a unit, of which there may be none.
+// Appends the bytes of a name or a unit, if present, and returns the part that they are; `None` if absent. The region has fewer than 65,536
+// bytes then. The error is `AllocError`.
 fn append_text(region: &mut Vec<u8>, text: &Option<Text>) -> Result<Option<Part>, AllocError>
     requires room { length region.old.items + length (unwrap_or text.now []) < 65536 }
     ensures bytes { OnOk result (region.new.items ≡ region.old.items ++ unwrap_or text.now []) }
@@ -57,7 +60,8 @@ fn append_text(region: &mut Vec<u8>, text: &Option<Text>) -> Result<Option<Part>
     }
 }
 
-// Appends the bytes of an attribute.
+// Appends the four bytes of an attribute, the low byte first, to a region of at most 65,000 bytes, and returns the part that they are. The
+// error is `AllocError`.
 fn append_word(region: &mut Vec<u8>, attribute: Attribute) -> Result<Part, AllocError>
     requires room { length region.old.items ≤ 65000 }
     ensures bytes { OnOk result (region.new.items ≡ region.old.items ++ word_bytes attribute) }
@@ -67,7 +71,8 @@ fn append_word(region: &mut Vec<u8>, attribute: Attribute) -> Result<Part, Alloc
     append(region, &bytes)
 }
 
-// Appends the bytes of a limit, of which there may be none.
+// Appends the bytes of a minimum or maximum, if present, to a region of at most 64,500 bytes. If it is present, the attribute must be that
+// of a number with at least as many bits. Returns the limit with the part that they are; `None` if absent. The error is `AllocError`.
 #[tactic(auto, using(crate::proofs::SoundLemmas::limit_below_end, crate::proofs::SoundLemmas::limit_of_number))]
 fn append_limit(
     region: &mut Vec<u8>,
@@ -89,7 +94,7 @@ fn append_limit(
     }
 }
 
-// The most bytes of the operation data of a block.
+// Returns the most bytes that the operation data of a sound block can have. They are at most 1024, and no fewer than it has.
 #[tactic(auto, using(crate::proofs::SoundLemmas::most_few, crate::proofs::SoundLemmas::list_fits, crate::proofs::SoundLemmas::item_fits))]
 fn most_value(block: &Block) -> usize
     requires { is_sound block.now ≡ true }
@@ -104,7 +109,8 @@ fn most_value(block: &Block) -> usize
     }
 }
 
-// Appends the bytes of a block to a region, with room for its longest operation data, and returns its entry.
+// Appends the bytes of a sound block to a region of at most 64,000 bytes, with room for its longest operation data, and returns its entry.
+// The earlier bytes are unchanged. The error is `AllocError`.
 fn append_block(region: &mut Vec<u8>, block: &Block) -> Result<Entry, AllocError>
     requires sound { is_sound block.now ≡ true }
     requires room { length region.old.items ≤ 64000 }
@@ -134,7 +140,7 @@ fn append_block(region: &mut Vec<u8>, block: &Block) -> Result<Entry, AllocError
     })
 }
 
-// Returns how many bytes a name or a unit has, of which there may be none.
+// Returns the number of bytes of a name or a unit, at most 1024; 0 if absent.
 fn text_len(text: &Option<Text>) -> usize
     ensures value { result ≡ length (unwrap_or text.now []) }
     ensures few { result ≤ 1024 }
@@ -145,7 +151,7 @@ fn text_len(text: &Option<Text>) -> usize
     }
 }
 
-// Returns how many bytes a limit has, of which there may be none.
+// Returns the number of bytes of a minimum or a maximum: two or four; 0 if absent.
 fn limit_len(attribute: Attribute, limit: Option<u32>) -> usize
     ensures value { result ≡ length (limit_bytes attribute limit) }
     ensures few { result ≤ 4 }
@@ -159,7 +165,8 @@ fn limit_len(attribute: Attribute, limit: Option<u32>) -> usize
     }
 }
 
-// Returns how many bytes of a region a block has.
+// Returns the number of bytes of the region that a sound block takes, at most 4096: those of its attribute, limits, name and unit, and of
+// its longest operation data.
 fn room_of(block: &Block) -> usize
     requires { is_sound block.now ≡ true }
     ensures value { result ≡ room_of block.now }
@@ -170,7 +177,7 @@ fn room_of(block: &Block) -> usize
     4 + limits + texts + most_value(block)
 }
 
-// Returns how many bytes a region has.
+// Returns the number of bytes of the region for the blocks of a store, which keep the invariant `IsStore`.
 fn region_len(blocks: &[Block]) -> usize
     requires { IsStore blocks.now }
     ensures { result ≡ sum_by room_of blocks.now }
@@ -182,8 +189,8 @@ fn region_len(blocks: &[Block]) -> usize
     len
 }
 
-// The bytes of the blocks of a store, one after another, with room for the longest operation data of each; and the index
-// of them. The error is `AllocError`.
+// Returns the bytes of the blocks of a store, one after the other, with room for the longest operation data of each, and the index of the
+// blocks. The blocks keep the invariant `IsStore`. The region has no more bytes than they may need. The error is `AllocError`.
 pub(crate) fn packed(alloc: Global, blocks: &[Block]) -> Result<(Vec<u8>, Vec<Entry>), AllocError>
     requires { IsStore blocks.now }
     ensures { IfOk result (λ made. HasPacked blocks.now made.0.items made.1.items) }

@@ -1,7 +1,6 @@
-// The rules that a ring keeps.
+// The rules for a ring and its drives.
 ghost use Rattle.std.specs.Prelude.{◌≡◌, ◌==◌, ◌≤◌, [], length, true};
-ghost use Rattle.std.specs.List.{list_any};
-ghost use Rattle.sercos_block.specs.Rings.{has_ring_numbers, are_times, has_drive_numbers, has_blocks, has_address, is_no_command, has_other_data, is_drive, are_drives, is_turn, are_turns, is_order, has_drives, is_ring};
+ghost use Rattle.sercos_block.specs.Clauses.{list_any, has_ring_numbers, are_times, has_drive_numbers, has_address, is_no_command, has_other_data, is_drive, are_drives, is_turn, are_turns, has_drives, is_ring};
 
 use crate::carried::{are_cyclic, block_attribute, mdt_len};
 use crate::check::check_blocks;
@@ -15,7 +14,8 @@ use sercos_timing::limits::{
 };
 use sercos_timing::{Times, is_address, is_control, is_cycle, is_rate};
 
-// Returns whether the times can be declared.
+// Returns whether a drive can declare these times, in microseconds: t1min and tatmt up to 300, t4min, tatat and tmtsg up to 64,000, and
+// tmtsy up to 250.
 #[tactic(auto, unfolding(crate::specs::Rings::are_times))]
 fn are_times(times: &Times) -> bool
     ensures { result ≡ are_times times.now }
@@ -36,7 +36,7 @@ pub fn has_address(address: u8, drives: &[DriveSetup]) -> bool
     drives.iter().any(|drive| drive.address == address)
 }
 
-// Returns whether there is an attribute, and it isn't that of a procedure command.
+// Returns whether there is an attribute and it isn't that of a procedure command.
 fn is_no_command(attribute: Option<Attribute>) -> bool
     ensures { result ≡ is_no_command attribute }
 {
@@ -46,8 +46,8 @@ fn is_no_command(attribute: Option<Attribute>) -> bool
     }
 }
 
-/// Returns whether a drive with the address has a data block with the identifier number, built-in or own, whose operation
-/// data is not a procedure command. Such a number can't be requested as a command; a number that the drive lacks can.
+/// Returns whether a drive with the address has a block with the identifier number, built-in or own, that is no procedure command. Such a
+/// number can't be requested as a command; a number that the drive lacks can.
 #[tactic(auto, unfolding(crate::specs::Rings::has_other_data))]
 pub fn has_other_data(address: u8, idn: Idn, drives: &[DriveSetup]) -> bool
     ensures { result ≡ has_other_data address idn.raw drives.now }
@@ -57,7 +57,7 @@ pub fn has_other_data(address: u8, idn: Idn, drives: &[DriveSetup]) -> bool
     })
 }
 
-// Returns whether each drive may follow those before it.
+// Returns whether each drive may follow those before it in the ring. The first follows none.
 #[tactic(auto, unfolding(crate::specs::Rings::are_drives))]
 fn are_drives(drives: &[DriveSetup]) -> bool
     ensures { result ≡ are_drives [] drives.now }
@@ -70,22 +70,23 @@ fn are_drives(drives: &[DriveSetup]) -> bool
     true
 }
 
-// Returns whether one of `count` places may follow these in the order.
+// Returns whether index `place` is below the number of drives and not among those before it in the order.
 #[tactic(auto, unfolding(crate::specs::Rings::is_turn))]
 fn is_turn(drives: usize, before: &[u8], place: u8) -> bool
     ensures { result ≡ is_turn drives before.now place }
 {
-    let stands = stands_among(before, place);
-    usize::from(place) < drives && !stands
+    let is_among = is_among(before, place);
+    usize::from(place) < drives && !is_among
 }
 
-fn stands_among(before: &[u8], place: u8) -> bool
+// Returns whether the index is one of those before it.
+fn is_among(before: &[u8], place: u8) -> bool
     ensures { result ≡ list_any (λ k. k == place) before.now }
 {
     before.iter().any(|k| *k == place)
 }
 
-// Returns whether the places are distinct.
+// Returns whether the indices in the order are distinct and below the number of drives.
 #[tactic(auto, unfolding(crate::specs::Rings::are_turns))]
 fn are_turns(drives: usize, order: &[u8]) -> bool
     ensures { result ≡ are_turns drives [] order.now }
@@ -98,16 +99,9 @@ fn are_turns(drives: usize, order: &[u8]) -> bool
     true
 }
 
-// Returns whether the order lists the place of each of `count` drives once.
-#[tactic(auto, unfolding(crate::specs::Rings::is_order))]
-fn is_order(drives: usize, order: &[u8]) -> bool
-    ensures { result ≡ is_order drives order.now }
-{
-    order.len() == drives && are_turns(drives, order)
-}
-
 impl DriveSetup {
-    // Returns whether its numbers lie in their ranges.
+    // Returns whether the drive's own numbers are in their ranges: both addresses from 1 to 254, at most 20 busy cycles, at most 200
+    // command cycles, the times that it declares, and at most 64,000 microseconds for its shortest and its longest cycle time.
     #[tactic(auto, unfolding(crate::specs::Rings::are_drive_numbers))]
     fn has_numbers(&self) -> bool
         ensures { result ≡ has_drive_numbers self.now }
@@ -121,29 +115,26 @@ impl DriveSetup {
             && self.cycle_max <= MOST_CYCLE
     }
 
-    // Returns whether it has not too many data blocks, and they keep their rules.
-    #[tactic(auto, unfolding(crate::specs::Rings::has_blocks))]
-    fn has_blocks(&self) -> bool
-        ensures { result ≡ has_blocks self.now }
-    {
-        self.blocks.len() <= MOST_BLOCKS && check_blocks(self).is_ok()
-    }
-
-    // Returns whether the drive may follow these in the ring.
-    #[tactic(auto, unfolding(crate::specs::Rings::is_drive))]
+    // Returns whether the drive may follow these in the ring. Its address is not one of theirs, and its own numbers are in their ranges. It
+    // has at most 36 blocks of its own, which `check_blocks` accepts. A telegram can carry every identifier number that its AT and its data
+    // record are configured with.
+    #[tactic(auto, unfolding(crate::specs::Rings::is_drive, crate::specs::Rings::has_blocks))]
     fn is_drive(&self, before: &[DriveSetup]) -> bool
         ensures { result ≡ is_drive before.now self.now }
     {
         !has_address(self.address, before)
             && self.has_numbers()
-            && self.has_blocks()
+            && self.blocks.len() <= MOST_BLOCKS
+            && check_blocks(self).is_ok()
             && are_cyclic(self.blocks.as_slice(), self.at.as_slice())
             && are_cyclic(self.blocks.as_slice(), self.mdt.as_slice())
     }
 }
 
 impl RingSetup {
-    // Returns whether its own numbers lie in their ranges.
+    // Returns whether the ring's own numbers are in their ranges: a rate of 2, 4, 8 or 16, a cycle time of 125 or a multiple of 250 up to
+    // 64,000 microseconds, a control unit cycle time that is a positive multiple of the cycle time and at most 64,000 microseconds, a gap
+    // of at most 1000 microseconds, and 1 to 50,000 cycles.
     #[tactic(auto, unfolding(crate::specs::Rings::are_ring_numbers, sercos_timing::specs::Valid::is_cycle))]
     fn has_numbers(&self) -> bool
         ensures { result ≡ has_ring_numbers self.now }
@@ -157,7 +148,8 @@ impl RingSetup {
             && self.cycles <= MOST_CYCLES
     }
 
-    // Returns whether it has at least one drive and not too many, which keep their rules and whose data records fit into an MDT.
+    // Returns whether the ring has 1 to 64 drives, each may follow those before it, and their data records together have at most 2047
+    // bytes.
     #[tactic(auto, unfolding(crate::specs::Rings::has_drives))]
     fn has_drives(&self) -> bool
         ensures { result ≡ has_drives self.now }
@@ -169,19 +161,20 @@ impl RingSetup {
             && mdt_len(drives) <= MOST_RECORDS
     }
 
-    /// Returns whether the ring keeps all rules of its numbers, of its drives and their data blocks, and of its order: those of a
-    /// ring document, as far as the types leave room to break them.
-    #[tactic(auto, unfolding(crate::specs::Rings::is_ring))]
+    /// Returns whether the ring keeps all rules of this profile: for its own numbers, its drives and their data blocks, and its order,
+    /// which has the index of each drive once.
+    #[tactic(auto, unfolding(crate::specs::Rings::is_ring, crate::specs::Rings::is_order))]
     pub fn valid(&self) -> bool
         ensures { result ≡ is_ring self.now }
     {
         self.has_numbers()
             && self.has_drives()
-            && is_order(self.drives.len(), self.order.as_slice())
+            && self.order.len() == self.drives.len()
+            && are_turns(self.drives.len(), self.order.as_slice())
     }
 }
 
-/// Returns how many cycles a ring runs: 1 to 50,000.
+/// Returns the number of cycles that a valid ring runs: 1 to 50,000.
 #[tactic(auto, unfolding(crate::specs::Rings::is_ring, crate::specs::Rings::are_ring_numbers))]
 pub fn cycles_of(setup: &RingSetup) -> u32
     requires { is_ring setup.now ≡ true }
@@ -192,7 +185,7 @@ pub fn cycles_of(setup: &RingSetup) -> u32
     setup.cycles
 }
 
-/// Returns how many drives a ring has: at most 64.
+/// Returns the number of drives of a valid ring, at most 64.
 pub fn drives_of(setup: &RingSetup) -> u8
     requires { is_ring setup.now ≡ true }
     ensures { result ≡ length setup.now.drives }

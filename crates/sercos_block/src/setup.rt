@@ -1,30 +1,30 @@
-// What a drive is made of.
+// What a drive and a ring are set up with.
 use crate::block::Block;
 use arrayvec::ArrayVec;
 use sercos_idn::Idn;
 use sercos_timing::Times;
 use std::marker::Model;
 
-/// What a drive is made of. Contracts see the record of its fields, each vector as the list of its items.
+/// The setup of a drive. Contracts see the record of its fields, each vector as the list of its items.
 #[derive(Drop)]
 pub struct DriveSetup {
     /// The address, 1 to 254.
     pub address: u8,
-    /// The slave that the drive belongs to, 1 to 254.
+    /// The address of the slave that the drive belongs to, 1 to 254.
     pub slave: u8,
-    /// For how many cycles the drive is busy with a step of the service channel, 0 to 20.
+    /// The number of cycles for which the drive is busy with a step of the service channel, 0 to 20.
     pub busy: u8,
-    /// For how many cycles a procedure command runs, 0 to 200.
+    /// The number of cycles for which a procedure command runs, 0 to 200.
     pub command: u16,
-    /// The times that the drive declares.
+    /// The times that the drive declares, in microseconds.
     pub times: Times,
-    /// The shortest cycle time that it takes, in microseconds.
+    /// The shortest cycle time that the drive accepts, in microseconds.
     pub cycle_min: u16,
-    /// The longest cycle time that it takes, in microseconds.
+    /// The longest cycle time that the drive accepts, in microseconds.
     pub cycle_max: u16,
-    /// What its AT carries.
+    /// The identifier numbers of the feedback values that its AT carries.
     pub at: ArrayVec<Idn, 16>,
-    /// What its data record in the MDT carries.
+    /// The identifier numbers of the command values that its data record in the MDT carries.
     pub mdt: ArrayVec<Idn, 16>,
     /// Its data blocks beside the built-in ones.
     pub blocks: Vec<Block>,
@@ -49,7 +49,7 @@ impl Model for DriveSetup {
     } };
 }
 
-/// What a ring is made of. Contracts see the record of its fields, each vector as the list of its items.
+/// The setup of a ring. Contracts see the record of its fields, each vector as the list of its items.
 #[derive(Drop)]
 pub struct RingSetup {
     /// The rate, in bits per microsecond: 2, 4, 8 or 16.
@@ -60,11 +60,11 @@ pub struct RingSetup {
     pub control: u16,
     /// The gap between telegrams, in microseconds.
     pub gap: u16,
-    /// How many cycles the ring runs.
+    /// The number of cycles that the ring runs, 1 to 50,000.
     pub cycles: u32,
-    /// The order of the ATs in the cycle: places in `drives`.
+    /// The order of the ATs in the cycle, as indices into `drives`.
     pub order: ArrayVec<u8, 64>,
-    /// The drives in the order of the ring.
+    /// The drives, in the order of the ring.
     pub drives: Vec<DriveSetup>,
 }
 

@@ -1,8 +1,6 @@
-// A data block in the region of a store.
+// A data block whose bytes are in the region of a store.
 ghost use Rattle.std.specs.Prelude.{◌≡◌, ◌+◌, ◌≤◌, length, option_map, Some, None, IfSome, MatchResult};
-ghost use Rattle.sercos_block.specs.Blocks.{bytes_for, element_of};
-ghost use Rattle.sercos_block.specs.Stores.{write_fault};
-ghost use Rattle.sercos_block.specs.Regions.{part_of, limit_bits, block_of, IsWithin};
+ghost use Rattle.sercos_block.specs.Clauses.{bytes_for, element_of, write_fault, part_of, limit_bits, block_of, IsWithin};
 
 use crate::entry::{Entry, Limit, Part};
 use crate::write::write_fault;
@@ -29,7 +27,7 @@ impl<'a> Model for Stored<'a> {
     ghost invariant = { λ s. IsWithin s.region.now s.entry.now };
 }
 
-// The bytes of a part of the region.
+// Returns the bytes of a part that is within the region and has at most 1024 bytes.
 fn bytes_of<'a>(region: &'a [u8], part: &Part) -> &'a [u8]
     requires inside { part.now.place + part.now.len ≤ length region.now }
     requires few { part.now.len ≤ 1024 }
@@ -40,7 +38,7 @@ fn bytes_of<'a>(region: &'a [u8], part: &Part) -> &'a [u8]
     &region[start..start + usize::from(part.len)]
 }
 
-// The bytes of a name or a unit, of which there may be none.
+// Returns the bytes of a name or a unit; `None` if absent. The part is within the region and has at most 1024 bytes.
 fn text_of<'a>(region: &'a [u8], part: &Option<Part>) -> Option<&'a [u8]>
     requires { IfSome part.now (λ p. (p.place + p.len ≤ length region.now) × (p.len ≤ 1024)) }
     ensures value { option_map (λ b. b.now) result ≡ option_map (part_of region.now) part.now }
@@ -52,7 +50,8 @@ fn text_of<'a>(region: &'a [u8], part: &Option<Part>) -> Option<&'a [u8]>
     }
 }
 
-// The bytes of a limit, of which there may be none.
+// Returns the bytes of a minimum or a maximum; `None` if absent. Its part is within the region, has at most 1024 bytes, and has the bytes
+// of its bits. `attribute` only serves the contract.
 fn limit_of<'a>(region: &'a [u8], attribute: &Attribute, limit: &Option<Limit>) -> Option<&'a [u8]>
     requires inside { IfSome limit.now (λ l. (l.bytes.place + l.bytes.len ≤ length region.now) × (l.bytes.len ≤ 1024)) }
     requires bytes { IfSome limit.now (λ l. part_of region.now l.bytes ≡ bytes_for attribute.now l.bits) }
@@ -66,7 +65,7 @@ fn limit_of<'a>(region: &'a [u8], attribute: &Attribute, limit: &Option<Limit>) 
 }
 
 impl<'a> Stored<'a> {
-    // The block of an entry.
+    // Returns the block of an entry whose bytes are all in the region.
     pub(crate) fn new(region: &'a [u8], entry: &'a Entry) -> Stored<'a>
         requires { IsWithin region.now entry.now }
         ensures { result ≡ block_of region.now entry.now }
@@ -74,7 +73,7 @@ impl<'a> Stored<'a> {
         Stored { region, entry }
     }
 
-    // The identifier number.
+    // Returns the identifier number, element 1.
     pub(crate) fn idn(&self) -> Idn
         ensures { result ≡ self.now.idn }
     {
@@ -88,14 +87,14 @@ impl<'a> Stored<'a> {
         self.entry.attribute
     }
 
-    // The bits of the minimum, if there is one.
+    // Returns the bits of the minimum, if present; otherwise `None`.
     pub(crate) fn min(&self) -> Option<u32>
         ensures { result ≡ self.now.min }
     {
         self.entry.min.map(|limit| limit.bits)
     }
 
-    // The bits of the maximum, if there is one.
+    // Returns the bits of the maximum, if present; otherwise `None`.
     pub(crate) fn max(&self) -> Option<u32>
         ensures { result ≡ self.now.max }
     {
@@ -116,29 +115,29 @@ impl<'a> Stored<'a> {
         self.entry.fixed
     }
 
-    /// Returns how much the number grows in each cycle; 0 if there is no step.
+    /// Returns what is added to the number in each cycle; 0 if there is no step.
     pub fn step(&self) -> u32
         ensures { result ≡ self.now.step }
     {
         self.entry.step
     }
 
-    // Returns whether the procedure command ends with an error.
+    // Returns whether the block is a procedure command that ends with an error.
     pub(crate) fn fails(&self) -> bool
         ensures { result ≡ self.now.fails }
     {
         self.entry.fails
     }
 
-    // The operation data.
-    pub(crate) fn value(&self) -> &'a [u8]
+    /// Returns the operation data, element 7, at most 1024 bytes.
+    pub fn value(&self) -> &'a [u8]
         ensures value { result.now ≡ self.now.value }
         ensures bound { length result.now ≤ 1024 }
     {
         bytes_of(self.region, &self.entry.value)
     }
 
-    /// Returns `Ok` if the operation data can be written in a phase, 2 to 4; otherwise the first error that applies: 0x7004, the
+    /// Tests that the operation data can be written in a phase, 2 to 4. The error is the first that applies (IEC 61491:1995): 0x7004, the
     /// block is fixed or has a step; 0x7005, it is write protected in this phase.
     pub fn may_write(&self, phase: u8) -> Result<(), Code>
         requires { (2 ≤ phase) × (phase ≤ 4) }
@@ -152,7 +151,8 @@ impl<'a> Stored<'a> {
         }
     }
 
-    /// Returns the bytes of an element, 2 to 7, if the block has it: at most 1024.
+    /// Returns the bytes of an element, 2 to 7, at most 1024; `None` if the block doesn't have it. Any other number than 2 to 6 counts as
+    /// 7.
     #[tactic(auto, unfolding(crate::specs::Blocks::element_of))]
     pub fn element(&self, element: u8) -> Option<&'a [u8]>
         ensures value { option_map (λ b. b.now) result ≡ element_of self.now element }

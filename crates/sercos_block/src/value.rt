@@ -1,21 +1,18 @@
 // Operation data that is one number.
 ghost use Rattle.std.specs.Prelude.{◌≡◌, ◌<◌, ◌==◌, ◌⊎◌, int_lt, length, true, false};
-ghost use Rattle.std.specs.List.{list_all};
-ghost use Rattle.sercos_idn.specs.Codes.{is_list, item_len};
-ghost use Rattle.sercos_block.specs.Blocks.{is_number, bits_in, bytes_for, number_end, meant};
+ghost use Rattle.sercos_block.specs.Clauses.{list_all, is_list, item_len, is_number, bits_in, bytes_for, number_end, meant};
 
 use sercos_bits::{Text, byte_at};
 use sercos_idn::{Attribute, Form, Length};
 
-/// Returns whether the operation data is one number: two or four bytes that are no procedure command (IEC 61491:1995).
+/// Returns whether the operation data is one number: two or four bytes, and no procedure command (IEC 61491:1995).
 pub fn is_number(attribute: &Attribute) -> bool
     ensures { result ≡ is_number attribute.now }
 {
     !attribute.length.is_list() && !attribute.command
 }
 
-/// Returns the number below which all numbers of a length lie: 2 to the power of 16 for two bytes, 2 to the power of 32 for
-/// four.
+/// Returns the limit below which all numbers of a length are: 2^16 for two bytes, otherwise 2^32.
 pub fn number_end(length: Length) -> u64
     ensures value { result ≡ number_end length }
     ensures two { (result ≡ 65536) ⊎ (result ≡ 4294967296) }
@@ -26,8 +23,8 @@ pub fn number_end(length: Length) -> u64
     }
 }
 
-/// Returns the bits of the number that the bytes of a value are, the low byte first (IEC 61491:1995). A missing byte is 0, and
-/// bytes after the last one of the value don't count.
+/// Returns the number that the bytes of operation data spell, the low byte first (IEC 61491:1995), without regard to sign: of 16 bits for a
+/// length of two bytes, otherwise of 32. A missing byte is 0, and bytes after the last one of the number are ignored.
 pub fn bits_in(attribute: &Attribute, bytes: &[u8]) -> u32
     ensures value { result ≡ bits_in attribute.now bytes.now }
     ensures bound { result < number_end attribute.now.length }
@@ -44,7 +41,8 @@ pub fn bits_in(attribute: &Attribute, bytes: &[u8]) -> u32
     }
 }
 
-// The number that bits mean.
+// Returns the number that bits spell: in two's complement if the display form is signed. The bits are below `number_end` of the length in
+// the attribute.
 fn meant(attribute: &Attribute, bits: u32) -> i64
     requires { bits < number_end attribute.now.length }
     ensures { result ≡ meant attribute.now bits }
@@ -60,7 +58,7 @@ fn meant(attribute: &Attribute, bits: u32) -> i64
     }
 }
 
-// Returns whether one number is less than another, both as bits.
+// Returns whether the number of the first bits is less than that of the second. Both are below `number_end` of the length in the attribute.
 pub(crate) fn is_less(attribute: &Attribute, first: u32, second: u32) -> bool
     requires first { first < number_end attribute.now.length }
     requires second { second < number_end attribute.now.length }
@@ -69,7 +67,8 @@ pub(crate) fn is_less(attribute: &Attribute, first: u32, second: u32) -> bool
     meant(attribute, first) < meant(attribute, second)
 }
 
-/// Returns the bytes of a number with these bits, the low byte first (IEC 61491:1995): two or four, as many as the value has.
+/// Returns the bytes of a number with these bits, the low byte first (IEC 61491:1995): two or four, by the length in the attribute, which
+/// is not a list. The bits are below `number_end` of that length. If they are 0, all bytes are 0.
 pub fn bytes_for(attribute: Attribute, bits: u32) -> Text
     requires bits { bits < number_end attribute.length }
     requires number { is_list attribute.length ≡ false }

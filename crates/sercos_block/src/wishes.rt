@@ -1,15 +1,13 @@
-// The planner's input that a ring makes.
+// The planner's input for a ring.
 ghost use Rattle.std.specs.Prelude.{◌≡◌, ◌≤◌, true, length, map};
-ghost use Rattle.std.specs.List.{All};
-ghost use Rattle.sercos_timing.specs.Valid.{IsValid};
-ghost use Rattle.sercos_block.specs.Rings.{is_ring, wish_of, HasLens, wishes_of};
+ghost use Rattle.sercos_block.specs.Clauses.{All, IsValid, is_ring, wish_of, HasLens, wishes_of};
 
 use crate::setup::{DriveSetup, RingSetup};
 use arrayvec::ArrayVec;
 use sercos_timing::{Wish, Wishes};
 
-// An order of its own.
-fn copied(order: &[u8]) -> ArrayVec<u8, 64>
+// Returns a copy of an order of at most 64 indices.
+fn order_copy(order: &[u8]) -> ArrayVec<u8, 64>
     requires { length order.now ≤ 64 }
     ensures { result.items ≡ order.now }
 {
@@ -18,7 +16,7 @@ fn copied(order: &[u8]) -> ArrayVec<u8, 64>
     copy
 }
 
-// The planner's input of all drives.
+// Returns the planner's input for all drives, at most 64. The lengths of each drive's AT and data record are 4 to 68 bytes.
 fn wish_list(drives: &[DriveSetup]) -> ArrayVec<Wish, 64>
     requires { length drives.now ≤ 64 }
     ensures value { result.items ≡ map wish_of drives.now }
@@ -32,7 +30,7 @@ fn wish_list(drives: &[DriveSetup]) -> ArrayVec<Wish, 64>
 }
 
 impl DriveSetup {
-    // The planner's input of one drive.
+    // Returns the planner's input for one drive. The lengths of its AT and its data record are 4 to 68 bytes.
     fn wish(&self) -> Wish
         ensures value { result ≡ wish_of self.now }
         ensures lens { HasLens result }
@@ -48,8 +46,8 @@ impl DriveSetup {
 }
 
 impl RingSetup {
-    /// Returns the planner's input: the times that the drives declare, and the lengths of their telegrams. The ring is a
-    /// valid one.
+    /// Returns the planner's input for a valid ring: its numbers and order, the times that the drives declare in microseconds, and the
+    /// lengths of their telegrams in bytes. A plan may be requested for it: [`valid`](sercos_timing::valid) accepts it.
     #[tactic(auto, unfolding(crate::specs::Rings::is_ring, crate::specs::Rings::has_drives, crate::specs::Rings::wishes_of))]
     pub fn wishes(&self) -> Wishes
         requires { is_ring self.now ≡ true }
@@ -61,7 +59,7 @@ impl RingSetup {
             cycle: self.cycle,
             control: self.control,
             gap: self.gap,
-            order: copied(self.order.as_slice()),
+            order: order_copy(self.order.as_slice()),
             drives: wish_list(self.drives.as_slice()),
         }
     }

@@ -1,22 +1,13 @@
-// Why operation data can't be written.
+// Why the operation data of a block can't be written.
 ghost use Rattle.std.specs.Prelude.{◌≡◌, ◌<◌, ◌||◌, IfSome, length, option_map, true, false, None};
-ghost use Rattle.sercos_idn.specs.Codes.{is_list, item_len};
-ghost use Rattle.sercos_block.specs.Blocks.{number_end, is_fixed, is_protected};
-ghost use Rattle.sercos_block.specs.Stores.{is_short, is_long, is_invalid, is_below, is_above, write_fault, data_fault, is_sound};
+ghost use Rattle.sercos_block.specs.Clauses.{is_list, item_len, number_end, is_protected, is_short, is_long, is_invalid, is_below, is_above, write_fault, data_fault, is_sound};
 
 use crate::stored::Stored;
 use crate::value::{bits_in, is_less, is_number};
 use sercos_idn::command::{CANCEL, SET};
 use sercos_idn::{Attribute, Code};
 
-// Returns whether the operation data can never be written.
-fn is_fixed(block: &Stored<'_>) -> bool
-    ensures { result ≡ is_fixed block.now }
-{
-    block.fixed() || block.step() > 0
-}
-
-// Returns whether the operation data is write protected in a phase from 2 to 4.
+// Returns whether the operation data is write protected in a phase, 2 or 3. Any other phase counts as 4.
 fn is_protected(attribute: &Attribute, phase: u8) -> bool
     ensures { result ≡ is_protected attribute.now phase }
 {
@@ -29,12 +20,13 @@ fn is_protected(attribute: &Attribute, phase: u8) -> bool
     }
 }
 
-// The first cause for which the operation data of a block can't be written in a phase.
+// Returns the first error for which the operation data of a block can't be written in a phase, for any bytes: 0x7004, it can never be
+// written; 0x7005, it is write protected in this phase. `None` if it can. Any phase but 2 and 3 counts as 4.
 #[tactic(auto, unfolding(crate::specs::Stores::write_fault))]
 pub(crate) fn write_fault(block: &Stored<'_>, phase: u8) -> Option<Code>
     ensures { option_map (λ code. code.raw) result ≡ write_fault (Some block.now) phase }
 {
-    if is_fixed(block) {
+    if block.fixed() || block.step() > 0 {
         return Some(Code::FIXED);
     }
     if is_protected(&block.attribute(), phase) {
@@ -43,14 +35,14 @@ pub(crate) fn write_fault(block: &Stored<'_>, phase: u8) -> Option<Code>
     None
 }
 
-// Returns whether there are fewer bytes than the value has.
+// Returns whether there are fewer bytes than the number has; false for a list.
 fn is_short(block: &Stored<'_>, bytes: &[u8]) -> bool
     ensures { result ≡ is_short block.now bytes.now }
 {
     !block.attribute().length.is_list() && bytes.len() < block.attribute().length.item_len()
 }
 
-// Returns whether there are more bytes than the value has, or than the list can have.
+// Returns whether there are more bytes than the number has, or than the list can have.
 fn is_long(block: &Stored<'_>, bytes: &[u8]) -> bool
     ensures { result ≡ is_long block.now bytes.now }
 {
@@ -62,7 +54,8 @@ fn is_long(block: &Stored<'_>, bytes: &[u8]) -> bool
     bytes.len() > most
 }
 
-// Returns whether the bytes, of which there are as many as a value has, are no value.
+// Returns whether the bytes are no whole items of a list, or a number other than 0 and 3 for a procedure command. For anything but a list
+// the caller passes as many bytes as the number has.
 fn is_invalid(block: &Stored<'_>, bytes: &[u8]) -> bool
     requires { is_list block.now.attribute.length ≡ false → length bytes.now ≡ item_len block.now.attribute.length }
     ensures { result ≡ is_invalid block.now bytes.now }
@@ -75,7 +68,8 @@ fn is_invalid(block: &Stored<'_>, bytes: &[u8]) -> bool
     attribute.command && !(bits == u32::from(CANCEL) || bits == u32::from(SET))
 }
 
-// Returns whether the number lies below the minimum, if there is one.
+// Returns whether the number is below the minimum `limit`; false without a limit or a number. Unless the block is a list, there are as many
+// bytes as its attribute requires. The limit is below `number_end` of the length in the attribute.
 fn is_below(block: &Stored<'_>, bytes: &[u8], limit: Option<u32>) -> bool
     requires len { is_list block.now.attribute.length ≡ false → length bytes.now ≡ item_len block.now.attribute.length }
     requires limit { IfSome limit (λ bits. bits < number_end block.now.attribute.length) }
@@ -88,7 +82,8 @@ fn is_below(block: &Stored<'_>, bytes: &[u8], limit: Option<u32>) -> bool
     }
 }
 
-// Returns whether the number lies above the maximum, if there is one.
+// Returns whether the number is above the maximum `limit`; false without a limit or a number. Unless the block is a list, there are as many
+// bytes as its attribute requires. The limit is below `number_end` of the length in the attribute.
 fn is_above(block: &Stored<'_>, bytes: &[u8], limit: Option<u32>) -> bool
     requires len { is_list block.now.attribute.length ≡ false → length bytes.now ≡ item_len block.now.attribute.length }
     requires limit { IfSome limit (λ bits. bits < number_end block.now.attribute.length) }
@@ -101,7 +96,7 @@ fn is_above(block: &Stored<'_>, bytes: &[u8], limit: Option<u32>) -> bool
     }
 }
 
-// Returns whether the operation data of a block is a number below its minimum or above its maximum.
+// Returns whether the operation data of a sound block is a number below its minimum or above its maximum.
 #[tactic(auto, using(crate::proofs::SoundLemmas::min_below, crate::proofs::SoundLemmas::max_below, crate::proofs::SoundLemmas::value_len))]
 pub(crate) fn is_outside(block: &Stored<'_>) -> bool
     requires { is_sound block.now ≡ true }
@@ -111,7 +106,8 @@ pub(crate) fn is_outside(block: &Stored<'_>) -> bool
     is_below(block, bytes, block.min()) || is_above(block, bytes, block.max())
 }
 
-// The first cause for which bytes can't be the operation data of a block.
+// Returns the first error for which bytes can't be the operation data of a sound block: 0x7002, too short; 0x7003, too long; 0x7008,
+// invalid; 0x7006, below the minimum; 0x7007, above the maximum. `None` if they can.
 #[tactic(auto, using(crate::proofs::SoundLemmas::min_below, crate::proofs::SoundLemmas::max_below), unfolding(crate::specs::Stores::data_fault))]
 pub(crate) fn data_fault(block: &Stored<'_>, bytes: &[u8]) -> Option<Code>
     requires { is_sound block.now ≡ true }

@@ -1,4 +1,5 @@
 pub mod Answers
+pub mod Clauses
 pub mod Deframers
 pub mod Documents
 pub mod Drives

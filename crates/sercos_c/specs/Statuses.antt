@@ -10,6 +10,10 @@ answer_no = 1
 abbrev pub refused : ℕ
 refused = 3
 
+-- the input could not be read
+abbrev pub unreadable : ℕ
+unreadable = 4
+
 abbrev pub write_fault : ℕ
 write_fault = 5
 

@@ -1,14 +1,14 @@
 //! The top call over slices.
 ghost use Rattle.std.specs.Prelude.{◌≡◌, ◌≤◌, false, length, take};
-ghost use Rattle.sercos_c.specs.Answers.{IsCalled};
+ghost use Rattle.sercos_c.specs.Clauses.{IsCalled};
 
 use crate::slices::{SliceSink, SliceSource};
 use sercos_app::{Clean, sercos};
 use sercos_io::{Status, Words};
 use std::alloc::Global;
 
-// Runs the command of these words over an input, and writes its output to a sink that has taken nothing. Returns its status. The sink
-// stays over the same slice.
+// Runs the command of these words over an input, and writes its output to a sink. The sink must have taken nothing, and no write to it may
+// have failed. Returns the status of the command. The sink stays over the same slice.
 fn answer_into(alloc: Global, words: &Words, input: &[u8], sink: &mut SliceSink<'_>) -> Status
     requires fresh { sink.old.is_full ≡ false }
     requires empty { sink.old.place ≡ 0 }
@@ -20,7 +20,7 @@ fn answer_into(alloc: Global, words: &Words, input: &[u8], sink: &mut SliceSink<
 }
 
 /// Runs the command of these words over an input, and writes its output to the front of `output`. Returns its status, and the number of
-/// bytes of the output that were written.
+/// bytes of the output that were written. The bytes of `output` after these are unspecified.
 pub(crate) fn answer(
     alloc: Global,
     words: &Words,

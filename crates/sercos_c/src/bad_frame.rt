@@ -1,6 +1,6 @@
 //! Why bits are not a frame, as it is handed over.
 ghost use Rattle.std.specs.Prelude.{◌≡◌};
-ghost use Rattle.sercos_c.specs.Frames.{bad_frame_of, no_bad_frame};
+ghost use Rattle.sercos_c.specs.Clauses.{bad_frame_of, no_bad_frame};
 
 use sercos_hdlc::BadFrame;
 

@@ -1,11 +1,6 @@
 //! A frame whose bits arrive in pieces.
 ghost use Rattle.std.specs.Prelude.{◌≡◌, ◌≢◌, ◌⊎◌, ◌==◌, ◌<◌, ◌≤◌, not, Bool, true, List, [], ◌++◌, length, take, Some, None};
-ghost use Rattle.sercos_model.specs.Bits.{bits_of};
-ghost use Rattle.sercos_hdlc.specs.Fed.{taken_of, IsFed};
-ghost use Rattle.sercos_c.specs.Statuses.{done, write_fault, no_memory, closed};
-ghost use Rattle.sercos_c.specs.Room.{IsNothing};
-ghost use Rattle.sercos_c.specs.Frames.{no_bad_frame, IsUnframed};
-ghost use Rattle.sercos_c.specs.Deframers.{is_deframer, feed_status, HoldsFed};
+ghost use Rattle.sercos_c.specs.Clauses.{bits_of, taken_of, IsFed, done, write_fault, no_memory, closed, IsNothing, no_bad_frame, IsUnframed, is_deframer, feed_status, HoldsFed};
 
 use crate::bad_frame::{SercosBadFrame, no_bad_frame};
 use crate::frames::{MOST_BITS, feed_bits, read_frame};
@@ -16,8 +11,8 @@ use sercos_bits::MAX_CONTENT;
 use sercos_hdlc::Deframer;
 use std::alloc::Global;
 
-// Feeds the first `count` bits of `bits` to a deframer. Returns `REFUSED` if there are fewer bits; otherwise `TOO_LONG` if more than 2^31
-// bits would have been taken since the frame began. Then none are taken.
+// Feeds the first `count` bits of `bits` to a deframer, and returns `DONE`. Returns `REFUSED` if there are fewer bits; otherwise `TOO_LONG`
+// if more than 2^31 bits would have been taken since the frame began. After these two the deframer is unchanged.
 fn feed(deframer: &mut Deframer, bits: &[u8], count: usize) -> u8
     ensures status { result ≡ feed_status (taken_of deframer.old) (length bits.now) count }
     ensures fed { result ≡ done → (before : List Bool) → IsFed before deframer.old → IsFed (before ++ take count (bits_of bits.now)) deframer.new }
@@ -33,7 +28,8 @@ fn feed(deframer: &mut Deframer, bits: &[u8], count: usize) -> u8
     DONE
 }
 
-// Feeds the first `count` bits of `bits` to a station, as `feed` does. Returns `CLOSED` if the station isn't a deframer.
+// Feeds the first `count` bits of `bits` to a station, as `feed` does. Returns `CLOSED`, and changes nothing, if the station isn't a
+// deframer.
 fn feed_station(station: &mut Station, bits: &[u8], count: usize) -> u8
     ensures closed { (result == closed) ≡ not (is_deframer (Some station.old)) }
     ensures status { (before : List Bool) → HoldsFed before (Some station.old) → result ≡ feed_status (length before) (length bits.now) count }
@@ -46,8 +42,8 @@ fn feed_station(station: &mut Station, bits: &[u8], count: usize) -> u8
     }
 }
 
-// Reads all bits so far as a frame, and begins anew, as `read_frame` does. Returns `WRITE_FAULT` if `out` has fewer than 2,048 bytes;
-// then `written` is 0, and the bits stay.
+// Reads all bits so far as a frame, and begins a new one, with the result of `read_frame`. Returns `WRITE_FAULT` if `out` has fewer than
+// 2,048 bytes; then `written` and all fields of `why` are 0, and `out` and the bits stay.
 fn finish(
     deframer: &mut Deframer,
     out: &mut [u8],
@@ -69,7 +65,8 @@ fn finish(
     read_frame(deframer, out, written, why)
 }
 
-// Reads all bits of a station as a frame, as `finish` does. Returns `CLOSED`, and changes nothing, if the station isn't a deframer.
+// Reads all bits of a station as a frame, as `finish` does, and returns its status. Returns `CLOSED`, and changes nothing, if the station
+// isn't a deframer.
 fn finish_station(
     station: &mut Station,
     out: &mut [u8],
@@ -90,8 +87,8 @@ fn finish_station(
     }
 }
 
-/// Begins a frame: no bit of it has been taken. What the handle held before is closed. Returns `MEMORY` if no memory was found; then
-/// nothing is held.
+/// Begins a frame: no bit of it has been taken. What the handle held before is closed. Returns `DONE`, or `MEMORY` if no memory was found;
+/// then nothing is held.
 #[unsafe(no_mangle)]
 pub extern "C" fn sercos_deframer_open(alloc: Global, deframer: &mut Handle) -> u8
     ensures status { (result ≡ done) ⊎ (result ≡ no_memory) }
@@ -101,9 +98,9 @@ pub extern "C" fn sercos_deframer_open(alloc: Global, deframer: &mut Handle) -> 
     open(alloc, Station::Deframer(Deframer::new()), deframer)
 }
 
-/// Takes the first `count` bits of `bits`: bit n is bit n % 8 of byte n / 8. A frame may be cut anywhere. Returns `CLOSED` if no deframer
-/// is held; otherwise `REFUSED` if there are fewer bits; otherwise `TOO_LONG` if more than 2^31 bits would have been taken since the
-/// frame began. Then none are taken.
+/// Takes the first `count` bits of `bits`, and returns `DONE`. Bit n is bit n % 8 of byte n / 8. A frame may be cut anywhere. Returns
+/// `CLOSED` if no deframer is held; otherwise `REFUSED` if there are fewer bits; otherwise `TOO_LONG` if more than 2^31 bits would have
+/// been taken since the frame began. After these three nothing changes.
 #[unsafe(no_mangle)]
 pub extern "C" fn sercos_deframer_feed(
     alloc: Global,
@@ -125,10 +122,11 @@ pub extern "C" fn sercos_deframer_feed(
     status
 }
 
-/// Reads all bits so far as a frame, writes its content to the front of `out`, and begins a new frame. `written` is the number of the
-/// content's bytes. Returns `CLOSED` if no deframer is held, and then nothing changes. Otherwise it returns `WRITE_FAULT` if `out` has
-/// fewer than 2,048 bytes; then the bits stay. Otherwise it returns `NO`, with the reason in `why`, if the bits are not a frame. After
-/// the last two `written` is 0.
+/// Reads all bits so far as a frame, writes its content to the front of `out` and the number of its bytes to `written`, and begins a new
+/// frame. Returns `DONE` then. Returns `CLOSED` if no deframer is held, and then nothing changes. Otherwise it returns `WRITE_FAULT` if
+/// `out` has fewer than 2,048 bytes; then the bits stay. Otherwise it returns `NO`, with the reason in `why`, if the bits are not a frame;
+/// then a new frame begins, too. After the last two `written` is 0, and `out` stays as it was. Unless the result is `NO` or `CLOSED`, all
+/// fields of `why` are 0.
 #[unsafe(no_mangle)]
 pub extern "C" fn sercos_deframer_finish(
     alloc: Global,

@@ -1,15 +1,7 @@
 //! A drive whose calls a program in another language makes.
 ghost use Rattle.std.specs.Prelude.{◌≡◌, ◌≢◌, ℕ, ◌≤◌, ◌<◌, ◌⊎◌, ◌==◌, not, List, ◌∷◌, Option, Some, None, true};
-ghost use Rattle.std.specs.Option.{option_copied};
-ghost use Rattle.sercos_block.specs.Views.{DriveView};
-ghost use Rattle.sercos_block.specs.Stores.{find_block};
-ghost use Rattle.sercos_drive.specs.Heard.{DriveCall, Mst, Mdt, Restart};
-ghost use Rattle.sercos_drive.specs.Annals.{cycle_at, phase_at, store_at};
-ghost use Rattle.sercos_drive.specs.Says.{drive_says};
-ghost use Rattle.sercos_drive.specs.Kept.{DriveStandsFor};
-ghost use Rattle.sercos_c.specs.Statuses.{refused, closed};
-ghost use Rattle.sercos_c.specs.Room.{IsNothing};
-ghost use Rattle.sercos_c.specs.Drives.{is_drive, drive_status, arrival, HoldsDrive, IsSaid, IsElement};
+ghost use Rattle.sercos_c.specs.Clauses.{option_copied, DriveView, find_block, DriveCall, Mst, cycle_at, phase_at, store_at, drive_says, DriveStandsFor, refused, closed, done, IsNothing, is_drive, drive_status, arrival, HoldsDrive, IsSaid, IsElement};
+ghost use Rattle.sercos_drive.specs.Heard.{Mdt, Restart};
 
 use crate::handle::{Handle, close, put_back, take_out};
 use crate::room::put;
@@ -28,7 +20,8 @@ pub(crate) fn arrival(arrived: bool, content: &[u8]) -> Option<&[u8]>
     if arrived { Some(content) } else { None }
 }
 
-// Passes what arrived at the MST's place of a cycle to a station. Returns `CLOSED`, and changes nothing, if the station isn't a drive.
+// Passes what arrived at the MST's place of a cycle to a station: the content of a frame, or `None`. The cycle must not be below an earlier
+// one. Returns `DONE`. Returns `CLOSED`, and changes nothing, if the station isn't a drive.
 fn hear_mst(station: &mut Station, cycle: u32, content: Option<&[u8]>) -> u8
     ensures status { result ≡ drive_status (Some station.old) }
     ensures same { result ≡ closed → station.new ≡ station.old }
@@ -44,7 +37,8 @@ fn hear_mst(station: &mut Station, cycle: u32, content: Option<&[u8]>) -> u8
     }
 }
 
-// Passes what arrived at the MDT's place of a cycle to a station. Returns `CLOSED`, and changes nothing, if the station isn't a drive.
+// Passes what arrived at the MDT's place of a cycle to a station: the content of a frame, or `None`. Returns `DONE`. Returns `CLOSED`, and
+// changes nothing, if the station isn't a drive.
 fn hear_mdt(station: &mut Station, content: Option<&[u8]>) -> u8
     ensures status { result ≡ drive_status (Some station.old) }
     ensures same { result ≡ closed → station.new ≡ station.old }
@@ -60,7 +54,7 @@ fn hear_mdt(station: &mut Station, content: Option<&[u8]>) -> u8
     }
 }
 
-// Restarts a station. Returns `CLOSED`, and changes nothing, if the station isn't a drive.
+// Restarts a station, and returns `DONE`. Returns `CLOSED`, and changes nothing, if the station isn't a drive.
 fn restart(station: &mut Station) -> u8
     ensures status { result ≡ drive_status (Some station.old) }
     ensures same { result ≡ closed → station.new ≡ station.old }
@@ -76,10 +70,12 @@ fn restart(station: &mut Station) -> u8
     }
 }
 
-// Writes the phase of a station to `phase`. Returns `CLOSED`, and writes nothing, if the station isn't a drive.
+// Writes the phase of a station, 0 to 4, to `phase`, and returns `DONE`. Returns `CLOSED`, and writes nothing, if the station isn't a
+// drive.
 fn phase(station: &Station, phase: &mut u8) -> u8
     ensures status { result ≡ drive_status (Some station.now) }
     ensures phase { (d : DriveView) (rate : ℕ) (h : List DriveCall) → HoldsDrive (Some station.now) d rate h → phase.new ≡ phase_at d rate h }
+    ensures bound { result ≡ done → phase.new ≤ 4 }
     ensures nothing { result ≡ closed → phase.new ≡ phase.old }
 {
     match station {
@@ -91,9 +87,9 @@ fn phase(station: &Station, phase: &mut u8) -> u8
     }
 }
 
-// Writes the content of this cycle's AT to the front of `out`, and its start, in microseconds after the MST's end, to `start`. Returns
-// `NO` if the drive sends none, and then the start stays as it was; otherwise `WRITE_FAULT` if there is too little room. Then `written`
-// is 0.
+// Writes the content of this cycle's AT to the front of `out`, the number of its bytes to `written`, and its start, in microseconds after
+// the MST's end, to `start`, and returns `DONE`. Returns `NO` if the drive sends none, and then the start stays as it was; otherwise
+// `WRITE_FAULT` if there is too little room, and then the start is written anyway. After both `written` is 0, and `out` stays as it was.
 fn at_of(drive: &Drive, out: &mut [u8], written: &mut usize, start: &mut u16) -> u8
     ensures open { result ≢ closed }
     ensures said { (d : DriveView) (rate : ℕ) (h : List DriveCall) → DriveStandsFor drive.now d rate h
@@ -125,9 +121,10 @@ fn at(station: &Station, out: &mut [u8], written: &mut usize, start: &mut u16) -
     }
 }
 
-// Writes the bytes of an element, 2 to 7, of the drive's data block `idn` to the front of `out`. Returns `NO` if there is none, and then
-// `code` is the error that a service transfer gets; otherwise `code` is 0, and the result is `WRITE_FAULT` if there is too little room.
-// In both cases `written` is 0.
+// Writes the bytes of an element, 2 to 7, of the drive's data block `idn` to the front of `out`, the number of them, at most 1,024, to
+// `written`, and 0 to `code`, and returns `DONE`. Returns `NO` if there is no such element, and then `code` is the error that a service
+// transfer gets; otherwise `WRITE_FAULT` if there is too little room, and then `code` is 0. In both cases `written` is 0, and `out` stays
+// as it was.
 fn element_of(
     drive: &Drive,
     idn: u16,
@@ -138,6 +135,7 @@ fn element_of(
 ) -> u8
     requires { (2 ≤ element) × (element ≤ 7) }
     ensures open { result ≢ closed }
+    ensures bound { written.new ≤ 1024 }
     ensures read { (d : DriveView) (rate : ℕ) (h : List DriveCall) → DriveStandsFor drive.now d rate h
         → IsElement (find_block idn (store_at d rate h)) element out.old out.new written.new code.new result }
 {
@@ -154,7 +152,8 @@ fn element_of(
     }
 }
 
-// Writes the bytes of an element, as `element_of` does. Returns `REFUSED` if the element isn't 2 to 7; then `written` and `code` are 0.
+// Writes the bytes of an element, as `element_of` does. Returns `REFUSED` if the element isn't 2 to 7; then `written` and `code` are 0, and
+// `out` stays as it was.
 fn element_if(
     drive: &Drive,
     idn: u16,
@@ -164,6 +163,7 @@ fn element_if(
     code: &mut u16,
 ) -> u8
     ensures open { result ≢ closed }
+    ensures bound { written.new ≤ 1024 }
     ensures refused { (element < 2) ⊎ (7 < element) → IsNothing refused out.old out.new written.new result × (code.new ≡ 0) }
     ensures read { (d : DriveView) (rate : ℕ) (h : List DriveCall) → DriveStandsFor drive.now d rate h → 2 ≤ element → element ≤ 7
         → IsElement (find_block idn (store_at d rate h)) element out.old out.new written.new code.new result }
@@ -187,6 +187,7 @@ fn write_element(
     code: &mut u16,
 ) -> u8
     ensures closed { (result == closed) ≡ not (is_drive (Some station.now)) }
+    ensures bound { result ≢ closed → written.new ≤ 1024 }
     ensures refused { is_drive (Some station.now) ≡ true → (element < 2) ⊎ (7 < element)
         → IsNothing refused out.old out.new written.new result × (code.new ≡ 0) }
     ensures read { (d : DriveView) (rate : ℕ) (h : List DriveCall) → HoldsDrive (Some station.now) d rate h → 2 ≤ element → element ≤ 7
@@ -207,8 +208,8 @@ pub extern "C" fn sercos_drive_close(alloc: Global, drive: &mut Handle)
     close(alloc, drive);
 }
 
-/// Takes what arrived at the MST's place of a cycle: `content` if a frame arrived, and otherwise nothing. The cycle may not be below an
-/// earlier one. Returns `CLOSED` if no drive is held.
+/// Takes what arrived at the MST's place of a cycle: `content` if a frame arrived, and otherwise nothing; then `content` is ignored. The
+/// cycle must not be below an earlier one. Returns `DONE`. Returns `CLOSED`, and changes nothing, if no drive is held.
 #[unsafe(no_mangle)]
 pub extern "C" fn sercos_drive_hear_mst(
     alloc: Global,
@@ -230,8 +231,8 @@ pub extern "C" fn sercos_drive_hear_mst(
     status
 }
 
-/// Takes what arrived at the MDT's place of this cycle: `content` if a frame arrived, and otherwise nothing. Returns `CLOSED` if no drive
-/// is held.
+/// Takes what arrived at the MDT's place of this cycle: `content` if a frame arrived, and otherwise nothing; then `content` is ignored.
+/// Returns `DONE`. Returns `CLOSED`, and changes nothing, if no drive is held.
 #[unsafe(no_mangle)]
 pub extern "C" fn sercos_drive_hear_mdt(
     alloc: Global,
@@ -252,7 +253,8 @@ pub extern "C" fn sercos_drive_hear_mdt(
     status
 }
 
-/// Restarts a drive between two cycles: it is in phase 0, and its data blocks stay. Returns `CLOSED` if no drive is held.
+/// Restarts a drive between two cycles: it is in phase 0, and its data blocks stay. Returns `DONE`. Returns `CLOSED`, and changes nothing,
+/// if no drive is held.
 #[unsafe(no_mangle)]
 pub extern "C" fn sercos_drive_restart(alloc: Global, drive: &mut Handle) -> u8
     ensures status { result ≡ drive_status drive.old.held.value }
@@ -268,12 +270,14 @@ pub extern "C" fn sercos_drive_restart(alloc: Global, drive: &mut Handle) -> u8
     status
 }
 
-/// Writes the phase of a drive, 0 to 4. Returns `CLOSED` if no drive is held.
+/// Writes the phase of a drive, 0 to 4, to `phase`, and returns `DONE`. Returns `CLOSED`, and writes nothing, if no drive is held. The
+/// drive stays as it was.
 #[unsafe(no_mangle)]
 pub extern "C" fn sercos_drive_phase(alloc: Global, drive: &mut Handle, phase: &mut u8) -> u8
     ensures status { result ≡ drive_status drive.old.held.value }
     ensures same { drive.new.held.value ≡ drive.old.held.value }
     ensures phase { (d : DriveView) (rate : ℕ) (h : List DriveCall) → HoldsDrive drive.old.held.value d rate h → phase.new ≡ phase_at d rate h }
+    ensures bound { result ≡ done → phase.new ≤ 4 }
     ensures nothing { result ≡ closed → phase.new ≡ phase.old }
 {
     let Some(station) = take_out(alloc, drive) else {
@@ -284,9 +288,10 @@ pub extern "C" fn sercos_drive_phase(alloc: Global, drive: &mut Handle, phase: &
     status
 }
 
-/// Writes the content of this cycle's AT to the front of `out`, and its start, in microseconds after the MST's end, to `start`. Returns
-/// `CLOSED` if no drive is held. Otherwise it returns `NO` if the drive sends none, and then the start stays as it was; or `WRITE_FAULT`
-/// if there is too little room. After the last two `written` is 0.
+/// Writes the content of this cycle's AT to the front of `out`, the number of its bytes to `written`, and its start, in microseconds after
+/// the MST's end, to `start`, and returns `DONE`. The drive stays as it was. Returns `CLOSED`, and writes nothing, if no drive is held.
+/// Otherwise it returns `NO` if the drive sends none, and then the start stays as it was; or `WRITE_FAULT` if there is too little room, and
+/// then the start is written anyway. After the last two `written` is 0, and `out` stays as it was.
 #[unsafe(no_mangle)]
 pub extern "C" fn sercos_drive_at(
     alloc: Global,
@@ -309,10 +314,11 @@ pub extern "C" fn sercos_drive_at(
     status
 }
 
-/// Writes the bytes of an element, 2 to 7, of the data block `idn` to the front of `out`: at most 1,024. A number has its low byte first.
-/// Returns `CLOSED` if no drive is held. Otherwise it returns `REFUSED` if the element isn't 2 to 7; `NO` if there is no such element,
-/// and then `code` is the error that a service transfer gets; or `WRITE_FAULT` if there is too little room. After the last three
-/// `written` is 0.
+/// Writes the bytes of an element, 2 to 7, of the data block `idn` to the front of `out`, and the number of them, at most 1,024, to
+/// `written`, and returns `DONE`. A number has its low byte first. The drive stays as it was. Returns `CLOSED`, and writes nothing, if no
+/// drive is held. Otherwise it returns `REFUSED` if the element isn't 2 to 7; `NO` if there is no such element, and then `code` is the
+/// error that a service transfer gets; or `WRITE_FAULT` if there is too little room. After the last three `written` is 0, and `out` stays
+/// as it was. Unless the result is `NO` or `CLOSED`, `code` is 0.
 #[unsafe(no_mangle)]
 pub extern "C" fn sercos_drive_element(
     alloc: Global,
@@ -325,6 +331,7 @@ pub extern "C" fn sercos_drive_element(
 ) -> u8
     ensures closed { (result == closed) ≡ not (is_drive drive.old.held.value) }
     ensures same { drive.new.held.value ≡ drive.old.held.value }
+    ensures bound { result ≢ closed → written.new ≤ 1024 }
     ensures refused { is_drive drive.old.held.value ≡ true → (element < 2) ⊎ (7 < element)
         → IsNothing refused out.old out.new written.new result × (code.new ≡ 0) }
     ensures read { (d : DriveView) (rate : ℕ) (h : List DriveCall) → HoldsDrive drive.old.held.value d rate h → 2 ≤ element → element ≤ 7

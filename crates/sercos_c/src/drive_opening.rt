@@ -1,11 +1,7 @@
 //! The opening of a drive of a ring document.
 ghost use Rattle.std.specs.Prelude.{◌≡◌, ◌≢◌, ◌<◌, ◌⊎◌, [], length, IfOk, None, true};
+ghost use Rattle.sercos_c.specs.Clauses.{DriveStandsFor, drive_at, document_of, done, no_memory, place_status, OpensAt, IsOpening};
 ghost use Rattle.sercos_block.specs.Rings.{is_ring};
-ghost use Rattle.sercos_drive.specs.Kept.{DriveStandsFor};
-ghost use Rattle.sercos_law_run.specs.Journal.Runs.{drive_at};
-ghost use Rattle.sercos_config.specs.Document.{document_of};
-ghost use Rattle.sercos_c.specs.Statuses.{done, no_memory};
-ghost use Rattle.sercos_c.specs.Drives.{place_status, OpensAt, IsOpening};
 
 use crate::handle::{Handle, close, open};
 use crate::station::Station;
@@ -15,7 +11,7 @@ use sercos_config::{BadDocument, Document, read_ring};
 use sercos_drive::Drive;
 use std::alloc::{AllocError, Global};
 
-// Opens the drive with the index `place`, from 0, in a ring. The error is `AllocError`.
+// Opens the drive with the index `place`, from 0, in a ring. The setup must be valid and have that drive. The error is `AllocError`.
 fn drive_in(alloc: Global, setup: &RingSetup, place: usize) -> Result<Drive, AllocError>
     requires ring { is_ring setup.now ≡ true }
     requires within { place < length setup.now.drives }
@@ -40,8 +36,8 @@ fn drive_at(alloc: Global, document: &[u8], place: usize) -> Result<Option<Drive
 }
 
 /// Opens the drive with the index `place`, from 0, in the ring of a document. The drive is in phase 0. What the handle held before is
-/// closed. Returns `REFUSED` if the document is refused; otherwise `NO` if there is no such drive; or `MEMORY` if no memory was found.
-/// Then nothing is held.
+/// closed. Returns `DONE`; `REFUSED` if the document is refused; otherwise `NO` if there is no such drive; or `MEMORY` if no memory was
+/// found. After the last three nothing is held.
 #[unsafe(no_mangle)]
 pub extern "C" fn sercos_drive_open(
     alloc: Global,

@@ -1,12 +1,6 @@
 //! Frames of ISO/IEC 3309. Bit n of a list of bytes is bit n % 8 of byte n / 8.
 ghost use Rattle.std.specs.Prelude.{◌≡◌, ◌≢◌, ◌+◌, ◌-◌, ◌*◌, ◌/◌, ◌%◌, ◌^◌, ◌<◌, ◌≤◌, Bool, List, [], ◌++◌, length, take, drop};
-ghost use Rattle.sercos_model.specs.Bits.{bits_of};
-ghost use Rattle.sercos_model.specs.CheckSequence.{fcs_of};
-ghost use Rattle.sercos_hdlc.specs.Stuffed.{frame_of};
-ghost use Rattle.sercos_hdlc.specs.Fed.{taken_of, IsFed};
-ghost use Rattle.sercos_c.specs.Statuses.{done, refused, too_long, closed};
-ghost use Rattle.sercos_c.specs.Room.{IsNothing};
-ghost use Rattle.sercos_c.specs.Frames.{bytes_for, padded, frame_status, no_bad_frame, IsUnframed};
+ghost use Rattle.sercos_c.specs.Clauses.{bits_of, fcs_of, frame_of, taken_of, IsFed, done, refused, too_long, closed, IsNothing, bytes_for, padded, frame_status, no_bad_frame, IsUnframed};
 
 use crate::bad_frame::{SercosBadFrame, bad_frame_of, no_bad_frame};
 use crate::room::put;
@@ -25,7 +19,7 @@ pub extern "C" fn sercos_fcs(content: &[u8]) -> u16
     fcs(content)
 }
 
-// Appends zeros up to a whole byte.
+// Appends zeros up to a whole byte, at most seven.
 fn pad(bits: &mut BitBuf)
     ensures { bits.new ≡ padded bits.old }
 {
@@ -33,7 +27,7 @@ fn pad(bits: &mut BitBuf)
     push_number(0, (8 - rest) % 8, bits);
 }
 
-// Writes the bits to `out`, which has one byte for each eight of them.
+// Writes the bits to `out`, which must have one byte for each eight of them.
 fn fill(bits: &BitBuf, out: &mut [u8])
     requires { length bits.now ≡ 8 * length out.old }
     ensures { bits_of out.new ≡ bits.now }
@@ -44,10 +38,10 @@ fn fill(bits: &BitBuf, out: &mut [u8])
     }
 }
 
-/// Writes the frame of a content to the front of `out`, from the first bit of its opening flag to the last bit of its closing
-/// flag, and zeros up to a whole byte (ISO/IEC 3309). `bits` is then the number of its bits, and the bytes after it stay as they
-/// were. Returns `REFUSED` if the content has not 1 to 2,048 bytes; otherwise `WRITE_FAULT` if there is too little room. Then
-/// nothing is written, and `bits` is 0.
+/// Writes the frame of a content to the front of `out`, from the first bit of its opening flag to the last bit of its closing flag, and
+/// zeros up to a whole byte (ISO/IEC 3309). Writes the number of bits of the frame, without these zeros, to `bits`, and returns `DONE`. The
+/// bytes of `out` after these stay as they were. Returns `REFUSED` if the content has not 1 to 2,048 bytes; otherwise `WRITE_FAULT` if
+/// there is too little room. After both `out` stays as it was, and `bits` is 0.
 #[unsafe(no_mangle)]
 pub extern "C" fn sercos_frame(content: &[u8], out: &mut [u8], bits: &mut u32) -> u8
     ensures status { result ≡ frame_status content.now (length out.old) }
@@ -76,7 +70,8 @@ pub extern "C" fn sercos_frame(content: &[u8], out: &mut [u8], bits: &mut u32) -
     DONE
 }
 
-/// Feeds the first `count` bits of `bits` to a deframer.
+/// Feeds the first `count` bits of `bits` to a deframer. `bits` must have that many, and with those taken before there must be at most
+/// 2^31.
 pub(crate) fn feed_bits(deframer: &mut Deframer, bits: &[u8], count: usize)
     requires within { count ≤ 8 * length bits.now }
     requires fits { taken_of deframer.old + count ≤ 2 ^ 31 }
@@ -91,8 +86,10 @@ pub(crate) fn feed_bits(deframer: &mut Deframer, bits: &[u8], count: usize)
     }
 }
 
-/// Reads all bits so far as a frame, writes its content to the front of `out`, and begins a new frame. Returns `NO`, with the reason in
-/// `why`, if they are not a frame; otherwise `WRITE_FAULT` if there is too little room. Then `written` is 0.
+/// Reads all bits so far as a frame, writes its content to the front of `out` and the number of its bytes to `written`, begins a new frame,
+/// and returns `DONE`. Returns `NO`, with the reason in `why`, if they are not a frame; otherwise `WRITE_FAULT` if there is too little
+/// room. After both `written` is 0, `out` stays as it was, and a new frame begins, too. Unless the result is `NO`, all fields of `why` are
+/// 0.
 pub(crate) fn read_frame(
     deframer: &mut Deframer,
     out: &mut [u8],
@@ -118,9 +115,10 @@ pub(crate) fn read_frame(
     }
 }
 
-/// Reads the first `count` bits of `bits` as a frame, and writes its content to the front of `out`. Returns `REFUSED` if there are fewer
-/// bits; otherwise `TOO_LONG` if `count` is above 2^31; otherwise `NO`, with the reason in `why`, if the bits are not a frame; otherwise
-/// `WRITE_FAULT` if there is too little room for the content. Then nothing is written, and `written` is 0.
+/// Reads the first `count` bits of `bits` as a frame, writes its content to the front of `out` and the number of its bytes to `written`,
+/// and returns `DONE`. Returns `REFUSED` if there are fewer bits; otherwise `TOO_LONG` if `count` is above 2^31; otherwise `NO`, with the
+/// reason in `why`, if the bits are not a frame; otherwise `WRITE_FAULT` if there is too little room for the content. After these four
+/// `out` stays as it was, and `written` is 0. Unless the result is `NO`, all fields of `why` are 0.
 #[unsafe(no_mangle)]
 pub extern "C" fn sercos_unframe(
     bits: &[u8],

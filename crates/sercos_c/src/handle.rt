@@ -1,5 +1,6 @@
 //! What C holds: a station, or nothing.
 ghost use Rattle.std.specs.Prelude.{◌≡◌, ◌≢◌, ◌⊎◌, Option, Some, None, is_some, option_map};
+ghost use Rattle.sercos_c.specs.Clauses.{done, no_memory};
 
 use crate::held::Held;
 use crate::pointer::{StationPointer, to_held, to_pointer};
@@ -34,7 +35,7 @@ pub(crate) fn take_out(alloc: Global, handle: &mut Handle) -> Option<Box<Station
     }
 }
 
-/// Puts a station into a handle.
+/// Puts a station into a handle, in place of what it held.
 pub(crate) fn put_back(station: Box<Station>, handle: &mut Handle)
     ensures { handle.new.held.value ≡ Some station.value }
 {
@@ -53,9 +54,9 @@ pub(crate) fn close(alloc: Global, handle: &mut Handle)
 
 /// Closes a handle, and puts a station into it. Returns `DONE`, or `MEMORY` if there is no memory for the station; then nothing is held.
 pub(crate) fn open(alloc: Global, station: Station, handle: &mut Handle) -> u8
-    ensures done { result ≡ 0 → handle.new.held.value ≡ Some station }
-    ensures none { result ≢ 0 → handle.new.held.value ≡ None }
-    ensures memory { (result ≡ 0) ⊎ (result ≡ 6) }
+    ensures done { result ≡ done → handle.new.held.value ≡ Some station }
+    ensures none { result ≢ done → handle.new.held.value ≡ None }
+    ensures memory { (result ≡ done) ⊎ (result ≡ no_memory) }
 {
     close(alloc, handle);
     match Box::new(alloc, station) {

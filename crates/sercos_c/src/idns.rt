@@ -1,9 +1,6 @@
 //! Identifier numbers (IEC 61491:1995) and their texts.
-ghost use Rattle.std.specs.Prelude.{◌≡◌, ◌≢◌, ℕ, ◌^◌, ◌<◌, length, Some, None};
-ghost use Rattle.sercos_idn.specs.Idns.{idn_text, idn_fault, spelled_raw};
-ghost use Rattle.sercos_c.specs.Statuses.{done};
-ghost use Rattle.sercos_c.specs.Room.{IsPut};
-ghost use Rattle.sercos_c.specs.Idns.{parse_status, fault_place};
+ghost use Rattle.std.specs.Prelude.{◌≡◌, ◌≢◌, ℕ, ◌^◌, ◌<◌, Some, None};
+ghost use Rattle.sercos_c.specs.Clauses.{idn_text, idn_fault, spelled_raw, done, IsPut, parse_status, fault_place};
 
 use crate::room::put;
 use crate::status::{DONE, NO};
@@ -24,9 +21,9 @@ fn spelled(text: &[u8]) -> u16
     }
 }
 
-/// Writes the identifier number that a text such as "S-0-0127" spells to `idn`; `place` is then 0. Returns `NO` if it spells none, and
-/// then `idn` stays as it was. `place` is then the offset of the first byte that doesn't fit, the text's length if a byte is missing, 4
-/// if the number is above 4095, or 8 if the text goes on after the number.
+/// Writes the identifier number that a text such as "S-0-0127" spells to `idn` and 0 to `place`, and returns `DONE`. Returns `NO` if it
+/// spells none, and then `idn` stays as it was. `place` is then the offset of the first byte that doesn't fit, the text's length if a byte
+/// is missing, 4 if the number is above 4095, or 8 if the text goes on after the number.
 #[unsafe(no_mangle)]
 pub extern "C" fn sercos_idn_parse(text: &[u8], idn: &mut u16, place: &mut usize) -> u8
     ensures status { result ≡ parse_status (idn_fault text.now) }
@@ -49,8 +46,8 @@ pub extern "C" fn sercos_idn_parse(text: &[u8], idn: &mut u16, place: &mut usize
     }
 }
 
-/// Writes the eight bytes of the text of an identifier number to the front of `out`, without a zero after them. Returns
-/// `WRITE_FAULT` if there is too little room; then nothing is written.
+/// Writes the eight bytes of the text of an identifier number to the front of `out`, without a zero after them, and returns `DONE`. Returns
+/// `WRITE_FAULT` if `out` has fewer than eight bytes; then `out` stays as it was.
 #[unsafe(no_mangle)]
 pub extern "C" fn sercos_idn_text(idn: u16, out: &mut [u8]) -> u8
     ensures { (count : ℕ) × IsPut (idn_text idn) out.old out.new count result }

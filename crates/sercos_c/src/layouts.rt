@@ -1,6 +1,6 @@
 //! Why a content is not a telegram, as it is handed over.
 ghost use Rattle.std.specs.Prelude.{◌≡◌, Some, None};
-ghost use Rattle.sercos_c.specs.Telegrams.{layout_of};
+ghost use Rattle.sercos_c.specs.Clauses.{layout_of};
 
 use sercos_telegram::Layout;
 

@@ -1,17 +1,8 @@
 //! A master whose calls a program in another language makes.
 ghost use Rattle.std.specs.Prelude.{◌≡◌, ◌≤◌, ◌<◌, ◌⊎◌, ◌==◌, ◌∷◌, not, true, false, List, length, Some, None};
+ghost use Rattle.sercos_c.specs.Clauses.{cycle_text, known_of, DocumentView, Call, HearMst, HearAt, End, mst_said, mdt_said, done, closed, write_fault, IsNothing, IsPut, silent_record, IsText, arrival, is_master, past_of, reported, reported_in, HoldsMaster, IsSent};
 ghost use Rattle.sercos_block.specs.Rings.{wishes_of};
-ghost use Rattle.sercos_trace.specs.Texts.{cycle_text};
-ghost use Rattle.sercos_seat.specs.Ring.{known_of};
-ghost use Rattle.sercos_config.specs.Views.{DocumentView};
-ghost use Rattle.sercos_master.specs.Annals.{Call, HearMst, HearAt, Mdt, End, Restart};
-ghost use Rattle.sercos_master.specs.Says.{mst_said, mdt_said};
-ghost use Rattle.sercos_c.specs.Statuses.{done, closed, write_fault};
-ghost use Rattle.sercos_c.specs.Room.{IsNothing, IsPut};
-ghost use Rattle.sercos_c.specs.Records.{silent_record};
-ghost use Rattle.sercos_c.specs.Texts.{IsText};
-ghost use Rattle.sercos_c.specs.Drives.{arrival};
-ghost use Rattle.sercos_c.specs.Masters.{is_master, past_of, reported, reported_in, HoldsMaster, IsSent};
+ghost use Rattle.sercos_master.specs.Annals.{Mdt, Restart};
 
 use crate::drive::arrival;
 use crate::handle::{Handle, close, put_back, take_out};
@@ -19,8 +10,7 @@ use crate::station::Station;
 use crate::status::CLOSED;
 use std::alloc::Global;
 
-// Writes the content of a station's MST, as `MasterStation::mst` does. Returns `CLOSED`, and writes nothing, if the station isn't a
-// master.
+// Writes the content of a station's MST, as `MasterStation::mst` does. Returns `CLOSED`, and writes nothing, if the station isn't a master.
 fn mst(station: &Station, out: &mut [u8], written: &mut usize) -> u8
     ensures closed { (result == closed) ≡ not (is_master (Some station.now)) }
     ensures said { (d : DocumentView) (h : List Call) → HoldsMaster (Some station.now) d h → IsPut (mst_said (past_of d h)) out.old out.new written.new result }
@@ -32,8 +22,8 @@ fn mst(station: &Station, out: &mut [u8], written: &mut usize) -> u8
     }
 }
 
-// Passes what came back of its MST to a station: the content if a frame arrived, and otherwise nothing. Returns `CLOSED`, and changes
-// nothing, if the station isn't a master.
+// Passes what returned of a station's own MST to it: the content if a frame arrived, and otherwise nothing; then `content` is ignored.
+// Returns `DONE`. Returns `CLOSED`, and changes nothing, if the station isn't a master.
 fn hear_mst(station: &mut Station, arrived: bool, content: &[u8]) -> u8
     ensures closed { (result == closed) ≡ not (is_master (Some station.old)) }
     ensures status { (result ≡ done) ⊎ (result ≡ closed) }
@@ -46,7 +36,8 @@ fn hear_mst(station: &mut Station, arrived: bool, content: &[u8]) -> u8
     }
 }
 
-// Passes the content of a frame at the place of an AT to a station. Returns `CLOSED`, and changes nothing, if the station isn't a master.
+// Passes the content of a frame at the place of an AT to a station, and returns `DONE`. Returns `CLOSED`, and changes nothing, if the
+// station isn't a master.
 fn hear_at(station: &mut Station, content: &[u8]) -> u8
     ensures closed { (result == closed) ≡ not (is_master (Some station.old)) }
     ensures status { (result ≡ done) ⊎ (result ≡ closed) }
@@ -74,7 +65,7 @@ fn mdt(station: &mut Station, out: &mut [u8], written: &mut usize, start: &mut u
     }
 }
 
-// Ends the cycle of a station. Returns `CLOSED`, and changes nothing, if the station isn't a master.
+// Ends the cycle of a station, and returns `DONE`. Returns `CLOSED`, and changes nothing, if the station isn't a master.
 fn end_cycle(station: &mut Station) -> u8
     ensures closed { (result == closed) ≡ not (is_master (Some station.old)) }
     ensures status { (result ≡ done) ⊎ (result ≡ closed) }
@@ -87,7 +78,7 @@ fn end_cycle(station: &mut Station) -> u8
     }
 }
 
-// Restarts a station. Returns `CLOSED`, and changes nothing, if the station isn't a master.
+// Restarts a station, and returns `DONE`. Returns `CLOSED`, and changes nothing, if the station isn't a master.
 fn restart(station: &mut Station) -> u8
     ensures closed { (result == closed) ≡ not (is_master (Some station.old)) }
     ensures status { (result ≡ done) ⊎ (result ≡ closed) }
@@ -100,7 +91,8 @@ fn restart(station: &mut Station) -> u8
     }
 }
 
-// Writes the phase that a station commands, 0 to 4, to `phase`. Returns `CLOSED`, and writes nothing, if the station isn't a master.
+// Writes the phase that a station commands, 0 to 4, to `phase`, and returns `DONE`. Returns `CLOSED`, and writes nothing, if the station
+// isn't a master.
 fn command(station: &Station, phase: &mut u8) -> u8
     ensures closed { (result == closed) ≡ not (is_master (Some station.now)) }
     ensures status { (result ≡ done) ⊎ (result ≡ closed) }
@@ -114,8 +106,8 @@ fn command(station: &Station, phase: &mut u8) -> u8
     }
 }
 
-// Writes the trace lines of what a station reports, as `MasterStation::events` does. Returns `CLOSED`, and writes nothing, if the station
-// isn't a master.
+// Writes the trace lines of what a station reports, as `MasterStation::events` does. Returns `CLOSED`, and writes nothing, also if the
+// station isn't a master.
 fn events(station: &Station, out: &mut [u8], written: &mut usize) -> u8
     ensures closed { is_master (Some station.now) ≡ false → result ≡ closed }
     ensures written { (d : DocumentView) (h : List Call) → HoldsMaster (Some station.now) d h → IsText (cycle_text (wishes_of d.setup) (silent_record (reported_in h) (reported d h))) out.old out.new written.new result }
@@ -127,8 +119,9 @@ fn events(station: &Station, out: &mut [u8], written: &mut usize) -> u8
     }
 }
 
-/// Writes the content of this cycle's MST to the front of `out`. Returns `CLOSED` if no master is held, and then nothing is written;
-/// otherwise `WRITE_FAULT` if there is too little room, and then `written` is 0.
+/// Writes the content of this cycle's MST to the front of `out`, and the number of its bytes to `written`, and returns `DONE`. The master
+/// stays as it was. Returns `CLOSED` if no master is held, and then nothing is written; otherwise `WRITE_FAULT` if there is too little
+/// room, and then `out` stays as it was, and `written` is 0.
 #[unsafe(no_mangle)]
 pub extern "C" fn sercos_master_mst(
     alloc: Global,
@@ -149,8 +142,8 @@ pub extern "C" fn sercos_master_mst(
     status
 }
 
-/// Takes what came back of the master's own MST: `content` if a frame arrived, and otherwise nothing. Returns `CLOSED` if no master is
-/// held.
+/// Takes what returned of the master's own MST: `content` if a frame arrived, and otherwise nothing; then `content` is ignored. Returns
+/// `DONE`. Returns `CLOSED`, and changes nothing, if no master is held.
 #[unsafe(no_mangle)]
 pub extern "C" fn sercos_master_hear_mst(
     alloc: Global,
@@ -171,7 +164,8 @@ pub extern "C" fn sercos_master_hear_mst(
     status
 }
 
-/// Takes the content of a frame that arrived at the place of an AT. Returns `CLOSED` if no master is held.
+/// Takes the content of a frame that arrived at the place of an AT, and returns `DONE`. Returns `CLOSED`, and changes nothing, if no master
+/// is held.
 #[unsafe(no_mangle)]
 pub extern "C" fn sercos_master_hear_at(alloc: Global, master: &mut Handle, content: &[u8]) -> u8
     ensures closed { (result == closed) ≡ not (is_master master.old.held.value) }
@@ -187,10 +181,10 @@ pub extern "C" fn sercos_master_hear_at(alloc: Global, master: &mut Handle, cont
     status
 }
 
-/// Has the master send this cycle's MDT: writes its content to the front of `out`, and its start, in microseconds after the MST's end, to
-/// `start`. Returns `CLOSED` if no master is held, and then nothing changes. Otherwise it returns `WRITE_FAULT` if `out` has fewer than
-/// 2,048 bytes, and then the master hasn't had its turn; or `NO` if the master sends none. After the last two `written` is 0, and the
-/// start stays as it was.
+/// Has the master send this cycle's MDT: writes its content to the front of `out`, the number of its bytes to `written`, and its start, in
+/// microseconds after the MST's end, to `start`, and returns `DONE`. Returns `CLOSED` if no master is held, and then nothing changes.
+/// Otherwise it returns `WRITE_FAULT` if `out` has fewer than 2,048 bytes, and then the master stays as it was; or `NO` if the master sends
+/// none. After the last two `written` is 0, and `out` and the start stay as they were.
 #[unsafe(no_mangle)]
 pub extern "C" fn sercos_master_mdt(
     alloc: Global,
@@ -213,7 +207,8 @@ pub extern "C" fn sercos_master_mdt(
     status
 }
 
-/// Ends the cycle: the master falls to phase 0, stays in its phase, or rises to the next. Returns `CLOSED` if no master is held.
+/// Ends the cycle: the master falls to phase 0, stays in its phase, or rises to the next. Returns `DONE`. Returns `CLOSED`, and changes
+/// nothing, if no master is held.
 #[unsafe(no_mangle)]
 pub extern "C" fn sercos_master_end_cycle(alloc: Global, master: &mut Handle) -> u8
     ensures closed { (result == closed) ≡ not (is_master master.old.held.value) }
@@ -229,7 +224,7 @@ pub extern "C" fn sercos_master_end_cycle(alloc: Global, master: &mut Handle) ->
     status
 }
 
-/// Restarts the master between two cycles. Returns `CLOSED` if no master is held.
+/// Restarts the master between two cycles, and returns `DONE`. Returns `CLOSED`, and changes nothing, if no master is held.
 #[unsafe(no_mangle)]
 pub extern "C" fn sercos_master_restart(alloc: Global, master: &mut Handle) -> u8
     ensures closed { (result == closed) ≡ not (is_master master.old.held.value) }
@@ -245,7 +240,8 @@ pub extern "C" fn sercos_master_restart(alloc: Global, master: &mut Handle) -> u
     status
 }
 
-/// Writes the phase that the master commands, 0 to 4, to `phase`. Returns `CLOSED` if no master is held, and then nothing is written.
+/// Writes the phase that the master commands, 0 to 4, to `phase`, and returns `DONE`. The master stays as it was. Returns `CLOSED` if no
+/// master is held, and then nothing is written.
 #[unsafe(no_mangle)]
 pub extern "C" fn sercos_master_command(alloc: Global, master: &mut Handle, phase: &mut u8) -> u8
     ensures kept { master.new.held.value ≡ master.old.held.value }
@@ -263,9 +259,11 @@ pub extern "C" fn sercos_master_command(alloc: Global, master: &mut Handle, phas
     status
 }
 
-/// Writes the trace lines of what the master reported in the cycle that ended last, or in a restart since, to the front of `out`. Returns
-/// `CLOSED` if no master is held, and then nothing is written; otherwise `WRITE_FAULT` if there is too little room, and then `written` is
-/// 0.
+/// Writes the trace lines of what the master reported in the cycle that ended last, or in a restart since, to the front of `out`, and the
+/// number of their bytes to `written`, and returns `DONE`. The master stays as it was. Returns `CLOSED` if no master is held, or if it
+/// reported a plan without a slot for each drive, and then nothing is written; a master that was opened from a document never reports such
+/// a plan. Otherwise it returns `WRITE_FAULT` if there is too little room, and then `written` is 0. Afterwards the bytes of `out` after the
+/// text are unspecified; after `WRITE_FAULT` all of them are.
 #[unsafe(no_mangle)]
 pub extern "C" fn sercos_master_events(
     alloc: Global,

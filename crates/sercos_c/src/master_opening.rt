@@ -1,12 +1,7 @@
 //! The opening of the master of a ring document.
 ghost use Rattle.std.specs.Prelude.{◌≡◌, ◌≢◌, ◌⊎◌, ◌≤◌, [], length, IfOk, None, true};
-ghost use Rattle.std.specs.List.{All};
+ghost use Rattle.sercos_c.specs.Clauses.{All, IsRequest, document_of, done, no_memory, document_status, IsMasterOpening, MasterStandsFor, OpensMaster};
 ghost use Rattle.sercos_block.specs.Rings.{is_ring};
-ghost use Rattle.sercos_step.specs.Steps.{IsRequest};
-ghost use Rattle.sercos_config.specs.Document.{document_of};
-ghost use Rattle.sercos_c.specs.Statuses.{done, no_memory};
-ghost use Rattle.sercos_c.specs.Documents.{document_status};
-ghost use Rattle.sercos_c.specs.Masters.{IsMasterOpening, MasterStandsFor, OpensMaster};
 
 use crate::handle::{Handle, close, open};
 use crate::master_station::MasterStation;
@@ -17,7 +12,8 @@ use sercos_master::AnyMaster;
 use sercos_trace::CycleRecord;
 use std::alloc::{AllocError, Global};
 
-// Opens the master of a document with its requests. The error is `AllocError`.
+// Opens the master of a document with its requests. The setup must be valid. There must be at most 4,096 requests, each for an element that
+// a transfer takes: 1 to 7 of a read, 2 to 7 of a write. The error is `AllocError`.
 fn master_of(alloc: Global, document: Document) -> Result<MasterStation, AllocError>
     requires ring { is_ring document.setup ≡ true }
     requires few { length document.jobs ≤ 4096 }
@@ -46,8 +42,8 @@ fn master_in(alloc: Global, document: &[u8]) -> Result<MasterStation, BadDocumen
     }
 }
 
-/// Opens the master of a ring document with its requests. The master is in phase 0. What the handle held before is closed. Returns
-/// `REFUSED` if the document is refused, or `MEMORY` if no memory was found. Then nothing is held.
+/// Opens the master of a ring document with its requests. The master is in phase 0. What the handle held before is closed. Returns `DONE`,
+/// `REFUSED` if the document is refused, or `MEMORY` if no memory was found. After the last two nothing is held.
 #[unsafe(no_mangle)]
 pub extern "C" fn sercos_master_open(alloc: Global, document: &[u8], master: &mut Handle) -> u8
     ensures status { (result ≡ no_memory) ⊎ (result ≡ document_status (document_of document.now)) }

@@ -1,18 +1,8 @@
 //! A master whose cycles a program makes, with what it reported.
 ghost use Rattle.std.specs.Prelude.{◌≡◌, ◌==◌, ◌⊎◌, ◌∷◌, ◌≤◌, ◌<◌, not, true, false, List, length, Option, Some, None, option_map};
-ghost use Rattle.sercos_trace.specs.Texts.{cycle_text};
+ghost use Rattle.sercos_c.specs.Clauses.{cycle_text, DocumentView, Call, HearMst, HearAt, End, past, mst_said, mdt_said, Known, known_of, tasks_for, Job, AnyStandsFor, restart_told, no_events, of_nothing, silent_record, done, closed, write_fault, IsNothing, IsPut, IsText};
 ghost use Rattle.sercos_block.specs.Rings.{wishes_of};
-ghost use Rattle.sercos_config.specs.Views.{DocumentView};
-ghost use Rattle.sercos_master.specs.Annals.{Call, HearMst, HearAt, Mdt, End, Restart, past};
-ghost use Rattle.sercos_master.specs.Says.{mst_said, mdt_said};
-ghost use Rattle.sercos_seat.specs.Ring.{Known, known_of, tasks_for};
-ghost use Rattle.sercos_step.specs.declared.request.Job.{Job};
-ghost use Rattle.sercos_master.specs.Any.{AnyStandsFor};
-ghost use Rattle.sercos_master.specs.Reports.{restart_told};
-ghost use Rattle.sercos_c.specs.Records.{no_events, of_nothing, silent_record};
-ghost use Rattle.sercos_c.specs.Statuses.{done, closed, write_fault};
-ghost use Rattle.sercos_c.specs.Room.{IsNothing, IsPut};
-ghost use Rattle.sercos_c.specs.Texts.{IsText};
+ghost use Rattle.sercos_master.specs.Annals.{Mdt, Restart};
 
 use crate::room::put;
 use crate::status::{CLOSED, DONE, NO, WRITE_FAULT};
@@ -32,7 +22,8 @@ pub(crate) struct MasterStation {
     pub(crate) ended: u32,
 }
 
-// Restarts a master, and returns it. `kept` is then a record of `cycle` with what the master reports of the restart.
+// Restarts a master, and returns it. `kept` is then a record of `cycle` with what the master reports of the restart, and keeps its
+// telegrams.
 #[tactic(auto, using(crate::proofs::MasterLemmas::none_few))]
 fn restart_in(master: AnyMaster, cycle: u32, kept: &mut CycleRecord) -> AnyMaster
     ensures stands { (s : Known) (jobs : List Job) (h : List Call) → AnyStandsFor master s jobs h → AnyStandsFor result s jobs (Restart ∷ h) }
@@ -46,8 +37,9 @@ fn restart_in(master: AnyMaster, cycle: u32, kept: &mut CycleRecord) -> AnyMaste
 impl MasterStation {
     ghost use Rattle.sercos_c.specs.Masters.{has_master, past_of, reported, reported_in, IsSent, MasterStandsFor};
 
-    /// Writes the content of this cycle's MST to the front of `out`. Returns `CLOSED`, and writes nothing, if there is no master;
-    /// otherwise `WRITE_FAULT` if there is too little room, and then `written` is 0.
+    /// Writes the content of this cycle's MST to the front of `out`, and the number of its bytes to `written`, and returns `DONE`. Returns
+    /// `CLOSED`, and writes nothing, if there is no master; otherwise `WRITE_FAULT` if there is too little room, and then `out` stays as it
+    /// was, and `written` is 0.
     pub(crate) fn mst(&self, out: &mut [u8], written: &mut usize) -> u8
         ensures closed { (result == closed) ≡ not (has_master self.now.master) }
         ensures said { (d : DocumentView) (h : List Call) → MasterStandsFor self.now d h → IsPut (mst_said (past_of d h)) out.old out.new written.new result }
@@ -61,7 +53,8 @@ impl MasterStation {
         put(said.as_slice(), out, written)
     }
 
-    /// Takes what came back of the master's own MST, the content of a frame or nothing. Returns `CLOSED` if there is no master.
+    /// Takes what returned of the master's own MST, the content of a frame or `None`, and returns `DONE`. Returns `CLOSED`, and changes
+    /// nothing, if there is no master.
     pub(crate) fn hear_mst(&mut self, content: Option<&[u8]>) -> u8
         ensures closed { (result == closed) ≡ not (has_master self.old.master) }
         ensures status { (result ≡ done) ⊎ (result ≡ closed) }
@@ -75,7 +68,8 @@ impl MasterStation {
         DONE
     }
 
-    /// Takes the content of a frame that arrived at the place of an AT. Returns `CLOSED` if there is no master.
+    /// Takes the content of a frame that arrived at the place of an AT, and returns `DONE`. Returns `CLOSED`, and changes nothing, if there
+    /// is no master.
     pub(crate) fn hear_at(&mut self, content: &[u8]) -> u8
         ensures closed { (result == closed) ≡ not (has_master self.old.master) }
         ensures status { (result ≡ done) ⊎ (result ≡ closed) }
@@ -89,10 +83,10 @@ impl MasterStation {
         DONE
     }
 
-    /// Has the master send this cycle's MDT: writes its content to the front of `out`, and its start, in microseconds after the MST's
-    /// end, to `start`. Returns `CLOSED`, and changes nothing, if there is no master. Otherwise it returns `WRITE_FAULT` if `out` has
-    /// fewer than 2,048 bytes, and then the master hasn't had its turn; or `NO` if the master sends none. After the last two `written` is
-    /// 0, and the start stays as it was.
+    /// Has the master send this cycle's MDT: writes its content to the front of `out`, the number of its bytes to `written`, and its start,
+    /// in microseconds after the MST's end, to `start`, and returns `DONE`. Returns `CLOSED`, and changes nothing, if there is no master.
+    /// Otherwise it returns `WRITE_FAULT` if `out` has fewer than 2,048 bytes, and then the station is unchanged; or `NO` if the master
+    /// sends none. After the last two `written` is 0, and `out` and the start stay as they were.
     pub(crate) fn mdt(&mut self, out: &mut [u8], written: &mut usize, start: &mut u16) -> u8
         ensures closed { (result == closed) ≡ not (has_master self.old.master) }
         ensures fault { has_master self.old.master ≡ true → length out.old < 2048 →
@@ -118,7 +112,8 @@ impl MasterStation {
         }
     }
 
-    /// Ends the cycle, and keeps what the master reports in it. Returns `CLOSED` if there is no master.
+    /// Ends the cycle, keeps what the master reports in it, and returns `DONE`. Returns `CLOSED`, and changes nothing, if there is no
+    /// master.
     pub(crate) fn end_cycle(&mut self) -> u8
         ensures closed { (result == closed) ≡ not (has_master self.old.master) }
         ensures status { (result ≡ done) ⊎ (result ≡ closed) }
@@ -134,7 +129,8 @@ impl MasterStation {
         DONE
     }
 
-    /// Restarts the master, and keeps what it reports of that. Returns `CLOSED` if there is no master.
+    /// Restarts the master, keeps what it reports of that, and returns `DONE`. Returns `CLOSED`, and changes nothing, if there is no
+    /// master.
     pub(crate) fn restart(&mut self) -> u8
         ensures closed { (result == closed) ≡ not (has_master self.old.master) }
         ensures status { (result ≡ done) ⊎ (result ≡ closed) }
@@ -148,7 +144,8 @@ impl MasterStation {
         DONE
     }
 
-    /// Writes the phase that the master commands, 0 to 4, to `phase`. Returns `CLOSED`, and writes nothing, if there is no master.
+    /// Writes the phase that the master commands, 0 to 4, to `phase`, and returns `DONE`. Returns `CLOSED`, and writes nothing, if there is
+    /// no master.
     pub(crate) fn command(&self, phase: &mut u8) -> u8
         ensures closed { (result == closed) ≡ not (has_master self.now.master) }
         ensures status { (result ≡ done) ⊎ (result ≡ closed) }
@@ -163,9 +160,11 @@ impl MasterStation {
         DONE
     }
 
-    /// Writes the trace lines of what the master reported in the cycle that ended last, or in a restart since, to the front of `out`.
-    /// Returns `CLOSED`, and writes nothing, if there is no master; otherwise `WRITE_FAULT` if there is too little room, and then
-    /// `written` is 0.
+    /// Writes the trace lines of what the master reported in the cycle that ended last, or in a restart since, to the front of `out`, and
+    /// the number of their bytes to `written`, and returns `DONE`. Returns `CLOSED`, and writes nothing, if there is no master, or if it
+    /// reported a plan without a slot for each drive; a master that was opened from a document never reports such a plan. Otherwise it
+    /// returns `WRITE_FAULT` if there is too little room, and then `written` is 0. Afterwards the bytes of `out` after the text are
+    /// unspecified; after `WRITE_FAULT` all of them are.
     pub(crate) fn events(&self, out: &mut [u8], written: &mut usize) -> u8
         ensures closed { has_master self.now.master ≡ false → result ≡ closed }
         ensures written { (d : DocumentView) (h : List Call) → MasterStandsFor self.now d h →

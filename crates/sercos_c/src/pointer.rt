@@ -1,7 +1,6 @@
 //! A station that is held, in a form that crosses to C.
 ghost use Rattle.std.specs.Prelude.{◌≡◌, Option};
-ghost use Rattle.sercos_c.specs.declared.station.Station.{Station};
-ghost use Rattle.sercos_c.specs.Stations.{station_owns};
+ghost use Rattle.sercos_c.specs.Clauses.{Station, station_owns};
 
 use crate::held::Held;
 use crate::station::Station;

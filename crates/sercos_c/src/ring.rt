@@ -1,14 +1,8 @@
 //! A ring whose cycles a program in another language makes.
 ghost use Rattle.std.specs.Prelude.{◌≡◌, ◌≢◌, ◌==◌, ◌∷◌, not, nat_lt, if◌then◌else◌, false, List, length, reverse, Some, None};
+ghost use Rattle.sercos_c.specs.Clauses.{CycleView, header_text, end_text, DocumentView, totals_of, script_carry, script_restarts, IsKept, done, answer_no, closed, IsText, lines_of_newest, HoldsRing};
 ghost use Rattle.sercos_block.specs.Rings.{wishes_of};
-ghost use Rattle.sercos_trace.specs.Views.{CycleView};
-ghost use Rattle.sercos_trace.specs.Texts.{header_text, end_text};
-ghost use Rattle.sercos_config.specs.Views.{DocumentView};
-ghost use Rattle.sercos_law_run.specs.Totals.Totals.{totals_of};
-ghost use Rattle.sercos_opened.specs.Kept.{script_carry, script_restarts, IsKept};
-ghost use Rattle.sercos_c.specs.Statuses.{done, answer_no, closed};
-ghost use Rattle.sercos_c.specs.Texts.{IsText};
-ghost use Rattle.sercos_c.specs.Rings.{is_ring, lines_of_newest, HoldsRing};
+ghost use Rattle.sercos_c.specs.Rings.{is_ring};
 
 use crate::handle::{Handle, close, put_back, take_out};
 use crate::station::Station;
@@ -42,7 +36,7 @@ fn cycle(station: &mut Station) -> u8
     }
 }
 
-// Writes the trace lines of the cycle that a station made last, as `RingStation::lines` does. Returns `CLOSED`, and writes nothing, if
+// Writes the trace lines of the cycle that a station made last, as `RingStation::lines` does. Returns `CLOSED`, and writes nothing, also if
 // the station isn't a ring.
 fn lines(station: &Station, out: &mut [u8], written: &mut usize) -> u8
     ensures closed { is_ring (Some station.now) ≡ false → result ≡ closed }
@@ -55,8 +49,7 @@ fn lines(station: &Station, out: &mut [u8], written: &mut usize) -> u8
     }
 }
 
-// Writes the last line of a station's trace, as `RingStation::end` does. Returns `CLOSED`, and writes nothing, if the station isn't a
-// ring.
+// Writes the last line of a station's trace, as `RingStation::end` does. Returns `CLOSED`, and writes nothing, if the station isn't a ring.
 fn end(station: &Station, out: &mut [u8], written: &mut usize) -> u8
     ensures closed { (result == closed) ≡ not (is_ring (Some station.now)) }
     ensures written { (d : DocumentView) (j : List CycleView) → HoldsRing (Some station.now) d j → IsText (end_text (totals_of (reverse j))) out.old out.new written.new result }
@@ -68,8 +61,10 @@ fn end(station: &Station, out: &mut [u8], written: &mut usize) -> u8
     }
 }
 
-/// Writes the first lines of the trace to the front of `out`: the version, the ring, the drives, the order. Returns `CLOSED` if no ring
-/// is held, and then nothing is written; otherwise `WRITE_FAULT` if there is too little room, and then `written` is 0.
+/// Writes the first lines of the trace, the version, the ring, the drives and the order, to the front of `out`, and the number of their
+/// bytes to `written`, and returns `DONE`. The ring stays as it was. Returns `CLOSED` if no ring is held, and then nothing is written;
+/// otherwise `WRITE_FAULT` if there is too little room, and then `written` is 0. Afterwards the bytes of `out` after the text are
+/// unspecified; after `WRITE_FAULT` all of them are.
 #[unsafe(no_mangle)]
 pub extern "C" fn sercos_ring_head(
     alloc: Global,
@@ -90,8 +85,8 @@ pub extern "C" fn sercos_ring_head(
     status
 }
 
-/// Makes the next cycle. Returns `CLOSED` if no ring is held; otherwise `NO` if all cycles of the document have been made. Then nothing
-/// changes. The cycles made so far have all properties that are promised of a run.
+/// Makes the next cycle, and returns `DONE`. Returns `CLOSED` if no ring is held; otherwise `NO` if all cycles of the document have been
+/// made. After these two nothing changes. The cycles made so far have all properties that are promised of a run.
 #[unsafe(no_mangle)]
 pub extern "C" fn sercos_ring_cycle(alloc: Global, ring: &mut Handle) -> u8
     ensures closed { (result == closed) ≡ not (is_ring ring.old.held.value) }
@@ -108,8 +103,11 @@ pub extern "C" fn sercos_ring_cycle(alloc: Global, ring: &mut Handle) -> u8
     status
 }
 
-/// Writes the trace lines of the cycle that was made last to the front of `out`; none before the first. Returns `CLOSED` if no ring is
-/// held, and then nothing is written; otherwise `WRITE_FAULT` if there is too little room, and then `written` is 0.
+/// Writes the trace lines of the cycle that was made last, none before the first, to the front of `out`, and the number of their bytes to
+/// `written`, and returns `DONE`. The ring stays as it was. Returns `CLOSED` if no ring is held, or if the cycle reports a plan without a
+/// slot for each drive, and then nothing is written; a ring that was opened from a document never reports such a plan. Otherwise it returns
+/// `WRITE_FAULT` if there is too little room, and then `written` is 0. Afterwards the bytes of `out` after the text are unspecified; after
+/// `WRITE_FAULT` all of them are.
 #[unsafe(no_mangle)]
 pub extern "C" fn sercos_ring_lines(
     alloc: Global,
@@ -130,8 +128,10 @@ pub extern "C" fn sercos_ring_lines(
     status
 }
 
-/// Writes the last line of the trace to the front of `out`: the totals of the cycles made so far. Returns `CLOSED` if no ring is held,
-/// and then nothing is written; otherwise `WRITE_FAULT` if there is too little room, and then `written` is 0.
+/// Writes the last line of the trace, the totals of the cycles made so far, to the front of `out`, and the number of its bytes to
+/// `written`, and returns `DONE`. The ring stays as it was. Returns `CLOSED` if no ring is held, and then nothing is written; otherwise
+/// `WRITE_FAULT` if there is too little room, and then `written` is 0. Afterwards the bytes of `out` after the text are unspecified; after
+/// `WRITE_FAULT` all of them are.
 #[unsafe(no_mangle)]
 pub extern "C" fn sercos_ring_end(
     alloc: Global,

@@ -5,12 +5,12 @@ ghost use Rattle.sercos_ring.specs.Kept.{AfterCycle, IsNextOf, cycles_made, newe
 ghost use Rattle.sercos_law_run.specs.Totals.Counting.{HasRoom, IsFew, with_cycle};
 ghost use Rattle.sercos_trace.specs.Views.{CycleView};
 ghost use Rattle.sercos_trace.specs.Texts.{header_text, end_text};
-ghost use Rattle.sercos_block.specs.Rings.{wishes_of};
 ghost use Rattle.sercos_config.specs.Views.{DocumentView};
 ghost use Rattle.sercos_law_run.specs.Totals.Totals.{totals_of};
 ghost use Rattle.sercos_opened.specs.Kept.{script_carry, script_restarts, IsKept};
 ghost use Rattle.sercos_c.specs.Statuses.{done, answer_no, closed};
 ghost use Rattle.sercos_c.specs.Texts.{IsText};
+ghost use Rattle.sercos_block.specs.Rings.{wishes_of};
 
 use crate::status::{CLOSED, DONE, NO};
 use crate::texts::{has_slots, put_cycle, put_end, put_head};
@@ -36,7 +36,8 @@ pub(crate) struct RingStation {
     ghost few: { cycles ≤ 50000 },
 }
 
-// Returns whether the counts of the totals have room for one more cycle.
+// Returns whether each count of the totals has room below 2^32: for one more cycle and fall, 128 more requests of each outcome, and 195
+// more undetected arrivals.
 fn has_room(totals: &Totals) -> bool
     ensures yes { result ≡ true → HasRoom totals.now }
     ensures room { HasRoom totals.now → result ≡ true }
@@ -49,7 +50,9 @@ fn has_room(totals: &Totals) -> bool
         && totals.unseen < u32::MAX - 194
 }
 
-// Adds a cycle to the totals, if their counts have room for it and its `unseen` is at most 195.
+// Adds a cycle to the totals. Each count of the totals must have room below 2^32: for one more cycle and fall, 128 more requests of each
+// outcome, and 195 more undetected arrivals. The cycle must have at most 195 undetected arrivals. Then it has at most 128 requests of each
+// outcome. Without these premises the totals are unspecified.
 fn count(totals: &mut Totals, made: &CycleRecord)
     ensures counted { HasRoom totals.old → made.now.unseen ≤ 195 → totals.new ≡ with_cycle totals.old made.now }
     ensures few { HasRoom totals.old → made.now.unseen ≤ 195 → IsFew made.now }
@@ -59,7 +62,10 @@ fn count(totals: &mut Totals, made: &CycleRecord)
     }
 }
 
-// Makes the next cycle, and adds it to the totals.
+// Makes the next cycle of a ring that has made fewer than 2^31. The cycle has at most 66 telegrams. It is added to the totals. Each count
+// of the totals must have room below 2^32: for one more cycle and fall, 128 more requests of each outcome, and 195 more undetected
+// arrivals. If the cycle has at most 195 undetected arrivals, it has at most 128 requests of each outcome. Without these premises the
+// totals are unspecified.
 fn make(ring: &mut Ring<Scripted>, totals: &mut Totals)
     requires { cycles_made ring.old < 2 ^ 31 }
     ensures after { AfterCycle ⟦<Scripted as BitLink>⟧.carry ⟦<Scripted as BitLink>⟧.restart ring.old ring.new }
@@ -76,7 +82,8 @@ fn make(ring: &mut Ring<Scripted>, totals: &mut Totals)
 impl RingStation {
     ghost use Rattle.sercos_c.specs.Rings.{lines_of_newest, RingGoes};
 
-    /// Makes the next cycle. Returns `NO`, and changes nothing, if all cycles have been made.
+    /// Makes the next cycle, and returns `DONE`. Returns `NO`, and changes nothing, if all cycles have been made. The cycles made so far
+    /// have all properties that are promised of a run.
     pub(crate) fn cycle(&mut self) -> u8
         ensures status { result ≡ (if nat_lt self.old.made self.old.cycles then done else answer_no) }
         ensures goes { (d : DocumentView) (j : List CycleView) → RingGoes self.old d j → result ≡ done → (v : CycleView) × RingGoes self.new d (v ∷ j) }
@@ -95,8 +102,9 @@ impl RingStation {
         DONE
     }
 
-    /// Writes the first lines of the trace to the front of `out`: the version, the ring, the drives, the order. Returns `WRITE_FAULT` if
-    /// there is too little room, and then `written` is 0.
+    /// Writes the first lines of the trace, the version, the ring, the drives and the order, to the front of `out`, and the number of their
+    /// bytes to `written`, and returns `DONE`. Returns `WRITE_FAULT` if there is too little room, and then `written` is 0. Afterwards the
+    /// bytes of `out` after the text are unspecified; after `WRITE_FAULT` all of them are.
     pub(crate) fn head(&self, out: &mut [u8], written: &mut usize) -> u8
         ensures written { (d : DocumentView) (j : List CycleView) → RingGoes self.now d j → IsText (header_text (wishes_of d.setup)) out.old out.new written.new result }
         ensures open { result ≢ closed }
@@ -104,8 +112,10 @@ impl RingStation {
         put_head(&self.wishes, out, written)
     }
 
-    /// Writes the trace lines of the cycle that was made last to the front of `out`; none before the first. Returns `WRITE_FAULT` if
-    /// there is too little room, and then `written` is 0.
+    /// Writes the trace lines of the cycle that was made last, none before the first, to the front of `out`, and the number of their bytes
+    /// to `written`, and returns `DONE`. Returns `WRITE_FAULT` if there is too little room, and then `written` is 0. Afterwards the bytes
+    /// of `out` after the text are unspecified; after `WRITE_FAULT` all of them are. Returns `CLOSED`, and writes nothing, if the cycle
+    /// reports a plan without a slot for each drive; a ring that was opened from a document never does.
     pub(crate) fn lines(&self, out: &mut [u8], written: &mut usize) -> u8
         ensures written { (d : DocumentView) (j : List CycleView) → RingGoes self.now d j →
             IsText (lines_of_newest (wishes_of d.setup) j) out.old out.new written.new result }
@@ -122,8 +132,9 @@ impl RingStation {
         put_cycle(&self.wishes, self.ring.newest(), out, written)
     }
 
-    /// Writes the last line of the trace, with the totals of the cycles made so far, to the front of `out`. Returns `WRITE_FAULT` if
-    /// there is too little room, and then `written` is 0.
+    /// Writes the last line of the trace, the totals of the cycles made so far, to the front of `out`, and the number of its bytes to
+    /// `written`, and returns `DONE`. Returns `WRITE_FAULT` if there is too little room, and then `written` is 0. Afterwards the bytes of
+    /// `out` after the text are unspecified; after `WRITE_FAULT` all of them are.
     pub(crate) fn end(&self, out: &mut [u8], written: &mut usize) -> u8
         ensures written { (d : DocumentView) (j : List CycleView) → RingGoes self.now d j → IsText (end_text (totals_of (reverse j))) out.old out.new written.new result }
         ensures open { result ≢ closed }

@@ -1,10 +1,10 @@
 //! Contents that are written to the front of a room.
-ghost use Rattle.sercos_c.specs.Room.{IsPut};
+ghost use Rattle.sercos_c.specs.Clauses.{IsPut};
 
 use crate::status::{DONE, WRITE_FAULT};
 
-/// Writes a content to the front of `out`, and the number of its bytes to `written`. Returns `WRITE_FAULT` if there is too little room;
-/// then nothing is written to `out`, and `written` is 0.
+/// Writes a content to the front of `out`, and the number of its bytes to `written`, and returns `DONE`. The bytes of `out` after it stay
+/// as they were. Returns `WRITE_FAULT` if there is too little room; then `out` stays as it was, and `written` is 0.
 pub(crate) fn put(content: &[u8], out: &mut [u8], written: &mut usize) -> u8
     ensures { IsPut content.now out.old out.new written.new result }
 {

@@ -4,7 +4,8 @@ ghost use Rattle.sercos_model.specs.Streams.{last_count};
 
 use sercos_io::{ReadFailed, Sink, Source, WriteFailed};
 
-// Copies bytes from the front of `from` to the front of `into`, as many as both have, and returns their number.
+// Copies bytes from the front of `from` to the front of `into`, as many as both have, and returns their number. The bytes of `into` after
+// these stay.
 fn copy_front(from: &[u8], into: &mut [u8]) -> usize
     ensures count { result ≡ min (length into.old) (length from.now) }
     ensures copied { into.new ≡ take result from.now ++ drop result into.old }
@@ -25,7 +26,8 @@ impl<'a> Source for SliceSource<'a> {
 
     ghost faults = { λ _. 0 };
 
-    /// Returns the next bytes, as many as the piece holds and as are left.
+    /// Copies the next bytes to the front of `piece`, as many as it holds, or all that are left if these are fewer, and returns their number.
+    /// The other bytes of `piece` are unchanged. It never returns an error.
     fn read(&mut self, piece: &mut [u8]) -> Result<usize, ReadFailed> {
         let count = copy_front(self.bytes, piece);
         self.bytes = &self.bytes[count..];
@@ -68,7 +70,8 @@ impl<'a> Sink for SliceSink<'a> {
 
     ghost room = { λ s. length s.room.now - s.place };
 
-    /// Takes bytes from the front of the piece, as many as have room. It fails if there is no room for a piece that isn't empty.
+    /// Takes bytes from the front of the piece, as many as have room, and returns their number. The error is `WriteFailed` if there is no
+    /// room, and the piece isn't empty.
     fn write(&mut self, piece: &[u8]) -> Result<usize, WriteFailed> {
         let place = self.place;
         if place == self.room.len() && !piece.is_empty() {

@@ -1,12 +1,7 @@
 //! The time slots of a ring: the least plan, or why there is none.
 ghost use Rattle.std.specs.Prelude.{◌≡◌, ◌≢◌, ◌<◌, ◌≤◌, ◌⊎◌, length, map, take, drop};
-ghost use Rattle.sercos_timing.specs.Views.{PlanView};
-ghost use Rattle.sercos_timing.specs.Valid.{IsValid};
-ghost use Rattle.sercos_plan.specs.Least.{IsLeast, NoneFits};
-ghost use Rattle.sercos_plan.specs.Chains.{IsChain};
-ghost use Rattle.sercos_plan.specs.ChainOf.{chain_of};
-ghost use Rattle.sercos_c.specs.Statuses.{done, answer_no, refused, write_fault};
-ghost use Rattle.sercos_c.specs.Slots.{wish_of, wishes_of, plan_of, link_of, chain_from, HaveRoom};
+ghost use Rattle.sercos_c.specs.Clauses.{PlanView, IsValid, IsLeast, NoneFits, IsChain, chain_of, done, answer_no, refused, write_fault, wish_of, plan_of, link_of, chain_from, HaveRoom};
+ghost use Rattle.sercos_c.specs.Slots.{wishes_of};
 
 use crate::status::{DONE, NO, REFUSED, WRITE_FAULT};
 use arrayvec::ArrayVec;
@@ -129,7 +124,7 @@ fn wish_of(drive: &SercosWish) -> Wish
     }
 }
 
-// Returns the planner's input of the drives, in their order.
+// Returns the planner's input of the drives, at most 64, in their order.
 fn drives_of(drives: &[SercosWish]) -> ArrayVec<Wish, 64>
     requires { length drives.now ≤ 64 }
     ensures { result.items ≡ map wish_of drives.now }
@@ -141,7 +136,7 @@ fn drives_of(drives: &[SercosWish]) -> ArrayVec<Wish, 64>
     wishes
 }
 
-// Returns a copy of the order of the ATs: the indices of the drives in the ring, from 0.
+// Returns a copy of the order of the ATs: the indices of the drives in the ring, from 0, at most 64.
 fn order_of(order: &[u8]) -> ArrayVec<u8, 64>
     requires { length order.now ≤ 64 }
     ensures { result.items ≡ order.now }
@@ -153,7 +148,8 @@ fn order_of(order: &[u8]) -> ArrayVec<u8, 64>
     places
 }
 
-// Returns the planner's input of a ring: its numbers, its drives, and the order of the ATs as the drives' indices, from 0.
+// Returns the planner's input of a ring: its numbers, its drives, and the order of the ATs as the drives' indices, from 0. There must be at
+// most 64 of each.
 fn wishes_of(ring: &SercosRingTimes, drives: &[SercosWish], order: &[u8]) -> Wishes
     requires drives { length drives.now ≤ 64 }
     requires order { length order.now ≤ 64 }
@@ -169,7 +165,8 @@ fn wishes_of(ring: &SercosRingTimes, drives: &[SercosWish], order: &[u8]) -> Wis
     }
 }
 
-// Writes the slots of a plan: for each drive the start of its AT, `t1`, in microseconds, and the position of its record.
+// Writes all of `slots`: for each drive the start of its AT, `t1`, in microseconds, and the position of its record. `t1` and `position`
+// must have exactly one entry for each slot.
 fn write_slots(t1: &[u16], position: &[u16], slots: &mut [SercosSlot])
     requires t1 { length t1.now ≡ length slots.old }
     requires position { length position.now ≡ length slots.old }
@@ -207,7 +204,7 @@ fn of_link(link: &Link) -> SercosLink
     }
 }
 
-// Writes the links of a chain.
+// Writes all of `links`: the links of a chain. `links` must have exactly one entry for each.
 fn write_links(from: &[Link], links: &mut [SercosLink])
     requires { length from.now ≡ length links.old }
     ensures { map link_of links.new ≡ from.now }
@@ -230,8 +227,9 @@ fn end_of(chain: &Chain) -> SercosChain
     }
 }
 
-// Writes the times and slots of the least plan of a valid ring, and returns `DONE`. If no plan fits, writes the chain of inequalities
-// that proves it to `chain` and `links`, and returns `NO`. There are as many slots as drives, and at least 66 links.
+// Writes the times and slots of the least plan of a valid ring, and returns `DONE`. If no plan fits, writes the chain of inequalities that
+// proves it to `chain` and `links`, and returns `NO`. There must be as many slots as drives, and at least 66 links. `times` and `slots`
+// change only if the result is `DONE`, and `chain` and the first `chain.links` of `links` only if it is `NO`.
 fn write_plan(
     w: &Wishes,
     times: &mut SercosPlanTimes,
@@ -268,11 +266,12 @@ fn write_plan(
     }
 }
 
-/// Writes the least plan of a ring: its times, and a slot for each drive in the order of the ring. `order` has the indices of the drives,
-/// from 0, in the order of their ATs. Returns `REFUSED` if the ring or a drive is not valid, or if there are not 1 to 64 drives.
-/// Otherwise it returns `WRITE_FAULT` if there are fewer slots than drives or fewer than 66 links. Otherwise it returns `NO` if no plan
-/// fits: `chain` and the first `chain.links` of `links` are then the chain of inequalities that proves it. `times` and `slots` change
-/// only if the result is `DONE`, and `chain` and `links` only if it is `NO`.
+/// Writes the least plan of a ring, as its times and a slot for each drive in the order of the ring, and returns `DONE`. `order` has the
+/// indices of the drives, from 0, in the order of their ATs. Returns `REFUSED` if the ring, a drive or the order is not valid, or if there
+/// are not 1 to 64 drives. Otherwise it returns `WRITE_FAULT` if there are fewer slots than drives or fewer than 66 links. Otherwise it
+/// returns `NO` if no plan fits: `chain` and the first `chain.links` of `links`, at most 66, are then the chain of inequalities that proves
+/// it. `times` and `slots` change only if the result is `DONE`, and `chain` and `links` only if it is `NO`. Further slots and links stay as
+/// they were.
 #[unsafe(no_mangle)]
 pub extern "C" fn sercos_plan(
     ring: &SercosRingTimes,

@@ -1,13 +1,6 @@
 //! The telegrams of a ring: MST, MDT and AT (IEC 61491:1995).
-ghost use Rattle.std.specs.Prelude.{◌≡◌, ◌≢◌, ℕ, ◌+◌, ◌*◌, ◌/◌, ◌%◌, ◌^◌, ◌<◌, ◌≤◌, true, false, List, ◌∷◌, length, drop, slice_index, slice_range, None};
-ghost use Rattle.sercos_telegram.specs.Faults.{mst_fault, single_fault, joint_fault, at_fault};
-ghost use Rattle.sercos_telegram.specs.Words.{control_word, control_of, status_word, status_of};
-ghost use Rattle.sercos_telegram.specs.Spells.{word_at, mst_content, single_content, at_content, record_bytes, SpellsAt, SpellsRecord};
-ghost use Rattle.sercos_telegram.specs.declared.words.Control.{Control};
-ghost use Rattle.sercos_telegram.specs.declared.words.Status.{Status};
-ghost use Rattle.sercos_c.specs.Statuses.{done, refused};
-ghost use Rattle.sercos_c.specs.Room.{IsPut, IsNothing};
-ghost use Rattle.sercos_c.specs.Telegrams.{read_status, layout_of, record_of, at_of, is_record, is_at, can_have, record_content, single_of, at_content_of};
+ghost use Rattle.std.specs.Prelude.{◌≡◌, ◌≢◌, ℕ, ◌+◌, ◌*◌, ◌%◌, ◌^◌, ◌<◌, ◌≤◌, true, false, List, ◌∷◌, length, drop, slice_index, slice_range, None};
+ghost use Rattle.sercos_c.specs.Clauses.{mst_fault, single_fault, joint_fault, at_fault, control_word, control_of, status_word, status_of, word_at, mst_content, single_content, at_content, record_bytes, SpellsAt, SpellsRecord, Control, Status, done, refused, IsPut, IsNothing, read_status, layout_of, record_of, at_of, is_record, is_at, can_have, record_content, single_of, at_content_of};
 
 use crate::layouts::{SercosLayout, layout_of, no_fault};
 use crate::room::put;
@@ -74,7 +67,8 @@ pub struct SercosAt {
     pub info: u16,
 }
 
-/// Reads an MST. Returns `NO`, with the reason in `why`, if the content isn't one; then `mst` stays as it was.
+/// Reads an MST into `mst`, and returns `DONE`. Returns `NO`, with the reason in `why`, if the content isn't one; then `mst` stays as it
+/// was. Otherwise all fields of `why` are 0.
 #[unsafe(no_mangle)]
 pub extern "C" fn sercos_mst_read(content: &[u8], mst: &mut SercosMst, why: &mut SercosLayout) -> u8
     ensures status { result ≡ read_status (mst_fault content.now) }
@@ -112,9 +106,9 @@ fn at_of(at: &At<'_>) -> SercosAt
     }
 }
 
-/// Reads the AT of an address with `at_len` bytes after the address. Its values are the bytes of the content from offset 5 on. Returns
-/// `REFUSED` if `at_len` is below 4; otherwise `NO`, with the reason in `why`, if the content isn't such an AT. Then `at` stays as it
-/// was.
+/// Reads the AT of an address with `at_len` bytes after the address into `at`, and returns `DONE`. Its values are the bytes of the content
+/// from offset 5 on. Returns `REFUSED` if `at_len` is below 4; otherwise `NO`, with the reason in `why`, if the content isn't such an AT.
+/// After both `at` stays as it was. Unless the result is `NO`, all fields of `why` are 0.
 #[unsafe(no_mangle)]
 pub extern "C" fn sercos_at_read(
     address: u8,
@@ -162,8 +156,8 @@ fn record_of(control: &Control, info: u16) -> SercosRecord
     }
 }
 
-/// Reads the MDT of phases 1 and 2 to the drive with this address. Returns `NO`, with the reason in `why`, if the content isn't one; then
-/// `part` stays as it was.
+/// Reads the MDT of phases 1 and 2 to the drive with this address into `part`, and returns `DONE`. Returns `NO`, with the reason in `why`,
+/// if the content isn't one; then `part` stays as it was. Otherwise all fields of `why` are 0.
 #[unsafe(no_mangle)]
 pub extern "C" fn sercos_single_read(
     address: u8,
@@ -192,7 +186,8 @@ pub extern "C" fn sercos_single_read(
     }
 }
 
-// Returns whether an MDT with `mdt_len` bytes after its address can have a record of `record_len` bytes at a position.
+// Returns whether an MDT with `mdt_len` bytes after its address can have a record of `record_len` bytes at a position: the position is 1 or
+// more, the record has at least 4 bytes, and it ends within the MDT.
 fn has_record(mdt_len: u16, position: u16, record_len: u16) -> bool
     ensures { result ≡ can_have mdt_len position record_len }
 {
@@ -200,10 +195,11 @@ fn has_record(mdt_len: u16, position: u16, record_len: u16) -> bool
     1 <= position && WORDS <= record_len && end <= u32::from(mdt_len) + 1
 }
 
-/// Reads the record of `record_len` bytes at a position of the MDT of phases 3 and 4, which has `mdt_len` bytes after its address. The
-/// first position is 1, and the values are at the offsets position + 4 to position + `record_len` - 1 of the content. Returns `REFUSED`
-/// if the position is 0, the record has fewer than 4 bytes, or it ends after the MDT; otherwise `NO`, with the reason in `why`, if the
-/// content isn't such an MDT. Then `part` stays as it was.
+/// Reads the record of `record_len` bytes at a position of the MDT of phases 3 and 4, which has `mdt_len` bytes after its address, into
+/// `part`, and returns `DONE`. The first position is 1, and the values are at the offsets position + 4 to position + `record_len` - 1 of
+/// the content. Returns `REFUSED` if the position is 0, the record has fewer than 4 bytes, or it ends after the MDT; otherwise `NO`, with
+/// the reason in `why`, if the content isn't such an MDT. After both `part` stays as it was. Unless the result is `NO`, all fields of `why`
+/// are 0.
 #[unsafe(no_mangle)]
 pub extern "C" fn sercos_joint_read(
     mdt_len: u16,
@@ -240,8 +236,8 @@ pub extern "C" fn sercos_joint_read(
     }
 }
 
-/// Writes an MST to the front of `out`. Returns `REFUSED` if the phase is above 4; otherwise `WRITE_FAULT` if there is too little
-/// room. Then nothing is written, and `written` is 0.
+/// Writes an MST to the front of `out`, and the number of its bytes to `written`, and returns `DONE`. Returns `REFUSED` if the phase is
+/// above 4; otherwise `WRITE_FAULT` if there is too little room. After both `out` stays as it was, and `written` is 0.
 #[unsafe(no_mangle)]
 pub extern "C" fn sercos_mst_write(mst: &SercosMst, out: &mut [u8], written: &mut usize) -> u8
     ensures put { mst.now.phase ≤ 4 → IsPut (mst_content mst.now.phase) out.old out.new written.new result }
@@ -263,7 +259,7 @@ fn is_at(at: &SercosAt) -> bool
     at.cyclic % 8 == 0 && at.cyclic % 64 < 32
 }
 
-// Replaces a content by that of an AT with at most 64 bytes of values.
+// Replaces a content by that of an AT with at most 64 bytes of values. The cyclic bits must be at their places, 3, 4 and 15 to 6.
 fn spell_at(at: &SercosAt, values: &[u8], content: &mut Content)
     requires fields { is_at at.now ≡ true }
     requires few { length values.now ≤ 64 }
@@ -285,8 +281,9 @@ fn spell_at(at: &SercosAt, values: &[u8], content: &mut Content)
     write_at(&at, content);
 }
 
-/// Writes an AT with its values to the front of `out`. Returns `REFUSED` if cyclic bits are not at their places, or if there are
-/// more than 64 bytes of values; otherwise `WRITE_FAULT` if there is too little room. Then nothing is written, and `written` is 0.
+/// Writes an AT with its values to the front of `out`, and the number of its bytes to `written`, and returns `DONE`. Returns `REFUSED` if
+/// the cyclic bits are not at their places, 3, 4 and 15 to 6, or if there are more than 64 bytes of values; otherwise `WRITE_FAULT` if
+/// there is too little room. After both `out` stays as it was, and `written` is 0.
 #[unsafe(no_mangle)]
 pub extern "C" fn sercos_at_write(
     at: &SercosAt,
@@ -316,7 +313,7 @@ fn is_record(part: &SercosRecord) -> bool
     part.element < 8 && part.cyclic % 64 == 0
 }
 
-// Returns the control word of a record.
+// Returns the control word of a record. The element must be at most 7, and the cyclic bits at their places, 15 to 6.
 fn control_of(part: &SercosRecord) -> Control
     requires { is_record part.now ≡ true }
     ensures { part.now ≡ record_of result part.now.info }
@@ -330,9 +327,9 @@ fn control_of(part: &SercosRecord) -> Control
     }
 }
 
-/// Writes the MDT of phases 1 and 2 to the drive with this address to the front of `out`. Returns `REFUSED` if the element is above 7, or
-/// if cyclic bits are not at their places; otherwise `WRITE_FAULT` if there is too little room. Then nothing is written, and `written` is
-/// 0.
+/// Writes the MDT of phases 1 and 2 to the drive with this address to the front of `out`, and the number of its bytes to `written`, and
+/// returns `DONE`. Returns `REFUSED` if the element is above 7, or if the cyclic bits are not at their places, 15 to 6; otherwise
+/// `WRITE_FAULT` if there is too little room. After both `out` stays as it was, and `written` is 0.
 #[unsafe(no_mangle)]
 pub extern "C" fn sercos_single_write(
     address: u8,
@@ -354,7 +351,8 @@ pub extern "C" fn sercos_single_write(
     put(content.as_slice(), out, written)
 }
 
-// Replaces a content by the address of all drives, 255, and the bytes of a record with at most 2,043 bytes of values.
+// Replaces a content by the address of all drives, 255, and the bytes of a record with at most 2,043 bytes of values. The element must be
+// at most 7, and the cyclic bits at their places, 15 to 6.
 fn spell_record(part: &SercosRecord, values: &[u8], content: &mut Content)
     requires fields { is_record part.now ≡ true }
     requires few { length values.now ≤ 2043 }
@@ -369,9 +367,10 @@ fn spell_record(part: &SercosRecord, values: &[u8], content: &mut Content)
     let _fits = joint_record(&record, content);
 }
 
-/// Writes the bytes of one record of the MDT of phases 3 and 4 to the front of `out`: four, and those of its values. Returns `REFUSED` if
-/// the element is above 7, if cyclic bits are not at their places, or if the record has more than 2,047 bytes; otherwise `WRITE_FAULT` if
-/// there is too little room. Then nothing is written, and `written` is 0.
+/// Writes the bytes of one record of the MDT of phases 3 and 4 to the front of `out`: four, and those of its values. Writes their number to
+/// `written`, and returns `DONE`. Returns `REFUSED` if the element is above 7, if the cyclic bits are not at their places, 15 to 6, or if
+/// the record has more than 2,047 bytes; otherwise `WRITE_FAULT` if there is too little room. After both `out` stays as it was, and
+/// `written` is 0.
 #[unsafe(no_mangle)]
 pub extern "C" fn sercos_record_write(
     part: &SercosRecord,

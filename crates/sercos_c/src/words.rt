@@ -1,7 +1,6 @@
 //! The words of a text.
 ghost use Rattle.std.specs.Prelude.{◌≡◌, IfOk, MatchOption};
-ghost use Rattle.sercos_c.specs.Texts.{AreTexts};
-ghost use Rattle.sercos_answer.specs.Lines.{lines_of};
+ghost use Rattle.sercos_c.specs.Clauses.{AreTexts, lines_of};
 
 use sercos_answer::cut_line;
 use sercos_io::Words;

@@ -1,3 +1,4 @@
-pub mod TopCall
-pub mod Outcome
+pub mod Clauses
 pub mod Giving
+pub mod Outcome
+pub mod TopCall

@@ -1,9 +1,7 @@
-// What a command writes.
+// What a command writes. If a write fails, the sink has accepted a proper prefix of the text, and its count of faults has risen or is
+// 2^64 - 1; otherwise it has accepted the whole, and the count is unchanged. A sink with room for the whole doesn't fail.
 ghost use Rattle.std.specs.Prelude.{◌≡◌, ◌≢◌, ◌⊎◌};
-ghost use Rattle.sercos_document.specs.Lines.{line_of};
-ghost use Rattle.sercos_call.specs.Giving.{GivesOrRefuses, GivesReply};
-ghost use Rattle.sercos_call.specs.Outcome.{Writes, changed};
-ghost use Rattle.sercos_call.specs.TopCall.{fault_status};
+ghost use Rattle.sercos_call.specs.Clauses.{line_of, GivesOrRefuses, GivesReply, Writes, changed, fault_status};
 
 use sercos_answer::Reply;
 use sercos_config::{BadDocument, write_refusal};
@@ -21,7 +19,7 @@ pub fn fault_status(status: Status) -> Status
     }
 }
 
-// Writes a reply, and returns its status. If the write fails, the status is that of [`fault_status`].
+// Writes a reply, and returns its status. If the write fails, the status is `Refused` for a reply with this status, otherwise `WriteFault`.
 fn give_reply<K: Sink>(reply: &Reply, sink: &mut K) -> Status
     ensures { Writes reply.now.status reply.now.text.items
         (changed K.held K.faults K.room sink.old sink.new) result }
@@ -32,8 +30,8 @@ fn give_reply<K: Sink>(reply: &Reply, sink: &mut K) -> Status
     }
 }
 
-/// Writes a reply, and returns its status. If the write fails, the status is that of [`fault_status`]. If there was no memory to make the
-/// reply, the status is `Memory`, and nothing is written.
+/// Writes a reply, and returns its status. If the write fails, the status is `Refused` for a reply with this status, otherwise
+/// `WriteFault`. If there was no memory to make the reply, the status is `Memory`, and the sink is unchanged.
 pub fn give_if_made<K: Sink>(made: &Result<Reply, AllocError>, sink: &mut K) -> Status
     ensures { GivesReply made.now (changed K.held K.faults K.room sink.old sink.new) (sink.new ≡ sink.old) result }
 {
@@ -43,7 +41,7 @@ pub fn give_if_made<K: Sink>(made: &Result<Reply, AllocError>, sink: &mut K) -> 
     }
 }
 
-// Writes the refusal of a document, and returns `Refused`, also if the write fails.
+// Writes the refusal of a document, which isn't `Memory`, and returns `Refused`, also if the write fails.
 fn give_refusal<K: Sink>(bad: &BadDocument, sink: &mut K) -> Status
     requires { bad.now ≢ BadDocument.Memory }
     ensures { Writes Status.Refused (line_of bad.now)
@@ -55,8 +53,8 @@ fn give_refusal<K: Sink>(bad: &BadDocument, sink: &mut K) -> Status
     }
 }
 
-/// Writes the refusal of a document, and returns `Refused`, also if the write fails. If the cause is `Memory`, the status is `Memory`,
-/// and nothing is written.
+/// Writes the refusal of a document, and returns `Refused`, also if the write fails. If the cause is `Memory`, the status is `Memory`, and
+/// the sink is unchanged.
 pub fn refuse<K: Sink>(bad: &BadDocument, sink: &mut K) -> Status
     ensures { ((bad.now ≡ BadDocument.Memory) × (result ≡ Status.Memory) × (sink.new ≡ sink.old))
         ⊎ ((bad.now ≢ BadDocument.Memory) × Writes Status.Refused (line_of bad.now) (changed K.held K.faults K.room sink.old sink.new) result) }
@@ -67,8 +65,9 @@ pub fn refuse<K: Sink>(bad: &BadDocument, sink: &mut K) -> Status
     give_refusal(bad, sink)
 }
 
-/// Writes a reply, and returns its status; or writes the refusal of the document, as [`refuse`] does, if it was refused instead. If
-/// writing the reply fails, the status is that of [`fault_status`].
+/// Writes a reply, and returns its status. If that write fails, the status is `Refused` for a reply with this status, otherwise
+/// `WriteFault`. If the document was refused instead, writes the refusal, and returns `Refused`, also if the write fails. If the cause is
+/// `Memory`, the status is `Memory`, and the sink is unchanged.
 pub fn give_or_refuse<K: Sink>(made: &Result<Reply, BadDocument>, sink: &mut K) -> Status
     ensures { GivesOrRefuses made.now (changed K.held K.faults K.room sink.old sink.new) (sink.new ≡ sink.old) result }
 {

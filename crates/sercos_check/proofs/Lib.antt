@@ -1,7 +1,6 @@
 mod AtLemmas
 mod CheckerLemmas
 mod FoundLemmas
-mod FrameLemmas
 mod LawLemmas
 mod RoundLemmas
 mod ShapeLemmas

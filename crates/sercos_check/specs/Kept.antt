@@ -1,4 +1,5 @@
--- What is kept of the telegrams of a capture, the telegrams that it stands for, and the rules over what is kept.
+-- What is kept of the telegrams of a capture, how it is related to them, and the rules tested with
+-- it.
 use Rattle.std.specs.Prelude.{◌≡◌, ℕ, ℤ, pos, ◌*◌, ◌+ℤ◌, ◌<◌, nat_lt, Bool, true, false, not, ◌&&◌, ◌||◌, if◌then◌else◌, List, [], ◌∷◌, length, Option, Some, None, slice_index_or, slice_set}
 use Rattle.std.specs.Int.Signed.{le_z}
 use Rattle.sercos_telegram.specs.declared.layout.Kind.{Kind}
@@ -11,8 +12,9 @@ use Rattle.sercos_check.specs.declared.marks.Note.{Note}
 use Rattle.sercos_check.specs.Seen.{Told, command_of, command_before, phase_of, newest_in, has_mdt, has_at_from, mark_before, address_of, wish_for, slave_of, mark_of, end_of, note_of}
 use Rattle.sercos_check.specs.Rules.{is_next_cycle, goes_on, keeps_frame, keeps_layout, keeps_phase, keeps_start, keeps_gap, is_cyclic_at, is_after_mark, is_cyclic_mdt, keeps_end, is_after_all}
 
--- the command of the newest MST; of its cycle the newest telegram, whether there is an MDT, the address bytes that sent an AT, the
--- newest AT of each slave, and the time from which an MDT may start
+-- the command of the newest MST; of its cycle: the newest telegram, whether an MDT was sent, the
+-- address bytes that sent an AT, the newest AT of each slave, and the time from which an MDT may
+-- start
 pub record SeenState : Type 0 where
   pub command : Option Command
   pub newest : Option Note
@@ -21,7 +23,7 @@ pub record SeenState : Type 0 where
   pub marks : List (Option Mark)
   pub free_at : Option ℤ
 
--- a start is not before a time, if there is one
+-- a start is not before a time; without a time it isn't
 abbrev pub is_from : Option ℤ → ℤ → Bool
 is_from None start = true
 is_from (Some time) start = le_z time start
@@ -32,7 +34,7 @@ heard_in v address = slice_index_or v.heard address false
 abbrev pub mark_in : SeenState → ℕ → Option Mark
 mark_in v slave = slice_index_or v.marks slave None
 
--- What is kept are these functions of the telegrams so far, the newest first.
+-- What is kept equals these functions of the telegrams so far, the newest first.
 pub record SeenStandsFor (v : SeenState) (w : WishesView) (before : List Told) : Type 0 where
   pub command_is : v.command ≡ command_before before
   pub newest_is : v.newest ≡ newest_in w before
@@ -41,7 +43,7 @@ pub record SeenStandsFor (v : SeenState) (w : WishesView) (before : List Told) :
   pub marks_are : (slave : ℕ) → slave < 256 → mark_in v slave ≡ mark_before w slave before
   pub free_is : (start : ℤ) → is_from v.free_at start ≡ is_after_all w before start
 
--- the rules that look further back than at the newest MST and the newest telegram
+-- the rules that need more than the newest MST and the newest telegram
 abbrev pub is_alone_by : SeenState → SentView → Bool
 is_alone_by v s = not (nat_lt 0 (length s.content) && heard_in v (address_of s))
 
@@ -74,7 +76,7 @@ kept_by v w cycle s =
     ∷ keeps_end w (phase_of v.command) s
     ∷ []
 
--- What is kept after an MST: a cycle begins.
+-- What is kept after an MST, which begins a cycle.
 pub record IsBegun (v : SeenState) (w : WishesView) (cycle : ℕ) (s : SentView) : Type 0 where
   pub command_is : v.command ≡ Some (command_of (record { cycle = cycle; sent = s }))
   pub newest_is : v.newest ≡ Some (note_of w s)
@@ -83,12 +85,12 @@ pub record IsBegun (v : SeenState) (w : WishesView) (cycle : ℕ) (s : SentView)
   pub none_marked : (slave : ℕ) → mark_in v slave ≡ None
   pub free_is : v.free_at ≡ None
 
--- the times after which an MDT may start, and one more
+-- the later of two times, the first of which may be missing
 abbrev pub later : Option ℤ → ℤ → Option ℤ
 later None time = Some time
 later (Some earlier) time = if le_z earlier time then Some time else Some earlier
 
--- the address byte of an AT; none for an empty content
+-- with the address byte of an AT; an empty content has none
 abbrev pub with_address : List Bool → SentView → List Bool
 with_address heard s = if nat_lt 0 (length s.content) then slice_set heard (address_of s) true else heard
 

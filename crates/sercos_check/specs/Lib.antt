@@ -1,3 +1,4 @@
+pub mod Clauses
 pub mod Found
 pub mod Kept
 pub mod Rounds

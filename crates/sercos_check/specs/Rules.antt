@@ -1,4 +1,4 @@
--- The nine rules that the telegrams of a capture keep, and the lowest one that a telegram breaks.
+-- The nine rules for the telegrams of a capture, and the lowest one that a telegram breaks.
 use Rattle.std.specs.Prelude.{ℕ, ℤ, pos, ◌+◌, ◌*◌, ◌+ℤ◌, ◌==◌, nat_lt, nat_le, Bool, true, false, not, ◌&&◌, ◌||◌, if◌then◌else◌, List, [], ◌∷◌, length, max, Option, Some, None, is_none, option_map, slice_index}
 use Rattle.std.specs.List.{list_all, position}
 use Rattle.std.specs.Int.Signed.{le_z}
@@ -17,13 +17,13 @@ use Rattle.sercos_check.specs.declared.marks.Mark.{Mark}
 use Rattle.sercos_check.specs.declared.marks.Note.{Note}
 use Rattle.sercos_check.specs.Seen.{Told, is_mst, is_at, is_mdt, command_before, phase_before, in_cycle, address_of, wish_for, is_drive, slave_of, mark_of, end_of, sender_of, newest_in, has_mdt, has_at_from, mark_before}
 
--- a start is n bit times after the end of a telegram, or later
+-- a start is at least n bit times after the end of a telegram
 abbrev pub is_after : Mark → ℕ → ℤ → Bool
 is_after x n start = le_z (end_of x +ℤ pos n) start
 
--- 1, order: an MST's cycle is the one after that of the MST before, if there was one. An AT or an MDT has the cycle of the newest
--- MST and doesn't start before the telegram before it; no AT and no other MDT follows the MDT of a cycle; no address byte sends two
--- ATs in a cycle.
+-- 1, order: an MST's cycle is the one after that of the MST before, if there was one. An AT or an
+-- MDT has the cycle of the newest MST, and doesn't start before the telegram before it. After the
+-- MDT of a cycle no AT and no other MDT follows. No address byte sends two ATs in a cycle.
 abbrev pub is_next_cycle : Option Command → ℕ → Bool
 is_next_cycle None cycle = true
 is_next_cycle (Some c) cycle = cycle == c.cycle + 1
@@ -36,7 +36,7 @@ abbrev pub starts_later : Option Note → ℤ → Bool
 starts_later None start = true
 starts_later (Some x) start = le_z x.mark.start start
 
--- an AT or an MDT goes on with a cycle that may have an MDT already
+-- an AT or an MDT can follow in the cycle; `mdt` is whether an MDT was sent in it
 abbrev pub goes_on : Option Command → Option Note → Bool → ℕ → ℤ → Bool
 goes_on command newest mdt cycle start = is_same_cycle command cycle && (starts_later newest start && not mdt)
 
@@ -58,9 +58,10 @@ keeps_order w before t = order_of t.sent.kind w before t
 abbrev pub keeps_frame : SentView → Bool
 keeps_frame s = nat_lt 0 (length s.content) && (nat_le (length s.content) 2048 && (s.bits == length (frame_of s.content)))
 
--- 3, layout: an MST reads as one. In phase 0 no AT and no MDT is sent; in phases 1 and 2 both have five bytes and the address of a
--- drive; in phases 3 and 4 an AT has the address of a drive and that drive's length, and the MDT is one to all, of the length of
--- all records.
+-- 3, layout: an MST has the layout of one. In phase 0 no AT and no MDT is sent. In phases 1 and 2
+-- both have five bytes and the address of a drive. In phases 3 and 4 an AT has the address of a
+-- drive and that drive's length, and the MDT has the address of all drives and the length of all
+-- records.
 abbrev pub is_single : WishesView → SentView → Bool
 is_single w s = (length s.content == 5) && is_drive w (address_of s)
 
@@ -86,8 +87,8 @@ is_next_phase (Some c) phase = (phase == c.phase) || ((phase == c.phase + 1) || 
 abbrev pub keeps_phase : Option Command → SentView → Bool
 keeps_phase command s = not (is_mst s.kind) || is_next_phase command (slice_index s.content 1)
 
--- 5, start: an MST ends at 0. In phases 1 and 2 ATs and MDTs have starts of their own; in phases 3 and 4 an AT starts at its
--- drive's T1min or later.
+-- 5, start: an MST ends at 0. In phases 1 and 2 ATs and MDTs start at fixed times. In phases 3 and
+-- 4 an AT starts at its drive's T1min or later.
 abbrev pub start_of : Kind → WishesView → ℕ → SentView → Bool
 start_of telegram.Mst w phase s = int_eq (end_of (mark_of s)) (pos 0)
 start_of telegram.At w phase s =
@@ -97,7 +98,7 @@ start_of telegram.Mdt w phase s = not (nat_lt phase 3) || int_eq s.start (pos (w
 abbrev pub keeps_start : WishesView → ℕ → SentView → Bool
 keeps_start w phase s = start_of s.kind w phase s
 
--- The rules from here on are of ATs and MDTs in phases 3 and 4.
+-- The remaining rules are for ATs and MDTs in phases 3 and 4.
 abbrev pub is_cyclic : ℕ → Kind → Bool
 is_cyclic phase kind = nat_le 3 phase && not (is_mst kind)
 
@@ -107,8 +108,8 @@ is_cyclic_at phase kind = nat_le 3 phase && is_at kind
 abbrev pub is_cyclic_mdt : ℕ → Kind → Bool
 is_cyclic_mdt phase kind = nat_le 3 phase && is_mdt kind
 
--- 6, gap: it starts the gap after the end of the telegram before, or later; but an AT right after an AT of the same slave starts at
--- the end of that or later.
+-- 6, gap: it starts at least the gap after the end of the telegram before. But an AT right after an
+-- AT of the same slave needs only to start at its end or later.
 abbrev pub is_same_sender : Option ℕ → Option ℕ → Bool
 is_same_sender None other = false
 is_same_sender (Some slave) None = false
@@ -124,7 +125,8 @@ is_after_gap w (Some x) s = is_after x.mark (gap_between w x.sender (sender_of w
 abbrev pub keeps_gap : WishesView → ℕ → Option Note → SentView → Bool
 keeps_gap w phase newest s = not (is_cyclic phase s.kind) || is_after_gap w newest s
 
--- 7, recovery: an AT starts its drive's TATAT after the end of the AT before of the same slave, or later.
+-- 7, recovery: an AT starts at least its drive's TATAT after the end of the last AT of the same
+-- slave.
 abbrev pub is_after_mark : Option Mark → ℕ → ℤ → Bool
 is_after_mark None n start = true
 is_after_mark (Some x) n start = is_after x n start
@@ -134,7 +136,8 @@ keeps_recovery w before s =
     not (is_cyclic_at (phase_before before) s.kind)
     || is_after_mark (mark_before w (slave_of w s) before) (w.rate * (wish_for w (address_of s)).times.tatat) s.start
 
--- 8, transition: an MDT starts, for each AT before, that drive's TATMT after its end, or later.
+-- 8, transition: an MDT starts, for each AT before it, at least that drive's TATMT after the AT's
+-- end.
 abbrev pub is_after_transition : WishesView → ℤ → SentView → Bool
 is_after_transition w start x = not (is_at x.kind) || is_after (mark_of x) (w.rate * (wish_for w (address_of x)).times.tatmt) start
 
@@ -144,7 +147,8 @@ is_after_all w before start = list_all (is_after_transition w start) (in_cycle b
 abbrev pub keeps_transition : WishesView → List Told → SentView → Bool
 keeps_transition w before s = not (is_cyclic_mdt (phase_before before) s.kind) || is_after_all w before s.start
 
--- 9, end: after an MDT there is room for the gap, or for the greatest TMTSY if that is longer, before the next MST.
+-- 9, end: between the end of an MDT and the next MST there is time for the gap, or for the greatest
+-- TMTSY if that is longer.
 abbrev pub has_room : WishesView → SentView → Bool
 has_room w s = le_z (end_of (mark_of s) +ℤ pos (w.rate * max w.gap (greatest_tmtsy w))) (pos (bound_9 w))
 

@@ -1,4 +1,4 @@
--- What is seen of the telegrams of a capture so far, the newest first.
+-- Functions of the telegrams of a capture so far, the newest first.
 use Rattle.std.specs.Prelude.{ℕ, ℤ, pos, ◌+ℤ◌, ◌==◌, nat_lt, Bool, true, false, ◌&&◌, if◌then◌else◌, List, [], ◌∷◌, length, Option, Some, None, option_map, unwrap_or, slice_index}
 use Rattle.std.specs.List.{find, list_any}
 use Rattle.sercos_telegram.specs.declared.layout.Kind.{Kind}
@@ -35,7 +35,7 @@ is_mdt telegram.Mdt = true
 abbrev pub command_of : Told → Command
 command_of t = record { cycle = t.cycle; phase = slice_index t.sent.content 1 }
 
--- those of the newest MST
+-- the command of the newest MST
 abbrev pub command_before : List Told → Option Command
 command_before [] = None
 command_before (t ∷ before) = if is_mst t.sent.kind then Some (command_of t) else command_before before
@@ -47,7 +47,7 @@ phase_of (Some c) = c.phase
 abbrev pub phase_before : List Told → ℕ
 phase_before before = phase_of (command_before before)
 
--- the telegrams from the newest MST on: those of its cycle
+-- the telegrams from the newest MST on: those of the current cycle
 abbrev pub in_cycle : List Told → List SentView
 in_cycle [] = []
 in_cycle (t ∷ before) = if is_mst t.sent.kind then t.sent ∷ [] else t.sent ∷ in_cycle before
@@ -60,7 +60,7 @@ newest_of (s ∷ sent) = Some s
 abbrev pub address_of : SentView → ℕ
 address_of s = slice_index s.content 0
 
--- the planner's input of the drive with an address; none for another address
+-- the planner's input of the drive with an address, if there is one
 abbrev pub drive_with : List Wish → ℕ → Option Wish
 drive_with drives address = find (λ (d : Wish). d.address == address) drives
 
@@ -73,7 +73,7 @@ is_drive w address = list_any (λ (d : Wish). d.address == address) w.drives
 abbrev pub slave_of : WishesView → SentView → ℕ
 slave_of w s = (wish_for w (address_of s)).slave
 
--- the place of a telegram in its cycle
+-- when a telegram is sent in its cycle
 abbrev pub mark_of : SentView → Mark
 mark_of s = record { start = s.start; bits = s.bits }
 
@@ -85,7 +85,7 @@ end_of x = x.start +ℤ pos x.bits
 abbrev pub sender_of : WishesView → SentView → Option ℕ
 sender_of w s = if is_at s.kind then Some (slave_of w s) else None
 
--- the requirement of a telegram on the next one
+-- what the rules for the next telegram need of a telegram
 abbrev pub note_of : WishesView → SentView → Note
 note_of w s = record { mark = mark_of s; sender = sender_of w s }
 
@@ -95,17 +95,17 @@ newest_in w before = option_map (note_of w) (newest_of (in_cycle before))
 abbrev pub has_mdt : List Told → Bool
 has_mdt before = list_any (λ (s : SentView). is_mdt s.kind) (in_cycle before)
 
--- an AT that this address byte sends
+-- a telegram is an AT with this address byte
 abbrev pub is_at_from : ℕ → SentView → Bool
 is_at_from address s = is_at s.kind && (nat_lt 0 (length s.content) && (address_of s == address))
 
 abbrev pub has_at_from : ℕ → List Told → Bool
 has_at_from address before = list_any (is_at_from address) (in_cycle before)
 
--- an AT of a slave
+-- a telegram is an AT of a slave
 abbrev pub is_at_of : WishesView → ℕ → SentView → Bool
 is_at_of w slave s = is_at s.kind && (slave_of w s == slave)
 
--- the newest one
+-- when the newest AT of a slave in the current cycle was sent
 abbrev pub mark_before : WishesView → ℕ → List Told → Option Mark
 mark_before w slave before = option_map mark_of (find (is_at_of w slave) (in_cycle before))

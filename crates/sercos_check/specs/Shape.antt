@@ -1,5 +1,5 @@
--- The shape of a capture: which line may follow the lines so far, the newest first, and the planner's input that its head
--- spells.
+-- The shape of a capture: which line can follow the lines so far, the newest first, and the
+-- planner's input in its head.
 use Rattle.std.specs.Prelude.{◌≡◌, ℕ, ◌-◌, ◌==◌, nat_le, Bool, true, false, if◌then◌else◌, List, [], ◌∷◌, ◌++◌, length, map}
 use Rattle.std.specs.List.{position_or_len}
 use Rattle.sercos_timing.specs.declared.wishes.Wish.{Wish}
@@ -21,8 +21,8 @@ drives_left (_ ∷ before) = drives_left before
 abbrev pub drive_or_order : ℕ → Awaited
 drive_or_order left = if left == 0 then awaited.Order else awaited.Drive
 
--- Which line is next: first the version, then the numbers of the ring, then the lines of the drives, then the order, and then
--- lines of cycles, up to the totals.
+-- Which line is next: first the version, then the numbers of the ring, then the lines of the
+-- drives, then the order, and then lines of cycles, up to the totals.
 abbrev pub awaited_after : List Line → Awaited
 awaited_after [] = awaited.Version
 awaited_after (line.Version ∷ before) = awaited.Ring
@@ -39,7 +39,7 @@ part_of (line.Drive wish) = awaited.Drive
 part_of (line.Order addresses) = awaited.Order
 part_of _ = awaited.Cycle
 
--- the place of the drive with an address; without one the number of drives, which is not a place
+-- the index of the drive with an address; the number of drives if there is none
 abbrev pub drive_place : List Wish → ℕ → ℕ
 drive_place drives address = position_or_len (λ (d : Wish). d.address == address) drives
 
@@ -49,7 +49,7 @@ places drives addresses = map (drive_place drives) addresses
 abbrev pub no_wishes : WishesView
 no_wishes = record { rate = 0; cycle = 0; control = 0; gap = 0; order = []; drives = [] }
 
--- the wishes that the lines of the ring, of the drives and of the order spell
+-- the planner's input in the lines of the ring, of the drives and of the order
 abbrev pub wishes_by : List Line → WishesView
 wishes_by [] = no_wishes
 wishes_by (line.Ring rate cycle control gap drives ∷ before) =
@@ -58,7 +58,7 @@ wishes_by (line.Drive wish ∷ before) = record (wishes_by before) { drives = (w
 wishes_by (line.Order addresses ∷ before) = record (wishes_by before) { order = places (wishes_by before).drives addresses.items }
 wishes_by (_ ∷ before) = wishes_by before
 
--- with the order, the planner's input must be valid
+-- the order can follow only if the planner's input is valid with it
 abbrev pub IsHeadValid : List Line → Line → Type 0
 IsHeadValid before (line.Order addresses) = IsValid (wishes_by (line.Order addresses ∷ before))
 IsHeadValid before _ = Unit {0}
@@ -72,7 +72,7 @@ abbrev pub HasShape : List Line → Type 0
 HasShape [] = Unit {0}
 HasShape (line ∷ before) = CanFollow before line × HasShape before
 
--- the head is whole: it has its order
+-- the head is complete: its order was read
 abbrev pub is_past_head : Awaited → Bool
 is_past_head awaited.Cycle = true
 is_past_head awaited.Nothing = true
@@ -81,8 +81,8 @@ is_past_head _ = false
 abbrev pub has_head : List Line → Bool
 has_head lines = is_past_head (awaited_after lines)
 
--- What is kept of the head: `fits` says that a ring can have as many drives as were read so far, and then `wishes` are those
--- that the lines spell.
+-- What is kept of the head. `fits` is whether the drives read so far fit into a ring; if so,
+-- `wishes` is the planner's input in the lines.
 pub record HeadView : Type 0 where
   pub awaited : Awaited
   pub left : ℕ
@@ -95,11 +95,11 @@ pub record HeadStandsFor (v : HeadView) (lines : List Line) : Type 0 where
   pub fits_is : v.fits ≡ nat_le (length (wishes_by lines).drives) most_drives
   pub wishes_are : v.fits ≡ true → v.wishes ≡ wishes_by lines
 
--- with the order, the planner's input is valid
+-- once the order was read, the planner's input is valid
 abbrev pub IsSound : HeadView → Type 0
 IsSound v = v.awaited ≡ awaited.Cycle → (v.fits ≡ true) × IsValid v.wishes
 
--- a telegram follows the head
+-- a telegram is taken only after the head
 abbrev pub IsReady : HeadView → Line → Type 0
 IsReady v (line.Telegram cycle sent) = v.awaited ≡ awaited.Cycle
 IsReady v _ = Unit {0}

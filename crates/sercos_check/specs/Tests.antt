@@ -1,4 +1,4 @@
--- The shape of a capture as a test: a line can follow those before it.
+-- The shape of a capture as a computed test: a line can follow those before it.
 use Rattle.std.specs.Prelude.{◌≡◌, ◌↔◌, Bool, true, false, ◌&&◌, List, ◌∷◌}
 use Rattle.sercos_timing.specs.Tests.{is_valid}
 use Rattle.sercos_trace.specs.declared.reading.Line.{Line}
@@ -17,7 +17,7 @@ is_same_part awaited.Cycle awaited.Cycle = true
 is_same_part awaited.Nothing awaited.Nothing = true
 is_same_part _ _ = false
 
--- with the order, the wishes must be valid
+-- the order can follow only if the planner's input is valid with it
 abbrev pub is_head_valid : List Line → Line → Bool
 is_head_valid before (line.Order addresses) = is_valid (wishes_by (line.Order addresses ∷ before))
 is_head_valid before _ = true

@@ -1,4 +1,4 @@
--- The result of a checker for a capture, whose lines are listed the newest first.
+-- The result of a checker for a capture, whose lines are listed newest first.
 use Rattle.std.specs.Prelude.{◌≡◌, ℕ, ◌+◌, ◌⊎◌, ◌↔◌, true, false, List, [], ◌∷◌, length, map, Option, Some, None}
 use Rattle.sercos_timing.specs.Views.{WishesView}
 use Rattle.sercos_trace.specs.declared.reading.Line.{Line}
@@ -16,7 +16,7 @@ told [] = []
 told (line.Telegram cycle sent ∷ before) = (record { cycle = cycle; sent = sent }) ∷ told before
 told (_ ∷ before) = told before
 
--- the lowest rule that a line breaks after those before it; only telegrams have rules
+-- the lowest rule that a line breaks after those before it; only telegrams can break one
 abbrev pub rule_broken : List Line → Line → Option ℕ
 rule_broken before (line.Telegram cycle sent) = broken_rule (wishes_by before) (told before) (record { cycle = cycle; sent = sent })
 rule_broken before _ = None
@@ -36,8 +36,9 @@ abbrev pub IsTrouble : List Line → Trouble → Type 0
 IsTrouble [] t = ⊥
 IsTrouble (line ∷ before) t = IsTrouble before t ⊎ (IsClean before × IsFault before line t)
 
--- The verdict on a whole capture: if its lines are clean and the head is whole, their number; if they are clean and the head is
--- short, a fault one past the last line; and otherwise the first trouble.
+-- The verdict on a whole capture. If its lines are clean and the head is complete, it is their
+-- number. If they are clean and the head is incomplete, it is a fault one past the last line.
+-- Otherwise it is the first trouble.
 abbrev pub IsWhole : List Line → ℕ → Type 0
 IsWhole lines number = IsClean lines × (has_head lines ≡ true) × (number ≡ length lines)
 
@@ -47,12 +48,12 @@ IsShort lines t = IsClean lines × (has_head lines ≡ false) × (t ≡ trouble.
 abbrev pub IsRefused : List Line → Trouble → Type 0
 IsRefused lines t = IsTrouble lines t ⊎ IsShort lines t
 
--- a line as a check of the shape alone takes it: a telegram counts as any other line of a cycle
+-- a line for a check of the shape alone: a telegram counts as any other line of a cycle
 abbrev pub plain : Line → Line
 plain (line.Telegram cycle sent) = line.Other
 plain l = l
 
--- a line that can't follow lines of the right shape, and the first such line
+-- a line can't follow lines of the right shape; and the first such line
 abbrev pub IsMisplaced : List Line → Line → Trouble → Type 0
 IsMisplaced before line (trouble.Grammar number) = (CanFollow before line → ⊥) × (number ≡ length before + 1)
 IsMisplaced before line (trouble.Violation number rule) = ⊥
@@ -82,11 +83,12 @@ pub record CheckerState : Type 0 where
   pub lines : ℕ
   pub trouble : Option Trouble
 
--- The telegrams are kept under the planner's input of the head; before the head is whole there are none.
+-- The telegrams are noted with the planner's input of the head. Before the head is complete there
+-- are none.
 abbrev pub AreSeen : SeenState → List Line → Type 0
 AreSeen seen lines = (w : WishesView) → (has_head lines ≡ true → w ≡ wishes_by lines) → SeenStandsFor seen w (told lines)
 
--- a line can follow, breaks no rule, and what is kept stands for the lines with it
+-- a line can follow and breaks no rule, and what is kept is that of the lines with it
 pub record IsNext (before : List Line) (line : Line) (head : HeadView) (seen : SeenState) : Type 0 where
   pub can : CanFollow before line
   pub kept : rule_broken before line ≡ None
@@ -102,7 +104,7 @@ abbrev pub StandsBy : Option Trouble → CheckerState → List Line → Type 0
 StandsBy None v lines = IsRunning v lines
 StandsBy (Some t) v lines = IsTrouble lines t
 
--- The checker stands for these lines: all are clean so far, or the first fault or violation is kept.
+-- The state of a checker after these lines: all are clean so far, or their first trouble is kept.
 pub record CheckerStandsFor (v : CheckerState) (lines : List Line) : Type 0 where
   pub count : v.lines ≡ length lines
   pub stands : StandsBy v.trouble v lines

@@ -1,6 +1,6 @@
-// What a capture continues with.
+// The next line of a capture.
 
-/// Which line is next in a capture.
+/// The kind of line that must be next in a capture.
 #[derive(Clone, Copy, Debug, PartialEq, Eq)]
 pub(crate) enum Awaited {
     /// The version, the first line.

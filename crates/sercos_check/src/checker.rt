@@ -1,10 +1,6 @@
 // The checker of captures.
 ghost use Rattle.std.specs.Prelude.{◌≡◌, ℕ, ◌+◌, ◌^◌, ◌<◌, ◌↔◌, List, [], ◌∷◌, length, Some, IsOk, IfOk, IfErr, IfSome, IfNone};
-ghost use Rattle.std.specs.Result.{result_ok, result_err};
-ghost use Rattle.sercos_trace.specs.declared.reading.Line.{Line};
-ghost use Rattle.sercos_check.specs.declared.trouble.Trouble.{Trouble};
-ghost use Rattle.sercos_check.specs.Shape.{CanFollow, HeadStandsFor, IsReady};
-ghost use Rattle.sercos_check.specs.Verdicts.{rule_broken, IsClean, IsFault, IsTrouble, IsWhole, IsRefused, IsNext, AreSeen, CheckerStandsFor};
+ghost use Rattle.sercos_check.specs.Clauses.{result_ok, result_err, Line, Trouble, CanFollow, HeadStandsFor, IsReady, rule_broken, IsClean, IsFault, IsTrouble, IsWhole, IsRefused, IsNext, AreSeen, CheckerStandsFor};
 
 use crate::drives::found_for;
 use crate::seen::Seen;
@@ -13,13 +9,13 @@ use crate::trouble::Trouble;
 use sercos_trace::Line;
 use std::marker::Model;
 
-/// Checks the lines of a capture one by one. It stands for the lines since it was made; contracts list them the newest first.
-/// Nothing here takes memory.
+/// Checks the lines of a capture one by one, without taking memory. Contracts relate it to the list of the lines checked since it was made,
+/// the newest first.
 #[derive(Drop)]
 pub struct Checker {
     head: Head,
     seen: Seen,
-    // the number of lines so far
+    // the number of lines checked
     lines: u32,
     // the first trouble among them
     trouble: Option<Trouble>,
@@ -36,7 +32,9 @@ impl Model for Checker {
     ghost invariant = { λ c. c.lines ≤ 2147483648 };
 }
 
-// Keeps a line that follows the lines so far. The result is the lowest rule that it breaks.
+// Notes a line that can follow the lines so far. `head` has this line already; if it is a telegram, the head must be complete and the
+// totals not read. Returns the lowest rule that it breaks; `None` if it breaks none, or isn't a telegram. Afterwards `seen` is that of the
+// lines with it.
 fn keep(head: &Head, seen: &mut Seen, line: &Line) -> Option<u8>
     requires { IsReady head.now line.now }
     ensures rule { (lines : List Line) → HeadStandsFor head.now (line.now ∷ lines) → CanFollow lines line.now → AreSeen seen.old lines → result ≡ rule_broken lines line.now }
@@ -54,7 +52,9 @@ fn keep(head: &Head, seen: &mut Seen, line: &Line) -> Option<u8>
     }
 }
 
-// Takes a line of this number. The result is the trouble with it.
+// Checks and notes a line. `number` is that of the line, counted from 1. Returns the trouble with it: `Grammar` if it can't follow the
+// lines so far, otherwise `Violation` if it breaks a rule. If the result is `None`, `head` and `seen` are those of the lines with it,
+// otherwise they are unspecified.
 fn take(head: &mut Head, seen: &mut Seen, line: &Line, number: u32) -> Option<Trouble>
     ensures fault { (lines : List Line) → HeadStandsFor head.old lines → AreSeen seen.old lines → number ≡ length lines + 1 → IfSome result (IsFault lines line.now) }
     ensures clean { (lines : List Line) → HeadStandsFor head.old lines → AreSeen seen.old lines → IfNone result (IsNext lines line.now head.new seen.new) }
@@ -69,7 +69,7 @@ fn take(head: &mut Head, seen: &mut Seen, line: &Line, number: u32) -> Option<Tr
 }
 
 impl Checker {
-    /// Returns a checker without lines.
+    /// Returns a checker that has checked no line.
     pub fn new() -> Checker
         ensures lines { result.lines ≡ 0 }
         ensures stands { CheckerStandsFor result [] }
@@ -82,9 +82,9 @@ impl Checker {
         }
     }
 
-    /// Checks the next line of a capture. The error is the first fault or violation among the lines so far: a line that can't
-    /// follow those before it, or a telegram that breaks a rule (this profile). A short head is not an error yet. After an error
-    /// each call returns it again.
+    /// Checks the next line of a capture, of at most 2^31 lines. The error is the first trouble among the lines so far: a line that can't
+    /// follow those before it, or a telegram that breaks a rule (this profile). An incomplete head is not an error yet. After an error each
+    /// further call returns the same one.
     pub fn line(&mut self, line: &Line) -> Result<(), Trouble>
         requires { self.old.lines < 2 ^ 31 }
         ensures lines { self.new.lines ≡ self.old.lines + 1 }
@@ -106,8 +106,8 @@ impl Checker {
         }
     }
 
-    /// Ends the capture. Returns the number of its lines. The error is the first fault or violation among them; without one, if
-    /// the head is not whole, a fault one past the last line.
+    /// Returns the number of lines of a capture that ends here. The error is the first trouble among them. If there is none but the head is
+    /// incomplete, it is `Grammar` at one past the last line.
     pub fn finish(&self) -> Result<u32, Trouble>
         ensures ok { (lines : List Line) → CheckerStandsFor self.now lines → IfOk result (IsWhole lines) }
         ensures whole { (lines : List Line) → CheckerStandsFor self.now lines → (n : ℕ) → IsWhole lines n → result_ok result ≡ Some n }

@@ -1,7 +1,6 @@
-// The planner's input of drives, by their addresses.
+// The planner's input of drives, looked up by address.
 ghost use Rattle.std.specs.Prelude.{◌≡◌, ◌*◌, if◌then◌else◌, Some, None};
-ghost use Rattle.sercos_check.specs.Seen.{drive_with, is_at, address_of, mark_of};
-ghost use Rattle.sercos_check.specs.Found.{found_for};
+ghost use Rattle.sercos_check.specs.Clauses.{drive_with, is_at, address_of, mark_of, found_for};
 
 use crate::marks::{Mark, Note};
 use sercos_bits::byte_at;
@@ -9,14 +8,14 @@ use sercos_telegram::Kind;
 use sercos_timing::{Wish, Wishes};
 use sercos_trace::Sent;
 
-// The address of a telegram.
+// Returns the address of a telegram, the first byte of its content; 0 for an empty content.
 pub fn address_of(sent: &Sent) -> u8
     ensures { result ≡ address_of sent.now }
 {
     byte_at(sent.content.as_slice(), 0)
 }
 
-// The first drive with an address.
+// Returns the first drive with an address; `None` if there is none.
 fn drive_with(drives: &[Wish], address: u8) -> Option<Wish>
     ensures { result ≡ drive_with drives.now address }
 {
@@ -28,13 +27,14 @@ fn drive_with(drives: &[Wish], address: u8) -> Option<Wish>
     None
 }
 
-// Microseconds in bit times.
+// Returns microseconds in bit times, by the rate of the ring in bits per microsecond.
 pub fn bit_times(w: &Wishes, micros: u16) -> u32
     ensures { result ≡ w.now.rate * micros }
 {
     u32::from(w.rate) * u32::from(micros)
 }
 
+// Returns when a telegram is sent: its start and its length.
 pub fn mark_of(sent: &Sent) -> Mark
     ensures { result ≡ mark_of sent.now }
 {
@@ -44,7 +44,8 @@ pub fn mark_of(sent: &Sent) -> Mark
     }
 }
 
-// The slave that sends an AT.
+// Returns the slave that sends a telegram; `None` if it isn't an AT. `slave` is the slave of the first drive with the telegram's address, 0
+// if there is none.
 fn sender_of(kind: Kind, slave: u8) -> Option<u8>
     ensures { result ≡ (if is_at kind then Some slave else None) }
 {
@@ -54,18 +55,19 @@ fn sender_of(kind: Kind, slave: u8) -> Option<u8>
     }
 }
 
-/// What the rules need for a telegram and its drive, looked up once.
+/// What the rules need of a telegram and its drive, looked up once.
 #[derive(Clone, Copy)]
 pub struct Found {
-    /// Whether there is such a drive.
+    /// Whether the telegram's address is that of a drive.
     pub is_drive: bool,
-    /// The drive's input for the planner; all zeros for another address.
+    /// The planner's input of the drive; all zeros if there is none.
     pub wish: Wish,
-    /// What the rules for the next telegram need.
+    /// What the rules for the next telegram need of this one.
     pub note: Note,
 }
 
-/// Looks up what the rules need for a telegram.
+/// Looks up what the rules need of a telegram: of the first drive with its address, and its start, length and sender. `w` is the planner's
+/// input of the ring.
 #[tactic(auto, using(crate::proofs::FoundLemmas::is_found))]
 pub fn found_for(w: &Wishes, sent: &Sent) -> Found
     ensures { result ≡ found_for w.now sent.now }

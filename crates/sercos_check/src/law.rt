@@ -1,13 +1,16 @@
-// How the shape of a capture and its rules go together.
-ghost use Rattle.sercos_timing.specs.Tests.{TellsValid};
-ghost use Rattle.sercos_check.specs.Tests.{TellsFollowing};
-ghost use Rattle.sercos_check.specs.Verdicts.{ArePlainClean, ArePlainFaults, IsPlainHead, BreakRules};
+// How the shape of a capture and its rules are related.
+ghost use Rattle.sercos_check.specs.Clauses.{TellsValid, TellsFollowing, ArePlainClean, ArePlainFaults, IsPlainHead, BreakRules};
 
 use sercos_timing::valid_law;
 
-/// A law: if each telegram of a capture is passed to a checker as [`Line::Other`](sercos_trace::Line::Other), the result is the
-/// verdict on the shape of the capture alone; and lines of the right shape can only break rules. So a first pass finds a fault of
-/// shape anywhere, and a second one the first rule that is broken.
+/// A law on a checker that gets each telegram as [`Line::Other`](sercos_trace::Line::Other). Its verdict is that on the shape of the
+/// capture alone:
+/// - Such lines are clean iff each line of the capture can follow those before it.
+/// - Their first trouble is the first line of the capture that can't follow those before it.
+/// - Their head is complete iff that of the capture is.
+/// - Lines of the right shape have no `Grammar` as their first trouble, so that they can only break rules.
+///
+/// So a first pass can find the first fault of shape, and a second one the first broken rule.
 #[tactic(auto, using(crate::proofs::LawLemmas::plain_head))]
 pub fn shape_law()
     ensures clean { ArePlainClean }
@@ -16,8 +19,8 @@ pub fn shape_law()
     ensures rules { BreakRules }
 {}
 
-/// A law: the test of the planner's input decides whether a plan may be requested for it, and the test of a line whether it can
-/// follow those before it. So the shape of a capture can be computed.
+/// A law: the computed tests agree with the relations of the contracts. The first one decides whether the planner's input is valid, the
+/// second one whether a line can follow those before it. So the shape of a capture can be computed.
 pub fn test_law()
     ensures valid { TellsValid }
     ensures follows { TellsFollowing }

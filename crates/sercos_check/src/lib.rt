@@ -1,4 +1,4 @@
-//! The checker of captures: the shape of a capture, and the rules that its telegrams keep.
+//! The checker of captures: the shape of a capture, and the rules for its telegrams.
 #![tactic(auto)]
 
 mod awaited;

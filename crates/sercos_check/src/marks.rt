@@ -1,15 +1,13 @@
 // When telegrams are sent in a cycle.
 ghost use Rattle.std.specs.Prelude.{◌≡◌, ◌+ℤ◌, pos};
-ghost use Rattle.std.specs.Ordering.{int_eq};
-ghost use Rattle.sercos_check.specs.Seen.{end_of};
-ghost use Rattle.sercos_check.specs.Rules.{is_after, is_after_mark};
+ghost use Rattle.sercos_check.specs.Clauses.{int_eq, end_of, is_after, is_after_mark};
 
-/// What an MST commands, and when.
+/// The phase that an MST commands, and its cycle.
 #[derive(Clone, Copy, Debug, PartialEq, Eq)]
 pub struct Command {
     /// The cycle in which it was sent.
     pub cycle: u32,
-    /// The phase.
+    /// The phase commanded.
     pub phase: u8,
 }
 
@@ -22,7 +20,8 @@ pub struct Mark {
     pub bits: u32,
 }
 
-/// When a telegram was sent, and the round in which it was noted.
+/// When a telegram was sent, and the round in which it was noted. Each cycle is a round; rounds are counted from 1 to 255 and then start
+/// again.
 #[derive(Clone, Copy)]
 pub struct Noted {
     /// The round.
@@ -31,24 +30,24 @@ pub struct Noted {
     pub mark: Mark,
 }
 
-/// What the rules for the next telegram need of a telegram.
+/// What the rules for the next telegram need of the one before.
 #[derive(Clone, Copy, Debug, PartialEq, Eq)]
 pub struct Note {
-    /// When it was sent in the cycle.
+    /// When the telegram was sent in its cycle.
     pub mark: Mark,
     /// The slave that sent it, if it is an AT.
     pub sender: Option<u8>,
 }
 
 impl Mark {
-    // The bit time at which the telegram has ended and this number of bit times more have passed.
+    // Returns the bit time, after the MST's end, that is `bits` bit times after the telegram's end.
     pub fn after(self, bits: u32) -> i64
         ensures { result ≡ end_of self +ℤ pos bits }
     {
         i64::from(self.start) + i64::from(self.bits) + i64::from(bits)
     }
 
-    // Returns whether a time is at least this number of bit times after the end.
+    // Returns whether a bit time is at least `bits` bit times after the telegram's end.
     pub fn is_after(self, bits: u32, time: i64) -> bool
         ensures { result ≡ is_after self bits time }
     {
@@ -59,11 +58,11 @@ impl Mark {
     pub fn ends_at_zero(self) -> bool
         ensures { result ≡ int_eq (end_of self) (pos 0) }
     {
-        i64::from(self.start) + i64::from(self.bits) == 0
+        self.after(0) == 0
     }
 }
 
-// The same test for a telegram that may be missing: then every time is late enough.
+// Returns whether a bit time is at least `bits` bit times after a telegram's end. Without a telegram the result is true.
 pub fn is_after_mark(mark: Option<Mark>, bits: u32, time: i64) -> bool
     ensures { result ≡ is_after_mark mark bits time }
 {

@@ -1,14 +1,7 @@
-// What is kept of the telegrams of a capture.
+// What is kept of the telegrams of a capture so far.
 ghost use Rattle.std.specs.Prelude.{◌≡◌, ℕ, ◌<◌, ◌&&◌, List, [], ◌∷◌, length, false, None};
-ghost use Rattle.std.specs.List.{All};
+ghost use Rattle.sercos_check.specs.Clauses.{All, IsValid, WishesView, Told, address_of, phase_of, first_broken, broken_rule, is_from, heard_in, mark_in, SeenStandsFor, goes_on_by, order_by, recovery_by, transition_by, kept_by, IsBegun, later, with_address, with_at, is_no_later, was_noted, found_for};
 ghost use Rattle.sercos_telegram.specs.declared.layout.Kind.TheVariants as telegram;
-ghost use Rattle.sercos_timing.specs.Valid.{IsValid};
-ghost use Rattle.sercos_timing.specs.Views.{WishesView};
-ghost use Rattle.sercos_check.specs.Seen.{Told, address_of, slave_of, phase_of};
-ghost use Rattle.sercos_check.specs.Rules.{first_broken, broken_rule};
-ghost use Rattle.sercos_check.specs.Kept.{is_from, heard_in, mark_in, SeenStandsFor, is_alone_by, goes_on_by, order_by, recovery_by, transition_by, kept_by, IsBegun, later, with_address, with_at, with_mdt};
-ghost use Rattle.sercos_check.specs.Rounds.{is_no_later, was_noted};
-ghost use Rattle.sercos_check.specs.Found.{found_for};
 
 use crate::drives::{Found, address_of, bit_times};
 use crate::marks::{Command, Mark, Note, Noted, is_after_mark};
@@ -22,31 +15,31 @@ use sercos_timing::Wishes;
 use sercos_trace::Sent;
 use std::marker::Model;
 
-// The number of different bytes.
+// The number of values of a byte, such as an address or a slave.
 const BYTES: usize = 256;
 
-// What is noted before the first round.
+// The entry of a slave before its first AT. Round 0 is never the current one.
 const NOTHING: Noted = Noted {
     round: 0,
     mark: Mark { start: 0, bits: 0 },
 };
 
-/// What the rules need of the telegrams of a capture so far. It stands for the list of the telegrams passed to
-/// [`note`](Seen::note), the newest first. Each call holds for every such list. No call takes memory.
+/// What the rules need of the telegrams of a capture so far. Contracts relate it to the list of the telegrams passed to
+/// [`note`](Seen::note), the newest first. No call takes memory.
 #[derive(Drop)]
 pub struct Seen {
     // what the newest MST commands
     command: Option<Command>,
-    // everything else is of its cycle: the newest telegram, and whether there is an MDT
+    // the other fields are about its cycle: the newest telegram, and whether an MDT was sent
     newest: Option<Note>,
     mdt: bool,
-    // the round, which rises at each MST: what was noted in an earlier one counts as nothing
+    // the round, which rises at each MST: entries of an earlier round don't count
     round: u8,
-    // the last round with an AT of each address byte
+    // the round of the last AT of each address byte
     heard: [u8; BYTES],
     // the newest AT of each slave, and its round
     marks: [Noted; BYTES],
-    // the bit time at which the transition of each AT has passed
+    // the bit time at which the transitions of all ATs have passed
     free_at: Option<i64>,
 }
 
@@ -63,7 +56,7 @@ impl Model for Seen {
     ghost invariant = { λ v. (length v.heard ≡ 256) × (length v.marks ≡ 256) × All (is_no_later v.round) v.heard × All (was_noted v.round) v.marks };
 }
 
-// The later one of two times, the first of which may be missing.
+// Returns the later of two times; the second one if the first is missing.
 fn later(free_at: Option<i64>, time: i64) -> Option<i64>
     ensures { result ≡ later free_at time }
 {
@@ -79,14 +72,14 @@ fn later(free_at: Option<i64>, time: i64) -> Option<i64>
     }
 }
 
-// Before the first round: no address byte sent an AT.
+// Returns the rounds of all address bytes before any AT.
 fn none_heard() -> [u8; BYTES]
     ensures { All (is_no_later 0) result }
 {
     [0; BYTES]
 }
 
-// Before the first round: no slave sent an AT.
+// Returns the entries of all slaves before any AT.
 fn none_marked() -> [Noted; BYTES]
     ensures { All (was_noted 0) result }
 {
@@ -109,31 +102,30 @@ impl Seen {
         }
     }
 
-    fn goes_on(&self, cycle: u32, start: i32) -> bool
+    // Returns whether an AT or MDT of this cycle and start can follow in the current cycle.
+    fn can_follow(&self, cycle: u32, start: i32) -> bool
         ensures { result ≡ goes_on_by self.now cycle start }
     {
         goes_on(self.command, self.newest, self.mdt, cycle, start)
     }
 
-    // Returns whether the address byte of an AT sends the first one in this cycle.
-    fn is_alone(&self, sent: &Sent) -> bool
-        ensures { result ≡ is_alone_by self.now sent.now }
-    {
-        sent.content.is_empty() || self.heard[usize::from(address_of(sent))] != self.round
-    }
-
-    // Rule 1: the telegrams are in order.
+    // Returns whether rule 1 is kept: an MST has the next cycle, an AT or MDT can follow in its cycle, and an AT is the first one of its
+    // address byte in its cycle. An AT without content has no address byte.
     fn keeps_order(&self, cycle: u32, sent: &Sent) -> bool
         ensures { result ≡ order_by sent.now.kind self.now cycle sent.now }
     {
         match sent.kind {
             Kind::Mst => is_next_cycle(self.command, cycle),
-            Kind::At => self.goes_on(cycle, sent.start) && self.is_alone(sent),
-            Kind::Mdt => self.goes_on(cycle, sent.start),
+            Kind::At => {
+                let is_alone = sent.content.is_empty()
+                    || self.heard[usize::from(address_of(sent))] != self.round;
+                self.can_follow(cycle, sent.start) && is_alone
+            }
+            Kind::Mdt => self.can_follow(cycle, sent.start),
         }
     }
 
-    // The newest AT of a slave in this cycle.
+    // Returns when the newest AT of a slave in this cycle was sent; `None` if there is none.
     fn mark_of(&self, slave: u8) -> Option<Mark>
         ensures { result ≡ mark_in self.now slave }
     {
@@ -145,7 +137,9 @@ impl Seen {
         }
     }
 
-    // Rule 7: an AT of phases 3 and 4 leaves its slave time to recover from the AT before.
+    // Returns whether rule 7 is kept: in phases 3 and 4 an AT starts at least its drive's TATAT after the end of the last AT of the same
+    // slave in its cycle. Other telegrams keep it. `phase` must be the phase commanded, and `found` what `found_for` returns for the
+    // telegram.
     fn keeps_recovery(&self, w: &Wishes, phase: u8, sent: &Sent, found: &Found) -> bool
         requires phase { phase ≡ phase_of self.now.command }
         requires found { found.now ≡ found_for w.now sent.now }
@@ -157,7 +151,7 @@ impl Seen {
             || is_after_mark(mark, bit_times(w, wish.times.tatat), i64::from(sent.start))
     }
 
-    // Returns whether the transition of each AT has passed.
+    // Returns whether, at a start in bit times, the transitions of all ATs of this cycle have passed. Without an AT the result is true.
     fn is_free(&self, start: i32) -> bool
         ensures { result ≡ is_from self.now.free_at start }
     {
@@ -167,7 +161,8 @@ impl Seen {
         }
     }
 
-    // Rule 8: an MDT of phases 3 and 4 starts when each AT's drive can receive.
+    // Returns whether rule 8 is kept: in phases 3 and 4 an MDT starts, for each AT of its cycle, at least that drive's TATMT after the AT's
+    // end. Other telegrams keep it. `phase` must be the phase commanded.
     fn keeps_transition(&self, phase: u8, sent: &Sent) -> bool
         requires { phase ≡ phase_of self.now.command }
         ensures { result ≡ transition_by self.now sent.now }
@@ -175,7 +170,7 @@ impl Seen {
         !is_cyclic_mdt(phase, sent.kind) || self.is_free(sent.start)
     }
 
-    // The lowest rule that a telegram breaks, by what is kept.
+    // Returns the lowest rule, 1 to 9, that a telegram breaks; `None` if it keeps all. The premises are those of `broken`.
     fn broken_by(&self, w: &Wishes, cycle: u32, sent: &Sent, found: &Found) -> Option<u8>
         requires valid { IsValid w.now }
         requires found { found.now ≡ found_for w.now sent.now }
@@ -196,8 +191,9 @@ impl Seen {
         first_broken(&kept)
     }
 
-    /// Returns the lowest rule, 1 to 9, that a telegram breaks after those so far; `None` if it keeps all. The rules are those
-    /// of this profile on order, frame, layout, phase, start, gap, recovery, transition and end.
+    /// Returns the lowest rule, 1 to 9, that a telegram breaks after those so far; `None` if it keeps all. The rules are those of this
+    /// profile on order, frame, layout, phase, start, gap, recovery, transition and end. `w` is the planner's input of the ring, which must
+    /// be valid. `cycle` is the telegram's cycle. `found` must be what [`found_for`](crate::found_for) returns for it.
     #[tactic(auto, using(crate::proofs::StandsLemmas::broken_stands))]
     pub fn broken(&self, w: &Wishes, cycle: u32, sent: &Sent, found: &Found) -> Option<u8>
         requires valid { IsValid w.now }
@@ -208,8 +204,8 @@ impl Seen {
         self.broken_by(w, cycle, sent, found)
     }
 
-    // Begins a round, so that nothing noted so far counts. The table is cleared only when the numbers of rounds are used up.
-    fn forget(&mut self)
+    // Begins a round, so that no entry so far counts. The tables are cleared only after 255 rounds.
+    fn begin_round(&mut self)
         ensures heard { (address : ℕ) → heard_in self.new address ≡ false }
         ensures marks { (slave : ℕ) → mark_in self.new slave ≡ None }
         ensures same { self.new ≡ record self.old { heard = self.new.heard; marks = self.new.marks } }
@@ -223,7 +219,8 @@ impl Seen {
         }
     }
 
-    // Notes an MST: a cycle begins with it.
+    // Notes an MST, which begins a cycle: the phase commanded is the second byte of its content. `found` must be what `found_for` returns
+    // for it.
     fn note_mst(&mut self, cycle: u32, sent: &Sent, found: &Found)
         ensures { (w : WishesView) → found.now ≡ found_for w sent.now → IsBegun self.new w cycle sent.now }
     {
@@ -233,11 +230,11 @@ impl Seen {
         });
         self.newest = Some(found.note);
         self.mdt = false;
-        self.forget();
+        self.begin_round();
         self.free_at = None;
     }
 
-    // Notes the address byte of an AT.
+    // Notes that the address byte of an AT has sent in this round. An AT without content has none.
     #[tactic(auto, using(crate::proofs::RoundLemmas::heard_now))]
     fn hear(&mut self, sent: &Sent)
         ensures { self.new ≡ record self.old { heard = with_address self.old.heard sent.now } }
@@ -247,7 +244,8 @@ impl Seen {
         }
     }
 
-    // Notes an AT: its address byte, its mark as the newest of its slave, and when its transition has passed.
+    // Notes an AT: its address byte, that it is the newest of its slave, and when its transition has passed. `found` must be what
+    // `found_for` returns for it. By `heard` and `marks` both tables have 256 entries.
     #[tactic(auto, using(crate::proofs::RoundLemmas::marked_now))]
     fn note_at(&mut self, w: &Wishes, sent: &Sent, found: &Found)
         requires { found.now ≡ found_for w.now sent.now }
@@ -266,15 +264,8 @@ impl Seen {
         self.free_at = later(self.free_at, mark.after(bit_times(w, wish.times.tatmt)));
     }
 
-    // Notes an MDT, the last telegram of a cycle.
-    fn note_mdt(&mut self, sent: &Sent, found: &Found)
-        ensures { (w : WishesView) → found.now ≡ found_for w sent.now → self.new ≡ with_mdt self.old w sent.now }
-    {
-        self.newest = Some(found.note);
-        self.mdt = true;
-    }
-
-    /// Takes a telegram as the newest one, also if it breaks a rule.
+    /// Notes a telegram as the newest one, even if it breaks a rule. The parameters are those of [`broken`](Seen::broken), but `w` need not
+    /// be valid.
     pub fn note(&mut self, w: &Wishes, cycle: u32, sent: &Sent, found: &Found)
         requires { found.now ≡ found_for w.now sent.now }
         ensures { (before : List Told) → SeenStandsFor self.old w.now before → SeenStandsFor self.new w.now (record { cycle = cycle; sent = sent.now } ∷ before) }
@@ -283,7 +274,10 @@ impl Seen {
         match sent.kind {
             Kind::Mst => self.note_mst(cycle, sent, found),
             Kind::At => self.note_at(w, sent, found),
-            Kind::Mdt => self.note_mdt(sent, found),
+            Kind::Mdt => {
+                self.newest = Some(found.note);
+                self.mdt = true;
+            }
         }
     }
 }

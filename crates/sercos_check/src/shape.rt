@@ -1,11 +1,7 @@
 // The shape of a capture.
 ghost use Rattle.std.specs.Prelude.{◌≡◌, ◌-◌, ◌<◌, ◌≤◌, ◌==◌, ◌↔◌, nat_lt, ◌&&◌, true, false, IsTrue, if◌then◌else◌, List, [], ◌∷◌, ◌++◌, length};
-ghost use Rattle.std.specs.List.{position};
-ghost use Rattle.sercos_timing.specs.Limits.{most_drives};
-ghost use Rattle.sercos_timing.specs.Valid.{IsValid};
-ghost use Rattle.sercos_trace.specs.declared.reading.Line.{Line};
+ghost use Rattle.sercos_check.specs.Clauses.{position, most_drives, IsValid, Line, drive_or_order, drive_place, places, no_wishes, wishes_by, has_head, CanFollow, HeadStandsFor, IsReady};
 ghost use Rattle.sercos_check.specs.declared.awaited.Awaited.TheVariants as awaited;
-ghost use Rattle.sercos_check.specs.Shape.{drive_or_order, drive_place, places, no_wishes, wishes_by, has_head, CanFollow, HeadStandsFor, IsReady};
 
 use crate::awaited::Awaited;
 use arrayvec::ArrayVec;
@@ -18,9 +14,9 @@ use std::mem;
 #[derive(Drop)]
 pub(crate) struct Head {
     awaited: Awaited,
-    // the number of lines of drives that are missing
+    // the number of lines of drives that are still missing
     left: u8,
-    // whether there was room for all drives so far
+    // whether the drives so far fit into a ring
     fits: bool,
     wishes: Wishes,
 }
@@ -35,7 +31,7 @@ impl Model for Head {
     ghost invariant = { λ h. IsSound (record { awaited = h.awaited; left = h.left; fits = h.fits; wishes = h.wishes }) };
 }
 
-// Returns which line is next if this number of lines of drives is missing.
+// Returns which line is next if `left` lines of drives are missing.
 fn drive_or_order(left: u8) -> Awaited
     ensures { result ≡ drive_or_order left }
 {
@@ -46,14 +42,14 @@ fn drive_or_order(left: u8) -> Awaited
     }
 }
 
-// The place of the drive with an address.
+// Returns the index of the first drive with an address; `None` if there is none.
 fn place_found(drives: &[Wish], address: u8) -> Option<usize>
     ensures { result ≡ position (λ d. d.address == address) drives.now }
 {
     drives.iter().position(|drive| drive.address == address)
 }
 
-// Returns the place of the drive with an address; the number of drives if there is none.
+// Returns the index of the first drive with an address; the number of drives if there is none.
 fn place(drives: &[Wish], address: u8) -> usize
     ensures value { result ≡ drive_place drives.now address }
     ensures bound { result ≤ length drives.now }
@@ -61,7 +57,8 @@ fn place(drives: &[Wish], address: u8) -> usize
     place_found(drives, address).unwrap_or(drives.len())
 }
 
-// The place of each address among the drives.
+// Returns the index of the drive with each address; the number of drives for an address without a drive. There must be at most 64 drives
+// and at most 64 addresses.
 fn places(drives: &[Wish], addresses: &[u8]) -> ArrayVec<u8, 64>
     requires drives { length drives.now ≤ most_drives }
     requires addresses { length addresses.now ≤ most_drives }
@@ -74,7 +71,7 @@ fn places(drives: &[Wish], addresses: &[u8]) -> ArrayVec<u8, 64>
     order
 }
 
-// Wishes that nothing spells yet.
+// Returns the planner's input before any line is read: zeros and no drives.
 fn no_wishes() -> Wishes
     ensures { result ≡ no_wishes }
 {
@@ -88,7 +85,7 @@ fn no_wishes() -> Wishes
     }
 }
 
-// Sets the order if the wishes are valid with it. The result is whether they are.
+// Sets the order if the planner's input is valid with it, and returns whether it is. Otherwise nothing changes.
 fn set_order(wishes: &mut Wishes, order: ArrayVec<u8, 64>) -> bool
     ensures can { IsTrue result ↔ IsValid (record wishes.old { order = order.items }) }
     ensures new { wishes.new ≡ (if result then record wishes.old { order = order.items } else wishes.old) }
@@ -102,7 +99,7 @@ fn set_order(wishes: &mut Wishes, order: ArrayVec<u8, 64>) -> bool
 }
 
 impl Head {
-    /// The head of a capture without lines.
+    /// Returns the head of a capture without lines.
     pub(crate) fn new() -> Head
         ensures { HeadStandsFor result [] }
     {
@@ -114,7 +111,8 @@ impl Head {
         }
     }
 
-    // The line of the version.
+    // Takes the line of the version. Returns whether it is next; otherwise nothing changes. If it is next, the next line is that of the
+    // ring's numbers.
     fn version(&mut self) -> bool
         ensures can { IsTrue result ↔ (self.old.awaited ≡ awaited.Version) }
         ensures new { self.new ≡ (if result then record self.old { awaited = awaited.Ring } else self.old) }
@@ -126,7 +124,9 @@ impl Head {
         can
     }
 
-    // The line of the ring's numbers.
+    // Takes the line of the ring's numbers. Returns whether it is next; otherwise nothing changes. If it is next, the lines of `drives`
+    // drives are missing; then the next line is that of a drive, or of the order if `drives` is 0. The order and the drives so far stay.
+    // Times are in microseconds.
     fn ring(&mut self, rate: u8, cycle: u16, control: u16, gap: u16, drives: u8) -> bool
         ensures can { IsTrue result ↔ (self.old.awaited ≡ awaited.Ring) }
         ensures new { self.new ≡ (if result then record self.old { awaited = drive_or_order drives; left = drives; wishes = record { rate = rate; cycle = cycle; control = control; gap = gap; order = self.old.wishes.order; drives = self.old.wishes.drives } } else self.old) }
@@ -143,7 +143,9 @@ impl Head {
         can
     }
 
-    // The line of a drive.
+    // Takes the line of a drive. Returns whether it is next; otherwise nothing changes. If it is next, one line of a drive fewer is
+    // missing; then the next line is that of the order if none is missing, otherwise that of a drive. A drive that doesn't fit into a ring,
+    // after 64 drives, is counted; then `fits` is false, and the planner's input is unspecified.
     fn drive(&mut self, wish: &Wish) -> bool
         ensures can { IsTrue result ↔ (self.old.awaited ≡ awaited.Drive) }
         ensures same { result ≡ false → self.new ≡ self.old }
@@ -165,7 +167,9 @@ impl Head {
         true
     }
 
-    // The line of the order.
+    // Takes the line of the order, of at most 64 addresses. Returns whether it is next, all drives fit into a ring, and the planner's input
+    // is valid with this order; otherwise nothing changes. If all holds, the order is set to the indices of the drives with these
+    // addresses, and the next line is one of a cycle, or that of the totals.
     fn order(&mut self, addresses: &[u8]) -> bool
         requires { length addresses.now ≤ most_drives }
         ensures can { IsTrue result ↔ ((self.old.awaited ≡ awaited.Order) × (self.old.fits ≡ true)
@@ -183,15 +187,7 @@ impl Head {
         can
     }
 
-    // A line of a cycle.
-    fn cycle(&mut self) -> bool
-        ensures can { IsTrue result ↔ (self.old.awaited ≡ awaited.Cycle) }
-        ensures new { self.new ≡ self.old }
-    {
-        self.awaited == Awaited::Cycle
-    }
-
-    // The line of the totals.
+    // Takes the line of the totals. Returns whether it is next; otherwise nothing changes. If it is next, no line can follow.
     fn end(&mut self) -> bool
         ensures can { IsTrue result ↔ (self.old.awaited ≡ awaited.Cycle) }
         ensures new { self.new ≡ (if result then record self.old { awaited = awaited.Nothing } else self.old) }
@@ -203,7 +199,8 @@ impl Head {
         can
     }
 
-    /// Takes the next line. The result is false exactly if it can't follow the lines so far, and then nothing changed.
+    /// Takes the next line. Returns whether it can follow the lines so far; otherwise nothing changes. If a telegram can follow, the head
+    /// is complete and the totals are not read yet.
     pub(crate) fn next(&mut self, line: &Line) -> bool
         ensures can { (lines : List Line) → HeadStandsFor self.old lines → (IsTrue result ↔ CanFollow lines line.now) }
         ensures follows { (lines : List Line) → HeadStandsFor self.old lines → result ≡ true → HeadStandsFor self.new (line.now ∷ lines) }
@@ -221,19 +218,19 @@ impl Head {
             } => self.ring(*rate, *cycle, *control, *gap, *drives),
             Line::Drive(wish) => self.drive(wish),
             Line::Order(addresses) => self.order(addresses.as_slice()),
-            Line::Telegram { .. } | Line::Other => self.cycle(),
+            Line::Telegram { .. } | Line::Other => self.awaited == Awaited::Cycle,
             Line::End => self.end(),
         }
     }
 
-    /// Returns whether the head is whole: it has its order.
+    /// Returns whether the head is complete: its order was read.
     pub(crate) fn is_whole(&self) -> bool
         ensures { (lines : List Line) → HeadStandsFor self.now lines → result ≡ has_head lines }
     {
         matches!(self.awaited, Awaited::Cycle | Awaited::Nothing)
     }
 
-    /// Returns the wishes that the head spells.
+    /// Returns the planner's input that the lines of the head have. The head must be complete and the totals not read yet.
     pub(crate) fn wishes(&self) -> &Wishes
         requires { self.now.awaited ≡ awaited.Cycle }
         ensures valid { IsValid result.now }

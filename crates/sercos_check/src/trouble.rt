@@ -1,4 +1,4 @@
-// What a capture is refused for.
+// Why a capture is refused.
 
 /// Why a text is not a clean capture. Lines are counted from 1.
 #[derive(Clone, Copy, Debug, PartialEq, Eq)]
@@ -12,7 +12,7 @@ pub enum Trouble {
     },
     /// A line can't follow those before it, or the text ends within the head.
     Grammar {
-        /// The line; one past the last line if the head isn't whole.
+        /// The line; one past the last line if the head is incomplete.
         line: u32,
     },
 }

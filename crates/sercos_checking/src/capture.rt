@@ -1,20 +1,15 @@
 // The verdict on a capture.
 ghost use Rattle.std.specs.Prelude.{◌≡◌, ◌<◌, ◌≤◌, ◌+◌, ◌^◌, List, ◌∷◌, length, map, IfNone};
-ghost use Rattle.sercos_trace.specs.declared.reading.Line.{Line};
-ghost use Rattle.sercos_trace.specs.declared.reading.Line.TheVariants.{Other};
-ghost use Rattle.sercos_check.specs.Shape.{HasShape};
-ghost use Rattle.sercos_check.specs.Tests.{can_follow};
-ghost use Rattle.sercos_check.specs.Verdicts.{plain, CheckerStandsFor};
-ghost use Rattle.sercos_checking.specs.Checking.{read_as, column_of, verdict_of};
-ghost use Rattle.sercos_checking.specs.Taken.{HasTaken, verdict_after};
+ghost use Rattle.sercos_checking.specs.Clauses.{Line, Other, HasShape, can_follow, plain, CheckerStandsFor, read_as, column_of, verdict_of, HasTaken, verdict_after};
 
 use crate::verdict::{Verdict, verdict_on};
 use sercos_answer::cut_line;
 use sercos_check::{Checker, shape_law, test_law};
 use sercos_trace::{Line, Reader};
 
-// Returns whether a line can follow those that the checker `shape` has taken, which then takes it too. `shape` checks the shape alone: it
-// takes a telegram as the line `other`, which is `Line::Other`, since a line is large and slow to make.
+// Returns whether a line can follow those that the checker `shape` has taken, if each of these can follow those before it. The checker
+// takes the line in any case. `shape` checks the shape alone: it takes a telegram as the line `other`, which is `Line::Other`, since a line
+// is large and slow to make. It has taken fewer than 2^31 lines.
 fn follows(shape: &mut Checker, line: &Line, other: &Line) -> bool
     requires lines { shape.old.lines < 2 ^ 31 }
     requires other { other.now ≡ Other }
@@ -29,8 +24,9 @@ fn follows(shape: &mut Checker, line: &Line, other: &Line) -> bool
     }
 }
 
-// Gives the next line of a capture, `text`, to both checkers. Returns the column, from 1 on, at which the line is refused; `None` if it
-// isn't. `reader` is used to read the line, and `other` is `Line::Other`.
+// Gives the next line of a capture, `text`, to both checkers, which have taken fewer than 2^31 lines. Returns the column, from 1 on, at
+// which the line is refused; `None` if it isn't. If it is refused, the checkers are unspecified. `reader` is used to read the line, and is
+// unspecified afterwards. `other` is `Line::Other`.
 fn take(
     shape: &mut Checker,
     rules: &mut Checker,

@@ -1,8 +1,6 @@
 // The verdict on a capture, and its line.
 ghost use Rattle.std.specs.Prelude.{◌≡◌, ◌≤◌, ◌+◌, ◌++◌, length, decimal};
-ghost use Rattle.sercos_checking.specs.Checking.{rule_name, violation_text, clean_text, verdict_text, verdict_status};
-ghost use Rattle.sercos_answer.specs.Answer.{refused_text};
-ghost use Rattle.sercos_checking.specs.Taken.{verdict_on};
+ghost use Rattle.sercos_checking.specs.Clauses.{rule_name, violation_text, clean_text, verdict_text, verdict_status, verdict_on};
 
 use itoa::Buffer;
 use sercos_bits::ByteList;
@@ -12,8 +10,7 @@ use sercos_io::Status;
 /// The verdict of `check` on a capture. Lines are counted from 1.
 #[derive(Clone, Copy, Debug, PartialEq, Eq)]
 pub enum Verdict {
-    /// A text is not a line of a trace, or a line can't follow those before it, or the head ends
-    /// early.
+    /// A text is not a line of a trace, or a line can't follow those before it, or the head ends early.
     Refused {
         /// The line; one past the last line if the head ends early.
         line: u32,
@@ -34,8 +31,8 @@ pub enum Verdict {
     },
 }
 
-/// Returns a checker's trouble as a verdict. The column is 1 because no single byte is at fault: the line has the form of a line but
-/// can't follow those before it, or it is missing because the head ends early.
+/// Returns a checker's trouble as a verdict. The column is 1 because no single byte is at fault: the line has the form of a line but can't
+/// follow those before it, or it is missing because the head ends early.
 #[tactic(auto, unfolding(crate::specs::Taken::verdict_on))]
 pub fn verdict_on(trouble: Trouble) -> Verdict
     ensures { result ≡ verdict_on trouble }
@@ -58,10 +55,10 @@ pub fn verdict_status(verdict: Verdict) -> Status
     }
 }
 
-/// The line of a verdict: its texts have at most 34 bytes, its numbers at most 40.
+/// The line of a verdict: its texts have at most 33 bytes, its numbers at most 40.
 pub type VerdictLine = ByteList<96>;
 
-// Appends a text and a number in decimal.
+// Appends a text and a number in decimal, at most 20 bytes more than the text. The line has room for as many.
 fn push_place(text: &str, number: u64, line: &mut VerdictLine)
     requires { length line.old + length text.now + 20 ≤ 96 }
     ensures value { line.new ≡ line.old ++ text.now ++ decimal number }
@@ -72,7 +69,7 @@ fn push_place(text: &str, number: u64, line: &mut VerdictLine)
     line.append_within(buffer.format(number).as_bytes());
 }
 
-// Returns the name of a rule, 1 to 9.
+// Returns the name of a rule, 1 to 9. Any other number counts as 9.
 #[tactic(auto, unfolding(crate::specs::Checking::rule_name))]
 fn rule_name(rule: u8) -> &'static str
     ensures value { result.now ≡ rule_name rule }
@@ -91,17 +88,8 @@ fn rule_name(rule: u8) -> &'static str
     }
 }
 
-// Appends to an empty line the line that refuses a capture, by the number of its line and a column, both counted from 1.
-fn push_refused(number: u32, column: usize, line: &mut VerdictLine)
-    requires { length line.old ≡ 0 }
-    ensures { line.new ≡ line.old ++ refused_text number column }
-{
-    push_place("refused line ", u64::from(number), line);
-    push_place(" column ", column as u64, line);
-    line.push_within(b'\n');
-}
-
-// Appends to an empty line the line that reports a violation, by the number of its line, counted from 1, and the rule.
+// Appends to an empty line `violation line N rule R NAME` and a line feed, where N is the number of the line, counted from 1, and R the
+// rule.
 #[tactic(auto, unfolding(crate::specs::Checking::violation_text))]
 fn push_violation(number: u32, rule: u8, line: &mut VerdictLine)
     requires { length line.old ≡ 0 }
@@ -114,18 +102,9 @@ fn push_violation(number: u32, rule: u8, line: &mut VerdictLine)
     line.push_within(b'\n');
 }
 
-// Appends to an empty line the line of a clean capture, by its number of lines.
-#[tactic(auto, unfolding(crate::specs::Checking::clean_text))]
-fn push_clean(lines: u32, line: &mut VerdictLine)
-    requires { length line.old ≡ 0 }
-    ensures { line.new ≡ line.old ++ clean_text lines }
-{
-    push_place("clean ", u64::from(lines), line);
-    line.push_within(b'\n');
-}
-
-/// Returns the line of a verdict, with its line feed.
-#[tactic(auto, unfolding(crate::specs::Checking::verdict_text))]
+/// Returns the line of a verdict, with its line feed: `refused line N column C`, `violation line N rule R NAME`, or `clean N` with the
+/// number of lines.
+#[tactic(auto, unfolding(crate::specs::Checking::verdict_text, crate::specs::Checking::clean_text))]
 pub fn verdict_line(verdict: Verdict) -> VerdictLine
     ensures { result ≡ verdict_text verdict }
 {
@@ -134,9 +113,16 @@ pub fn verdict_line(verdict: Verdict) -> VerdictLine
         Verdict::Refused {
             line: number,
             column,
-        } => push_refused(number, column, &mut line),
+        } => {
+            push_place("refused line ", u64::from(number), &mut line);
+            push_place(" column ", column as u64, &mut line);
+            line.push_within(b'\n');
+        },
         Verdict::Violation { line: number, rule } => push_violation(number, rule, &mut line),
-        Verdict::Clean { lines } => push_clean(lines, &mut line),
+        Verdict::Clean { lines } => {
+            push_place("clean ", u64::from(lines), &mut line);
+            line.push_within(b'\n');
+        },
     }
     line
 }

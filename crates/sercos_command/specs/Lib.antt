@@ -1,5 +1,6 @@
-pub mod Checks
-pub mod Settings
 pub mod Calls
+pub mod Checks
+pub mod Clauses
 pub mod Kept
 pub mod Laws
+pub mod Settings

@@ -1,17 +1,17 @@
 // Numbers and lists of identifier numbers among the operation data of a store.
 ghost use Rattle.std.specs.Prelude.{◌≡◌, ◌≤◌, ◌<◌, ◌⊎◌, ◌+◌, length, unwrap_or, IfSome};
-ghost use Rattle.std.specs.List.{list_all, sum_by};
-ghost use Rattle.sercos_command.specs.Checks.{number_at, idns_in, idns_at, cyclic_len, is_cyclic, carried_len, breaks_list};
+ghost use Rattle.sercos_command.specs.Clauses.{list_all, sum_by, number_at, idns_in, idns_at, cyclic_len, is_cyclic, carried_len, breaks_list};
 
 use arrayvec::ArrayVec;
 use sercos_bits::byte_at;
 use sercos_block::{Store, number_len};
 use sercos_idn::Idn;
 
-// The bytes of the two words that a telegram or a data record begins with.
+// The number of bytes of the two words that a telegram or a data record begins with.
 pub(crate) const WORDS: u32 = 4;
 
-/// Returns the first two bytes of the operation data of a block as a number, the low byte first. A missing byte is 0.
+/// Returns the first two bytes of the operation data of the block with the identifier number, as a number, the low byte first. A missing
+/// byte is 0; so is the number if there is no such block.
 #[tactic(auto, unfolding(crate::specs::Checks::number_at))]
 pub fn number_at(store: &Store, idn: Idn) -> u32
     ensures value { result ≡ number_at store.now idn.raw }
@@ -21,7 +21,8 @@ pub fn number_at(store: &Store, idn: Idn) -> u32
     u32::from(u16::from_le_bytes([byte_at(data, 0), byte_at(data, 1)]))
 }
 
-// The identifier numbers that bytes are.
+// Returns the identifier numbers that bytes spell, two bytes each, the low byte first. There are at most 32 bytes, and an odd last byte is
+// ignored.
 fn idns_in(bytes: &[u8]) -> ArrayVec<Idn, 16>
     requires { length bytes.now ≤ 32 }
     ensures { result.items ≡ idns_in bytes.now }
@@ -34,7 +35,8 @@ fn idns_in(bytes: &[u8]) -> ArrayVec<Idn, 16>
     idns
 }
 
-/// Returns the identifier numbers of a list of what a telegram carries: S-0-0016 for the AT, S-0-0024 for the MDT.
+/// Returns the identifier numbers in a configuration list (IEC 61491:1995): S-0-0016 for the AT, S-0-0024 for the MDT. There are at most
+/// 16. Without the block there are none.
 #[tactic(auto, unfolding(crate::specs::Checks::idns_at))]
 pub fn idns_at(store: &Store, list: Idn) -> ArrayVec<Idn, 16>
     requires { (list.raw ≡ 16) ⊎ (list.raw ≡ 24) }
@@ -43,7 +45,8 @@ pub fn idns_at(store: &Store, list: Idn) -> ArrayVec<Idn, 16>
     idns_in(store.data(list))
 }
 
-// Returns how many bytes an identifier number adds to a telegram.
+// Returns the number of bytes that an identifier number adds to a telegram: two or four for a number. `None` if the drive has no such
+// block, or it is a list or a procedure command.
 fn cyclic_len(store: &Store, idn: Idn) -> Option<usize>
     ensures value { result ≡ cyclic_len store.now idn.raw }
     ensures bound { IfSome result (λ len. len ≤ 4) }
@@ -54,7 +57,7 @@ fn cyclic_len(store: &Store, idn: Idn) -> Option<usize>
     }
 }
 
-// Returns how many bytes the number adds to a telegram; 0 if no telegram can carry it.
+// Returns the number of bytes that an identifier number adds to a telegram: at most 4, and 0 if no telegram can carry it.
 fn value_len(store: &Store, idn: Idn) -> u32
     ensures value { result ≡ unwrap_or (cyclic_len store.now idn.raw) 0 }
     ensures bound { result ≤ 4 }
@@ -65,7 +68,8 @@ fn value_len(store: &Store, idn: Idn) -> u32
     }
 }
 
-// The bytes of two words and of the values of a list.
+// Returns the number of bytes of two words and of the values of a list of at most 16 identifier numbers: 4 to 68. An identifier number that
+// no telegram can carry adds nothing.
 fn listed_len(store: &Store, idns: &[Idn]) -> u32
     requires { length idns.now ≤ 16 }
     ensures value { result ≡ 4 + sum_by (λ idn. unwrap_or (cyclic_len store.now idn.raw) 0) idns.now }
@@ -78,8 +82,8 @@ fn listed_len(store: &Store, idns: &[Idn]) -> u32
     len
 }
 
-/// Returns the number of bytes of an AT after its address (by S-0-0016), or of a record of the MDT (by S-0-0024): two
-/// words, and two or four bytes for each number in the list. An identifier number that isn't that of a number adds none.
+/// Returns the number of bytes of an AT after its address (S-0-0016), or of a data record of the MDT (S-0-0024): two words, and two or four
+/// bytes for each number in the list. An entry that isn't the identifier number of a number adds nothing. There are 4 to 68.
 #[tactic(auto, unfolding(crate::specs::Checks::carried_len))]
 pub fn carried_len(store: &Store, list: Idn) -> u32
     requires { (list.raw ≡ 16) ⊎ (list.raw ≡ 24) }
@@ -96,7 +100,8 @@ fn are_cyclic(store: &Store, idns: &[Idn]) -> bool
     idns.iter().all(|idn| cyclic_len(store, *idn).is_some())
 }
 
-// Returns whether a list of what a telegram carries has an identifier number that no telegram can carry.
+// Returns whether a configuration list, S-0-0016 or S-0-0024, has an identifier number that no telegram can carry: the drive has no such
+// block, or it is a list or a procedure command.
 #[tactic(auto, unfolding(crate::specs::Checks::breaks_list))]
 pub(crate) fn breaks_list(list: Idn, store: &Store) -> bool
     requires { (list.raw ≡ 16) ⊎ (list.raw ≡ 24) }

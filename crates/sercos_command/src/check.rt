@@ -1,10 +1,11 @@
-// The two checks.
+// The two transition checks.
 ghost use Rattle.std.specs.Prelude.{◌≡◌, ◌≤◌, ◌<◌, ◌+◌, ◌++◌, [], length};
-ghost use Rattle.sercos_command.specs.Checks.{listed_if, unfit_for_phase_3, unfit_for_phase_4};
+ghost use Rattle.sercos_command.specs.Clauses.{listed_if, unfit_for_phase_3, unfit_for_phase_4};
 
 use crate::carried::breaks_list;
 use crate::rules::{
-    breaks_1, breaks_2, breaks_6, breaks_7, breaks_8, breaks_9, breaks_10, breaks_15, breaks_89,
+    breaks_control_cycle_time, breaks_cycle_time, breaks_mdt_length, breaks_position, breaks_t1,
+    breaks_t2, breaks_t3, breaks_t4, breaks_telegram_type,
 };
 use arrayvec::ArrayVec;
 use sercos_block::Store;
@@ -14,7 +15,7 @@ use sercos_block::numbers::{
 };
 use sercos_idn::Idn;
 
-// Adds an identifier number to a list where its rule is broken.
+// Appends the identifier number if its rule is broken; otherwise the list is unchanged. It has fewer than 64 before.
 fn add_if(unfit: &mut ArrayVec<Idn, 64>, idn: Idn, broken: bool)
     requires { length unfit.old.items < 64 }
     ensures items { unfit.new.items ≡ unfit.old.items ++ listed_if idn.raw broken [] }
@@ -25,29 +26,43 @@ fn add_if(unfit: &mut ArrayVec<Idn, 64>, idn: Idn, broken: bool)
     }
 }
 
-/// Returns the identifier numbers whose operation data isn't fit for phase 3 in a ring of a rate, in Mbit/s, ascending:
-/// times that contradict one another or those that the drive declares, an impossible data record or telegram, and lists of
-/// what no telegram can carry.
+/// Returns the identifier numbers whose operation data isn't fit for phase 3 (S-0-0127 of IEC 61491:1995, with the rules of this profile),
+/// ascending. `rate` is that of the ring, in bits per microsecond. Each is listed if and only if its rule is broken:
+///
+/// - S-0-0001: the cycle time is 0, or the control unit cycle time is not a positive multiple of it;
+/// - S-0-0002: the cycle time is not one of this profile;
+/// - S-0-0006: T1 is below T1min;
+/// - S-0-0007: T4 plus T4min is after the end of the cycle;
+/// - S-0-0008: T3 is 0, or after the end of the cycle;
+/// - S-0-0009: the position of the data record is 0, or the record passes the end of the MDT;
+/// - S-0-0010: the MDT has fewer than 4 bytes;
+/// - S-0-0015: the telegram type is not 7;
+/// - S-0-0016 and S-0-0024: the list has an identifier number that no telegram can carry;
+/// - S-0-0089: there is less than TATMT between the end of the longest AT and T2.
 pub fn check127(rate: u8, store: &Store) -> ArrayVec<Idn, 64>
     ensures { result.items ≡ unfit_for_phase_3 rate store.now }
 {
     let mut unfit = ArrayVec::new();
-    add_if(&mut unfit, CONTROL_CYCLE_TIME, breaks_1(store));
-    add_if(&mut unfit, CYCLE_TIME, breaks_2(store));
-    add_if(&mut unfit, T1, breaks_6(store));
-    add_if(&mut unfit, T4, breaks_7(store));
-    add_if(&mut unfit, T3, breaks_8(store));
-    add_if(&mut unfit, POSITION, breaks_9(store));
-    add_if(&mut unfit, MDT_LENGTH, breaks_10(store));
-    add_if(&mut unfit, TELEGRAM_TYPE, breaks_15(store));
+    add_if(
+        &mut unfit,
+        CONTROL_CYCLE_TIME,
+        breaks_control_cycle_time(store),
+    );
+    add_if(&mut unfit, CYCLE_TIME, breaks_cycle_time(store));
+    add_if(&mut unfit, T1, breaks_t1(store));
+    add_if(&mut unfit, T4, breaks_t4(store));
+    add_if(&mut unfit, T3, breaks_t3(store));
+    add_if(&mut unfit, POSITION, breaks_position(store));
+    add_if(&mut unfit, MDT_LENGTH, breaks_mdt_length(store));
+    add_if(&mut unfit, TELEGRAM_TYPE, breaks_telegram_type(store));
     add_if(&mut unfit, AT_LIST, breaks_list(AT_LIST, store));
     add_if(&mut unfit, MDT_LIST, breaks_list(MDT_LIST, store));
-    add_if(&mut unfit, T2, breaks_89(rate, store));
+    add_if(&mut unfit, T2, breaks_t2(rate, store));
     unfit
 }
 
-/// Returns the identifier numbers whose operation data isn't fit for phase 4, ascending: those of numbers below their minimum or above
-/// their maximum.
+/// Returns the identifier numbers whose operation data isn't fit for phase 4 (S-0-0128 of IEC 61491:1995), ascending: those of numbers
+/// below their minimum or above their maximum.
 pub fn check128(store: &Store) -> ArrayVec<Idn, 64>
     ensures { result.items ≡ unfit_for_phase_4 store.now }
 {

@@ -1,14 +1,10 @@
 // The procedure commands of a drive.
-ghost use Rattle.std.specs.Prelude.{◌≡◌, ℕ, ◌==◌, ◌<◌, ◌≤◌, ◌⊎◌, List, [], ◌∷◌, length, None, true, is_some};
-ghost use Rattle.sercos_idn.specs.Commands.{to_cancel, to_set};
-ghost use Rattle.sercos_block.specs.declared.block.Block.{Block};
-ghost use Rattle.sercos_command.specs.Settings.{is_command, ends_well};
-ghost use Rattle.sercos_command.specs.Calls.{Wrote, Other, Reset, CommandHistory, with_call, is_passed, status_in, change_in, with_check_list};
-ghost use Rattle.sercos_command.specs.Kept.{newest_cycle, AreInOrder, first_passed_in, find_set, is_from, with_write, without_checks, without_settings, with_check_list_kept, are_commands_of, CommandsStandFor};
+ghost use Rattle.std.specs.Prelude.{◌≡◌, ◌==◌, ◌<◌, ◌≤◌, ◌⊎◌, List, [], length, None, true};
+ghost use Rattle.sercos_command.specs.Clauses.{to_cancel, to_set, Block, is_command, ends_well, Wrote, Other, Reset, CommandHistory, with_call, is_passed, status_in, change_in, with_check_list, newest_cycle, AreInOrder, first_passed_in, find_set, is_from, with_write, without_checks, with_check_list_kept, are_commands_of, CommandsStandFor};
 
 use crate::passed::{after_cancel, after_setting, is_from};
 use crate::run::run;
-use crate::set::{any_ended, cancel, find_set, status_by};
+use crate::set::{any_ended, find_set, remove_setting, status_by};
 use arrayvec::ArrayVec;
 use sercos_block::Store;
 use sercos_block::numbers::{PHASE_3_CHECK, PHASE_4_CHECK};
@@ -27,8 +23,8 @@ pub struct SetCommand {
     pub well: bool,
 }
 
-/// The procedure commands of a drive. Contracts say what it answers by the calls on them: writes to commands, writes to other operation
-/// data, and phase 0.
+/// The procedure commands of a drive (IEC 61491:1995): which are set, and since when a transition check counts as passed. Contracts state
+/// what it returns by the calls on it: writes to commands, writes to other operation data, and phase 0.
 #[derive(Drop)]
 pub struct Commands {
     rate: u8,
@@ -50,7 +46,8 @@ impl Model for Commands {
 }
 
 impl Commands {
-    /// Returns the commands of a drive in a ring of a rate, in Mbit/s, each of which runs for `time` cycles. No command is set.
+    /// Returns the commands of a drive in a ring with a rate in bits per microsecond. Each command runs for `time` cycles. No command is
+    /// set.
     #[tactic(auto, unfolding(crate::specs::Kept::are_distinct))]
     pub fn new(rate: u8, time: u16) -> Commands
         ensures stands { CommandsStandFor result (record { rate = rate; time = time; calls = [] }) }
@@ -65,17 +62,18 @@ impl Commands {
         }
     }
 
-    // Takes a cancel of a command.
+    // Processes the cancel of a command, in a cycle: it isn't set any more. If it is a check that doesn't count as passed in that cycle
+    // yet, its setting no longer makes it so. `blocks` in the contract is any list.
     #[tactic(auto, using(crate::proofs::SetLemmas::distinct_without), unfolding(crate::specs::Kept::with_write))]
     fn cancel(&mut self, idn: Idn, cycle: u32)
         ensures { (blocks : List Block) → self.new ≡ with_write idn.raw to_cancel cycle blocks self.old }
     {
         self.passed_127 = after_cancel(self.passed_127, PHASE_3_CHECK, idn, cycle);
         self.passed_128 = after_cancel(self.passed_128, PHASE_4_CHECK, idn, cycle);
-        cancel(&mut self.set, idn);
+        remove_setting(&mut self.set, idn);
     }
 
-    // Takes a setting of a command that isn't set.
+    // Processes the setting of a command that isn't set, in a cycle. Fewer than 64 are set before. `well` is whether it ends well.
     #[tactic(auto, using(crate::proofs::SetLemmas::distinct_appended), unfolding(crate::specs::Kept::with_write))]
     fn set(&mut self, idn: Idn, cycle: u32, well: bool)
         requires new { find_set idn.raw self.old.set ≡ None }
@@ -88,7 +86,8 @@ impl Commands {
         self.set.push(SetCommand { idn, cycle, well });
     }
 
-    // A write to a command: the commands and the blocks after it.
+    // Processes a write of 0 (cancel) or 3 (set) to a command, in a cycle. A check that is newly set writes its list to the store. All
+    // commands that are set are procedure commands of the store.
     #[tactic(auto, using(crate::proofs::SetLemmas::has_room), unfolding(crate::specs::Kept::with_write, crate::specs::Kept::with_check_list_kept))]
     fn take(&mut self, idn: Idn, value: u16, cycle: u32, store: &mut Store)
         requires value { (value ≡ to_cancel) ⊎ (value ≡ to_set) }
@@ -100,17 +99,18 @@ impl Commands {
             self.cancel(idn, cycle);
             return;
         }
-        if self.has(idn) {
+        if find_set(idn, self.set.as_slice()).is_some() {
             return;
         }
         let well = run(self.rate, idn, store);
         self.set(idn, cycle, well);
     }
 
-    /// Processes a write of 0 (cancel) or 3 (set) to a procedure command of the drive, in a cycle. A set command is set in
-    /// that cycle; one that is set already stays as it is. The check for phase 3 writes what it finds unfit into S-0-0021,
-    /// that for phase 4 into S-0-0022; it ends well if it finds nothing. Any other command ends well unless the drive says
-    /// that it fails.
+    /// Processes a write of 0 (cancel) or 3 (set) to a procedure command of the drive, in a cycle. A 3 sets the command in that cycle; if
+    /// it is set already, nothing changes. When it is newly set, the check for phase 3 writes what it finds unfit into S-0-0021, that for
+    /// phase 4 into S-0-0022. A check ends well iff it finds nothing, any other command iff its block isn't set up to fail. `store` has the
+    /// new value already. All commands that are set are procedure commands of the store, before and after. Apart from the check's list the
+    /// store is unchanged.
     pub fn write(&mut self, idn: Idn, value: u16, cycle: u32, store: &mut Store)
         requires command { is_command store.old idn.raw ≡ true }
         requires value { (value ≡ to_cancel) ⊎ (value ≡ to_set) }
@@ -122,14 +122,8 @@ impl Commands {
         self.take(idn, value, cycle, store);
     }
 
-    // Returns whether a command is set.
-    fn has(&self, idn: Idn) -> bool
-        ensures { result ≡ is_some (find_set idn.raw self.now.set) }
-    {
-        find_set(idn, self.set.as_slice()).is_some()
-    }
-
-    /// A write to other operation data than that of a command, in a cycle: no check counts as passed any more.
+    /// Processes a write to operation data other than a command's: no check counts as passed any more. `cycle` only serves the contract.
+    /// The commands that are set remain.
     pub fn written(&mut self, cycle: u32)
         ensures stands { (c : CommandHistory) → CommandsStandFor self.old c → CommandsStandFor self.new (with_call (Other cycle) c) }
         ensures same { self.new.set ≡ self.old.set }
@@ -137,7 +131,7 @@ impl Commands {
         self.forget_checks();
     }
 
-    // No check counts as passed any more.
+    // Makes no check count as passed. All else is unchanged.
     fn forget_checks(&mut self)
         ensures { self.new ≡ without_checks self.old }
     {
@@ -145,7 +139,7 @@ impl Commands {
         self.passed_128 = None;
     }
 
-    /// Phase 0: no command is set any more, and no check counts as passed.
+    /// Processes phase 0: no command is set any more, and no check counts as passed.
     #[tactic(auto, unfolding(crate::specs::Kept::are_distinct))]
     pub fn reset(&mut self)
         ensures stands { (c : CommandHistory) → CommandsStandFor self.old c → CommandsStandFor self.new (with_call Reset c) }
@@ -155,8 +149,8 @@ impl Commands {
         self.forget_checks();
     }
 
-    /// Returns the data status of a command in a cycle: 0 not set, 7 running, 3 ended well, 15 ended with an error. A command runs in the
-    /// cycle in which it was set and below that of its end.
+    /// Returns the data status of a command in a cycle (IEC 61491:1995): 0 not set, 7 running, 3 ended well, 15 ended with an error. A
+    /// command runs from the cycle in which it was set, for the drive's command time.
     #[tactic(auto, using(crate::proofs::CallLemmas::status_stands))]
     pub fn status(&self, idn: Idn, cycle: u32) -> u16
         ensures { (c : CommandHistory) → CommandsStandFor self.now c → result ≡ status_in c idn.raw cycle }
@@ -164,7 +158,7 @@ impl Commands {
         status_by(self.time, find_set(idn, self.set.as_slice()), cycle)
     }
 
-    /// Returns the change bit of procedure commands in a cycle: whether some command that is set has ended.
+    /// Returns the change bit of procedure commands in a cycle (IEC 61491:1995): whether some command that is set has ended.
     #[tactic(auto, using(crate::proofs::CallLemmas::change_stands))]
     pub fn change(&self, cycle: u32) -> bool
         ensures { (c : CommandHistory) → CommandsStandFor self.now c → result ≡ change_in c cycle }
@@ -172,9 +166,10 @@ impl Commands {
         any_ended(self.set.as_slice(), self.time, cycle)
     }
 
-    /// Returns whether the check for phase 3, S-0-0127, counts as passed in a cycle. Where no call is of an earlier cycle than the
-    /// calls before it, and the cycle isn't before that of the newest call, the rule decides. For any other calls, the first cycle that is
-    /// kept decides.
+    /// Returns whether the check for phase 3, S-0-0127, counts as passed in a cycle. `rule` holds if the calls are in the order of their
+    /// cycles, and `cycle` isn't before the newest: some write set the check, which wasn't set, its end is reached, and it found nothing;
+    /// since that write the check wasn't cancelled before its end, no other operation data was written, and phase 0 wasn't entered. `kept`
+    /// holds for any calls: it counts as passed from the first such cycle on that was stored, or never if none was.
     pub fn passed127(&self, cycle: u32) -> bool
         ensures rule { (c : CommandHistory) → CommandsStandFor self.now c → AreInOrder c.calls → newest_cycle c.calls ≤ cycle →
             result ≡ is_passed c.rate c.time 127 c.calls cycle }
@@ -183,9 +178,10 @@ impl Commands {
         is_from(self.passed_127, cycle)
     }
 
-    /// Returns whether the check for phase 4, S-0-0128, counts as passed in a cycle. Where no call is of an earlier cycle than the
-    /// calls before it, and the cycle isn't before that of the newest call, the rule decides. For any other calls, the first cycle that is
-    /// kept decides.
+    /// Returns whether the check for phase 4, S-0-0128, counts as passed in a cycle. `rule` holds if the calls are in the order of their
+    /// cycles, and `cycle` isn't before the newest: some write set the check, which wasn't set, its end is reached, and it found nothing;
+    /// since that write the check wasn't cancelled before its end, no other operation data was written, and phase 0 wasn't entered. `kept`
+    /// holds for any calls: it counts as passed from the first such cycle on that was stored, or never if none was.
     pub fn passed128(&self, cycle: u32) -> bool
         ensures rule { (c : CommandHistory) → CommandsStandFor self.now c → AreInOrder c.calls → newest_cycle c.calls ≤ cycle →
             result ≡ is_passed c.rate c.time 128 c.calls cycle }

@@ -1,4 +1,4 @@
-//! The procedure commands of a drive, and the two checks that let it go on to phases 3 and 4.
+//! The procedure commands of a drive, and the two transition checks, without which it doesn't enter phases 3 and 4 (IEC 61491:1995).
 #![tactic(auto)]
 
 mod carried;

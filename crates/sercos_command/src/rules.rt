@@ -1,6 +1,6 @@
-// The rules of the check for phase 3 on numbers, each by the number of the block that breaks it.
-ghost use Rattle.std.specs.Prelude.{◌≡◌, ◌≤◌};
-ghost use Rattle.sercos_command.specs.Checks.{breaks_1, breaks_2, breaks_6, breaks_7, breaks_8, breaks_9, breaks_10, breaks_15, breaks_89};
+// The rules of the check for phase 3, each named by the block that breaks it. Times are in microseconds.
+ghost use Rattle.std.specs.Prelude.{◌≡◌};
+ghost use Rattle.sercos_command.specs.Clauses.{breaks_1, breaks_2, breaks_6, breaks_7, breaks_8, breaks_9, breaks_10, breaks_15, breaks_89};
 
 use crate::carried::{WORDS, carried_len, number_at};
 use sercos_block::Store;
@@ -10,12 +10,12 @@ use sercos_block::numbers::{
 };
 use sercos_timing::{is_cycle, wire};
 
-// The telegram type of this profile.
+// The telegram type of this profile: configured telegrams.
 const CONFIGURED: u32 = 7;
 
-// The control unit cycle time is not a positive multiple of the cycle time.
+// Returns whether the cycle time is 0, or the control unit cycle time is not a positive multiple of it.
 #[tactic(auto, unfolding(crate::specs::Checks::breaks_1))]
-pub(crate) fn breaks_1(store: &Store) -> bool
+pub(crate) fn breaks_control_cycle_time(store: &Store) -> bool
     ensures { result ≡ breaks_1 store.now }
 {
     let control = number_at(store, CONTROL_CYCLE_TIME);
@@ -23,42 +23,42 @@ pub(crate) fn breaks_1(store: &Store) -> bool
     cycle == 0 || control == 0 || control % cycle != 0
 }
 
-// The cycle time is not one of this profile.
+// Returns whether the cycle time is not one of this profile: 125, or a multiple of 250 from 250 to 64,000.
 #[tactic(auto, unfolding(crate::specs::Checks::breaks_2))]
-pub(crate) fn breaks_2(store: &Store) -> bool
+pub(crate) fn breaks_cycle_time(store: &Store) -> bool
     ensures { result ≡ breaks_2 store.now }
 {
     !is_cycle(number_at(store, CYCLE_TIME) as u16)
 }
 
-// The drive can't send at T1.
+// Returns whether T1 is before the earliest time at which the drive can send, T1min.
 #[tactic(auto, unfolding(crate::specs::Checks::breaks_6))]
-pub(crate) fn breaks_6(store: &Store) -> bool
+pub(crate) fn breaks_t1(store: &Store) -> bool
     ensures { result ≡ breaks_6 store.now }
 {
     number_at(store, T1) < number_at(store, T1MIN)
 }
 
-// After T4 the drive has too little time until the end of the cycle.
+// Returns whether less than T4min is left from T4 to the end of the cycle.
 #[tactic(auto, unfolding(crate::specs::Checks::breaks_7))]
-pub(crate) fn breaks_7(store: &Store) -> bool
+pub(crate) fn breaks_t4(store: &Store) -> bool
     ensures { result ≡ breaks_7 store.now }
 {
     number_at(store, CYCLE_TIME) < number_at(store, T4) + number_at(store, T4MIN)
 }
 
-// T3 doesn't lie in the cycle.
+// Returns whether T3 is 0, or after the end of the cycle.
 #[tactic(auto, unfolding(crate::specs::Checks::breaks_8))]
-pub(crate) fn breaks_8(store: &Store) -> bool
+pub(crate) fn breaks_t3(store: &Store) -> bool
     ensures { result ≡ breaks_8 store.now }
 {
     let time = number_at(store, T3);
     time == 0 || number_at(store, CYCLE_TIME) < time
 }
 
-// The data record doesn't lie in the MDT.
+// Returns whether the position of the data record is 0, or the record passes the end of the MDT.
 #[tactic(auto, unfolding(crate::specs::Checks::breaks_9))]
-pub(crate) fn breaks_9(store: &Store) -> bool
+pub(crate) fn breaks_position(store: &Store) -> bool
     ensures { result ≡ breaks_9 store.now }
 {
     let position = number_at(store, POSITION);
@@ -66,25 +66,26 @@ pub(crate) fn breaks_9(store: &Store) -> bool
     position == 0 || number_at(store, MDT_LENGTH) < last
 }
 
-// The MDT has no room for the two words of a record.
+// Returns whether the MDT has fewer than the 4 bytes of the two words of a record.
 #[tactic(auto, unfolding(crate::specs::Checks::breaks_10))]
-pub(crate) fn breaks_10(store: &Store) -> bool
+pub(crate) fn breaks_mdt_length(store: &Store) -> bool
     ensures { result ≡ breaks_10 store.now }
 {
     number_at(store, MDT_LENGTH) < WORDS
 }
 
-// Telegrams are of another type.
+// Returns whether the telegram type is not 7, that of this profile.
 #[tactic(auto, unfolding(crate::specs::Checks::breaks_15))]
-pub(crate) fn breaks_15(store: &Store) -> bool
+pub(crate) fn breaks_telegram_type(store: &Store) -> bool
     ensures { result ≡ breaks_15 store.now }
 {
     number_at(store, TELEGRAM_TYPE) != CONFIGURED
 }
 
-// The drive has too little time between its AT and T2.
+// Returns whether there is less than TATMT between the end of the longest AT and T2. The sums are in bit times, at a rate in bits per
+// microsecond.
 #[tactic(auto, unfolding(crate::specs::Checks::breaks_89))]
-pub(crate) fn breaks_89(rate: u8, store: &Store) -> bool
+pub(crate) fn breaks_t2(rate: u8, store: &Store) -> bool
     ensures { result ≡ breaks_89 rate store.now }
 {
     let rate = u32::from(rate);

@@ -1,8 +1,7 @@
-// What a command does when it is set.
-ghost use Rattle.std.specs.Prelude.{◌≡◌, ◌≤◌, ◌==◌, ◌⊎◌, if◌then◌else◌, length};
-ghost use Rattle.sercos_block.specs.Stores.{with_data, IsStore};
-ghost use Rattle.sercos_command.specs.Checks.{unfit_for_phase_3, unfit_for_phase_4, list_bytes};
-ghost use Rattle.sercos_command.specs.Settings.{ends_well, with_list_of};
+// What a procedure command does when it is set. The invariant of a store says that it has at most 57 blocks, which ascend by identifier
+// number and are sound and typed.
+ghost use Rattle.std.specs.Prelude.{◌≡◌, ◌≤◌, ◌==◌, ◌⊎◌, length};
+ghost use Rattle.sercos_command.specs.Clauses.{with_data, IsStore, list_bytes, ends_well, with_list_of};
 
 use crate::check::{check127, check128};
 use sercos_bits::ByteList;
@@ -12,7 +11,7 @@ use sercos_block::numbers::{
 };
 use sercos_idn::Idn;
 
-// The bytes of identifier numbers.
+// Returns the bytes of at most 64 identifier numbers, two each, the low byte first.
 fn list_bytes(idns: &[Idn]) -> ByteList<128>
     requires { length idns.now ≤ 64 }
     ensures { result ≡ list_bytes idns.now }
@@ -24,8 +23,9 @@ fn list_bytes(idns: &[Idn]) -> ByteList<128>
     bytes
 }
 
-// Writes what a check found into its list, and returns whether it found nothing.
-fn give(store: &mut Store, list: Idn, unfit: &[Idn]) -> bool
+// Writes the unfit identifier numbers that a check found, at most 64, into its list S-0-0021 or S-0-0022, and returns whether there are
+// none. All other blocks are unchanged. By `store` the blocks kept the invariant of a store before.
+fn write_list(store: &mut Store, list: Idn, unfit: &[Idn]) -> bool
     requires list { (list.raw ≡ 21) ⊎ (list.raw ≡ 22) }
     requires few { length unfit.now ≤ 64 }
     ensures well { result ≡ (length unfit.now == 0) }
@@ -37,7 +37,9 @@ fn give(store: &mut Store, list: Idn, unfit: &[Idn]) -> bool
     unfit.is_empty()
 }
 
-// Runs a command, and returns whether it ends well.
+// Runs a command that is newly set, and returns whether it ends well. A check writes its list to the store, and ends well iff that is
+// empty. Any other command leaves the store unchanged, and ends well iff its block isn't set up to fail. By `store` the blocks kept the
+// invariant of a store before.
 pub(crate) fn run(rate: u8, idn: Idn, store: &mut Store) -> bool
     ensures well { result ≡ ends_well rate idn.raw store.old }
     ensures blocks { store.new ≡ with_list_of rate idn.raw store.old }
@@ -45,11 +47,11 @@ pub(crate) fn run(rate: u8, idn: Idn, store: &mut Store) -> bool
 {
     if idn == PHASE_3_CHECK {
         let unfit = check127(rate, store);
-        return give(store, INVALID_FOR_PHASE_2, unfit.as_slice());
+        return write_list(store, INVALID_FOR_PHASE_2, unfit.as_slice());
     }
     if idn == PHASE_4_CHECK {
         let unfit = check128(store);
-        return give(store, INVALID_FOR_PHASE_3, unfit.as_slice());
+        return write_list(store, INVALID_FOR_PHASE_3, unfit.as_slice());
     }
     !store.fails(idn)
 }

@@ -1,15 +1,13 @@
-// The commands that are set.
-ghost use Rattle.std.specs.Prelude.{◌≡◌, ◌<◌, ◌++◌, [], ◌∷◌, length, is_some, true, None};
-ghost use Rattle.std.specs.List.{list_any};
-ghost use Rattle.sercos_command.specs.Settings.{has_ended, status_by};
-ghost use Rattle.sercos_command.specs.Kept.{find_set, without};
+// The procedure commands that are set.
+ghost use Rattle.std.specs.Prelude.{◌≡◌, ◌<◌, None};
+ghost use Rattle.sercos_command.specs.Clauses.{list_any, has_ended, status_by, find_set, without};
 
 use crate::commands::SetCommand;
 use arrayvec::ArrayVec;
 use sercos_idn::Idn;
 use sercos_idn::command::{ENDED_WELL, ENDED_WITH_ERROR, NOT_SET, RUNNING};
 
-// The setting of a command.
+// Returns the setting of a command; `None` if it isn't set.
 pub(crate) fn find_set(idn: Idn, set: &[SetCommand]) -> Option<SetCommand>
     ensures { result ≡ find_set idn.raw set.now }
 {
@@ -21,21 +19,21 @@ pub(crate) fn find_set(idn: Idn, set: &[SetCommand]) -> Option<SetCommand>
     None
 }
 
-// Cancels a command.
-pub(crate) fn cancel(set: &mut ArrayVec<SetCommand, 64>, idn: Idn)
+// Removes the setting of a command, if it is set. All others remain.
+pub(crate) fn remove_setting(set: &mut ArrayVec<SetCommand, 64>, idn: Idn)
     ensures { set.new.items ≡ without idn.raw set.old.items }
 {
     set.retain(|command| command.idn != idn);
 }
 
-// Returns whether a command that is set has ended.
+// Returns whether a set command that runs for `time` cycles has ended in a cycle.
 fn has_ended(time: u16, cycle: u32, command: &SetCommand) -> bool
     ensures { result ≡ has_ended time cycle command.now }
 {
     u64::from(command.cycle) + u64::from(time) <= u64::from(cycle)
 }
 
-// The data status of a command by its setting.
+// Returns the data status in a cycle of a command with this setting: 0 without one, 7 while it runs, then 3 if it ends well, otherwise 15.
 pub(crate) fn status_by(time: u16, command: Option<SetCommand>, cycle: u32) -> u16
     ensures { result ≡ status_by time command cycle }
 {
@@ -53,7 +51,7 @@ pub(crate) fn status_by(time: u16, command: Option<SetCommand>, cycle: u32) -> u
     }
 }
 
-// Returns whether some command that is set has ended.
+// Returns whether some set command has ended in a cycle.
 pub(crate) fn any_ended(set: &[SetCommand], time: u16, cycle: u32) -> bool
     ensures { result ≡ list_any (has_ended time cycle) set.now }
 {

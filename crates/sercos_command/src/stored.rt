@@ -1,14 +1,11 @@
 // The procedure commands among the blocks of a store.
 ghost use Rattle.std.specs.Prelude.{◌≡◌, ℕ, List};
-ghost use Rattle.sercos_block.specs.declared.block.Block.{Block};
-ghost use Rattle.sercos_block.specs.Stores.{with_data};
-ghost use Rattle.sercos_command.specs.Settings.{is_command};
-ghost use Rattle.sercos_command.specs.Kept.{CommandsView, are_commands_of};
+ghost use Rattle.sercos_command.specs.Clauses.{Block, with_data, is_command, CommandsView, are_commands_of};
 
 use sercos_block::Store;
 use sercos_idn::Idn;
 
-/// Returns whether the block with an identifier number is a procedure command; false without the block.
+/// Returns whether the block with the identifier number is a procedure command; false if there is no such block.
 pub fn is_command(store: &Store, idn: Idn) -> bool
     ensures { result ≡ is_command store.now idn.raw }
 {
@@ -18,7 +15,8 @@ pub fn is_command(store: &Store, idn: Idn) -> bool
     }
 }
 
-/// A write of operation data leaves the blocks that are procedure commands, and so those that can be set.
+/// States that a write of operation data changes neither which blocks are procedure commands, nor whether all set commands are among them.
+/// The function does nothing.
 pub fn stored_law()
     ensures command { (raw other : ℕ) (bytes : List ℕ) (blocks : List Block) → is_command (with_data other bytes blocks) raw ≡ is_command blocks raw }
     ensures set { (other : ℕ) (bytes : List ℕ) (blocks : List Block) (commands : CommandsView) →

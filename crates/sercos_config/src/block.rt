@@ -1,16 +1,6 @@
-// The data blocks of a drive.
-ghost use Rattle.std.specs.Prelude.{◌≡◌, ◌<◌, ◌≤◌, ◌^◌, true, None, Some, [], ◌==◌, ◌&&◌, ◌||◌, not, is_none, length, map, IfOk, IfSome};
-ghost use Rattle.std.specs.List.{list_all};
-ghost use Rattle.toml.specs.View.{table_view};
-ghost use Rattle.sercos_block.specs.Blocks.{is_number};
-ghost use Rattle.sercos_block.specs.BuiltIns.{is_built_in};
-ghost use Rattle.sercos_block.specs.Rules.{has_block, is_text, block_fault, blocks_fault};
-ghost use Rattle.sercos_block.specs.Stores.{is_typed};
-ghost use Rattle.sercos_document.specs.Paths.{path};
-ghost use Rattle.sercos_document.specs.Answers.{Gives, Shows};
-ghost use Rattle.sercos_document.specs.Tables.{known};
-ghost use Rattle.sercos_document.specs.Located.{located};
-ghost use Rattle.sercos_config.specs.Block.{idn_of, idn_in, idn_under, attribute_under, text_under, step_under, fails_under, block_keys, block_of, blocks_onto};
+// The data blocks of a drive. Any error may also be `Memory` instead of the refusal, as the path of a refusal takes memory.
+ghost use Rattle.std.specs.Prelude.{◌≡◌, ◌<◌, ◌≤◌, true, None, Some, [], ◌==◌, ◌&&◌, ◌||◌, not, is_none, length, map, IfOk, IfSome};
+ghost use Rattle.sercos_config.specs.Clauses.{list_all, table_view, is_number, is_built_in, has_block, is_text, block_fault, blocks_fault, is_typed, Gives, Shows, known, located, idn_of, idn_in, idn_under, attribute_under, text_under, step_under, fails_under, block_keys, block_of, blocks_onto};
 
 use crate::data::{read_data, read_limit, read_max_len, text_of};
 use sercos_bits::Text;
@@ -22,7 +12,8 @@ use std::alloc::Global;
 use toml::Table;
 
 /// Reads the data blocks of a drive from its `block` tables, in their order. `drive` is the drive's index in the document, from 0; the
-/// paths of refusals name it. The error is the first refusal, or `Memory`.
+/// paths of refusals name it. The error is the first refusal, or `Memory`. There is one block for each table. The blocks keep the rules of
+/// `check_blocks`, and their numbers are in the ranges of their types.
 #[tactic(auto, using(crate::proofs::BlockLemmas::blocks_none, crate::proofs::BlockLemmas::blocks_more), unfolding(crate::specs::Block::blocks_onto))]
 pub(crate) fn read_blocks(
     alloc: Global,
@@ -49,8 +40,9 @@ pub(crate) fn read_blocks(
     Ok(blocks)
 }
 
-// Reads a data block from its table. `before` has the drive's blocks of the tables before it: the identifier number may be neither one of
-// theirs nor that of a built-in block. The error is the first refusal, or `Memory`.
+// Reads a data block from its table. `before` has the drive's blocks of the tables before it: an identifier number of theirs or of a
+// built-in block is refused as `Twice`. The error is the first refusal, or `Memory`. The block keeps the rules of `check_blocks` after
+// those of `before`, and its numbers are in the ranges of their types.
 #[tactic(auto, unfolding(crate::specs::Block::block_of, sercos_block::specs::Rules::block_fault))]
 fn read_block(keys: &Keys<'_>, before: &[Block]) -> Result<Block, BadDocument>
     ensures value { Gives result (block_of before.now (located keys.now)) }
@@ -59,7 +51,7 @@ fn read_block(keys: &Keys<'_>, before: &[Block]) -> Result<Block, BadDocument>
 {
     known(keys)?;
     let idn = read_idn(keys, "idn")?;
-    let taken = is_taken(idn, before);
+    let taken = is_built_in(idn) || has_block(idn, before);
     keys.demand_once(!taken, "idn")?;
     let attribute = read_attribute(keys)?;
     let name = read_text(keys, "name", MOST_NAME)?;
@@ -132,17 +124,8 @@ pub(crate) fn read_idn(keys: &Keys<'_>, key: &str) -> Result<Idn, BadDocument>
     }
 }
 
-// Returns whether a built-in block or one of `blocks` has the identifier number `idn`.
-fn is_taken(idn: Idn, blocks: &[Block]) -> bool
-    ensures { result ≡ (is_built_in idn.raw || has_block idn.raw blocks.now) }
-{
-    let built_in = is_built_in(idn);
-    let own = has_block(idn, blocks);
-    built_in || own
-}
-
 // Returns the attribute that the 32-bit word under `attribute` encodes. The error is `Missing`, `Kind`, or `Range` with the number if it
-// is no attribute's word.
+// isn't one of 32 bits, or is no attribute's word.
 #[tactic(auto, unfolding(crate::specs::Block::attribute_under))]
 fn read_attribute(keys: &Keys<'_>) -> Result<Attribute, BadDocument>
     ensures value { Gives result (attribute_under (located keys.now)) }
@@ -155,8 +138,8 @@ fn read_attribute(keys: &Keys<'_>) -> Result<Attribute, BadDocument>
     }
 }
 
-// Returns the name or unit under `key`; `None` if the key is absent. The error is `Kind`, or `Range` with the text's length in bytes
-// unless it has 1 to `most` bytes, all of them printable.
+// Returns the name or unit under `key`; `None` if the key is absent. The error is `Kind`, or `Range` with the text's length in bytes unless
+// it has 1 to `most` bytes, all of them printable. `most` is at most 1024.
 #[tactic(auto, unfolding(crate::specs::Block::text_under))]
 fn read_text(keys: &Keys<'_>, key: &str, most: usize) -> Result<Option<Text>, BadDocument>
     requires { most ≤ 1024 }
@@ -175,8 +158,8 @@ fn read_text(keys: &Keys<'_>, key: &str, most: usize) -> Result<Option<Text>, Ba
 }
 
 // Returns how much the number of the block grows in each cycle, from `step`; 0 if the key is absent. `min` and `max` are the block's
-// limits. The error is `Kind`, or `Range` with the step if it isn't a number of 32 bits, or isn't 0 in a block that is not a number or
-// has a limit.
+// limits. The error is `Kind`, or `Range` with the step if it isn't a number of 32 bits, or isn't 0 in a block that is not a number or has
+// a limit.
 #[tactic(auto, unfolding(crate::specs::Block::step_under))]
 fn read_step(
     keys: &Keys<'_>,
@@ -194,8 +177,8 @@ fn read_step(
     Ok(step)
 }
 
-// Returns whether the block's procedure command fails, from `fails`; it doesn't if the key is absent. The error is `Kind`, or `Range`
-// with 1 if the key is true in a block that isn't a procedure command.
+// Returns whether the block's procedure command fails, from `fails`; it doesn't if the key is absent. The error is `Kind`, or `Range` with
+// 1 if the key is true in a block that isn't a procedure command.
 #[tactic(auto, unfolding(crate::specs::Block::fails_under))]
 fn read_fails(keys: &Keys<'_>, attribute: Attribute) -> Result<bool, BadDocument>
     ensures value { Gives result (fails_under attribute (located keys.now)) }

@@ -1,14 +1,7 @@
-// The numbers and lists of a data block's keys.
+// The numbers and lists of a data block's keys. Any error may also be `Memory` instead of the refusal, as the path of a refusal takes
+// memory.
 ghost use Rattle.std.specs.Prelude.{◌≡◌, ◌≤◌, ◌<◌, ◌/◌, ◌%◌, ◌==◌, true, false, length, IfOk, IfSome};
-ghost use Rattle.std.specs.Result.{result_ok};
-ghost use Rattle.hex.specs.Hex.{decode_of};
-ghost use Rattle.sercos_model.specs.Bits.{AreBytes};
-ghost use Rattle.sercos_idn.specs.Codes.{is_list, item_len};
-ghost use Rattle.sercos_block.specs.Blocks.{is_signed, number_end};
-ghost use Rattle.sercos_block.specs.Rules.{is_limit, is_max_len};
-ghost use Rattle.sercos_document.specs.Answers.{Gives};
-ghost use Rattle.sercos_document.specs.Located.{located};
-ghost use Rattle.sercos_config.specs.Numbers.{is_in_range, bits_of, limit_of, list_max_len, max_len_of, list_bytes, list_data, is_data, number_data, fits_data, data_of};
+ghost use Rattle.sercos_config.specs.Clauses.{result_ok, decode_of, AreBytes, is_list, item_len, is_signed, number_end, is_limit, is_max_len, Gives, located, is_in_range, bits_of, limit_of, list_max_len, max_len_of, list_bytes, list_data, is_data, number_data, fits_data, data_of};
 
 use sercos_bits::Text;
 use sercos_block::limits::MOST_DATA;
@@ -76,7 +69,8 @@ pub(crate) fn read_limit(
     }
 }
 
-// Returns the most bytes that a list may have, from `max_len`: 1 to 1,024, in whole items. The error is `Missing`, `Kind` or `Range`.
+// Returns the most bytes that a list may have, from `max_len`. The attribute is that of a list. The error is `Missing`, `Kind`, or `Range`
+// with the number unless it is 1 to 1,024, in whole items.
 #[tactic(auto, unfolding(crate::specs::Numbers::list_max_len))]
 fn read_list_max_len(keys: &Keys<'_>, attribute: Attribute) -> Result<u16, BadDocument>
     requires { is_list attribute.length ≡ true }
@@ -90,7 +84,8 @@ fn read_list_max_len(keys: &Keys<'_>, attribute: Attribute) -> Result<u16, BadDo
 }
 
 /// Returns the most bytes that the block's list may have, from `max_len`; 0 if the block isn't a list. For a list the error is `Missing`,
-/// `Kind` or `Range`. Other blocks may not have the key: the error is then `Kind`, or `Range` with the number.
+/// `Kind`, or `Range` with the number unless it is 1 to 1,024, in whole items. Other blocks may not have the key: the error is then `Kind`,
+/// or `Range` with the number.
 #[tactic(auto, unfolding(crate::specs::Numbers::max_len_of))]
 pub(crate) fn read_max_len(keys: &Keys<'_>, attribute: Attribute) -> Result<u16, BadDocument>
     ensures value { Gives result (max_len_of attribute (located keys.now)) }
@@ -105,7 +100,8 @@ pub(crate) fn read_max_len(keys: &Keys<'_>, attribute: Attribute) -> Result<u16,
     }
 }
 
-/// Returns the bytes that hexadecimal digits of either case spell, two digits for each byte. `None` if `digits` aren't such pairs.
+/// Returns the bytes that hexadecimal digits of either case spell, two digits for each byte. There are at most 2,048 digits. `None` if
+/// `digits` aren't such pairs.
 pub(crate) fn decoded(digits: &[u8]) -> Option<Text>
     requires { length digits.now ≤ 2048 }
     ensures value { result ≡ result_ok (decode_of digits.now) }
@@ -120,7 +116,7 @@ pub(crate) fn decoded(digits: &[u8]) -> Option<Text>
     }
 }
 
-/// Returns a copy of the bytes.
+/// Returns a copy of the bytes, at most 1024.
 pub(crate) fn text_of(bytes: &[u8]) -> Text
     requires { length bytes.now ≤ 1024 }
     ensures value { result ≡ bytes.now }
@@ -132,7 +128,7 @@ pub(crate) fn text_of(bytes: &[u8]) -> Text
 }
 
 // Returns the bytes of a list that hexadecimal digits spell, two digits for each byte. `None` if the text has other characters, if there
-// are more than `most` bytes, or if they aren't whole items.
+// are more than `most` bytes, at most 1024, or if they aren't whole items.
 #[tactic(auto, unfolding(crate::specs::Numbers::list_bytes))]
 fn list_bytes(most: u16, attribute: Attribute, text: &[u8]) -> Option<Text>
     requires { most ≤ 1024 }
@@ -149,8 +145,8 @@ fn list_bytes(most: u16, attribute: Attribute, text: &[u8]) -> Option<Text>
     }
 }
 
-// Returns the operation data of a list of at most `most` bytes, which the hexadecimal digits under `data` spell; an empty list if the key
-// is absent. The error is `Kind`, or `Range` with the text's length in bytes if it spells no such list.
+// Returns the operation data of a list of at most `most` bytes, no more than 1024, which the hexadecimal digits under `data` spell; an
+// empty list if the key is absent. The error is `Kind`, or `Range` with the text's length in bytes if it spells no such list.
 #[tactic(auto, using(crate::proofs::BlockLemmas::none_typed), unfolding(crate::specs::Numbers::list_data))]
 fn read_list_data(keys: &Keys<'_>, most: u16, attribute: Attribute) -> Result<Text, BadDocument>
     requires most { most ≤ 1024 }
@@ -168,8 +164,8 @@ fn read_list_data(keys: &Keys<'_>, most: u16, attribute: Attribute) -> Result<Te
     }
 }
 
-// Returns whether `number` may be the operation data of a block that isn't a list: 0 for a procedure command, and otherwise a number in
-// the attribute's range.
+// Returns whether `number` may be the operation data of a block that isn't a list: 0 for a procedure command, and otherwise a number in the
+// attribute's range.
 #[tactic(auto, unfolding(crate::specs::Numbers::is_data))]
 fn is_data(attribute: Attribute, number: i64) -> bool
     ensures { result ≡ is_data attribute number }
@@ -181,8 +177,8 @@ fn is_data(attribute: Attribute, number: i64) -> bool
     }
 }
 
-// Returns the operation data of a number or a procedure command, from `data`, its low byte first; that of 0 if the key is absent. The
-// error is `Kind`, or `Range` with the number if the block can't have it.
+// Returns the operation data of a number or a procedure command, from `data`, its low byte first; that of 0 if the key is absent. The error
+// is `Kind`, or `Range` with the number unless it is 0 for a procedure command, otherwise in the attribute's range.
 #[tactic(auto, using(crate::proofs::BlockLemmas::is_typed_bytes), unfolding(crate::specs::Numbers::number_data))]
 fn read_number_data(keys: &Keys<'_>, attribute: Attribute) -> Result<Text, BadDocument>
     requires { is_list attribute.length ≡ false }
@@ -215,7 +211,8 @@ fn data_bits(attribute: Attribute, number: i64) -> u32
 }
 
 /// Returns the bytes of the block's operation data, from `data`. If the key is absent, a list is empty and a number is 0. `most` is the
-/// most bytes of a list, and has no meaning for other blocks. The error is `Kind`, or `Range` if the block can't have the data.
+/// most bytes of a list, 1 to 1,024 in whole items; 0 for other blocks. The error is `Kind`, or `Range` if the block can't have the data:
+/// with the text's length in bytes for a list, otherwise with the number.
 #[tactic(auto, unfolding(crate::specs::Numbers::data_of))]
 pub(crate) fn read_data(
     keys: &Keys<'_>,

@@ -1,15 +1,6 @@
-// A ring document.
+// A ring document. Any error may also be `Memory` instead of the refusal, as the path of a refusal takes memory.
 ghost use Rattle.std.specs.Prelude.{◌≡◌, ◌≤◌, true, length, map, IfOk};
-ghost use Rattle.std.specs.List.{All};
-ghost use Rattle.toml.specs.View.{table_view};
-ghost use Rattle.sercos_block.specs.Rings.{has_address, has_other_data, is_ring};
-ghost use Rattle.sercos_block.specs.Stores.{IsTyped};
-ghost use Rattle.sercos_step.specs.Jobs.{AreJobs};
-ghost use Rattle.sercos_step.specs.Steps.{AreTypedJobs};
-ghost use Rattle.sercos_document.specs.Answers.{Gives};
-ghost use Rattle.sercos_document.specs.Tables.{known};
-ghost use Rattle.sercos_document.specs.Located.{located};
-ghost use Rattle.sercos_config.specs.Document.{top_keys, ring_of, document_in, document_of};
+ghost use Rattle.sercos_config.specs.Clauses.{All, table_view, has_address, has_other_data, is_ring, IsTyped, AreJobs, AreTypedJobs, Gives, known, located, top_keys, ring_of, document_in, document_of};
 
 use crate::drive::read_drives;
 use crate::fault::read_faults;
@@ -49,8 +40,8 @@ impl Model for Document {
 ///
 /// The tables are checked in this order: the top one, `ring`, each `drive` in turn with its `block` tables right after its own keys, each
 /// `request`, each `fault`. In each table unknown keys are checked first, and the least of them in the order of bytes is reported. Then
-/// each key is checked, in the order in which the rules list it, as `Missing`, `Kind`, `Range` or `Twice`. The items of `at` and `mdt`
-/// are checked after the drive's blocks, and the length of the MDT and `order` after all drives.
+/// each key is checked, in the order in which the rules list it, as `Missing`, `Kind`, `Range` or `Twice`. The items of `at` and `mdt` are
+/// checked after the drive's blocks, and the length of the MDT and `order` after all drives.
 #[tactic(auto, using(crate::proofs::TextLemmas::texts), unfolding(crate::specs::Document::document_of, crate::specs::Document::table_of))]
 pub fn read_ring(alloc: Global, bytes: &[u8]) -> Result<Document, BadDocument>
     ensures value { Gives result (document_of bytes.now) }
@@ -70,7 +61,8 @@ pub fn read_ring(alloc: Global, bytes: &[u8]) -> Result<Document, BadDocument>
     }
 }
 
-// Reads the contents of a document from its top table. The error is the first refusal, or `Memory`.
+// Reads the contents of a document from its top table. The error is the first refusal, or `Memory`. The result has the properties that
+// `read_ring` lists.
 #[tactic(auto, unfolding(crate::specs::Document::document_in))]
 fn read_table(alloc: Global, table: &Table) -> Result<Document, BadDocument>
     ensures value { Gives result (document_in (table_view table.now)) }
@@ -109,7 +101,8 @@ fn known(keys: &Keys<'_>) -> Result<(), BadDocument>
 }
 
 // Reads the setup of a ring from its table `ring` and from the `drive` tables. The error is the first refusal, or `Memory`. An MDT with
-// more than 2,047 bytes after its address is a `Range` at `ring`, with their number.
+// more than 2,047 bytes after its address is a `Range` at `ring`, with their number. There are 1 to 64 `drive` tables. The ring is valid,
+// and the numbers of its drives are in the ranges of their types.
 #[tactic(auto, unfolding(crate::specs::Document::ring_of, sercos_block::specs::Rings::is_ring, sercos_block::specs::Rings::has_drives))]
 fn read_setup(alloc: Global, ring: &Table, tables: &[&Table]) -> Result<RingSetup, BadDocument>
     requires some { 1 ≤ length tables.now }

@@ -1,15 +1,6 @@
-// The drives of a ring.
+// The drives of a ring. Any error may also be `Memory` instead of the refusal, as the path of a refusal takes memory.
 ghost use Rattle.std.specs.Prelude.{◌≡◌, ◌≤◌, true, false, [], length, map, IfOk};
-ghost use Rattle.std.specs.List.{All};
-ghost use Rattle.toml.specs.View.{table_view, items_view};
-ghost use Rattle.sercos_block.specs.Rings.{is_cyclic, are_cyclic, are_times, are_drive_numbers, has_address, are_drives, is_drive};
-ghost use Rattle.sercos_block.specs.Stores.{IsTyped};
-ghost use Rattle.sercos_document.specs.Paths.{item_path};
-ghost use Rattle.sercos_document.specs.Answers.{Gives, Shows};
-ghost use Rattle.sercos_document.specs.Tables.{known};
-ghost use Rattle.sercos_document.specs.Located.{located};
-ghost use Rattle.sercos_config.specs.Block.{idn_in};
-ghost use Rattle.sercos_config.specs.Drive.{idn_at, idns_onto, idns_of, times_of, drive_keys, new_address, drive_numbers_of, drive_of, drives_onto};
+ghost use Rattle.sercos_config.specs.Clauses.{All, table_view, items_view, is_cyclic, are_cyclic, are_times, are_drive_numbers, has_address, are_drives, is_drive, IsTyped, item_path, Gives, Shows, known, located, idn_in, idn_at, idns_onto, idns_of, times_of, drive_keys, new_address, drive_numbers_of, drive_of, drives_onto};
 
 use crate::block::{idn_of, read_blocks};
 use arrayvec::ArrayVec;
@@ -25,7 +16,9 @@ use sercos_timing::limits::{
 use std::alloc::Global;
 use toml::{Table, Value};
 
-/// Reads the drives from their tables, in the order of the ring. The error is the first refusal, or `Memory`.
+/// Reads the drives from their tables, in the order of the ring. The error is the first refusal, or `Memory`. There is one drive for each
+/// table. Each keeps the rules for a drive after those before it: another address, numbers in their ranges, at most 36 blocks that
+/// `check_blocks` accepts, and in `at` and `mdt` only what its telegrams can carry. Its numbers are in the ranges of their types.
 #[tactic(auto, using(crate::proofs::DriveLemmas::drives_none, crate::proofs::DriveLemmas::drives_more), unfolding(crate::specs::Drive::drives_onto))]
 pub(crate) fn read_drives(alloc: Global, tables: &[&Table]) -> Result<Vec<DriveSetup>, BadDocument>
     ensures value { Shows (λ v. v.items) result (drives_onto [] (map (λ t. table_view t.now) tables.now)) }
@@ -60,8 +53,8 @@ struct DriveNumbers {
     cycle_max: u16,
 }
 
-// Reads a drive from its table. `before` has the drives of the tables before it, none of which may have its address. The error is the
-// first refusal, or `Memory`.
+// Reads a drive from its table. `before` has the drives of the tables before it, none of which may have its address. The error is the first
+// refusal, or `Memory`. The drive keeps the rules that `read_drives` lists, and its numbers are in the ranges of their types.
 #[tactic(auto, unfolding(crate::specs::Drive::drive_of, sercos_block::specs::Rings::is_drive, sercos_block::specs::Rings::has_blocks))]
 fn read_drive(keys: &Keys<'_>, before: &[DriveSetup]) -> Result<DriveSetup, BadDocument>
     ensures value { Gives result (drive_of before.now (located keys.now)) }
@@ -90,8 +83,8 @@ fn read_drive(keys: &Keys<'_>, before: &[DriveSetup]) -> Result<DriveSetup, BadD
     })
 }
 
-// Returns the address under `address`, 1 to 254. The error is `Missing`, `Kind`, `Range`, or `Twice` if a drive of `before` has the
-// address.
+// Returns the address under `address`. The error is `Missing`, `Kind`, `Range` with the number unless it is 1 to 254, or `Twice` if a drive
+// of `before` has the address.
 #[tactic(auto, unfolding(crate::specs::Drive::new_address))]
 fn read_new_address(keys: &Keys<'_>, before: &[DriveSetup]) -> Result<u8, BadDocument>
     ensures value { Gives result (new_address before.now (located keys.now)) }
@@ -105,7 +98,9 @@ fn read_new_address(keys: &Keys<'_>, before: &[DriveSetup]) -> Result<u8, BadDoc
 }
 
 // Reads the numbers of a drive. `before` has the drives of the tables before it, none of which may have its address. The address and the
-// times are required; a slave that is absent is the address. The error is `Missing`, `Kind`, `Range`, or `Twice` for the address.
+// times are required; a slave that is absent is the address, `busy` and `command` are 0, `cycle_min` is 125 and `cycle_max` is 64,000. The
+// address and the slave are 1 to 254, `busy` is at most 20, `command` at most 200, and `cycle_min` and `cycle_max` are at most 64,000. The
+// error is `Missing`, `Kind`, `Range` with the number, or `Twice` for the address.
 #[tactic(auto, unfolding(crate::specs::Drive::drive_numbers_of, sercos_block::specs::Rings::are_drive_numbers))]
 fn read_numbers(keys: &Keys<'_>, before: &[DriveSetup]) -> Result<DriveNumbers, BadDocument>
     ensures value { Gives result (drive_numbers_of before.now (located keys.now)) }
@@ -156,7 +151,8 @@ fn known(keys: &Keys<'_>) -> Result<(), BadDocument>
     ])
 }
 
-// Returns the times that a drive declares, in microseconds. The error is `Missing`, `Kind` or `Range`.
+// Returns the times that a drive declares, in microseconds: t1min and tatmt to 300, t4min, tatat and tmtsg to 64,000, and tmtsy to 250. All
+// are required. The error is `Missing`, `Kind`, or `Range` with the number.
 #[tactic(auto, unfolding(crate::specs::Drive::times_of, sercos_block::specs::Rings::are_times))]
 fn read_times(keys: &Keys<'_>) -> Result<Times, BadDocument>
     ensures value { Gives result (times_of (located keys.now)) }
@@ -178,8 +174,9 @@ fn read_times(keys: &Keys<'_>) -> Result<Times, BadDocument>
     })
 }
 
-// Returns the identifier numbers that `items`, the list under `key`, spell. A telegram of a drive with these blocks can carry each of
-// them. The error is `Kind` at the first item that isn't a text. If all are texts, it is `Range` at the first that `read_item` refuses.
+// Returns the identifier numbers that `items`, the list under `key`, spell. A telegram of a drive with these blocks can carry each of them.
+// The error is `Kind` at the first item that isn't a text. If all are texts, it is that of `read_item` at the first that it refuses. It can
+// be `Memory` too.
 #[tactic(auto, unfolding(crate::specs::Drive::idns_of))]
 fn read_idns(
     keys: &Keys<'_>,
@@ -197,7 +194,7 @@ fn read_idns(
     read_texts(keys, blocks, key, texts.as_slice())
 }
 
-// Returns the identifier numbers that the texts of the list under `key` spell. The error is `Range` at the first that `read_item`
+// Returns the identifier numbers that the texts of the list under `key` spell. The error is that of `read_item` at the first text that it
 // refuses.
 #[tactic(auto, unfolding(crate::specs::Drive::idns_onto, sercos_block::specs::Rings::are_cyclic))]
 fn read_texts(
@@ -221,7 +218,7 @@ fn read_texts(
 }
 
 // Returns the identifier number that `text` spells, the item with index `item` of the list under `key`. The error is `Range`: with the
-// text's length in bytes if it spells none, or with the raw number if no telegram of a drive with these blocks can carry it.
+// text's length in bytes if it spells none, or with the raw number if no telegram of a drive with these blocks can carry it; or `Memory`.
 #[tactic(auto, unfolding(crate::specs::Drive::idn_at, sercos_document::specs::Answers::demand))]
 fn read_item(
     keys: &Keys<'_>,
@@ -242,7 +239,7 @@ fn read_item(
 }
 
 // Returns the identifier number that `text` spells, the item with index `item` of the list under `key`. The error is `Range` with the
-// text's length in bytes if it spells none.
+// text's length in bytes if it spells none; or `Memory`.
 #[tactic(auto, unfolding(crate::specs::Block::idn_in))]
 fn read_item_idn(keys: &Keys<'_>, key: &str, item: usize, text: &str) -> Result<Idn, BadDocument>
     ensures { Gives result (idn_in (item_path keys.now.place key.now item) text.now) }

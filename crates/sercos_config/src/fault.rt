@@ -1,12 +1,7 @@
-// The faults of a document.
-ghost use Rattle.std.specs.Prelude.{◌≡◌, ◌≤◌, [], length, map, IfOk, IfSome};
-ghost use Rattle.std.specs.List.{All};
-ghost use Rattle.toml.specs.View.{table_view};
-ghost use Rattle.sercos_document.specs.Answers.{Gives, Shows, demand};
-ghost use Rattle.sercos_document.specs.Tables.{known};
-ghost use Rattle.sercos_document.specs.Located.{located};
-ghost use Rattle.sercos_config.specs.Words.{glimpse, word};
-ghost use Rattle.sercos_config.specs.Fault.{fault_kind, telegram_kind, has_telegram, has_from, has_link, has_bit, has_station, keys_if, fault_keys, telegram_of, drive_station, any_station, from_of, hears, station_of, link_of, damage_of, fault_of, faults_onto};
+// The faults of a document. Any error may also be `Memory` instead of the refusal, as the path of a refusal takes memory.
+ghost use Rattle.std.specs.Prelude.{◌≡◌, ◌≤◌, [], length, map, IfOk};
+ghost use Rattle.sercos_config.specs.Clauses.{All, table_view, Gives, Shows, known, located, glimpse, word, fault_kind, telegram_kind, has_telegram, has_from, has_link, has_bit, has_station, fault_keys, telegram_of, drive_station, any_station, from_of, hears, station_of, link_of, damage_of, fault_of, faults_onto};
+ghost use Rattle.sercos_config.specs.Fault.{keys_if};
 
 use crate::ring::place_of;
 use crate::words::{glance, key_if};
@@ -34,7 +29,8 @@ enum FaultKind {
     Restart,
 }
 
-/// Reads the faults from their tables, in their order, for a ring of these drives. The error is the first refusal, or `Memory`.
+/// Reads the faults from their tables, in their order, for a ring of these drives. The error is the first refusal, or `Memory`. There are
+/// at most 64 drives. The `every` of each fault is at least 1.
 #[tactic(auto, unfolding(crate::specs::Fault::faults_onto))]
 pub(crate) fn read_faults(
     alloc: Global,
@@ -60,7 +56,9 @@ pub(crate) fn read_faults(
     Ok(faults)
 }
 
-// Reads a fault from its table, for a ring of these drives. The error is the first refusal, or `Memory`.
+// Reads a fault from its table, for a ring of these drives. The error is the first refusal, or `Memory`. There are at most 64 drives.
+// `cycle` is 0 to 49,999, `last` from the cycle to 49,999, and `every` 1 to 50,000. A `last` that is absent is the cycle, and an absent
+// `every` is 1.
 #[tactic(auto, unfolding(crate::specs::Fault::fault_of))]
 fn read_fault(keys: &Keys<'_>, drives: &[DriveSetup]) -> Result<Fault, BadDocument>
     requires { length drives.now ≤ 64 }
@@ -89,8 +87,7 @@ fn read_fault(keys: &Keys<'_>, drives: &[DriveSetup]) -> Result<Fault, BadDocume
     })
 }
 
-// Returns the kind of fault whose word is under `key`. `None` if the key is absent, isn't a text, or has another word; nothing is
-// refused.
+// Returns the kind of fault whose word is under `key`. `None` if the key is absent, isn't a text, or has another word; nothing is refused.
 #[tactic(auto, unfolding(crate::specs::Words::glimpse))]
 fn glimpsed_kind(keys: &Keys<'_>, key: &str) -> Option<FaultKind>
     ensures { result ≡ glimpse fault_kind (located keys.now) key.now }
@@ -160,8 +157,8 @@ fn known_if(
 }
 
 // Returns whether the key `telegram` is known: in every fault but a restart. A kind of `None` is absent, or isn't one of the words of
-// `kind`. Every key is then known, so that `kind` itself is refused. The same holds for the other keys below, and for a telegram of
-// `None` unless the fault is a restart.
+// `kind`. Every key is then known, so that `kind` itself is refused. The same holds for the other keys below, and for a telegram of `None`
+// unless the fault is a restart.
 #[tactic(auto, unfolding(crate::specs::Fault::has_telegram))]
 fn has_telegram(kind: Option<FaultKind>) -> bool
     ensures { result ≡ has_telegram kind }
@@ -196,7 +193,7 @@ fn has_link(kind: Option<FaultKind>, telegram: Option<Kind>) -> bool
     }
 }
 
-// Returns whether the key `bit` is known: if a bit is flipped, or if bits are cut off.
+// Returns whether the key `bit` is known: if a bit is flipped, or if bits are cut off; not in a restart.
 #[tactic(auto, unfolding(crate::specs::Fault::has_bit))]
 fn has_bit(kind: Option<FaultKind>, telegram: Option<Kind>) -> bool
     ensures { result ≡ has_bit kind telegram }
@@ -255,8 +252,8 @@ fn telegram_kind(text: &str) -> Option<Kind>
     }
 }
 
-// Returns the kind of fault whose word is under `key`. The error is `Missing`, `Kind`, or `Range` with the text's length in bytes if it
-// is another word.
+// Returns the kind of fault whose word is under `key`. The error is `Missing`, `Kind`, or `Range` with the text's length in bytes if it is
+// another word.
 #[tactic(auto, unfolding(crate::specs::Words::word))]
 fn read_kind(keys: &Keys<'_>, key: &str) -> Result<FaultKind, BadDocument>
     ensures { Gives result (word fault_kind (located keys.now) key.now) }
@@ -268,8 +265,8 @@ fn read_kind(keys: &Keys<'_>, key: &str) -> Result<FaultKind, BadDocument>
     }
 }
 
-// Returns the kind of telegram whose word is under `key`. The error is `Missing`, `Kind`, or `Range` with the text's length in bytes if
-// it is another word.
+// Returns the kind of telegram whose word is under `key`. The error is `Missing`, `Kind`, or `Range` with the text's length in bytes if it
+// is another word.
 #[tactic(auto, unfolding(crate::specs::Words::word))]
 fn read_telegram_kind(keys: &Keys<'_>, key: &str) -> Result<Kind, BadDocument>
     ensures { Gives result (word telegram_kind (located keys.now) key.now) }
@@ -281,8 +278,8 @@ fn read_telegram_kind(keys: &Keys<'_>, key: &str) -> Result<Kind, BadDocument>
     }
 }
 
-// Returns the kind of the telegrams that a fault acts on, from `telegram`. A restart has no such key, and counts as a fault of the MST.
-// The error is `Missing`, `Kind` or `Range`.
+// Returns the kind of the telegrams that a fault acts on, from `telegram`. A restart has no such key, and counts as a fault of the MST. The
+// error is `Missing`, `Kind`, or `Range` with the text's length in bytes.
 #[tactic(auto, unfolding(crate::specs::Fault::telegram_of))]
 fn read_telegram(keys: &Keys<'_>, kind: FaultKind) -> Result<Kind, BadDocument>
     ensures { Gives result (telegram_of kind (located keys.now)) }
@@ -295,8 +292,8 @@ fn read_telegram(keys: &Keys<'_>, kind: FaultKind) -> Result<Kind, BadDocument>
     }
 }
 
-// Returns the number of the station with an address, if it is a drive's: drives are numbered from 1 in the order of the ring. `None` if
-// no drive has it.
+// Returns the number of the station with an address, if it is a drive's: drives are numbered from 1 in the order of the ring. `None` if no
+// drive has it. There are at most 64 drives.
 #[tactic(auto, unfolding(crate::specs::Fault::drive_station))]
 fn drive_station(drives: &[DriveSetup], address: i64) -> Option<u8>
     requires { length drives.now ≤ 64 }
@@ -309,7 +306,7 @@ fn drive_station(drives: &[DriveSetup], address: i64) -> Option<u8>
 }
 
 // Returns the number of the station with an address: 0 for the master, whose address is 0, and otherwise that of a drive. `None` if no
-// station has it.
+// station has it. There are at most 64 drives.
 #[tactic(auto, unfolding(crate::specs::Fault::any_station))]
 fn any_station(drives: &[DriveSetup], address: i64) -> Option<u8>
     requires { length drives.now ≤ 64 }
@@ -322,8 +319,8 @@ fn any_station(drives: &[DriveSetup], address: i64) -> Option<u8>
     }
 }
 
-// Returns the number of the station that sends the telegrams: 0, the master, for MST and MDT; for an AT that of the drive whose address
-// is under `from`. The error is `Missing`, `Kind`, or `Range` with the address if no drive has it.
+// Returns the number of the station that sends the telegrams: 0, the master, for MST and MDT; for an AT that of the drive whose address is
+// under `from`. The error is `Missing`, `Kind`, or `Range` with the address if no drive has it. There are at most 64 drives.
 #[tactic(auto, unfolding(crate::specs::Fault::from_of))]
 fn read_from(keys: &Keys<'_>, drives: &[DriveSetup], telegram: Kind) -> Result<u8, BadDocument>
     requires { length drives.now ≤ 64 }
@@ -341,8 +338,8 @@ fn read_from(keys: &Keys<'_>, drives: &[DriveSetup], telegram: Kind) -> Result<u
     }
 }
 
-// Returns whether the station with a number, 0 being the master, receives telegrams of a kind: each an MST, only the master an AT, and
-// only drives an MDT.
+// Returns whether the station with a number, 0 being the master, receives telegrams of a kind: each an MST, only the master an AT, and only
+// drives an MDT.
 #[tactic(auto, unfolding(crate::specs::Fault::hears))]
 fn hears(telegram: Kind, station: u8) -> bool
     ensures { result ≡ hears telegram station }
@@ -355,7 +352,7 @@ fn hears(telegram: Kind, station: u8) -> bool
 }
 
 // Returns the number of the station whose address is under `station`. The error is `Missing`, `Kind`, or `Range` with the address if no
-// station has it, or if the station doesn't receive such telegrams.
+// station has it, or if the station doesn't receive such telegrams. There are at most 64 drives.
 #[tactic(auto, unfolding(crate::specs::Fault::station_of))]
 fn read_station(keys: &Keys<'_>, drives: &[DriveSetup], telegram: Kind) -> Result<u8, BadDocument>
     requires { length drives.now ≤ 64 }
@@ -371,8 +368,8 @@ fn read_station(keys: &Keys<'_>, drives: &[DriveSetup], telegram: Kind) -> Resul
     }
 }
 
-// Reads what a fault of a kind does, from `link`, `bit` and `station`. `telegram` is the kind of the telegrams that it acts on. The error
-// is `Missing`, `Kind` or `Range`.
+// Reads what a fault of a kind does, from `link`, `bit` and `station`. `telegram` is the kind of the telegrams that it acts on. A bit is 0
+// to 19,695. There are at most 64 drives. The error is `Missing`, `Kind`, or `Range` with the number under the key.
 #[tactic(auto, unfolding(crate::specs::Fault::damage_of))]
 fn read_damage(
     keys: &Keys<'_>,
@@ -409,7 +406,8 @@ fn read_damage(
     }
 }
 
-// Returns the link on which a fault acts, from `link`: 0 to the number of drives. The error is `Missing`, `Kind` or `Range`.
+// Returns the link on which a fault acts, from `link`: 0 to the number of drives, at most 64. The error is `Missing`, `Kind`, or `Range`
+// with the number.
 #[tactic(auto, unfolding(crate::specs::Fault::link_of))]
 fn read_link(keys: &Keys<'_>, drives: &[DriveSetup]) -> Result<u8, BadDocument>
     requires { length drives.now ≤ 64 }

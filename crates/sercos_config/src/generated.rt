@@ -1,15 +1,6 @@
 // The document that this profile generates for a number of drives.
-ghost use Rattle.std.specs.Prelude.{◌≡◌, ◌≤◌, ◌+◌, ◌*◌, ◌^◌, true, false, List, [], ◌∷◌, length, map, IfOk};
-ghost use Rattle.std.specs.List.{All, range_with_len, sum_by};
-ghost use Rattle.sercos_idn.specs.Attributes.{attribute_of};
-ghost use Rattle.sercos_idn.specs.Codes.{is_list};
-ghost use Rattle.sercos_block.specs.Blocks.{number_end};
-ghost use Rattle.sercos_block.specs.Rings.{has_address, has_other_data, is_ring};
-ghost use Rattle.sercos_block.specs.Startup.{startup_of};
-ghost use Rattle.sercos_block.specs.Stores.{IsTyped};
-ghost use Rattle.sercos_step.specs.Jobs.{AreJobs};
-ghost use Rattle.sercos_step.specs.Steps.{AreTypedJobs};
-ghost use Rattle.sercos_config.specs.Generated.{position_command, position_feedback, position_block, generated_times, generated_drive, generated_job, generated_fault, generated_ring, generated_cycles, generated};
+ghost use Rattle.std.specs.Prelude.{◌≡◌, ◌≤◌, ◌+◌, ◌*◌, ◌^◌, true, false, [], ◌∷◌, length, map, IfOk};
+ghost use Rattle.sercos_config.specs.Clauses.{All, range_with_len, sum_by, attribute_of, is_list, number_end, has_address, has_other_data, is_ring, startup_of, IsTyped, AreJobs, AreTypedJobs, position_command, position_feedback, position_block, generated_times, generated_drive, generated_job, generated_fault, generated_ring, generated_cycles, generated};
 
 use crate::document::Document;
 use crate::ring::all_drives;
@@ -62,8 +53,8 @@ fn position_block(idn: Idn, value: u32, step: u32) -> Block
     }
 }
 
-// Returns the blocks of each drive: the position command, and the position feedback, which grows by 10 in each cycle. The error is
-// `AllocError`.
+// Returns the blocks of each drive: the position command, and the position feedback, which begins at 64,500 and grows by 10 in each cycle.
+// The command is 0. The error is `AllocError`.
 fn position_blocks(alloc: Global) -> Result<Vec<Block>, AllocError>
     ensures { IfOk result (λ v. v.items ≡ position_block position_command 0 0 ∷ position_block position_feedback 64500 10 ∷ []) }
 {
@@ -96,7 +87,8 @@ fn times_of(k: u8) -> Times
     }
 }
 
-// Returns drive k, counted from 1. It is busy for k % 3 cycles, and its procedure commands take k % 4. The error is `AllocError`.
+// Returns drive k, counted from 1. Its address is k, and two drives in turn share a slave. It is busy for k % 3 cycles, and its procedure
+// commands take k % 4. The error is `AllocError`.
 #[tactic(auto, unfolding(crate::specs::Generated::generated_drive))]
 fn generated_drive(alloc: Global, k: u8) -> Result<DriveSetup, AllocError>
     requires { 1 ≤ k }
@@ -117,7 +109,7 @@ fn generated_drive(alloc: Global, k: u8) -> Result<DriveSetup, AllocError>
     })
 }
 
-// Returns the drives 1 to n, in this order. The error is `AllocError`.
+// Returns the drives 1 to n, in this order. n is at most 64. The error is `AllocError`.
 #[tactic(auto, using(crate::proofs::GeneratedLemmas::made_more, crate::proofs::GeneratedLemmas::made_count))]
 fn generated_drives(alloc: Global, n: u8) -> Result<Vec<DriveSetup>, AllocError>
     requires { n ≤ 64 }
@@ -145,7 +137,7 @@ fn generated_job(k: u8) -> Job
     }
 }
 
-// Returns one request for each of the drives 1 to n, in this order. The error is `AllocError`.
+// Returns one request for each of the drives 1 to n, in this order. n is at most 64. The error is `AllocError`.
 #[tactic(auto, using(crate::proofs::GeneratedLemmas::made_more))]
 fn generated_jobs(alloc: Global, n: u8) -> Result<Vec<Job>, AllocError>
     requires { n ≤ 64 }
@@ -174,7 +166,7 @@ fn generated_fault(n: u8, k: u8) -> Fault
     }
 }
 
-// Returns one fault for each of the drives 1 to n, in this order. The error is `AllocError`.
+// Returns one fault for each of the drives 1 to n, in this order. n is at most 64. The error is `AllocError`.
 #[tactic(auto, using(crate::proofs::GeneratedLemmas::made_more))]
 fn generated_faults(alloc: Global, n: u8) -> Result<Vec<Fault>, AllocError>
     requires { n ≤ 64 }
@@ -187,8 +179,8 @@ fn generated_faults(alloc: Global, n: u8) -> Result<Vec<Fault>, AllocError>
     Ok(faults)
 }
 
-// Returns the steps that are counted for the start-up of a drive: 82, four for each identifier number that its AT and its record in the
-// MDT carry, and two for each cycle that its procedure commands take.
+// Returns the steps that are counted for the start-up of a drive: 82, four for each identifier number that its AT and its record in the MDT
+// carry, and two for each cycle that its procedure commands take.
 fn steps_of(drive: &DriveSetup) -> u32
     ensures value { result ≡ 82 + 4 * (length drive.now.at + length drive.now.mdt) + 2 * drive.now.command }
     ensures bound { result ≤ 131280 }
@@ -198,7 +190,8 @@ fn steps_of(drive: &DriveSetup) -> u32
     82 + 4 * lists as u32 + 2 * command
 }
 
-// Returns the cycles that are counted for the start-up of a drive: for each step its busy cycles and two more.
+// Returns the cycles that are counted for the start-up of a drive: for each step its busy cycles and two more. The result is at most
+// 33,738,960.
 #[tactic(auto, using(crate::proofs::GeneratedLemmas::startup_fits))]
 fn startup_of(drive: &DriveSetup) -> u32
     ensures value { result ≡ startup_of drive.now }
@@ -208,7 +201,8 @@ fn startup_of(drive: &DriveSetup) -> u32
     cycles * steps_of(drive)
 }
 
-// Returns the sum of the cycles that are counted for the start-up of each drive.
+// Returns the sum of the cycles that are counted for the start-up of each drive. There are at most 64 drives, and the sum is at most
+// 2,159,293,440.
 fn startup_of_all(drives: &[DriveSetup]) -> u32
     requires { length drives.now ≤ 64 }
     ensures value { result ≡ sum_by startup_of drives.now }
@@ -221,34 +215,26 @@ fn startup_of_all(drives: &[DriveSetup]) -> u32
     cycles
 }
 
-// Returns the number of cycles that a generated ring of these drives runs: 20, two for each drive, those counted for the start-up of all
-// drives, and 100 more.
-fn cycles_for(drives: &[DriveSetup]) -> u32
-    requires { length drives.now ≤ 64 }
-    ensures { result ≡ 20 + 2 * length drives.now + sum_by startup_of drives.now + 100 }
-{
-    20 + 2 * drives.len() as u32 + startup_of_all(drives) + CYCLES_AFTER_STARTUP
-}
-
-// Returns the ring of the drives 1 to n. The error is `AllocError`.
+// Returns the ring of the drives 1 to n, whose ATs are in the order of the ring. n is at most 64. The error is `AllocError`.
 #[tactic(auto, unfolding(crate::specs::Generated::generated_ring, crate::specs::Generated::generated_cycles))]
 fn generated_ring(alloc: Global, n: u8) -> Result<RingSetup, AllocError>
     requires { n ≤ 64 }
     ensures { IfOk result (λ r. r ≡ generated_ring n (generated_cycles n)) }
 {
     let drives = generated_drives(alloc, n)?;
+    let startup = 20 + 2 * u32::from(n) + startup_of_all(drives.as_slice());
     Ok(RingSetup {
         rate: 4,
         cycle: 4000,
         control: 4000,
         gap: 5,
-        cycles: cycles_for(drives.as_slice()),
+        cycles: startup + CYCLES_AFTER_STARTUP,
         order: all_drives(usize::from(n)),
         drives,
     })
 }
 
-// Returns the document of the drives 1 to n. The error is `AllocError`.
+// Returns the document of the drives 1 to n. n is at most 64. The error is `AllocError`.
 #[tactic(auto, unfolding(crate::specs::Generated::generated))]
 fn document_for(alloc: Global, n: u8) -> Result<Document, AllocError>
     requires { n ≤ 64 }
@@ -261,12 +247,12 @@ fn document_for(alloc: Global, n: u8) -> Result<Document, AllocError>
     })
 }
 
-/// Returns the document of `n` drives, 1 to 64, that this profile generates. Its drives are busy for 0 to 2 cycles, and their
-/// procedure commands take 0 to 3. It has a read of S-0-0051 for each drive, and for each drive a fault that loses one of its ATs
-/// on the link to the master. The ring runs for 100 cycles more than the bound of its start-up.
+/// Returns the document of `n` drives, 1 to 64, that this profile generates. Its drives are busy for 0 to 2 cycles, and their procedure
+/// commands take 0 to 3. It has a read of S-0-0051 for each drive, and for each drive a fault that loses one of its ATs on the link to the
+/// master. The ring runs for 100 cycles more than the bound of its start-up.
 ///
-/// The ring is a valid one, a master of it may be opened with the jobs, and the `every` of each fault is at least 1. The error is
-/// `AllocError` if memory runs out.
+/// The ring is a valid one, a master of it may be opened with the jobs, and the `every` of each fault is at least 1. The numbers of the
+/// drives and the jobs are in the ranges of their types. The error is `AllocError` if memory runs out.
 pub fn generate(alloc: Global, n: u8) -> Result<Document, AllocError>
     requires some { 1 ≤ n }
     requires few { n ≤ 64 }

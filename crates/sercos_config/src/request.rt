@@ -1,16 +1,7 @@
-// The requests of a document.
-ghost use Rattle.std.specs.Prelude.{◌≡◌, true, ◌<◌, ◌≤◌, [], length, map, IfOk, IfSome};
-ghost use Rattle.std.specs.List.{All};
-ghost use Rattle.toml.specs.View.{table_view};
-ghost use Rattle.sercos_model.specs.Bits.{AreBytes};
-ghost use Rattle.sercos_block.specs.Rings.{has_address, has_other_data};
-ghost use Rattle.sercos_step.specs.Steps.{IsRequest, IsTypedRequest, AreTypedJobs};
-ghost use Rattle.sercos_step.specs.Jobs.{IsCommand, IsJob};
-ghost use Rattle.sercos_document.specs.Answers.{Gives, Shows};
-ghost use Rattle.sercos_document.specs.Tables.{known};
-ghost use Rattle.sercos_document.specs.Located.{located};
-ghost use Rattle.sercos_config.specs.Words.{address_under, glimpse, word};
-ghost use Rattle.sercos_config.specs.Request.{request_kind, has_element, has_data, keys_if, request_keys, bytes_spelled, bytes_under, asked_of, request_of, requests_onto};
+// The requests of a document. Any error may also be `Memory` instead of the refusal, as the path of a refusal takes memory.
+ghost use Rattle.std.specs.Prelude.{◌≡◌, true, ◌<◌, [], length, map, IfOk, IfSome};
+ghost use Rattle.sercos_config.specs.Clauses.{All, table_view, AreBytes, has_address, has_other_data, IsRequest, IsTypedRequest, AreTypedJobs, IsCommand, IsJob, Gives, Shows, known, located, address_under, glimpse, word, request_kind, has_element, has_data, request_keys, bytes_spelled, bytes_under, asked_of, request_of, requests_onto};
+ghost use Rattle.sercos_config.specs.Request.{keys_if};
 
 use crate::block::read_idn;
 use crate::data::decoded;
@@ -33,7 +24,9 @@ enum RequestKind {
     Command,
 }
 
-/// Reads the requests to these drives from their tables, in their order. The error is the first refusal, or `Memory`.
+/// Reads the requests to these drives from their tables, in their order. The error is the first refusal, or `Memory`. There is one job for
+/// each table. Each names one of the drives, and an element from 1 to 7 for a read or from 2 to 7 for a write. A command names no block of
+/// the drive that isn't a procedure command. The numbers are in the ranges of their types.
 #[tactic(auto, unfolding(crate::specs::Request::requests_onto))]
 pub(crate) fn read_requests(
     alloc: Global,
@@ -61,7 +54,8 @@ pub(crate) fn read_requests(
     Ok(jobs)
 }
 
-// Reads a request to one of these drives from its table. The error is the first refusal, or `Memory`.
+// Reads a request to one of these drives from its table. The error is the first refusal, or `Memory`. The job has the properties that
+// `read_requests` lists.
 #[tactic(auto, unfolding(crate::specs::Request::request_of))]
 fn read_request(keys: &Keys<'_>, drives: &[DriveSetup]) -> Result<Job, BadDocument>
     ensures value { Gives result (request_of drives.now (located keys.now)) }
@@ -113,8 +107,8 @@ fn known_if(keys: &Keys<'_>, element: bool, bytes: bool) -> Result<(), BadDocume
     ])
 }
 
-// Returns whether the key `element` is known: not for a procedure command. A kind of `None` is absent, or isn't one of the words of
-// `kind`. Every key is then known, so that `kind` itself is refused.
+// Returns whether the key `element` is known: not for a procedure command. A kind of `None` is absent, or isn't one of the words of `kind`.
+// Every key is then known, so that `kind` itself is refused.
 #[tactic(auto, unfolding(crate::specs::Request::has_element))]
 fn has_element(kind: Option<RequestKind>) -> bool
     ensures { result ≡ has_element kind }
@@ -165,8 +159,8 @@ fn read_kind(keys: &Keys<'_>, key: &str) -> Result<RequestKind, BadDocument>
     }
 }
 
-// Returns the address under `key`. The error is `Missing`, `Kind`, or `Range` with the number if none of the drives has it as its
-// address.
+// Returns the address under `key`. The error is `Missing`, `Kind`, or `Range` with the number unless it is 1 to 254 and one of the drives
+// has it.
 #[tactic(auto, unfolding(crate::specs::Words::address_under))]
 fn read_address(keys: &Keys<'_>, drives: &[DriveSetup], key: &str) -> Result<u8, BadDocument>
     ensures value { Gives result (address_under drives.now (located keys.now) key.now) }
@@ -178,7 +172,12 @@ fn read_address(keys: &Keys<'_>, drives: &[DriveSetup], key: &str) -> Result<u8,
     Ok(address as u8)
 }
 
-// Reads what a request of a kind does with the block `idn` at the drive with this address. The error is `Missing`, `Kind` or `Range`.
+// Returns what a request of a kind does with the block `idn` at the drive with this address. A read takes the element from `element`, 1 to
+// 7, and a write 2 to 7 and its bytes from `data`; the element is 7 if the key is absent. A command is refused if the drive has the block
+// and it isn't a procedure command; a drive without the block isn't refused here. The error is `Missing` for `data`; or `Kind` or `Range`:
+// for an element with the number, for `data` with the text's length in bytes, for a command at `idn` with the raw number. The numbers of
+// the request are in the ranges of their types.
+#[tactic(auto, unfolding(crate::specs::Request::asked_of))]
 fn read_asked(
     keys: &Keys<'_>,
     drives: &[DriveSetup],
@@ -193,76 +192,25 @@ fn read_asked(
     ensures command { IfOk result (IsCommand (λ raw. has_other_data address raw drives.now)) }
 {
     match kind {
-        RequestKind::Read => read_read(keys, drives, address, idn),
-        RequestKind::Write => read_write(keys, drives, address, idn),
-        RequestKind::Command => read_command(keys, drives, address, idn),
+        RequestKind::Read => {
+            let element = keys.number_or("element", 1, 7, 7)? as u8;
+            Ok(Request::Read { idn, element })
+        },
+        RequestKind::Write => {
+            let element = keys.number_or("element", 2, 7, 7)? as u8;
+            let bytes = read_bytes(keys, "data")?;
+            Ok(Request::Write {
+                idn,
+                element,
+                bytes,
+            })
+        },
+        RequestKind::Command => {
+            let other = has_other_data(address, idn, drives);
+            keys.demand(!other, "idn", i64::from(idn.raw))?;
+            Ok(Request::Command { idn })
+        },
     }
-}
-
-// Reads which element of the block `idn` is read, from `element`: 1 to 7, and 7 if the key is absent. The error is `Kind` or `Range`.
-// Only the contract uses `drives` and `address`.
-#[tactic(auto, unfolding(crate::specs::Request::asked_of))]
-fn read_read(
-    keys: &Keys<'_>,
-    drives: &[DriveSetup],
-    address: u8,
-    idn: Idn,
-) -> Result<Request, BadDocument>
-    requires { idn.raw < 65536 }
-    ensures value { Gives result (asked_of drives.now address RequestKind.Read idn (located keys.now)) }
-    ensures element { IfOk result IsRequest }
-    ensures typed { IfOk result IsTypedRequest }
-    ensures command { IfOk result (IsCommand (λ raw. has_other_data address raw drives.now)) }
-{
-    let element = keys.number_or("element", 1, 7, 7)?;
-    Ok(Request::Read {
-        idn,
-        element: element as u8,
-    })
-}
-
-// Reads what is written to the block `idn`: the element, from `element`, 2 to 7, and 7 if the key is absent; and its bytes, from `data`.
-// The error is `Missing` for `data`, or `Kind` or `Range`. Only the contract uses `drives` and `address`.
-#[tactic(auto, unfolding(crate::specs::Request::asked_of))]
-fn read_write(
-    keys: &Keys<'_>,
-    drives: &[DriveSetup],
-    address: u8,
-    idn: Idn,
-) -> Result<Request, BadDocument>
-    requires { idn.raw < 65536 }
-    ensures value { Gives result (asked_of drives.now address RequestKind.Write idn (located keys.now)) }
-    ensures element { IfOk result IsRequest }
-    ensures typed { IfOk result IsTypedRequest }
-    ensures command { IfOk result (IsCommand (λ raw. has_other_data address raw drives.now)) }
-{
-    let element = keys.number_or("element", 2, 7, 7)?;
-    let bytes = read_bytes(keys, "data")?;
-    Ok(Request::Write {
-        idn,
-        element: element as u8,
-        bytes,
-    })
-}
-
-// Returns the request that runs a procedure command of the drive with this address. The error is `Range` at `idn`, with the raw number,
-// if the drive has the block and it isn't a procedure command. A drive without the block isn't refused here.
-#[tactic(auto, unfolding(crate::specs::Request::asked_of))]
-fn read_command(
-    keys: &Keys<'_>,
-    drives: &[DriveSetup],
-    address: u8,
-    idn: Idn,
-) -> Result<Request, BadDocument>
-    requires { idn.raw < 65536 }
-    ensures value { Gives result (asked_of drives.now address RequestKind.Command idn (located keys.now)) }
-    ensures element { IfOk result IsRequest }
-    ensures typed { IfOk result IsTypedRequest }
-    ensures command { IfOk result (IsCommand (λ raw. has_other_data address raw drives.now)) }
-{
-    let other = has_other_data(address, idn, drives);
-    keys.demand(!other, "idn", i64::from(idn.raw))?;
-    Ok(Request::Command { idn })
 }
 
 // Returns the bytes that the hexadecimal digits under `key` spell, two digits for each byte. The error is `Missing`, `Kind`, or `Range`
@@ -279,8 +227,8 @@ fn read_bytes(keys: &Keys<'_>, key: &str) -> Result<Bytes, BadDocument>
     }
 }
 
-// Returns the bytes that hexadecimal digits of either case spell, two digits for each byte. `None` if `digits` aren't such pairs, or
-// spell more than 1,024 bytes.
+// Returns the bytes that hexadecimal digits of either case spell, two digits for each byte. `None` if `digits` aren't such pairs, or spell
+// more than 1,024 bytes.
 #[tactic(auto, unfolding(crate::specs::Request::bytes_spelled))]
 fn bytes_spelled(digits: &[u8]) -> Option<Bytes>
     ensures value { result ≡ bytes_spelled digits.now }

@@ -1,12 +1,7 @@
-// The ring's own keys, and the order of its drives.
+// The ring's own keys, and the order of its drives. Any error may also be `Memory` instead of the refusal, as the path of a refusal takes
+// memory.
 ghost use Rattle.std.specs.Prelude.{◌≡◌, ◌≤◌, ◌<◌, ◌==◌, true, [], length, IfOk, IfSome};
-ghost use Rattle.std.specs.List.{list_any};
-ghost use Rattle.toml.specs.View.{items_view};
-ghost use Rattle.sercos_block.specs.Rings.{are_ring_numbers, is_turn, are_turns, is_order};
-ghost use Rattle.sercos_document.specs.Answers.{Gives, Shows};
-ghost use Rattle.sercos_document.specs.Tables.{known};
-ghost use Rattle.sercos_document.specs.Located.{located};
-ghost use Rattle.sercos_config.specs.Ring.{ring_keys, head_of, place_from, turn_of, turns_onto, listed_order, places_below, order_of};
+ghost use Rattle.sercos_config.specs.Clauses.{list_any, are_ring_numbers, is_turn, are_turns, is_order, Gives, Shows, known, located, ring_keys, head_of, place_from, turn_of, turns_onto, listed_order, places_below, order_of};
 
 use arrayvec::ArrayVec;
 use sercos_block::DriveSetup;
@@ -27,7 +22,8 @@ pub(crate) struct Head {
 }
 
 /// Reads the numbers of the ring from its table. A `control` that is absent is the cycle time, and an absent `gap` is 5 microseconds. The
-/// error is `Unknown`, `Missing`, `Kind` or `Range`.
+/// error is `Unknown`, `Missing`, `Kind`, or `Range` with the number unless the rate is 2, 4, 8 or 16, the cycle time 125 or a multiple of
+/// 250 up to 64,000, `control` a positive multiple of it up to 64,000, the gap at most 1,000, and `cycles` 1 to 50,000.
 #[tactic(auto, unfolding(crate::specs::Ring::head_of, sercos_block::specs::Rings::are_ring_numbers, sercos_timing::specs::Valid::is_control))]
 pub(crate) fn read_head(keys: &Keys<'_>) -> Result<Head, BadDocument>
     ensures value { Gives result (head_of (located keys.now)) }
@@ -61,9 +57,10 @@ fn known(keys: &Keys<'_>) -> Result<(), BadDocument>
 }
 
 /// Returns the indices of the drives in the ring, from 0, in the order of the list of addresses under `order`. If the key is absent, the
-/// order is that of the ring. The error is `Kind` at the list or an item; `Range` at the list if it doesn't have one item for each drive,
-/// or at an item that is no drive's address; or `Twice` at an item that names a drive again.
-#[tactic(auto, unfolding(crate::specs::Ring::order_of))]
+/// order is that of the ring. The error is `Kind` at the list or an item; `Range` at the list, with the number of its items, if it doesn't
+/// have one for each drive, or at an item, with its number, that is no drive's address; or `Twice` at an item that names a drive again.
+/// There are at most 64 drives, and the result has the index of each once.
+#[tactic(auto, unfolding(crate::specs::Ring::order_of, crate::specs::Ring::listed_order, sercos_block::specs::Rings::is_order))]
 pub(crate) fn read_order(
     keys: &Keys<'_>,
     drives: &[DriveSetup],
@@ -74,11 +71,19 @@ pub(crate) fn read_order(
 {
     match keys.list("order")? {
         None => Ok(all_drives(drives.len())),
-        Some(list) => read_listed(keys, drives, "order", list.as_slice()),
+        Some(list) => {
+            let addresses = keys.numbers("order", list.as_slice())?;
+            keys.demand(
+                addresses.len() == drives.len(),
+                "order",
+                addresses.len() as i64,
+            )?;
+            read_turns(keys, drives, "order", addresses.as_slice())
+        },
     }
 }
 
-/// Returns the indices 0 to `count` - 1, ascending: all drives in the order of the ring.
+/// Returns the indices 0 to `count` - 1, ascending, of at most 64: all drives in the order of the ring.
 #[tactic(auto, using(crate::proofs::OrderLemmas::places_more, crate::proofs::OrderLemmas::is_order_places), unfolding(crate::specs::Ring::places_below))]
 pub(crate) fn all_drives(count: usize) -> ArrayVec<u8, 64>
     requires { count ≤ 64 }
@@ -92,27 +97,9 @@ pub(crate) fn all_drives(count: usize) -> ArrayVec<u8, 64>
     order
 }
 
-// Returns the indices of the drives whose addresses are `items`, the list under `key`, in the order of the list. The errors are those of
-// `read_order`.
-#[tactic(auto, unfolding(crate::specs::Ring::listed_order, sercos_block::specs::Rings::is_order))]
-fn read_listed(
-    keys: &Keys<'_>,
-    drives: &[DriveSetup],
-    key: &str,
-    items: &[Value],
-) -> Result<ArrayVec<u8, 64>, BadDocument>
-    requires { length drives.now ≤ 64 }
-    ensures value { Shows (λ v. v.items) result
-        (listed_order drives.now keys.now.place key.now (items_view items.now)) }
-    ensures valid { IfOk result (λ v. is_order (length drives.now) v.items ≡ true) }
-{
-    let addresses = keys.numbers(key, items)?;
-    keys.demand(addresses.len() == drives.len(), key, addresses.len() as i64)?;
-    read_turns(keys, drives, key, addresses.as_slice())
-}
-
 // Returns the indices of the drives with these addresses, which are the items of the list under `key`. The error is `Range` at the first
-// that no drive has, or `Twice` at the first whose drive was named before.
+// that no drive has, with the address, or `Twice` at the first whose drive was named before. There are at most 64 drives and at most 64
+// addresses. The result has one index for each address, and they are distinct.
 #[tactic(auto, using(crate::proofs::OrderLemmas::turns_none, crate::proofs::OrderLemmas::turns_more), unfolding(crate::specs::Ring::turns_onto))]
 fn read_turns(
     keys: &Keys<'_>,
@@ -136,7 +123,8 @@ fn read_turns(
 }
 
 // Returns the index of the drive with an address, the next item of the list under `key`. `done` has the indices for the items before it.
-// The error is `Range` at the item, with the address, if no drive has it; or `Twice` at the item if `done` has its drive.
+// The error is `Range` at the item, with the address, if no drive has it; or `Twice` at the item if `done` has its drive. There are at most
+// 64 drives.
 #[tactic(auto, unfolding(crate::specs::Ring::turn_of, sercos_document::specs::Answers::demand, sercos_block::specs::Rings::is_turn))]
 fn read_turn(
     keys: &Keys<'_>,

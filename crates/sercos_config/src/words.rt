@@ -1,8 +1,6 @@
 // Keys whose values are words.
-ghost use Rattle.std.specs.Prelude.{◌≡◌, codes, if◌then◌else◌, option_copied, option_and_then};
-ghost use Rattle.toml.specs.Data.{get_member, as_str};
-ghost use Rattle.sercos_document.specs.Located.{located};
-ghost use Rattle.sercos_config.specs.Words.{key_if};
+ghost use Rattle.std.specs.Prelude.{◌≡◌, option_copied, option_and_then};
+ghost use Rattle.sercos_config.specs.Clauses.{get_member, as_str, located, key_if};
 
 use sercos_document::Keys;
 

@@ -1,6 +1,7 @@
-pub mod Paths
 pub mod Answers
-pub mod Tables
+pub mod Clauses
+pub mod Lines
 pub mod Lists
 pub mod Located
-pub mod Lines
+pub mod Paths
+pub mod Tables

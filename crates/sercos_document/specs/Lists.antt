@@ -1,4 +1,5 @@
--- The lists under a table's keys. A list of tables is refused at its own path, other lists at their items' paths.
+-- The lists under a table's keys. A list of tables is refused at its own path, other lists at their
+-- items' paths.
 use Rattle.std.specs.Prelude.{ℕ, pos, ◌+◌, ◌&&◌, ◌++◌, nat_le, List, [], ◌∷◌, length, Option, Some, None, Ok}
 use Rattle.toml.specs.Data.{Data, Members, Items, no_items, item, as_array, as_table}
 use Rattle.sercos_document.specs.declared.path.Place.{Place}
@@ -7,7 +8,7 @@ use Rattle.sercos_document.specs.Paths.{path, item_path}
 use Rattle.sercos_document.specs.Answers.{Answer, ◌>>=◌, ◌>>◌, demand, or_refused}
 use Rattle.sercos_document.specs.Tables.{Located, optional, required}
 
--- the tables of a list, after these; Kind at the list if an item is not a table
+-- these tables and then those of a list; Kind at the list if an item is not a table
 unfoldable pub tables_onto : List ℕ → List Members → Items → Answer (List Members)
 tables_onto p done no_items = Ok done
 tables_onto p done (item d rest) = or_refused (bad.Kind p) (as_table d) >>= (λ t. tables_onto p (done ++ t ∷ []) rest)
@@ -31,18 +32,19 @@ tables_in p low high (Some items) = tables_onto p [] items >>= counted p low hig
 unfoldable pub tables : Located → List ℕ → ℕ → ℕ → Answer (List Members)
 tables t key low high = optional as_array t key >>= tables_in (path t.place key) low high
 
--- the values of one type in a list, after these; Kind at the first item of another type
+-- these values and then those of a list, all of one type; Kind at the first item of another type
 unfoldable pub all_onto : {A : Type 0} → (Data → Option A) → Place → List ℕ → List A → Items → Answer (List A)
 all_onto kind place key done no_items = Ok done
 all_onto kind place key done (item d rest) =
     or_refused (bad.Kind (item_path place key (length done))) (kind d) >>= (λ x. all_onto kind place key (done ++ x ∷ []) rest)
 
--- how many items a list has
+-- the number of items of a list
 unfoldable pub count_of : Items → ℕ
 count_of no_items = 0
 count_of (item d rest) = 1 + count_of rest
 
--- a list of at most n values, or an empty one if the key is absent; otherwise Range with their number
+-- a list of at most n values, or an empty one if the key is absent; otherwise Range with their
+-- number
 abbrev pub at_most : List ℕ → ℕ → Option Items → Answer Items
 at_most p most None = Ok no_items
 at_most p most (Some items) = demand (nat_le (count_of items) most) (bad.Range p (pos (count_of items))) >> Ok items

@@ -14,7 +14,8 @@ pub record Located : Type 0 where
   pub place : Place
   pub members : Members
 
--- The value under a key, seen as one of TOML's types: none where the key is absent, Kind where it has another type.
+-- The value under a key as one of TOML's types: None if the key is absent, Kind if the value has
+-- another type.
 abbrev pub typed : {A : Type 0} → (Data → Option A) → List ℕ → Option Data → Answer (Option A)
 typed kind p None = Ok None
 typed kind p (Some d) = or_refused (bad.Kind p) (kind d) >>= (λ x. Ok (Some x))
@@ -22,20 +23,20 @@ typed kind p (Some d) = or_refused (bad.Kind p) (kind d) >>= (λ x. Ok (Some x))
 unfoldable pub optional : {A : Type 0} → (Data → Option A) → Located → List ℕ → Answer (Option A)
 optional kind t key = typed kind (path t.place key) (get_member key t.members)
 
--- the same, Missing where the key is absent
+-- the same, but Missing if the key is absent
 unfoldable pub required : {A : Type 0} → (Data → Option A) → Located → List ℕ → Answer A
 required kind t key = optional kind t key >>= or_refused (bad.Missing (path t.place key))
 
--- a number from the one to the other; otherwise Range with the number
+-- a number from `low` to `high`; otherwise Range with the number
 unfoldable pub between : List ℕ → ℕ → ℕ → ℤ → Answer ℕ
 between p low high (pos n) = if nat_le low n && nat_le n high then Ok n else Err (bad.Range p (pos n))
 between p low high (negsuc n) = Err (bad.Range p (negsuc n))
 
--- a required number
+-- a required number from `low` to `high`
 unfoldable pub number : Located → List ℕ → ℕ → ℕ → Answer ℕ
 number t key low high = required as_integer t key >>= between (path t.place key) low high
 
--- a number, or the default if the key is absent
+-- a number from `low` to `high`, or the default if the key is absent
 abbrev pub between_or : ℕ → List ℕ → ℕ → ℕ → Option ℤ → Answer ℕ
 between_or default p low high None = Ok default
 between_or default p low high (Some z) = between p low high z
@@ -47,7 +48,7 @@ number_or t key low high default = optional as_integer t key >>= between_or defa
 unfoldable pub boolean_or : Located → List ℕ → Bool → Answer Bool
 boolean_or t key default = optional as_bool t key >>= (λ truth. Ok (unwrap_or truth default))
 
--- the key is one of these
+-- whether the key is one of these
 unfoldable pub is_among : List ℕ → List (List ℕ) → Bool
 is_among key [] = false
 is_among key (k ∷ keys) = bytes_eq key k || is_among key keys
@@ -67,6 +68,6 @@ abbrev pub refuse_unknown : Place → Option (List ℕ) → Answer (Unit {0})
 refuse_unknown place None = Ok tt
 refuse_unknown place (Some key) = Err (bad.Unknown (path place key))
 
--- the keys of a table are among these; otherwise the least of the others is refused
+-- Unknown with the least key of a table that isn't one of these, if there is one
 unfoldable pub known : Located → List (List ℕ) → Answer (Unit {0})
 known t keys = refuse_unknown t.place (least_unknown keys t.members)

@@ -1,25 +1,17 @@
 // The keys of a table, and the values under them.
 ghost use Rattle.std.specs.Prelude.{◌≡◌, ◌≤◌, true, option_map, option_copied, string_bytes, map, not, IfOk, OnOk};
-ghost use Rattle.std.specs.List.{find};
-ghost use Rattle.std.specs.List.Sorted.{IsStrictlySortedBy};
-ghost use Rattle.std.specs.Map.{keys_of};
-ghost use Rattle.std.specs.String.{string_cmp};
-ghost use Rattle.toml.specs.Data.{get_member, as_integer, as_str, as_table};
-ghost use Rattle.toml.specs.View.{view, table_view};
-ghost use Rattle.sercos_document.specs.Paths.{path, item_path};
-ghost use Rattle.sercos_document.specs.Answers.{Refuses, Gives, Shows, demand};
-ghost use Rattle.sercos_document.specs.Tables.{optional, required, between, number, number_or, is_among, least_unknown, known, boolean_or};
+ghost use Rattle.sercos_document.specs.Clauses.{find, IsStrictlySortedBy, keys_of, string_cmp, get_member, as_integer, as_str, as_table, view, table_view, path, item_path, Refuses, Gives, Shows, demand, optional, required, between, number, number_or, is_among, least_unknown, known, boolean_or};
 
 use crate::path::{Path, Place};
 use crate::refusal::BadDocument;
 use std::alloc::Global;
 use toml::{Table, Value};
 
-/// A table of a document, and where it is. Each call returns a value or the refusal by the document's rules; the one
-/// other error is `Memory`.
+/// A table of a document, and where it is. A call returns a value, or the refusal by the document's rules (this profile). The only other
+/// error is `Memory`: there is no room for the path of a refusal, or for a list.
 #[derive(Clone, Copy)]
 pub struct Keys<'a> {
-    /// What takes memory for lists, and for the paths of refusals.
+    /// The source of memory for lists, and for the paths of refusals.
     pub alloc: Global,
     /// Where the table is.
     pub place: Place,
@@ -30,7 +22,7 @@ pub struct Keys<'a> {
 impl<'a> Keys<'a> {
     ghost use Rattle.sercos_document.specs.Located.{located};
 
-    // The refusal of a required key that is absent.
+    // Returns the refusal `Missing` of a required key that is absent; `Memory` if there is no room for the path.
     pub(crate) fn missing(&self, key: &str) -> BadDocument
         ensures { Refuses result (BadDocument.Missing (path self.now.place key.now)) }
     {
@@ -40,7 +32,7 @@ impl<'a> Keys<'a> {
         }
     }
 
-    // The refusal of a value of another type.
+    // Returns the refusal `Kind` of a value of another type; `Memory` if there is no room for the path.
     pub(crate) fn kind(&self, key: &str) -> BadDocument
         ensures { Refuses result (BadDocument.Kind (path self.now.place key.now)) }
     {
@@ -50,7 +42,8 @@ impl<'a> Keys<'a> {
         }
     }
 
-    // The refusal of a list's item of another type.
+    // Returns the refusal `Kind` of a list's item of another type; `Memory` if there is no room for the path. `item` is the item's index,
+    // counted from 0.
     pub(crate) fn item_kind(&self, key: &str, item: usize) -> BadDocument
         ensures { Refuses result (BadDocument.Kind (item_path self.now.place key.now item)) }
     {
@@ -60,7 +53,7 @@ impl<'a> Keys<'a> {
         }
     }
 
-    /// Returns the refusal of a value that isn't allowed.
+    /// Returns the refusal `Range` of a value that isn't allowed; `Memory` if there is no room for the path.
     pub fn range(&self, key: &str, value: i64) -> BadDocument
         ensures { Refuses result (BadDocument.Range (path self.now.place key.now) value) }
     {
@@ -70,7 +63,8 @@ impl<'a> Keys<'a> {
         }
     }
 
-    /// Returns the refusal of a list's item that isn't allowed.
+    /// Returns the refusal `Range` of a list's item that isn't allowed; `Memory` if there is no room for the path. `item` is the item's
+    /// index, counted from 0.
     pub fn item_range(&self, key: &str, item: usize, value: i64) -> BadDocument
         ensures { Refuses result (BadDocument.Range (item_path self.now.place key.now item) value) }
     {
@@ -80,7 +74,7 @@ impl<'a> Keys<'a> {
         }
     }
 
-    // Returns the refusal of a value that occurs twice.
+    // Returns the refusal `Twice` of a value that occurs twice; `Memory` if there is no room for the path.
     fn twice(&self, key: &str) -> BadDocument
         ensures { Refuses result (BadDocument.Twice (path self.now.place key.now)) }
     {
@@ -90,7 +84,8 @@ impl<'a> Keys<'a> {
         }
     }
 
-    /// Returns the refusal of a list's item that occurs twice.
+    /// Returns the refusal `Twice` of a list's item that occurs twice; `Memory` if there is no room for the path. `item` is the item's
+    /// index, counted from 0.
     pub fn item_twice(&self, key: &str, item: usize) -> BadDocument
         ensures { Refuses result (BadDocument.Twice (item_path self.now.place key.now item)) }
     {
@@ -100,7 +95,7 @@ impl<'a> Keys<'a> {
         }
     }
 
-    // The refusal of a key that has no meaning.
+    // Returns the refusal `Unknown` of a key that has no meaning; `Memory` if there is no room for the path.
     fn unknown(&self, key: &str) -> BadDocument
         ensures { Refuses result (BadDocument.Unknown (path self.now.place key.now)) }
     {
@@ -110,7 +105,8 @@ impl<'a> Keys<'a> {
         }
     }
 
-    /// Refuses the value under a key, unless it is allowed.
+    /// Returns `Ok` if the value under a key is allowed. Otherwise the error is `Range` with `value`, or `Memory` if there is no room for
+    /// the path.
     #[tactic(auto, unfolding(crate::specs::Answers::demand))]
     pub fn demand(&self, allowed: bool, key: &str, value: i64) -> Result<(), BadDocument>
         ensures value { Gives result (demand allowed (BadDocument.Range (path self.now.place key.now) value)) }
@@ -123,7 +119,7 @@ impl<'a> Keys<'a> {
         }
     }
 
-    /// Refuses the value under a key unless it occurs once.
+    /// Returns `Ok` if the value under a key occurs once. Otherwise the error is `Twice`, or `Memory` if there is no room for the path.
     #[tactic(auto, unfolding(crate::specs::Answers::demand))]
     pub fn demand_once(&self, once: bool, key: &str) -> Result<(), BadDocument>
         ensures value { Gives result (demand once (BadDocument.Twice (path self.now.place key.now))) }
@@ -132,14 +128,14 @@ impl<'a> Keys<'a> {
         if once { Ok(()) } else { Err(self.twice(key)) }
     }
 
-    /// Returns the value under a key, if the key is present.
+    /// Returns the value under a key; `None` if the key is absent.
     pub fn value(&self, key: &str) -> Option<&'a Value>
         ensures { option_map (λ v. view v.now) result ≡ get_member key.now (located self.now).members }
     {
         self.table.get(key)
     }
 
-    /// Returns the whole number under a key, if the key is present. The error is `Kind`.
+    /// Returns the whole number under a key; `None` if the key is absent. The error is `Kind` if the value has another type, or `Memory`.
     #[tactic(auto, unfolding(crate::specs::Tables::optional))]
     pub fn integer(&self, key: &str) -> Result<Option<i64>, BadDocument>
         ensures { Gives result (optional as_integer (located self.now) key.now) }
@@ -153,7 +149,8 @@ impl<'a> Keys<'a> {
         }
     }
 
-    /// Returns the whole number under a key. The error is `Missing` or `Kind`.
+    /// Returns the whole number under a key. The error is `Missing` if the key is absent, `Kind` if the value has another type, or
+    /// `Memory`.
     #[tactic(auto, unfolding(crate::specs::Tables::required))]
     pub fn required_integer(&self, key: &str) -> Result<i64, BadDocument>
         ensures { Gives result (required as_integer (located self.now) key.now) }
@@ -164,7 +161,7 @@ impl<'a> Keys<'a> {
         }
     }
 
-    // The number, where it isn't below `low` nor above `high`; else `Range` with the number.
+    // Returns the number if it is from `low` to `high`. Otherwise the error is `Range` with the number, or `Memory`.
     #[tactic(auto, unfolding(crate::specs::Tables::between))]
     fn between(&self, key: &str, low: u32, high: u32, number: i64) -> Result<u32, BadDocument>
         ensures value { Gives result (between (path self.now.place key.now) low high number) }
@@ -176,7 +173,8 @@ impl<'a> Keys<'a> {
         }
     }
 
-    /// Returns the number under a key, from `low` to `high`. The error is `Missing`, `Kind` or `Range`.
+    /// Returns the number under a key, from `low` to `high`. The error is `Missing` if the key is absent, `Kind` if the value isn't a whole
+    /// number, `Range` with the number if it is out of range, or `Memory`.
     #[tactic(auto, unfolding(crate::specs::Tables::number))]
     pub fn number(&self, key: &str, low: u32, high: u32) -> Result<u32, BadDocument>
         ensures value { Gives result (number (located self.now) key.now low high) }
@@ -186,8 +184,8 @@ impl<'a> Keys<'a> {
         self.between(key, low, high, number)
     }
 
-    /// Returns the number under a key, from `low` to `high`, or the default if the key is absent. The error is `Kind`
-    /// or `Range`.
+    /// Returns the number under a key, from `low` to `high`, or `default` if the key is absent. `default` must be from `low` to `high`. The
+    /// error is `Kind` if the value isn't a whole number, `Range` with the number if it is out of range, or `Memory`.
     #[tactic(auto, unfolding(crate::specs::Tables::number_or))]
     pub fn number_or(
         &self,
@@ -207,7 +205,7 @@ impl<'a> Keys<'a> {
         }
     }
 
-    /// Returns the boolean under a key, or the default if the key is absent. The error is `Kind`.
+    /// Returns the boolean under a key, or `default` if the key is absent. The error is `Kind` if the value has another type, or `Memory`.
     #[tactic(auto, unfolding(crate::specs::Tables::optional, crate::specs::Tables::boolean_or))]
     pub fn boolean_or(&self, key: &str, default: bool) -> Result<bool, BadDocument>
         ensures { Gives result (boolean_or (located self.now) key.now default) }
@@ -221,7 +219,7 @@ impl<'a> Keys<'a> {
         }
     }
 
-    /// Returns the text under a key, if the key is present. The error is `Kind`.
+    /// Returns the text under a key; `None` if the key is absent. The error is `Kind` if the value has another type, or `Memory`.
     #[tactic(auto, unfolding(crate::specs::Tables::optional))]
     pub fn text(&self, key: &str) -> Result<Option<&'a str>, BadDocument>
         ensures { Shows option_copied result (optional as_str (located self.now) key.now) }
@@ -235,7 +233,7 @@ impl<'a> Keys<'a> {
         }
     }
 
-    /// Returns the text under a key. The error is `Missing` or `Kind`.
+    /// Returns the text under a key. The error is `Missing` if the key is absent, `Kind` if the value has another type, or `Memory`.
     #[tactic(auto, unfolding(crate::specs::Tables::required))]
     pub fn required_text(&self, key: &str) -> Result<&'a str, BadDocument>
         ensures { Shows (λ t. t.now) result (required as_str (located self.now) key.now) }
@@ -246,7 +244,7 @@ impl<'a> Keys<'a> {
         }
     }
 
-    /// Returns the table under a key. The error is `Missing` or `Kind`.
+    /// Returns the table under a key. The error is `Missing` if the key is absent, `Kind` if the value has another type, or `Memory`.
     #[tactic(auto, unfolding(crate::specs::Tables::optional, crate::specs::Tables::required))]
     pub fn required_table(&self, key: &str) -> Result<&'a Table, BadDocument>
         ensures { Shows (λ t. table_view t.now) result (required as_table (located self.now) key.now) }
@@ -260,7 +258,8 @@ impl<'a> Keys<'a> {
         }
     }
 
-    /// Refuses the least key, in the order of bytes, that isn't one of these, as `Unknown`.
+    /// Returns `Ok` if each key of the table is one of these. Otherwise the error is `Unknown` for the first other key in the order of
+    /// bytes, or `Memory`.
     #[tactic(auto, unfolding(crate::specs::Tables::known))]
     pub fn known(&self, keys: &[&str]) -> Result<(), BadDocument>
         ensures { Gives result (known (located self.now) (map (λ k. k.now) keys.now)) }
@@ -272,7 +271,7 @@ impl<'a> Keys<'a> {
     }
 }
 
-// The least key of a table that isn't one of these.
+// Returns the least key of a table, in the order of bytes, that isn't one of these; `None` if there is no such key.
 fn least_unknown<'t>(keys: &[&str], table: &'t Table) -> Option<&'t String>
     ensures { option_map (λ k. string_bytes k.now) result ≡
         least_unknown (map (λ k. k.now) keys.now) (table_view table.now) }
@@ -280,7 +279,8 @@ fn least_unknown<'t>(keys: &[&str], table: &'t Table) -> Option<&'t String>
     first_unknown(keys, table)
 }
 
-// The first key of a table that isn't one of these. A table has its keys in order.
+// Returns the first key of a table that isn't one of these; `None` if there is no such key. The keys of a table are sorted in the order of
+// bytes.
 fn first_unknown<'t>(keys: &[&str], table: &'t Table) -> Option<&'t String>
     ensures found { option_map (λ k. k.now) result ≡
         find (λ k. not (is_among (string_bytes k) (map (λ t. t.now) keys.now))) (keys_of table.now.entries) }
@@ -289,7 +289,7 @@ fn first_unknown<'t>(keys: &[&str], table: &'t Table) -> Option<&'t String>
     table.keys().find(|key| !is_among(key.as_str(), keys))
 }
 
-// Returns whether the key is one of these.
+// Returns whether a key is one of these.
 #[tactic(auto, unfolding(crate::specs::Tables::is_among))]
 fn is_among(key: &str, keys: &[&str]) -> bool
     ensures { result ≡ is_among key.now (map (λ k. k.now) keys.now) }

@@ -1,4 +1,4 @@
-//! Documents: tables with places, the values under their keys, and the refusals that name the path of a key.
+//! Documents: tables and where they are, the values under their keys, and the refusals, which have the path of a key.
 #![tactic(auto)]
 
 mod keys;

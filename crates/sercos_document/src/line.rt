@@ -1,15 +1,16 @@
-// The line of a refusal.
+// The line of a refusal. The results of all writers are as those of `write_all`: after an error the sink has accepted a proper prefix of
+// the line, and its count of faults has risen or is 2^64 - 1. After `Ok` this count is unchanged. There is no error if the sink's room is
+// at least the length of the line.
 ghost use Rattle.std.specs.Prelude.{ℕ, ◌≢◌, ◌<◌, ◌≤◌, length, take, OnOk, OnErr, IsOk};
-ghost use Rattle.std.specs.Io.KnownBytes.{Appends};
-ghost use Rattle.sercos_model.specs.Streams.{HasCause};
-ghost use Rattle.sercos_document.specs.Lines.{path_line, range_line, line_of};
+ghost use Rattle.sercos_document.specs.Clauses.{Appends, HasCause, path_line, range_line, line_of};
 
 use crate::refusal::BadDocument;
 use itoa::Buffer;
 use sercos_io::{Sink, WriteFailed, write_all, write_pieces};
 
-/// Writes the line of a refusal to a sink, with its line feed: `refused 4 range ring.gap 1001`. `Memory` is not
-/// a refusal. After an error the sink has accepted a prefix of the line.
+/// Writes the line of a refusal to a sink, with its line feed: `refused 4 range ring.gap 1001` (this profile). `Memory` is not a refusal,
+/// and must not be passed. After an error the sink has accepted a proper prefix of the line. There is no error if the sink's room is at
+/// least the length of the line.
 #[tactic(auto, unfolding(crate::specs::Lines::line_of))]
 pub fn write_refusal<K: Sink>(bad: &BadDocument, sink: &mut K) -> Result<(), WriteFailed>
     requires { bad.now ≢ BadDocument.Memory }
@@ -33,7 +34,7 @@ pub fn write_refusal<K: Sink>(bad: &BadDocument, sink: &mut K) -> Result<(), Wri
     }
 }
 
-// Writes a line that ends in a path.
+// Writes a line that ends with a path: `head`, the path and a line feed.
 #[tactic(auto, unfolding(crate::specs::Lines::path_line))]
 fn write_path<'a, K: Sink>(sink: &mut K, head: &'a [u8], path: &'a [u8]) -> Result<(), WriteFailed>
     ensures ok { OnOk result (Appends (K.held sink.old) (K.held sink.new) (path_line head.now path.now)) }
@@ -45,7 +46,8 @@ fn write_path<'a, K: Sink>(sink: &mut K, head: &'a [u8], path: &'a [u8]) -> Resu
     write_pieces(sink, &[head, path, b"\n".as_slice()])
 }
 
-// Writes the line of a value that isn't allowed.
+// Writes the line of a value that isn't allowed: `refused 4 range`, its path, and the digits of its number, each after a space, and a line
+// feed.
 #[tactic(auto, unfolding(crate::specs::Lines::range_line))]
 fn write_range<'a, K: Sink>(
     sink: &mut K,

@@ -1,11 +1,6 @@
 // The lists under a table's keys.
 ghost use Rattle.std.specs.Prelude.{◌≡◌, ◌≤◌, [], length, option_map, map, IfOk};
-ghost use Rattle.toml.specs.Data.{as_integer, as_str, as_array};
-ghost use Rattle.toml.specs.View.{table_view, array_view, items_view};
-ghost use Rattle.sercos_document.specs.Paths.{path};
-ghost use Rattle.sercos_document.specs.Answers.{Gives, Shows};
-ghost use Rattle.sercos_document.specs.Tables.{optional};
-ghost use Rattle.sercos_document.specs.Lists.{tables_onto, counted, required_tables, tables, all_onto, short_list};
+ghost use Rattle.sercos_document.specs.Clauses.{as_integer, as_str, as_array, table_view, array_view, items_view, path, Shows, optional, tables_onto, counted, required_tables, tables, all_onto, short_list};
 
 use crate::keys::Keys;
 use crate::refusal::BadDocument;
@@ -15,7 +10,7 @@ use toml::{Table, Value};
 impl<'a> Keys<'a> {
     ghost use Rattle.sercos_document.specs.Located.{located};
 
-    /// Returns the list under a key, if the key is present. The error is `Kind`.
+    /// Returns the list under a key; `None` if the key is absent. The error is `Kind` if the value has another type, or `Memory`.
     #[tactic(auto, unfolding(crate::specs::Tables::optional))]
     pub fn list(&self, key: &str) -> Result<Option<&'a Array>, BadDocument>
         ensures { Shows (option_map (λ v. array_view v.now)) result (optional as_array (located self.now) key.now) }
@@ -29,7 +24,7 @@ impl<'a> Keys<'a> {
         }
     }
 
-    // The tables of a list.
+    // Returns the items of a list as tables. The error is `Kind` at the list if one isn't a table, or `Memory`.
     #[tactic(auto, unfolding(crate::specs::Lists::tables_onto))]
     fn all_tables(&self, key: &str, list: &'a [Value]) -> Result<Vec<&'a Table>, BadDocument>
         ensures { Shows (λ v. map (λ t. table_view t.now) v.items) result
@@ -45,7 +40,7 @@ impl<'a> Keys<'a> {
         Ok(tables)
     }
 
-    // Returns the tables if their number is in the range.
+    // Returns the tables if there are `low` to `high` of them. Otherwise the error is `Range` with their number, or `Memory`.
     fn counted(
         &self,
         key: &str,
@@ -66,8 +61,8 @@ impl<'a> Keys<'a> {
         Ok(tables)
     }
 
-    /// Returns the list of `low` to `high` tables under a key. The error is `Missing`; `Kind` at the list, if it or an
-    /// item has another type; `Range` with the number of tables.
+    /// Returns the list of `low` to `high` tables under a key. The error is `Missing` if the key is absent; `Kind` at the list if it or an
+    /// item has another type; `Range` with the number of tables; or `Memory`.
     #[tactic(auto, unfolding(crate::specs::Tables::required, crate::specs::Lists::required_tables))]
     pub fn required_tables(
         &self,
@@ -89,7 +84,8 @@ impl<'a> Keys<'a> {
         }
     }
 
-    /// The same, and no tables where the key is absent.
+    /// Returns the list of `low` to `high` tables under a key, or no tables if the key is absent. The error is `Kind` at the list if it or
+    /// an item has another type, `Range` with the number of tables, or `Memory`.
     #[tactic(auto, unfolding(crate::specs::Lists::tables))]
     pub fn tables(&self, key: &str, low: usize, high: usize) -> Result<Vec<&'a Table>, BadDocument>
         ensures value { Shows (λ v. map (λ t. table_view t.now) v.items) result
@@ -105,8 +101,8 @@ impl<'a> Keys<'a> {
         }
     }
 
-    /// Returns the list of at most `most` values under a key, or an empty one if the key is absent. The error is `Kind`,
-    /// or `Range` with the number of values.
+    /// Returns the list of at most `most` values under a key, or an empty list if the key is absent. The error is `Kind` if the value has
+    /// another type, `Range` with the number of values, or `Memory`.
     #[tactic(auto, using(crate::proofs::Items::items_count), unfolding(crate::specs::Lists::short_list))]
     pub fn short_list(&self, key: &str, most: usize) -> Result<&'a [Value], BadDocument>
         ensures value { Shows (λ v. items_view v.now) result (short_list (located self.now) key.now most) }
@@ -122,7 +118,8 @@ impl<'a> Keys<'a> {
         }
     }
 
-    /// Returns the texts of the list under a key. The error is `Kind` at the first item that is not a text.
+    /// Returns the items of a list under a key as texts, in their order. The error is `Kind` at the first item that is not a text, or
+    /// `Memory`.
     #[tactic(auto, unfolding(crate::specs::Lists::all_onto))]
     pub fn texts(&self, key: &str, list: &'a [Value]) -> Result<Vec<&'a str>, BadDocument>
         ensures value { Shows (λ v. map (λ t. t.now) v.items) result
@@ -139,8 +136,8 @@ impl<'a> Keys<'a> {
         Ok(texts)
     }
 
-    /// Returns the whole numbers of the list under a key. The error is `Kind` at the first item that is not a whole
-    /// number.
+    /// Returns the items of a list under a key as whole numbers, in their order. The error is `Kind` at the first item that is not a whole
+    /// number, or `Memory`.
     #[tactic(auto, unfolding(crate::specs::Lists::all_onto))]
     pub fn numbers(&self, key: &str, list: &[Value]) -> Result<Vec<i64>, BadDocument>
         ensures { Shows (λ v. v.items) result (all_onto as_integer self.now.place key.now [] (items_view list.now)) }

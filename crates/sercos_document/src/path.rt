@@ -1,11 +1,11 @@
-// Paths to the keys of a document.
+// The paths of the keys of a document.
 ghost use Rattle.std.specs.Prelude.{◌≡◌, ◌++◌, OnOk, IfOk, string_bytes};
-ghost use Rattle.sercos_document.specs.Paths.{listed, before_keys, path, item_path};
+ghost use Rattle.sercos_document.specs.Clauses.{listed, before_keys, path, item_path};
 
 use std::alloc::{AllocError, Global};
 use std::marker::Model;
 
-/// Where a table is in a document. Places in lists are counted from 0.
+/// Where a table is in a document (this profile). Indices in lists are counted from 0.
 #[derive(Clone, Copy, Debug, PartialEq, Eq)]
 pub enum Place {
     /// The document itself.
@@ -14,7 +14,7 @@ pub enum Place {
     Ring,
     /// A table of the list `drive`.
     Drive(usize),
-    /// A table of the list `block` of a drive: the drive's place, then the block's.
+    /// A table of the list `block` of a drive: the drive's index, then the block's.
     Block(usize, usize),
     /// A table of the list `request`.
     Request(usize),
@@ -22,8 +22,8 @@ pub enum Place {
     Fault(usize),
 }
 
-/// The path to a key of a document, or to an item of its list: `drive[0].block[2].idn`, `ring.order[1]`. Keys are in it
-/// as they are. Contracts see the list of its bytes.
+/// The path of a key of a document, or of an item of its list: `drive[0].block[2].idn`, `ring.order[1]` (this profile). Keys aren't quoted
+/// or escaped. Contracts see the list of the bytes.
 #[derive(Drop)]
 pub struct Path {
     text: String,
@@ -45,7 +45,7 @@ impl Path {
         self.text.as_bytes()
     }
 
-    /// Returns the path of a key in the table at a place. The error is `AllocError`.
+    /// Returns the path of a key in the table at a place. The error is `AllocError` if there is no memory for it.
     #[tactic(auto, unfolding(crate::specs::Paths::path))]
     pub(crate) fn to_key(alloc: Global, place: Place, key: &str) -> Result<Path, AllocError>
         ensures { IfOk result (λ p. p ≡ path place key.now) }
@@ -56,7 +56,8 @@ impl Path {
         Ok(Path { text })
     }
 
-    /// Returns the path of an item in the list under a key. The error is `AllocError`.
+    /// Returns the path of an item in the list under a key. `item` is its index, counted from 0. The error is `AllocError` if there is no
+    /// memory for the path.
     #[tactic(auto, unfolding(crate::specs::Paths::item_path))]
     pub(crate) fn to_item(
         alloc: Global,
@@ -73,7 +74,7 @@ impl Path {
     }
 }
 
-// Appends the path before the keys of the table at a place.
+// Appends the part of a path before a key of the table at a place. The error is `AllocError`. Then `text` is unspecified.
 #[tactic(auto, unfolding(crate::specs::Paths::before_keys))]
 fn push_place(text: &mut String, place: Place) -> Result<(), AllocError>
     ensures { OnOk result (string_bytes text.new ≡ string_bytes text.old ++ before_keys place) }
@@ -102,7 +103,7 @@ fn push_place(text: &mut String, place: Place) -> Result<(), AllocError>
     }
 }
 
-// Appends the key of a list and a place in it.
+// Appends the key of a list and an index in it: in decimal, in square brackets. The error is `AllocError`. Then `text` is unspecified.
 #[tactic(auto, unfolding(crate::specs::Paths::listed))]
 fn push_listed(text: &mut String, key: &str, place: usize) -> Result<(), AllocError>
     ensures { OnOk result (string_bytes text.new ≡ string_bytes text.old ++ listed key.now place) }

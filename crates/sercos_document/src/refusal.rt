@@ -4,24 +4,27 @@ ghost use Rattle.std.specs.Prelude.{◌≡◌};
 use crate::path::Path;
 use std::alloc::AllocFailed;
 
-/// The first reason for which a document is refused, with the path of the key; or `Memory`, if there was no memory.
+/// The first reason for which a document is refused, with the path of the key (this profile); or `Memory` if it is out of memory.
 #[derive(Drop)]
 pub enum BadDocument {
-    /// The bytes are no TOML document.
+    /// The bytes are not a TOML document.
     Toml,
     /// A required key is absent.
     Missing(Path),
-    /// A value has another of TOML's types than its key requires. For a list, the path is that of the item, or that of the
-    /// list if its items are tables.
+    /// A value has another TOML type than its key requires. For a list the path is that of the item, or that of the list if its items are
+    /// tables.
     Kind(Path),
-    /// A value isn't allowed. The number is the value itself; for a text or a list that of its bytes or items; for a text
-    /// that spells an identifier number which isn't allowed there, the raw number; for a boolean 1.
+    /// A value isn't allowed. The number is
+    /// - the value itself for a number,
+    /// - 1 for a boolean,
+    /// - the number of bytes of a text, or of items of a list,
+    /// - the sixteen bits of an identifier number that a text spells, if it isn't allowed there.
     Range(Path, i64),
-    /// A value occurs for the second time, and may occur once.
+    /// A value occurs for the second time, but may occur only once.
     Twice(Path),
     /// A key has no meaning in its table.
     Unknown(Path),
-    /// There was no memory.
+    /// Out of memory. This is not a refusal.
     Memory,
 }
 
@@ -30,6 +33,7 @@ impl<T: Drop> From<AllocFailed<T>> for BadDocument {
 
     ghost from_gives = { λ _ e. e ≡ Memory };
 
+    // Returns `Memory` for any failed allocation.
     fn from(_e: AllocFailed<T>) -> BadDocument {
         BadDocument::Memory
     }

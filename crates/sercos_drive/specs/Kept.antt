@@ -1,4 +1,4 @@
--- What a drive keeps of the calls so far, and the calls that it stands for. For proofs alone.
+-- The state of a drive, and the calls that led to it. Used in proofs alone.
 use Rattle.std.specs.Prelude.{◌≡◌, ℕ, ◌^◌, ◌-◌, ◌≤◌, Bool, List, length, min}
 use Rattle.std.specs.List.{flat_map}
 use Rattle.sercos_block.specs.declared.block.Block.{Block}
@@ -13,11 +13,12 @@ use Rattle.sercos_drive.specs.declared.slot.Slot.{Slot}
 use Rattle.sercos_drive.specs.Slots.{slot_of, bytes_at}
 use Rattle.sercos_drive.specs.Says.{value_in}
 
--- A slot is that of these blocks, and its feedback values give theirs in each cycle.
+-- the slot is that of these blocks, and its feedback values are theirs in each cycle
 pub record IsSlot (slot : Slot) (blocks : List Block) : Type 0 where
   pub value : slot ≡ slot_of blocks
   pub gives : (cycle : ℕ) → flat_map (bytes_at cycle) slot.feedback.items ≡ flat_map (value_in cycle blocks) (idns_at blocks 16)
 
+-- the state of a drive
 pub record DriveState : Type 0 where
   pub address : ℕ
   pub phase : ℕ
@@ -31,11 +32,11 @@ pub record DriveState : Type 0 where
   pub blocks : List Block
   pub slot : Slot
 
--- a count of 32 bits stops at its end
+-- a count of 32 bits, which stops at its largest value
 abbrev pub counted : ℕ → ℕ
 counted n = min n (2 ^ 32 - 1)
 
--- what is kept are these functions of the moments
+-- the state is these functions of the moments
 pub record KeepsMoments (v : DriveState) (d : DriveView) (rate : ℕ) (past : List Moment) : Type 0 where
   pub address_is : v.address ≡ d.address
   pub phase_is : v.phase ≡ phase_in past
@@ -53,6 +54,7 @@ pub record KeepsMoments (v : DriveState) (d : DriveView) (rate : ℕ) (past : Li
   pub in_order : AreInOrder (calls_in past)
   pub order : newest_cycle (calls_in past) ≤ cycle_in past
 
--- The drive stands for these calls since it was opened with this setup, in a ring of this rate.
+-- The state is that after these calls, since the drive was opened with this setup, in a ring of
+-- this rate.
 abbrev pub DriveStandsFor : DriveState → DriveView → ℕ → List DriveCall → Type 0
 DriveStandsFor v d rate h = KeepsMoments v d rate (annals d rate h)

@@ -1,8 +1,9 @@
-pub mod Heard
-pub mod Moments
 pub mod Annals
+pub mod Clauses
+pub mod Heard
+pub mod Kept
+pub mod Laws
+pub mod Moments
 pub mod Says
 pub mod Slots
-pub mod Kept
 pub mod Steps
-pub mod Laws

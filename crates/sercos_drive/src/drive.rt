@@ -1,24 +1,10 @@
 // A drive of the ring.
-ghost use Rattle.std.specs.Prelude.{◌≡◌, ℕ, ◌+◌, ◌<◌, ◌≤◌, ◌==◌, nat_le, Bool, not, ◌&&◌, ◌||◌, if◌then◌else◌, List, [], ◌∷◌, ◌++◌, length, Option, Some, None, is_some, option_map, true, IfOk, IfSome};
-ghost use Rattle.std.specs.Option.{option_copied};
-ghost use Rattle.sercos_block.specs.Views.{DriveView};
-ghost use Rattle.sercos_block.specs.Rules.{blocks_fault};
-ghost use Rattle.sercos_telegram.specs.Spells.{at_content};
-ghost use Rattle.sercos_command.specs.Calls.{CommandHistory};
-ghost use Rattle.sercos_command.specs.Kept.{newest_cycle, AreInOrder, CommandsStandFor};
-ghost use Rattle.sercos_service_drive.specs.Log.{Processed, processed_record};
-ghost use Rattle.sercos_service_drive.specs.Writes.{AreThose};
-ghost use Rattle.sercos_service_drive.specs.Kept.{ChannelStandsFor};
-ghost use Rattle.sercos_drive.specs.Heard.{DriveCall, Mst, Mdt, Restart, mdt_got};
-ghost use Rattle.sercos_drive.specs.Moments.{unless_phase_0};
-ghost use Rattle.sercos_drive.specs.Annals.{cycle_at, phase_at, writes_at, store_at};
-ghost use Rattle.sercos_drive.specs.Says.{Said, start_in, values_in, drive_says};
-ghost use Rattle.sercos_drive.specs.Kept.{IsSlot, counted, DriveStandsFor};
-ghost use Rattle.sercos_drive.specs.Steps.{may_rise_by, goes_to, record_by, processed_by, ends_with, IsEntered, IsProcessed};
+ghost use Rattle.std.specs.Prelude.{◌≡◌, ℕ, ◌+◌, ◌<◌, ◌≤◌, ◌==◌, nat_le, not, ◌&&◌, ◌||◌, List, [], ◌∷◌, ◌++◌, length, Option, Some, None, is_some, option_map, true, IfOk, IfSome};
+ghost use Rattle.sercos_drive.specs.Clauses.{option_copied, DriveView, blocks_fault, at_content, CommandHistory, newest_cycle, AreInOrder, CommandsStandFor, Processed, AreThose, ChannelStandsFor, DriveCall, Mst, Mdt, Restart, mdt_got, cycle_at, phase_at, writes_at, store_at, start_in, values_in, drive_says, IsSlot, counted, DriveStandsFor, may_rise_by, goes_to, record_by, processed_by, ends_with, IsEntered, IsProcessed};
 
 use crate::feedback::push_feedback;
 use crate::hearing::{Told, mdt_got, mst_got};
-use crate::slot::{Slot, renew, slot_of};
+use crate::slot::{Slot, slot_of};
 use sercos_bits::Content;
 use sercos_block::{DriveSetup, Store};
 use sercos_command::Commands;
@@ -28,27 +14,27 @@ use sercos_timing::limits::EARLY_AT;
 use std::alloc::{AllocError, Global};
 use std::marker::Model;
 
-/// A drive of a ring (IEC 61491:1995; the rules of its falls and of the checks are this profile's). It stands for the calls of
-/// [`hear_mst`](Drive::hear_mst), [`hear_mdt`](Drive::hear_mdt) and [`restart`](Drive::restart) since it was opened, and each
-/// call holds for every such list of calls.
+/// A drive of a ring (IEC 61491:1995; the rules for its falls to phase 0 and for the transition checks are this profile's). Contracts state
+/// what it does by the calls of [`hear_mst`](Drive::hear_mst), [`hear_mdt`](Drive::hear_mdt) and [`restart`](Drive::restart) since it was
+/// opened, and hold for every list of them.
 ///
-/// In each cycle `hear_mst` comes first, then [`at`](Drive::at), then `hear_mdt`; `restart` comes between two cycles. After
-/// opening no call takes memory.
+/// In each cycle `hear_mst` is called first, then [`at`](Drive::at), then `hear_mdt`; `restart` is called between two cycles. After opening
+/// no call takes memory.
 #[derive(Drop)]
 pub struct Drive {
     address: u8,
     phase: u8,
-    // the cycle of the newest MST's place, and whether the MST was got there
+    // the cycle of the newest MST's time slot, and whether the MST was received in it
     cycle: u32,
     got: bool,
-    // whether an MDT was taken at the newest MDT's place, and whether none was in phase 3 or 4
+    // whether an MDT was accepted in the newest MDT's time slot, and whether it was missing in phase 3 or 4
     took: bool,
     missed: bool,
     writes: u32,
     channel: DriveChannel,
     commands: Commands,
     store: Store,
-    // what the telegrams of phases 3 and 4 follow in the store
+    // what the store configures of the telegrams of phases 3 and 4
     slot: Slot,
 }
 
@@ -76,7 +62,7 @@ impl Model for Drive {
     ghost invariant = { λ d. (d.phase ≤ 4) × (are_commands_of d.store d.commands ≡ true) × (4 ≤ d.slot.record_len) };
 }
 
-// Replaces the content by an AT without values.
+// Replaces the content by an AT without values: its address, status word and information word, five bytes.
 fn begin_at(address: u8, status: Status, info: u16, out: &mut Content)
     ensures begun { (values : List ℕ) → out.new ++ values ≡ at_content address status info values }
     ensures len { length out.new ≡ 5 }
@@ -91,8 +77,8 @@ fn begin_at(address: u8, status: Status, info: u16, out: &mut Content)
 }
 
 impl Drive {
-    /// Opens a drive in phase 0, in a ring of this rate in Mbit/s. Its own data blocks are at most 36, and ones that
-    /// [`check_blocks`](sercos_block::check_blocks) takes. The error is `AllocError`.
+    /// Opens a drive in phase 0, in a ring with a rate in bits per microsecond. Its own data blocks are at most 36 that
+    /// [`check_blocks`](sercos_block::check_blocks) accepts. The error is `AllocError`.
     pub fn open(alloc: Global, setup: &DriveSetup, rate: u8) -> Result<Drive, AllocError>
         requires blocks { blocks_fault [] setup.now.blocks ≡ None }
         requires few { length setup.now.blocks ≤ 36 }
@@ -115,8 +101,9 @@ impl Drive {
         })
     }
 
-    // Returns whether the check for a rise to this phase is passed in a cycle.
-    fn has_passed(&self, cycle: u32, phase: u8) -> bool
+    // Returns whether the drive may rise to this phase in a cycle: the phase is at most 2, or its transition check counts as passed. The
+    // calls on the procedure commands are in the order of their cycles, and `cycle` isn't before the newest. Any phase above 3 counts as 4.
+    fn may_rise_to(&self, cycle: u32, phase: u8) -> bool
         ensures { (c : CommandHistory) → CommandsStandFor self.now.commands c → AreInOrder c.calls → newest_cycle c.calls ≤ cycle → result ≡ may_rise_by c cycle phase }
     {
         phase <= 2
@@ -127,7 +114,10 @@ impl Drive {
             }
     }
 
-    // Returns the phase of the drive after the MST's place of a cycle, with the phase that the MST commands, if one was got.
+    // Returns the phase of the drive after the MST's time slot of a cycle. `commanded` is the phase, 0 to 4, that the MST commands, `None`
+    // without an MST. The result is that phase if it is the drive's, or the next higher one and the drive may rise to it; otherwise 0.
+    // Without an MST it is the drive's phase if the MST before it was received, otherwise 0. The calls on the procedure commands are in the
+    // order of their cycles, and `cycle` isn't before the newest.
     fn stands_in(&self, cycle: u32, commanded: Option<u8>) -> u8
         requires { IfSome commanded (λ phase. phase ≤ 4) }
         ensures value { (c : CommandHistory) → CommandsStandFor self.now.commands c → AreInOrder c.calls → newest_cycle c.calls ≤ cycle → result ≡ goes_to self.now c cycle commanded }
@@ -135,9 +125,9 @@ impl Drive {
     {
         match commanded {
             Some(phase) => {
-                if phase == self.phase {
-                    phase
-                } else if phase == self.phase + 1 && self.has_passed(cycle, phase) {
+                if phase == self.phase
+                    || phase == self.phase + 1 && self.may_rise_to(cycle, phase)
+                {
                     phase
                 } else {
                     0
@@ -147,7 +137,7 @@ impl Drive {
         }
     }
 
-    // Moves to a phase.
+    // Moves to a phase, 0 to 4. Phase 0 resets the service channel and the procedure commands. All else is unchanged.
     fn enter(&mut self, phase: u8)
         requires { phase ≤ 4 }
         ensures { IsEntered self.old self.new phase }
@@ -159,29 +149,23 @@ impl Drive {
         }
     }
 
-    // Ends the MST's place of a cycle: whether the MST was got, and the phase after it.
-    fn begin(&mut self, cycle: u32, got: bool, phase: u8)
-        requires { phase ≤ 4 }
-        ensures { IsEntered (record self.old { cycle = cycle; got = got }) self.new phase }
-    {
-        self.cycle = cycle;
-        self.got = got;
-        self.enter(phase);
-    }
-
-    /// Processes what arrived at the MST's place of a cycle, the content of a frame if there was one, and moves the phase: the
-    /// drive stays in the commanded phase, rises to it by one (to 3 and 4 only with the check passed), or goes to 0. Without an
-    /// MST it stays, and goes to 0 at the second one in a row. The cycle isn't below that of an earlier call.
+    /// Processes what arrived in the MST's time slot of a cycle: the content of a frame, `None` if there was no frame. The phase then is
+    /// the commanded one if that is the drive's or the next higher one (3 and 4 only with the check passed), otherwise 0. A content that is
+    /// no MST counts as none. Without an MST the phase is unchanged, but 0 after the second missing MST in a row. `cycle` isn't below that
+    /// of an earlier call.
     pub fn hear_mst(&mut self, cycle: u32, content: Option<&[u8]>)
         ensures { (d : DriveView) (rate : ℕ) (h : List DriveCall) → DriveStandsFor self.old d rate h → cycle_at d rate h ≤ cycle →
             DriveStandsFor self.new d rate (Mst cycle (option_copied content.entry) ∷ h) }
     {
         let commanded = mst_got(content);
         let phase = self.stands_in(cycle, commanded);
-        self.begin(cycle, commanded.is_some(), phase);
+        self.cycle = cycle;
+        self.got = commanded.is_some();
+        self.enter(phase);
     }
 
-    // When the AT starts, in microseconds after the MST's end.
+    // Returns the start of the AT, in microseconds after the MST's end: in phases 3 and 4 S-0-0006, if the slot is that of the data blocks,
+    // otherwise 300.
     fn start(&self) -> u16
         ensures { IsSlot self.now.slot self.now.blocks → result ≡ start_in self.now.phase self.now.blocks }
     {
@@ -192,7 +176,8 @@ impl Drive {
         }
     }
 
-    // Appends the feedback values of the AT to the five bytes with which it begins.
+    // Appends the feedback values of the AT to `out`, which has at most its first five bytes; in phases 0 to 2 there are none. The values
+    // are those of the data blocks if the slot is.
     fn push_values(&self, out: &mut Content)
         requires { length out.old ≤ 5 }
         ensures value { IsSlot self.now.slot self.now.blocks → out.new ≡ out.old ++ values_in self.now.cycle self.now.phase self.now.blocks }
@@ -203,15 +188,16 @@ impl Drive {
         }
     }
 
-    // Returns whether an AT is sent.
+    // Returns whether the drive sends an AT in this cycle: the MST was received, and the phase is 3 or 4, or it is 1 or 2 and an MDT was
+    // accepted in the newest MDT's time slot.
     fn sends(&self) -> bool
         ensures { result ≡ (self.now.got && (nat_le 3 self.now.phase || (nat_le 1 self.now.phase && self.now.took))) }
     {
         self.got && (3 <= self.phase || 1 <= self.phase && self.took)
     }
 
-    /// Returns when this cycle's AT starts, in microseconds after the MST's end, after its `hear_mst`. `None` if the drive sends
-    /// none. It is what [`at`](Drive::at) returns, without the content.
+    /// Returns the start of this cycle's AT, in microseconds after the MST's end; `None` if the drive sends none. It is called after the
+    /// cycle's `hear_mst`. The result is that of [`at`](Drive::at), without the content.
     pub fn at_start(&self) -> Option<u16>
         ensures { (d : DriveView) (rate : ℕ) (h : List DriveCall) → DriveStandsFor self.now d rate h →
             result ≡ option_map (λ s. s.start) (drive_says d rate h) }
@@ -223,9 +209,9 @@ impl Drive {
         }
     }
 
-    /// Writes the content of this cycle's AT, after its `hear_mst`, and returns its start in microseconds after the MST's
-    /// end. `None` if the drive sends none, and then `out` stays as it was: without this cycle's MST, in phase 0, and in
-    /// phases 1 and 2 where it took no MDT in the cycle before.
+    /// Replaces `out` by the content of this cycle's AT, and returns its start in microseconds after the MST's end. It is called after the
+    /// cycle's `hear_mst`. With an AT, `out` is not empty. If the drive sends no AT, the result is `None`, and `out` is unchanged: without
+    /// this cycle's MST, in phase 0, and in phases 1 and 2 if it accepted no MDT in the cycle before.
     pub fn at(&self, out: &mut Content) -> Option<u16>
         ensures said { (d : DriveView) (rate : ℕ) (h : List DriveCall) → DriveStandsFor self.now d rate h →
             option_map (λ start. record { start = start; content = out.new }) result ≡ drive_says d rate h }
@@ -241,30 +227,15 @@ impl Drive {
         Some(self.start())
     }
 
-    // What the drive gets of the content that arrived at the MDT's place.
-    fn told(&self, content: Option<&[u8]>) -> Option<Told>
-        ensures { IsSlot self.now.slot self.now.blocks → result ≡ mdt_got self.now.address self.now.phase self.now.blocks (option_copied content.entry) }
-    {
-        mdt_got(self.address, self.phase, &self.slot, content)
-    }
-
-    // Returns whether an MDT is taken, if one was got.
+    // Returns whether the drive accepts an MDT of which it read this: it read a record, this cycle's MST was received, and the phase isn't
+    // 0.
     fn takes(&self, told: Option<Told>) -> bool
         ensures { result ≡ (self.now.got && (nat_le 1 self.now.phase && is_some told)) }
     {
         self.got && 1 <= self.phase && told.is_some()
     }
 
-    // Counts a write, if one took effect.
-    fn count(&mut self, added: bool)
-        ensures { self.new ≡ record self.old { writes = if added then counted (self.old.writes + 1) else self.old.writes } }
-    {
-        if added {
-            self.writes = self.writes.saturating_add(1);
-        }
-    }
-
-    // Hands a record to the service channel, in phases 2 to 4.
+    // Passes a record to the service channel, in phases 2 to 4, the phase of the drive, and updates the slot and the count of writes.
     fn process(&mut self, told: &Told)
         requires { 2 ≤ self.old.phase }
         ensures { (busy : ℕ) (h : List Processed) (c : CommandHistory) → ChannelStandsFor self.old.channel busy h → AreThose self.old.blocks h →
@@ -278,18 +249,21 @@ impl Drive {
             &mut self.store,
             &mut self.commands,
         );
-        renew(added, &mut self.slot, &self.store);
-        self.count(added);
+        if added {
+            self.slot = slot_of(&self.store);
+            self.writes = self.writes.saturating_add(1);
+        }
     }
 
-    // Returns whether a record is processed.
+    // Returns whether a record of this cycle is passed to the service channel: the MST was received, and the phase is 2 to 4.
     fn processes(&self) -> bool
         ensures { result ≡ (self.now.got && nat_le 2 self.now.phase) }
     {
         self.got && 2 <= self.phase
     }
 
-    // Notes the MDT's place with the record of an MDT, if there is one that is to be processed.
+    // Passes the record of an MDT to the service channel, if there is one, this cycle's MST was received, and the phase is 2 to 4.
+    // Otherwise nothing changes.
     fn process_if(&mut self, told: Option<Told>)
         ensures { (busy : ℕ) (h : List Processed) (c : CommandHistory) → ChannelStandsFor self.old.channel busy h → AreThose self.old.blocks h →
             CommandsStandFor self.old.commands c → IsProcessed self.old self.new busy c (processed_by self.old c told) h }
@@ -301,7 +275,8 @@ impl Drive {
         }
     }
 
-    // Ends the MDT's place: whether an MDT was taken there.
+    // Ends the MDT's time slot: stores whether an MDT was accepted, and falls to phase 0 after the second missing MDT in a row in phases 3
+    // and 4.
     fn end(&mut self, took: bool)
         ensures { IsEntered (record self.old { took = took; missed = nat_le 3 self.old.phase && not took }) self.new (ends_with self.old took) }
     {
@@ -313,24 +288,24 @@ impl Drive {
         self.enter(phase);
     }
 
-    /// Processes what arrived at the MDT's place of this cycle, the content of a frame if there was one. An MDT is taken if this
-    /// cycle's MST was got and the phase isn't 0: in phases 1 and 2 the MDT to its address, in phases 3 and 4 its record at
-    /// S-0-0009. From phase 2 on the record goes to the service channel. After two cycles in a row of phases 3 and 4 without a
-    /// taken MDT the drive goes to phase 0.
+    /// Processes what arrived in the MDT's time slot of this cycle: the content of a frame, `None` if there was no frame. An MDT is
+    /// accepted if this cycle's MST was received and the phase isn't 0: in phases 1 and 2 the MDT to the drive's address, in phases 3 and 4
+    /// the drive's record at position S-0-0009. From phase 2 on the record is passed to the service channel. After two cycles in a row in
+    /// phases 3 and 4 without an accepted MDT the drive falls to phase 0.
     pub fn hear_mdt(&mut self, content: Option<&[u8]>)
         ensures { (d : DriveView) (rate : ℕ) (h : List DriveCall) → DriveStandsFor self.old d rate h →
             DriveStandsFor self.new d rate (Mdt (option_copied content.entry) ∷ h) }
     {
-        // what was written so far has left the blocks alike, as the channel requires
+        // by this law the blocks differ in their operation data alone, as the channel requires
         writes_law();
-        let told = self.told(content);
+        let told = mdt_got(self.address, self.phase, &self.slot, content);
         let took = self.takes(told);
         self.process_if(told);
         self.end(took);
     }
 
-    /// Restarts between two cycles: the drive is in phase 0, its channel, procedure commands, passed checks and notes are
-    /// cleared. The data blocks and the number of writes stay.
+    /// Restarts the drive between two cycles: it is in phase 0, and its channel, procedure commands, passed checks, and the MST and MDTs
+    /// received are cleared. The data blocks and the number of writes are unchanged.
     pub fn restart(&mut self)
         ensures { (d : DriveView) (rate : ℕ) (h : List DriveCall) → DriveStandsFor self.old d rate h → DriveStandsFor self.new d rate (Restart ∷ h) }
     {
@@ -340,8 +315,8 @@ impl Drive {
         self.enter(0);
     }
 
-    /// Returns the communication phase, 0 to 4: after `hear_mst` that of this cycle, after `hear_mdt` the one with which the next
-    /// cycle begins.
+    /// Returns the communication phase, 0 to 4: after `hear_mst` that of this cycle, after `hear_mdt` that with which the next cycle
+    /// begins.
     pub fn phase(&self) -> u8
         ensures stands { (d : DriveView) (rate : ℕ) (h : List DriveCall) → DriveStandsFor self.now d rate h → result ≡ phase_at d rate h }
         ensures bound { result ≤ 4 }
@@ -356,8 +331,8 @@ impl Drive {
         &self.store
     }
 
-    /// Returns how many writes of operation data took effect since the drive was opened, those to procedure commands among them;
-    /// at most 2^32 - 1, where the count stops.
+    /// Returns the number of writes of operation data that took effect since the drive was opened, with those to procedure commands. The
+    /// count stops at 2^32 - 1.
     pub fn writes(&self) -> u32
         ensures { (d : DriveView) (rate : ℕ) (h : List DriveCall) → DriveStandsFor self.now d rate h → result ≡ counted (length (writes_at d rate h)) }
     {

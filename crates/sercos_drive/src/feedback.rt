@@ -1,8 +1,6 @@
 // The feedback values of an AT.
 ghost use Rattle.std.specs.Prelude.{◌≡◌, ℕ, ◌≤◌, ◌+◌, ◌*◌, ◌++◌, length};
-ghost use Rattle.std.specs.List.{flat_map, filter_map};
-ghost use Rattle.sercos_drive.specs.Slots.{feedback_in, feedback_of, bytes_at, feedback_bytes};
-ghost use Rattle.sercos_drive.specs.Says.{value_in};
+ghost use Rattle.sercos_drive.specs.Clauses.{flat_map, filter_map, feedback_in, feedback_of, bytes_at, feedback_bytes, value_in};
 
 use arrayvec::ArrayVec;
 use sercos_bits::Content;
@@ -14,15 +12,15 @@ use sercos_service_drive::push_grown;
 /// A feedback value: what an AT needs of a block to carry its operation data in any cycle.
 #[derive(Clone, Copy)]
 pub(crate) struct FeedbackValue {
-    /// Whether it has two or four bytes.
+    /// The length of the number: two or four bytes.
     pub kind: Length,
     /// The bits of the operation data.
     pub bits: u32,
-    /// How much the number grows in each cycle.
+    /// What is added to the number in each cycle.
     pub step: u32,
 }
 
-// A number of two bytes that is always 0.
+// The number 0 of two bytes, which fills unused places of the list.
 impl Default for FeedbackValue {
     ghost is_default = { λ _. Unit {0} };
 
@@ -35,7 +33,7 @@ impl Default for FeedbackValue {
     }
 }
 
-// The feedback value of a block, if it is a number.
+// Returns the feedback value of a block; `None` if it isn't a number.
 #[tactic(auto, unfolding(sercos_block::specs::Blocks::element_of))]
 fn feedback_in(block: &Stored) -> Option<FeedbackValue>
     ensures { result ≡ feedback_in block.now }
@@ -52,7 +50,8 @@ fn feedback_in(block: &Stored) -> Option<FeedbackValue>
     })
 }
 
-// The feedback value of an identifier number, if it is that of a number.
+// Returns the feedback value of an identifier number; `None` if it isn't that of a number, built-in or the drive's own. By `gives` its
+// bytes in any cycle are those that the definitions have for the identifier number.
 fn feedback_of(store: &Store, idn: Idn) -> Option<FeedbackValue>
     ensures value { result ≡ feedback_of store.now idn }
     ensures gives { (cycle : ℕ) → feedback_bytes cycle result ≡ value_in cycle store.now idn }
@@ -63,7 +62,8 @@ fn feedback_of(store: &Store, idn: Idn) -> Option<FeedbackValue>
     }
 }
 
-/// Returns the feedback values of identifier numbers. One that isn't that of a number has none.
+/// Returns the feedback values of at most 16 identifier numbers, in order. One that isn't that of a number is left out. By `gives` their
+/// bytes in any cycle are those that the definitions have for the identifier numbers.
 pub(crate) fn feedback_all(store: &Store, idns: &[Idn]) -> ArrayVec<FeedbackValue, 16>
     requires { length idns.now ≤ 16 }
     ensures value { result.items ≡ filter_map (feedback_of store.now) idns.now }
@@ -78,7 +78,7 @@ pub(crate) fn feedback_all(store: &Store, idns: &[Idn]) -> ArrayVec<FeedbackValu
     values
 }
 
-/// Appends feedback values as they are in a cycle, at most sixteen, to the five bytes with which an AT begins.
+/// Appends at most sixteen feedback values, as they are in a cycle, to `out`, which has at most five bytes: those with which an AT begins.
 pub(crate) fn push_feedback(out: &mut Content, values: &[FeedbackValue], cycle: u32)
     requires few { length values.now ≤ 16 }
     requires begun { length out.old ≤ 5 }

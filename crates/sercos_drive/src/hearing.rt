@@ -1,14 +1,11 @@
-// What a drive gets of the contents that arrive.
+// What a drive reads of the contents that arrive.
 ghost use Rattle.std.specs.Prelude.{◌≡◌, ◌≤◌, IfSome, List};
-ghost use Rattle.std.specs.Option.{option_copied};
-ghost use Rattle.sercos_block.specs.declared.block.Block.{Block};
-ghost use Rattle.sercos_drive.specs.Slots.{slot_of};
-ghost use Rattle.sercos_drive.specs.Heard.{mst_in, mst_got, single_in, lies_within, record_in, joint_in, mdt_got};
+ghost use Rattle.sercos_drive.specs.Clauses.{option_copied, Block, slot_of, mst_in, mst_got, single_in, record_in, joint_in, mdt_got};
 
 use crate::slot::Slot;
 use sercos_telegram::{Control, read_joint, read_mst, read_single};
 
-/// What the drive reads of an MDT.
+/// What the drive reads of an MDT: its record's two words.
 #[derive(Clone, Copy, Debug, PartialEq, Eq)]
 pub struct Told {
     /// The control word.
@@ -17,7 +14,7 @@ pub struct Told {
     pub info: u16,
 }
 
-// The phase that an MST commands, if the content spells one.
+// Returns the phase that an MST commands, 0 to 4; `None` if the content is not an MST.
 #[tactic(auto, unfolding(crate::specs::Heard::mst_in))]
 fn mst_in(content: &[u8]) -> Option<u8>
     ensures value { result ≡ mst_in content.now }
@@ -29,7 +26,7 @@ fn mst_in(content: &[u8]) -> Option<u8>
     }
 }
 
-// The phase of the MST that was got, if one was.
+// Returns the phase that the received MST commands; `None` if no MST was received.
 pub(crate) fn mst_got(content: Option<&[u8]>) -> Option<u8>
     ensures value { result ≡ mst_got (option_copied content.entry) }
     ensures bound { IfSome result (λ phase. phase ≤ 4) }
@@ -40,7 +37,7 @@ pub(crate) fn mst_got(content: Option<&[u8]>) -> Option<u8>
     }
 }
 
-// An MDT to the drive of this address.
+// Returns the record of an MDT to the one drive with this address; `None` if the content is not such an MDT.
 #[tactic(auto, unfolding(crate::specs::Heard::single_in))]
 fn single_in(address: u8, content: &[u8]) -> Option<Told>
     ensures { result ≡ single_in address content.now }
@@ -51,19 +48,13 @@ fn single_in(address: u8, content: &[u8]) -> Option<Told>
     }
 }
 
-// Returns whether a record of this length lies within an MDT at this position.
-fn lies_within(mdt_len: u16, position: u16, len: u16) -> bool
-    ensures { result ≡ lies_within mdt_len position len }
-{
-    1 <= position && u32::from(position) + u32::from(len) <= u32::from(mdt_len) + 1
-}
-
-// The record at a position of an MDT to all drives.
+// Returns the record of `len` bytes, at least 4, at a position of an MDT to all drives with `mdt_len` bytes after its address; `None` if
+// the content is not such an MDT, or the record isn't within it. Position 1 is the first byte after the address.
 fn record_in(mdt_len: u16, position: u16, len: u16, content: &[u8]) -> Option<Told>
     requires { 4 ≤ len }
     ensures { result ≡ record_in mdt_len position len content.now }
 {
-    if !lies_within(mdt_len, position, len) {
+    if position < 1 || u32::from(mdt_len) + 1 < u32::from(position) + u32::from(len) {
         return None;
     }
     match read_joint(mdt_len, position, len, content) {
@@ -75,7 +66,7 @@ fn record_in(mdt_len: u16, position: u16, len: u16, content: &[u8]) -> Option<To
     }
 }
 
-// The record of an MDT to all drives that is the drive's own, by its slot.
+// Returns the drive's own record of an MDT to all drives, by its slot, whose record has at least 4 bytes; `None` as for `record_in`.
 fn joint_in(slot: &Slot, content: &[u8]) -> Option<Told>
     requires { 4 ≤ slot.now.record_len }
     ensures { (blocks : List Block) → slot.now ≡ slot_of blocks → result ≡ joint_in blocks content.now }
@@ -83,7 +74,9 @@ fn joint_in(slot: &Slot, content: &[u8]) -> Option<Told>
     record_in(slot.mdt_len, slot.position, slot.record_len, content)
 }
 
-// Returns what the drive gets at the MDT's place, in its phase.
+// Returns the record that the drive reads in the MDT's time slot: in phases 3 and 4 its own of an MDT to all drives, otherwise that of an
+// MDT to its address. `None` if there is no content, if it is not such an MDT, or if in phases 3 and 4 the drive's record isn't within
+// the MDT by S-0-0009 and S-0-0010. The record of the slot has at least 4 bytes.
 pub(crate) fn mdt_got(address: u8, phase: u8, slot: &Slot, content: Option<&[u8]>) -> Option<Told>
     requires { 4 ≤ slot.now.record_len }
     ensures { (blocks : List Block) → slot.now ≡ slot_of blocks → result ≡ mdt_got address phase blocks (option_copied content.entry) }

@@ -1,4 +1,4 @@
-//! A drive of the ring: its phase, what it takes of the MDTs, what it writes, and what it sends.
+//! A drive of the ring (IEC 61491:1995): its phase, the MDTs that it accepts, its writes, and the ATs that it sends.
 #![tactic(auto)]
 
 mod drive;

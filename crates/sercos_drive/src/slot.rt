@@ -1,6 +1,6 @@
-// What a drive keeps of the data blocks that its telegrams of phases 3 and 4 follow.
-ghost use Rattle.std.specs.Prelude.{◌≡◌, ◌≤◌, true, false};
-ghost use Rattle.sercos_drive.specs.Kept.{IsSlot};
+// The data blocks that configure a drive's telegrams in phases 3 and 4, as last read.
+ghost use Rattle.std.specs.Prelude.{◌≤◌};
+ghost use Rattle.sercos_drive.specs.Clauses.{IsSlot};
 
 use crate::feedback::{FeedbackValue, feedback_all};
 use arrayvec::ArrayVec;
@@ -8,22 +8,22 @@ use sercos_block::Store;
 use sercos_block::numbers::{AT_LIST, MDT_LENGTH, MDT_LIST, POSITION, T1};
 use sercos_command::{carried_len, idns_at, number_at};
 
-/// When a drive's AT starts and what it carries, and where its record is in the MDT, in phases 3 and 4.
+/// The start and the values of a drive's AT, and the place of its record in the MDT, in phases 3 and 4.
 #[derive(Drop)]
 pub(crate) struct Slot {
-    /// The start of the AT, in microseconds after the MST's end.
+    /// The start of the AT, S-0-0006, in microseconds after the MST's end.
     pub start: u16,
-    /// The bytes of the MDT after its address.
+    /// The number of bytes of the MDT after its address, S-0-0010.
     pub mdt_len: u16,
-    /// The position of the record; 1 is that of the first byte after the address.
+    /// The position of the record in the MDT, S-0-0009; 1 is the first byte after the address.
     pub position: u16,
-    /// The bytes of the record.
+    /// The number of bytes of the record: two words, and the command values in S-0-0024.
     pub record_len: u16,
-    /// What the AT carries after its two words.
+    /// The values that the AT carries after its two words, those in S-0-0016.
     pub feedback: ArrayVec<FeedbackValue, 16>,
 }
 
-/// Returns the slot that the data blocks define.
+/// Returns the slot that the data blocks define. Its record has at least 4 bytes.
 pub(crate) fn slot_of(store: &Store) -> Slot
     ensures slot { IsSlot result store.now }
     ensures bound { 4 ≤ result.record_len }
@@ -34,17 +34,5 @@ pub(crate) fn slot_of(store: &Store) -> Slot
         position: number_at(store, POSITION) as u16,
         record_len: carried_len(store, MDT_LIST) as u16,
         feedback: feedback_all(store, idns_at(store, AT_LIST).as_slice()),
-    }
-}
-
-/// Reads the slot anew after a record that wrote. No other record changes it.
-pub(crate) fn renew(wrote: bool, slot: &mut Slot, store: &Store)
-    requires { 4 ≤ slot.old.record_len }
-    ensures anew { wrote ≡ true → IsSlot slot.new store.now }
-    ensures same { wrote ≡ false → slot.new ≡ slot.old }
-    ensures bound { 4 ≤ slot.new.record_len }
-{
-    if wrote {
-        *slot = slot_of(store);
     }
 }

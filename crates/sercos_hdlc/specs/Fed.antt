@@ -1,4 +1,4 @@
--- What a reader of a frame's pieces has of the bits that it has taken.
+-- A reader of a frame's pieces, and the bits that it has taken.
 use Rattle.std.specs.Prelude.{ℕ, Bool, List}
 use Rattle.sercos_hdlc.specs.declared.deframer.Deframer.{Deframer}
 use Rattle.sercos_hdlc.specs.Scanned.{IsScan}
@@ -8,7 +8,7 @@ use Rattle.sercos_hdlc.specs.Held.{IsKept}
 abbrev pub taken_of : Deframer → ℕ
 taken_of reader = reader.scan.taken
 
--- these bits were taken since it began
+-- the reader has taken these bits since it was made or last started over
 pub record IsFed (bits : List Bool) (reader : Deframer) : Type 0 where
   pub plain : List Bool
   pub scan : IsScan bits plain reader.scan

@@ -5,7 +5,7 @@ use Rattle.sercos_hdlc.specs.declared.given.Given.{Given}
 use Rattle.sercos_hdlc.specs.Reason.{unstuffed}
 use Rattle.sercos_hdlc.specs.Sought.{ones_after, has_six, sixth_at, dropped_after}
 
--- after k ones in a row the bits contain no sixth one, and add this
+-- after k ones in a row the bits contain no sixth one, and add these plain bits and this state
 pub record IsGiven (k : ℕ) (bits : List Bool) (given : Given) : Type 0 where
   pub no_six : has_six k bits ≡ false
   pub plain : low_bits given.count given.bits ≡ unstuffed k bits
@@ -17,7 +17,8 @@ pub record IsGiven (k : ℕ) (bits : List Bool) (given : Given) : Type 0 where
 abbrev pub before_sixth : ℕ → List Bool → List Bool
 before_sixth k bits = take (sixth_at k bits) bits
 
--- after k ones in a row the bits contain a sixth one, and those before it add this
+-- after k ones in a row the bits contain a sixth one, and those before it add these plain bits and
+-- this state
 pub record IsEnd (k : ℕ) (bits : List Bool) (given : Given) : Type 0 where
   pub six : has_six k bits ≡ true
   pub plain : low_bits given.count given.bits ≡ unstuffed k (before_sixth k bits)
@@ -25,12 +26,14 @@ pub record IsEnd (k : ℕ) (bits : List Bool) (given : Given) : Type 0 where
   pub place : given.count + given.ones ≡ 6 + sixth_at k bits
   pub last_zero : (before : Bool) → cond (sixth_at k bits + k == 5) before given.dropped ≡ dropped_after k before (before_sixth k bits)
 
--- the parts of a table's entry: the plain bits, their number, the ones at the end, and whether the last zero is an inserted one
+-- the parts of a table's entry: the plain bits, their number, the ones at the end, and whether the
+-- last zero is an inserted one
 abbrev pub parts_of : ℕ → ℕ × ℕ × ℕ × Bool
 parts_of entry = (entry % 256, entry / 256 % 16, entry / 4096 % 8, entry / 32768 == 1)
 
--- What they are after k ones in a row, where the last zero before was an inserted one or not. With a sixth one, they are those of the
--- bits before it, and 6 or 7 takes the place of the ones: 7 if a zero among these bits is an inserted one.
+-- The parts for bits after k ones in a row; `before` is whether the last zero before them is an
+-- inserted one. With a sixth one, they are the parts of the bits before it, and instead of the ones
+-- 6, or 7 if a zero among these bits is an inserted one.
 abbrev pub given_of : Bool → ℕ → List Bool → ℕ × ℕ × ℕ × Bool
 given_of before k bits =
     cond (has_six k bits)

@@ -5,7 +5,8 @@ use Rattle.sercos_hdlc.specs.declared.group.Group.{Group}
 use Rattle.sercos_hdlc.specs.Reason.{unstuffed}
 use Rattle.sercos_hdlc.specs.Sought.{ones_after, has_six, dropped_after}
 
--- After k ones in a row, with the last zero an inserted one or not, the bits contain no sixth one, and add this.
+-- After k ones in a row the bits contain no sixth one, and add these plain bits and this state;
+-- `before` is whether the last zero before them is an inserted one.
 pub record IsGroup (k : ℕ) (before : Bool) (bits : List Bool) (group : Group) : Type 0 where
   pub no_six : has_six k bits ≡ false
   pub plain : low_bits group.count group.bits ≡ unstuffed k bits

@@ -1,3 +1,4 @@
+pub mod Clauses
 pub mod Enclosed
 pub mod Fed
 pub mod Given

@@ -1,5 +1,5 @@
--- Why a list of bits is not a frame: the first of nine rules that applies. The rules speak of the whole
--- list.
+-- Why a list of bits is not a frame: the first of nine rules that applies. Each rule is about the
+-- whole list.
 use Rattle.std.specs.Prelude.{ℕ, suc, ◌+◌, ◌-◌, ◌/◌, ◌%◌, ◌==◌, nat_lt, nat_le, Bool, true, false, not, ◌||◌, cond, List, [], ◌∷◌, length, take, drop, slice_index_or, Option, Some, None}
 use Rattle.std.specs.Option.{option_or}
 use Rattle.sercos_model.specs.Bits.{number_of, bytes_of}
@@ -27,7 +27,7 @@ unfoldable pub ends_in_five : List Bool → Bool
 ends_in_five [] = false
 ends_in_five (bit ∷ bits) = is_five (bit ∷ bits) || ends_in_five bits
 
--- the least place at which six ones occur in a row, or the list's length without them
+-- the least offset at which six ones in a row begin, or the list's length without them
 unfoldable pub six_place : List Bool → ℕ
 six_place [] = 0
 six_place (bit ∷ bits) = cond (begins_with_six (bit ∷ bits)) 0 (suc (six_place bits))
@@ -38,11 +38,12 @@ unstuffed k [] = []
 unstuffed k (true ∷ bits) = true ∷ unstuffed (suc k) bits
 unstuffed k (false ∷ bits) = cond (k == 5) (unstuffed 0 bits) (false ∷ unstuffed 0 bits)
 
--- where the first six ones after the opening flag are, or the list's length without them
+-- the offset of the first six ones in a row after the opening flag, or the list's length without
+-- them
 abbrev pub ones_at : List Bool → ℕ
 ones_at bits = 8 + six_place (drop 8 bits)
 
--- where the closing flag begins
+-- the offset at which the closing flag begins: the bit before the six ones
 abbrev pub closing_at : List Bool → ℕ
 closing_at bits = ones_at bits - 1
 
@@ -54,26 +55,27 @@ body bits = take (closing_at bits - 8) (drop 8 bits)
 abbrev pub plain : List Bool → List Bool
 plain bits = unstuffed 0 (body bits)
 
--- of the plain bits: the content, and the check sequence after it, which has the last sixteen
+-- the content that plain bits spell: all bits but the last sixteen
 abbrev pub content_of : List Bool → List ℕ
 content_of bits = bytes_of (take (length bits - 16) bits)
 
+-- the check sequence that plain bits spell: the last sixteen bits
 abbrev pub found_in : List Bool → ℕ
 found_in bits = number_of (drop (length bits - 16) bits)
 
--- the reason, where its test is met
+-- the reason if its test is met, otherwise none
 unfoldable pub given : Bool → BadFrame → Option BadFrame
 given test reason = cond test (Some reason) None
 
--- the nine rules
+-- The nine rules. The list doesn't begin with the flag.
 abbrev pub no_open : List Bool → Option BadFrame
 no_open bits = given (not (opens bits)) bad.NoOpen
 
--- there are no six ones, or the list ends after them
+-- there are no six ones in a row, or the list ends with the first six
 abbrev pub no_close : List Bool → Option BadFrame
 no_close bits = given (nat_le (length bits) (ones_at bits + 6)) (bad.NoClose (length bits))
 
--- the six ones touch the opening flag, or a seventh follows them
+-- the six ones follow the opening flag at once, or a seventh follows them
 abbrev pub runs_on : List Bool → Option BadFrame
 runs_on bits = given ((ones_at bits == 8) || slice_index_or bits (ones_at bits + 6) false) (bad.Abort (ones_at bits))
 
@@ -81,29 +83,35 @@ runs_on bits = given ((ones_at bits == 8) || slice_index_or bits (ones_at bits +
 abbrev pub zero_missing : List Bool → Option BadFrame
 zero_missing bits = given (ends_in_five (body bits)) (bad.Abort (closing_at bits))
 
+-- the plain bits are not whole bytes
 abbrev pub ragged : List Bool → Option BadFrame
 ragged plain = given (not (length plain % 8 == 0)) (bad.Ragged (length plain))
 
+-- the plain bits are fewer than three bytes
 abbrev pub short : List Bool → Option BadFrame
 short plain = given (nat_lt (length plain / 8) 3) (bad.Short (length plain / 8))
 
+-- the plain bits are more than 2050 bytes
 abbrev pub long : List Bool → Option BadFrame
 long plain = given (nat_lt 2050 (length plain / 8)) (bad.Long (length plain / 8))
 
+-- the check sequence received is not the one computed
 abbrev pub check_differs : List Bool → Option BadFrame
 check_differs plain = given (not (found_in plain == fcs_of (content_of plain))) (bad.Check (found_in plain) (fcs_of (content_of plain)))
 
+-- bits follow the closing flag
 abbrev pub after : List Bool → Option BadFrame
 after bits = given (nat_lt (closing_at bits + 8) (length bits)) (bad.After (closing_at bits + 8))
 
--- the rules on the places of the flags, and those on the plain bits between them
+-- the first rule on the flags that applies
 unfoldable pub unclosed : List Bool → Option BadFrame
 unclosed bits = option_or (no_open bits) (option_or (no_close bits) (runs_on bits))
 
+-- the first rule on the plain bits between the flags that applies
 unfoldable pub unreadable : List Bool → Option BadFrame
 unreadable plain = option_or (ragged plain) (option_or (short plain) (option_or (long plain) (check_differs plain)))
 
--- why the bits are no frame: the first of the nine rules that applies, and nothing where none does
+-- why the bits are no frame: the first of the nine rules that applies, or `None` if no rule does
 unfoldable pub reason_of : List Bool → Option BadFrame
 reason_of bits =
     option_or (unclosed bits) (option_or (zero_missing bits) (option_or (unreadable (plain bits)) (after bits)))

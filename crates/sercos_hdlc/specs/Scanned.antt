@@ -1,10 +1,10 @@
--- What a reader knows of the bits that it has taken.
+-- The state of a reader after the bits that it has taken.
 use Rattle.std.specs.Prelude.{◌≡◌, ◌⊎◌, Bool, List, length, drop}
 use Rattle.sercos_model.specs.Frames.{flag}
 use Rattle.sercos_hdlc.specs.declared.scan.Scan.{Scan}
 use Rattle.sercos_hdlc.specs.Sought.{agree, IsSought, IsFound}
 
--- the scan has reached the end of the bits, which spell these plain bits
+-- the state is that after the bits, of which those from the ninth on spell these plain bits
 pub record IsScan (bits plain : List Bool) (scan : Scan) : Type 0 where
   pub taken_all : scan.taken ≡ length bits
   pub flag_first : scan.agrees ≡ agree bits flag

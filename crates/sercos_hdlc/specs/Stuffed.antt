@@ -6,11 +6,11 @@ use Rattle.std.specs.Prelude.{ℕ, suc, ◌==◌, Bool, false, not, ◌&&◌, co
 abbrev pub is_fifth : ℕ → Bool → Bool
 is_fifth ones bit = bit && (ones == 4)
 
--- what is sent for the bit
+-- what is sent for a bit after `ones` ones in a row: the bit, and a zero after a fifth one
 abbrev pub sent_for : ℕ → Bool → List Bool
 sent_for ones bit = cond (is_fifth ones bit) (bit ∷ false ∷ []) (bit ∷ [])
 
--- the ones in a row that then end what was sent
+-- the number of ones in a row at the end of what was sent for the bit; 0 after an inserted zero
 abbrev pub ones_behind : ℕ → Bool → ℕ
 ones_behind ones bit = cond (bit && not (is_fifth ones bit)) (suc ones) 0
 

@@ -1,11 +1,7 @@
+// A reader of a frame whose bits arrive in pieces. A function that takes bits requires that the reader has then taken at most 2^31 since it
+// last started over. If the reader has taken some bits before the call (`IsFed`), it has taken these and the new ones after it.
 ghost use Rattle.std.specs.Prelude.{◌≡◌, ℕ, ◌+◌, ◌*◌, ◌^◌, ◌<◌, ◌≤◌, Bool, false, cond, List, [], ◌∷◌, ◌++◌, length, take, drop, slice_index_or, Ok, IfOk, OnOk, OnErr};
-ghost use Rattle.std.specs.Result.{result_err};
-ghost use Rattle.sercos_model.specs.Bits.{low_bits, bits_of};
-ghost use Rattle.sercos_model.specs.Frames.{IsFrame};
-ghost use Rattle.sercos_hdlc.specs.Reason.{content_of, plain, reason_of};
-ghost use Rattle.sercos_hdlc.specs.Fed.{taken_of, IsFed};
-ghost use Rattle.sercos_hdlc.specs.Given.{IsGiven, IsEnd};
-ghost use Rattle.sercos_hdlc.specs.Grouped.{IsGroup};
+ghost use Rattle.sercos_hdlc.specs.Clauses.{result_err, low_bits, bits_of, IsFrame, content_of, plain, reason_of, taken_of, IsFed, IsEnd, IsGroup};
 
 use crate::bad_frame::BadFrame;
 use crate::given::{Given, given_by};
@@ -18,19 +14,20 @@ use sercos_bits::{BitBuf, Content};
 // The bits of a byte.
 const BYTE_BITS: usize = 8;
 
-// The bits of the opening flag, and the most ones in a row before the first six.
+// The length of the opening flag, in bits.
 const OPENING: u32 = 8;
 
+// The ones in a row after which a zero was inserted. A further one is the sixth, of a flag.
 const FIVE: u8 = 5;
 
-// Returns whether the last zero was an inserted one; without a new zero, the value from before.
+// Returns whether the last zero was an inserted one: `before` if there is no new zero (`is_kept`), otherwise `dropped`.
 fn last_zero(is_kept: bool, before: bool, dropped: bool) -> bool
     ensures { result ≡ cond is_kept before dropped }
 {
     if is_kept { before } else { dropped }
 }
 
-// The bit of a byte at a place among its first `len`, or false.
+// Returns bit `place` of a byte, the least significant being 0; false unless `place` is below `len`, which is at most 8.
 fn bit_within(byte: u8, place: u8, len: u8) -> bool
     requires { len ≤ 8 }
     ensures { result ≡ slice_index_or (drop place (low_bits len byte)) 0 false }
@@ -38,8 +35,8 @@ fn bit_within(byte: u8, place: u8, len: u8) -> bool
     place < len && (byte >> place) % 2 == 1
 }
 
-/// Reads a frame whose bits arrive in pieces. The result is that of [`unframe`](crate::unframe) for all pieces together,
-/// however they were cut. It keeps counts, at most seven of the last bits, and at most 2050 bytes, and not the bits.
+/// Reads a frame whose bits arrive in pieces. The result is that of [`unframe`](crate::unframe) for all pieces together, regardless of the
+/// cuts. It stores counts, at most 2050 plain bytes and at most seven more bits.
 #[derive(Debug, Drop)]
 pub struct Deframer {
     scan: Scan,
@@ -47,7 +44,7 @@ pub struct Deframer {
 }
 
 impl Deframer {
-    /// Begins: no bit has been taken.
+    /// Returns a reader that has taken no bit.
     pub fn new() -> Deframer
         ensures fed { IsFed [] result }
         ensures taken { taken_of result ≡ 0 }
@@ -58,7 +55,7 @@ impl Deframer {
         }
     }
 
-    /// Returns how many bits have been taken since it began.
+    /// Returns the number of bits taken since the reader was made or last started over.
     pub fn taken(&self) -> u32
         ensures value { result ≡ taken_of self.now }
         ensures all { (bits : List Bool) → IsFed bits self.now → result ≡ length bits }
@@ -66,7 +63,7 @@ impl Deframer {
         self.scan.taken
     }
 
-    /// Starts over, regardless of the bits so far.
+    /// Starts over: the reader has taken no bit.
     pub fn restart(&mut self)
         ensures fed { IsFed [] self.new }
         ensures taken { taken_of self.new ≡ 0 }
@@ -75,7 +72,8 @@ impl Deframer {
         self.kept.clear();
     }
 
-    // Takes a plain bit.
+    // Takes a plain bit: at least eight bits were taken before it, whether or not the first eight are the flag, and fewer than five ones in
+    // a row precede it.
     fn take_plain(&mut self, bit: bool)
         requires fits { taken_of self.old < 2147483648 }
         requires behind { 8 ≤ taken_of self.old }
@@ -87,7 +85,7 @@ impl Deframer {
         self.kept.push(u64::from(bit), 1);
     }
 
-    // Takes bits after the first six ones, `len` of them: a first one, and others.
+    // Takes `len` bits, at least one, after the first six ones. Of these only the first, `bit`, matters.
     #[inline(always)]
     fn take_later(&mut self, bit: bool, len: u32)
         requires some { 1 ≤ len }
@@ -126,7 +124,7 @@ impl Deframer {
         self.scan.take_inserted();
     }
 
-    // Takes the lowest bits of a byte, `len` of them, one by one.
+    // Takes the `len` lowest bits of a byte, at most eight, one by one, the least significant first.
     #[inline(never)]
     fn take_bits_of(&mut self, byte: u8, len: u8)
         requires few { len ≤ 8 }
@@ -141,25 +139,8 @@ impl Deframer {
         }
     }
 
-    // Takes the eight bits of a byte, of which none is the sixth one.
-    #[inline(always)]
-    fn take_eight(&mut self, byte: u8, given: Given)
-        requires fits { taken_of self.old + 8 ≤ 2147483648 }
-        requires behind { 8 ≤ taken_of self.old }
-        requires few { self.old.scan.ones ≤ 5 }
-        requires given { IsGiven self.old.scan.ones (low_bits 8 byte) given }
-        requires ones { given.ones ≤ 5 }
-        requires count { given.count ≤ 8 }
-        requires below { given.bits < 2 ^ given.count }
-        ensures taken { taken_of self.new ≡ taken_of self.old + 8 }
-        ensures fed { (bits : List Bool) → IsFed bits self.old → IsFed (bits ++ low_bits 8 byte) self.new }
-    {
-        self.scan
-            .take_clear(given.ones, given.dropped, given.count, 8);
-        self.kept.push(u64::from(given.bits), given.count);
-    }
-
-    // Takes the lowest bits of a byte, `len` of them, where the sixth one is among the eight bits of the byte.
+    // Takes the `len` lowest bits of a byte, at most eight, whose eight bits contain the sixth one in a row. The opening flag is complete.
+    // `given` is the result of `given_by` for the byte.
     #[inline(always)]
     fn take_end(&mut self, byte: u8, given: Given, len: u8)
         requires len { len ≤ 8 }
@@ -190,7 +171,7 @@ impl Deframer {
         self.kept.push(u64::from(given.bits), given.count);
     }
 
-    // Takes the lowest bits of a byte, `len` of them.
+    // Takes the `len` lowest bits of a byte, 1 to 8, the least significant first.
     #[inline(always)]
     fn take_low(&mut self, byte: u8, len: u8)
         requires some { 1 ≤ len }
@@ -216,10 +197,12 @@ impl Deframer {
             self.take_bits_of(byte, len);
             return;
         }
-        self.take_eight(byte, given);
+        self.scan
+            .take_clear(given.ones, given.dropped, given.count, 8);
+        self.kept.push(u64::from(given.bits), given.count);
     }
 
-    // Takes the lowest bits of a byte, `len` of them, where some of these are among the first eight.
+    // Takes the `len` lowest bits of a byte, at most eight, as `take_low` does while the opening flag is incomplete.
     #[inline(always)]
     fn take_opening(&mut self, byte: u8, len: u8)
         requires few { len ≤ 8 }
@@ -234,7 +217,8 @@ impl Deframer {
         self.scan.take_first_byte(byte);
     }
 
-    // Takes the bits of a group of bytes, after the first eight bits and before the first six ones.
+    // Takes the bits of a group, which has the first of these bytes, at most seven. The opening flag is complete, and no sixth one in a row
+    // is in the group or before it.
     #[inline(always)]
     fn take_clear(&mut self, bytes: &[u8], group: Group)
         requires len { group.len ≤ length bytes.now }
@@ -251,8 +235,8 @@ impl Deframer {
         self.kept.push(group.bits, group.count);
     }
 
-    // Takes the bits of the first bytes of at most seven, after the first eight bits and before the first six ones, and returns
-    // how many bytes those are: all, or those up to the one with the sixth one.
+    // Takes the first of 1 to 7 bytes, and returns how many it took, at least one. The opening flag is complete, and no sixth one in a row
+    // precedes the bytes.
     #[inline(always)]
     fn take_group(&mut self, bytes: &[u8]) -> usize
         requires some { 1 ≤ length bytes.now }
@@ -274,7 +258,7 @@ impl Deframer {
         group.len + 1
     }
 
-    // Takes the bits of the first bytes of these, and returns how many bytes those are.
+    // Takes the first of these bytes, of which there is at least one, and returns how many it took, at least one.
     #[inline(always)]
     fn take_some(&mut self, bytes: &[u8]) -> usize
         requires some { 1 ≤ length bytes.now }
@@ -298,7 +282,7 @@ impl Deframer {
         self.take_group(&bytes[..7])
     }
 
-    // Takes the first whole bytes of a piece.
+    // Takes the first `count` whole bytes of a piece, which must have them.
     fn take_bytes(&mut self, piece: &BitBuf, count: usize)
         requires within { 8 * count ≤ length piece.now }
         requires fits { taken_of self.old + 8 * count ≤ 2147483648 }
@@ -310,7 +294,7 @@ impl Deframer {
         }
     }
 
-    // Takes the bits of a piece from a place on.
+    // Takes the bits of a piece from offset `from` on, which is at most its length. Those before it are the last that were taken.
     fn take_from(&mut self, piece: &BitBuf, from: usize)
         requires within { from ≤ length piece.now }
         requires fits { taken_of self.old + length piece.now ≤ 2147483648 + from }
@@ -322,7 +306,7 @@ impl Deframer {
         }
     }
 
-    /// Takes the next bits. A frame may be cut at any place.
+    /// Takes the next bits. A frame may be cut after any bit. At most 2^31 bits are taken before the reader starts over.
     pub fn feed(&mut self, piece: &BitBuf)
         requires { taken_of self.old + length piece.now ≤ 2 ^ 31 }
         ensures fed { (bits : List Bool) → IsFed bits self.old → IsFed (bits ++ piece.now) self.new }
@@ -333,7 +317,8 @@ impl Deframer {
         self.take_from(piece, BYTE_BITS * whole);
     }
 
-    /// Takes the lowest bits of a byte from the least significant one on, `len` of them, as [`feed`](Deframer::feed) does.
+    /// Takes the `len` lowest bits of a byte, at most eight, the least significant first, as [`feed`](Deframer::feed) does. The limit of
+    /// 2^31 bits is the same.
     pub fn feed_low(&mut self, byte: u8, len: u8)
         requires few { len ≤ 8 }
         requires fits { taken_of self.old + len ≤ 2 ^ 31 }
@@ -345,7 +330,8 @@ impl Deframer {
         }
     }
 
-    /// Takes the bits of bytes, each from the least significant one on, as [`feed`](Deframer::feed) does.
+    /// Takes the bits of bytes, the least significant bit of each byte first, as [`feed`](Deframer::feed) does. The limit of 2^31 bits is
+    /// the same.
     pub fn feed_bytes(&mut self, bytes: &[u8])
         requires { taken_of self.old + 8 * length bytes.now ≤ 2 ^ 31 }
         ensures fed { (bits : List Bool) → IsFed bits self.old → IsFed (bits ++ bits_of bytes.now) self.new }
@@ -357,20 +343,9 @@ impl Deframer {
         }
     }
 
-    // Replaces the content by that of the frame that was taken; after a refusal it is empty.
-    fn read(&self, out: &mut Content) -> Result<usize, BadFrame>
-        ensures reason { (bits : List Bool) → IsFed bits self.now → result_err result ≡ reason_of bits }
-        ensures content { (bits : List Bool) → IsFed bits self.now → OnOk result (out.new ≡ content_of (plain bits)) }
-        ensures count { IfOk result (λ count. count ≡ length out.new) }
-        ensures empty { OnErr result (out.new ≡ []) }
-    {
-        out.clear();
-        read_frame(&self.scan, &self.kept, out)
-    }
-
-    /// Replaces the content by that of the frame that the bits so far are, and returns its number of bytes, as
-    /// [`unframe`](crate::unframe) does for all pieces together. If they are not a frame, the error is the first rule that
-    /// applies (see [`BadFrame`]), and the content is left empty. Then it starts over.
+    /// Replaces `out` by the content of the frame that the bits taken are, and returns its number of bytes, as [`unframe`](crate::unframe)
+    /// does for all pieces together. If they are not a frame, the error is the first rule that applies (see [`BadFrame`]), and `out` is
+    /// empty. In both cases the reader then starts over.
     pub fn finish(&mut self, out: &mut Content) -> Result<usize, BadFrame>
         ensures frame { (bits : List Bool) → IsFed bits self.old → OnOk result (IsFrame out.new bits) }
         ensures only { (bits : List Bool) (content : List ℕ) → IsFed bits self.old → IsFrame content bits
@@ -382,15 +357,16 @@ impl Deframer {
         ensures anew { IsFed [] self.new }
         ensures taken { taken_of self.new ≡ 0 }
     {
-        let answer = self.read(out);
+        out.clear();
+        let answer = read_frame(&self.scan, &self.kept, out);
         self.restart();
         answer
     }
 }
 
-/// Replaces the content by that of the frame that the bits are, from the first bit of one flag to the last bit of the next, and
-/// returns its number of bytes, 1 to 2048. If the bits are not a frame, the error is the first rule that applies (see
-/// [`BadFrame`]), and the content is left empty.
+/// Replaces `out` by the content of the frame of ISO/IEC 3309 that the bits are, from the first bit of the opening flag to the last bit of
+/// the closing flag, and returns its number of bytes, 1 to 2048. If the bits are not a frame, the error is the first rule that applies (see
+/// [`BadFrame`]), and `out` is empty.
 pub fn unframe(bits: &BitBuf, out: &mut Content) -> Result<usize, BadFrame>
     ensures frame { OnOk result (IsFrame out.new bits.now) }
     ensures only { (content : List ℕ) → IsFrame content bits.now

@@ -1,24 +1,23 @@
+// What eight bits add to a reader of the bits between two flags, looked up in tables.
 ghost use Rattle.std.specs.Prelude.{◌≡◌, ℕ, ◌^◌, ◌<◌, ◌≤◌, Bool, false};
-ghost use Rattle.sercos_model.specs.Bits.{low_bits};
-ghost use Rattle.sercos_hdlc.specs.Given.{parts_of, given_of, IsGiven, IsEnd};
-ghost use Rattle.sercos_hdlc.specs.Sought.{ones_after, has_six};
+ghost use Rattle.sercos_hdlc.specs.Clauses.{low_bits, parts_of, given_of, IsGiven, IsEnd, ones_after, has_six};
 
-/// What eight bits add to a reader. If they contain a sixth one, only those before it count.
+/// What eight bits add to a reader: plain bits, and the state after them. If they contain a sixth one in a row, only the bits before it
+/// count.
 #[derive(Clone, Copy, Debug)]
 pub struct Given {
     /// The plain bits, the first as the least significant.
     pub bits: u8,
-    /// How many plain bits those are, at most eight.
+    /// The number of plain bits, at most eight.
     pub count: u8,
-    /// The ones in a row that the eight bits then end in. If a sixth one is among them: 6, or 7 if a zero before it is an
-    /// inserted one.
+    /// The ones in a row at the end of the eight bits, 0 to 5. If they contain a sixth one: 6, or 7 if a zero before it is an inserted one.
     pub ones: u8,
-    /// Whether their last zero is an inserted one; false if only ones precede the sixth one.
+    /// Whether the last zero is an inserted one; false if only ones precede the sixth one.
     pub dropped: bool,
 }
 
-// By 256 * ones + byte, what `given_by` returns: the plain bits, 256 times their number, 4096 times the ones in a row at the
-// end, and 32768 if the last zero is an inserted one.
+// What `given_by` returns, at index 256 * ones + byte: the plain bits, plus 256 times their number, plus 4096 times the field `ones`, plus
+// 32768 if the last zero is an inserted one.
 const GIVEN: [u16; 1536] = [
     0x0800, 0x0801, 0x0802, 0x0803, 0x0804, 0x0805, 0x0806, 0x0807, 0x0808, 0x0809, 0x080a, 0x080b,
     0x080c, 0x080d, 0x080e, 0x080f, 0x0810, 0x0811, 0x0812, 0x0813, 0x0814, 0x0815, 0x0816, 0x0817,
@@ -150,7 +149,7 @@ const GIVEN: [u16; 1536] = [
     0x477a, 0x6000, 0x477b, 0x6000, 0x577c, 0x6000, 0x577d, 0x6000, 0x763e, 0x6000, 0xf51f, 0x6000,
 ];
 
-// By byte, the ones in a row that its bits end in, regardless of the bits before; 5 for more.
+// The number of ones in a row that a byte's bits end in, at index `byte`; 5 for more.
 const ENDING: [u8; 256] = [
     0, 0, 0, 0, 0, 0, 0, 0, 0, 0, 0, 0, 0, 0, 0, 0, 0, 0, 0, 0, 0, 0, 0, 0, 0, 0, 0, 0, 0, 0, 0, 0,
     0, 0, 0, 0, 0, 0, 0, 0, 0, 0, 0, 0, 0, 0, 0, 0, 0, 0, 0, 0, 0, 0, 0, 0, 0, 0, 0, 0, 0, 0, 0, 0,
@@ -162,8 +161,8 @@ const ENDING: [u8; 256] = [
     3, 3, 3, 3, 3, 3, 3, 3, 3, 3, 3, 3, 3, 3, 3, 3, 4, 4, 4, 4, 4, 4, 4, 4, 5, 5, 5, 5, 5, 5, 5, 5,
 ];
 
-/// Returns the ones in a row that the bits of a byte end in, if no sixth one is among them. It doesn't depend on the bits before
-/// the byte, so the step over a byte needn't wait for the step before it.
+/// Returns the number of ones in a row that the bits of a byte end in, at most 5, if at most five ones in a row precede them and no sixth
+/// one is among them. It doesn't depend on the bits before the byte, so that the processor needn't wait for the previous byte.
 pub fn ending(byte: u8) -> u8
     ensures value { (ones : ℕ) → ones ≤ 5 → has_six ones (low_bits 8 byte) ≡ false → result ≡ ones_after ones (low_bits 8 byte) }
     ensures few { result ≤ 5 }
@@ -179,7 +178,8 @@ fn entry_for(ones: u8, byte: u8) -> u16
     GIVEN[256 * usize::from(ones) + usize::from(byte)]
 }
 
-/// Returns what the eight bits of a byte add after `ones` ones in a row.
+/// Returns what the eight bits of a byte add after `ones` ones in a row, 0 to 5. The field `ones` of the result is 6 or 7 iff they contain
+/// a sixth one.
 pub fn given_by(ones: u8, byte: u8) -> Given
     requires { ones ≤ 5 }
     ensures given { result.ones ≤ 5 → IsGiven ones (low_bits 8 byte) result }

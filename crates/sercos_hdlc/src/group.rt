@@ -1,3 +1,4 @@
+// What up to seven bytes add to a reader of the bits between two flags.
 ghost use Rattle.std.specs.Prelude.{◌≡◌, ℕ, ◌+◌, ◌++◌, ◌*◌, ◌^◌, ◌<◌, ◌≤◌, Bool, length, take};
 ghost use Rattle.sercos_model.specs.Bits.{low_bits, bits_of};
 ghost use Rattle.sercos_hdlc.specs.Given.{IsGiven};
@@ -5,16 +6,16 @@ ghost use Rattle.sercos_hdlc.specs.Given.{IsGiven};
 use crate::given::{Given, ending, given_by};
 use crate::kept::joined;
 
-/// What the bits of at most seven bytes add to a reader if they contain no sixth one.
+/// What the bits of at most seven bytes without a sixth one in a row add to a reader: plain bits, and the state after them.
 #[derive(Clone, Copy, Debug)]
 pub struct Group {
-    /// How many bytes those are.
+    /// The number of bytes.
     pub len: usize,
     /// The plain bits, the first as the least significant.
     pub bits: u64,
-    /// How many plain bits those are, at most eight for each byte.
+    /// The number of plain bits, at most eight for each byte.
     pub count: u8,
-    /// The ones in a row that the bits then end in.
+    /// The ones in a row that the bits end in.
     pub ones: u8,
     /// Whether the last zero is an inserted one.
     pub dropped: bool,
@@ -26,7 +27,7 @@ impl Group {
     ghost use Rattle.std.specs.Prelude.{List, []};
     ghost use Rattle.sercos_hdlc.specs.Grouped.{IsGroup};
 
-    // What no bytes add after `ones` ones in a row, with the last zero an inserted one or not.
+    // Returns the group of no bytes after `ones` ones in a row, 0 to 5; `dropped` is whether the last zero is an inserted one.
     fn none(ones: u8, dropped: bool) -> Group
         requires { ones ≤ 5 }
         ensures group { IsGroup ones dropped [] result }
@@ -42,7 +43,8 @@ impl Group {
         }
     }
 
-    // Adds one more byte.
+    // Appends a byte to a group of at most six bytes and 48 plain bits. `given` is the result of `given_by` for it, without a sixth one in
+    // a row.
     #[inline(always)]
     fn add(&mut self, byte: u8, given: Given)
         requires few { self.old.count ≤ 48 }
@@ -62,8 +64,9 @@ impl Group {
         self.ones = ending(byte);
     }
 
-    /// Returns what the bits of bytes add after `ones` ones in a row, with the last zero an inserted one or not: those of all
-    /// bytes, or of the bytes before the first with a sixth one.
+    /// Returns a group of the first of at most seven bytes, with no sixth one in a row. The clauses don't say how far it goes: its user takes
+    /// the next byte itself. `ones` is the number of ones in a row before the bytes, 0 to 5, and `dropped` whether the last zero before them
+    /// is an inserted one.
     #[inline(always)]
     pub fn after(ones: u8, dropped: bool, bytes: &[u8]) -> Group
         requires few { ones ≤ 5 }

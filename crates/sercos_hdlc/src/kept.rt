@@ -1,3 +1,4 @@
+// The plain bits that a reader keeps between two flags.
 ghost use Rattle.std.specs.Prelude.{◌≡◌, ◌+◌, ◌-◌, ◌*◌, ◌/◌, ◌%◌, ◌^◌, ◌<◌, ◌≤◌, Bool, List, [], ◌∷◌, ◌++◌, length};
 ghost use Rattle.sercos_model.specs.Bits.{low_bits};
 
@@ -10,13 +11,14 @@ pub struct Kept {
     pub bytes: PlainBytes,
     /// The number that the bits after the whole bytes spell.
     pub rest: u64,
-    /// How many bits those are.
+    /// The number of those bits, at most seven.
     pub rest_len: u8,
     ghost few: { rest_len ≤ 7 },
     ghost below: { rest < 2 ^ rest_len },
 }
 
-/// Appends bits to those that a number spells.
+/// Returns the number that spells `rest_len` bits of `rest` and then `count` bits of `bits`, at most 63 together, the first bit as the
+/// least significant. Neither number has further bits.
 pub(crate) fn joined(rest: u64, rest_len: u8, bits: u64, count: u8) -> u64
     requires few { rest_len + count ≤ 63 }
     requires below { rest < 2 ^ rest_len }
@@ -27,8 +29,8 @@ pub(crate) fn joined(rest: u64, rest_len: u8, bits: u64, count: u8) -> u64
     rest + (bits << rest_len)
 }
 
-// Takes the first bytes off the bits that a number spells, `whole` of them.
-fn behind_bytes(bits: u64, len: u8, whole: u8) -> u64
+// Returns the number that spells the bits after the first `whole` bytes of `bits`, which has `len` bits, at most 63, and these bytes.
+fn bits_after(bits: u64, len: u8, whole: u8) -> u64
     requires long { 8 * whole ≤ len }
     requires few { len ≤ 63 }
     requires below { bits < 2 ^ len }
@@ -41,7 +43,7 @@ fn behind_bytes(bits: u64, len: u8, whole: u8) -> u64
 impl Kept {
     ghost use Rattle.sercos_hdlc.specs.Held.{IsKept};
 
-    /// No bits.
+    /// Returns a store without bits.
     pub fn new() -> Kept
         ensures { IsKept [] result }
     {
@@ -52,7 +54,7 @@ impl Kept {
         }
     }
 
-    /// Drops all bits.
+    /// Removes all bits.
     pub fn clear(&mut self)
         ensures { IsKept [] self.new }
     {
@@ -61,7 +63,8 @@ impl Kept {
         self.rest_len = 0;
     }
 
-    /// Appends at most 56 bits, the first of them as the least significant. Bytes beyond the room are left out.
+    /// Appends `count` bits, at most 56, the first as the least significant. `bits` is below 2^`count`. Once there are 16,408 bits or more,
+    /// what is stored is unspecified: they are no frame's.
     #[inline(always)]
     pub fn push(&mut self, bits: u64, count: u8)
         requires few { count ≤ 56 }
@@ -72,7 +75,7 @@ impl Kept {
         let len = self.rest_len + count;
         let whole = len / 8;
         self.bytes.append_lowest(sum, usize::from(whole));
-        self.rest = behind_bytes(sum, len, whole);
+        self.rest = bits_after(sum, len, whole);
         self.rest_len = len % 8;
     }
 }

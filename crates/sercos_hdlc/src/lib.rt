@@ -1,5 +1,5 @@
-//! Frames of ISO/IEC 3309: the bits that a content is sent as, and what bits contain, whole or in pieces, or why they are not a
-//! frame.
+//! Frames of ISO/IEC 3309: the bits that a content is sent as, and the content of bits that arrive whole or in pieces, or why they are not
+//! a frame.
 #![tactic(auto)]
 
 mod bad_frame;

@@ -1,13 +1,13 @@
-ghost use Rattle.std.specs.Prelude.{◌≡◌, ◌+◌, ◌*◌, ◌≤◌, ◌++◌, [], min, length, take, replicate};
-ghost use Rattle.std.specs.Int.{w64, to_le_bytes};
-ghost use Rattle.sercos_model.specs.Bits.{low_bits, bits_of};
+// A list of the whole bytes between two flags.
+ghost use Rattle.std.specs.Prelude.{◌≡◌, ◌+◌, ◌*◌, ◌≤◌, ◌++◌, [], min, length, take};
+ghost use Rattle.sercos_hdlc.specs.Clauses.{w64, to_le_bytes, low_bits, bits_of};
 
 use std::marker::Model;
 
-/// The most bytes between two flags.
+/// The most bytes between two flags: 2048 of content, and 2 of the check sequence.
 pub const MOST_BYTES: usize = 2050;
 
-// Bytes are written eight at a time, and so up to eight places past the most bytes.
+// The length of the array. Each append writes eight bytes, so up to eight after the most bytes.
 const ROOM: usize = 2058;
 
 /// A list of at most [`MOST_BYTES`] bytes.
@@ -17,7 +17,7 @@ pub struct PlainBytes {
     len: usize,
 }
 
-// Clauses see the list of the bytes.
+// Clauses see the list of its bytes.
 impl Model for PlainBytes {
     ghost use Rattle.std.specs.Prelude.{List, ℕ, take, ◌≤◌};
 
@@ -28,7 +28,8 @@ impl Model for PlainBytes {
     ghost invariant = { λ bytes. bytes.len ≤ 2050 };
 }
 
-// Writes the eight bytes of a number from a place on, the least significant first.
+// Writes the eight bytes of a number from index `place` on, the least significant first. The array must have them. The bytes before `place`
+// are unchanged, and those after the eight are unspecified.
 fn put_word(room: &mut [u8], place: usize, word: u64)
     requires { place + 8 ≤ length room.old }
     ensures written { take (place + 8) room.new ≡ take place room.old ++ to_le_bytes w64 word }
@@ -38,7 +39,7 @@ fn put_word(room: &mut [u8], place: usize, word: u64)
 }
 
 impl PlainBytes {
-    /// Returns a list of no bytes.
+    /// Returns an empty list.
     pub fn new() -> Self
         ensures { result ≡ [] }
     {
@@ -48,7 +49,7 @@ impl PlainBytes {
         }
     }
 
-    /// Returns how many bytes there are.
+    /// Returns the number of bytes, at most 2050.
     pub fn len(&self) -> usize
         ensures value { result ≡ length self.now }
         ensures bound { result ≤ 2050 }
@@ -64,7 +65,8 @@ impl PlainBytes {
         &self.room[..self.len]
     }
 
-    /// Appends the lowest bytes of a number, `count` of them, the least significant first, as far as there is room.
+    /// Appends the `count` lowest bytes of a number, at most 8, the least significant first. If they don't all fit, the list has 2050
+    /// bytes, and these are unspecified.
     pub fn append_lowest(&mut self, word: u64, count: usize)
         requires { count ≤ 8 }
         ensures bits { length self.old + count ≤ 2050 →
@@ -75,7 +77,7 @@ impl PlainBytes {
         self.len = (self.len + count).min(MOST_BYTES);
     }
 
-    /// Drops all bytes.
+    /// Removes all bytes.
     pub fn clear(&mut self)
         ensures { self.new ≡ [] }
     {

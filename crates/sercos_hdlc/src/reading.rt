@@ -1,25 +1,21 @@
-ghost use Rattle.std.specs.Prelude.{◌≡◌, ◌≢◌, ℕ, Bool, ◌%◌, ◌≤◌, List, [], length, Some, None, Ok, OnOk, OnErr, IfOk, IfErr};
-ghost use Rattle.std.specs.Result.{result_err};
-ghost use Rattle.sercos_model.specs.Bits.{bits_of};
-ghost use Rattle.sercos_model.specs.Frames.{IsFrame};
-ghost use Rattle.sercos_hdlc.specs.Reason.{content_of, plain, found_in, check_differs, unreadable, reason_of};
-ghost use Rattle.sercos_hdlc.specs.Scanned.{IsScan};
-ghost use Rattle.sercos_hdlc.specs.Held.{IsKept};
+// The tests of the bytes between two flags: their number and the check sequence.
+ghost use Rattle.std.specs.Prelude.{◌≡◌, ◌≢◌, ℕ, Bool, ◌%◌, ◌≤◌, List, length, Some, None, Ok, OnOk, OnErr, IfOk, IfErr};
+ghost use Rattle.sercos_hdlc.specs.Clauses.{result_err, bits_of, IsFrame, content_of, plain, check_differs, unreadable, reason_of, IsScan, IsKept};
 
 use crate::bad_frame::BadFrame;
 use crate::kept::Kept;
+use crate::plain_bytes::MOST_BYTES;
 use crate::scan::Scan;
 use sercos_bits::{BitBuf, Content, byte_at, fcs};
 
-// The bytes of the check sequence, and the least and the most bytes between two flags.
+// The length of the check sequence, in bytes.
 const CHECK_BYTES: usize = 2;
 
+// The fewest bytes between two flags: one of content, and the check sequence.
 const LEAST_BYTES: u32 = 3;
 
-const MOST_BYTES: u32 = 2050;
-
-// Tests that `len` plain bits are whole bytes, and that a frame can have that number of bytes. Then only the check sequence is left
-// to test.
+// Tests that `len` plain bits are whole bytes, 3 to 2050 of them. The error is `Ragged`, `Short` or `Long`. After `Ok` only the check
+// sequence is left to test.
 #[tactic(auto, unfolding(crate::specs::Reason::unreadable, crate::specs::Reason::given))]
 fn test_size(len: u32) -> Result<(), BadFrame>
     ensures reason { (plain : List Bool) → len ≡ length plain → IfErr result (λ reason. unreadable plain ≡ Some reason) }
@@ -35,21 +31,13 @@ fn test_size(len: u32) -> Result<(), BadFrame>
     if size < LEAST_BYTES {
         return Err(BadFrame::Short(size));
     }
-    if size > MOST_BYTES {
+    if size > MOST_BYTES as u32 {
         return Err(BadFrame::Long(size));
     }
     Ok(())
 }
 
-// The check sequence that the last two bytes spell, the low byte first.
-fn check_in(bytes: &[u8]) -> u16
-    ensures { 2 ≤ length bytes.now → result ≡ found_in (bits_of bytes.now) }
-{
-    let split = bytes.len().saturating_sub(CHECK_BYTES);
-    u16::from_le_bytes([byte_at(bytes, split), byte_at(bytes, split + 1)])
-}
-
-// Tests that the check sequence that was found is the one that was wanted.
+// Tests that the check sequence received is the one computed. Otherwise the error is `Check` with both.
 fn test_check(found: u16, wanted: u16) -> Result<(), BadFrame>
     ensures same { OnOk result (found ≡ wanted) }
     ensures differ { OnErr result (found ≢ wanted) }
@@ -62,19 +50,23 @@ fn test_check(found: u16, wanted: u16) -> Result<(), BadFrame>
     }
 }
 
-// Returns the content of the bytes between two flags, which are at most 2050.
+// Returns the content of 2 to 2050 bytes between two flags, without the check sequence. The error is `Check` if the check sequence is
+// wrong. For fewer than two bytes the result is unspecified.
 fn content_in(bytes: &[u8]) -> Result<&[u8], BadFrame>
     requires { length bytes.now ≤ 2050 }
     ensures reason { 2 ≤ length bytes.now → result_err result ≡ check_differs (bits_of bytes.now) }
     ensures content { 2 ≤ length bytes.now → IfOk result (λ content. content.now ≡ content_of (bits_of bytes.now)) }
     ensures few { IfOk result (λ content. length content.now ≤ 2048) }
 {
-    let content = &bytes[..bytes.len().saturating_sub(CHECK_BYTES)];
-    test_check(check_in(bytes), fcs(content))?;
+    let split = bytes.len().saturating_sub(CHECK_BYTES);
+    let content = &bytes[..split];
+    let found = u16::from_le_bytes([byte_at(bytes, split), byte_at(bytes, split + 1)]);
+    test_check(found, fcs(content))?;
     Ok(content)
 }
 
-// Replaces the content by that of the frame that was taken. After a refusal it is as it was.
+/// Replaces `out` by the content of the frame that was taken, and returns its number of bytes. `scan` and `kept` are the states after the
+/// same bits. The error is the first rule that applies; then `out` is unchanged.
 pub fn read_frame(scan: &Scan, kept: &Kept, out: &mut Content) -> Result<usize, BadFrame>
     ensures reason { (bits plain : List Bool) → IsScan bits plain scan.now → IsKept plain kept.now → result_err result ≡ reason_of bits }
     ensures content { (bits given : List Bool) → IsScan bits given scan.now → IsKept given kept.now
@@ -90,7 +82,8 @@ pub fn read_frame(scan: &Scan, kept: &Kept, out: &mut Content) -> Result<usize, 
     Ok(content.len())
 }
 
-/// No rule applies iff the bits are a frame, and they are that of one content alone.
+/// States that no rule applies iff the bits are a frame, and that its content is then the one that its plain bits spell, and no other. The
+/// function does nothing.
 pub fn frame_law()
     ensures frame { (bits : List Bool) → reason_of bits ≡ None
         → IsFrame (content_of (plain bits)) bits }

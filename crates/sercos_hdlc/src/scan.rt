@@ -1,23 +1,25 @@
+// The state of a reader of a frame. A function that takes bits requires that at most 2^31 are then taken. If the state is that after some
+// bits, it is afterwards that after these and the new ones.
 ghost use Rattle.std.specs.Prelude.{◌≡◌, ℕ, ◌+◌, ◌<◌, ◌≤◌, Bool, true, false, ◌&&◌, ◌||◌, ◌==◌, nat_le, Some, IfOk, IfErr, List, [], ◌∷◌, ◌++◌, length, slice_index_or};
 ghost use Rattle.std.specs.Result.{result_err};
 
 use crate::bad_frame::BadFrame;
 use crate::flags::{FLAG, FLAG_BYTE};
 
-/// How far a reader is: all that it knows of the bits so far, except the plain bits themselves.
+/// The state of a reader of a frame, without the plain bits themselves.
 #[derive(Clone, Copy, Debug)]
 pub struct Scan {
-    /// The bits taken.
+    /// The number of bits taken.
     pub taken: u32,
-    /// Whether the first bits agree with the flag, all eight or fewer.
+    /// Whether the first eight bits, or the fewer taken so far, agree with the flag.
     pub agrees: bool,
-    /// The ones in a row that the bits after the first eight end in, and 6 from the first six on.
+    /// The ones in a row at the end of the bits after the first eight; 6 from the first six ones on.
     pub ones: u8,
     /// Whether the last zero before the six ones was an inserted one.
     pub dropped: bool,
-    /// The plain bits: those after the first eight, up to the fifth of the first six ones, without the inserted zeros.
+    /// The number of plain bits: those after the first eight, up to the fifth of the first six ones, without the inserted zeros.
     pub plain_len: u32,
-    /// From the first six ones on, the place of the bit before them: there a closing flag begins.
+    /// From the first six ones on, the offset of the bit before them, which begins the closing flag.
     pub closing: u32,
     /// Whether a seventh one follows the six.
     pub seventh: bool,
@@ -34,7 +36,7 @@ impl Scan {
     ghost use Rattle.sercos_hdlc.specs.Enclosed.{IsEnclosed};
     ghost use Rattle.sercos_hdlc.specs.Reason.{unstuffed, after, reason_of};
 
-    /// Before the first bit.
+    /// Returns the state before the first bit.
     pub fn new() -> Scan
         ensures { IsScan [] [] result }
     {
@@ -59,7 +61,7 @@ impl Scan {
         self.taken += 1;
     }
 
-    /// Takes the first eight bits, those of a byte.
+    /// Takes the first eight bits, those of a byte. No bit was taken before.
     pub fn take_first_byte(&mut self, byte: u8)
         requires { self.old.taken ≡ 0 }
         ensures taken { self.new.taken ≡ self.old.taken + 8 }
@@ -70,7 +72,7 @@ impl Scan {
         self.taken = 8;
     }
 
-    /// Adds a plain bit: fewer than five ones precede it.
+    /// Takes a plain bit: the first eight bits were taken, and fewer than five ones in a row precede it.
     pub fn take_plain(&mut self, bit: bool)
         requires fits { self.old.taken < 2147483648 }
         requires behind { 8 ≤ self.old.taken }
@@ -85,7 +87,7 @@ impl Scan {
         self.taken += 1;
     }
 
-    /// Takes a zero after five ones, which was inserted.
+    /// Takes the inserted zero after five ones in a row.
     pub fn take_inserted(&mut self)
         requires fits { self.old.taken < 2147483648 }
         requires behind { 8 ≤ self.old.taken }
@@ -99,7 +101,7 @@ impl Scan {
         self.taken += 1;
     }
 
-    /// Takes a one after five ones: the bit before the six is the first of a closing flag.
+    /// Takes a one after five ones in a row. The bit before the six begins the closing flag.
     pub fn take_sixth(&mut self)
         requires fits { self.old.taken < 2147483648 }
         requires behind { 8 ≤ self.old.taken }
@@ -114,7 +116,7 @@ impl Scan {
         self.taken += 1;
     }
 
-    /// Takes bits after the first six ones, `len` of them: a first one, and others.
+    /// Takes `len` bits, at least one, after the first six ones. Of these only the first, `bit`, matters.
     #[inline(always)]
     pub fn take_later(&mut self, bit: bool, len: u32)
         requires some { 1 ≤ len }
@@ -129,7 +131,8 @@ impl Scan {
         self.taken += len;
     }
 
-    /// Adds `len` bits without a sixth one, of which `count` are plain.
+    /// Takes `len` bits after the first eight, without a sixth one in a row among them or before them. Of these `count` are plain. They end
+    /// in `ones` ones in a row, 0 to 5, and `dropped` is whether the last zero is then an inserted one.
     #[inline(always)]
     pub fn take_clear(&mut self, ones: u8, dropped: bool, count: u8, len: u32)
         requires fits { self.old.taken + len ≤ 2147483648 }
@@ -150,8 +153,9 @@ impl Scan {
         self.taken += len;
     }
 
-    /// Adds `len` bits with the sixth one at `place`. Of those before it `count` are plain, and `seventh` says whether a one
-    /// follows it.
+    /// Takes `len` bits after the first eight, with the first sixth one in a row at offset `place` among them. Of the bits before it,
+    /// `count` are plain. `dropped` is whether the last zero before it is an inserted one, and `seventh` whether a one follows it among
+    /// these bits.
     #[inline(always)]
     pub fn take_end(&mut self, place: u8, dropped: bool, count: u8, seventh: bool, len: u32)
         requires within { place < len }
@@ -184,14 +188,14 @@ impl Scan {
         self.taken >= 8 && self.agrees
     }
 
-    // Returns whether the first six ones touch the opening flag, or a seventh follows them.
+    // Returns whether the first six ones follow the opening flag at once, or a seventh follows them. Called once six ones were found.
     fn runs_on(&self) -> bool
         ensures value { result ≡ ((self.now.closing == 7) || self.now.seventh) }
     {
         self.closing == 7 || self.seventh
     }
 
-    /// Returns how many plain bits there are between the flags, or the first reason why these hold none.
+    /// Returns the number of plain bits between the flags. The error is the first of `NoOpen`, `NoClose` and `Abort` that applies.
     pub fn between(&self) -> Result<u32, BadFrame>
         ensures reason { (bits plain : List Bool) → IsScan bits plain self.now
             → IfErr result (λ reason. reason_of bits ≡ Some reason) }
@@ -216,7 +220,7 @@ impl Scan {
         Ok(self.plain_len.saturating_sub(6))
     }
 
-    /// Tests that no bit follows the closing flag.
+    /// Tests, after `between` returned `Ok`, that no bit follows the closing flag. Otherwise the error is `After`.
     pub fn test_end(&self) -> Result<(), BadFrame>
         ensures { (bits plain : List Bool) (len : ℕ) → IsScan bits plain self.now → IsEnclosed bits plain self.now.closing len
             → result_err result ≡ after bits }

@@ -1,12 +1,12 @@
+// The zeros that are inserted after five ones in a row, byte by byte.
 ghost use Rattle.std.specs.Prelude.{◌≡◌, ◌+◌, ◌*◌, ◌^◌, ◌<◌, ◌≤◌, ◌++◌, length, drop, fold};
-ghost use Rattle.sercos_model.specs.Bits.{low_bits, bits_of};
-ghost use Rattle.sercos_bits.specs.Register.{fed};
-ghost use Rattle.sercos_hdlc.specs.Stuffed.{ones_behind, stuffed};
+ghost use Rattle.sercos_hdlc.specs.Clauses.{low_bits, bits_of, fed, ones_behind, stuffed};
 
 use crate::tables::{counts_of, ones_at_end, sent_for};
 use sercos_bits::{BitBuf, Register, push_number};
 
-// Appends what is sent for a byte after `ones` ones in a row, and returns how many ones then end it.
+// Appends the bits that are sent for a byte after `ones` ones in a row, and returns the number of ones in a row at their end. Both numbers
+// are below 5. `out` must have room for a zero after each five bits, the ones before the byte included.
 fn push_byte(byte: u8, ones: usize, out: &mut BitBuf) -> usize
     requires few { ones < 5 }
     requires room { 5 * length out.old + ones + 48 ≤ 5 * 19696 }
@@ -20,8 +20,8 @@ fn push_byte(byte: u8, ones: usize, out: &mut BitBuf) -> usize
     usize::from(counts % 16)
 }
 
-/// Appends what is sent for bytes after `ones` ones in a row, and returns how many ones then end it. There is room for a
-/// zero after each five bits.
+/// Appends the bits that are sent for bytes after `ones` ones in a row, and returns the number of ones in a row at their end. Both numbers
+/// are below 5. `out` must have room for a zero after each five bits, the ones before the bytes included.
 pub fn push_bytes(bytes: &[u8], ones: usize, out: &mut BitBuf) -> usize
     requires few { ones < 5 }
     requires room { 5 * length out.old + ones + 48 * length bytes.now ≤ 5 * 19696 }
@@ -37,7 +37,8 @@ pub fn push_bytes(bytes: &[u8], ones: usize, out: &mut BitBuf) -> usize
     run
 }
 
-// Returns how many ones end a byte of ones. It is a function of its own, so that the next byte waits for it after such a byte alone.
+// Returns the number of ones in a row at the end of what is sent for the byte 0xff after `ones` ones in a row, 0 to 4. It is a function of
+// its own so that the processor waits for that number after such a byte alone.
 #[cold]
 #[inline(never)]
 fn ones_behind_ones(ones: usize) -> usize
@@ -48,7 +49,7 @@ fn ones_behind_ones(ones: usize) -> usize
     usize::from(counts_of(ones, 255) % 16)
 }
 
-// Returns how many ones end what is sent for a byte after `ones` ones in a row.
+// Returns the number of ones in a row at the end of what is sent for a byte after `ones` ones in a row. Both numbers are below 5.
 #[inline(always)]
 fn ones_after(byte: u8, ones: usize) -> usize
     requires { ones < 5 }
@@ -61,7 +62,8 @@ fn ones_after(byte: u8, ones: usize) -> usize
     ones_at_end(byte)
 }
 
-// Counts what is sent for a byte after `ones` ones in a row, and returns how many ones then end it.
+// Adds to `len` the number of bits that are sent for a byte after `ones` ones in a row, at most 16, and returns the number of ones in a row
+// at their end. Both numbers of ones are below 5. `len` plus 16 must be below 2^32.
 #[inline(always)]
 fn count_byte(byte: u8, ones: usize, len: &mut u32) -> usize
     requires few { ones < 5 }
@@ -75,8 +77,8 @@ fn count_byte(byte: u8, ones: usize, len: &mut u32) -> usize
     ones_after(byte, ones)
 }
 
-/// Counts what is sent for bytes after `ones` ones in a row, as [`push_bytes`] appends it, and returns how many ones then
-/// end it.
+/// Adds to `len` the number of bits that [`push_bytes`] would append, at most 16 for each byte, and returns what it would return. `ones` is
+/// 0 to 4. `len` plus 16 for each byte must be below 2^32.
 pub fn count_bytes(bytes: &[u8], ones: usize, len: &mut u32) -> usize
     requires few { ones < 5 }
     requires room { len.old + 16 * length bytes.now < 2 ^ 32 }
@@ -92,7 +94,8 @@ pub fn count_bytes(bytes: &[u8], ones: usize, len: &mut u32) -> usize
     run
 }
 
-// Counts what is sent for the first pairs of bytes of a body, `count` of them, as `count_taken` does.
+// Does the work of `count_taken` for the first `count` pairs of bytes, which must exist: adds at most 32 to `len` for each pair, and
+// returns 0 to 4. `len` plus 32 for each pair must be below 2^32.
 fn count_pairs(bytes: &[u8], count: usize, register: &mut Register, len: &mut u32) -> usize
     requires pairs { 2 * count ≤ length bytes.now }
     requires room { len.old + 32 * count < 2 ^ 32 }
@@ -111,8 +114,9 @@ fn count_pairs(bytes: &[u8], count: usize, register: &mut Register, len: &mut u3
     run
 }
 
-/// Counts what is sent for bytes at the beginning of a body, as [`count_bytes`] does after zero ones, and lets the register take
-/// each byte on the way. The register waits for its tables at each pair, and meanwhile the pair is counted.
+/// Adds to `len` the number of bits that are sent for bytes at the beginning of a body, at most 16 for each, lets the register take these
+/// bytes, and returns the number of ones in a row at the end of what is sent, 0 to 4. `len` plus 16 for each byte must be below 2^32. Bytes
+/// are processed in pairs, since each pair can be counted while the register waits for its tables.
 pub fn count_taken(bytes: &[u8], register: &mut Register, len: &mut u32) -> usize
     requires { len.old + 16 * length bytes.now < 2 ^ 32 }
     ensures len { len.new ≡ len.old + length (stuffed 0 (bits_of bytes.now)) }

@@ -1,8 +1,8 @@
+// What is sent for a byte after some ones in a row, in tables.
 ghost use Rattle.std.specs.Prelude.{◌≡◌, ℕ, ◌+◌, ◌*◌, ◌/◌, ◌%◌, ◌<◌, ◌≤◌, length, fold};
-ghost use Rattle.sercos_model.specs.Bits.{low_bits, number_of};
-ghost use Rattle.sercos_hdlc.specs.Stuffed.{ones_behind, stuffed};
+ghost use Rattle.sercos_hdlc.specs.Clauses.{low_bits, number_of, ones_behind, stuffed};
 
-// By 256 * ones + byte, what `counts_of` returns.
+// What `counts_of` returns, at index 256 * ones + byte.
 const COUNTS: [u8; 1280] = [
     128, 128, 128, 128, 128, 128, 128, 128, 128, 128, 128, 128, 128, 128, 128, 128, 128, 128, 128,
     128, 128, 128, 128, 128, 128, 128, 128, 128, 128, 128, 128, 144, 128, 128, 128, 128, 128, 128,
@@ -74,8 +74,8 @@ const COUNTS: [u8; 1280] = [
     160, 144, 160, 145, 161, 146, 162,
 ];
 
-/// Sixteen times the number of bits that are sent for a byte after `ones` ones in a row, plus the number of ones in a row
-/// that these then end in.
+/// Returns sixteen times the number of bits that are sent for a byte after `ones` ones in a row, 0 to 4, plus the number of ones in a row
+/// that these end in, 0 to 4. Five times the number of bits and this number are at most `ones` plus 48.
 pub fn counts_of(ones: usize, byte: u8) -> u8
     requires { ones < 5 }
     ensures len { result / 16 ≡ length (stuffed ones (low_bits 8 byte)) }
@@ -86,7 +86,7 @@ pub fn counts_of(ones: usize, byte: u8) -> u8
     COUNTS[256 * ones + usize::from(byte)]
 }
 
-// By the byte, what `ones_at_end` returns.
+// What `ones_at_end` returns, at index `byte`.
 const ENDS: [u8; 255] = [
     0, 0, 0, 0, 0, 0, 0, 0, 0, 0, 0, 0, 0, 0, 0, 0, 0, 0, 0, 0, 0, 0, 0, 0, 0, 0, 0, 0, 0, 0, 0, 0,
     0, 0, 0, 0, 0, 0, 0, 0, 0, 0, 0, 0, 0, 0, 0, 0, 0, 0, 0, 0, 0, 0, 0, 0, 0, 0, 0, 0, 0, 0, 0, 0,
@@ -98,7 +98,8 @@ const ENDS: [u8; 255] = [
     3, 3, 3, 3, 3, 3, 3, 3, 3, 3, 3, 3, 3, 3, 3, 3, 4, 4, 4, 4, 4, 4, 4, 4, 0, 0, 0, 0, 1, 1, 2,
 ];
 
-/// Returns how many ones in a row end what is sent for a byte that isn't all ones. It is the same after any number of ones.
+/// Returns the number of ones in a row at the end of what is sent for a byte other than 0xff. It is the same after any number of ones below
+/// five, and is 0 to 4.
 pub fn ones_at_end(byte: u8) -> usize
     requires { byte < 255 }
     ensures end { (ones : ℕ) → ones < 5 → result ≡ fold ones_behind ones (low_bits 8 byte) }
@@ -107,7 +108,7 @@ pub fn ones_at_end(byte: u8) -> usize
     usize::from(ENDS[usize::from(byte)])
 }
 
-// By 256 * ones + byte, what `sent_for` returns.
+// What `sent_for` returns, at index 256 * ones + byte.
 const SENT: [u16; 1280] = [
     0x000, 0x001, 0x002, 0x003, 0x004, 0x005, 0x006, 0x007, 0x008, 0x009, 0x00a, 0x00b, 0x00c,
     0x00d, 0x00e, 0x00f, 0x010, 0x011, 0x012, 0x013, 0x014, 0x015, 0x016, 0x017, 0x018, 0x019,
@@ -210,7 +211,7 @@ const SENT: [u16; 1280] = [
     0x0fa, 0x1f5, 0x17c, 0x2f9, 0x1be, 0x37d,
 ];
 
-/// Returns the bits that are sent for a byte after `ones` ones in a row, at most ten, the first of them as the least significant.
+/// Returns the bits that are sent for a byte after `ones` ones in a row, 0 to 4: at most ten, the first of them as the least significant.
 pub fn sent_for(ones: usize, byte: u8) -> u16
     requires { ones < 5 }
     ensures { result ≡ number_of (stuffed ones (low_bits 8 byte)) }

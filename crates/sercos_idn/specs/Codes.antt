@@ -15,6 +15,7 @@ length_code List1 = 4
 length_code List2 = 5
 length_code List4 = 6
 
+-- whether a code of three bits is that of a length
 abbrev pub is_length : ℕ → Bool
 is_length code = not ((code == 0) || (code == 3) || nat_le 7 code)
 
@@ -24,7 +25,7 @@ is_list Two = false
 is_list Four = false
 is_list _ = true
 
--- the bytes of a value, or of an item of a list
+-- the number of bytes of a value, or of an item of a list
 abbrev pub item_len : Length → ℕ
 item_len Two = 2
 item_len Four = 4
@@ -41,22 +42,24 @@ form_code forms.Hexadecimal = 3
 form_code forms.Text = 4
 form_code forms.Idn = 5
 
+-- whether a code is that of a display form
 abbrev pub is_form : ℕ → Bool
 is_form code = nat_le code 5
 
--- whether a word has the bit at a place
+-- whether bit `place` of a word is 1
 abbrev pub has_bit : ℕ → ℕ → Bool
 has_bit word place = word / 2 ^ place % 2 == 1
 
--- the codes of a word
+-- the codes of the length and of the display form in a word
 abbrev pub length_bits : ℕ → ℕ
 length_bits word = word / 2 ^ 16 % 8
 
 abbrev pub form_bits : ℕ → ℕ
 form_bits word = word / 2 ^ 20 % 8
 
--- The first of the bits 16, 19, 20, 23 and 31 that is refused: 16 for an unused length, 19 for a command of another
--- length than two bytes, 20 for an unused display form, and 23 and 31 if they are one.
+-- The first of the bits 16, 19, 20, 23 and 31 that is refused: 16 for an unused length, 19 for a
+-- procedure command of another length than two bytes, 20 for an unused display form, and 23 and 31
+-- if they aren't 0.
 unfoldable pub attribute_fault : ℕ → Option ℕ
 attribute_fault word =
     option_or (then_some (not (is_length (length_bits word))) 16)

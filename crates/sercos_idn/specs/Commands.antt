@@ -1,7 +1,7 @@
--- What a procedure command is set to, and its data status (IEC 61491:1995).
+-- The operation data of a procedure command, and its data status (IEC 61491:1995).
 use Rattle.std.specs.Prelude.{ℕ}
 
--- the operation data that cancels a procedure command, and that which sets it
+-- the operation data that cancels a procedure command, and the operation data that sets it
 abbrev pub to_cancel : ℕ
 to_cancel = 0
 
@@ -12,14 +12,14 @@ to_set = 3
 abbrev pub not_set_status : ℕ
 not_set_status = 0
 
--- .. that has ended well
+-- the data status of a procedure command that has ended well
 abbrev pub ended_well_status : ℕ
 ended_well_status = 3
 
--- .. that is running
+-- the data status of a procedure command that is running
 abbrev pub running_status : ℕ
 running_status = 7
 
--- .. that has ended with an error
+-- the data status of a procedure command that has ended with an error
 abbrev pub error_status : ℕ
 error_status = 15

@@ -1,7 +1,7 @@
 -- The elements of a data block (IEC 61491:1995), by their numbers in a control word.
 use Rattle.std.specs.Prelude.{ℕ}
 
--- a write of it opens the block, and a read of it returns the data status
+-- the identifier number: a write of it opens the block, and a read of it returns the data status
 abbrev pub identifier_element : ℕ
 identifier_element = 1
 

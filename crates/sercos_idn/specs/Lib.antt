@@ -1,6 +1,7 @@
+pub mod Attributes
+pub mod Clauses
+pub mod Codes
+pub mod Commands
+pub mod Elements
 pub mod Idns
 pub mod Places
-pub mod Codes
-pub mod Attributes
-pub mod Elements
-pub mod Commands

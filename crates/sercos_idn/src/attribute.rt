@@ -1,12 +1,11 @@
+// The attribute of a data block.
 ghost use Rattle.std.specs.Prelude.{◌≡◌, ℕ, ◌+◌, ◌*◌, ◌/◌, ◌%◌, ◌^◌, ◌<◌, ◌≤◌, ◌==◌, if◌then◌else◌, true, Some, None, Ok, IfOk, MatchResult};
 ghost use Rattle.sercos_idn.specs.declared.kinds.Length.TheVariants.{Two};
 ghost use Rattle.sercos_idn.specs.Codes.{length_bits, form_bits, attribute_fault};
 
-use crate::kinds::{
-    Form, Length, TWO, form_code, form_of, is_form, is_length, length_code, length_of,
-};
+use crate::kinds::{Form, Length, form_code, form_of, is_form, is_length, length_code, length_of};
 
-// The parts of the word, as powers of two of their lowest bits.
+// The lowest bit of each part of the attribute's word, as a power of two. `UNUSED` and `HIGHEST` are bits that are always 0.
 const LENGTH: u32 = 0x0001_0000;
 
 const COMMAND: u32 = 0x0008_0000;
@@ -25,12 +24,12 @@ const PROTECT4: u32 = 0x4000_0000;
 
 const HIGHEST: u32 = 0x8000_0000;
 
-// How many codes a part of three bits has, and how many numbers of decimal places there are.
+// The number of values of a part of three bits, and the number of values of the decimal places.
 const CODES: u32 = 8;
 
 const PLACES: u32 = 16;
 
-// Returns whether a word has a bit.
+// Returns whether a word has a bit. The bit is passed as a power of two.
 fn has(word: u32, bit: u32) -> bool
     requires { 0 < bit }
     ensures { result ≡ (word / bit % 2 == 1) }
@@ -38,7 +37,7 @@ fn has(word: u32, bit: u32) -> bool
     word / bit % 2 == 1
 }
 
-// A bit, where it is set.
+// Returns `bit` if `set` is true, otherwise 0.
 fn placed(set: bool, bit: u32) -> u32
     ensures value { result ≡ (if set then 1 else 0) * bit }
     ensures bound { result ≤ bit }
@@ -46,7 +45,8 @@ fn placed(set: bool, bit: u32) -> u32
     if set { bit } else { 0 }
 }
 
-// The first bit that is refused.
+// Returns the number of the first bit that is refused: 16, 19, 20, 23 or 31, as [`BadAttribute`] defines it. `None` means that the word is
+// an attribute.
 #[tactic(auto, unfolding(crate::specs::Codes::attribute_fault))]
 fn attribute_fault(word: u32) -> Option<u8>
     ensures { result ≡ attribute_fault word }
@@ -54,7 +54,7 @@ fn attribute_fault(word: u32) -> Option<u8>
     if !is_length(word / LENGTH % CODES) {
         return Some(16);
     }
-    if has(word, COMMAND) && word / LENGTH % CODES != TWO {
+    if has(word, COMMAND) && word / LENGTH % CODES != length_code(Length::Two) {
         return Some(19);
     }
     if !is_form(word / FORM % CODES) {
@@ -69,13 +69,12 @@ fn attribute_fault(word: u32) -> Option<u8>
     None
 }
 
-/// The attribute of a data block, its third element (IEC 61491:1995): how its operation data is read, shown and
-/// protected.
+/// The attribute of a data block, its third element (IEC 61491:1995): how its operation data is read, shown and protected.
 #[derive(Clone, Copy, Debug, PartialEq, Eq)]
 pub struct Attribute {
     /// The conversion factor: bits 15 to 0.
     pub factor: u16,
-    /// The length of the operation data: bits 18 to 16. It is `Two` where the block is a procedure command.
+    /// The length of the operation data: bits 18 to 16. It is `Two` if the block is a procedure command.
     pub length: Length,
     /// Whether the block is a procedure command: bit 19.
     pub command: bool,
@@ -96,16 +95,19 @@ pub struct Attribute {
 /// A word that is not an attribute.
 #[derive(Clone, Copy, Debug, PartialEq, Eq)]
 pub struct BadAttribute {
-    /// The first of these bits that is refused: 16, where bits 18 to 16 are no length; 19, a procedure command of
-    /// another length than two bytes; 20, where bits 22 to 20 are no display form; 23 and 31, which are always 0.
+    /// The first of these bits that is refused:
+    /// - 16: bits 18 to 16 are not the code of a length.
+    /// - 19: a procedure command has another length than two bytes.
+    /// - 20: bits 22 to 20 are not the code of a display form.
+    /// - 23, 31: the bit isn't 0.
     pub bit: u8,
 }
 
 impl Attribute {
     ghost use Rattle.sercos_idn.specs.Attributes.{attribute_word, attribute_of};
 
-    /// Returns the attribute of a word. One attribute has one word, which `write` returns; any other word is refused
-    /// at the first bit that is wrong.
+    /// Returns the attribute of a word. Each attribute has exactly one word, which `write` returns. The error for any other word has the
+    /// first wrong bit, as [`BadAttribute`] defines it.
     pub fn read(word: u32) -> Result<Attribute, BadAttribute>
         ensures ok { IfOk result (λ attribute. attribute_word attribute ≡ word) }
         ensures value { IfOk result (λ attribute. attribute ≡ attribute_of word) }
@@ -118,7 +120,7 @@ impl Attribute {
         }
     }
 
-    /// Returns the word, of which `read` returns the attribute.
+    /// Returns the word of the attribute. `read` of this word returns the attribute.
     pub fn write(&self) -> u32
         ensures value { result ≡ attribute_word self.now }
         ensures factor { self.now.factor < 2 ^ 16 }
@@ -133,7 +135,7 @@ impl Attribute {
             + placed(self.protect4, PROTECT4)
     }
 
-    // The attribute that a word without a fault is.
+    // Returns the attribute of a word without a fault.
     fn of_word(word: u32) -> Attribute
         requires { attribute_fault word ≡ None }
         ensures word { attribute_word result ≡ word }

@@ -1,17 +1,19 @@
+// The codes of the service channel's errors.
 ghost use Rattle.std.specs.Prelude.{◌≡◌, ◌+◌, ◌*◌, ◌<◌};
 
-// The codes on an element begin with it.
+// The factor of the element in a code: bits 15 to 12.
 const ELEMENT: u16 = 4096;
 
+// Bits 11 to 0 of the code of a missing element.
 const MISSING: u16 = 1;
 
+// Bits 11 to 0 of the code of an element that can't be changed.
 const PROTECTED: u16 = 4;
 
-/// Why a drive refuses a step of the service channel: the code that it sends as information word. The codes are this
-/// profile's.
+/// The code of an error, which a drive sends as information word if it refuses a step of the service channel. The codes are this profile's.
 #[derive(Clone, Copy, Debug, PartialEq, Eq)]
 pub struct Code {
-    /// The sixteen bits of the information word. Bits 15 to 12 are the [`element`](crate::element) that the code is on.
+    /// The sixteen bits of the information word. Bits 15 to 12 are the [`element`](crate::element) that the code refers to.
     pub raw: u16,
 }
 
@@ -35,8 +37,8 @@ impl Code {
     /// The operation data is invalid.
     pub const INVALID: Code = Code { raw: 0x7008 };
 
-    /// The element, 0 to 7, is missing: 0x2001 for the name, 0x4001 for the unit, 0x5001 for the minimum, 0x6001 for the
-    /// maximum.
+    /// Returns the code of a missing element, 0 to 7: 0x2001 for the name, 0x4001 for the unit, 0x5001 for the minimum, 0x6001 for the
+    /// maximum. For element 0 it is `NOT_OPEN`, for the identifier number `NO_IDN`.
     pub fn missing(element: u8) -> Code
         requires { element < 8 }
         ensures { result.raw ≡ 4096 * element + 1 }
@@ -46,8 +48,8 @@ impl Code {
         }
     }
 
-    /// The element, 0 to 7, can't be changed: 0x2004 for the name, to 0x6004 for the maximum. For the operation data it
-    /// is `FIXED`.
+    /// Returns the code of an element, 0 to 7, that can't be changed: 0x2004 for the name, up to 0x6004 for the maximum. For the operation
+    /// data it is `FIXED`.
     pub fn protected(element: u8) -> Code
         requires { element < 8 }
         ensures { result.raw ≡ 4096 * element + 4 }

@@ -1,4 +1,4 @@
-//! What a procedure command is set to, and its data status (IEC 61491:1995).
+//! The operation data of a procedure command, and its data status (IEC 61491:1995).
 /// The operation data that cancels a procedure command.
 pub const CANCEL: u16 = 0;
 

@@ -1,10 +1,10 @@
-ghost use Rattle.std.specs.Prelude.{◌≡◌, ℕ, ◌+◌, ◌^◌, ◌<◌, ◌≤◌, ◌==◌, if◌then◌else◌, List, Some, None, Ok, length, IfOk, IfNone, IfSome, MatchResult};
-ghost use Rattle.sercos_idn.specs.Idns.{can_stand, has_byte, letter_of, head_fault, digits_fault, idn_fault, spelled_number, spelled_raw, digit_at};
+// Identifier numbers and their text.
+ghost use Rattle.std.specs.Prelude.{◌≡◌, ℕ, ◌+◌, ◌^◌, ◌<◌, ◌≤◌, ◌==◌, if◌then◌else◌, Some, None, Ok, length, IfOk, IfNone, IfSome, MatchResult};
+ghost use Rattle.sercos_idn.specs.Clauses.{can_stand, has_byte, letter_of, head_fault, digits_fault, idn_fault, spelled_number, spelled_raw, digit_at};
 
 use std::fmt;
 
-// The kinds of places in the text of an identifier number: the letter, a dash, the digit of the parameter set, and a
-// digit of the number.
+// A kind of byte in the text of an identifier number: the letter, a dash, the digit of the parameter set, or a digit of the number.
 #[derive(Clone, Copy)]
 enum Slot {
     Letter,
@@ -16,19 +16,20 @@ enum Slot {
 // The largest number of an identifier number, which has twelve bits.
 const MOST_NUMBER: u16 = 4095;
 
-// How many bytes the text of an identifier number has.
+// The number of bytes of the text of an identifier number.
 const LENGTH: usize = 8;
 
-// Where the number is in the text.
+// The index of the number's first digit in the text.
 const NUMBER: usize = 4;
 
-// The value of the letter P, and the factor of the parameter set.
-const PRODUCT: u16 = 32768;
+// The value of the letter P, which is bit 15.
+const LETTER_P: u16 = 32768;
 
-const SET: u16 = 4096;
+// The factor of the parameter set, which is in bits 14 to 12.
+const SET_FACTOR: u16 = 4096;
 
-// How many parameter sets there are.
-const SETS: u16 = 8;
+// The number of parameter sets.
+const SET_COUNT: u16 = 8;
 
 // Returns whether a byte fits a slot.
 fn can_stand(slot: Slot, byte: u8) -> bool
@@ -42,14 +43,14 @@ fn can_stand(slot: Slot, byte: u8) -> bool
     }
 }
 
-// Returns whether a text has a byte at a place, and one that fits there.
+// Returns whether a text has a byte at an index, and the byte fits the slot.
 fn has_byte(text: &[u8], place: usize, slot: Slot) -> bool
     ensures { result ≡ has_byte text.now place slot }
 {
     place < text.len() && can_stand(slot, text[place])
 }
 
-// Returns the place of the first byte that doesn't fit, among letter, dash, parameter set and dash.
+// Returns the index of the first byte that is missing or doesn't fit, among letter, dash, parameter set and dash; `None` if all fit.
 #[tactic(auto, unfolding(crate::specs::Idns::head_fault))]
 fn head_fault(text: &[u8]) -> Option<usize>
     ensures value { result ≡ head_fault text.now }
@@ -71,7 +72,8 @@ fn head_fault(text: &[u8]) -> Option<usize>
     None
 }
 
-// Returns the place of the first byte that doesn't fit, among the digits of the number.
+// Returns the index of the first byte that is missing or doesn't fit, among the four digits of the number; `None` if all fit. If the text
+// has at least four bytes, the index is at most its length.
 #[tactic(auto, unfolding(crate::specs::Idns::digits_fault))]
 fn digits_fault(text: &[u8]) -> Option<usize>
     ensures value { result ≡ digits_fault text.now }
@@ -93,7 +95,7 @@ fn digits_fault(text: &[u8]) -> Option<usize>
     None
 }
 
-// The value of the digit at a place.
+// Returns the value of the digit at an index, which is within the text: the byte minus that of 0. The result is 0 for a byte below it.
 fn digit_at(text: &[u8], place: usize) -> u16
     requires { place < length text.now }
     ensures value { result ≡ digit_at text.now place }
@@ -102,7 +104,7 @@ fn digit_at(text: &[u8], place: usize) -> u16
     u16::from(text[place].saturating_sub(b'0'))
 }
 
-// The number that the four digits spell, which may be above the largest one.
+// Returns the number that the four digits from index 4 on spell. The text has at least eight bytes. The number may be above 4095.
 fn spelled_number(text: &[u8]) -> u32
     requires { 8 ≤ length text.now }
     ensures { result ≡ spelled_number text.now }
@@ -113,8 +115,8 @@ fn spelled_number(text: &[u8]) -> u32
         + u32::from(digit_at(text, 7))
 }
 
-/// Returns the place of the first byte of a text that doesn't fit the text of an identifier number, as [`BadIdn`] names
-/// it; `None` iff the text is that of one.
+/// Returns the index of the first byte at which a text deviates from the text of an identifier number, as [`BadIdn`] defines it. It is at
+/// most the text's length. `None` means that the text is that of an identifier number.
 #[tactic(auto, unfolding(crate::specs::Idns::idn_fault))]
 pub fn idn_fault(text: &[u8]) -> Option<usize>
     ensures value { result ≡ idn_fault text.now }
@@ -136,19 +138,19 @@ pub fn idn_fault(text: &[u8]) -> Option<usize>
     None
 }
 
-// The value of the letter.
+// Returns the value of the letter: 32,768 for P, otherwise 0.
 fn letter_value(letter: u8) -> u16
     ensures { result ≡ (if letter == 80 then 32768 else 0) }
 {
-    if letter == b'P' { PRODUCT } else { 0 }
+    if letter == b'P' { LETTER_P } else { 0 }
 }
 
-// The number that a text without a fault spells.
+// Returns the sixteen bits of the identifier number that a text without a fault spells.
 fn spelled_raw(text: &[u8]) -> u16
     requires { idn_fault text.now ≡ None }
     ensures { result ≡ spelled_raw text.now }
 {
-    letter_value(text[0]) + SET * digit_at(text, 2) + spelled_number(text) as u16
+    letter_value(text[0]) + SET_FACTOR * digit_at(text, 2) + spelled_number(text) as u16
 }
 
 /// An identifier number (IDN) of a data block, after IEC 61491:1995.
@@ -156,25 +158,25 @@ fn spelled_raw(text: &[u8]) -> u16
 /// Its text is `S-0-0127`: the letter, the parameter set and the number.
 #[derive(Clone, Copy, Debug, Default, PartialEq, Eq, PartialOrd, Ord)]
 pub struct Idn {
-    /// The sixteen bits: bit 15 is 0 for S, the standard's numbers, and 1 for P, those of the product; bits 14 to 12 are
-    /// the parameter set, bits 11 to 0 the number.
+    /// The sixteen bits: bit 15 is 0 for S, the standard's numbers, and 1 for P, those of the product; bits 14 to 12 are the parameter set,
+    /// bits 11 to 0 the number.
     pub raw: u16,
 }
 
 /// A text that is not an identifier number.
 #[derive(Clone, Copy, Debug, PartialEq, Eq)]
 pub struct BadIdn {
-    /// The place of the first byte that doesn't fit, from 0 on, in bytes. It is the text's length if a byte is missing, 4
-    /// if the number is above 4095, and 8 if the text goes on after the number.
+    /// The index of the first byte that doesn't fit, counted from 0. It is the text's length if a byte is missing, 4 if the number is above
+    /// 4095, and 8 if the text goes on after the number.
     pub place: usize,
 }
 
 impl Idn {
     ghost use Rattle.sercos_idn.specs.Idns.{idn_text};
 
-    /// Returns the identifier number that a text spells. Each has one spelling, which `Display` prints: `S` or `P`, `-`,
-    /// the parameter set as a digit from 0 to 7, `-`, and the number, at most 4095, in four decimal digits. Any other text
-    /// is refused at the first byte that doesn't fit.
+    /// Returns the identifier number that a text spells. Each has one spelling (this profile), which `Display` prints: `S` or `P`, `-`, the
+    /// parameter set as a digit from 0 to 7, `-`, and the number, at most 4095, in four decimal digits. The error for any other text has
+    /// the index of the first byte that doesn't fit, as [`BadIdn`] defines it.
     pub fn parse(text: &str) -> Result<Idn, BadIdn>
         ensures ok { IfOk result (λ idn. text.now ≡ idn_text idn.raw) }
         ensures value { IfOk result (λ idn. idn ≡ record { raw = spelled_raw text.now }) }
@@ -190,16 +192,16 @@ impl Idn {
         }
     }
 
-    /// Returns the eight bytes of the text, as `Display` prints it.
+    /// Returns the eight bytes of the text that `Display` prints.
     #[tactic(auto, unfolding(crate::specs::Idns::idn_text, crate::specs::Idns::four_digits))]
     pub fn text(self) -> [u8; 8]
         ensures { result ≡ idn_text self.raw }
     {
-        let number = self.raw % SET;
+        let number = self.raw % SET_FACTOR;
         [
-            if self.raw < PRODUCT { b'S' } else { b'P' },
+            if self.raw < LETTER_P { b'S' } else { b'P' },
             b'-',
-            digit(self.raw / SET % SETS),
+            digit(self.raw / SET_FACTOR % SET_COUNT),
             b'-',
             digit(number / 1000),
             digit(number / 100 % 10),
@@ -209,7 +211,7 @@ impl Idn {
     }
 }
 
-// The decimal digit of a number below 10.
+// Returns the decimal digit, as a byte, of a number below 10.
 fn digit(number: u16) -> u8
     requires { number < 10 }
     ensures { result ≡ 48 + number }
@@ -217,13 +219,14 @@ fn digit(number: u16) -> u8
     b'0' + number as u8
 }
 
-// The letter of an identifier number.
+// Returns the letter of an identifier number: S if bit 15 is 0, otherwise P.
 fn letter_of(raw: u16) -> char
     ensures { result ≡ letter_of raw }
 {
-    if raw < PRODUCT { 'S' } else { 'P' }
+    if raw < LETTER_P { 'S' } else { 'P' }
 }
 
+// Prints the eight bytes that `text` returns.
 impl fmt::Display for Idn {
     ghost use Rattle.sercos_idn.specs.Idns.{idn_text};
 
@@ -231,8 +234,8 @@ impl fmt::Display for Idn {
 
     fn fmt<W: fmt::Write>(&self, f: &mut fmt::Formatter<W>) -> fmt::Result {
         let letter = letter_of(self.raw);
-        let set = self.raw / SET % SETS;
-        let number = self.raw % SET;
+        let set = self.raw / SET_FACTOR % SET_COUNT;
+        let number = self.raw % SET_FACTOR;
         write!(f, "{letter}-{set}-{number:04}")
     }
 }

@@ -1,11 +1,9 @@
+// The lengths and display forms of operation data, and their codes in an attribute.
 ghost use Rattle.std.specs.Prelude.{◌≡◌, true};
-ghost use Rattle.sercos_idn.specs.Codes.{length_code, form_code, is_length, is_form};
+ghost use Rattle.sercos_idn.specs.Clauses.{length_code, form_code, is_length, is_form};
 
-/// The code of a length of two bytes.
-pub const TWO: u32 = 1;
-
-/// The length of a data block's operation data: two or four bytes, or a list of variable length whose items have one,
-/// two or four bytes.
+/// The length of a data block's operation data (IEC 61491:1995): two or four bytes, or a list of variable length whose items have one, two
+/// or four bytes.
 #[derive(Clone, Copy, Debug, PartialEq, Eq)]
 pub enum Length {
     /// Two bytes.
@@ -34,7 +32,7 @@ impl Length {
         }
     }
 
-    /// Returns how many bytes the value has, or each item of the list: 1, 2 or 4.
+    /// Returns the number of bytes of the value, or of each item of the list: 1, 2 or 4.
     pub fn item_len(self) -> usize
         ensures value { result ≡ item_len self }
         ensures bounds { (1 ≤ result) × (result ≤ 4) }
@@ -47,7 +45,7 @@ impl Length {
     }
 }
 
-/// How operation data is shown.
+/// How operation data is displayed (IEC 61491:1995).
 #[derive(Clone, Copy, Debug, PartialEq, Eq)]
 pub enum Form {
     /// Bits.
@@ -64,14 +62,14 @@ pub enum Form {
     Idn,
 }
 
-/// Returns whether a code is one of a length.
+/// Returns whether a code is that of a length: 1, 2, 4, 5 or 6.
 pub fn is_length(code: u32) -> bool
     ensures { result ≡ is_length code }
 {
     code != 0 && code != 3 && code < 7
 }
 
-/// Returns the length of a code.
+/// Returns the length with a code: 1, 2, 4, 5 or 6.
 pub fn length_of(code: u32) -> Length
     requires { is_length code ≡ true }
     ensures { length_code result ≡ code }
@@ -85,7 +83,7 @@ pub fn length_of(code: u32) -> Length
     }
 }
 
-/// Returns the code of a length.
+/// Returns the code of a length, which an attribute has in bits 18 to 16.
 pub fn length_code(length: Length) -> u32
     ensures { result ≡ length_code length }
 {
@@ -98,14 +96,14 @@ pub fn length_code(length: Length) -> u32
     }
 }
 
-/// Returns whether a code is one of a display form.
+/// Returns whether a code is that of a display form: 0 to 5.
 pub fn is_form(code: u32) -> bool
     ensures { result ≡ is_form code }
 {
     code <= 5
 }
 
-/// Returns the display form of a code.
+/// Returns the display form with a code: 0 to 5.
 pub fn form_of(code: u32) -> Form
     requires { is_form code ≡ true }
     ensures { form_code result ≡ code }
@@ -120,7 +118,7 @@ pub fn form_of(code: u32) -> Form
     }
 }
 
-/// Returns the code of a display form.
+/// Returns the code of a display form, which an attribute has in bits 22 to 20.
 pub fn form_code(form: Form) -> u32
     ensures { result ≡ form_code form }
 {

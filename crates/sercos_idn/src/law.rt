@@ -1,30 +1,28 @@
-// Laws on the place of a refused identifier number, on the word of an attribute, and on the codes of errors.
+// Laws on the index at which an identifier number is refused, on the word of an attribute, and on the codes of errors.
 ghost use Rattle.std.specs.Prelude.{◌≡◌, ℕ, ◌^◌, ◌<◌, List, Some, None};
-ghost use Rattle.sercos_idn.specs.Idns.{idn_fault};
-ghost use Rattle.sercos_idn.specs.Places.{IsRefusedAt};
-ghost use Rattle.sercos_idn.specs.Codes.{attribute_fault};
-ghost use Rattle.sercos_idn.specs.Attributes.{attribute_word, attribute_of};
-ghost use Rattle.sercos_idn.specs.declared.attribute.Attribute.{Attribute};
+ghost use Rattle.sercos_idn.specs.Clauses.{idn_fault, IsRefusedAt, attribute_fault, attribute_word, attribute_of, Attribute};
 
 use crate::code::Code;
 
-/// If a text is refused at a place, the bytes before it begin the text of an identifier number, and
-/// with the byte at the place they don't. If the place is the end of the text, the text is incomplete. A number above 4095
-/// is refused at its first digit once all four digits are there; the bytes before any other place may begin such a number,
-/// too.
+/// States what the index means at which [`idn_fault`](crate::idn_fault) refuses a text. A text is large if it is that of an identifier
+/// number, except that its number is from 4096 to 9999.
+/// - If the first eight bytes are a large text, the index is 4, regardless of what follows them.
+/// - Otherwise, if the index is below the text's length, the bytes before it begin the text of an identifier number or a large one, and
+///   with the byte at the index they begin neither.
+/// - Otherwise the index is the text's length: the text begins one of these, and is not that of an identifier number.
 pub fn place_law()
     ensures { (text : List ℕ) (place : ℕ) → idn_fault text ≡ Some place → IsRefusedAt text place }
 {}
 
-/// The word of an attribute has 32 bits and no fault, and the attribute that it is is that one.
+/// States that the word of an attribute is below 2^32 and has no fault, and that the attribute of this word is the same attribute. The
+/// conversion factor of the attribute has sixteen bits.
 pub fn attribute_law()
     ensures small { (a : Attribute) → a.factor < 2 ^ 16 → attribute_word a < 2 ^ 32 }
     ensures sound { (a : Attribute) → a.factor < 2 ^ 16 → attribute_fault (attribute_word a) ≡ None }
     ensures back { (a : Attribute) → a.factor < 2 ^ 16 → attribute_of (attribute_word a) ≡ a }
 {}
 
-/// The information word of each error code that is the same for all elements. The words are this
-/// profile's.
+/// States the information word of each constant of [`Code`]. The words are this profile's.
 pub fn code_law()
     ensures not_open { Code.NOT_OPEN.raw ≡ 0x0001 }
     ensures no_idn { Code.NO_IDN.raw ≡ 0x1001 }

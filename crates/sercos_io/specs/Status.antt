@@ -3,7 +3,7 @@ use Rattle.std.specs.Prelude.{ℕ, List, codes}
 use Rattle.sercos_io.specs.declared.status.Status.{Status}
 use Rattle.sercos_io.specs.declared.status.Status.TheVariants.{Done, No, BadWords, Refused, ReadFault, WriteFault, Memory, TooLong}
 
--- the number that a process ends with
+-- the exit status of a process
 abbrev pub status_code : Status → ℕ
 status_code Done = 0
 status_code No = 1

@@ -1,11 +1,6 @@
-//! Sources and sinks over the readers and writers of std.
+//! Sources and sinks over std's readers and writers.
 ghost use Rattle.std.specs.Prelude.{◌≡◌, ◌<◌, ◌≤◌, length, IfErr, IfOk, OnErr};
-ghost use Rattle.std.specs.Io.{ReadsAtMost, WritesAtMost};
-ghost use Rattle.std.specs.Io.KnownBytes.{ReadConsumes, WriteAppends};
-ghost use Rattle.std.specs.IoError.{error_kind};
-ghost use Rattle.sercos_model.specs.Streams.{HasCause, HasRoom};
-ghost use Rattle.sercos_io.specs.Adapters.{AdapterState};
-ghost use Rattle.sercos_io.specs.Memory.{raised};
+ghost use Rattle.sercos_io.specs.Clauses.{ReadsAtMost, WritesAtMost, ReadConsumes, WriteAppends, error_kind, HasCause, HasRoom, AdapterState, raised};
 
 use crate::calls::one_more;
 use crate::sink::{Sink, WriteFailed};
@@ -14,10 +9,11 @@ use std::io;
 use std::io::{ErrorKind, Read, Write};
 use std::marker::Model;
 
-/// The number of interrupted calls in a row that is a failure.
+/// The number of interrupted calls in a row that makes a read or a write fail.
 const MOST_INTERRUPTED: u32 = 1000;
 
-// Reads until a call isn't interrupted, at most 1,000 times. Returns the number of interrupted calls, and what the last one returned.
+// Reads until a call isn't interrupted, with at most 1,000 calls. Returns the number of interrupted calls, and the result of the last one.
+// After 1,000 interrupted calls this is the error `Interrupted`. An error has consumed no byte; then `piece` is unspecified.
 fn read_again<R: Read>(reader: &mut R, piece: &mut [u8]) -> (u32, io::Result<usize>)
     ensures bound { ReadsAtMost result.1 piece.new }
     ensures bytes { ReadConsumes (R.remaining reader.old) (R.remaining reader.new) result.1 piece.new }
@@ -36,7 +32,8 @@ fn read_again<R: Read>(reader: &mut R, piece: &mut [u8]) -> (u32, io::Result<usi
     )
 }
 
-// Writes until a call isn't interrupted, at most 1,000 times. Returns the number of interrupted calls, and what the last one returned.
+// Writes until a call isn't interrupted, with at most 1,000 calls. Returns the number of interrupted calls, and the result of the last one.
+// After 1,000 interrupted calls this is the error `Interrupted`. An error has written no byte.
 fn write_again<W: Write>(writer: &mut W, piece: &[u8]) -> (u32, io::Result<usize>)
     ensures bound { WritesAtMost result.1 piece.now }
     ensures bytes { WriteAppends (W.contents writer.old) (W.contents writer.new) result.1 piece.now }
@@ -57,8 +54,7 @@ fn write_again<W: Write>(writer: &mut W, piece: &[u8]) -> (u32, io::Result<usize
 
 /// A source over a reader of std.
 ///
-/// A contract sees the bytes that the reader has left, if they are known, and the number of reads that failed,
-/// which stops at 2^64 - 1.
+/// Contracts see the bytes that the reader has left, if they are known, and the number of reads that failed. This number stops at 2^64 - 1.
 #[derive(Drop)]
 pub struct StdSource<R: Read> {
     reader: R,
@@ -74,7 +70,7 @@ impl<R: Read> Model for StdSource<R> {
 }
 
 impl<R: Read> StdSource<R> {
-    /// Returns a source over this reader, with no failure yet.
+    /// Returns a source over this reader, with no failed read so far.
     pub fn new(reader: R) -> StdSource<R>
         ensures { result ≡ record { bytes = R.remaining reader; faults = 0 } }
     {
@@ -87,9 +83,9 @@ impl<R: Read> Source for StdSource<R> {
 
     ghost faults = { λ s. s.faults };
 
-    /// Reads from the reader. A call that was interrupted is made again, and the 1,000th in a row is a failure. No byte is lost or
-    /// read twice: an interrupted call takes none. How often the reader is called isn't stated here, since std counts no calls of a
-    /// reader: `read_again` states it of what the calls return.
+    /// Reads from the reader. A call that was interrupted is repeated, and the 1,000th interruption in a row is a failure. No byte is lost
+    /// or read twice. A failure adds 1 to the number of failed reads. Bytes of `piece` after those read are unspecified, and after an error
+    /// all of them are. This contract doesn't bound the number of calls of the reader, since std counts none; that of `read_again` does.
     fn read(&mut self, piece: &mut [u8]) -> Result<usize, ReadFailed>
         ensures bound { ReadsAtMost result piece.new }
         ensures bytes { ReadConsumes self.old.bytes self.new.bytes result piece.new }
@@ -107,11 +103,10 @@ impl<R: Read> Source for StdSource<R> {
     }
 }
 
-/// A sink over a writer of std. Bytes in a writer's own buffer count as written, so a writer with a buffer is
-/// passed as a `&mut` and flushed afterwards.
+/// A sink over a writer of std. Bytes in a writer's own buffer count as written, so a writer with a buffer is passed as a `&mut` and
+/// flushed afterwards.
 ///
-/// A contract sees the bytes that the writer holds, if they are known, and the number of writes that failed,
-/// which stops at 2^64 - 1.
+/// Contracts see the bytes that the writer holds, if they are known, and the number of writes that failed. This number stops at 2^64 - 1.
 #[derive(Drop)]
 pub struct StdSink<W: Write> {
     writer: W,
@@ -127,7 +122,7 @@ impl<W: Write> Model for StdSink<W> {
 }
 
 impl<W: Write> StdSink<W> {
-    /// Returns a sink over this writer, with no failure yet.
+    /// Returns a sink over this writer, with no failed write so far.
     pub fn new(writer: W) -> StdSink<W>
         ensures { result ≡ record { bytes = W.contents writer; faults = 0 } }
     {
@@ -140,9 +135,10 @@ impl<W: Write> Sink for StdSink<W> {
 
     ghost faults = { λ s. s.faults };
 
-    /// Writes to the writer. An interrupted call is made again, and the 1,000th in a row is a failure. A 0 for a piece that isn't empty
-    /// is a failure, too. No byte is lost or written twice: an interrupted call takes none. How often the writer is called isn't stated
-    /// here, since std counts no calls of a writer: `write_again` states it of what the calls return.
+    /// Writes to the writer. A call that was interrupted is repeated, and the 1,000th interruption in a row is a failure. If the writer
+    /// accepts no byte of a piece that isn't empty, that is a failure, too. No byte is lost or written twice. A failure adds 1 to the
+    /// number of failed writes. This contract doesn't bound the number of calls of the writer, since std counts none; that of `write_again`
+    /// does.
     fn write(&mut self, piece: &[u8]) -> Result<usize, WriteFailed>
         ensures bound { WritesAtMost result piece.now }
         ensures some { IfOk result (λ count. 0 < length piece.now → 0 < count) }

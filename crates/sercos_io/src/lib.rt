@@ -1,5 +1,5 @@
-//! Where bytes come from and where they go: sources and sinks with a count of their faults, in memory and over
-//! std's readers and writers, the words of a command, and the status that a command ends with.
+//! Sources and sinks of bytes that count their faults, in memory and over std's readers and writers; the words of a command; and the status
+//! with which a command ends.
 #![tactic(auto)]
 
 mod adapters;

@@ -1,19 +1,16 @@
 //! A sink into memory.
-ghost use Rattle.std.specs.Prelude.{◌≡◌, ◌↔◌, ◌+◌, ◌-◌, ◌<◌, ◌≤◌, ◌⊎◌, [], ◌++◌, Some, min, length, take, vec_len, vec_capacity, Contains, IfOk, OnErr, IsErr};
-ghost use Rattle.std.specs.Io.{WritesAtMost};
-ghost use Rattle.std.specs.Io.KnownBytes.{WriteAppends};
-ghost use Rattle.sercos_model.specs.Streams.{HasCause, HasRoom};
-ghost use Rattle.sercos_io.specs.Memory.{raised, room_of};
+ghost use Rattle.std.specs.Prelude.{◌≡◌, ◌↔◌, ◌+◌, ◌-◌, ◌<◌, ◌≤◌, ◌⊎◌, ◌++◌, Some, min, length, take, vec_len, vec_capacity, Contains, IfOk, OnErr, IsErr};
+ghost use Rattle.sercos_io.specs.Clauses.{WritesAtMost, WriteAppends, HasCause, HasRoom, raised, room_of};
 
 use crate::calls::{is_listed, one_more};
 use crate::sink::{Sink, WriteFailed};
 use std::marker::Model;
 
-/// Appends bytes to a `Vec` up to its capacity, in pieces of a set size, and fails the calls with the listed
-/// numbers. It never takes memory.
+/// A sink that appends bytes to a `Vec` up to its capacity, in pieces of bounded size, and fails the calls with the listed numbers.
 ///
-/// A contract sees the record of the bytes, `held`, of `spare`, the number of bytes that still fit, and of
-/// `piece`, `failing`, `calls` and `faults`. The two counts stop at 2^64 - 1.
+/// Contracts see a record: the bytes `held`; the number of bytes that still fit, `spare`; the most bytes of a call, `piece`; the numbers of
+/// the calls that fail, `failing`; and the numbers of all calls and of failed calls so far, `calls` and `faults`, which stop at 2^64 - 1.
+/// The sink's room is the number of spare bytes if no call is listed and `faults` is below 2^64 - 1, otherwise 0.
 #[derive(Drop)]
 pub struct MemorySink {
     bytes: Vec<u8>,
@@ -43,8 +40,8 @@ impl Model for MemorySink {
 }
 
 impl MemorySink {
-    /// Returns a sink that appends to `room` up to its capacity. It accepts at most `piece` bytes a call,
-    /// which is at least 1, and fails the calls whose numbers, counted from 1, are in `failing`.
+    /// Returns a sink that appends to `room` up to its capacity. It accepts at most `piece` bytes a call, which is at least 1, and fails
+    /// the calls whose numbers, counted from 1, are in `failing`.
     pub fn new(room: Vec<u8>, piece: u32, failing: Vec<u32>) -> MemorySink
         requires { 1 ≤ piece }
         ensures { result ≡ record {
@@ -66,7 +63,7 @@ impl MemorySink {
         }
     }
 
-    /// Returns the bytes that it holds.
+    /// Returns the bytes held: those that the `Vec` had first, and those accepted since.
     pub fn as_slice(&self) -> &[u8]
         ensures { result.now ≡ self.now.held }
     {
@@ -81,8 +78,9 @@ impl Sink for MemorySink {
 
     ghost room = { room_of };
 
-    /// Takes bytes from the front of the piece, as many as a call takes and as have room. Exactly the calls whose
-    /// numbers are listed fail, and those that find no room for a piece that isn't empty.
+    /// Accepts bytes from the front of `piece`, and returns how many: the least of the most bytes of a call, the length of `piece` and the
+    /// spare bytes. A call fails iff its number is listed, or no byte is spare and `piece` isn't empty. Then no byte is accepted, and
+    /// `faults` rises by 1. Each call raises `calls` by 1.
     fn write(&mut self, piece: &[u8]) -> Result<usize, WriteFailed>
         ensures bound { WritesAtMost result piece.now }
         ensures some { IfOk result (λ count. 0 < length piece.now → 0 < count) }

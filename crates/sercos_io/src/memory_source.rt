@@ -1,18 +1,15 @@
-//! A source over bytes in memory with calls that fail.
-ghost use Rattle.std.specs.Prelude.{◌≡◌, ◌↔◌, ◌≤◌, ◌++◌, Some, min, length, take, drop, vec_items, Contains, IfOk, OnErr, IsErr};
-ghost use Rattle.std.specs.Io.{ReadsAtMost};
-ghost use Rattle.std.specs.Io.KnownBytes.{ReadConsumes};
-ghost use Rattle.sercos_model.specs.Streams.{HasCause};
-ghost use Rattle.sercos_io.specs.Memory.{raised};
+//! A source over bytes in memory, with calls that fail.
+ghost use Rattle.std.specs.Prelude.{◌≡◌, ◌↔◌, ◌≤◌, ◌++◌, Some, min, length, take, drop, Contains, IfOk, OnErr, IsErr};
+ghost use Rattle.sercos_io.specs.Clauses.{ReadsAtMost, ReadConsumes, HasCause, raised};
 
 use crate::calls::{copy_front, is_listed, one_more};
 use crate::source::{ReadFailed, Source};
 use std::marker::Model;
 
-/// Returns the bytes of a `Vec` in pieces of a set size, and fails the calls with the listed numbers.
+/// A source that returns the bytes of a `Vec` in pieces of bounded size, and fails the calls with the listed numbers.
 ///
-/// A contract sees the record of the bytes to come, `left`, and of `piece`, `failing`, `calls` and `faults`. The
-/// two counts stop at 2^64 - 1.
+/// Contracts see a record: the bytes not read yet, `left`; the most bytes of a call, `piece`; the numbers of the calls that fail,
+/// `failing`; and the numbers of all calls and of failed calls so far, `calls` and `faults`, which stop at 2^64 - 1.
 #[derive(Drop)]
 pub struct MemorySource {
     bytes: Vec<u8>,
@@ -41,8 +38,8 @@ impl Model for MemorySource {
 }
 
 impl MemorySource {
-    /// Returns a source of these bytes. It returns at most `piece` bytes a call, which is at least 1, and
-    /// fails the calls whose numbers, counted from 1, are in `failing`.
+    /// Returns a source of these bytes. It returns at most `piece` bytes a call, which is at least 1, and fails the calls whose numbers,
+    /// counted from 1, are in `failing`.
     pub fn new(bytes: Vec<u8>, piece: u32, failing: Vec<u32>) -> MemorySource
         requires { 1 ≤ piece }
         ensures { result ≡ record {
@@ -69,8 +66,9 @@ impl Source for MemorySource {
 
     ghost faults = { λ s. s.faults };
 
-    /// Returns the next bytes, as many as the size of a call and the piece allow and as are left. The calls that
-    /// fail are exactly those whose numbers are listed.
+    /// Reads the next bytes into the front of `piece`, and returns how many: the least of the most bytes of a call, the length of `piece`
+    /// and the bytes left. The other bytes of `piece` are unchanged. A call fails iff its number is listed. Then nothing is read, `piece`
+    /// is unchanged, and `faults` rises by 1. Each call raises `calls` by 1.
     fn read(&mut self, piece: &mut [u8]) -> Result<usize, ReadFailed>
         ensures bound { ReadsAtMost result piece.new }
         ensures bytes { ReadConsumes (Some self.old.left) (Some self.new.left) result piece.new }

@@ -1,16 +1,14 @@
 //! A source over bytes in memory that never fails.
-ghost use Rattle.std.specs.Prelude.{◌≡◌, ◌++◌, Some, min, length, take, drop, vec_items, IfOk, IsOk};
-ghost use Rattle.std.specs.Io.{ReadsAtMost};
-ghost use Rattle.std.specs.Io.KnownBytes.{ReadConsumes};
-ghost use Rattle.sercos_model.specs.Streams.{HasCause};
+ghost use Rattle.std.specs.Prelude.{◌≡◌, ◌++◌, Some, min, length, take, drop, IfOk, IsOk};
+ghost use Rattle.sercos_io.specs.Clauses.{ReadsAtMost, ReadConsumes, HasCause};
 
 use crate::calls::copy_front;
 use crate::source::{ReadFailed, Source};
 use std::marker::Model;
 
-/// Returns the bytes of a `Vec`, and never fails.
+/// A source that returns the bytes of a `Vec`, and never fails.
 ///
-/// A contract sees the list of the bytes to come.
+/// Contracts see the list of the bytes not read yet.
 #[derive(Drop)]
 pub struct PlainSource {
     bytes: Vec<u8>,
@@ -41,7 +39,8 @@ impl Source for PlainSource {
 
     ghost faults = { λ _. 0 };
 
-    /// Returns the next bytes, as many as fit into the piece and are left. It never fails.
+    /// Reads the next bytes into the front of `piece`, and returns how many: as many as fit and are left. The other bytes of `piece` are
+    /// unchanged. It never fails.
     fn read(&mut self, piece: &mut [u8]) -> Result<usize, ReadFailed>
         ensures bound { ReadsAtMost result piece.new }
         ensures bytes { ReadConsumes (Some self.old) (Some self.new) result piece.new }

@@ -1,14 +1,14 @@
-//! What a command ends with.
+//! The status with which a command ends.
 ghost use Rattle.std.specs.Prelude.{◌≡◌};
 
-/// What a command ends with, in the order of the exit statuses 0 to 7.
+/// The status with which a command ends, in the order of the exit statuses 0 to 7 (this profile).
 #[derive(Clone, Copy, Debug, PartialEq, Eq)]
 pub enum Status {
     /// The command did its work: 0.
     Done,
     /// The answer is no, and the output has the reason: 1.
     No,
-    /// The words are no command: 2.
+    /// The words are not a command: 2.
     BadWords,
     /// The input is refused, and the output has the reason: 3.
     Refused,
@@ -16,7 +16,7 @@ pub enum Status {
     ReadFault,
     /// The output could not be written: 5.
     WriteFault,
-    /// No memory was found: 6.
+    /// Out of memory: 6.
     Memory,
     /// The input has more than 1,048,576 bytes: 7.
     TooLong,
@@ -32,7 +32,7 @@ impl Status {
         self as u8
     }
 
-    /// Returns the status's name, as `BadWords`.
+    /// Returns the name of the status, such as `BadWords`.
     pub fn name(self) -> &'static str
         ensures { result.now ≡ status_name self }
     {

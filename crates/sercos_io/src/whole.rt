@@ -1,38 +1,39 @@
-//! A whole input from a source, and a whole text to a sink.
+//! A whole input, read from a source, and a whole text, written to a sink.
 ghost use Rattle.std.specs.Prelude.{◌≡◌, ℕ, ◌+◌, ◌<◌, ◌≤◌, List, length, take, IfOk, OnOk, OnErr, IfErr, IsOk, IsErrOf};
-ghost use Rattle.std.specs.Io.KnownBytes.{Appends, Consumes, IsAtEnd};
-ghost use Rattle.sercos_model.specs.Streams.{HasCause};
-ghost use Rattle.sercos_io.specs.ReadAll.{HasTaken, ReadAllHasCause};
+ghost use Rattle.sercos_io.specs.Clauses.{Appends, Consumes, IsAtEnd, HasCause, HasTaken, ReadAllHasCause};
 
 use crate::sink::{Sink, WriteFailed};
 use crate::source::Source;
 use std::alloc::Global;
 use thiserror::Error;
 
-/// The number of bytes that an input may have.
+/// The most bytes of an input.
 const MOST_BYTES: usize = 1_048_576;
 
-/// The number of bytes that are requested at once.
+/// The most bytes that are requested at once.
 const PIECE_BYTES: usize = 8192;
 
 /// Why an input could not be read to its end.
 #[derive(Clone, Copy, Debug, PartialEq, Eq, Error)]
 pub enum ReadAll {
-    /// A read failed: the source's count of faults rose.
+    /// A read failed. The source's count of faults has risen, or is 2^64 - 1.
     #[error("the source could not be read")]
     ReadFault,
-    /// 1,048,577 bytes were taken from the source.
+    /// The source has more than 1,048,576 bytes. Exactly 1,048,577 were taken from it.
     #[error("the source has more than 1048576 bytes")]
     TooLong,
-    /// No memory was found for the bytes.
+    /// Out of memory for the bytes.
     #[error("out of memory")]
     Memory,
 }
 
-/// Returns the bytes of a source up to its end, at most 1,048,576 of them.
+/// Returns the bytes of a source up to its end, at most 1,048,576 of them (this profile).
 ///
-/// The error is `TooLong` if 1,048,577 bytes were read, and no more are ever read; it is `ReadFault` if a read
-/// failed. After any error the bytes that were read are lost.
+/// - The error is `TooLong` if the source has more bytes. Exactly 1,048,577 were taken from it.
+/// - It is `ReadFault` if a read failed. At most 1,048,576 bytes were taken, and the source's count of faults has risen or is 2^64 - 1.
+/// - It is `Memory` if `alloc` has no memory for the bytes. At most 1,048,576 were taken.
+///
+/// After any error the bytes that were taken are lost. The count of faults is unchanged unless the error is `ReadFault`.
 pub fn read_all<S: Source>(alloc: Global, source: &mut S) -> Result<Vec<u8>, ReadAll>
     ensures ok { IfOk result (λ bytes. Consumes (S.left source.old) (S.left source.new) bytes.items
         × IsAtEnd (S.left source.new) × (length bytes.items ≤ 1048576)) }
@@ -45,7 +46,7 @@ pub fn read_all<S: Source>(alloc: Global, source: &mut S) -> Result<Vec<u8>, Rea
     let mut bytes = Vec::new(alloc);
     let mut piece = [0u8; PIECE_BYTES];
     'pieces: loop {
-        // One byte more than the limit is requested, so that a longer input shows.
+        // One byte more than the limit is requested, so that a longer input is detected.
         let wanted = (MOST_BYTES + 1 - bytes.len()).min(PIECE_BYTES);
         let Ok(count) = source.read(&mut piece[..wanted]) else {
             return Err(ReadAll::ReadFault);
@@ -62,7 +63,9 @@ pub fn read_all<S: Source>(alloc: Global, source: &mut S) -> Result<Vec<u8>, Rea
     }
 }
 
-/// Writes all the bytes to a sink. After an error the sink has taken a prefix of them, short of the whole.
+/// Writes all the bytes to a sink. After an error the sink has accepted a proper prefix of them. The sink's count of faults is unchanged if
+/// the result is `Ok`; otherwise it has risen or is 2^64 - 1. There is no error if the sink's room is at least the number of bytes. The
+/// room falls by at most this number.
 pub fn write_all<K: Sink>(sink: &mut K, bytes: &[u8]) -> Result<(), WriteFailed>
     ensures ok { OnOk result (Appends (K.held sink.old) (K.held sink.new) bytes.now) }
     ensures err { OnErr result ((count : ℕ) × (count < length bytes.now)

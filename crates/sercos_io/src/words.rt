@@ -4,7 +4,7 @@ ghost use Rattle.std.specs.Prelude.{◌≡◌, ◌<◌, [], ◌∷◌, ◌++◌,
 use std::alloc::{AllocError, Global};
 use std::marker::Model;
 
-/// The words of a command, first to last. A contract sees the list of them, each a list of bytes.
+/// The words of a command, first to last. Contracts see the list of them, each a list of bytes.
 #[derive(Drop)]
 pub struct Words {
     words: Vec<String>,
@@ -19,7 +19,7 @@ impl Model for Words {
 }
 
 impl Words {
-    /// No words. It takes no memory, and keeps the allocator for `push`.
+    /// Returns an empty list of words. `push` takes memory from `alloc`.
     pub fn new(alloc: Global) -> Words
         ensures { result ≡ [] }
     {
@@ -28,7 +28,7 @@ impl Words {
         }
     }
 
-    /// Appends a word. The error is `AllocError`; then the words are as before.
+    /// Appends a copy of a word. The error is `AllocError` if there is no memory for it. Then the words are unchanged.
     pub fn push(&mut self, word: &str) -> Result<(), AllocError>
         ensures ok { OnOk result (self.new ≡ self.old ++ word.now ∷ []) }
         ensures err { OnErr result (self.new ≡ self.old) }
@@ -45,7 +45,7 @@ impl Words {
         self.words.len()
     }
 
-    /// Returns the word at a place, counted from 0. The place is below `len`.
+    /// Returns the word at an index, counted from 0. The index must be below `len`.
     pub fn get(&self, place: usize) -> &str
         requires { place < length self.now }
         ensures { slice_get self.now place ≡ Some result.now }

@@ -1,23 +1,14 @@
 // Laws on the two ends of a service channel.
 ghost use Rattle.std.specs.Prelude.{◌≡◌, ℕ, List, ◌∷◌};
-ghost use Rattle.sercos_block.specs.declared.block.Block.{Block};
-ghost use Rattle.sercos_service_drive.specs.Log.{Processed, ahs};
-ghost use Rattle.sercos_service_drive.specs.Replies.{reply_of, log_of};
-ghost use Rattle.sercos_service_master.specs.Begun.{is_odd};
-ghost use Rattle.sercos_law_channel.specs.Handshake.Moves.{Hears, Begins, Takes, with_processed};
-ghost use Rattle.sercos_law_channel.specs.Handshake.Parts.{ComeInTurn, FallIntoParts, HaveReplies, MakeTransfers};
-ghost use Rattle.sercos_law_channel.specs.Handshake.Transfers.{WritesOnce, WritesNothing};
-ghost use Rattle.sercos_law_channel.specs.Handshake.CommandTransfers.{SetsAndCancels, RefusedAddsNothing, EndsWithStatus, RefusesUnknown, WritesNowhere};
-ghost use Rattle.sercos_law_channel.specs.Handshake.ReadTransfers.{ReadsOnce};
-ghost use Rattle.sercos_law_channel.specs.Handshake.Runs.{IsRun};
-ghost use Rattle.sercos_law_channel.specs.Handshake.Choices.{Choice, run_by, AreSoundChoices};
-ghost use Rattle.sercos_law_channel.specs.Handshake.WholeRun.{AreSound};
-ghost use Rattle.sercos_law_channel.specs.Handshake.RunLaws.{StandsNoLater, StandsAsCommanded, StaysDown, ComesUp, KeepsUp, AcceptsInOrder, ProcessesInPhase, ComesToZero, BeginsEmpty, AreInStepInEpoch, AreInStepInCycle, IsOfEpoch, Handshake};
-ghost use Rattle.sercos_law_channel.specs.Handshake.Exact.{RunsAreExact};
-ghost use Rattle.sercos_law_channel.specs.Handshake.Values.{HoldsNewest, StaysProtected, StaysQuiet, StaysFixed, StaysWritten};
+ghost use Rattle.sercos_law_channel.specs.Clauses.{Block, Processed, ahs, reply_of, log_of, is_odd, Hears, Begins, Takes, with_processed, ComeInTurn, FallIntoParts, HaveReplies, MakeTransfers, WritesOnce, WritesNothing, SetsAndCancels, RefusedAddsNothing, EndsWithStatus, RefusesUnknown, WritesNowhere, ReadsOnce, IsRun, Choice, run_by, AreSoundChoices, AreSound, StandsNoLater, StandsAsCommanded, StaysDown, ComesUp, KeepsUp, AcceptsInOrder, ProcessesInPhase, ComesToZero, BeginsEmpty, AreInStepInEpoch, AreInStepInCycle, IsOfEpoch, Handshake, RunsAreExact, HoldsNewest, StaysProtected, StaysQuiet, StaysFixed, StaysWritten};
 
-/// Each move of the two ends keeps them in step. The drive's handshake bit is whether the number of
-/// steps that it accepted is odd; and a record joins them if its bit differs from that.
+/// A law on the moves of the two ends of a channel. If both are in step, each of these moves keeps them so:
+/// - The master receives a status and an information word that show the drive's accepted steps.
+/// - The master begins a request while no step is open.
+/// - The drive processes a record that has what the master sends, whatever its answer is.
+///
+/// The drive's handshake bit is whether the number of steps that it accepted is odd. A record joins them, with the drive's reply to it, iff
+/// its bit differs from that.
 pub fn handshake_law()
     ensures hears { Hears }
     ensures begins { Begins }
@@ -26,9 +17,13 @@ pub fn handshake_law()
     ensures joins { (t : Processed) (h : List Processed) → log_of (t ∷ h) ≡ with_processed t (reply_of t (log_of h)) (log_of h) }
 {}
 
-/// If both ends are in step, what the drive has accepted falls into the parts of the requests, one after
-/// the other: each part are the steps of one request, as far as it got, with the answers that the master took. So the laws on
-/// transfers hold of each part.
+/// A law on the requests of a channel and the steps that the drive accepted:
+/// - If the master's calls are allowed, each request is begun while no step is open, and what the master took for it are answers to it.
+/// - Then, if both ends are in step, what the drive has accepted falls into the parts of the requests, one after the other. Each part has
+///   the steps of one request, as far as it got, with the answers that the master took.
+/// - Each step of a part has the drive's reply to it, after the steps before it.
+/// - Steps of a request with these replies, on blocks that stay except for their operation data, are a transfer. So the laws on transfers
+///   hold of each part.
 pub fn parts_law()
     ensures turn { ComeInTurn }
     ensures parts { FallIntoParts }
@@ -36,13 +31,19 @@ pub fn parts_law()
     ensures transfers { MakeTransfers }
 {}
 
-/// A law: a write of operation data adds one entry to the drive's writes, with its bytes, and only with the step that
-/// completes it. A read and a write of another element add none. A transfer to a data block that the drive lacks is refused
-/// at its opening, and adds none. One that sets a procedure command adds the setting with its second step, and the cancel
-/// with the step that completes it; then it returns the data status of the last step that reads it. If such a transfer is
-/// refused, it adds neither, if the block is a procedure command that isn't write protected at the refusal, or was so at each
-/// step before. A read that is complete returns the element's bytes of the one cycle in which the drive accepted the
-/// selection of the element, the first of its own steps.
+/// A law on the transfer of a request, at a drive with these data blocks:
+/// - A write of operation data adds one entry to the drive's writes, with its bytes, and only with the step that completes it. The drive
+///   must have the block, with a factor of 16 bits.
+/// - A read, and a write of another element, add none.
+/// - A transfer to a data block that the drive lacks adds none.
+/// - Such a transfer is refused at its opening, with the code 0x1001.
+/// - A transfer that sets a procedure command adds the setting with its second step, and the cancel with the step that completes it;
+///   nothing else.
+/// - If such a transfer is refused, it adds nothing, if the block is a procedure command that isn't write protected at the refusal, or was
+///   so at each step before.
+/// - If it is complete, it returns the data status of the last step that reads it.
+/// - A complete read of an element, 1 to 7, of a block that the drive has, with a factor of 16 bits, returns the element's bytes of the one
+///   cycle in which the drive accepted the selection of the element.
 pub fn transfer_law()
     ensures writes_once { WritesOnce }
     ensures writes_nothing { WritesNothing }
@@ -54,13 +55,26 @@ pub fn transfer_law()
     ensures reads_once { ReadsOnce }
 {}
 
-/// A law, without code, over a whole run of one drive and the master: regardless of losses, through all falls, epochs, resets
-/// and restarts of either end. The drive is in no higher phase than the later one commanded in a cycle or the one before, and
-/// processes a record in the commanded phase alone. From the second cycle in a row commanded 0 on it is in phase 0. Before
-/// phase 2 is commanded nothing was begun or accepted in the epoch. In every cycle both ends are in step over the epoch, also
-/// if the drive has fallen since. A drive that isn't in phase 0 has since its reset accepted what it accepted in the epoch,
-/// so both ends are in step over that too: no step is accepted twice, and no answer is taken for that to another step. And
-/// there is a run for any choices.
+/// A law, without code, over a whole run of one drive and the master: regardless of losses, through all falls, epochs, resets and restarts
+/// of either end:
+/// - The drive is in no higher phase than the later one commanded in a cycle or the one before.
+/// - A drive that gets the MST is then in the commanded phase, or in phase 0.
+/// - A record is processed in the cycle in which it arrives, in the phase commanded in it, which is 2 or above.
+/// - While 2 to 4 is commanded, a drive in phase 0 stays there.
+/// - While 0 or 1 is commanded, a drive that gets the MST is in that phase.
+/// - A drive in the commanded phase, or in the one below with its check passed, is in the commanded phase at the end of a cycle in which it
+///   doesn't restart, gets the MST, and in phases 3 and 4 its record.
+/// - The drive accepts at most one step in a cycle.
+/// - From the second cycle in a row commanded 0 on it is in phase 0.
+/// - While 0 or 1 is commanded next, nothing was begun or accepted in the epoch.
+/// - After every cycle both ends are in step over the epoch, also if the drive has fallen since.
+/// - So they are in a cycle at whose end the master falls.
+/// - In a cycle commanded 1 or later, a drive that isn't in phase 0 at its end has since its reset accepted what it accepted in the epoch.
+/// - In a cycle commanded 2 to 4, at whose end the drive is in phase 2 or above, both ends are in step over that, too: no step is accepted
+///   twice, and no answer is taken for that to another step.
+/// - There is a run for any choices.
+/// - If in each cycle chosen the drive has the same blocks, except for their operation data, and each request chosen is sound for them, the
+///   run is so.
 pub fn run_law()
     ensures no_later { StandsNoLater }
     ensures commanded { StandsAsCommanded }
@@ -79,19 +93,24 @@ pub fn run_law()
     ensures sound { (busy : ℕ) (blocks : List Block) (choices : List Choice) → AreSoundChoices blocks choices → AreSound blocks (run_by busy choices) }
 {}
 
-/// A law over a whole run, through all epochs: the requests in the order begun, the steps that the drive accepted, and its
-/// writes go side by side, transfer by transfer. The steps of a transfer are accepted in one phase. Its writes are whole if
-/// it is complete, none if it is refused, and the first of them if it is open or was broken. A complete read returns the
-/// element's bytes of the one cycle in which the drive accepted the selection, and a complete setting of a procedure command
-/// returns its data status.
+/// A law over a whole run, through all epochs: the requests in the order begun, the steps that the drive accepted, and its writes go side
+/// by side, transfer by transfer. The drive must have the same blocks in each cycle, except for their operation data, with factors of 16
+/// bits, and each request must be sound for them. The steps of a transfer are accepted in one phase. Its writes are whole if it is
+/// complete, none if it is refused, and the first of them if it is open or was broken. A complete read returns the element's bytes of the
+/// one cycle in which the drive accepted the selection, and a complete setting of a procedure command returns its data status.
 pub fn exact_law()
     ensures { (busy : ℕ) → RunsAreExact busy }
 {}
 
-/// A law over a whole run: a block holds what was written to it last. Nothing is written in a cycle commanded 0 or 1, nor to
-/// a block that is write protected in the commanded phase, and never to a fixed block. What a complete write of the epoch
-/// wrote stays the newest write to its block as long as no later request writes to it, whether or not the drive has fallen or
-/// restarted since.
+/// A law over a whole run. The last two statements require that the drive has the same blocks in each cycle, except for their operation
+/// data, and that each request is sound for them; the last one also that their factors have 16 bits:
+/// - A block other than S-0-0021 and S-0-0022 holds what was written to it last, and its first value if nothing was.
+/// - In a cycle commanded a phase in which a block is write protected, nothing is written to it. The drive must have the same blocks,
+///   except for their operation data.
+/// - Nothing is written in a cycle commanded 0 or 1.
+/// - Nothing is ever written to a fixed block.
+/// - What a complete write of the epoch wrote stays the newest write to its block as long as no later request writes to it, whether or not
+///   the drive has fallen or restarted since.
 pub fn values_law()
     ensures newest { HoldsNewest }
     ensures protected { StaysProtected }

@@ -1,6 +1,5 @@
 // The headline, as a law over every run of a ring.
-ghost use Rattle.sercos_law_run.specs.Headline.Headline.{Headline};
-ghost use Rattle.sercos_law_run.specs.Headline.Once.{OnceAlways};
+ghost use Rattle.sercos_law_run.specs.Clauses.{Headline, OnceAlways};
 
 /// A law over every run of a ring, over every link and with every restart. In each cycle up to the first undetected damage, an arrival
 /// that isn't what was sent and passes the check sequence anyway: if phase 3 or 4 is commanded, all telegrams lie apart and keep the
@@ -13,8 +12,8 @@ pub fn headline_law()
     ensures { Headline }
 {}
 
-/// A law over every run of a ring, whatever arrives: the numbers of the requests that end in a cycle ascend in its record, and none of
-/// them ended in an earlier cycle.
+/// A law over every run of a valid ring, whatever arrives: the numbers of the requests that end in a cycle ascend in its record, and none
+/// of them ended in an earlier cycle.
 pub fn once_law()
     ensures { OnceAlways }
 {}

@@ -1,12 +1,13 @@
 // What a run of a ring is.
 ghost use Rattle.std.specs.Prelude.{◌≡◌, ℕ, List, length};
-ghost use Rattle.sercos_step.specs.declared.request.Job.{Job};
-ghost use Rattle.sercos_block.specs.Views.{RingView};
-ghost use Rattle.sercos_trace.specs.Views.{CycleView};
-ghost use Rattle.sercos_script.specs.Links.{Carry, Restarts};
-ghost use Rattle.sercos_law_run.specs.Journal.Runs.{IsNext, IsRun, next_record, run_of};
+ghost use Rattle.sercos_law_run.specs.Clauses.{Job, RingView, CycleView, Carry, Restarts, IsNext, IsRun, next_record, run_of};
 
-/// The next cycle is the value of a function, and so exactly one journal of each length is a run.
+/// A law on the runs of a ring:
+/// - The next cycle of a run is the value of a function of those before.
+/// - That value is the next cycle.
+/// - So a run is the one of its length.
+/// - There is a run of each length.
+/// - It has that length.
 pub fn run_law()
     ensures next { (r : RingView) (jobs : List Job) (carry : Carry) (restarts : Restarts) (j : List CycleView) (t : CycleView) → IsNext r jobs carry restarts t j →
         t ≡ next_record r jobs carry restarts j }

@@ -1,12 +1,14 @@
-ghost use Rattle.std.specs.Prelude.{ℕ};
-ghost use Rattle.sercos_law_run.specs.Settings.SetByWrites.{IsSetByWrites, SetByKept};
-ghost use Rattle.sercos_law_run.specs.Settings.Checks.{StayWell, ChecksGive3};
-
 // Laws on the procedure commands that a drive was set to.
+ghost use Rattle.std.specs.Prelude.{ℕ};
+ghost use Rattle.sercos_law_run.specs.Clauses.{IsSetByWrites, SetByKept, StayWell, ChecksGive3};
 
-/// A law on the settings of a drive's procedure commands in a run. At each MST's place they are what the records since the drive
-/// was last in phase 0 left; and a procedure command whose newest write since then isn't 0 is set. If each check for phase 3 was
-/// set well, each that is set ends well, and each complete check for phase 3 returns 3.
+/// A law on the settings of a drive's procedure commands in a run:
+/// - If at each MST's place the settings are those that the cycle before left, or none after phase 0 or a restart, they are what the
+///   records since the drive was last in phase 0 left.
+/// - A block is set if the newest write to it since then isn't 0, and it was a procedure command in each of these records.
+/// - If each check for phase 3 was set well, each that is set ends well.
+/// - Then each complete check for phase 3 of the epoch returns 3. The settings must be as in the first statement, the requests sound for
+///   the drive's blocks, and the check a procedure command in each cycle.
 pub fn settings_law()
     ensures kept { SetByKept }
     ensures set { IsSetByWrites }

@@ -1,19 +1,10 @@
 // How the totals of a run are counted.
-ghost use Rattle.std.specs.Prelude.{◌≡◌, ℕ, ◌+◌, ◌<◌, List, [], ◌∷◌, ◌++◌, reverse, length, IfSome};
-ghost use Rattle.sercos_step.specs.declared.request.Job.{Job};
-ghost use Rattle.sercos_timing.specs.Views.{WishesView};
-ghost use Rattle.sercos_block.specs.Views.{RingView};
-ghost use Rattle.sercos_block.specs.Rings.{wishes_of};
-ghost use Rattle.sercos_script.specs.Links.{Carry, Restarts};
-ghost use Rattle.sercos_trace.specs.Views.{CycleView};
-ghost use Rattle.sercos_trace.specs.declared.record.Totals.{Totals};
-ghost use Rattle.sercos_law_run.specs.Journal.Runs.{IsNext};
-ghost use Rattle.sercos_law_run.specs.Totals.Counting.{AreFew, HasRoom, IsFew, none_made, with_cycle};
-ghost use Rattle.sercos_law_run.specs.Totals.Totals.{totals_of};
+ghost use Rattle.std.specs.Prelude.{◌≡◌, ℕ, ◌+◌, ◌<◌, List, [], ◌∷◌, ◌++◌, length, IfSome};
+ghost use Rattle.sercos_law_run.specs.Clauses.{Job, RingView, wishes_of, Carry, Restarts, CycleView, Totals, IsNext, AreFew, HasRoom, IsFew, none_made, with_cycle, totals_of};
 
 use sercos_master::master_law;
 
-/// The plan that is reported in a cycle has a time and a position for each drive.
+/// A law: the plan that is reported in a cycle of a run has a T1 and a position for each drive.
 pub fn plan_law()
     ensures starts { (r : RingView) (jobs : List Job) (carry : Carry) (restarts : Restarts) (t : CycleView) (j : List CycleView) → IsNext r jobs carry restarts t j →
         IfSome t.events.plan (λ p. length p.t1 ≡ length (wishes_of r).drives) }
@@ -23,7 +14,13 @@ pub fn plan_law()
     master_law();
 }
 
-/// The totals of cycles and one more, counted one by one, and that there is room for 50,000 of them.
+/// A law on the totals of cycles:
+/// - Before the first cycle they are those of no cycle.
+/// - With one more cycle they are those of the cycles and it.
+/// - Before the first cycle all counts are 0.
+/// - After n cycles and one more, of at most 128 requests of each outcome and 195 undetected arrivals, no count is above that of n + 1 such
+///   cycles.
+/// - So after fewer than 50,000 such cycles there is room for one more.
 pub fn totals_law()
     ensures none { none_made ≡ totals_of [] }
     ensures more { (cycles : List CycleView) (made : CycleView) → totals_of (cycles ++ made ∷ []) ≡ with_cycle (totals_of cycles) made }

@@ -174,9 +174,9 @@ pub use Rattle.sercos_backup.specs.Tracking.{told_of}
 pub use Rattle.sercos_checking.proofs.CheckingLemmas.{column-none, read_good}
 unfoldable pub use Rattle.sercos_checking.specs.Checking.{capture_fault, column_of, first_violation, grammar_fault, read_as, shape_fault, verdict_by, verdict_of}
 pub use Rattle.sercos_checking.specs.declared.verdict.Verdict.TheVariants.{Clean, Violation}
-pub use Rattle.sercos_replay.proofs.FeedLemmas.{NoFeed, NoFeed-append, line_no_feed, lines_of-line, tail_no_feed}
+pub use Rattle.sercos_trace.proofs.FeedLemmas.{NoFeed-append, line_no_feed, lines_of-line, tail_no_feed, template_no_feed}
+pub use Rattle.sercos_trace.specs.Marked.{NoFeed}
 pub use Rattle.sercos_replay.proofs.OptionLemmas.{or-none}
-pub use Rattle.sercos_replay.proofs.SilentLemmas.{template_no_feed}
 pub use Rattle.sercos_replay.proofs.TracedLemmas.{reads_traces}
 pub use Rattle.sercos_replay.specs.Captured.{lines_of, lines_with}
 unfoldable pub use Rattle.sercos_replay.specs.Replaying.{first_cycle, late, late_start}

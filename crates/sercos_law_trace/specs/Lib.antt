@@ -1,2 +1,3 @@
-pub mod Told
+pub mod Clauses
 pub mod Clean
+pub mod Told

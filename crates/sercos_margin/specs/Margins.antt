@@ -1,4 +1,5 @@
--- Wishes with another time of one drive or another cycle time, and how far each can go while a plan still fits.
+-- Planner's input with another time of one drive or another cycle time, and how far each can be
+-- changed while a plan still fits.
 use Rattle.std.specs.Prelude.{ℕ, zero, suc, ◌+◌, ◌-◌, ◌*◌, ◌<◌, ◌≤◌, Bool, if◌then◌else◌, List, ◌∷◌, map, Option, Some, None, slice_set}
 use Rattle.std.specs.List.{find, range_with_len}
 use Rattle.sercos_timing.specs.Views.{WishesView, PlanView}
@@ -22,7 +23,7 @@ time_in Tatat ts = ts.tatat
 time_in Tmtsy ts = ts.tmtsy
 time_in Tmtsg ts = ts.tmtsg
 
--- the greatest that a drive may declare, in microseconds
+-- the greatest value that a drive may declare, in microseconds
 abbrev pub greatest : Time → ℕ
 greatest T1min = most_t1min
 greatest Tatmt = most_tatmt
@@ -35,7 +36,7 @@ greatest Tmtsg = most_tmtsg
 abbrev pub declared : WishesView → ℕ → Time → ℕ
 declared w k t = time_in t (times w k)
 
--- the times with v in place of the time t
+-- the times with the value v of the time t
 abbrev pub changed : Time → ℕ → Times → Times
 changed T1min v ts = record ts { t1min = v }
 changed Tatmt v ts = record ts { tatmt = v }
@@ -44,15 +45,15 @@ changed Tatat v ts = record ts { tatat = v }
 changed Tmtsy v ts = record ts { tmtsy = v }
 changed Tmtsg v ts = record ts { tmtsg = v }
 
--- a drive's wish with v in place of its time t
+-- a drive's input with the value v of its time t
 abbrev pub changed_wish : Time → ℕ → Wish → Wish
 changed_wish t v d = record d { times = changed t v d.times }
 
--- the wishes with the time t of the drive k replaced by v
+-- the planner's input with the value v of the time t of the drive k
 abbrev pub with_time : WishesView → ℕ → Time → ℕ → WishesView
 with_time w k t v = record w { drives = slice_set w.drives k (changed_wish t v (wish w k)) }
 
--- the wishes with both the cycle time and the control unit cycle time replaced by c
+-- the planner's input with the cycle time and the control unit cycle time c
 abbrev pub with_cycle : WishesView → ℕ → WishesView
 with_cycle w c = record w { cycle = c; control = c }
 
@@ -60,15 +61,15 @@ with_cycle w c = record w { cycle = c; control = c }
 abbrev pub HasPlan : WishesView → Type 0
 HasPlan w = (p : PlanView) × Fits w p
 
--- n is how far the time t of the drive k can go: from the declared value up to n a plan fits, and for each value above n, up
--- to the greatest that a drive may declare, none does
+-- n is the margin of the time t of the drive k: a plan fits with each value from the declared one
+-- up to n, and with no value above n that a drive may declare
 pub record IsMargin (w : WishesView) (k : ℕ) (t : Time) (n : ℕ) : Type 0 where
   pub least : declared w k t ≤ n
   pub most : n ≤ greatest t
   pub fits : (v : ℕ) → declared w k t ≤ v → v ≤ n → HasPlan (with_time w k t v)
   pub none : (v : ℕ) → n < v → v ≤ greatest t → NoneFits (with_time w k t v)
 
--- a plan fits with the time `low`, and none with a time above `high`, up to the greatest that a drive may declare
+-- a plan fits with the value `low`, and with no value above `high` that a drive may declare
 pub record IsBetween (w : WishesView) (k : ℕ) (t : Time) (low high : ℕ) : Type 0 where
   pub least : declared w k t ≤ low
   pub ordered : low ≤ high
@@ -76,27 +77,29 @@ pub record IsBetween (w : WishesView) (k : ℕ) (t : Time) (low high : ℕ) : Ty
   pub fits : HasPlan (with_time w k t low)
   pub none : (v : ℕ) → high < v → v ≤ greatest t → NoneFits (with_time w k t v)
 
--- from the cycle time n on a plan fits with each that a ring can have, and below it none does
+-- a plan fits with each cycle time of this profile from n on, and with none below
 pub record IsLeastOf (w : WishesView) (n : ℕ) : Type 0 where
   pub cycle : IsCycle n
   pub fits : (c : ℕ) → IsCycle c → n ≤ c → HasPlan (with_cycle w c)
   pub none : (c : ℕ) → IsCycle c → c < n → NoneFits (with_cycle w c)
 
--- the least cycle time with which a plan fits; None where no plan fits with any that a ring can have
+-- the least cycle time with which a plan fits; None if no plan fits with any cycle time of this
+-- profile
 abbrev pub IsLeastCycle : WishesView → Option ℕ → Type 0
 IsLeastCycle w None = (c : ℕ) → IsCycle c → NoneFits (with_cycle w c)
 IsLeastCycle w (Some n) = IsLeastOf w n
 
--- the greatest of low, low + 1, .., low + n that passes a test; low, where none above it does
+-- the greatest of low, low + 1, .., low + n that passes a test; low if no value above it does
 unfoldable pub highest : (ℕ → Bool) → ℕ → ℕ → ℕ
 highest f low zero = low
 highest f low (suc n) = if f (low + suc n) then low + suc n else highest f low n
 
--- how far the time t of the drive k can go, found value by value: a plan fits iff the least times keep their bounds
+-- the margin of the time t of the drive k, found value by value: a plan fits iff the least times
+-- keep their bounds
 unfoldable pub margin_of : WishesView → ℕ → Time → ℕ
 margin_of w k t = highest (λ v. is_roomy (with_time w k t v)) (declared w k t) (greatest t - declared w k t)
 
--- all cycle times that a ring can have, ascending
+-- all cycle times of this profile, ascending
 unfoldable pub all_cycles : List ℕ
 all_cycles = least_cycle ∷ map (λ m. cycle_unit * m) (range_with_len 1 256)
 

@@ -1,7 +1,6 @@
-// Wishes with another time of one drive, or with another cycle time.
-ghost use Rattle.std.specs.Prelude.{◌≡◌, ◌<◌, ◌≤◌, length, slice_set};
-ghost use Rattle.sercos_timing.specs.Order.{wish};
-ghost use Rattle.sercos_margin.specs.Margins.{time_in, greatest, declared, changed, changed_wish, with_time, with_cycle};
+// Planner's input with another time of one drive, or with another cycle time.
+ghost use Rattle.std.specs.Prelude.{◌≡◌, ◌<◌, ◌≤◌, length};
+ghost use Rattle.sercos_margin.specs.Clauses.{wish, time_in, greatest, declared, changed, with_time, with_cycle};
 
 use arrayvec::ArrayVec;
 use sercos_timing::limits::{
@@ -26,7 +25,7 @@ pub enum Time {
     Tmtsg,
 }
 
-/// Returns the greatest value of this time that a drive may declare, in microseconds (this profile).
+/// Returns the greatest value of a time that a drive may declare, in microseconds, at most 64,000 (this profile).
 pub fn greatest(t: Time) -> u16
     ensures value { result ≡ greatest t }
     ensures limit { result ≤ 64_000 }
@@ -41,6 +40,7 @@ pub fn greatest(t: Time) -> u16
     }
 }
 
+// Returns one of a drive's times, in microseconds.
 fn time_in(t: Time, times: Times) -> u16
     ensures { result ≡ time_in t times }
 {
@@ -54,7 +54,7 @@ fn time_in(t: Time, times: Times) -> u16
     }
 }
 
-// The time that the drive at a place of the ring declares.
+// Returns the time that the drive at an index of the ring declares, in microseconds. The index must be below the number of drives.
 pub fn declared(w: &Wishes, index: usize, t: Time) -> u16
     requires { index < length w.now.drives }
     ensures { result ≡ declared w.now index t }
@@ -62,7 +62,7 @@ pub fn declared(w: &Wishes, index: usize, t: Time) -> u16
     time_in(t, w.wish(index).times)
 }
 
-// The times with another value of one of them.
+// Returns the times with another value of one of them.
 fn changed(t: Time, value: u16, times: Times) -> Times
     ensures { result ≡ changed t value times }
 {
@@ -78,16 +78,7 @@ fn changed(t: Time, value: u16, times: Times) -> Times
     new
 }
 
-fn changed_wish(t: Time, value: u16, wish: Wish) -> Wish
-    ensures { result ≡ changed_wish t value wish }
-{
-    Wish {
-        times: changed(t, value, wish.times),
-        ..wish
-    }
-}
-
-// A copy of the order of the ATs.
+// Returns a copy of the order of the ATs, which are at most 64.
 fn order_of(order: &[u8]) -> ArrayVec<u8, 64>
     requires { length order.now ≤ 64 }
     ensures { result.items ≡ order.now }
@@ -99,7 +90,7 @@ fn order_of(order: &[u8]) -> ArrayVec<u8, 64>
     places
 }
 
-// A copy of the wishes of the drives.
+// Returns a copy of the input of at most 64 drives.
 fn wishes_of(drives: &[Wish]) -> ArrayVec<Wish, 64>
     requires { length drives.now ≤ 64 }
     ensures { result.items ≡ drives.now }
@@ -111,33 +102,29 @@ fn wishes_of(drives: &[Wish]) -> ArrayVec<Wish, 64>
     wishes
 }
 
-// A copy with another drive's input at a place of the ring.
-fn with_wish(drives: &[Wish], index: usize, wish: Wish) -> ArrayVec<Wish, 64>
-    requires count { length drives.now ≤ 64 }
-    requires within { index < length drives.now }
-    ensures { result.items ≡ slice_set drives.now index wish }
-{
-    let mut wishes = wishes_of(drives);
-    wishes.as_mut_slice()[index] = wish;
-    wishes
-}
-
-// The wishes with another value of one time of one drive.
+// Returns the planner's input with another value, in microseconds, of one time of the drive at an index of the ring. The index must be
+// below the number of drives. The value isn't limited.
 pub fn with_time(w: &Wishes, index: usize, t: Time, value: u16) -> Wishes
     requires { index < length w.now.drives }
     ensures { result ≡ with_time w.now index t value }
 {
+    let wish = w.wish(index);
+    let mut drives = wishes_of(w.drives());
+    drives.as_mut_slice()[index] = Wish {
+        times: changed(t, value, wish.times),
+        ..wish
+    };
     Wishes {
         rate: w.rate,
         cycle: w.cycle,
         control: w.control,
         gap: w.gap,
         order: order_of(w.order()),
-        drives: with_wish(w.drives(), index, changed_wish(t, value, w.wish(index))),
+        drives,
     }
 }
 
-// The wishes with this cycle time, which is the control unit cycle time, too.
+// Returns the planner's input with another cycle time, in microseconds, which is also the control unit cycle time. The value isn't limited.
 pub fn with_cycle(w: &Wishes, cycle: u16) -> Wishes
     ensures { result ≡ with_cycle w.now cycle }
 {

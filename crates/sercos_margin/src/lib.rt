@@ -1,4 +1,4 @@
-//! How far a drive's time can go, and how short the cycle can be, while a plan of the ring's time slots still fits.
+//! The greatest value of a drive's time, and the shortest cycle time, with which a plan of the ring's time slots still fits.
 #![tactic(auto)]
 
 mod changes;

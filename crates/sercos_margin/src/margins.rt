@@ -1,16 +1,13 @@
-// The bounds, found by halving.
+// The margins, found by bisection.
 ghost use Rattle.std.specs.Prelude.{◌≡◌, ◌<◌, ◌≤◌, length, true, false};
-ghost use Rattle.sercos_timing.specs.Limits.{least_cycle as shortest, most_cycle};
-ghost use Rattle.sercos_timing.specs.Valid.{IsCycle, IsValid};
-ghost use Rattle.sercos_plan.specs.Least.{NoneFits};
-ghost use Rattle.sercos_margin.specs.Margins.{greatest, declared, with_time, with_cycle, HasPlan, IsMargin, IsBetween, IsLeastOf, IsLeastCycle, margin_of, least_cycle_of};
+ghost use Rattle.sercos_margin.specs.Clauses.{shortest, most_cycle, IsCycle, IsValid, NoneFits, greatest, declared, with_time, with_cycle, HasPlan, IsMargin, IsBetween, IsLeastOf, IsLeastCycle, margin_of, least_cycle_of};
 
 use crate::changes::{Time, declared, greatest, with_cycle, with_time};
 use sercos_plan::plan;
 use sercos_timing::Wishes;
 use sercos_timing::limits::{CYCLE_UNIT, LEAST_CYCLE, MOST_CYCLE};
 
-// Returns whether a plan fits.
+// Returns whether some plan fits valid input.
 #[tactic(auto, using(crate::proofs::EasierLemmas::some_plan))]
 fn has_plan(w: &Wishes) -> bool
     requires { IsValid w.now }
@@ -23,7 +20,8 @@ fn has_plan(w: &Wishes) -> bool
     }
 }
 
-// Returns whether a plan fits where one time of a drive has another value.
+// Returns whether some plan fits valid input with another value of one time of the drive at an index of the ring, which is below their
+// number.
 fn has_with_time(w: &Wishes, index: usize, t: Time, value: u16) -> bool
     requires valid { IsValid w.now }
     requires within { index < length w.now.drives }
@@ -34,7 +32,8 @@ fn has_with_time(w: &Wishes, index: usize, t: Time, value: u16) -> bool
     has_plan(&new)
 }
 
-// Returns whether a plan fits with another cycle time.
+// Returns whether some plan fits valid input with another cycle time, which is also the control unit cycle time: 125 microseconds, or a
+// multiple of 250 from 250 to 64,000.
 #[tactic(auto, using(crate::proofs::EasierLemmas::valid_cycle))]
 fn has_with_cycle(w: &Wishes, cycle: u16) -> bool
     requires valid { IsValid w.now }
@@ -46,8 +45,10 @@ fn has_with_cycle(w: &Wishes, cycle: u16) -> bool
     has_plan(&new)
 }
 
-// How far the time can go, where a plan fits with `least`, and none with more than `most`.
-fn bound(w: &Wishes, index: usize, t: Time, least: u16, most: u16) -> u16
+// Returns the margin of a time of the drive at an index of the ring, in microseconds, if a plan fits with `least`, and none with a value
+// above `most` that a drive may declare. The index must be below the number of drives. `least` is at least the declared time and at most
+// `most`, which a drive may declare. The input is valid.
+fn margin_between(w: &Wishes, index: usize, t: Time, least: u16, most: u16) -> u16
     requires valid { IsValid w.now }
     requires within { index < length w.now.drives }
     requires between { IsBetween w.now index t least most }
@@ -66,9 +67,10 @@ fn bound(w: &Wishes, index: usize, t: Time, least: u16, most: u16) -> u16
     low
 }
 
-/// How far one time of a drive can go, in microseconds: the greatest value, from the declared one to the greatest that a
-/// drive may declare, for which a plan fits when the drive declares it instead. Up to it a plan fits for each value, and
-/// above it for none. A plan must fit the wishes as they are.
+/// Returns the margin of one time of the drive at an index of the ring, in microseconds (this profile): the greatest value that the drive
+/// may declare instead of its own so that a plan still fits. A plan fits with each value from the declared one up to the margin, and with
+/// no greater one that a drive may declare. The input must be valid, and a plan must fit it as it is. The declared time must be at most
+/// [`greatest`], and the index below the number of drives.
 #[tactic(auto, using(crate::proofs::MarginLemmas::between_all))]
 pub fn margin(w: &Wishes, index: usize, t: Time) -> u16
     requires valid { IsValid w.now }
@@ -78,10 +80,11 @@ pub fn margin(w: &Wishes, index: usize, t: Time) -> u16
     ensures margin { IsMargin w.now index t result }
     ensures value { result ≡ margin_of w.now index t }
 {
-    bound(w, index, t, declared(w, index, t), greatest(t))
+    margin_between(w, index, t, declared(w, index, t), greatest(t))
 }
 
-// The least cycle time that is a multiple of 250 microseconds, where a plan fits with the longest and none with 125.
+// Returns the least multiple of 250 microseconds that is a cycle time with which a plan fits valid input. A plan fits with each longer
+// cycle time of this profile, and with no shorter one. One must fit with the longest cycle time, and none with 125 microseconds.
 fn least_multiple(w: &Wishes) -> u16
     requires valid { IsValid w.now }
     requires short { NoneFits (with_cycle w.now shortest) }
@@ -101,8 +104,8 @@ fn least_multiple(w: &Wishes) -> u16
     CYCLE_UNIT * low
 }
 
-/// Returns the least cycle time, in microseconds, with which a plan fits if it is also the control unit cycle time: 125,
-/// or a multiple of 250 up to 64,000. From it on a plan fits with each of these, and below it with none. `None` iff no
+/// Returns the least cycle time, in microseconds, with which a plan fits valid input if it is also the control unit cycle time: 125, or a
+/// multiple of 250 up to 64,000 (this profile). A plan fits with each longer one of these, and with no shorter one. `None` means that no
 /// plan fits with any of them.
 pub fn least_cycle(w: &Wishes) -> Option<u16>
     requires { IsValid w.now }

@@ -1,6 +1,6 @@
--- What an epoch has brought so far, and what each call adds to it. An epoch begins at the opening, after a fall, and with a
--- restart. Turns, calls and what was begun have the newest first; what waits is in the order of the requests, and outcomes have the oldest
--- first.
+-- The past of an epoch, and what each call adds to it. An epoch begins at the opening, after a
+-- fall, and with a restart. Turns, calls and tasks begun are listed newest first, the requests that
+-- wait in their order, and outcomes oldest first.
 use Rattle.std.specs.Prelude.{◌≡◌, ℕ, zero, suc, ◌+◌, ◌==◌, nat_le, Bool, true, false, not, ◌&&◌, ◌||◌, if◌then◌else◌, List, [], ◌∷◌, length, drop, Option, Some, None, Result, Ok, Err, is_some, is_none, option_map, slice_get, slice_index}
 use Rattle.std.specs.Option.{option_or}
 use Rattle.sercos_telegram.specs.Words.{status_of}
@@ -22,8 +22,8 @@ use Rattle.sercos_seat.specs.Agenda.{agenda, at_len, is_checked, is_read, is_rea
 use Rattle.sercos_seat.specs.Channel.{Report, count_requests, is_place, last_outcome, number_in, of_phase, outcomes_in, report_of, trouble_by}
 use Rattle.sercos_seat.specs.Ring.{Known, Task, member}
 
--- The calls of the master: the MST that came back to it, if one did; an AT; its turn to send the MDT; the end of the cycle; and a
--- restart.
+-- The calls of the master: its own MST as it returned, if it did; an AT; the sending of the MDT;
+-- the end of the cycle; and a restart.
 pub data Call : Type 0 where
   HearMst : (content : Option (List ℕ)) → Call
   HearAt : (content : List ℕ) → Call
@@ -31,9 +31,9 @@ pub data Call : Type 0 where
   End : Call
   Restart : Call
 
--- A cycle so far: the phase commanded in it; whether its MST came back whole; from which drives an AT was taken, by their places;
--- the drive that its MDT addresses, if it addresses one; whether the plan was made and a stop was found in it; and which request
--- to each drive an AT ended.
+-- A cycle so far: the phase commanded in it; whether its MST returned intact; the drives from which
+-- an AT was taken, by their index; the drive that its MDT addresses, if it addresses one; whether
+-- the plan was made and a stop was found in it; and the request to each drive that an AT ended.
 pub record Turn : Type 0 where
   pub phase : ℕ
   pub whole : Bool
@@ -54,9 +54,10 @@ new_turn phase = record {
   report = λ k. None;
 }
 
--- What the master looks back on: the number of cycles since the opening; the requests to each drive that had not been begun when
--- the epoch began; the cycles of the epoch, the present one first; the calls on each channel in the epoch, and the tasks begun on
--- it; the plan and the stop, if there is one. Channels are named by the drive's place.
+-- The past of the master: the number of cycles since the opening; the requests to each drive that
+-- had not been begun when the epoch began; the cycles of the epoch, the present one first; the
+-- calls on each channel in the epoch, and the tasks begun on it; the plan and the stop, if there is
+-- one. A channel is named by its drive's index.
 pub record Past : Type 0 where
   pub cycle : ℕ
   pub waiting : ℕ → List Task
@@ -67,7 +68,7 @@ pub record Past : Type 0 where
   pub plan : Option PlanView
   pub stop : Option Stop
 
--- an epoch begins
+-- the past at the start of an epoch
 abbrev pub new_epoch : ℕ → (ℕ → List Task) → Past
 new_epoch cycle waiting = record {
   cycle = cycle;
@@ -80,11 +81,11 @@ new_epoch cycle waiting = record {
   stop = None;
 }
 
--- the value at one place is another
+-- a function with another value at one index
 abbrev pub with_at : {A : Type 0} → ℕ → A → (ℕ → A) → ℕ → A
 with_at i x f k = if k == i then x else f k
 
--- the first of the n places from k on that passes the test
+-- the first of the n indices from k on that passes the test
 abbrev pub first_from : ℕ → ℕ → (ℕ → Bool) → Option ℕ
 first_from k zero test = None
 first_from k (suc n) test = if test k then Some k else first_from (k + 1) n test
@@ -92,7 +93,7 @@ first_from k (suc n) test = if test k then Some k else first_from (k + 1) n test
 abbrev pub first_place : Known → (ℕ → Bool) → Option ℕ
 first_place s test = first_from 0 (length s.drives) test
 
--- each place of the ring passes the test
+-- each drive of the ring passes the test
 abbrev pub each_place : Known → (ℕ → Bool) → Bool
 each_place s test = is_none (first_place s (λ k. not (test k)))
 
@@ -102,7 +103,7 @@ outcomes p k = outcomes_in (begun_by (p.calls k))
 abbrev pub is_idle : Past → ℕ → Bool
 is_idle p k = is_none (open_in (begun_by (p.calls k)))
 
--- THE MST. It is whole if it reads as the MST that was sent.
+-- THE MST. It is intact if it is read as the MST that was sent.
 abbrev pub is_mst : ℕ → Option (List ℕ) → Bool
 is_mst phase None = false
 is_mst phase (Some content) = is_none (mst_fault content) && (slice_index content 1 == phase)
@@ -111,7 +112,7 @@ abbrev pub after_mst : Option (List ℕ) → Past → Past
 after_mst content p = record p { now = record p.now { whole = is_mst p.now.phase content } }
 
 -- AN AT. It belongs to the drive whose address it has.
--- To which drive the MDT of the cycle before was.
+-- The drive that the MDT of the cycle before addressed.
 abbrev pub addressed_before : List Turn → Option ℕ
 addressed_before [] = None
 addressed_before (t ∷ turns) = t.addressed
@@ -119,28 +120,32 @@ addressed_before (t ∷ turns) = t.addressed
 abbrev pub place_of : Known → ℕ → Option ℕ
 place_of s address = first_place s (λ k. (member s k).address == address)
 
--- In phase 0 none is awaited; in phases 1 and 2 that of the drive addressed in the cycle before; in 3 and 4 each.
+-- In phase 0 no AT is awaited; in phases 1 and 2 that of the drive addressed in the cycle before;
+-- in phases 3 and 4 each.
 abbrev pub is_awaited : Past → ℕ → Bool
 is_awaited p k = if nat_le 3 p.now.phase then true else (nat_le 1 p.now.phase && is_place k (addressed_before p.turns))
 
--- the bytes that are wanted after the address
+-- the length of an AT in this phase, in bytes after the address
 abbrev pub wanted_len : Known → Past → ℕ → ℕ
 wanted_len s p k = if nat_le 3 p.now.phase then at_len (member s k) (outcomes p k) else 4
 
--- An AT is taken if one is awaited from its drive, and it is the drive's first in this cycle with the wanted length and address.
+-- An AT is taken if one is awaited from its drive, and it is the drive's first in this cycle with
+-- the wanted length and address.
 abbrev pub is_taken : Known → Past → ℕ → List ℕ → Bool
 is_taken s p k content = is_awaited p k && (not (p.now.heard k) && is_none (at_fault (member s k).address (wanted_len s p k) content))
 
--- What it leaves: the calls on the drive's channel, and the request to be reported.
+-- What an AT changes at its drive: the calls on the drive's channel, and the request to be
+-- reported.
 pub record Hearing : Type 0 where
   pub calls : List channel.Call
   pub report : Option Report
 
--- In phase 1 the AT alone counts: the drive is identified.
+-- In phase 1 the AT itself is the answer: the drive is identified.
 abbrev pub identified : ℕ → Past → Hearing
 identified k p = record { calls = p.calls k; report = p.now.report k }
 
--- In later phases its status is passed to the channel, and if that ends a request, its outcome is to be reported.
+-- In later phases its status is passed to the channel, and if that ends a request, its outcome is
+-- to be reported.
 abbrev pub heard_from : ℕ → List ℕ → Past → Hearing
 heard_from k content p = record {
   calls = Hear (status_of (word_at content 1)) (word_at content 3) ∷ p.calls k;
@@ -168,8 +173,9 @@ after_at_of s (Some k) content p = if is_taken s p k content then after_taken k 
 abbrev pub after_at : Known → List ℕ → Past → Past
 after_at s content p = after_at_of s (place_of s (slice_index content 0)) content p
 
--- THE MDT. First the answers of the cycle are looked at: a stop, in ring order, and the plan, if all reads have ended.
--- The stop that the newest outcome of a channel brings.
+-- THE MDT. First the answers of the cycle are processed: a stop, in ring order, and the plan, if
+-- all reads have ended.
+-- The stop that the newest outcome of a channel causes.
 abbrev pub trouble : Known → Past → ℕ → Option Stop
 trouble s p k = trouble_by (member s k).address (p.tasks k) (last_outcome (begun_by (p.calls k)))
 
@@ -206,8 +212,9 @@ with_due_plan s p = if is_plan_due s p then planned_by s p else p
 abbrev pub settled : Known → Past → Past
 settled s p = with_due_plan s (with_stop (first_trouble s p) p)
 
--- Then each idle channel begins its next task, if that belongs to the phase and there is no stop. In phase 2 one drive after the
--- other has its turn: the first with unfinished reads, and then the first whose check for phase 3 hasn't ended well.
+-- Then each idle channel begins its next task, if that belongs to the phase and there is no stop.
+-- In phase 2 one drive after the other has its turn: the first with unfinished reads, and then the
+-- first whose check for phase 3 hasn't ended well.
 abbrev pub in_turn : Known → Past → Option ℕ
 in_turn s p = option_or (first_place s (λ k. not (is_read (member s k) (outcomes p k)))) (first_place s (λ k. not (is_checked (member s k) (outcomes p k))))
 
@@ -234,8 +241,8 @@ begun s p = record p {
   tasks = λ k. with_task (begins s p k) (p.tasks k);
 }
 
--- Then the MDT goes: in phase 1 to the first drive that isn't identified, in phase 2 to the drive whose step is open, and in
--- phases 3 and 4 to all.
+-- Then the MDT is sent: in phase 1 to the first drive that isn't identified, in phase 2 to the
+-- drive whose step is open, and in phases 3 and 4 to all.
 abbrev pub has_identified : ℕ → List Turn → Bool
 has_identified k [] = false
 has_identified k (t ∷ turns) = ((t.phase == 1) && t.heard k) || has_identified k turns
@@ -263,10 +270,13 @@ ready_to_send s p = begun s (settled s p)
 abbrev pub after_mdt : Known → Past → Past
 after_mdt s p = sent_to (addressed_in s (ready_to_send s p)) (ready_to_send s p)
 
--- THE END OF THE CYCLE. The first that holds of these makes the ring fall to phase 0. The own MST wasn't whole in two cycles in a
--- row of phases 1 to 4; no AT was taken from a drive in two cycles in a row of phases 3 and 4; a step or an identification
--- has no answer up to the 64th cycle after the one in which it was first sent. Until a fall the phase never descends, so of two
--- cycles in a row the phase of the earlier one is tested. A restart isn't among these: it is a fall at once.
+-- THE END OF THE CYCLE. The first of these that is true makes the ring fall to phase 0:
+-- - the own MST wasn't intact in two cycles in a row of phases 1 to 4;
+-- - no AT was taken from a drive in two cycles in a row of phases 3 and 4;
+-- - a step or an identification has no answer up to the 64th cycle after the one in which it was
+--   first sent.
+-- Until a fall the phase never descends, so of two cycles in a row the phase of the earlier one is
+-- tested. A restart isn't among these: it is an immediate fall.
 abbrev pub has_lost_mst : List Turn → Bool
 has_lost_mst (t ∷ before ∷ turns) = nat_le 1 before.phase && (not t.whole && not before.whole)
 has_lost_mst _ = false
@@ -275,12 +285,14 @@ abbrev pub has_lost_at : ℕ → List Turn → Bool
 has_lost_at k (t ∷ before ∷ turns) = nat_le 3 before.phase && (not (t.heard k) && not (before.heard k))
 has_lost_at k _ = false
 
--- in how many of the newest turns, without a gap, phase 1 was commanded and the MDT was to the drive
+-- the number of the newest turns, without a gap, in which phase 1 was commanded and the MDT
+-- addressed the drive
 abbrev pub count_addressed : ℕ → List Turn → ℕ
 count_addressed k [] = 0
 count_addressed k (t ∷ turns) = if (t.phase == 1) && is_place k t.addressed then count_addressed k turns + 1 else 0
 
--- In phase 1 the MDT is to the drive in this cycle, and was in the 64 before; later its open step was first sent 64 cycles ago.
+-- In phase 1 the MDT is to the drive in this cycle, and was in the 64 before; later its open step
+-- was first sent 64 cycles ago.
 abbrev pub is_at_limit : Past → ℕ → Bool
 is_at_limit p k =
     if p.now.phase == 1 then is_place k p.now.addressed && nat_le 64 (count_addressed k p.turns)
@@ -295,12 +307,12 @@ fall_of s p =
     (option_or (fall_at fall.AtLost s (first_place s (λ k. has_lost_at k (p.now ∷ p.turns))))
     (fall_at fall.StepLimit s (first_place s (is_at_limit p))))
 
--- the phase goes up by one if all that belongs to it is done
+-- the phase rises by one if everything required to leave it is done
 abbrev pub whole_row : List Turn → ℕ
 whole_row [] = 0
 whole_row (t ∷ turns) = if t.whole then whole_row turns + 1 else 0
 
--- phase 0: ten MSTs in a row came back whole
+-- phase 0: ten MSTs in a row returned intact
 abbrev pub is_closed : Past → Bool
 is_closed p = nat_le 10 (whole_row (p.now ∷ p.turns))
 
@@ -308,11 +320,11 @@ is_closed p = nat_le 10 (whole_row (p.now ∷ p.turns))
 abbrev pub all_identified : Known → Past → Bool
 all_identified s p = each_place s (is_identified p)
 
--- phase 2: each drive's check for phase 3 has ended well; its other tasks of phase 2 come before
+-- phase 2: each drive's check for phase 3 ended well, after its other tasks of phase 2
 abbrev pub all_checked : Known → Past → Bool
 all_checked s p = each_place s (λ k. is_checked (member s k) (outcomes p k))
 
--- phase 3: each drive's check for phase 4 has ended well
+-- phase 3: each drive's check for phase 4 ended well
 abbrev pub all_ready : Known → Past → Bool
 all_ready s p = each_place s (λ k. is_ready (member s k) (outcomes p k))
 
@@ -346,7 +358,7 @@ after_end s p = if is_some (fall_of s p) then new_epoch (p.cycle + 1) (still_wai
 abbrev pub after_restart : Past → Past
 after_restart p = new_epoch p.cycle (still_waiting p)
 
--- WHAT THE MASTER LOOKS BACK ON after all calls since its opening.
+-- THE PAST after all calls since the opening.
 abbrev pub past : Known → (ℕ → List Task) → List Call → Past
 past s requests [] = new_epoch 0 requests
 past s requests (HearMst content ∷ h) = after_mst content (past s requests h)
@@ -355,8 +367,8 @@ past s requests (Mdt ∷ h) = after_mdt s (past s requests h)
 past s requests (End ∷ h) = after_end s (past s requests h)
 past s requests (Restart ∷ h) = after_restart (past s requests h)
 
--- WHAT HOLDS AFTER ANY CALLS. If there is a plan, all reads have ended, what they gave fits an MDT, and the plan is the least one
--- of it.
+-- AFTER ANY CALLS. If there is a plan, all reads have ended, the data records fit an MDT, and the
+-- plan is the least one for the values read.
 pub record IsPlannedBy (s : Known) (p : Past) (plan : PlanView) : Type 0 where
   pub read : all_read s p ≡ true
   pub fits : nat_le (record_bytes (wishes_given s (outcomes p)).drives) 2047 ≡ true

@@ -1,4 +1,4 @@
--- What a master stands for, in each of its states.
+-- The state of a master and its past, in each of its phases.
 use Rattle.std.specs.Prelude.{◌≡◌, ◌≤◌, ◌+◌, ℕ, List, ◌∷◌, length}
 use Rattle.sercos_step.specs.declared.request.Job.{Job}
 use Rattle.sercos_master.specs.declared.master.AnyMaster.{AnyMaster}
@@ -16,16 +16,17 @@ StandsAt (P2 m) s p = IsIn 2 m s p
 StandsAt (P3 m) s p = IsIn 3 m s p
 StandsAt (P4 m) s p = IsIn 4 m s p
 
--- the master stands for the arguments of its opening, and for its calls since, the newest first
+-- the state of a master after its opening with these arguments and after these calls, the newest
+-- first
 abbrev pub AnyStandsFor : AnyMaster → Known → List Job → List Call → Type 0
 AnyStandsFor m s jobs h = StandsAt m s (past s (tasks_for s jobs) h)
 
--- how a cycle of this phase is closed, the next one being of the phase that is kept
+-- how a cycle of this phase is closed; the next one is of the phase that is kept
 abbrev pub Closes : CoreView → ℕ → EventsView → CoreView → EventsView → Type 0
 Closes v phase e next told = (s : Known) (p : Past) → CoreStandsFor (record v { phase = phase }) s p →
     CoreStandsFor next s (goes_on v.phase p) × (length e.outcomes + length s.drives ≤ 128 → told ≡ closing_told s p e)
 
--- how a cycle ends: what the master stands for then, and what it adds to the events
+-- how a cycle ends: the state of the master then, and what it adds to the events
 abbrev pub Ends : AnyMaster → EventsView → AnyMaster → EventsView → Type 0
 Ends m e next told = (s : Known) (jobs : List Job) (h : List Call) → AnyStandsFor m s jobs h →
     AnyStandsFor next s jobs (End ∷ h) × (AreOpen e.outcomes h → told ≡ events_told s (past s (tasks_for s jobs) h) e)

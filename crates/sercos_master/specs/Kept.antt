@@ -1,4 +1,4 @@
--- What the master keeps of its ring, and how it stands for what it looks back on. For proofs alone.
+-- What the master keeps of its ring, and how it is related to its past. Used in proofs only.
 use Rattle.std.specs.Prelude.{zero, suc, unwrap_or, ◌^◌, ◌%◌, slice_index_or, ◌≡◌, ℕ, ◌+◌, ◌<◌, ◌≤◌, ◌==◌, ◌++◌, nat_le, nat_lt, if◌then◌else◌, Bool, false, not, ◌&&◌, List, [], ◌∷◌, length, min, Option, Some, None, is_some}
 use Rattle.sercos_step.specs.declared.request.Outcome.{Outcome}
 use Rattle.std.specs.List.{position}
@@ -27,10 +27,11 @@ seen_at p k = record {
   waiting = p.waiting k;
 }
 
--- What is kept of the ring: its numbers; the place of each address; a seat for each drive; the cycle's number; the phase; whether the MST
--- of the present cycle came back whole, how many did in a row before, counted up to 10, and whether that of the cycle before did not, in
--- phases 1 to 4; the drives that the MDT addresses and addressed; in how many cycles of phase 1 in a row it was that drive; the plan and
--- the stop, and whether they are of this cycle.
+-- What is kept of the ring: its numbers; the index of each address; a seat for each drive; the
+-- cycle's number; the phase; whether the MST of the present cycle returned intact, how many did in
+-- a row before, counted up to 10, and whether that of the cycle before didn't, in phases 1 to 4;
+-- the drives that the MDT addresses and addressed; for how many cycles of phase 1 in a row it was
+-- that drive; the plan and the stop, and whether they are of this cycle.
 pub record CoreView : Type 0 where
   pub rate : ℕ
   pub cycle : ℕ
@@ -56,7 +57,8 @@ abbrev pub has_lost : List Turn → Bool
 has_lost [] = false
 has_lost (t ∷ turns) = nat_le 1 t.phase && not t.whole
 
--- in how many of these cycles in a row an MDT was to the drive that it was last to, counted up to 64
+-- for how many of these cycles in a row the MDT addressed the drive of the newest one, counted up
+-- to 64
 abbrev pub waited_for : Option ℕ → List Turn → ℕ
 waited_for None turns = 0
 waited_for (Some k) turns = min (count_addressed k turns) 64
@@ -69,16 +71,16 @@ abbrev pub is_same : Option ℕ → Option ℕ → Bool
 is_same None _ = false
 is_same (Some i) other = is_place i other
 
--- and after the end of a cycle
+-- this count after the end of a cycle
 abbrev pub waited_with : ℕ → Option ℕ → Option ℕ → ℕ → ℕ
 waited_with phase addressed before waited =
     if (phase == 1) && is_some addressed then (if is_same addressed before then min (waited + 1) 64 else 1) else 0
 
--- each seat stands for its drive and the drive's telegrams
+-- each seat keeps what its drive's telegrams determine
 abbrev pub SeatsStandFor : List SeatView → Known → (ℕ → Seen) → Type 0
 SeatsStandFor seats s seen = (k : ℕ) (v : SeatView) → k < length seats → SeatStandsFor (slice_index_or seats k v) (member s k) (seen k)
 
--- what is kept stands for what is looked back on
+-- what is kept is determined by the past
 pub record CoreStandsFor (v : CoreView) (s : Known) (p : Past) : Type 0 where
   pub rate_is : v.rate ≡ s.rate
   pub cycle_is : v.cycle ≡ s.cycle
@@ -101,26 +103,26 @@ pub record CoreStandsFor (v : CoreView) (s : Known) (p : Past) : Type 0 where
   pub stopped_is : v.stopped ≡ is_some p.stop
   pub stop_is : v.stop ≡ stop_told p
 
--- those of the drives so far
+-- the data records of the first n drives
 abbrev pub records_upto : Known → (ℕ → Seen) → ℕ → ℕ → List ℕ
 records_upto s seen cycle zero = []
 records_upto s seen cycle (suc n) = records_upto s seen cycle n ++ record_seen cycle (member s n) (seen n)
 
--- and it is of this phase
+-- the same, in this phase
 pub record IsIn (phase : ℕ) (v : CoreView) (s : Known) (p : Past) : Type 0 where
   pub stands : CoreStandsFor v s p
   pub known : IsKnown s
   pub phase_is : p.now.phase ≡ phase
 
--- what is looked back on where the MDT is sent
+-- the past after the MDT is sent
 abbrev pub sent_now : Known → Past → Past
 sent_now s p = sent_to (addressed_in s p) p
 
--- the records fit an MDT
+-- the data records fit an MDT
 abbrev pub Fits : Known → Past → Type 0
 Fits s p = 1 + length (records_upto s (seen_at p) p.cycle (length s.drives)) ≤ 2048
 
--- one report more, ascending by its number
+-- one more report, ascending by its number
 abbrev pub with_pair : Option (ℕ × Outcome) → List (ℕ × Outcome) → List (ℕ × Outcome)
 with_pair None reports = reports
 with_pair (Some x) reports = inserted x.0 x.1 reports
@@ -128,6 +130,6 @@ with_pair (Some x) reports = inserted x.0 x.1 reports
 abbrev pub place_in : ℕ → List (ℕ × Outcome) → ℕ
 place_in number reports = unwrap_or (position (λ x. nat_lt number x.0) reports) (length reports)
 
--- each seat stands for its drive, without telegrams
+-- each seat is that of its drive, before any telegram
 abbrev pub AreFresh : List SeatView → List MemberView → Type 0
 AreFresh seats members = (k : ℕ) (v : SeatView) (d : MemberView) → k < length seats → SeatStandsFor (slice_index_or seats k v) (slice_index_or members k d) (nothing_seen [])

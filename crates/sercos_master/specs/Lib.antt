@@ -4,8 +4,9 @@ pub use Rattle.sercos_seat.specs.Channel
 pub use Rattle.sercos_seat.specs.Records
 pub use Rattle.sercos_seat.specs.Seats
 pub mod Annals
-pub mod Says
-pub mod Reports
-pub mod Kept
-pub mod Written
 pub mod Any
+pub mod Clauses
+pub mod Kept
+pub mod Reports
+pub mod Says
+pub mod Written

@@ -19,7 +19,7 @@ abbrev pub with_report : Option Report → List (ℕ × Outcome) → List (ℕ �
 with_report None reports = reports
 with_report (Some r) reports = inserted r.number r.outcome reports
 
--- with those of the places below n
+-- with the reports of the first n drives
 abbrev pub with_reports : (ℕ → Option Report) → ℕ → List (ℕ × Outcome) → List (ℕ × Outcome)
 with_reports report zero reports = reports
 with_reports report (suc n) reports = with_report (report n) (with_reports report n reports)
@@ -36,13 +36,13 @@ plan_told p = if p.now.plans then p.plan else None
 abbrev pub stop_told : Past → Option Stop
 stop_told p = if p.now.stops then p.stop else None
 
--- the outcomes of a cycle that ends, and with a fall the broken requests
+-- the outcomes of a cycle that ends, and the broken requests of a fall
 abbrev pub outcomes_told : Known → Past → List (ℕ × Outcome) → List (ℕ × Outcome)
 outcomes_told s p reports =
     if is_some (fall_of s p) then with_broken s p (with_reports p.now.report (length s.drives) reports)
     else with_reports p.now.report (length s.drives) reports
 
--- what the cycle brought, without a fall
+-- what a cycle without a fall adds to these events
 abbrev pub closing_told : Known → Past → EventsView → EventsView
 closing_told s p e = record e {
   outcomes = with_reports p.now.report (length s.drives) e.outcomes;
@@ -59,11 +59,11 @@ events_told s p e = record {
   fall = option_or (fall_of s p) e.fall;
 }
 
--- what a restart adds
+-- what a restart adds to these events
 abbrev pub restart_told : Known → Past → EventsView → EventsView
 restart_told s p e = record e { outcomes = with_broken s p e.outcomes; fall = Some fall.Restart }
 
--- the master restarted in the cycle at work
+-- the master restarted in the current cycle
 abbrev pub HasRestarted : List Call → Type 0
 HasRestarted [] = ⊥
 HasRestarted (HearMst content ∷ h) = HasRestarted h
@@ -72,6 +72,7 @@ HasRestarted (Mdt ∷ h) = HasRestarted h
 HasRestarted (End ∷ h) = ⊥
 HasRestarted (Restart ∷ h) = Unit {0}
 
--- What the end of a cycle may be added to: no outcomes, or those that a restart in this cycle added, at most one a drive.
+-- The outcomes that the end of a cycle can be added to: none, or those that a restart in this cycle
+-- added, at most one per drive.
 abbrev pub AreOpen : List (ℕ × Outcome) → List Call → Type 0
 AreOpen reported h = (reported ≡ []) ⊎ ((length reported ≤ 64) × HasRestarted h)

@@ -14,7 +14,8 @@ use Rattle.sercos_seat.specs.Ring.{Known, member}
 abbrev pub mst_said : Past → List ℕ
 mst_said p = mst_content p.now.phase
 
--- the record of the drive at place k: the open step of its channel, or an idle one, and its command values
+-- the data record of the drive at index k: the open step of its channel, or an idle one, and its
+-- command values
 abbrev pub said_to : Past → ℕ → Said
 said_to p k = master_says (begun_by (p.calls k))
 
@@ -39,14 +40,14 @@ single s said k = record { start = early_mdt; content = (member s k).address ∷
 abbrev pub joint : Known → Past → PlanView → Sent
 joint s p plan = record { start = plan.t2; content = all_drives ∷ records_from s p 0 (length s.drives) }
 
--- What is sent, by what `after_mdt` looks back on: in phase 1 an MDT of zeros to the drive that is to be identified, in phase 2 one to the
--- drive whose step is open, and in phases 3 and 4 one to all.
+-- What is sent, by the past after `after_mdt`: in phase 1 an MDT of zeros to the drive to be
+-- identified, in phase 2 one to the drive whose step is open, and in phases 3 and 4 one to all.
 abbrev pub mdt_said : Known → Past → Option Sent
 mdt_said s p =
     if p.now.phase == 1 then option_map (single s idle) p.now.addressed
     else (if p.now.phase == 2 then option_map (λ k. single s (said_to p k) k) p.now.addressed
     else (if nat_le 3 p.now.phase then option_map (joint s p) p.plan else None))
 
--- what a start, if there is one, and a content are
+-- the MDT with a start, if there is one, and a content
 abbrev pub sent_as : Option ℕ → List ℕ → Option Sent
 sent_as start content = option_map (λ at. record { start = at; content = content }) start

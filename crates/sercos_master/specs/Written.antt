@@ -10,8 +10,8 @@ use Rattle.sercos_seat.specs.Ring.{Known, member}
 use Rattle.sercos_master.specs.Annals.{Past}
 use Rattle.sercos_master.specs.Kept.{CoreView}
 
--- Of what was begun on a channel, the newest first, the request after the reads and i writes is the i-th write of this plan, and
--- it was answered without error.
+-- Of the requests begun on a channel, the newest first, the one after the reads and i writes is the
+-- i-th write of this plan, and it was answered without error.
 pub record IsWritten (s : Known) (k : ℕ) (plan : PlanView) (begun : List Begun) (i : ℕ) : Type 0 where
   pub newer : List Begun
   pub one : Begun
@@ -22,13 +22,14 @@ pub record IsWritten (s : Known) (k : ℕ) (plan : PlanView) (begun : List Begun
   pub bytes : List ℕ
   pub answered : outcome_of one.request one.answers ≡ Some (outcome.Complete bytes)
 
--- There is a plan, and each of its eleven writes to each drive was answered without error, in this epoch.
+-- There is a plan, and each of its eleven writes to each drive was answered without error, in this
+-- epoch.
 pub record AreWritten (s : Known) (p : Past) : Type 0 where
   pub plan : PlanView
   pub plan_is : p.plan ≡ Some plan
   pub written : (k i : ℕ) → k < length s.drives → i < 11 → IsWritten s k plan (begun_by (p.calls k)) i
 
--- The plan is kept whose writes were answered so.
+-- The plan that is kept is the one whose writes were answered without error.
 pub record HoldsPlan (v : CoreView) (s : Known) (p : Past) : Type 0 where
   pub all : AreWritten s p
   pub held : v.plan ≡ Some all.plan

@@ -1,16 +1,16 @@
 // What is counted from cycle to cycle.
 ghost use Rattle.std.specs.Prelude.{◌≡◌, ◌+◌, ◌<◌, ◌==◌, ◌&&◌, false, not, min, nat_le, Option, Some, None, if◌then◌else◌};
-ghost use Rattle.sercos_seat.specs.Channel.{is_place};
-ghost use Rattle.sercos_master.specs.Kept.{is_same, waited_with};
+ghost use Rattle.sercos_master.specs.Clauses.{is_place, is_same, waited_with};
 
-// Returns whether a telegram is lost in a cycle: the phase commanded is above 0, and it didn't come whole.
+// Returns whether the own MST is lost in a cycle: the phase commanded is above 0, and the MST didn't return intact.
 pub fn lost_with(phase: u8, whole: bool) -> bool
     ensures { result ≡ (nat_le 1 phase && not whole) }
 {
     phase >= 1 && !whole
 }
 
-// Returns how many cycles in a row a telegram has come whole, up to 10, with the cycle that ends now. `row` is the count up to it.
+// Returns for how many cycles in a row, up to 10, the MST has returned intact, including the cycle that ends now: 0 if it didn't in this
+// one. `row` is the count before it.
 pub fn row_with(whole: bool, row: u8) -> u8
     ensures { result ≡ (if whole then min (row + 1) 10 else 0) }
 {
@@ -20,7 +20,7 @@ pub fn row_with(whole: bool, row: u8) -> u8
     if row < 10 { row + 1 } else { 10 }
 }
 
-// Returns whether the MDT was to the same drive in two cycles.
+// Returns whether the MDT addresses a drive, and addressed the same one in the cycle before; false if it addresses none.
 fn is_same(addressed: Option<usize>, before: Option<usize>) -> bool
     ensures { result ≡ is_same addressed before }
 {
@@ -30,30 +30,22 @@ fn is_same(addressed: Option<usize>, before: Option<usize>) -> bool
     }
 }
 
-// Returns a count of cycles with one more, up to 64.
-fn one_more_waited(waited: u8) -> u8
-    ensures { result ≡ min (waited + 1) 64 }
-{
-    if waited < 64 { waited + 1 } else { 64 }
-}
-
-// Returns for how many cycles of phase 1 in a row, up to 64, the MDT was to the drive at the place `addressed`, with the cycle that ends
-// now. `before` is the drive of the cycle before, and `waited` the count up to it. It is 0 in other phases, and if no drive was addressed.
+// Returns for how many cycles of phase 1 in a row, up to 64, the MDT addressed the drive `addressed`, including the cycle that ends now.
+// `before` is the drive addressed in the cycle before, and `waited` the count up to it. The result is 0 in other phases, and if no drive is
+// addressed.
 pub fn waited_with(phase: u8, addressed: Option<usize>, before: Option<usize>, waited: u8) -> u8
     ensures { result ≡ waited_with phase addressed before waited }
 {
-    if phase == 1 && addressed.is_some() {
-        if is_same(addressed, before) {
-            one_more_waited(waited)
-        } else {
-            1
-        }
-    } else {
-        0
+    if phase != 1 || addressed.is_none() {
+        return 0;
     }
+    if !is_same(addressed, before) {
+        return 1;
+    }
+    if waited < 64 { waited + 1 } else { 64 }
 }
 
-// Returns whether a drive, if there is one, is the one at a place.
+// Returns whether a drive has this index; false if there is no drive.
 pub fn is_place(place: usize, drive: Option<usize>) -> bool
     ensures { result ≡ is_place place drive }
 {

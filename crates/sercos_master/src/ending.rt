@@ -1,14 +1,9 @@
-// The end of a cycle: a fall, or the phase of the next one; and the begin of an epoch.
+// The end of a cycle: a fall or the next phase; and the start of an epoch.
 ghost use Rattle.std.specs.Prelude.{◌≡◌, ◌+◌, ◌<◌, ◌≤◌, ◌==◌, ◌&&◌, false, ◌∷◌, length, Option, Some, None, IfSome, if◌then◌else◌};
-ghost use Rattle.std.specs.List.{position};
-ghost use Rattle.std.specs.Option.{option_or};
-ghost use Rattle.sercos_master.specs.Reports.{with_reports, with_broken};
-ghost use Rattle.sercos_seat.specs.Ring.{Known, member};
-ghost use Rattle.sercos_master.specs.Annals.{Past, is_done, has_lost_mst, fall_of, first_place, is_at_limit, goes_on, new_epoch, still_waiting};
-ghost use Rattle.sercos_seat.specs.Channel.{is_place};
-ghost use Rattle.sercos_master.specs.Kept.{waited_with, CoreStandsFor};
+ghost use Rattle.sercos_master.specs.Clauses.{position, option_or, with_reports, with_broken, Known, member, Past, is_done, has_lost_mst, fall_of, first_place, is_at_limit, goes_on, new_epoch, still_waiting, is_place, waited_with, CoreStandsFor};
 
 use crate::counts::{is_place, lost_with, row_with, waited_with};
+use crate::opening::copied;
 use crate::ring::Ring;
 use crate::seats::{
     end_seats, first_lost, first_stuck, first_unchecked, first_unidentified, first_unready,
@@ -19,7 +14,9 @@ use sercos_timing::Plan;
 use sercos_trace::{Fall, Reported, Stop};
 
 impl Ring {
-    // Returns whether all that belongs to the phase is done.
+    // Returns whether everything required to leave the phase is done. Phase 0 is left after ten MSTs in a row that returned intact, phase 1
+    // once each drive is identified, phase 2 once each check for phase 3 has ended well, and phase 3 once each check for phase 4 has. Phase
+    // 4 is left only by a fall.
     pub fn is_done(&self) -> bool
         ensures { (s : Known) (p : Past) → CoreStandsFor self.now s p → result ≡ is_done s p }
     {
@@ -32,7 +29,9 @@ impl Ring {
         }
     }
 
-    // Closes the cycle, which was of this phase; the next one is of the phase that is commanded now. A stop of the cycle is reported.
+    // Closes the cycle, which was of this phase. The next one is of the phase that is commanded now. The requests that ended are added to
+    // `reports`, which must have room for one more per drive, of 128. The stop found in this cycle is put into `told`; without one `told`
+    // is unchanged.
     pub fn close(
         &mut self,
         phase: u8,
@@ -58,7 +57,8 @@ impl Ring {
         tell_stop(&mut self.stop, told);
     }
 
-    // An epoch begins.
+    // Begins an epoch, in phase 0: all that was received in the epoch before is forgotten. The current requests are added to `reports` as
+    // broken; it must have room for one more per drive, of 128. The requests that weren't begun still wait.
     pub fn begin_epoch(&mut self, reports: &mut ArrayVec<Reported, 128>)
         ensures told { (s : Known) (p : Past) → CoreStandsFor self.old s p → length reports.old.items + length s.drives ≤ 128 →
             reports.new.items ≡ with_broken s p reports.old.items }
@@ -78,7 +78,7 @@ impl Ring {
         self.stop = None;
     }
 
-    // Reports the plan of the cycle, if there is one.
+    // Puts a copy of the plan into `told`, if it was made in this cycle; otherwise `told` is unchanged.
     pub fn tell_plan(&self, told: &mut Option<Plan>)
         ensures { told.new ≡ option_or (if self.now.plans then self.now.plan else None) told.old }
     {
@@ -90,7 +90,8 @@ impl Ring {
         }
     }
 
-    // The fall at the end of a cycle, if there is one.
+    // Returns the fall at the end of the cycle; `None` if there is none. A lost MST takes precedence over a lost AT, and a lost AT over the
+    // step limit.
     pub fn fall(&self) -> Option<Fall>
         ensures { (s : Known) (p : Past) → CoreStandsFor self.now s p → result ≡ fall_of s p }
     {
@@ -106,7 +107,7 @@ impl Ring {
         }
     }
 
-    // The address of the drive at a place.
+    // Returns the address of the drive at an index, which must be that of a drive.
     fn address_at(&self, place: usize) -> u8
         requires { place < length self.now.seats }
         ensures { (s : Known) (p : Past) → CoreStandsFor self.now s p → result ≡ (member s place).address }
@@ -114,7 +115,8 @@ impl Ring {
         self.seats[place].member().address()
     }
 
-    // The drive whose open step or identification has no answer up to the limit.
+    // Returns the index of the first drive whose open step or identification has reached the limit of 64 cycles without an answer; `None`
+    // if there is none.
     fn first_at_limit(&self) -> Option<usize>
         ensures value { (s : Known) (p : Past) → CoreStandsFor self.now s p → result ≡ first_place s (is_at_limit p) }
         ensures bound { IfSome result (λ k. k < length self.now.seats) }
@@ -125,7 +127,8 @@ impl Ring {
         first_stuck(self.seats.as_slice())
     }
 
-    // The drive that wasn't identified for 64 cycles.
+    // Returns the index of the drive that the MDT of phase 1 addresses now and addressed in the 64 cycles before; `None` if there is none.
+    // The phase must be 1.
     fn waited_too_long(&self) -> Option<usize>
         ensures value { (s : Known) (p : Past) → CoreStandsFor self.now s p → p.now.phase ≡ 1 → result ≡ first_place s (is_at_limit p) }
         ensures bound { IfSome result (λ k. k < length self.now.seats) }
@@ -145,7 +148,7 @@ impl Ring {
         Some(place)
     }
 
-    // The fall that the own MST brings.
+    // Returns whether the own MST was lost in this cycle and in the one before, which was of phase 1 or above.
     fn is_mst_lost(&self) -> bool
         ensures { (s : Known) (p : Past) → CoreStandsFor self.now s p → result ≡ has_lost_mst (p.now ∷ p.turns) }
     {
@@ -153,29 +156,22 @@ impl Ring {
     }
 }
 
-fn numbers_of(numbers: &[u16]) -> ArrayVec<u16, 64>
-    requires { length numbers.now ≤ 64 }
-    ensures { result.items ≡ numbers.now }
-{
-    let mut copy = ArrayVec::new();
-    let _fits = copy.try_extend_from_slice(numbers);
-    copy
-}
-
+// Returns a copy of a plan.
 fn plan_copy(plan: &Plan) -> Plan
     ensures { result ≡ plan.now }
 {
     Plan {
-        t1: numbers_of(plan.t1()),
+        t1: copied(plan.t1()),
         t2: plan.t2,
         t3: plan.t3,
         t4: plan.t4,
-        position: numbers_of(plan.position()),
+        position: copied(plan.position()),
         mdt_len: plan.mdt_len,
     }
 }
 
-// Reports a stop, if there is one. It is moved only then, since it is large.
+// Moves a stop into `told`, if there is one, and leaves `None` behind; otherwise both are unchanged. It is moved only then, since it is
+// large.
 fn tell_stop(stop: &mut Option<Stop>, told: &mut Option<Stop>)
     ensures told { told.new ≡ option_or stop.old told.old }
     ensures none { stop.new ≡ None }

@@ -1,17 +1,19 @@
+// Laws on the master's past, after any calls.
 ghost use Rattle.std.specs.Prelude.{◌≡◌, ◌≤◌, ◌<◌, ℕ, true, nat_le, length, drop, slice_get, is_some, Some, List};
-ghost use Rattle.sercos_step.specs.declared.request.Job.{Job};
-ghost use Rattle.sercos_seat.specs.Ring.{Known, Task, tasks_for};
-ghost use Rattle.sercos_master.specs.Annals.{Call, past, settled, begins, still_waiting, all_checked, all_ready, IsPlanned};
-ghost use Rattle.sercos_master.specs.Written.{AreWritten};
+ghost use Rattle.sercos_master.specs.Clauses.{Job, Known, Task, tasks_for, Call, past, settled, begins, still_waiting, all_checked, all_ready, IsPlanned, AreWritten};
 
-// Laws on what the master looks back on, after any calls.
 use sercos_step::steps_law;
 
-/// Laws, which hold after any sequence of calls. A plan is the least one of what was read in this epoch. If phase 3 or 4 is
-/// commanded there is a plan, each drive has answered the eleven writes of this plan without error, and its check for phase 3 has
-/// ended well, all in this epoch; in phase 4 its check for phase 4 has, too. The requests to a drive that wait are those that are
-/// left in their order; a request that begins is the first that waits; and it waits no longer, through all falls and restarts. So
-/// each is begun at most once, in the order of the requests.
+/// Laws that hold after any sequence of calls:
+/// - A plan is the least one for the values that were read in this epoch. All reads of the epoch have ended then, and the data records fit
+///   into an MDT.
+/// - If phase 3 or 4 is commanded, and the ring has a drive, there is a plan, and each drive has answered the eleven writes of phase 2
+///   without error in this epoch. These write the ring's two cycle times, the six values of this plan for the drive (T1 to T4, the position
+///   of its data record, and the length of the MDT), the telegram type 7, and the drive's two lists.
+/// - If phase 3 or 4 is commanded, each drive's check for phase 3 ended well in this epoch.
+/// - If phase 4 is commanded, each drive's check for phase 4 ended well, too.
+/// - The requests that wait for a drive at the start of an epoch are the rest of its requests, in order.
+/// - A request that begins is the first one that waits.
 pub fn master_law()
     ensures left { (s : Known) (jobs : List Job) (h : List Call) (k : ℕ) → (n : ℕ) × ((past s (tasks_for s jobs) h).waiting k ≡ drop n (tasks_for s jobs k)) }
     ensures first { (s : Known) (jobs : List Job) (h : List Call) (k : ℕ) (t : Task) → k < length s.drives → begins s (settled s (past s (tasks_for s jobs) h)) k ≡ Some t → is_some t.number ≡ true →

@@ -1,4 +1,4 @@
-//! The master's end of the ring.
+//! The master's end of the ring: its phases, the start-up of the drives, the plan, and the requests.
 #![tactic(auto)]
 
 mod counts;
@@ -16,4 +16,4 @@ mod sending;
 mod tasks;
 
 pub use law::master_law;
-pub use master::{AnyMaster, Cp0, Cp1, Cp2, Cp3, Cp4, Master};
+pub use master::{AboveCp0, AnyMaster, Cp0, Cp1, Cp2, Cp3, Cp4, Master};

@@ -1,11 +1,11 @@
-// Where the drive with an address is.
+// The index, in ring order, of the drive with an address.
 ghost use Rattle.std.specs.Prelude.{◌≡◌, ◌<◌, ◌==◌, ℕ, length, None, IfSome, slice_index_or};
-ghost use Rattle.std.specs.List.{position};
+ghost use Rattle.sercos_master.specs.Clauses.{position};
 
 use sercos_seat::Seat;
 use std::marker::Model;
 
-// The place of the drive with an address.
+// Returns the index of the first drive with an address; `None` if there is none.
 pub fn place_of(seats: &[Seat], address: u8) -> Option<usize>
     ensures value { result ≡ position (λ v. v.member.address == address) seats.now }
     ensures bound { IfSome result (λ k. k < length seats.now) }
@@ -15,10 +15,10 @@ pub fn place_of(seats: &[Seat], address: u8) -> Option<usize>
         .position(|seat| seat.member().address() == address)
 }
 
-// The number of addresses that an AT may have.
+// The number of values of an address byte.
 const ADDRESSES: usize = 256;
 
-// The place of the drive with each address. An AT is looked up here, since the seats are far apart in memory.
+// The index of the drive with each address. An AT is looked up here, since the seats are far apart in memory.
 #[derive(Drop)]
 pub struct Places {
     of: [Option<usize>; ADDRESSES],
@@ -35,7 +35,7 @@ impl Model for Places {
 }
 
 impl Places {
-    // Looks up each address.
+    // Returns, for each address from 0 to 255, the index of the first of these drives with it; `None` if there is none.
     pub fn of_all(seats: &[Seat]) -> Places
         ensures { (address : ℕ) → address < 256 → slice_index_or result address None ≡ position (λ v. v.member.address == address) seats.now }
     {
@@ -46,7 +46,7 @@ impl Places {
         Places { of }
     }
 
-    // The place of the drive with an address.
+    // Returns the index of the drive with an address; `None` if there is none.
     pub fn of(&self, address: u8) -> Option<usize>
         ensures value { result ≡ slice_index_or self.now address None }
         ensures byte { address < 256 }

@@ -1,16 +1,7 @@
-// The master in its states.
+// The master in each of its phases.
 ghost use Rattle.std.specs.Prelude.{◌≡◌, ◌≤◌, ◌<◌, ◌+◌, ℕ, true, List, [], ◌∷◌, length, Some, option_map, is_ok, is_some, IfOk, IfErr};
-ghost use Rattle.std.specs.List.{All};
-ghost use Rattle.sercos_step.specs.declared.request.Job.{Job};
-ghost use Rattle.sercos_step.specs.Steps.{IsRequest};
-ghost use Rattle.sercos_block.specs.Rings.{is_ring};
+ghost use Rattle.sercos_master.specs.Clauses.{All, Job, IsRequest, is_ring, Known, Task, IsKnown, known_of, tasks_for, Call, HearMst, HearAt, Mdt, End, Restart, Past, past, fall_of, new_epoch, still_waiting, is_closed, is_done_in, all_identified, all_checked, all_ready, mst_said, mdt_said, sent_as, AreOpen, events_told, restart_told, with_broken, CoreStandsFor, IsIn, HoldsPlan};
 ghost use Rattle.sercos_trace.specs.declared.events.Fall.TheVariants as fall;
-ghost use Rattle.sercos_seat.specs.Ring.{Known, Task, IsKnown, known_of, tasks_for};
-ghost use Rattle.sercos_master.specs.Annals.{Call, HearMst, HearAt, Mdt, End, Restart, Past, past, fall_of, new_epoch, still_waiting, is_closed, is_done_in, all_identified, all_checked, all_ready};
-ghost use Rattle.sercos_master.specs.Says.{mst_said, mdt_said, sent_as};
-ghost use Rattle.sercos_master.specs.Reports.{AreOpen, events_told, restart_told, with_broken};
-ghost use Rattle.sercos_master.specs.Kept.{CoreStandsFor, IsIn};
-ghost use Rattle.sercos_master.specs.Written.{HoldsPlan};
 
 use crate::ring::Ring;
 use sercos_bits::Content;
@@ -41,9 +32,21 @@ pub struct Cp3;
 #[derive(Drop)]
 pub struct Cp4;
 
-/// The master's end of the ring in a phase: `Master<Cp0>` to `Master<Cp4>`. What it keeps is in memory that its opening took, so a
-/// move of it copies few bytes. In phases 3 and 4 it has a plan, and each drive has answered the writes of this plan and its
-/// check for phase 3 without error since the last fall. IEC 61491:1995 has the phases; when each is left is this profile's.
+/// A phase above 0, from which the ring can fall.
+pub trait AboveCp0 {}
+
+impl AboveCp0 for Cp1 {}
+
+impl AboveCp0 for Cp2 {}
+
+impl AboveCp0 for Cp3 {}
+
+impl AboveCp0 for Cp4 {}
+
+/// The master's end of the ring in a phase: `Master<Cp0>` to `Master<Cp4>`. Its state is in memory that its opening took, so a move copies
+/// few bytes. In phases 3 and 4 it has a plan, and since the last fall each drive has answered the eleven writes of phase 2 and its check
+/// for phase 3 without error. The writes are those of the ring's two cycle times, the six values of the plan for the drive, the telegram
+/// type 7, and the drive's two lists. The phases are those of IEC 61491:1995; the conditions for leaving each are this profile's.
 #[derive(Drop)]
 pub struct Master<P> {
     ring: Box<Ring>,
@@ -58,6 +61,7 @@ impl<P> Model for Master<P> {
     ghost view = { λ m. m.ring.value };
 }
 
+// Returns a ring as a master in the phase `P`.
 fn in_state<P>(ring: Box<Ring>) -> Master<P>
     ensures { result ≡ ring.value }
 {
@@ -70,14 +74,14 @@ fn in_state<P>(ring: Box<Ring>) -> Master<P>
 impl<P> Master<P> {
     ghost use Rattle.sercos_master.specs.Any.{Closes};
 
-    // Returns whether all that belongs to the phase is done.
+    // Returns whether everything required to leave the phase is done.
     fn is_done(&self) -> bool
         ensures { (n : ℕ) (s : Known) (p : Past) → IsIn n self.now s p → result ≡ is_done_in n s p }
     {
         self.ring.is_done()
     }
 
-    // Looks at the answers of the cycle, begins the next jobs, and sends the MDT.
+    // Processes the answers of the cycle, begins the next tasks, and sends the MDT, as [`AnyMaster::mdt`] does.
     fn mdt(&mut self, out: &mut Content) -> Option<u16>
         ensures stands { (n : ℕ) (s : Known) (jobs : List Job) (h : List Call) → IsIn n self.old s (past s (tasks_for s jobs) h) →
             IsIn n self.new s (past s (tasks_for s jobs) (Mdt ∷ h)) }
@@ -88,14 +92,16 @@ impl<P> Master<P> {
         self.ring.mdt(out)
     }
 
-    // The fall that the cycle ends with, if there is one.
+    // Returns the fall at the end of the cycle; `None` if there is none. A lost MST takes precedence over a lost AT, and a lost AT over the
+    // step limit.
     fn fall_due(&self) -> Option<Fall>
         ensures { (s : Known) (p : Past) → CoreStandsFor self.now s p → result ≡ fall_of s p }
     {
         self.ring.fall()
     }
 
-    // Closes the cycle, which was of this phase, and adds what it brought to the events. The next one is of this state's phase.
+    // Closes the cycle, which was of this phase, and adds its outcomes, plan and stop to the events. These must have room for one more
+    // outcome per drive, of 128. The next cycle is of the phase `P`.
     fn close(mut self, phase: u8, events: &mut Events) -> Master<P>
         ensures { Closes self phase events.old result events.new }
     {
@@ -107,14 +113,14 @@ impl<P> Master<P> {
 }
 
 impl Master<Cp0> {
-    /// Commands phase 1. The error is the old state, unchanged, iff fewer than ten MSTs in a row came back whole.
+    /// Commands phase 1. The error is the unchanged master, iff fewer than ten MSTs in a row returned intact (this profile).
     pub fn rise(mut self) -> Result<Master<Cp1>, Master<Cp0>>
         ensures exactly { (s : Known) (p : Past) → IsIn 0 self s p → is_ok result ≡ is_closed p }
         ensures up { IfOk result (λ m. m ≡ record self { phase = 1 }) }
         ensures same { IfErr result (λ m. m ≡ self) }
     {
         if self.is_done() {
-            self.ring.set_phase(1);
+            self.ring.phase = 1;
             Ok(in_state(self.ring))
         } else {
             Err(self)
@@ -123,14 +129,14 @@ impl Master<Cp0> {
 }
 
 impl Master<Cp1> {
-    /// Commands phase 2. The error is the old state, unchanged, iff some drive hasn't answered its identification.
+    /// Commands phase 2. The error is the unchanged master, iff some drive hasn't answered its identification.
     pub fn rise(mut self) -> Result<Master<Cp2>, Master<Cp1>>
         ensures exactly { (s : Known) (p : Past) → IsIn 1 self s p → is_ok result ≡ all_identified s p }
         ensures up { IfOk result (λ m. m ≡ record self { phase = 2 }) }
         ensures same { IfErr result (λ m. m ≡ self) }
     {
         if self.is_done() {
-            self.ring.set_phase(2);
+            self.ring.phase = 2;
             Ok(in_state(self.ring))
         } else {
             Err(self)
@@ -139,9 +145,9 @@ impl Master<Cp1> {
 }
 
 impl Master<Cp2> {
-    /// Commands phase 3. The error is the old state, unchanged, iff some drive's check for phase 3 (S-0-0127), its last job of
-    /// phase 2, hasn't ended with data status 3. The new state has the plan, and each drive has answered the writes of this plan
-    /// without error since the last fall.
+    /// Commands phase 3. The error is the unchanged master, iff some drive's check for phase 3 (S-0-0127), its last task of phase 2, hasn't
+    /// ended with data status 3. The new state has the plan, and each drive has answered the eleven writes of phase 2, with the values of
+    /// this plan, without error since the last fall.
     pub fn rise(mut self) -> Result<Master<Cp3>, Master<Cp2>>
         ensures exactly { (s : Known) (p : Past) → IsIn 2 self s p → is_ok result ≡ all_checked s p }
         ensures up { IfOk result (λ m. m ≡ record self { phase = 3 }) }
@@ -149,7 +155,7 @@ impl Master<Cp2> {
         ensures same { IfErr result (λ m. m ≡ self) }
     {
         if self.is_done() {
-            self.ring.set_phase(3);
+            self.ring.phase = 3;
             Ok(in_state(self.ring))
         } else {
             Err(self)
@@ -158,9 +164,9 @@ impl Master<Cp2> {
 }
 
 impl Master<Cp3> {
-    /// Commands phase 4. The error is the old state, unchanged, iff some drive's check for phase 4 (S-0-0128) hasn't ended with
-    /// data status 3. The new state has the plan, and each drive has answered the writes of this plan without error since
-    /// the last fall.
+    /// Commands phase 4. The error is the unchanged master, iff some drive's check for phase 4 (S-0-0128) hasn't ended with data status 3.
+    /// The new state has the plan, and each drive has answered the eleven writes of phase 2, with the values of this plan, without error
+    /// since the last fall.
     pub fn rise(mut self) -> Result<Master<Cp4>, Master<Cp3>>
         ensures exactly { (s : Known) (p : Past) → IsIn 3 self s p → is_ok result ≡ all_ready s p }
         ensures up { IfOk result (λ m. m ≡ record self { phase = 4 }) }
@@ -168,7 +174,7 @@ impl Master<Cp3> {
         ensures same { IfErr result (λ m. m ≡ self) }
     {
         if self.is_done() {
-            self.ring.set_phase(4);
+            self.ring.phase = 4;
             Ok(in_state(self.ring))
         } else {
             Err(self)
@@ -176,9 +182,10 @@ impl Master<Cp3> {
     }
 }
 
-impl Master<Cp1> {
-    /// Falls to phase 0. Each request that is open is added to the events as broken, and it is not sent again. The cause becomes
-    /// the fall of the events, whose plan and stop stay. Room is needed for one outcome more for each drive.
+impl<P: AboveCp0> Master<P> {
+    /// Falls to phase 0. All that was received is forgotten. Each current request is added to the events as broken, and it is not sent
+    /// again; the requests that weren't begun still wait. `cause` becomes the fall of the events; their plan and stop stay. The events must
+    /// have room for one more outcome per drive, of 128.
     pub fn fall(self, cause: Fall, events: &mut Events) -> Master<Cp0>
         ensures stands { (s : Known) (p : Past) → CoreStandsFor self s p → CoreStandsFor result s (new_epoch p.cycle (still_waiting p)) }
         ensures told { (s : Known) (p : Past) → CoreStandsFor self s p → length events.old.outcomes + length s.drives ≤ 128 →
@@ -188,43 +195,9 @@ impl Master<Cp1> {
     }
 }
 
-impl Master<Cp2> {
-    /// Falls to phase 0. Each request that is open is added to the events as broken, and it is not sent again. The cause becomes
-    /// the fall of the events, whose plan and stop stay. Room is needed for one outcome more for each drive.
-    pub fn fall(self, cause: Fall, events: &mut Events) -> Master<Cp0>
-        ensures stands { (s : Known) (p : Past) → CoreStandsFor self s p → CoreStandsFor result s (new_epoch p.cycle (still_waiting p)) }
-        ensures told { (s : Known) (p : Past) → CoreStandsFor self s p → length events.old.outcomes + length s.drives ≤ 128 →
-            events.new ≡ record events.old { outcomes = with_broken s p events.old.outcomes; fall = Some cause } }
-    {
-        in_state(fallen(self.ring, cause, events))
-    }
-}
-
-impl Master<Cp3> {
-    /// Falls to phase 0. Each request that is open is added to the events as broken, and it is not sent again. The cause becomes
-    /// the fall of the events, whose plan and stop stay. Room is needed for one outcome more for each drive.
-    pub fn fall(self, cause: Fall, events: &mut Events) -> Master<Cp0>
-        ensures stands { (s : Known) (p : Past) → CoreStandsFor self s p → CoreStandsFor result s (new_epoch p.cycle (still_waiting p)) }
-        ensures told { (s : Known) (p : Past) → CoreStandsFor self s p → length events.old.outcomes + length s.drives ≤ 128 →
-            events.new ≡ record events.old { outcomes = with_broken s p events.old.outcomes; fall = Some cause } }
-    {
-        in_state(fallen(self.ring, cause, events))
-    }
-}
-
-impl Master<Cp4> {
-    /// Falls to phase 0. Each request that is open is added to the events as broken, and it is not sent again. The cause becomes
-    /// the fall of the events, whose plan and stop stay. Room is needed for one outcome more for each drive.
-    pub fn fall(self, cause: Fall, events: &mut Events) -> Master<Cp0>
-        ensures stands { (s : Known) (p : Past) → CoreStandsFor self s p → CoreStandsFor result s (new_epoch p.cycle (still_waiting p)) }
-        ensures told { (s : Known) (p : Past) → CoreStandsFor self s p → length events.old.outcomes + length s.drives ≤ 128 →
-            events.new ≡ record events.old { outcomes = with_broken s p events.old.outcomes; fall = Some cause } }
-    {
-        in_state(fallen(self.ring, cause, events))
-    }
-}
-
-// The ring falls to phase 0: an epoch begins, and the open requests are broken.
+// Returns the ring after a fall to phase 0: an epoch begins, and the requests that weren't begun still wait. The current requests are added
+// to the events as broken, and `cause` becomes their fall; their plan and stop stay. The events must have room for one more outcome per
+// drive, of 128.
 fn fallen(ring: Box<Ring>, cause: Fall, events: &mut Events) -> Box<Ring>
     ensures stands { (s : Known) (p : Past) → CoreStandsFor ring.value s p → CoreStandsFor result.value s (new_epoch p.cycle (still_waiting p)) }
     ensures told { (s : Known) (p : Past) → CoreStandsFor ring.value s p → length events.old.outcomes + length s.drives ≤ 128 →
@@ -236,9 +209,9 @@ fn fallen(ring: Box<Ring>, cause: Fall, events: &mut Events) -> Box<Ring>
     new
 }
 
-/// The master's end of the ring, in the phase that it commands. It knows of the drives only the setup's addresses, slaves and lists,
-/// and what it received. In each cycle `mst`, `hear_mst`, `hear_at` any number of times, `mdt` and `end_cycle` are called in this
-/// order; a call in another order is safe, and its effect is what the definitions say. No call but `open` takes memory.
+/// The master's end of the ring, in the phase that it commands. Of the drives it knows only the setup's addresses, slaves and lists, and
+/// what it received. In each cycle `mst`, `hear_mst`, `hear_at` any number of times, `mdt` and `end_cycle` are called in this order. Calls
+/// in another order are safe, and their contracts define the effect. Only `open` takes memory.
 #[derive(Drop)]
 pub enum AnyMaster {
     /// In phase 0.
@@ -256,9 +229,9 @@ pub enum AnyMaster {
 impl AnyMaster {
     ghost use Rattle.sercos_master.specs.Any.{StandsAt, AnyStandsFor, Ends};
 
-    /// Opens a master in phase 0 that has received nothing, with at most 4,096 requests. It uses no time that a drive declares and no
-    /// data block of the setup. A request to an address without a drive in the setup is never begun. The error is `AllocError`; then
-    /// nothing is left behind.
+    /// Opens a master in phase 0 that has received nothing. The setup must be valid. There must be at most 4,096 requests, each for an
+    /// element that a transfer takes: 1 to 7 of a read, 2 to 7 of a write. Of the setup it uses no time that a drive declares and no data
+    /// block. A request to an address without a drive in the setup is never begun. The error is `AllocError`.
     pub fn open(alloc: Global, setup: &RingSetup, jobs: Vec<Job>) -> Result<AnyMaster, AllocError>
         requires ring { is_ring setup.now ≡ true }
         requires few { length jobs.items ≤ 4096 }
@@ -284,7 +257,7 @@ impl AnyMaster {
         }
     }
 
-    /// Replaces the content by the MST of the commanded phase.
+    /// Replaces the content by that of the MST of the commanded phase.
     pub fn mst(&self, out: &mut Content)
         ensures said { (s : Known) (jobs : List Job) (h : List Call) → AnyStandsFor self.now s jobs h → out.new ≡ mst_said (past s (tasks_for s jobs) h) }
         ensures some { 0 < length out.new }
@@ -297,7 +270,8 @@ impl AnyMaster {
         );
     }
 
-    /// Processes the own MST as it came back, or that it didn't.
+    /// Processes the content of the own MST as it returned; `None` if it didn't. Keeps whether it is that of an MST of the commanded phase,
+    /// in place of what an earlier call in this cycle kept.
     pub fn hear_mst(&mut self, content: Option<&[u8]>)
         ensures { (s : Known) (jobs : List Job) (h : List Call) → AnyStandsFor self.old s jobs h →
             AnyStandsFor self.new s jobs (HearMst (option_map (λ c. c.now) content.entry) ∷ h) }
@@ -311,8 +285,9 @@ impl AnyMaster {
         }
     }
 
-    /// Processes the content of a frame at a place of ATs. It is taken as the AT of the drive with its address: the first of that
-    /// drive in a cycle that has the length of its AT, in phases 1 and 2 only of the drive addressed in the cycle before.
+    /// Processes the content of a frame that arrived at the place of an AT. It is taken as the AT of the drive with its address if it has
+    /// the length of that drive's AT in this phase, and is the first such content in the cycle. In phases 1 and 2 the drive must be the one
+    /// addressed in the cycle before; in phase 0 none is taken.
     pub fn hear_at(&mut self, content: &[u8])
         ensures { (s : Known) (jobs : List Job) (h : List Call) → AnyStandsFor self.old s jobs h → AnyStandsFor self.new s jobs (HearAt content.now ∷ h) }
     {
@@ -325,8 +300,8 @@ impl AnyMaster {
         }
     }
 
-    /// Looks at the answers of the cycle, begins the next jobs, and sends the MDT: replaces the content by it, and returns its
-    /// start in microseconds after the MST's end. `None` where no MDT is sent in this cycle.
+    /// Processes the answers of the cycle, begins the next tasks, and sends the MDT. Replaces the content by that of the MDT, and returns
+    /// its start in microseconds after the MST's end. If no MDT is sent in this cycle the result is `None`, and the content is unspecified.
     pub fn mdt(&mut self, out: &mut Content) -> Option<u16>
         ensures stands { (s : Known) (jobs : List Job) (h : List Call) → AnyStandsFor self.old s jobs h → AnyStandsFor self.new s jobs (Mdt ∷ h) }
         ensures said { (s : Known) (jobs : List Job) (h : List Call) → AnyStandsFor self.old s jobs h →
@@ -342,7 +317,7 @@ impl AnyMaster {
         }
     }
 
-    // Its ring, whatever the phase.
+    // Returns its ring, in any phase. The setup that it knows is valid.
     fn into_ring(self) -> Box<Ring>
         ensures stands { (s : Known) (p : Past) → StandsAt self s p → CoreStandsFor result.value s p }
         ensures known { (s : Known) (p : Past) → StandsAt self s p → IsKnown s }
@@ -356,7 +331,7 @@ impl AnyMaster {
         }
     }
 
-    // Ends the cycle, as `end_cycle` says.
+    // Ends the cycle, with the premise and the effect of [`AnyMaster::end_cycle`].
     fn ended(self, events: &mut Events) -> AnyMaster
         ensures { Ends self events.old result events.new }
     {
@@ -393,9 +368,9 @@ impl AnyMaster {
         }
     }
 
-    /// Ends the cycle: the ring falls to phase 0, or goes on, in the next phase where all that belongs to this one is done. The
-    /// requests that ended, the plan, the stop and the fall of the cycle are added to the events, which are to be empty, or to have
-    /// what `restart` added in this cycle.
+    /// Ends the cycle. After a fall the next one is of phase 0. Otherwise it is of the next phase, if everything required to leave this one
+    /// is done, or of the same phase. The requests that ended, the plan, the stop and the fall of the cycle are added to the events. These
+    /// must have no outcomes, or at most 64 if the master was restarted in this cycle.
     pub fn end_cycle(self, events: &mut Events) -> AnyMaster
         ensures stands { (s : Known) (jobs : List Job) (h : List Call) → AnyStandsFor self s jobs h → AnyStandsFor result s jobs (End ∷ h) }
         ensures told { (s : Known) (jobs : List Job) (h : List Call) → AnyStandsFor self s jobs h → AreOpen events.old.outcomes h →
@@ -404,8 +379,8 @@ impl AnyMaster {
         self.ended(events)
     }
 
-    /// Restarts the master: it commands phase 0 and has received nothing. The open requests are added to the events as broken, and
-    /// the fall `Restart`; the events have at most 64 outcomes before.
+    /// Restarts the master: it commands phase 0 and has received nothing. The current requests are added to the events as broken, and their
+    /// fall becomes `Restart`. The events must have at most 64 outcomes before. The requests that weren't begun still wait.
     pub fn restart(self, events: &mut Events) -> AnyMaster
         ensures stands { (s : Known) (jobs : List Job) (h : List Call) → AnyStandsFor self s jobs h → AnyStandsFor result s jobs (Restart ∷ h) }
         ensures told { (s : Known) (jobs : List Job) (h : List Call) → AnyStandsFor self s jobs h → length events.old.outcomes ≤ 64 →

@@ -1,30 +1,25 @@
-// A master is opened.
+// Opening a master.
 ghost use Rattle.std.specs.Prelude.{◌≡◌, ◌+◌, ◌≤◌, ◌<◌, ℕ, List, [], length, map, IfOk, OnOk};
-ghost use Rattle.std.specs.List.{All};
-ghost use Rattle.sercos_timing.specs.Valid.{AreDistinct};
-ghost use Rattle.sercos_step.specs.Steps.{IsRequest};
-ghost use Rattle.sercos_seat.specs.Ring.{Known, MemberView, Task, HasLists, member, member_of, tasks_for, with_job};
-ghost use Rattle.sercos_seat.specs.Seats.{nothing_seen};
-ghost use Rattle.sercos_master.specs.Kept.{AreFresh, SeatsStandFor};
+ghost use Rattle.sercos_master.specs.Clauses.{All, AreDistinct, IsRequest, Known, Task, HasLists, member, member_of, tasks_for, with_job, nothing_seen, AreFresh, SeatsStandFor};
 
 use crate::lookup::place_of;
 use arrayvec::ArrayVec;
 use sercos_block::DriveSetup;
-use sercos_idn::Idn;
 use sercos_seat::{Member, Seat};
 use sercos_step::Job;
 use std::alloc::{AllocError, Global};
 
-fn idns_of(idns: &[Idn]) -> ArrayVec<Idn, 16>
-    requires { length idns.now ≤ 16 }
-    ensures { result.items ≡ idns.now }
+// Returns a copy of a list, which must fit.
+pub fn copied<T: Copy + Default, const N: usize>(items: &[T]) -> ArrayVec<T, N>
+    requires { length items.now ≤ N }
+    ensures { result.items ≡ items.now }
 {
     let mut copy = ArrayVec::new();
-    let _fits = copy.try_extend_from_slice(idns);
+    let _fits = copy.try_extend_from_slice(items);
     copy
 }
 
-// What the master knows of a drive from the setup.
+// Returns what the master knows of a drive from the setup: its address, its slave, and the lists of what its telegrams carry.
 fn member_of(drive: &DriveSetup) -> Member
     ensures value { result ≡ member_of drive.now }
     ensures lists { HasLists result }
@@ -32,12 +27,12 @@ fn member_of(drive: &DriveSetup) -> Member
     Member::new(
         drive.address,
         drive.slave,
-        idns_of(drive.at.as_slice()),
-        idns_of(drive.mdt.as_slice()),
+        copied(drive.at.as_slice()),
+        copied(drive.mdt.as_slice()),
     )
 }
 
-// A seat for each drive.
+// Opens a seat for each drive, in ring order. The error is `AllocError`.
 pub fn open_seats(alloc: Global, drives: &[DriveSetup]) -> Result<Vec<Seat>, AllocError>
     ensures seats { IfOk result (λ seats. (length seats.items ≡ length drives.now) × AreFresh seats.items (map member_of drives.now)) }
     ensures lists { IfOk result (λ seats. All HasLists (map member_of drives.now)) }
@@ -49,7 +44,10 @@ pub fn open_seats(alloc: Global, drives: &[DriveSetup]) -> Result<Vec<Seat>, All
     Ok(seats)
 }
 
-// Hands each drive its requests, from the last one on.
+// Gives each drive its requests, numbered from 1 in the order of `jobs`; one to an address without a drive is dropped. There must be at
+// most 4,096, each for an element that a transfer takes: 1 to 7 of a read, 2 to 7 of a write. There must be a seat for each drive, without
+// a request and with nothing received, and no two drives may have the same address. The requests are given from the last one on, since a
+// seat takes each before the others. The error is `AllocError`; then the seats are unspecified.
 pub fn deal(mut jobs: Vec<Job>, seats: &mut Vec<Seat>) -> Result<(), AllocError>
     requires few { length jobs.items ≤ 4096 }
     requires requests { All (λ job. IsRequest job.request) jobs.items }
@@ -66,7 +64,10 @@ pub fn deal(mut jobs: Vec<Job>, seats: &mut Vec<Seat>) -> Result<(), AllocError>
     Ok(())
 }
 
-// Hands the drive with its address a request.
+// Gives a request to the drive with its address, before the requests that wait there; without such a drive it is dropped. `number` is its
+// number among all requests, counted from 1. The request must be for an element that a transfer takes: 1 to 7 of a read, 2 to 7 of a write.
+// There must be a seat for each drive, nothing received by any, and no two drives may have the same address. The error is `AllocError`;
+// then the seats are unspecified.
 fn give(number: u16, job: Job, seats: &mut Vec<Seat>) -> Result<(), AllocError>
     requires { IsRequest job.request }
     ensures count { OnOk result (length seats.new.items ≡ length seats.old.items) }

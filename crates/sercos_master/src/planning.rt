@@ -1,19 +1,17 @@
-// The answers of a cycle settled: the first stop, and the plan once all is read.
-ghost use Rattle.std.specs.Prelude.{◌≡◌, ◌<◌, ◌≤◌, true, length, Option, Some, None, if◌then◌else◌};
-ghost use Rattle.sercos_seat.specs.Ring.{IsKnown, Known};
-ghost use Rattle.sercos_seat.specs.Agenda.{wishes_given, last_long_stop};
-ghost use Rattle.sercos_master.specs.Annals.{with_plan, planned_by, with_due_plan, settled, outcomes, Past, with_stop, first_trouble};
-ghost use Rattle.sercos_master.specs.Kept.{CoreStandsFor};
+// Processing the answers of a cycle: the first stop, and the plan once everything is read. `wishes`, `make_plan`, `make_due_plan` and
+// `settle` require a ring of a valid setup: 1 to 64 drives with distinct addresses, an order of these, and cycle times of this profile.
+ghost use Rattle.std.specs.Prelude.{◌≡◌, ◌<◌, ◌≤◌, true, length, Option, Some, None};
+ghost use Rattle.sercos_master.specs.Clauses.{IsKnown, Known, wishes_given, last_long_stop, with_plan, planned_by, with_due_plan, settled, outcomes, Past, with_stop, first_trouble, CoreStandsFor};
 
+use crate::opening::copied;
 use crate::ring::Ring;
 use crate::seats::{first_troubled, first_unread, last_long_stop, wish_list};
-use arrayvec::ArrayVec;
 use sercos_plan::{Chain, plan};
 use sercos_timing::{Plan, Wishes, valid};
 use sercos_trace::Stop;
 
 impl Ring {
-    // Looks for the first stop in ring order, if there is none yet.
+    // Keeps the first stop, in ring order, that an answer causes, if there is no stop yet.
     fn look_for_stop(&mut self)
         ensures { (s : Known) (p : Past) → CoreStandsFor self.old s p → CoreStandsFor self.new s (with_stop (first_trouble s p) p) }
     {
@@ -27,8 +25,9 @@ impl Ring {
         }
     }
 
-    // Returns the planner's input: the ring's settings, and for each drive, by place, its own times, and the
-    // lengths of its AT and record, as its answers to the reads of phase 2 give them. A time that wasn't read is 0.
+    // Returns the planner's input: the ring's settings, and for each drive, in ring order, its times and the lengths of its AT and data
+    // record, from its answers to the reads of phase 2. A time that wasn't read is 0, and an attribute that wasn't read adds nothing to a
+    // length.
     fn wishes(&self) -> Wishes
         ensures { (s : Known) (p : Past) → IsKnown s → CoreStandsFor self.now s p → result ≡ wishes_given s (outcomes p) }
     {
@@ -42,7 +41,7 @@ impl Ring {
         }
     }
 
-    // There is a stop.
+    // Keeps a stop, if there is one. There must be no stop yet.
     fn keep_stop(&mut self, stop: Option<Stop>)
         ensures { (s : Known) (p : Past) → p.stop ≡ None → CoreStandsFor self.old s p → CoreStandsFor self.new s (with_stop stop p) }
     {
@@ -52,7 +51,7 @@ impl Ring {
         }
     }
 
-    // There is a plan, or none fits.
+    // Keeps a plan, as one made in this cycle, or the stop that no plan fits. There must be no stop yet.
     fn keep_plan(&mut self, planned: Result<Plan, Chain>)
         ensures { (s : Known) (p : Past) → p.stop ≡ None → CoreStandsFor self.old s p → CoreStandsFor self.new s (with_plan planned p) }
     {
@@ -65,7 +64,8 @@ impl Ring {
         }
     }
 
-    // Makes the plan.
+    // Makes the plan from the answers to the reads, or keeps the stop that none fits. If the data records are too long for an MDT, keeps
+    // the stop for the last value of four bytes instead. There must be no stop yet.
     fn make_plan(&mut self)
         ensures { (s : Known) (p : Past) → IsKnown s → p.stop ≡ None → CoreStandsFor self.old s p → CoreStandsFor self.new s (planned_by s p) }
     {
@@ -79,7 +79,7 @@ impl Ring {
         }
     }
 
-    // Makes the plan if it is due.
+    // Makes the plan if it is due: in phase 2, after all reads, and without a plan or a stop.
     fn make_due_plan(&mut self)
         ensures { (s : Known) (p : Past) → IsKnown s → CoreStandsFor self.old s p → CoreStandsFor self.new s (with_due_plan s p) }
     {
@@ -98,20 +98,11 @@ impl Ring {
         self.make_plan();
     }
 
-    // Looks at the answers of the cycle.
+    // Processes the answers of the cycle: keeps a stop, and makes the plan if it is due.
     pub fn settle(&mut self)
         ensures { (s : Known) (p : Past) → IsKnown s → CoreStandsFor self.old s p → CoreStandsFor self.new s (settled s p) }
     {
         self.look_for_stop();
         self.make_due_plan();
     }
-}
-
-pub fn copied(order: &[u8]) -> ArrayVec<u8, 64>
-    requires { length order.now ≤ 64 }
-    ensures { result.items ≡ order.now }
-{
-    let mut copy = ArrayVec::new();
-    let _fits = copy.try_extend_from_slice(order);
-    copy
 }

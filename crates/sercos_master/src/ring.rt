@@ -1,17 +1,9 @@
 // What the master keeps of the ring.
 ghost use Rattle.std.specs.Prelude.{◌≡◌, ℕ, ◌<◌, ◌≤◌, true, false, length, Option, None, IfOk, is_some};
-ghost use Rattle.std.specs.List.{All};
-ghost use Rattle.sercos_step.specs.Steps.{IsRequest};
-ghost use Rattle.sercos_block.specs.Rings.{is_ring};
-ghost use Rattle.sercos_master.specs.Says.{mdt_said, sent_as};
-ghost use Rattle.sercos_seat.specs.Ring.{known_of, IsKnown, Known, tasks_for};
-ghost use Rattle.sercos_master.specs.Annals.{IsPlanned, after_mdt, Past, new_epoch};
-ghost use Rattle.sercos_seat.specs.Seats.{AreWaiting};
-ghost use Rattle.sercos_master.specs.Kept.{IsIn, CoreStandsFor};
+ghost use Rattle.sercos_master.specs.Clauses.{All, IsRequest, is_ring, mdt_said, sent_as, known_of, IsKnown, Known, tasks_for, IsPlanned, after_mdt, Past, new_epoch, AreWaiting, IsIn, CoreStandsFor};
 
 use crate::lookup::Places;
-use crate::opening::{deal, open_seats};
-use crate::planning::copied;
+use crate::opening::{copied, deal, open_seats};
 use arrayvec::ArrayVec;
 use sercos_bits::Content;
 use sercos_block::{RingSetup, ring_law};
@@ -22,6 +14,11 @@ use sercos_trace::Stop;
 use std::alloc::{AllocError, Global};
 use std::marker::Model;
 
+// The ring as the master keeps it. The cycle times and the gap are in microseconds, the rate is in bits per microsecond, and drives are
+// indices in ring order. `whole` is whether the MST of this cycle returned intact, `row` for how many cycles in a row before it did, up to
+// 10, and `lost` whether it didn't in the cycle before, in phases 1 to 4. `addressed` and `before` are the drives that the MDT addresses
+// and addressed in the cycle before, and `waited` is for how many cycles of phase 1 in a row it was the latter. `plans` is whether the plan
+// was made in this cycle, `stopped` whether there is a stop, and `stop` is a stop of this cycle.
 #[derive(Drop)]
 pub struct Ring {
     pub rate: u8,
@@ -74,7 +71,8 @@ impl Model for Ring {
 }
 
 impl Ring {
-    // A ring without telegrams.
+    // Opens a ring in phase 0 that has received nothing. The setup must be valid. There must be at most 4,096 requests, each for an element
+    // that a transfer takes: 1 to 7 of a read, 2 to 7 of a write. The error is `AllocError`.
     pub fn open(alloc: Global, setup: &RingSetup, jobs: Vec<Job>) -> Result<Ring, AllocError>
         requires ring { is_ring setup.now ≡ true }
         requires few { length jobs.items ≤ 4096 }
@@ -107,14 +105,10 @@ impl Ring {
         })
     }
 
-    // Commands another phase.
-    pub fn set_phase(&mut self, phase: u8)
-        ensures { self.new ≡ record self.old { phase = phase } }
-    {
-        self.phase = phase;
-    }
-
-    // Looks at the answers of the cycle, begins tasks, and sends the MDT.
+    // Processes the answers of the cycle, begins the next tasks, and sends the MDT. Replaces the content by that of the MDT, and returns
+    // its start in microseconds after the MST's end. If no MDT is sent the result is `None`, and the content is unspecified. The ring must
+    // be one of a valid setup, the phase 0 to 4, and the tasks that wait of phase 4. For the result, a plan must be the least one for the
+    // values that were read in this epoch, with all reads ended and with data records that fit into an MDT.
     pub fn mdt(&mut self, out: &mut Content) -> Option<u16>
         ensures stands { (s : Known) (p : Past) → IsKnown s → ((k : ℕ) → AreWaiting (p.waiting k)) → p.now.phase ≤ 4 →
             CoreStandsFor self.old s p → CoreStandsFor self.new s (after_mdt s p) }

@@ -1,12 +1,6 @@
-// The seats of all drives, looked at and acted on one after the other.
+// The seats of all drives, in ring order.
 ghost use Rattle.std.specs.Prelude.{◌≡◌, ℕ, ◌+◌, ◌<◌, ◌≤◌, ◌&&◌, not, List, [], ◌∷◌, ◌++◌, length, nat_le, nat_lt, Option, None, IfSome, is_some, is_none, if◌then◌else◌};
-ghost use Rattle.std.specs.List.{position};
-ghost use Rattle.sercos_timing.specs.Views.{PlanView};
-ghost use Rattle.sercos_master.specs.Reports.{with_reports};
-ghost use Rattle.sercos_seat.specs.Ring.{Known, MemberView, Task};
-ghost use Rattle.sercos_seat.specs.Agenda.{wishes_from, last_long_stop};
-ghost use Rattle.sercos_seat.specs.Seats.{broken_in, outcomes_seen, SeatStandsFor, has_read, cycles_kept, ended_in, forgotten, sent_in, with_begun, begun_task, Seen, AreWaiting};
-ghost use Rattle.sercos_master.specs.Kept.{records_upto, with_pair, SeatsStandFor};
+ghost use Rattle.sercos_master.specs.Clauses.{position, PlanView, with_reports, Known, MemberView, Task, wishes_from, last_long_stop, broken_in, outcomes_seen, SeatStandsFor, has_read, cycles_kept, ended_in, forgotten, sent_in, with_begun, begun_task, Seen, AreWaiting, records_upto, with_pair, SeatsStandFor};
 
 use crate::reports::add;
 use arrayvec::ArrayVec;
@@ -15,7 +9,7 @@ use sercos_seat::Seat;
 use sercos_timing::Wish;
 use sercos_trace::{Reported, Stop};
 
-// The first drive that isn't read, and the first whose check for phase 3 hasn't ended well.
+// Returns the index of the first drive with a read that hasn't ended; `None` if there is none.
 pub fn first_unread(seats: &[Seat]) -> Option<usize>
     ensures value { result ≡ position (λ v. not (has_read v)) seats.now }
     ensures bound { IfSome result (λ k. k < length seats.now) }
@@ -23,6 +17,7 @@ pub fn first_unread(seats: &[Seat]) -> Option<usize>
     seats.iter().position(|seat| !seat.has_read())
 }
 
+// Returns the index of the first drive whose check for phase 3 hasn't ended well; `None` if there is none.
 pub fn first_unchecked(seats: &[Seat]) -> Option<usize>
     ensures value { result ≡ position (λ v. not v.checked) seats.now }
     ensures bound { IfSome result (λ k. k < length seats.now) }
@@ -30,6 +25,7 @@ pub fn first_unchecked(seats: &[Seat]) -> Option<usize>
     seats.iter().position(|seat| !seat.is_checked())
 }
 
+// Returns the index of the first drive whose check for phase 4 hasn't ended well; `None` if there is none.
 pub fn first_unready(seats: &[Seat]) -> Option<usize>
     ensures value { result ≡ position (λ v. not v.ready) seats.now }
     ensures bound { IfSome result (λ k. k < length seats.now) }
@@ -37,6 +33,7 @@ pub fn first_unready(seats: &[Seat]) -> Option<usize>
     seats.iter().position(|seat| !seat.is_ready())
 }
 
+// Returns the index of the first drive that isn't identified; `None` if there is none.
 pub fn first_unidentified(seats: &[Seat]) -> Option<usize>
     ensures value { result ≡ position (λ v. not v.identified) seats.now }
     ensures bound { IfSome result (λ k. k < length seats.now) }
@@ -44,6 +41,7 @@ pub fn first_unidentified(seats: &[Seat]) -> Option<usize>
     seats.iter().position(|seat| !seat.is_identified())
 }
 
+// Returns the index of the first drive with a current task; `None` if there is none.
 pub fn first_working(seats: &[Seat]) -> Option<usize>
     ensures value { result ≡ position (λ v. not (is_none v.channel.transfer)) seats.now }
     ensures bound { IfSome result (λ k. k < length seats.now) }
@@ -51,6 +49,7 @@ pub fn first_working(seats: &[Seat]) -> Option<usize>
     seats.iter().position(|seat| !seat.is_idle())
 }
 
+// Returns the index of the first drive whose newest outcome causes a stop; `None` if there is none.
 pub fn first_troubled(seats: &[Seat]) -> Option<usize>
     ensures value { result ≡ position (λ v. is_some v.trouble) seats.now }
     ensures bound { IfSome result (λ k. k < length seats.now) }
@@ -58,6 +57,8 @@ pub fn first_troubled(seats: &[Seat]) -> Option<usize>
     seats.iter().position(|seat| seat.has_trouble())
 }
 
+// Returns the index of the first drive of which no AT was taken in this cycle and in the one before, which was of phase 3 or 4; `None` if
+// there is none.
 pub fn first_lost(seats: &[Seat]) -> Option<usize>
     ensures value { result ≡ position (λ v. v.missed && not v.heard) seats.now }
     ensures bound { IfSome result (λ k. k < length seats.now) }
@@ -65,6 +66,7 @@ pub fn first_lost(seats: &[Seat]) -> Option<usize>
     seats.iter().position(|seat| seat.is_lost())
 }
 
+// Returns the index of the first drive whose step has been open for 64 cycles; `None` if there is none.
 pub fn first_stuck(seats: &[Seat]) -> Option<usize>
     ensures value { result ≡ position (λ v. nat_le 64 (cycles_kept v)) seats.now }
     ensures bound { IfSome result (λ k. k < length seats.now) }
@@ -72,7 +74,8 @@ pub fn first_stuck(seats: &[Seat]) -> Option<usize>
     seats.iter().position(|seat| seat.cycles_open() >= 64)
 }
 
-// The stop of the last value of four bytes that a record is to carry.
+// Returns the stop for the last value with four bytes in the data records of all drives, in ring order; `None` if there is none. There must
+// be a seat for each drive of the setup.
 pub fn last_long_stop(seats: &[Seat]) -> Option<Stop>
     ensures { (s : Known) (seen : ℕ → Seen) → length seats.now ≡ length s.drives → SeatsStandFor seats.now s seen →
         result ≡ last_long_stop s.drives 0 (λ k. outcomes_seen (seen k)) }
@@ -87,7 +90,7 @@ pub fn last_long_stop(seats: &[Seat]) -> Option<Stop>
     None
 }
 
-// Appends a wish, if there is room.
+// Appends the planner's input of a drive, if there are fewer than 64; otherwise the list is unchanged.
 fn push_wish(wish: Wish, wishes: &mut ArrayVec<Wish, 64>)
     ensures { wishes.new.items ≡ (if nat_lt (length wishes.old.items) 64 then wishes.old.items ++ wish ∷ [] else wishes.old.items) }
 {
@@ -96,7 +99,7 @@ fn push_wish(wish: Wish, wishes: &mut ArrayVec<Wish, 64>)
     }
 }
 
-// The wishes of the drives.
+// Returns the planner's input of each drive, in ring order. There must be at most 64 drives, with a seat each.
 pub fn wish_list(seats: &[Seat]) -> ArrayVec<Wish, 64>
     ensures { (s : Known) (seen : ℕ → Seen) → length seats.now ≡ length s.drives → length s.drives ≤ 64 → SeatsStandFor seats.now s seen →
         result.items ≡ wishes_from s.drives 0 (λ k. outcomes_seen (seen k)) }
@@ -108,7 +111,8 @@ pub fn wish_list(seats: &[Seat]) -> ArrayVec<Wish, 64>
     wishes
 }
 
-// Each seat begins its next task of phase 3, if none is at work.
+// Begins the next task of phase 3 at each idle seat that has one. The tasks that wait must be of phase 4. `planned` is whether there is a
+// plan.
 pub fn begin_seats(planned: bool, seats: &mut Vec<Seat>)
     ensures count { length seats.new.items ≡ length seats.old.items }
     ensures stand { (s : Known) (seen : ℕ → Seen) (plan : Option PlanView) (waiting : ℕ → List Task) → ((k : ℕ) → AreWaiting (waiting k)) → is_some plan ≡ planned →
@@ -120,7 +124,8 @@ pub fn begin_seats(planned: bool, seats: &mut Vec<Seat>)
     }
 }
 
-// Each seat begins its next request, if no task is at work.
+// Begins the next request at each idle seat that has one, if there is a plan and the drive's checks for phases 3 and 4 ended well. The
+// tasks that wait must be of phase 4. `planned` is whether there is a plan.
 pub fn begin_requests(planned: bool, seats: &mut Vec<Seat>)
     ensures count { length seats.new.items ≡ length seats.old.items }
     ensures stand { (s : Known) (seen : ℕ → Seen) (plan : Option PlanView) → ((k : ℕ) → AreWaiting (seen k).waiting) → is_some plan ≡ planned →
@@ -132,7 +137,8 @@ pub fn begin_requests(planned: bool, seats: &mut Vec<Seat>)
     }
 }
 
-// Each seat sends its record.
+// Appends the data record of each seat to the content of an MDT, and each seat keeps that it was sent. `count` is the number of the cycle.
+// The content must have room for all within 2048 bytes; otherwise it is unspecified, but not empty if it wasn't before.
 pub fn send_records(count: u32, seats: &mut Vec<Seat>, out: &mut Content)
     ensures count { length seats.new.items ≡ length seats.old.items }
     ensures stand { (s : Known) (seen : ℕ → Seen) → SeatsStandFor seats.old.items s seen → SeatsStandFor seats.new.items s (λ k. sent_in (seen k)) }
@@ -146,7 +152,8 @@ pub fn send_records(count: u32, seats: &mut Vec<Seat>, out: &mut Content)
     }
 }
 
-// Begins an epoch at each seat, and reports the requests at work as broken.
+// Begins an epoch at each seat: what was received is forgotten, and the requests that weren't begun still wait. Adds the current requests
+// to `reports` as broken. It must have room for one more per seat, of 128.
 pub fn reset_seats(seats: &mut Vec<Seat>, reports: &mut ArrayVec<Reported, 128>)
     ensures count { length seats.new.items ≡ length seats.old.items }
     ensures stand { (s : Known) (seen : ℕ → Seen) → SeatsStandFor seats.old.items s seen → SeatsStandFor seats.new.items s (λ k. forgotten (seen k)) }
@@ -159,7 +166,8 @@ pub fn reset_seats(seats: &mut Vec<Seat>, reports: &mut ArrayVec<Reported, 128>)
     }
 }
 
-// Ends a cycle of a phase at a seat, and reports the request that ended, if one did. A report is large, so it is moved only then.
+// Ends a cycle of this phase at a seat, and adds the request that ended in it, if one did, to `reports`. There must be fewer than 128 of
+// these. The report is moved only if there is one, since it is large.
 fn end_seat(phase: u8, seat: &mut Seat, reports: &mut ArrayVec<Reported, 128>)
     ensures stand { (d : MemberView) (x : Seen) → SeatStandsFor seat.old d x → SeatStandsFor seat.new d (ended_in phase x) }
     ensures told { length reports.old.items < 128 → reports.new.items ≡ with_pair seat.old.report reports.old.items }
@@ -171,7 +179,8 @@ fn end_seat(phase: u8, seat: &mut Seat, reports: &mut ArrayVec<Reported, 128>)
     }
 }
 
-// Ends a cycle of a phase at each seat, and reports the requests that ended.
+// Ends a cycle of this phase at each seat, and adds the requests that ended in it to `reports`. It must have room for one more per seat, of
+// 128.
 pub fn end_seats(phase: u8, seats: &mut Vec<Seat>, reports: &mut ArrayVec<Reported, 128>)
     ensures count { length seats.new.items ≡ length seats.old.items }
     ensures stand { (s : Known) (seen : ℕ → Seen) → SeatsStandFor seats.old.items s seen → SeatsStandFor seats.new.items s (λ k. ended_in phase (seen k)) }

@@ -1,10 +1,7 @@
-// The MDT of each phase.
+// The MDT of each phase. Each function replaces the content `out` by that of the MDT, and returns its start in microseconds after the MST's
+// end. If no MDT is sent the result is `None`, and `out` is unspecified.
 ghost use Rattle.std.specs.Prelude.{◌≡◌, ◌<◌, ◌≤◌, true, false, length, Option, Some, None, IfSome, is_some, option_map};
-ghost use Rattle.sercos_telegram.specs.Words.{control_word};
-ghost use Rattle.sercos_master.specs.Says.{mdt_said};
-ghost use Rattle.sercos_seat.specs.Ring.{Known};
-ghost use Rattle.sercos_master.specs.Annals.{Past};
-ghost use Rattle.sercos_master.specs.Kept.{sent_now, Fits, CoreStandsFor};
+ghost use Rattle.sercos_master.specs.Clauses.{control_word, mdt_said, Known, Past, sent_now, Fits, CoreStandsFor};
 
 use crate::ring::Ring;
 use crate::seats::{first_unidentified, first_working, send_records};
@@ -14,7 +11,7 @@ use sercos_timing::Plan;
 use sercos_timing::limits::EARLY_MDT;
 
 impl Ring {
-    // The MDT of phase 1: to the first drive that isn't identified.
+    // Sends the MDT of phase 1: zeros to the first drive that isn't identified; `None` if all are. The phase must be 1.
     fn identify(&mut self, out: &mut Content) -> Option<u16>
         ensures stands { (s : Known) (p : Past) → p.now.phase ≡ 1 → CoreStandsFor self.old s p → CoreStandsFor self.new s (sent_now s p) }
         ensures start { (s : Known) (p : Past) → p.now.phase ≡ 1 → CoreStandsFor self.old s p → result ≡ option_map (λ m. m.start) (mdt_said s (sent_now s p)) }
@@ -31,7 +28,7 @@ impl Ring {
         Some(EARLY_MDT)
     }
 
-    // The MDT of phase 2: to the drive whose step is open.
+    // Sends the MDT of phase 2: the open step, to the first drive with a current task; `None` if there is none. The phase must be 2.
     fn send_single(&mut self, out: &mut Content) -> Option<u16>
         ensures stands { (s : Known) (p : Past) → p.now.phase ≡ 2 → CoreStandsFor self.old s p → CoreStandsFor self.new s (sent_now s p) }
         ensures start { (s : Known) (p : Past) → p.now.phase ≡ 2 → CoreStandsFor self.old s p → result ≡ option_map (λ m. m.start) (mdt_said s (sent_now s p)) }
@@ -48,7 +45,8 @@ impl Ring {
         Some(EARLY_MDT)
     }
 
-    // The MDT of phases 3 and 4: to all drives.
+    // Sends the MDT of phases 3 and 4: the data records of all drives. It starts at T2 of the plan; `None` without a plan. The phase must
+    // be at least 3. If there is a plan, the content with all records must have at most 2048 bytes.
     fn send_joint(&mut self, out: &mut Content) -> Option<u16>
         ensures stands { (s : Known) (p : Past) → 3 ≤ p.now.phase → CoreStandsFor self.old s p → CoreStandsFor self.new s (sent_now s p) }
         ensures start { (s : Known) (p : Past) → 3 ≤ p.now.phase → CoreStandsFor self.old s p → result ≡ option_map (λ m. m.start) (mdt_said s (sent_now s p)) }
@@ -61,14 +59,8 @@ impl Ring {
         start_of(&self.plan)
     }
 
-    // Nothing is sent in phase 0.
-    fn send_nothing(&mut self)
-        ensures { (s : Known) (p : Past) → p.now.phase ≡ 0 → CoreStandsFor self.old s p → CoreStandsFor self.new s (sent_now s p) }
-    {
-        self.addressed = None;
-    }
-
-    // The MDT of the phase.
+    // Sends the MDT of the phase, 0 to 4. In phase 0 none is sent. In phases 3 and 4, if there is a plan, the content with the data records
+    // of all drives must have at most 2048 bytes.
     pub fn send(&mut self, out: &mut Content) -> Option<u16>
         ensures stands { (s : Known) (p : Past) → p.now.phase ≤ 4 → CoreStandsFor self.old s p → CoreStandsFor self.new s (sent_now s p) }
         ensures start { (s : Known) (p : Past) → p.now.phase ≤ 4 → CoreStandsFor self.old s p → result ≡ option_map (λ m. m.start) (mdt_said s (sent_now s p)) }
@@ -77,7 +69,7 @@ impl Ring {
     {
         match self.phase {
             0 => {
-                self.send_nothing();
+                self.addressed = None;
                 None
             }
             1 => self.identify(out),
@@ -87,6 +79,7 @@ impl Ring {
     }
 }
 
+// Returns T2 of the plan, the start of the MDT in microseconds after the MST's end; `None` without a plan.
 fn start_of(plan: &Option<Plan>) -> Option<u16>
     ensures { result ≡ option_map (λ q. q.t2) plan.now }
 {
@@ -96,6 +89,7 @@ fn start_of(plan: &Option<Plan>) -> Option<u16>
     }
 }
 
+// Returns the control word of zeros.
 fn idle_control() -> Control
     ensures { control_word result ≡ 0 }
 {

@@ -1,16 +1,15 @@
-// The tasks that begin: by turns in phase 2, at each drive in phases 3 and 4.
-ghost use Rattle.std.specs.Prelude.{◌≡◌, ℕ, ◌<◌, ◌≤◌, length, Option, Some, None, IfSome, is_none, if◌then◌else◌};
-ghost use Rattle.sercos_seat.specs.Ring.{Known};
-ghost use Rattle.sercos_master.specs.Annals.{Past, in_turn, begun};
-ghost use Rattle.sercos_seat.specs.Seats.{AreWaiting};
-ghost use Rattle.sercos_master.specs.Kept.{CoreStandsFor};
+// Beginning tasks: for one drive at a time in phase 2, for each drive in phases 3 and 4. Each function that begins tasks requires that
+// those that wait are of phase 4.
+ghost use Rattle.std.specs.Prelude.{◌≡◌, ℕ, ◌<◌, ◌≤◌, length, Option, Some, None, IfSome, is_none};
+ghost use Rattle.sercos_master.specs.Clauses.{Known, Past, in_turn, begun, AreWaiting, CoreStandsFor};
 
 use crate::ring::Ring;
 use crate::seats::{begin_requests, begin_seats, first_unchecked, first_unread};
 use sercos_seat::Numbers;
 
 impl Ring {
-    // Whose turn it is in phase 2.
+    // Returns the index of the drive whose turn it is in phase 2: the first with a read that hasn't ended, otherwise the first whose check
+    // for phase 3 hasn't ended well; `None` if there is none.
     fn in_turn(&self) -> Option<usize>
         ensures value { (s : Known) (p : Past) → CoreStandsFor self.now s p → result ≡ in_turn s p }
         ensures bound { IfSome result (λ k. k < length self.now.seats) }
@@ -21,7 +20,8 @@ impl Ring {
         }
     }
 
-    // The drive whose turn it is begins its next task of phase 2, if none is at work.
+    // Begins the next task of phase 2 of the drive whose turn it is, if its channel is idle and it has one. The phase must be 2, and there
+    // must be no stop.
     fn begin_in_2(&mut self)
         ensures { (s : Known) (p : Past) → ((k : ℕ) → AreWaiting (p.waiting k)) → p.now.phase ≡ 2 → p.stop ≡ None →
             CoreStandsFor self.old s p → CoreStandsFor self.new s (begun s p) }
@@ -37,7 +37,7 @@ impl Ring {
         }
     }
 
-    // Each idle channel begins its next task of phase 3.
+    // Begins the next task of phase 3 on each idle channel, if there is one. The phase must be 3, and there must be no stop.
     fn begin_in_3(&mut self)
         ensures { (s : Known) (p : Past) → ((k : ℕ) → AreWaiting (p.waiting k)) → p.now.phase ≡ 3 → p.stop ≡ None →
             CoreStandsFor self.old s p → CoreStandsFor self.new s (begun s p) }
@@ -45,7 +45,8 @@ impl Ring {
         begin_seats(self.plan.is_some(), &mut self.seats);
     }
 
-    // Each idle channel begins the next request to its drive.
+    // Begins the next request on each idle channel, if there is one, if there is a plan, and if the drive's checks for phases 3 and 4 ended
+    // well. The phase must be 4, and there must be no stop.
     fn begin_in_4(&mut self)
         ensures { (s : Known) (p : Past) → ((k : ℕ) → AreWaiting (p.waiting k)) → p.now.phase ≡ 4 → p.stop ≡ None →
             CoreStandsFor self.old s p → CoreStandsFor self.new s (begun s p) }
@@ -53,7 +54,7 @@ impl Ring {
         begin_requests(self.plan.is_some(), &mut self.seats);
     }
 
-    // Begins tasks of the phase on idle channels, unless there is a stop.
+    // Begins tasks of the phase, 0 to 4, on idle channels, unless there is a stop.
     pub fn begin(&mut self)
         ensures { (s : Known) (p : Past) → ((k : ℕ) → AreWaiting (p.waiting k)) → p.now.phase ≤ 4 → CoreStandsFor self.old s p → CoreStandsFor self.new s (begun s p) }
     {
@@ -70,7 +71,7 @@ impl Ring {
     }
 
     // Begins tasks of the phase on idle channels: in phase 2 only that of the drive whose turn it is, in phases 3 and 4 the next one of
-    // each drive, in phases 0 and 1 none.
+    // each drive, and in phases 0 and 1 none. The phase must be 0 to 4, and there must be no stop.
     fn begin_next(&mut self)
         ensures { (s : Known) (p : Past) → ((k : ℕ) → AreWaiting (p.waiting k)) → p.now.phase ≤ 4 → p.stop ≡ None → CoreStandsFor self.old s p → CoreStandsFor self.new s (begun s p) }
     {

@@ -4,7 +4,7 @@ use Rattle.std.proofs.Math.Seq.{take-add}
 use Rattle.std.specs.List.{after_first}
 use Rattle.sercos_answer.specs.Lines.{with_front}
 use Rattle.sercos_trace.specs.Marked.{is_feed}
-use Rattle.sercos_trace.proofs.MarkLemmas.{after_short, after_feed, after_more}
+use Rattle.sercos_trace.proofs.FeedLemmas.{after_short, after_feed, after_more}
 use Rattle.sercos_multi.specs.Divided.{lines_in, is_next, onto, parts_in, parts_of}
 use Rattle.sercos_multi.proofs.ListLemmas.{taken_all, dropped_all}
 

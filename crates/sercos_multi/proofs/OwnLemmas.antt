@@ -1,15 +1,15 @@
 -- The lines of one ring in a merged text.
 use Rattle.std.proofs.Common.{◌≡◌, ℕ, zero, suc, ◌+◌, ◌/◌, ◌%◌, ◌==◌, Bool, true, false, nat_lt, if◌then◌else◌, List, [], ◌∷◌, ◌++◌, map, decimal, refl, sym, ◌∙◌, ap, subst, arith}
 use Rattle.std.specs.List.{flat_map}
-use Rattle.std.specs.Fmt.{digits, digits_onto, digit_glyph}
 use Rattle.std.proofs.lemmas.Bool.Decides.{nat_tests}
 use Rattle.std.proofs.lemmas.Grind.{flat_map-append}
 use Rattle.sercos_text.specs.Templates.{field_of, line_text, part_left, part_text, value_text}
-use Rattle.sercos_trace.specs.Marked.{is_feed, marked, marked_from, begins_after, AreLines}
+use Rattle.sercos_trace.specs.Marked.{is_feed, marked, marked_from, begins_after, AreLines, NoFeed}
 use Rattle.sercos_answer.specs.Lines.{with_front}
 use Rattle.sercos_multi.specs.Divided.{lines_in}
 use Rattle.sercos_multi.specs.Merged.{moment_line, together_line}
 use Rattle.sercos_multi.specs.OwnLines.{own_line, own_lines}
+use Rattle.sercos_trace.proofs.FeedLemmas.{NoFeed-append, decimal_no_feed}
 use Rattle.sercos_trace.proofs.MarkLemmas.{lines_one}
 
 -- a text that isn't empty has a line
@@ -134,37 +134,10 @@ marked_whole a text whole = marked_begins a true text ∙ whole
 
 -- ---- lines of no ring
 
-abbrev NoFeed : List ℕ → Type 0
-NoFeed [] = Unit {0}
-NoFeed (byte ∷ text) = ((byte == 10) ≡ false) × NoFeed text
-
 one_line : (line : List ℕ) → NoFeed line → lines_in (line ++ 10 ∷ []) ≡ (line ++ 10 ∷ []) ∷ []
 unfolding lines_in
 one_line [] none = refl
 one_line (byte ∷ line) none = rw (none.0, one_line line none.1) refl
-
-digit_no_feed : (d : ℕ) → (digit_glyph false d == 10) ≡ false
-digit_no_feed d = by (nat_lt d 10)
-  where
-    by : (b : Bool) → ((if b then 48 + d else 87 + d) == 10) ≡ false
-    by true = grind (arith, nat_tests)
-    by false = grind (arith, nat_tests)
-
-digits_no_feed : (k n : ℕ) (acc : List ℕ) → NoFeed acc → NoFeed (digits_onto k 10 false n acc)
-digits_no_feed zero n acc none = none
-digits_no_feed (suc k) n acc none = by (n / 10 == 0) (digits_no_feed k (n / 10) (digit_glyph false (n % 10) ∷ acc) (digit_no_feed (n % 10), none))
-  where
-    by : (b : Bool) → NoFeed (digits_onto k 10 false (n / 10) (digit_glyph false (n % 10) ∷ acc)) → NoFeed (if b then digit_glyph false (n % 10) ∷ acc else digits_onto k 10 false (n / 10) (digit_glyph false (n % 10) ∷ acc))
-    by true later = (digit_no_feed (n % 10), none)
-    by false later = later
-
-decimal_no_feed : (n : ℕ) → NoFeed (decimal n)
-unfolding digits
-decimal_no_feed n = digits_no_feed 64 n [] tt
-
-no_feed_parts : (a b : List ℕ) → NoFeed a → NoFeed b → NoFeed (a ++ b)
-no_feed_parts [] b none more = more
-no_feed_parts (byte ∷ a) b none more = (none.0, no_feed_parts a b none.1 more)
 
 moment_is : (n : ℕ) → moment_line n ≡ (116 ∷ 32 ∷ decimal n ++ []) ++ 10 ∷ []
 unfolding line_text part_text part_left field_of value_text
@@ -180,12 +153,12 @@ unfolding own_lines own_line
 no_own a line none test = ap (flat_map (own_line (one_mark a))) (one_line (116 ∷ line) (refl, none)) ∙ rw test refl
 
 pub moment_own : (a n : ℕ) → (116 == a) ≡ false → own_lines (one_mark a) (moment_line n) ≡ []
-moment_own a n test = ap (own_lines (one_mark a)) (moment_is n) ∙ no_own a (32 ∷ decimal n ++ []) (refl, no_feed_parts (decimal n) [] (decimal_no_feed n) tt) test
+moment_own a n test = ap (own_lines (one_mark a)) (moment_is n) ∙ no_own a (32 ∷ decimal n ++ []) (refl, NoFeed-append (decimal n) [] (decimal_no_feed n) tt) test
 
 pub together_own : (a n : ℕ) → (116 == a) ≡ false → own_lines (one_mark a) (together_line n) ≡ []
 together_own a n test =
     ap (own_lines (one_mark a)) (together_is n)
-    ∙ no_own a (111 ∷ 103 ∷ 101 ∷ 116 ∷ 104 ∷ 101 ∷ 114 ∷ 32 ∷ decimal n ++ []) (refl, (refl, (refl, (refl, (refl, (refl, (refl, (refl, no_feed_parts (decimal n) [] (decimal_no_feed n) tt)))))))) test
+    ∙ no_own a (111 ∷ 103 ∷ 101 ∷ 116 ∷ 104 ∷ 101 ∷ 114 ∷ 32 ∷ decimal n ++ []) (refl, (refl, (refl, (refl, (refl, (refl, (refl, (refl, NoFeed-append (decimal n) [] (decimal_no_feed n) tt)))))))) test
 
 pub moment_whole : (n : ℕ) → AreLines (moment_line n)
 moment_whole n = subst AreLines (sym (moment_is n)) (lines_one true (116 ∷ 32 ∷ decimal n ++ []))

@@ -1,16 +1,10 @@
-// The answers to several ring documents.
-ghost use Rattle.std.specs.Prelude.{◌≡◌, ◌≢◌, ℕ, ◌≤◌, ◌<◌, ◌⊎◌, ◌&&◌, nat_le, codes, ◌∷◌, [], List, length, map, drop, true, OnOk, Option, Some, None};
-ghost use Rattle.sercos_text.specs.Templates.{line_text};
-ghost use Rattle.sercos_text.specs.Templates.Value.{number};
+// The answers to several ring documents. If a write fails, the sink has accepted a prefix of the text, short of the whole, and its count of
+// faults has risen or is 2^64 - 1; otherwise it has accepted the whole, and the count is unchanged. A sink with room for the whole doesn't
+// fail.
+ghost use Rattle.std.specs.Prelude.{◌≡◌, ◌≢◌, ◌≤◌, ◌<◌, ◌⊎◌, codes, ◌∷◌, [], List, length, map, drop, Option, Some, None};
+ghost use Rattle.sercos_multi.specs.Clauses.{line_text, number, Replies, changed, count_line, cycle_fault, cycle_line, cycles_answer, cycles_of, document_line, first_cycle, is_common, other_cycle, rings_answer, voices_from, DocumentView, parts_of, EndsUnopened, IsTold, ended_by, Voice, merged, AllAt, RunsItsRings};
 ghost use Rattle.sercos_trace.specs.Written as plain;
-ghost use Rattle.sercos_call.specs.Outcome.{Replies, Writes, changed};
-ghost use Rattle.sercos_multi.specs.Asking.{count_line, cycle_fault, cycle_line, cycles_answer, cycles_of, document_line, first_cycle, is_common, other_cycle, rings_answer, voices_from};
-ghost use Rattle.sercos_config.specs.Views.{DocumentView};
-ghost use Rattle.sercos_multi.specs.Divided.{parts_of};
-ghost use Rattle.sercos_multi.specs.Ended.{EndsUnopened, IsTold, ended_by};
-ghost use Rattle.sercos_multi.specs.Merged.{Voice, merged};
-ghost use Rattle.sercos_multi.specs.Parts.{AllAt};
-ghost use Rattle.sercos_multi.specs.RingRuns.{RunsItsRings};
+ghost use Rattle.sercos_call.specs.Outcome.{Writes};
 
 use crate::divided::count_parts;
 use crate::moments::write_merged;
@@ -77,7 +71,8 @@ fn write_document<K: Sink>(document: u32, sink: &mut K) -> Result<(), WriteFaile
     write_text(&line, sink)
 }
 
-// Writes the line that refuses the document with the number `document` for the cause `bad`, and returns `Refused`, also if a write fails.
+// Writes the line that refuses the document with the number `document` for the cause `bad`, which isn't `Memory`, and returns `Refused`,
+// also if a write fails.
 fn refuse_document<K: Sink>(document: u32, bad: &BadDocument, sink: &mut K) -> Status
     requires { bad.now ≢ BadDocument.Memory }
     ensures { Writes Status.Refused (document_line document bad.now) (changed K.held K.faults K.room sink.old sink.new) result }
@@ -96,8 +91,8 @@ fn cycle_of<L: BitLink>(part: &Part<L>) -> u16
     wishes.cycle
 }
 
-// Returns the number, from 2 on, and the cycle time, in microseconds, of the first ring after the first one whose cycle time isn't
-// `time`; `None` if there is none.
+// Returns the number, from 2 on, and the cycle time, in microseconds, of the first ring after the first one whose cycle time isn't `time`;
+// `None` if there is none. There are at most 8 rings.
 fn other_cycle<L: BitLink>(time: u16, parts: &[Part<L>]) -> Option<(u32, u16)>
     requires few { length parts.now ≤ 8 }
     ensures { result ≡ other_cycle time 2 (drop 1 (map (λ p. p.wishes.cycle) parts.now)) }
@@ -118,7 +113,7 @@ fn is_common(cycle: u16) -> bool
     cycle == 125 || cycle == 250 || cycle == 500 || cycle == 1000
 }
 
-// Returns the cycle time of the first ring, in microseconds.
+// Returns the cycle time of the first ring, in microseconds. There must be a ring.
 #[tactic(auto, unfolding(crate::specs::Asking::first_cycle))]
 fn first_cycle<L: BitLink>(parts: &[Part<L>]) -> u16
     requires some { 0 < length parts.now }
@@ -128,7 +123,7 @@ fn first_cycle<L: BitLink>(parts: &[Part<L>]) -> u16
 }
 
 // Returns the number and the cycle time, in microseconds, of the first ring if its cycle time doesn't divide 1000, otherwise of the first
-// ring whose cycle time isn't the first one's; `None` if there is none.
+// ring whose cycle time isn't the first one's; `None` if there is none. There are 1 to 8 rings.
 fn cycle_fault<L: BitLink>(parts: &[Part<L>]) -> Option<(u32, u16)>
     requires some { 0 < length parts.now }
     requires few { length parts.now ≤ 8 }
@@ -141,7 +136,8 @@ fn cycle_fault<L: BitLink>(parts: &[Part<L>]) -> Option<(u32, u16)>
     other_cycle(time, parts)
 }
 
-// Writes the merged text of rings with the common cycle time `time`, in microseconds. Returns `Done`, or `WriteFault` if a write failed.
+// Writes the merged text of rings, at least one, with the common cycle time `time`, 1 to 1000 microseconds. Afterwards `parts` is
+// unspecified. Returns `Done`, or `WriteFault` if a write failed.
 fn give_merged<L: BitLink, K: Sink>(parts: &mut Vec<Part<L>>, time: u16, sink: &mut K) -> Status
     requires all { (voices : List Voice) × AllAt L.carry L.restart parts.old.items voices × (0 < length voices) }
     requires some { 0 < time }
@@ -152,8 +148,9 @@ fn give_merged<L: BitLink, K: Sink>(parts: &mut Vec<Part<L>>, time: u16, sink: &
     ended(&write_merged(parts, time, sink), Status::Done)
 }
 
-// Runs the rings of documents, writes their merged text, and returns `Done`, or `WriteFault` if a write failed; or, if `cycle_fault`
-// returns a document, refuses it, and returns `Refused`.
+// Runs the rings of 1 to 8 documents, which are numbered from 1 and have made no cycle, writes their merged text, and returns `Done`, or
+// `WriteFault` if a write failed; or, if `cycle_fault` returns a document, refuses it, and returns `Refused`. Afterwards `parts` is
+// unspecified.
 fn run_all<L: BitLink, K: Sink>(parts: &mut Vec<Part<L>>, sink: &mut K) -> Status
     requires all { (documents : List DocumentView) × AllAt L.carry L.restart parts.old.items (voices_from 1 documents) × (0 < length documents) × (length documents ≤ 8) }
     ensures { (documents : List DocumentView) → AllAt L.carry L.restart parts.old.items (voices_from 1 documents) → 0 < length documents →
@@ -168,8 +165,8 @@ fn run_all<L: BitLink, K: Sink>(parts: &mut Vec<Part<L>>, sink: &mut K) -> Statu
     }
 }
 
-// Refuses the document that wasn't opened, and returns `Refused`, also if a write fails. If the cause is `Memory`, the status is
-// `Memory`, and nothing is written.
+// Refuses the document that wasn't opened, and returns `Refused`, also if a write fails. If no memory was found, the status is `Memory`,
+// and nothing is written. The cause of a refusal isn't `Memory`.
 fn refuse_unopened<K: Sink>(why: &Unopened, sink: &mut K) -> Status
     requires { IsTold why.now }
     ensures { EndsUnopened why.now (changed K.held K.faults K.room sink.old sink.new) (sink.new ≡ sink.old) result }
@@ -180,9 +177,11 @@ fn refuse_unopened<K: Sink>(why: &Unopened, sink: &mut K) -> Status
     }
 }
 
-/// Writes the answer to an input of at most 1,048,576 bytes, and returns its status: `Done` with the merged text of the rings of its 2 to
-/// 8 documents, or `Refused` with its first refusal. All rings are opened before anything is written: if memory runs out, the status is
-/// `Memory`, and the sink is as it was. Any other number of documents is refused without memory.
+/// Writes the answer to an input of at most 1,048,576 bytes, and returns its status: `Done` with the merged text of the rings of its 2 to 8
+/// documents, `Refused` with its first refusal, also if a write fails, or `WriteFault` if any other write failed. All rings are opened
+/// before anything is written: if memory runs out, the status is `Memory`, and the sink is as it was. Any other number of documents is
+/// refused without memory. The run of each ring has the properties of `kept_law`. If its script has no flip, nothing is undetected in it;
+/// if nothing is, its trace is a clean capture.
 pub fn answer_rings<K: Sink>(alloc: Global, bytes: &[u8], sink: &mut K) -> Status
     requires few { length bytes.now ≤ 1048576 }
     ensures answer { Replies (rings_answer bytes.now) (RunsItsRings bytes.now) (changed K.held K.faults K.room sink.old sink.new) (sink.new ≡ sink.old) result }

@@ -1,14 +1,11 @@
-// Several rings, from each moment at which one of them begins a cycle to the next. Moments are in microseconds.
-ghost use Rattle.std.specs.Prelude.{◌≡◌, ℕ, ◌+◌, ◌*◌, ◌<◌, ◌≤◌, ◌++◌, ◌∷◌, ◌==◌, ◌&&◌, ◌||◌, nat_lt, min, if◌then◌else◌, List, [], length, take, Option, Some, None, true, IfSome};
-ghost use Rattle.std.specs.List.{flat_map, sum_by};
-ghost use Rattle.sercos_text.specs.Templates.{line_text};
-ghost use Rattle.sercos_text.specs.Templates.Value.{number};
-ghost use Rattle.sercos_trace.specs.Texts.{header_text};
+// Several rings, from each moment at which one of them begins a cycle to the next. Moments are in microseconds. A ring in progress is that
+// of a valid setup, and its totals are those of the cycles that it has made. With those left they are at most 50,000, and its next one
+// begins at most 1000 microseconds after moment 0 for each cycle made. If a write fails, the sink has accepted a prefix of the text, short
+// of the whole, and its count of faults has risen or is 2^64 - 1; otherwise it has accepted the whole, and the count is unchanged. A sink
+// with room for the whole doesn't fail. Afterwards `line` is unspecified.
+ghost use Rattle.std.specs.Prelude.{◌≡◌, ◌+◌, ◌<◌, ◌≤◌, ◌++◌, ◌∷◌, ◌==◌, ◌&&◌, ◌||◌, List, [], length, Option, Some, None, true, IfSome};
+ghost use Rattle.sercos_multi.specs.Clauses.{flat_map, sum_by, line_text, number, Voice, head_lines, lines_at, merged, over_by, rest_text, AreFrom, here_text, timed_count, AllAt, IsAt, IsEarliest, PassAll, sooner};
 ghost use Rattle.sercos_trace.specs.Written.{seen, Writes};
-ghost use Rattle.sercos_multi.specs.Merged.{Voice, head_lines, lines_at, merged, over_by, rest_text};
-ghost use Rattle.sercos_multi.specs.Going.{AreFrom, here_text, timed_count};
-ghost use Rattle.sercos_multi.specs.Parts.{AllAt, AreOn, IsAt, IsEarliest, PassAll};
-ghost use Rattle.sercos_multi.specs.Sooner.{sooner};
 
 use crate::part::{Part, pass};
 use sercos_block::ring_law;
@@ -17,7 +14,7 @@ use sercos_script::BitLink;
 use sercos_text::{Given, Line, push_line};
 use sercos_trace::write_marked_header;
 
-// Ends a line with its line feed, and writes it.
+// Ends a line of at most 4351 bytes with its line feed, and writes it.
 #[tactic(auto, using(sercos_trace::proofs::WriteLemmas::writes_all))]
 fn end_line<K: Sink>(line: &mut Line, sink: &mut K) -> Result<(), WriteFailed>
     requires { length line.old + 1 ≤ 4352 }
@@ -50,8 +47,10 @@ fn both(a: bool, b: bool) -> bool
     a && b
 }
 
-// Makes the cycle of each ring that begins one at a moment, and writes its lines. Returns whether every ring began a cycle commanded
-// phase 3 or 4. `time`, the common cycle time, and `moment` are in microseconds. `line` is room for each line that is made.
+// Makes the cycle of each ring that begins one at a moment, and writes its lines. Returns whether every ring began a cycle commanded phase
+// 3 or 4. `time`, the common cycle time, and `moment` are in microseconds. `line` is room for each line that is made. The cycle time is at
+// most 1000. No ring with cycles left begins its next one before the moment. After success a ring that begins a cycle then has made it, and
+// any other is as it was. After an error `parts` is unspecified.
 fn pass_all<L: BitLink, K: Sink>(
     parts: &mut Vec<Part<L>>,
     moment: u32,
@@ -72,8 +71,10 @@ fn pass_all<L: BitLink, K: Sink>(
     Ok(timed)
 }
 
-// Writes the line of a moment and the lines of the cycles that begin then. Returns whether every ring began a cycle commanded phase 3 or
-// 4. `time`, the common cycle time, and `moment` are in microseconds. `line` is room for each line that is made.
+// Writes the line of a moment and the lines of the cycles that begin then. Returns whether every ring began a cycle commanded phase 3 or 4.
+// `time`, the common cycle time, and `moment` are in microseconds. `line` is room for each line that is made. The cycle time is at most
+// 1000. No ring with cycles left begins its next one before the moment. After success a ring that begins a cycle then has made it, and any
+// other is as it was. After an error `parts` is unspecified.
 fn write_moment<L: BitLink, K: Sink>(
     parts: &mut Vec<Part<L>>,
     moment: u32,
@@ -90,8 +91,8 @@ fn write_moment<L: BitLink, K: Sink>(
     pass_all(parts, moment, time, line, sink)
 }
 
-// Returns the sooner of `best` and the moment `at`, in microseconds, at which a ring begins its next cycle. It is `best` if the ring has
-// no cycles left, or if `at` is before the moment `from`, up to which all lines are written.
+// Returns the sooner of `best` and the moment `at`, in microseconds, at which a ring, which has `left` cycles left, begins its next one. It
+// is `best` if the ring has no cycles left, or if `at` is before the moment `from`, up to which all lines are written.
 fn sooner(best: Option<u32>, left: u32, at: u32, from: u32) -> Option<u32>
     ensures { result ≡ sooner best left at from }
 {
@@ -104,7 +105,8 @@ fn sooner(best: Option<u32>, left: u32, at: u32, from: u32) -> Option<u32>
     }
 }
 
-// Returns the first moment from the moment `from` on, in microseconds, at which a ring begins a cycle; `None` if no ring has one left.
+// Returns the first moment from the moment `from` on, in microseconds, at which a ring begins a cycle; `None` if no ring has one left. No
+// ring with cycles left begins its next one before `from`. The result is below 50,000,000.
 fn earliest<L: BitLink>(parts: &[Part<L>], from: u32) -> Option<u32>
     requires all { (voices : List Voice) × AllAt L.carry L.restart parts.now voices × AreFrom from voices }
     ensures is { (voices : List Voice) → AllAt L.carry L.restart parts.now voices → AreFrom from voices → IsEarliest result voices }
@@ -127,8 +129,8 @@ fn count_of(timed: bool) -> u32
     u32::from(timed)
 }
 
-// Writes the text after the heads: the lines of each moment, and the last line. `time` is the common cycle time, in microseconds. `line`
-// is room for each line that is made.
+// Writes the text after the heads: the lines of each moment, and the last line. There is at least one ring. `time` is the common cycle
+// time, 1 to 1000 microseconds. Afterwards `parts` is unspecified. `line` is room for each line that is made.
 fn write_moments<L: BitLink, K: Sink>(
     parts: &mut Vec<Part<L>>,
     time: u16,
@@ -181,10 +183,10 @@ fn write_heads<L: BitLink, K: Sink>(
     Ok(())
 }
 
-/// Runs rings that have made no cycle, by moments, and writes their merged text as they go: the heads, for each moment the lines of the
-/// cycles that begin then, and the number of moments at which every ring begins a cycle commanded phase 3 or 4. `time` is the common
-/// cycle time, in microseconds. No trace is held, and no memory is taken. After an error the sink has accepted a prefix of the text,
-/// short of the whole, and its count of faults has risen.
+/// Runs rings, at least one, by moments, each from its next cycle on, and writes their merged text as they go: the heads, for each moment
+/// the lines of the cycles that begin then, and the number of moments at which every ring begins a cycle commanded phase 3 or 4. `time` is
+/// the common cycle time, 1 to 1,000 microseconds. No trace is held, and no memory is taken. After an error the sink has accepted a prefix
+/// of the text, short of the whole, and its count of faults has risen or is 2^64 - 1. Afterwards `parts` is unspecified.
 pub fn write_merged<L: BitLink, K: Sink>(
     parts: &mut Vec<Part<L>>,
     time: u16,

@@ -1,14 +1,6 @@
 // A ring for each document.
-ghost use Rattle.std.specs.Prelude.{◌≡◌, ◌≢◌, ℕ, ◌≤◌, ◌<◌, ◌+◌, ◌++◌, ◌∷◌, [], true, List, length, take, drop, IfOk, IfErr, OnOk, Result, Ok, Err};
-ghost use Rattle.sercos_multi.specs.Said.{IsRefusedIn};
-ghost use Rattle.std.specs.List.{All};
-ghost use Rattle.sercos_step.specs.Steps.{IsRequest};
-ghost use Rattle.sercos_block.specs.Rings.{is_ring};
-ghost use Rattle.sercos_multi.specs.Asking.{documents_from, voice_of, voice_under, voices_from};
-ghost use Rattle.sercos_multi.specs.Divided.{parts_of};
-ghost use Rattle.sercos_multi.specs.Merged.{mark_of};
-ghost use Rattle.sercos_multi.specs.Opening.{OpensAll, OpensPart};
-ghost use Rattle.sercos_multi.specs.Parts.{IsAt};
+ghost use Rattle.std.specs.Prelude.{◌≡◌, ◌≤◌, ◌<◌, ◌+◌, ◌++◌, ◌∷◌, [], true, length, IfOk, IfErr, OnOk, Result, Ok, Err};
+ghost use Rattle.sercos_multi.specs.Clauses.{IsRefusedIn, All, IsRequest, is_ring, voice_of, voice_under, parts_of, mark_of, OpensAll, OpensPart, IsAt};
 
 use crate::divided::cut_part;
 use crate::part::Part;
@@ -40,8 +32,9 @@ fn mark_of(number: u8) -> [u8; 2]
     [b'0' + number, b' ']
 }
 
-// Opens a ring with these requests over a link, before its first cycle. `number` is its number in the merged text. The error is
-// `AllocError`.
+// Opens a valid ring with these requests over a link, before its first cycle, which begins at 0 microseconds. `number`, below 10, is its
+// number in the merged text. There are at most 4096 requests: reads with an element from 1 to 7, writes with one from 2 to 7, and commands.
+// The error is `AllocError`.
 fn open_ring<L: BitLink>(
     alloc: Global,
     number: u8,
@@ -68,7 +61,8 @@ fn open_ring<L: BitLink>(
     })
 }
 
-// Opens the ring of a document over its script. `number` is its number in the merged text. The error is `AllocError`.
+// Opens the ring of a document over its script. `number`, below 10, is its number in the merged text. The ring is valid. There are at most
+// 4096 requests, as for `open_ring`. The error is `AllocError`.
 fn open_document(
     alloc: Global,
     number: u8,
@@ -89,8 +83,8 @@ fn open_document(
     open_ring(alloc, number, &setup, jobs, script)
 }
 
-// Reads a part of the input as a document, and opens its ring over its script. `number` is the part's number. The error is the document's
-// first refusal, with this number, or `Memory`.
+// Reads a part of the input as a document, and opens its ring over its script. `number`, below 10, is the part's number. The run of the
+// ring has the properties of `kept_law`. The error is the document's first refusal, with this number, or `Memory`.
 fn open_part(alloc: Global, number: u8, bytes: &[u8]) -> Result<Part<Scripted>, Unopened>
     requires { number < 10 }
     ensures { OpensPart ⟦<Scripted as BitLink>⟧.carry ⟦<Scripted as BitLink>⟧.restart number bytes.now result }
@@ -110,7 +104,7 @@ fn open_part(alloc: Global, number: u8, bytes: &[u8]) -> Result<Part<Scripted>, 
     }
 }
 
-// Appends a ring. The error is `Memory`.
+// Appends a ring. The error is `Memory`, after which `parts` is unspecified.
 fn push<L: BitLink>(parts: &mut Vec<Part<L>>, part: Part<L>) -> Result<(), Unopened>
     ensures ok { OnOk result (parts.new.items ≡ parts.old.items ++ part ∷ []) }
     ensures err { IfErr result (λ why. why ≡ Unopened.Memory) }
@@ -121,8 +115,8 @@ fn push<L: BitLink>(parts: &mut Vec<Part<L>>, part: Part<L>) -> Result<(), Unope
     }
 }
 
-/// Opens the rings of all parts of an input, in their order. `count` is the number of parts, at most 8. The error is the first refusal,
-/// with the number of the part, from 1 on, or `Memory`.
+/// Opens the rings of all parts of an input, in their order. `count` must be the number of parts, at most 8. The runs of the rings have the
+/// properties of `kept_law`. The error is the first refusal, with the number of the part, from 1 on, or `Memory`.
 pub fn open_all(alloc: Global, bytes: &[u8], count: u8) -> Result<Vec<Part<Scripted>>, Unopened>
     requires count { count ≡ length (parts_of bytes.now) }
     requires few { count ≤ 8 }

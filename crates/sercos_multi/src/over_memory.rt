@@ -1,9 +1,6 @@
 // The top call of several rings over memory.
 ghost use Rattle.std.specs.Prelude.{◌≡◌, ◌≢◌, ◌≤◌, ◌<◌, ◌⊎◌, length, Some, None};
-ghost use Rattle.sercos_model.specs.Streams.{last_count};
-ghost use Rattle.sercos_call.specs.TopCall.{IsAnswer};
-ghost use Rattle.sercos_multi.specs.Asking.{rings_answer};
-ghost use Rattle.sercos_multi.specs.Words.{form_of};
+ghost use Rattle.sercos_multi.specs.Clauses.{last_count, IsAnswer, rings_answer, form_of};
 
 use crate::top_call::rings;
 use sercos_io::{MemorySink, PlainSource, Status, Words};

@@ -1,15 +1,11 @@
-// A ring in progress among several.
-ghost use Rattle.std.specs.Prelude.{◌≡◌, ℕ, ◌+◌, ◌-◌, ◌*◌, ◌<◌, ◌≤◌, ◌^◌, ◌==◌, nat_le, if◌then◌else◌, List, [], length, true, IfOk, IfSome};
-ghost use Rattle.sercos_trace.specs.Views.{CycleView};
-ghost use Rattle.sercos_trace.specs.Texts.{cycle_text, end_text};
+// A ring in progress among several. A ring in progress is that of a valid setup, and its totals are those of the cycles that it has made.
+// With those left they are at most 50,000, and its next one begins at most 1000 microseconds after moment 0 for each cycle made. If a write
+// fails, the sink has accepted a prefix of the text, short of the whole, and its count of faults has risen or is 2^64 - 1; otherwise it has
+// accepted the whole, and the count is unchanged. A sink with room for the whole doesn't fail. Afterwards `line` is unspecified.
+ghost use Rattle.std.specs.Prelude.{◌≡◌, ◌+◌, ◌-◌, ◌<◌, ◌≤◌, ◌^◌, ◌==◌, if◌then◌else◌, List, [], length, IfOk, IfSome};
+ghost use Rattle.sercos_multi.specs.Clauses.{CycleView, cycle_text, end_text, AfterCycle, IsNextOf, RingStandsFor, cycles_made, newest, HasRoom, IsFew, with_cycle, Voice, span, IsFrom, GoesOn, IsAt, Passes, IsRingOf};
 ghost use Rattle.sercos_trace.specs.Written as plain;
-ghost use Rattle.sercos_ring.specs.Kept.{AfterCycle, IsNextOf, RingStandsFor, cycles_made, newest};
-ghost use Rattle.sercos_law_run.specs.Totals.Counting.{HasRoom, IsFew, IsMade, with_cycle};
 ghost use Rattle.sercos_trace.specs.MarkedWritten.{seen, Writes};
-ghost use Rattle.sercos_multi.specs.Merged.{Voice, span};
-ghost use Rattle.sercos_multi.specs.Going.{IsFrom};
-ghost use Rattle.sercos_multi.specs.Parts.{GoesOn, IsAt, Passes};
-ghost use Rattle.sercos_multi.specs.Rings.{IsRingOf};
 
 use sercos_io::{Sink, WriteFailed};
 use sercos_law_run::{plan_law, run_law, totals_law};
@@ -37,7 +33,7 @@ pub struct Part<L: BitLink> {
 }
 
 // Returns how long a cycle takes, in microseconds, if `phase` is commanded in it: 1000 in phases 0, 1 and 2, otherwise the common cycle
-// time, `time`.
+// time, `time`. If that is at most 1000, so is the result.
 fn span(time: u16, phase: u8) -> u32
     ensures value { result ≡ span time phase }
     ensures bound { time ≤ 1000 → result ≤ 1000 }
@@ -48,8 +44,8 @@ fn span(time: u16, phase: u8) -> u32
     u32::from(time)
 }
 
-// Writes the lines of a cycle, each after the mark, and returns the phase that is commanded in it. `w` is the planner's input of the
-// ring. Each line is made in `line`, regardless of its contents.
+// Writes the lines of a cycle, each after the mark, and returns the phase that is commanded in it. `w` is the planner's input of the ring.
+// A plan in the record has a T1 and a position for each drive. Each line is made in `line`, regardless of its contents.
 fn write_made<K: Sink>(
     w: &Wishes,
     made: &CycleRecord,
@@ -66,8 +62,11 @@ fn write_made<K: Sink>(
     Ok(made.phase)
 }
 
-// Makes the next cycle of a ring, adds it to the totals, and writes its lines, each after the mark. Returns the phase that is commanded
-// in it. `w` is the planner's input of the ring. `line` is room for each line that is made.
+// Makes the next cycle of a ring, adds it to the totals, and writes its lines, each after the mark. Returns the phase that is commanded in
+// it. `w` is the planner's input of the ring, whose setup is valid, and which has made fewer than 2^31 cycles. The totals must have room
+// for one more cycle: after it, with at most 128 requests of each outcome, one fall and 195 undetected arrivals, each count must be below
+// 2^32. The cycle has at most 128 requests of each outcome, and at most 195 undetected arrivals. The cycle is made and added even if a
+// write fails. `line` is room for each line that is made.
 fn make_next<L: BitLink, K: Sink>(
     ring: &mut Ring<L>,
     w: &Wishes,
@@ -108,8 +107,9 @@ fn write_last<K: Sink>(
     Ok(())
 }
 
-// Makes the next cycle of a ring, and writes its lines, and the end line after its last cycle. Returns whether the cycle is commanded
-// phase 3 or 4. `time` is the common cycle time, in microseconds. `line` is room for each line that is made.
+// Makes the next cycle of a ring, which has one left, and writes its lines, and the end line after its last cycle. Returns whether the
+// cycle is commanded phase 3 or 4. `time` is the common cycle time, at most 1000 microseconds. After success `part` is the ring with this
+// cycle made. After an error `part` is unspecified. `line` is room for each line that is made.
 fn go_on<L: BitLink, K: Sink>(
     part: &mut Part<L>,
     time: u16,
@@ -139,9 +139,10 @@ fn go_on<L: BitLink, K: Sink>(
     Ok(phase >= 3)
 }
 
-/// Passes a moment: if the next cycle of a ring begins then, makes it, and writes its lines, and the end line after the last cycle.
-/// Returns whether a cycle commanded phase 3 or 4 begins then. `time`, the common cycle time, and `moment` are in microseconds. `line` is
-/// room for each line that is made.
+/// Passes a moment: if the next cycle of a ring begins then, makes it, and writes its lines, and the end line after the last cycle. Returns
+/// whether a cycle commanded phase 3 or 4 begins then. `time`, the common cycle time, and `moment` are in microseconds; `time` is at most
+/// 1000. A ring with cycles left doesn't begin its next one before the moment. After success `part` is the ring after the moment, as it was
+/// if no cycle begins then. After an error `part` is unspecified. `line` is room for each line that is made.
 pub fn pass<L: BitLink, K: Sink>(
     part: &mut Part<L>,
     moment: u32,

@@ -1,11 +1,6 @@
 // The top call.
 ghost use Rattle.std.specs.Prelude.{◌≡◌, ◌≢◌, ℕ, ◌≤◌, ◌⊎◌, true, false, List, length, Some, None, IsTrue};
-ghost use Rattle.sercos_model.specs.Streams.{Rose};
-ghost use Rattle.sercos_call.specs.Outcome.{Outcome, changed};
-ghost use Rattle.sercos_call.specs.TopCall.{writes_nothing, HasInput, TakesAtMost, TakesTooMany, IsAnswered, IsCutShort, IsAnswer};
-ghost use Rattle.sercos_multi.specs.Asking.{rings_answer};
-ghost use Rattle.sercos_multi.specs.RingRuns.{RingsMerged, RunsItsRings};
-ghost use Rattle.sercos_multi.specs.Words.{form_of, reads_input};
+ghost use Rattle.sercos_multi.specs.Clauses.{Rose, Outcome, changed, writes_nothing, HasInput, TakesAtMost, TakesTooMany, IsAnswered, IsCutShort, IsAnswer, rings_answer, RingsMerged, RunsItsRings, form_of, reads_input};
 
 use crate::answering::answer_rings;
 use crate::words::form_of;
@@ -13,7 +8,8 @@ use sercos_io::{ReadAll, Sink, Source, Status, Words, read_all};
 use std::alloc::Global;
 
 // Reads the input, writes the answer to it, and returns the status. Words in no form are `BadWords`, and nothing is read. If the input
-// can't be read, is too long, or memory runs out, the status is `ReadFault`, `TooLong` or `Memory`, and nothing is written.
+// can't be read, is too long, or memory runs out, the status is `ReadFault`, `TooLong` or `Memory`, and nothing is written. Otherwise the
+// status is that of `answer_rings`.
 fn respond<S: Source, K: Sink>(alloc: Global, words: &Words, source: &mut S, sink: &mut K) -> Status
     ensures words { form_of words.now ≡ None → result ≡ Status.BadWords }
     ensures how { Outcome (form_of words.now) (reads_input (form_of words.now)) rings_answer RunsItsRings
@@ -41,18 +37,20 @@ fn respond<S: Source, K: Sink>(alloc: Global, words: &Words, source: &mut S, sin
 /// Runs two to eight rings whose masters share one clock, over one input and one output, and returns the status with which it ends.
 ///
 /// The words are `run`, with at most one word `--` before or after it. The input is the source's bytes up to its end, at most 1,048,576 of
-/// them: ring documents, divided by lines that are exactly `next`. It is read whole, and all rings are opened, before anything is written.
-/// Each ring runs over the script of its document alone. The output begins with the head of each ring, in the order of the documents, each
-/// line after the ring's number and a space. The moments at which a ring begins a cycle follow, in microseconds, each with a line `t`, the
-/// lines of the cycles that begin then, and the end line of a ring after its last cycle. A cycle takes 1000 microseconds if phase 0, 1 or 2
-/// is commanded in it, and the common cycle time otherwise. The last line counts the moments at which every ring begins a cycle commanded
-/// phase 3 or 4. No trace is held.
+/// them: ring documents, divided by lines that are exactly `next`, with a line feed or as the last line without one. It is read whole, and
+/// all rings are opened, before anything is written. Each ring runs over the script of its document alone. The output begins with the head
+/// of each ring, in the order of the documents, each line after the ring's number, from 1 on, and a space. The moments at which a ring
+/// begins a cycle follow, in microseconds, each with a line `t`, the lines of the cycles that begin then, and the end line of a ring after
+/// its last cycle. The lines of cycles and the end lines also follow their ring's number and a space; the lines `t` and the last line do
+/// not. A cycle takes 1000 microseconds if phase 0, 1 or 2 is commanded in it, and the common cycle time otherwise. The last line,
+/// `together`, has the number of moments at which every ring begins a cycle commanded phase 3 or 4. No trace is held. `Done` is returned if
+/// the output was written whole.
 ///
 /// Any other words are `BadWords`, and nothing is read. `ReadFault` is returned if a read failed, `TooLong` if the input is longer, and
 /// `Memory` if no memory was found; then nothing is written. `Refused` is returned, with one line, if there aren't 2 to 8 documents, then
 /// for the first document that is refused, then for the first one whose cycle time differs from the first one's or doesn't divide 1000;
-/// also if that line couldn't be written whole. After any other failed write the status is `WriteFault`, and the sink has accepted a prefix
-/// of the output. `No` is never returned.
+/// also if that line couldn't be written whole. After any other failed write the status is `WriteFault`, and the sink has accepted a proper
+/// prefix of the output. `No` is never returned.
 ///
 /// The clauses on the bytes of source and sink hold if these expose their bytes, as those in memory do.
 pub fn rings<S: Source, K: Sink>(
@@ -73,7 +71,7 @@ pub fn rings<S: Source, K: Sink>(
     // BadWords, ReadFault, TooLong and Memory are returned before anything is written.
     ensures unwritten { IsTrue (writes_nothing result) → sink.new ≡ sink.old }
 
-    // ReadFault is returned only if the source's count rose; otherwise no read failed.
+    // ReadFault is returned only if the source's count of faults rose or is 2^64 - 1; otherwise no read failed.
     ensures read_fault { result ≡ Status.ReadFault → Rose (S.faults source.old) (S.faults source.new) }
     ensures read_count { S.faults source.old ≤ S.faults source.new }
     ensures read_well { result ≢ Status.ReadFault → S.faults source.new ≡ S.faults source.old }
@@ -92,14 +90,16 @@ pub fn rings<S: Source, K: Sink>(
     ensures merged { result ≡ Status.Done → RingsMerged (S.left source.old) (S.left source.new) (K.held sink.old) (K.held sink.new) }
     ensures never_no { result ≢ Status.No }
 
-    // Refused too is returned only if the input was read to its end; if writing the refusal failed, a prefix of it was appended.
+    // Refused too is returned only if the input was read to its end; if writing the refusal failed, a proper prefix of it was appended, and
+    // the sink's count of faults rose or is 2^64 - 1.
     ensures refused { result ≡ Status.Refused →
         ((K.faults sink.new ≡ K.faults sink.old) × IsAnswered (reads_input (form_of words.now)) rings_answer Status.Refused
         (S.left source.old) (S.left source.new) (K.held sink.old) (K.held sink.new))
         ⊎ (Rose (K.faults sink.old) (K.faults sink.new) × IsCutShort (reads_input (form_of words.now)) rings_answer Status.Refused
         (S.left source.old) (S.left source.new) (K.held sink.old) (K.held sink.new)) }
 
-    // WriteFault is returned only if the sink's count rose, after a prefix of the output; otherwise no write failed.
+    // WriteFault is returned only if the sink's count of faults rose or is 2^64 - 1, after a proper prefix of the output. With any other
+    // status but Refused no write failed.
     ensures write_fault { result ≡ Status.WriteFault →
         Rose (K.faults sink.old) (K.faults sink.new) × IsCutShort (reads_input (form_of words.now)) rings_answer Status.WriteFault
         (S.left source.old) (S.left source.new) (K.held sink.old) (K.held sink.new) }
@@ -107,8 +107,9 @@ pub fn rings<S: Source, K: Sink>(
     ensures write_well { result ≢ Status.WriteFault → result ≢ Status.Refused →
         K.faults sink.new ≡ K.faults sink.old }
 
-    // Completeness: if the source exposes an input of at most 1,048,576 bytes, and no count rose, the call writes the answer whole, or
-    // returns Memory. Its refusal is returned whatever the sink does.
+    // Completeness: if the source exposes an input of at most 1,048,576 bytes, and no count of faults rose or is 2^64 - 1, the call writes
+    // the answer whole, or returns Memory. Whatever the sink does, if the source's count neither rose nor is 2^64 - 1, a refusal is
+    // returned, or Memory, and a longer input is TooLong, or Memory.
     ensures answers { (bytes : List ℕ) → HasInput (reads_input (form_of words.now)) (S.left source.old) bytes → length bytes ≤ 1048576
         → form_of words.now ≢ None
         → (Rose (S.faults source.old) (S.faults source.new) → ⊥)
@@ -125,7 +126,7 @@ pub fn rings<S: Source, K: Sink>(
         → (Rose (S.faults source.old) (S.faults source.new) → ⊥)
         → (result ≡ Status.Memory) ⊎ (result ≡ Status.TooLong) }
 
-    // A sink that has room for the whole output doesn't fail.
+    // If the source exposes its input, or nothing is read, a sink that has room for the whole output doesn't fail.
     ensures room { (bytes : List ℕ) → HasInput (reads_input (form_of words.now)) (S.left source.old) bytes
         → length (rings_answer bytes).output ≤ K.room sink.old
         → K.faults sink.new ≡ K.faults sink.old }

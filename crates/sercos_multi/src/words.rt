@@ -1,6 +1,6 @@
 // The words of the program.
-ghost use Rattle.std.specs.Prelude.{◌≡◌, ◌<◌, ◌∷◌, [], length};
-ghost use Rattle.sercos_multi.specs.Words.{form_of, run_form};
+ghost use Rattle.std.specs.Prelude.{◌≡◌, ◌<◌, ◌∷◌, []};
+ghost use Rattle.sercos_multi.specs.Clauses.{form_of, run_form};
 
 use sercos_io::Words;
 

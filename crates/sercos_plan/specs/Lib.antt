@@ -1,5 +1,6 @@
+pub mod ChainOf
+pub mod Chains
+pub mod Clauses
 pub mod Least
 pub mod LeastTimes
 pub mod Views
-pub mod Chains
-pub mod ChainOf

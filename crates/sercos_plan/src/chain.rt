@@ -4,31 +4,31 @@ ghost use Rattle.std.specs.Prelude.{◌≡◌, ◌≤◌, length};
 use arrayvec::ArrayVec;
 use std::marker::Model;
 
-/// One step of a chain: an inequality, and the bit time that it requires of a time of the plan.
+/// One step of a chain: an inequality, and the bit time that it requires of a time of the plan (this profile).
 #[derive(Clone, Copy, Debug, Default, PartialEq, Eq)]
 pub struct Link {
     /// The number of the inequality, 1 to 7.
     pub rule: u8,
-    /// The address of its drive.
+    /// The address of the drive that the inequality concerns.
     pub drive: u8,
-    /// The bit time, after the MST's end, that a time of the plan has at least, rounded up to a whole microsecond: T1 of the
-    /// drive in 1 to 4, T2 in 5 and 6, and T3 in 7.
+    /// The least bit time, after the MST's end, that a time of the plan can have, rounded up to a whole microsecond: T1 of the drive in 1
+    /// to 4, T2 in 5 and 6, and T3 in 7.
     pub at: u32,
 }
 
-/// Links from an inequality 1 or 2 to a bound that they break; to the bound 10 there are none. Contracts see the record of
-/// its fields, the links as a list.
+/// A proof that no plan fits (this profile): links from an inequality 1 or 2 to a bound that they break. To the bound 10 there are no
+/// links. Contracts see the record of the fields, the links as a list.
 #[derive(Debug, PartialEq, Eq, Drop)]
 pub struct Chain {
-    /// The links, each of which follows from the one before.
+    /// The links, each of which follows from the one before it.
     pub links: ArrayVec<Link, 66>,
     /// The number of the inequality that is broken: 8, 9 or 10.
     pub rule: u8,
-    /// The address of its drive; 0 in 9 if the gap is used in place of a drive's TMTSY.
+    /// The address of the drive that this inequality concerns; 0 in 9 if the gap is used in place of a drive's TMTSY.
     pub drive: u8,
     /// What the inequality requires, in bit times.
     pub sum: u32,
-    /// What there is room for, in bit times.
+    /// The bound that the sum exceeds, in bit times.
     pub bound: u32,
 }
 
@@ -55,7 +55,7 @@ impl Model for Chain {
 }
 
 impl Chain {
-    /// Returns the links in their order.
+    /// Returns the links in their order, at most 66.
     pub fn links(&self) -> &[Link]
         ensures value { result.now ≡ self.now.links }
         ensures limit { length result.now ≤ 66 }
@@ -63,28 +63,28 @@ impl Chain {
         self.links.as_slice()
     }
 
-    /// Returns the number of the inequality that is broken.
+    /// Returns the number of the inequality that is broken: 8, 9 or 10 in a chain that proves something.
     pub fn rule(&self) -> u8
         ensures { result ≡ self.now.rule }
     {
         self.rule
     }
 
-    /// Returns the address of its drive, or 0.
+    /// Returns the address of the drive that this inequality concerns; 0 in 9 if the gap is used in place of a drive's TMTSY.
     pub fn drive(&self) -> u8
         ensures { result ≡ self.now.drive }
     {
         self.drive
     }
 
-    /// Returns what it requires, in bit times.
+    /// Returns what this inequality requires, in bit times.
     pub fn sum(&self) -> u32
         ensures { result ≡ self.now.sum }
     {
         self.sum
     }
 
-    /// Returns what there is room for, in bit times.
+    /// Returns the bound that the sum exceeds, in bit times.
     pub fn bound(&self) -> u32
         ensures { result ≡ self.now.bound }
     {

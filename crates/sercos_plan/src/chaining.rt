@@ -1,17 +1,14 @@
-// The chain of the least times.
-ghost use Rattle.std.specs.Prelude.{◌≡◌, ℕ, ◌+◌, ◌*◌, ◌^◌, ◌<◌, ◌≤◌, [], ◌∷◌, ◌++◌, length, slice_index, IfSome};
-ghost use Rattle.sercos_timing.specs.Order.{first_sent, sent, place_at, at_bits};
-ghost use Rattle.sercos_timing.specs.Inequalities.{number_of, asked_of_start, asked_5, asked_6};
-ghost use Rattle.sercos_timing.specs.Valid.{IsValid};
-ghost use Rattle.sercos_plan.specs.LeastTimes.{least_t2, least_t3};
-ghost use Rattle.sercos_plan.specs.ChainOf.{is_tight, link_of, starts, bits_of_starts, is_tight_at, AreStarts, trail, trail_to, trail_to_some, time_of, greatest_of, first_with, first_greatest, first_tight, trail_t2, trail_t3, chain_of, mst_chain, cycle_chain, capture_chain};
+// The chain of the least times. In this file `t1` has the least T1 of each drive in microseconds, in the order of the ring, and `t2` and
+// `t3` are the least T2 and T3, at most 10,000,000. The planner's input is valid, and each index is within its list.
+ghost use Rattle.std.specs.Prelude.{◌≡◌, ◌+◌, ◌*◌, ◌^◌, ◌<◌, ◌≤◌, [], ◌∷◌, ◌++◌, length, slice_index, IfSome};
+ghost use Rattle.sercos_plan.specs.Clauses.{first_sent, sent, place_at, at_bits, number_of, asked_of_start, asked_5, asked_6, IsValid, least_t2, least_t3, is_tight, link_of, starts, bits_of_starts, is_tight_at, AreStarts, trail, trail_to, trail_to_some, time_of, greatest_of, first_with, first_greatest, first_tight, trail_t2, trail_t3, chain_of, mst_chain, cycle_chain, capture_chain};
 
 use crate::chain::{Chain, Link};
 use crate::least::{greatest_t4min, is_mst_roomy, round_up};
 use arrayvec::ArrayVec;
 use sercos_timing::{Inequality, Wish, Wishes, asked_of_start, bits_after};
 
-// A number of microseconds in bit times, as a number of 32 bits.
+// Returns a number of microseconds, at most 10,000,000, in bit times, at most 160,000,000.
 fn bits(w: &Wishes, micros: u32) -> u32
     requires valid { IsValid w.now }
     requires micros { micros ≤ 10_000_000 }
@@ -21,7 +18,8 @@ fn bits(w: &Wishes, micros: u32) -> u32
     w.bits(micros) as u32
 }
 
-// Returns whether the requirement yields this time.
+// Returns whether a requirement, in bit times below 2^43, determines this time, in microseconds: rounded up it is this time. `None`
+// determines none.
 fn is_tight(w: &Wishes, asked: Option<u64>, t: u32) -> bool
     requires valid { IsValid w.now }
     requires limit { IfSome asked (λ bits. bits < 2 ^ 43) }
@@ -33,7 +31,7 @@ fn is_tight(w: &Wishes, asked: Option<u64>, t: u32) -> bool
     }
 }
 
-// Returns whether an inequality yields the T1 of the AT at a place of the order.
+// Returns whether an inequality determines the T1 of the AT at index `at` of the order.
 fn is_start_tight(w: &Wishes, t1: &[u32], rule: Inequality, at: usize) -> bool
     requires valid { IsValid w.now }
     requires starts { AreStarts w.now t1.now }
@@ -47,7 +45,7 @@ fn is_start_tight(w: &Wishes, t1: &[u32], rule: Inequality, at: usize) -> bool
     )
 }
 
-// The link to the T1 of the AT at a place of the order.
+// Returns the link by an inequality to the T1 of the AT at index `at` of the order.
 fn start_link(w: &Wishes, t1: &[u32], rule: Inequality, at: usize) -> Link
     requires valid { IsValid w.now }
     requires starts { AreStarts w.now t1.now }
@@ -63,7 +61,8 @@ fn start_link(w: &Wishes, t1: &[u32], rule: Inequality, at: usize) -> Link
     }
 }
 
-// The last link to the T1 of the AT at a place of the order, and the AT with whose T1 it begins.
+// Returns two parts of the way to the T1 of the AT at index `at` of the order: the index of the earlier AT whose T1 it depends on, if there
+// is one, and the last link.
 fn step(w: &Wishes, t1: &[u32], at: usize) -> (Option<usize>, Link)
     requires valid { IsValid w.now }
     requires starts { AreStarts w.now t1.now }
@@ -89,7 +88,7 @@ fn step(w: &Wishes, t1: &[u32], at: usize) -> (Option<usize>, Link)
     (w.previous_at(at), start_link(w, t1, Inequality::Slave, at))
 }
 
-// Appends the links to the T1 of the AT at a place of the order.
+// Appends the links to the T1 of the AT at index `at` of the order. There must be room for `at` + 1 links.
 fn push_trail(w: &Wishes, t1: &[u32], at: usize, links: &mut ArrayVec<Link, 66>)
     requires valid { IsValid w.now }
     requires starts { AreStarts w.now t1.now }
@@ -105,7 +104,7 @@ fn push_trail(w: &Wishes, t1: &[u32], at: usize, links: &mut ArrayVec<Link, 66>)
     links.push(link);
 }
 
-// The times of which an inequality has the greatest.
+// The times of which an inequality uses the greatest.
 #[derive(Clone, Copy, Debug, PartialEq, Eq)]
 enum Time {
     Tmtsy,
@@ -113,6 +112,7 @@ enum Time {
     T4min,
 }
 
+// Returns a time that a drive declares, in microseconds.
 fn time_of(time: Time, wish: &Wish) -> u16
     ensures { result ≡ time_of time wish.now }
 {
@@ -123,6 +123,7 @@ fn time_of(time: Time, wish: &Wish) -> u16
     }
 }
 
+// Returns the greatest value of a time, in microseconds; 0 if there is no drive.
 fn greatest_of(time: Time, drives: &[Wish]) -> u16
     ensures { result ≡ greatest_of (time_of time) drives.now }
 {
@@ -133,6 +134,7 @@ fn greatest_of(time: Time, drives: &[Wish]) -> u16
     most
 }
 
+// Returns the address of the first drive of the ring whose time has a value; 0 if there is none.
 fn first_with(time: Time, value: u16, drives: &[Wish]) -> u8
     ensures { result ≡ first_with (time_of time) value drives.now }
 {
@@ -144,15 +146,15 @@ fn first_with(time: Time, value: u16, drives: &[Wish]) -> u8
     0
 }
 
-// The address of the first drive of the ring with the greatest time.
+// Returns the address of the first drive of the ring whose time is the greatest; 0 if there is no drive.
 fn first_greatest(time: Time, drives: &[Wish]) -> u8
     ensures { result ≡ first_greatest (time_of time) drives.now }
 {
     first_with(time, greatest_of(time, drives), drives)
 }
 
-// Returns the bit time at which the AT of a drive has ended and `more` microseconds have passed, at the
-// least T1.
+// Returns the bit time at which the AT of the drive at index `place` of the ring has ended, if it starts at its least T1, and `micros`
+// microseconds, below 65,536, have passed since. It is below 2^42.
 fn after_start(w: &Wishes, t1: &[u32], place: usize, micros: u32) -> u64
     requires valid { IsValid w.now }
     requires starts { AreStarts w.now t1.now }
@@ -164,7 +166,7 @@ fn after_start(w: &Wishes, t1: &[u32], place: usize, micros: u32) -> u64
     bits_after(w, t1, place, micros)
 }
 
-// Returns whether 5 yields T2.
+// Returns whether 5 determines T2.
 fn is_last_tight(w: &Wishes, t1: &[u32], t2: u32) -> bool
     requires valid { IsValid w.now }
     requires starts { AreStarts w.now t1.now }
@@ -175,7 +177,7 @@ fn is_last_tight(w: &Wishes, t1: &[u32], t2: u32) -> bool
     is_tight(w, Some(after_start(w, t1, last, w.gap())), t2)
 }
 
-// Returns whether 6 of the AT at a place of the order yields T2.
+// Returns whether 6 for the AT at index `at` of the order determines T2.
 fn is_master_tight(w: &Wishes, t1: &[u32], t2: u32, at: usize) -> bool
     requires valid { IsValid w.now }
     requires starts { AreStarts w.now t1.now }
@@ -188,7 +190,7 @@ fn is_master_tight(w: &Wishes, t1: &[u32], t2: u32, at: usize) -> bool
     is_tight(w, Some(after_start(w, t1, place, tatmt)), t2)
 }
 
-// Returns the place in the order of the first AT whose 6 yields T2.
+// Returns the index in the order of the first AT for which 6 determines T2; `None` if there is none.
 fn first_tight(w: &Wishes, t1: &[u32], t2: u32) -> Option<usize>
     requires valid { IsValid w.now }
     requires starts { AreStarts w.now t1.now }
@@ -203,7 +205,7 @@ fn first_tight(w: &Wishes, t1: &[u32], t2: u32) -> Option<usize>
     None
 }
 
-// The link to T2 of the drive at a place of the order.
+// Returns the link to T2 from the AT at index `at` of the order.
 fn t2_link(w: &Wishes, rule: Inequality, at: usize, t2: u32) -> Link
     requires valid { IsValid w.now }
     requires within { at < length w.now.order }
@@ -217,7 +219,7 @@ fn t2_link(w: &Wishes, rule: Inequality, at: usize, t2: u32) -> Link
     }
 }
 
-// The links to T2 by way of the T1 of the AT at a place of the order.
+// Returns the links to T2 by way of the T1 of the AT at index `at` of the order, at most 65. The last of them is by `rule`.
 fn links_through(w: &Wishes, t1: &[u32], at: usize, rule: Inequality, t2: u32) -> ArrayVec<Link, 66>
     requires valid { IsValid w.now }
     requires starts { AreStarts w.now t1.now }
@@ -235,7 +237,7 @@ fn links_through(w: &Wishes, t1: &[u32], at: usize, rule: Inequality, t2: u32) -
     links
 }
 
-// The links to T2.
+// Returns the links to T2, at most 65: by 5 if that determines T2, otherwise by 6 for the first AT for which that does.
 fn t2_links(w: &Wishes, t1: &[u32], t2: u32) -> ArrayVec<Link, 66>
     requires valid { IsValid w.now }
     requires starts { AreStarts w.now t1.now }
@@ -254,7 +256,7 @@ fn t2_links(w: &Wishes, t1: &[u32], t2: u32) -> ArrayVec<Link, 66>
     }
 }
 
-// The links to T3.
+// Returns the links to T3: those to T2, and one by 7 for the first drive of the ring with the greatest TMTSG.
 #[tactic(auto, unfolding(crate::specs::ChainOf::trail_t3))]
 fn t3_links(w: &Wishes, t1: &[u32], t2: u32, t3: u32) -> ArrayVec<Link, 66>
     requires valid { IsValid w.now }
@@ -275,7 +277,7 @@ fn t3_links(w: &Wishes, t1: &[u32], t2: u32, t3: u32) -> ArrayVec<Link, 66>
     links
 }
 
-// The chain to the bound of 9.
+// Returns the chain to the bound of 9. `links` are those to T2.
 fn mst_chain(w: &Wishes, links: ArrayVec<Link, 66>, t2: u32) -> Chain
     requires valid { IsValid w.now }
     requires t2 { t2 ≡ least_t2 w.now }
@@ -299,7 +301,7 @@ fn mst_chain(w: &Wishes, links: ArrayVec<Link, 66>, t2: u32) -> Chain
     }
 }
 
-// The chain to the bound of 8.
+// Returns the chain to the bound of 8. `links` are those to T3.
 fn cycle_chain(w: &Wishes, links: ArrayVec<Link, 66>, t3: u32) -> Chain
     requires valid { IsValid w.now }
     requires t3 { t3 ≡ least_t3 w.now }
@@ -316,7 +318,7 @@ fn cycle_chain(w: &Wishes, links: ArrayVec<Link, 66>, t3: u32) -> Chain
     }
 }
 
-// The chain to the bound of 10.
+// Returns the chain to the bound of 10, which has no links.
 fn capture_chain(w: &Wishes) -> Chain
     requires { IsValid w.now }
     ensures { result ≡ capture_chain w.now }
@@ -330,7 +332,8 @@ fn capture_chain(w: &Wishes) -> Chain
     }
 }
 
-// The chain of the least times to the first bound that they break.
+// Returns the chain of the least times: to the bound of 9 if they break it, otherwise to that of 8 if they break it, otherwise to that of
+// 10. They must break one of these bounds for the result to prove anything.
 #[tactic(auto, unfolding(crate::specs::ChainOf::chain_of))]
 pub fn chain_of(w: &Wishes, t1: &[u32], t2: u32, t3: u32) -> Chain
     requires valid { IsValid w.now }

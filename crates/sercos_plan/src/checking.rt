@@ -1,16 +1,12 @@
-// Whether a chain proves that no plan fits, from the wishes and the chain alone.
-ghost use Rattle.std.specs.Prelude.{◌≡◌, ℕ, ◌+◌, ◌*◌, ◌^◌, ◌<◌, ◌≤◌, ◌↔◌, length, slice_index, IsTrue, IfSome, Some, None, option_map, ◌&&◌, ◌==◌};
-ghost use Rattle.sercos_timing.specs.Order.{at_bits, first_sent, sent, place_at};
-ghost use Rattle.sercos_timing.specs.Inequalities.{of_number, asked_5, asked_7};
-ghost use Rattle.sercos_timing.specs.Valid.{IsValid};
-ghost use Rattle.sercos_plan.specs.Least.{NoneFits};
-ghost use Rattle.sercos_plan.specs.Chains.{moment_of, is_t1, is_t2, is_t3, up_to, last_place, is_t1_of, given_if, asked_after, last_link, pause_of, ends, IsChain, gives, are_linked, ats_at};
-ghost use Rattle.sercos_timing.specs.declared.inequality.Inequality.TheVariants.{Cycle, NextMst, Capture};
+// Whether a chain proves that no plan fits, from the planner's input and the chain alone. The input is valid, and each index is within its
+// list. What an inequality requires is in bit times, below 2^42.
+ghost use Rattle.std.specs.Prelude.{◌≡◌, ◌+◌, ◌*◌, ◌^◌, ◌<◌, ◌↔◌, length, slice_index, IsTrue, IfSome, Some, None, option_map, ◌&&◌, ◌==◌};
+ghost use Rattle.sercos_plan.specs.Clauses.{at_bits, first_sent, sent, place_at, of_number, asked_5, asked_7, IsValid, NoneFits, moment_of, is_t1, is_t2, is_t3, up_to, last_place, is_t1_of, given_if, asked_after, last_link, pause_of, ends, IsChain, gives, are_linked, ats_at, Cycle, NextMst, Capture};
 
 use crate::chain::{Chain, Link};
 use sercos_timing::{Inequality, Wishes};
 
-// The place in the order of the AT of the drive with this address.
+// Returns the index in the order of the AT of the drive with an address; `None` if there is no such drive.
 fn find(w: &Wishes, address: u8) -> Option<usize>
     requires { IsValid w.now }
     ensures within { IfSome result (λ at. at < length w.now.order) }
@@ -26,7 +22,7 @@ fn find(w: &Wishes, address: u8) -> Option<usize>
     found
 }
 
-// Returns whether a link with this number bounds T1 of its drive.
+// Returns whether a link by the inequality with this number bounds T1 of its drive.
 fn is_t1(number: u8) -> bool
     ensures { result ≡ is_t1 (moment_of (of_number number)) }
 {
@@ -36,7 +32,7 @@ fn is_t1(number: u8) -> bool
     )
 }
 
-// Returns whether it bounds T2.
+// Returns whether a link by the inequality with this number bounds T2.
 fn is_t2(number: u8) -> bool
     ensures { result ≡ is_t2 (moment_of (of_number number)) }
 {
@@ -46,14 +42,7 @@ fn is_t2(number: u8) -> bool
     )
 }
 
-// Returns whether it bounds T3.
-fn is_t3(number: u8) -> bool
-    ensures { result ≡ is_t3 (moment_of (of_number number)) }
-{
-    matches!(Inequality::of_number(number), Some(Inequality::Records))
-}
-
-// The drive at a place of the order.
+// Returns the index in the ring of the drive at an index of the order; `None` for `None`.
 fn place(w: &Wishes, at: Option<usize>) -> Option<usize>
     requires valid { IsValid w.now }
     requires within { IfSome at (λ i. i < length w.now.order) }
@@ -66,7 +55,7 @@ fn place(w: &Wishes, at: Option<usize>) -> Option<usize>
     }
 }
 
-// Returns whether the link bounds T1 of the drive at this place of the ring.
+// Returns whether a link bounds T1 of the drive at an index of the ring; false for `None`.
 fn is_t1_of(w: &Wishes, link: Link, place: Option<usize>) -> bool
     requires valid { IsValid w.now }
     requires within { IfSome place (λ j. j < length w.now.drives) }
@@ -78,8 +67,8 @@ fn is_t1_of(w: &Wishes, link: Link, place: Option<usize>) -> bool
     }
 }
 
-// Returns the bit time at which the AT of this drive has ended and `more` microseconds have passed, if the link has its
-// start.
+// Returns the bit time at which the AT of the drive at an index of the ring has ended, if it starts at the bit time of the link, and
+// `micros` microseconds, below 65,536, have passed since. The result is `None` unless the link bounds T1 of this drive.
 fn after_start(w: &Wishes, link: Link, place: Option<usize>, micros: u32) -> Option<u64>
     requires valid { IsValid w.now }
     requires within { IfSome place (λ j. j < length w.now.drives) }
@@ -100,7 +89,8 @@ fn after_start(w: &Wishes, link: Link, place: Option<usize>, micros: u32) -> Opt
     }
 }
 
-// Returns what 5 requires after the link.
+// Returns what 5 requires of T2 after a link; `None` unless the link bounds T1 of the drive at index `at` of the order, and its AT is the
+// last.
 fn after_last(w: &Wishes, link: Link, at: usize) -> Option<u64>
     requires valid { IsValid w.now }
     requires within { at < length w.now.order }
@@ -119,7 +109,7 @@ fn after_last(w: &Wishes, link: Link, at: usize) -> Option<u64>
     }
 }
 
-// Returns what 7 requires after the link.
+// Returns what 7 requires of T3 for the drive at index `at` of the order, after a link; `None` unless the link bounds T2.
 fn after_records(w: &Wishes, link: Link, at: usize) -> Option<u64>
     requires valid { IsValid w.now }
     requires within { at < length w.now.order }
@@ -136,7 +126,8 @@ fn after_records(w: &Wishes, link: Link, at: usize) -> Option<u64>
     }
 }
 
-// Returns what the inequality of the first link requires.
+// Returns what the inequality of a first link requires, in bit times. `None` means that a chain can't begin with it: it is neither 1, nor 2
+// for the first AT of the order.
 fn asked_first(w: &Wishes, rule: Option<Inequality>, at: usize) -> Option<u64>
     requires valid { IsValid w.now }
     requires within { at < length w.now.order }
@@ -151,7 +142,8 @@ fn asked_first(w: &Wishes, rule: Option<Inequality>, at: usize) -> Option<u64>
     }
 }
 
-// Returns what the inequality of a later link requires after this one.
+// Returns what the inequality of a later link requires after the link before it, in bit times. `None` means that it can't follow this link:
+// it isn't one of 3 to 7, or the earlier time in it isn't the one that this link bounds.
 fn asked_next(w: &Wishes, rule: Option<Inequality>, link: Link, at: usize) -> Option<u64>
     requires valid { IsValid w.now }
     requires within { at < length w.now.order }
@@ -175,7 +167,7 @@ fn asked_next(w: &Wishes, rule: Option<Inequality>, link: Link, at: usize) -> Op
     }
 }
 
-// Returns whether the bit time is the requirement, rounded up to a microsecond.
+// Returns whether a bit time equals a requirement, in bit times below 2^42, rounded up to a whole microsecond; false for `None`.
 fn gives(w: &Wishes, asked: Option<u64>, time: u32) -> bool
     requires valid { IsValid w.now }
     requires limit { IfSome asked (λ bits. bits < 2 ^ 42) }
@@ -188,7 +180,7 @@ fn gives(w: &Wishes, asked: Option<u64>, time: u32) -> bool
     }
 }
 
-// Returns whether a link follows from the wishes and the link before it.
+// Returns whether a link follows from the planner's input and the link before it, if there is one. It doesn't if no drive has its address.
 fn follows(w: &Wishes, from: Option<Link>, link: Link) -> bool
     requires { IsValid w.now }
     ensures { result
@@ -204,6 +196,7 @@ fn follows(w: &Wishes, from: Option<Link>, link: Link) -> bool
     }
 }
 
+// Returns whether each link follows from the planner's input and the link before it, and the first from the input alone.
 fn are_linked(w: &Wishes, links: &[Link]) -> bool
     requires { IsValid w.now }
     ensures { result ≡ are_linked w.now None links.now }
@@ -218,6 +211,7 @@ fn are_linked(w: &Wishes, links: &[Link]) -> bool
     true
 }
 
+// Returns the last link, if there is one.
 fn last_link(links: &[Link]) -> Option<Link>
     ensures { result ≡ last_link None links.now }
 {
@@ -228,7 +222,8 @@ fn last_link(links: &[Link]) -> Option<Link>
     last
 }
 
-// Returns the time used as the greatest TMTSY: that of the drive, or the gap at drive 0.
+// Returns the time used as the greatest TMTSY, in microseconds: that of the drive with an address, or the gap for address 0. `None` means
+// that there is no such drive.
 fn pause(w: &Wishes, drive: u8) -> Option<u32>
     requires { IsValid w.now }
     ensures value { result ≡ pause_of w.now drive }
@@ -244,7 +239,8 @@ fn pause(w: &Wishes, drive: u8) -> Option<u32>
     }
 }
 
-// The sum and the bound of 9 after this last link.
+// Returns the sum and the bound of 9 after the last link, in bit times; `None` unless this link bounds T2, and a drive has the address or
+// it is 0.
 fn end_mst(w: &Wishes, drive: u8, last: Option<Link>) -> Option<(u64, u64)>
     requires { IsValid w.now }
     ensures { result ≡ ends w.now (Some NextMst) drive last }
@@ -268,14 +264,15 @@ fn end_mst(w: &Wishes, drive: u8, last: Option<Link>) -> Option<(u64, u64)>
     }
 }
 
-// The sum and the bound of 8 after this last link.
+// Returns the sum and the bound of 8 after the last link, in bit times; `None` unless this link bounds T3 by the same drive.
 fn end_cycle(w: &Wishes, drive: u8, last: Option<Link>) -> Option<(u64, u64)>
     requires { IsValid w.now }
     ensures { result ≡ ends w.now (Some Cycle) drive last }
 {
     match last {
         Some(link) => {
-            if is_t3(link.rule) && drive == link.drive {
+            let is_t3 = matches!(Inequality::of_number(link.rule), Some(Inequality::Records));
+            if is_t3 && drive == link.drive {
                 Some((u64::from(link.at), w.bits(w.cycle())))
             } else {
                 None
@@ -285,7 +282,7 @@ fn end_cycle(w: &Wishes, drive: u8, last: Option<Link>) -> Option<(u64, u64)>
     }
 }
 
-// The sum and the bound of 10, which follows no link.
+// Returns the sum and the bound of 10, in bit times, before which there is no link; `None` if there is one, or no drive with the address.
 fn end_capture(w: &Wishes, drive: u8, last: Option<Link>) -> Option<(u64, u64)>
     requires { IsValid w.now }
     ensures { result ≡ ends w.now (Some Capture) drive last }
@@ -302,7 +299,7 @@ fn end_capture(w: &Wishes, drive: u8, last: Option<Link>) -> Option<(u64, u64)>
     }
 }
 
-// The sum and the bound of an inequality after this last link.
+// Returns the sum and the bound of an inequality after the last link, in bit times; `None` if a chain can't end with it.
 fn end(w: &Wishes, rule: Option<Inequality>, drive: u8, last: Option<Link>) -> Option<(u64, u64)>
     requires { IsValid w.now }
     ensures { result ≡ ends w.now rule drive last }
@@ -315,6 +312,7 @@ fn end(w: &Wishes, rule: Option<Inequality>, drive: u8, last: Option<Link>) -> O
     }
 }
 
+// Returns whether a chain's sum and bound are those of its inequality after its last link.
 fn is_ended(w: &Wishes, c: &Chain) -> bool
     requires { IsValid w.now }
     ensures { IsTrue result
@@ -327,29 +325,23 @@ fn is_ended(w: &Wishes, c: &Chain) -> bool
     }
 }
 
+// Returns whether all three hold.
 fn are_all(linked: bool, ended: bool, above: bool) -> bool
     ensures { IsTrue result ↔ (IsTrue linked × IsTrue ended × IsTrue above) }
 {
     linked && ended && above
 }
 
-fn is_chain(w: &Wishes, c: &Chain) -> bool
-    requires { IsValid w.now }
-    ensures { IsTrue result ↔ IsChain w.now c.now }
-{
-    let linked = are_linked(w, c.links());
-    let ended = is_ended(w, c);
-    let above = c.sum() > c.bound();
-    are_all(linked, ended, above)
-}
-
-/// Returns whether each link of a chain follows from the planner's input and the link before it, and the chain ends in a sum
-/// that is above its bound. Then no plan fits. It relies on the planner's input and the chain alone, and calls no planner.
-#[tactic(auto, using(crate::proofs::SoundLemmas::chain_none))]
+/// Returns whether a chain proves that no plan fits valid input: each link follows from the planner's input and the link before it, and the
+/// chain ends in a sum that is above its bound. This is computed from the planner's input and the chain alone, without a planner. If the
+/// result is true, no plan fits.
 pub fn check_chain(w: &Wishes, c: &Chain) -> bool
     requires { IsValid w.now }
     ensures exact { IsTrue result ↔ IsChain w.now c.now }
     ensures none { IsTrue result → NoneFits w.now }
 {
-    is_chain(w, c)
+    let linked = are_linked(w, c.links());
+    let ended = is_ended(w, c);
+    let above = c.sum() > c.bound();
+    are_all(linked, ended, above)
 }

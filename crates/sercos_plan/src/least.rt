@@ -1,15 +1,12 @@
-// The least times, in one pass through the order.
+// The least times, in one pass through the order. In this file `t1` has the least T1 of the drives in microseconds, in the order of the
+// ring. The planner's input is valid, `t1` has an item for each drive, and each index is within its list.
 ghost use Rattle.std.specs.Prelude.{◌≡◌, ℕ, ◌+◌, ◌*◌, ◌^◌, ◌<◌, ◌≤◌, length, slice_index, unwrap_or, nat_le};
-ghost use Rattle.sercos_timing.specs.Limits.{most_drives};
-ghost use Rattle.sercos_timing.specs.Order.{first_sent, sent, times, mdt_bits, bits_of};
-ghost use Rattle.sercos_timing.specs.Inequalities.{asked_of_start, asked_5, sum_9, bound_9, greatest_tmtsy};
-ghost use Rattle.sercos_timing.specs.Valid.{IsValid};
-ghost use Rattle.sercos_plan.specs.LeastTimes.{round_up, needed, least_t1, least_t2, least_t3, greatest_t4min};
+ghost use Rattle.sercos_plan.specs.Clauses.{most_drives, first_sent, sent, times, mdt_bits, bits_of, asked_of_start, asked_5, sum_9, bound_9, greatest_tmtsy, IsValid, round_up, needed, least_t1, least_t2, least_t3, greatest_t4min};
 
 use arrayvec::ArrayVec;
 use sercos_timing::{Inequality, Wishes, asked_of_start, bits_after};
 
-// Returns the least number of microseconds with at least `bits` bit times.
+// Returns the least number of microseconds that has at least `bits` bit times, which are below 2^43.
 pub fn round_up(w: &Wishes, bits: u64) -> u64
     requires valid { IsValid w.now }
     requires bits { bits < 2 ^ 43 }
@@ -19,9 +16,9 @@ pub fn round_up(w: &Wishes, bits: u64) -> u64
     (bits + (rate - 1)) / rate
 }
 
-// Returns what an inequality requires of the start of the AT at a place of the order, in bit times; 0 if it requires
-// nothing. Each AT takes at most 66,300 microseconds with the pauses after it, and `t1` has the least T1 of the ATs
-// before.
+// Returns what an inequality requires of the start of the AT at index `at` of the order, in bit times; 0 if it requires nothing. Each AT
+// takes at most 66,300 microseconds with the pause after it, so the result is at most the bit times of 66,300 times `at` + 1 microseconds.
+// Each T1 of `t1` must be at most 66,300 times `at`.
 fn start_bits(w: &Wishes, t1: &[u32], rule: Inequality, at: usize) -> u64
     requires valid { IsValid w.now }
     requires within { at < length w.now.order }
@@ -37,7 +34,8 @@ fn start_bits(w: &Wishes, t1: &[u32], rule: Inequality, at: usize) -> u64
     }
 }
 
-// The least T1 of the AT at a place of the order, from those of the ATs before it.
+// Returns the least T1 of the AT at index `at` of the order, in microseconds, from those of the ATs before it. Each T1 of `t1` must be at
+// most 66,300 times `at`. The result is at most 66,300 more.
 fn start(w: &Wishes, t1: &[u32], at: usize) -> u32
     requires valid { IsValid w.now }
     requires within { at < length w.now.order }
@@ -54,7 +52,7 @@ fn start(w: &Wishes, t1: &[u32], at: usize) -> u32
     round_up(w, own.max(gap.max(neighbor.max(slave)))) as u32
 }
 
-// The greedy pass: the least T1 of each drive, into the drive's place in the ring.
+// Replaces zeros by the least T1 of each drive, in microseconds, in the order of the ring. It goes once through the order of the ATs.
 fn fill_starts(w: &Wishes, t1: &mut [u32])
     requires valid { IsValid w.now }
     requires count { length t1.old ≡ length w.now.drives }
@@ -69,6 +67,7 @@ fn fill_starts(w: &Wishes, t1: &mut [u32])
     }
 }
 
+// Returns a list of `count` zeros, at most 64.
 fn blank(count: usize) -> ArrayVec<u32, 64>
     requires { count ≤ most_drives }
     ensures count { length result.items ≡ count }
@@ -81,7 +80,7 @@ fn blank(count: usize) -> ArrayVec<u32, 64>
     blank
 }
 
-// The least T1 of each drive, in microseconds, in the order of the ring.
+// Returns the least T1 of each drive, in microseconds, in the order of the ring. Each is at most 66,300 times 64.
 pub fn starts(w: &Wishes) -> ArrayVec<u32, 64>
     requires { IsValid w.now }
     ensures count { length result.items ≡ length w.now.drives }
@@ -93,7 +92,8 @@ pub fn starts(w: &Wishes) -> ArrayVec<u32, 64>
     t1
 }
 
-// Returns what inequality 5 requires of T2.
+// Returns what inequality 5 requires of T2, in bit times: at most those of 66,300 times 65 microseconds. Each T1 of `t1` must be at most
+// 66,300 times 64.
 pub fn last_bits(w: &Wishes, t1: &[u32]) -> u64
     requires valid { IsValid w.now }
     requires count { length t1.now ≡ length w.now.drives }
@@ -105,7 +105,7 @@ pub fn last_bits(w: &Wishes, t1: &[u32]) -> u64
     bits_after(w, t1, usize::from(order[order.len() - 1]), w.gap())
 }
 
-// The least T2, in microseconds, from the least T1 of each drive.
+// Returns the least T2, in microseconds, from the least T1 of each drive, at most 66,300 times 64. It is at most 66,300 times 65.
 pub fn least_t2(w: &Wishes, t1: &[u32]) -> u32
     requires valid { IsValid w.now }
     requires count { length t1.now ≡ length w.now.drives }
@@ -125,7 +125,8 @@ pub fn least_t2(w: &Wishes, t1: &[u32]) -> u32
     round_up(w, gap.max(most)) as u32
 }
 
-// Returns what inequality 7 requires of T3 for the drive at a place of the ring.
+// Returns what inequality 7 requires of T3 for the drive at an index of the ring, in bit times, if the MDT begins at `t2`, in microseconds.
+// The result is at most the bit times of `t2` + 75,535 microseconds.
 fn record_bits(w: &Wishes, t2: u32, place: usize) -> u64
     requires valid { IsValid w.now }
     requires within { place < length w.now.drives }
@@ -135,7 +136,7 @@ fn record_bits(w: &Wishes, t2: u32, place: usize) -> u64
     w.bits(t2) + (w.mdt_bits() + w.bits(u32::from(w.wish(place).times.tmtsg)))
 }
 
-// The least T3, in microseconds, from the least T2.
+// Returns the least T3, in microseconds, from the least T2, at most 66,300 times 65. It is at most 66,300 times 67.
 pub fn least_t3(w: &Wishes, t2: u32) -> u32
     requires valid { IsValid w.now }
     requires value { t2 ≡ least_t2 w.now }
@@ -151,7 +152,7 @@ pub fn least_t3(w: &Wishes, t2: u32) -> u32
     round_up(w, most) as u32
 }
 
-// The greatest T4min, in microseconds.
+// Returns the greatest T4min of the drives, in microseconds.
 pub fn greatest_t4min(w: &Wishes) -> u32
     requires { IsValid w.now }
     ensures value { result ≡ greatest_t4min w.now }
@@ -164,7 +165,7 @@ pub fn greatest_t4min(w: &Wishes) -> u32
     most
 }
 
-// Returns whether 9 holds at the least T2.
+// Returns whether inequality 9 holds at the least T2.
 pub fn is_mst_roomy(w: &Wishes, t2: u32) -> bool
     requires valid { IsValid w.now }
     requires value { t2 ≡ least_t2 w.now }

@@ -1,14 +1,6 @@
 // The least plan, or the chain that proves that none fits.
-ghost use Rattle.std.specs.Prelude.{◌≡◌, ℕ, ◌+◌, ◌*◌, ◌<◌, ◌≤◌, length, slice_index, true, IfOk, IfErr, OnErr, Ok};
-ghost use Rattle.sercos_timing.specs.Views.{PlanView};
-ghost use Rattle.sercos_timing.specs.Limits.{most_drives, most_records};
-ghost use Rattle.sercos_timing.specs.Order.{sent, record_bytes};
-ghost use Rattle.sercos_timing.specs.Inequalities.{positions};
-ghost use Rattle.sercos_timing.specs.Valid.{IsValid};
-ghost use Rattle.sercos_plan.specs.Least.{IsLeast, NoneFits};
-ghost use Rattle.sercos_plan.specs.LeastTimes.{least_t1, least_t2, least_t3, is_roomy, least_plan};
-ghost use Rattle.sercos_plan.specs.Chains.{IsChain};
-ghost use Rattle.sercos_plan.specs.ChainOf.{chain_of, planned};
+ghost use Rattle.std.specs.Prelude.{◌≡◌, ℕ, ◌+◌, ◌<◌, ◌≤◌, length, slice_index, true, IfOk, IfErr, OnErr, Ok};
+ghost use Rattle.sercos_plan.specs.Clauses.{PlanView, most_drives, most_records, sent, record_bytes, positions, IsValid, IsLeast, NoneFits, least_t1, least_t2, least_t3, is_roomy, least_plan, IsChain, chain_of, planned};
 
 use crate::chain::Chain;
 use crate::chaining::chain_of;
@@ -16,7 +8,8 @@ use crate::least::{greatest_t4min, is_mst_roomy, least_t2, least_t3, starts};
 use arrayvec::ArrayVec;
 use sercos_timing::{Plan, Wish, Wishes};
 
-// The positions of the data records in the MDT.
+// Returns the positions of the data records in the MDT, in the order of the ring. The first is 1. There are at most 64 drives, and their
+// records have at most 2,047 bytes together.
 fn positions(drives: &[Wish]) -> ArrayVec<u16, 64>
     requires count { length drives.now ≤ most_drives }
     requires sum { record_bytes drives.now ≤ most_records }
@@ -31,7 +24,7 @@ fn positions(drives: &[Wish]) -> ArrayVec<u16, 64>
     places
 }
 
-// These numbers as they are, in 16 bits.
+// Returns at most 64 numbers, each below 65,536, as numbers of 16 bits.
 fn narrowed(times: &[u32]) -> ArrayVec<u16, 64>
     requires count { length times.now ≤ most_drives }
     requires limit { (k : ℕ) → slice_index times.now k < 65536 }
@@ -44,17 +37,8 @@ fn narrowed(times: &[u32]) -> ArrayVec<u16, 64>
     narrow
 }
 
-// Returns whether the least times keep the bounds 8, 9 and 10.
-fn is_roomy(w: &Wishes, t2: u32, t3: u32) -> bool
-    requires valid { IsValid w.now }
-    requires t2 { t2 ≡ least_t2 w.now }
-    requires t3 { t3 ≡ least_t3 w.now }
-    ensures { result ≡ is_roomy w.now }
-{
-    is_mst_roomy(w, t2) && t3 <= w.cycle() && greatest_t4min(w) <= w.cycle()
-}
-
-// The plan of the least times.
+// Returns the plan of the least times, which must keep their bounds: 9 holds at T2, and T3 and the greatest T4min are at most the cycle
+// time. Its T4 is the cycle time less the greatest T4min.
 #[tactic(auto, unfolding(crate::specs::LeastTimes::least_plan))]
 fn least_plan(w: &Wishes, t1: &[u32], t2: u32, t3: u32) -> Plan
     requires valid { IsValid w.now }
@@ -75,7 +59,7 @@ fn least_plan(w: &Wishes, t1: &[u32], t2: u32, t3: u32) -> Plan
     }
 }
 
-// Returns the plan of the least times if they keep the bounds; otherwise the chain to the first that they break.
+// Returns the plan of the least times if they keep their bounds; otherwise the chain to the first bound that they break.
 fn planned(w: &Wishes) -> Result<Plan, Chain>
     requires { IsValid w.now }
     ensures { result ≡ planned w.now }
@@ -84,26 +68,27 @@ fn planned(w: &Wishes) -> Result<Plan, Chain>
     let t1 = starts.as_slice();
     let t2 = least_t2(w, t1);
     let t3 = least_t3(w, t2);
-    if is_roomy(w, t2, t3) {
+    // These are the inequalities 9, 8 and 10.
+    if is_mst_roomy(w, t2) && t3 <= w.cycle() && greatest_t4min(w) <= w.cycle() {
         Ok(least_plan(w, t1, t2, t3))
     } else {
         Err(chain_of(w, t1, t2, t3))
     }
 }
 
-/// Returns the least plan, made in one pass through the order: it keeps the twelve inequalities, and every plan that does
-/// has each T1, T2 and T3 at least as late, and T4 at most as late. If and only if no plan keeps them, the result is a
-/// chain of inequalities that proves it: from an inequality 1 or 2 along the least times to the first of the bounds 9, 8
-/// and 10 that these break.
+/// Returns the least plan for valid input (this profile), which is the only one. It keeps the twelve inequalities. Every plan that keeps
+/// them has each T1, T2 and T3 at least as late, and T4 at most as late. The error, if and only if no plan keeps them, is a chain of
+/// inequalities that proves this, and that [`check_chain`](crate::check_chain) accepts. It leads from an inequality 1 or 2 along the least
+/// times to the first of the bounds 9, 8 and 10 that these break. To the bound 10 there are no links.
 pub fn plan(w: &Wishes) -> Result<Plan, Chain>
     requires { IsValid w.now }
     ensures least { IfOk result (IsLeast w.now) }
     ensures only { (p : PlanView) → IsLeast w.now p → result ≡ Ok p }
     ensures none { OnErr result (NoneFits w.now) }
-    // it is the plan of the least times if these keep the bounds, and otherwise their chain
+    // the plan of the least times if they keep their bounds, otherwise their chain
     ensures answer { result ≡ planned w.now }
     ensures chain { IfErr result (λ chain. chain ≡ chain_of w.now) }
-    // which `check_chain` takes
+    // which `check_chain` accepts
     ensures proof { IfErr result (IsChain w.now) }
 {
     planned(w)

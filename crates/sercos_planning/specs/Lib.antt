@@ -1,3 +1,4 @@
+pub mod Clauses
 pub mod LeastTimes
-pub mod Planning
 pub mod Margins
+pub mod Planning

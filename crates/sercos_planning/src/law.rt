@@ -1,13 +1,9 @@
 // What the least times of a ring are.
-ghost use Rattle.sercos_timing.specs.Views.{WishesView};
-ghost use Rattle.sercos_timing.specs.Order.{sent};
-ghost use Rattle.sercos_timing.specs.Valid.{IsValid};
-ghost use Rattle.sercos_plan.specs.LeastTimes.{least_t1, least_t2, least_t3};
-ghost use Rattle.sercos_plan.specs.ChainOf.{chain_of};
-ghost use Rattle.sercos_planning.specs.LeastTimes.{AreLeast, IsLeastChain};
+ghost use Rattle.sercos_planning.specs.Clauses.{WishesView, sent, IsValid, least_t1, least_t2, least_t3, chain_of, AreLeast, IsLeastChain};
 
-/// The least times of a ring keep the inequalities 1 to 7 between its time slots, whether a plan fits or not, and no
-/// times that keep these are less, at any place. The links of the chain that proves that none fits are at these times.
+/// States that the least times of a ring keep the inequalities 1 to 7 between its time slots, whether a plan fits or not, and that no times
+/// that keep these are less, at any place. The links of the chain that proves that none fits are at these times. The planner's input is
+/// valid. The function does nothing.
 #[tactic(auto, using(crate::proofs::LeastTimesLemmas::are_least, crate::proofs::LeastTimesLemmas::least_chain))]
 pub fn least_law()
     ensures times { (w : WishesView) → IsValid w → AreLeast w (least_t1 w (sent w)) (least_t2 w) (least_t3 w) }

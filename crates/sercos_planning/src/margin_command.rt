@@ -1,12 +1,7 @@
-// `margin`: how far each time of each drive can go, and the least cycle time.
-ghost use Rattle.std.specs.Prelude.{◌≡◌, ◌≢◌, ◌⊎◌, ◌<◌, ◌≤◌, ◌++◌, OnOk, IfOk, MatchResult, codes, decimal, length};
-ghost use Rattle.sercos_timing.specs.Order.{wish};
-ghost use Rattle.sercos_timing.specs.Valid.{IsValid};
-ghost use Rattle.sercos_plan.specs.ChainOf.{planned};
-ghost use Rattle.sercos_margin.specs.Margins.{greatest, declared, margin_of, HasPlan};
-ghost use Rattle.sercos_document.specs.Lines.{line_of};
-ghost use Rattle.sercos_planning.specs.Margins.{cycle_line, margin_line, margin_lines, wishes_margins, margin_answer, AreLimited, AreMargins, MeasuresItsRing};
-ghost use Rattle.sercos_io.specs.declared.status.Status.TheVariants.{Refused};
+// `margin`: how far each time of each drive can go, and the least cycle time. The planner's input is valid, and each drive declares times
+// within their limits. After an error `out` is unspecified.
+ghost use Rattle.std.specs.Prelude.{◌≡◌, ◌⊎◌, ◌<◌, ◌++◌, OnOk, IfOk, MatchResult, length};
+ghost use Rattle.sercos_planning.specs.Clauses.{wish, IsValid, planned, margin_of, HasPlan, line_of, cycle_line, margin_line, margin_lines, wishes_margins, margin_answer, AreLimited, AreMargins, MeasuresItsRing, Refused};
 
 use crate::plan_text::{push_chain, push_last};
 use sercos_answer::{Reply, push_text, push_two_numbers};
@@ -40,8 +35,8 @@ fn margin_at(wishes: &Wishes, place: usize, t: Time) -> u64
     u64::from(margin(wishes, place, t))
 }
 
-// Appends the line of the drive at a place of the ring: its address, and the greatest value of each of its six times, in microseconds,
-// with which a plan fits. The error is `AllocError`.
+// Appends the line of the drive at a place of the ring: its address, and the greatest value of each of its six times, in microseconds, with
+// which a plan fits. A plan must fit the declared times. The error is `AllocError`.
 #[tactic(auto, unfolding(crate::specs::Margins::margin_line))]
 fn push_margin(wishes: &Wishes, place: usize, out: &mut Vec<u8>) -> Result<(), AllocError>
     requires valid { IsValid wishes.now }
@@ -63,7 +58,7 @@ fn push_margin(wishes: &Wishes, place: usize, out: &mut Vec<u8>) -> Result<(), A
     push_last(" tmtsg ", tmtsg, out)
 }
 
-// Appends these lines of all drives, in the order of the ring. The error is `AllocError`.
+// Appends these lines of all drives, in the order of the ring. A plan must fit the declared times. The error is `AllocError`.
 #[tactic(auto, unfolding(crate::specs::Margins::margin_lines))]
 fn push_margins(wishes: &Wishes, out: &mut Vec<u8>) -> Result<(), AllocError>
     requires valid { IsValid wishes.now }
@@ -77,8 +72,10 @@ fn push_margins(wishes: &Wishes, out: &mut Vec<u8>) -> Result<(), AllocError>
     Ok(())
 }
 
-// Returns the reply of `margin` to the planner's input: the least cycle time, and either `Done` and the greatest value of each time of
-// each drive, or `No` and the chain that proves that no plan fits. The error is `AllocError`.
+// Returns the reply of `margin` to the planner's input: the least cycle time, and either `Done` and the greatest value of each time of each
+// drive, or `No` and the chain that proves that no plan fits. The error is `AllocError`. By `margins` the reply is right about the
+// planner's input: `No` only if no plan fits, with a chain along the least times that proves it, and `Done` only if one fits, with the
+// greatest values with which one still does. In both cases the cycle time is the least.
 #[tactic(auto, unfolding(crate::specs::Margins::wishes_margins))]
 fn answer_wishes(alloc: Global, wishes: &Wishes) -> Result<Reply, AllocError>
     requires valid { IsValid wishes.now }
@@ -107,7 +104,7 @@ fn answer_wishes(alloc: Global, wishes: &Wishes) -> Result<Reply, AllocError>
 
 /// Returns the reply of `margin` to a ring document: `Done`, the least cycle time with which a plan fits, and the greatest value of each
 /// time of each drive, in microseconds; or `No`, that cycle time, and the chain that proves that no plan fits with the ring's own. The
-/// error is the document's first refusal, or `Memory`.
+/// error is the document's first refusal, or `Memory`. By `ring` the reply is right about the ring that the document describes.
 #[tactic(auto, unfolding(crate::specs::Margins::margin_answer, crate::specs::Margins::document_margins), using(crate::proofs::MarginLemmas::limited_wishes))]
 pub fn margins(alloc: Global, bytes: &[u8]) -> Result<Reply, BadDocument>
     ensures answer { MatchResult result

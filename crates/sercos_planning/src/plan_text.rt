@@ -1,8 +1,6 @@
-// The texts of plans and of chains, appended to the text of a reply. Each error is `AllocError`.
-ghost use Rattle.std.specs.Prelude.{◌≡◌, ◌++◌, ◌<◌, ◌≤◌, OnOk, codes, decimal, length};
-ghost use Rattle.std.specs.List.{flat_map};
-ghost use Rattle.sercos_planning.specs.Planning.{plan_line, slot_line, slot_lines, plan_text, link_line, end_line, chain_text};
-ghost use Rattle.sercos_answer.specs.Answer.{line_feed, two_numbers};
+// The texts of plans and of chains, appended to the text of a reply. Each error is `AllocError`. After an error `out` is unspecified.
+ghost use Rattle.std.specs.Prelude.{◌≡◌, ◌++◌, ◌<◌, OnOk, decimal, length};
+ghost use Rattle.sercos_planning.specs.Clauses.{flat_map, plan_line, slot_line, slot_lines, plan_text, link_line, end_line, chain_text, line_feed, two_numbers};
 
 use sercos_answer::{push_number, push_text, push_two_numbers};
 use sercos_plan::{Chain, Link};
@@ -55,7 +53,7 @@ fn push_plan_line(plan: &Plan, out: &mut Vec<u8>) -> Result<(), AllocError>
 }
 
 // Appends the line of the drive at a place of the ring: its address, its T1 in microseconds, and the position of its data record in the
-// MDT.
+// MDT. The place is one of the ring, and the plan has a T1 and a position for it.
 #[tactic(auto, unfolding(crate::specs::Planning::slot_line))]
 fn push_slot(
     wishes: &Wishes,
@@ -79,7 +77,7 @@ fn push_slot(
     push_last(" position ", u64::from(plan.position()[place]), out)
 }
 
-// Appends these lines of all drives, in the order of the ring.
+// Appends these lines of all drives, in the order of the ring. The plan has a T1 and a position for each of them.
 #[tactic(auto, unfolding(crate::specs::Planning::slot_lines))]
 fn push_slots(wishes: &Wishes, plan: &Plan, out: &mut Vec<u8>) -> Result<(), AllocError>
     requires starts { length plan.now.t1 ≡ length wishes.now.drives }
@@ -93,7 +91,8 @@ fn push_slots(wishes: &Wishes, plan: &Plan, out: &mut Vec<u8>) -> Result<(), All
     Ok(())
 }
 
-/// Appends the lines of a plan: its times, and the time slot of each drive in the order of the ring.
+/// Appends the lines of a plan: its times, and the time slot of each drive in the order of the ring. The plan has a T1 and a position for
+/// each of them.
 #[tactic(auto, unfolding(crate::specs::Planning::plan_text))]
 pub fn push_plan(wishes: &Wishes, plan: &Plan, out: &mut Vec<u8>) -> Result<(), AllocError>
     requires starts { length plan.now.t1 ≡ length wishes.now.drives }
@@ -129,8 +128,8 @@ fn push_links(links: &[Link], out: &mut Vec<u8>) -> Result<(), AllocError>
     Ok(())
 }
 
-// Appends the last line of a chain: the inequality that is broken, the address of its drive or 0, what it requires, and what there is
-// room for, both in bit times.
+// Appends the last line of a chain: the inequality that is broken, the address of its drive or 0, what it requires, and what there is room
+// for, both in bit times.
 #[tactic(auto, unfolding(crate::specs::Planning::end_line))]
 fn push_end(chain: &Chain, out: &mut Vec<u8>) -> Result<(), AllocError>
     ensures { OnOk result (out.new.items ≡ out.old.items ++ end_line chain.now) }
@@ -151,20 +150,12 @@ fn push_end(chain: &Chain, out: &mut Vec<u8>) -> Result<(), AllocError>
     )
 }
 
-// Appends `head` and a line feed.
-fn push_no_plan(head: &str, out: &mut Vec<u8>) -> Result<(), AllocError>
-    ensures { OnOk result (out.new.items ≡ out.old.items ++ (head.now ++ line_feed)) }
-{
-    push_text(head, out)?;
-    push_text("\n", out)
-}
-
 /// Appends the line `no plan`, and the lines of the chain that proves it.
 #[tactic(auto, unfolding(crate::specs::Planning::chain_text))]
 pub fn push_chain(chain: &Chain, out: &mut Vec<u8>) -> Result<(), AllocError>
     ensures { OnOk result (out.new.items ≡ out.old.items ++ chain_text chain.now) }
 {
-    push_no_plan("no plan", out)?;
+    push_text("no plan\n", out)?;
     push_links(chain.links(), out)?;
     push_end(chain, out)
 }

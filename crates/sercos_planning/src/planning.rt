@@ -1,10 +1,6 @@
 // `plan`: the least plan of a ring's time slots.
 ghost use Rattle.std.specs.Prelude.{◌≡◌, ◌⊎◌, IfOk, MatchResult};
-ghost use Rattle.sercos_timing.specs.Valid.{IsValid};
-ghost use Rattle.sercos_plan.specs.ChainOf.{planned};
-ghost use Rattle.sercos_document.specs.Lines.{line_of};
-ghost use Rattle.sercos_planning.specs.Planning.{wishes_answer, plan_answer, IsPlanned, PlansItsRing};
-ghost use Rattle.sercos_io.specs.declared.status.Status.TheVariants.{Refused};
+ghost use Rattle.sercos_planning.specs.Clauses.{IsValid, planned, line_of, wishes_answer, plan_answer, IsPlanned, PlansItsRing, Refused};
 
 use crate::plan_text::{push_chain, push_plan};
 use sercos_answer::Reply;
@@ -14,7 +10,8 @@ use sercos_timing::Wishes;
 use std::alloc::{AllocError, Global};
 
 // Returns the reply of `plan` to the planner's input: `Done` and the least plan, or `No` and the chain that proves that none fits. The
-// error is `AllocError`.
+// error is `AllocError`. The planner's input is valid. By `planned` the reply is right about it: `No` only if no plan fits, with a chain
+// along the least times that proves it, and `Done` only with the least plan.
 #[tactic(auto, unfolding(crate::specs::Planning::wishes_answer))]
 fn answer_wishes(alloc: Global, wishes: &Wishes) -> Result<Reply, AllocError>
     requires { IsValid wishes.now }
@@ -37,7 +34,7 @@ fn answer_wishes(alloc: Global, wishes: &Wishes) -> Result<Reply, AllocError>
 }
 
 /// Returns the reply of `plan` to a ring document: `Done` and the least plan, or `No` and the chain that proves that none fits. The error
-/// is the document's first refusal, or `Memory`.
+/// is the document's first refusal, or `Memory`. By `ring` the reply is right about the ring that the document describes.
 #[tactic(auto, unfolding(crate::specs::Planning::plan_answer, crate::specs::Planning::document_answer))]
 pub fn plan(alloc: Global, bytes: &[u8]) -> Result<Reply, BadDocument>
     ensures answer { MatchResult result

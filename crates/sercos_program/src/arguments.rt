@@ -1,4 +1,4 @@
-// The words of a program.
+// The words with which a program is called.
 ghost use Rattle.std.specs.Prelude.{◌≡◌, ◌≢◌, ◌⊎◌, Err, IfErr, IfOk, MatchResult, drop, map, string_bytes};
 ghost use Rattle.std.specs.IoError.{error_kind};
 ghost use Rattle.std.specs.Vec.Iter.{into_iter_items};
@@ -10,7 +10,8 @@ use std::io::ErrorKind;
 use std::rt::Env;
 use std::{env, io};
 
-// The status if the words can't be read: no memory was found, or one isn't UTF-8 text, and so not a word of a command.
+// Returns the status if std can't read the words: `Memory` if it is out of memory, otherwise
+// `BadWords`, since a word that isn't UTF-8 text is not a word of a command.
 fn unread(kind: ErrorKind) -> Status
     ensures no_memory { kind ≡ ErrorKind.OutOfMemory → result ≡ Status.Memory }
     ensures no_text { kind ≢ ErrorKind.OutOfMemory → result ≡ Status.BadWords }
@@ -21,7 +22,7 @@ fn unread(kind: ErrorKind) -> Status
     }
 }
 
-// The words after the first one, which is the program's name, in their order. The error is `Memory`.
+// Returns the words after the first one, which is the program's name, in their order. The error is `Memory` if there is no memory for them.
 fn words_after_name(alloc: Global, mut arguments: Args) -> Result<Words, Status>
     ensures words { IfOk result (λ words. words ≡ map string_bytes (drop 1 (into_iter_items arguments))) }
     ensures no_memory { IfErr result (λ status. status ≡ Status.Memory) }
@@ -36,7 +37,8 @@ fn words_after_name(alloc: Global, mut arguments: Args) -> Result<Words, Status>
     Ok(words)
 }
 
-// The words that a process is given, from what std makes of its arguments.
+// Returns the words after the program's name from what std returns as the arguments. An error of std becomes the status of `unread`; the
+// only other error is `Memory`.
 fn words_of(alloc: Global, arguments: io::Result<Args>) -> Result<Words, Status>
     ensures words { IfOk arguments (λ all. MatchResult result
         (λ words. words ≡ map string_bytes (drop 1 (into_iter_items all)))
@@ -50,9 +52,8 @@ fn words_of(alloc: Global, arguments: io::Result<Args>) -> Result<Words, Status>
     }
 }
 
-/// Returns the words after the program's name, in their order. The error is `BadWords` if one of them isn't UTF-8 text, and `Memory`
-/// if no memory was found. Which words the process has is not stated, since std states nothing of what `args` returns: `words_of`
-/// states what is made of it.
+/// Returns the words after the program's name, in their order. The error is `BadWords` or `Memory`. This contract has neither the words nor
+/// the cause of an error, since std specifies nothing of what `args` returns. That of `words_of` relates them to it.
 pub fn given_words(rt: &(impl Env + Alloc<A = Global>)) -> Result<Words, Status>
     ensures { IfErr result (λ status. (status ≡ Status.Memory) ⊎ (status ≡ Status.BadWords)) }
 {

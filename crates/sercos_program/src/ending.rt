@@ -6,7 +6,8 @@ ghost use Rattle.sercos_io.specs.Status.{status_code};
 use sercos_io::Status;
 use std::process::ExitCode;
 
-/// Returns the status if what was kept of the output couldn't be written: a refusal is one whether or not its line was written whole.
+/// Returns the status of a command whose kept output couldn't be written: `WriteFault` for `Done`
+/// and `No`. Any other status stays, so a refusal remains one even if its line wasn't written.
 pub fn unwritten(status: Status) -> Status
     ensures done { status ≡ Status.Done → result ≡ Status.WriteFault }
     ensures no { status ≡ Status.No → result ≡ Status.WriteFault }
@@ -18,7 +19,8 @@ pub fn unwritten(status: Status) -> Status
     }
 }
 
-/// Ends a program with the code of a status, whose name goes to standard error if it isn't `Done`.
+/// Returns the exit code of a status, 0 to 7. The name of a status other than `Done` is also printed to standard error, which no clause
+/// states.
 pub fn exit(rt: &HostRuntime, status: Status) -> ExitCode
     ensures { exit_status result ≡ status_code status }
 {

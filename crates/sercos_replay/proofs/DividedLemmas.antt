@@ -3,7 +3,7 @@ use Rattle.std.proofs.Common.{◌≡◌, ℕ, suc, ◌+◌, ◌-◌, ◌<◌, �
 use Rattle.std.specs.Prelude.{option_map}
 use Rattle.std.specs.List.{after_first}
 use Rattle.sercos_replay.specs.Divided.{is_feed, begins_capture, capture_place}
-use Rattle.sercos_trace.proofs.MarkLemmas.{after_feed, after_more, after_short}
+use Rattle.sercos_trace.proofs.FeedLemmas.{after_feed, after_more, after_short}
 
 -- a place counted from k bytes earlier on
 abbrev pub shifted : ℕ → Option ℕ → Option ℕ

@@ -16,42 +16,12 @@ use Rattle.sercos_trace.specs.Kinds.{template_of, tail_for, first_kind, all_kind
 use Rattle.sercos_trace.specs.Lines.{line_by, line_as}
 use Rattle.sercos_checking.specs.Checking.{read_as}
 use Rattle.sercos_replay.specs.Captured.{telegrams}
-use Rattle.sercos_replay.proofs.FeedLemmas.{NoFeed, NoFeed-from}
 
 abbrev pub is_telegram : LineKind → Bool
 is_telegram kind.At = true
 is_telegram kind.Mst = true
 is_telegram kind.Mdt = true
 is_telegram _ = false
-
--- no template has a line feed
-pub template_no_feed : (k : LineKind) → NoFeed (template_of k)
-unfolding template_of
-template_no_feed kind.Version = NoFeed-from (template_of kind.Version) refl
-template_no_feed kind.Ring = NoFeed-from (template_of kind.Ring) refl
-template_no_feed kind.Drive = NoFeed-from (template_of kind.Drive) refl
-template_no_feed kind.Order = NoFeed-from (template_of kind.Order) refl
-template_no_feed kind.Mst = NoFeed-from (template_of kind.Mst) refl
-template_no_feed kind.Phase = NoFeed-from (template_of kind.Phase) refl
-template_no_feed kind.At = NoFeed-from (template_of kind.At) refl
-template_no_feed kind.Mdt = NoFeed-from (template_of kind.Mdt) refl
-template_no_feed kind.Complete = NoFeed-from (template_of kind.Complete) refl
-template_no_feed kind.Refused = NoFeed-from (template_of kind.Refused) refl
-template_no_feed kind.Broken = NoFeed-from (template_of kind.Broken) refl
-template_no_feed kind.Plan = NoFeed-from (template_of kind.Plan) refl
-template_no_feed kind.Slot = NoFeed-from (template_of kind.Slot) refl
-template_no_feed kind.NoFit = NoFeed-from (template_of kind.NoFit) refl
-template_no_feed kind.RuleAt = NoFeed-from (template_of kind.RuleAt) refl
-template_no_feed kind.RuleSum = NoFeed-from (template_of kind.RuleSum) refl
-template_no_feed kind.StopRefused = NoFeed-from (template_of kind.StopRefused) refl
-template_no_feed kind.StopConfig = NoFeed-from (template_of kind.StopConfig) refl
-template_no_feed kind.Check127 = NoFeed-from (template_of kind.Check127) refl
-template_no_feed kind.Check128 = NoFeed-from (template_of kind.Check128) refl
-template_no_feed kind.FallMst = NoFeed-from (template_of kind.FallMst) refl
-template_no_feed kind.FallAt = NoFeed-from (template_of kind.FallAt) refl
-template_no_feed kind.FallStep = NoFeed-from (template_of kind.FallStep) refl
-template_no_feed kind.FallRestart = NoFeed-from (template_of kind.FallRestart) refl
-template_no_feed kind.End = NoFeed-from (template_of kind.End) refl
 
 -- what a text doesn't begin with
 pub record IsOther (text : List ℕ) : Type 0 where

@@ -34,8 +34,9 @@ use Rattle.sercos_replay.specs.Stations.{lines_after, lines_read}
 use Rattle.sercos_replay.specs.Traced.{FitsLine, FitLines, ReadsTraces, TracesDiffer}
 use Rattle.sercos_replay.specs.Undisturbed.{CapturesDiffer}
 use Rattle.sercos_block.specs.Rings.{wishes_of}
-use Rattle.sercos_replay.proofs.FeedLemmas.{NoFeed, NoFeed-append, lines_of-line, line_no_feed, tail_no_feed}
-use Rattle.sercos_replay.proofs.SilentLemmas.{is_telegram, template_no_feed, silent_kind}
+use Rattle.sercos_trace.specs.Marked.{NoFeed}
+use Rattle.sercos_trace.proofs.FeedLemmas.{NoFeed-append, lines_of-line, line_no_feed, tail_no_feed, template_no_feed}
+use Rattle.sercos_replay.proofs.SilentLemmas.{is_telegram, silent_kind}
 
 -- The lines of a text, read after others, add these telegrams, the newest first.
 record After (text : List ℕ) (told : List Line) (before : List Line) (rest : List ℕ) : Type 0 where

@@ -1,8 +1,6 @@
 // Where a station deviated from its rules.
-ghost use Rattle.std.specs.Prelude.{◌≡◌, ◌*◌, ◌<◌, ◌≤◌, not, pos, true, length, is_some, option_map, Some, None};
-ghost use Rattle.std.specs.Str.{bytes_eq};
-ghost use Rattle.sercos_telegram.specs.declared.layout.Kind.{Kind};
-ghost use Rattle.sercos_replay.specs.Places.{agree, expected_as, if_differs, if_told, telegram_at};
+ghost use Rattle.std.specs.Prelude.{◌≡◌, ◌*◌, ◌<◌, pos, true, length, is_some, option_map, Some, None};
+ghost use Rattle.sercos_replay.specs.Clauses.{bytes_eq, Kind, agree, expected_as, if_differs, if_told, telegram_at};
 
 use sercos_bits::Content;
 use sercos_hdlc::frame_len;
@@ -32,7 +30,7 @@ impl Model for Difference {
 }
 
 impl Difference {
-    /// Returns a place without telegrams.
+    /// Returns a place whose contents are unspecified.
     pub(crate) fn new() -> Difference {
         Difference {
             cycle: 0,
@@ -64,8 +62,8 @@ fn copy_of(content: &Content) -> Content
     copy
 }
 
-// Returns the telegram of a kind with this content. `start` is in bit times after the MST's end, and the length is that of the content's
-// frame, in bits.
+// Returns the telegram of a kind with this content, which must not be empty. `start` is in bit times after the MST's end, and the length is
+// that of the content's frame, in bits.
 fn telegram_at(kind: Kind, content: &Content, start: i32) -> Sent
     requires { 0 < length content.now }
     ensures { result ≡ telegram_at kind content.now start }
@@ -78,7 +76,8 @@ fn telegram_at(kind: Kind, content: &Content, start: i32) -> Sent
     }
 }
 
-// Returns the telegram of a kind with this content and start, in bit times after the MST's end; `None` if it has no start.
+// Returns the telegram of a kind with this content and start, in bit times after the MST's end; `None` if it has no start. With a start the
+// content must not be empty; without one it is ignored.
 fn expected_as(kind: Kind, content: &Content, start: Option<i32>) -> Option<Sent>
     requires { is_some start ≡ true → 0 < length content.now }
     ensures { result ≡ expected_as kind content.now start }
@@ -101,7 +100,7 @@ fn sent_copy(sent: &Sent) -> Sent
     }
 }
 
-// Returns a copy of a telegram, if there is one.
+// Returns a copy of a telegram; `None` if there is none.
 fn found_copy(found: Option<&Sent>) -> Option<Sent>
     ensures { result ≡ option_map (λ s. s.now) found.entry }
 {
@@ -118,7 +117,8 @@ fn has_content(sent: &Sent, content: &Content) -> bool
     content.as_slice() == sent.content.as_slice()
 }
 
-// Returns whether `found` is what was to be sent: a telegram with this content and start, in bit times, or none if there is no start.
+// Returns whether `found` is what was to be sent: a telegram with this content and start, in bit times, or none if there is no start. The
+// kind and the length of `found` are not compared.
 fn agree(content: &Content, start: Option<i32>, found: Option<&Sent>) -> bool
     ensures { (kind : Kind) → result ≡ agree (expected_as kind content.now start) (option_map (λ s. s.now) found.entry) }
 {
@@ -132,8 +132,8 @@ fn agree(content: &Content, start: Option<i32>, found: Option<&Sent>) -> bool
 }
 
 /// Compares what a station was to send at a place with `found`, the telegram of the capture, and returns whether they differ. The station
-/// was to send `content` at `start`, in bit times after the MST's end; nothing if there is no start. If they differ, the place is put
-/// into `told`.
+/// was to send `content`, which must not be empty, at `start`, in bit times after the MST's end; nothing if there is no start. `cycle` and
+/// `kind` are those of the place, and are not compared. If they differ, the place is put into `told`, otherwise `told` is unspecified.
 pub(crate) fn compare(
     told: &mut Difference,
     cycle: u32,
@@ -155,7 +155,7 @@ pub(crate) fn compare(
     true
 }
 
-/// Returns a telegram's start in bit times, if there is one. `start` is in microseconds, and `rate` in Mbit/s.
+/// Returns a start in bit times: `start`, in microseconds, times `rate`, in Mbit/s; `None` if there is no start.
 pub(crate) fn in_bits(rate: u8, start: Option<u16>) -> Option<i32>
     ensures { result ≡ option_map (λ at. pos (rate * at)) start }
 {

@@ -1,10 +1,11 @@
 // An input with a document and a capture.
 ghost use Rattle.std.specs.Prelude.{◌≡◌, ◌≤◌, true, length, IfSome};
-ghost use Rattle.sercos_replay.specs.Divided.{begins_capture, capture_place, document_part, capture_part};
+ghost use Rattle.sercos_replay.specs.Clauses.{capture_place, document_part, capture_part};
 
 use sercos_answer::cut_line;
 
-/// Returns the offset, in bytes, of the first line that is exactly `capture`; `None` if there is no such line.
+/// Returns the offset, in bytes, of the first line that is exactly `capture`, with a line feed or as the last line without one; `None` if
+/// there is no such line. The offset is at most the number of bytes.
 pub fn capture_place(text: &[u8]) -> Option<usize>
     ensures value { result ≡ capture_place true text.now }
     ensures bound { IfSome result (λ place. place ≤ length text.now) }
@@ -20,7 +21,7 @@ pub fn capture_place(text: &[u8]) -> Option<usize>
     None
 }
 
-/// Returns the bytes before the line at the offset `place`: the document.
+/// Returns the bytes before the offset `place` of a line: the document. The offset must be at most the number of bytes.
 pub fn document_part(bytes: &[u8], place: usize) -> &[u8]
     requires { place ≤ length bytes.now }
     ensures { result.now ≡ document_part bytes.now place }
@@ -28,7 +29,8 @@ pub fn document_part(bytes: &[u8], place: usize) -> &[u8]
     &bytes[..place]
 }
 
-/// Returns the bytes after the line at the offset `place`: the capture.
+/// Returns the bytes after the line at the offset `place` and its line feed: the capture. The offset must be at most the number of bytes.
+/// If no line feed follows it, there are none.
 pub fn capture_part(bytes: &[u8], place: usize) -> &[u8]
     requires { place ≤ length bytes.now }
     ensures value { result.now ≡ capture_part bytes.now place }

@@ -1,19 +1,8 @@
-// The replay of a drive.
-ghost use Rattle.std.specs.Prelude.{◌≡◌, ◌⊎◌, ℕ, ◌<◌, ◌≤◌, true, false, not, ◌&&◌, List, [], ◌∷◌, ◌++◌, length, Option, Some, None, is_some, option_map, IfOk};
-ghost use Rattle.std.specs.Option.{option_copied};
-ghost use Rattle.sercos_telegram.specs.declared.layout.Kind.{Kind};
+// The replay of a drive. Where a difference is put into `told`, `told` is unspecified if there is none. `said`, where the drive writes its
+// AT, is unspecified afterwards. The private methods require that no difference was found before, unless they say otherwise.
+ghost use Rattle.std.specs.Prelude.{◌≡◌, ◌⊎◌, ℕ, ◌<◌, ◌≤◌, true, false, not, ◌&&◌, List, [], ◌∷◌, ◌++◌, length, Option, Some, None, option_map, IfOk};
+ghost use Rattle.sercos_replay.specs.Clauses.{option_copied, Kind, is_ring, DriveView, SentView, Line, DriveCall, drive_says, DriveStandsFor, drive_at, Cycle, begun, with_at, with_mdt, with_telegram, cycles_of, newest_cycle, goes_on, GoesOn, if_differs, if_told, content_of, is_of, at_place_of, drive_differs, drive_tells};
 ghost use Rattle.sercos_telegram.specs.declared.layout.Kind.TheVariants as telegram;
-ghost use Rattle.sercos_block.specs.Rings.{is_ring};
-ghost use Rattle.sercos_block.specs.Views.{DriveView};
-ghost use Rattle.sercos_trace.specs.Views.{SentView};
-ghost use Rattle.sercos_trace.specs.declared.reading.Line.{Line};
-ghost use Rattle.sercos_drive.specs.Heard.{DriveCall};
-ghost use Rattle.sercos_drive.specs.Says.{Said, drive_says};
-ghost use Rattle.sercos_drive.specs.Kept.{DriveStandsFor};
-ghost use Rattle.sercos_law_run.specs.Journal.Runs.{drive_at, sent_at};
-ghost use Rattle.sercos_replay.specs.Cycles.{Cycle, begun, with_at, with_mdt, with_telegram, cycles_of, newest_cycle, goes_on, GoesOn};
-ghost use Rattle.sercos_replay.specs.Places.{if_differs, if_told};
-ghost use Rattle.sercos_replay.specs.Differences.{content_of, is_of, at_place_of, drive_differs, drive_tells};
 
 use crate::difference::{Difference, compare, in_bits};
 use sercos_bits::{Content, byte_at};
@@ -66,7 +55,7 @@ impl DriveReplay {
     ghost use Rattle.sercos_replay.specs.contracts.drive_replay.DriveReplay.{the_row};
     ghost use Rattle.sercos_replay.specs.Kept.{drive_kept, DriveAwaits, DriveHasPassed, DriveRests, DriveGoes, DriveStandsIn, DriveEndsIn, DriveReplayStandsFor, DriveReplayHasFinished, DriveAfterLine, DriveAfterEnd};
 
-    /// Opens the replay of the drive with this index, from 0, in a valid setup. The error is `AllocError`.
+    /// Opens the replay of the drive with this index, from 0, in a valid setup, which must have that drive. The error is `AllocError`.
     pub fn open(alloc: Global, setup: &RingSetup, index: usize) -> Result<DriveReplay, AllocError>
         requires ring { is_ring setup.now ≡ true }
         requires index { index < length setup.now.drives }
@@ -88,7 +77,8 @@ impl DriveReplay {
         })
     }
 
-    // Compares the drive's AT in the newest cycle with `found`, the one in the capture, and keeps a difference.
+    // Compares the drive's AT in the newest cycle with `found`, the one in the capture, and keeps a difference. A difference that was kept
+    // before is dropped. Nothing else changes, except for `said`.
     fn compare(&mut self, found: Option<&Sent>)
         ensures same { self.new ≡ record self.old { differs = self.new.differs; told = self.new.told; said = self.new.said } }
         ensures place { (d : DriveView) (h : List DriveCall) → DriveStandsFor self.old.drive d self.old.rate h →
@@ -104,8 +94,8 @@ impl DriveReplay {
         );
     }
 
-    // Compares the drive's AT with none, if the newest cycle of the capture has no AT of the drive. An AT that it has was compared
-    // before.
+    // Compares the drive's AT with none, if the newest cycle of the capture, which must be open, has no AT of the drive. An AT that it has
+    // was compared before. A difference is kept.
     fn pass(&mut self)
         ensures { (d : DriveView) (rate : ℕ) (t : Cycle) (j : List Cycle) → DriveAwaits self.old d rate t j → self.old.differs ≡ false → DriveHasPassed self.new d rate t j }
     {
@@ -115,7 +105,8 @@ impl DriveReplay {
         self.compare(None);
     }
 
-    // Ends the newest cycle with the content of its MDT, if it has one: the place of the AT is passed, and the drive receives the MDT.
+    // Ends the newest cycle, which must be open, with the content of its MDT; `None` if it has none. If the cycle has no AT of the drive,
+    // this is compared first, and a difference is kept. Then the drive receives the MDT, or that there is none.
     fn end(&mut self, content: Option<&[u8]>)
         ensures { (d : DriveView) (rate : ℕ) (t : Cycle) (j : List Cycle) (mdt : Option SentView) → DriveAwaits self.old d rate t j → self.old.differs ≡ false →
             option_map content_of mdt ≡ option_copied content.entry → DriveEndsIn self.new d rate (record t { mdt = mdt } ∷ j) }
@@ -135,7 +126,7 @@ impl DriveReplay {
         }
     }
 
-    // Begins a cycle: the drive receives its MST.
+    // Begins a cycle: the drive receives its MST. No cycle may be open, and the cycle must not be below the newest one.
     fn begin(&mut self, cycle: u32, sent: &Sent)
         ensures { (d : DriveView) (rate : ℕ) (j : List Cycle) → DriveRests self.old d rate j → self.old.differs ≡ false → newest_cycle j ≤ cycle →
             DriveStandsIn self.new d rate (begun cycle sent.now ∷ j) }
@@ -146,7 +137,7 @@ impl DriveReplay {
         self.found = false;
     }
 
-    // Takes an MST: ends the newest cycle, and begins this one unless a difference was found.
+    // Takes an MST: ends the newest cycle, and begins this one unless a difference was found. The cycle must not be below the newest one.
     fn take_mst(&mut self, cycle: u32, sent: &Sent)
         ensures { (d : DriveView) (rate : ℕ) (j : List Cycle) → DriveGoes self.old d rate j → self.old.differs ≡ false → newest_cycle j ≤ cycle →
             DriveStandsIn self.new d rate (begun cycle sent.now ∷ j) }
@@ -157,14 +148,15 @@ impl DriveReplay {
         }
     }
 
-    // Returns whether an AT is awaited, and `sent` begins with the drive's address.
+    // Returns whether an AT is awaited, and `sent` begins with the drive's address. An AT is awaited while the newest cycle is open and has
+    // no AT of the drive. A difference found before doesn't matter.
     fn awaits(&self, sent: &Sent) -> bool
         ensures { result ≡ (self.now.is_open && (not self.now.found && is_of self.now.address sent.now)) }
     {
         self.is_open && !self.found && byte_at(sent.content.as_slice(), 0) == self.address
     }
 
-    // Compares the drive's AT of the capture, which is awaited.
+    // Compares the drive's AT of the capture, which must be awaited and begin with the drive's address, and keeps a difference.
     fn take_own(&mut self, sent: &Sent)
         ensures { (d : DriveView) (rate : ℕ) (t : Cycle) (j : List Cycle) → DriveAwaits self.old d rate t j → self.old.differs ≡ false →
             self.old.found ≡ false → is_of self.old.address sent.now ≡ true → DriveStandsIn self.new d rate (record t { ats = t.ats ++ sent.now ∷ [] } ∷ j) }
@@ -194,7 +186,8 @@ impl DriveReplay {
         self.end(Some(sent.content.as_slice()));
     }
 
-    // Takes a telegram of a cycle.
+    // Takes a telegram, before any difference was found. An MST begins `cycle`; an AT or an MDT counts for the newest cycle, regardless of
+    // `cycle`.
     fn take(&mut self, cycle: u32, sent: &Sent)
         ensures { (d : DriveView) (rate : ℕ) (j : List Cycle) → DriveGoes self.old d rate j → self.old.differs ≡ false → goes_on sent.now.kind cycle j →
             DriveStandsIn self.new d rate (with_telegram sent.now.kind cycle sent.now j) }
@@ -206,7 +199,8 @@ impl DriveReplay {
         }
     }
 
-    // Takes a line before any difference was found. A line that isn't a telegram is ignored.
+    // Takes a line before any difference was found. A line that isn't a telegram is ignored. The cycle of an MST must not be below that of
+    // an earlier one.
     fn take_line(&mut self, line: &Line)
         ensures { (d : DriveView) (rate : ℕ) (lines : List Line) → DriveReplayStandsFor self.old d rate lines → self.old.differs ≡ false → GoesOn lines line.now →
             DriveReplayStandsFor self.new d rate (line.now ∷ lines) }
@@ -216,7 +210,7 @@ impl DriveReplay {
         }
     }
 
-    /// Takes a line. It is ignored after a difference.
+    /// Takes a line. It is ignored after a difference. The cycle of an MST must not be below that of an earlier one.
     pub(crate) fn give(&mut self, line: &Line)
         ensures { DriveAfterLine self.old line.now self.new }
     {
@@ -236,7 +230,7 @@ impl DriveReplay {
         self.close();
     }
 
-    // Returns a copy of the difference that was found, if one was.
+    // Returns a copy of the difference that was found; `None` if none was. It may be called before and after a difference.
     fn difference(&self) -> Option<Difference>
         ensures tells { (d : DriveView) (rate : ℕ) (lines : List Line) → DriveReplayStandsFor self.now d rate lines →
             result ≡ drive_tells d rate (cycles_of lines) }
@@ -250,7 +244,7 @@ impl DriveReplay {
         }
     }
 
-    /// Takes the next line of a capture; the cycle of an MST isn't below that of an earlier one. Returns the first place at which the
+    /// Takes the next line of a capture; the cycle of an MST must not be below that of an earlier one. Returns the first place at which the
     /// drive deviated from its rules, as soon as the capture has its telegram or one of a later place; `None` if there is none so far.
     /// After a difference each call returns it again.
     pub fn line(&mut self, line: &Line) -> Option<Difference>

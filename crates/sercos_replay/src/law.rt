@@ -1,26 +1,16 @@
 // What a replay reports.
-ghost use Rattle.std.specs.Prelude.{◌≡◌, ℕ, ◌<◌, true, List, [], ◌∷◌, length, None};
-ghost use Rattle.sercos_step.specs.declared.request.Job.{Job};
-ghost use Rattle.sercos_block.specs.Views.{DriveView, RingView};
-ghost use Rattle.sercos_block.specs.Rings.{is_ring};
-ghost use Rattle.sercos_trace.specs.Views.{CycleView};
-ghost use Rattle.sercos_trace.specs.declared.reading.Line.{Line};
-ghost use Rattle.sercos_seat.specs.Ring.{Known, known_of};
-ghost use Rattle.sercos_script.specs.Links.{Carry, Restarts};
-ghost use Rattle.sercos_law_run.specs.Journal.Runs.{drive_at, IsRun};
-ghost use Rattle.sercos_step.specs.Steps.{AreTypedJobs};
-ghost use Rattle.sercos_law_run.specs.Typed.Typed.{AreTyped};
-ghost use Rattle.sercos_check.specs.Verdicts.{IsClean};
-ghost use Rattle.sercos_replay.specs.Cycles.{cycles_of, GoesOn};
-ghost use Rattle.sercos_replay.specs.Differences.{drive_differs, drive_tells, master_differs, master_tells};
-ghost use Rattle.sercos_replay.specs.Given.{if_given};
-ghost use Rattle.sercos_replay.specs.Captured.{lines_of, telegrams, NeverDisturbed};
-ghost use Rattle.sercos_replay.specs.Asking.{Replays};
+ghost use Rattle.std.specs.Prelude.{◌≡◌, ℕ, ◌<◌, true, List, ◌∷◌, length, None};
+ghost use Rattle.sercos_replay.specs.Clauses.{Job, DriveView, RingView, is_ring, CycleView, Line, Known, known_of, Carry, Restarts, drive_at, IsRun, AreTypedJobs, AreTyped, IsClean, cycles_of, GoesOn, drive_differs, drive_tells, master_differs, master_tells, if_given, telegrams, NeverDisturbed, Replays};
+ghost use Rattle.sercos_replay.specs.Captured.{lines_of};
 
 use sercos_law_run::typed_law;
 
-/// In a clean capture the number of the cycle never decreases from one MST to the next. Over its lines so far, a replay reports the first
-/// place that differs, once the capture has its telegram or one of a later place. Lines that are not telegrams don't affect a replay.
+/// A law on captures and what a replay reports of them:
+/// - In a clean capture the number of the cycle never decreases from one MST to the next.
+/// - Over the lines of a clean capture so far, the replay of a drive reports the first place that differs, once the capture has its
+///   telegram or one of a later place.
+/// - So does the replay of the master.
+/// - Lines that are not telegrams don't affect a replay.
 pub fn capture_law()
     ensures clean { (before : List Line) (line : Line) → IsClean (line ∷ before) → GoesOn before line }
     ensures drive_tells { (d : DriveView) (rate : ℕ) (lines : List Line) → IsClean lines → drive_tells d rate (cycles_of lines) ≡ if_given lines (drive_differs d rate (cycles_of lines)) }
@@ -28,8 +18,8 @@ pub fn capture_law()
     ensures telegrams { (lines : List Line) → cycles_of lines ≡ cycles_of (telegrams lines) }
 {}
 
-/// The capture of a run in which nothing is disturbed agrees: no drive and no master deviates from its rules. The
-/// numbers of ring and requests are in their types' ranges, so that each telegram is the content of its frame.
+/// A law: the capture of a run in which nothing is disturbed agrees. No drive of it deviates from its rules, and neither does the master.
+/// The setup must be valid, and the numbers of ring and requests in their types' ranges, so that each telegram is the content of its frame.
 pub fn agreement_law()
     ensures drive { (r : RingView) (jobs : List Job) (carry : Carry) (restarts : Restarts) (j : List CycleView) (index : ℕ) → is_ring r ≡ true →
         AreTyped r → AreTypedJobs jobs → IsRun r jobs carry restarts j → NeverDisturbed r carry restarts j → index < length r.drives →

@@ -1,14 +1,7 @@
 // The lines of a capture.
 ghost use Rattle.std.specs.Prelude.{◌≡◌, ℕ, ◌≤◌, ◌+◌, List, [], ◌∷◌, length, Option, Some, None};
-ghost use Rattle.sercos_telegram.specs.declared.layout.Kind.{Kind};
-ghost use Rattle.sercos_trace.specs.declared.reading.Line.{Line};
-ghost use Rattle.sercos_check.specs.Verdicts.{rule_broken, IsClean};
-ghost use Rattle.sercos_checking.specs.declared.verdict.Verdict.TheVariants.{Clean};
-ghost use Rattle.sercos_checking.specs.Checking.{read_as, column_of, verdict_of};
+ghost use Rattle.sercos_replay.specs.Clauses.{Kind, Line, rule_broken, IsClean, Clean, read_as, column_of, verdict_of, cycles_of, Station, ReplayStandsFor, IsGiven, kind_cycle, mst_cycle, lines_read, first_cycle, late, late_start};
 ghost use Rattle.sercos_answer.specs.Lines.{lines_of};
-ghost use Rattle.sercos_replay.specs.Cycles.{cycles_of};
-ghost use Rattle.sercos_replay.specs.Stations.{Station, ReplayStandsFor, IsGiven, kind_cycle, mst_cycle, lines_read};
-ghost use Rattle.sercos_replay.specs.Replaying.{first_cycle, late, late_start};
 
 use crate::law::capture_law;
 use crate::station::Replay;
@@ -17,7 +10,7 @@ use sercos_check::test_law;
 use sercos_telegram::Kind;
 use sercos_trace::{Line, Reader, read_line};
 
-// Returns `cycle` if the kind is that of an MST.
+// Returns `cycle` if the kind is that of an MST; `None` otherwise.
 #[tactic(auto, unfolding(crate::specs::Stations::kind_cycle))]
 fn kind_cycle(kind: Kind, cycle: u32) -> Option<u32>
     ensures { result ≡ kind_cycle kind cycle }
@@ -28,7 +21,7 @@ fn kind_cycle(kind: Kind, cycle: u32) -> Option<u32>
     }
 }
 
-// Returns the number of the cycle if the line is that of an MST.
+// Returns the number of the cycle if the line is that of an MST; `None` otherwise.
 fn mst_cycle(line: &Line) -> Option<u32>
     ensures { result ≡ mst_cycle line.now }
 {
@@ -38,7 +31,7 @@ fn mst_cycle(line: &Line) -> Option<u32>
     }
 }
 
-// Returns the number of the cycle if the text is the line of an MST.
+// Returns the number of the cycle if the text is the line of an MST; `None` otherwise.
 fn text_cycle(text: &[u8]) -> Option<u32>
     ensures { result ≡ mst_cycle (read_as text.now) }
 {
@@ -74,7 +67,7 @@ pub fn late_start(text: &[u8]) -> Option<u32>
     }
 }
 
-// Passes a line to a replay, and returns how many cycles begin with it, 0 or 1.
+// Passes a line to a replay, and returns how many cycles begin with it, 0 or 1. Together with the lines before it must be clean.
 fn give_line(replay: &mut Replay, line: &Line) -> u64
     ensures stands { (s : Station) (before : List Line) → ReplayStandsFor replay.old s before → IsClean (line.now ∷ before) → ReplayStandsFor replay.new s (line.now ∷ before) }
     ensures count { (before : List Line) → length (cycles_of (line.now ∷ before)) ≡ length (cycles_of before) + result }
@@ -85,7 +78,8 @@ fn give_line(replay: &mut Replay, line: &Line) -> u64
     u64::from(mst_cycle(line).is_some())
 }
 
-// Reads the text of a clean line with `reader`, passes the line to a replay, and returns how many cycles begin with it, 0 or 1.
+// Reads the text of a clean line with `reader`, passes the line to a replay, and returns how many cycles begin with it, 0 or 1. The lines
+// before must be clean. The line must have no fault of grammar or shape after them, and break no rule. Afterwards `reader` is unspecified.
 fn give_text(replay: &mut Replay, reader: &mut Reader, text: &[u8]) -> u64
     ensures given { (before : List Line) → IsClean before → column_of before text.now ≡ None → rule_broken before (read_as text.now) ≡ None →
         IsGiven replay.old replay.new before (read_as text.now) result }
@@ -98,7 +92,8 @@ fn give_text(replay: &mut Replay, reader: &mut Reader, text: &[u8]) -> u64
     }
 }
 
-/// Passes all lines of a clean capture to a replay, and returns how many cycles they have. No line is kept.
+/// Passes all lines of a capture, which must be clean, to a replay that was given none, and returns how many cycles they have. No line is
+/// kept.
 pub fn give_all(replay: &mut Replay, text: &[u8]) -> u64
     requires { (count : ℕ) × (verdict_of text.now ≡ Clean count) }
     ensures stands { (s : Station) → ReplayStandsFor replay.old s [] → ReplayStandsFor replay.new s (lines_read text.now) }

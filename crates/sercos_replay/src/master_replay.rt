@@ -1,21 +1,9 @@
-// The replay of the master.
-ghost use Rattle.std.specs.Prelude.{◌≡◌, ◌⊎◌, ℕ, ◌<◌, ◌≤◌, true, false, List, [], ◌∷◌, ◌++◌, length, Option, Some, None, is_some, option_map, IfOk};
-ghost use Rattle.std.specs.List.{All};
-ghost use Rattle.sercos_step.specs.Steps.{IsRequest};
-ghost use Rattle.sercos_step.specs.declared.request.Job.{Job};
-ghost use Rattle.sercos_block.specs.Rings.{is_ring};
-ghost use Rattle.sercos_trace.specs.Views.{SentView};
-ghost use Rattle.sercos_trace.specs.declared.reading.Line.{Line};
-ghost use Rattle.sercos_seat.specs.Ring.{Known, known_of};
-ghost use Rattle.sercos_law_run.specs.Journal.Runs.{start_before, sent_mst};
-ghost use Rattle.sercos_hdlc.specs.Stuffed.{frame_of};
+// The replay of the master. Where a difference is put into `told`, `told` is unspecified if there is none. `said`, where the master writes
+// a telegram, is unspecified afterwards, except after `say_mst`. The private methods require that no difference was found before, unless
+// they say otherwise.
+ghost use Rattle.std.specs.Prelude.{◌≡◌, ◌⊎◌, ◌<◌, ◌≤◌, true, false, List, [], ◌∷◌, ◌++◌, length, Option, Some, None, option_map, IfOk};
+ghost use Rattle.sercos_replay.specs.Clauses.{All, IsRequest, Job, is_ring, Line, Known, known_of, sent_mst, Call, HearMst, Mdt, End, AnyStandsFor, mst_said, mdt_said, Cycle, begun, with_at, with_mdt, with_telegram, cycles_of, looks_back, mst_place_of, mdt_place_of, master_differs, master_tells, expected_as, if_differs, if_told};
 ghost use Rattle.sercos_telegram.specs.declared.layout.Kind.TheVariants as telegram;
-ghost use Rattle.sercos_master.specs.Annals.{Call, HearMst, Mdt, End};
-ghost use Rattle.sercos_master.specs.Any.{AnyStandsFor};
-ghost use Rattle.sercos_master.specs.Says.{mst_said, mdt_said};
-ghost use Rattle.sercos_replay.specs.Cycles.{Cycle, begun, with_at, with_mdt, with_telegram, cycles_of};
-ghost use Rattle.sercos_replay.specs.Differences.{looks_back, mst_place_of, mdt_at, mdt_place_of, master_differs, master_tells};
-ghost use Rattle.sercos_replay.specs.Places.{expected_as, if_differs, if_told};
 
 use crate::difference::{Difference, compare, in_bits};
 use arrayvec::ArrayVec;
@@ -47,24 +35,6 @@ pub struct MasterReplay {
     events: Box<Events>,
 }
 
-// Returns the length of the frame of this content, in bits: at most 19,696.
-fn len_of(said: &Content) -> u32
-    requires { 0 < length said.now }
-    ensures value { result ≡ length (frame_of said.now) }
-    ensures bound { result ≤ 19696 }
-{
-    framing_law();
-    frame_len(said.as_slice())
-}
-
-// Returns the start of an MST whose frame has this many bits, in bit times. The frame ends at 0.
-fn start_before(bits: u32) -> i32
-    requires { bits ≤ 19696 }
-    ensures { result ≡ start_before bits }
-{
-    -(bits as i32)
-}
-
 // Writes the content of the master's MST to `said`. Returns its start in bit times; the MST ends at 0.
 fn say_mst(master: &AnyMaster, said: &mut Content) -> i32
     ensures said { (s : Known) (jobs : List Job) (h : List Call) → AnyStandsFor master.now s jobs h →
@@ -72,19 +42,8 @@ fn say_mst(master: &AnyMaster, said: &mut Content) -> i32
     ensures some { 0 < length said.new }
 {
     master.mst(said);
-    start_before(len_of(said))
-}
-
-// Has the master send its MDT, and writes the content to `said`. Returns its start in bit times after the MST's end; `None` if the master
-// sends none. `rate` is in Mbit/s.
-fn say_mdt(master: &mut AnyMaster, rate: u8, said: &mut Content) -> Option<i32>
-    ensures stands { (s : Known) (jobs : List Job) (h : List Call) → AnyStandsFor master.old s jobs h → AnyStandsFor master.new s jobs (Mdt ∷ h) }
-    ensures said { (s : Known) (jobs : List Job) (h : List Call) → AnyStandsFor master.old s jobs h →
-        expected_as telegram.Mdt said.new result ≡ option_map (mdt_at rate) (mdt_said s (looks_back s jobs (Mdt ∷ h))) }
-    ensures some { is_some result ≡ true → 0 < length said.new }
-{
-    let start = master.mdt(said);
-    in_bits(rate, start)
+    framing_law();
+    -(frame_len(said.as_slice()) as i32)
 }
 
 // Compares the master's MST of a cycle with `sent`, the one in the capture, and passes the latter to the master. Returns whether they
@@ -105,8 +64,8 @@ fn begin_cycle(
     compare(told, cycle, Kind::Mst, Some(start), said, Some(sent))
 }
 
-// Compares the master's MDT of a cycle with `found`, the one in the capture, and returns whether they differ. If they do, the place is
-// put into `told`. `said` is where the master writes its MDT; `rate` is in Mbit/s.
+// Compares the master's MDT of a cycle with `found`, the one in the capture, and returns whether they differ. If they do, the place is put
+// into `told`. `said` is where the master writes its MDT; `rate` is in Mbit/s. Afterwards the master has sent its MDT.
 fn compare_mdt(
     master: &mut AnyMaster,
     told: &mut Difference,
@@ -119,11 +78,12 @@ fn compare_mdt(
     ensures place { (s : Known) (jobs : List Job) (h : List Call) → AnyStandsFor master.old s jobs h →
         if_differs (mdt_place_of rate cycle (mdt_said s (looks_back s jobs (Mdt ∷ h))) (option_map (λ m. m.now) found.entry)) ≡ if_told result told.new }
 {
-    let start = say_mdt(master, rate, said);
+    let start = in_bits(rate, master.mdt(said));
     compare(told, cycle, Kind::Mdt, start, said, found)
 }
 
-// Ends the master's cycle, and returns the master. `events` is where it writes what it reports, which isn't used.
+// Ends the master's cycle, and returns the master. `events` is where it writes what it reports, which isn't used; afterwards it is
+// unspecified.
 fn end_cycle(master: AnyMaster, events: &mut Events) -> AnyMaster
     ensures { (s : Known) (jobs : List Job) (h : List Call) → AnyStandsFor master s jobs h → AnyStandsFor result s jobs (End ∷ h) }
 {
@@ -131,7 +91,7 @@ fn end_cycle(master: AnyMaster, events: &mut Events) -> AnyMaster
     master.end_cycle(events)
 }
 
-// Puts the master into its field.
+// Puts the master into its field, `place`.
 fn put(place: &mut Option<AnyMaster>, master: AnyMaster)
     ensures { place.new ≡ Some master }
 {
@@ -145,8 +105,8 @@ impl MasterReplay {
     ghost use Rattle.sercos_replay.specs.contracts.master_replay.MasterReplay.{the_row};
     ghost use Rattle.sercos_replay.specs.Kept.{MasterAwaits, MasterRests, MasterGoes, MasterStandsIn, MasterEndsIn, MasterReplayStandsFor, MasterReplayHasFinished, MasterAfterLine, MasterAfterEnd};
 
-    /// Opens the replay of the master of a valid setup with at most 4,096 requests. A request to an address that no drive of the
-    /// setup has is never begun. The error is `AllocError`.
+    /// Opens the replay of the master of a valid setup with at most 4,096 requests, each a read of an element from 1 to 7, a write of one
+    /// from 2 to 7, or a command. A request to an address that no drive of the setup has is never begun. The error is `AllocError`.
     pub fn open(
         alloc: Global,
         setup: &RingSetup,
@@ -181,8 +141,8 @@ impl MasterReplay {
         })
     }
 
-    // Ends the newest cycle, the master having been taken out of its field: compares its MDT with `found`, the one in the capture, and
-    // keeps a difference.
+    // Ends the newest cycle, which must be open, the master having been taken out of its field: compares its MDT with `found`, the one in
+    // the capture, and keeps a difference.
     fn turn(&mut self, mut master: AnyMaster, found: Option<&Sent>)
         ensures { (s : Known) (jobs : List Job) (t : Cycle) (j : List Cycle) → MasterAwaits (record self.old { master = Some master }) s jobs t j →
             MasterEndsIn self.new s jobs (record t { mdt = option_map (λ m. m.now) found.entry } ∷ j) }
@@ -200,7 +160,7 @@ impl MasterReplay {
         self.is_open = false;
     }
 
-    // Ends the newest cycle: compares the master's MDT with `found`, the one in the capture, and keeps a difference.
+    // Ends the newest cycle, which must be open: compares the master's MDT with `found`, the one in the capture, and keeps a difference.
     fn end(&mut self, found: Option<&Sent>)
         ensures { (s : Known) (jobs : List Job) (t : Cycle) (j : List Cycle) → MasterAwaits self.old s jobs t j →
             MasterEndsIn self.new s jobs (record t { mdt = option_map (λ m. m.now) found.entry } ∷ j) }
@@ -220,7 +180,8 @@ impl MasterReplay {
         }
     }
 
-    // Begins a cycle with the MST of the capture: compares it with the master's own, and passes it to the master.
+    // Begins a cycle with the MST of the capture: compares it with the master's own, keeps a difference, and passes it to the master. No
+    // cycle may be open.
     fn begin(&mut self, cycle: u32, sent: &Sent)
         ensures { (s : Known) (jobs : List Job) (j : List Cycle) → MasterRests self.old s jobs j →
             MasterStandsIn self.new s jobs (begun cycle sent.now ∷ j) }
@@ -243,7 +204,7 @@ impl MasterReplay {
         }
     }
 
-    // Passes an AT of the newest cycle to the master.
+    // Passes an AT of the newest cycle, which must be open, to the master. Whether a difference was found doesn't change.
     fn hear_at(&mut self, sent: &Sent)
         ensures stands { (s : Known) (jobs : List Job) (t : Cycle) (j : List Cycle) → MasterAwaits self.old s jobs t j →
             MasterAwaits self.new s jobs (record t { ats = t.ats ++ sent.now ∷ [] }) j }
@@ -275,7 +236,7 @@ impl MasterReplay {
         self.end(Some(sent));
     }
 
-    // Takes a telegram of a cycle.
+    // Takes a telegram. An MST begins `cycle`; an AT or an MDT counts for the newest cycle, regardless of `cycle`.
     fn take(&mut self, cycle: u32, sent: &Sent)
         ensures { (s : Known) (jobs : List Job) (j : List Cycle) → MasterGoes self.old s jobs j → self.old.differs ≡ false →
             MasterStandsIn self.new s jobs (with_telegram sent.now.kind cycle sent.now j) }
@@ -317,7 +278,7 @@ impl MasterReplay {
         self.close();
     }
 
-    // Returns a copy of the difference that was found, if one was.
+    // Returns a copy of the difference that was found; `None` if none was. It may be called before and after a difference.
     fn difference(&self) -> Option<Difference>
         ensures tells { (s : Known) (jobs : List Job) (lines : List Line) → MasterReplayStandsFor self.now s jobs lines →
             result ≡ master_tells s jobs (cycles_of lines) }

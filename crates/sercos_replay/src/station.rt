@@ -1,16 +1,6 @@
 // The replay of the master or of a drive.
-ghost use Rattle.std.specs.Prelude.{◌≡◌, ℕ, ◌≤◌, ◌<◌, true, List, [], ◌∷◌, length, Some, IfOk, IfSome};
-ghost use Rattle.std.specs.List.{All, position};
-ghost use Rattle.sercos_step.specs.declared.request.Job.{Job};
-ghost use Rattle.sercos_step.specs.Steps.{IsRequest};
-ghost use Rattle.sercos_block.specs.Rings.{is_ring};
-ghost use Rattle.sercos_trace.specs.declared.reading.Line.{Line};
-ghost use Rattle.sercos_seat.specs.Ring.{known_of};
-ghost use Rattle.sercos_law_run.specs.Journal.Runs.{drive_at};
-ghost use Rattle.sercos_replay.specs.Cycles.{cycles_of, GoesOn};
-ghost use Rattle.sercos_replay.specs.Stations.{Station, ReplayStandsFor, station_differs, has};
-ghost use Rattle.sercos_replay.specs.Stations.Station.{master, drive};
-ghost use Rattle.sercos_replay.specs.Replaying.{place_answer, Says};
+ghost use Rattle.std.specs.Prelude.{◌≡◌, ◌≤◌, ◌<◌, true, List, [], ◌∷◌, length, IfOk, IfSome};
+ghost use Rattle.sercos_replay.specs.Clauses.{All, position, Job, IsRequest, is_ring, Line, known_of, drive_at, cycles_of, GoesOn, Station, ReplayStandsFor, station_differs, has, master, drive, place_answer, Says};
 
 use crate::drive_replay::DriveReplay;
 use crate::master_replay::MasterReplay;
@@ -28,23 +18,17 @@ pub enum Replay {
     Drive(DriveReplay),
 }
 
-// Returns the index, from 0, of the first of these drives with an address; `None` if none has it.
-fn place_in(address: u8, drives: &[DriveSetup]) -> Option<usize>
-    ensures value { result ≡ position (has address) drives.now }
-    ensures bound { IfSome result (λ place. place < length drives.now) }
-{
-    drives.iter().position(|drive| drive.address == address)
-}
-
 /// Returns the index, from 0, of the ring's first drive with an address; `None` if none has it.
 pub fn drive_place(address: u8, setup: &RingSetup) -> Option<usize>
     ensures value { result ≡ position (has address) setup.now.drives }
     ensures bound { IfSome result (λ place. place < length setup.now.drives) }
 {
-    place_in(address, setup.drives.as_slice())
+    let drives = setup.drives.as_slice();
+    drives.iter().position(|drive| drive.address == address)
 }
 
-/// Opens the replay of the master of a valid setup with at most 4,096 requests. The error is `AllocError`.
+/// Opens the replay of the master of a valid setup with at most 4,096 requests, each a read of an element from 1 to 7, a write of one from
+/// 2 to 7, or a command. A request to an address that no drive of the setup has is never begun. The error is `AllocError`.
 pub fn open_master(alloc: Global, setup: &RingSetup, jobs: Vec<Job>) -> Result<Replay, AllocError>
     requires ring { is_ring setup.now ≡ true }
     requires few { length jobs.items ≤ 4096 }
@@ -54,7 +38,7 @@ pub fn open_master(alloc: Global, setup: &RingSetup, jobs: Vec<Job>) -> Result<R
     Ok(Replay::Master(MasterReplay::open(alloc, setup, jobs)?))
 }
 
-/// Opens the replay of the drive with this index, from 0, in a valid setup. The error is `AllocError`.
+/// Opens the replay of the drive with this index, from 0, in a valid setup, which must have that drive. The error is `AllocError`.
 pub fn open_drive(alloc: Global, setup: &RingSetup, index: usize) -> Result<Replay, AllocError>
     requires ring { is_ring setup.now ≡ true }
     requires index { index < length setup.now.drives }
@@ -64,7 +48,7 @@ pub fn open_drive(alloc: Global, setup: &RingSetup, index: usize) -> Result<Repl
 }
 
 impl Replay {
-    /// Takes the next line of a capture; the cycle of an MST isn't below that of an earlier one.
+    /// Takes the next line of a capture; the cycle of an MST must not be below that of an earlier one.
     pub fn give(&mut self, line: &Line)
         ensures { (s : Station) (before : List Line) → ReplayStandsFor self.old s before → GoesOn before line.now → ReplayStandsFor self.new s (line.now ∷ before) }
     {
@@ -74,8 +58,8 @@ impl Replay {
         }
     }
 
-    /// Ends the capture, and replies with the first place that differs in all lines so far, or with `cycles`, the number of their cycles,
-    /// if there is none. The error is `AllocError`.
+    /// Ends the capture, and returns the reply: `No` with the first place that differs in all lines so far, or `Done` with `cycles`, the
+    /// number of their cycles, if there is none. Afterwards the replay is unspecified. The error is `AllocError`.
     pub fn reply(&mut self, alloc: Global, cycles: u64) -> Result<Reply, AllocError>
         ensures { (s : Station) (lines : List Line) → ReplayStandsFor self.old s lines → IfOk result (λ reply. Says reply (place_answer (station_differs s (cycles_of lines)) cycles)) }
     {

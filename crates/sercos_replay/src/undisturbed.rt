@@ -1,13 +1,14 @@
 // Where the telegrams of a run differ from what its stations say.
-ghost use Rattle.sercos_replay.specs.Traced.{ReadsTraces, TracesDiffer};
-ghost use Rattle.sercos_replay.specs.Undisturbed.{CapturesDiffer};
+ghost use Rattle.sercos_replay.specs.Clauses.{ReadsTraces, TracesDiffer, CapturesDiffer};
 
 use crate::law::{agreement_law, capture_law};
 use sercos_trace::reading_law;
 
-/// If the telegrams of a capture are those of a run of a document, over any link, the first place at which a station
-/// differs is in no cycle before the first disturbed one. So nothing differs if nothing is disturbed. The trace of a run whose numbers fit
-/// their fields is read back as its telegrams; so the same holds if the capture is the trace of such a run.
+/// A law on the captures of runs. The document must be valid, its numbers within their types, and the station one of it:
+/// - If the telegrams of a capture are those of a run of the document, over any link, the first place at which the station differs is in no
+///   cycle before the first disturbed one. So nothing differs if nothing is disturbed.
+/// - The trace of cycles whose numbers fit their fields is read back as their telegrams.
+/// - So the first statement also holds if the capture is the trace of such a run.
 pub fn undisturbed_law()
     ensures captured { CapturesDiffer }
     ensures reads { ReadsTraces }

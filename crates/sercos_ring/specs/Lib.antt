@@ -1,5 +1,6 @@
+pub mod Clauses
 pub mod Frames
-pub mod Stations
-pub mod Sendings
-pub mod Parts
 pub mod Kept
+pub mod Parts
+pub mod Sendings
+pub mod Stations

@@ -1,4 +1,5 @@
--- What the parts of a ring stand for, together. For proofs alone.
+-- The parts of a ring, and how they are related to the cycles that it has made. Used in proofs
+-- only.
 use Rattle.std.specs.Prelude.{◌≡◌, ℕ, List, length, true}
 use Rattle.sercos_step.specs.declared.request.Job.{Job}
 use Rattle.sercos_block.specs.Views.{RingView}
@@ -12,8 +13,9 @@ use Rattle.sercos_script.specs.Links.{Carry, Restarts}
 use Rattle.sercos_law_run.specs.Journal.Runs.{drive_at, master_calls, given_before, IsRun}
 use Rattle.sercos_ring.specs.Stations.{AllStand, addresses_below}
 
--- What a link carries and which stations it restarts; the number of the cycle, the rate and the addresses; the drives and the
--- master: they stand for the arguments of the ring's opening, and for its cycles, the newest first.
+-- What a link carries and which stations it restarts; the number of the cycle, the rate and the
+-- addresses; the drives and the master. All are as they are after the ring's opening with these
+-- arguments, and after its cycles, the newest first.
 pub record PartsStandFor (carries : Carry) (restarting : Restarts) (cycle rate : ℕ)
     (addresses : List ℕ) (drives : List DriveState) (master : AnyMaster) (r : RingView) (jobs : List Job) (carry : Carry) (restarts : Restarts) (j : List CycleView) : Type 0 where
   pub carry_is : carries ≡ carry

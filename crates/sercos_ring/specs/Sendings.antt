@@ -1,4 +1,4 @@
--- How the telegrams of a cycle pass: their entries in the record, and their effect. For proofs alone.
+-- The telegrams of a cycle: their entries in the record, and their effect. Used in proofs only.
 use Rattle.std.specs.Prelude.{◌≡◌, ℕ, ◌+◌, ◌<◌, length, slice_index, slice_index_or, List, [], ◌∷◌, ◌++◌, Option, Some, None}
 use Rattle.sercos_step.specs.declared.request.Job.{Job}
 use Rattle.sercos_block.specs.Views.{DriveView, RingView}
@@ -22,15 +22,15 @@ abbrev pub said_by : (ℕ → DriveView) → ℕ → (ℕ → List DriveCall) �
 said_by d rate h [] = []
 said_by d rate h (t ∷ turns) = with_first (drive_says (d t.place) rate (h t.place)) (said_by d rate h turns)
 
--- the effect of ATs that were sent: they are in the record, the master has processed what arrived, and the undetected ones are
--- counted
+-- the effect of ATs that were sent: they are in the record, the master has processed what arrived,
+-- and the undetected ones are counted
 pub record AreSent (r : RingView) (carry : Carry) (cycle rate : ℕ)
     (ats : List Said) (before after : List SentView) (old new : AnyMaster) (unseen : ℕ) : Type 0 where
   pub sent : after ≡ before ++ ats_said rate ats
   pub heard : (s : Known) (jobs : List Job) (h : List Call) → AnyStandsFor old s jobs h → AnyStandsFor new s jobs (at_calls r carry cycle (contents ats) h)
   pub count : unseen ≡ unseen_ats r carry cycle (contents ats)
 
--- the drive at each of these turns sends something, and its station is found by the address
+-- the drive at each of these turns sends something, and its address is that of its station
 pub record IsTurn (n : ℕ) (d : ℕ → DriveView) (rate : ℕ) (h : ℕ → List DriveCall) (r : RingView) (t : AtTurn) : Type 0 where
   pub says : Said
   pub inside : t.place < n

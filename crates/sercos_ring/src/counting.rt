@@ -1,15 +1,12 @@
 // The totals of a run, counted cycle by cycle.
-ghost use Rattle.std.specs.Prelude.{◌≡◌, ◌<◌, ◌≤◌, ◌^◌, ◌==◌, if◌then◌else◌, Some, None, is_some, List, [], length, reverse};
-ghost use Rattle.std.specs.Option.{option_or};
-ghost use Rattle.sercos_trace.specs.Views.{CycleView};
-ghost use Rattle.sercos_law_run.specs.Totals.Totals.{ended, is_complete, is_refused, is_broken, totals_of};
-ghost use Rattle.sercos_law_run.specs.Totals.Counting.{HasRoom, IsFew, IsMade, none_made, with_cycle};
+ghost use Rattle.std.specs.Prelude.{◌≡◌, ◌<◌, ◌≤◌, ◌==◌, if◌then◌else◌, Some, None, is_some, length};
+ghost use Rattle.sercos_ring.specs.Clauses.{option_or, ended, is_complete, is_refused, is_broken, HasRoom, IsFew, IsMade, none_made, with_cycle};
 
 use sercos_block::ring_law;
 use sercos_step::Outcome;
 use sercos_trace::{CycleRecord, Fall, Reported, Totals};
 
-// Returns how many requests were complete.
+// Returns the number of requests that ended complete, at most that of the outcomes.
 fn complete_in(outcomes: &[Reported]) -> usize
     ensures value { result ≡ ended is_complete outcomes.now }
     ensures few { result ≤ length outcomes.now }
@@ -20,7 +17,7 @@ fn complete_in(outcomes: &[Reported]) -> usize
         .count()
 }
 
-// Returns how many requests were refused.
+// Returns the number of requests that were refused, at most that of the outcomes.
 fn refused_in(outcomes: &[Reported]) -> usize
     ensures value { result ≡ ended is_refused outcomes.now }
     ensures few { result ≤ length outcomes.now }
@@ -31,7 +28,7 @@ fn refused_in(outcomes: &[Reported]) -> usize
         .count()
 }
 
-// Returns how many requests were broken.
+// Returns the number of requests that were broken, at most that of the outcomes.
 fn broken_in(outcomes: &[Reported]) -> usize
     ensures value { result ≡ ended is_broken outcomes.now }
     ensures few { result ≤ length outcomes.now }
@@ -42,7 +39,7 @@ fn broken_in(outcomes: &[Reported]) -> usize
         .count()
 }
 
-// The first cycle commanded phase 4, where that was so of no earlier one.
+// Returns the first cycle in which phase 4 was commanded: `before` if there is one, otherwise this cycle if its phase is 4.
 fn first_in_4(before: Option<u32>, phase: u8, cycle: u32) -> Option<u32>
     ensures { result ≡ option_or before (if phase == 4 then Some cycle else None) }
 {
@@ -52,7 +49,7 @@ fn first_in_4(before: Option<u32>, phase: u8, cycle: u32) -> Option<u32>
     before
 }
 
-// Counts a fall, if there was one.
+// Returns the number of falls in a cycle, 0 or 1.
 fn falls_in(fall: Option<Fall>) -> u32
     ensures { result ≡ (if is_some fall then 1 else 0) }
 {
@@ -75,8 +72,10 @@ pub fn no_totals() -> Totals
     }
 }
 
-/// Counts a cycle with at most 195 undetected arrivals, if there is room for it in the counts. [`count_made`] does the same for one that
-/// a ring has made.
+/// Adds a cycle to the totals. Their phase becomes that of the cycle, and their first cycle in phase 4 this one, if there was none and its
+/// phase is 4. The cycle must have at most 195 undetected arrivals. Each count of the totals must have room below 2^32: for one more cycle
+/// and fall, 128 more requests of each outcome, and 195 more undetected arrivals. The cycle has at most 128 requests of each outcome.
+/// [`count_made`] does the same for a cycle that a ring has made.
 pub fn count_cycle(totals: &mut Totals, made: &CycleRecord)
     requires room { HasRoom totals.old }
     requires unseen { made.now.unseen ≤ 195 }
@@ -94,7 +93,9 @@ pub fn count_cycle(totals: &mut Totals, made: &CycleRecord)
     totals.phase4 = first_in_4(totals.phase4, made.phase, made.cycle);
 }
 
-/// Counts a cycle that a ring has made.
+/// Adds a cycle to the totals, as [`count_cycle`] does. It must be the next one of a run of a valid ring. Each count of the totals must
+/// have room below 2^32: for one more cycle and fall, 128 more requests of each outcome, and 195 more undetected arrivals. The cycle has at
+/// most 128 requests of each outcome, and at most 195 undetected arrivals.
 pub fn count_made(totals: &mut Totals, made: &CycleRecord)
     requires made { IsMade made.now }
     requires room { HasRoom totals.old }

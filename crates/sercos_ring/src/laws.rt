@@ -1,18 +1,13 @@
-// What the laws on runs say of a cycle, in one place.
-ghost use Rattle.sercos_law_run.specs.Headline.Headline.{Headline};
-ghost use Rattle.sercos_law_run.specs.Recovery.Recovers.{Recovers};
-ghost use Rattle.sercos_law_run.specs.Stations.Cycles.{AlwaysPlain};
-ghost use Rattle.sercos_law_run.specs.Stations.Falls.{FallsHaveCause};
-ghost use Rattle.sercos_law_run.specs.Stations.Senders.{SendsAlone};
-ghost use Rattle.sercos_law_run.specs.Tolerance.Bears.{Tolerates};
-ghost use Rattle.sercos_law_run.specs.Tolerance.Returns.{ReturnsWhileSparse};
-ghost use Rattle.sercos_law_run.specs.Undisturbed.WholeRuns.{StartsUndisturbed};
+// The laws on runs that the contract of a cycle uses, in one place.
+ghost use Rattle.sercos_ring.specs.Clauses.{Headline, Recovers, AlwaysPlain, FallsHaveCause, SendsAlone, Tolerates, ReturnsWhileSparse, StartsUndisturbed};
 
 use sercos_law_run::{
     fall_law, headline_law, recovery_law, station_law, tolerance_law, undisturbed_law,
 };
 
-// The clauses that a cycle hands on. A body that calls each law has all clauses of each as facts.
+// Laws on runs. A body that calls this function has the clauses of each of them as facts: what a run keeps up to the first undetected
+// damage, its start-up while nothing is disturbed, its recovery, that it bears sparse faults, its return after others, what each drive does
+// regardless of what arrives, that each fall has its cause, and that at most one AT is sent with phase 0, 1 or 2 commanded.
 pub fn cycle_laws()
     ensures headline { Headline }
     ensures undisturbed { StartsUndisturbed }

@@ -1,16 +1,12 @@
-// Which drives are in another phase than before.
+// The moves of the drives: which are in another phase than before.
 ghost use Rattle.std.specs.Prelude.{◌≡◌, ℕ, ◌+◌, ◌≤◌, ◌<◌, ◌++◌, List, length};
-ghost use Rattle.sercos_block.specs.Views.{DriveView};
-ghost use Rattle.sercos_drive.specs.Heard.{DriveCall};
-ghost use Rattle.sercos_drive.specs.Annals.{phase_at};
-ghost use Rattle.sercos_law_run.specs.Journal.Runs.{move_of, moves_below};
-ghost use Rattle.sercos_ring.specs.Stations.{AllStand, phases_below, addresses_below};
+ghost use Rattle.sercos_ring.specs.Clauses.{DriveView, DriveCall, phase_at, move_of, moves_below, AllStand, phases_below, addresses_below};
 
 use arrayvec::ArrayVec;
 use sercos_drive::Drive;
 use sercos_trace::Move;
 
-/// The phases of the drives.
+/// Returns the phases of the drives, at most 64, in ring order.
 pub(crate) fn phases_of(drives: &[Drive]) -> ArrayVec<u8, 64>
     requires { length drives.now ≤ 64 }
     ensures count { length result.items ≡ length drives.now }
@@ -23,7 +19,8 @@ pub(crate) fn phases_of(drives: &[Drive]) -> ArrayVec<u8, 64>
     phases
 }
 
-// Appends a move, if the phase has changed.
+// Appends a move of the drive with the address `drive`, from the phase `before` to `after`, if these differ; otherwise the list is
+// unchanged. There must be fewer than 128 moves.
 fn push_move(moves: &mut ArrayVec<Move, 128>, late: bool, drive: u8, before: u8, after: u8)
     requires { length moves.old.items < 128 }
     ensures value { moves.new.items ≡ moves.old.items ++ move_of late drive before after }
@@ -38,7 +35,7 @@ fn push_move(moves: &mut ArrayVec<Move, 128>, late: bool, drive: u8, before: u8,
     }
 }
 
-// The phase of the drive at a place.
+// Returns the phase of the drive at an index in ring order. The index must be that of a drive.
 fn phase_of(drives: &[Drive], k: usize) -> u8
     requires { k < length drives.now }
     ensures { (d : ℕ → DriveView) (rate : ℕ) (h : ℕ → List DriveCall) → AllStand drives.now d rate h → result ≡ phase_at (d k) rate (h k) }
@@ -46,7 +43,9 @@ fn phase_of(drives: &[Drive], k: usize) -> u8
     drives[k].phase()
 }
 
-/// Appends the moves of the drives: those whose phase isn't the one that they had before.
+/// Appends the moves of the drives whose phase isn't the one in `before`, in ring order: at most one per drive. `addresses` and `before`
+/// must have exactly one entry for each drive. The list must have room for one more per drive, of 128. `late` is whether the moves are
+/// after the MDT's time in the cycle.
 pub(crate) fn push_moves(
     moves: &mut ArrayVec<Move, 128>,
     late: bool,

@@ -17,6 +17,7 @@ ghost use Rattle.sercos_block.specs.Rings.{is_ring};
 ghost use Rattle.sercos_master.specs.Any.{AnyStandsFor};
 ghost use Rattle.sercos_master.specs.Annals.{Call, Restart, past};
 ghost use Rattle.sercos_master.specs.Reports.{restart_told};
+ghost use Rattle.sercos_master.specs.Annals.{Restart};
 
 use crate::laws::cycle_laws;
 use crate::moves::{phases_of, push_moves};
@@ -35,13 +36,13 @@ use sercos_telegram::Kind;
 use sercos_trace::{CycleRecord, Events, Move, Sent};
 use std::alloc::{AllocError, Global};
 
-/// A ring: its drives, its master, and the links between them.
+/// A ring: its drives, its master, and the link between them.
 #[derive(Drop)]
 pub struct Ring<L: Drop> {
     link: L,
     drives: Vec<Drive>,
     addresses: ArrayVec<u8, 64>,
-    // there, but while a cycle is made
+    // `None` only while a cycle is made
     master: Option<AnyMaster>,
     rate: u8,
     cycle: u32,
@@ -52,7 +53,8 @@ pub struct Ring<L: Drop> {
     ghost there: { is_some master ≡ true },
 }
 
-// The master restarts, where it does.
+// Returns the master, restarted if `restarts`. The events must have no outcomes. After a restart they have what the master reports of it;
+// otherwise they are unchanged.
 fn restart_master(master: AnyMaster, restarts: bool, events: &mut Events) -> AnyMaster
     ensures goes { (s : Known) (jobs : List Job) (h : List Call) → AnyStandsFor master s jobs h → AnyStandsFor result s jobs (if restarts then Restart ∷ h else h) }
     ensures told { (s : Known) (jobs : List Job) (h : List Call) → AnyStandsFor master s jobs h → events.old.outcomes ≡ [] →
@@ -72,7 +74,9 @@ struct CycleEnd {
     unseen: u32,
 }
 
-// Makes a cycle: what is sent in it is put over what the list has, and the moves and the events into these lists, which are empty before.
+// Makes a cycle, and returns its end. The telegrams sent replace those in `list`. The moves and the events are added to `moves` and
+// `events`, which must be empty. `addresses` must be those of the drives, at most 64. `rate` is in bits per microsecond. Afterwards
+// `buffers` is unspecified.
 fn run_cycle<L: BitLink>(
     link: &mut L,
     drives: &mut Vec<Drive>,
@@ -145,7 +149,8 @@ fn run_cycle<L: BitLink>(
     }
 }
 
-// Makes a cycle and its record. Returns the master after it.
+// Makes a cycle and its record, which replaces the old one. Returns the master after the cycle. `addresses` must be those of the drives, at
+// most 64. Afterwards `buffers` is unspecified.
 fn record_cycle<L: BitLink>(
     made: &mut CycleRecord,
     link: &mut L,
@@ -192,9 +197,9 @@ impl<L: BitLink> Ring<L> {
     ghost use Rattle.sercos_ring.specs.contracts.ring.Ring.{the_row};
     ghost use Rattle.sercos_ring.specs.Kept.{AfterCycle, BearsOf, IsNextOf, KeepsAllOf, RecoversOf, ReturnsOf, RingStandsFor, StartsUpOf, StationsOf, cycles_made, drives_in, newest};
 
-    /// Opens a ring of a valid setup that has made no cycle, over a link, with at most 4,096 requests, each of an element that a
-    /// transfer takes. A request to an address that no drive of the setup has is never begun. `AllocError` is returned if memory
-    /// isn't found; then nothing is kept. No other call of a ring takes memory.
+    /// Opens a ring of a valid setup, over a link, with at most 4,096 requests, each for an element that a transfer takes: 1 to 7 of a
+    /// read, 2 to 7 of a write. The ring has made no cycle. A request to an address without a drive in the setup is never begun. The error
+    /// is `AllocError`. No other call of a ring takes memory.
     pub fn open(
         alloc: Global,
         setup: &RingSetup,
@@ -224,7 +229,7 @@ impl<L: BitLink> Ring<L> {
         })
     }
 
-    // Makes the next cycle.
+    // Makes the next cycle, and keeps its record. The ring must have made fewer than 2^31 cycles.
     fn make_cycle(&mut self)
         requires room { cycles_made self.old < 2 ^ 31 }
         ensures after { AfterCycle L.carry L.restart self.old self.new }
@@ -246,34 +251,45 @@ impl<L: BitLink> Ring<L> {
     }
 
     /// Makes the next cycle, and lends its record: the telegrams, the moves of the drives, what the master reports, and the number of
-    /// undetected arrivals. The ring has made fewer than 2^31 cycles. The order within a cycle is that of IEC 61491:1995, the rest this
-    /// profile's.
+    /// undetected arrivals. The ring must have made fewer than 2^31 cycles. The order within a cycle is that of IEC 61491:1995, the rest is
+    /// this profile's.
     ///
-    /// Over any link, as long as nothing was undetected: if phase 3 or 4 is commanded, the telegrams are apart and keep the times that
-    /// the drives declare; no drive is in a higher phase than the later one commanded in this cycle or the one before; and all
-    /// transfers so far are exact, and reported once and in order.
+    /// All that follows is for a ring opened with a setup and requests within the ranges of their types. What a request sets must be a
+    /// procedure command of its drive, or a block that the drive lacks.
     ///
-    /// As long as no cycle was disturbed: no fall is reported, and no request as broken. Phase 4 is commanded from the cycle
-    /// `startup_bound` on at the latest, and stays, iff a plan fits, the cycle time lies within each drive's limits, and no own block
-    /// of a drive was outside its limits at opening. Otherwise a stop for its cause is reported at most 41 steps of the slowest drive
-    /// later.
+    /// Over any link, as long as nothing was undetected:
+    /// - If phase 3 or 4 is commanded, the telegrams are apart and keep the times that the drives declare.
+    /// - No drive is in a higher phase than the later one commanded in this cycle or the one before.
+    /// - All transfers so far are exact, and reported once and in order.
     ///
-    /// Regardless of earlier losses and damage, as long as nothing was undetected: after a fall, a restart of the master included,
-    /// after which no cycle is disturbed, the ring starts up again as it does from its opening. From `recovery_bound` cycles after the
-    /// last disturbed one on, twice the bound of a start-up and 200, phase 4 is commanded, or the master is at a stop for its cause.
+    /// As long as no cycle was disturbed:
+    /// - No fall is reported, and no request as broken.
+    /// - Phase 4 is commanded from the cycle `startup_bound` on at the latest, and stays, iff a plan fits, the cycle time is within each
+    ///   drive's limits, and no own block of a drive was outside its limits at opening.
+    /// - Otherwise a stop for its cause is reported at most 41 steps of the slowest drive later.
     ///
-    /// While faults go on, as long as nothing was undetected: since the opening, or since a fall, no fall is reported and no request as
-    /// broken, if no station restarts and the disturbed cycles are sparse. In phases 1 and 2 neither of the two cycles before a
-    /// disturbed one is disturbed then, in 3 and 4 not the one before. From the second cycle on each drive is in the commanded phase, or
-    /// one below it in that phase's first cycle; a step is answered at most busy time and four cycles after it was first sent; and if
-    /// nothing is in its way, phase 4 comes within `startup_bound` and the costs of the disturbed cycles, and stays. After faults that
-    /// aren't sparse, at most one fall comes while sparse ones go on; and from `recovery_bound` and these costs on phase 4 is commanded, or
-    /// the master is at a stop for its cause.
+    /// Regardless of earlier losses and damage, as long as nothing was undetected: after a fall, a restart of the master included, after
+    /// which no cycle is disturbed, the ring starts up again as it does from its opening. From `recovery_bound` cycles after the last
+    /// disturbed one on, twice the bound of a start-up and 200, phase 4 is commanded, or the master is at a stop for its cause.
     ///
-    /// Whatever arrives, undetected damage too: in phases 3 and 4 each drive's data keep its T1min, TATMT and T4min, its data record
-    /// lies within the MDT, and in phase 4 the data keep their limits too; each drive rises, and goes to phase 0, for its causes alone; and a fall that is reported
-    /// has its cause. As long as nothing was undetected, at most one AT is sent with phase 0, 1 or 2 commanded, by the drive that the MDT
-    /// before was addressed to.
+    /// While faults go on, as long as nothing was undetected, no station restarts, and since the opening or a fall the disturbed cycles are
+    /// sparse: in phases 1 and 2 neither of the two cycles before a disturbed one is disturbed, in phases 3 and 4 not the one before. Then:
+    /// - No fall is reported, and no request as broken.
+    /// - From the second cycle on each drive is in the commanded phase, or one below it in that phase's first cycle.
+    /// - A step is answered at most busy time and four cycles after it was first sent.
+    /// - If nothing prevents it, phase 4 is commanded within `startup_bound` and the costs of the disturbed cycles, and stays.
+    ///
+    /// After faults that aren't sparse, as long as nothing was undetected, at most one fall follows while sparse ones go on. From
+    /// `recovery_bound` and these costs on, phase 4 is commanded, or the master is at a stop for its cause.
+    ///
+    /// Regardless of what arrives, undetected damage included:
+    /// - In phases 3 and 4 each drive's data keep its T1min, TATMT and T4min, and its data record
+    ///   is within the MDT. In phase 4 the data keep their limits, too.
+    /// - Each drive rises, and goes to phase 0, only for its causes.
+    /// - A fall that is reported has its cause.
+    ///
+    /// As long as nothing was undetected, at most one AT is sent with phase 0, 1 or 2 commanded, by the drive that the MDT before was
+    /// addressed to.
     pub fn cycle(&mut self) -> &CycleRecord
         requires room { cycles_made self.old < 2 ^ 31 }
         ensures* after { sem 𝓛 (follows_so (the_row L.row) (the_row L.row) self.entry.ghost_name none (λ _ _. ⊤) (λ new. AfterCycle L.carry L.restart self.old new × (result.now ≡ newest new))) }
@@ -290,14 +306,14 @@ impl<L: BitLink> Ring<L> {
         &self.made
     }
 
-    /// Returns the record of the newest cycle, which [`cycle`](Ring::cycle) lent. Before the first it is an empty one.
+    /// Returns the record of the newest cycle, which [`cycle`](Ring::cycle) lent. Before the first cycle it is unspecified.
     pub fn newest(&self) -> &CycleRecord
         ensures { result.now ≡ newest self.now }
     {
         &self.made
     }
 
-    /// Returns the drive at a place of the ring, which is below the number of its drives; the first has place 0.
+    /// Returns the drive at an index in ring order, counted from 0. The index must be that of a drive.
     pub fn drive(&self, index: usize) -> &Drive
         requires { index < drives_in self.now }
         ensures { (r : RingView) (jobs : List Job) (carry : Carry) (restarts : Restarts) (j : List CycleView) → RingStandsFor L.carry L.restart self.now r jobs carry restarts j →
@@ -306,7 +322,7 @@ impl<L: BitLink> Ring<L> {
         &self.drives[index]
     }
 
-    /// Returns the link, which is what it was at the opening, for another ring.
+    /// Returns the link, for another ring. It carries and restarts the same as at the opening.
     pub fn into_link(self) -> L
         ensures { (r : RingView) (jobs : List Job) (carry : Carry) (restarts : Restarts) (j : List CycleView) → RingStandsFor L.carry L.restart self r jobs carry restarts j →
             (L.carry result ≡ carry) × (L.restart result ≡ restarts) }

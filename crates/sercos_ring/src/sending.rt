@@ -1,21 +1,10 @@
-// How the telegrams of a cycle are sent, and their effect.
-ghost use Rattle.std.specs.Prelude.{◌≡◌, ℕ, ◌+◌, ◌*◌, ◌<◌, ◌≤◌, take, List, [], ◌∷◌, ◌++◌, Option, Some, None, true, is_some, if◌then◌else◌, pos, vec_len, length, slice_index, slice_index_or};
-ghost use Rattle.sercos_hdlc.specs.Stuffed.{frame_of};
+// Sending the telegrams of a cycle, and their effect. The first `count` entries of `list` are the telegrams sent so far. `count` must be
+// below 66 and at most the length of `list`. Each call appends after these entries. Afterwards the entries from `count` on are unspecified,
+// and so are `buffers`. Each call leaves what the link carries, and the restarts, as they are. `rate` is in bits per microsecond. Station 0
+// is the master, and station k + 1 the drive at index k of the ring, which has at most 64.
+ghost use Rattle.std.specs.Prelude.{◌≡◌, ℕ, ◌+◌, ◌*◌, ◌<◌, ◌≤◌, take, List, [], ◌∷◌, ◌++◌, Option, Some, None, true, is_some, pos, length, slice_index};
+ghost use Rattle.sercos_ring.specs.Clauses.{frame_of, Job, DriveView, RingView, DriveCall, Mdt, Said, drive_says, DriveStandsFor, Known, sent_as, AnyStandsFor, Call, heard, passage, sum_below, unseen_at, IsSent, content_of, mdt_heard, own_mst, sent_mdt, sent_mst, start_before, station_of, unseen_mdt, with_at, AllStand, said_by, AreSent, AreTurns};
 ghost use Rattle.sercos_telegram.specs.declared.layout.Kind.TheVariants as kinds;
-ghost use Rattle.sercos_step.specs.declared.request.Job.{Job};
-ghost use Rattle.sercos_block.specs.Views.{DriveView, RingView};
-ghost use Rattle.sercos_drive.specs.Heard.{DriveCall, Mdt};
-ghost use Rattle.sercos_drive.specs.Says.{Said, drive_says};
-ghost use Rattle.sercos_drive.specs.Kept.{DriveStandsFor};
-ghost use Rattle.sercos_seat.specs.Ring.{Known};
-ghost use Rattle.sercos_master.specs.Says.{sent_as};
-ghost use Rattle.sercos_master.specs.Any.{AnyStandsFor};
-ghost use Rattle.sercos_master.specs.Annals.{Call};
-ghost use Rattle.sercos_law_run.specs.Journal.Arrivals.{heard, passage, sum_below, unseen_at};
-ghost use Rattle.sercos_ring.specs.Frames.{IsSent};
-ghost use Rattle.sercos_law_run.specs.Journal.Runs.{content_of, mdt_heard, own_mst, sent_at, sent_mdt, sent_mst, start_before, station_of, unseen_mdt, with_at};
-ghost use Rattle.sercos_ring.specs.Stations.{AllStand};
-ghost use Rattle.sercos_ring.specs.Sendings.{said_by, AreSent, AreTurns};
 
 use crate::receiving::{Buffers, content_of, frame_said, receive};
 use crate::stations::{as_count, hear_mdts, hear_no_mdts};
@@ -28,7 +17,8 @@ use sercos_script::{BitLink, Passage};
 use sercos_telegram::Kind;
 use sercos_trace::{Sent, put_sent};
 
-/// The master processes what arrives of its own MST. Returns the number of undetected arrivals.
+/// Passes the MST in `buffers` back to the master, which processes what arrives. `buffers` must have the frame of its content in this cycle,
+/// as `frame_said` makes it. Returns the number of undetected arrivals, 0 or 1. Afterwards `buffers` is unspecified.
 pub(crate) fn pass_own<L: BitLink>(
     link: &mut L,
     master: &mut AnyMaster,
@@ -54,7 +44,8 @@ pub(crate) fn pass_own<L: BitLink>(
     as_count(receipt.unseen)
 }
 
-// An AT passes from its station to the master. Returns the number of undetected arrivals.
+// Passes the AT in `buffers` from its station to the master. `buffers` must have the frame of its content in this cycle, as `frame_said`
+// makes it. Returns the number of undetected arrivals, 0 or 1.
 fn pass_at<L: BitLink>(
     link: &mut L,
     master: &mut AnyMaster,
@@ -83,14 +74,15 @@ fn pass_at<L: BitLink>(
     as_count(receipt.unseen)
 }
 
-// A start in bit times.
+// Returns a start in bit times, from one in microseconds.
 fn in_bits(rate: u8, start: u16) -> i32
     ensures { result ≡ pos (rate * start) }
 {
     i32::from(rate) * i32::from(start)
 }
 
-// Appends a telegram to those that were sent; `bits` is the length of its frame.
+// Appends a telegram with the content `said` that starts `start` microseconds after the MST's end, and adds 1 to `count`. `bits` must be
+// the length of its frame.
 fn push_timed(
     list: &mut ArrayVec<Sent, 66>,
     count: &mut usize,
@@ -110,7 +102,7 @@ fn push_timed(
     put_sent(list, count, kind, in_bits(rate, start), bits, said);
 }
 
-// When the frame of an MST starts, which ends at 0.
+// Returns the start of an MST whose frame has this length, at most 19,696, in bit times: it ends at 0.
 fn before(bits: u32) -> i32
     requires { bits ≤ 19696 }
     ensures { result ≡ start_before bits }
@@ -118,7 +110,7 @@ fn before(bits: u32) -> i32
     -(bits as i32)
 }
 
-/// Appends the MST to those that were sent; `bits` is the length of its frame.
+/// Appends the MST with the content `said`, and adds 1 to `count`. `bits` must be the length of its frame, at most 19,696.
 pub(crate) fn push_mst(list: &mut ArrayVec<Sent, 66>, count: &mut usize, said: &Content, bits: u32)
     requires room { count.old < 66 }
     requires within { count.old ≤ length list.old.items }
@@ -131,8 +123,9 @@ pub(crate) fn push_mst(list: &mut ArrayVec<Sent, 66>, count: &mut usize, said: &
     put_sent(list, count, Kind::Mst, before(bits), bits, said);
 }
 
-// Sends the AT whose content is `buffers.said`, `start` microseconds after the end of the MST: appends it to the first `count` entries of
-// `list`, and passes it to the master. Returns the number of undetected arrivals, 0 or 1.
+// Sends the AT whose content is `buffers.said`, which must not be empty, `start` microseconds after the MST's end: appends it, and passes
+// it to the master. `station` must be that of the drive with the address in the content's first byte. Adds 1 to `count`. Returns the number
+// of undetected arrivals, 0 or 1.
 fn send_content<L: BitLink>(
     link: &mut L,
     master: &mut AnyMaster,
@@ -175,7 +168,8 @@ fn send_content<L: BitLink>(
     pass_at(link, master, station, cycle, buffers)
 }
 
-// A drive sends its AT, if it sends one.
+// Sends the AT of a drive, if it sends one. `station` must be that of the drive with the address in the AT. Adds at most 1 to `count`.
+// Returns the number of undetected arrivals, 0 or 1.
 fn send_at<L: BitLink>(
     link: &mut L,
     master: &mut AnyMaster,
@@ -206,7 +200,8 @@ fn send_at<L: BitLink>(
     }
 }
 
-// The drive at a turn sends its AT.
+// Sends the AT of the drive whose turn it is. The turn's index must be that of a drive that sends an AT in this cycle, with its own
+// address. Adds at most 1 to `count`. Returns the number of undetected arrivals, 0 or 1.
 fn send_turn<L: BitLink>(
     link: &mut L,
     master: &mut AnyMaster,
@@ -247,7 +242,9 @@ fn send_turn<L: BitLink>(
     )
 }
 
-/// The drives send their ATs, in turn. Returns the number of undetected arrivals.
+/// Sends the ATs of the drives, in the order of their turns. Each turn must have the index of a drive that sends an AT in this cycle, with
+/// its own address, and the start of this AT. There must be at most 64 turns, and together with the telegrams sent before at most 65. Adds
+/// at most the number of turns to `count`. Returns the number of undetected arrivals, at most the number of turns.
 pub(crate) fn send_ats<L: BitLink>(
     link: &mut L,
     master: &mut AnyMaster,
@@ -280,7 +277,9 @@ pub(crate) fn send_ats<L: BitLink>(
     unseen
 }
 
-/// The MDT is sent, if one is. Returns the number of undetected arrivals.
+/// Sends the MDT whose content is `buffers.said`, `start` microseconds after the MST's end: appends it, and lets each drive process what
+/// arrives of it. The content must not be empty. If `start` is `None`, no MDT is sent; then the content is ignored, and each drive
+/// processes that none arrived. Returns the number of undetected arrivals, at most 64.
 pub(crate) fn send_mdt<L: BitLink>(
     link: &mut L,
     drives: &mut Vec<Drive>,

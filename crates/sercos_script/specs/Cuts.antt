@@ -1,4 +1,5 @@
--- Links that cut telegrams and lose them, but change none of their bits, as a script does that has no flip.
+-- Links that cut and lose telegrams, but change none of their bits, such as a script without a
+-- flip.
 use Rattle.std.specs.Prelude.{◌≡◌, ℕ, Bool, true, false, List, ◌++◌, Option, IfSome}
 use Rattle.std.specs.List.{list_any}
 use Rattle.sercos_script.specs.declared.link.Passage.{Passage}
@@ -8,23 +9,23 @@ use Rattle.sercos_script.specs.declared.fault.Fault.{Fault}
 use Rattle.sercos_script.specs.Links.{Carry}
 use Rattle.sercos_script.specs.Scripts.{carried}
 
--- Whether a damage complements a bit.
+-- whether a damage complements a bit
 abbrev pub is_flip : Damage → Bool
 is_flip (Flip at bit) = true
 is_flip _ = false
 
--- Whether one of these faults does.
+-- whether one of these faults complements a bit
 abbrev pub has_flip : List Fault → Bool
 has_flip faults = list_any (λ (f : Fault). is_flip f.damage) faults
 
--- What arrives of the bits sent, if anything does, is their beginning, or all of them.
+-- the bits that arrive, if any do, are the beginning of the bits sent, or all of them
 abbrev pub IsCut : List Bool → Option (List Bool) → Type 0
 IsCut bits came = IfSome came (λ begun. (rest : List Bool) × (bits ≡ begun ++ rest))
 
--- A link only cuts if this holds of each telegram.
+-- a link only cuts and loses telegrams
 abbrev pub OnlyCuts : Carry → Type 0
 OnlyCuts carry = (p : Passage) (bits : List Bool) → IsCut bits (carry p bits)
 
--- A script without a flip only cuts.
+-- a script without a flip only cuts and loses telegrams
 abbrev pub UnflippedOnlyCuts : Type 0
 UnflippedOnlyCuts = (stations : ℕ) (faults : List Fault) → has_flip faults ≡ false → OnlyCuts (carried stations faults)

@@ -1,5 +1,6 @@
--- What a link is: what it does to the bits of each telegram on its way to each station, and which stations restart in which
--- cycles. Stations are 0 for the master and 1 to n for the drives in the order of the ring. Cycles are counted from 0.
+-- What a link is: its effect on the bits of each telegram on the way to each station, and which
+-- stations restart in which cycles. Station 0 is the master, and stations 1 to n are the drives in
+-- the order of the ring. Cycles are counted from 0.
 use Rattle.std.specs.Prelude.{◌≡◌, ℕ, Bool, true, false, ◌||◌, List, Option, Some, None, option_and_then}
 use Rattle.sercos_telegram.specs.declared.layout.Kind.{Kind}
 use Rattle.sercos_script.specs.declared.link.Passage.{Passage}
@@ -20,12 +21,13 @@ carried_clean p bits = Some bits
 abbrev pub never_restarts : Restarts
 never_restarts cycle station = false
 
--- In a cycle a link doesn't change the telegram of a kind that a station sends: it arrives at each station as it was sent.
+-- In a cycle a link doesn't change the telegram of a kind that a station sends: it arrives at each
+-- station as it was sent.
 abbrev pub IsQuiet : Carry → ℕ → Kind → ℕ → Type 0
 IsQuiet carry cycle kind from = (p : Passage) (bits : List Bool) → p.cycle ≡ cycle → p.kind ≡ kind → p.from ≡ from → carry p bits ≡ Some bits
 
--- One link after another: the second receives what the first lets through. If the first lets nothing through, nothing
--- arrives.
+-- One link after another: the second receives what the first lets through. If the first lets
+-- nothing through, nothing arrives.
 abbrev pub carried_by_both : Carry → Carry → Carry
 carried_by_both first second p bits = option_and_then (λ came. second p came) (first p bits)
 

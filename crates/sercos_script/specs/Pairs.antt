@@ -1,4 +1,4 @@
--- The two links that one after the other are one.
+-- The two links of which `Both` consists.
 use Rattle.sercos_script.specs.declared.link.Both.{Both}
 
 abbrev pub first_of : {A B : Type 0} → Both A B → A

@@ -1,6 +1,6 @@
--- What a script of faults does to a telegram on its way through the ring, and which stations restart. A script is a list of
--- faults. A telegram takes the links of its path one after the other, and on each link the faults of that link act in the order
--- of the script.
+-- The effect of a script of faults on a telegram on its way through the ring, and which stations
+-- restart. A script is a list of faults. A telegram takes the links of its path one after the
+-- other, and on each link the faults of that link act in the order of the script.
 use Rattle.std.specs.Prelude.{ℕ, ◌+◌, ◌-◌, ◌%◌, ◌==◌, nat_lt, nat_le, Bool, true, false, not, ◌&&◌, if◌then◌else◌, List, [], ◌∷◌, suc, zero, length, take, slice_index_or, slice_set, Option, Some, None, option_and_then}
 use Rattle.std.specs.List.{filter, list_any}
 use Rattle.sercos_telegram.specs.declared.layout.Kind.{Kind}
@@ -18,8 +18,9 @@ is_kind kinds.At kinds.At = true
 is_kind kinds.Mdt kinds.Mdt = true
 is_kind _ _ = false
 
--- A fault acts in the cycles from its first to its last whose distance from the first is a multiple of `every`. The one multiple
--- of 0 is 0 (x % 0 is x), so a fault with `every` 0 acts in its first cycle alone.
+-- A fault acts in the cycles from its first to its last whose distance from the first is a multiple
+-- of `every`. The only multiple of 0 is 0 (x % 0 is x), so a fault with `every` 0 acts in its first
+-- cycle alone.
 unfoldable pub acts : ℕ → Fault → Bool
 acts cycle f = nat_le f.cycle cycle && (nat_le cycle f.last && ((cycle - f.cycle) % f.every == 0))
 
@@ -27,12 +28,12 @@ acts cycle f = nat_le f.cycle cycle && (nat_le cycle f.last && ((cycle - f.cycle
 abbrev pub concerns : Passage → Fault → Bool
 concerns p f = acts p.cycle f && (is_kind f.kind p.kind && (f.from == p.from))
 
--- The bits with one of them complemented, if they have it. Places count from 0.
+-- The bits with one of them complemented, if they have it. Indices are counted from 0.
 abbrev pub flipped : ℕ → List Bool → List Bool
 flipped place bits = if nat_lt place (length bits) then slice_set bits place (not (slice_index_or bits place false)) else bits
 
--- What leaves a link of the bits that enter it, if one fault acts on them. A fault of another link changes nothing, nor does one
--- that makes a station deaf or restarts it.
+-- What leaves a link of the bits that enter it, if one fault acts on them. A fault of another link
+-- changes nothing, nor does one that makes a station deaf or restarts it.
 abbrev pub over_fault : Damage → ℕ → List Bool → Option (List Bool)
 over_fault (Lose at) link bits = if at == link then None else Some bits
 over_fault (Flip at bit) link bits = if at == link then Some (flipped bit bits) else Some bits
@@ -40,7 +41,8 @@ over_fault (Cut at bit) link bits = if at == link then Some (take bit bits) else
 over_fault (Deaf station) link bits = Some bits
 over_fault (Restart station) link bits = Some bits
 
--- What leaves a link if these faults act, in their order. Once nothing is left, no later fault brings anything back.
+-- What leaves a link if these faults act, in their order. Once nothing is left, no later fault
+-- brings anything back.
 abbrev pub over_link : List Fault → ℕ → List Bool → Option (List Bool)
 over_link [] link bits = Some bits
 over_link (f ∷ faults) link bits = option_and_then (over_link faults link) (over_fault f.damage link bits)
@@ -55,14 +57,16 @@ abbrev pub is_deaf : ℕ → Damage → Bool
 is_deaf station (Deaf at) = at == station
 is_deaf station _ = false
 
--- The number of links from one station to another, in a ring of `stations` drives. Link 0 leads from the master to the first
--- drive, link k from drive k to the next, and the last link back to the master. So a telegram takes the links from the number
--- of its sender up to the one before the number of its receiver; at the end of the ring the master counts as station n + 1.
+-- The number of links from one station to another, in a ring of `stations` drives. Link 0 leads
+-- from the master to the first drive, link k from drive k to the next, and the last link back to
+-- the master. So a telegram takes the links from the number of its sender up to the one before the
+-- number of its receiver; at the end of the ring the master counts as station n + 1.
 abbrev pub links_between : ℕ → ℕ → ℕ → ℕ
 links_between stations from to = (if to == 0 then stations + 1 else to) - from
 
--- What arrives of the bits of a passage in a ring of `stations` drives, if these faults act on it: nothing if one of them makes
--- the receiver deaf, and otherwise what leaves the last link of the path.
+-- What arrives of the bits of a passage in a ring of `stations` drives, if these faults act on it:
+-- nothing if one of them makes the receiver deaf, and otherwise what leaves the last link of the
+-- path.
 abbrev pub carried_by : ℕ → List Fault → Passage → List Bool → Option (List Bool)
 carried_by stations faults p bits =
     if list_any (λ (f : Fault). is_deaf p.to f.damage) faults then None else over_links faults p.from (links_between stations p.from p.to) bits
@@ -76,8 +80,8 @@ abbrev pub is_restart : ℕ → Damage → Bool
 is_restart station (Restart at) = at == station
 is_restart station _ = false
 
--- Whether a station restarts in a cycle under a script: whether one of its faults is a restart of it that acts. Several restarts
--- of one station in one cycle are one.
+-- Whether a station restarts in a cycle under a script: one of the faults is a restart of it and
+-- acts. Several restarts of one station in one cycle are one.
 unfoldable pub restarts_at : List Fault → Restarts
 restarts_at faults cycle station = list_any (λ (f : Fault). acts cycle f && is_restart station f.damage) faults
 

@@ -1,10 +1,7 @@
-// The faults of a script that act in one cycle.
+// The faults of a script that act in one cycle. All calls have the same script. It is sorted by its keys if faults are searched by their
+// lanes.
 ghost use Rattle.std.specs.Prelude.{◌≡◌, ◌+◌, true, ℕ, Bool, List, []};
-ghost use Rattle.std.specs.List.{filter};
-ghost use Rattle.std.specs.List.Sorted.{IsNonDecreasingBy};
-ghost use Rattle.sercos_script.specs.Lanes.{key_of, is_in, telegram_lane, AreByReach, IsGathered, candidates};
-ghost use Rattle.sercos_script.specs.Scripts.{carried, restarts_at};
-ghost use Rattle.sercos_script.specs.Stretches.{AreAhead};
+ghost use Rattle.sercos_script.specs.Clauses.{filter, IsNonDecreasingBy, key_of, is_in, telegram_lane, AreByReach, IsGathered, candidates, carried, restarts_at, AreAhead};
 
 use crate::fault::Fault;
 use crate::lanes::{in_lane, restart_lane, telegram_lane};
@@ -14,11 +11,11 @@ use arrayvec::ArrayVec;
 use sercos_telegram::Kind;
 use std::marker::Model;
 
-// If there was no room, the faults are gathered again in the next cycle that is a multiple of this.
+// If there was no room for all faults, they are gathered again in the next cycle that is a multiple of this number.
 const AGAIN: u32 = 64;
 
-// The faults of a script that act in a cycle, in the order of the script, and whether all of them found room; and for each
-// stretch of the script a number of a cycle before which none of its faults acts after this cycle.
+// The faults of a script that act in a cycle, in the order of the script, and whether there was room for all of them. For each stretch of
+// the script, `soonest` has the number of a cycle before which none of its faults acts after this cycle.
 #[derive(Drop)]
 pub(crate) struct Gathered {
     cycle: u32,
@@ -40,7 +37,7 @@ impl Model for Gathered {
 }
 
 impl Gathered {
-    // Returns the faults that act in a cycle.
+    // Returns the faults of a script that act in a cycle, with `soonest` for the cycles after it.
     pub(crate) fn new(script: &[Fault], cycle: u32) -> Gathered
         ensures cycle { result.cycle ≡ cycle }
         ensures gathered { IsGathered script.now result }
@@ -56,7 +53,8 @@ impl Gathered {
         gathered
     }
 
-    // Gathers the faults of a cycle.
+    // Gathers the faults that act in a cycle. From this cycle on, no fault of a stretch may act before the cycle that `soonest` has for it;
+    // afterwards this holds from the next cycle on.
     fn gather(&mut self, script: &[Fault], cycle: u32)
         requires { AreAhead script.now cycle self.old.soonest }
         ensures cycle { self.new.cycle ≡ cycle }
@@ -67,8 +65,9 @@ impl Gathered {
         self.cycle = cycle;
     }
 
-    // Turns to a cycle. In a later one only the stretches whose cycle has come are searched, and none for some cycles after there was
-    // no room.
+    // Turns to a cycle. In a later cycle only the stretches are searched in which a fault may act by then, in an earlier one all. If there
+    // was no room, nothing is searched in later cycles until one that is a multiple of `AGAIN`. Before and afterwards, no fault of a
+    // stretch acts after the cycle turned to and before the one that `soonest` has for it.
     pub(crate) fn turn(&mut self, script: &[Fault], cycle: u32)
         requires gathered { IsGathered script.now self.old }
         requires ahead { AreAhead script.now (self.old.cycle + 1) self.old.soonest }
@@ -89,7 +88,7 @@ impl Gathered {
         self.gather(script, cycle);
     }
 
-    // Returns where the faults of this cycle are looked for.
+    // Returns the faults among which those of this cycle are searched: the gathered ones if they are complete, otherwise the script.
     fn candidates<'a>(&'a self, script: &'a [Fault]) -> &'a [Fault]
         ensures { result.now ≡ candidates script.now self.now }
     {
@@ -100,7 +99,7 @@ impl Gathered {
         }
     }
 
-    // Returns the faults of a lane, among them all that act in this cycle.
+    // Returns the faults of a lane among the candidates, in their order.
     fn in_lane<'a>(&'a self, script: &'a [Fault], lane: u16) -> &'a [Fault]
         requires gathered { IsGathered script.now self.now }
         requires sorted { IsNonDecreasingBy key_of script.now }
@@ -109,7 +108,8 @@ impl Gathered {
         in_lane(self.candidates(script), lane)
     }
 
-    // Returns whether it is sure that no fault acts on the telegram of a kind from a sender in this cycle.
+    // Returns whether it is known that no fault acts in this cycle on the telegram of a kind from a sender. The result may be false
+    // although no fault acts.
     pub(crate) fn is_quiet(&self, script: &[Fault], kind: Kind, from: u8) -> bool
         requires gathered { IsGathered script.now self.now }
         requires sorted { IsNonDecreasingBy key_of script.now }
@@ -118,7 +118,8 @@ impl Gathered {
         self.in_lane(script, telegram_lane(kind, from)).is_empty()
     }
 
-    // Returns faults that do to a passage of this cycle what the script does, in the order of the frames that they reach.
+    // Returns faults that have the same effect on a passage as the script. Its cycle must be the one turned to. They are sorted by the
+    // number of bits that a frame needs to be affected.
     pub(crate) fn on_passage<'a>(&'a self, script: &'a [Fault], p: &Passage) -> &'a [Fault]
         requires gathered { IsGathered script.now self.now }
         requires sorted { IsNonDecreasingBy key_of script.now }
@@ -129,7 +130,7 @@ impl Gathered {
         self.in_lane(script, telegram_lane(p.kind, p.from))
     }
 
-    // Returns faults that restart a station in this cycle if the script does.
+    // Returns faults that restart a station in this cycle iff those of the script do.
     pub(crate) fn on_station<'a>(&'a self, script: &'a [Fault], station: u8) -> &'a [Fault]
         requires gathered { IsGathered script.now self.now }
         requires sorted { IsNonDecreasingBy key_of script.now }

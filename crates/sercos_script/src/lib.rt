@@ -1,5 +1,4 @@
-//! Scripts of faults: what is done to which telegrams of a ring in which cycles, and which stations restart; and the links
-//! that do it.
+//! Scripts of faults: which telegrams of a ring are damaged in which cycles, and which stations restart; and the links that apply a script.
 #![tactic(auto)]
 
 mod effect;

@@ -1,9 +1,6 @@
-// What faults do to a passage on its way.
+// The effect of faults on a passage. If nothing arrives, `bits` is unspecified.
 ghost use Rattle.std.specs.Prelude.{◌≡◌};
-ghost use Rattle.sercos_script.specs.Lanes.{AreByReach};
-ghost use Rattle.sercos_script.specs.Links.{arrived};
-ghost use Rattle.sercos_script.specs.Scripts.{links_between, carried, restarts_at};
-ghost use Rattle.sercos_script.specs.Ways.{over_passage, over_all};
+ghost use Rattle.sercos_script.specs.Clauses.{AreByReach, arrived, links_between, carried, restarts_at, over_passage, over_all};
 
 use crate::effect::{Way, acts, concerns, is_restart, over_way};
 use crate::fault::Fault;
@@ -11,7 +8,7 @@ use crate::lanes::reach_of;
 use crate::link::Passage;
 use sercos_bits::BitBuf;
 
-// Does to the bits of a passage what a fault does, if it concerns the passage. Returns whether anything arrives.
+// Applies a fault to the bits of a passage, if it concerns the passage. Returns whether anything arrives.
 fn over_passage(p: &Passage, way: Way, fault: &Fault, bits: &mut BitBuf) -> bool
     ensures { arrived result bits.new ≡ over_passage p.now way fault.now bits.old }
 {
@@ -22,8 +19,8 @@ fn over_passage(p: &Passage, way: Way, fault: &Fault, bits: &mut BitBuf) -> bool
     }
 }
 
-// Does to the bits of a passage what the faults do that concern it. Their order doesn't matter. As soon as one acts on longer frames
-// alone, so do all that follow. Returns whether anything arrives.
+// Applies to the bits of a passage the faults that concern it. Returns whether anything arrives. The faults are sorted by the number of
+// bits that a frame needs to be affected, so the first that needs a longer frame ends the loop.
 fn over_all(p: &Passage, way: Way, faults: &[Fault], bits: &mut BitBuf) -> bool
     requires { AreByReach faults.now }
     ensures { arrived result bits.new ≡ over_all (over_passage p.now way) faults.now bits.old }
@@ -39,7 +36,8 @@ fn over_all(p: &Passage, way: Way, faults: &[Fault], bits: &mut BitBuf) -> bool
     true
 }
 
-// Returns how many links a telegram takes from one station to another.
+// Returns the number of links from one station to another, in a ring of `stations` drives. As a receiver, station 0 is at the end of the
+// ring. The result is 0 if the receiver isn't after the sender.
 fn links_between(stations: u8, from: u8, to: u8) -> u16
     ensures { result ≡ links_between stations from to }
 {
@@ -51,7 +49,8 @@ fn links_between(stations: u8, from: u8, to: u8) -> u16
     end.saturating_sub(u16::from(from))
 }
 
-// Does to the bits of a passage what the faults do. Returns whether anything arrives.
+// Applies faults to the bits of a passage, in a ring of `stations` drives. Returns whether anything arrives. The faults are sorted by the
+// number of bits that a frame needs to be affected.
 pub(crate) fn carry(faults: &[Fault], stations: u8, p: &Passage, bits: &mut BitBuf) -> bool
     requires { AreByReach faults.now }
     ensures { arrived result bits.new ≡ carried stations faults.now p.now bits.old }

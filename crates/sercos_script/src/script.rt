@@ -1,6 +1,5 @@
 // The links of a ring under a script of faults.
-ghost use Rattle.std.specs.List.Sorted.{IsNonDecreasingBy, IsPermutation};
-ghost use Rattle.sercos_script.specs.Lanes.{key_of};
+ghost use Rattle.sercos_script.specs.Clauses.{IsNonDecreasingBy, IsPermutation, key_of};
 
 use crate::fault::Fault;
 use crate::gathered::Gathered;
@@ -13,10 +12,10 @@ use std::marker::Model;
 
 /// The links of a ring under a script of faults (this profile). On each link the faults act in the order of the script.
 ///
-/// What faults do to a telegram doesn't depend on their order, so they are kept sorted by the telegrams on which they act, and by the
-/// places of the bits on which they do. In each cycle the faults that act are gathered once, at most 512 of them, from those stretches
-/// of the script in which one may act by then. A passage goes once through those of its kind and sender, up to the end of its frame.
-/// If more act, it goes through all faults of its kind and sender. No call takes memory.
+/// The effect of the faults on a telegram doesn't depend on their order. So they are kept sorted by the telegrams that they concern, and
+/// then by the index of the bit that they affect. In each cycle the faults that act are gathered once, at most 512 of them, from those
+/// stretches of the script in which one may act by then. A passage goes once through those of its kind and sender, up to the end of its
+/// frame. If more than 512 act, it goes through all faults of its kind and sender. No call takes memory.
 #[derive(Drop)]
 pub struct Scripted {
     faults: Vec<Fault>,
@@ -38,7 +37,7 @@ impl Model for Scripted {
     ghost invariant = { λ s. IsNonDecreasingBy key_of s.faults.items × IsGathered s.faults.items s.gathered × AreAhead s.faults.items (s.gathered.cycle + 1) s.gathered.soonest };
 }
 
-// Returns faults sorted by their keys.
+// Returns the faults sorted by their keys.
 fn sorted(faults: Vec<Fault>) -> Vec<Fault>
     ensures sorted { IsNonDecreasingBy key_of result.items }
     ensures same { IsPermutation faults.items result.items }
@@ -52,8 +51,8 @@ impl Scripted {
     ghost use Rattle.std.specs.Prelude.{◌≡◌};
     ghost use Rattle.sercos_script.specs.Scripts.{carried, restarts_at};
 
-    /// Returns the links of a ring of `stations` drives under a script of faults. The script decides what they carry, and which
-    /// stations restart.
+    /// Returns the links of a ring of `stations` drives under a script of faults. Which bits arrive and which stations restart is a
+    /// function of the script in the order given.
     pub fn new(faults: Vec<Fault>, stations: u8) -> Scripted
         ensures carry { carried result.stations result.faults ≡ carried stations faults.items }
         ensures restart { restarts_at result.faults ≡ restarts_at faults.items }
@@ -75,6 +74,7 @@ impl BitLink for Scripted {
 
     ghost restart = { λ link. restarts_at link.faults };
 
+    // The faults of the passage's kind and sender are applied, in the cycle of the passage.
     fn pass(&mut self, p: Passage, bits: &mut BitBuf) -> bool {
         let script = self.faults.as_slice();
         self.gathered.turn(script, p.cycle);
@@ -82,6 +82,7 @@ impl BitLink for Scripted {
         carry(faults, self.stations, &p, bits)
     }
 
+    // A station restarts if one of its restarts acts in the cycle.
     fn restarts(&mut self, cycle: u32, station: u8) -> bool {
         let script = self.faults.as_slice();
         self.gathered.turn(script, cycle);
@@ -89,7 +90,7 @@ impl BitLink for Scripted {
         any_restart(faults, cycle, station)
     }
 
-    // A telegram is quiet if no fault on it acts in its cycle.
+    // A telegram is quiet if there is no candidate on it in its cycle.
     fn is_quiet(&mut self, cycle: u32, kind: Kind, from: u8) -> bool {
         let script = self.faults.as_slice();
         self.gathered.turn(script, cycle);

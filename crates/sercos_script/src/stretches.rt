@@ -1,41 +1,31 @@
-// The faults of a script in stretches, each with the number of a cycle before which none of its faults acts, so that in a
-// cycle only the stretches whose cycle has come are searched.
+// The faults of a script in stretches. Each has the number of a cycle before which none of its faults acts, so that in a cycle only those
+// stretches are searched in which a fault may act.
 ghost use Rattle.std.specs.Prelude.{◌≡◌, ◌≤◌, ◌<◌, ◌+◌, ◌*◌, ◌++◌, true, false, ℕ, [], length, replicate, slice_index_or};
-ghost use Rattle.std.specs.List.{filter};
-ghost use Rattle.sercos_script.specs.Scripts.{acts};
-ghost use Rattle.sercos_script.specs.Stretches.{edge, stretch, AreAhead, AreDone};
+ghost use Rattle.sercos_script.specs.Clauses.{filter, acts, edge, stretch, AreAhead, AreDone};
 
 use crate::fault::Fault;
 use arrayvec::ArrayVec;
 
-// The most faults that are gathered (14 kB). If more act, the whole script is looked at, of which then a good part acts.
+// The most faults that are gathered (14 kB). If more act, the whole script is searched, a good part of which then acts.
 pub(crate) const ROOM: usize = 512;
 
-// The most stretches.
+// The greatest number of stretches.
 pub(crate) const STRETCHES: usize = 512;
 
-// The number of faults in a stretch. Only the last one has fewer, or more if there are faults for more stretches.
+// The number of faults in a stretch. Only the last one has fewer, or more if the script is longer than all stretches.
 const STRETCH: usize = 8;
 
-// Returns the numbers of stretches of which nothing is known.
+// Returns the numbers of the stretches if nothing is known of them: zeros.
 pub(crate) fn nothing_known() -> [u32; STRETCHES]
     ensures { result ≡ replicate 512 0 }
 {
     [0; STRETCHES]
 }
 
-// The number of stretches in a group: their numbers are looked at together.
+// The number of stretches in a group, whose numbers are looked at together.
 const GROUP: usize = 16;
 
-// Returns how many groups of stretches a script of this length has.
-fn group_count(len: usize) -> usize
-    ensures bound { result ≤ 32 }
-    ensures all { len ≤ edge len (16 * result) }
-{
-    len.div_ceil(STRETCH * GROUP).min(STRETCHES / GROUP)
-}
-
-// Returns the place at which a stretch begins in a script of this length.
+// Returns the index at which stretch `k` begins in a script of `len` faults; `len` from stretch 512 on.
 fn edge(len: usize, k: usize) -> usize
     ensures { result ≡ edge len k }
 {
@@ -46,7 +36,8 @@ fn edge(len: usize, k: usize) -> usize
     }
 }
 
-// Returns the faults of a stretch.
+// Returns the faults of the stretch at index `k`, which must be below 512: eight faults, fewer or none at the end of the script; at index
+// 511 all that remain.
 fn stretch(script: &[Fault], k: usize) -> &[Fault]
     requires { k < 512 }
     ensures { result.now ≡ stretch k script.now }
@@ -63,7 +54,7 @@ struct Turn {
     next: u32,
 }
 
-// Returns what a fault does in a cycle, with one division if the cycle is in its range, otherwise without.
+// Returns whether a fault acts in a cycle, and when it may act again. It divides only if the cycle is in the fault's range.
 #[tactic(auto, unfolding(crate::specs::Scripts::acts))]
 fn turn_of(fault: &Fault, cycle: u32) -> Turn
     ensures acts { result.acts ≡ acts cycle fault.now }
@@ -94,14 +85,15 @@ fn turn_of(fault: &Fault, cycle: u32) -> Turn
     }
 }
 
-// What was found in a stretch: whether all faults that act found room, and the number of a cycle before which none acts again.
+// The result of the search of a stretch: whether there was room for all faults that act, and the number of a cycle before which none acts
+// again.
 #[derive(Clone, Copy)]
 struct Found {
     room: bool,
     soonest: u32,
 }
 
-// Appends those of the faults that act in a cycle, as far as there is room.
+// Appends those of the faults that act in a cycle. If there is no room for all of them, what is appended is unspecified.
 fn look_into(faults: &[Fault], cycle: u32, acting: &mut ArrayVec<Fault, ROOM>) -> Found
     ensures acting { result.room ≡ true → acting.new.items ≡ acting.old.items ++ filter (acts cycle) faults.now }
     ensures soonest { (c : ℕ) → cycle + 1 ≤ c → c < result.soonest → filter (acts c) faults.now ≡ [] }
@@ -127,7 +119,7 @@ fn look_into(faults: &[Fault], cycle: u32, acting: &mut ArrayVec<Fault, ROOM>) -
     }
 }
 
-// Returns whether a cycle is before each of these.
+// Returns true only if a cycle is before each of these.
 #[inline(always)]
 fn is_before_all(cycle: u32, soonest: &[u32]) -> bool
     ensures { result ≡ true → (k : ℕ) → k < length soonest.now → cycle < slice_index_or soonest.now k 0 }
@@ -139,8 +131,9 @@ fn is_before_all(cycle: u32, soonest: &[u32]) -> bool
     cycle < least
 }
 
-// Goes on to gather the faults that act in a cycle, from those stretches of a group whose cycle has come, and keeps when each of these
-// acts next. Returns whether all of them found room.
+// Appends the faults that act in a cycle from those stretches of a group, 0 to 31, in which one may act by then, and keeps for each of
+// these stretches when it may act next. The groups before it must have been searched. Returns whether there was room for all of them. If
+// not, `acting` is unspecified. `soonest` has 512 numbers.
 fn gather_group(
     script: &[Fault],
     cycle: u32,
@@ -173,7 +166,9 @@ fn gather_group(
     true
 }
 
-// Gathers the faults that act in a cycle. Returns whether all of them found room.
+// Replaces `acting` by the faults that act in a cycle, and keeps for each stretch when it may act next. Returns whether there was room for
+// all of them. If not, `acting` is unspecified. `soonest` has 512 numbers. From this cycle on, no fault of a stretch may act before the
+// cycle that it has for it; afterwards this holds from the next cycle on, in each case.
 pub(crate) fn gather(
     script: &[Fault],
     cycle: u32,
@@ -187,7 +182,11 @@ pub(crate) fn gather(
     ensures acting { result ≡ true → acting.new.items ≡ filter (acts cycle) script.now }
 {
     acting.clear();
-    for group in 0..group_count(script.len()) {
+    let groups = script
+        .len()
+        .div_ceil(STRETCH * GROUP)
+        .min(STRETCHES / GROUP);
+    for group in 0..groups {
         if !gather_group(script, cycle, group, soonest, acting) {
             return false;
         }

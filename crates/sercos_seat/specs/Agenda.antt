@@ -1,5 +1,5 @@
--- The tasks of each channel in an epoch, as far as the outcomes so far determine them, and the values in the outcomes.
--- Outcomes are oldest first.
+-- The tasks of each channel in an epoch, as far as the outcomes so far determine them, and the
+-- values in the outcomes. Outcomes are listed oldest first.
 use Rattle.std.specs.Prelude.{ℕ, ◌+◌, ◌*◌, ◌==◌, nat_le, Bool, false, ◌&&◌, if◌then◌else◌, List, [], ◌∷◌, ◌++◌, length, map, take, drop, sum_by, Option, Some, None, is_none, is_some, option_map, option_and_then, unwrap_or, slice_get, slice_index}
 use Rattle.std.specs.List.{filter, last_or}
 use Rattle.sercos_idn.specs.Elements.{attribute_element, data_element}
@@ -38,15 +38,15 @@ idns_in _ = []
 abbrev pub given : List Outcome → ℕ → List ℕ
 given outcomes i = unwrap_or (option_map bytes_of (slice_get outcomes i)) []
 
--- the data status of a procedure command that has ended well
+-- the data status of a procedure command that ended well
 abbrev pub ended_well : List ℕ → Bool
 ended_well bytes = short_in bytes == 3
 
 abbrev pub idn : ℕ → Idn
 idn raw = record { raw = raw }
 
--- The start-up begins with reads: the times that a drive declares, T1min, TATMT, T4min, TATAT, TMTSY and TMTSG; and the
--- attribute of all that its AT and its data record are to carry.
+-- The start-up begins with reads: the times that a drive declares, T1min, TATMT, T4min, TATAT,
+-- TMTSY and TMTSG; and the attribute of each data block that its AT and its data record carry.
 abbrev pub declared_times : List ℕ
 declared_times = 3 ∷ 4 ∷ 5 ∷ 87 ∷ 88 ∷ 90 ∷ []
 
@@ -56,8 +56,8 @@ reads d = map (λ raw. request.Read (idn raw) data_element) declared_times ++ ma
 abbrev pub reads_count : MemberView → ℕ
 reads_count d = 6 + length d.at + length d.mdt
 
--- It goes on with writes: control unit cycle, cycle, T1, T4, T3, the record's position, the length of the MDT, the telegram
--- type, what AT and data record carry, and T2.
+-- Then there are writes: control unit cycle, cycle, T1, T4, T3, the record's position, the length
+-- of the MDT, the telegram type, what AT and data record carry, and T2.
 abbrev pub writes_word : ℕ → ℕ → Request
 writes_word raw value = request.Write (idn raw) data_element (bytes_in (value ∷ []))
 
@@ -70,22 +70,23 @@ writes s p k =
     ∷ writes_word 9 (slice_index p.position k) ∷ writes_word 10 p.mdt_len ∷ writes_word 15 7
     ∷ writes_list 16 (member s k).at ∷ writes_list 24 (member s k).mdt ∷ writes_word 89 p.t2 ∷ []
 
--- A check: its procedure command; then, if it ended well, the next task; otherwise the drive's list of invalid data, and
--- nothing more.
+-- A check is a procedure command. If it ended well, the next task follows. Otherwise the drive's
+-- list of invalid data is read, and nothing more.
 abbrev pub checking : ℕ → ℕ → ℕ → Option Outcome → List Task → List Task
 checking phase command list None next = startup phase (request.Command (idn command)) ∷ []
 checking phase command list (Some o) next =
     startup phase (request.Command (idn command)) ∷ (if ended_well (bytes_of o) then next else startup phase (request.Read (idn list) data_element) ∷ [])
 
--- The places of the two checks among the tasks: that for phase 3 comes after the reads and the eleven writes, that for phase 4 next.
+-- The indices of the two checks among the tasks. That for phase 3 follows the reads and the eleven
+-- writes, and that for phase 4 is the next task.
 abbrev pub place_of_check_3 : MemberView → ℕ
 place_of_check_3 d = reads_count d + 11
 
 abbrev pub place_of_check_4 : MemberView → ℕ
 place_of_check_4 d = reads_count d + 12
 
--- What follows the reads: nothing before there is a plan; then its writes and the check for phase 3; in phase 3 the check for phase 4;
--- then the requests that wait.
+-- What follows the reads. Without a plan it is nothing. With one it is the plan's writes, the check
+-- for phase 3, in phase 3 the check for phase 4, and then the requests that wait.
 abbrev pub after_reads : Known → Option PlanView → List Task → ℕ → List Outcome → List Task
 after_reads s None waiting k outcomes = []
 after_reads s (Some p) waiting k outcomes =
@@ -93,11 +94,12 @@ after_reads s (Some p) waiting k outcomes =
     checking 2 127 21 (slice_get outcomes (place_of_check_3 (member s k)))
     (checking 3 128 22 (slice_get outcomes (place_of_check_4 (member s k))) waiting)
 
--- All tasks of the channel to the drive at place k, from the reads of phase 2 on.
+-- All tasks of the channel to the drive at index k of the ring, from the reads of phase 2 on.
 abbrev pub agenda : Known → Option PlanView → List Task → ℕ → List Outcome → List Task
 agenda s plan waiting k outcomes = map (startup 2) (reads (member s k)) ++ after_reads s plan waiting k outcomes
 
--- whether all reads have ended; whether the check for phase 3 has ended well; whether the check for phase 4 has too
+-- whether all reads have ended; whether the check for phase 3 ended well; whether both checks ended
+-- well
 abbrev pub is_read : MemberView → List Outcome → Bool
 is_read d outcomes = nat_le (reads_count d) (length outcomes)
 
@@ -107,8 +109,8 @@ is_checked d outcomes = ended_well (given outcomes (place_of_check_3 d))
 abbrev pub is_ready : MemberView → List Outcome → Bool
 is_ready d outcomes = is_checked d outcomes && ended_well (given outcomes (place_of_check_4 d))
 
--- The attributes that were read, as words, and how many bytes each adds to a telegram: two or four if it is that of a number,
--- and none otherwise.
+-- The attributes that were read, as words, and how many bytes each adds to a telegram: two or four
+-- for that of a number, otherwise none.
 abbrev pub words_given : List Outcome → List ℕ
 words_given [] = []
 words_given (o ∷ outcomes) = long_in (bytes_of o) ∷ words_given outcomes
@@ -125,7 +127,8 @@ len_said word = option_and_then number_len (attribute_in word)
 abbrev pub len_or_none : ℕ → ℕ
 len_or_none word = unwrap_or (len_said word) 0
 
--- the bytes of its AT after the address, and those of its data record: two words, and what is configured
+-- the length of a drive's AT after the address, and that of its data record, in bytes: two words,
+-- and the configured values
 abbrev pub at_len : MemberView → List Outcome → ℕ
 at_len d outcomes = 4 + sum_by len_or_none (at_attributes d outcomes)
 
@@ -142,7 +145,7 @@ times_given outcomes = record {
   tmtsg = short_in (given outcomes 5);
 }
 
--- a drive's input for the planner, by its answers
+-- the planner's input of a drive, from its answers
 abbrev pub wish_given : MemberView → List Outcome → Wish
 wish_given d outcomes = record {
   address = d.address;
@@ -156,7 +159,7 @@ abbrev pub wishes_from : List MemberView → ℕ → (ℕ → List Outcome) → 
 wishes_from [] k outcomes = []
 wishes_from (d ∷ drives) k outcomes = wish_given d (outcomes k) ∷ wishes_from drives (k + 1) outcomes
 
--- the planner's input, by the outcomes of each channel
+-- the planner's input, from the outcomes of each channel
 abbrev pub wishes_given : Known → (ℕ → List Outcome) → WishesView
 wishes_given s outcomes = record {
   rate = s.rate;
@@ -167,14 +170,14 @@ wishes_given s outcomes = record {
   drives = wishes_from s.drives 0 outcomes;
 }
 
--- what a request names: the identifier number, and the element if it reads one
+-- what a request is for: the identifier number, and the element if it is a read
 abbrev pub asked_by : Request → Asked
 asked_by (request.Read i e) = record { idn = i; reads = Some e }
 asked_by (request.Write i e bytes) = record { idn = i; reads = None }
 asked_by (request.Command i) = record { idn = i; reads = None }
 
--- The stop that the outcome of a start-up task causes: it is refused; an attribute can't be configured; or the list after a
--- failed check is read.
+-- The stop that the outcome of a start-up task causes: the task was refused, an attribute can't be
+-- configured, or the list after a failed check was read.
 abbrev pub attribute_stop : ℕ → Idn → ℕ → Option Stop
 attribute_stop address i word = if is_none (len_said word) then Some (stop.BadConfig address i word) else None
 
@@ -203,7 +206,8 @@ stop_by address asked outcome.Broken = None
 abbrev pub stop_of_task : ℕ → Option ℕ → Asked → Outcome → Option Stop
 stop_of_task address number asked o = if is_some number then None else stop_by address asked o
 
--- The entries of all data records, in ring order: the drive's address, the number, and its attribute as it was read.
+-- The values of all data records, in ring order: the drive's address, the identifier number, and
+-- its attribute as it was read.
 pub record RecordEntry : Type 0 where
   pub address : ℕ
   pub idn : Idn
@@ -218,7 +222,7 @@ entries_from [] k outcomes = []
 entries_from (d ∷ drives) k outcomes =
     record_entries d.address d.mdt (mdt_attributes d (outcomes k)) ++ entries_from drives (k + 1) outcomes
 
--- If the data records are longer than an MDT, the last entry that was read as one of four bytes is bad.
+-- If the data records are longer than an MDT, the stop is for the last value of four bytes.
 abbrev pub has_four_bytes : RecordEntry → Bool
 has_four_bytes e = len_or_none e.word == 4
 

@@ -1,4 +1,4 @@
--- The results of the tasks of a channel in an epoch. Lists have their newest item first, except for the
+-- The results of the tasks of a channel in an epoch. Lists are newest first, except for the
 -- outcomes.
 use Rattle.std.specs.Prelude.{ℕ, ◌+◌, ◌==◌, Bool, false, if◌then◌else◌, List, [], ◌∷◌, ◌++◌, Option, Some, None, is_some, option_map}
 use Rattle.sercos_step.specs.declared.request.Outcome.{Outcome}
@@ -23,12 +23,12 @@ abbrev pub outcomes_in : List Begun → List Outcome
 outcomes_in [] = []
 outcomes_in (b ∷ past) = with_outcome (outcome_of b.request b.answers) (outcomes_in past)
 
--- a place is this one
+-- an index is this one
 abbrev pub is_place : ℕ → Option ℕ → Bool
 is_place k None = false
 is_place k (Some i) = k == i
 
--- the number of the request at work
+-- the number of the current request, if it is one
 abbrev pub number_in : List Task → Option ℕ
 number_in [] = None
 number_in (t ∷ tasks) = t.number
@@ -40,7 +40,8 @@ abbrev pub report_of : Option Outcome → Option ℕ → Option Report
 report_of None number = None
 report_of (Some o) number = option_map (numbered o) number
 
--- the outcome of the request that was begun last, and the stop that it brings, if it is of the start-up
+-- the outcome of the task that was begun last, and the stop that it causes, if it is one of the
+-- start-up
 abbrev pub last_outcome : List Begun → Option Outcome
 last_outcome [] = None
 last_outcome (b ∷ past) = outcome_of b.request b.answers
@@ -53,12 +54,12 @@ abbrev pub of_phase : ℕ → Option Task → Option Task
 of_phase phase None = None
 of_phase phase (Some t) = if t.phase == phase then Some t else None
 
--- how many requests were begun: they don't wait any more, whether they have ended or are broken
+-- how many requests were begun: they no longer wait, whether they ended or are broken
 abbrev pub count_requests : List Task → ℕ
 count_requests [] = 0
 count_requests (t ∷ tasks) = if is_some t.number then count_requests tasks + 1 else count_requests tasks
 
--- the request that is open on a channel is broken
+-- the current request of a channel, broken
 abbrev pub broken_number : Option ℕ → Option Report
 broken_number None = None
 broken_number (Some i) = Some (record { number = i; outcome = outcome.Broken })

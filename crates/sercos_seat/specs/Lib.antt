@@ -1,5 +1,6 @@
-pub mod Ring
 pub mod Agenda
 pub mod Channel
+pub mod Clauses
 pub mod Records
+pub mod Ring
 pub mod Seats

@@ -1,4 +1,5 @@
--- What the master keeps of one drive, and how it stands for what it looks back on. For proofs alone.
+-- What the master keeps of one drive, and how it is related to what was received from it. Used in
+-- proofs only.
 use Rattle.std.specs.Prelude.{reverse, unwrap_or, ◌-◌, slice_get, ◌*◌, sum_by, slice_index_or, ◌≡◌, ℕ, ◌+◌, ◌≤◌, ◌==◌, ◌++◌, nat_le, nat_lt, if◌then◌else◌, Bool, true, false, not, ◌&&◌, List, [], ◌∷◌, length, map, take, drop, min, Option, Some, None, is_some, option_map, is_none}
 use Rattle.sercos_idn.specs.Elements.{data_element}
 use Rattle.sercos_idn.specs.declared.idn.Idn.{Idn}
@@ -25,7 +26,8 @@ use Rattle.sercos_seat.specs.Channel.{Report, broken_number, count_requests, las
 use Rattle.sercos_seat.specs.Records.{record_said, values_said}
 use Rattle.sercos_seat.specs.Ring.{Known, MemberView, Task, member, request_task}
 
--- what the master looks back on at one drive, in this epoch: its channel, its ATs, and whether there is a stop
+-- what was received from one drive and sent to it in this epoch: its channel, its ATs, and whether
+-- there is a stop
 pub record Seen : Type 0 where
   pub calls : List channel.Call
   pub tasks : List Task
@@ -46,7 +48,8 @@ low_and_high bytes = record { low = short_in bytes; high = short_in (drop 2 byte
 abbrev pub result_words : Outcome → Words
 result_words o = low_and_high (bytes_of o)
 
--- The last entry of a data record that was read as one of four bytes, and its stop; the same of all data records, from the last drive on.
+-- The last value of a data record with four bytes, and its stop; then the last of all data records,
+-- from the last drive back.
 abbrev pub last_long : List Idn → List ℕ → Option (Idn × ℕ)
 last_long (i ∷ idns) (word ∷ words) =
     if is_some (last_long idns words) then last_long idns words else (if len_or_none word == 4 then Some (i, word) else None)
@@ -62,8 +65,9 @@ last_long_from (d ∷ drives) k outcomes =
     if is_some (last_long_from drives (k + 1) outcomes) then last_long_from drives (k + 1) outcomes
     else long_stop d.address (last_long d.mdt (mdt_attributes d (outcomes k)))
 
--- What is kept: the drive; its channel; the number of outcomes, counted up to 100; the results of the reads; whether each check
--- ended well; the request of the task at work, and its number; and the drive's telegrams.
+-- What is kept: the drive; its channel; the number of outcomes, counted up to 100; the results of
+-- the reads; whether each check ended well; the request of the current task, and its number; and
+-- the drive's telegrams.
 pub record SeatView : Type 0 where
   pub member : MemberView
   pub channel : MasterView
@@ -97,22 +101,23 @@ is_idle_in x = is_none (open_in (begun_by x.calls))
 abbrev pub opened_in : Seen → ℕ
 opened_in x = if is_idle_in x then 0 else 1
 
--- a request that is kept, as a task
+-- a request that waits, as a task
 abbrev pub waiting_task : Waiting → Task
 waiting_task w = request_task w.number w.request
 
--- the requests that weren't begun, in their order
+-- the requests that weren't begun, in order
 abbrev pub left_in : Seen → List Task
 left_in x = drop (count_requests x.tasks) x.waiting
 
--- What is kept of the requests to a drive, the last one first. A request is begun only after both checks. So the outcomes, with
--- the task at work, are as many as the start-up and the requests begun have.
+-- What is kept of the requests to a drive, the last one first. A request is begun only after both
+-- checks. So the number of outcomes, with the current task, is the number of tasks of the start-up
+-- and of requests begun.
 pub record IsQueue (kept : List Waiting) (d : MemberView) (x : Seen) : Type 0 where
   pub order : map waiting_task (reverse kept) ≡ left_in x
   pub none : is_ready d (outcomes_seen x) ≡ false → count_requests x.tasks ≡ 0
   pub count : is_ready d (outcomes_seen x) ≡ true → length (outcomes_seen x) + opened_in x ≡ reads_count d + 13 + count_requests x.tasks
 
--- a seat stands for a drive and its telegrams
+-- what a seat keeps is that of a drive and its telegrams
 pub record SeatStandsFor (v : SeatView) (d : MemberView) (x : Seen) : Type 0 where
   pub member_is : v.member ≡ d
   -- a drive's telegrams carry at most sixteen values each
@@ -133,7 +138,7 @@ pub record SeatStandsFor (v : SeatView) (d : MemberView) (x : Seen) : Type 0 whe
   pub identified_is : v.identified ≡ x.identified
   pub queue : IsQueue v.waiting d x
 
--- what the start-up keeps with one outcome more, by how many there were
+-- what the start-up keeps after one more outcome, by the number of outcomes before
 abbrev pub kept_given : ℕ → ℕ → List Words → List ℕ → List Words
 kept_given reads done given bytes = if nat_lt done reads && nat_lt (length given) 38 then given ++ low_and_high bytes ∷ [] else given
 
@@ -147,7 +152,7 @@ kept_ready reads done checked ready bytes = if done == reads + 12 then checked &
 pub record IsSeat (v : SeatView) : Type 0 where
   pub few : length v.given ≤ 38
 
--- the telegrams of a drive after one whose status was processed
+-- the telegrams of a drive after an AT whose status was processed
 abbrev pub heard_in : Status → ℕ → Seen → Seen
 heard_in status word x = record x {
   heard = true;
@@ -155,7 +160,7 @@ heard_in status word x = record x {
   calls = Hear status word ∷ x.calls;
 }
 
--- what a seat keeps with an outcome of the task at work
+-- what a seat keeps after an outcome of the current task
 abbrev pub kept_report : Option ℕ → Outcome → Option (ℕ × Outcome) → Option (ℕ × Outcome)
 kept_report None o report = report
 kept_report (Some number) o report = Some (number, o)
@@ -170,7 +175,7 @@ after_outcome o v = record v {
   report = kept_report v.number o v.report;
 }
 
--- what was seen where a task is begun
+-- the telegrams of a drive after a task was begun
 abbrev pub begun_in : Task → Seen → Seen
 begun_in t x = record x { calls = Begin t.request ∷ x.calls; tasks = t ∷ x.tasks }
 
@@ -178,11 +183,12 @@ abbrev pub with_begun : Option Task → Seen → Seen
 with_begun None x = x
 with_begun (Some t) x = begun_in t x
 
--- what was seen where a record is sent
+-- the telegrams of a drive after a record was sent
 abbrev pub sent_in : Seen → Seen
 sent_in x = record x { calls = Send ∷ x.calls }
 
--- The next request of the start-up, by what is kept: by the number of outcomes, and whether each check ended well.
+-- The next task of the start-up, from what is kept: the number of outcomes, and whether each check
+-- ended well.
 abbrev pub next_write : Known → Option PlanView → ℕ → ℕ → Option Request
 next_write s None k i = None
 next_write s (Some p) k i =
@@ -206,19 +212,19 @@ next_in_3 reads planned done checked ready =
 abbrev pub has_read : SeatView → Bool
 has_read v = nat_le (reads_count v.member) v.done
 
--- what was seen of a drive that is identified
+-- the telegrams of a drive after it was identified
 abbrev pub identified_in : Seen → Seen
 identified_in x = record x { heard = true; identified = true }
 
 abbrev pub seen_with_status : Bool → Status → ℕ → Seen → Seen
 seen_with_status identifies status word x = if identifies then identified_in x else heard_in status word x
 
--- the telegrams after one with the drive's address
+-- the telegrams of a drive after a content was received
 abbrev pub at_in : Bool → ℕ → ℕ → List ℕ → Seen → Seen
 at_in identifies address wanted content x =
     if not x.heard && is_none (at_fault address wanted content) then seen_with_status identifies (status_of (word_at content 1)) (word_at content 3) x else x
 
--- the bytes of a telegram after the address, by the words that were read of its attributes
+-- the length of a telegram after the address, in bytes, by the attributes that were read
 abbrev pub long_of : Words → ℕ
 long_of w = w.low + 65536 * w.high
 
@@ -240,7 +246,7 @@ record_len_kept v = listed_len (mdt_words_kept v)
 abbrev pub no_words : Words
 no_words = record { low = 0; high = 0 }
 
--- the first word of the pair at a place, or 0 past the end
+-- the low word at an index; 0 past the end
 abbrev pub low_at : List Words → ℕ → ℕ
 low_at words place = (slice_index_or words place no_words).low
 
@@ -248,7 +254,7 @@ low_at words place = (slice_index_or words place no_words).low
 abbrev pub AreWaiting : List Task → Type 0
 AreWaiting waiting = (i : ℕ) (t : Task) → slice_get waiting i ≡ Some t → t.phase ≡ 4
 
--- what was seen after the end of a cycle
+-- the telegrams of a drive after the end of a cycle
 abbrev pub ended_in : ℕ → Seen → Seen
 ended_in phase x = record x {
   calls = EndCycle ∷ x.calls;
@@ -257,29 +263,25 @@ ended_in phase x = record x {
   report = None;
 }
 
--- the fall that an AT or a step brings, by what is kept of the drive
-abbrev pub is_lost : ℕ → SeatView → Bool
-is_lost phase v = v.missed && not v.heard
-
 abbrev pub cycles_kept : SeatView → ℕ
 cycles_kept v = unwrap_or v.channel.age 0
 
--- what was seen of a drive when an epoch begins
+-- the telegrams of a drive when an epoch begins
 abbrev pub nothing_seen : List Task → Seen
 nothing_seen waiting = record { calls = []; tasks = []; heard = false; missed = false; identified = false; report = None; stopped = false; waiting = waiting }
 
 abbrev pub forgotten : Seen → Seen
 forgotten x = nothing_seen (left_in x)
 
--- what an idle channel begins in a phase, if its next task belongs to it
+-- the task that an idle channel begins in a phase, if its next task belongs to the phase
 abbrev pub begun_task : ℕ → Known → Option PlanView → List Task → ℕ → Seen → Option Task
 begun_task phase s plan waiting k x =
     if is_idle_in x then of_phase phase (slice_get (agenda s plan waiting k (outcomes_seen x)) (length (outcomes_seen x))) else None
 
--- the record of a drive in an MDT for all, by what was seen of it
+-- the data record of a drive in an MDT to all drives, by its telegrams
 abbrev pub record_seen : ℕ → MemberView → Seen → List ℕ
 record_seen cycle d x = record_said (master_says (begun_by x.calls)) (values_said cycle (mdt_attributes d (outcomes_seen x)))
 
--- the request at work, broken
+-- the current request, broken
 abbrev pub broken_in : Seen → Option Report
 broken_in x = if is_idle_in x then None else broken_number (number_in x.tasks)

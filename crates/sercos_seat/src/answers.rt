@@ -1,9 +1,7 @@
-// The values in outcomes.
-ghost use Rattle.std.specs.Prelude.{◌%◌, ◌&&◌, nat_le, nat_lt, map, ◌≡◌, ℕ, ◌+◌, ◌*◌, ◌<◌, ◌≤◌, ◌==◌, List, [], ◌∷◌, ◌++◌, length, take, drop, Option, Some, None, IfSome, slice_index, if◌then◌else◌};
+// The values in the outcomes of requests, and the stops that they cause.
+ghost use Rattle.std.specs.Prelude.{map, ◌≡◌, ◌+◌, ◌*◌, ◌<◌, ◌≤◌, ◌==◌, List, [], ◌++◌, length, take, drop, Option, Some, None, IfSome};
+ghost use Rattle.sercos_seat.specs.Clauses.{bytes_of, idns_in, ended_well, len_said, attribute_stop, list_stop, asked_by, stop_by_bytes, stop_by, last_long, long_of, low_at, low_and_high, len_of_words, listed_len, value_said, values_said};
 ghost use Rattle.sercos_step.specs.declared.request.Outcome.TheVariants as outcome;
-ghost use Rattle.sercos_seat.specs.Agenda.{bytes_of, long_in, idns_in, ended_well, len_said, attribute_stop, list_stop, reads_that, reads_element, asked_by, stop_by_bytes, stop_by, stop_of_task};
-ghost use Rattle.sercos_seat.specs.Seats.{last_long, long_stop, long_of, low_at, low_and_high, result_words, len_of_words, listed_len};
-ghost use Rattle.sercos_seat.specs.Records.{value_said, values_said};
 
 use arrayvec::ArrayVec;
 use sercos_block::numbers::{INVALID_FOR_PHASE_2, INVALID_FOR_PHASE_3};
@@ -14,16 +12,16 @@ use sercos_idn::element::{ATTRIBUTE, DATA};
 use sercos_step::{Outcome, Request, word_at};
 use sercos_trace::Stop;
 
-/// The two words of up to four bytes.
+/// Up to four bytes as two words, each with its low byte first. A missing byte is 0.
 #[derive(Clone, Copy, Debug, Default, PartialEq, Eq)]
 pub struct Words {
-    /// The first two bytes.
+    /// The first and the second byte.
     pub low: u16,
-    /// The third and the fourth.
+    /// The third and the fourth byte.
     pub high: u16,
 }
 
-/// What a request names: the identifier number, and the element if it reads one.
+/// What a request is for: the identifier number, and the element if it is a read.
 #[derive(Clone, Copy, Debug, PartialEq, Eq)]
 pub struct Asked {
     /// The identifier number.
@@ -32,7 +30,7 @@ pub struct Asked {
     pub reads: Option<u8>,
 }
 
-/// Returns what a request names.
+/// Returns the identifier number of a request, and the element if it is a read.
 pub fn asked_by(request: &Request) -> Asked
     ensures { result ≡ asked_by request.now }
 {
@@ -52,7 +50,7 @@ pub fn asked_by(request: &Request) -> Asked
     }
 }
 
-/// Returns the two words of up to four bytes.
+/// Returns the first four bytes as two words, each with its low byte first. A missing byte is 0.
 #[tactic(auto, using(crate::proofs::ShortWords::first_short, crate::proofs::ShortWords::second_short))]
 pub fn low_and_high(bytes: &[u8]) -> Words
     ensures { result ≡ low_and_high bytes.now }
@@ -64,7 +62,7 @@ pub fn low_and_high(bytes: &[u8]) -> Words
 }
 
 impl Words {
-    /// Returns the number of both.
+    /// Returns the 32-bit number of both words, the low word first.
     pub fn long(&self) -> u32
         ensures { result ≡ self.now.low + 65536 * self.now.high }
     {
@@ -72,7 +70,8 @@ impl Words {
     }
 }
 
-/// Returns whether the bytes are the data status of a procedure command that ended well.
+/// Returns whether the first two bytes, the low one first, are the data status of a procedure command that ended well. A missing byte
+/// counts as 0.
 #[tactic(auto, using(crate::proofs::ShortWords::first_short))]
 pub fn ended_well(bytes: &[u8]) -> bool
     ensures { result ≡ ended_well bytes.now }
@@ -80,7 +79,7 @@ pub fn ended_well(bytes: &[u8]) -> bool
     word_at(bytes, 0) == ENDED_WELL
 }
 
-/// Returns the bytes of an outcome.
+/// Returns the bytes of a complete outcome; no bytes for another one.
 pub fn outcome_bytes(outcome: &Outcome) -> &[u8]
     ensures { result.now ≡ bytes_of outcome.now }
 {
@@ -90,7 +89,7 @@ pub fn outcome_bytes(outcome: &Outcome) -> &[u8]
     }
 }
 
-/// Returns how many bytes the attribute of a word adds to a telegram.
+/// Returns how many bytes, at most 4, a value with this attribute adds to a telegram; `None` if the attribute isn't that of a number.
 pub fn len_said(word: u32) -> Option<usize>
     ensures value { result ≡ len_said word }
     ensures bound { IfSome result (λ len. len ≤ 4) }
@@ -101,7 +100,7 @@ pub fn len_said(word: u32) -> Option<usize>
     }
 }
 
-/// Returns how many bytes the attribute of these words adds to a telegram: 0 if it is not that of a number.
+/// Returns how many bytes, at most 4, a value with this attribute adds to a telegram; 0 if the attribute isn't that of a number.
 pub fn len_of(words: &Words) -> u16
     ensures value { result ≡ len_of_words words.now }
     ensures bound { result ≤ 4 }
@@ -112,7 +111,8 @@ pub fn len_of(words: &Words) -> u16
     }
 }
 
-/// Returns the lengths by these attributes.
+/// Returns how many bytes a value with each of these attributes adds to a telegram, 0 to 4; 0 if the attribute isn't that of a number.
+/// There must be at most 16.
 pub fn lens_of(words: &[Words]) -> ArrayVec<u8, 16>
     requires { length words.now ≤ 16 }
     ensures value { result.items ≡ map len_of_words words.now }
@@ -125,7 +125,8 @@ pub fn lens_of(words: &[Words]) -> ArrayVec<u8, 16>
     lens
 }
 
-/// Two words, and the values of these attributes.
+/// Returns the length of a data record, or of an AT after its address, in bytes, 4 to 68: two words, and the values with these attributes,
+/// at most 16. An attribute that isn't that of a number adds nothing.
 pub fn listed_len(words: &[Words]) -> u16
     requires { length words.now ≤ 16 }
     ensures value { result ≡ listed_len words.now }
@@ -138,8 +139,8 @@ pub fn listed_len(words: &[Words]) -> u16
     len
 }
 
-/// At most `count` words from a place on.
-pub fn part(words: &[Words], from: usize, count: usize) -> &[Words]
+/// Returns the words from an index on, at most `count` of them; fewer if the list ends before.
+pub fn words_from(words: &[Words], from: usize, count: usize) -> &[Words]
     ensures value { result.now ≡ take count (drop from words.now) }
     ensures bound { length result.now ≤ count }
 {
@@ -148,7 +149,7 @@ pub fn part(words: &[Words], from: usize, count: usize) -> &[Words]
     &rest[..count.min(rest.len())]
 }
 
-/// Returns the first word of the pair at a place.
+/// Returns the low word at an index; 0 past the end.
 pub fn low_at(words: &[Words], place: usize) -> u16
     ensures { result ≡ low_at words.now place }
 {
@@ -159,8 +160,8 @@ pub fn low_at(words: &[Words], place: usize) -> u16
     }
 }
 
-// Appends a command value of `len` bytes, at most four: the low bytes of the count of cycles. Lengths that are known here make
-// it one store.
+// Appends a command value of `len` bytes, at most four: the low bytes of the number of the cycle. The list must have room for four bytes,
+// of 64. The lengths 2 and 4 have cases of their own, since a constant length makes the copy one store.
 fn push_count(count: u32, len: u8, values: &mut ArrayVec<u8, 64>)
     requires { length values.old.items + 4 ≤ 64 }
     ensures { values.new.items ≡ values.old.items ++ value_said count len }
@@ -173,7 +174,9 @@ fn push_count(count: u32, len: u8, values: &mut ArrayVec<u8, 64>)
     };
 }
 
-/// Puts the command values of a record, by the lengths of its values, in place, since they would be copied if they were returned.
+/// Puts the command values of a data record into an empty list. `count` is the number of the cycle. Each is the low bytes of this number.
+/// `lens` has the length of each value in bytes, 0 to 4, as [`lens_of`] returns them, at most 16. They are put in place, since a returned
+/// list would be copied.
 pub fn put_command_values(count: u32, lens: &[u8], values: &mut ArrayVec<u8, 64>)
     requires few { length lens.now ≤ 16 }
     requires none { values.old.items ≡ [] }
@@ -184,7 +187,8 @@ pub fn put_command_values(count: u32, lens: &[u8], values: &mut ArrayVec<u8, 64>
     }
 }
 
-/// Returns the last of these numbers that was read as one of four bytes, with its word.
+/// Returns the last of these identifier numbers whose value has four bytes, with its attribute; `None` if there is none. `words` are the
+/// attributes, in the same order. An identifier number without an attribute is ignored, and so is an attribute without one.
 pub fn last_long(idns: &[Idn], words: &[Words]) -> Option<(Idn, u32)>
     ensures { result ≡ last_long idns.now (map long_of words.now) }
 {
@@ -198,27 +202,7 @@ pub fn last_long(idns: &[Idn], words: &[Words]) -> Option<(Idn, u32)>
     None
 }
 
-fn long_stop(address: u8, found: Option<(Idn, u32)>) -> Option<Stop>
-    ensures { result ≡ long_stop address found }
-{
-    match found {
-        Some((idn, attribute)) => Some(Stop::BadConfig {
-            drive: address,
-            idn,
-            attribute,
-        }),
-        None => None,
-    }
-}
-
-/// Returns the stop that the last of these brings.
-pub fn last_long_stop(address: u8, idns: &[Idn], words: &[Words]) -> Option<Stop>
-    ensures { result ≡ long_stop address (last_long idns.now (map long_of words.now)) }
-{
-    long_stop(address, last_long(idns, words))
-}
-
-/// Returns the identifier numbers of a list: its whole pairs of bytes, 64 at most.
+/// Returns the first 64 identifier numbers of a list. Each has two bytes, the low one first; a single last byte is ignored.
 #[tactic(auto, using(crate::proofs::Lists::one_idn, crate::proofs::Lists::no_idn, crate::proofs::Lists::idns_length))]
 pub fn idns_in(bytes: &[u8]) -> ArrayVec<Idn, 64>
     ensures { result.items ≡ take 64 (idns_in bytes.now) }
@@ -234,6 +218,7 @@ pub fn idns_in(bytes: &[u8]) -> ArrayVec<Idn, 64>
     idns
 }
 
+// Returns the stop for an attribute that isn't that of a number; `None` for one of a number.
 fn attribute_stop(address: u8, idn: Idn, word: u32) -> Option<Stop>
     ensures { result ≡ attribute_stop address idn word }
 {
@@ -248,6 +233,7 @@ fn attribute_stop(address: u8, idn: Idn, word: u32) -> Option<Stop>
     }
 }
 
+// Returns the stop for a list of invalid data that was read, with its first 64 identifier numbers; `None` for other operation data.
 fn list_stop(address: u8, idn: Idn, bytes: &[u8]) -> Option<Stop>
     ensures { result ≡ list_stop address idn.raw bytes.now }
 {
@@ -267,28 +253,21 @@ fn list_stop(address: u8, idn: Idn, bytes: &[u8]) -> Option<Stop>
 }
 
 impl Asked {
-    fn reads_element(&self, element: u8) -> bool
-        ensures { result ≡ reads_element element self.now }
-    {
-        match self.reads {
-            Some(read) => read == element,
-            None => false,
-        }
-    }
-
+    // Returns the stop that the bytes of a complete request of the start-up cause; `None` if they cause none.
     fn stop_by_bytes(&self, address: u8, bytes: &[u8]) -> Option<Stop>
         ensures { result ≡ stop_by_bytes address self.now bytes.now }
     {
-        if self.reads_element(ATTRIBUTE) {
+        if self.reads == Some(ATTRIBUTE) {
             attribute_stop(address, self.idn, low_and_high(bytes).long())
-        } else if self.reads_element(DATA) {
+        } else if self.reads == Some(DATA) {
             list_stop(address, self.idn, bytes)
         } else {
             None
         }
     }
 
-    /// Returns the stop that an outcome of the start-up brings.
+    /// Returns the stop that an outcome of the start-up causes at the drive with this address: a refusal, an attribute that can't be
+    /// configured, or the list after a failed check. Any other outcome causes none, and neither does a broken request.
     pub fn stop_by(&self, address: u8, outcome: &Outcome) -> Option<Stop>
         ensures { result ≡ stop_by address self.now outcome.now }
     {

@@ -1,4 +1,4 @@
-//! One drive as the master keeps it: its channel, its tasks, its answers, and the requests that wait.
+//! One drive as the master sees it: its channel, its tasks, its answers, and the requests that wait.
 #![tactic(auto)]
 
 mod answers;

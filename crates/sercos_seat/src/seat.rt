@@ -1,24 +1,10 @@
 // What the master keeps of one drive.
-ghost use Rattle.std.specs.Prelude.{OnOk, ◌≡◌, ℕ, ◌+◌, ◌<◌, ◌≤◌, ◌==◌, ◌&&◌, Bool, true, false, not, List, [], ◌∷◌, ◌++◌, length, take, drop, map, min, Option, Some, None, IfSome, is_some, is_none, option_map, slice_get, nat_le, if◌then◌else◌};
-ghost use Rattle.std.specs.Option.{option_or};
-ghost use Rattle.sercos_telegram.specs.declared.words.Status.{Status};
-ghost use Rattle.sercos_step.specs.declared.request.Outcome.{Outcome};
-ghost use Rattle.sercos_step.specs.Steps.{IsRequest};
-ghost use Rattle.sercos_service_master.specs.Calls.{Call, cycles_open};
-ghost use Rattle.sercos_service_master.specs.Kept.{MasterStandsFor};
-ghost use Rattle.sercos_timing.specs.Views.{PlanView};
-ghost use Rattle.sercos_seat.specs.Records.{record_said};
-ghost use Rattle.sercos_seat.specs.Ring.{Known, MemberView, Task, member, request_task};
-ghost use Rattle.sercos_seat.specs.Channel.{of_phase};
-ghost use Rattle.sercos_seat.specs.declared.queue.Waiting.{Waiting};
-ghost use Rattle.sercos_seat.specs.Agenda.{wish_given, mdt_attributes, agenda, bytes_of, reads_count, is_checked, is_ready, ended_well, stop_of_task, asked_by};
-ghost use Rattle.sercos_seat.specs.Seats.{long_stop, last_long, pair_of, broken_in, record_seen, record_len_kept, mdt_words_kept, IsQueue, sent_in, forgotten, after_outcome, result_words, Seen, SeatStandsFor, heard_in, identified_in, seen_with_status, at_in, begun_in, with_begun, is_idle_in, has_read, cycles_kept, nothing_seen, ended_in, AreWaiting, outcomes_seen, next_write, next_in_2, next_in_3, at_len_kept, len_of_words, listed_len, IsSeat, kept_given, kept_checked, kept_ready};
-ghost use Rattle.sercos_service_master.specs.Begun.{said_by, master_says};
-ghost use Rattle.sercos_service_master.specs.Calls.{begun_by};
+ghost use Rattle.std.specs.Prelude.{OnOk, OnErr, ◌≡◌, ℕ, ◌+◌, ◌<◌, ◌≤◌, ◌==◌, ◌&&◌, true, false, not, List, [], ◌∷◌, ◌++◌, length, take, drop, map, min, Option, Some, None, IfSome, is_some, is_none, option_map, slice_get, if◌then◌else◌};
+ghost use Rattle.sercos_seat.specs.Clauses.{Status, Outcome, IsRequest, Call, cycles_open, MasterStandsFor, PlanView, record_said, Known, MemberView, Task, member, request_task, of_phase, Waiting, wish_given, mdt_attributes, agenda, reads_count, is_checked, is_ready, ended_well, stop_of_task, asked_by, long_stop, last_long, pair_of, broken_in, record_seen, IsQueue, sent_in, forgotten, after_outcome, Seen, SeatStandsFor, heard_in, seen_with_status, at_in, begun_in, with_begun, is_idle_in, has_read, cycles_kept, nothing_seen, ended_in, AreWaiting, outcomes_seen, next_write, next_in_2, next_in_3, at_len_kept, len_of_words, listed_len, kept_given, kept_checked, kept_ready, master_says, begun_by};
 
 use crate::answers::{
-    Asked, Words, asked_by, ended_well, last_long_stop, lens_of, listed_len, low_and_high, low_at,
-    outcome_bytes, part, put_command_values,
+    Asked, Words, asked_by, ended_well, last_long, lens_of, listed_len, low_and_high, low_at,
+    outcome_bytes, put_command_values, words_from,
 };
 use crate::member::{Member, Numbers, command, number_at, read, write_list, write_word};
 use crate::queue::Waiting;
@@ -38,28 +24,29 @@ use sercos_trace::{Reported, Stop};
 use std::alloc::{AllocError, Global};
 use std::marker::Model;
 
-// The most outcomes that are counted: more than the start-up has.
+// The limit up to which outcomes are counted. It is more than the start-up has.
 const MOST_OUTCOMES: u8 = 100;
 
-// The places of the checks after the reads and the eleven writes.
-const CHECK_127: usize = 11;
+// The number of tasks between the reads and the check for phase 3: the eleven writes.
+const PHASE_3_CHECK_AFTER_READS: usize = 11;
 
-const CHECK_128: usize = 12;
+// The number of tasks between the reads and the check for phase 4.
+const PHASE_4_CHECK_AFTER_READS: usize = 12;
 
-// The telegram type of this profile.
+// The telegram type that the start-up writes: a configured telegram, as this profile uses it.
 const CONFIGURED: u16 = 7;
 
-/// One drive as the master keeps it: its channel, its answers, its telegrams, and the requests that wait. Contracts see the record
-/// of what it keeps.
+/// One drive as the master keeps it: its channel, its answers, its telegrams, and the requests that
+/// wait. Contracts see the record of what it keeps.
 #[derive(Drop)]
 pub struct Seat {
     member: Member,
     channel: MasterChannel,
     done: u8,
     given: ArrayVec<Words, 38>,
-    // by the attributes read, the bytes of its AT after the address in phases 3 and 4
+    // the length of its AT in phases 3 and 4, in bytes after the address, by the attributes read
     at_len: u16,
-    // by the attributes read, the bytes of each value of its record
+    // the length of each value of its data record, in bytes, by the attributes read
     mdt_lens: ArrayVec<u8, 16>,
     checked: bool,
     ready: bool,
@@ -100,6 +87,7 @@ impl Model for Seat {
         × (t.mdt_lens.items ≡ map len_of_words (take (length t.member.mdt) (drop (6 + length t.member.at) t.given.items))) };
 }
 
+// Returns the count of outcomes with one more; it stays at the limit, 100.
 fn one_more(done: u8) -> u8
     ensures { result ≡ min (done + 1) 100 }
 {
@@ -110,31 +98,16 @@ fn one_more(done: u8) -> u8
     }
 }
 
-// Returns how many bytes the AT of a drive has after the address in phases 3 and 4, by the words that were read of it.
-fn at_len_of(given: &[Words], member: &Member) -> u16
-    ensures value { result ≡ listed_len (take (length member.now.at) (drop 6 given.now)) }
-    ensures bounds { (4 ≤ result) × (result ≤ 68) }
-{
-    listed_len(part(given, 6, member.at_count()))
-}
-
-// The words that were read of what the record of a drive is to carry.
+// Returns the attributes of the values of a drive's data record. `given` are the words read so far.
 fn mdt_words_of<'a>(given: &'a [Words], member: &Member) -> &'a [Words]
     ensures value { result.now ≡ take (length member.now.mdt) (drop (6 + length member.now.at) given.now) }
     ensures few { length result.now ≤ 16 }
 {
-    part(given, 6 + member.at_count(), member.mdt_count())
-}
-
-// The bytes of each value of the record of a drive, by the words that were read of it.
-fn mdt_lens_of(given: &[Words], member: &Member) -> ArrayVec<u8, 16>
-    ensures { result.items ≡ map len_of_words (take (length member.now.mdt) (drop (6 + length member.now.at) given.now)) }
-{
-    lens_of(mdt_words_of(given, member))
+    words_from(given, 6 + member.at().len(), member.mdt().len())
 }
 
 impl Seat {
-    /// Opens a seat of which nothing was seen yet.
+    /// Opens the seat of a drive that nothing was received from yet. No request waits.
     pub fn open(alloc: Global, member: Member) -> Seat
         ensures fresh { (d : MemberView) → d ≡ member → SeatStandsFor result d (nothing_seen []) }
     {
@@ -161,18 +134,22 @@ impl Seat {
         }
     }
 
-    /// Keeps a request that comes before those that wait already.
+    /// Adds a request, before those that wait already. It must be for an element that a transfer takes: 1 to 7 of a read, 2 to 7 of a
+    /// write. `number` is its number among all requests, counted from 1. The effect is defined for a seat that has received nothing. The
+    /// error is `AllocError`; then the seat is unchanged.
     #[tactic(auto, using(crate::proofs::Requests::is_one))]
     pub fn wait(&mut self, number: u16, request: Request) -> Result<(), AllocError>
         requires { IsRequest request }
-        ensures { OnOk result ((d : MemberView) (waiting : List Task) → SeatStandsFor self.old d (nothing_seen waiting) →
+        ensures ok { OnOk result ((d : MemberView) (waiting : List Task) → SeatStandsFor self.old d (nothing_seen waiting) →
             SeatStandsFor self.new d (nothing_seen (request_task number request ∷ waiting))) }
+        ensures err { OnErr result (self.new ≡ self.old) }
     {
         self.waiting.push(Waiting { number, request })?;
         Ok(())
     }
 
-    // Keeps the values of an outcome.
+    // Keeps the values of the next outcome: those of a read, and whether a check ended well. Outcomes are counted up to 100. `bytes` are
+    // those of the outcome, none if it isn't complete.
     fn keep(&mut self, bytes: &[u8])
         ensures few { reads_count self.old.member ≤ 38 }
         ensures kept { self.new ≡ record self.old {
@@ -186,19 +163,19 @@ impl Seat {
         let done = usize::from(self.done);
         if done < reads && self.given.len() < 38 {
             self.given.push(low_and_high(bytes));
-            self.at_len = at_len_of(self.given.as_slice(), &self.member);
-            self.mdt_lens = mdt_lens_of(self.given.as_slice(), &self.member);
+            self.at_len = listed_len(words_from(self.given.as_slice(), 6, self.member.at().len()));
+            self.mdt_lens = lens_of(mdt_words_of(self.given.as_slice(), &self.member));
         }
-        if done == reads + CHECK_128 {
+        if done == reads + PHASE_4_CHECK_AFTER_READS {
             self.ready = self.checked && ended_well(bytes);
         }
-        if done == reads + CHECK_127 {
+        if done == reads + PHASE_3_CHECK_AFTER_READS {
             self.checked = ended_well(bytes);
         }
         self.done = one_more(self.done);
     }
 
-    // The stop that an outcome brings, if it is one of the start-up.
+    // Returns the stop that an outcome of the current task causes; `None` if it causes none. Only tasks of the start-up cause one.
     fn trouble_by(&self, outcome: &Outcome) -> Option<Stop>
         ensures { result ≡ stop_of_task self.now.member.address self.now.number self.now.asked outcome.now }
     {
@@ -208,7 +185,7 @@ impl Seat {
         self.asked.stop_by(self.member.address(), outcome)
     }
 
-    // Takes an outcome of the task at work.
+    // Takes the outcome of the current task: keeps its values, the stop that it causes, and the report of a request.
     fn take_outcome(&mut self, outcome: Outcome)
         ensures few { reads_count self.old.member ≤ 38 }
         ensures kept { self.new ≡ after_outcome outcome self.old }
@@ -220,8 +197,8 @@ impl Seat {
         }
     }
 
-    // Processes a status of the drive, and the information word after it.
-    fn hear(&mut self, status: &Status, info: u16)
+    // Processes the status of the drive's AT, and the information word after it, and keeps that an AT was taken in this cycle.
+    fn process_status(&mut self, status: &Status, info: u16)
         ensures { (d : MemberView) (x : Seen) → SeatStandsFor self.old d x → SeatStandsFor self.new d (heard_in status.now info x) }
     {
         self.heard = true;
@@ -230,27 +207,21 @@ impl Seat {
         }
     }
 
-    // The drive's AT identifies it.
-    fn identify(&mut self)
-        ensures { (d : MemberView) (x : Seen) → SeatStandsFor self.old d x → SeatStandsFor self.new d (identified_in x) }
-    {
-        self.heard = true;
-        self.identified = true;
-    }
-
-    // Takes an AT: it identifies the drive, or its status is processed.
+    // Takes an AT. If `identifies`, it identifies the drive, otherwise its status is processed.
     fn take(&mut self, identifies: bool, status: &Status, info: u16)
         ensures { (d : MemberView) (x : Seen) → SeatStandsFor self.old d x → SeatStandsFor self.new d (seen_with_status identifies status.now info x) }
     {
         if identifies {
-            self.identify();
+            self.heard = true;
+            self.identified = true;
         } else {
-            self.hear(status, info);
+            self.process_status(status, info);
         }
     }
 
-    /// Processes a content with the drive's address. It is taken as its AT if it has the wanted length, in bytes after the address,
-    /// and is the first one of the cycle. In phase 1 it identifies the drive, later its status is processed.
+    /// Processes a content that was received. It is taken as the drive's AT if it has the drive's address and the wanted length, at least 4
+    /// bytes after the address, and no AT was taken in this cycle. Otherwise it is ignored. If `identifies`, as in phase 1, the AT
+    /// identifies the drive, otherwise its status is processed.
     pub fn take_at(&mut self, identifies: bool, wanted: u16, content: &[u8])
         requires { 4 ≤ wanted }
         ensures { (d : MemberView) (x : Seen) → SeatStandsFor self.old d x → SeatStandsFor self.new d (at_in identifies d.address wanted content.now x) }
@@ -264,14 +235,15 @@ impl Seat {
         }
     }
 
-    /// Returns whether no task is at work.
+    /// Returns whether the channel has no current task.
     pub fn is_idle(&self) -> bool
         ensures { result ≡ is_none self.now.channel.transfer }
     {
         self.channel.idle()
     }
 
-    // Begins a task.
+    // Begins a task on an idle channel. The request must be for an element that a transfer takes: 1 to 7 of a read, 2 to 7 of a write. It
+    // must no longer be among those that wait. `number` is that of a request; a task of the start-up has none.
     fn begin(&mut self, request: Request, number: Option<u16>)
         requires idle { is_none self.old.channel.transfer ≡ true }
         requires request { IsRequest request }
@@ -284,7 +256,9 @@ impl Seat {
         self.channel.begin(request);
     }
 
-    // The request at an index after the reads: a write of the plan, or the check for phase 3.
+    // Returns the task at an index after the reads: a write for 0 to 10, or the check for phase 3 for 11. 0 and 1 write the ring's cycle
+    // times, 2 to 6 and 10 values of the plan, 7 the telegram type, 8 and 9 the drive's AT and MDT lists. `numbers` must be the cycle times
+    // of the ring, and `place` the drive's index in ring order. Without a plan, and for a greater index, it is `None`.
     fn next_write(
         &self,
         numbers: &Numbers,
@@ -316,7 +290,9 @@ impl Seat {
         }
     }
 
-    // Returns the next request of phase 2, if there is one.
+    // Returns the next task of phase 2: a read, one of the eleven writes of `next_write`, the check for phase 3, or the read of the list
+    // after it failed. It is `None` if all reads have ended and there is no plan yet, and if no task is left. `numbers` must be the cycle
+    // times of the ring, and `place` the drive's index in ring order.
     fn next_in_2(&self, numbers: &Numbers, plan: &Option<Plan>, place: usize) -> Option<Request>
         ensures value { (s : Known) → member s place ≡ self.now.member → s.control ≡ numbers.now.control → s.cycle ≡ numbers.now.cycle →
             result ≡ next_in_2 s plan.now place self.now.done self.now.checked }
@@ -328,13 +304,14 @@ impl Seat {
         if done < reads {
             return Some(self.member.read_at(done));
         }
-        if done == reads + CHECK_128 && plan.is_some() && !self.checked {
+        if done == reads + PHASE_4_CHECK_AFTER_READS && plan.is_some() && !self.checked {
             return Some(read(INVALID_FOR_PHASE_2, DATA));
         }
         self.next_write(numbers, plan, place, done - reads)
     }
 
-    // Returns the next request of phase 3, if there is one.
+    // Returns the next task of phase 3: the check for phase 4, or the read of the list after it failed. It is `None` without a plan, if the
+    // check for phase 3 hasn't ended well, and if no task is left. `planned` is whether there is a plan.
     #[tactic(auto, using(crate::proofs::Agendas::kept_reads))]
     fn next_in_3(&self, planned: bool) -> Option<Request>
         ensures value { result ≡ next_in_3 (reads_count self.now.member) planned self.now.done self.now.checked self.now.ready }
@@ -346,16 +323,16 @@ impl Seat {
         if !planned || !self.checked {
             return None;
         }
-        if done == reads + CHECK_128 {
+        if done == reads + PHASE_4_CHECK_AFTER_READS {
             return Some(command(PHASE_4_CHECK));
         }
-        if done == reads + CHECK_128 + 1 && !self.ready {
+        if done == reads + PHASE_4_CHECK_AFTER_READS + 1 && !self.ready {
             return Some(read(INVALID_FOR_PHASE_3, DATA));
         }
         None
     }
 
-    /// Returns whether all reads have ended.
+    /// Returns whether all reads of the start-up have ended.
     pub fn has_read(&self) -> bool
         ensures { result ≡ has_read self.now }
     {
@@ -376,7 +353,8 @@ impl Seat {
         self.ready
     }
 
-    /// Begins the next task of phase 2, if no task is at work.
+    /// Begins the next task of phase 2, if the channel is idle and there is one; otherwise begins none. `numbers` must be the cycle times
+    /// of the ring, and `place` the drive's index in ring order. The tasks that wait must be of phase 4.
     pub fn begin_in_2(&mut self, place: usize, numbers: &Numbers, plan: &Option<Plan>)
         ensures { (s : Known) (x : Seen) (waiting : List Task) → member s place ≡ self.old.member → s.control ≡ numbers.now.control → s.cycle ≡ numbers.now.cycle →
             AreWaiting waiting → SeatStandsFor self.old (member s place) x → SeatStandsFor self.new (member s place)
@@ -390,7 +368,8 @@ impl Seat {
         }
     }
 
-    /// Begins the next task of phase 3, if no task is at work.
+    /// Begins the next task of phase 3, if the channel is idle and there is one; otherwise begins none. `planned` is whether there is a
+    /// plan. The tasks that wait must be of phase 4.
     pub fn begin_in_3(&mut self, planned: bool)
         ensures { (s : Known) (k : ℕ) (x : Seen) (plan : Option PlanView) (waiting : List Task) → AreWaiting waiting → is_some plan ≡ planned →
             SeatStandsFor self.old (member s k) x → SeatStandsFor self.new (member s k)
@@ -404,7 +383,8 @@ impl Seat {
         }
     }
 
-    /// Begins the next request that waits, if no task is at work and both checks have ended well.
+    /// Begins the next request that waits, if the channel is idle, there is a plan, and the checks for phases 3 and 4 ended well; otherwise
+    /// begins none. `planned` is whether there is a plan. The tasks that wait must be of phase 4.
     #[tactic(auto, using(crate::proofs::Requests::takes))]
     pub fn begin_in_4(&mut self, planned: bool)
         ensures { (s : Known) (k : ℕ) (x : Seen) (plan : Option PlanView) → AreWaiting x.waiting → is_some plan ≡ planned →
@@ -425,7 +405,8 @@ impl Seat {
         }
     }
 
-    /// Replaces the content by an MDT to the drive alone, with its record.
+    /// Replaces the content by an MDT of 5 bytes to this drive alone, in the layout of phases 1 and 2. It carries the open step; if there is
+    /// none, MHS is unchanged, and all other bits of the control and information words are 0. The seat keeps that it was sent.
     pub fn send_single(&mut self, out: &mut Content)
         ensures stands { (d : MemberView) (x : Seen) → SeatStandsFor self.old d x → SeatStandsFor self.new d (sent_in x) }
         ensures bytes { (d : MemberView) (x : Seen) → SeatStandsFor self.old d x → out.new ≡ d.address ∷ record_said (master_says (begun_by x.calls)) [] }
@@ -436,8 +417,10 @@ impl Seat {
         write_single(address, &control, info, out);
     }
 
-    /// Appends the drive's record to an MDT for all: the open step or the idle record, and the command values of the cycle. Nothing
-    /// is appended if it would pass 2048 bytes.
+    /// Appends the drive's data record to the content of an MDT to all drives: the two words of the open step, and the command values of
+    /// the cycle. If no step is open, MHS is unchanged, and all other bits of the two words are 0. The seat keeps that it was sent. `count`
+    /// is the number of the cycle. The content must have room for it within 2048 bytes; otherwise it is unspecified, but not empty if it
+    /// wasn't before.
     pub fn send_record(&mut self, count: u32, out: &mut Content)
         ensures stands { (d : MemberView) (x : Seen) → SeatStandsFor self.old d x → SeatStandsFor self.new d (sent_in x) }
         ensures bytes { (d : MemberView) (x : Seen) → SeatStandsFor self.old d x → length out.old + length (record_seen count d x) ≤ 2048 → out.new ≡ out.old ++ record_seen count d x }
@@ -454,14 +437,14 @@ impl Seat {
         let _full = joint_record(&record, out);
     }
 
-    /// Returns whether the newest outcome brings a stop.
+    /// Returns whether the newest outcome causes a stop.
     pub fn has_trouble(&self) -> bool
         ensures { result ≡ is_some self.now.trouble }
     {
         self.trouble.is_some()
     }
 
-    /// Takes out the stop that it brings.
+    /// Takes out the stop that the newest outcome causes; `None` if it causes none. Afterwards the seat has none.
     pub fn take_trouble(&mut self) -> Option<Stop>
         ensures value { result ≡ self.old.trouble }
         ensures rest { self.new ≡ record self.old { trouble = None } }
@@ -469,21 +452,21 @@ impl Seat {
         self.trouble.take()
     }
 
-    /// Returns whether the drive is identified.
+    /// Returns whether the drive was identified.
     pub fn is_identified(&self) -> bool
         ensures { result ≡ self.now.identified }
     {
         self.identified
     }
 
-    /// Returns whether no AT was taken in this cycle and the one before, in phases 3 and 4.
+    /// Returns whether no AT was taken in this cycle and in the one before, and the latter was of phase 3 or 4.
     pub fn is_lost(&self) -> bool
         ensures { result ≡ (self.now.missed && not self.now.heard) }
     {
         self.missed && !self.heard
     }
 
-    /// Returns how many cycles ended since the open step was first sent, at most 64.
+    /// Returns the number of cycles that ended since the open step was first sent, at most 64; 0 if no step that was sent is open.
     pub fn cycles_open(&self) -> u8
         ensures value { (h : List Call) → MasterStandsFor self.now.channel h → result ≡ cycles_open h }
         ensures kept { result ≡ cycles_kept self.now }
@@ -491,7 +474,8 @@ impl Seat {
         self.channel.cycles_open()
     }
 
-    /// Ends a cycle of this phase. Returns the request that ended in it, if one did.
+    /// Ends a cycle of this phase. The seat keeps whether no AT was taken in it, if the phase is 3 or 4. At the start of the next cycle no
+    /// AT has been taken, and no request has ended. Returns the request that ended in it, with its outcome; `None` if none did.
     pub fn end_cycle(&mut self, phase: u8) -> Option<Reported>
         ensures stands { (d : MemberView) (x : Seen) → SeatStandsFor self.old d x → SeatStandsFor self.new d (ended_in phase x) }
         ensures report { result ≡ self.old.report }
@@ -509,7 +493,8 @@ impl Seat {
         self.report.is_some()
     }
 
-    /// Ends a cycle of this phase in which no request ended.
+    /// Ends a cycle of this phase, in which no request may have ended. The seat keeps whether no AT was taken in it, if the phase is 3 or
+    /// 4. At the start of the next cycle no AT has been taken, and no request has ended.
     pub fn end_quiet_cycle(&mut self, phase: u8)
         requires { self.old.report ≡ None }
         ensures { (d : MemberView) (x : Seen) → SeatStandsFor self.old d x → SeatStandsFor self.new d (ended_in phase x) }
@@ -519,7 +504,8 @@ impl Seat {
         self.heard = false;
     }
 
-    /// Begins an epoch: nothing was seen of the drive. Returns the request at work as broken, if there is one.
+    /// Begins an epoch: everything received from the drive is forgotten. Returns the current request, with its number, as broken; `None` if
+    /// no request is current, also if the current task is one of the start-up. The requests that weren't begun still wait.
     pub fn reset(&mut self) -> Option<Reported>
         ensures fresh { (d : MemberView) (x : Seen) → SeatStandsFor self.old d x → SeatStandsFor self.new d (forgotten x) }
         ensures broken { (d : MemberView) (x : Seen) → SeatStandsFor self.old d x → result ≡ option_map pair_of (broken_in x) }
@@ -550,7 +536,9 @@ impl Seat {
         &self.member
     }
 
-    /// Returns the drive's input for the planner, by its answers to the reads. A time that wasn't read is 0.
+    /// Returns the planner's input of the drive, from its answers to the reads. Times are in microseconds; one that wasn't read is 0. An
+    /// attribute that wasn't read adds nothing to the lengths, which are in bytes: that of the AT after the address, and that of the data
+    /// record.
     pub fn wish(&self) -> Wish
         ensures { (d : MemberView) (x : Seen) → SeatStandsFor self.now d x → result ≡ wish_given d (outcomes_seen x) }
     {
@@ -567,34 +555,27 @@ impl Seat {
                 tmtsg: low_at(words, 5),
             },
             at_len: self.at_len(),
-            record_len: self.record_len(),
+            record_len: listed_len(mdt_words_of(words, &self.member)),
         }
     }
 
-    // The attributes of what its record is to carry.
-    fn mdt_words(&self) -> &[Words]
-        ensures value { result.now ≡ mdt_words_kept self.now }
-        ensures bound { length result.now ≤ 16 }
-    {
-        mdt_words_of(self.given.as_slice(), &self.member)
-    }
-
-    // Returns how many bytes its record has, 4 to 68.
-    fn record_len(&self) -> u16
-        ensures value { result ≡ record_len_kept self.now }
-        ensures bounds { (4 ≤ result) × (result ≤ 68) }
-    {
-        listed_len(self.mdt_words())
-    }
-
-    /// Returns the stop for the last number of its record that was read as one of four bytes, if there is one.
+    /// Returns the stop for the last value of its data record with four bytes; `None` if there is none. A value whose attribute wasn't read
+    /// is ignored.
     pub fn last_long(&self) -> Option<Stop>
         ensures { (d : MemberView) (x : Seen) → SeatStandsFor self.now d x → result ≡ long_stop d.address (last_long d.mdt (mdt_attributes d (outcomes_seen x))) }
     {
-        last_long_stop(self.member.address(), self.member.mdt(), self.mdt_words())
+        let words = mdt_words_of(self.given.as_slice(), &self.member);
+        let Some((idn, attribute)) = last_long(self.member.mdt(), words) else {
+            return None;
+        };
+        Some(Stop::BadConfig {
+            drive: self.member.address(),
+            idn,
+            attribute,
+        })
     }
 
-    /// Returns how many bytes its AT has after the address in phases 3 and 4, 4 to 68.
+    /// Returns the length of its AT in phases 3 and 4 by the attributes read so far, 4 to 68 bytes after the address.
     pub fn at_len(&self) -> u16
         ensures value { result ≡ at_len_kept self.now }
         ensures bounds { (4 ≤ result) × (result ≤ 68) }

@@ -1,6 +1,7 @@
-pub mod Log
-pub mod Replies
-pub mod Writes
-pub mod Says
+pub mod Clauses
 pub mod Kept
+pub mod Log
 pub mod Partial
+pub mod Replies
+pub mod Says
+pub mod Writes

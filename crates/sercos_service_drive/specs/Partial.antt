@@ -1,5 +1,5 @@
--- The effect of a written word of operation data, at its place in the run. For proofs alone.
-use Rattle.std.specs.Prelude.{◌≡◌, ℕ, ◌≤◌, ◌%◌, ◌==◌, nat_lt, nat_le, Bool, true, false, not, ◌&&◌, ◌||◌, List, [], ◌∷◌, Option, Some, None, Result, Ok, Err}
+-- The effect of a word of operation data, by its place in the run. Used in proofs alone.
+use Rattle.std.specs.Prelude.{◌≡◌, ℕ, ◌%◌, ◌==◌, nat_lt, nat_le, Bool, true, false, not, ◌&&◌, ◌||◌, List, [], ◌∷◌, Option, Some, None, Result, Ok, Err}
 use Rattle.std.specs.Bool.{then_some}
 use Rattle.std.specs.Option.{option_or}
 use Rattle.sercos_idn.specs.declared.attribute.Attribute.{Attribute}
@@ -15,40 +15,41 @@ use Rattle.sercos_service_drive.specs.Log.{Processed, Entry}
 use Rattle.sercos_service_drive.specs.Writes.{Write, unless, blocks_with, commands_with}
 use Rattle.sercos_service_drive.specs.Kept.{SessionView, IsMidway, IsAnswered}
 
--- The first cause for which a word of operation data is refused by its place and the block alone, where with it there are
--- `count` words, the first of which is this.
+-- The first code for which a word of operation data is refused by its place and its attribute. With
+-- it there are `count` words, and `first` is the first of them.
 unfoldable pub length_cause : Attribute → ℕ → Bool → ℕ → ℕ → Option ℕ
 length_cause a most last count first =
     option_or (then_some (last && nat_lt count (words_by a first)) 0x7002)
     (option_or (then_some ((is_list a.length && ((count == 1) && nat_lt most first)) || (not last && nat_le (words_by a first) count)) 0x7003)
     (then_some (is_list a.length && ((count == 1) && not (first % item_len a.length == 0))) 0x7008))
 
+-- the same, with the codes for which the block can't be written before it
 abbrev pub place_cause : Option Block → ℕ → Bool → ℕ → ℕ → Option ℕ
 place_cause None phase last count first = Some 0x1001
 place_cause (Some b) phase last count first = option_or (write_fault (Some b) phase) (length_cause b.attribute b.max_len last count first)
 
--- these words were accepted before, in a run that goes on
+-- these words were accepted before, in a run that continues
 abbrev pub IsStarted : Block → List ℕ → Type 0
 IsStarted b [] = Unit {0}
 IsStarted b (word ∷ words) = IsMidway b (word ∷ words)
 
--- what a write, if there is one, makes of the blocks and of the procedure commands
+-- the effect of a write, if there is one, on the blocks and the procedure commands
 pub record IsEffect (w : Option Write) (cycle : ℕ) (blocks blocks' : List Block) (commands commands' : CommandsView) : Type 0 where
   pub blocks_are : (c : CommandHistory) → CommandsStandFor commands c → blocks' ≡ blocks_with w c blocks
   pub commands_are : (c : CommandHistory) → CommandsStandFor commands c → CommandsStandFor commands' (commands_with w blocks c)
 
--- a step is answered with a word, or it is refused, which ends the run
+-- a step is answered with a word, or refused; a refusal ends the run
 abbrev pub IsReplied : SessionView → Processed → List Entry → Result ℕ Code → Type 0
 IsReplied v t log (Ok word) = IsAnswered v t log (good word)
 IsReplied v t log (Err code) = IsAnswered (record v { selection = None }) t log (refused code.raw)
 
--- the write of the last word, if there is no cause against it
+-- the write of the last word, unless there is a code against it
 abbrev pub write_by : Bool → Option ℕ → Write → Option Write
 write_by true code w = unless code w
 write_by false code w = None
 
--- The effect of a word of operation data, if with it the run has these words: the code against it; without one, the bytes
--- are kept, and the last word writes them.
+-- The effect of a word of operation data, if with it the run has these words: the code against it,
+-- if there is one; otherwise the buffer has its bytes, and the last word writes them.
 pub record IsWord (raw cycle phase : ℕ) (b : Block) (last : Bool) (words : List ℕ) (code : Option ℕ) (buffer : List ℕ) (blocks blocks' : List Block) (commands commands' : CommandsView) : Type 0 where
   pub code_is : code ≡ write_cause b phase last words
   pub buffer_is : code ≡ None → buffer ≡ bytes_in words

@@ -1,4 +1,4 @@
--- What a drive sends after the records that it processed.
+-- What a drive sends on the service channel after the records that it processed.
 use Rattle.std.specs.Prelude.{ℕ, ◌-◌, nat_le, Bool, true, false, if◌then◌else◌, List, [], ◌∷◌}
 use Rattle.sercos_telegram.specs.declared.words.Status.{Status}
 use Rattle.sercos_command.specs.Calls.{CommandHistory, change_in}
@@ -13,8 +13,8 @@ pub record Shown : Type 0 where
   pub change : Bool
   pub word : ℕ
 
--- In a cycle: as long as the last accepted step is no older than the busy time, the drive is busy; then it shows the reply.
--- If no step was accepted it shows nothing but the bits.
+-- What is shown in a cycle. As long as the last accepted step is no older than the busy time, the
+-- drive is busy. After that it shows the reply. If no step was accepted, it shows only the bits.
 abbrev pub shown : ℕ → ℕ → Bool → Bool → List Entry → Shown
 shown busy cycle bit change [] = record { ahs = bit; busy = false; error = false; change = change; word = 0 }
 shown busy cycle bit change (e ∷ log) =
@@ -22,6 +22,7 @@ shown busy cycle bit change (e ∷ log) =
     then record { ahs = bit; busy = true; error = false; change = change; word = 0 }
     else record { ahs = bit; busy = false; error = e.answer.error; change = change; word = e.answer.word }
 
+-- what the channel shows in a cycle after these records
 abbrev pub channel_says : ℕ → ℕ → CommandHistory → List Processed → Shown
 channel_says busy cycle commands h = shown busy cycle (ahs h) (change_in commands cycle) (log_of h)
 

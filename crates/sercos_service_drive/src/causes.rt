@@ -1,14 +1,12 @@
-// Why a word of operation data is refused before the value is whole.
-ghost use Rattle.std.specs.Prelude.{◌≡◌, ◌≤◌, ◌+◌, ◌%◌, ◌==◌, nat_lt, nat_le, not, ◌&&◌, ◌||◌, Some, None, MatchResult};
-ghost use Rattle.sercos_idn.specs.Codes.{is_list, item_len};
-ghost use Rattle.sercos_service_drive.specs.Replies.{words_by};
-ghost use Rattle.sercos_service_drive.specs.Partial.{length_cause, place_cause};
+// Why a word of operation data is refused before all words have arrived. Error codes are those of IEC 61491:1995.
+ghost use Rattle.std.specs.Prelude.{◌≡◌, ◌≤◌, ◌+◌, ◌==◌, nat_lt, nat_le, not, ◌&&◌, ◌||◌, Some, None, MatchResult};
+ghost use Rattle.sercos_service_drive.specs.Clauses.{is_list, words_by, length_cause, place_cause};
 
 use sercos_block::Stored;
 use sercos_idn::{Attribute, Code};
 
-// Returns how many words of 16 bits a whole write of operation data has. `first` is its first word: the length in bytes of a list, which
-// is followed by another length and by the items; for a number it doesn't matter.
+// Returns the number of 16-bit words of a whole write of operation data. `first` is its first word: the length of a list in bytes, which
+// another length and the items follow. For a number `first` is ignored.
 fn words_by(attribute: &Attribute, first: u16) -> u32
     ensures { result ≡ words_by attribute.now first }
 {
@@ -19,7 +17,8 @@ fn words_by(attribute: &Attribute, first: u16) -> u32
     }
 }
 
-// Returns whether a list is longer than it can be, at its first word, or the word isn't the last though it must be.
+// Returns whether the write is too long: the length of a list, at its first word, is above `most` bytes; or `count` words have arrived, and
+// the word that must be the last isn't.
 fn is_over(attribute: &Attribute, most: u16, last: bool, count: u32, first: u16) -> bool
     ensures { result ≡ ((is_list attribute.now.length && ((count == 1) && nat_lt most first)) || (not last && nat_le (words_by attribute.now first) count)) }
 {
@@ -27,16 +26,9 @@ fn is_over(attribute: &Attribute, most: u16, last: bool, count: u32, first: u16)
         || !last && words_by(attribute, first) <= count
 }
 
-// Returns whether a list's length is not a number of whole items, at its first word.
-fn is_uneven(attribute: &Attribute, count: u32, first: u16) -> bool
-    ensures { result ≡ (is_list attribute.now.length && ((count == 1) && not (first % item_len attribute.now.length == 0))) }
-{
-    attribute.length.is_list()
-        && count == 1
-        && usize::from(first) % attribute.length.item_len() != 0
-}
-
-// Checks a word by its place, where with it there are `count` words. The error is the first cause against it.
+// Checks a word by its place in the run: with it there are `count` words, `first` is the first of them, and `last` is whether it is the
+// last. `most` is the most bytes of a list. The error is the first that applies: 0x7002, the last word is too early; 0x7003, the write is
+// too long, as `is_over` decides; 0x7008, at the first word, the length of a list isn't a number of whole items.
 #[tactic(auto, unfolding(crate::specs::Partial::length_cause))]
 fn check_length(
     attribute: &Attribute,
@@ -55,13 +47,17 @@ fn check_length(
     if is_over(attribute, most, last, count, first) {
         return Err(Code::TOO_LONG);
     }
-    if is_uneven(attribute, count, first) {
+    if attribute.length.is_list()
+        && count == 1
+        && usize::from(first) % attribute.length.item_len() != 0
+    {
         return Err(Code::INVALID);
     }
     Ok(())
 }
 
-// Checks a word of the operation data of a block, by its place and what the block is. The error is the first cause against it.
+// Checks a word of the operation data of a block, in a phase from 2 to 4: first that the block can be written, then the word as
+// `check_length` does. The error is the first that applies: 0x7004, 0x7005, or an error of `check_length`.
 pub(crate) fn check_place(
     block: &Stored<'_>,
     phase: u8,

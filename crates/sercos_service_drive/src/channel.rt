@@ -1,12 +1,6 @@
-// The drive's end of a channel.
+// The drive's end of a service channel.
 ghost use Rattle.std.specs.Prelude.{◌≡◌, ℕ, ◌≤◌, ◌-◌, nat_le, List, [], ◌∷◌, ◌<◌, ◌==◌, ◌&&◌, not, true, is_some};
-ghost use Rattle.sercos_idn.specs.Elements.{data_element};
-ghost use Rattle.sercos_command.specs.Calls.{CommandHistory};
-ghost use Rattle.sercos_command.specs.Kept.{are_commands_of, CommandsStandFor};
-ghost use Rattle.sercos_service_drive.specs.Log.{Processed, processed_record};
-ghost use Rattle.sercos_service_drive.specs.Writes.{AreThose, added_on, blocks_with, commands_with};
-ghost use Rattle.sercos_service_drive.specs.Says.{channel_says, shown_by};
-ghost use Rattle.sercos_service_drive.specs.Kept.{ChannelStandsFor};
+ghost use Rattle.sercos_service_drive.specs.Clauses.{data_element, CommandHistory, are_commands_of, CommandsStandFor, Processed, processed_record, AreThose, added_on, blocks_with, commands_with, channel_says, shown_by, ChannelStandsFor};
 
 use crate::session::Session;
 use sercos_block::Store;
@@ -16,17 +10,17 @@ use sercos_step::{Answer, Step};
 use sercos_telegram::{Control, Status};
 use std::marker::Model;
 
-/// The last step that was accepted.
+/// The last step that was accepted, and the reply to it.
 #[derive(Clone, Copy, Debug, PartialEq, Eq)]
-pub struct Last {
+pub(crate) struct Last {
     /// The cycle in which it was accepted.
     pub cycle: u32,
     /// The reply to it.
     pub answer: Answer,
 }
 
-/// The drive's end of a service channel (IEC 61491:1995). It stands for the records that it processed since its reset: a record whose
-/// handshake bit isn't that of the record before it is a step, which takes effect at once; any other is dropped.
+/// The drive's end of a service channel (IEC 61491:1995). Contracts state it by the records that it processed since its reset. A record
+/// whose handshake bit differs from that of the record before it is a step, which takes effect at once. Any other record is ignored.
 ///
 /// No call takes memory.
 #[derive(Drop)]
@@ -45,7 +39,7 @@ impl Model for DriveChannel {
     ghost view = { λ c. record { busy = c.busy; ahs = c.ahs; last = c.last; session = c.session } };
 }
 
-// The step of a record.
+// Returns the step of a record: the bits of its control word and its information word. The element is below 8.
 fn step_of(control: &Control, info: u16) -> Step
     ensures step { result ≡ record { write = control.now.write; last = control.now.last; element = control.now.element; word = info } }
     ensures element { result.element < 8 }
@@ -58,14 +52,14 @@ fn step_of(control: &Control, info: u16) -> Step
     }
 }
 
-// Returns whether a step that got this reply writes operation data.
+// Returns whether a step with this reply completes a write of operation data.
 fn adds(step: Step, answer: Answer) -> bool
     ensures { result ≡ (step.write && ((step.element == data_element) && (step.last && not answer.error))) }
 {
     step.write && step.element == DATA && step.last && !answer.error
 }
 
-// Returns whether the drive is busy in a cycle with a step of an earlier one.
+// Returns whether the drive is busy in a cycle with the step accepted in cycle `since`: at most `busy` cycles have passed.
 fn is_busy(cycle: u32, since: u32, busy: u8) -> bool
     ensures { result ≡ nat_le (cycle - since) busy }
 {
@@ -73,7 +67,7 @@ fn is_busy(cycle: u32, since: u32, busy: u8) -> bool
 }
 
 impl DriveChannel {
-    /// Returns a channel that has processed no record, of a drive that is busy with each step for `busy` cycles.
+    /// Returns a channel that has processed no record. The drive is busy with each step for `busy` cycles.
     pub fn new(busy: u8) -> DriveChannel
         ensures { ChannelStandsFor result busy [] }
     {
@@ -85,9 +79,11 @@ impl DriveChannel {
         }
     }
 
-    /// Processes a record in a cycle and in a phase from 2 to 4. The store is that of the drive: except for their operation data, its
-    /// blocks are those of each earlier record since the reset, and of this record too. A step that writes the last word of operation data
-    /// changes the block, and informs the procedure commands. Returns whether a step was accepted that wrote operation data.
+    /// Processes a record in a cycle and in a phase from 2 to 4, and returns whether a step was accepted that completed a write of
+    /// operation data. Such a step changes the block in the store, and informs the procedure commands; if it newly sets a check, the check's
+    /// list of invalid operation data (S-0-0021 or S-0-0022) is written too. Otherwise the store is unchanged. `store` is always the drive's
+    /// store: except for their operation data, its blocks are those of each earlier record since the reset. All commands that are set are
+    /// procedure commands of the store, before and after.
     pub fn take(
         &mut self,
         cycle: u32,
@@ -121,8 +117,11 @@ impl DriveChannel {
         adds(step, answer)
     }
 
-    /// Returns what an AT of a cycle shows: the bits of the status word and the information word. As long as the last step is no older than
-    /// the busy time, it is busy; then it has the reply to that step.
+    /// Returns what the AT of a cycle shows: the service channel's bits of the status word, and the information word. The drive is busy as
+    /// long as the last step is no older than the busy time. Until then the error bit and the information word are 0. After that it shows
+    /// the reply to that step. Before the first step neither busy nor error is set, and the information word is 0. The bits for cyclic data
+    /// are always 0. In each case the handshake bit is that of the last step, 0 before the first, and the change bit is that of the
+    /// procedure commands.
     pub fn say(&self, cycle: u32, commands: &Commands) -> (Status, u16)
         ensures shown { (busy : ℕ) (h : List Processed) (c : CommandHistory) → ChannelStandsFor self.now busy h → CommandsStandFor commands.now c →
             shown_by result.0 result.1 ≡ channel_says busy cycle c h }
@@ -144,17 +143,17 @@ impl DriveChannel {
         }
     }
 
-    /// Phase 0: the channel has processed no record. The busy time stays.
+    /// Processes phase 0: the channel has processed no record. The busy time is unchanged.
     pub fn reset(&mut self)
         ensures { ChannelStandsFor self.new self.old.busy [] }
     {
         self.ahs = false;
         self.last = None;
-        self.session.reset();
+        self.session.close();
     }
 }
 
-// A status word that has these bits and no others.
+// Returns a status word with these bits; its other bits are 0.
 fn status(ahs: bool, busy: bool, error: bool, change: bool) -> Status
     ensures { (result.ahs ≡ ahs) × (result.busy ≡ busy) × (result.error ≡ error) × (result.change ≡ change) × (result.cyclic ≡ 0) }
 {

@@ -1,11 +1,6 @@
-// The copy of an element that a selection makes.
-ghost use Rattle.std.specs.Prelude.{◌≡◌, ◌≤◌, [], ◌∷◌, length, Some, None, MatchResult};
-ghost use Rattle.sercos_step.specs.Words.{words_of};
-ghost use Rattle.sercos_block.specs.declared.block.Block.{Block};
-ghost use Rattle.sercos_block.specs.Blocks.{element_of};
-ghost use Rattle.sercos_command.specs.Calls.{CommandHistory};
-ghost use Rattle.sercos_command.specs.Kept.{CommandsStandFor};
-ghost use Rattle.sercos_service_drive.specs.Replies.{list_words, element_words, data_in, words_at, missing};
+// The copy of an element, made at the first step of a read.
+ghost use Rattle.std.specs.Prelude.{◌≡◌, ◌≤◌, length, Some, None, MatchResult};
+ghost use Rattle.sercos_service_drive.specs.Clauses.{words_of, element_of, CommandHistory, CommandsStandFor, list_words, element_words, words_at, missing};
 
 use crate::data::push_data;
 use sercos_bits::ByteList;
@@ -13,22 +8,15 @@ use sercos_block::limits::{MOST_NAME, MOST_UNIT};
 use sercos_block::{Store, Stored};
 use sercos_command::Commands;
 use sercos_idn::element::{DATA, IDENTIFIER, NAME, UNIT};
-use sercos_idn::{Attribute, Code, Idn};
+use sercos_idn::{Code, Idn};
 
 /// The most bytes of an element's words: a list of 1024 bytes, and its two lengths before it.
 pub(crate) const CAPACITY: usize = 1028;
 
+// The words of an element, or of a write so far, each with its low byte first.
 pub(crate) type Buffer = ByteList<CAPACITY>;
 
-// Copies a word.
-fn copy_word(buffer: &mut Buffer, word: u16)
-    ensures { words_of buffer.new ≡ word ∷ [] }
-{
-    buffer.clear();
-    buffer.push_word_within(word);
-}
-
-// Copies a list with its two lengths.
+// Replaces the buffer by a list of at most 1024 bytes, after its length and the length of the longest list, in bytes.
 fn copy_list(buffer: &mut Buffer, longest: u16, bytes: &[u8])
     requires { length bytes.now ≤ 1024 }
     ensures { words_of buffer.new ≡ list_words longest bytes.now }
@@ -39,16 +27,7 @@ fn copy_list(buffer: &mut Buffer, longest: u16, bytes: &[u8])
     buffer.append_within(bytes);
 }
 
-// Copies the operation data of a number as it is in a cycle.
-fn copy_data(buffer: &mut Buffer, attribute: &Attribute, step: u32, cycle: u32, bytes: &[u8])
-    requires { length bytes.now ≤ 1024 }
-    ensures { (b : Block) → b.attribute ≡ attribute.now → b.step ≡ step → b.value ≡ bytes.now → buffer.new ≡ data_in cycle b }
-{
-    buffer.clear();
-    push_data(buffer, attribute, step, cycle, bytes);
-}
-
-// Replaces the buffer by the words of an element, 2 to 7, that a block has, as it is in a cycle. `bytes` are those of the element.
+// Replaces the buffer by the words of an element of a block, 2 to 7, as it is in a cycle. `bytes` are those of the element, at most 1024.
 #[tactic(auto, unfolding(crate::specs::Replies::element_words, sercos_block::specs::Blocks::element_of))]
 fn copy_found(buffer: &mut Buffer, block: &Stored<'_>, element: u8, cycle: u32, bytes: &[u8])
     requires { length bytes.now ≤ 1024 }
@@ -63,11 +42,14 @@ fn copy_found(buffer: &mut Buffer, block: &Stored<'_>, element: u8, cycle: u32, 
     } else if block.attribute().length.is_list() {
         copy_list(buffer, block.max_len(), bytes);
     } else {
-        copy_data(buffer, &block.attribute(), block.step(), cycle, bytes);
+        buffer.clear();
+        push_data(buffer, &block.attribute(), block.step(), cycle, bytes);
     }
 }
 
-// Copies an element, 1 to 7, as it is in a cycle. The error is the code of why it can't be read.
+// Replaces the buffer by the words of an element, 1 to 7, as it is in a cycle. Element 1 is the data status. The error is 0x1001 if there
+// is no such block; otherwise 0x2001, 0x4001, 0x5001 or 0x6001 if it has no name, unit, minimum or maximum. Element 1 can always be read.
+// After an error the buffer is unspecified.
 pub(crate) fn copy_element(
     buffer: &mut Buffer,
     idn: Idn,
@@ -83,7 +65,8 @@ pub(crate) fn copy_element(
         (λ code. missing idn.raw element store.now ≡ Some code.raw) }
 {
     if element == IDENTIFIER {
-        copy_word(buffer, commands.status(idn, cycle));
+        buffer.clear();
+        buffer.push_word_within(commands.status(idn, cycle));
         return Ok(());
     }
     let Some(block) = store.find(idn) else {

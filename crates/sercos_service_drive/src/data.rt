@@ -1,15 +1,12 @@
-// Operation data as it is in a cycle.
+// Operation data in a cycle: numbers that grow.
 ghost use Rattle.std.specs.Prelude.{◌≡◌, ◌≤◌, ◌<◌, ◌+◌, ◌*◌, ◌%◌, ◌++◌, length};
-ghost use Rattle.sercos_block.specs.declared.block.Block.{Block};
-ghost use Rattle.std.specs.Int.{to_le_bytes};
-ghost use Rattle.sercos_block.specs.Blocks.{number_end, width_of};
-ghost use Rattle.sercos_service_drive.specs.Replies.{data_in};
+ghost use Rattle.sercos_service_drive.specs.Clauses.{Block, to_le_bytes, number_end, width_of, data_in};
 
 use sercos_bits::ByteList;
 use sercos_block::bits_in;
 use sercos_idn::{Attribute, Length};
 
-// The bits of a number that grows by a step in each cycle.
+// Returns the bits of a number in a cycle: `bits` plus the step times the cycle, modulo 2 to the power of its bits.
 #[inline]
 fn grown(kind: Length, bits: u32, step: u32, cycle: u32) -> u32
     ensures value { result ≡ (bits + step * cycle) % number_end kind }
@@ -23,7 +20,8 @@ fn grown(kind: Length, bits: u32, step: u32, cycle: u32) -> u32
     }
 }
 
-// Appends the bytes of a number.
+// Appends the bytes of a number, two or four, the low byte first. `bits` is below 2 to the power of its bits. `out` has room for four
+// bytes.
 #[inline]
 fn push_number<const CAPACITY: usize>(out: &mut ByteList<CAPACITY>, kind: Length, bits: u32)
     requires room { length out.old + 4 ≤ CAPACITY }
@@ -38,8 +36,8 @@ fn push_number<const CAPACITY: usize>(out: &mut ByteList<CAPACITY>, kind: Length
     }
 }
 
-/// Appends a number of two or four bytes as it is in a cycle: the number with these bits plus the step times the cycle, modulo 2
-/// to the power of its bits (this profile). The low byte comes first. With a step of 0 that is the number itself.
+/// Appends a number as it is in a cycle: `bits` plus the step times the cycle, modulo 2 to the power of its bits (this profile). It takes
+/// two or four bytes, the low byte first. With a step of 0 it is the number itself. `out` has room for four bytes.
 #[inline]
 pub fn push_grown<const CAPACITY: usize>(
     out: &mut ByteList<CAPACITY>,
@@ -55,9 +53,9 @@ pub fn push_grown<const CAPACITY: usize>(
     push_number(out, kind, grown(kind, bits, step, cycle));
 }
 
-/// Appends operation data as it is in a cycle, of a block with this attribute, step and operation data: the bytes themselves,
-/// or, if the step isn't 0, those of the number plus the step times the cycle, modulo 2 to the power of its bits (this profile).
-/// The low byte comes first.
+/// Appends the operation data of a block with this attribute and step, as it is in a cycle (this profile). If the step is 0, these are the
+/// bytes themselves. Otherwise it is the number plus the step times the cycle, modulo 2 to the power of its bits, the low byte first. `out`
+/// has room for four bytes, and for `bytes`. If these are at most four, at most four are appended.
 #[tactic(auto, unfolding(crate::specs::Replies::data_in))]
 pub fn push_data<const CAPACITY: usize>(
     out: &mut ByteList<CAPACITY>,

@@ -1,5 +1,4 @@
-//! The drive's end of the service channel: which steps it accepts, what it replies to them, what it writes, and what an AT
-//! shows of it.
+//! The drive's end of the service channel (IEC 61491:1995): the steps that it accepts, its replies, its writes, and what an AT shows.
 #![tactic(auto)]
 
 mod causes;

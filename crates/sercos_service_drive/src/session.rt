@@ -1,16 +1,6 @@
-// What the drive keeps between the steps of the service channel.
-ghost use Rattle.std.specs.Prelude.{◌≡◌, ℕ, ◌+◌, ◌/◌, ◌%◌, ◌≤◌, ◌<◌, ◌==◌, ◌&&◌, [], ◌∷◌, ◌++◌, List, length, take, drop, slice_index, min, if◌then◌else◌, true, false, Bool, Option, Some, None, is_some, option_map, MatchResult};
-ghost use Rattle.std.specs.Result.{result_err};
-ghost use Rattle.sercos_step.specs.Words.{bytes_in, words_of};
-ghost use Rattle.sercos_block.specs.declared.block.Block.{Block};
-ghost use Rattle.sercos_block.specs.Stores.{find_block};
-ghost use Rattle.sercos_command.specs.Calls.{CommandHistory};
-ghost use Rattle.sercos_command.specs.Kept.{are_commands_of, CommandsStandFor};
-ghost use Rattle.sercos_service_drive.specs.Log.{Processed, processed_step, Entry, opens, open_idn};
-ghost use Rattle.sercos_service_drive.specs.Replies.{good, refused, words_at, missing};
-ghost use Rattle.sercos_service_drive.specs.Writes.{adds};
-ghost use Rattle.sercos_service_drive.specs.Kept.{run_of, place_in, selected, GoesWith, IsAnswered, SessionStandsFor};
-ghost use Rattle.sercos_service_drive.specs.Partial.{IsStarted, IsEffect, IsWord, IsReplied};
+// The state of the drive between the steps of the service channel.
+ghost use Rattle.std.specs.Prelude.{◌≡◌, ℕ, ◌+◌, ◌/◌, ◌%◌, ◌≤◌, ◌<◌, ◌==◌, ◌&&◌, [], ◌∷◌, ◌++◌, List, length, take, drop, slice_index, min, if◌then◌else◌, true, false, Bool, Option, Some, None, option_map, MatchResult};
+ghost use Rattle.sercos_service_drive.specs.Clauses.{result_err, bytes_in, words_of, Block, find_block, CommandHistory, are_commands_of, CommandsStandFor, Processed, processed_step, Entry, opens, open_idn, good, words_at, missing, adds, run_of, place_in, selected, GoesWith, IsAnswered, SessionStandsFor, IsStarted, IsEffect, IsWord, IsReplied};
 
 use crate::causes::check_place;
 use crate::copying::{Buffer, CAPACITY, copy_element};
@@ -22,19 +12,19 @@ use sercos_idn::{Code, Idn};
 use sercos_step::{Answer, Step, word_at};
 use std::marker::Model;
 
-/// The run of steps that a next step may go on.
+/// The run of steps that the next step may continue: steps with the same write bit and the same element.
 #[derive(Clone, Copy, Debug, PartialEq, Eq)]
 pub struct Selection {
     /// Whether its steps write.
     pub write: bool,
     /// The element of its steps.
     pub element: u8,
-    /// The place of its next word, which is the number of its steps so far, counted up to 65535.
+    /// The index of its next word: the number of its steps so far, which stops at 65535.
     pub place: u16,
 }
 
-// What the drive keeps between the steps: the identifier number that is open, the run, and its bytes. Those of a read are the
-// copy of the element, those of a write the words so far.
+// The state of the drive between the steps: the identifier number that is open, the run, and its bytes. For a read these are the copy of
+// the element, for a write the words so far.
 #[derive(Drop)]
 pub(crate) struct Session {
     opened: Option<Idn>,
@@ -57,24 +47,7 @@ fn opens(step: Step) -> bool
     step.write && step.element == IDENTIFIER
 }
 
-// A word as answer.
-fn good(word: u16) -> Answer
-    ensures { result ≡ good word }
-{
-    Answer { error: false, word }
-}
-
-// The code of an error as answer.
-fn refused(code: Code) -> Answer
-    ensures { result ≡ refused code.raw }
-{
-    Answer {
-        error: true,
-        word: code.raw,
-    }
-}
-
-// Returns how many steps of the run a step goes on.
+// Returns the number of steps of the run that a step with this write bit and element continues; 0 if it begins a run.
 fn place_in(selection: Option<Selection>, write: bool, element: u8) -> u16
     ensures { result ≡ place_in selection write element }
 {
@@ -90,7 +63,7 @@ fn place_in(selection: Option<Selection>, write: bool, element: u8) -> u16
     }
 }
 
-// The run after a step that goes on at a place.
+// Returns the run after a step at index `place`; `None` after its last word.
 fn selected(step: Step, place: u16) -> Option<Selection>
     ensures { result ≡ selected step.last step place }
 {
@@ -105,7 +78,8 @@ fn selected(step: Step, place: u16) -> Option<Selection>
     }
 }
 
-// At the first word of a run copies the element, 1 to 7. The error is the code of why it can't be read.
+// At the first word of a run replaces the buffer by the words of the element, 1 to 7. At any other word it leaves the buffer unchanged. The
+// error is that of `copy_element`; then the buffer is unspecified.
 fn select(
     buffer: &mut Buffer,
     place: u16,
@@ -129,7 +103,7 @@ fn select(
     copy_element(buffer, idn, element, cycle, store, commands)
 }
 
-// At the first word of a run drops the bytes.
+// Empties the buffer at the first word of a run; otherwise leaves it unchanged.
 fn start(buffer: &mut Buffer, place: u16)
     ensures { buffer.new ≡ (if place == 0 then [] else buffer.old) }
 {
@@ -138,7 +112,7 @@ fn start(buffer: &mut Buffer, place: u16)
     }
 }
 
-// The first word of a run.
+// Returns the first word of a run whose word at index `place` is `word`. The buffer has the words before it.
 fn first_word(buffer: &Buffer, place: u16, word: u16) -> u16
     ensures { result ≡ (if place == 0 then word else slice_index (words_of buffer.now) 0) }
 {
@@ -149,7 +123,7 @@ fn first_word(buffer: &Buffer, place: u16, word: u16) -> u16
     }
 }
 
-// Returns the bytes that words write: those of a list follow its two lengths.
+// Returns the bytes that words write. Those of a list are the `count` bytes after its two lengths, or as many as there are.
 fn written(bytes: &[u8], list: bool, count: u16) -> &[u8]
     ensures { result.now ≡ (if list then take count (drop 4 bytes.now) else bytes.now) }
 {
@@ -160,7 +134,7 @@ fn written(bytes: &[u8], list: bool, count: u16) -> &[u8]
     &items[..items.len().min(usize::from(count))]
 }
 
-// Appends a word, the low byte first, if there is room.
+// Appends a word, the low byte first, if the buffer has at most 1,026 bytes.
 fn push_word(buffer: &mut Buffer, word: u16)
     ensures { length buffer.old ≤ 1026 → buffer.new ≡ buffer.old ++ (word % 256) ∷ (word / 256) ∷ [] }
 {
@@ -169,8 +143,11 @@ fn push_word(buffer: &mut Buffer, word: u16)
     }
 }
 
-// Writes a word of operation data in a phase, 2 to 4, where the buffer has the words of the run before it. The last word writes
-// the data to the store, and informs the procedure commands. The error is the first cause against the word.
+// Processes a word of operation data in a phase, 2 to 4. The buffer has the words of the run before it, `place` of them, counted up to
+// 65535. The last word writes the operation data to the store, and informs the procedure commands. The error is the first against the word:
+// 0x1001 without the block, otherwise an error of `check_place` or, at the last word, of `Store::put`. Then store and commands are
+// unchanged, and the buffer is unspecified. Without an error the buffer has the word too. All commands that are set are procedure commands
+// of the store, before and after.
 fn write_word(
     buffer: &mut Buffer,
     place: u16,
@@ -207,7 +184,7 @@ fn write_word(
 }
 
 impl Session {
-    // No identifier number is open.
+    // Returns the state in which no identifier number is open.
     pub(crate) fn new() -> Session
         ensures { SessionStandsFor result [] }
     {
@@ -218,24 +195,18 @@ impl Session {
         }
     }
 
-    // No identifier number is open any more. The bytes of the run that there was are left.
-    pub(crate) fn reset(&mut self)
-        ensures { SessionStandsFor self.new [] }
+    // Closes the identifier number and ends the run. The state is that of no steps, and also that after a step of element 0, whose reply is
+    // the word 0.
+    pub(crate) fn close(&mut self)
+        ensures reset { SessionStandsFor self.new [] }
+        ensures answered { (t : Processed) (log : List Entry) → opens t.step ≡ false → (t.step.element == 0) ≡ true → IsAnswered self.new t log (good 0) }
     {
         self.opened = None;
         self.selection = None;
     }
 
-    // Refuses a step, which ends the run.
-    fn refuse(&mut self, code: Code) -> Answer
-        ensures session { self.new ≡ record { opened = self.old.opened; selection = None; buffer = self.old.buffer } }
-        ensures answer { result ≡ refused code.raw }
-    {
-        self.selection = None;
-        refused(code)
-    }
-
-    // Opens an identifier number, if the drive has it. Returns the word of the answer.
+    // Opens an identifier number, and returns the word of the reply, 0. It ends the run. The error is 0x1001 if the drive doesn't have it;
+    // then none is open.
     fn open(&mut self, idn: Idn, store: &Store) -> Result<u16, Code>
         ensures { (t : Processed) (log : List Entry) → opens t.step ≡ true → t.step.word ≡ idn.raw → t.blocks ≡ store.now → IsReplied self.new t log result }
     {
@@ -248,15 +219,8 @@ impl Session {
         Ok(0)
     }
 
-    // Closes the identifier number.
-    fn close(&mut self)
-        ensures { (t : Processed) (log : List Entry) → opens t.step ≡ false → (t.step.element == 0) ≡ true → IsAnswered self.new t log (good 0) }
-    {
-        self.opened = None;
-        self.selection = None;
-    }
-
-    // Reads the next word of an element, 1 to 7. The error is why it can't be read.
+    // Reads the next word of an element, 1 to 7, of the open identifier number; 0 after the end of the element. The error is that of
+    // `copy_element`. The caller ends the run then.
     fn read(
         &mut self,
         idn: Idn,
@@ -284,8 +248,10 @@ impl Session {
         Ok(word_at(self.buffer.as_slice(), place))
     }
 
-    // Writes the next word of an element, 2 to 7, of which operation data alone can be written. Returns the word of the answer; the
-    // error is the first cause against the step.
+    // Writes the next word of an element, 2 to 7, of the open identifier number in a phase, 2 to 4, and returns the word of the reply, 0.
+    // The error is 0x2004 to 0x6004 for an element other than the operation data, otherwise that of `write_word`. The caller ends the run
+    // then. Except for their operation data, the blocks are those of the run's steps. All commands that are set are procedure commands of
+    // the store, before and after.
     fn write(
         &mut self,
         idn: Idn,
@@ -325,7 +291,9 @@ impl Session {
         Ok(0)
     }
 
-    // Does what a step asks for. Returns the word of the answer; the error is why the step is refused, which is to end the run.
+    // Processes a step, and returns the word of the reply. The error is the code with which the step is refused; then the store and the
+    // procedure commands are unchanged, and the caller must set `selection` to `None`. Only the last word of operation data changes the
+    // store.
     fn reply(
         &mut self,
         cycle: u32,
@@ -360,7 +328,9 @@ impl Session {
         }
     }
 
-    // The reply to a step that was accepted in a cycle, in a phase from 2 to 4.
+    // Processes a step that was accepted in a cycle, in a phase from 2 to 4, and returns the reply to it. An error ends the run. Its word
+    // is the error code then. Except for their operation data, the blocks are those of the run's steps. All commands that are set are
+    // procedure commands of the store, before and after.
     pub(crate) fn answer(
         &mut self,
         cycle: u32,
@@ -379,8 +349,14 @@ impl Session {
         ensures set { are_commands_of store.new commands.new ≡ true }
     {
         match self.reply(cycle, phase, step, store, commands) {
-            Ok(word) => good(word),
-            Err(code) => self.refuse(code),
+            Ok(word) => Answer { error: false, word },
+            Err(code) => {
+                self.selection = None;
+                Answer {
+                    error: true,
+                    word: code.raw,
+                }
+            }
         }
     }
 }

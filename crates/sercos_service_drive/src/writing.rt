@@ -1,17 +1,15 @@
-// How the procedure commands learn of a write.
+// Informs the procedure commands of writes.
 ghost use Rattle.std.specs.Prelude.{◌≡◌, ◌⊎◌, if◌then◌else◌, true};
-ghost use Rattle.std.specs.Int.{w16, from_le_bytes};
-ghost use Rattle.sercos_idn.specs.Commands.{to_cancel, to_set};
-ghost use Rattle.sercos_command.specs.Settings.{is_command};
-ghost use Rattle.sercos_command.specs.Calls.{Wrote, Other, CommandHistory, with_call, with_check_list};
-ghost use Rattle.sercos_command.specs.Kept.{are_commands_of, CommandsStandFor};
+ghost use Rattle.sercos_service_drive.specs.Clauses.{w16, from_le_bytes, to_cancel, to_set, is_command, Wrote, Other, CommandHistory, with_call, with_check_list, are_commands_of, CommandsStandFor};
 
 use sercos_block::Store;
 use sercos_command::Commands;
 use sercos_idn::Idn;
 use sercos_step::word_at;
 
-// Informs the procedure commands that operation data was written: that of a command, or other.
+// Informs the procedure commands that operation data was written. `command` is whether it is that of a command; then `bytes` are its new
+// value, 0 or 3, and a check that is newly set writes its list to the store. Otherwise the store is unchanged. All commands that are set
+// are procedure commands of the store, before and after.
 #[tactic(auto, using(crate::proofs::WritingLemmas::setting_is))]
 pub(crate) fn tell(
     commands: &mut Commands,

@@ -1,3 +1,4 @@
 pub mod Begun
 pub mod Calls
+pub mod Clauses
 pub mod Kept

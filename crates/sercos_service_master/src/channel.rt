@@ -1,21 +1,16 @@
-// The master's end of a channel.
-ghost use Rattle.std.specs.Prelude.{◌≡◌, ℕ, ◌+◌, ◌<◌, ◌≤◌, ◌&&◌, ◌||◌, Bool, true, false, not, List, [], ◌∷◌, min, Some, None, IfSome, is_some, is_none, option_map, unwrap_or, if◌then◌else◌};
-ghost use mathlib.Core.Bool.{beq};
-ghost use Rattle.sercos_telegram.specs.declared.words.Status.{Status};
+// The master's end of a service channel.
+ghost use Rattle.std.specs.Prelude.{◌≡◌, ℕ, ◌+◌, ◌<◌, ◌≤◌, ◌&&◌, ◌||◌, true, false, not, List, [], ◌∷◌, min, Some, None, IfSome, is_some, is_none, unwrap_or, if◌then◌else◌};
+ghost use Rattle.sercos_service_master.specs.Clauses.{Status, IsRequest, Begun, open_in, answers_it, answer_in, with_answer, outcome_with, step_or_none, said_by, master_says, Call, Begin, Send, Hear, EndCycle, begun_by, outcome_at, cycles_open, IsAtWork, MasterStandsFor};
 ghost use Rattle.sercos_step.specs.declared.request.Outcome.TheVariants as outcome;
-ghost use Rattle.sercos_step.specs.Steps.{IsRequest};
-ghost use Rattle.sercos_service_master.specs.Begun.{Begun, open_in, answers_it, answer_in, with_answer, outcome_with, step_or_none, said_by, master_says};
-ghost use Rattle.sercos_service_master.specs.Calls.{Call, Begin, Send, Hear, EndCycle, begun_by, outcome_at, cycles_open};
-ghost use Rattle.sercos_service_master.specs.Kept.{IsAtWork, MasterStandsFor};
 
 use sercos_step::{Answer, Outcome, Request, Step, Transfer, steps_law};
 use sercos_telegram::{Control, Status};
 use std::marker::Model;
 
-// The most cycles that are counted.
+// The most cycles that are counted; the count stops there.
 const MOST_CYCLES_COUNTED: u8 = 64;
 
-// The count of cycles with one more.
+// Returns the count of cycles with one more, at most 64.
 fn one_more(age: u8) -> u8
     ensures { result ≡ min (age + 1) 64 }
 {
@@ -26,7 +21,8 @@ fn one_more(age: u8) -> u8
     }
 }
 
-// The count of cycles after a record with the open step, or after an idle one.
+// Returns the count of cycles after a record was sent: it begins at 0 with the first record of the open step, and there is none for an idle
+// record.
 fn age_after(at_work: bool, age: Option<u8>) -> Option<u8>
     ensures { result ≡ (if at_work then Some (unwrap_or age 0) else None) }
 {
@@ -37,14 +33,14 @@ fn age_after(at_work: bool, age: Option<u8>) -> Option<u8>
     }
 }
 
-// The handshake bit after an answer: it changes with the next step, if there is one.
+// Returns the handshake bit MHS after an answer: it changes with the next step, unless the transfer ended.
 fn mhs_after(mhs: bool, ended: bool) -> bool
     ensures { result ≡ (if ended then mhs else not mhs) }
 {
     if ended { mhs } else { !mhs }
 }
 
-// The step of a transfer, or one of zeros.
+// Returns the open step of a transfer, or a step of zeros if there is none. Its element is below 8. The transfer isn't done.
 fn step_of(work: &Option<Transfer>) -> Step
     requires { IfSome work.now (λ t. t.done ≡ false) }
     ensures step { (past : List Begun) → is_some work.now ≡ is_some (open_in past) → IfSome work.now (λ t. IsAtWork t past) → result ≡ step_or_none (open_in past) }
@@ -61,7 +57,8 @@ fn step_of(work: &Option<Transfer>) -> Step
     }
 }
 
-// Passes an answer to the transfer, and drops the transfer if it ends.
+// Passes an answer to the transfer, and returns its outcome if that ends it; then the transfer is removed. The result is `None` if the
+// transfer goes on, or if there is none. A transfer in `work` isn't done, before and after.
 fn answer_with(work: &mut Option<Transfer>, answer: Answer) -> Option<Outcome>
     requires { IfSome work.old (λ t. t.done ≡ false) }
     ensures goes_on { IfSome work.new (λ t. t.done ≡ false) }
@@ -79,8 +76,9 @@ fn answer_with(work: &mut Option<Transfer>, answer: Answer) -> Option<Outcome>
     None
 }
 
-/// The master's end of a drive's service channel (IEC 61491:1995). It carries a request step by step: each step goes with
-/// the handshake bit MHS changed and is sent until its answer, the first status with the same bit that isn't busy.
+/// The master's end of a drive's service channel (IEC 61491:1995). It carries one request at a time, step by step. For each step the
+/// handshake bit MHS changes. The step is sent until its answer arrives: the first status whose acknowledge bit AHS is that MHS, and that
+/// isn't busy.
 #[derive(Drop)]
 pub struct MasterChannel {
     transfer: Option<Transfer>,
@@ -99,7 +97,7 @@ impl Model for MasterChannel {
 }
 
 impl MasterChannel {
-    /// Returns a channel at its reset, with no request and MHS 0.
+    /// Returns a channel without a request, with MHS 0.
     pub fn new() -> MasterChannel
         ensures stands { MasterStandsFor result [] }
         ensures idle { is_none result.transfer ≡ true }
@@ -111,7 +109,7 @@ impl MasterChannel {
         }
     }
 
-    /// Returns whether there is no request at work.
+    /// Returns whether no request is in progress.
     pub fn idle(&self) -> bool
         ensures work { result ≡ is_none self.now.transfer }
         ensures calls { (h : List Call) → MasterStandsFor self.now h → result ≡ is_none (open_in (begun_by h)) }
@@ -119,7 +117,7 @@ impl MasterChannel {
         self.transfer.is_none()
     }
 
-    /// Begins a request, where none is at work. Its first step is open at once.
+    /// Begins a request. No other is in progress. A read has an element from 1 to 7, a write from 2 to 7. Its first step is open at once.
     pub fn begin(&mut self, request: Request)
         requires idle { is_none self.old.transfer ≡ true }
         requires request { IsRequest request }
@@ -130,8 +128,8 @@ impl MasterChannel {
         self.mhs = !self.mhs;
     }
 
-    /// Returns the record of the next MDT: the open step with its handshake bit and its information word, or the idle record,
-    /// which has the last handshake bit and is otherwise 0.
+    /// Returns the control word and the information word of the next MDT's record. With an open step they carry it; otherwise MHS is
+    /// unchanged, and all other bits are 0. The bits for cyclic data are 0. Whether a request is in progress is unchanged.
     pub fn send(&mut self) -> (Control, u16)
         ensures stands { (h : List Call) → MasterStandsFor self.old h → MasterStandsFor self.new (Send ∷ h) }
         ensures says { (h : List Call) → MasterStandsFor self.old h → said_by result.0 result.1 ≡ master_says (begun_by h) }
@@ -150,14 +148,8 @@ impl MasterChannel {
         (control, step.word)
     }
 
-    // Returns whether a status answers the open step.
-    fn answers(&self, status: &Status) -> bool
-        ensures { result ≡ (is_some self.now.transfer && (beq status.now.ahs self.now.mhs && not status.now.busy)) }
-    {
-        self.transfer.is_some() && status.ahs == self.mhs && !status.busy
-    }
-
-    // Takes the answer to the open step.
+    // Processes the answer to the open step, and returns the outcome if the transfer ends, otherwise `None`. A request is in progress;
+    // afterwards one is iff the result is `None`. `answer` has the error bit and the word of a status that answers the step.
     fn take(&mut self, answer: Answer) -> Option<Outcome>
         requires { is_some self.old.transfer ≡ true }
         ensures stands { (h : List Call) (status : Status) (word : ℕ) → MasterStandsFor self.old h → answers_it (begun_by h) status ≡ true →
@@ -172,15 +164,17 @@ impl MasterChannel {
         outcome
     }
 
-    /// Processes a status and the information word after it. If it answers the open step, the next step is open, or the
-    /// transfer ends; then the result is its outcome.
+    /// Processes a status and the information word after it. If the status answers the open step, the next step is open, or the transfer
+    /// ends. The result is the outcome of a transfer that ends, otherwise `None`; without a request in progress it is `None`. Afterwards a
+    /// request is in progress iff one was before and the result is `None`.
     pub fn hear(&mut self, status: &Status, info: u16) -> Option<Outcome>
         ensures stands { (h : List Call) → MasterStandsFor self.old h → MasterStandsFor self.new (Hear status.now info ∷ h) }
         ensures outcome { (h : List Call) → MasterStandsFor self.old h → result ≡ outcome_at h status.now info }
         ensures idle { is_none self.new.transfer ≡ (is_none self.old.transfer || is_some result) }
         ensures silent { is_none self.old.transfer ≡ true → result ≡ None }
     {
-        if self.answers(status) {
+        let answered = self.transfer.is_some() && status.ahs == self.mhs && !status.busy;
+        if answered {
             return self.take(Answer {
                 error: status.error,
                 word: info,
@@ -189,7 +183,7 @@ impl MasterChannel {
         None
     }
 
-    /// The cycle ends.
+    /// Ends the cycle: counts it for an open step that was sent. The count stops at 64. Whether a request is in progress is unchanged.
     pub fn end_cycle(&mut self)
         ensures stands { (h : List Call) → MasterStandsFor self.old h → MasterStandsFor self.new (EndCycle ∷ h) }
         ensures idle { is_none self.new.transfer ≡ is_none self.old.transfer }
@@ -197,7 +191,8 @@ impl MasterChannel {
         self.age = self.age.map(one_more);
     }
 
-    /// Returns how many cycles ended since the open step was first sent, counted up to 64. It is 0 where no step that was sent is open.
+    /// Returns the number of cycles that ended since the open step was first sent, counted up to 64. It is 0 if no step that was sent is
+    /// open.
     pub fn cycles_open(&self) -> u8
         ensures value { (h : List Call) → MasterStandsFor self.now h → result ≡ cycles_open h }
         ensures kept { result ≡ unwrap_or self.now.age 0 }
@@ -207,7 +202,8 @@ impl MasterChannel {
         self.age.unwrap_or(0)
     }
 
-    /// Lets all go, at a fall to phase 0. A transfer that was at work ends `Broken`.
+    /// Processes a fall to phase 0: no request is in progress, and MHS is 0. The result is `Broken` if a transfer was in progress,
+    /// otherwise `None`.
     pub fn reset(&mut self) -> Option<Outcome>
         ensures stands { MasterStandsFor self.new [] }
         ensures idle { is_none self.new.transfer ≡ true }

@@ -1,4 +1,4 @@
-//! The master's end of the service channel.
+//! The master's end of the service channel (IEC 61491:1995).
 #![tactic(auto)]
 
 mod channel;

@@ -1,5 +1,6 @@
+pub mod Clauses
 pub mod Digits
 pub mod Line
-pub mod SpelledLine
 pub mod Places
 pub mod Show
+pub mod SpelledLine

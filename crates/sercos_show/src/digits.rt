@@ -1,13 +1,6 @@
 // Hexadecimal digits of either case, and the bits of the bytes that they spell.
 ghost use Rattle.std.specs.Prelude.{◌≡◌, ◌+◌, ◌*◌, ◌<◌, ◌≤◌, true, nat_lt, Bool, List, ◌++◌, length, take, Some};
-ghost use Rattle.std.specs.Char.{is_ascii_hexdigit};
-ghost use Rattle.std.specs.List.{prefix_len};
-ghost use Rattle.hex.specs.Hex.{hex_digit_value};
-ghost use Rattle.sercos_model.specs.Bits.{bits_of};
-ghost use Rattle.sercos_text.specs.Fields.{pairs_of};
-ghost use Rattle.sercos_hdlc.specs.Fed.{taken_of, IsFed};
-ghost use Rattle.sercos_show.specs.Digits.{AreDigitPairs};
-ghost use Rattle.sercos_show.specs.Line.{byte_of};
+ghost use Rattle.sercos_show.specs.Clauses.{is_ascii_hexdigit, prefix_len, hex_digit_value, bits_of, pairs_of, taken_of, IsFed, AreDigitPairs, byte_of};
 
 use sercos_hdlc::Deframer;
 
@@ -55,20 +48,13 @@ fn value_of(byte: u8) -> u8
     value_or(byte)
 }
 
-// Returns whether a byte is a hexadecimal digit.
-fn has_value(byte: u8) -> bool
-    ensures { result ≡ is_ascii_hexdigit byte }
-{
-    value_or(byte) < 16
-}
-
 /// Returns how many hexadecimal digits a text begins with.
 pub fn leading_digits(text: &[u8]) -> usize
     ensures value { result ≡ prefix_len is_ascii_hexdigit text.now }
     ensures bound { result ≤ length text.now }
 {
     for (place, byte) in text.iter().enumerate() {
-        if !has_value(*byte) {
+        if value_or(*byte) >= 16 {
             return place;
         }
     }
@@ -84,8 +70,8 @@ pub fn byte_of(high: u8, low: u8) -> u8
     16 * value_of(high) + value_of(low)
 }
 
-/// Replaces bytes by those that `digits` spells, two hexadecimal digits for each byte. Returns whether all are digits; if not, the bytes
-/// have no meaning.
+/// Replaces bytes by those that `digits` spells, two hexadecimal digits for each byte. `digits` is twice as long as `bytes`. Returns
+/// whether all are digits; if not, the bytes are unspecified.
 #[inline(always)]
 pub fn set_pairs(digits: &[u8], bytes: &mut [u8]) -> bool
     requires { length digits.now ≡ 2 * length bytes.old }
@@ -103,7 +89,7 @@ pub fn set_pairs(digits: &[u8], bytes: &mut [u8]) -> bool
     seen < 16
 }
 
-/// Feeds the first `count` bits of bytes to the deframer.
+/// Feeds the first `count` bits of `bytes`, which has at least as many, to the deframer. With them it has taken at most 2^31 bits.
 pub fn feed_first(bytes: &[u8], count: usize, deframer: &mut Deframer)
     requires long { count ≤ 8 * length bytes.now }
     requires fits { taken_of deframer.old + count ≤ 2147483648 }

@@ -1,11 +1,8 @@
-// The lines of `show`: `KIND COUNT HEX`. The fault of a part of a line is the place, from 0 on, counted from the part's first byte, of
-// the first byte that doesn't fit. The place of a missing byte is the part's length.
+// The lines of `show`: `KIND COUNT HEX`. The fault of a part of a line is the place, from 0 on, counted from the part's first byte, of the
+// first byte that doesn't fit. The place of a missing byte is the part's length. COUNT is at most 19696. After an error the room and the
+// deframer are unspecified; after a success the room is.
 ghost use Rattle.std.specs.Prelude.{◌≡◌, ◌+◌, ◌/◌, ◌<◌, ◌≤◌, [], OnOk, IfOk, IfErr, IfSome, length, take, nat_eq, true, Some, None};
-ghost use Rattle.std.specs.List.{common_prefix_len};
-ghost use Rattle.std.specs.Result.{result_ok, result_err};
-ghost use Rattle.sercos_text.specs.Fields.{number_len, number_of, pairs_of};
-ghost use Rattle.sercos_hdlc.specs.Fed.{taken_of, IsFed};
-ghost use Rattle.sercos_show.specs.Line.{wanted_digits, has_spare, kind_text, kind_of, kind_fault, count_fault, dash_fault, digits_fault, hex_fault, hex_bits, numbers_fault, numbers_bits, line_fault, line_bits};
+ghost use Rattle.sercos_show.specs.Clauses.{common_prefix_len, result_ok, result_err, number_len, number_of, pairs_of, taken_of, IsFed, wanted_digits, has_spare, kind_text, kind_of, kind_fault, count_fault, dash_fault, digits_fault, hex_fault, hex_bits, numbers_fault, numbers_bits, line_fault, line_bits};
 
 use crate::digits::{Room, byte_of, feed_first, leading_digits, set_pairs};
 use sercos_hdlc::Deframer;
@@ -39,7 +36,8 @@ fn shared_with(line: &[u8], text: &[u8]) -> usize
     text.len()
 }
 
-// Returns the kind of a line. The error is the place of the first byte with which no kind continues.
+// Returns the kind of a line, which is then at least as long as the kind and the space after it. The error is the place of the first byte
+// with which no kind continues.
 #[tactic(auto, unfolding(crate::specs::Line::kind_of, crate::specs::Line::kind_fault))]
 fn kind_of(line: &[u8]) -> Result<LineKind, usize>
     ensures kind { result_ok result ≡ kind_of line.now }
@@ -77,7 +75,8 @@ fn kind_len(kind: LineKind) -> usize
     }
 }
 
-// Returns how many digits the HEX of `count` bits has: two for each eight bits begun.
+// Returns how many digits the HEX of `count` bits, at most 19696, has: two for each eight bits begun. There are at most 4924, and at least
+// 2 unless `count` is 0.
 #[tactic(auto, unfolding(crate::specs::Line::wanted_digits))]
 fn wanted_digits(count: usize) -> usize
     requires { count ≤ 19696 }
@@ -88,7 +87,7 @@ fn wanted_digits(count: usize) -> usize
     2 * count.div_ceil(8)
 }
 
-// Returns whether `byte`, the last one of `count` bits, has a one after the last bit.
+// Returns whether `byte`, the last one of `count` bits, 1 to 19696, has a one after the last bit.
 #[tactic(auto, unfolding(crate::specs::Line::has_spare))]
 fn has_spare(count: usize, byte: u8) -> bool
     requires some { 0 < count }
@@ -111,7 +110,9 @@ fn dash_fault(text: &[u8]) -> Option<usize>
     (text.len() > 1).then_some(1)
 }
 
-// Returns the fault of the HEX of `count` bits, at least one; `None` if it has none.
+// Returns the fault of the HEX of `count` bits, 1 to 19696; `None` if it has none. It is the first of these: a missing digit before the
+// last pair, or the pair's first; spare bits that aren't zeros by the pair's first digit, at that digit; the missing second digit; spare
+// bits that aren't zeros by the second digit, at the first; a byte after the digits.
 #[tactic(auto, unfolding(crate::specs::Line::digits_fault))]
 fn digits_fault(count: usize, text: &[u8]) -> Option<usize>
     requires some { 0 < count }
@@ -151,7 +152,8 @@ fn hex_fault(count: usize, text: &[u8]) -> Option<usize>
     }
 }
 
-// Reads COUNT and the space after it. Returns how many bytes they take, and COUNT. The error is their fault.
+// Reads COUNT and the space after it. Returns how many bytes they take, and COUNT, at most 19696. The error is their fault: 0 without a
+// digit or for a number above 19696, 1 for a digit after a leading zero, otherwise the number of digits if no space follows.
 #[tactic(auto, unfolding(crate::specs::Line::count_fault))]
 fn read_count(text: &[u8]) -> Result<(usize, usize), usize>
     ensures fault { result_err result ≡ count_fault text.now }
@@ -168,7 +170,7 @@ fn read_count(text: &[u8]) -> Result<(usize, usize), usize>
     Ok((len + 1, count as usize))
 }
 
-// Returns how many bytes `count` bits take.
+// Returns how many bytes `count` bits, at most 19696, take: at most 2462.
 fn byte_len(count: usize) -> usize
     requires { count ≤ 19696 }
     ensures value { result ≡ (count + 7) / 8 }
@@ -178,7 +180,7 @@ fn byte_len(count: usize) -> usize
 }
 
 // Puts the bytes of the HEX of `count` bits at the front of the room. Returns whether there is at least one bit and HEX has no fault; if
-// not, the room's bytes have no meaning.
+// not, the room's bytes are unspecified.
 #[tactic(auto, unfolding(crate::specs::Line::wanted_digits))]
 fn set_hex(count: usize, text: &[u8], room: &mut Room) -> bool
     requires { count ≤ 19696 }
@@ -237,8 +239,10 @@ fn read_numbers(text: &[u8], room: &mut Room, deframer: &mut Deframer) -> Result
     }
 }
 
-/// Reads a line, feeds its bits to the deframer, which has taken none, and returns its kind. The room is for the bytes of the bits. The
-/// error is the place, from 0 on, of the first byte of the line that doesn't fit.
+/// Reads a line, feeds its bits to the deframer, which has taken none, and returns its kind. The room is for the bytes of the bits, and is
+/// unspecified afterwards. The error is the place, from 0 on, of the first byte of the line that doesn't fit: the line's length if one is
+/// missing. A COUNT above 19696 is refused at its first digit. The last pair of digits is refused at its first one, even if only its second
+/// one shows that a bit after the last one is 1. Then the deframer is unspecified.
 #[tactic(auto, unfolding(crate::specs::Line::line_fault, crate::specs::Line::fault_by, crate::specs::Line::line_bits, crate::specs::Line::bits_by))]
 pub fn read_line(line: &[u8], room: &mut Room, deframer: &mut Deframer) -> Result<LineKind, usize>
     requires { taken_of deframer.old ≡ 0 }

@@ -1,13 +1,6 @@
-// `show`: the telegrams in lines of frames.
-ghost use Rattle.std.specs.Prelude.{◌≡◌, ◌≤◌, Bool, List, [], ◌++◌, length, slice_index, drop, IfOk, OnOk, codes, decimal};
-ghost use Rattle.sercos_show.specs.Show.{layout_text, layout_or, mst_text, single_text, at_text, wanted_address, wanted_len, content_text, refusal_text, frame_text, show_answer};
-ghost use Rattle.sercos_answer.specs.Answer.{line_feed, refused_text};
-ghost use Rattle.hex.specs.Hex.{encode_lower};
-ghost use Rattle.sercos_telegram.specs.Faults.{mst_fault, single_fault, at_fault};
-ghost use Rattle.sercos_telegram.specs.Spells.{word_at};
-ghost use Rattle.sercos_telegram.specs.Words.{control_of, status_of};
-ghost use Rattle.sercos_hdlc.specs.Reason.{reason_of};
-ghost use Rattle.sercos_hdlc.specs.Fed.{taken_of, IsFed};
+// `show`: the telegrams in lines of frames. After an error `out` is unspecified.
+ghost use Rattle.std.specs.Prelude.{◌≡◌, ◌≤◌, Bool, List, [], ◌++◌, length, slice_index, drop, IfOk, OnOk, codes};
+ghost use Rattle.sercos_show.specs.Clauses.{layout_text, layout_or, mst_text, single_text, at_text, wanted_address, wanted_len, content_text, frame_text, show_answer, refused_text, mst_fault, single_fault, at_fault, word_at, control_of, status_of, reason_of, taken_of, IsFed};
 
 use crate::digits::MOST_BYTES;
 use crate::line::{LineKind, read_line};
@@ -53,15 +46,6 @@ fn push_fault(fault: Layout, out: &mut Vec<u8>) -> Result<(), AllocError>
     push_layout(fault, out)
 }
 
-// Appends `ok` and a content's bytes, at most 2048, in hexadecimal digits. The error is `AllocError`.
-fn push_raw(content: &[u8], out: &mut Vec<u8>) -> Result<(), AllocError>
-    requires { length content.now ≤ 2048 }
-    ensures { OnOk result (out.new.items ≡ out.old.items ++ (codes "ok " ++ encode_lower content.now)) }
-{
-    push_text("ok ", out)?;
-    push_hex(content, out)
-}
-
 // Appends the fields of the MST that a content is, or its fault of layout. The error is `AllocError`.
 #[tactic(auto, unfolding(crate::specs::Show::layout_or))]
 fn show_mst(content: &[u8], out: &mut Vec<u8>) -> Result<(), AllocError>
@@ -99,7 +83,7 @@ fn show_single(content: &[u8], out: &mut Vec<u8>) -> Result<(), AllocError>
     }
 }
 
-// Returns how many bytes an AT should have after its address: as many as were found, but at least 4.
+// Returns how many bytes an AT should have after its address: as many as were found, but at least 4. The content has at most 2048.
 #[tactic(auto, unfolding(crate::specs::Show::wanted_len))]
 fn wanted_len(content: &[u8]) -> u16
     requires { length content.now ≤ 2048 }
@@ -109,7 +93,7 @@ fn wanted_len(content: &[u8]) -> u16
     content.len().saturating_sub(1).max(4) as u16
 }
 
-// Appends the fields of the AT that a content is, or its fault of layout. The error is `AllocError`.
+// Appends the fields of the AT that a content of at most 2048 bytes is, or its fault of layout. The error is `AllocError`.
 #[tactic(auto, unfolding(crate::specs::Show::layout_or))]
 fn show_at(content: &[u8], out: &mut Vec<u8>) -> Result<(), AllocError>
     requires { length content.now ≤ 2048 }
@@ -124,41 +108,25 @@ fn show_at(content: &[u8], out: &mut Vec<u8>) -> Result<(), AllocError>
     }
 }
 
-// Appends the text of a content, read as the kind of its line requires. The error is `AllocError`.
+// Appends the text of a content of at most 2048 bytes, read as the kind of its line requires. The error is `AllocError`.
 #[tactic(auto, unfolding(crate::specs::Show::content_text))]
 fn push_content(kind: LineKind, content: &[u8], out: &mut Vec<u8>) -> Result<(), AllocError>
     requires { length content.now ≤ 2048 }
     ensures { OnOk result (out.new.items ≡ out.old.items ++ content_text kind content.now) }
 {
     match kind {
-        LineKind::Raw => push_raw(content, out),
+        LineKind::Raw => {
+            push_text("ok ", out)?;
+            push_hex(content, out)
+        },
         LineKind::Mst => show_mst(content, out),
         LineKind::Single => show_single(content, out),
         LineKind::At => show_at(content, out),
     }
 }
 
-// Appends the text of a content, read as the kind of its line requires, and a line feed. The error is `AllocError`.
-fn push_content_line(kind: LineKind, content: &[u8], out: &mut Vec<u8>) -> Result<(), AllocError>
-    requires { length content.now ≤ 2048 }
-    ensures { OnOk result (out.new.items ≡ out.old.items ++ (content_text kind content.now ++ line_feed)) }
-{
-    push_content(kind, content, out)?;
-    push_text("\n", out)
-}
-
-// Appends `error`, the reason why the bits are not a frame, and a line feed. The error is `AllocError`.
-fn push_error(bad: BadFrame, out: &mut Vec<u8>) -> Result<(), AllocError>
-    ensures { OnOk result (out.new.items
-        ≡ out.old.items ++ (codes "error " ++ refusal_text bad ++ line_feed)) }
-{
-    push_text("error ", out)?;
-    push_refusal(bad, out)?;
-    push_text("\n", out)
-}
-
-// Appends the answer to a line of a kind whose bits the deframer has taken. The deframer then starts over. `content` is room for the
-// content of the frame. The error is `AllocError`.
+// Appends the answer to a line of a kind whose bits the deframer has taken. The deframer then starts over, also after an error. `content`
+// is room for the content of the frame, and is unspecified afterwards. The error is `AllocError`.
 #[tactic(auto, unfolding(crate::specs::Show::frame_text))]
 fn push_answer(
     kind: LineKind,
@@ -172,13 +140,17 @@ fn push_answer(
     ensures taken { taken_of deframer.new ≡ 0 }
 {
     match deframer.finish(content) {
-        Ok(_) => push_content_line(kind, content.as_slice(), out),
-        Err(bad) => push_error(bad, out),
+        Ok(_) => push_content(kind, content.as_slice(), out)?,
+        Err(bad) => {
+            push_text("error ", out)?;
+            push_refusal(bad, out)?;
+        },
     }
+    push_text("\n", out)
 }
 
-/// Returns the reply of `show` to a text: `Refused`, with the line and the column of the first line that has a fault; otherwise `Done`,
-/// with the answer to each line, in order. The error is `AllocError`.
+/// Returns the reply of `show` to a text: `Refused`, with `refused line L column C` and a line feed for the first line that has a fault,
+/// both numbers from 1 on; otherwise `Done`, with the answer to each line and a line feed, in order. The error is `AllocError`.
 pub fn show(alloc: Global, text: &[u8]) -> Result<Reply, AllocError>
     ensures status { IfOk result (λ reply. reply.status ≡ (show_answer text.now).status) }
     ensures text { IfOk result (λ reply. reply.text.items ≡ (show_answer text.now).output) }

@@ -1,7 +1,6 @@
-// The texts of the answers of `show`, appended to the text of a reply. Each error is `AllocError`.
-ghost use Rattle.std.specs.Prelude.{◌≡◌, ◌*◌, [], ◌∷◌, ◌++◌, OnOk, codes, decimal, length, take, drop, ◌≤◌};
-ghost use Rattle.hex.specs.Hex.{encode_lower};
-ghost use Rattle.sercos_show.specs.Show.{word_text, bit_text, two_bits, bit_and_number, two_words, data_text, layout_text, mst_text, single_text, at_text, refusal_text};
+// The texts of the answers of `show`, appended to the text of a reply. Each error is `AllocError`. After an error `out` is unspecified.
+ghost use Rattle.std.specs.Prelude.{◌≡◌, ◌*◌, [], ◌∷◌, ◌++◌, OnOk, codes, decimal, length, ◌≤◌};
+ghost use Rattle.sercos_show.specs.Clauses.{encode_lower, word_text, bit_text, two_bits, bit_and_number, two_words, data_text, layout_text, mst_text, single_text, at_text, refusal_text};
 
 use sercos_answer::{push_number, push_text, push_two_numbers};
 use sercos_hdlc::BadFrame;
@@ -9,7 +8,7 @@ use sercos_telegram::{At, Control, Layout, Status};
 use sercos_text::{piece_of, put_pairs};
 use std::alloc::AllocError;
 
-/// Appends a word as `0x` and four hexadecimal digits.
+/// Appends a word as `0x` and four hexadecimal digits in lower case.
 #[tactic(auto, unfolding(crate::specs::Show::word_text))]
 pub fn push_word(word: u16, out: &mut Vec<u8>) -> Result<(), AllocError>
     ensures { OnOk result (out.new.items ≡ out.old.items ++ word_text word) }
@@ -74,7 +73,7 @@ fn push_bit_and_number(
     push_number(number, out)
 }
 
-// Appends two words, each after its name.
+// Appends two words, each after its name, as `push_word` does.
 #[tactic(auto, unfolding(crate::specs::Show::two_words))]
 #[inline(always)]
 fn push_words(
@@ -92,7 +91,8 @@ fn push_words(
     push_word(b, out)
 }
 
-/// Appends the number, the name and the values of the reason why bits are not a frame.
+/// Appends the number, the name and the values of the reason why bits are not a frame: counts and offsets in decimal, check sequences as
+/// words.
 #[tactic(auto, unfolding(crate::specs::Show::refusal_text))]
 pub fn push_refusal(bad: BadFrame, out: &mut Vec<u8>) -> Result<(), AllocError>
     ensures { OnOk result (out.new.items ≡ out.old.items ++ refusal_text bad) }
@@ -111,29 +111,22 @@ pub fn push_refusal(bad: BadFrame, out: &mut Vec<u8>) -> Result<(), AllocError>
     }
 }
 
-// Appends bytes in hexadecimal digits, two for each byte. `room` is for the digits.
-fn push_some(bytes: &[u8], room: &mut [u8], out: &mut Vec<u8>) -> Result<(), AllocError>
-    requires { 2 * length bytes.now ≤ length room.old }
-    ensures { OnOk result (out.new.items ≡ out.old.items ++ encode_lower bytes.now) }
-{
-    let text = &mut room[..2 * bytes.len()];
-    put_pairs(bytes, text);
-    out.extend_from_slice(text)
-}
-
-/// Appends bytes, at most 2048, in hexadecimal digits.
+/// Appends bytes, at most 2048, as two hexadecimal digits in lower case each.
 pub fn push_hex(bytes: &[u8], out: &mut Vec<u8>) -> Result<(), AllocError>
     requires { length bytes.now ≤ 2048 }
     ensures { OnOk result (out.new.items ≡ out.old.items ++ encode_lower bytes.now) }
 {
     let mut room = [0u8; 64];
     for turn in 0..bytes.len().div_ceil(32) {
-        push_some(piece_of(bytes, 32 * turn), &mut room, out)?;
+        let piece = piece_of(bytes, 32 * turn);
+        let digits = &mut room[..2 * piece.len()];
+        put_pairs(piece, digits);
+        out.extend_from_slice(digits)?;
     }
     Ok(())
 }
 
-// Appends bytes, at most 2048, in hexadecimal digits, or `-` if there are none.
+// Appends bytes, at most 2048, as two hexadecimal digits in lower case each, or `-` if there are none.
 #[tactic(auto, unfolding(crate::specs::Show::data_text))]
 fn push_data(bytes: &[u8], out: &mut Vec<u8>) -> Result<(), AllocError>
     requires { length bytes.now ≤ 2048 }
@@ -145,7 +138,7 @@ fn push_data(bytes: &[u8], out: &mut Vec<u8>) -> Result<(), AllocError>
     }
 }
 
-/// Appends the number, the name and the values of a fault of layout.
+/// Appends the number, the name and the values of a fault of layout, in decimal.
 #[tactic(auto, unfolding(crate::specs::Show::layout_text))]
 pub fn push_layout(fault: Layout, out: &mut Vec<u8>) -> Result<(), AllocError>
     ensures { OnOk result (out.new.items ≡ out.old.items ++ layout_text fault) }
@@ -223,7 +216,8 @@ fn status_bits(status: Status) -> [u8; 30]
     text
 }
 
-// Returns the words of an AT, `info` and the other bits of its status word, each after its name, and the name `data`.
+// Returns the words of an AT, `info` and the bits of its status word for cyclic data, each after its name, as `0x` and four hexadecimal
+// digits in lower case. The name `data` and a space follow.
 fn at_words(info: u16, cyclic: u16) -> [u8; 32]
     ensures { result ≡ two_words (codes " info ") info (codes " cyclic ") cyclic ++ codes " data " }
 {
@@ -233,7 +227,8 @@ fn at_words(info: u16, cyclic: u16) -> [u8; 32]
     text
 }
 
-/// Appends the fields of an AT: the address, those of the status word, the word `info`, and the data, or `-` if there are none.
+/// Appends the fields of an AT: the address, those of the status word, the word `info`, and the data, at most 2048 bytes, as two
+/// hexadecimal digits in lower case each, or `-` if there are none.
 #[tactic(auto, unfolding(crate::specs::Show::at_text))]
 pub fn push_at(at: &At<'_>, out: &mut Vec<u8>) -> Result<(), AllocError>
     requires { length at.now.values.now ≤ 2048 }

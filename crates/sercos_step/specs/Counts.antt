@@ -11,39 +11,41 @@ use Rattle.sercos_step.specs.declared.request.Outcome.TheVariants as outcome
 use Rattle.sercos_step.specs.Words.{shape_of, words_in, words_told}
 use Rattle.sercos_step.specs.Steps.{steps_before, attribute_read, answer_words, outcome_of, AreAnswers}
 
--- How often the data status of a command is read: once, and once more after each status of a running command.
+-- how often the data status of a command is read: once, and once more after each status of a
+-- running command
 abbrev pub polls : List ℕ → ℕ
 polls [] = 1
 polls (status ∷ words) = 1 + (if status == running_status then polls words else 0)
 
--- How many answers a transfer has when it is complete, as far as the words so far determine it. One answers the opening. In a
--- read before minimum, maximum and operation data, and in a write before operation data, two answer the reads of the attribute.
--- Then there is one for each word of the element. In a command one answers the opening, one the setting, one each read of the
--- data status and one the cancel.
+-- The number of answers of a complete transfer, as far as the words so far determine it. One
+-- answers the opening. In a read of minimum, maximum or operation data, and in a write of operation
+-- data, two answer the reads of the attribute. Then there is one for each word of the element. In a
+-- command one answers the opening, one the setting, one each read of the data status and one the
+-- cancelling.
 abbrev pub count_of : Request → List ℕ → ℕ
 count_of (request.Read idn e) words = steps_before e + words_in (shape_of e (attribute_read e words)) (slice_index words (steps_before e))
 count_of (request.Write idn e bytes) words = if e == data_element then 3 + length (words_told (shape_of data_element (attribute_read data_element words)) bytes) else 1 + length (words_told (shape_of e 0) bytes)
 count_of (request.Command idn) words = 3 + polls (drop 2 words)
 
--- A complete transfer has exactly as many answers as are counted.
+-- a complete transfer has exactly this number of answers
 abbrev pub CountsAnswers : Type 0
 CountsAnswers = (r : Request) (h : List Answer) (bytes : List ℕ) → AreAnswers r h → outcome_of r h ≡ Some (outcome.Complete bytes) → length h ≡ count_of r (answer_words h)
 
--- Any transfer has at most that many.
+-- any transfer has at most this number
 abbrev pub HasAtMost : Type 0
 HasAtMost = (r : Request) (h : List Answer) → AreAnswers r h → length h ≤ count_of r (answer_words h)
 
--- A read of an attribute has at most three answers.
+-- a read of an attribute has at most three answers
 abbrev pub AttributeTakes : Type 0
 AttributeTakes = (idn : Idn) (h : List Answer) → AreAnswers (request.Read idn attribute_element) h → length h ≤ 3
 
--- A read of a minimum, a maximum or operation data has at most four answers if its attribute has the length of one word. The
--- attribute is known after three answers.
+-- A read of a minimum, a maximum or operation data has at most four answers if its attribute has a
+-- length of one word. The attribute is known after three answers.
 abbrev pub ValueTakes : Type 0
 ValueTakes = (idn : Idn) (e : ℕ) (h : List Answer) → minimum_element ≤ e → AreAnswers (request.Read idn e) h → (3 ≤ length h → shape_of e (attribute_read e (answer_words h)) ≡ shape.One) → length h ≤ 4
 
--- A read of operation data has at most 5 + k answers if its attribute is that of a list, and the list has at most 2k bytes by its
--- first word.
+-- A read of operation data has at most 5 + k answers if its attribute is that of a list, and the
+-- list has at most 2k bytes by its first word.
 abbrev pub ListTakes : Type 0
 ListTakes = (idn : Idn) (k : ℕ) (h : List Answer) → AreAnswers (request.Read idn data_element) h → (3 ≤ length h → shape_of data_element (attribute_read data_element (answer_words h)) ≡ shape.List) → slice_index (answer_words h) 3 ≤ 2 * k → length h ≤ 5 + k
 
@@ -55,25 +57,26 @@ ValueWriteTakes = (idn : Idn) (bytes : List ℕ) (h : List Answer) → length by
 abbrev pub ListWriteTakes : Type 0
 ListWriteTakes = (idn : Idn) (bytes : List ℕ) (k : ℕ) (h : List Answer) → length bytes ≤ 2 * k → AreAnswers (request.Write idn data_element bytes) h → (3 ≤ length h → shape_of data_element (attribute_read data_element (answer_words h)) ≡ shape.List) → length h ≤ 5 + k
 
--- The data statuses of a command are read a period apart, the first of them a period after the setting, or later. The command
--- takes a time from the setting on, so each status of a running command was read before its end.
+-- The data statuses of a command are read a period apart, the first of them a period after the
+-- setting, or later. The command ends within a time from the setting on, so each status of a
+-- running command was read before that.
 abbrev pub EndsInTime : ℕ → ℕ → List Answer → Type 0
 EndsInTime period time h = (k : ℕ) → k < polls (drop 2 (answer_words h)) → slice_index (drop 2 (answer_words h)) k ≡ running_status → (k + 1) * period < time
 
--- Then its answers, a period each, take its time and four periods at most.
+-- then the answers of the command, one in each period, take at most its time and four periods
 abbrev pub CommandTakes : Type 0
 CommandTakes = (idn : Idn) (period time : ℕ) (h : List Answer) → AreAnswers (request.Command idn) h → EndsInTime period time h → period * length h ≤ time + 4 * period
 
--- So there is at most one for each whole period of its time, and four more.
+-- so there is at most one answer for each whole period of its time, and four more
 abbrev pub CommandTakesSteps : Type 0
 CommandTakesSteps = (idn : Idn) (period time : ℕ) (h : List Answer) → 0 < period → AreAnswers (request.Command idn) h → EndsInTime period time h → length h ≤ time / period + 4
 
--- A write is of at most 1,024 bytes, and a command ends in time.
+-- a write has at most 1,024 bytes, and a command ends in time
 abbrev pub IsBounded : ℕ → ℕ → Request → List Answer → Type 0
 IsBounded period time (request.Read idn e) h = Unit {0}
 IsBounded period time (request.Write idn e bytes) h = length bytes ≤ 1024
 IsBounded period time (request.Command idn) h = EndsInTime period time h
 
--- Such a request has at most 520 answers, and one more for each unit of the time.
+-- such a request has at most 520 answers, and one more for each unit of the time
 abbrev pub RequestTakes : Type 0
 RequestTakes = (period time : ℕ) (r : Request) (h : List Answer) → 0 < period → AreAnswers r h → IsBounded period time r h → length h ≤ 520 + time

@@ -1,5 +1,6 @@
-pub mod Words
-pub mod Steps
+pub mod Clauses
+pub mod Counts
 pub mod Jobs
 pub mod Kept
-pub mod Counts
+pub mod Steps
+pub mod Words

@@ -1,18 +1,14 @@
+// Laws on the steps of a transfer, and on the number of its answers.
 ghost use Rattle.std.specs.Prelude.{◌≡◌, ℕ, ◌%◌, ◌<◌, ◌≤◌, List, [], ◌∷◌, ◌++◌, length, true, false, is_some, slice_get};
-ghost use Rattle.sercos_model.specs.Bits.{AreBytes};
-ghost use Rattle.sercos_idn.specs.declared.idn.Idn.{Idn};
-ghost use Rattle.sercos_step.specs.declared.shape.Shape.{Shape};
+ghost use Rattle.sercos_step.specs.Clauses.{AreBytes, Idn, Shape, Answer, Request, words_told, bytes_read, steps_of, next_step, outcome_of, AreAnswers, CountsAnswers, HasAtMost, AttributeTakes, ValueTakes, ListTakes, ValueWriteTakes, ListWriteTakes, CommandTakes, CommandTakesSteps, RequestTakes};
 ghost use Rattle.sercos_step.specs.declared.shape.Shape.TheVariants as shape;
-ghost use Rattle.sercos_step.specs.declared.step.Answer.{Answer};
-ghost use Rattle.sercos_step.specs.declared.request.Request.{Request};
 ghost use Rattle.sercos_step.specs.declared.request.Request.TheVariants as request;
-ghost use Rattle.sercos_step.specs.Words.{words_told, bytes_read};
-ghost use Rattle.sercos_step.specs.Steps.{steps_of, next_step, outcome_of, AreAnswers};
-ghost use Rattle.sercos_step.specs.Counts.{CountsAnswers, HasAtMost, AttributeTakes, ValueTakes, ListTakes, ValueWriteTakes, ListWriteTakes, CommandTakes, CommandTakesSteps, RequestTakes};
 
-/// A step that was known stays as it was, regardless of the word after it. A transfer that goes on has a
-/// next step. A read and a write end with their 517th answer at the latest. What is written reads back: a list of at most
-/// 1024 bytes, and a value of an even number of bytes.
+/// States facts about the steps of a transfer:
+/// - The first n + 1 steps are known from the words of n answers. They stay the same, regardless of the words that follow.
+/// - A transfer without an outcome has a next step.
+/// - If no answer follows the end of a transfer, a read and a write of at most 1024 bytes have at most 517 answers.
+/// - What is written reads back: a list of at most 1024 bytes, and a value of a positive even number of bytes.
 pub fn steps_law()
     ensures known { (r : Request) (words : List ℕ) (word k : ℕ) → k ≤ length words →
         slice_get (steps_of r (words ++ word ∷ [])) k ≡ slice_get (steps_of r words) k }
@@ -25,10 +21,21 @@ pub fn steps_law()
         bytes_read s (words_told s bytes) ≡ bytes }
 {}
 
-/// A complete transfer has exactly the number of answers that its request, the attribute and the words
-/// read determine, and any other transfer has at most that many: three for an attribute, four for a value of one word that is
-/// read or written, and 5 + k for a list of k words that is read or written. A command whose status isn't 7 at the end of its
-/// time or later has at most four answers, and one more for each whole period of the time.
+/// States how many answers a transfer has, if none follows its end:
+/// - A complete one has exactly the number that its request, the attribute and the words read determine.
+/// - Any other has at most this number.
+/// - A read of an attribute has at most three.
+/// - A read of a minimum, a maximum or operation data has at most four if the attribute is one of a value of one word.
+/// - A read of operation data has at most 5 + k if the attribute is that of a list, and its first word is a length of at most 2k bytes.
+/// - A write of at most two bytes to operation data of one word has at most four.
+/// - A write of at most 2k bytes to operation data that is a list has at most 5 + k.
+/// - The answers of a command that ends in time, one in each period, take at most its time and four periods.
+/// - So it has at most four, and one more for each whole period of its time, if the period isn't 0.
+/// - A read, a write of at most 1024 bytes and a command that ends in time have at most 520, and one more for each unit of the time, if the
+///   period isn't 0.
+///
+/// A command ends in time if its k-th data status, counted from 1, is that of a running command only while k periods are shorter than the
+/// time.
 pub fn counts_law()
     ensures complete { CountsAnswers }
     ensures most { HasAtMost }

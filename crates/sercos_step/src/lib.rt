@@ -1,4 +1,4 @@
-//! What is carried on the service channel: steps and their answers, and the transfers that are made of them.
+//! The service channel: its steps and their answers, and the transfers that consist of them.
 #![tactic(auto)]
 
 mod law;

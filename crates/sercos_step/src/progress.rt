@@ -1,8 +1,7 @@
-// What is kept between the steps of a transfer.
+// What is kept between the steps of a transfer. The clauses on a next step or an answer hold if what is kept is that of the answers so far,
+// and the request isn't complete.
 ghost use Rattle.std.specs.Prelude.{◌≡◌, ℕ, ◌+◌, ◌*◌, ◌/◌, ◌%◌, ◌<◌, ◌≤◌, ◌==◌, List, [], ◌∷◌, ◌++◌, length, Some, slice_get, true, false};
-ghost use Rattle.sercos_idn.specs.Elements.{identifier_element, attribute_element, data_element};
-ghost use Rattle.sercos_step.specs.Steps.{a_step, opening, steps_before, steps_of, is_whole};
-ghost use Rattle.sercos_step.specs.Kept.{IsAtRead, IsAtWrite, IsAtCommand, IsAfterCommand, with_attribute, ends_write, count_with};
+ghost use Rattle.sercos_step.specs.Clauses.{a_step, steps_before, steps_of, is_whole, IsAtRead, IsAtWrite, IsAtCommand, IsAfterCommand, with_attribute, ends_write, count_with};
 
 use crate::reading::{keep_word, reading_step};
 use crate::request::Request;
@@ -16,62 +15,39 @@ use sercos_idn::element::{ATTRIBUTE, DATA, IDENTIFIER, MINIMUM};
 use std::marker::Model;
 use std::mem;
 
-// The step that opens an identifier number.
-fn opening(idn: Idn) -> Step
-    ensures { result ≡ opening idn }
+// Returns the step that writes the only word of an element.
+fn write_of(element: u8, word: u16) -> Step
+    ensures { result ≡ a_step true true element word }
 {
     Step {
         write: true,
         last: true,
-        element: IDENTIFIER,
-        word: idn.raw,
-    }
-}
-
-// The step that reads a word of the attribute, the first one or the last.
-fn attribute_step(last: bool) -> Step
-    ensures { result ≡ a_step false last attribute_element 0 }
-{
-    Step {
-        write: false,
-        last,
-        element: ATTRIBUTE,
-        word: 0,
-    }
-}
-
-// The step that reads the data status.
-fn status_step() -> Step
-    ensures { result ≡ a_step false true identifier_element 0 }
-{
-    Step {
-        write: false,
-        last: true,
-        element: IDENTIFIER,
-        word: 0,
-    }
-}
-
-// The step that sets a procedure command or cancels it.
-fn command_word(word: u16) -> Step
-    ensures { result ≡ a_step true true data_element word }
-{
-    Step {
-        write: true,
-        last: true,
-        element: DATA,
+        element,
         word,
     }
 }
 
-// The steps of a read before the element's own words.
+// Returns the step that reads a word of an element.
+fn read_of(element: u8, last: bool) -> Step
+    ensures { result ≡ a_step false last element 0 }
+{
+    Step {
+        write: false,
+        last,
+        element,
+        word: 0,
+    }
+}
+
+// Returns the number of steps of a read before the element's own words: 3 for minimum, maximum and operation data, otherwise 1.
 fn steps_before(element: u8) -> u16
     ensures { result ≡ steps_before element }
 {
     if element >= MINIMUM { 3 } else { 1 }
 }
 
-// Returns whether one more answer ends a write, from the answers before it and the word of the attribute.
+// Returns whether one more answer ends a write of at most 1024 bytes, from the number of answers before it and the word of the attribute.
+// Only operation data uses the attribute.
 fn ends_write(element: u8, attribute: u32, bytes: &[u8], count: u16) -> bool
     requires { length bytes.now ≤ 1024 }
     ensures { result ≡ ends_write element attribute bytes.now count }
@@ -83,7 +59,8 @@ fn ends_write(element: u8, attribute: u32, bytes: &[u8], count: u16) -> bool
     }
 }
 
-// The count of a command after one more answer: it stays while the command is running.
+// Returns the count of a command after one more answer with this word: 1 after the first, 2 after the second and while the word is that of
+// a running command, otherwise 3.
 fn count_with(count: u16, word: u16) -> u16
     ensures { result ≡ count_with count word }
 {
@@ -96,8 +73,7 @@ fn count_with(count: u16, word: u16) -> u16
     }
 }
 
-// What a transfer keeps of its answers. Words are kept as received, so their own ranges bound what is computed from
-// them.
+// What a transfer keeps of its answers. Words are kept as received, so the range of their type bounds what is computed from them.
 #[derive(Drop)]
 pub struct Progress {
     count: u16,
@@ -117,6 +93,7 @@ impl Model for Progress {
 }
 
 impl Progress {
+    /// Returns the progress before the first answer.
     pub fn new() -> Progress
         ensures { (result.count ≡ 0) × (result.low ≡ 0) × (result.high ≡ 0) × (result.first ≡ 0) × (result.bytes ≡ []) × (result.status ≡ 0) }
     {
@@ -130,7 +107,7 @@ impl Progress {
         }
     }
 
-    // Takes out the bytes that were read.
+    // Returns the bytes that were read, and leaves none. All else is unchanged.
     pub fn take_bytes(&mut self) -> Bytes
         ensures value { result ≡ self.old.bytes }
         ensures rest { self.new ≡ record self.old { bytes = [] } }
@@ -138,7 +115,7 @@ impl Progress {
         mem::replace(&mut self.bytes, Bytes::new())
     }
 
-    // The two bytes of the last data status.
+    // Returns the two bytes of the last word kept of a command, the low byte first.
     pub fn status_bytes(&self) -> Bytes
         ensures { result ≡ (self.now.status % 256) ∷ (self.now.status / 256) ∷ [] }
     {
@@ -147,14 +124,14 @@ impl Progress {
         bytes
     }
 
-    // The word of the attribute, from its two words so far.
+    // Returns the 32 bits of the attribute, from its two words so far.
     fn attribute(&self) -> u32
         ensures { result ≡ self.now.low + 65536 * self.now.high }
     {
         u32::from(self.low) + 65536 * u32::from(self.high)
     }
 
-    // Keeps a word where it is one of the attribute.
+    // Keeps a word if it is one of the attribute: the answer to the second or the third step. Otherwise nothing changes.
     fn keep_attribute(&mut self, word: u16)
         ensures { self.new ≡ with_attribute self.old word }
     {
@@ -166,7 +143,7 @@ impl Progress {
         }
     }
 
-    // The next step of a read.
+    // Returns the next step of a read of an element, 0 to 7, that isn't complete. The step's element is also 0 to 7.
     pub fn read_step(&self, idn: Idn, element: u8) -> Step
         requires { element < 8 }
         ensures next { (words : List ℕ) → IsAtRead self.now element words → is_whole (Request.Read idn element) words ≡ false →
@@ -174,17 +151,17 @@ impl Progress {
         ensures element { result.element < 8 }
     {
         if self.count == 0 {
-            return opening(idn);
+            return write_of(IDENTIFIER, idn.raw);
         }
         let before = steps_before(element);
         if self.count < before {
-            return attribute_step(self.count == 2);
+            return read_of(ATTRIBUTE, self.count == 2);
         }
         let shape = shape_of(element, self.attribute());
         reading_step(shape, element, self.count - before, self.first)
     }
 
-    // The next step of a write.
+    // Returns the next step of a write of an element, 0 to 7, that isn't complete. The step's element is also 0 to 7.
     pub fn write_step(&self, idn: Idn, element: u8, bytes: &Bytes) -> Step
         requires { element < 8 }
         ensures next { (words : List ℕ) → IsAtWrite self.now words → is_whole (Request.Write idn element bytes.now) words ≡ false →
@@ -192,7 +169,7 @@ impl Progress {
         ensures element { result.element < 8 }
     {
         if self.count == 0 {
-            return opening(idn);
+            return write_of(IDENTIFIER, idn.raw);
         }
         if element != DATA {
             return writing_step(
@@ -203,7 +180,7 @@ impl Progress {
             );
         }
         if self.count < 3 {
-            return attribute_step(self.count == 2);
+            return read_of(ATTRIBUTE, self.count == 2);
         }
         writing_step(
             shape_of(DATA, self.attribute()),
@@ -213,25 +190,25 @@ impl Progress {
         )
     }
 
-    // The next step of a command.
+    // Returns the next step of a command that isn't complete. Its element is 0 to 7.
     pub fn command_step(&self, idn: Idn) -> Step
         ensures next { (words : List ℕ) → IsAtCommand self.now words → is_whole (Request.Command idn) words ≡ false →
             Some result ≡ slice_get (steps_of (Request.Command idn) words) (length words) }
         ensures element { result.element < 8 }
     {
         if self.count == 0 {
-            return opening(idn);
+            return write_of(IDENTIFIER, idn.raw);
         }
         if self.count == 1 {
-            return command_word(SET);
+            return write_of(DATA, SET);
         }
         if self.count == 2 {
-            return status_step();
+            return read_of(IDENTIFIER, true);
         }
-        command_word(CANCEL)
+        write_of(DATA, CANCEL)
     }
 
-    // Keeps an answer to a read, and returns whether it was the last.
+    // Keeps an answer to a read, and returns whether it was the last one.
     pub fn read_answer(&mut self, element: u8, word: u16) -> bool
         ensures { (idn : Idn) (words : List ℕ) → IsAtRead self.old element words → is_whole (Request.Read idn element) words ≡ false →
             IsAtRead self.new element (words ++ word ∷ []) × (result ≡ is_whole (Request.Read idn element) (words ++ word ∷ [])) }
@@ -255,7 +232,7 @@ impl Progress {
         whole
     }
 
-    // Keeps an answer to a write, and returns whether it was the last.
+    // Keeps an answer to a write, and returns whether it was the last one.
     pub fn write_answer(&mut self, element: u8, bytes: &Bytes, word: u16) -> bool
         ensures { (idn : Idn) (words : List ℕ) → IsAtWrite self.old words → is_whole (Request.Write idn element bytes.now) words ≡ false →
             IsAtWrite self.new (words ++ word ∷ []) × (result ≡ is_whole (Request.Write idn element bytes.now) (words ++ word ∷ [])) }
@@ -267,7 +244,7 @@ impl Progress {
         ends_write(element, attribute, bytes.as_slice(), count)
     }
 
-    // Keeps an answer to a command, and returns whether it was the last, to the cancelling.
+    // Keeps an answer to a command, and returns whether it was the last one, which is that to the cancelling.
     pub fn command_answer(&mut self, word: u16) -> bool
         ensures { (idn : Idn) (words : List ℕ) → IsAtCommand self.old words → is_whole (Request.Command idn) words ≡ false →
             IsAfterCommand idn self.new (words ++ word ∷ []) result }

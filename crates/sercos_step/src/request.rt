@@ -1,8 +1,8 @@
-// What a transfer is to do, and how it ends.
+// What a transfer must do, and how it ends.
 use sercos_bits::Bytes;
 use sercos_idn::{Code, Idn};
 
-/// What a transfer is to do.
+/// What a transfer must do on the service channel (IEC 61491:1995).
 #[derive(Debug, PartialEq, Eq, Drop)]
 pub enum Request {
     /// Reads an element, 1 to 7. Element 1 returns the data status.
@@ -18,7 +18,7 @@ pub enum Request {
         idn: Idn,
         /// The element.
         element: u8,
-        /// What is written: of a number its bytes, the low byte first.
+        /// The bytes to write. Those of a number are in order from the low byte on.
         bytes: Bytes,
     },
     /// Sets a procedure command, waits for its end and cancels it.
@@ -28,24 +28,24 @@ pub enum Request {
     },
 }
 
-/// A request to a drive. A master may be opened with jobs of which `AreJobs` of `specs/Jobs.antt` holds.
+/// A request to a drive. A master may be opened with jobs for which `AreJobs` of `specs/Jobs.antt` holds.
 #[derive(Debug, PartialEq, Eq, Drop)]
 pub struct Job {
     /// The drive's address.
     pub drive: u8,
-    /// What it is to do.
+    /// What the drive must do.
     pub request: Request,
 }
 
 /// How a transfer ended.
 #[derive(Debug, Default, PartialEq, Eq, Drop)]
 pub enum Outcome {
-    /// All steps were answered. A read has the element's bytes, a write none, and a procedure command the two bytes of
-    /// the last data status.
+    /// All steps were answered. The value is empty for a write. For a read it has the element's bytes, and for a procedure command the two
+    /// bytes of the last data status.
     Complete(Bytes),
-    /// A step was refused, with this code.
+    /// The drive refused a step with this code.
     Refused(Code),
-    /// The ring fell to phase 0 before the end.
+    /// The ring fell to phase 0 before the transfer ended.
     #[default]
     Broken,
 }

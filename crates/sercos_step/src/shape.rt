@@ -1,25 +1,25 @@
 // How the words of an element are laid out.
-ghost use Rattle.std.specs.Prelude.{◌≡◌, ℕ, ◌≤◌};
-ghost use Rattle.sercos_step.specs.Words.{length_said, shape_by, as_value, shape_of, words_in};
+ghost use Rattle.std.specs.Prelude.{◌≡◌, ◌≤◌};
+ghost use Rattle.sercos_step.specs.Clauses.{length_said, shape_by, as_value, shape_of, words_in};
 
 use sercos_idn::element::{ATTRIBUTE, DATA, IDENTIFIER, NAME, UNIT};
 use sercos_idn::{Attribute, Length};
 
-/// How the words of an element are laid out.
+/// How the words of an element are laid out on the service channel (IEC 61491:1995).
 #[derive(Clone, Copy, Debug, PartialEq, Eq)]
 pub enum Shape {
     /// One word.
     One,
     /// Two words, the low word first.
     Two,
-    /// The length in bytes, the longest length, and then the bytes two by two.
+    /// The length in bytes, the greatest length in bytes, and then the bytes two by two.
     List,
 }
 
 // The most bytes of a list that are read.
 pub const MOST_LIST_BYTES: u16 = 1024;
 
-// Returns the length in the word of an attribute. An invalid word counts as that of a value of two bytes.
+// Returns the length in the word of an attribute. An invalid word counts as the attribute of a value of two bytes.
 fn length_said(word: u32) -> Length
     ensures { result ≡ length_said word }
 {
@@ -29,7 +29,7 @@ fn length_said(word: u32) -> Length
     }
 }
 
-// The shape of operation data.
+// Returns the shape of operation data with a length.
 fn shape_by(length: Length) -> Shape
     ensures { result ≡ shape_by length }
 {
@@ -40,7 +40,7 @@ fn shape_by(length: Length) -> Shape
     }
 }
 
-// The shape of a minimum or a maximum of such operation data: they are no lists.
+// Returns the shape of the minimum or maximum of operation data with a shape. For a list it is one word.
 fn as_value(shape: Shape) -> Shape
     ensures { result ≡ as_value shape }
 {
@@ -50,7 +50,7 @@ fn as_value(shape: Shape) -> Shape
     }
 }
 
-// The shape of an element, 1 to 7, under the word of the attribute.
+// Returns the shape of an element, 1 to 7, from the word of the attribute. The elements 1 to 4 don't use this word.
 pub fn shape_of(element: u8, word: u32) -> Shape
     ensures { result ≡ shape_of element word }
 {
@@ -63,7 +63,8 @@ pub fn shape_of(element: u8, word: u32) -> Shape
     }
 }
 
-// Returns how many words an element has that is read, where the first of them is known.
+// Returns the number of words of an element that is read, 1 to 514, from its first word. Only a list uses this word; of its bytes at most
+// 1024 are read.
 pub fn words_in(shape: Shape, first: u16) -> u16
     ensures value { result ≡ words_in shape first }
     ensures bound { (1 ≤ result) × (result ≤ 514) }

@@ -1,7 +1,6 @@
-// A request on its way.
+// A request in progress.
 ghost use Rattle.std.specs.Prelude.{◌≡◌, ℕ, ◌<◌, List, [], ◌∷◌, ◌++◌, length, true, false, Some, is_some, slice_get};
-ghost use Rattle.sercos_step.specs.Steps.{IsRequest, steps_of, is_whole, next_step, outcome_of};
-ghost use Rattle.sercos_step.specs.Kept.{IsAt, IsAfterAnswer, result_kept, TransferStandsFor};
+ghost use Rattle.sercos_step.specs.Clauses.{IsRequest, steps_of, is_whole, next_step, outcome_of, IsAt, IsAfterAnswer, result_kept, TransferStandsFor};
 
 use crate::progress::Progress;
 use crate::request::{Outcome, Request};
@@ -10,7 +9,8 @@ use sercos_bits::Bytes;
 use sercos_idn::Code;
 use std::marker::Model;
 
-// The next step of a request that goes on.
+// Returns the next step of a request that isn't complete. `progress` must be what is kept of its answers so far. The step's element is 0 to
+// 7.
 fn step_at(request: &Request, progress: &Progress) -> Step
     requires { IsRequest request.now }
     ensures next { (words : List ℕ) → IsAt request.now progress.now words → is_whole request.now words ≡ false →
@@ -28,7 +28,8 @@ fn step_at(request: &Request, progress: &Progress) -> Step
     }
 }
 
-// Keeps an answer to a request that goes on, and returns whether it was the last.
+// Keeps an answer to a request that isn't complete, and returns whether it was the last one. `progress` must be what is kept of the answers
+// before it. Afterwards it is what is kept of all of them, or after the last one has the result.
 fn answer_at(request: &Request, progress: &mut Progress, word: u16) -> bool
     ensures { (words : List ℕ) → IsAt request.now progress.old words → is_whole request.now words ≡ false →
         IsAfterAnswer request.now progress.new (words ++ word ∷ []) result }
@@ -41,6 +42,7 @@ fn answer_at(request: &Request, progress: &mut Progress, word: u16) -> bool
 }
 
 // Returns the result of a request whose steps are all answered. The bytes that were read are moved out of `progress`, not copied.
+// Afterwards `progress` is unspecified.
 fn result_at(request: &Request, progress: &mut Progress) -> Bytes
     ensures { result ≡ result_kept request.now progress.old }
 {
@@ -51,7 +53,7 @@ fn result_at(request: &Request, progress: &mut Progress) -> Bytes
     }
 }
 
-/// A request to a drive in progress: it returns the steps one by one and takes their answers.
+/// A request to a drive in progress. It returns the steps one by one and takes their answers.
 #[derive(Drop)]
 pub struct Transfer {
     request: Request,
@@ -71,7 +73,7 @@ impl Model for Transfer {
 }
 
 impl Transfer {
-    /// Returns a transfer of which no step has gone yet. A read names one of the elements 1 to 7, a write one of 2 to 7.
+    /// Returns a transfer before its first step. A read names one of the elements 1 to 7, a write one of 2 to 7.
     pub fn begin(request: Request) -> Transfer
         requires { IsRequest request }
         ensures { TransferStandsFor result request [] }
@@ -83,7 +85,8 @@ impl Transfer {
         }
     }
 
-    /// Returns the next step: the first that has no answer. It stays the same until `answer`, so a step that was lost is sent again.
+    /// Returns the next step: the first that has no answer. The transfer must not be done. The step stays the same until `answer`, so that
+    /// a lost step is sent again.
     pub fn step(&self) -> Step
         requires { self.now.done ≡ false }
         ensures step { (request : Request) (h : List Answer) → TransferStandsFor self.now request h → Some result ≡ next_step request h }
@@ -92,8 +95,8 @@ impl Transfer {
         step_at(&self.request, &self.progress)
     }
 
-    /// Takes the answer to the step, and returns the outcome if this answer ends the transfer: `Refused` with the code of an
-    /// error, `Complete` if all steps are answered.
+    /// Takes the answer to the step, and returns the outcome if this answer ends the transfer: `Refused` with the code of an error, or
+    /// `Complete` if all steps are answered. Afterwards the transfer is done iff there is an outcome.
     pub fn answer(&mut self, a: Answer) -> Option<Outcome>
         requires { self.old.done ≡ false }
         ensures stands { (request : Request) (h : List Answer) → TransferStandsFor self.old request h → TransferStandsFor self.new request (a ∷ h) }

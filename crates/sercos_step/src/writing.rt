@@ -1,14 +1,13 @@
 // The words that write bytes to an element.
-ghost use Rattle.std.specs.Prelude.{◌≡◌, ℕ, ◌+◌, ◌<◌, ◌≤◌, List, length, Some, slice_get, slice_index};
-ghost use Rattle.sercos_step.specs.Words.{words_of, words_told};
-ghost use Rattle.sercos_step.specs.Steps.{writing};
+ghost use Rattle.std.specs.Prelude.{◌≡◌, ◌+◌, ◌<◌, ◌≤◌, List, length, Some, slice_get, slice_index};
+ghost use Rattle.sercos_step.specs.Clauses.{words_of, words_told, writing};
 
 use crate::shape::Shape;
 use crate::step::Step;
 use sercos_bits::byte_at;
 
-/// Returns the word at a place of the bytes taken two by two, the low byte first. A last odd byte is filled up with 0, and after the last
-/// word there is 0.
+/// Returns the word at an index of bytes taken two by two, the low byte first. A last odd byte is completed with a 0. After the last word
+/// the result is 0.
 pub fn word_at(bytes: &[u8], place: u16) -> u16
     ensures { result ≡ slice_index (words_of bytes.now) place }
 {
@@ -16,7 +15,7 @@ pub fn word_at(bytes: &[u8], place: u16) -> u16
     u16::from_le_bytes([byte_at(bytes, low), byte_at(bytes, low + 1)])
 }
 
-// Returns how many words write the bytes.
+// Returns the number of words that write at most 1024 bytes to an element: two more than the bytes have for a list, otherwise at least one.
 pub fn told_count(shape: Shape, bytes: &[u8]) -> u16
     requires { length bytes.now ≤ 1024 }
     ensures { result ≡ length (words_told shape bytes.now) }
@@ -28,7 +27,7 @@ pub fn told_count(shape: Shape, bytes: &[u8]) -> u16
     }
 }
 
-// The word at a place of those that write the bytes.
+// Returns the word at an index of those that write at most 1024 bytes to an element. The index is below their number.
 fn told_at(shape: Shape, bytes: &[u8], place: u16) -> u16
     requires { length bytes.now ≤ 1024 }
     ensures { place < length (words_told shape bytes.now) → result ≡ slice_index (words_told shape bytes.now) place }
@@ -43,7 +42,7 @@ fn told_at(shape: Shape, bytes: &[u8], place: u16) -> u16
     }
 }
 
-// The step that writes the word at a place.
+// Returns the step that writes the word at an index of those that write at most 1024 bytes. The index is below their number.
 pub fn writing_step(shape: Shape, element: u8, bytes: &[u8], place: u16) -> Step
     requires { length bytes.now ≤ 1024 }
     ensures next { place < length (words_told shape bytes.now) → Some result ≡ slice_get (writing shape element bytes.now) place }

@@ -1,4 +1,4 @@
--- Which kind of telegram one is.
+-- Whether a telegram is of a kind.
 use Rattle.std.specs.Prelude.{Bool, true, false}
 use Rattle.sercos_telegram.specs.declared.layout.Kind.{Kind}
 use Rattle.sercos_telegram.specs.declared.layout.Kind.TheVariants.{Mst, At, Mdt}

@@ -1,4 +1,5 @@
-pub mod Words
-pub mod Spells
+pub mod Clauses
 pub mod Faults
 pub mod Kinds
+pub mod Spells
+pub mod Words

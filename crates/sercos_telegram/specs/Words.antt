@@ -1,11 +1,12 @@
--- The control and status words, after IEC 61491:1995; the places of the bits are this profile's. A word is the sum of
--- its bits at their places.
+-- The control and status words, after IEC 61491:1995; the places of the bits are this profile's. A
+-- word is the sum of its bits at their places.
 use Rattle.std.specs.Prelude.{◌≡◌, ℕ, ◌+◌, ◌*◌, ◌/◌, ◌%◌, ◌<◌, ◌==◌, Bool, cond}
 use Rattle.std.proofs.Common.{arith}
 use Rattle.sercos_telegram.specs.declared.words.Control.{Control}
 use Rattle.sercos_telegram.specs.declared.words.Status.{Status}
 
--- bit 0 is MHS, bit 1 write, bit 2 the last word of the element, bits 5 to 3 the element; the others are cyclic
+-- bit 0 is MHS, bit 1 write, bit 2 the last word of the element, bits 5 to 3 the element; the
+-- others are cyclic
 abbrev pub control_word : Control → ℕ
 control_word c = c.cyclic + cond c.mhs 1 0 + cond c.write 2 0 + cond c.last 4 0 + 8 * c.element
 
@@ -13,10 +14,11 @@ control_word c = c.cyclic + cond c.mhs 1 0 + cond c.write 2 0 + cond c.last 4 0 
 abbrev pub status_word : Status → ℕ
 status_word s = s.cyclic + cond s.ahs 1 0 + cond s.busy 2 0 + cond s.error 4 0 + cond s.change 32 0
 
--- whether a word has the bit of a value
+-- whether a word has a bit, which is passed as a power of two
 abbrev pub has : ℕ → ℕ → Bool
 has word bit = word / bit % 2 == 1
 
+-- facts that `control_of` and `status_of` need of the parts of a word
 pub control_element : (word : ℕ) → word / 8 % 8 < 8
 control_element word = omega arith
 
@@ -29,7 +31,7 @@ status_rest_low word = omega arith
 pub status_rest : (word : ℕ) → (word / 64 * 64 + word % 32 / 8 * 8) % 64 < 32
 status_rest word = omega arith
 
--- the control word that a word is
+-- the control word of sixteen bits
 unfoldable pub control_of : ℕ → Control
 control_of word = record {
   mhs = has word 1;
@@ -41,7 +43,7 @@ control_of word = record {
   cyclic_apart = control_rest word;
 }
 
--- the status word that a word is
+-- the status word of sixteen bits
 unfoldable pub status_of : ℕ → Status
 status_of word = record {
   ahs = has word 1;

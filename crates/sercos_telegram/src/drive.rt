@@ -1,16 +1,13 @@
 //! What a drive sends: the AT.
 ghost use Rattle.std.specs.Prelude.{◌≡◌, ℕ, ◌+◌, ◌^◌, ◌<◌, ◌≤◌, List, length, drop, IfOk, IsOkAnd};
-ghost use Rattle.std.specs.Result.{result_err};
-ghost use Rattle.sercos_telegram.specs.Faults.{at_fault};
-ghost use Rattle.sercos_telegram.specs.Words.{status_word, status_of};
-ghost use Rattle.sercos_telegram.specs.Spells.{at_content, word_at, SpellsAt};
+ghost use Rattle.sercos_telegram.specs.Clauses.{result_err, at_fault, status_word, status_of, at_content, word_at, SpellsAt};
 
 use crate::fields::{push_fields, read_fields};
 use crate::layout::{Layout, test_head};
 use crate::words::Status;
 use sercos_bits::Content;
 
-/// An AT: the telegram of a drive. In phases 3 and 4 its values are the configured feedback values.
+/// An AT, the telegram of a drive (IEC 61491:1995). In phases 3 and 4 its values are the configured feedback values.
 #[derive(Clone, Copy, Debug, PartialEq, Eq)]
 pub struct At<'a> {
     /// The drive's address.
@@ -23,8 +20,9 @@ pub struct At<'a> {
     pub values: &'a [u8],
 }
 
-/// Reads the AT of an address with `len` bytes after it. The first of a wrong length and a wrong address is the error.
-/// The values are part of the content.
+/// Reads the AT of the drive with an address, which has `len` bytes after the address, at least 4. Every such AT is accepted. The error is
+/// `Length` if the content doesn't have 1 + `len` bytes, otherwise `Address` if its first byte isn't the address. The values of the result
+/// borrow from the content.
 pub fn read_at(address: u8, len: u16, content: &[u8]) -> Result<At<'_>, Layout>
     requires { 4 ≤ len }
     ensures address { IfOk result (λ at. at.address ≡ address) }
@@ -47,7 +45,7 @@ pub fn read_at(address: u8, len: u16, content: &[u8]) -> Result<At<'_>, Layout>
     })
 }
 
-/// Replaces the content by an AT of at most 64 bytes of values.
+/// Replaces the content by an AT: its address, its two words and its values, which are at most 64 bytes.
 pub fn write_at(at: &At<'_>, out: &mut Content)
     requires { length at.now.values.now ≤ 64 }
     ensures content { out.new ≡ at_content at.now.address at.now.status at.now.info at.now.values.now }

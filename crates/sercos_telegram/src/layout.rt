@@ -1,8 +1,8 @@
+// The kinds of telegrams, and why a content is not a telegram of a layout.
 ghost use Rattle.std.specs.Prelude.{◌≡◌, ◌<◌, length, slice_index, OnOk};
-ghost use Rattle.std.specs.Result.{result_err};
-ghost use Rattle.sercos_telegram.specs.Faults.{head_fault};
+ghost use Rattle.sercos_telegram.specs.Clauses.{result_err, head_fault};
 
-/// The kinds of telegrams: the master's synchronisation telegram, the drives' telegrams, and the master's data telegram.
+/// The kinds of telegrams (IEC 61491:1995): the master's synchronisation telegram, the drives' telegrams, and the master's data telegram.
 #[derive(Clone, Copy, Debug, PartialEq, Eq)]
 pub enum Kind {
     /// MST: the phase that the master commands.
@@ -13,18 +13,19 @@ pub enum Kind {
     Mdt,
 }
 
-/// Why a content spells no telegram of a layout. Where several causes hold, the first of these is answered.
+/// Why a content is not a telegram of a layout. If several causes apply, the first of these is the error.
 #[derive(Clone, Copy, Debug, PartialEq, Eq)]
 pub enum Layout {
-    /// The number of bytes of the content that was found, and the one that was wanted.
+    /// The content has a wrong length. The values are the number of bytes found, and the one expected.
     Length(usize, usize),
-    /// The address byte that was found, and the one that was wanted.
+    /// The content has a wrong address. The values are the address byte found, and the one expected.
     Address(usize, usize),
-    /// The place of a byte whose value is not allowed there: 1, for an MST's byte that isn't 0 to 4.
+    /// A byte has a value that is not allowed. The value here is the byte's index: 1, for an MST whose byte after the address is above 4.
     BadField(usize),
 }
 
-// Tests the length of a content, and then its address.
+// Returns `Ok` iff a content has the expected length, in bytes, and the expected address. The length isn't 0. The error is `Length` if the
+// length is wrong, otherwise `Address`.
 #[tactic(auto, unfolding(crate::specs::Faults::head_fault))]
 pub fn test_head(wanted: usize, address: u8, content: &[u8]) -> Result<(), Layout>
     requires { 0 < wanted }

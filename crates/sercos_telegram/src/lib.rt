@@ -1,7 +1,7 @@
 //! The telegrams of a SERCOS ring: MST, MDT and AT, with their control and status words.
 //!
-//! The kind of a telegram is known by its place in the cycle, so each reader takes the layout as an argument. A
-//! content is what a frame carries: the address byte, and then words of sixteen bits, the low byte first.
+//! The kind of a telegram follows from its place in the cycle, so each reader takes the layout as an argument. A content is what a frame
+//! carries: the address byte, and then words of sixteen bits, the low byte first.
 #![tactic(auto)]
 
 mod drive;

@@ -1,9 +1,6 @@
 //! What the master sends: the MST and the MDT.
-ghost use Rattle.std.specs.Prelude.{◌≡◌, ℕ, ◌+◌, ◌^◌, ◌<◌, ◌≤◌, ◌↔◌, [], ◌∷◌, ◌++◌, List, length, take, drop, slice_index, slice_range, IfOk, IsOkAnd, IsErr, OnOk, OnErr};
-ghost use Rattle.std.specs.Result.{result_err};
-ghost use Rattle.sercos_telegram.specs.Faults.{mst_fault, single_fault, joint_fault};
-ghost use Rattle.sercos_telegram.specs.Words.{control_word, control_of};
-ghost use Rattle.sercos_telegram.specs.Spells.{all_drives, word_at, mst_content, single_content, record_bytes, SpellsRecord};
+ghost use Rattle.std.specs.Prelude.{◌≡◌, ℕ, ◌+◌, ◌^◌, ◌<◌, ◌≤◌, ◌↔◌, [], ◌∷◌, ◌++◌, List, length, slice_index, slice_range, IfOk, IsOkAnd, IsErr, OnOk, OnErr};
+ghost use Rattle.sercos_telegram.specs.Clauses.{result_err, mst_fault, single_fault, joint_fault, control_word, control_of, all_drives, word_at, mst_content, single_content, record_bytes, SpellsRecord};
 
 use crate::fields::{push_fields, read_fields};
 use crate::layout::{Layout, test_head};
@@ -16,17 +13,16 @@ const ALL_DRIVES: u8 = 255;
 /// The greatest phase.
 const LAST_PHASE: u8 = 4;
 
-/// An MST: the master's synchronisation telegram.
+/// An MST, the master's synchronisation telegram (IEC 61491:1995).
 #[derive(Clone, Copy, Debug, PartialEq, Eq)]
 pub struct Mst {
-    /// The phase that is commanded, 0 to 4. It is the byte after the address, so its bits 7 to 3 are sent as 0, and
-    /// refused otherwise (this profile).
+    /// The phase that is commanded, 0 to 4. It is the whole byte after the address. So bits 7 to 3 of this byte are sent as 0, and another
+    /// value is refused (this profile).
     pub phase: u8,
     ghost phase_in_range: { phase ≤ 4 },
 }
 
-/// A record of an MDT: the master's part for one drive. In phases 3 and 4 its values are the configured command
-/// values.
+/// A record of an MDT, the master's part for one drive (IEC 61491:1995). In phases 3 and 4 its values are the configured command values.
 #[derive(Clone, Copy, Debug, PartialEq, Eq)]
 pub struct Record<'a> {
     /// The control word.
@@ -37,7 +33,8 @@ pub struct Record<'a> {
     pub values: &'a [u8],
 }
 
-/// Reads an MST. The error is the first of a wrong length, a wrong address and a byte that is not a phase.
+/// Reads an MST. Every MST of a phase from 0 to 4 is accepted. The error is `Length` unless the content has two bytes, otherwise `Address`
+/// unless the first is 255, otherwise `BadField(1)` if the second is above 4.
 #[tactic(auto, unfolding(crate::specs::Faults::mst_fault))]
 pub fn read_mst(content: &[u8]) -> Result<Mst, Layout>
     ensures phase { IfOk result (λ mst. mst.phase ≡ slice_index content.now 1) }
@@ -54,7 +51,7 @@ pub fn read_mst(content: &[u8]) -> Result<Mst, Layout>
     Ok(Mst { phase })
 }
 
-/// Replaces the content by an MST.
+/// Replaces the content by an MST, which has two bytes.
 pub fn write_mst(m: &Mst, out: &mut Content)
     ensures { out.new ≡ mst_content m.now.phase }
 {
@@ -63,8 +60,8 @@ pub fn write_mst(m: &Mst, out: &mut Content)
     out.push_within(m.phase);
 }
 
-/// Reads the MDT of phases 1 and 2 for the drive of an address: its control word and information word. The first of a
-/// wrong length and a wrong address is the error.
+/// Reads the MDT of phases 1 and 2 for the drive with an address, and returns its control word and information word. Every such MDT is
+/// accepted. The error is `Length` unless the content has five bytes, otherwise `Address` if its first byte isn't the address.
 pub fn read_single(address: u8, content: &[u8]) -> Result<(Control, u16), Layout>
     ensures control { IfOk result (λ words. words.0 ≡ control_of (word_at content.now 1)) }
     ensures info { IfOk result (λ words. words.1 ≡ word_at content.now 3) }
@@ -79,7 +76,7 @@ pub fn read_single(address: u8, content: &[u8]) -> Result<(Control, u16), Layout
     Ok((Control::read(fields.word), fields.info))
 }
 
-/// Replaces the content by an MDT of phases 1 and 2.
+/// Replaces the content by the MDT of phases 1 and 2 for the drive with an address, which has five bytes.
 pub fn write_single(address: u8, control: &Control, info: u16, out: &mut Content)
     ensures content { out.new ≡ single_content address control.now info }
     ensures words { (control_word control.now < 2 ^ 16) × (info < 2 ^ 16) }
@@ -89,19 +86,10 @@ pub fn write_single(address: u8, control: &Control, info: u16, out: &mut Content
     push_fields(control.write(), info, &[], out);
 }
 
-// The bytes of a record: `len` of them from `position` on.
-fn record_part(position: u16, len: u16, content: &[u8]) -> &[u8]
-    requires behind_address { 1 ≤ position }
-    requires within { position + len ≤ length content.now }
-    ensures { result.now ≡ take len (drop position content.now) }
-{
-    let begin = usize::from(position);
-    &content[begin..begin + usize::from(len)]
-}
-
-/// Reads one record of the MDT of phases 3 and 4, which has `mdt_len` bytes after its address: the one of `len` bytes
-/// from `position` on, 1 being that of the first byte after the address. The first of a wrong length and a wrong
-/// address is the error. The values are part of the content.
+/// Reads one record of an MDT of phases 3 and 4. The MDT has `mdt_len` bytes after its address. The record has `len` bytes, at least 4,
+/// from `position` on, at least 1; position 1 is the first byte after the address. The record must end within these `mdt_len` bytes. Every
+/// such MDT is accepted. The error is `Length` if the content doesn't have 1 + `mdt_len` bytes, otherwise `Address` if it doesn't begin
+/// with 255. The values of the result borrow from the content.
 pub fn read_joint(
     mdt_len: u16,
     position: u16,
@@ -121,7 +109,8 @@ pub fn read_joint(
     ensures fault { result_err result ≡ joint_fault mdt_len content.now }
 {
     test_head(1 + usize::from(mdt_len), ALL_DRIVES, content)?;
-    let fields = read_fields(record_part(position, len, content));
+    let begin = usize::from(position);
+    let fields = read_fields(&content[begin..begin + usize::from(len)]);
     Ok(Record {
         control: Control::read(fields.word),
         info: fields.info,
@@ -129,7 +118,8 @@ pub fn read_joint(
     })
 }
 
-/// Replaces the content by the beginning of an MDT of phases 3 and 4: the address of all drives.
+/// Replaces the content by the beginning of an MDT of phases 3 and 4, which is the address of all drives. Records are then appended by
+/// `joint_record`.
 pub fn joint_begin(out: &mut Content)
     ensures { out.new ≡ all_drives ∷ [] }
 {
@@ -137,8 +127,8 @@ pub fn joint_begin(out: &mut Content)
     out.push_within(ALL_DRIVES);
 }
 
-/// Appends a record to an MDT. The error is `Full` iff the MDT would be longer than 2048 bytes; then nothing is
-/// appended.
+/// Appends a record, 4 bytes and its values, to an MDT of phases 3 and 4. Of what `out` already has, only the length is looked at. The
+/// error is `Full` iff the MDT would be longer than 2048 bytes, its address included. Then nothing is appended.
 pub fn joint_record(r: &Record<'_>, out: &mut Content) -> Result<(), Full>
     ensures full { IsErr result ↔ (2048 < length out.old + 4 + length r.now.values.now) }
     ensures ok { OnOk result (out.new ≡ out.old ++ record_bytes r.now.control r.now.info r.now.values.now) }

@@ -1,19 +1,20 @@
+// The control word and the status word.
 ghost use Rattle.std.specs.Prelude.{◌≡◌, ℕ, ◌*◌, ◌/◌, ◌%◌, ◌<◌, ◌≤◌, ◌==◌, if◌then◌else◌};
 
-// The bits of the control word, as powers of two; the element has three bits, and the cyclic bits begin with bit 6.
+// The bits of the control word, as powers of two. The element has the three bits from bit 3 on, and the cyclic bits begin with bit 6.
 const MHS: u16 = 1;
 
 const WRITE: u16 = 2;
 
 const LAST: u16 = 4;
 
-const ELEMENT: u16 = 8;
+const ELEMENT_FACTOR: u16 = 8;
 
-const ELEMENTS: u16 = 8;
+const ELEMENT_COUNT: u16 = 8;
 
 const CONTROL_CYCLIC: u16 = 64;
 
-// The bits of the status word; the cyclic bits are bits 3 and 4 and those from bit 6 on.
+// The bits of the status word, as powers of two. The cyclic bits are bits 3 and 4, and those from bit 6 on.
 const AHS: u16 = 1;
 
 const BUSY: u16 = 2;
@@ -26,7 +27,7 @@ const STATUS_LOW: u16 = 8;
 
 const STATUS_HIGH: u16 = 64;
 
-// Returns whether a word has a bit.
+// Returns whether a word has a bit. The bit is passed as a power of two.
 fn has(word: u16, bit: u16) -> bool
     requires { 0 < bit }
     ensures { result ≡ (word / bit % 2 == 1) }
@@ -34,7 +35,7 @@ fn has(word: u16, bit: u16) -> bool
     word / bit % 2 == 1
 }
 
-// A bit, where it is set.
+// Returns `bit` if `set` is true, otherwise 0.
 fn placed(set: bool, bit: u16) -> u16
     ensures value { result ≡ (if set then bit else 0) }
     ensures bound { result ≤ bit }
@@ -42,14 +43,14 @@ fn placed(set: bool, bit: u16) -> u16
     if set { bit } else { 0 }
 }
 
-/// The control word, with which a record of an MDT begins (IEC 61491:1995; the places of the bits are this profile's).
+/// The control word, with which a record of an MDT begins (IEC 61491:1995). The places of its bits are this profile's.
 #[derive(Clone, Copy, Debug, PartialEq, Eq)]
 pub struct Control {
     /// MHS, the master's handshake bit of the service channel: bit 0.
     pub mhs: bool,
-    /// Whether the step writes: bit 1.
+    /// Whether the step writes its word, otherwise it reads one: bit 1.
     pub write: bool,
-    /// Whether its word is the last of the element: bit 2.
+    /// Whether the word of the step is the last of the element: bit 2.
     pub last: bool,
     /// The element of the data block, 0 to 7: bits 5 to 3.
     pub element: u8,
@@ -62,7 +63,7 @@ pub struct Control {
 impl Control {
     ghost use Rattle.sercos_telegram.specs.Words.{control_word, control_of};
 
-    /// Returns the control word that these 16 bits are. Any 16 bits are one, and `write` returns them again.
+    /// Returns the control word of sixteen bits. Every value is one, and `write` returns it again.
     #[tactic(auto, unfolding(crate::specs::Words::control_of))]
     pub fn read(word: u16) -> Control
         ensures value { result ≡ control_of word }
@@ -73,12 +74,12 @@ impl Control {
             mhs: has(word, MHS),
             write: has(word, WRITE),
             last: has(word, LAST),
-            element: (word / ELEMENT % ELEMENTS) as u8,
+            element: (word / ELEMENT_FACTOR % ELEMENT_COUNT) as u8,
             cyclic: word / CONTROL_CYCLIC * CONTROL_CYCLIC,
         }
     }
 
-    /// Returns the word.
+    /// Returns the sixteen bits of the control word.
     pub fn write(&self) -> u16
         ensures { result ≡ control_word self.now }
     {
@@ -86,12 +87,11 @@ impl Control {
             + placed(self.mhs, MHS)
             + placed(self.write, WRITE)
             + placed(self.last, LAST)
-            + ELEMENT * u16::from(self.element)
+            + ELEMENT_FACTOR * u16::from(self.element)
     }
 }
 
-/// The status word, with which an AT begins after its address (IEC 61491:1995; the places of the bits are this
-/// profile's).
+/// The status word, which follows the address of an AT (IEC 61491:1995). The places of its bits are this profile's.
 #[derive(Clone, Copy, Debug, PartialEq, Eq)]
 pub struct Status {
     /// AHS, the drive's handshake bit of the service channel: bit 0.
@@ -111,7 +111,7 @@ pub struct Status {
 impl Status {
     ghost use Rattle.sercos_telegram.specs.Words.{status_word, status_of};
 
-    /// Returns the status word that these 16 bits are. Any 16 bits are one, and `write` returns them again.
+    /// Returns the status word of sixteen bits. Every value is one, and `write` returns it again.
     #[tactic(auto, unfolding(crate::specs::Words::status_of))]
     pub fn read(word: u16) -> Status
         ensures value { result ≡ status_of word }
@@ -127,7 +127,7 @@ impl Status {
         }
     }
 
-    /// Returns the word.
+    /// Returns the sixteen bits of the status word.
     pub fn write(&self) -> u16
         ensures { result ≡ status_word self.now }
     {

@@ -1,3 +1,4 @@
+pub mod Clauses
 pub mod Fields
 pub mod Given
 pub mod Lists

@@ -1,12 +1,10 @@
-// Hexadecimal digits at the front of a text.
-ghost use Rattle.std.specs.Prelude.{◌<◌, ◌≡◌, ◌+◌, ◌*◌, ◌/◌, ◌%◌, ◌≤◌, true, false, [], ◌++◌, max, length, take, drop, IfOk, IfErr, OnOk};
-ghost use Rattle.std.specs.List.{prefix_len};
-ghost use Rattle.std.specs.Result.{result_err};
-ghost use Rattle.sercos_text.specs.Fields.{is_hex, hex_digits, pairs_fault, hex_fault, digits_fault, hex_len, hex_of, pairs_of, digit_of, low_pairs, all_hex, is_dash};
+// Hexadecimal digits at the front of a text: `0` to `9` and `a` to `f`.
+ghost use Rattle.std.specs.Prelude.{◌<◌, ◌≡◌, ◌+◌, ◌*◌, ◌/◌, ◌%◌, ◌≤◌, true, false, max, length, drop, IfOk, IfErr};
+ghost use Rattle.sercos_text.specs.Clauses.{result_err, is_hex, hex_digits, pairs_fault, hex_fault, digits_fault, hex_len, hex_of, digit_of, low_pairs, all_hex, is_dash};
 
 use crate::room::Room;
 
-// The value of each byte as a hexadecimal digit in lower case.
+// The value of each byte as a hexadecimal digit in lower case; 255 for any other byte.
 const VALUES: [u8; 256] = [
     255, 255, 255, 255, 255, 255, 255, 255, 255, 255, 255, 255, 255, 255, 255, 255, 255, 255, 255,
     255, 255, 255, 255, 255, 255, 255, 255, 255, 255, 255, 255, 255, 255, 255, 255, 255, 255, 255,
@@ -24,7 +22,7 @@ const VALUES: [u8; 256] = [
     255, 255, 255, 255,
 ];
 
-// The value of a byte as a hexadecimal digit in lower case, or 255 for another byte.
+// Returns the value of a byte as a hexadecimal digit in lower case; 255 for any other byte.
 fn value_of(byte: u8) -> u8
     ensures digit { is_hex byte ≡ true → result ≡ digit_of byte }
     ensures below { is_hex byte ≡ true → result < 16 }
@@ -33,35 +31,27 @@ fn value_of(byte: u8) -> u8
     VALUES[usize::from(byte)]
 }
 
-// Returns whether a byte is a hexadecimal digit in lower case.
-fn is_hex(byte: u8) -> bool
-    ensures { result ≡ is_hex byte }
-{
-    value_of(byte) < 16
-}
-
-// Returns how many hexadecimal digits a text begins with, found byte by byte.
+// Returns the number of hexadecimal digits at the front of a text, found byte by byte.
 fn first_digits(text: &[u8]) -> usize
     ensures value { result ≡ hex_digits text.now }
     ensures bound { result ≤ length text.now }
 {
     for (place, byte) in text.iter().enumerate() {
-        if !is_hex(*byte) {
+        if value_of(*byte) >= 16 {
             return place;
         }
     }
     text.len()
 }
 
-// Returns whether a byte is a hexadecimal digit in lower case, found without the table, so that the compiler can look at many bytes at
-// once.
+// Returns whether a byte is a hexadecimal digit in lower case, without the table, so that the compiler can test many bytes at once.
 fn is_digit(byte: u8) -> bool
     ensures { result ≡ is_hex byte }
 {
     (b'0' <= byte) & (byte <= b'9') | (b'a' <= byte) & (byte <= b'f')
 }
 
-// Returns whether all bytes are hexadecimal digits.
+// Returns whether all bytes are hexadecimal digits in lower case.
 fn are_digits(bytes: &[u8]) -> bool
     ensures { result ≡ all_hex bytes.now }
 {
@@ -72,28 +62,20 @@ fn are_digits(bytes: &[u8]) -> bool
     all
 }
 
-// Sixteen bytes of a text from a place on.
-fn sixteen_from(text: &[u8], place: usize) -> &[u8]
-    requires { place + 16 ≤ length text.now }
-    ensures { result.now ≡ take 16 (drop place text.now) }
-{
-    &text[place..place + 16]
-}
-
-// The place after the sixteens of hexadecimal digits with which a text begins.
+// Returns the index after the whole sixteens of hexadecimal digits at the front of a text.
 fn after_sixteens(text: &[u8]) -> usize
     ensures value { hex_digits text.now ≡ result + hex_digits (drop result text.now) }
     ensures bound { result ≤ length text.now }
 {
     for turn in 0..text.len() / 16 {
-        if !are_digits(sixteen_from(text, 16 * turn)) {
+        if !are_digits(&text[16 * turn..16 * turn + 16]) {
             return 16 * turn;
         }
     }
     text.len() / 16 * 16
 }
 
-// Returns whether eight bytes surely are hexadecimal digits. The value of another byte is above the sum of eight digits.
+// Returns true only if eight bytes are hexadecimal digits. The value of any other byte is above the sum of eight digits.
 fn are_eight(bytes: &[u8]) -> bool
     requires { length bytes.now ≡ 8 }
     ensures { result ≡ true → all_hex bytes.now ≡ true }
@@ -109,29 +91,20 @@ fn are_eight(bytes: &[u8]) -> bool
     front + back < 255
 }
 
-// Eight bytes of a text from a place on.
-fn eight_from(text: &[u8], place: usize) -> &[u8]
-    requires { place + 8 ≤ length text.now }
-    ensures value { result.now ≡ take 8 (drop place text.now) }
-    ensures len { length result.now ≡ 8 }
-{
-    &text[place..place + 8]
-}
-
-// The place after the eights of hexadecimal digits with which a text begins.
+// Returns the index after the whole eights of hexadecimal digits at the front of a text.
 fn after_eights(text: &[u8]) -> usize
     ensures value { hex_digits text.now ≡ result + hex_digits (drop result text.now) }
     ensures bound { result ≤ length text.now }
 {
     for turn in 0..text.len() / 8 {
-        if !are_eight(eight_from(text, 8 * turn)) {
+        if !are_eight(&text[8 * turn..8 * turn + 8]) {
             return 8 * turn;
         }
     }
     text.len() / 8 * 8
 }
 
-// Returns how many hexadecimal digits a text begins with, found by eights at first.
+// Returns the number of hexadecimal digits at the front of a text, found eight at a time.
 fn by_eights(text: &[u8]) -> usize
     ensures value { result ≡ hex_digits text.now }
     ensures bound { result ≤ length text.now }
@@ -140,7 +113,7 @@ fn by_eights(text: &[u8]) -> usize
     place + first_digits(&text[place..])
 }
 
-// Returns how many hexadecimal digits a text begins with.
+// Returns the number of hexadecimal digits at the front of a text.
 fn leading_digits(text: &[u8]) -> usize
     ensures value { result ≡ hex_digits text.now }
     ensures bound { result ≤ length text.now }
@@ -149,7 +122,8 @@ fn leading_digits(text: &[u8]) -> usize
     place + by_eights(&text[place..])
 }
 
-// The digits of at most `most` bytes at the front of a text: how many they are.
+// Returns the number of hexadecimal digits of 1 to `most` bytes at the front of a text. The error is the index of the first byte that
+// doesn't fit: 0 without a digit, `2 * most` for a byte too many, and otherwise the number of digits if that is odd.
 #[tactic(auto, unfolding(crate::specs::Fields::pairs_fault))]
 fn read_pairs(text: &[u8], most: u16) -> Result<usize, usize>
     ensures fault { result_err result ≡ pairs_fault most text.now }
@@ -174,8 +148,9 @@ fn read_pairs(text: &[u8], most: u16) -> Result<usize, usize>
     Ok(digits)
 }
 
-/// Reads at most `most` bytes at the front of a text, and returns how many bytes of the text they take. The error is the place
-/// of the first byte that doesn't fit.
+/// Reads at most `most` bytes at the front of a text, and returns the number of bytes of the text that they take, at least 1: two
+/// hexadecimal digits in lower case for each, or `-` for no bytes. The error is the index of the first byte of the text that doesn't fit,
+/// at most the text's length: 0 without a digit or `-`, `2 * most` for a byte too many, and otherwise the number of digits if that is odd.
 #[tactic(auto, unfolding(crate::specs::Fields::hex_fault, crate::specs::Fields::hex_len))]
 pub fn read_hex(text: &[u8], most: u16) -> Result<usize, usize>
     ensures fault { result_err result ≡ hex_fault most text.now }
@@ -192,8 +167,8 @@ pub fn read_hex(text: &[u8], most: u16) -> Result<usize, usize>
     read_pairs(text, most)
 }
 
-/// Reads exactly `count` bytes at the front of a text, as two hexadecimal digits each, and returns how many bytes of the text
-/// they take. The error is the place of the first byte that is not a digit.
+/// Reads exactly `count` bytes at the front of a text, as two hexadecimal digits in lower case each, and returns the number of bytes of the
+/// text that they take, `2 * count`. The error is the index of the first byte that is not a digit, at most the text's length.
 #[tactic(auto, unfolding(crate::specs::Fields::digits_fault))]
 pub fn read_digits(text: &[u8], count: u16) -> Result<usize, usize>
     ensures fault { result_err result ≡ digits_fault count text.now }
@@ -209,8 +184,8 @@ pub fn read_digits(text: &[u8], count: u16) -> Result<usize, usize>
     Ok(2 * usize::from(count))
 }
 
-// The byte that two digits spell.
-fn pair_of(high: u8, low: u8) -> u8
+// Returns the byte that two hexadecimal digits in lower case spell, the high one first.
+fn byte_of_pair(high: u8, low: u8) -> u8
     requires high { is_hex high ≡ true }
     requires low { is_hex low ≡ true }
     ensures { result ≡ digit_of high * 16 + digit_of low }
@@ -218,8 +193,8 @@ fn pair_of(high: u8, low: u8) -> u8
     16 * value_of(high) + value_of(low)
 }
 
-// Replaces the bytes by those that two digits each spell.
-fn set_pairs(digits: &[u8], bytes: &mut Room)
+// Replaces the bytes by those that two hexadecimal digits in lower case each spell. There is an even number of digits, at most 4096.
+pub(crate) fn set_pairs(digits: &[u8], bytes: &mut Room)
     requires few { length digits.now ≤ 4096 }
     requires even { length digits.now % 2 ≡ 0 }
     requires digits { all_hex digits.now ≡ true }
@@ -227,22 +202,14 @@ fn set_pairs(digits: &[u8], bytes: &mut Room)
 {
     bytes.clear();
     for place in 0..digits.len() / 2 {
-        bytes.put(place, pair_of(digits[2 * place], digits[2 * place + 1]));
+        bytes.put(
+            place,
+            byte_of_pair(digits[2 * place], digits[2 * place + 1]),
+        );
     }
 }
 
-/// Replaces the bytes by those that the first `len` bytes of a text spell, which are digits.
-pub(crate) fn set_digits(text: &[u8], len: usize, bytes: &mut Room)
-    requires within { len ≤ length text.now }
-    requires digits { len ≤ hex_digits text.now }
-    requires most { len ≤ 4096 }
-    requires even { len % 2 ≡ 0 }
-    ensures { bytes.new ≡ low_pairs (take len text.now) }
-{
-    set_pairs(&text[..len], bytes);
-}
-
-/// Replaces the bytes by those at the front of a text, if [`read_hex`] accepts it and takes `len` bytes of the text.
+/// Replaces the bytes by those at the front of a text that [`read_hex`] accepts and of which it takes `len` bytes, at most 4096.
 #[tactic(auto, unfolding(crate::specs::Fields::hex_of, crate::specs::Fields::hex_len))]
 pub(crate) fn set_bytes(text: &[u8], len: usize, bytes: &mut Room)
     requires len { len ≡ hex_len text.now }

@@ -1,4 +1,4 @@
-//! Lines of text with fields: what a template spells, where a line can't go on as it, and the writer of it.
+//! Lines of text with fields: reading a line by its template, up to the first byte that doesn't fit, and writing one.
 #![tactic(auto)]
 
 mod digits;

@@ -1,19 +1,18 @@
-// Lists at the front of a text: a space and an item, once or more often.
-ghost use Rattle.std.specs.Prelude.{◌≡◌, ◌<◌, ◌≤◌, ◌+◌, ◌++◌, ◌∷◌, [], true, length, take, drop, IfOk, IfErr, OnOk};
-ghost use Rattle.std.specs.Result.{result_err};
-ghost use Rattle.sercos_text.specs.Lists.{item_fault, item_len, item_of, listed_fault, listed_len, list_fault, list_len, list_of, kept_of, goes_on};
+// Lists at the front of a text: one or more items, each after a space.
+ghost use Rattle.std.specs.Prelude.{◌≡◌, ◌<◌, ◌≤◌, ◌+◌, ◌++◌, ◌∷◌, [], true, length, drop, IfOk, IfErr, OnOk};
+ghost use Rattle.sercos_text.specs.Clauses.{result_err, item_fault, item_len, item_of, listed_fault, listed_len, list_fault, list_len, list_of, kept_of, goes_on};
 ghost use Rattle.sercos_text.specs.declared.list.Item.TheVariants as kind;
 
 use crate::number::read_number;
 use arrayvec::ArrayVec;
 use sercos_idn::idn_fault;
 
-/// An item of a list.
+/// The kind of the items of a list.
 #[derive(Clone, Copy, Debug, PartialEq, Eq)]
 pub enum Item {
-    /// A number up to 255.
+    /// A decimal number up to 255.
     Address,
-    /// An identifier number.
+    /// An identifier number, such as `S-0-0016`.
     Ident,
 }
 
@@ -23,17 +22,11 @@ pub const MOST_ADDRESSES: usize = 64;
 /// The addresses of a list.
 pub type Addresses = ArrayVec<u8, MOST_ADDRESSES>;
 
-// How many bytes an identifier number has.
+// The number of bytes of an identifier number's text.
 const IDENT_LEN: usize = 8;
 
-// The front of a text that an identifier number has, or all where it is shorter.
-fn front(text: &[u8]) -> &[u8]
-    ensures { result.now ≡ take 8 text.now }
-{
-    &text[..IDENT_LEN.min(text.len())]
-}
-
-// An identifier number at the front of a text: how many bytes it takes.
+// Reads an identifier number at the front of a text, and returns the number of bytes that it takes, 8. The error is the index of the first
+// byte that doesn't fit, at most the text's length; for a number above 4095 that of its first digit, 4.
 #[tactic(auto, unfolding(crate::specs::Lists::item_fault, crate::specs::Lists::item_len))]
 pub(crate) fn read_ident(text: &[u8]) -> Result<usize, usize>
     ensures fault { result_err result ≡ item_fault kind.Ident text.now }
@@ -41,13 +34,14 @@ pub(crate) fn read_ident(text: &[u8]) -> Result<usize, usize>
     ensures bound { IfOk result (λ len. len ≤ length text.now) }
     ensures place { IfErr result (λ place. place ≤ length text.now) }
 {
-    match idn_fault(front(text)) {
+    match idn_fault(&text[..IDENT_LEN.min(text.len())]) {
         Some(place) => Err(place),
         None => Ok(IDENT_LEN),
     }
 }
 
-// An item at the front of a text: how many bytes it takes, and its value if it is an address.
+// Reads an item at the front of a text, and returns the number of bytes that it takes, and its value if it is an address. The value of an
+// identifier number is unspecified. The error is that of `read_number` with 255, or of `read_ident`, at most the text's length.
 #[tactic(auto, unfolding(crate::specs::Lists::item_fault, crate::specs::Lists::item_len, crate::specs::Lists::item_of, crate::specs::Lists::kept_of))]
 fn read_item(item: Item, text: &[u8]) -> Result<(usize, u8), usize>
     ensures fault { result_err result ≡ item_fault item text.now }
@@ -76,7 +70,8 @@ fn goes_on(text: &[u8]) -> bool
     text.first() == Some(&b' ')
 }
 
-// A space and an item.
+// Reads a space and an item at the front of a text, with the results of `read_item`. Numbers of bytes and indices include the space.
+// Without the space the error is 0.
 #[tactic(auto, unfolding(crate::specs::Lists::listed_fault))]
 fn read_listed(item: Item, text: &[u8]) -> Result<(usize, u8), usize>
     ensures fault { result_err result ≡ listed_fault item text.now }
@@ -94,7 +89,7 @@ fn read_listed(item: Item, text: &[u8]) -> Result<(usize, u8), usize>
     }
 }
 
-// Keeps an item if it is an address.
+// Appends the value of an item if it is an address. Then there must be fewer than 64.
 #[tactic(auto, unfolding(crate::specs::Lists::kept_of))]
 fn keep(item: Item, value: u8, items: &mut Addresses)
     requires { item ≡ kind.Address → length items.old.items < 64 }
@@ -105,9 +100,10 @@ fn keep(item: Item, value: u8, items: &mut Addresses)
     }
 }
 
-/// Reads at most `most` items at the front of a text, each after a space, and returns how many bytes they take. Addresses
-/// replace those of before. The error is the place of the first byte that doesn't fit; of one item too many that is its first
-/// byte.
+/// Reads 1 to `most` items at the front of a text, each after a space, and returns the number of bytes that they take. `most` is at most 64
+/// for addresses. `items` is replaced by the addresses read; identifier numbers are only checked, and leave it empty. The error is the
+/// index of the first byte that doesn't fit, at most one more than the text's length. Of an item too many and of an address above 255 that
+/// is its first byte after the space; if `most` is 0 it is 1. After an error `items` is unspecified.
 pub fn read_list(
     item: Item,
     most: usize,

@@ -1,4 +1,4 @@
-// Lists of the values of a line. Their room is used again for each line, and emptying them writes nothing.
+// Lists of the values of a line. Their memory is used again for each line, and emptying them writes nothing.
 ghost use Rattle.std.specs.Prelude.{◌≡◌, ◌<◌, ◌≤◌, ◌+◌, ◌++◌, ◌∷◌, [], length};
 
 use std::marker::Model;
@@ -6,10 +6,10 @@ use std::marker::Model;
 /// The most numbers of a line.
 pub const MOST_NUMBERS: usize = 64;
 
-/// The most bytes of a line.
+/// The most bytes that the hexadecimal digits of a line spell.
 pub const MOST_BYTES: usize = 2048;
 
-/// At most [`MOST_NUMBERS`] numbers. Contracts see them as a list, `items`.
+/// A list of at most [`MOST_NUMBERS`] numbers. Contracts see it as `items`.
 #[derive(Drop)]
 pub struct Numbers {
     room: [u32; MOST_NUMBERS],
@@ -28,7 +28,7 @@ impl Model for Numbers {
 }
 
 impl Numbers {
-    // No numbers.
+    // Returns an empty list.
     pub(crate) fn new() -> Numbers
         ensures { result.items ≡ [] }
     {
@@ -46,7 +46,7 @@ impl Numbers {
         &self.room[..self.count]
     }
 
-    // Appends a number if there is room for it.
+    // Appends a number. There must be fewer than 64.
     pub(crate) fn push(&mut self, number: u32)
         requires { length self.old.items < 64 }
         ensures { self.new.items ≡ self.old.items ++ number ∷ [] }
@@ -55,7 +55,7 @@ impl Numbers {
         self.count += 1;
     }
 
-    // Drops all numbers.
+    // Removes all numbers.
     pub(crate) fn clear(&mut self)
         ensures { self.new.items ≡ [] }
     {
@@ -63,7 +63,7 @@ impl Numbers {
     }
 }
 
-/// At most [`MOST_BYTES`] bytes. Contracts see the list of them.
+/// A list of at most [`MOST_BYTES`] bytes. Contracts see the list.
 #[derive(Drop)]
 pub struct Room {
     room: [u8; MOST_BYTES],
@@ -81,7 +81,7 @@ impl Model for Room {
 }
 
 impl Room {
-    // No bytes.
+    // Returns an empty list.
     pub(crate) fn new() -> Room
         ensures { result ≡ [] }
     {
@@ -99,7 +99,8 @@ impl Room {
         &self.room[..self.count]
     }
 
-    // Appends a byte, where there is room for it. Its place is passed in, since it is known at the call and slow to read here.
+    // Appends a byte. There must be fewer than 2048. Its index, the number of bytes so far, is passed in, since it is known at the call and
+    // slow to read here.
     pub(crate) fn put(&mut self, place: usize, byte: u8)
         requires place { place ≡ length self.old }
         requires room { place < 2048 }
@@ -109,7 +110,7 @@ impl Room {
         self.count = place + 1;
     }
 
-    // Drops all bytes.
+    // Removes all bytes.
     pub(crate) fn clear(&mut self)
         ensures { self.new ≡ [] }
     {

@@ -1,11 +1,10 @@
-// Lines by templates. A capital letter of a template is a field, and any other byte is itself.
-ghost use Rattle.std.specs.Prelude.{◌≡◌, ◌<◌, ◌≤◌, ◌+◌, ◌*◌, ◌++◌, [], ◌∷◌, pos, true, length, take, drop, IfOk, IfErr, IfSome, OnOk};
-ghost use Rattle.sercos_text.specs.Fields.{number_fault, number_len, number_of, signed_fault, signed_len, signed_of, hex_fault, hex_len, hex_of, digits_fault, low_pairs};
-ghost use Rattle.std.specs.Result.{result_err};
-ghost use Rattle.sercos_text.specs.Templates.{field_of, field_fault, field_len, byte_fault, part_fault, part_len, line_fault, field_value, part_values, values_of, items_of, numbers_in, signed_by, bytes_by, is_field, AreOf};
-ghost use Rattle.sercos_text.specs.Tails.{addresses_in};
+// Lines by templates. In a template some capital letters are fields, and every other byte is itself. After an error of a reader `told` is
+// unspecified, except for parts that a clause leaves unchanged. Its addresses are unspecified until the tail is read. An index that a
+// private reader returns as its error is at most the length of its text.
+ghost use Rattle.std.specs.Prelude.{◌≡◌, ◌<◌, ◌≤◌, ◌+◌, ◌*◌, ◌++◌, [], ◌∷◌, pos, true, length, take, IfOk, IfErr, IfSome, OnOk};
+ghost use Rattle.sercos_text.specs.Clauses.{number_fault, number_len, number_of, signed_fault, signed_len, signed_of, hex_fault, hex_len, hex_of, digits_fault, low_pairs, result_err, field_of, field_fault, field_len, byte_fault, part_fault, part_len, line_fault, field_value, part_values, values_of, items_of, numbers_in, signed_by, bytes_by, is_field, AreOf, addresses_in};
 
-use crate::digits::{read_digits, read_hex, set_bytes, set_digits};
+use crate::digits::{read_digits, read_hex, set_bytes, set_pairs};
 use crate::list::{Addresses, read_ident};
 use crate::number::{read_number, read_signed};
 use crate::room::{Numbers, Room};
@@ -14,19 +13,19 @@ use crate::tail::{Tail, read_tail};
 /// A field of a line.
 #[derive(Clone, Copy, Debug, PartialEq, Eq)]
 pub enum Field {
-    /// A number, at most this.
+    /// A decimal number, at most this.
     Number(u32),
-    /// A signed number of 32 bits.
+    /// A signed decimal number of 32 bits.
     Signed,
-    /// At most this number of bytes, as hexadecimal digits in lower case; `-` for none.
+    /// At most this number of bytes, as two hexadecimal digits in lower case each; `-` for no bytes.
     Hex(u16),
-    /// Exactly this number of bytes, as hexadecimal digits in lower case.
+    /// Exactly this number of bytes, as two hexadecimal digits in lower case each.
     Digits(u16),
-    /// An identifier number.
+    /// An identifier number. It is only checked; its value isn't kept.
     Ident,
 }
 
-// The field of a template's letter.
+// Returns the field of a letter in a template; `None` if the byte is itself.
 #[tactic(auto, unfolding(crate::specs::Templates::field_of))]
 pub(crate) fn field_of(letter: u8) -> Option<Field>
     ensures value { result ≡ field_of letter }
@@ -46,16 +45,16 @@ pub(crate) fn field_of(letter: u8) -> Option<Field>
     }
 }
 
-/// The values of a line's fields.
+/// The values that were read from a line.
 #[derive(Drop)]
 pub struct Told {
-    /// Its numbers without a sign, in order.
+    /// The unsigned numbers, in order.
     pub numbers: Numbers,
-    /// Its number with a sign; 0 if it has none.
+    /// The last signed number; 0 if there is none.
     pub signed: i32,
-    /// Its bytes.
+    /// The bytes of the last field with hexadecimal digits; no bytes if there is none.
     pub bytes: Room,
-    /// The addresses of its list.
+    /// The addresses of the tail.
     pub addresses: Addresses,
 }
 
@@ -73,7 +72,8 @@ impl Told {
     }
 }
 
-// A number at the front of a text.
+// Reads a number, at most `most`, at the front of a text, appends it to `told`, which must have fewer than 64, and returns the number of
+// bytes that it takes. The error is that of `read_number`. The signed number and the bytes stay, also after an error.
 #[tactic(auto, unfolding(crate::specs::Templates::field_fault, crate::specs::Templates::field_len, crate::specs::Templates::field_value, crate::specs::Templates::numbers_in, crate::specs::Templates::signed_by, crate::specs::Templates::bytes_by))]
 fn take_number(most: u32, text: &[u8], told: &mut Told) -> Result<usize, usize>
     requires { length told.old.numbers.items < 64 }
@@ -94,7 +94,8 @@ fn take_number(most: u32, text: &[u8], told: &mut Told) -> Result<usize, usize>
     }
 }
 
-// A signed number at the front of a text.
+// Reads a signed number at the front of a text into `told`, and returns the number of bytes that it takes. The error is that of
+// `read_signed`. The unsigned numbers and the bytes stay, also after an error.
 fn take_signed(text: &[u8], told: &mut Told) -> Result<usize, usize>
     ensures fault { result_err result ≡ signed_fault text.now }
     ensures len { IfOk result (λ len. len ≡ signed_len text.now) }
@@ -113,7 +114,9 @@ fn take_signed(text: &[u8], told: &mut Told) -> Result<usize, usize>
     }
 }
 
-// Bytes at the front of a text.
+// Reads at most `most` bytes, which is at most 2048, at the front of a text into `told`: two hexadecimal digits in lower case for each, or
+// `-` for no bytes. Returns the number of bytes of the text that they take. The error is that of `read_hex`. All numbers stay, also after
+// an error.
 fn take_hex(most: u16, text: &[u8], told: &mut Told) -> Result<usize, usize>
     requires { most ≤ 2048 }
     ensures fault { result_err result ≡ hex_fault most text.now }
@@ -133,7 +136,9 @@ fn take_hex(most: u16, text: &[u8], told: &mut Told) -> Result<usize, usize>
     }
 }
 
-// A fixed number of bytes at the front of a text.
+// Reads exactly `count` bytes, 1 to 2048, at the front of a text into `told`: two hexadecimal digits in lower case for each. Returns the
+// number of bytes of the text that they take, `2 * count`. The error is the index of the first byte that is not a digit. All numbers stay,
+// also after an error.
 fn take_digits(count: u16, text: &[u8], told: &mut Told) -> Result<usize, usize>
     requires { (1 ≤ count) × (count ≤ 2048) }
     ensures fault { result_err result ≡ digits_fault count text.now }
@@ -146,15 +151,16 @@ fn take_digits(count: u16, text: &[u8], told: &mut Told) -> Result<usize, usize>
 {
     match read_digits(text, count) {
         Ok(len) => {
-            set_digits(text, len, &mut told.bytes);
+            set_pairs(&text[..len], &mut told.bytes);
             Ok(len)
         }
         Err(place) => Err(place),
     }
 }
 
-// Reads a field at the front of a text, and returns how many bytes it takes. The error is the place of the first byte that
-// doesn't fit.
+// Reads a field at the front of a text into `told`, and returns the number of bytes that it takes. A hexadecimal field must be of at most
+// 2048 decoded bytes, two digits each, and of at least one if their number is fixed. `told` must have fewer than 64 numbers, and keeps those before; its other values stay unless the field is
+// theirs. An identifier number changes nothing. The error is that of the field's reader.
 #[tactic(auto, unfolding(crate::specs::Templates::field_fault, crate::specs::Templates::field_len, crate::specs::Templates::field_value, crate::specs::Templates::numbers_in, crate::specs::Templates::signed_by, crate::specs::Templates::bytes_by))]
 fn read_field(field: Field, text: &[u8], told: &mut Told) -> Result<usize, usize>
     requires few { length told.old.numbers.items < 64 }
@@ -176,7 +182,7 @@ fn read_field(field: Field, text: &[u8], told: &mut Told) -> Result<usize, usize
     }
 }
 
-// A byte at the front of a text.
+// Tests that a text begins with this byte, and returns 1, the number of bytes that it takes. Otherwise the error is 0.
 #[tactic(auto, unfolding(crate::specs::Templates::byte_fault))]
 fn read_byte(byte: u8, text: &[u8]) -> Result<usize, usize>
     ensures fault { result_err result ≡ byte_fault byte text.now }
@@ -190,7 +196,9 @@ fn read_byte(byte: u8, text: &[u8]) -> Result<usize, usize>
     }
 }
 
-// The part of a line for one letter of the template, at the front of a text.
+// Reads the part of a line for one letter of the template, at the front of a text, into `told`: a field as `read_field` does, and any other
+// letter as itself, which changes nothing. Returns the number of bytes that it takes. `told` must have fewer than 64 numbers. The error is
+// that of the field's reader, or 0 for another byte than the letter.
 #[tactic(auto, unfolding(crate::specs::Templates::part_fault, crate::specs::Templates::part_len, crate::specs::Templates::part_values, crate::specs::Templates::numbers_in, crate::specs::Templates::signed_by, crate::specs::Templates::bytes_by))]
 fn read_part(letter: u8, text: &[u8], told: &mut Told) -> Result<usize, usize>
     requires { length told.old.numbers.items < 64 }
@@ -208,9 +216,9 @@ fn read_part(letter: u8, text: &[u8], told: &mut Told) -> Result<usize, usize>
     }
 }
 
-/// Reads a line by its template and tail. `told` then has the numbers, the bytes and the addresses of its fields. The error is
-/// the place, from 0 on, of the first byte of the line that doesn't fit; a missing byte's place is the line's length. After an
-/// error `told` has no meaning.
+/// Reads a line by its template, of at most 64 letters, and its tail. `told` is replaced by the values read. The error is the index, from
+/// 0, of the first byte of the line that doesn't fit, at most one more than the line's length: for a missing byte the line's length; for a
+/// number out of its range, and for a byte or an address too many, its first digit. After an error `told` is unspecified.
 pub fn read_line(template: &[u8], tail: Tail, line: &[u8], told: &mut Told) -> Result<(), usize>
     requires { length template.now ≤ 64 }
     ensures fault { result_err result ≡ line_fault tail template.now line.now }

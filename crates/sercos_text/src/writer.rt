@@ -1,29 +1,24 @@
-// Lines in a buffer.
-ghost use Rattle.std.specs.Prelude.{◌≡◌, ◌<◌, ◌≤◌, ◌+◌, ◌*◌, ◌++◌, ◌∷◌, [], length, take, drop, map, sum_by, max, IfOk, decimal};
-ghost use Rattle.std.specs.Fmt.{signed_decimal};
-ghost use Rattle.hex.specs.Hex.{encode_lower};
-ghost use Rattle.sercos_idn.specs.Idns.{idn_text};
-ghost use Rattle.sercos_text.specs.Templates.{field_of, hex_text, value_text, part_text, part_left, line_text};
-ghost use Rattle.sercos_text.specs.Lists.{item_text, list_text};
-ghost use Rattle.sercos_text.specs.Tails.{idents_text};
+// Writing lines into a buffer of 4,352 bytes. It must have room for what is appended.
+ghost use Rattle.std.specs.Prelude.{◌≡◌, ◌<◌, ◌≤◌, ◌+◌, ◌*◌, ◌++◌, ◌∷◌, [], length, take, drop, map, sum_by, max, decimal};
+ghost use Rattle.sercos_text.specs.Clauses.{signed_decimal, encode_lower, field_of, hex_text, value_text, part_text, part_left, line_text, item_text, list_text, idents_text, value_of, most_bytes};
 ghost use Rattle.sercos_text.specs.declared.list.Item.TheVariants as kind;
-ghost use Rattle.sercos_text.specs.Given.{value_of, most_bytes};
 
+use crate::room::MOST_BYTES;
 use crate::template::field_of;
 use itoa::Buffer;
 use sercos_bits::ByteList;
 use sercos_idn::Idn;
 
-/// The most bytes of a line that is written, its line feed among them.
-pub const LINE_BYTES: usize = 4352;
+/// The most bytes of a line that is written, with its line feed: two digits for each of [`MOST_BYTES`] bytes, and 256 bytes for the rest.
+pub const LINE_BYTES: usize = 2 * MOST_BYTES + 256;
 
-/// A line on its way to a sink.
+/// The buffer in which a line is made.
 pub type Line = ByteList<LINE_BYTES>;
 
-/// A value of a field.
+/// The value of a field to be written.
 #[derive(Clone, Copy, Debug)]
 pub enum Given<'a> {
-    /// A number.
+    /// An unsigned number.
     Number(u32),
     /// A signed number.
     Signed(i32),
@@ -33,7 +28,7 @@ pub enum Given<'a> {
     Ident(Idn),
 }
 
-// Appends a number in decimal digits.
+// Appends a number in decimal digits, at most ten bytes.
 fn push_number(line: &mut Line, number: u32)
     requires { length line.old + 10 ≤ 4352 }
     ensures value { line.new ≡ line.old ++ decimal number }
@@ -43,7 +38,7 @@ fn push_number(line: &mut Line, number: u32)
     line.append_within(buffer.format(number).as_bytes());
 }
 
-// Appends a number with a sign if it is negative.
+// Appends a number in decimal digits, after a `-` if it is negative: at most eleven bytes.
 fn push_signed(line: &mut Line, number: i32)
     requires { length line.old + 11 ≤ 4352 }
     ensures value { line.new ≡ line.old ++ signed_decimal number }
@@ -53,7 +48,7 @@ fn push_signed(line: &mut Line, number: i32)
     line.append_within(buffer.format(number).as_bytes());
 }
 
-/// Returns the bytes from a place on, at most 32 of them: what is spelled at a time.
+/// Returns at most 32 bytes from index `place` on, which is at most the number of bytes: the piece that is written at once.
 pub fn piece_of(bytes: &[u8], place: usize) -> &[u8]
     requires { place ≤ length bytes.now }
     ensures value { result.now ≡ take 32 (drop place bytes.now) }
@@ -63,7 +58,7 @@ pub fn piece_of(bytes: &[u8], place: usize) -> &[u8]
     &bytes[place..end]
 }
 
-// The two hexadecimal digits of each byte, in lower case, the first of them as the low byte.
+// The two hexadecimal digits of each byte, in lower case, the first digit as the low byte.
 const PAIRS: [u16; 256] = [
     0x3030, 0x3130, 0x3230, 0x3330, 0x3430, 0x3530, 0x3630, 0x3730, 0x3830, 0x3930, 0x6130, 0x6230,
     0x6330, 0x6430, 0x6530, 0x6630, 0x3031, 0x3131, 0x3231, 0x3331, 0x3431, 0x3531, 0x3631, 0x3731,
@@ -89,7 +84,7 @@ const PAIRS: [u16; 256] = [
     0x6366, 0x6466, 0x6566, 0x6666,
 ];
 
-// The two hexadecimal digits of a byte.
+// Returns the two hexadecimal digits of a byte, in lower case.
 #[inline(always)]
 fn pair_of(byte: u8) -> [u8; 2]
     ensures { result ≡ encode_lower (byte ∷ []) }
@@ -97,7 +92,7 @@ fn pair_of(byte: u8) -> [u8; 2]
     PAIRS[usize::from(byte)].to_le_bytes()
 }
 
-/// Puts the two hexadecimal digits of each byte, in lower case, into room for just these.
+/// Replaces `room` by the two hexadecimal digits of each byte, in lower case. `room` has exactly two bytes for each.
 pub fn put_pairs(bytes: &[u8], room: &mut [u8])
     requires { length room.old ≡ 2 * length bytes.now }
     ensures { room.new ≡ encode_lower bytes.now }
@@ -107,7 +102,8 @@ pub fn put_pairs(bytes: &[u8], room: &mut [u8])
     }
 }
 
-// Appends two digits for each byte of a piece, by room for them.
+// Appends the two hexadecimal digits of each byte of a piece. They are made in `room`, which has at least two bytes for each. Its bytes are
+// then unspecified.
 fn push_piece(line: &mut Line, bytes: &[u8], room: &mut [u8])
     requires few { 2 * length bytes.now ≤ length room.old }
     requires within { length line.old + 2 * length bytes.now ≤ 4352 }
@@ -120,7 +116,7 @@ fn push_piece(line: &mut Line, bytes: &[u8], room: &mut [u8])
     line.append_within(text);
 }
 
-// Appends two digits for each byte.
+// Appends the two hexadecimal digits of each byte.
 fn push_digits(line: &mut Line, bytes: &[u8])
     requires { length line.old + 2 * length bytes.now ≤ 4352 }
     ensures value { line.new ≡ line.old ++ encode_lower bytes.now }
@@ -132,7 +128,7 @@ fn push_digits(line: &mut Line, bytes: &[u8])
     }
 }
 
-// Appends bytes as hexadecimal digits, `-` for none.
+// Appends the two hexadecimal digits of each byte, or `-` for no bytes.
 #[tactic(auto, unfolding(crate::specs::Templates::hex_text))]
 fn push_hex(line: &mut Line, bytes: &[u8])
     requires { length line.old + max 1 (2 * length bytes.now) ≤ 4352 }
@@ -146,7 +142,8 @@ fn push_hex(line: &mut Line, bytes: &[u8])
     }
 }
 
-// Appends a value.
+// Appends the text of a value: at most 10 bytes for an unsigned number, 11 for a signed one, two for each byte but at least one, and 8 for
+// an identifier number.
 #[tactic(auto, unfolding(crate::specs::Templates::value_text, crate::specs::Lists::item_text))]
 fn push_value(line: &mut Line, value: Given<'_>)
     requires { length line.old + most_bytes (value_of value) ≤ 4352 }
@@ -161,7 +158,9 @@ fn push_value(line: &mut Line, value: Given<'_>)
     }
 }
 
-// Appends the text of one letter of a template, with the values that are left, and returns how many of them it took.
+// Appends the text of one letter of a template: the letter itself, or for a field the first of the values left, if there is one. Returns
+// the number of values that it took, 0 or 1. The line must have room for the letter and the most bytes of all values left, as `push_line`
+// counts them.
 #[tactic(auto, unfolding(crate::specs::Templates::part_text, crate::specs::Templates::part_left))]
 fn push_part(line: &mut Line, letter: u8, values: &[Given<'_>]) -> usize
     requires { length line.old + 1 + sum_by most_bytes (map value_of values.now) ≤ 4352 }
@@ -183,7 +182,9 @@ fn push_part(line: &mut Line, letter: u8, values: &[Given<'_>]) -> usize
     }
 }
 
-/// Appends a line of a template, with these values for its fields, in order, and without a line feed. There is room for it.
+/// Appends the line of a template, with these values for its fields, in order, and without a line feed. The line must have room for the
+/// template and all values: 10 bytes for an unsigned number, 11 for a signed one, two for each byte but at least one, and 8 for an
+/// identifier number. A field without a value is left out, and further values are ignored.
 pub fn push_line(template: &[u8], values: &[Given<'_>], line: &mut Line)
     requires { length line.old + length template.now + sum_by most_bytes (map value_of values.now) ≤ 4352 }
     ensures value { line.new ≡ line.old ++ line_text template.now (map value_of values.now) }
@@ -195,7 +196,7 @@ pub fn push_line(template: &[u8], values: &[Given<'_>], line: &mut Line)
     }
 }
 
-// Appends a space and an address.
+// Appends a space and an address, at most four bytes.
 #[tactic(auto, unfolding(crate::specs::Lists::item_text))]
 fn push_address(line: &mut Line, address: u8)
     requires { length line.old + 4 ≤ 4352 }
@@ -207,7 +208,7 @@ fn push_address(line: &mut Line, address: u8)
     line.append_within(buffer.format(address).as_bytes());
 }
 
-/// Appends addresses, each after a space.
+/// Appends addresses in decimal digits, each after a space. The line must have room for four bytes for each.
 pub fn push_addresses(addresses: &[u8], line: &mut Line)
     requires { length line.old + 4 * length addresses.now ≤ 4352 }
     ensures value { line.new ≡ line.old ++ list_text kind.Address addresses.now }
@@ -218,7 +219,7 @@ pub fn push_addresses(addresses: &[u8], line: &mut Line)
     }
 }
 
-// Appends a space and an identifier number.
+// Appends a space and an identifier number, nine bytes.
 #[tactic(auto, unfolding(crate::specs::Lists::item_text))]
 fn push_ident(line: &mut Line, idn: Idn)
     requires { length line.old + 9 ≤ 4352 }
@@ -240,7 +241,8 @@ fn push_listed(idns: &[Idn], line: &mut Line)
     }
 }
 
-/// Appends identifier numbers, each after a space, or ` -` for none.
+/// Appends identifier numbers, each after a space, or ` -` for no identifier numbers. The line must have room for two bytes, and nine for
+/// each.
 #[tactic(auto, unfolding(crate::specs::Tails::idents_text))]
 pub fn push_idents(idns: &[Idn], line: &mut Line)
     requires { length line.old + 2 + 9 * length idns.now ≤ 4352 }

@@ -3,7 +3,8 @@ use Rattle.std.specs.Prelude.{ℕ, List, [], ◌∷◌}
 use Rattle.sercos_timing.specs.Views.{WishesView}
 use Rattle.sercos_timing.specs.declared.wishes.Wish.{Wish}
 
--- a drive with one feedback value and one command value of four bytes: status or control word, information word and value
+-- a drive with one feedback value and one command value of four bytes: status or control word,
+-- information word and value
 abbrev pub small_drive : ℕ → ℕ → ℕ → ℕ → ℕ → Wish
 small_drive address slave t1min tatat tmtsy = record {
   address = address;

@@ -1,4 +1,5 @@
--- The first inequality that a plan breaks: the least in number, and of that the first AT in the order that breaks it.
+-- The first inequality that a plan breaks: the least in number, and of that the first AT in the
+-- order that breaks it.
 use Rattle.std.specs.Prelude.{ℕ, ◌+◌, ◌*◌, Bool, true, List, [], ◌∷◌, Option, Some, None, option_map, nat_le, ◌==◌, if◌then◌else◌}
 use Rattle.std.specs.Option.{option_or}
 use Rattle.sercos_timing.specs.Views.{WishesView, PlanView}
@@ -9,8 +10,8 @@ use Rattle.sercos_timing.specs.declared.fitting.Broken.{Broken}
 use Rattle.sercos_timing.specs.declared.inequality.Inequality.{Inequality}
 use Rattle.sercos_timing.specs.declared.inequality.Inequality.TheVariants.{Own, Gap, Neighbor, Slave, Last, Master, Records, Cycle, NextMst, Capture, Positions}
 
--- What an inequality requires of an AT at the times of the plan, and the plan's value at the time in question: that of 1
--- to 4 is the start of the AT
+-- What an inequality requires of an AT at the times of the plan, and the plan's time that it bounds
+-- from below. For 1 to 4 this is the start of the AT.
 abbrev pub asked_by : WishesView → PlanView → Inequality → ℕ → List ℕ → Option ℕ
 asked_by w p Master = asked_6 w (bits_of w p.t1)
 asked_by w p Records = asked_7 w (w.rate * p.t2)
@@ -23,6 +24,7 @@ has_by w p Records = λ k. w.rate * p.t3
 has_by w p Capture = λ k. w.cycle
 has_by w p rule = bits_of w p.t1
 
+-- whether a value meets a requirement, if there is one
 abbrev pub is_met : Option ℕ → ℕ → Bool
 is_met None has = true
 is_met (Some asked) has = nat_le asked has
@@ -40,18 +42,20 @@ first_misplaced next (d ∷ drives) [] = Some d.address
 first_misplaced next (d ∷ drives) (place ∷ places) =
     if place == next then first_misplaced (next + d.record_len) drives places else Some d.address
 
+-- an inequality, with the address of the drive whose AT is the first to break it
 unfoldable pub broken_by : WishesView → PlanView → Inequality → Option Broken
 broken_by w p rule =
     option_map (λ k. record { rule = number_of rule; drive = (wish w k).address }) (first_unmet (asked_by w p rule) (has_by w p rule) (sent w))
 
--- an inequality that belongs to no single drive
+-- an inequality that concerns no single drive, unless it is kept
 abbrev pub broken_unless : Inequality → Bool → Option Broken
 broken_unless rule kept = if kept then None else Some (record { rule = number_of rule; drive = 0 })
 
+-- inequality 12, with the address of the first drive whose position is wrong
 unfoldable pub broken_position : WishesView → PlanView → Option Broken
 broken_position w p = option_map (λ a. record { rule = number_of Positions; drive = a }) (first_misplaced 1 w.drives p.position)
 
--- 11 is kept by every valid wish
+-- the first inequality that is broken; 11 isn't tested, since valid input keeps it
 unfoldable pub first_broken : WishesView → PlanView → Option Broken
 first_broken w p =
     option_or (broken_by w p Own) (option_or (broken_by w p Gap)

@@ -1,5 +1,5 @@
--- The twelve inequalities between the planner's input and a plan. What each requires is written once, in bit times
--- after the MST's end.
+-- The twelve inequalities between planner's input and a plan. The requirement of each is written
+-- once, in bit times after the MST's end.
 use Rattle.std.specs.Prelude.{◌≡◌, ℕ, ◌+◌, ◌-◌, ◌*◌, ◌%◌, ◌<◌, ◌≤◌, ◌==◌, if◌then◌else◌, max, List, [], ◌∷◌, length, Option, Some, None, option_map}
 use Rattle.sercos_model.specs.Frames.{wire_bits}
 use Rattle.sercos_timing.specs.Views.{WishesView, PlanView}
@@ -30,8 +30,9 @@ of_number n =
     else (if n == 9 then Some NextMst else (if n == 10 then Some Capture else (if n == 11 then Some Control
     else (if n == 12 then Some Positions else None)))))))))))
 
--- What inequalities 1 to 4 require of T1 of the drive k, whose AT is sent after those of `before`, if each AT begins
--- at the bit time `b` of its drive. None if one requires nothing of this AT. 1: T1 is at least the drive's T1min
+-- What inequalities 1 to 4 require of T1 of the drive k, whose AT is sent after those of `before`,
+-- if each AT begins at the bit time `b` of its drive. None means that an inequality requires
+-- nothing of this AT. 1: T1 is at least the drive's T1min
 abbrev pub asked_1 : WishesView → (ℕ → ℕ) → ℕ → List ℕ → Option ℕ
 asked_1 w b k before = Some (w.rate * (times w k).t1min)
 
@@ -40,11 +41,12 @@ abbrev pub asked_2 : WishesView → (ℕ → ℕ) → ℕ → List ℕ → Optio
 asked_2 w b k [] = Some (w.rate * w.gap)
 asked_2 w b k (j ∷ before) = None
 
--- 3: an AT begins at least the gap after the end of the AT right before it, where another slave sends that
+-- 3: an AT begins at least the gap after the end of the AT directly before it, if another slave
+-- sends that one
 abbrev pub asked_3 : WishesView → (ℕ → ℕ) → ℕ → List ℕ → Option ℕ
 asked_3 w b k before = option_map (λ j. b j + (at_bits w j + w.rate * w.gap)) (neighbor w k before)
 
--- 4: and at least the drive's TATAT after the end of the previous AT of the same slave
+-- 4: an AT begins at least the drive's TATAT after the end of the previous AT of the same slave
 abbrev pub asked_4 : WishesView → (ℕ → ℕ) → ℕ → List ℕ → Option ℕ
 asked_4 w b k before = option_map (λ j. b j + (at_bits w j + w.rate * (times w k).tatat)) (previous w k before)
 
@@ -61,23 +63,25 @@ abbrev pub asked_5 : WishesView → (ℕ → ℕ) → List ℕ → Option ℕ
 asked_5 w b [] = None
 asked_5 w b (last ∷ before) = Some (b last + (at_bits w last + w.rate * w.gap))
 
--- 6: and at least the drive's TATMT after the end of its AT
+-- 6: the MDT begins at least the drive's TATMT after the end of its AT
 abbrev pub asked_6 : WishesView → (ℕ → ℕ) → ℕ → List ℕ → Option ℕ
 asked_6 w b k before = Some (b k + (at_bits w k + w.rate * (times w k).tatmt))
 
--- 7, of T3, where the MDT begins at the bit time `b2`: at least the drive's TMTSG after the end of the MDT
+-- 7 bounds T3, if the MDT begins at the bit time `b2`: T3 is at least the drive's TMTSG after the
+-- end of the MDT
 abbrev pub asked_7 : WishesView → ℕ → ℕ → List ℕ → Option ℕ
 asked_7 w b2 k before = Some (b2 + (mdt_bits w + w.rate * (times w k).tmtsg))
 
--- 9: the MDT begins at `b2`, and after its end there is room for the gap and each drive's TMTSY before the next MST,
--- which ends with the cycle. `switch` is the greatest TMTSY
+-- 9: if the MDT begins at `b2`, there is room after its end for the gap and each drive's TMTSY
+-- before the next MST, which ends with the cycle. `switch` is the greatest TMTSY
 abbrev pub sum_9 : WishesView → ℕ → ℕ → ℕ
 sum_9 w b2 switch = b2 + (mdt_bits w + w.rate * max w.gap switch)
 
--- an MST has two bytes of content
+-- the earliest bit time at which the next MST can begin; its content has two bytes
 abbrev pub bound_9 : WishesView → ℕ
 bound_9 w = w.rate * w.cycle - wire_bits 2
 
+-- the greatest value of a function over these drives, 0 if there are none
 abbrev pub greatest : (ℕ → ℕ) → List ℕ → ℕ
 greatest f [] = 0
 greatest f (k ∷ before) = max (f k) (greatest f before)
@@ -89,7 +93,7 @@ greatest_tmtsy w = greatest (λ k. (times w k).tmtsy) (sent w)
 abbrev pub asked_10 : WishesView → ℕ → ℕ → List ℕ → Option ℕ
 asked_10 w t4 k before = Some (t4 + (times w k).t4min)
 
--- 12: the positions of the data records in the MDT, one after the other, the first one at `next`
+-- 12: the positions of the data records in the MDT, one after the other, the first at `next`
 abbrev pub positions : ℕ → List Wish → List ℕ
 positions next [] = []
 positions next (d ∷ drives) = next ∷ positions (next + d.record_len) drives
@@ -115,7 +119,7 @@ pub record Fits (w : WishesView) (p : PlanView) : Type 0 where
   pub rule_5 : Meets (asked_5 w (bits_of w p.t1) (sent w)) (w.rate * p.t2)
   pub rule_6 : Keeps (asked_6 w (bits_of w p.t1)) (λ k. w.rate * p.t2) (sent w)
   pub rule_7 : Keeps (asked_7 w (w.rate * p.t2)) (λ k. w.rate * p.t3) (sent w)
-  -- T3 lies within the cycle
+  -- T3 is within the cycle
   pub rule_8 : p.t3 ≤ w.cycle
   pub rule_9 : sum_9 w (w.rate * p.t2) (greatest_tmtsy w) ≤ bound_9 w
   pub rule_10 : Keeps (asked_10 w p.t4) (λ k. w.cycle) (sent w)

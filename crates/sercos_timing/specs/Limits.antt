@@ -1,20 +1,21 @@
--- The limits of this profile for a ring, its drives and the times that they declare, and the starts in phases 1 and 2, where no
--- plan holds yet. Times are in microseconds.
+-- The limits of this profile for a ring, its drives and the times that they declare, and the starts
+-- in phases 1 and 2, in which no plan applies yet. Times are in microseconds.
 use Rattle.std.specs.Prelude.{ℕ}
 
 -- the most drives of a ring; the least is 1
 abbrev pub most_drives : ℕ
 most_drives = 64
 
--- a drive and a slave have an address from 1 to this one
+-- the greatest address of a drive or a slave; the least is 1
 abbrev pub most_address : ℕ
 most_address = 254
 
--- The most bytes of all data records of an MDT together: they and the address are the content of one frame.
+-- The most bytes of all data records of an MDT together: they and the address are the content of
+-- one frame.
 abbrev pub most_records : ℕ
 most_records = 2047
 
--- the shortest cycle time, what all others are multiples of, and the longest
+-- the shortest cycle time, the unit of which all others are multiples, and the longest cycle time
 abbrev pub least_cycle : ℕ
 least_cycle = 125
 
@@ -28,7 +29,7 @@ most_cycle = 64000
 abbrev pub most_gap : ℕ
 most_gap = 1000
 
--- the greatest of each time that a drive declares
+-- the greatest value of each time that a drive declares
 abbrev pub most_t1min : ℕ
 most_t1min = 300
 
@@ -47,7 +48,7 @@ most_tmtsy = 250
 abbrev pub most_tmtsg : ℕ
 most_tmtsg = 64000
 
--- when an AT and an MDT start in phases 1 and 2, after the end of the MST
+-- the starts of an AT and of an MDT in phases 1 and 2, after the end of the MST
 abbrev pub early_at : ℕ
 early_at = 300
 

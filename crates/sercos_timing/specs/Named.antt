@@ -1,11 +1,11 @@
--- What the inequality and the drive that are named first imply for a plan.
+-- What the inequality and the drive of the first violation mean for a plan.
 use Rattle.std.specs.Prelude.{◌≡◌, ◌≢◌, ℕ, ◌*◌, ◌%◌, ◌<◌, ◌≤◌, List, ◌∷◌, ◌++◌, length, take, slice_index, Option}
 use Rattle.sercos_timing.specs.Views.{WishesView, PlanView}
 use Rattle.sercos_timing.specs.Order.{wish, sent, bits_of, record_bytes}
 use Rattle.sercos_timing.specs.Inequalities.{asked_1, asked_2, asked_3, asked_4, asked_5, asked_6, asked_7, asked_10, sum_9, bound_9, greatest_tmtsy, positions, Meets, Keeps}
 use Rattle.sercos_timing.specs.declared.fitting.Broken.{Broken}
 
--- an inequality is kept
+-- an inequality, by its number, is kept
 pub data IsKept (w : WishesView) (p : PlanView) : ℕ → Type 0 where
   kept_1 : Keeps (asked_1 w (bits_of w p.t1)) (bits_of w p.t1) (sent w) → IsKept w p 1
   kept_2 : Keeps (asked_2 w (bits_of w p.t1)) (bits_of w p.t1) (sent w) → IsKept w p 2
@@ -27,7 +27,8 @@ pub record FailsFirstAt (asked : ℕ → List ℕ → Option ℕ) (has : ℕ →
   pub fails : Meets (asked k before) (has k) → ⊥
   pub kept : Keeps asked has before
 
--- an inequality fails for the drive of an address, or for none, which is 0
+-- an inequality, by its number, fails for the drive with an address; the address is 0 if no single
+-- drive is meant
 pub data IsBroken (w : WishesView) (p : PlanView) : ℕ → ℕ → Type 0 where
   broken_1 : (k : ℕ) → FailsFirstAt (asked_1 w (bits_of w p.t1)) (bits_of w p.t1) (sent w) k → IsBroken w p 1 (wish w k).address
   broken_2 : (k : ℕ) → FailsFirstAt (asked_2 w (bits_of w p.t1)) (bits_of w p.t1) (sent w) k → IsBroken w p 2 (wish w k).address
@@ -44,7 +45,7 @@ pub data IsBroken (w : WishesView) (p : PlanView) : ℕ → ℕ → Type 0 where
   -- the positions are right, and only the length of the MDT is wrong
   of_other_length : p.position ≡ positions 1 w.drives → p.mdt_len ≢ record_bytes w.drives → IsBroken w p 12 0
 
--- the one that is named is broken, and each of a smaller number is kept
+-- this inequality is broken, and each one with a smaller number is kept
 pub record IsFirstBroken (w : WishesView) (p : PlanView) (b : Broken) : Type 0 where
   pub smaller : (number : ℕ) → 1 ≤ number → number < b.rule → IsKept w p number
   pub broken : IsBroken w p b.rule b.drive

@@ -1,4 +1,4 @@
--- Valid wishes as a test.
+-- Valid planner's input, as a test that can be computed.
 use Rattle.std.specs.Prelude.{◌≡◌, ◌↔◌, ℕ, ◌==◌, nat_lt, nat_le, Bool, true, not, ◌&&◌, List, [], ◌∷◌, length}
 use Rattle.std.specs.List.{list_all, list_any}
 use Rattle.sercos_timing.specs.Views.{WishesView}
@@ -12,6 +12,7 @@ abbrev pub are_distinct : List ℕ → Bool
 are_distinct [] = true
 are_distinct (x ∷ xs) = not (list_any (λ y. x == y) xs) && are_distinct xs
 
+-- all numbers are below a limit
 abbrev pub are_below : List ℕ → ℕ → Bool
 are_below xs limit = list_all (λ x. nat_lt x limit) xs
 
@@ -25,10 +26,11 @@ are_drives w =
     (nat_le 1 (length w.drives) && nat_le (length w.drives) most_drives)
     && (list_all is_wish w.drives && (are_distinct (addresses w.drives) && nat_le (record_bytes w.drives) most_records))
 
--- the order lists the place of each of this number of drives once
+-- the order lists the index of each of this number of drives once
 abbrev pub is_order : List ℕ → ℕ → Bool
 is_order order drives = (length order == drives) && (are_below order drives && are_distinct order)
 
+-- rate, cycle time, control unit cycle time and gap are ones of this profile
 abbrev pub are_cycles : WishesView → Bool
 are_cycles w = is_rate w.rate && (is_cycle w.cycle && (is_control w.cycle w.control && nat_le w.gap most_gap))
 

@@ -9,6 +9,7 @@ use Rattle.sercos_timing.specs.declared.wishes.Wish.{Wish}
 abbrev pub AreDistinct : List ℕ → Type 0
 AreDistinct xs = (i j : ℕ) → i < j → j < length xs → slice_index xs i ≢ slice_index xs j
 
+-- all numbers are below a limit
 abbrev pub AreBelow : List ℕ → ℕ → Type 0
 AreBelow xs limit = (i : ℕ) → i < length xs → slice_index xs i < limit
 
@@ -22,9 +23,9 @@ is_address n = nat_le 1 n && nat_le n most_address
 abbrev pub IsAddress : ℕ → Type 0
 IsAddress n = (1 ≤ n) × (n ≤ most_address)
 
--- Its AT has the status word, the information word and at most 64 bytes of
--- feedback values after the address; its data record has the control word, the information word and at most 64 bytes of
--- command values
+-- The input of one drive. Its AT has the status word, the information word and at most 64 bytes of
+-- feedback values after the address. Its data record has the control word, the information word and
+-- at most 64 bytes of command values.
 pub record IsWish (d : Wish) : Type 0 where
   pub address : IsAddress d.address
   pub at_len : (4 ≤ d.at_len) × (d.at_len ≤ 68)
@@ -38,7 +39,7 @@ pub record AreDrives (w : WishesView) : Type 0 where
   pub apart : AreDistinct (addresses w.drives)
   pub mdt_len : record_bytes w.drives ≤ most_records
 
--- the order lists the place of each of n drives once
+-- the order lists the index of each of the drives once
 pub record IsOrder (order : List ℕ) (drives : ℕ) : Type 0 where
   pub count : length order ≡ drives
   pub within : AreBelow order drives
@@ -48,7 +49,8 @@ pub record IsOrder (order : List ℕ) (drives : ℕ) : Type 0 where
 unfoldable pub is_rate : ℕ → Bool
 is_rate rate = (rate == 2) || ((rate == 4) || ((rate == 8) || (rate == 16)))
 
--- the cycle times of this profile, in microseconds: the shortest, and multiples of a unit up to the longest
+-- the cycle times of this profile, in microseconds: the shortest, and multiples of a unit up to the
+-- longest
 unfoldable pub is_cycle : ℕ → Bool
 is_cycle cycle = (cycle == least_cycle) || (nat_le cycle_unit cycle && (nat_le cycle most_cycle && (cycle % cycle_unit == 0)))
 
@@ -66,6 +68,7 @@ pub record AreCycles (w : WishesView) : Type 0 where
   pub control : (1 ≤ w.control) × (w.control % w.cycle ≡ 0)
   pub gap : w.gap ≤ most_gap
 
+-- planner's input for which a plan may be requested
 pub record IsValid (w : WishesView) : Type 0 where
   pub drives : AreDrives w
   pub order : IsOrder w.order (length w.drives)

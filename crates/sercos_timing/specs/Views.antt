@@ -1,8 +1,8 @@
--- Wishes and plans as plain data, their vectors as lists.
+-- Planner's input and plans as plain data, their vectors as lists.
 use Rattle.std.specs.Prelude.{ℕ, List}
 use Rattle.sercos_timing.specs.declared.wishes.Wish.{Wish}
 
--- the planner's input; `order` has places in `drives`
+-- the planner's input; `order` has indices into `drives`
 pub record WishesView : Type 0 where
   pub rate : ℕ
   pub cycle : ℕ
@@ -11,7 +11,8 @@ pub record WishesView : Type 0 where
   pub order : List ℕ
   pub drives : List Wish
 
--- the starting times of the ATs and the positions in the MDT by the drive's place in the ring, and the times of all
+-- the start of each AT and the position of each data record, in the order of the ring; the times
+-- T2, T3 and T4; and the length of the MDT
 pub record PlanView : Type 0 where
   pub t1 : List ℕ
   pub t2 : ℕ

@@ -1,14 +1,14 @@
-// What the inequalities require of the start of an AT.
+// What the inequalities require of the start of an AT. The planner's input is valid, and each index is within its list. `t1` has the T1 of
+// each drive in microseconds, in the order of the ring.
 ghost use Rattle.std.specs.Prelude.{◌≡◌, ℕ, ◌+◌, ◌*◌, ◌^◌, ◌<◌, ◌≤◌, length, slice_index, option_map, IfSome};
-ghost use Rattle.sercos_timing.specs.Order.{first_sent, place_at, at_bits, bits_of};
-ghost use Rattle.sercos_timing.specs.Inequalities.{asked_of_start};
-ghost use Rattle.sercos_timing.specs.Valid.{IsValid};
+ghost use Rattle.sercos_timing.specs.Clauses.{first_sent, place_at, at_bits, bits_of, asked_of_start, IsValid};
 
 use crate::inequality::Inequality;
 use crate::wishes::Wishes;
 
-/// Returns the bit time at which the AT of the drive at a place of the ring has ended, if it starts at its T1, and `more`
-/// microseconds have passed since, below 65,536. `t1` has the T1 of each drive in microseconds, in the order of the ring.
+/// Returns the bit time at which the AT of the drive at index `place` of the ring has ended, if it starts at its T1, and `micros`
+/// microseconds, below 65,536, have passed since. Bit times count from the MST's end. The result is below 2^42. For any n that is at least
+/// this T1, it is at most n + 66,300 microseconds in bit times.
 pub fn bits_after(w: &Wishes, t1: &[u32], place: usize, micros: u32) -> u64
     requires valid { IsValid w.now }
     requires count { length t1.now ≡ length w.now.drives }
@@ -21,7 +21,8 @@ pub fn bits_after(w: &Wishes, t1: &[u32], place: usize, micros: u32) -> u64
     w.bits(t1[place]) + (w.at_bits(place) + w.bits(micros))
 }
 
-// The end of the AT at a place of the order, if there is one, in the same way.
+// Returns the bit time of `bits_after` for the AT at index `at` of the order; `None` if `at` is `None`. `micros` is below 65,536. The
+// bounds are those of `bits_after`, for any n that is at least each T1.
 fn bits_after_at(w: &Wishes, t1: &[u32], at: Option<usize>, micros: u32) -> Option<u64>
     requires valid { IsValid w.now }
     requires count { length t1.now ≡ length w.now.drives }
@@ -39,9 +40,10 @@ fn bits_after_at(w: &Wishes, t1: &[u32], at: Option<usize>, micros: u32) -> Opti
     }
 }
 
-/// Returns what an inequality requires of the start of the AT at a place of the order, in bit times after the MST's end;
-/// `None` if it requires nothing of it: only 1 to 4 concern the start of an AT, and not of each. `t1` has the T1 of each
-/// drive in microseconds, in the order of the ring.
+/// Returns what an inequality requires of the start of the AT at index `at` of the order, in bit times after the MST's end. The result is
+/// below 2^42. For any n that is at least each T1, it is at most n + 66,300 microseconds in bit times. `None` means that it requires
+/// nothing: only 1 to 4 concern the start of an AT. 2 concerns the first AT of the order alone, 3 only an AT directly after one of another
+/// slave, and 4 only one with an earlier AT of its slave.
 pub fn asked_of_start(w: &Wishes, t1: &[u32], rule: Inequality, at: usize) -> Option<u64>
     requires valid { IsValid w.now }
     requires count { length t1.now ≡ length w.now.drives }

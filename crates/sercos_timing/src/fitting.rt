@@ -1,9 +1,7 @@
-// Whether a plan keeps the inequalities, and which one it breaks first.
-ghost use Rattle.std.specs.Prelude.{◌≡◌, ℕ, ◌+◌, ◌*◌, ◌^◌, ◌<◌, ◌≤◌, ◌↔◌, length, slice_index, IsOk, IfSome, IfErr, Some, nat_le};
-ghost use Rattle.sercos_timing.specs.Order.{first_sent, sent, bits_of};
-ghost use Rattle.sercos_timing.specs.Inequalities.{asked_5, sum_9, bound_9, greatest_tmtsy, Fits};
-ghost use Rattle.sercos_timing.specs.FirstBroken.{asked_by, has_by, is_met, first_unmet, first_misplaced, broken_by, broken_unless, broken_position, first_broken};
-ghost use Rattle.sercos_timing.specs.Valid.{IsValid};
+// Whether a plan keeps the inequalities, and which one it breaks first. The planner's input is valid. The plan has a T1 for each drive,
+// which `t1` repeats, and for inequality 12 a position for each drive. Each index is within its list.
+ghost use Rattle.std.specs.Prelude.{◌≡◌, ◌+◌, ◌*◌, ◌<◌, ◌≤◌, ◌↔◌, length, slice_index, IsOk, IfSome, IfErr, Some, nat_le};
+ghost use Rattle.sercos_timing.specs.Clauses.{first_sent, sent, bits_of, asked_5, sum_9, bound_9, greatest_tmtsy, Fits, asked_by, has_by, is_met, first_unmet, first_misplaced, broken_by, broken_unless, broken_position, first_broken, IsValid};
 
 use crate::asked::{asked_of_start, bits_after};
 use crate::inequality::Inequality;
@@ -11,17 +9,17 @@ use crate::plan::Plan;
 use crate::wishes::Wishes;
 use arrayvec::ArrayVec;
 
-/// An inequality that a plan breaks.
+/// An inequality that a plan breaks (this profile).
 #[derive(Clone, Copy, Debug, PartialEq, Eq)]
 pub struct Broken {
     /// Its number, 1 to 12.
     pub rule: u8,
-    /// The address of the drive for which it is broken; 0 if it belongs to no single drive.
+    /// The address of the drive for which it is broken; 0 if no single drive is meant.
     pub drive: u8,
 }
 
-// Returns what an inequality requires of the AT at a place of the order; `None` if it requires nothing of a single AT. `t1`
-// has the T1 of the plan.
+// Returns what an inequality requires of the AT at index `at` of the order: in bit times after the MST's end, for 10 in microseconds.
+// `None` means that it requires nothing of this AT, as 5, 8, 9, 11 and 12 do.
 fn asked(w: &Wishes, p: &Plan, t1: &[u32], rule: Inequality, at: usize) -> Option<u64>
     requires valid { IsValid w.now }
     requires count { length p.now.t1 ≡ length w.now.drives }
@@ -41,7 +39,8 @@ fn asked(w: &Wishes, p: &Plan, t1: &[u32], rule: Inequality, at: usize) -> Optio
     }
 }
 
-// Returns the plan's value at the time in question: that of an inequality 1 to 4 is the start of the AT.
+// Returns the plan's time that an inequality bounds from below, in the unit of `asked`: for 6 T2, for 7 T3, for 10 the cycle time, and for
+// all others the start of the AT at index `at` of the order.
 fn has(w: &Wishes, p: &Plan, rule: Inequality, at: usize) -> u64
     requires valid { IsValid w.now }
     requires count { length p.now.t1 ≡ length w.now.drives }
@@ -56,6 +55,7 @@ fn has(w: &Wishes, p: &Plan, rule: Inequality, at: usize) -> u64
     }
 }
 
+// Returns whether a value meets a requirement. `None`, which requires nothing, is always met.
 fn is_met(asked: Option<u64>, has: u64) -> bool
     ensures { result ≡ is_met asked has }
 {
@@ -65,7 +65,7 @@ fn is_met(asked: Option<u64>, has: u64) -> bool
     }
 }
 
-// The T1 of a plan, as numbers of 32 bits.
+// Returns the T1 of a plan, of which there are at most 64, as numbers of 32 bits.
 fn widened(times: &[u16]) -> ArrayVec<u32, 64>
     requires { length times.now ≤ 64 }
     ensures { result.items ≡ times.now }
@@ -77,7 +77,7 @@ fn widened(times: &[u16]) -> ArrayVec<u32, 64>
     wide
 }
 
-// The place in the ring of the drive of the first AT for which an inequality isn't kept.
+// Returns the index in the ring of the drive of the first AT in the order that breaks an inequality; `None` if each AT keeps it.
 fn unmet(w: &Wishes, p: &Plan, t1: &[u32], rule: Inequality) -> Option<usize>
     requires valid { IsValid w.now }
     requires count { length p.now.t1 ≡ length w.now.drives }
@@ -94,6 +94,7 @@ fn unmet(w: &Wishes, p: &Plan, t1: &[u32], rule: Inequality) -> Option<usize>
     None
 }
 
+// Returns an inequality with the address of the drive whose AT is the first to break it; `None` if each AT keeps it.
 #[tactic(auto, unfolding(crate::specs::FirstBroken::broken_by))]
 fn broken_by(w: &Wishes, p: &Plan, t1: &[u32], rule: Inequality) -> Option<Broken>
     requires valid { IsValid w.now }
@@ -110,6 +111,7 @@ fn broken_by(w: &Wishes, p: &Plan, t1: &[u32], rule: Inequality) -> Option<Broke
     }
 }
 
+// Returns an inequality that concerns no single drive; `None` if it is kept.
 fn broken_unless(rule: Inequality, kept: bool) -> Option<Broken>
     ensures { result ≡ broken_unless rule kept }
 {
@@ -135,7 +137,7 @@ fn is_last_kept(w: &Wishes, p: &Plan, t1: &[u32]) -> bool
     bits_after(w, t1, last, w.gap()) <= w.bits(p.t2())
 }
 
-// Returns whether 9 is kept: after the MDT there is room for the gap and the recovery of each drive before the next MST.
+// Returns whether 9 is kept: between the end of the MDT and the next MST there is room for the gap and the recovery of each drive.
 fn is_mst_kept(w: &Wishes, p: &Plan) -> bool
     requires valid { IsValid w.now }
     ensures { result ≡ nat_le (sum_9 w.now (w.now.rate * p.now.t2) (greatest_tmtsy w.now)) (bound_9 w.now) }
@@ -144,7 +146,8 @@ fn is_mst_kept(w: &Wishes, p: &Plan) -> bool
     w.bits(p.t2()) + (w.mdt_bits() + w.bits(pause)) <= w.recovered_by()
 }
 
-// The address of the first drive of the ring whose position isn't right after the record before it.
+// Returns the address of the first drive of the ring whose data record doesn't directly follow the record before it; `None` if all do. The
+// first record is at position 1.
 fn misplaced(w: &Wishes, p: &Plan) -> Option<u8>
     requires valid { IsValid w.now }
     requires count { length p.now.position ≡ length w.now.drives }
@@ -162,6 +165,7 @@ fn misplaced(w: &Wishes, p: &Plan) -> Option<u8>
     None
 }
 
+// Returns inequality 12 with the address of the first drive whose position is wrong; `None` if all positions are right.
 #[tactic(auto, unfolding(crate::specs::FirstBroken::broken_position))]
 fn broken_position(w: &Wishes, p: &Plan) -> Option<Broken>
     requires valid { IsValid w.now }
@@ -177,7 +181,7 @@ fn broken_position(w: &Wishes, p: &Plan) -> Option<Broken>
     }
 }
 
-// The first inequality that the plan breaks.
+// Returns the first inequality that the plan breaks; `None` if it keeps all. Valid input keeps 11.
 #[tactic(auto, unfolding(crate::specs::FirstBroken::first_broken))]
 fn first_broken(w: &Wishes, p: &Plan) -> Option<Broken>
     requires valid { IsValid w.now }
@@ -203,9 +207,10 @@ fn first_broken(w: &Wishes, p: &Plan) -> Option<Broken>
     own.or(gap.or(neighbor.or(slave.or(last.or(master.or(records.or(of_cycle)))))))
 }
 
-/// Returns `Ok` if a plan keeps the twelve inequalities; otherwise the first that it breaks: the least in number, and of
-/// that the first AT in the order of the telegrams. In 12 the drive is the first of the ring whose position is wrong; it is
-/// 0 in 5, 8 and 9, and in 12 if only the length of the MDT is wrong.
+/// Returns `Ok` iff a plan keeps the twelve inequalities (this profile). The input must be valid, and the plan must have a T1 and a
+/// position for each drive. The error is the first that it breaks: the least in number, and of that the first AT in the order. In 12 the
+/// drive is the first of the ring whose position is wrong. The drive is 0 in 5, 8 and 9, and in 12 if only the length of the MDT is wrong.
+/// 11 is never the error, since valid input keeps it.
 pub fn fits(w: &Wishes, p: &Plan) -> Result<(), Broken>
     requires valid { IsValid w.now }
     requires times { length p.now.t1 ≡ length w.now.drives }

@@ -1,8 +1,8 @@
-// The twelve inequalities between the wishes of a ring and its plan, by name and by number.
+// The twelve inequalities between planner's input and a plan, by name and by number.
 ghost use Rattle.std.specs.Prelude.{◌≡◌, Some};
-ghost use Rattle.sercos_timing.specs.Inequalities.{number_of, of_number};
+ghost use Rattle.sercos_timing.specs.Clauses.{number_of, of_number};
 
-/// An inequality between the wishes of a ring and its plan (this profile).
+/// An inequality between planner's input and a plan (this profile).
 #[derive(Clone, Copy, Debug, PartialEq, Eq)]
 pub enum Inequality {
     /// 1: T1 of a drive is at least its T1min.
@@ -25,15 +25,14 @@ pub enum Inequality {
     NextMst,
     /// 10: between T4 and the end of the cycle there is at least a drive's T4min.
     Capture,
-    /// 11: the control unit cycle time is a positive multiple of the cycle time. Valid wishes keep it.
+    /// 11: the control unit cycle time is a positive multiple of the cycle time. Valid input keeps it.
     Control,
-    /// 12: the data records follow one another in the MDT, the first one at position 1, and its length is that of all of
-    /// them.
+    /// 12: the data records follow one another in the MDT, the first at position 1, and the MDT is as long as all of them together.
     Positions,
 }
 
 impl Inequality {
-    /// Returns its number, 1 to 12.
+    /// Returns the number of the inequality, 1 to 12.
     pub fn number(self) -> u8
         ensures value { result ≡ number_of self }
         ensures back { of_number result ≡ Some self }
@@ -54,7 +53,7 @@ impl Inequality {
         }
     }
 
-    /// Returns the inequality with a number, None if the number isn't one from 1 to 12.
+    /// Returns the inequality with a number; `None` if the number isn't from 1 to 12.
     pub fn of_number(number: u8) -> Option<Inequality>
         ensures { result ≡ of_number number }
     {

@@ -1,5 +1,5 @@
-//! The limits of this profile for a ring, its drives and the times that they declare, and the starts in phases 1 and 2, where
-//! no plan holds yet. Times are in microseconds.
+//! The limits of this profile for a ring, its drives and the times that they declare, and the starts in phases 1 and 2, in which no plan
+//! applies yet. Times are in microseconds.
 
 /// The most drives of a ring. It has at least one.
 pub const MOST_DRIVES: usize = 64;
@@ -10,10 +10,10 @@ pub const MOST_ADDRESS: u8 = 254;
 /// The most bytes of all data records of an MDT together: they and the address are the content of one frame.
 pub const MOST_RECORDS: u32 = 2_047;
 
-/// The shortest cycle time. The others are multiples of [`CYCLE_UNIT`].
+/// The shortest cycle time. Any other is a multiple of [`CYCLE_UNIT`].
 pub const LEAST_CYCLE: u16 = 125;
 
-/// What every cycle time but the shortest is a multiple of.
+/// The unit of which each cycle time is a multiple, except the shortest.
 pub const CYCLE_UNIT: u16 = 250;
 
 /// The longest cycle time.
@@ -40,8 +40,8 @@ pub const MOST_TMTSY: u16 = 250;
 /// The greatest TMTSG that a drive declares.
 pub const MOST_TMTSG: u16 = 64_000;
 
-/// When an AT starts in phases 1 and 2, after the end of the MST.
+/// The start of an AT in phases 1 and 2, after the end of the MST.
 pub const EARLY_AT: u16 = 300;
 
-/// When an MDT starts in phases 1 and 2, after the end of the MST.
+/// The start of an MDT in phases 1 and 2, after the end of the MST.
 pub const EARLY_MDT: u16 = 650;

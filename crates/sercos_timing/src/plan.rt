@@ -4,8 +4,8 @@ ghost use Rattle.std.specs.Prelude.{◌≡◌, ◌<◌, ◌≤◌, length};
 use arrayvec::ArrayVec;
 use std::marker::Model;
 
-/// The time slots of a cycle and the places in the MDT. Times are microseconds after the MST's end. Contracts see the
-/// record of its fields, each vector as the list of its items.
+/// The time slots of a cycle and the positions in the MDT, under the symbols of IEC 61491:1995. Times are microseconds after the MST's end.
+/// Contracts see the record of the fields, each vector as the list of its items.
 #[derive(Debug, PartialEq, Eq, Drop)]
 pub struct Plan {
     /// The AT starting time T1 (S-0-0006) of each drive, in the order of the ring.
@@ -16,8 +16,8 @@ pub struct Plan {
     pub t3: u16,
     /// The feedback capture point T4 (S-0-0007).
     pub t4: u16,
-    /// The position of each drive's data record in the MDT (S-0-0009), in the order of the ring. Position 1 is the
-    /// first byte after the address.
+    /// The position of each drive's data record in the MDT (S-0-0009), in the order of the ring. Position 1 is the first byte after the
+    /// address.
     pub position: ArrayVec<u16, 64>,
     /// The length of the MDT (S-0-0010), in bytes after the address.
     pub mdt_len: u16,
@@ -48,7 +48,7 @@ impl Model for Plan {
 }
 
 impl Plan {
-    /// T1 of each drive, in microseconds, in the order of the ring.
+    /// Returns T1 of each drive, in microseconds, in the order of the ring.
     pub fn t1(&self) -> &[u16]
         ensures value { result.now ≡ self.now.t1 }
         ensures limit { length result.now ≤ 64 }
@@ -56,7 +56,7 @@ impl Plan {
         self.t1.as_slice()
     }
 
-    /// T2, in microseconds.
+    /// Returns T2, in microseconds.
     pub fn t2(&self) -> u32
         ensures value { result ≡ self.now.t2 }
         ensures limit { result < 65536 }
@@ -64,7 +64,7 @@ impl Plan {
         u32::from(self.t2)
     }
 
-    /// T3, in microseconds.
+    /// Returns T3, in microseconds.
     pub fn t3(&self) -> u32
         ensures value { result ≡ self.now.t3 }
         ensures limit { result < 65536 }
@@ -72,7 +72,7 @@ impl Plan {
         u32::from(self.t3)
     }
 
-    /// T4, in microseconds.
+    /// Returns T4, in microseconds.
     pub fn t4(&self) -> u32
         ensures value { result ≡ self.now.t4 }
         ensures limit { result < 65536 }
@@ -80,7 +80,8 @@ impl Plan {
         u32::from(self.t4)
     }
 
-    /// Returns the position of each drive's data record, in the order of the ring.
+    /// Returns the position of each drive's data record in the MDT, in the order of the ring. Position 1 is the first byte after the
+    /// address.
     pub fn position(&self) -> &[u16]
         ensures value { result.now ≡ self.now.position }
         ensures limit { length result.now ≤ 64 }

@@ -1,8 +1,6 @@
 // The planner's input.
-ghost use Rattle.std.specs.Prelude.{◌≡◌, ◌+◌, ◌*◌, ◌^◌, ◌<◌, ◌≤◌, length, slice_index, sum_by, IfSome, Some};
-ghost use Rattle.sercos_timing.specs.Order.{wish, first_sent, place_at, neighbor, previous, at_bits, mdt_bits, record_bytes};
-ghost use Rattle.sercos_timing.specs.Inequalities.{greatest_tmtsy, bound_9};
-ghost use Rattle.sercos_timing.specs.Valid.{IsValid};
+ghost use Rattle.std.specs.Prelude.{◌≡◌, ◌+◌, ◌*◌, ◌^◌, ◌<◌, ◌≤◌, length, slice_index, IfSome, Some};
+ghost use Rattle.sercos_timing.specs.Clauses.{wish, first_sent, place_at, neighbor, previous, at_bits, mdt_bits, record_bytes, greatest_tmtsy, bound_9, IsValid};
 
 use crate::frame_bits::wire;
 use arrayvec::ArrayVec;
@@ -15,16 +13,13 @@ pub struct Times {
     pub t1min: u16,
     /// The transmit/receive transition time (TATMT, S-0-0004): between the end of the drive's AT and the MDT.
     pub tatmt: u16,
-    /// The minimum feedback processing time (T4min, S-0-0005): between the feedback capture point T4 and the end of
-    /// the cycle.
+    /// The minimum feedback processing time (T4min, S-0-0005): between the feedback capture point T4 and the end of the cycle.
     pub t4min: u16,
-    /// The transmit to transmit recovery time (TATAT, S-0-0087): between the end of an AT of the same slave and this
-    /// drive's AT.
+    /// The transmit to transmit recovery time (TATAT, S-0-0087): between the end of an AT of the same slave and this drive's AT.
     pub tatat: u16,
     /// The receive to receive recovery time (TMTSY, S-0-0088): between the end of the MDT and the next MST.
     pub tmtsy: u16,
-    /// The command processing time (TMTSG, S-0-0090): between the end of the MDT and the time T3 from which command
-    /// values are valid.
+    /// The command processing time (TMTSG, S-0-0090): between the end of the MDT and the time T3 from which command values are valid.
     pub tmtsg: u16,
 }
 
@@ -54,7 +49,7 @@ pub struct Wishes {
     pub control: u16,
     /// The gap between telegrams, in microseconds.
     pub gap: u16,
-    /// The order of the ATs in the cycle: places in `drives`.
+    /// The order of the ATs in the cycle: indices into `drives`.
     pub order: ArrayVec<u8, 64>,
     /// The drives in the order of the ring.
     pub drives: ArrayVec<Wish, 64>,
@@ -85,7 +80,7 @@ impl Model for Wishes {
 }
 
 impl Wishes {
-    /// Returns the order of the ATs: places in the drives.
+    /// Returns the order of the ATs: indices into the drives.
     pub fn order(&self) -> &[u8]
         ensures value { result.now ≡ self.now.order }
         ensures limit { length result.now ≤ 64 }
@@ -93,7 +88,7 @@ impl Wishes {
         self.order.as_slice()
     }
 
-    /// Returns the wishes of the drives in the order of the ring.
+    /// Returns the input of the drives, in the order of the ring.
     pub fn drives(&self) -> &[Wish]
         ensures value { result.now ≡ self.now.drives }
         ensures limit { length result.now ≤ 64 }
@@ -101,7 +96,7 @@ impl Wishes {
         self.drives.as_slice()
     }
 
-    /// Returns the wish of the drive at a place of the ring.
+    /// Returns the input of the drive at an index of the ring, which must be below the number of drives.
     pub fn wish(&self, place: usize) -> Wish
         requires { place < length self.now.drives }
         ensures { result ≡ wish self.now place }
@@ -125,7 +120,7 @@ impl Wishes {
         u32::from(self.gap)
     }
 
-    /// Returns a number of microseconds in bit times.
+    /// Returns a time of `micros` microseconds in bit times, below 2^40.
     pub fn bits(&self, micros: u32) -> u64
         ensures value { result ≡ self.now.rate * micros }
         ensures limit { result < 2 ^ 40 }
@@ -133,7 +128,8 @@ impl Wishes {
         u64::from(self.rate) * u64::from(micros)
     }
 
-    /// Returns the bits that no frame of the AT of the drive at a place exceeds.
+    /// Returns the most bits of a frame of the AT of the drive at an index of the ring, at most 697. The input must be valid, and the index
+    /// below the number of drives.
     pub fn at_bits(&self, place: usize) -> u64
         requires valid { IsValid self.now }
         requires within { place < length self.now.drives }
@@ -153,7 +149,7 @@ impl Wishes {
             .sum()
     }
 
-    /// Returns the bits that no frame of the MDT exceeds.
+    /// Returns the most bits of a frame of the MDT, at most 20,000. The input must be valid.
     pub fn mdt_bits(&self) -> u64
         requires { IsValid self.now }
         ensures value { result ≡ mdt_bits self.now }
@@ -162,8 +158,9 @@ impl Wishes {
         u64::from(wire(self.record_bytes() + 1))
     }
 
-    /// Returns the place in the order of the AT that is sent right before the one at this place, where another slave sends it. Between ATs
-    /// of one slave there is TATAT alone (this profile).
+    /// Returns the index in the order of the AT that is sent directly before the one at index `at`. The result is `None` if there is none,
+    /// or if the same slave sends it: between the ATs of one slave only TATAT is required (this profile). The input must be valid, and `at`
+    /// below the length of the order.
     pub fn neighbor_at(&self, at: usize) -> Option<usize>
         requires valid { IsValid self.now }
         requires within { at < length self.now.order }
@@ -183,7 +180,8 @@ impl Wishes {
         }
     }
 
-    /// Returns the place in the order of the last AT before this one that the same slave sends.
+    /// Returns the index in the order of the last AT before the one at index `at` that the same slave sends; `None` if there is none. The
+    /// input must be valid, and `at` below the length of the order.
     pub fn previous_at(&self, at: usize) -> Option<usize>
         requires valid { IsValid self.now }
         requires within { at < length self.now.order }
@@ -202,7 +200,7 @@ impl Wishes {
         found
     }
 
-    /// Returns the greatest TMTSY, in microseconds.
+    /// Returns the greatest TMTSY of the drives, in microseconds. The input must be valid.
     pub fn greatest_tmtsy(&self) -> u32
         requires { IsValid self.now }
         ensures value { result ≡ greatest_tmtsy self.now }
@@ -215,7 +213,8 @@ impl Wishes {
         most
     }
 
-    /// Returns the bit time by which the next MST begins at the latest, where the MST ends with the cycle.
+    /// Returns the earliest bit time at which the next MST can begin, after the end of this cycle's MST. The next MST ends with the cycle,
+    /// and a frame of two bytes has at most `wire(2)` bits. The result is below 2^24. The input must be valid.
     pub fn recovered_by(&self) -> u64
         requires { IsValid self.now }
         ensures value { result ≡ bound_9 self.now }

@@ -1,7 +1,8 @@
 mod KindLemmas
-pub mod WriteLemmas
-pub mod MarkLemmas
-pub mod MarkedLemmas
 mod Worked
 mod NumberLemmas
 mod ReadBack
+pub mod FeedLemmas
+pub mod MarkLemmas
+pub mod MarkedLemmas
+pub mod WriteLemmas

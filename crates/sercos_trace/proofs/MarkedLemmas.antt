@@ -11,9 +11,9 @@ use Rattle.sercos_timing.specs.Views.{WishesView, PlanView}
 use Rattle.sercos_trace.specs.Texts.{slot_text, slots_text}
 use Rattle.sercos_trace.specs.Written as plain
 use Rattle.sercos_trace.proofs.WriteLemmas.{ok_of, err_of, cause_of, room_of, left_of}
-use Rattle.sercos_trace.specs.Marked.{marked, marked_from, begins_after, AreLines}
+use Rattle.sercos_trace.specs.Marked.{marked, marked_from, begins_after, AreLines, NoFeed}
 use Rattle.sercos_trace.specs.MarkedWritten.{Seen, HasTaken, HasFailed, Writes}
-use Rattle.sercos_trace.proofs.MarkLemmas.{marked_parts, marked_then, marked_none, marked_by_none, lines_then, no_lines, lines_one}
+use Rattle.sercos_trace.proofs.MarkLemmas.{line_marked, marked_parts, marked_then, marked_none, marked_by_none, lines_then, no_lines, lines_one}
 
 pub taken_none : (a : Seen) → HasTaken a a []
 taken_none a = record {
@@ -79,12 +79,20 @@ failed_later a b c text more p q =
       room_left = omega (arith, p.room_left, left, sum);
     }
 
--- a line that was written whole with its mark
-pub line_written : {T E : Type 0} (a b : Seen) (r : Result T E) (line : List ℕ) → b.mark ≡ a.mark
-    → plain.Writes (record { held = a.held; faults = a.faults; room = a.room }) (record { held = b.held; faults = b.faults; room = b.room }) r (marked a.mark (line ++ 10 ∷ []))
+-- the sink alone
+abbrev pub plain_of : Seen → plain.Seen
+plain_of a = record { held = a.held; faults = a.faults; room = a.room }
+
+-- a line that was written whole after its mark
+marked_written : {T E : Type 0} (a b : Seen) (r : Result T E) (line : List ℕ) → b.mark ≡ a.mark
+    → plain.Writes (plain_of a) (plain_of b) r (marked a.mark (line ++ 10 ∷ []))
     → Writes a b r (line ++ 10 ∷ [])
-line_written a b (Ok x) line same w = record { mark_is = same; lines = lines_one true line; taken = w.taken; faultless = w.faultless; room_left = w.room_left }
-line_written a b (Err e) line same w = record { mark_is = same; count = w.count; few = w.few; taken = w.taken; cause = w.cause; full = w.full; room_left = w.room_left }
+marked_written a b (Ok x) line same w = record { mark_is = same; lines = lines_one true line; taken = w.taken; faultless = w.faultless; room_left = w.room_left }
+marked_written a b (Err e) line same w = record { mark_is = same; count = w.count; few = w.few; taken = w.taken; cause = w.cause; full = w.full; room_left = w.room_left }
+
+pub line_written : {T E : Type 0} (a b : Seen) (r : Result T E) (line : List ℕ) → NoFeed line → b.mark ≡ a.mark
+    → plain.Writes (plain_of a) (plain_of b) r (a.mark ++ (line ++ 10 ∷ [])) → Writes a b r (line ++ 10 ∷ [])
+line_written a b r line none same w = marked_written a b r line same (subst (plain.Writes (plain_of a) (plain_of b) r) (sym (line_marked a.mark line none)) w)
 
 -- A loop that writes the texts of a list's items: so much was taken, and the rest of the whole text is that of the items left.
 next_text : {X : Type 0} (f : X → List ℕ) (xs : List X) (i : ℕ) (d : X) → i < length xs → flat_map f (drop i xs) ≡ f (get_or xs i d) ++ flat_map f (drop (i + 1) xs)
@@ -152,9 +160,6 @@ pub taken_nothing : (a : Seen) (text : List ℕ) → text ≡ [] → HasTaken a 
 taken_nothing a text none = subst (HasTaken a a) (sym none) (taken_none a)
 
 -- with no mark the text is as it is
-abbrev pub plain_of : Seen → plain.Seen
-plain_of a = record { held = a.held; faults = a.faults; room = a.room }
-
 as_it_is : (mark text : List ℕ) → mark ≡ [] → marked mark text ≡ text
 unfolding marked
 as_it_is mark text none = rw none (marked_by_none true text)

@@ -1,5 +1,6 @@
--- The kinds of lines of a trace, each with its template: B, W and D are numbers up to 255, 65535 and 2^32 - 1, S is a signed
--- one of 32 bits, H and R are up to 2048 and 1024 bytes, C and A two and four bytes, I is an identifier number.
+-- The kinds of lines of a trace, each with its template: B, W and D are numbers up to 255, 65535
+-- and 2^32 - 1, S is a signed one of 32 bits, H and R are up to 2048 and 1024 bytes, C and A two
+-- and four bytes, I is an identifier number.
 use Rattle.std.specs.Prelude.{ℕ, max, if◌then◌else◌, List, [], ◌∷◌, ◌++◌, codes, Option, Some, None, is_none}
 use Rattle.sercos_text.specs.declared.tail.Tail.{Tail}
 use Rattle.sercos_text.specs.declared.tail.Tail.TheVariants.{End, Addresses, Idents}
@@ -35,7 +36,8 @@ template_of kind.FallStep = codes "fall D step B"
 template_of kind.FallRestart = codes "fall D restart"
 template_of kind.End = codes "end D phase B complete D refused D broken D falls D unseen D"
 
--- what follows it: the addresses of the order, the identifier numbers of a check's list, or nothing
+-- what follows the template: the addresses of the order, the identifier numbers of a check's list,
+-- or nothing
 unfoldable pub tail_for : LineKind → Tail
 tail_for kind.Order = Addresses
 tail_for kind.Check127 = Idents
@@ -49,24 +51,24 @@ line_of kind values = line_text (template_of kind) values ++ 10 ∷ []
 abbrev pub line_with : LineKind → List Value → List ℕ → List ℕ
 line_with kind values items = line_text (template_of kind) values ++ tail_text (tail_for kind) items ++ 10 ∷ []
 
--- all kinds, those first that most lines have
+-- all kinds, the most frequent ones first
 abbrev pub all_kinds : List LineKind
 all_kinds =
     kind.At ∷ kind.Mst ∷ kind.Mdt ∷ kind.Version ∷ kind.Ring ∷ kind.Drive ∷ kind.Order ∷ kind.Phase ∷ kind.Complete ∷ kind.Refused ∷ kind.Broken ∷ kind.Plan ∷ kind.Slot ∷ kind.NoFit ∷ kind.RuleAt ∷ kind.RuleSum ∷ kind.StopRefused ∷ kind.StopConfig ∷ kind.Check127 ∷ kind.Check128 ∷ kind.FallMst ∷ kind.FallAt ∷ kind.FallStep ∷ kind.FallRestart ∷ kind.End ∷ []
 
--- The faults of two kinds: none if one of them has none, otherwise the later place, which is that of the first byte with
--- which neither goes on.
+-- The fault of a line for two kinds. It has none if it has none for one of them; otherwise it is
+-- the later offset, that of the first byte at which the line can't continue either.
 unfoldable pub later : Option ℕ → Option ℕ → Option ℕ
 later None other = None
 later (Some place) None = None
 later (Some place) (Some other) = Some (max place other)
 
--- the place of the first byte of a line with which no kind of the list goes on
+-- the offset of the first byte at which a line can't continue any kind of the list
 unfoldable pub kinds_fault : List LineKind → List ℕ → Option ℕ
 kinds_fault [] line = Some 0
 kinds_fault (kind ∷ kinds) line = later (line_fault (tail_for kind) (template_of kind) line) (kinds_fault kinds line)
 
--- the kind of a line: the first of which it has no fault
+-- the kind of a line: the first for which it has no fault
 unfoldable pub first_kind : List LineKind → List ℕ → Option LineKind
 first_kind [] line = None
 first_kind (kind ∷ kinds) line = if is_none (line_fault (tail_for kind) (template_of kind) line) then Some kind else first_kind kinds line

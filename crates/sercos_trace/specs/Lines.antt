@@ -1,4 +1,4 @@
--- The contents of a line of a trace for its reader.
+-- The contents of a line of a trace, as it is read.
 use Rattle.std.specs.Prelude.{◌≡◌, ℕ, ℤ, pos, ◌≤◌, ◌<◌, List, [], ◌∷◌, ◌++◌, length, slice_index, Option, Some, None, option_map}
 use Rattle.sercos_telegram.specs.declared.layout.Kind.{Kind}
 use Rattle.sercos_telegram.specs.declared.layout.Kind.TheVariants as telegram
@@ -13,7 +13,7 @@ use Rattle.sercos_trace.specs.declared.reading.Line.{Line}
 use Rattle.sercos_trace.specs.declared.reading.Line.TheVariants as line
 use Rattle.sercos_trace.specs.Kinds.{template_of, tail_for, all_kinds, first_kind}
 
--- the planner's input of a drive, as the ten numbers of its line
+-- the planner's input of a drive, from the ten numbers of its line
 abbrev pub wish_by : List ℕ → Wish
 wish_by numbers = record {
   address = slice_index numbers 0;
@@ -30,7 +30,7 @@ wish_by numbers = record {
   record_len = slice_index numbers 9;
 }
 
--- a line of a kind, by its numbers without a sign, its number with one, its bytes, and its addresses
+-- the line of a kind, from its unsigned numbers, its signed number, its bytes, and its addresses
 unfoldable pub line_by : LineKind → List ℕ → ℤ → List ℕ → List ℕ → Line
 line_by kind.Version numbers signed bytes addresses = line.Version
 line_by kind.Ring numbers signed bytes addresses =
@@ -46,30 +46,30 @@ line_by kind.Mdt numbers signed bytes addresses =
 line_by kind.End numbers signed bytes addresses = line.End
 line_by _ numbers signed bytes addresses = line.Other
 
--- the kind of the telegram of a line, if it is that of one
+-- the kind of telegram that a line of this kind has, if it has one
 unfoldable pub telegram_kind : LineKind → Option Kind
 telegram_kind kind.Mst = Some telegram.Mst
 telegram_kind kind.At = Some telegram.At
 telegram_kind kind.Mdt = Some telegram.Mdt
 telegram_kind _ = None
 
--- what a text is as a line of a kind
+-- a text, read as a line of a kind
 abbrev pub line_as : LineKind → List ℕ → Line
 line_as kind text =
     line_by kind (numbers_in (values_of (template_of kind) text)) (signed_by (pos 0) (values_of (template_of kind) text))
     (bytes_by [] (values_of (template_of kind) text)) (addresses_in (tail_for kind) (items_of (tail_for kind) (template_of kind) text))
 
--- what a text is as a line of a trace, without its line feed; none if it isn't one
+-- a text without its line feed, read as a line of a trace; none if it isn't one
 abbrev pub line_in : List ℕ → Option Line
 line_in text = option_map (λ kind. line_as kind text) (first_kind all_kinds text)
 
--- numbers within bounds, one by one
+-- the numbers are at most these bounds, one by one
 abbrev pub AreWithin : List ℕ → List ℕ → Type 0
 AreWithin [] [] = Unit {0}
 AreWithin (n ∷ numbers) (bound ∷ bounds) = (n ≤ bound) × AreWithin numbers bounds
 AreWithin _ _ = ⊥
 
--- the bounds of the numbers without a sign in a template
+-- the bounds of the unsigned numbers of a template, field by field
 unfoldable pub bound_by : Option Field → List ℕ
 bound_by (Some (Number most)) = most ∷ []
 bound_by _ = []
@@ -82,8 +82,8 @@ bounds_of (letter ∷ template) = bound_by (field_of letter) ++ bounds_of templa
 abbrev pub IsNumber : List ℕ → ℕ → ℕ → Type 0
 IsNumber numbers index bound = (index < length numbers) × (slice_index numbers index ≤ bound)
 
--- A line that is written of values of its kind's fields, and of items of its tail, is read back as what is read of that kind with these
--- values.
+-- A line written from values of its kind's fields, and from items of its tail, is read back as a
+-- line of that kind with these values and items.
 abbrev pub ReadsBack : Type 0
 ReadsBack = (kind : LineKind) (values : List Value) (items : List ℕ) → AreOf (template_of kind) values → IsTail (tail_for kind) items →
     line_in (line_text (template_of kind) values ++ tail_text (tail_for kind) items)

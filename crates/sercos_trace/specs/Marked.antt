@@ -1,10 +1,15 @@
 -- A text with a mark before each of its lines.
-use Rattle.std.specs.Prelude.{◌≡◌, ℕ, ◌==◌, Bool, true, if◌then◌else◌, List, [], ◌∷◌, ◌++◌}
+use Rattle.std.specs.Prelude.{◌≡◌, ℕ, ◌==◌, Bool, true, false, if◌then◌else◌, List, [], ◌∷◌, ◌++◌}
 
 abbrev pub is_feed : ℕ → Bool
 is_feed byte = byte == 10
 
--- the first argument is whether a line begins where the text does
+-- a text without a line feed
+abbrev pub NoFeed : List ℕ → Type 0
+NoFeed [] = Unit {0}
+NoFeed (byte ∷ text) = (is_feed byte ≡ false) × NoFeed text
+
+-- the first argument is whether a line begins at the start of the text
 unfoldable pub marked_from : Bool → List ℕ → List ℕ → List ℕ
 marked_from begins mark [] = []
 marked_from begins mark (byte ∷ bytes) = (if begins then mark else []) ++ byte ∷ marked_from (is_feed byte) mark bytes
@@ -12,7 +17,7 @@ marked_from begins mark (byte ∷ bytes) = (if begins then mark else []) ++ byte
 unfoldable pub marked : List ℕ → List ℕ → List ℕ
 marked mark text = marked_from true mark text
 
--- whether a line begins after a text
+-- whether a line begins after a text; the first argument is whether one begins at its start
 unfoldable pub begins_after : Bool → List ℕ → Bool
 begins_after begins [] = begins
 begins_after begins (byte ∷ bytes) = begins_after (is_feed byte) bytes

@@ -1,11 +1,12 @@
--- What a call that writes a text with a mark before each line does to a sink, as one statement for each way to end.
+-- The effect on a sink of writing a text with a mark before each line: one statement for each
+-- result.
 use Rattle.std.specs.Prelude.{◌≡◌, ℕ, ◌+◌, ◌<◌, ◌≤◌, List, length, take, Option, Result, Ok, Err}
 use Rattle.std.specs.Io.KnownBytes.{Appends}
 use Rattle.sercos_model.specs.Streams.{Rose}
 use Rattle.sercos_trace.specs.Marked.{marked, AreLines}
 
--- The mark, and what is seen of a sink: the bytes that it holds, if they are known, its count of faults, and the room that it surely
--- has.
+-- The mark, and what contracts see of a sink: the bytes that it holds, if they are known, its count
+-- of faults, and the room that it surely has.
 pub record Seen : Type 0 where
   pub mark : List ℕ
   pub held : Option (List ℕ)
@@ -15,7 +16,8 @@ pub record Seen : Type 0 where
 abbrev pub seen : List ℕ → {S : Type 0} → (S → Option (List ℕ)) → (S → ℕ) → (S → ℕ) → S → Seen
 seen mark held faults room sink = record { mark = mark; held = held sink; faults = faults sink; room = room sink }
 
--- the sink has taken the text, which is one of whole lines, with the mark before each of them, without a fault
+-- the sink has taken the text, which consists of whole lines, with the mark before each of them,
+-- without a fault
 pub record HasTaken (old new : Seen) (text : List ℕ) : Type 0 where
   pub mark_is : new.mark ≡ old.mark
   pub lines : AreLines text
@@ -23,8 +25,8 @@ pub record HasTaken (old new : Seen) (text : List ℕ) : Type 0 where
   pub faultless : new.faults ≡ old.faults
   pub room_left : old.room ≤ new.room + length (marked old.mark text)
 
--- A write failed: the sink has taken a prefix of the text with its marks that is not the whole, its count of faults has risen, and it
--- had no room for the text with its marks.
+-- A write failed: the sink has taken a proper prefix of the marked text, its count of faults has
+-- risen, and it had no room for the whole.
 pub record HasFailed (old new : Seen) (text : List ℕ) : Type 0 where
   pub mark_is : new.mark ≡ old.mark
   pub count : ℕ

@@ -25,8 +25,8 @@ use Rattle.sercos_trace.specs.declared.record.Totals.{Totals}
 use Rattle.sercos_trace.specs.Views.{SentView, EventsView, CycleView}
 use Rattle.sercos_trace.specs.Kinds.{line_of, line_with}
 
--- The head: the version; the ring's numbers and how many drives it has; a line for each drive, in ring order; the addresses in
--- the order of the ATs.
+-- The head: the version; the ring's numbers and how many drives it has; a line for each drive, in
+-- ring order; the addresses in the order of the ATs.
 abbrev pub drive_values : Wish → List Value
 drive_values d =
     number d.address ∷ number d.slave ∷ number d.times.t1min ∷ number d.times.tatmt ∷ number d.times.t4min ∷ number d.times.tatat
@@ -38,7 +38,7 @@ drive_text d = line_of kind.Drive (drive_values d)
 abbrev pub address_at : WishesView → ℕ → ℕ
 address_at w place = (wish w place).address
 
--- a telegram: its cycle, start and length in bit times, and content
+-- a telegram: its cycle, its start and its length in bit times, and its content
 abbrev pub sent_kind : Kind → LineKind
 sent_kind telegram.Mst = kind.Mst
 sent_kind telegram.At = kind.At
@@ -47,7 +47,7 @@ sent_kind telegram.Mdt = kind.Mdt
 abbrev pub sent_text : ℕ → SentView → List ℕ
 sent_text cycle s = line_of (sent_kind s.kind) (number cycle ∷ signed s.start ∷ number s.bits ∷ bytes s.content ∷ [])
 
--- a drive's phase became another
+-- a move of a drive into another phase
 abbrev pub move_text : ℕ → Move → List ℕ
 move_text cycle m = line_of kind.Phase (number cycle ∷ number m.drive ∷ number m.phase ∷ [])
 
@@ -79,7 +79,7 @@ unfoldable pub plan_text : ℕ → WishesView → Option PlanView → List ℕ
 plan_text cycle w None = []
 plan_text cycle w (Some p) = plan_line cycle p ++ slots_text cycle w p (length w.drives)
 
--- a stop: a chain with its links, or what shows why
+-- a stop: the links of its chain and the bound that it breaks, or the values that caused it
 abbrev pub link_text : ℕ → Link → List ℕ
 link_text cycle l = line_of kind.RuleAt (number cycle ∷ number l.rule ∷ number l.drive ∷ number l.at ∷ [])
 
@@ -143,6 +143,6 @@ abbrev pub end_text : Totals → List ℕ
 end_text t =
     line_of kind.End (number t.cycles ∷ number t.phase ∷ number t.complete ∷ number t.refused ∷ number t.broken ∷ number t.falls ∷ number t.unseen ∷ [])
 
--- the whole trace of a run, its cycles in their order
+-- the whole trace of a run, its cycles in order
 abbrev pub trace_of : WishesView → List CycleView → Totals → List ℕ
 trace_of w cycles t = header_text w ++ (flat_map (cycle_text w) cycles ++ end_text t)

@@ -1,4 +1,4 @@
--- What happens in a cycle, as plain data, its vectors as lists.
+-- The record of a cycle as plain data, with lists for vectors.
 use Rattle.std.specs.Prelude.{ℕ, ℤ, List, Option}
 use Rattle.sercos_telegram.specs.declared.layout.Kind.{Kind}
 use Rattle.sercos_trace.specs.declared.record.Move.{Move}

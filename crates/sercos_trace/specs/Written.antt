@@ -1,9 +1,10 @@
--- What a call that writes a text does to a sink, as one statement for each way to end.
+-- The effect on a sink of writing a text: one statement for each result.
 use Rattle.std.specs.Prelude.{◌≡◌, ℕ, ◌+◌, ◌<◌, ◌≤◌, List, length, take, Option, Result, Ok, Err}
 use Rattle.std.specs.Io.KnownBytes.{Appends}
 use Rattle.sercos_model.specs.Streams.{Rose}
 
--- what is seen of a sink: the bytes that it holds, if they are known, its count of faults, and the room that it surely has
+-- what contracts see of a sink: the bytes that it holds, if they are known, its count of faults,
+-- and the room that it surely has
 pub record Seen : Type 0 where
   pub held : Option (List ℕ)
   pub faults : ℕ
@@ -18,8 +19,8 @@ pub record HasTaken (old new : Seen) (text : List ℕ) : Type 0 where
   pub faultless : new.faults ≡ old.faults
   pub room_left : old.room ≤ new.room + length text
 
--- a write failed: the sink has taken a prefix of the text that is not the whole, its count of faults has risen, and it had no
--- room for the text
+-- a write failed: the sink has taken a proper prefix of the text, its count of faults has risen,
+-- and it had no room for the whole
 pub record HasFailed (old new : Seen) (text : List ℕ) : Type 0 where
   pub count : ℕ
   pub few : count < length text

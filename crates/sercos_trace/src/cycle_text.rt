@@ -1,8 +1,10 @@
-// The lines of a cycle.
-ghost use Rattle.std.specs.Prelude.{◌≡◌, ◌≤◌, ◌<◌, ◌++◌, [], if◌then◌else◌, length, take, drop};
+// The lines of the telegrams and moves of a cycle. Each is made in `line`, regardless of its contents, and is written after the bytes of
+// `mark`. Afterwards `line` is unspecified. The sink's room shrinks by at most the bytes of the lines with their marks. Without an error
+// its count of faults is unchanged. A write fails only if the sink has less room than them. After an error the sink has taken a proper
+// prefix of them, and its count of faults has risen or is 2^64 - 1.
+ghost use Rattle.std.specs.Prelude.{◌≡◌, ◌<◌, [], if◌then◌else◌};
+ghost use Rattle.sercos_trace.specs.Clauses.{flat_map, sent_kind, sent_text, move_text, moves_text};
 ghost use mathlib.Core.Bool.{beq};
-ghost use Rattle.std.specs.List.{flat_map};
-ghost use Rattle.sercos_trace.specs.Texts.{sent_kind, sent_text, move_text, moves_text};
 ghost use Rattle.sercos_trace.specs.MarkedWritten.{seen, Writes};
 
 use crate::kind::LineKind;
@@ -12,7 +14,7 @@ use sercos_io::{Sink, WriteFailed};
 use sercos_telegram::Kind;
 use sercos_text::{Given, Line};
 
-// The kind of a telegram's line.
+// Returns the kind of line of a telegram of this kind.
 fn sent_kind(kind: Kind) -> LineKind
     ensures { result ≡ sent_kind kind }
 {
@@ -23,7 +25,7 @@ fn sent_kind(kind: Kind) -> LineKind
     }
 }
 
-// Writes the line of a telegram.
+// Writes the line of a telegram that was sent in this cycle.
 fn write_sent<K: Sink>(
     cycle: u32,
     sent: &Sent,
@@ -42,7 +44,7 @@ fn write_sent<K: Sink>(
     write_line(sent_kind(sent.kind), &values, mark, line, sink)
 }
 
-// Writes the lines of telegrams.
+// Writes the lines of telegrams, in the order of the list.
 pub(crate) fn write_all_sent<K: Sink>(
     cycle: u32,
     sent: &[Sent],
@@ -58,7 +60,7 @@ pub(crate) fn write_all_sent<K: Sink>(
     Ok(())
 }
 
-// Writes the line of a move, if it is late or not, as `late` requires.
+// Writes the line of a move if its `late` is the one required, otherwise nothing.
 #[tactic(auto, using(crate::proofs::WriteLemmas::taken_none))]
 fn write_move<K: Sink>(
     cycle: u32,
@@ -81,7 +83,7 @@ fn write_move<K: Sink>(
     write_line(LineKind::Phase, &values, mark, line, sink)
 }
 
-// Writes the lines of the moves at the MST, or of the late ones.
+// Writes the lines of the moves at the MST, or with `late` those after the MDT, in the order of the list.
 pub(crate) fn write_moves<K: Sink>(
     cycle: u32,
     late: bool,

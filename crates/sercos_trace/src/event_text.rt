@@ -1,8 +1,10 @@
-// The lines of what the master reports.
-ghost use Rattle.std.specs.Prelude.{◌≡◌, ◌≤◌, ◌<◌, ◌/◌, ◌%◌, ◌++◌, ◌∷◌, [], length, Some, IfSome};
-ghost use Rattle.std.specs.List.{flat_map};
-ghost use Rattle.sercos_timing.specs.Order.{wish};
-ghost use Rattle.sercos_trace.specs.Texts.{big_endian, ended_text, outcome_text, plan_line, slot_text, slots_text, plan_text, link_text, bound_text, chain_text, attribute_bytes, stopped_text, stop_text, fell_text, fall_text, events_text};
+// The lines of what the master reports. Each is made in `line`, regardless of its contents, and is written after the bytes of `mark`.
+// Afterwards `line` is unspecified. The sink's room shrinks by at most the bytes of the lines with their marks. Without an error its count
+// of faults is unchanged. A write fails only if the sink has less room than them. After an error the sink has taken a proper prefix of
+// them, and its count of faults has risen or is 2^64 - 1. `wishes` is the planner's input of the ring. A plan must have exactly one T1 and
+// one position for each of its drives.
+ghost use Rattle.std.specs.Prelude.{◌≡◌, ◌<◌, ◌++◌, length, Some, IfSome};
+ghost use Rattle.sercos_trace.specs.Clauses.{flat_map, big_endian, ended_text, outcome_text, plan_line, slot_text, slots_text, plan_text, link_text, bound_text, chain_text, stopped_text, stop_text, fell_text, fall_text, events_text};
 ghost use Rattle.sercos_trace.specs.MarkedWritten.{seen, Writes};
 
 use crate::events::{Events, Fall, Reported, Stop};
@@ -14,21 +16,14 @@ use sercos_step::Outcome;
 use sercos_text::{Given, Line};
 use sercos_timing::{Plan, Wishes};
 
-// The two bytes of a word, the high byte first, as its hexadecimal text has them.
+// Returns the two bytes of a word, the high byte first.
 fn big_endian(word: u16) -> [u8; 2]
     ensures { result ≡ big_endian word }
 {
     word.to_be_bytes()
 }
 
-// The four bytes of an attribute.
-fn attribute_bytes(word: u32) -> [u8; 4]
-    ensures { result ≡ attribute_bytes word }
-{
-    word.to_be_bytes()
-}
-
-// Writes how a request ended.
+// Writes the line on how a request ended. `number` is that of the request, counted from 1.
 fn write_ended<K: Sink>(
     cycle: u32,
     number: u16,
@@ -65,7 +60,7 @@ fn write_ended<K: Sink>(
     }
 }
 
-// Writes how requests ended.
+// Writes the lines on how requests ended, in the order of the list.
 fn write_outcomes<K: Sink>(
     cycle: u32,
     outcomes: &[Reported],
@@ -81,7 +76,7 @@ fn write_outcomes<K: Sink>(
     Ok(())
 }
 
-// Writes a link of a chain.
+// Writes the line of a link of a chain.
 fn write_link<K: Sink>(
     cycle: u32,
     link: &Link,
@@ -100,7 +95,7 @@ fn write_link<K: Sink>(
     write_line(LineKind::RuleAt, &values, mark, line, sink)
 }
 
-// Writes links of a chain.
+// Writes the lines of links of a chain, in the order of the list.
 fn write_links<K: Sink>(
     cycle: u32,
     links: &[Link],
@@ -116,20 +111,7 @@ fn write_links<K: Sink>(
     Ok(())
 }
 
-// Writes the links of a chain.
-fn write_chain_links<K: Sink>(
-    cycle: u32,
-    chain: &Chain,
-    mark: &[u8],
-    line: &mut Line,
-    sink: &mut K,
-) -> Result<(), WriteFailed>
-    ensures { Writes (seen mark.now K.held K.faults K.room sink.old) (seen mark.now K.held K.faults K.room sink.new) result (flat_map (link_text cycle) chain.now.links) }
-{
-    write_links(cycle, chain.links.as_slice(), mark, line, sink)
-}
-
-// Writes the bound that a chain breaks.
+// Writes the line of the bound that a chain breaks: the chain's sum, and the bound.
 fn write_bound<K: Sink>(
     cycle: u32,
     chain: &Chain,
@@ -149,7 +131,7 @@ fn write_bound<K: Sink>(
     write_line(LineKind::RuleSum, &values, mark, line, sink)
 }
 
-// Writes the stop that no plan fits, with its chain.
+// Writes the lines of the stop that no plan fits: the stop, the links of its chain, and the bound that the chain breaks.
 fn write_chain<K: Sink>(
     cycle: u32,
     chain: &Chain,
@@ -160,11 +142,11 @@ fn write_chain<K: Sink>(
     ensures { Writes (seen mark.now K.held K.faults K.room sink.old) (seen mark.now K.held K.faults K.room sink.new) result (chain_text cycle chain.now) }
 {
     write_line(LineKind::NoFit, &[Given::Number(cycle)], mark, line, sink)?;
-    write_chain_links(cycle, chain, mark, line, sink)?;
+    write_links(cycle, chain.links.as_slice(), mark, line, sink)?;
     write_bound(cycle, chain, mark, line, sink)
 }
 
-// Writes the plan's times.
+// Writes the line of a plan: T2, T3, T4, and the length of the MDT.
 fn write_plan_line<K: Sink>(
     cycle: u32,
     plan: &Plan,
@@ -184,7 +166,8 @@ fn write_plan_line<K: Sink>(
     write_line(LineKind::Plan, &values, mark, line, sink)
 }
 
-// Writes the time slot of the drive at a place of the ring.
+// Writes the line of a drive's time slot: its address, its T1, and the position of its data record in the MDT. `place` is the drive's index
+// in ring order. The drive, its T1 and its position must be present.
 fn write_slot<K: Sink>(
     cycle: u32,
     wishes: &Wishes,
@@ -208,7 +191,7 @@ fn write_slot<K: Sink>(
     write_line(LineKind::Slot, &values, mark, line, sink)
 }
 
-// Writes the time slots of all drives.
+// Writes the lines of the time slots of all drives, in ring order. The plan must have a T1 and a position for each drive.
 fn write_slots<K: Sink>(
     cycle: u32,
     wishes: &Wishes,
@@ -227,7 +210,8 @@ fn write_slots<K: Sink>(
     Ok(())
 }
 
-// Writes a plan: its times, and the time slots of all drives.
+// Writes the lines of a plan: its times, then the time slots of all drives in ring order. The plan must have a T1 and a position for each
+// drive.
 fn write_whole_plan<K: Sink>(
     cycle: u32,
     wishes: &Wishes,
@@ -244,7 +228,7 @@ fn write_whole_plan<K: Sink>(
     write_slots(cycle, wishes, plan, mark, line, sink)
 }
 
-// Writes a plan, if there is one.
+// Writes the lines of a plan, or nothing for `None`. A plan must have a T1 and a position for each drive.
 #[tactic(auto, unfolding(crate::specs::Texts::plan_text), using(crate::proofs::WriteLemmas::taken_none))]
 fn write_plan<K: Sink>(
     cycle: u32,
@@ -264,7 +248,7 @@ fn write_plan<K: Sink>(
     }
 }
 
-// Writes why the master stopped.
+// Writes the lines of a stop.
 #[tactic(auto, unfolding(crate::specs::Kinds::tail_for))]
 fn write_stopped<K: Sink>(
     cycle: u32,
@@ -292,7 +276,7 @@ fn write_stopped<K: Sink>(
             idn,
             attribute,
         } => {
-            let attribute = attribute_bytes(*attribute);
+            let attribute = attribute.to_be_bytes();
             let values = [
                 Given::Number(cycle),
                 Given::Number(u32::from(*drive)),
@@ -326,7 +310,7 @@ fn write_stopped<K: Sink>(
     }
 }
 
-// Writes a stop, if there is one.
+// Writes the lines of a stop, or nothing for `None`.
 #[tactic(auto, unfolding(crate::specs::Texts::stop_text), using(crate::proofs::WriteLemmas::taken_none))]
 fn write_stop<K: Sink>(
     cycle: u32,
@@ -343,7 +327,7 @@ fn write_stop<K: Sink>(
     }
 }
 
-// Writes why the ring fell.
+// Writes the line of a fall.
 fn write_fell<K: Sink>(
     cycle: u32,
     fall: Fall,
@@ -373,7 +357,7 @@ fn write_fell<K: Sink>(
     }
 }
 
-// Writes a fall, if there is one.
+// Writes the line of a fall, or nothing for `None`.
 #[tactic(auto, unfolding(crate::specs::Texts::fall_text), using(crate::proofs::WriteLemmas::taken_none))]
 fn write_fall<K: Sink>(
     cycle: u32,
@@ -390,62 +374,7 @@ fn write_fall<K: Sink>(
     }
 }
 
-// Writes the outcomes among what is reported.
-fn write_reported<K: Sink>(
-    cycle: u32,
-    events: &Events,
-    mark: &[u8],
-    line: &mut Line,
-    sink: &mut K,
-) -> Result<(), WriteFailed>
-    ensures { Writes (seen mark.now K.held K.faults K.room sink.old) (seen mark.now K.held K.faults K.room sink.new) result (flat_map (outcome_text cycle) events.now.outcomes) }
-{
-    write_outcomes(cycle, events.outcomes.as_slice(), mark, line, sink)
-}
-
-// Writes the plan among what is reported.
-fn write_planned<K: Sink>(
-    cycle: u32,
-    wishes: &Wishes,
-    events: &Events,
-    mark: &[u8],
-    line: &mut Line,
-    sink: &mut K,
-) -> Result<(), WriteFailed>
-    requires starts { IfSome events.now.plan (λ p. length p.t1 ≡ length wishes.now.drives) }
-    requires positions { IfSome events.now.plan (λ p. length p.position ≡ length wishes.now.drives) }
-    ensures { Writes (seen mark.now K.held K.faults K.room sink.old) (seen mark.now K.held K.faults K.room sink.new) result (plan_text cycle wishes.now events.now.plan) }
-{
-    write_plan(cycle, wishes, &events.plan, mark, line, sink)
-}
-
-// Writes the stop among what is reported.
-fn write_stop_of<K: Sink>(
-    cycle: u32,
-    events: &Events,
-    mark: &[u8],
-    line: &mut Line,
-    sink: &mut K,
-) -> Result<(), WriteFailed>
-    ensures { Writes (seen mark.now K.held K.faults K.room sink.old) (seen mark.now K.held K.faults K.room sink.new) result (stop_text cycle events.now.stop) }
-{
-    write_stop(cycle, &events.stop, mark, line, sink)
-}
-
-// Writes the fall among what is reported.
-fn write_fall_of<K: Sink>(
-    cycle: u32,
-    events: &Events,
-    mark: &[u8],
-    line: &mut Line,
-    sink: &mut K,
-) -> Result<(), WriteFailed>
-    ensures { Writes (seen mark.now K.held K.faults K.room sink.old) (seen mark.now K.held K.faults K.room sink.new) result (fall_text cycle events.now.fall) }
-{
-    write_fall(cycle, events.fall, mark, line, sink)
-}
-
-// Writes what the master reports in a cycle.
+// Writes the lines of the events of a cycle: outcomes, plan, stop, fall. A plan must have a T1 and a position for each drive.
 pub(crate) fn write_events<K: Sink>(
     cycle: u32,
     wishes: &Wishes,
@@ -458,8 +387,8 @@ pub(crate) fn write_events<K: Sink>(
     requires positions { IfSome events.now.plan (λ p. length p.position ≡ length wishes.now.drives) }
     ensures { Writes (seen mark.now K.held K.faults K.room sink.old) (seen mark.now K.held K.faults K.room sink.new) result (events_text wishes.now cycle events.now) }
 {
-    write_reported(cycle, events, mark, line, sink)?;
-    write_planned(cycle, wishes, events, mark, line, sink)?;
-    write_stop_of(cycle, events, mark, line, sink)?;
-    write_fall_of(cycle, events, mark, line, sink)
+    write_outcomes(cycle, events.outcomes.as_slice(), mark, line, sink)?;
+    write_plan(cycle, wishes, &events.plan, mark, line, sink)?;
+    write_stop(cycle, &events.stop, mark, line, sink)?;
+    write_fall(cycle, events.fall, mark, line, sink)
 }

@@ -1,6 +1,6 @@
+// What the master reports in a cycle.
 ghost use Rattle.std.specs.Prelude.{◌≡◌, [], None};
 
-// What the master reports in a cycle.
 use arrayvec::ArrayVec;
 use sercos_idn::{Code, Idn};
 use sercos_plan::Chain;
@@ -22,8 +22,8 @@ pub enum Stop {
         /// The drive's code.
         code: Code,
     },
-    /// The attribute of a configured data block is bad, or that of a list or a procedure command; or the data records are
-    /// too long for the MDT, and this is the last value of four bytes.
+    /// The attribute of a configured data block is invalid, or is that of a list or a procedure command. Or the data records are too long
+    /// for the MDT: then this is the last configured value of four bytes.
     BadConfig {
         /// The drive's address.
         drive: u8,
@@ -32,14 +32,14 @@ pub enum Stop {
         /// The attribute as it was read.
         attribute: u32,
     },
-    /// The check for phase 3, S-0-0127, didn't end well.
+    /// The drive's check for phase 3, the procedure command S-0-0127, failed.
     Check127 {
         /// The drive's address.
         drive: u8,
         /// The drive's list of invalid data, S-0-0021: its first 64 identifier numbers.
         list: ArrayVec<Idn, 64>,
     },
-    /// The check for phase 4, S-0-0128, didn't end well.
+    /// The drive's check for phase 4, the procedure command S-0-0128, failed.
     Check128 {
         /// The drive's address.
         drive: u8,
@@ -51,12 +51,12 @@ pub enum Stop {
 /// Why the ring falls to phase 0 (this profile).
 #[derive(Clone, Copy, Debug, PartialEq, Eq)]
 pub enum Fall {
-    /// The master's own MST didn't return whole in two cycles in a row of phases 1 to 4.
+    /// The master's own MST didn't return intact in two cycles in a row of phases 1 to 4.
     MstLost,
-    /// No AT was got from the drive with this address in two cycles in a row of phases 3 and 4.
+    /// No intact AT of the drive with this address arrived in two cycles in a row of phases 3 and 4.
     AtLost(u8),
-    /// A step or an identification sent to the drive with this address had no answer up to the 64th cycle after the one in
-    /// which it was first sent.
+    /// A step or an identification sent to the drive with this address had no answer up to the 64th cycle after the one in which it was
+    /// first sent.
     StepLimit(u8),
     /// The master restarted.
     Restart,
@@ -68,7 +68,7 @@ pub type Reported = (u16, Outcome);
 /// What the master reports in a cycle. Contracts see the record of its fields, its vectors as lists.
 #[derive(Debug, Drop)]
 pub struct Events {
-    /// The requests that ended in this cycle, at most two a drive, by ascending number.
+    /// The requests that ended in this cycle, at most two per drive, by ascending number.
     pub outcomes: ArrayVec<Reported, 128>,
     /// The plan, in the cycle in which it was made.
     pub plan: Option<Plan>,
@@ -86,7 +86,7 @@ impl Model for Events {
     ghost view = { λ e. record { outcomes = e.outcomes.items; plan = e.plan; stop = e.stop; fall = e.fall } };
 }
 
-// Removes what is there. What isn't there isn't written, since it is large.
+// Sets an option to `None`. It is written only if it is `Some`, since the value is large.
 fn forget<T: Drop>(event: &mut Option<T>)
     ensures { event.new ≡ None }
 {

@@ -1,9 +1,6 @@
 // The kinds of lines of a trace.
-ghost use Rattle.std.specs.Prelude.{◌≡◌, ◌≤◌, ◌+◌, pos, max, true, [], length, None, Some, OnOk, IfOk, IfErr};
-ghost use Rattle.std.specs.Result.{result_err};
-ghost use Rattle.sercos_text.specs.Tails.{addresses_in};
-ghost use Rattle.sercos_text.specs.Templates.{is_template, values_of, items_of, numbers_in, signed_by, bytes_by, AreOf};
-ghost use Rattle.sercos_trace.specs.Kinds.{template_of, tail_for, all_kinds, kinds_fault, first_kind};
+ghost use Rattle.std.specs.Prelude.{◌≡◌, ◌≤◌, ◌+◌, pos, true, [], length, Some, IfOk, IfErr};
+ghost use Rattle.sercos_trace.specs.Clauses.{result_err, addresses_in, is_template, values_of, items_of, numbers_in, signed_by, bytes_by, AreOf, template_of, tail_for, all_kinds, kinds_fault, first_kind};
 
 use sercos_text::{Tail, Told, read_line};
 
@@ -34,35 +31,35 @@ pub enum LineKind {
     Broken,
     /// The plan was made.
     Plan,
-    /// The time slot of a drive in it.
+    /// The time slot of a drive in the plan.
     Slot,
-    /// The stop that no plan fits.
+    /// The stop because no plan fits.
     NoFit,
-    /// A link of its chain.
+    /// A link of the chain that shows why no plan fits.
     RuleAt,
-    /// The bound that its chain breaks.
+    /// The bound that this chain breaks.
     RuleSum,
-    /// The stop that a job of the start-up was refused.
+    /// The stop because a drive refused a job of the start-up.
     StopRefused,
-    /// The stop for a bad configuration.
+    /// The stop because of an invalid configuration.
     StopConfig,
-    /// The stop that the check for phase 3 failed.
+    /// The stop because the check for phase 3, S-0-0127, failed.
     Check127,
-    /// The stop that the check for phase 4 failed.
+    /// The stop because the check for phase 4, S-0-0128, failed.
     Check128,
-    /// A fall for lost MSTs.
+    /// The fall because MSTs were lost.
     FallMst,
-    /// A fall for lost ATs.
+    /// The fall because ATs were lost.
     FallAt,
-    /// A fall at the step limit.
+    /// The fall because a step wasn't answered within its limit.
     FallStep,
-    /// A fall for a restart of the master.
+    /// The fall because the master restarted.
     FallRestart,
     /// The totals, the last line.
     End,
 }
 
-// All kinds, those first that most lines have.
+// All kinds, the most frequent ones first, since a line is tried against each in this order.
 const KINDS: [LineKind; 25] = [
     LineKind::At,
     LineKind::Mst,
@@ -91,7 +88,9 @@ const KINDS: [LineKind; 25] = [
     LineKind::End,
 ];
 
-/// Returns the template of a kind.
+/// Returns the template of a kind of line, at most 64 bytes. Each capital is a field: `B`, `W` and `D` are numbers of 8, 16 and 32 bits,
+/// `S` is a signed number of 32 bits, `H` and `R` are up to 2048 and 1024 bytes, `C` and `A` are two and four bytes, and `I` is an
+/// identifier number.
 #[tactic(auto, unfolding(crate::specs::Kinds::template_of))]
 pub(crate) fn template_for(kind: LineKind) -> &'static [u8]
     ensures value { result.now ≡ template_of kind }
@@ -126,13 +125,12 @@ pub(crate) fn template_for(kind: LineKind) -> &'static [u8]
     }
 }
 
-/// A space, or nothing, follows each field of a kind's template: so a line that is written of values of the
-/// template's fields is a line of that kind, and is read as these values, by the law on lines.
+/// A law: in the template of each kind, each field is followed by a space or the end. Reading a line back relies on this.
 pub fn template_law()
     ensures { (kind : LineKind) → is_template (template_of kind) ≡ true }
 {}
 
-// What follows the template of a kind.
+// Returns what follows the template of a kind: addresses, identifier numbers, or nothing.
 #[tactic(auto, unfolding(crate::specs::Kinds::tail_for))]
 fn tail_for(kind: LineKind) -> Tail
     ensures { result ≡ tail_for kind }
@@ -144,14 +142,9 @@ fn tail_for(kind: LineKind) -> Tail
     }
 }
 
-// The later of two places.
-fn later(place: usize, other: usize) -> usize
-    ensures { result ≡ max place other }
-{
-    place.max(other)
-}
-
-// Reads a line as the first of these kinds that it is.
+// Reads a line as the first of these kinds that it fits. Returns that kind, with the values of its fields in `told`. The error is the
+// offset of the first byte at which the line can't continue any of these kinds, at most one more than its length; then `told` is
+// unspecified. Without kinds it is 0.
 fn read_kinds(kinds: &[LineKind], line: &[u8], told: &mut Told) -> Result<LineKind, usize>
     ensures fault { result_err result ≡ kinds_fault kinds.now line.now }
     ensures bound { IfErr result (λ place. place ≤ length line.now + 1) }
@@ -166,14 +159,14 @@ fn read_kinds(kinds: &[LineKind], line: &[u8], told: &mut Told) -> Result<LineKi
     for kind in kinds {
         match read_line(template_for(*kind), tail_for(*kind), line, told) {
             Ok(()) => return Ok(*kind),
-            Err(place) => last = later(last, place),
+            Err(place) => last = last.max(place),
         }
     }
     Err(last)
 }
 
-/// Reads a line of a trace, without its line feed: its kind, and the values of its fields in `told`. The error is the place of
-/// the first byte with which no kind goes on.
+/// Reads a line of a trace, without its line feed. Returns its kind, with the values of its fields in `told`. The error is the offset of
+/// the first byte at which the line can't continue any kind, at most one more than its length; then `told` is unspecified.
 pub(crate) fn read_kind(line: &[u8], told: &mut Told) -> Result<LineKind, usize>
     ensures fault { result_err result ≡ kinds_fault all_kinds line.now }
     ensures bound { IfErr result (λ place. place ≤ length line.now + 1) }

@@ -1,4 +1,5 @@
-//! The records of a run: the telegrams of a cycle, the moves of the drives, what the master reports, and the totals.
+//! The records of a run: the telegrams of a cycle, the moves of the drives, what the master reports, and the totals. They are written as
+//! the lines of a trace, and read back.
 #![tactic(auto)]
 
 mod cycle_text;
@@ -6,7 +7,6 @@ mod event_text;
 mod events;
 mod kind;
 mod line;
-mod marked;
 mod reader;
 mod reading;
 mod record;

@@ -1,22 +1,20 @@
-// A reader of many lines.
-ghost use Rattle.std.specs.Prelude.{◌≡◌, ◌+◌, [], ◌∷◌, length, slice_index, option_map, Some, None, OnOk, OnErr, if◌then◌else◌};
-ghost use Rattle.std.specs.Result.{result_err};
+// A reader that keeps the newest line.
+ghost use Rattle.std.specs.Prelude.{◌≡◌, ◌+◌, [], ◌∷◌, slice_index, option_map, Some, None, OnOk, OnErr, if◌then◌else◌};
+ghost use Rattle.sercos_trace.specs.Clauses.{result_err, template_of, all_kinds, kinds_fault, line_by, line_in, telegram_kind, AreWithin, bounds_of};
 ghost use Rattle.sercos_trace.specs.declared.reading.Line.TheVariants as line;
-ghost use Rattle.sercos_trace.specs.Kinds.{template_of, all_kinds, kinds_fault};
-ghost use Rattle.sercos_trace.specs.Lines.{line_by, line_in, telegram_kind, AreWithin, bounds_of};
 
 use crate::kind::{LineKind, read_kind};
-use crate::reading::{BadLine, Line, line_of, long, telegram_line};
+use crate::reading::{BadLine, Line, line_of, number_at, telegram_line};
 use sercos_telegram::Kind;
 use sercos_text::Told;
 use std::marker::Model;
 
-/// Reads the lines of a trace one after the other, as [`read_line`](crate::read_line) does, and keeps the newest one. Its room is
-/// used again for each line, so that a line's telegram is copied once and never moved. Contracts see the newest line.
+/// Reads the lines of a trace one after the other, as [`read_line`](crate::read_line) does, and keeps the newest one. Its memory is reused
+/// for each line, so that a telegram is copied once and never moved. Contracts see the newest line.
 #[derive(Drop)]
 pub struct Reader {
     told: Told,
-    // the newest telegram, and the newest other line; which of them is the newest line
+    // the memory for telegrams, that for other lines, and which of them has the newest line
     telegram: Line,
     other: Line,
     is_telegram: bool,
@@ -31,7 +29,7 @@ impl Model for Reader {
     ghost view = { λ r. if r.is_telegram then r.telegram else r.other };
 }
 
-// The kind of the telegram of a line, if it is that of one.
+// Returns the kind of telegram that a line of this kind has; `None` if it has none.
 #[tactic(auto, unfolding(crate::specs::Lines::telegram_kind))]
 fn telegram_kind(kind: LineKind) -> Option<Kind>
     ensures { result ≡ telegram_kind kind }
@@ -44,22 +42,24 @@ fn telegram_kind(kind: LineKind) -> Option<Kind>
     }
 }
 
-// Makes a line that of a telegram. Where it is one already, its bytes alone are copied.
+// Makes `room` the line of a telegram of this kind, from its fields. If it is a telegram's already, only the bytes of the content are
+// copied. `told` must have two unsigned numbers, of 32 bits.
 fn put_telegram(room: &mut Line, kind: Kind, told: &Told)
     requires { AreWithin told.now.numbers.items (4294967295 ∷ 4294967295 ∷ []) }
     ensures { room.new ≡ line.Telegram (slice_index told.now.numbers.items 0) (record { kind = kind; start = told.now.signed; bits = slice_index told.now.numbers.items 1; content = told.now.bytes }) }
 {
     match room {
         Line::Telegram { cycle, sent } => {
-            *cycle = long(told, 0);
-            sent.fill(kind, told.signed, long(told, 1), told.bytes.as_slice());
+            *cycle = number_at(told, 0);
+            sent.fill(kind, told.signed, number_at(told, 1), told.bytes.as_slice());
         }
         other => *other = telegram_line(kind, told),
     }
 }
 
-// Keeps the line of a kind whose fields were read, in the room for telegrams or in that for other lines, and returns whether it is
-// a telegram's.
+// Puts the line of a kind, from its fields, into `telegram` if it is a telegram's, otherwise into `other`. Returns whether it is a
+// telegram's. Afterwards the one that is not used is unspecified. `told` must have the numbers of the kind's template, each within the
+// range of its field.
 #[tactic(auto, unfolding(crate::specs::Lines::telegram_kind, crate::specs::Lines::line_by, crate::specs::Lines::bounds_of, crate::specs::Lines::bound_by, crate::specs::Kinds::template_of, sercos_text::specs::Templates::field_of))]
 fn keep(kind: LineKind, told: &Told, telegram: &mut Line, other: &mut Line) -> bool
     requires { AreWithin told.now.numbers.items (bounds_of (template_of kind)) }
@@ -78,7 +78,7 @@ fn keep(kind: LineKind, told: &Told, telegram: &mut Line, other: &mut Line) -> b
 }
 
 impl Reader {
-    /// Returns a reader without lines.
+    /// Returns a reader that has read no line.
     pub fn new() -> Reader
         ensures { result ≡ line.Other }
     {
@@ -90,8 +90,8 @@ impl Reader {
         }
     }
 
-    /// Reads a line of a trace, without its line feed, and keeps it. The error is that of [`read_line`](crate::read_line), and the
-    /// newest line stays.
+    /// Reads a line of a trace, without its line feed, and keeps it. The error is that of [`read_line`](crate::read_line); then the newest
+    /// line is unchanged.
     pub fn read(&mut self, line: &[u8]) -> Result<(), BadLine>
         ensures ok { OnOk result (Some self.new ≡ line_in line.now) }
         ensures err { result_err result ≡ option_map (λ place. record { column = place + 1 }) (kinds_fault all_kinds line.now) }
@@ -106,7 +106,7 @@ impl Reader {
         }
     }
 
-    /// Returns the newest line; [`Line::Other`] before any.
+    /// Returns the newest line; [`Line::Other`] if no line was read.
     pub fn line(&self) -> &Line
         ensures { result.now ≡ self.now }
     {

@@ -1,10 +1,9 @@
-// A line of a trace, read.
-ghost use Rattle.std.specs.Prelude.{◌≡◌, ◌≤◌, ◌+◌, [], ◌∷◌, length, slice_index, option_map};
-ghost use Rattle.std.specs.Result.{result_ok, result_err};
+// Reading one line of a trace. Where a function takes the fields read, `told` must have the numbers of the kind's template, each within the
+// range of its field.
+ghost use Rattle.std.specs.Prelude.{◌≡◌, ◌+◌, [], ◌∷◌, slice_index, option_map};
+ghost use Rattle.sercos_trace.specs.Clauses.{result_ok, result_err, template_of, all_kinds, kinds_fault, wish_by, line_by, line_in, AreWithin, IsNumber, bounds_of, HasOneKind, ReadsBack};
 ghost use Rattle.sercos_trace.specs.declared.kind.LineKind.TheVariants as kind;
 ghost use Rattle.sercos_trace.specs.declared.reading.Line.TheVariants as line;
-ghost use Rattle.sercos_trace.specs.Kinds.{template_of, all_kinds, kinds_fault};
-ghost use Rattle.sercos_trace.specs.Lines.{wish_by, line_by, line_in, AreWithin, IsNumber, bounds_of, HasOneKind, ReadsBack};
 
 use crate::kind::{LineKind, read_kind};
 use crate::record::Sent;
@@ -13,7 +12,7 @@ use sercos_telegram::Kind;
 use sercos_text::{Addresses, Told, line_law};
 use sercos_timing::{Times, Wish};
 
-/// A line of a trace. Lines of a cycle other than its telegrams have no fields here.
+/// A line of a trace, as it is read. Lines of a cycle other than its telegrams have no fields here.
 #[derive(Debug, Drop)]
 pub enum Line {
     /// The version, the first line.
@@ -28,7 +27,7 @@ pub enum Line {
         control: u16,
         /// The gap between telegrams, in microseconds.
         gap: u16,
-        /// How many drives there are.
+        /// The number of drives.
         drives: u8,
     },
     /// The planner's input of a drive.
@@ -51,90 +50,81 @@ pub enum Line {
 /// A text that is not a line of a trace.
 #[derive(Clone, Copy, Debug, PartialEq, Eq)]
 pub struct BadLine {
-    /// The place of the first byte that doesn't fit, counted from 1; one past the end if a byte is missing.
+    /// The column of the first byte that doesn't fit, counted from 1; one past the end if a byte is missing.
     pub column: usize,
 }
 
-// The number at an index, which has 32 bits.
-pub(crate) fn long(told: &Told, index: usize) -> u32
+// Returns the number at an index of the fields read, for a field of 32 bits. There must be a number at the index.
+pub(crate) fn number_at(told: &Told, index: usize) -> u32
     requires { IsNumber told.now.numbers.items index 4294967295 }
     ensures { result ≡ slice_index told.now.numbers.items index }
 {
     told.numbers.as_slice()[index]
 }
 
-// The number at an index, which has 16 bits.
-fn short(told: &Told, index: usize) -> u16
+// Returns the number at an index of the fields read, for a field of 16 bits. There must be a number at the index, of at most 65535.
+fn word_at(told: &Told, index: usize) -> u16
     requires { IsNumber told.now.numbers.items index 65535 }
     ensures { result ≡ slice_index told.now.numbers.items index }
 {
     told.numbers.as_slice()[index] as u16
 }
 
-// The number at an index, which has 8 bits.
-fn byte(told: &Told, index: usize) -> u8
+// Returns the number at an index of the fields read, for a field of 8 bits. There must be a number at the index, of at most 255.
+fn byte_at(told: &Told, index: usize) -> u8
     requires { IsNumber told.now.numbers.items index 255 }
     ensures { result ≡ slice_index told.now.numbers.items index }
 {
     told.numbers.as_slice()[index] as u8
 }
 
-// The line of the ring's numbers.
+// Returns the line of the ring's numbers, from its fields: five numbers, each within its field's range.
 #[tactic(auto, unfolding(crate::specs::Lines::line_by))]
 fn ring_line(told: &Told) -> Line
     requires { AreWithin told.now.numbers.items (255 ∷ 65535 ∷ 65535 ∷ 65535 ∷ 255 ∷ []) }
     ensures { result ≡ line_by kind.Ring told.now.numbers.items told.now.signed told.now.bytes told.now.addresses.items }
 {
     Line::Ring {
-        rate: byte(told, 0),
-        cycle: short(told, 1),
-        control: short(told, 2),
-        gap: short(told, 3),
-        drives: byte(told, 4),
+        rate: byte_at(told, 0),
+        cycle: word_at(told, 1),
+        control: word_at(told, 2),
+        gap: word_at(told, 3),
+        drives: byte_at(told, 4),
     }
 }
 
-// The times among the numbers of a drive's line.
+// Returns the times of a drive, in microseconds, from the fields of its line: ten numbers, each within its field's range.
 fn times(told: &Told) -> Times
     requires { AreWithin told.now.numbers.items (255 ∷ 255 ∷ 65535 ∷ 65535 ∷ 65535 ∷ 65535 ∷ 65535 ∷ 65535 ∷ 65535 ∷ 65535 ∷ []) }
     ensures { result ≡ (wish_by told.now.numbers.items).times }
 {
     Times {
-        t1min: short(told, 2),
-        tatmt: short(told, 3),
-        t4min: short(told, 4),
-        tatat: short(told, 5),
-        tmtsy: short(told, 6),
-        tmtsg: short(told, 7),
+        t1min: word_at(told, 2),
+        tatmt: word_at(told, 3),
+        t4min: word_at(told, 4),
+        tatat: word_at(told, 5),
+        tmtsy: word_at(told, 6),
+        tmtsg: word_at(told, 7),
     }
 }
 
-// The line of a drive.
+// Returns the line of a drive, from its fields: ten numbers, each within its field's range.
 #[tactic(auto, unfolding(crate::specs::Lines::line_by))]
 fn drive_line(told: &Told) -> Line
     requires { AreWithin told.now.numbers.items (255 ∷ 255 ∷ 65535 ∷ 65535 ∷ 65535 ∷ 65535 ∷ 65535 ∷ 65535 ∷ 65535 ∷ 65535 ∷ []) }
     ensures { result ≡ line_by kind.Drive told.now.numbers.items told.now.signed told.now.bytes told.now.addresses.items }
 {
     Line::Drive(Wish {
-        address: byte(told, 0),
-        slave: byte(told, 1),
+        address: byte_at(told, 0),
+        slave: byte_at(told, 1),
         times: times(told),
-        at_len: short(told, 8),
-        record_len: short(told, 9),
+        at_len: word_at(told, 8),
+        record_len: word_at(told, 9),
     })
 }
 
-// The line of the order.
-#[tactic(auto, unfolding(crate::specs::Lines::line_by))]
-fn order_line(told: &Told) -> Line
-    ensures { result ≡ line_by kind.Order told.now.numbers.items told.now.signed told.now.bytes told.now.addresses.items }
-{
-    let mut addresses = Addresses::new();
-    let _fits = addresses.try_extend_from_slice(told.addresses.as_slice());
-    Line::Order(addresses)
-}
-
-// The telegram of a line.
+// Returns a telegram of this kind, from the fields of its line: two unsigned numbers, the start and the bytes. The first number, the cycle,
+// is ignored.
 fn telegram(kind: Kind, told: &Told) -> Sent
     requires { AreWithin told.now.numbers.items (4294967295 ∷ 4294967295 ∷ []) }
     ensures { result ≡ record { kind = kind; start = told.now.signed; bits = slice_index told.now.numbers.items 1; content = told.now.bytes } }
@@ -144,23 +134,23 @@ fn telegram(kind: Kind, told: &Told) -> Sent
     Sent {
         kind,
         start: told.signed,
-        bits: long(told, 1),
+        bits: number_at(told, 1),
         content,
     }
 }
 
-// The line of a telegram.
+// Returns the line of a telegram of this kind, from its fields: two unsigned numbers, the start and the bytes.
 pub(crate) fn telegram_line(kind: Kind, told: &Told) -> Line
     requires { AreWithin told.now.numbers.items (4294967295 ∷ 4294967295 ∷ []) }
     ensures { result ≡ line.Telegram (slice_index told.now.numbers.items 0) (record { kind = kind; start = told.now.signed; bits = slice_index told.now.numbers.items 1; content = told.now.bytes }) }
 {
     Line::Telegram {
-        cycle: long(told, 0),
+        cycle: number_at(told, 0),
         sent: telegram(kind, told),
     }
 }
 
-// The line of a kind.
+// Returns the line of a kind, from its fields. `told` must have the numbers of the kind's template, each within the range of its field.
 #[tactic(auto, unfolding(crate::specs::Lines::line_by, crate::specs::Lines::bounds_of, crate::specs::Lines::bound_by, crate::specs::Kinds::template_of, sercos_text::specs::Templates::field_of))]
 pub(crate) fn line_of(kind: LineKind, told: &Told) -> Line
     requires { AreWithin told.now.numbers.items (bounds_of (template_of kind)) }
@@ -170,7 +160,11 @@ pub(crate) fn line_of(kind: LineKind, told: &Told) -> Line
         LineKind::Version => Line::Version,
         LineKind::Ring => ring_line(told),
         LineKind::Drive => drive_line(told),
-        LineKind::Order => order_line(told),
+        LineKind::Order => {
+            let mut addresses = Addresses::new();
+            let _fits = addresses.try_extend_from_slice(told.addresses.as_slice());
+            Line::Order(addresses)
+        }
         LineKind::Mst => telegram_line(Kind::Mst, told),
         LineKind::At => telegram_line(Kind::At, told),
         LineKind::Mdt => telegram_line(Kind::Mdt, told),
@@ -179,9 +173,10 @@ pub(crate) fn line_of(kind: LineKind, told: &Told) -> Line
     }
 }
 
-/// Reads a line of a trace, without its line feed. The error is the column of the first byte with which no line of a trace
-/// goes on, counted from 1: a number beyond its field's type, and a byte or an address too many, at its first digit; a missing
-/// byte at one past the end.
+/// Reads a line of a trace, without its line feed. The error has the column, counted from 1, of the first byte at which the text can't
+/// continue any line of a trace:
+/// - for a number beyond its field's type, and for a byte or an address too many, its first digit;
+/// - for a missing byte, one past the end.
 pub fn read_line(line: &[u8]) -> Result<Line, BadLine>
     ensures ok { result_ok result ≡ line_in line.now }
     ensures err { result_err result ≡ option_map (λ place. record { column = place + 1 }) (kinds_fault all_kinds line.now) }
@@ -193,8 +188,10 @@ pub fn read_line(line: &[u8]) -> Result<Line, BadLine>
     }
 }
 
-/// A law: a line that is written of values of its kind's fields is read back as what is read of a line of that kind with these values.
-/// And no text is a line of two kinds.
+/// A law with two statements:
+/// - A line written from values of its kind's fields, and from items that may follow its template, is read back as a line of that kind with
+///   these values and items.
+/// - A text that fits the template of a kind and what follows it is a line of that kind, and of no other.
 pub fn reading_law()
     ensures back { ReadsBack }
     ensures kind { HasOneKind }

@@ -1,6 +1,6 @@
-// What happens in a cycle.
-ghost use Rattle.std.specs.Prelude.{◌≡◌, ◌++◌, ◌<◌, ◌≤◌, ◌+◌, List, [], ◌∷◌, None, length, take};
-ghost use Rattle.sercos_telegram.specs.declared.layout.Kind.{Kind};
+// The record of a cycle.
+ghost use Rattle.std.specs.Prelude.{◌≡◌, ◌++◌, ◌<◌, ◌≤◌, ◌+◌, [], ◌∷◌, None, length, take};
+ghost use Rattle.sercos_trace.specs.Clauses.{Kind};
 
 use crate::events::Events;
 use arrayvec::ArrayVec;
@@ -29,7 +29,7 @@ impl Model for Sent {
     ghost view = { λ s. record { kind = s.kind; start = s.start; bits = s.bits; content = s.content } };
 }
 
-// The value of an unused place in a record's array.
+// The value of a new element, before `fill` replaces it.
 impl Default for Sent {
     fn default() -> Sent {
         Sent {
@@ -42,7 +42,7 @@ impl Default for Sent {
 }
 
 impl Sent {
-    // Replaces the telegram. Only as many bytes are copied as the content has.
+    // Replaces the telegram. The content must have at most 2048 bytes; only these are copied.
     pub(crate) fn fill(&mut self, kind: Kind, start: i32, bits: u32, content: &[u8])
         requires { length content.now ≤ 2048 }
         ensures { self.new ≡ record { kind = kind; start = start; bits = bits; content = content.now } }
@@ -61,7 +61,7 @@ pub struct Move {
     pub drive: u8,
     /// The phase into which it moves, 0 to 4.
     pub phase: u8,
-    /// Whether it moves after the MDT's place in the cycle, and not at the MST.
+    /// Whether the move is after the MDT's time in the cycle; otherwise it is at the MST.
     pub late: bool,
 }
 
@@ -78,7 +78,7 @@ pub struct CycleRecord {
     pub moves: ArrayVec<Move, 128>,
     /// What the master reports.
     pub events: Events,
-    /// How many arrivals differ from what was sent and are a frame anyway.
+    /// How many arrivals differ from what was sent and are a frame anyway: undetected damages.
     pub unseen: u32,
 }
 
@@ -90,20 +90,10 @@ impl Model for CycleRecord {
     ghost view = { λ r. record { cycle = r.cycle; phase = r.phase; sent = r.sent.items; moves = r.moves.items; events = r.events; unseen = r.unseen } };
 }
 
-// Appends a telegram.
-fn push_sent(sent: &mut ArrayVec<Sent, 66>, kind: Kind, start: i32, bits: u32, content: &Content)
-    requires { length sent.old.items < 66 }
-    ensures items { sent.new.items ≡ sent.old.items ++ (record { kind = kind; start = start; bits = bits; content = content.now }) ∷ [] }
-    ensures len { length sent.new.items ≡ length sent.old.items + 1 }
-{
-    sent.push(Sent::default());
-    let place = sent.len() - 1;
-    sent[place].fill(kind, start, bits, content.as_slice());
-}
-
-/// Puts a telegram after the first `count` of a list and counts it: its kind, its start in bit times after the MST's end, the
-/// length of its frame in bits, and its content, which is copied. If one is there, it is replaced in its place, so that a record
-/// which is used again copies only as many bytes as the content has.
+/// Puts a telegram after the first `count` elements of a list, and adds 1 to `count`. The list must have at least `count` elements, and
+/// `count` must be below 66. `start` is in bit times after the MST's end, `bits` is the length of the frame in bits, and the content is
+/// copied. An element that is already there is replaced in its place, so that a record that is used again copies only the bytes of the
+/// content. The first `count` elements stay; those after the new one are unspecified.
 pub fn put_sent(
     sent: &mut ArrayVec<Sent, 66>,
     count: &mut usize,
@@ -119,15 +109,14 @@ pub fn put_sent(
     ensures within { count.new ≤ length sent.new.items }
 {
     if *count == sent.len() {
-        push_sent(sent, kind, start, bits, content);
-    } else {
-        sent[*count].fill(kind, start, bits, content.as_slice());
+        sent.push(Sent::default());
     }
+    sent[*count].fill(kind, start, bits, content.as_slice());
     *count += 1;
 }
 
 impl CycleRecord {
-    /// Returns the record of cycle 0 in which nothing has happened yet.
+    /// Returns the record of cycle 0 before anything has happened in it.
     pub fn new() -> CycleRecord
         ensures { result ≡ record { cycle = 0; phase = 0; sent = []; moves = []; events = record { outcomes = []; plan = None; stop = None; fall = None }; unseen = 0 } }
     {
@@ -146,8 +135,8 @@ impl CycleRecord {
         }
     }
 
-    /// Makes it the record of a cycle in which nothing has happened yet, but for the telegrams, which stay as they are, to be
-    /// replaced by [`put_sent`].
+    /// Makes it the record of a cycle before anything has happened in it. Only the telegrams stay as they are, to be replaced by
+    /// [`put_sent`].
     pub fn reuse(&mut self, cycle: u32)
         ensures { self.new ≡ record { cycle = cycle; phase = 0; sent = self.old.sent; moves = []; events = record { outcomes = []; plan = None; stop = None; fall = None }; unseen = 0 } }
     {
@@ -174,8 +163,8 @@ pub struct Totals {
     pub broken: u32,
     /// How many falls there were, restarts of the master among them.
     pub falls: u32,
-    /// How many arrivals differed from what was sent and were a frame anyway.
+    /// How many arrivals differed from what was sent and were a frame anyway: undetected damages.
     pub unseen: u32,
-    /// The first cycle in which phase 4 was commanded.
+    /// The first cycle in which phase 4 was commanded; `None` if it never was. No line of the trace has it.
     pub phase4: Option<u32>,
 }

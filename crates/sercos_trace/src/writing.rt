@@ -1,11 +1,10 @@
-// The text of a trace to a sink.
-ghost use Rattle.std.specs.Prelude.{◌≡◌, ℕ, ◌≤◌, ◌<◌, ◌+◌, ◌++◌, [], length, map, take, drop, IfSome, OnOk, OnErr, IsOk};
-ghost use Rattle.std.specs.List.{All, flat_map};
-ghost use Rattle.std.specs.Io.KnownBytes.{Appends};
-ghost use Rattle.sercos_model.specs.Streams.{HasCause};
+// Writing a trace to a sink. With `mark` and `line`, each line is made in `line`, regardless of its contents, and is written after the
+// bytes of `mark`. Afterwards `line` is unspecified. The sink's room shrinks by at most the bytes of the text with its marks. Without an
+// error its count of faults is unchanged. A write fails only if the sink has less room than the text with its marks. After an error the
+// sink has taken a proper prefix of them, and its count of faults has risen or is 2^64 - 1.
+ghost use Rattle.std.specs.Prelude.{◌≡◌, ℕ, ◌≤◌, ◌<◌, ◌+◌, [], length, map, take, drop, IfSome, OnOk, OnErr, IsOk};
+ghost use Rattle.sercos_trace.specs.Clauses.{All, flat_map, Appends, HasCause, drive_text, address_at, ring_text, order_text, header_text, sent_text, cycle_text, end_text};
 ghost use Rattle.sercos_trace.specs.declared.kind.LineKind.TheVariants as kind;
-ghost use Rattle.sercos_trace.specs.Kinds.{line_of};
-ghost use Rattle.sercos_trace.specs.Texts.{drive_text, address_at, ring_text, order_text, header_text, sent_text, moves_text, events_text, cycle_text, end_text};
 ghost use Rattle.sercos_trace.specs.MarkedWritten.{seen, Writes};
 
 use crate::cycle_text::{write_all_sent, write_moves};
@@ -37,7 +36,7 @@ fn write_ring<K: Sink>(
     write_line(LineKind::Ring, &values, mark, line, sink)
 }
 
-// Writes the line of a drive.
+// Writes the line of a drive: the planner's input for it.
 fn write_drive<K: Sink>(
     wish: &Wish,
     mark: &[u8],
@@ -61,7 +60,7 @@ fn write_drive<K: Sink>(
     write_line(LineKind::Drive, &values, mark, line, sink)
 }
 
-// Writes the lines of drives.
+// Writes the lines of drives, in the order of the list.
 fn write_drives<K: Sink>(
     drives: &[Wish],
     mark: &[u8],
@@ -76,7 +75,7 @@ fn write_drives<K: Sink>(
     Ok(())
 }
 
-// The addresses of drives by their places.
+// Returns the addresses of the drives at these indices in ring order. There must be at most 64 indices, each of a drive.
 fn addresses_of(wishes: &Wishes, places: &[u8]) -> ArrayVec<u8, 64>
     requires places { All (λ place. place < length wishes.now.drives) places.now }
     requires few { length places.now ≤ 64 }
@@ -90,7 +89,7 @@ fn addresses_of(wishes: &Wishes, places: &[u8]) -> ArrayVec<u8, 64>
     addresses
 }
 
-// Writes the line of the order.
+// Writes the line of the order: the addresses in the order of the ATs. Each index of the order must be that of a drive.
 fn write_ordered<K: Sink>(
     wishes: &Wishes,
     mark: &[u8],
@@ -104,36 +103,7 @@ fn write_ordered<K: Sink>(
     write_order(addresses.as_slice(), mark, line, sink)
 }
 
-// Writes the lines of all drives.
-fn write_all_drives<K: Sink>(
-    wishes: &Wishes,
-    mark: &[u8],
-    line: &mut Line,
-    sink: &mut K,
-) -> Result<(), WriteFailed>
-    ensures { Writes (seen mark.now K.held K.faults K.room sink.old) (seen mark.now K.held K.faults K.room sink.new) result (flat_map drive_text wishes.now.drives) }
-{
-    write_drives(wishes.drives(), mark, line, sink)
-}
-
-// Writes the head of a trace: the version, the ring's numbers, a line for each drive, and the order, each line after `mark` and made in
-// `line`.
-fn write_head<K: Sink>(
-    wishes: &Wishes,
-    mark: &[u8],
-    line: &mut Line,
-    sink: &mut K,
-) -> Result<(), WriteFailed>
-    requires { All (λ place. place < length wishes.now.drives) wishes.now.order }
-    ensures { Writes (seen mark.now K.held K.faults K.room sink.old) (seen mark.now K.held K.faults K.room sink.new) result (header_text wishes.now) }
-{
-    write_line(LineKind::Version, &[], mark, line, sink)?;
-    write_ring(wishes, mark, line, sink)?;
-    write_all_drives(wishes, mark, line, sink)?;
-    write_ordered(wishes, mark, line, sink)
-}
-
-// Writes the first telegram of a cycle, the MST.
+// Writes the line of the first telegram of a cycle, the MST; nothing if no telegram was sent.
 fn write_first<K: Sink>(
     cycle: &CycleRecord,
     mark: &[u8],
@@ -146,7 +116,7 @@ fn write_first<K: Sink>(
     write_all_sent(cycle.cycle, &sent[..sent.len().min(1)], mark, line, sink)
 }
 
-// Writes the other telegrams of a cycle.
+// Writes the lines of the telegrams of a cycle after the first one.
 fn write_rest<K: Sink>(
     cycle: &CycleRecord,
     mark: &[u8],
@@ -159,36 +129,30 @@ fn write_rest<K: Sink>(
     write_all_sent(cycle.cycle, &sent[sent.len().min(1)..], mark, line, sink)
 }
 
-// Writes the moves of a cycle, the late ones or the others.
-fn write_moves_of<K: Sink>(
-    cycle: &CycleRecord,
-    late: bool,
-    mark: &[u8],
-    line: &mut Line,
-    sink: &mut K,
-) -> Result<(), WriteFailed>
-    ensures { Writes (seen mark.now K.held K.faults K.room sink.old) (seen mark.now K.held K.faults K.room sink.new) result (moves_text cycle.now.cycle late cycle.now.moves) }
-{
-    write_moves(cycle.cycle, late, cycle.moves.as_slice(), mark, line, sink)
-}
-
-// Writes the events of a cycle.
-fn write_events_of<K: Sink>(
+/// Writes the head of a trace as [`write_header`] does, with the bytes of `mark` before each line. Each line is made in `line`, regardless
+/// of its contents; afterwards `line` is unspecified. Each index of the order of `wishes` must be that of a drive. A write fails only if
+/// the sink has less room than the marked text. After an error the sink has taken a proper prefix of the marked text, and its count of
+/// faults has risen or is 2^64 - 1.
+pub fn write_marked_header<K: Sink>(
     wishes: &Wishes,
-    cycle: &CycleRecord,
     mark: &[u8],
     line: &mut Line,
     sink: &mut K,
 ) -> Result<(), WriteFailed>
-    requires starts { IfSome cycle.now.events.plan (λ p. length p.t1 ≡ length wishes.now.drives) }
-    requires positions { IfSome cycle.now.events.plan (λ p. length p.position ≡ length wishes.now.drives) }
-    ensures { Writes (seen mark.now K.held K.faults K.room sink.old) (seen mark.now K.held K.faults K.room sink.new) result (events_text wishes.now cycle.now.cycle cycle.now.events) }
+    requires { All (λ place. place < length wishes.now.drives) wishes.now.order }
+    ensures { Writes (seen mark.now K.held K.faults K.room sink.old) (seen mark.now K.held K.faults K.room sink.new) result (header_text wishes.now) }
 {
-    write_events(cycle.cycle, wishes, &cycle.events, mark, line, sink)
+    write_line(LineKind::Version, &[], mark, line, sink)?;
+    write_ring(wishes, mark, line, sink)?;
+    write_drives(wishes.drives(), mark, line, sink)?;
+    write_ordered(wishes, mark, line, sink)
 }
 
-// Writes the lines of a cycle.
-fn write_lines<K: Sink>(
+/// Writes the lines of a cycle as [`write_cycle`] does, with the bytes of `mark` before each line. Each line is made in `line`, regardless
+/// of its contents; afterwards `line` is unspecified. If the record has a plan, it must have a start and a position for each drive of
+/// `wishes`. A write fails only if the sink has less room than the marked text. After an error the sink has taken a proper prefix of the
+/// marked text, and its count of faults has risen or is 2^64 - 1.
+pub fn write_marked_cycle<K: Sink>(
     wishes: &Wishes,
     cycle: &CycleRecord,
     mark: &[u8],
@@ -200,14 +164,16 @@ fn write_lines<K: Sink>(
     ensures { Writes (seen mark.now K.held K.faults K.room sink.old) (seen mark.now K.held K.faults K.room sink.new) result (cycle_text wishes.now cycle.now) }
 {
     write_first(cycle, mark, line, sink)?;
-    write_moves_of(cycle, false, mark, line, sink)?;
+    write_moves(cycle.cycle, false, cycle.moves.as_slice(), mark, line, sink)?;
     write_rest(cycle, mark, line, sink)?;
-    write_moves_of(cycle, true, mark, line, sink)?;
-    write_events_of(wishes, cycle, mark, line, sink)
+    write_moves(cycle.cycle, true, cycle.moves.as_slice(), mark, line, sink)?;
+    write_events(cycle.cycle, wishes, &cycle.events, mark, line, sink)
 }
 
-// Writes the end line.
-fn write_totals<K: Sink>(
+/// Writes the end line of a trace as [`write_end`] does, after the bytes of `mark`. It is made in `line`, regardless of its contents;
+/// afterwards `line` is unspecified. A write fails only if the sink has less room than the marked text. After an error the sink has taken a
+/// proper prefix of the marked text, and its count of faults has risen or is 2^64 - 1.
+pub fn write_marked_end<K: Sink>(
     totals: &Totals,
     mark: &[u8],
     line: &mut Line,
@@ -227,51 +193,10 @@ fn write_totals<K: Sink>(
     write_line(LineKind::End, &values, mark, line, sink)
 }
 
-/// Writes the head of a trace as [`write_header`] does, with a mark before each line. Each is made in `line`, regardless of its
-/// contents.
-pub fn write_marked_header<K: Sink>(
-    wishes: &Wishes,
-    mark: &[u8],
-    line: &mut Line,
-    sink: &mut K,
-) -> Result<(), WriteFailed>
-    requires { All (λ place. place < length wishes.now.drives) wishes.now.order }
-    ensures { Writes (seen mark.now K.held K.faults K.room sink.old) (seen mark.now K.held K.faults K.room sink.new) result (header_text wishes.now) }
-{
-    write_head(wishes, mark, line, sink)
-}
-
-/// Writes the lines of a cycle as [`write_cycle`] does, with a mark before each. Each is made in `line`, regardless of its
-/// contents.
-pub fn write_marked_cycle<K: Sink>(
-    wishes: &Wishes,
-    cycle: &CycleRecord,
-    mark: &[u8],
-    line: &mut Line,
-    sink: &mut K,
-) -> Result<(), WriteFailed>
-    requires starts { IfSome cycle.now.events.plan (λ p. length p.t1 ≡ length wishes.now.drives) }
-    requires positions { IfSome cycle.now.events.plan (λ p. length p.position ≡ length wishes.now.drives) }
-    ensures { Writes (seen mark.now K.held K.faults K.room sink.old) (seen mark.now K.held K.faults K.room sink.new) result (cycle_text wishes.now cycle.now) }
-{
-    write_lines(wishes, cycle, mark, line, sink)
-}
-
-/// Writes the end line of a trace as [`write_end`] does, after a mark. It is made in `line`, regardless of its contents.
-pub fn write_marked_end<K: Sink>(
-    totals: &Totals,
-    mark: &[u8],
-    line: &mut Line,
-    sink: &mut K,
-) -> Result<(), WriteFailed>
-    ensures { Writes (seen mark.now K.held K.faults K.room sink.old) (seen mark.now K.held K.faults K.room sink.new) result (end_text totals.now) }
-{
-    write_totals(totals, mark, line, sink)
-}
-
-/// Writes the head of a trace: the version, the ring's numbers, a line for each drive in ring order, and the addresses in the
-/// order of the ATs. Times are in microseconds, lengths in bytes after the address. After an error the sink has taken a
-/// prefix of the text, short of the whole, and its count of faults has risen.
+/// Writes the head of a trace: the version, the ring's numbers, a line for each drive in ring order, and the addresses in the order of the
+/// ATs. Times are in microseconds, lengths in bytes after the address. Each index of the order must be that of a drive. A write fails only
+/// if the sink has less room than the text. After an error the sink has taken a proper prefix of the text, and its count of faults has
+/// risen or is 2^64 - 1.
 #[tactic(auto, using(crate::proofs::MarkedLemmas::unmarked_ok, crate::proofs::MarkedLemmas::unmarked_err, crate::proofs::MarkedLemmas::unmarked_cause, crate::proofs::MarkedLemmas::unmarked_room, crate::proofs::MarkedLemmas::unmarked_left))]
 pub fn write_header<K: Sink>(wishes: &Wishes, sink: &mut K) -> Result<(), WriteFailed>
     requires { All (λ place. place < length wishes.now.drives) wishes.now.order }
@@ -286,9 +211,10 @@ pub fn write_header<K: Sink>(wishes: &Wishes, sink: &mut K) -> Result<(), WriteF
     write_marked_header(wishes, b"", &mut line, sink)
 }
 
-/// Writes the lines of a cycle: the MST, the moves at it, the ATs and the MDT, the late moves, then what the master reports:
-/// outcomes, plan, stop, fall. After an error the sink has taken a prefix of the text, short of the whole, and its count of
-/// faults has risen.
+/// Writes the lines of a cycle: the MST, the moves at it, the ATs and the MDT, the late moves, then the outcomes, the plan, the stop and
+/// the fall that the master reports. If the record has a plan, it must have a start and a position for each drive of `wishes`. A write
+/// fails only if the sink has less room than the text. After an error the sink has taken a proper prefix of the text, and its count of
+/// faults has risen or is 2^64 - 1.
 #[tactic(auto, using(crate::proofs::MarkedLemmas::unmarked_ok, crate::proofs::MarkedLemmas::unmarked_err, crate::proofs::MarkedLemmas::unmarked_cause, crate::proofs::MarkedLemmas::unmarked_room, crate::proofs::MarkedLemmas::unmarked_left))]
 pub fn write_cycle<K: Sink>(
     wishes: &Wishes,
@@ -308,8 +234,8 @@ pub fn write_cycle<K: Sink>(
     write_marked_cycle(wishes, cycle, b"", &mut line, sink)
 }
 
-/// Writes the end line of a trace. After an error the sink has taken a prefix of the text, short of the whole, and its count of
-/// faults has risen.
+/// Writes the end line of a trace, which has the totals. A write fails only if the sink has less room than the text. After an error the
+/// sink has taken a proper prefix of the text, and its count of faults has risen or is 2^64 - 1.
 #[tactic(auto, using(crate::proofs::MarkedLemmas::unmarked_ok, crate::proofs::MarkedLemmas::unmarked_err, crate::proofs::MarkedLemmas::unmarked_cause, crate::proofs::MarkedLemmas::unmarked_room, crate::proofs::MarkedLemmas::unmarked_left))]
 pub fn write_end<K: Sink>(totals: &Totals, sink: &mut K) -> Result<(), WriteFailed>
     ensures ok { OnOk result (Appends (K.held sink.old) (K.held sink.new) (end_text totals.now)) }

@@ -1,2 +1,3 @@
-pub mod Form
+pub mod Clauses
 pub mod CommandLine
+pub mod Form

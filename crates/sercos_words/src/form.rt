@@ -1,8 +1,6 @@
 // The words of the commands.
 ghost use Rattle.std.specs.Prelude.{◌≡◌, ◌≤◌, ◌<◌, ◌⊎◌, [], ◌∷◌, IfOk, IfSome, None, Ok, length, map};
-ghost use Rattle.clap.specs.Words.{app_of};
-ghost use Rattle.sercos_words.specs.CommandLine.{command_line};
-ghost use Rattle.sercos_words.specs.Form.{word_form, number_named, gen_form, replay_form, plain_form, form_of, HasNumber};
+ghost use Rattle.sercos_words.specs.Clauses.{app_of, command_line, word_form, number_named, gen_form, replay_form, plain_form, form_of, HasNumber};
 
 use clap::error::ErrorKind;
 use clap::{Arg, Command};
@@ -28,8 +26,8 @@ pub enum Form {
     Backup,
     /// `restore`: a ring document that writes operation data is answered by what the drives then have.
     Restore,
-    /// `replay`: for a ring document and a capture, where the station with an address, 0 to 254, first deviated from its rules. The
-    /// master has the address 0.
+    /// `replay`: for a ring document and a capture, where the station with an address, 0 to 254, first deviated from its rules. The master
+    /// has the address 0.
     Replay(u8),
 }
 
@@ -58,8 +56,8 @@ fn word_form(word: &str) -> Option<Form>
     }
 }
 
-// Returns the number from `first` to `last` that a word spells in decimal digits, without leading zeros; `None` if it spells none of
-// these.
+// Returns the number from `first` to `last`, at most 255, that a word spells in decimal digits, without leading zeros; `None` if it spells
+// none of these.
 fn number_named(first: u32, last: u32, word: &str) -> Option<u8>
     requires { last ≤ 255 }
     ensures value { result ≡ number_named first last word.now }
@@ -110,8 +108,8 @@ fn number_form(word: &str, number: &str) -> Option<Form>
     }
 }
 
-// Returns the command line as `clap` reads it: a command and its number, each of which may be missing. It has no help and no version of
-// its own. The error is `AllocError`.
+// Returns the command line as `clap` reads it: a command and its number, each of which may be missing. It has no help and no version of its
+// own. The error is `AllocError`.
 fn command_line<'a>(alloc: Global) -> Result<Command<'a>, AllocError>
     ensures { IfOk result (λ command. app_of command ≡ command_line) }
 {
@@ -125,7 +123,8 @@ fn command_line<'a>(alloc: Global) -> Result<Command<'a>, AllocError>
         .arg(number)
 }
 
-// Returns the form of words; `None` if they are in none, as are all those that `clap` refuses. The error is `AllocError`.
+// Returns the form of words; `None` if they are in none, as are all those that `clap` refuses. The number of `gen` is 1 to 64, that of
+// `replay` 0 to 254. The error is `AllocError`.
 fn read_form(alloc: Global, words: &[&str]) -> Result<Option<Form>, AllocError>
     ensures value { IfOk result (λ form. form ≡ form_of (map (λ word. word.now) words.now)) }
     ensures range { IfOk result (λ form. IfSome form HasNumber) }
@@ -155,8 +154,9 @@ fn matched_form(word: Option<&str>, number: Option<&str>) -> Option<Form>
     }
 }
 
-/// Returns the form of the words; `None` if they are in none. One word `--` may be anywhere among them. The error is `AllocError`; it is
-/// returned only for one to three words, since no other number of words needs memory.
+/// Returns the form of the words; `None` if they are in none. One word `--` may be anywhere among them. The number of `gen` is 1 to 64,
+/// that of `replay` 0 to 254. Without words, and with more than three, the result is `None`. The error is `AllocError`; it is returned only
+/// for one to three words, since no other number of words needs memory.
 pub fn form_of(alloc: Global, words: &Words) -> Result<Option<Form>, AllocError>
     ensures count { (words.now ≡ []) ⊎ (3 < length words.now) → result ≡ Ok None }
     ensures value { IfOk result (λ form. form ≡ form_of words.now) }

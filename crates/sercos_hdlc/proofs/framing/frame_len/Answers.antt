@@ -1,12 +1,12 @@
 use Rattle.std.proofs.Common.{◌≡◌, ◌++◌, ap, arith, length, refl, sym, ◌∙◌}
 use Rattle.std.specs.Prelude.{fold}
-use Rattle.sercos_model.specs.Bits.{bits_of}
-use Rattle.sercos_model.specs.CheckSequence.{sixteen_ones}
+use Rattle.sercos_model.specs.Bits.{bits_of, low_bits}
+use Rattle.sercos_model.specs.CheckSequence.{sixteen_ones, fcs_of}
 use Rattle.sercos_bits.specs.Register.{fed}
 use Rattle.sercos_model.specs.Frames.{flag, plain_of, IsFrame}
 use Rattle.sercos_model.proofs.BitLemmas.{AreBytes-by_index}
 use Rattle.sercos_hdlc.specs.Stuffed.{stuffed, frame_of}
-use Rattle.sercos_hdlc.proofs.FramingLemmas.{IsFrame-framed, length_framed, one_frame}
+use Rattle.sercos_hdlc.proofs.FramingLemmas.{bits_of_two, IsFrame-framed, length_framed, one_frame}
 use Rattle.sercos_hdlc.proofs.framing.frame_len.Goals as goal
 
 framed : (c : goal.After-count_bytes) → IsFrame c.args.content.now (flag ++ stuffed 0 (plain_of c.args.content.now) ++ flag)
@@ -16,7 +16,7 @@ framed c =
 counted : (c : goal.After-count_bytes) → c.count_bytes.new.len ≡ length (flag ++ stuffed 0 (plain_of c.args.content.now) ++ flag)
 counted c =
     let taken : c.count_taken-ones.new.register ≡ fold fed sixteen_ones (bits_of c.args.content.now) = rw c.new-register.ensures at c.count_taken-ones.ensures.register in
-    let check = c.check_bytes_of_register.ensures c.args.content.now taken in
+    let check : bits_of c.to_le_bytes.result ≡ low_bits 16 (fcs_of c.args.content.now) = rw (c.to_le_bytes.ensures, c.fcs.ensures c.args.content.now taken) (bits_of_two _) in
     rw (c.count_bytes.ensures.len, check, c.count_taken-ones.ensures.ones, c.count_taken-ones.ensures.len) (sym (length_framed c.args.content.now))
 
 pub returns-clause-bits : goal.returns-clause-bits

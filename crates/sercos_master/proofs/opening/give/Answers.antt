@@ -14,4 +14,4 @@ returns-clause-stand c = λ s tasks apart count stands.
     let before : SeatStandsFor c.index_mut-seat.result.now (member s c.in-Some.place) (nothing_seen (tasks c.in-Some.place)) =
     rw c.index_mut-seat.ensures.value (stands c.in-Some.place c.index_mut-seat.result.now within) in
     given_one c.args.seats.now.items s tasks c.args.job c.args.number c.in-Some.place c.wait.new.self apart count found stands
-    (c.in_ok-wait.ensures (member s c.in-Some.place) (tasks c.in-Some.place) before)
+    (c.in_ok-wait.ensures.ok (member s c.in-Some.place) (tasks c.in-Some.place) before)

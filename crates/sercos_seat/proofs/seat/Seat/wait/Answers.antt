@@ -5,8 +5,8 @@ use Rattle.sercos_seat.specs.contracts.seat.Seat.{the_view}
 use Rattle.sercos_seat.proofs.Queues.{waits}
 use Rattle.sercos_seat.proofs.seat.Seat.wait.Goals as goal
 
-pub returns : goal.returns
-returns c = λ d waiting stands.
+pub returns-clause-ok : goal.returns-clause-ok
+returns-clause-ok c = λ d waiting stands.
     let t : SeatStandsFor (the_view c.self.inside) d (nothing_seen waiting) = rw c.self.view_is stands in
     subst (λ items. SeatStandsFor (record (the_view c.self.inside) { waiting = items }) d (nothing_seen (request_task c.args.number c.args.request ∷ waiting))) (sym c.in_ok-push.ensures.items)
     (waits (the_view c.self.inside) d waiting _ t)

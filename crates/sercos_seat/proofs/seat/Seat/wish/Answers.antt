@@ -26,8 +26,10 @@ returns c = λ d x stands.
       a 4 (omega arith),
       a 5 (omega arith),
       c.at_len.ensures.value,
-      c.record_len.ensures.value,
+      c.listed_len.ensures.value,
+      c.mdt_words_of.ensures.value,
+      c.as_slice-words.ensures.value,
       at_len_same c.args.self.now d x stands,
-      record_len_same c.args.self.now d x stands,
+      record_len_same (the_view c.self.inside) d x t,
       t.member_is,
     ) refl

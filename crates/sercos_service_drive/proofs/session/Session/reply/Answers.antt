@@ -10,7 +10,7 @@ returns-then-opens-clause-answered c = λ mhs log commands stood stands with.
 pub returns-then-step-eq0-clause-answered : goal.returns-then-step-eq0-clause-answered
 returns-then-step-eq0-clause-answered c = λ mhs log commands stood stands with.
     let none : (c.args.step.element == 0) ≡ true = grind (arith, nat_tests) in
-    c.close.ensures (processed_step c.args.cycle c.args.phase mhs c.args.step c.args.store.now commands) log (sym c.opens.ensures ∙ c.if-opens.false) none
+    c.close.ensures.answered (processed_step c.args.cycle c.args.phase mhs c.args.step c.args.store.now commands) log (sym c.opens.ensures ∙ c.if-opens.false) none
 
 pub returns-then-step-clause-answered : goal.returns-then-step-clause-answered
 returns-then-step-clause-answered c = λ mhs log commands stood stands with.

@@ -1,5 +1,0 @@
-use Rattle.sercos_text.proofs.ValueLaws.{fewer_digits}
-use Rattle.sercos_text.proofs.digits.set_digits.Goals as goal
-
-pub set_pairs-requires-clause-digits : goal.set_pairs-requires-clause-digits
-set_pairs-requires-clause-digits c = fewer_digits c.args.len c.args.text.now c.requires.digits
