@@ -8,18 +8,6 @@ use sercos_checking::capture::verdict;
 use sercos_checking::{Verdict, verdict_line, verdict_status};
 use sercos_io::{Sink, Status, write_all};
 
-// Writes the line of a verdict, and returns the verdict's status. If the write fails, the status is `Refused` for a refused capture,
-// otherwise `WriteFault`, and the sink has accepted a proper prefix of the line.
-fn give_verdict<K: Sink>(verdict: Verdict, sink: &mut K) -> Status
-    ensures { Writes (verdict_status verdict) (verdict_text verdict)
-        (changed K.held K.faults K.room sink.old sink.new) result }
-{
-    match write_all(sink, verdict_line(verdict).as_slice()) {
-        Ok(()) => verdict_status(verdict),
-        Err(_) => fault_status(verdict_status(verdict)),
-    }
-}
-
 /// Writes the verdict on a capture of at most 1,048,576 bytes: the first fault of grammar or shape, otherwise the first violation,
 /// otherwise the number of lines. Returns `Refused`, `No` or `Done`; if the write fails, `Refused` for a refused capture, otherwise
 /// `WriteFault`, and the sink has accepted a proper prefix of the line. It takes no memory.
@@ -27,5 +15,9 @@ pub fn write_verdict<K: Sink>(text: &[u8], sink: &mut K) -> Status
     requires { length text.now ≤ 1048576 }
     ensures { Writes (check_answer text.now).status (check_answer text.now).output (changed K.held K.faults K.room sink.old sink.new) result }
 {
-    give_verdict(verdict(text), sink)
+    let verdict = verdict(text);
+    match write_all(sink, verdict_line(verdict).as_slice()) {
+        Ok(()) => verdict_status(verdict),
+        Err(_) => fault_status(verdict_status(verdict)),
+    }
 }

@@ -16,17 +16,6 @@ use sercos_text::{Given, Line, push_line};
 use sercos_trace::Totals;
 use std::alloc::Global;
 
-// Appends to an empty line the number of drives, `n`, the number of cycles, and `phase4`, the name of the next value. Afterwards the line
-// has at most 50 bytes.
-fn push_head(n: u8, cycles: u32, line: &mut Line)
-    requires { length line.old ≡ 0 }
-    ensures value { line.new ≡ line.old ++ head_text n cycles }
-    ensures bound { length line.new ≤ 50 }
-{
-    let values = [Given::Number(u32::from(n)), Given::Number(cycles)];
-    push_line(b"gen D cycles D phase4 ", &values, line);
-}
-
 // Appends the number of the first cycle that was commanded phase 4, or `none` if there was none. The line must have at most 50 bytes;
 // afterwards it has at most 70.
 #[tactic(auto, unfolding(crate::specs::Generating::first_text))]
@@ -41,14 +30,17 @@ fn push_first(first: Option<u32>, line: &mut Line)
     }
 }
 
-// Appends the counts of requests that were complete, refused and broken, of falls, and of undetected damages, each after its name. The line
-// must have at most 70 bytes; afterwards it has at most 200.
-fn push_counts(totals: &Totals, line: &mut Line)
-    requires { length line.old ≤ 70 }
-    ensures value { line.new ≡ line.old ++ counts_text totals.now }
-    ensures bound { length line.new ≤ 200 }
+// Returns the summary line of a run of `n` drives, with its line feed: the numbers of drives and of cycles, the first cycle that was
+// commanded phase 4, and the counts of requests that were complete, refused and broken, of falls, and of undetected damages.
+#[tactic(auto, unfolding(crate::specs::Generating::gen_line))]
+fn summary(n: u8, totals: &Totals) -> Line
+    ensures { result ≡ gen_line n totals.now }
 {
-    let values = [
+    let mut line = Line::new();
+    let head = [Given::Number(u32::from(n)), Given::Number(totals.cycles)];
+    push_line(b"gen D cycles D phase4 ", &head, &mut line);
+    push_first(totals.phase4, &mut line);
+    let counts = [
         Given::Number(totals.complete),
         Given::Number(totals.refused),
         Given::Number(totals.broken),
@@ -57,20 +49,9 @@ fn push_counts(totals: &Totals, line: &mut Line)
     ];
     push_line(
         b" complete D refused D broken D falls D unseen D",
-        &values,
-        line,
+        &counts,
+        &mut line,
     );
-}
-
-// Returns the summary line of a run of `n` drives, with its line feed.
-#[tactic(auto, unfolding(crate::specs::Generating::gen_line))]
-fn summary(n: u8, totals: &Totals) -> Line
-    ensures { result ≡ gen_line n totals.now }
-{
-    let mut line = Line::new();
-    push_head(n, totals.cycles, &mut line);
-    push_first(totals.phase4, &mut line);
-    push_counts(totals, &mut line);
     line.push_within(b'\n');
     line
 }

@@ -61,25 +61,8 @@ fn last_data<L: BitLink>(ring: &Ring<L>, setup: &RingSetup, address: u8, idn: Id
     shown
 }
 
-// Appends the line of a write: the operation data that the drive has in the last cycle of the ring, whose setup is `setup`, which must be
-// valid, or how the request failed. The error is `AllocError`; then `out` is unspecified.
-fn push_line<L: BitLink>(
-    ring: &Ring<L>,
-    setup: &RingSetup,
-    request: &Tracked,
-    out: &mut Vec<u8>,
-) -> Result<(), AllocError>
-    requires drives { drives_in ring.now ≡ length setup.now.drives }
-    requires ring { is_ring setup.now ≡ true }
-    ensures { OnOk result ((jobs : List Job) (carry : Carry) (restarts : Restarts) (j : List CycleView) → RingStandsFor L.carry L.restart ring.now setup.now jobs carry restarts j →
-        out.new.items ≡ out.old.items ++ restored_line (last_data setup.now carry restarts j) request.now) }
-{
-    let shown = last_data(ring, setup, request.drive, request.idn);
-    push_restored(request, shown.as_slice(), out)
-}
-
-// Appends these lines of all requests, in order. `setup` must be that of the ring, and valid. The error is `AllocError`; then `out` is
-// unspecified.
+// Appends the lines of all writes, in order: the operation data that the drive has in the last cycle of the ring, or how the request
+// failed. `setup` must be that of the ring, and valid. The error is `AllocError`; then `out` is unspecified.
 fn push_lines<L: BitLink>(
     ring: &Ring<L>,
     setup: &RingSetup,
@@ -92,7 +75,8 @@ fn push_lines<L: BitLink>(
         out.new.items ≡ out.old.items ++ flat_map (restored_line (last_data setup.now carry restarts j)) list.now) }
 {
     for request in list {
-        push_line(ring, setup, request, out)?;
+        let shown = last_data(ring, setup, request.drive, request.idn);
+        push_restored(request, shown.as_slice(), out)?;
     }
     Ok(())
 }

@@ -23,19 +23,6 @@ pub fn failed_reply(alloc: Global, absent: bool, list: &[Tracked]) -> Result<Rep
     })
 }
 
-// Returns the reply of a run in which all blocks were read: `Done`, with their saved data, in order. The error is `AllocError`.
-fn done_reply(alloc: Global, list: &[Tracked]) -> Result<Reply, AllocError>
-    ensures status { IfOk result (λ reply. reply.status ≡ Status.Done) }
-    ensures text { IfOk result (λ reply. reply.text.items ≡ saved_lines list.now) }
-{
-    let mut text = Vec::new(alloc);
-    push_all_saved(list, &mut text)?;
-    Ok(Reply {
-        status: Status::Done,
-        text,
-    })
-}
-
 /// Returns the reply of the run that reads the blocks: `Done`, with the saved data of all; or, if some couldn't be read, `No`, with the
 /// line of each of these. The error is `AllocError`.
 pub fn saved_reply(alloc: Global, list: &[Tracked]) -> Result<Reply, AllocError>
@@ -43,7 +30,12 @@ pub fn saved_reply(alloc: Global, list: &[Tracked]) -> Result<Reply, AllocError>
     ensures text { IfOk result (λ reply. reply.text.items ≡ (saved_answer list.now).output) }
 {
     if all_well(false, list) {
-        return done_reply(alloc, list);
+        let mut text = Vec::new(alloc);
+        push_all_saved(list, &mut text)?;
+        return Ok(Reply {
+            status: Status::Done,
+            text,
+        });
     }
     failed_reply(alloc, false, list)
 }

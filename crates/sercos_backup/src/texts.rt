@@ -56,21 +56,6 @@ fn put_failed(address: u8, idn: Idn, outcome: Option<&Outcome>, line: &mut Line)
     }
 }
 
-// Replaces a line by the line of a complete write, `restored A IDN HEX`, with the operation data that the drive has in the block:
-// `content`, at most 1024 bytes, as two hexadecimal digits in lower case each, or `-` for none.
-fn put_restored(address: u8, idn: Idn, content: &[u8], line: &mut Line)
-    requires { length content.now ≤ 1024 }
-    ensures { line.new ≡ restored_text address idn.raw content.now }
-{
-    line.clear();
-    let values = [
-        Given::Number(u32::from(address)),
-        Given::Ident(idn),
-        Given::Bytes(content),
-    ];
-    push_line(b"restored D I H\n", &values, line);
-}
-
 // Appends the line of a request that failed, as `put_failed` makes it; nothing if it was complete.
 fn push_failed_text(request: &Tracked, out: &mut Vec<u8>) -> Result<(), AllocError>
     ensures { OnOk result (out.new.items ≡ out.old.items ++ failed_text request.now.drive request.now.idn.raw request.now.outcome) }
@@ -85,17 +70,6 @@ fn push_failed_text(request: &Tracked, out: &mut Vec<u8>) -> Result<(), AllocErr
     out.extend_from_slice(line.as_slice())
 }
 
-// Appends the line of a request, if it failed. If `absent` is true, a request that was refused because the drive has no such block didn't
-// fail.
-fn push_failed(absent: bool, request: &Tracked, out: &mut Vec<u8>) -> Result<(), AllocError>
-    ensures { OnOk result (out.new.items ≡ out.old.items ++ failed_line absent request.now) }
-{
-    if is_well(absent, request.outcome.as_ref()) {
-        return Ok(());
-    }
-    push_failed_text(request, out)
-}
-
 /// Appends the lines of the requests that failed, in order: `failed A IDN refused CODE`, `failed A IDN broken`, or, without an outcome,
 /// `failed A IDN open`. If `absent` is true, a request that was refused because the drive has no such block didn't fail.
 pub(crate) fn push_all_failed(
@@ -106,31 +80,23 @@ pub(crate) fn push_all_failed(
     ensures { OnOk result (out.new.items ≡ out.old.items ++ failed_lines absent list.now) }
 {
     for request in list {
-        push_failed(absent, request, out)?;
+        if is_well(absent, request.outcome.as_ref()) {
+            continue;
+        }
+        push_failed_text(request, out)?;
     }
     Ok(())
 }
 
-// Appends the saved data of the block that a request read, with no bytes if the request wasn't complete.
-fn push_saved(request: &Tracked, out: &mut Vec<u8>) -> Result<(), AllocError>
-    ensures { OnOk result (out.new.items ≡ out.old.items ++ saved_line request.now) }
-{
-    let mut line = Line::new();
-    put_saved(
-        request.drive,
-        request.idn,
-        bytes_in(request.outcome.as_ref()),
-        &mut line,
-    );
-    out.extend_from_slice(line.as_slice())
-}
-
-/// Appends the saved data of the blocks that the requests read, in order.
+/// Appends the saved data of the blocks that the requests read, in order, with no bytes for a request that wasn't complete.
 pub(crate) fn push_all_saved(list: &[Tracked], out: &mut Vec<u8>) -> Result<(), AllocError>
     ensures { OnOk result (out.new.items ≡ out.old.items ++ saved_lines list.now) }
 {
     for request in list {
-        push_saved(request, out)?;
+        let bytes = bytes_in(request.outcome.as_ref());
+        let mut line = Line::new();
+        put_saved(request.drive, request.idn, bytes, &mut line);
+        out.extend_from_slice(line.as_slice())?;
     }
     Ok(())
 }
@@ -146,6 +112,11 @@ pub fn push_restored(request: &Tracked, content: &[u8], out: &mut Vec<u8>) -> Re
         return push_failed_text(request, out);
     }
     let mut line = Line::new();
-    put_restored(request.drive, request.idn, content, &mut line);
+    let values = [
+        Given::Number(u32::from(request.drive)),
+        Given::Ident(request.idn),
+        Given::Bytes(content),
+    ];
+    push_line(b"restored D I H\n", &values, &mut line);
     out.extend_from_slice(line.as_slice())
 }

@@ -29,17 +29,6 @@ fn idn_in(request: &Request) -> Idn
     }
 }
 
-// Returns a request, with its drive and block, without an outcome.
-fn untold(job: &Job) -> Tracked
-    ensures { result ≡ with_outcome None job.now }
-{
-    Tracked {
-        drive: job.drive,
-        idn: idn_in(&job.request),
-        outcome: None,
-    }
-}
-
 /// Returns the requests of these jobs, in their order, without outcomes. The error is `AllocError`.
 #[tactic(auto, using(crate::proofs::TrackLemmas::none_told))]
 pub fn track(alloc: Global, jobs: &[Job]) -> Result<Vec<Tracked>, AllocError>
@@ -47,7 +36,11 @@ pub fn track(alloc: Global, jobs: &[Job]) -> Result<Vec<Tracked>, AllocError>
 {
     let mut list = Vec::with_capacity(alloc, jobs.len())?;
     for job in jobs {
-        list.push(untold(job))?;
+        list.push(Tracked {
+            drive: job.drive,
+            idn: idn_in(&job.request),
+            outcome: None,
+        })?;
     }
     Ok(list)
 }
@@ -67,20 +60,13 @@ fn copied(outcome: &Outcome) -> Outcome
     }
 }
 
-// Puts a copy of an outcome into `slot`, if there is none yet; otherwise the slot is unchanged.
-fn put(slot: &mut Option<Outcome>, outcome: &Outcome)
-    ensures { slot.new ≡ option_or slot.old (Some outcome.now) }
-{
-    if slot.is_none() {
-        *slot = Some(copied(outcome));
-    }
-}
-
 // Notes an outcome as that of a request, if it has none yet.
 fn note_in(request: &mut Tracked, outcome: &Outcome)
     ensures { request.new ≡ noted outcome.now request.old }
 {
-    put(&mut request.outcome, outcome);
+    if request.outcome.is_none() {
+        request.outcome = Some(copied(outcome));
+    }
 }
 
 // Notes an outcome as that of the request with a number, from 1 on, if it has none yet. A number without a request is ignored. The list is
@@ -139,15 +125,6 @@ pub(crate) fn bytes_in(outcome: Option<&Outcome>) -> &[u8]
     }
 }
 
-// Returns a copy of the bytes of a complete outcome; no bytes of any other, or of `None`.
-fn bytes_told(outcome: Option<&Outcome>) -> Bytes
-    ensures { result ≡ bytes_told (option_copied outcome.entry) }
-{
-    let mut told = Bytes::new();
-    told.assign(bytes_in(outcome));
-    told
-}
-
 /// Returns the bytes of each request's outcome, in order, each with the address of its drive; no bytes for a request that wasn't complete.
 /// The error is `AllocError`.
 pub fn lists_told(alloc: Global, list: &[Tracked]) -> Result<Vec<(u8, Bytes)>, AllocError>
@@ -155,7 +132,9 @@ pub fn lists_told(alloc: Global, list: &[Tracked]) -> Result<Vec<(u8, Bytes)>, A
 {
     let mut lists = Vec::with_capacity(alloc, list.len())?;
     for request in list {
-        lists.push((request.drive, bytes_told(request.outcome.as_ref())))?;
+        let mut told = Bytes::new();
+        told.assign(bytes_in(request.outcome.as_ref()));
+        lists.push((request.drive, told))?;
     }
     Ok(lists)
 }

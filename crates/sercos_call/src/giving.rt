@@ -41,18 +41,6 @@ pub fn give_if_made<K: Sink>(made: &Result<Reply, AllocError>, sink: &mut K) -> 
     }
 }
 
-// Writes the refusal of a document, which isn't `Memory`, and returns `Refused`, also if the write fails.
-fn give_refusal<K: Sink>(bad: &BadDocument, sink: &mut K) -> Status
-    requires { bad.now ≢ BadDocument.Memory }
-    ensures { Writes Status.Refused (line_of bad.now)
-        (changed K.held K.faults K.room sink.old sink.new) result }
-{
-    match write_refusal(bad, sink) {
-        Ok(()) => Status::Refused,
-        Err(_) => fault_status(Status::Refused),
-    }
-}
-
 /// Writes the refusal of a document, and returns `Refused`, also if the write fails. If the cause is `Memory`, the status is `Memory`, and
 /// the sink is unchanged.
 pub fn refuse<K: Sink>(bad: &BadDocument, sink: &mut K) -> Status
@@ -62,7 +50,10 @@ pub fn refuse<K: Sink>(bad: &BadDocument, sink: &mut K) -> Status
     if matches!(bad, BadDocument::Memory) {
         return Status::Memory;
     }
-    give_refusal(bad, sink)
+    match write_refusal(bad, sink) {
+        Ok(()) => Status::Refused,
+        Err(_) => fault_status(Status::Refused),
+    }
 }
 
 /// Writes a reply, and returns its status. If that write fails, the status is `Refused` for a reply with this status, otherwise

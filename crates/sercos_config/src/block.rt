@@ -43,7 +43,7 @@ pub(crate) fn read_blocks(
 // Reads a data block from its table. `before` has the drive's blocks of the tables before it: an identifier number of theirs or of a
 // built-in block is refused as `Twice`. The error is the first refusal, or `Memory`. The block keeps the rules of `check_blocks` after
 // those of `before`, and its numbers are in the ranges of their types.
-#[tactic(auto, unfolding(crate::specs::Block::block_of, sercos_block::specs::Rules::block_fault))]
+#[tactic(auto, unfolding(crate::specs::Block::block_of, crate::specs::Block::fails_under, sercos_block::specs::Rules::block_fault))]
 fn read_block(keys: &Keys<'_>, before: &[Block]) -> Result<Block, BadDocument>
     ensures value { Gives result (block_of before.now (located keys.now)) }
     ensures valid { IfOk result (λ b. block_fault before.now b ≡ None) }
@@ -62,7 +62,8 @@ fn read_block(keys: &Keys<'_>, before: &[Block]) -> Result<Block, BadDocument>
     let value = read_data(keys, max_len, attribute)?;
     let fixed = keys.boolean_or("fixed", false)?;
     let step = read_step(keys, attribute, min, max)?;
-    let fails = read_fails(keys, attribute)?;
+    let fails = keys.boolean_or("fails", false)?;
+    keys.demand(!(fails && !attribute.command), "fails", 1)?;
     Ok(Block {
         idn,
         attribute,
@@ -175,16 +176,4 @@ fn read_step(
     let free = min.is_none() && max.is_none();
     keys.demand(step == 0 || number && free, "step", i64::from(step))?;
     Ok(step)
-}
-
-// Returns whether the block's procedure command fails, from `fails`; it doesn't if the key is absent. The error is `Kind`, or `Range` with
-// 1 if the key is true in a block that isn't a procedure command.
-#[tactic(auto, unfolding(crate::specs::Block::fails_under))]
-fn read_fails(keys: &Keys<'_>, attribute: Attribute) -> Result<bool, BadDocument>
-    ensures value { Gives result (fails_under attribute (located keys.now)) }
-    ensures valid { IfOk result (λ fails. not (fails && not attribute.command) ≡ true) }
-{
-    let fails = keys.boolean_or("fails", false)?;
-    keys.demand(!(fails && !attribute.command), "fails", 1)?;
-    Ok(fails)
 }

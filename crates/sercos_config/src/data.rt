@@ -69,30 +69,19 @@ pub(crate) fn read_limit(
     }
 }
 
-// Returns the most bytes that a list may have, from `max_len`. The attribute is that of a list. The error is `Missing`, `Kind`, or `Range`
-// with the number unless it is 1 to 1,024, in whole items.
-#[tactic(auto, unfolding(crate::specs::Numbers::list_max_len))]
-fn read_list_max_len(keys: &Keys<'_>, attribute: Attribute) -> Result<u16, BadDocument>
-    requires { is_list attribute.length ≡ true }
-    ensures value { Gives result (list_max_len attribute (located keys.now)) }
-    ensures valid { IfOk result (λ most. is_max_len attribute most ≡ true) }
-{
-    let most = keys.number("max_len", 1, u32::from(MOST_DATA))?;
-    let whole = most % attribute.length.item_len() as u32 == 0;
-    keys.demand(whole, "max_len", i64::from(most))?;
-    Ok(most as u16)
-}
-
 /// Returns the most bytes that the block's list may have, from `max_len`; 0 if the block isn't a list. For a list the error is `Missing`,
 /// `Kind`, or `Range` with the number unless it is 1 to 1,024, in whole items. Other blocks may not have the key: the error is then `Kind`,
 /// or `Range` with the number.
-#[tactic(auto, unfolding(crate::specs::Numbers::max_len_of))]
+#[tactic(auto, unfolding(crate::specs::Numbers::max_len_of, crate::specs::Numbers::list_max_len))]
 pub(crate) fn read_max_len(keys: &Keys<'_>, attribute: Attribute) -> Result<u16, BadDocument>
     ensures value { Gives result (max_len_of attribute (located keys.now)) }
     ensures valid { IfOk result (λ most. is_max_len attribute most ≡ true) }
 {
     if attribute.length.is_list() {
-        return read_list_max_len(keys, attribute);
+        let most = keys.number("max_len", 1, u32::from(MOST_DATA))?;
+        let whole = most % attribute.length.item_len() as u32 == 0;
+        keys.demand(whole, "max_len", i64::from(most))?;
+        return Ok(most as u16);
     }
     match keys.integer("max_len")? {
         None => Ok(0),
@@ -145,25 +134,6 @@ fn list_bytes(most: u16, attribute: Attribute, text: &[u8]) -> Option<Text>
     }
 }
 
-// Returns the operation data of a list of at most `most` bytes, no more than 1024, which the hexadecimal digits under `data` spell; an
-// empty list if the key is absent. The error is `Kind`, or `Range` with the text's length in bytes if it spells no such list.
-#[tactic(auto, using(crate::proofs::BlockLemmas::none_typed), unfolding(crate::specs::Numbers::list_data))]
-fn read_list_data(keys: &Keys<'_>, most: u16, attribute: Attribute) -> Result<Text, BadDocument>
-    requires most { most ≤ 1024 }
-    requires list { is_list attribute.length ≡ true }
-    ensures value { Gives result (list_data most attribute (located keys.now)) }
-    ensures valid { IfOk result (λ bytes. fits_data most attribute bytes ≡ true) }
-    ensures typed { IfOk result AreBytes }
-{
-    match keys.text("data")? {
-        None => Ok(Text::new()),
-        Some(text) => match list_bytes(most, attribute, text.as_bytes()) {
-            Some(bytes) => Ok(bytes),
-            None => Err(keys.range("data", text.len() as i64)),
-        },
-    }
-}
-
 // Returns whether `number` may be the operation data of a block that isn't a list: 0 for a procedure command, and otherwise a number in the
 // attribute's range.
 #[tactic(auto, unfolding(crate::specs::Numbers::is_data))]
@@ -174,24 +144,6 @@ fn is_data(attribute: Attribute, number: i64) -> bool
         number == 0
     } else {
         is_in_range(attribute, number)
-    }
-}
-
-// Returns the operation data of a number or a procedure command, from `data`, its low byte first; that of 0 if the key is absent. The error
-// is `Kind`, or `Range` with the number unless it is 0 for a procedure command, otherwise in the attribute's range.
-#[tactic(auto, using(crate::proofs::BlockLemmas::is_typed_bytes), unfolding(crate::specs::Numbers::number_data))]
-fn read_number_data(keys: &Keys<'_>, attribute: Attribute) -> Result<Text, BadDocument>
-    requires { is_list attribute.length ≡ false }
-    ensures value { Gives result (number_data attribute (located keys.now)) }
-    ensures valid { IfOk result (λ bytes. fits_data 0 attribute bytes ≡ true) }
-    ensures typed { IfOk result AreBytes }
-{
-    match keys.integer("data")? {
-        None => Ok(bytes_for(attribute, 0)),
-        Some(number) => {
-            keys.demand(is_data(attribute, number), "data", number)?;
-            Ok(bytes_for(attribute, data_bits(attribute, number)))
-        }
     }
 }
 
@@ -213,7 +165,7 @@ fn data_bits(attribute: Attribute, number: i64) -> u32
 /// Returns the bytes of the block's operation data, from `data`. If the key is absent, a list is empty and a number is 0. `most` is the
 /// most bytes of a list, 1 to 1,024 in whole items; 0 for other blocks. The error is `Kind`, or `Range` if the block can't have the data:
 /// with the text's length in bytes for a list, otherwise with the number.
-#[tactic(auto, unfolding(crate::specs::Numbers::data_of))]
+#[tactic(auto, using(crate::proofs::BlockLemmas::is_typed_bytes, crate::proofs::BlockLemmas::none_typed), unfolding(crate::specs::Numbers::data_of, crate::specs::Numbers::list_data, crate::specs::Numbers::number_data))]
 pub(crate) fn read_data(
     keys: &Keys<'_>,
     most: u16,
@@ -225,8 +177,19 @@ pub(crate) fn read_data(
     ensures typed { IfOk result AreBytes }
 {
     if attribute.length.is_list() {
-        read_list_data(keys, most, attribute)
-    } else {
-        read_number_data(keys, attribute)
+        return match keys.text("data")? {
+            None => Ok(Text::new()),
+            Some(text) => match list_bytes(most, attribute, text.as_bytes()) {
+                Some(bytes) => Ok(bytes),
+                None => Err(keys.range("data", text.len() as i64)),
+            },
+        };
+    }
+    match keys.integer("data")? {
+        None => Ok(bytes_for(attribute, 0)),
+        Some(number) => {
+            keys.demand(is_data(attribute, number), "data", number)?;
+            Ok(bytes_for(attribute, data_bits(attribute, number)))
+        }
     }
 }

@@ -63,7 +63,7 @@ pub fn read_ring(alloc: Global, bytes: &[u8]) -> Result<Document, BadDocument>
 
 // Reads the contents of a document from its top table. The error is the first refusal, or `Memory`. The result has the properties that
 // `read_ring` lists.
-#[tactic(auto, unfolding(crate::specs::Document::document_in))]
+#[tactic(auto, unfolding(crate::specs::Document::document_in, crate::specs::Document::top_keys))]
 fn read_table(alloc: Global, table: &Table) -> Result<Document, BadDocument>
     ensures value { Gives result (document_in (table_view table.now)) }
     ensures setup { IfOk result (λ d. is_ring d.setup ≡ true) }
@@ -77,7 +77,7 @@ fn read_table(alloc: Global, table: &Table) -> Result<Document, BadDocument>
         place: Place::Top,
         table,
     };
-    known(&keys)?;
+    keys.known(&["ring", "drive", "request", "fault"])?;
     let ring = keys.required_table("ring")?;
     let drives = keys.required_tables("drive", 1, MOST_DRIVES)?;
     let requests = keys.tables("request", 0, 4096)?;
@@ -90,14 +90,6 @@ fn read_table(alloc: Global, table: &Table) -> Result<Document, BadDocument>
         jobs,
         faults,
     })
-}
-
-// Refuses the least key, in the order of bytes, that the top table may not have, as `Unknown`.
-#[tactic(auto, unfolding(crate::specs::Document::top_keys))]
-fn known(keys: &Keys<'_>) -> Result<(), BadDocument>
-    ensures { Gives result (known (located keys.now) top_keys) }
-{
-    keys.known(&["ring", "drive", "request", "fault"])
 }
 
 // Reads the setup of a ring from its table `ring` and from the `drive` tables. The error is the first refusal, or `Memory`. An MDT with

@@ -83,32 +83,19 @@ fn read_drive(keys: &Keys<'_>, before: &[DriveSetup]) -> Result<DriveSetup, BadD
     })
 }
 
-// Returns the address under `address`. The error is `Missing`, `Kind`, `Range` with the number unless it is 1 to 254, or `Twice` if a drive
-// of `before` has the address.
-#[tactic(auto, unfolding(crate::specs::Drive::new_address))]
-fn read_new_address(keys: &Keys<'_>, before: &[DriveSetup]) -> Result<u8, BadDocument>
-    ensures value { Gives result (new_address before.now (located keys.now)) }
-    ensures within { IfOk result (λ address. (1 ≤ address) × (address ≤ 254)) }
-    ensures once { IfOk result (λ address. has_address address before.now ≡ false) }
-{
-    let address = keys.number("address", 1, u32::from(MOST_ADDRESS))?;
-    let taken = has_address(address as u8, before);
-    keys.demand_once(!taken, "address")?;
-    Ok(address as u8)
-}
-
 // Reads the numbers of a drive. `before` has the drives of the tables before it, none of which may have its address. The address and the
 // times are required; a slave that is absent is the address, `busy` and `command` are 0, `cycle_min` is 125 and `cycle_max` is 64,000. The
 // address and the slave are 1 to 254, `busy` is at most 20, `command` at most 200, and `cycle_min` and `cycle_max` are at most 64,000. The
 // error is `Missing`, `Kind`, `Range` with the number, or `Twice` for the address.
-#[tactic(auto, unfolding(crate::specs::Drive::drive_numbers_of, sercos_block::specs::Rings::are_drive_numbers))]
+#[tactic(auto, unfolding(crate::specs::Drive::drive_numbers_of, crate::specs::Drive::new_address, sercos_block::specs::Rings::are_drive_numbers))]
 fn read_numbers(keys: &Keys<'_>, before: &[DriveSetup]) -> Result<DriveNumbers, BadDocument>
     ensures value { Gives result (drive_numbers_of before.now (located keys.now)) }
     ensures once { IfOk result (λ n. has_address n.address before.now ≡ false) }
     ensures valid { IfOk result (λ n.
         are_drive_numbers n.address n.slave n.busy n.command n.times n.cycle_min n.cycle_max ≡ true) }
 {
-    let address = read_new_address(keys, before)?;
+    let address = keys.number("address", 1, u32::from(MOST_ADDRESS))? as u8;
+    keys.demand_once(!has_address(address, before), "address")?;
     let slave = keys.number_or("slave", 1, u32::from(MOST_ADDRESS), u32::from(address))?;
     let busy = keys.number_or("busy", 0, u32::from(MOST_BUSY), 0)?;
     let command = keys.number_or("command", 0, u32::from(MOST_COMMAND), 0)?;
@@ -219,7 +206,7 @@ fn read_texts(
 
 // Returns the identifier number that `text` spells, the item with index `item` of the list under `key`. The error is `Range`: with the
 // text's length in bytes if it spells none, or with the raw number if no telegram of a drive with these blocks can carry it; or `Memory`.
-#[tactic(auto, unfolding(crate::specs::Drive::idn_at, sercos_document::specs::Answers::demand))]
+#[tactic(auto, unfolding(crate::specs::Drive::idn_at, crate::specs::Block::idn_in, sercos_document::specs::Answers::demand))]
 fn read_item(
     keys: &Keys<'_>,
     blocks: &[Block],
@@ -230,22 +217,12 @@ fn read_item(
     ensures value { Gives result (idn_at blocks.now keys.now.place key.now item text.now) }
     ensures valid { IfOk result (λ idn. is_cyclic blocks.now idn.raw ≡ true) }
 {
-    let idn = read_item_idn(keys, key, item, text)?;
+    let Some(idn) = idn_of(text) else {
+        return Err(keys.item_range(key, item, text.len() as i64));
+    };
     if cyclic_len(blocks, idn).is_some() {
         Ok(idn)
     } else {
         Err(keys.item_range(key, item, i64::from(idn.raw)))
-    }
-}
-
-// Returns the identifier number that `text` spells, the item with index `item` of the list under `key`. The error is `Range` with the
-// text's length in bytes if it spells none; or `Memory`.
-#[tactic(auto, unfolding(crate::specs::Block::idn_in))]
-fn read_item_idn(keys: &Keys<'_>, key: &str, item: usize, text: &str) -> Result<Idn, BadDocument>
-    ensures { Gives result (idn_in (item_path keys.now.place key.now item) text.now) }
-{
-    match idn_of(text) {
-        Some(idn) => Ok(idn),
-        None => Err(keys.item_range(key, item, text.len() as i64)),
     }
 }

@@ -1,7 +1,6 @@
 // The faults of a document. Any error may also be `Memory` instead of the refusal, as the path of a refusal takes memory.
 ghost use Rattle.std.specs.Prelude.{◌≡◌, ◌≤◌, [], length, map, IfOk};
 ghost use Rattle.sercos_config.specs.Clauses.{All, table_view, Gives, Shows, known, located, glimpse, word, fault_kind, telegram_kind, has_telegram, has_from, has_link, has_bit, has_station, fault_keys, telegram_of, drive_station, any_station, from_of, hears, station_of, link_of, damage_of, fault_of, faults_onto};
-ghost use Rattle.sercos_config.specs.Fault.{keys_if};
 
 use crate::ring::place_of;
 use crate::words::{glance, key_if};
@@ -59,18 +58,19 @@ pub(crate) fn read_faults(
 // Reads a fault from its table, for a ring of these drives. The error is the first refusal, or `Memory`. There are at most 64 drives.
 // `cycle` is 0 to 49,999, `last` from the cycle to 49,999, and `every` 1 to 50,000. A `last` that is absent is the cycle, and an absent
 // `every` is 1.
-#[tactic(auto, unfolding(crate::specs::Fault::fault_of))]
+#[tactic(auto, unfolding(crate::specs::Fault::fault_of, crate::specs::Words::glimpse, crate::specs::Words::word))]
 fn read_fault(keys: &Keys<'_>, drives: &[DriveSetup]) -> Result<Fault, BadDocument>
     requires { length drives.now ≤ 64 }
     ensures value { Gives result (fault_of drives.now (located keys.now)) }
     ensures valid { IfOk result (λ f. 1 ≤ f.every) }
 {
-    known(
-        keys,
-        glimpsed_kind(keys, "kind"),
-        glimpsed_telegram(keys, "telegram"),
-    )?;
-    let kind = read_kind(keys, "kind")?;
+    let glimpsed = glance(keys, "kind").and_then(|text| fault_kind(text));
+    let telegram = glance(keys, "telegram").and_then(|text| telegram_kind(text));
+    known(keys, glimpsed, telegram)?;
+    let word = keys.required_text("kind")?;
+    let Some(kind) = fault_kind(word) else {
+        return Err(keys.range("kind", word.len() as i64));
+    };
     let cycle = keys.number("cycle", 0, LAST_CYCLE)?;
     let last = keys.number_or("last", cycle, LAST_CYCLE, cycle)?;
     let every = keys.number_or("every", 1, MOST_CYCLES, 1)?;
@@ -87,32 +87,9 @@ fn read_fault(keys: &Keys<'_>, drives: &[DriveSetup]) -> Result<Fault, BadDocume
     })
 }
 
-// Returns the kind of fault whose word is under `key`. `None` if the key is absent, isn't a text, or has another word; nothing is refused.
-#[tactic(auto, unfolding(crate::specs::Words::glimpse))]
-fn glimpsed_kind(keys: &Keys<'_>, key: &str) -> Option<FaultKind>
-    ensures { result ≡ glimpse fault_kind (located keys.now) key.now }
-{
-    match glance(keys, key) {
-        Some(text) => fault_kind(text),
-        None => None,
-    }
-}
-
-// Returns the kind of telegram whose word is under `key`. `None` if the key is absent, isn't a text, or has another word; nothing is
-// refused.
-#[tactic(auto, unfolding(crate::specs::Words::glimpse))]
-fn glimpsed_telegram(keys: &Keys<'_>, key: &str) -> Option<Kind>
-    ensures { result ≡ glimpse telegram_kind (located keys.now) key.now }
-{
-    match glance(keys, key) {
-        Some(text) => telegram_kind(text),
-        None => None,
-    }
-}
-
 // Refuses the least key, in the order of bytes, that a fault of this kind and telegram may not have, as `Unknown`. A kind or telegram of
 // `None` is absent, or isn't one of the words.
-#[tactic(auto, unfolding(crate::specs::Fault::fault_keys))]
+#[tactic(auto, unfolding(crate::specs::Fault::fault_keys, crate::specs::Fault::keys_if))]
 fn known(
     keys: &Keys<'_>,
     kind: Option<FaultKind>,
@@ -120,39 +97,16 @@ fn known(
 ) -> Result<(), BadDocument>
     ensures { Gives result (known (located keys.now) (fault_keys kind telegram)) }
 {
-    known_if(
-        keys,
-        has_telegram(kind),
-        has_from(kind, telegram),
-        has_link(kind, telegram),
-        has_bit(kind, telegram),
-        has_station(kind, telegram),
-    )
-}
-
-// Refuses the least unknown key, in the order of bytes, as `Unknown`. Each flag is whether the key of its name is known; `kind`, `cycle`,
-// `last` and `every` always are.
-#[tactic(auto, unfolding(crate::specs::Fault::keys_if))]
-fn known_if(
-    keys: &Keys<'_>,
-    telegram: bool,
-    from: bool,
-    link: bool,
-    bit: bool,
-    station: bool,
-) -> Result<(), BadDocument>
-    ensures { Gives result (known (located keys.now) (keys_if telegram from link bit station)) }
-{
     keys.known(&[
         "kind",
         "cycle",
         "last",
         "every",
-        key_if(telegram, "telegram"),
-        key_if(from, "from"),
-        key_if(link, "link"),
-        key_if(bit, "bit"),
-        key_if(station, "station"),
+        key_if(has_telegram(kind), "telegram"),
+        key_if(has_from(kind, telegram), "from"),
+        key_if(has_link(kind, telegram), "link"),
+        key_if(has_bit(kind, telegram), "bit"),
+        key_if(has_station(kind, telegram), "station"),
     ])
 }
 
@@ -221,18 +175,13 @@ fn has_station(kind: Option<FaultKind>, telegram: Option<Kind>) -> bool
 fn fault_kind(text: &str) -> Option<FaultKind>
     ensures { result ≡ fault_kind text.now }
 {
-    if text == "lose" {
-        Some(FaultKind::Lose)
-    } else if text == "flip" {
-        Some(FaultKind::Flip)
-    } else if text == "cut" {
-        Some(FaultKind::Cut)
-    } else if text == "deaf" {
-        Some(FaultKind::Deaf)
-    } else if text == "restart" {
-        Some(FaultKind::Restart)
-    } else {
-        None
+    match text {
+        "lose" => Some(FaultKind::Lose),
+        "flip" => Some(FaultKind::Flip),
+        "cut" => Some(FaultKind::Cut),
+        "deaf" => Some(FaultKind::Deaf),
+        "restart" => Some(FaultKind::Restart),
+        _ => None,
     }
 }
 
@@ -241,53 +190,28 @@ fn fault_kind(text: &str) -> Option<FaultKind>
 fn telegram_kind(text: &str) -> Option<Kind>
     ensures { result ≡ telegram_kind text.now }
 {
-    if text == "mst" {
-        Some(Kind::Mst)
-    } else if text == "mdt" {
-        Some(Kind::Mdt)
-    } else if text == "at" {
-        Some(Kind::At)
-    } else {
-        None
-    }
-}
-
-// Returns the kind of fault whose word is under `key`. The error is `Missing`, `Kind`, or `Range` with the text's length in bytes if it is
-// another word.
-#[tactic(auto, unfolding(crate::specs::Words::word))]
-fn read_kind(keys: &Keys<'_>, key: &str) -> Result<FaultKind, BadDocument>
-    ensures { Gives result (word fault_kind (located keys.now) key.now) }
-{
-    let text = keys.required_text(key)?;
-    match fault_kind(text) {
-        Some(kind) => Ok(kind),
-        None => Err(keys.range(key, text.len() as i64)),
-    }
-}
-
-// Returns the kind of telegram whose word is under `key`. The error is `Missing`, `Kind`, or `Range` with the text's length in bytes if it
-// is another word.
-#[tactic(auto, unfolding(crate::specs::Words::word))]
-fn read_telegram_kind(keys: &Keys<'_>, key: &str) -> Result<Kind, BadDocument>
-    ensures { Gives result (word telegram_kind (located keys.now) key.now) }
-{
-    let text = keys.required_text(key)?;
-    match telegram_kind(text) {
-        Some(kind) => Ok(kind),
-        None => Err(keys.range(key, text.len() as i64)),
+    match text {
+        "mst" => Some(Kind::Mst),
+        "mdt" => Some(Kind::Mdt),
+        "at" => Some(Kind::At),
+        _ => None,
     }
 }
 
 // Returns the kind of the telegrams that a fault acts on, from `telegram`. A restart has no such key, and counts as a fault of the MST. The
 // error is `Missing`, `Kind`, or `Range` with the text's length in bytes.
-#[tactic(auto, unfolding(crate::specs::Fault::telegram_of))]
+#[tactic(auto, unfolding(crate::specs::Fault::telegram_of, crate::specs::Words::word))]
 fn read_telegram(keys: &Keys<'_>, kind: FaultKind) -> Result<Kind, BadDocument>
     ensures { Gives result (telegram_of kind (located keys.now)) }
 {
     match kind {
         FaultKind::Restart => Ok(Kind::Mst),
         FaultKind::Lose | FaultKind::Flip | FaultKind::Cut | FaultKind::Deaf => {
-            read_telegram_kind(keys, "telegram")
+            let text = keys.required_text("telegram")?;
+            match telegram_kind(text) {
+                Some(telegram) => Ok(telegram),
+                None => Err(keys.range("telegram", text.len() as i64)),
+            }
         }
     }
 }

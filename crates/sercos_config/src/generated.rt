@@ -23,21 +23,13 @@ const POSITION_FEEDBACK: Idn = Idn { raw: 51 };
 // The number of cycles that a generated ring runs beyond its start-up.
 const CYCLES_AFTER_STARTUP: u32 = 100;
 
-// Returns the attribute of a number of four bytes with sign, which the master may write in each phase.
-#[tactic(auto, using(crate::proofs::GeneratedLemmas::position_read, crate::proofs::GeneratedLemmas::position_is_four, crate::proofs::GeneratedLemmas::position_is_number))]
-fn position_attribute() -> Attribute
-    ensures value { result ≡ attribute_of 0x00220001 }
-    ensures four { number_end result.length ≡ 2 ^ 32 }
-    ensures number { is_list result.length ≡ false }
-{
-    attribute_in(0x0022_0001).unwrap()
-}
-
 // Returns the block of a position. It is `value` at first, and grows by `step` in each cycle.
+#[tactic(auto, using(crate::proofs::GeneratedLemmas::position_read, crate::proofs::GeneratedLemmas::position_is_four, crate::proofs::GeneratedLemmas::position_is_number))]
 fn position_block(idn: Idn, value: u32, step: u32) -> Block
     ensures { result ≡ position_block idn value step }
 {
-    let attribute = position_attribute();
+    // A number of four bytes with sign, which the master may write in each phase.
+    let attribute = attribute_in(0x0022_0001).unwrap();
     Block {
         idn,
         attribute,
@@ -53,17 +45,6 @@ fn position_block(idn: Idn, value: u32, step: u32) -> Block
     }
 }
 
-// Returns the blocks of each drive: the position command, and the position feedback, which begins at 64,500 and grows by 10 in each cycle.
-// The command is 0. The error is `AllocError`.
-fn position_blocks(alloc: Global) -> Result<Vec<Block>, AllocError>
-    ensures { IfOk result (λ v. v.items ≡ position_block position_command 0 0 ∷ position_block position_feedback 64500 10 ∷ []) }
-{
-    let mut blocks = Vec::with_capacity(alloc, 2)?;
-    blocks.push(position_block(POSITION_COMMAND, 0, 0))?;
-    blocks.push(position_block(POSITION_FEEDBACK, 64500, 10))?;
-    Ok(blocks)
-}
-
 // Returns a list of this one identifier number.
 fn one(idn: Idn) -> ArrayVec<Idn, 16>
     ensures { result.items ≡ idn ∷ [] }
@@ -73,34 +54,30 @@ fn one(idn: Idn) -> ArrayVec<Idn, 16>
     idns
 }
 
-// Returns the times that drive k declares, in microseconds.
-fn times_of(k: u8) -> Times
-    ensures { result ≡ generated_times k }
-{
-    Times {
-        t1min: u16::from(20 + k % 7),
-        tatmt: 6,
-        t4min: 20,
-        tatat: 5,
-        tmtsy: 10,
-        tmtsg: 20,
-    }
-}
-
 // Returns drive k, counted from 1. Its address is k, and two drives in turn share a slave. It is busy for k % 3 cycles, and its procedure
-// commands take k % 4. The error is `AllocError`.
+// commands take k % 4. Its blocks are the position command, which is 0, and the position feedback, which begins at 64,500 and grows by 10
+// in each cycle. The error is `AllocError`.
 #[tactic(auto, unfolding(crate::specs::Generated::generated_drive))]
 fn generated_drive(alloc: Global, k: u8) -> Result<DriveSetup, AllocError>
     requires { 1 ≤ k }
     ensures { IfOk result (λ d. d ≡ generated_drive k) }
 {
-    let blocks = position_blocks(alloc)?;
+    let mut blocks = Vec::with_capacity(alloc, 2)?;
+    blocks.push(position_block(POSITION_COMMAND, 0, 0))?;
+    blocks.push(position_block(POSITION_FEEDBACK, 64500, 10))?;
     Ok(DriveSetup {
         address: k,
         slave: 1 + (k - 1) / 2,
         busy: k % 3,
         command: u16::from(k % 4),
-        times: times_of(k),
+        times: Times {
+            t1min: u16::from(20 + k % 7),
+            tatmt: 6,
+            t4min: 20,
+            tatat: 5,
+            tmtsy: 10,
+            tmtsg: 20,
+        },
         cycle_min: LEAST_CYCLE,
         cycle_max: MOST_CYCLE,
         at: one(POSITION_FEEDBACK),

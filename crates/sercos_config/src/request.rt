@@ -1,7 +1,6 @@
 // The requests of a document. Any error may also be `Memory` instead of the refusal, as the path of a refusal takes memory.
 ghost use Rattle.std.specs.Prelude.{◌≡◌, true, ◌<◌, [], length, map, IfOk, IfSome};
 ghost use Rattle.sercos_config.specs.Clauses.{All, table_view, AreBytes, has_address, has_other_data, IsRequest, IsTypedRequest, AreTypedJobs, IsCommand, IsJob, Gives, Shows, known, located, address_under, glimpse, word, request_kind, has_element, has_data, request_keys, bytes_spelled, bytes_under, asked_of, request_of, requests_onto};
-ghost use Rattle.sercos_config.specs.Request.{keys_if};
 
 use crate::block::read_idn;
 use crate::data::decoded;
@@ -56,54 +55,37 @@ pub(crate) fn read_requests(
 
 // Reads a request to one of these drives from its table. The error is the first refusal, or `Memory`. The job has the properties that
 // `read_requests` lists.
-#[tactic(auto, unfolding(crate::specs::Request::request_of))]
+#[tactic(auto, unfolding(crate::specs::Request::request_of, crate::specs::Words::glimpse, crate::specs::Words::word))]
 fn read_request(keys: &Keys<'_>, drives: &[DriveSetup]) -> Result<Job, BadDocument>
     ensures value { Gives result (request_of drives.now (located keys.now)) }
     ensures valid { IfOk result
         (IsJob (λ address. has_address address drives.now) (λ address raw. has_other_data address raw drives.now)) }
     ensures typed { IfOk result (λ job. IsTypedRequest job.request) }
 {
-    known(keys, glimpsed_kind(keys, "kind"))?;
+    let glimpsed = glance(keys, "kind").and_then(|text| request_kind(text));
+    known(keys, glimpsed)?;
     let drive = read_address(keys, drives, "drive")?;
-    let kind = read_kind(keys, "kind")?;
+    let text = keys.required_text("kind")?;
+    let Some(kind) = request_kind(text) else {
+        return Err(keys.range("kind", text.len() as i64));
+    };
     let idn = read_idn(keys, "idn")?;
     let request = read_asked(keys, drives, drive, kind, idn)?;
     Ok(Job { drive, request })
 }
 
-// Returns the kind of request whose word is under `key`. `None` if the key is absent, isn't a text, or has another word; nothing is
-// refused.
-#[tactic(auto, unfolding(crate::specs::Words::glimpse))]
-fn glimpsed_kind(keys: &Keys<'_>, key: &str) -> Option<RequestKind>
-    ensures { result ≡ glimpse request_kind (located keys.now) key.now }
-{
-    match glance(keys, key) {
-        Some(text) => request_kind(text),
-        None => None,
-    }
-}
-
 // Refuses the least key, in the order of bytes, that a request of this kind may not have, as `Unknown`. A kind of `None` is absent, or
 // isn't one of the words.
-#[tactic(auto, unfolding(crate::specs::Request::request_keys))]
+#[tactic(auto, unfolding(crate::specs::Request::request_keys, crate::specs::Request::keys_if))]
 fn known(keys: &Keys<'_>, kind: Option<RequestKind>) -> Result<(), BadDocument>
     ensures { Gives result (known (located keys.now) (request_keys kind)) }
-{
-    known_if(keys, has_element(kind), has_data(kind))
-}
-
-// Refuses the least unknown key, in the order of bytes, as `Unknown`. `element` is whether that key is known, and `bytes` whether `data`
-// is; `drive`, `kind` and `idn` always are.
-#[tactic(auto, unfolding(crate::specs::Request::keys_if))]
-fn known_if(keys: &Keys<'_>, element: bool, bytes: bool) -> Result<(), BadDocument>
-    ensures { Gives result (known (located keys.now) (keys_if element bytes)) }
 {
     keys.known(&[
         "drive",
         "kind",
         "idn",
-        key_if(element, "element"),
-        key_if(bytes, "data"),
+        key_if(has_element(kind), "element"),
+        key_if(has_data(kind), "data"),
     ])
 }
 
@@ -135,27 +117,11 @@ fn has_data(kind: Option<RequestKind>) -> bool
 fn request_kind(text: &str) -> Option<RequestKind>
     ensures { result ≡ request_kind text.now }
 {
-    if text == "read" {
-        Some(RequestKind::Read)
-    } else if text == "write" {
-        Some(RequestKind::Write)
-    } else if text == "command" {
-        Some(RequestKind::Command)
-    } else {
-        None
-    }
-}
-
-// Returns the kind of request whose word is under `key`. The error is `Missing`, `Kind`, or `Range` with the text's length in bytes if it
-// is another word.
-#[tactic(auto, unfolding(crate::specs::Words::word))]
-fn read_kind(keys: &Keys<'_>, key: &str) -> Result<RequestKind, BadDocument>
-    ensures { Gives result (word request_kind (located keys.now) key.now) }
-{
-    let text = keys.required_text(key)?;
-    match request_kind(text) {
-        Some(kind) => Ok(kind),
-        None => Err(keys.range(key, text.len() as i64)),
+    match text {
+        "read" => Some(RequestKind::Read),
+        "write" => Some(RequestKind::Write),
+        "command" => Some(RequestKind::Command),
+        _ => None,
     }
 }
 
@@ -215,28 +181,16 @@ fn read_asked(
 
 // Returns the bytes that the hexadecimal digits under `key` spell, two digits for each byte. The error is `Missing`, `Kind`, or `Range`
 // with the text's length in bytes if it isn't such pairs of digits, or spells more than 1,024 bytes.
-#[tactic(auto, unfolding(crate::specs::Request::bytes_under))]
+#[tactic(auto, unfolding(crate::specs::Request::bytes_under, crate::specs::Request::bytes_spelled))]
 fn read_bytes(keys: &Keys<'_>, key: &str) -> Result<Bytes, BadDocument>
     ensures value { Gives result (bytes_under (located keys.now) key.now) }
     ensures typed { IfOk result (λ bytes. AreBytes bytes × (length bytes < 65536)) }
 {
     let text = keys.required_text(key)?;
-    match bytes_spelled(text.as_bytes()) {
-        Some(bytes) => Ok(bytes),
-        None => Err(keys.range(key, text.len() as i64)),
+    if text.len() <= 2 * usize::from(MOST_DATA) {
+        if let Some(bytes) = decoded(text.as_bytes()) {
+            return Ok(bytes);
+        }
     }
-}
-
-// Returns the bytes that hexadecimal digits of either case spell, two digits for each byte. `None` if `digits` aren't such pairs, or spell
-// more than 1,024 bytes.
-#[tactic(auto, unfolding(crate::specs::Request::bytes_spelled))]
-fn bytes_spelled(digits: &[u8]) -> Option<Bytes>
-    ensures value { result ≡ bytes_spelled digits.now }
-    ensures typed { IfSome result (λ bytes. AreBytes bytes × (length bytes < 65536)) }
-{
-    if digits.len() <= 2 * usize::from(MOST_DATA) {
-        decoded(digits)
-    } else {
-        None
-    }
+    Err(keys.range(key, text.len() as i64))
 }

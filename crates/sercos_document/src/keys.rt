@@ -26,20 +26,14 @@ impl<'a> Keys<'a> {
     pub(crate) fn missing(&self, key: &str) -> BadDocument
         ensures { Refuses result (BadDocument.Missing (path self.now.place key.now)) }
     {
-        match Path::to_key(self.alloc, self.place, key) {
-            Ok(path) => BadDocument::Missing(path),
-            Err(_) => BadDocument::Memory,
-        }
+        Path::to_key(self.alloc, self.place, key).map_or(BadDocument::Memory, BadDocument::Missing)
     }
 
     // Returns the refusal `Kind` of a value of another type; `Memory` if there is no room for the path.
     pub(crate) fn kind(&self, key: &str) -> BadDocument
         ensures { Refuses result (BadDocument.Kind (path self.now.place key.now)) }
     {
-        match Path::to_key(self.alloc, self.place, key) {
-            Ok(path) => BadDocument::Kind(path),
-            Err(_) => BadDocument::Memory,
-        }
+        Path::to_key(self.alloc, self.place, key).map_or(BadDocument::Memory, BadDocument::Kind)
     }
 
     // Returns the refusal `Kind` of a list's item of another type; `Memory` if there is no room for the path. `item` is the item's index,
@@ -47,10 +41,10 @@ impl<'a> Keys<'a> {
     pub(crate) fn item_kind(&self, key: &str, item: usize) -> BadDocument
         ensures { Refuses result (BadDocument.Kind (item_path self.now.place key.now item)) }
     {
-        match Path::to_item(self.alloc, self.place, key, item) {
-            Ok(path) => BadDocument::Kind(path),
-            Err(_) => BadDocument::Memory,
-        }
+        Path::to_item(self.alloc, self.place, key, item).map_or(
+            BadDocument::Memory,
+            BadDocument::Kind,
+        )
     }
 
     /// Returns the refusal `Range` of a value that isn't allowed; `Memory` if there is no room for the path.
@@ -74,35 +68,15 @@ impl<'a> Keys<'a> {
         }
     }
 
-    // Returns the refusal `Twice` of a value that occurs twice; `Memory` if there is no room for the path.
-    fn twice(&self, key: &str) -> BadDocument
-        ensures { Refuses result (BadDocument.Twice (path self.now.place key.now)) }
-    {
-        match Path::to_key(self.alloc, self.place, key) {
-            Ok(path) => BadDocument::Twice(path),
-            Err(_) => BadDocument::Memory,
-        }
-    }
-
     /// Returns the refusal `Twice` of a list's item that occurs twice; `Memory` if there is no room for the path. `item` is the item's
     /// index, counted from 0.
     pub fn item_twice(&self, key: &str, item: usize) -> BadDocument
         ensures { Refuses result (BadDocument.Twice (item_path self.now.place key.now item)) }
     {
-        match Path::to_item(self.alloc, self.place, key, item) {
-            Ok(path) => BadDocument::Twice(path),
-            Err(_) => BadDocument::Memory,
-        }
-    }
-
-    // Returns the refusal `Unknown` of a key that has no meaning; `Memory` if there is no room for the path.
-    fn unknown(&self, key: &str) -> BadDocument
-        ensures { Refuses result (BadDocument.Unknown (path self.now.place key.now)) }
-    {
-        match Path::to_key(self.alloc, self.place, key) {
-            Ok(path) => BadDocument::Unknown(path),
-            Err(_) => BadDocument::Memory,
-        }
+        Path::to_item(self.alloc, self.place, key, item).map_or(
+            BadDocument::Memory,
+            BadDocument::Twice,
+        )
     }
 
     /// Returns `Ok` if the value under a key is allowed. Otherwise the error is `Range` with `value`, or `Memory` if there is no room for
@@ -125,7 +99,13 @@ impl<'a> Keys<'a> {
         ensures value { Gives result (demand once (BadDocument.Twice (path self.now.place key.now))) }
         ensures once { OnOk result (once ≡ true) }
     {
-        if once { Ok(()) } else { Err(self.twice(key)) }
+        if once {
+            return Ok(());
+        }
+        Err(Path::to_key(self.alloc, self.place, key).map_or(
+            BadDocument::Memory,
+            BadDocument::Twice,
+        ))
     }
 
     /// Returns the value under a key; `None` if the key is absent.
@@ -265,7 +245,10 @@ impl<'a> Keys<'a> {
         ensures { Gives result (known (located self.now) (map (λ k. k.now) keys.now)) }
     {
         match least_unknown(keys, self.table) {
-            Some(key) => Err(self.unknown(key.as_str())),
+            Some(key) => {
+                let path = Path::to_key(self.alloc, self.place, key.as_str());
+                Err(path.map_or(BadDocument::Memory, BadDocument::Unknown))
+            }
             None => Ok(()),
         }
     }

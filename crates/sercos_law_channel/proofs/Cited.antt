@@ -1,37 +1,15 @@
 -- The theorems on one channel whose proofs cite those of the crates below, as the laws state them.
 use Rattle.sercos_law_channel.proofs.Words.{◌≡◌, ℕ, ◌+◌, ◌*◌, ◌^◌, ◌<◌, attribute_word-below, attribute_fault-attribute_word, attribute_of-attribute_word, Block, types, shape_by, shape_of, RunsAreExact, BeginsEmpty, MakeTransfers, ReadsOnce, WritesOnce, StaysWritten, OpensAlways, StaysInCost, RecoversInCost, RecoversSince, StartsInCost}
-use Rattle.sercos_law_channel.proofs.Handshake.AttributeReplies.{shape-attribute}
-use Rattle.sercos_law_channel.proofs.Handshake.ElementReads.{reads_once_by}
 use Rattle.sercos_law_channel.proofs.Handshake.EpochRuns.{quiet}
 use Rattle.sercos_law_channel.proofs.Handshake.ExactRuns.{runs_are_exact}
-use Rattle.sercos_law_channel.proofs.Handshake.ExactTransfers.{Laws}
+use Rattle.sercos_law_channel.proofs.Handshake.Once.{says_shape}
 use Rattle.sercos_law_channel.proofs.Handshake.StoredValues.{stays_written}
-use Rattle.sercos_law_channel.proofs.Handshake.ReadStages.{high_of, low_of}
-use Rattle.sercos_law_channel.proofs.Handshake.WriteStages.{writes_once_by}
 use Rattle.sercos_law_channel.proofs.Pace.AgeRuns.{opens_always}
 use Rattle.sercos_law_channel.proofs.Pace.CostRuns.{stays_in_cost}
 use Rattle.sercos_law_channel.proofs.Pace.StartCosts.{recovers_in_cost, recovers_since, starts_in_cost}
 
--- the words of an attribute say how the operation data of its block is read
-pub says_shape : (b : Block) → b.attribute.factor < 2 ^ 16 → shape_of 7 (low_of b + 65536 * high_of b) ≡ shape_by b.attribute.length
-says_shape b fits =
-    shape-attribute b.attribute (attribute_word-below b.attribute fits) (attribute_fault-attribute_word b.attribute fits)
-    (attribute_of-attribute_word b.attribute fits)
-
-pub writes_once : WritesOnce
-writes_once idn bytes blocks b e entries log are found fits is =
-    writes_once_by idn bytes b (says_shape b fits) blocks found e entries log are is
-
-pub reads_once : ReadsOnce
-reads_once idn e bytes blocks b s entries log low high found fits is complete =
-    reads_once_by (λ others raw d store there. (types others raw d store there).1) idn e bytes blocks b s entries log (says_shape b fits) low
-    high found is complete
-
-pub transfers : Laws
-transfers = record { once = writes_once; reads = reads_once }
-
 pub runs_exact : (busy : ℕ) → RunsAreExact busy
-runs_exact = runs_are_exact transfers
+runs_exact = runs_are_exact
 
 pub written_stays : (busy : ℕ) → StaysWritten busy
 written_stays busy = stays_written busy (runs_exact busy)

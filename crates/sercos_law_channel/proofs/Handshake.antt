@@ -22,6 +22,7 @@ pub mod RunFacts
 pub mod RunsMade
 pub mod WholeRuns
 pub mod OnePhase
+pub mod Once
 pub mod ExactTransfers
 pub mod ExactRuns
 pub mod ProtectedWrites

@@ -3,13 +3,13 @@ pub use Rattle.sercos_law_channel.proofs.Handshake.AttributeReplies.{IsRead-alik
 pub use Rattle.sercos_law_channel.proofs.Handshake.CommandStages.{Cancels, Poll, Reads, next_poll, next_setting}
 pub use Rattle.sercos_law_channel.proofs.Handshake.EpochRuns.{commanded, heard_none, in_step, said_of, same_log}
 pub use Rattle.sercos_law_channel.proofs.Handshake.ExactRuns.{IsEpoch, cycle_exact, epoch, split_blocks, split_replies}
-pub use Rattle.sercos_law_channel.proofs.Handshake.ExactTransfers.{Ends, GoesOn, IsRefused, IsWhole, Laws, ends_so}
+pub use Rattle.sercos_law_channel.proofs.Handshake.ExactTransfers.{Ends, GoesOn, IsRefused, IsWhole, ends_so}
 pub use Rattle.sercos_law_channel.proofs.Handshake.LogParts.{fall_into_parts, few_steps, goes_on_at}
 pub use Rattle.sercos_law_channel.proofs.Handshake.PhaseMoves.{Down, Moves, Nothing, Processes, Record, Stands, Stays, ends, processed_phase, processes, stands}
-pub use Rattle.sercos_law_channel.proofs.Handshake.ProtectedWrites.{AreAllowed, added_bare, those_kept, those_since}
+pub use Rattle.sercos_law_channel.proofs.Handshake.ProtectedWrites.{added_bare, stays_fixed, those_kept, those_since}
 pub use Rattle.sercos_law_channel.proofs.Handshake.RunFacts.{accepts_in_order, comes_to, stands_as_commanded}
 pub use Rattle.sercos_law_channel.proofs.Handshake.SettingReplies.{Allows, cancels_well}
-pub use Rattle.sercos_law_channel.proofs.Handshake.StoredValues.{flipped, newest_of}
+pub use Rattle.sercos_law_channel.proofs.Handshake.StoredValues.{flipped, holds_newest, newest_of}
 pub use Rattle.sercos_law_channel.proofs.Handshake.TransferSteps.{complete-outcome_of, goes_on-outcome_of, length-replies_of, length-steps_begun, length-steps_of, newest_step, without_newest}
 pub use Rattle.sercos_law_channel.proofs.Handshake.UnknownBlocks.{only_opening, refused_opening}
 pub use Rattle.sercos_law_channel.proofs.Handshake.WholeRuns.{HasReplies, answered_replies, entries_ago, entries_in_epochs, kept_same, written}

@@ -1,9 +1,12 @@
 -- The words that the proofs speak in, of std, of the crates below and of this crate's specs, each under one name.
-pub use Rattle.std.proofs.Common.{Bool, List, [], ap, append_assoc, ap₂, arith, cond, drop, false, if◌then◌else◌, inl, inr, length, length-append, map, not, refl, replicate, subst, suc, sym, take, take-append-drop, true, zero, ℕ, ⊎_elim, ◌%◌, ◌&&◌, ◌*◌, ◌++◌, ◌+◌, ◌-◌, ◌/◌, ◌<◌, ◌^◌, ◌||◌, ◌∙◌, ◌∷◌, ◌≡◌, ◌≤◌, ◌⊎◌}
+pub use Rattle.sercos_law_channel.proofs.Options.{cases_Option}
+pub use Rattle.std.proofs.Common.{Bool, List, [], ap, append_assoc, ap₂, arith, cond, drop, false, if◌then◌else◌, inl, inr, length, length-append, map, not, refl, replicate, subst, suc, sym, take, take-append-drop, true, zero, ℕ, ⊎_elim, ◌%◌, ◌&&◌, ◌*◌, ◌++◌, ◌+◌, ◌-◌, ◌/◌, ◌<◌, ◌^◌, ◌||◌, ◌∙◌, ◌∷◌, ◌≡◌, ◌≤◌, ◌⊎◌, append-nil}
 pub use Rattle.std.proofs.lemmas.Bool.{and_from, and_parts, and_right, both_ways, cases_Bool, cases_eq, cond-false, cond-true, cond_both, eq-eqb, eqb-true, le-leb, leb-true, ltb-true, ne_eqb, not-true, not_from_true}
 pub use Rattle.std.proofs.lemmas.Bool.Decides.{nat_tests}
+pub use Rattle.std.proofs.lemmas.List.{length-replicate}
 pub use Rattle.std.proofs.lemmas.List.Sums.{sum_by-append, sum_by-cons}
 pub use Rattle.std.proofs.Math.Bool.{and-false}
+pub use Rattle.std.proofs.Math.Seq.{drop-length}
 pub use Rattle.std.proofs.lemmas.Option.{slice_get_within}
 pub use Rattle.std.specs.Bool.{then_some}
 pub use Rattle.std.specs.Int.{to_le_bytes, w16, w32}
@@ -25,7 +28,7 @@ pub use Rattle.sercos_idn.specs.declared.code.Code.{Code}
 pub use Rattle.sercos_idn.specs.declared.idn.Idn.{Idn}
 pub use Rattle.sercos_idn.specs.declared.kinds.Length.{Length}
 pub use Rattle.sercos_idn.specs.declared.kinds.Length.TheVariants.{Four, Two}
-pub use Rattle.sercos_block.proofs.SoundLemmas.{found_sound}
+pub use Rattle.sercos_block.proofs.SoundLemmas.{found_sound, SoundParts, SoundParts-is_sound, limit_of_number}
 pub use Rattle.sercos_block.proofs.TypeLemmas.{types}
 pub use Rattle.sercos_block.specs.Blocks.{bits_in, bytes_for, is_fixed, is_number, is_protected, meant, number_end, width_of}
 unfoldable pub use Rattle.sercos_block.specs.Blocks.{element_of}
@@ -52,7 +55,7 @@ pub use Rattle.sercos_command.specs.Checks.{list_bytes, unfit_for_phase_3, unfit
 pub use Rattle.sercos_command.specs.Kept.{find_set, first_passed_in, from_cancel, from_setting, set_in, with_set, without}
 pub use Rattle.sercos_command.specs.Settings.{ends_well, has_ended, is_command, status_by}
 pub use Rattle.sercos_command.specs.declared.commands.SetCommand.{SetCommand}
-pub use Rattle.sercos_service_drive.proofs.AllowedWrites.{allowed, no_cause, those_moved}
+pub use Rattle.sercos_service_drive.proofs.AllowedWrites.{allowed, no_cause, those_moved, grows}
 pub use Rattle.sercos_service_drive.proofs.WordLemmas.{length-drop_two}
 pub use Rattle.sercos_service_drive.proofs.WriteAnswers.{length-in_order}
 pub use Rattle.sercos_service_drive.specs.Log.{Entry, Processed, accepted, ahs, in_order, open_idn, opens, run_before, selection}

@@ -1,5 +1,5 @@
 -- The theorems on the master alone and on frames whose proofs cite others, as the laws state them.
-use Rattle.sercos_law_run.proofs.Words.{◌≡◌, ℕ, ◌<◌, ◌≤◌, Bool, List, length, None, refl, sym, drop, plain, reason_of, IsFrame-framed, reason_of-IsFrame, AreBytes, IsFrame, has_next, Job, alike, those_at, HandedThose, Known, tasks_for, still_left, Call, past, ReadsWell, TellsInOrder, TellsOnce, TellsRight, Check127HasCause, Check128HasCause, NoFitHasCause, RefusedHasCause, BeginsNoneEarly, BeginsTasks, EndsTasks, WorkInTurn, WorksInFour, WorksInThree, WorksInTwo, ConfiguresAtRise, ConfiguresFromCheck, frame_of}
+use Rattle.sercos_law_run.proofs.Words.{◌≡◌, ℕ, ◌<◌, ◌≤◌, Bool, List, length, None, refl, sym, drop, plain, reason_of, IsFrame-framed, reason_of-IsFrame, AreBytes, IsFrame, Job, alike, those_at, HandedThose, Known, tasks_for, still_left, Call, past, ReadsWell, TellsInOrder, TellsOnce, TellsRight, Check127HasCause, Check128HasCause, NoFitHasCause, RefusedHasCause, BeginsNoneEarly, BeginsTasks, EndsTasks, WorkInTurn, WorksInFour, WorksInThree, WorksInTwo, ConfiguresAtRise, ConfiguresFromCheck, frame_of}
 use Rattle.sercos_hdlc.specs.Reason.{content_of}
 use Rattle.sercos_law_run.proofs.Agenda.AtWork.{works_in_four, works_in_three, works_in_two}
 use Rattle.sercos_law_run.proofs.Agenda.OneTurn.{all_in_turn, none_early}
@@ -12,56 +12,56 @@ use Rattle.sercos_law_run.proofs.Agenda.ToldOnce.{tells_once}
 use Rattle.sercos_law_run.proofs.Agenda.WritesDone.{configures_at_rise, configures_from_check}
 
 pub begins_tasks : BeginsTasks
-begins_tasks s requests h k there = begun_tasks s k has_next there requests h
+begins_tasks s requests h k there = begun_tasks s k there requests h
 
 pub tasks_end : EndsTasks
-tasks_end = ends_tasks has_next
+tasks_end = ends_tasks
 
 pub begins_none : BeginsNoneEarly
-begins_none s requests h k wait there low = none_early s has_next requests wait h k there low
+begins_none s requests h k wait there low = none_early s requests wait h k there low
 
 pub work_in_turn : WorkInTurn
-work_in_turn s requests h k wait there = all_in_turn s has_next requests wait h k there
+work_in_turn s requests h k wait there = all_in_turn s requests wait h k there
 
 pub work_in_two : WorksInTwo
-work_in_two s requests h wait lists two free planned fails = works_in_two has_next s requests h wait lists two free planned fails
+work_in_two s requests h wait lists two free planned fails = works_in_two s requests h wait lists two free planned fails
 
 pub work_in_three : WorksInThree
 work_in_three s requests h k wait lists there three free planned fails =
-    works_in_three has_next s requests h wait lists k there three free planned fails
+    works_in_three s requests h wait lists k there three free planned fails
 
 pub work_in_four : WorksInFour
-work_in_four s requests h k wait have there four free planned idle = works_in_four has_next s requests h wait have k there four free planned idle
+work_in_four s requests h k wait have there four free planned idle = works_in_four s requests h wait have k there four free planned idle
 
 pub reads_well : ReadsWell
-reads_well s requests h = are_read_well s has_next requests h
+reads_well s requests h = are_read_well s requests h
 
 pub configures_check : ConfiguresFromCheck
-configures_check = configures_from_check has_next
+configures_check = configures_from_check
 
 pub configures_rise : ConfiguresAtRise
-configures_rise = configures_at_rise has_next
+configures_rise = configures_at_rise
 
 pub told_in_order : TellsInOrder
-told_in_order = tells_in_order has_next
+told_in_order = tells_in_order
 
 pub told_once : TellsOnce
-told_once = tells_once has_next
+told_once = tells_once
 
 pub told_right : TellsRight
 told_right s requests h k r there = reports_right s k there requests h r
 
 pub no_fit_has_cause : NoFitHasCause
-no_fit_has_cause s requests h chain = no_fit_cause has_next s requests h chain
+no_fit_has_cause s requests h chain = no_fit_cause s requests h chain
 
 pub refused_has_cause : RefusedHasCause
-refused_has_cause s requests h address i code = refused_cause has_next s requests h address i code
+refused_has_cause s requests h address i code = refused_cause s requests h address i code
 
 pub check127_has_cause : Check127HasCause
-check127_has_cause s requests h address list have = check127_cause has_next s requests h have address list
+check127_has_cause s requests h address list have = check127_cause s requests h have address list
 
 pub check128_has_cause : Check128HasCause
-check128_has_cause s requests h address list have = check128_cause has_next s requests h have address list
+check128_has_cause s requests h address list have = check128_cause s requests h have address list
 
 pub left_of : (s : Known) (jobs : List Job) (h : List Call) (k : ℕ) → (n : ℕ) × ((past s (tasks_for s jobs) h).waiting k ≡ drop n (tasks_for s jobs k))
 left_of s jobs h k = still_left s (tasks_for s jobs) h k

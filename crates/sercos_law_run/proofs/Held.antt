@@ -1,3 +1,4 @@
+pub mod EntriesAre
 pub mod PlanStays
 pub mod HoldsRuns
 pub mod AnsweredRuns

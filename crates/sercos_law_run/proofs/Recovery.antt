@@ -18,6 +18,7 @@ pub mod NoFallLater
 pub mod FallsSoon
 pub mod ComesBack
 pub mod EarlyStops
+pub mod StopCauses
 pub mod EarlyPhases
 pub mod SpareStops
 pub mod Predicts

@@ -2,6 +2,7 @@ pub mod Histories
 pub mod WellRuns
 pub mod SetRuns
 pub mod SetKept
+pub mod EpochRecords
 pub mod SetInEpoch
 pub mod SetAtPoll
 pub mod CheckGives3

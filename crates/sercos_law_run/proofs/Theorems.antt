@@ -34,5 +34,7 @@ pub use Rattle.sercos_law_run.proofs.Totals.CountLemmas.{fell_once, few_more, no
 pub use Rattle.sercos_law_run.proofs.Totals.TotalsLemmas.{totals_more}
 pub use Rattle.sercos_law_run.proofs.Recovery.Stretches.{rest_clear, rest_runs}
 pub use Rattle.sercos_law_run.proofs.Start.RingSlotLemmas.{rate_is}
-pub use Rattle.sercos_law_run.proofs.Agenda.Requests.{numbered_drop}
+pub use Rattle.sercos_law_run.proofs.Agenda.Requests.{are_requests, numbered_drop}
 pub use Rattle.sercos_law_run.proofs.Headline.WellRuns.{or_none}
+pub use Rattle.sercos_law_run.proofs.Agenda.CallMoves.{calls_are_moves}
+pub use Rattle.sercos_law_run.proofs.Agenda.WritesDone.{writes_data}

@@ -22,6 +22,7 @@ pub mod InARow
 pub mod Reported
 pub mod DownSparse
 pub mod BearsSparse
+pub mod Calm
 pub mod Tolerates
 pub mod Returns
 pub mod Worked

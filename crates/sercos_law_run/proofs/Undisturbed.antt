@@ -15,16 +15,15 @@ pub mod Sections
 pub mod JobPlaces
 pub mod JobsCost
 pub mod PlanMade
-pub mod BehindRests
 pub mod JobsBegun
 pub mod PhaseTwo
+pub mod BehindRests
 pub mod PhaseThree
 pub mod InTime
 pub mod CycleHeld
 pub mod InOrder
 pub mod Reached
 pub mod Cited
-pub mod StartUpEnds
 pub mod GoingCycles
 pub mod EpochCycles
 pub mod OneRequest

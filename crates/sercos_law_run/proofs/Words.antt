@@ -1,4 +1,5 @@
 -- The words that the proofs speak in, of std, of the crates below and of this crate's specs, each under one name.
+pub use Rattle.sercos_law_channel.proofs.Options.{cases_Option}
 pub use Rattle.std.proofs.Common.{Bool, Err, List, None, Ok, Option, Result, Some, [], ap, append-nil, append_assoc, ap₂, arith, cond, drop, false, get_or, if◌then◌else◌, inl, inr, length, length-append, map, max, not, refl, replicate, subst, suc, sym, take, true, zero, ℕ, ◌%◌, ◌&&◌, ◌*◌, ◌++◌, ◌+◌, ◌-◌, ◌/◌, ◌<◌, ◌^◌, ◌||◌, ◌↔◌, ◌∙◌, ◌∷◌, ◌≡◌, ◌≢◌, ◌≤◌, ◌⊎◌}
 pub use Rattle.std.proofs.Math.Nat.{le_of_mul-le-mul_left, mul-le-mul_left}
 pub use Rattle.std.proofs.Math.Seq.{drop-append-add, drop-append_seam, take-append_seam}
@@ -181,7 +182,8 @@ pub use Rattle.sercos_script.specs.declared.fault.Damage.{Damage}
 pub use Rattle.sercos_script.specs.declared.fault.Damage.TheVariants.{Cut, Deaf, Flip, Lose}
 pub use Rattle.sercos_script.specs.declared.fault.Fault.{Fault}
 pub use Rattle.sercos_script.specs.declared.link.Passage.{Passage}
-pub use Rattle.sercos_law_channel.proofs.Cited.{always_opens, begins_empty, in_cost, make_transfers, reads_once, rest_in_cost, rest_since, runs_exact, says_shape, start_in_cost, transfers, written_stays}
+pub use Rattle.sercos_law_channel.proofs.Cited.{always_opens, begins_empty, in_cost, make_transfers, rest_in_cost, rest_since, runs_exact, start_in_cost, written_stays}
+pub use Rattle.sercos_law_channel.proofs.Handshake.Once.{reads_once, says_shape}
 pub use Rattle.sercos_law_channel.proofs.Handshake.CommandEnds.{ends_with_status}
 pub use Rattle.sercos_law_channel.proofs.Handshake.CommandStages.{sets_and_cancels}
 pub use Rattle.sercos_law_channel.proofs.Handshake.EpochRuns.{begun_of, heard_of, in_step_in, joined, restarted, shown_of, start, start_begun, whole_row-le}
@@ -201,7 +203,7 @@ pub use Rattle.sercos_law_channel.proofs.Pace.LateRuns.{head_before, taken_befor
 pub use Rattle.sercos_law_channel.proofs.Pace.OnTime.{joins}
 pub use Rattle.sercos_law_channel.proofs.Pace.TimedCommands.{comes_timed}
 pub use Rattle.sercos_law_channel.proofs.Pace.WholeCycles.{got_some, hears_throughout, is_clean_or_down, moved_next, recovers_in_time, stands_throughout, stays_clean, stays_dead}
-pub use Rattle.sercos_law_channel.proofs.Theorems.{Allows, AreAllowed, Cancels, Down, HasReplies, IsEpoch, IsRead-alike, IsRefused, Laws, Nothing, Poll, Processes, Reads, Record, Stands, accepts_in_order, answered_replies, cancels_well, comes_to, commanded, cycle_exact, ends, ends_so, entries_ago, entries_in_epochs, epoch, fall_into_parts, few_steps, find-alike, four_bytes, goes_on-outcome_of, heard_none, high_of, in_step, is_nil, kept_same, length-replies_of, length-steps_begun, length-steps_of, list_shape, long_words, low_of, newest_step, next_poll, next_setting, nothing_old, only_opening, open_late, passes_by_setting, passes_last, printable_bytes, processed_phase, processed_some, processes, reply-read, reply_high, reply_low, said_of, same_log, split_blocks, split_replies, stands, stays_passed, stays_passed_last, those_kept, those_since, times_suc, two_bytes, up_by, without_newest, written}
+pub use Rattle.sercos_law_channel.proofs.Theorems.{Allows, Cancels, Down, HasReplies, IsEpoch, IsRead-alike, IsRefused, Nothing, Poll, Processes, Reads, Record, Stands, accepts_in_order, answered_replies, cancels_well, comes_to, commanded, cycle_exact, ends, ends_so, entries_ago, entries_in_epochs, epoch, fall_into_parts, few_steps, find-alike, four_bytes, goes_on-outcome_of, heard_none, high_of, in_step, is_nil, kept_same, length-replies_of, length-steps_begun, length-steps_of, list_shape, long_words, low_of, newest_step, next_poll, next_setting, nothing_old, only_opening, open_late, passes_by_setting, passes_last, printable_bytes, processed_phase, processed_some, processes, reply-read, reply_high, reply_low, said_of, same_log, split_blocks, split_replies, stands, stays_passed, stays_passed_last, those_kept, those_since, times_suc, two_bytes, up_by, without_newest, written}
 pub use Rattle.sercos_law_channel.specs.Handshake.CommandTransfers.{GivesStatus, added_by_setting, cancelled_by, second_of, setting}
 pub use Rattle.sercos_law_channel.specs.Handshake.Epochs.{begun_in, command, command_in, epoch_begun, epoch_log, epoch_records, log_in, records_in_views, unless_restart, with_begun, with_heard}
 pub use Rattle.sercos_law_channel.specs.Handshake.Exact.{AreExact, AreWrites, Broken, Complete, Given, Refused, given_by, given_of, gives, written_to}
@@ -295,11 +297,11 @@ pub use Rattle.sercos_law_run.specs.Undisturbed.Fit.{FitsInThree, IsFit, OwnFits
 pub use Rattle.sercos_law_run.specs.Undisturbed.Jobs.{AreAt, jobs_of}
 pub use Rattle.sercos_law_run.specs.Undisturbed.Reports.{HaveTold, ReportsInTime, left_after, request_cycles, waiting_after}
 pub use Rattle.sercos_law_run.specs.Undisturbed.Sections.{AreInThree, AreInTwo, GoesOnInThree, GoesOnInTwo}
-pub use Rattle.sercos_law_run.specs.Undisturbed.StartUps.{AgesUndisturbed, AnswersUndisturbed, NoneFalls, StaysUp, StaysUpUndisturbed, TellsNoFall, TellsNoFallUndisturbed}
+pub use Rattle.sercos_law_run.specs.Undisturbed.StartUps.{AgesUndisturbed, AnswersUndisturbed, CostsUndisturbed, NoneFalls, StaysUp, StaysUpUndisturbed, TellsNoFall, TellsNoFallUndisturbed}
 pub use Rattle.sercos_law_run.specs.Undisturbed.StopsInTwo.{IsWithin, RefusesCycleTime, StopsForTheCycleTime, StopsForThePlan, StopsInTwo}
 pub use Rattle.sercos_law_run.specs.Undisturbed.StopsLater.{EndsStartUp, IsRight, NoStopInFour, RisesIfRight, StopsForTheCheck, StopsInThree}
 pub use Rattle.sercos_law_run.specs.Undisturbed.Undisturbed.{AreUndisturbed, IsUndisturbed, StaysClear}
 pub use Rattle.sercos_law_run.specs.Undisturbed.ViewsSince.{views_since}
-pub use Rattle.sercos_law_run.specs.Undisturbed.WholeRuns.{HasTold, NeverDisturbed, StartsUp, StopsForCause}
+pub use Rattle.sercos_law_run.specs.Undisturbed.WholeRuns.{HasTold, NeverDisturbed, StartsUndisturbed, StartsUp, StopsForCause}
 pub use Rattle.sercos_law_run.specs.Views.RingViews.{after_mst, at_start, behind_ats, behind_mdt, behind_mst, gets_record, heard_last, is_told, phase_got, request_of, told_to, view_of, views_of}
 pub use Rattle.sercos_law_run.specs.Views.Spelled.{IsSaid, IsSayable, IsSpelled}

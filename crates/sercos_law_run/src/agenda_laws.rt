@@ -1,8 +1,6 @@
 // Laws on what the master does on the channel of one drive, after any calls.
 ghost use Rattle.sercos_law_run.specs.Clauses.{CallsAreMoves, BeginsTasks, EndsTasks, BeginsNoneEarly, WorkInTurn, WorksInFour, WorksInThree, WorksInTwo, ReadsWell, WritesData, ConfiguresFromCheck, ConfiguresAtRise, NoFitHasCause, RefusedHasCause, BadConfigHasCause, Check127HasCause, Check128HasCause, AreRequests, TellsInOrder, TellsOnce, TellsRight, AreTold, AreToldAtRestart};
 
-use sercos_step::steps_law;
-
 /// A law: at each call of the master, regardless of those before, the channel of each drive goes through moves. A move within a cycle
 /// changes nothing, or the drive is identified, its first status of the cycle is received, the plan is made, or the next task begins. The
 /// other moves end the cycle, after which the phase is the same or the next one, or end the epoch, after which only the requests that
@@ -41,9 +39,7 @@ pub fn agenda_law()
     ensures data { WritesData }
     ensures check { ConfiguresFromCheck }
     ensures rise { ConfiguresAtRise }
-{
-    steps_law();
-}
+{}
 
 /// A law: each stop has its cause.
 /// - With `NoFit` all reads have ended, and no plan fits what they gave.
@@ -59,9 +55,7 @@ pub fn stop_law()
     ensures bad_config { BadConfigHasCause }
     ensures check127 { Check127HasCause }
     ensures check128 { Check128HasCause }
-{
-    steps_law();
-}
+{}
 
 /// A law on the requests to one drive, through all falls and restarts. The second and the third statement require that the master is
 /// restarted only at the start of a cycle, and the second one that the requests have numbers:
@@ -79,6 +73,4 @@ pub fn report_law()
     ensures right { TellsRight }
     ensures events { AreTold }
     ensures restart { AreToldAtRestart }
-{
-    steps_law();
-}
+{}

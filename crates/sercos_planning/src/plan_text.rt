@@ -31,27 +31,6 @@ fn push_last_two(
     push_text("\n", out)
 }
 
-// Appends the line of the times T2, T3 and T4, in microseconds, and of the length of the MDT, in bytes.
-#[tactic(auto, unfolding(crate::specs::Planning::plan_line))]
-fn push_plan_line(plan: &Plan, out: &mut Vec<u8>) -> Result<(), AllocError>
-    ensures { OnOk result (out.new.items ≡ out.old.items ++ plan_line plan.now) }
-{
-    push_two_numbers(
-        "plan t2 ",
-        u64::from(plan.t2()),
-        " t3 ",
-        u64::from(plan.t3()),
-        out,
-    )?;
-    push_last_two(
-        " t4 ",
-        u64::from(plan.t4()),
-        " mdt ",
-        u64::from(plan.mdt_len()),
-        out,
-    )
-}
-
 // Appends the line of the drive at a place of the ring: its address, its T1 in microseconds, and the position of its data record in the
 // MDT. The place is one of the ring, and the plan has a T1 and a position for it.
 #[tactic(auto, unfolding(crate::specs::Planning::slot_line))]
@@ -91,49 +70,52 @@ fn push_slots(wishes: &Wishes, plan: &Plan, out: &mut Vec<u8>) -> Result<(), All
     Ok(())
 }
 
-/// Appends the lines of a plan: its times, and the time slot of each drive in the order of the ring. The plan has a T1 and a position for
-/// each of them.
-#[tactic(auto, unfolding(crate::specs::Planning::plan_text))]
+/// Appends the lines of a plan: its times T2, T3 and T4, in microseconds, with the length of the MDT, in bytes, and the time slot of each
+/// drive in the order of the ring. The plan has a T1 and a position for each of them.
+#[tactic(auto, unfolding(crate::specs::Planning::plan_text, crate::specs::Planning::plan_line))]
 pub fn push_plan(wishes: &Wishes, plan: &Plan, out: &mut Vec<u8>) -> Result<(), AllocError>
     requires starts { length plan.now.t1 ≡ length wishes.now.drives }
     requires positions { length plan.now.position ≡ length wishes.now.drives }
     ensures { OnOk result (out.new.items ≡ out.old.items ++ plan_text wishes.now plan.now) }
 {
-    push_plan_line(plan, out)?;
+    push_two_numbers(
+        "plan t2 ",
+        u64::from(plan.t2()),
+        " t3 ",
+        u64::from(plan.t3()),
+        out,
+    )?;
+    push_last_two(
+        " t4 ",
+        u64::from(plan.t4()),
+        " mdt ",
+        u64::from(plan.mdt_len()),
+        out,
+    )?;
     push_slots(wishes, plan, out)
 }
 
-// Appends the line of a link of a chain: its inequality, the address of its drive, and the bit time that it requires.
+// Appends the lines of a chain's links, in their order: the inequality of each, the address of its drive, and the bit time that it requires.
 #[tactic(auto, unfolding(crate::specs::Planning::link_line))]
-fn push_link(link: &Link, out: &mut Vec<u8>) -> Result<(), AllocError>
-    ensures { OnOk result (out.new.items ≡ out.old.items ++ link_line link.now) }
-{
-    push_two_numbers(
-        "rule ",
-        u64::from(link.rule),
-        " drive ",
-        u64::from(link.drive),
-        out,
-    )?;
-    push_last(" at ", u64::from(link.at), out)
-}
-
-// Appends the lines of a chain's links, in their order.
 fn push_links(links: &[Link], out: &mut Vec<u8>) -> Result<(), AllocError>
     ensures { OnOk result (out.new.items ≡ out.old.items ++ flat_map link_line links.now) }
 {
     for link in links {
-        push_link(link, out)?;
+        let rule = u64::from(link.rule);
+        push_two_numbers("rule ", rule, " drive ", u64::from(link.drive), out)?;
+        push_last(" at ", u64::from(link.at), out)?;
     }
     Ok(())
 }
 
-// Appends the last line of a chain: the inequality that is broken, the address of its drive or 0, what it requires, and what there is room
-// for, both in bit times.
-#[tactic(auto, unfolding(crate::specs::Planning::end_line))]
-fn push_end(chain: &Chain, out: &mut Vec<u8>) -> Result<(), AllocError>
-    ensures { OnOk result (out.new.items ≡ out.old.items ++ end_line chain.now) }
+/// Appends the line `no plan`, and the lines of the chain that proves it. The last one is the inequality that is broken: the address of
+/// its drive or 0, what it requires, and what there is room for, both in bit times.
+#[tactic(auto, unfolding(crate::specs::Planning::chain_text, crate::specs::Planning::end_line))]
+pub fn push_chain(chain: &Chain, out: &mut Vec<u8>) -> Result<(), AllocError>
+    ensures { OnOk result (out.new.items ≡ out.old.items ++ chain_text chain.now) }
 {
+    push_text("no plan\n", out)?;
+    push_links(chain.links(), out)?;
     push_two_numbers(
         "rule ",
         u64::from(chain.rule()),
@@ -148,14 +130,4 @@ fn push_end(chain: &Chain, out: &mut Vec<u8>) -> Result<(), AllocError>
         u64::from(chain.bound()),
         out,
     )
-}
-
-/// Appends the line `no plan`, and the lines of the chain that proves it.
-#[tactic(auto, unfolding(crate::specs::Planning::chain_text))]
-pub fn push_chain(chain: &Chain, out: &mut Vec<u8>) -> Result<(), AllocError>
-    ensures { OnOk result (out.new.items ≡ out.old.items ++ chain_text chain.now) }
-{
-    push_text("no plan\n", out)?;
-    push_links(chain.links(), out)?;
-    push_end(chain, out)
 }

@@ -88,24 +88,17 @@ fn expected_as(kind: Kind, content: &Content, start: Option<i32>) -> Option<Sent
     }
 }
 
-// Returns a copy of a telegram.
-fn sent_copy(sent: &Sent) -> Sent
-    ensures { result ≡ sent.now }
-{
-    Sent {
-        kind: sent.kind,
-        start: sent.start,
-        bits: sent.bits,
-        content: copy_of(&sent.content),
-    }
-}
-
 // Returns a copy of a telegram; `None` if there is none.
 fn found_copy(found: Option<&Sent>) -> Option<Sent>
     ensures { result ≡ option_map (λ s. s.now) found.entry }
 {
     match found {
-        Some(sent) => Some(sent_copy(sent)),
+        Some(sent) => Some(Sent {
+            kind: sent.kind,
+            start: sent.start,
+            bits: sent.bits,
+            content: copy_of(&sent.content),
+        }),
         None => None,
     }
 }

@@ -31,23 +31,6 @@ pub struct DriveReplay {
     said: Box<Content>,
 }
 
-// Compares the AT that the drive sends in this cycle with `found`, the one in the capture, and returns whether they differ. If they do,
-// the place is put into `told`. `said` is where the drive writes its AT; `rate` is in Mbit/s.
-fn compare_at(
-    drive: &Drive,
-    told: &mut Difference,
-    said: &mut Content,
-    cycle: u32,
-    rate: u8,
-    found: Option<&Sent>,
-) -> bool
-    ensures { (d : DriveView) (h : List DriveCall) → DriveStandsFor drive.now d rate h →
-        if_differs (at_place_of rate cycle (drive_says d rate h) (option_map (λ s. s.now) found.entry)) ≡ if_told result told.new }
-{
-    let start = drive.at(said);
-    compare(told, cycle, Kind::At, in_bits(rate, start), said, found)
-}
-
 impl DriveReplay {
     ghost use Rattle.std.specs.Prelude.{⊤};
     ghost use Rattle.std.specs.Borrow.{follows_so, sem};
@@ -84,12 +67,13 @@ impl DriveReplay {
         ensures place { (d : DriveView) (h : List DriveCall) → DriveStandsFor self.old.drive d self.old.rate h →
             if_differs (at_place_of self.old.rate self.old.cycle (drive_says d self.old.rate h) (option_map (λ s. s.now) found.entry)) ≡ drive_kept self.new }
     {
-        self.differs = compare_at(
-            &self.drive,
+        let start = in_bits(self.rate, self.drive.at(&mut self.said));
+        self.differs = compare(
             &mut self.told,
-            &mut self.said,
             self.cycle,
-            self.rate,
+            Kind::At,
+            start,
+            &self.said,
             found,
         );
     }

@@ -67,17 +67,6 @@ pub fn late_start(text: &[u8]) -> Option<u32>
     }
 }
 
-// Passes a line to a replay, and returns how many cycles begin with it, 0 or 1. Together with the lines before it must be clean.
-fn give_line(replay: &mut Replay, line: &Line) -> u64
-    ensures stands { (s : Station) (before : List Line) → ReplayStandsFor replay.old s before → IsClean (line.now ∷ before) → ReplayStandsFor replay.new s (line.now ∷ before) }
-    ensures count { (before : List Line) → length (cycles_of (line.now ∷ before)) ≡ length (cycles_of before) + result }
-    ensures bound { result ≤ 1 }
-{
-    capture_law();
-    replay.give(line);
-    u64::from(mst_cycle(line).is_some())
-}
-
 // Reads the text of a clean line with `reader`, passes the line to a replay, and returns how many cycles begin with it, 0 or 1. The lines
 // before must be clean. The line must have no fault of grammar or shape after them, and break no rule. Afterwards `reader` is unspecified.
 fn give_text(replay: &mut Replay, reader: &mut Reader, text: &[u8]) -> u64
@@ -86,8 +75,13 @@ fn give_text(replay: &mut Replay, reader: &mut Reader, text: &[u8]) -> u64
     ensures bound { result ≤ 1 }
 {
     test_law();
+    capture_law();
     match reader.read(text) {
-        Ok(()) => give_line(replay, reader.line()),
+        Ok(()) => {
+            let line = reader.line();
+            replay.give(line);
+            u64::from(mst_cycle(line).is_some())
+        }
         Err(_) => 0,
     }
 }

@@ -1,7 +1,7 @@
 -- One more AT is sent.
 use Rattle.std.proofs.Common.{◌≡◌, ℕ, suc, zero, ◌+◌, ◌<◌, List, [], ◌∷◌, ◌++◌, Option, Some, None, length, refl, sym, ◌∙◌, ap, arith, append_assoc, append-nil}
 use Rattle.std.proofs.lemmas.List.{take_more}
-use Rattle.std.specs.Prelude.{take, slice_index_or}
+use Rattle.std.specs.Prelude.{take, slice_index_or, unwrap_or}
 use Rattle.sercos_block.specs.Views.{DriveView, RingView}
 use Rattle.sercos_trace.specs.Views.{SentView}
 use Rattle.sercos_drive.specs.Heard.{DriveCall}
@@ -60,3 +60,13 @@ said_by-next d rate h turns k x s below says =
 pub no_unseen : (n : ℕ) (carry : Carry) (cycle : ℕ) → 0 ≡ sum_below n (unseen_mdt carry cycle None)
 no_unseen zero carry cycle = refl
 no_unseen (suc n) carry cycle = let others = no_unseen n carry cycle in omega (arith, others)
+
+-- a drive says one thing
+pub said_at : (o : Option Said) (x s : Said) → Some x ≡ o → o ≡ Some s → x ≡ s
+said_at o x s is says = ap (λ (o : Option Said). unwrap_or o x) (is ∙ says)
+
+pub never_said : (o : Option Said) (s : Said) → None ≡ o → o ≡ Some s → ⊥
+never_said o s is says = none≢some (is ∙ says)
+  where
+    none≢some : {x : Said} → None ≡ Some x → ⊥
+    none≢some e = cc

@@ -4,7 +4,7 @@ ghost use Rattle.sercos_ring.specs.Clauses.{option_or, ended, is_complete, is_re
 
 use sercos_block::ring_law;
 use sercos_step::Outcome;
-use sercos_trace::{CycleRecord, Fall, Reported, Totals};
+use sercos_trace::{CycleRecord, Reported, Totals};
 
 // Returns the number of requests that ended complete, at most that of the outcomes.
 fn complete_in(outcomes: &[Reported]) -> usize
@@ -39,23 +39,6 @@ fn broken_in(outcomes: &[Reported]) -> usize
         .count()
 }
 
-// Returns the first cycle in which phase 4 was commanded: `before` if there is one, otherwise this cycle if its phase is 4.
-fn first_in_4(before: Option<u32>, phase: u8, cycle: u32) -> Option<u32>
-    ensures { result ≡ option_or before (if phase == 4 then Some cycle else None) }
-{
-    if before.is_none() && phase == 4 {
-        return Some(cycle);
-    }
-    before
-}
-
-// Returns the number of falls in a cycle, 0 or 1.
-fn falls_in(fall: Option<Fall>) -> u32
-    ensures { result ≡ (if is_some fall then 1 else 0) }
-{
-    u32::from(fall.is_some())
-}
-
 /// Returns the totals before the first cycle.
 pub fn no_totals() -> Totals
     ensures { result ≡ none_made }
@@ -88,9 +71,9 @@ pub fn count_cycle(totals: &mut Totals, made: &CycleRecord)
     totals.complete += complete_in(outcomes) as u32;
     totals.refused += refused_in(outcomes) as u32;
     totals.broken += broken_in(outcomes) as u32;
-    totals.falls += falls_in(made.events.fall);
+    totals.falls += u32::from(made.events.fall.is_some());
     totals.unseen += made.unseen;
-    totals.phase4 = first_in_4(totals.phase4, made.phase, made.cycle);
+    totals.phase4 = totals.phase4.or((made.phase == 4).then_some(made.cycle));
 }
 
 /// Adds a cycle to the totals, as [`count_cycle`] does. It must be the next one of a run of a valid ring. Each count of the totals must

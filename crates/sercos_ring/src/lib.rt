@@ -3,7 +3,6 @@
 
 mod counting;
 mod law;
-mod laws;
 mod moves;
 mod opening;
 mod receiving;

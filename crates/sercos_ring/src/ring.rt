@@ -1,25 +1,16 @@
 // The ring.
 ghost use Rattle.std.specs.Prelude.{◌≡◌, ℕ, ◌+◌, ◌^◌, ◌<◌, ◌≤◌, true, IfOk, Bool, List, [], ◌∷◌, Option, Some, None, if◌then◌else◌, is_some, length, vec_len};
-ghost use Rattle.std.specs.Borrow.{sem};
-ghost use Rattle.std.specs.List.{All};
-ghost use Rattle.sercos_step.specs.Steps.{IsRequest};
 ghost use Rattle.sercos_step.specs.declared.request.Job.{Job};
-ghost use Rattle.sercos_block.specs.Views.{DriveView, RingView};
+ghost use Rattle.sercos_block.specs.Views.{RingView};
 ghost use Rattle.sercos_trace.specs.Views.{CycleView};
 ghost use Rattle.sercos_script.specs.Links.{Carry, Restarts};
-ghost use Rattle.sercos_law_run.specs.Journal.Runs.{no_events, drive_at, given_before};
+ghost use Rattle.sercos_law_run.specs.Journal.Runs.{no_events};
 ghost use Rattle.sercos_ring.specs.Parts.{PartsStandFor};
-ghost use Rattle.sercos_drive.specs.Heard.{DriveCall};
-ghost use Rattle.sercos_drive.specs.Kept.{DriveStandsFor};
-ghost use Rattle.sercos_ring.specs.Stations.{AllStand};
-ghost use Rattle.sercos_seat.specs.Ring.{Known, known_of, tasks_for};
-ghost use Rattle.sercos_block.specs.Rings.{is_ring};
+ghost use Rattle.sercos_seat.specs.Ring.{Known, tasks_for};
 ghost use Rattle.sercos_master.specs.Any.{AnyStandsFor};
 ghost use Rattle.sercos_master.specs.Annals.{Call, Restart, past};
 ghost use Rattle.sercos_master.specs.Reports.{restart_told};
-ghost use Rattle.sercos_master.specs.Annals.{Restart};
 
-use crate::laws::cycle_laws;
 use crate::moves::{phases_of, push_moves};
 use crate::opening::{addresses_of, open_drives};
 use crate::receiving::{Buffers, frame_said};
@@ -29,6 +20,9 @@ use crate::turns::turns_of;
 use arrayvec::ArrayVec;
 use sercos_block::RingSetup;
 use sercos_drive::Drive;
+use sercos_law_run::{
+    fall_law, headline_law, recovery_law, station_law, tolerance_law, undisturbed_law,
+};
 use sercos_master::AnyMaster;
 use sercos_script::BitLink;
 use sercos_step::Job;
@@ -149,50 +143,10 @@ fn run_cycle<L: BitLink>(
     }
 }
 
-// Makes a cycle and its record, which replaces the old one. Returns the master after the cycle. `addresses` must be those of the drives, at
-// most 64. Afterwards `buffers` is unspecified.
-fn record_cycle<L: BitLink>(
-    made: &mut CycleRecord,
-    link: &mut L,
-    drives: &mut Vec<Drive>,
-    master: AnyMaster,
-    addresses: &[u8],
-    cycle: u32,
-    rate: u8,
-    buffers: &mut Buffers,
-) -> AnyMaster
-    requires few { length drives.old.items ≤ 64 }
-    requires addresses { length addresses.now ≡ length drives.old.items }
-    ensures count { length drives.new.items ≡ length drives.old.items }
-    ensures after { (r : RingView) (jobs : List Job) (carry : Carry) (restarts : Restarts) (j : List CycleView) →
-        PartsStandFor (L.carry link.old) (L.restart link.old) cycle rate addresses.now drives.old.items master r jobs carry restarts j →
-        PartsStandFor (L.carry link.new) (L.restart link.new) (cycle + 1) rate addresses.now drives.new.items result r jobs carry restarts (made.new ∷ j) }
-{
-    made.reuse(cycle);
-    let CycleEnd {
-        master,
-        phase,
-        unseen,
-    } = run_cycle(
-        link,
-        drives,
-        master,
-        addresses,
-        cycle,
-        rate,
-        &mut made.sent,
-        &mut made.moves,
-        &mut made.events,
-        buffers,
-    );
-    made.phase = phase;
-    made.unseen = unseen;
-    master
-}
-
 impl<L: BitLink> Ring<L> {
     ghost use Rattle.std.specs.Prelude.{⊤};
-    ghost use Rattle.std.specs.Borrow.{follows_so};
+    ghost use Rattle.std.specs.Borrow.{follows_so, sem};
+    ghost use Rattle.sercos_ring.specs.Clauses.{All, IsRequest, is_ring, drive_at, given_before, DriveStandsFor};
     ghost use mathlib.Core.Option.{none};
     ghost use Rattle.sercos_ring.specs.contracts.ring.Ring.{the_row};
     ghost use Rattle.sercos_ring.specs.Kept.{AfterCycle, BearsOf, IsNextOf, KeepsAllOf, RecoversOf, ReturnsOf, RingStandsFor, StartsUpOf, StationsOf, cycles_made, drives_in, newest};
@@ -236,18 +190,24 @@ impl<L: BitLink> Ring<L> {
         ensures next { IsNextOf L.carry L.restart self.old (newest self.new) }
     {
         let master = self.master.take().unwrap();
-        let master = record_cycle(
-            &mut self.made,
+        let made = &mut *self.made;
+        made.reuse(self.cycle);
+        let end = run_cycle(
             &mut self.link,
             &mut self.drives,
             master,
             self.addresses.as_slice(),
             self.cycle,
             self.rate,
+            &mut made.sent,
+            &mut made.moves,
+            &mut made.events,
             &mut self.buffers,
         );
+        made.phase = end.phase;
+        made.unseen = end.unseen;
         self.cycle += 1;
-        self.master = Some(master);
+        self.master = Some(end.master);
     }
 
     /// Makes the next cycle, and lends its record: the telegrams, the moves of the drives, what the master reports, and the number of
@@ -301,7 +261,12 @@ impl<L: BitLink> Ring<L> {
         ensures returns { ReturnsOf L.carry L.restart self.old result.now }
         ensures stations { StationsOf L.carry L.restart self.old result.now }
     {
-        cycle_laws();
+        headline_law();
+        undisturbed_law();
+        recovery_law();
+        tolerance_law();
+        station_law();
+        fall_law();
         self.make_cycle();
         &self.made
     }

@@ -74,15 +74,8 @@ fn pass_at<L: BitLink>(
     as_count(receipt.unseen)
 }
 
-// Returns a start in bit times, from one in microseconds.
-fn in_bits(rate: u8, start: u16) -> i32
-    ensures { result ≡ pos (rate * start) }
-{
-    i32::from(rate) * i32::from(start)
-}
-
-// Appends a telegram with the content `said` that starts `start` microseconds after the MST's end, and adds 1 to `count`. `bits` must be
-// the length of its frame.
+// Appends a telegram with the content `said` that starts `start` microseconds after the MST's end, which is given in bit times, and adds 1
+// to `count`. `bits` must be the length of its frame.
 fn push_timed(
     list: &mut ArrayVec<Sent, 66>,
     count: &mut usize,
@@ -99,18 +92,11 @@ fn push_timed(
     ensures count { count.new ≡ count.old + 1 }
     ensures within { count.new ≤ length list.new.items }
 {
-    put_sent(list, count, kind, in_bits(rate, start), bits, said);
+    let start = i32::from(rate) * i32::from(start);
+    put_sent(list, count, kind, start, bits, said);
 }
 
-// Returns the start of an MST whose frame has this length, at most 19,696, in bit times: it ends at 0.
-fn before(bits: u32) -> i32
-    requires { bits ≤ 19696 }
-    ensures { result ≡ start_before bits }
-{
-    -(bits as i32)
-}
-
-/// Appends the MST with the content `said`, and adds 1 to `count`. `bits` must be the length of its frame, at most 19,696.
+/// Appends the MST with the content `said`, which ends at 0, and adds 1 to `count`. `bits` must be the length of its frame, at most 19,696.
 pub(crate) fn push_mst(list: &mut ArrayVec<Sent, 66>, count: &mut usize, said: &Content, bits: u32)
     requires room { count.old < 66 }
     requires within { count.old ≤ length list.old.items }
@@ -120,7 +106,7 @@ pub(crate) fn push_mst(list: &mut ArrayVec<Sent, 66>, count: &mut usize, said: &
     ensures count { count.new ≡ count.old + 1 }
     ensures within { count.new ≤ length list.new.items }
 {
-    put_sent(list, count, Kind::Mst, before(bits), bits, said);
+    put_sent(list, count, Kind::Mst, -(bits as i32), bits, said);
 }
 
 // Sends the AT whose content is `buffers.said`, which must not be empty, `start` microseconds after the MST's end: appends it, and passes
@@ -168,38 +154,6 @@ fn send_content<L: BitLink>(
     pass_at(link, master, station, cycle, buffers)
 }
 
-// Sends the AT of a drive, if it sends one. `station` must be that of the drive with the address in the AT. Adds at most 1 to `count`.
-// Returns the number of undetected arrivals, 0 or 1.
-fn send_at<L: BitLink>(
-    link: &mut L,
-    master: &mut AnyMaster,
-    drive: &Drive,
-    station: u8,
-    cycle: u32,
-    rate: u8,
-    list: &mut ArrayVec<Sent, 66>,
-    count: &mut usize,
-    buffers: &mut Buffers,
-) -> u32
-    requires room { count.old < 66 }
-    requires within { count.old ≤ length list.old.items }
-    ensures carry { L.carry link.new ≡ L.carry link.old }
-    ensures restart { L.restart link.new ≡ L.restart link.old }
-    ensures bound { result ≤ 1 }
-    ensures count { count.new ≤ count.old + 1 }
-    ensures within { count.new ≤ length list.new.items }
-    ensures sent { (d : DriveView) (speed : ℕ) (h : List DriveCall) (s : Said) (r : RingView) → DriveStandsFor drive.now d speed h → drive_says d speed h ≡ Some s →
-        station_of r (slice_index s.content 0) ≡ station →
-        AreSent r (L.carry link.old) cycle rate (s ∷ []) (take count.old list.old.items) (take count.new list.new.items) master.old master.new result }
-{
-    match drive.at(&mut buffers.said) {
-        None => 0,
-        Some(start) => send_content(
-            link, master, station, cycle, rate, start, list, count, buffers,
-        ),
-    }
-}
-
 // Sends the AT of the drive whose turn it is. The turn's index must be that of a drive that sends an AT in this cycle, with its own
 // address. Adds at most 1 to `count`. Returns the number of undetected arrivals, 0 or 1.
 fn send_turn<L: BitLink>(
@@ -229,17 +183,13 @@ fn send_turn<L: BitLink>(
     if place >= drives.len() {
         return 0;
     }
-    send_at(
-        link,
-        master,
-        &drives[place],
-        turn.place + 1,
-        cycle,
-        rate,
-        list,
-        count,
-        buffers,
-    )
+    let station = turn.place + 1;
+    match drives[place].at(&mut buffers.said) {
+        None => 0,
+        Some(start) => send_content(
+            link, master, station, cycle, rate, start, list, count, buffers,
+        ),
+    }
 }
 
 /// Sends the ATs of the drives, in the order of their turns. Each turn must have the index of a drive that sends an AT in this cycle, with

@@ -39,15 +39,6 @@ fn value_or(byte: u8) -> u8
     VALUES[usize::from(byte)]
 }
 
-// Returns the value of a hexadecimal digit.
-fn value_of(byte: u8) -> u8
-    requires { is_ascii_hexdigit byte ≡ true }
-    ensures value { hex_digit_value byte ≡ Some result }
-    ensures below { result < 16 }
-{
-    value_or(byte)
-}
-
 /// Returns how many hexadecimal digits a text begins with.
 pub fn leading_digits(text: &[u8]) -> usize
     ensures value { result ≡ prefix_len is_ascii_hexdigit text.now }
@@ -67,7 +58,7 @@ pub fn byte_of(high: u8, low: u8) -> u8
     requires low { is_ascii_hexdigit low ≡ true }
     ensures { result ≡ byte_of high low }
 {
-    16 * value_of(high) + value_of(low)
+    16 * value_or(high) + value_or(low)
 }
 
 /// Replaces bytes by those that `digits` spells, two hexadecimal digits for each byte. `digits` is twice as long as `bytes`. Returns

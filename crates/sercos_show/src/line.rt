@@ -98,18 +98,6 @@ fn has_spare(count: usize, byte: u8) -> bool
     u16::from(byte) >= 1 << used
 }
 
-// Returns the fault of the HEX of no bits, which is `-`; `None` if it has none.
-#[tactic(auto, unfolding(crate::specs::Line::dash_fault))]
-fn dash_fault(text: &[u8]) -> Option<usize>
-    ensures value { result ≡ dash_fault text.now }
-    ensures bound { IfSome result (λ place. place ≤ length text.now) }
-{
-    if text.first() != Some(&b'-') {
-        return Some(0);
-    }
-    (text.len() > 1).then_some(1)
-}
-
 // Returns the fault of the HEX of `count` bits, 1 to 19696; `None` if it has none. It is the first of these: a missing digit before the
 // last pair, or the pair's first; spare bits that aren't zeros by the pair's first digit, at that digit; the missing second digit; spare
 // bits that aren't zeros by the second digit, at the first; a byte after the digits.
@@ -138,18 +126,20 @@ fn digits_fault(count: usize, text: &[u8]) -> Option<usize>
     (text.len() > wanted).then_some(wanted)
 }
 
-// Returns the fault of the HEX of `count` bits; `None` if it has none.
-#[tactic(auto, unfolding(crate::specs::Line::hex_fault))]
+// Returns the fault of the HEX of `count` bits, which is `-` for no bits; `None` if it has none.
+#[tactic(auto, unfolding(crate::specs::Line::hex_fault, crate::specs::Line::dash_fault))]
 fn hex_fault(count: usize, text: &[u8]) -> Option<usize>
     requires { count ≤ 19696 }
     ensures value { result ≡ hex_fault count text.now }
     ensures bound { IfSome result (λ place. place ≤ length text.now) }
 {
-    if count == 0 {
-        dash_fault(text)
-    } else {
-        digits_fault(count, text)
+    if count > 0 {
+        return digits_fault(count, text);
     }
+    if text.first() != Some(&b'-') {
+        return Some(0);
+    }
+    (text.len() > 1).then_some(1)
 }
 
 // Reads COUNT and the space after it. Returns how many bytes they take, and COUNT, at most 19696. The error is their fault: 0 without a
@@ -251,10 +241,7 @@ pub fn read_line(line: &[u8], room: &mut Room, deframer: &mut Deframer) -> Resul
     ensures bits { IsFed [] deframer.old → OnOk result (IsFed (line_bits line.now) deframer.new) }
     ensures bound { IfErr result (λ place. place ≤ length line.now) }
 {
-    let kind = match kind_of(line) {
-        Ok(kind) => kind,
-        Err(place) => return Err(place),
-    };
+    let kind = kind_of(line)?;
     let begin = kind_len(kind);
     match read_numbers(&line[begin..], room, deframer) {
         Ok(()) => Ok(kind),

@@ -12,9 +12,10 @@ use sercos_io::Status;
 use sercos_telegram::{Layout, read_at, read_mst, read_single};
 use std::alloc::{AllocError, Global};
 
-// Returns the line that refuses the input at a line and a column. The error is `AllocError`.
-fn refused_text(alloc: Global, line: u64, column: u64) -> Result<Vec<u8>, AllocError>
-    ensures { IfOk result (λ text. text.items ≡ refused_text line column) }
+// Returns the reply that refuses the input at a line and a column. The error is `AllocError`.
+fn refusal(alloc: Global, line: u64, column: u64) -> Result<Reply, AllocError>
+    ensures status { IfOk result (λ reply. reply.status ≡ Status.Refused) }
+    ensures text { IfOk result (λ reply. reply.text.items ≡ refused_text line column) }
 {
     let mut text = Vec::new(alloc);
     push_text("refused line ", &mut text)?;
@@ -22,15 +23,6 @@ fn refused_text(alloc: Global, line: u64, column: u64) -> Result<Vec<u8>, AllocE
     push_text(" column ", &mut text)?;
     push_number(column, &mut text)?;
     push_text("\n", &mut text)?;
-    Ok(text)
-}
-
-// Returns the reply that refuses the input at a line and a column. The error is `AllocError`.
-fn refusal(alloc: Global, line: u64, column: u64) -> Result<Reply, AllocError>
-    ensures status { IfOk result (λ reply. reply.status ≡ Status.Refused) }
-    ensures text { IfOk result (λ reply. reply.text.items ≡ refused_text line column) }
-{
-    let text = refused_text(alloc, line, column)?;
     Ok(Reply {
         status: Status::Refused,
         text,
@@ -46,18 +38,6 @@ fn push_fault(fault: Layout, out: &mut Vec<u8>) -> Result<(), AllocError>
     push_layout(fault, out)
 }
 
-// Appends the fields of the MST that a content is, or its fault of layout. The error is `AllocError`.
-#[tactic(auto, unfolding(crate::specs::Show::layout_or))]
-fn show_mst(content: &[u8], out: &mut Vec<u8>) -> Result<(), AllocError>
-    ensures { OnOk result (out.new.items
-        ≡ out.old.items ++ layout_or (mst_fault content.now) (mst_text (slice_index content.now 1))) }
-{
-    match read_mst(content) {
-        Ok(mst) => push_mst(mst.phase, out),
-        Err(fault) => push_fault(fault, out),
-    }
-}
-
 // Returns the address for which a content is read: its first byte if that is the address of a drive, 1 to 254, otherwise 1.
 #[tactic(auto, unfolding(crate::specs::Show::wanted_address))]
 fn wanted_address(content: &[u8]) -> u8
@@ -66,20 +46,6 @@ fn wanted_address(content: &[u8]) -> u8
     match content.first() {
         Some(&found) if 0 < found && found < 255 => found,
         _ => 1,
-    }
-}
-
-// Appends the fields of the MDT of phases 1 and 2 that a content is, or its fault of layout. The error is `AllocError`.
-#[tactic(auto, unfolding(crate::specs::Show::layout_or))]
-fn show_single(content: &[u8], out: &mut Vec<u8>) -> Result<(), AllocError>
-    ensures { OnOk result (out.new.items ≡ out.old.items
-        ++ layout_or (single_fault (wanted_address content.now) content.now)
-        (single_text (wanted_address content.now) (control_of (word_at content.now 1)) (word_at content.now 3))) }
-{
-    let address = wanted_address(content);
-    match read_single(address, content) {
-        Ok((control, info)) => push_single(address, &control, info, out),
-        Err(fault) => push_fault(fault, out),
     }
 }
 
@@ -93,23 +59,9 @@ fn wanted_len(content: &[u8]) -> u16
     content.len().saturating_sub(1).max(4) as u16
 }
 
-// Appends the fields of the AT that a content of at most 2048 bytes is, or its fault of layout. The error is `AllocError`.
-#[tactic(auto, unfolding(crate::specs::Show::layout_or))]
-fn show_at(content: &[u8], out: &mut Vec<u8>) -> Result<(), AllocError>
-    requires { length content.now ≤ 2048 }
-    ensures { OnOk result (out.new.items ≡ out.old.items
-        ++ layout_or (at_fault (wanted_address content.now) (wanted_len content.now) content.now)
-        (at_text (wanted_address content.now) (status_of (word_at content.now 1)) (word_at content.now 3)
-        (drop 5 content.now))) }
-{
-    match read_at(wanted_address(content), wanted_len(content), content) {
-        Ok(at) => push_at(&at, out),
-        Err(fault) => push_fault(fault, out),
-    }
-}
-
-// Appends the text of a content of at most 2048 bytes, read as the kind of its line requires. The error is `AllocError`.
-#[tactic(auto, unfolding(crate::specs::Show::content_text))]
+// Appends the text of a content of at most 2048 bytes, read as the kind of its line requires: its bytes, the fields of its telegram, or the
+// fault of layout. The error is `AllocError`.
+#[tactic(auto, unfolding(crate::specs::Show::content_text, crate::specs::Show::layout_or))]
 fn push_content(kind: LineKind, content: &[u8], out: &mut Vec<u8>) -> Result<(), AllocError>
     requires { length content.now ≤ 2048 }
     ensures { OnOk result (out.new.items ≡ out.old.items ++ content_text kind content.now) }
@@ -119,9 +71,21 @@ fn push_content(kind: LineKind, content: &[u8], out: &mut Vec<u8>) -> Result<(),
             push_text("ok ", out)?;
             push_hex(content, out)
         },
-        LineKind::Mst => show_mst(content, out),
-        LineKind::Single => show_single(content, out),
-        LineKind::At => show_at(content, out),
+        LineKind::Mst => match read_mst(content) {
+            Ok(mst) => push_mst(mst.phase, out),
+            Err(fault) => push_fault(fault, out),
+        },
+        LineKind::Single => {
+            let address = wanted_address(content);
+            match read_single(address, content) {
+                Ok((control, info)) => push_single(address, &control, info, out),
+                Err(fault) => push_fault(fault, out),
+            }
+        },
+        LineKind::At => match read_at(wanted_address(content), wanted_len(content), content) {
+            Ok(at) => push_at(&at, out),
+            Err(fault) => push_fault(fault, out),
+        },
     }
 }
 

@@ -126,18 +126,6 @@ pub fn push_hex(bytes: &[u8], out: &mut Vec<u8>) -> Result<(), AllocError>
     Ok(())
 }
 
-// Appends bytes, at most 2048, as two hexadecimal digits in lower case each, or `-` if there are none.
-#[tactic(auto, unfolding(crate::specs::Show::data_text))]
-fn push_data(bytes: &[u8], out: &mut Vec<u8>) -> Result<(), AllocError>
-    requires { length bytes.now ≤ 2048 }
-    ensures { OnOk result (out.new.items ≡ out.old.items ++ data_text bytes.now) }
-{
-    match bytes {
-        [] => push_text("-", out),
-        [_, ..] => push_hex(bytes, out),
-    }
-}
-
 /// Appends the number, the name and the values of a fault of layout, in decimal.
 #[tactic(auto, unfolding(crate::specs::Show::layout_text))]
 pub fn push_layout(fault: Layout, out: &mut Vec<u8>) -> Result<(), AllocError>
@@ -229,7 +217,7 @@ fn at_words(info: u16, cyclic: u16) -> [u8; 32]
 
 /// Appends the fields of an AT: the address, those of the status word, the word `info`, and the data, at most 2048 bytes, as two
 /// hexadecimal digits in lower case each, or `-` if there are none.
-#[tactic(auto, unfolding(crate::specs::Show::at_text))]
+#[tactic(auto, unfolding(crate::specs::Show::at_text, crate::specs::Show::data_text))]
 pub fn push_at(at: &At<'_>, out: &mut Vec<u8>) -> Result<(), AllocError>
     requires { length at.now.values.now ≤ 2048 }
     ensures { OnOk result (out.new.items
@@ -238,5 +226,8 @@ pub fn push_at(at: &At<'_>, out: &mut Vec<u8>) -> Result<(), AllocError>
     push_place("at ", u64::from(at.address), out)?;
     out.extend_from_slice(&status_bits(at.status))?;
     out.extend_from_slice(&at_words(at.info, at.status.cyclic))?;
-    push_data(at.values, out)
+    match at.values {
+        [] => push_text("-", out),
+        [_, ..] => push_hex(at.values, out),
+    }
 }

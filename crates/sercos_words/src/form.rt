@@ -37,22 +37,15 @@ fn word_form(word: &str) -> Option<Form>
     ensures value { result ≡ word_form word.now }
     ensures range { IfSome result HasNumber }
 {
-    if word == "show" {
-        Some(Form::Show)
-    } else if word == "plan" {
-        Some(Form::Plan)
-    } else if word == "margin" {
-        Some(Form::Margin)
-    } else if word == "run" {
-        Some(Form::Run)
-    } else if word == "check" {
-        Some(Form::Check)
-    } else if word == "backup" {
-        Some(Form::Backup)
-    } else if word == "restore" {
-        Some(Form::Restore)
-    } else {
-        None
+    match word {
+        "show" => Some(Form::Show),
+        "plan" => Some(Form::Plan),
+        "margin" => Some(Form::Margin),
+        "run" => Some(Form::Run),
+        "check" => Some(Form::Check),
+        "backup" => Some(Form::Backup),
+        "restore" => Some(Form::Restore),
+        _ => None,
     }
 }
 
@@ -69,42 +62,23 @@ fn number_named(first: u32, last: u32, word: &str) -> Option<u8>
     }
 }
 
-// Returns the form of `gen` and a number of drives; `None` unless the number is 1 to 64.
-#[tactic(auto, unfolding(crate::specs::Form::gen_form))]
-fn gen_form(number: &str) -> Option<Form>
-    ensures value { result ≡ gen_form number.now }
-    ensures range { IfSome result HasNumber }
-{
-    match number_named(1, 64, number) {
-        Some(drives) => Some(Form::Gen(drives)),
-        None => None,
-    }
-}
-
-// Returns the form of `replay` and an address; `None` unless the address is 0 to 254.
-#[tactic(auto, unfolding(crate::specs::Form::replay_form))]
-fn replay_form(number: &str) -> Option<Form>
-    ensures value { result ≡ replay_form number.now }
-    ensures range { IfSome result HasNumber }
-{
-    match number_named(0, 254, number) {
-        Some(address) => Some(Form::Replay(address)),
-        None => None,
-    }
-}
-
-// Returns the form of a command, `gen` or `replay`, and its number; `None` if the words are not such a form.
-#[tactic(auto, unfolding(crate::specs::Form::plain_form, crate::specs::Form::number_form))]
+// Returns the form of a command, `gen` or `replay`, and its number; `None` if the words are not such a form. The number of drives of `gen`
+// is 1 to 64, the address of `replay` 0 to 254.
+#[tactic(auto, unfolding(crate::specs::Form::plain_form, crate::specs::Form::number_form, crate::specs::Form::gen_form, crate::specs::Form::replay_form))]
 fn number_form(word: &str, number: &str) -> Option<Form>
     ensures value { result ≡ plain_form (word.now ∷ number.now ∷ []) }
     ensures range { IfSome result HasNumber }
 {
-    if word == "gen" {
-        gen_form(number)
-    } else if word == "replay" {
-        replay_form(number)
-    } else {
-        None
+    match word {
+        "gen" => match number_named(1, 64, number) {
+            Some(drives) => Some(Form::Gen(drives)),
+            None => None,
+        },
+        "replay" => match number_named(0, 254, number) {
+            Some(address) => Some(Form::Replay(address)),
+            None => None,
+        },
+        _ => None,
     }
 }
 

@@ -1,5 +1,5 @@
 -- What the two replies to the reads of a block's attribute are.
-use Rattle.sercos_law_channel.proofs.Words.{◌≡◌, ℕ, ◌+◌, ◌*◌, ◌^◌, ◌<◌, Bool, true, false, ◌&&◌, List, [], ◌∷◌, map, length, refl, ap, ap₂, sym, ◌∙◌, arith, cond, if◌then◌else◌, ◌==◌, Option, Some, None, option_map, unwrap_or, slice_index, w32, to_le_bytes, cond-false, Attribute, attribute_fault, attribute_word, attribute_of, Step, words_of, shape_of, shape_by, a_step, Block, find_block, read_fault, status_in, Processed, Entry, open_idn, run_before, selection, good, answer_by, copy, read_cause, reply_on, reply_at, reply_of, AreAlike, without_data, element_of, element_words}
+use Rattle.sercos_law_channel.proofs.Words.{◌≡◌, ℕ, ◌+◌, ◌*◌, ◌^◌, ◌<◌, Bool, true, false, ◌&&◌, List, [], ◌∷◌, map, length, refl, ap, ap₂, sym, ◌∙◌, arith, cond, if◌then◌else◌, ◌==◌, Option, Some, None, option_map, unwrap_or, slice_index, w32, to_le_bytes, cond-false, Attribute, attribute_fault, attribute_word, attribute_of, Step, words_of, shape_of, shape_by, a_step, Block, find_block, read_fault, status_in, Processed, Entry, open_idn, run_before, selection, good, answer_by, copy, read_cause, reply_at, reply_of, AreAlike, without_data, element_of, element_words, in_order, eqb-true, and_right, opens, cond-true, write_cause_in}
 
 -- the block that was found has the same attribute
 found_without_data : (v : Bool) (b : Block) (o p : Option Block) → option_map without_data o ≡ p → option_map without_data (cond v (Some b) o) ≡ cond v (Some (without_data b)) p
@@ -13,6 +13,15 @@ find-without_data raw (b ∷ blocks) = found_without_data (b.idn.raw == raw) b (
 pub find-alike : (raw : ℕ) (others blocks : List Block) (b : Block) → AreAlike others blocks → find_block raw blocks ≡ Some b → option_map without_data (find_block raw others) ≡ Some (without_data b)
 find-alike raw others blocks b alike found =
     find-without_data raw others ∙ ap (find_block raw) alike ∙ sym (find-without_data raw blocks) ∙ ap (option_map without_data) found
+
+-- so it is there
+pub alike_there : (raw : ℕ) (others blocks : List Block) (b : Block) → AreAlike others blocks → find_block raw blocks ≡ Some b →
+    (c : Block) × (find_block raw others ≡ Some c) × (without_data c ≡ without_data b)
+alike_there raw others blocks b alike found = by (find_block raw others) (find-alike raw others blocks b alike found)
+  where
+    by : (o : Option Block) → option_map without_data o ≡ Some (without_data b) → (c : Block) × (o ≡ Some c) × (without_data c ≡ without_data b)
+    by None same = absurd (cc)
+    by (Some c) same = (c, refl, cc)
 
 -- the words of a block's attribute
 abbrev pub attribute_words : Attribute → List ℕ
@@ -31,22 +40,15 @@ fault_of_found : (c : Block) → read_fault (Some c) 3 ≡ None
 unfolding element_of
 fault_of_found c = refl
 
-attribute_read : (raw : ℕ) (t : Processed) (b : Block) → t.step.element ≡ 3 → option_map without_data (find_block raw t.blocks) ≡ Some (without_data b) → IsRead raw t b.attribute
-attribute_read raw t b third found = record { free = free (find_block raw t.blocks) t.step.element third found; words = words (find_block raw t.blocks) t.step.element (status_in t.commands raw t.cycle ∷ []) third found }
-  where
-    free : (o : Option Block) (e : ℕ) → e ≡ 3 → option_map without_data o ≡ Some (without_data b) → (if e == 1 then None else read_fault o e) ≡ None
-    free None e is found = absurd (cc)
-    free (Some c) e is found = rw is (fault_of_found c)
-
-    words : (o : Option Block) (e : ℕ) (status : List ℕ) → e ≡ 3 → option_map without_data o ≡ Some (without_data b) →
-        (if e == 1 then status else unwrap_or (option_map (element_words e t.cycle) o) []) ≡ attribute_words b.attribute
-    words None e status is found = absurd (cc)
-    words (Some c) e status is found =
-        let same : without_data c ≡ without_data b = cc in
-        rw is (copy_words c t.cycle ∙ ap (λ (d : Block). attribute_words d.attribute) same)
-
 pub IsRead-alike : (raw : ℕ) (t : Processed) (blocks : List Block) (b : Block) → t.step.element ≡ 3 → AreAlike t.blocks blocks → find_block raw blocks ≡ Some b → IsRead raw t b.attribute
-IsRead-alike raw t blocks b third alike found = attribute_read raw t b third (find-alike raw t.blocks blocks b alike found)
+IsRead-alike raw t blocks b third alike found =
+    let (c, there, same) = alike_there raw t.blocks blocks b alike found in record {
+      free = ap₂ (λ (o : Option Block) (e : ℕ). if e == 1 then None else read_fault o e) there third ∙ fault_of_found c;
+      words =
+          ap₂ (λ (o : Option Block) (e : ℕ). if e == 1 then status_in t.commands raw t.cycle ∷ [] else unwrap_or
+          (option_map (element_words e t.cycle) o) []) there third
+          ∙ copy_words c t.cycle ∙ ap (λ (d : Block). attribute_words d.attribute) same;
+    }
 
 -- the reply to a step that reads a word of an element
 pub reply-read : (raw e word : ℕ) (last : Bool) (t : Processed) (all : List Entry) (run : List Processed) → (e == 0) ≡ false → t.step ≡ a_step false last e word → open_idn all ≡ Some raw → run_before false e all ≡ run →
@@ -56,10 +58,19 @@ reply-read raw e word last t all run none is opened before =
     let some : (t.step.element == 0) ≡ false = ap (λ (s : Step). s.element == 0) is ∙ none in
     let reads : t.step.write ≡ false = ap (λ (s : Step). s.write) is in
     let runs : run_before t.step.write t.step.element all ≡ run = ap (λ (s : Step). run_before s.write s.element all) is ∙ before in
-    cond-false _ _ _ closed ∙ cond-false _ _ _ some ∙ at (open_idn all) (run_before t.step.write t.step.element all) opened runs ∙ cond-false _ _ _ reads
-  where
-    at : (o : Option ℕ) (r : List Processed) → o ≡ Some raw → r ≡ run → reply_at o t r ≡ reply_on raw t run
-    at o r is_open is_run = ap₂ (λ (x : Option ℕ) (y : List Processed). reply_at x t y) is_open is_run
+    cond-false _ _ _ closed ∙ cond-false _ _ _ some ∙ ap₂ (λ (x : Option ℕ) (y : List Processed). reply_at x t y) opened runs ∙ cond-false _ _ _ reads
+
+-- the reply to a word of operation data
+pub reply-data : (t : Processed) (log : List Entry) (raw : ℕ) → t.step.write ≡ true → (t.step.element == 7) ≡ true →
+    open_idn log ≡ Some raw →
+    reply_of t log ≡ answer_by (write_cause_in (find_block raw t.blocks) t.phase t.step.last (in_order (run_before t.step.write t.step.element log) (t.step.word ∷ []))) 0
+reply-data t log raw write seven opened =
+    let e = eqb-true t.step.element 7 seven in
+    let not_one : (t.step.element == 1) ≡ false = ap (λ (n : ℕ). n == 1) e in
+    let not_zero : (t.step.element == 0) ≡ false = ap (λ (n : ℕ). n == 0) e in
+    let shut : opens t.step ≡ false = and_right t.step.write (t.step.element == 1) not_one in
+    cond-false (opens t.step) _ _ shut ∙ cond-false (t.step.element == 0) _ _ not_zero ∙ ap (λ (o : Option ℕ). reply_at o t (run_before t.step.write t.step.element log)) opened
+    ∙ cond-true t.step.write _ _ write ∙ ap (λ (o : Option ℕ). answer_by o 0) (cond-true (t.step.element == 7) _ _ seven)
 
 pub reply_low : (raw word : ℕ) (last : Bool) (t : Processed) (all : List Entry) (a : Attribute) → t.step ≡ a_step false last 3 word → open_idn all ≡ Some raw → run_before false 3 all ≡ [] → IsRead raw t a →
     reply_of t all ≡ good (slice_index (attribute_words a) 0)
@@ -75,9 +86,8 @@ reply_high raw word last t s all a is opened before read =
 two_words : (n : ℕ) → n < 2 ^ 32 → slice_index (words_of (to_le_bytes w32 n)) 0 + 65536 * slice_index (words_of (to_le_bytes w32 n)) 1 ≡ n
 two_words n small = omega arith
 
-shape-said : (word : ℕ) (a : Attribute) → attribute_fault word ≡ None → attribute_of word ≡ a → shape_of 7 word ≡ shape_by a.length
-shape-said word a sound back = rw (sound, back) refl
-
 pub shape-attribute : (a : Attribute) → attribute_word a < 2 ^ 32 → attribute_fault (attribute_word a) ≡ None → attribute_of (attribute_word a) ≡ a →
     shape_of 7 (slice_index (attribute_words a) 0 + 65536 * slice_index (attribute_words a) 1) ≡ shape_by a.length
-shape-attribute a small sound back = ap (shape_of 7) (two_words (attribute_word a) small) ∙ shape-said (attribute_word a) a sound back
+shape-attribute a small sound back =
+    let said : shape_of 7 (attribute_word a) ≡ shape_by a.length = rw (sound, back) refl in
+    ap (shape_of 7) (two_words (attribute_word a) small) ∙ said

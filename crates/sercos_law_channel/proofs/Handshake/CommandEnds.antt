@@ -1,33 +1,18 @@
 -- A complete setting of a procedure command gives the data status of the last poll, the step that reads it.
-use Rattle.sercos_law_channel.proofs.Words.{◌≡◌, ℕ, suc, ◌-◌, ◌/◌, ◌%◌, ◌<◌, ◌≤◌, Bool, true, false, not, ◌&&◌, List, [], ◌∷◌, ◌++◌, length, drop, refl, sym, ap, ap₂, ◌∙◌, arith, if◌then◌else◌, length-append, ◌==◌, Option, Some, None, slice_get, slice_index, list_all, cond-true, leb-true, beq, Idn, Step, Answer, Request, bytes_in, a_step, polling, steps_of, outcome_of, answer_words, is_whole, result_of, Block, find_block, setting_of, status_in, Processed, Entry, open_idn, run_before, answer_by, copy, read_cause, reply_of, replies_of, IsTransfer, is_complete, GivesStatus, EndsWithStatus, idn_of, length-answer_words}
+use Rattle.sercos_law_channel.proofs.Words.{◌≡◌, ℕ, suc, ◌-◌, ◌≤◌, Bool, true, false, List, [], ◌∷◌, ◌++◌, length, drop, refl, ap, ◌∙◌, arith, length-append, ◌==◌, Option, Some, None, slice_get, slice_index, cond-true, leb-true, Idn, Step, Answer, Request, bytes_in, a_step, polling, steps_of, outcome_of, answer_words, is_whole, result_of, Block, find_block, setting_of, status_in, Processed, Entry, open_idn, run_before, answer_by, copy, read_cause, reply_of, replies_of, IsTransfer, GivesStatus, EndsWithStatus, idn_of, length-answer_words, cond_both, length-drop_two, and_right, not_from_true, inl, inr, cases_Option}
 use Rattle.sercos_step.specs.declared.request.Request.TheVariants as request
 use Rattle.sercos_step.specs.declared.request.Outcome.TheVariants as outcome
 use Rattle.sercos_law_channel.proofs.Handshake.AttributeReplies.{reply-read}
-use Rattle.sercos_law_channel.proofs.Handshake.TransferSteps.{all-slice_get, newest_step, without_newest, length-replies_of, complete-outcome_of, goes_on-outcome_of}
+use Rattle.sercos_law_channel.proofs.Handshake.TransferSteps.{all-slice_get, newest_step, without_newest, length-replies_of, goes_on-outcome_of, complete_is}
 use Rattle.sercos_law_channel.proofs.Handshake.UnknownBlocks.{refuses_unknown}
-use Rattle.sercos_law_channel.proofs.Handshake.ElementReads.{status_small}
+use Rattle.sercos_law_channel.proofs.Handshake.ElementReads.{status_small, small_word}
 use Rattle.sercos_law_channel.proofs.Handshake.CommandStages.{Poll, Reads, Cancels, Stage, AtOpening, AtSetting, AtPoll, next_poll, whole_cancels, stage_before}
-
--- each step of such a request is the last word of its element
-abbrev are_last : List Step → Bool
-are_last steps = list_all (λ (s : Step). s.last) steps
-
-polling_last : (words : List ℕ) → are_last (polling words) ≡ true
-polling_last [] = refl
-polling_last (status ∷ words) = by (status == 7) (polling_last words)
-  where
-    by : (v : Bool) → are_last (polling words) ≡ true → are_last (if v then polling words else a_step true true 7 0 ∷ []) ≡ true
-    by true more = more
-    by false more = refl
+use Rattle.sercos_law_channel.proofs.Handshake.StepTests.{polling_passes}
+use Rattle.sercos_law_channel.proofs.Handshake.WriteRuns.{run_starts}
 
 pub last_ends : (write : Bool) (element : ℕ) (e : Entry) (log : List Entry) → e.processed.step.last ≡ true → run_before write element (e ∷ log) ≡ []
-last_ends write element e log last = by (beq e.processed.step.write write) (e.processed.step.element == element) e.processed.step.last last
-  where
-    by : (u v w : Bool) → w ≡ true → (if u && (v && (not w && not e.answer.error)) then e.processed ∷ run_before write element log else []) ≡ []
-    by true true true on = refl
-    by true false w on = refl
-    by false v w on = refl
-    by true true false on = absurd (cc)
+last_ends write element e log last =
+    run_starts e.processed.step write element e log refl (and_right _ _ (and_right _ _ (not_from_true e.processed.step.last last)))
 
 -- the reply to a poll
 pub poll_word : (raw : ℕ) (t : Processed) (all : List Entry) → t.step ≡ a_step false true 1 0 → open_idn all ≡ Some raw → run_before false 1 all ≡ [] → (reply_of t all).word ≡ status_in t.commands raw t.cycle
@@ -37,62 +22,39 @@ poll_word raw t all is opened free =
     ap (λ (a : Answer). a.word) (reply-read raw 1 0 true t all [] refl is opened free ∙ ap (λ (o : Option ℕ). answer_by o (slice_index (copy raw t) 0)) there)
     ∙ ap (λ (l : List ℕ). slice_index l 0) (cond-true (t.step.element == 1) (status_in t.commands raw t.cycle ∷ []) _ one)
 
-two_long : (words : List ℕ) → 1 ≤ length words → 2 ≤ length (polling words)
-two_long [] long = absurd (omega arith)
-two_long (status ∷ words) long = by (status == 7)
-  where
-    more : (ws : List ℕ) → 1 ≤ length (polling ws)
-    more [] = omega arith
-    more (s ∷ ws) = omega arith
-
-    by : (v : Bool) → 2 ≤ suc (length (if v then polling words else a_step true true 7 0 ∷ []))
-    by true = let at = more words in omega arith
-    by false = omega arith
-
 pub one_long : (words : List ℕ) → 1 ≤ length (polling words)
 one_long [] = omega arith
 one_long (status ∷ words) = omega arith
 
-length-drop_two : (words : List ℕ) → 3 ≤ length words → 1 ≤ length (drop 2 words)
-length-drop_two [] long = absurd (omega arith)
-length-drop_two (a ∷ []) long = absurd (omega arith)
-length-drop_two (a ∷ b ∷ []) long = absurd (omega arith)
-length-drop_two (a ∷ b ∷ c ∷ words) long = omega arith
+two_long : (words : List ℕ) → 1 ≤ length words → 2 ≤ length (polling words)
+two_long [] long = absurd (omega arith)
+two_long (status ∷ words) long =
+    cond_both (status == 7) (polling words) (a_step true true 7 0 ∷ []) (λ l. 2 ≤ suc (length l))
+    (λ on. let at = one_long words in omega (arith, at)) (λ off. omega arith)
 
 -- the last word but one
 index_two : (words : List ℕ) (a b : ℕ) → slice_index ((words ++ a ∷ []) ++ b ∷ []) (length words) ≡ a
 index_two [] a b = refl
 index_two (w ∷ words) a b = index_two words a b
 
+-- at least an opening, a setting and a poll come before the cancel
+pub three_before : (idn : Idn) (e : Entry) (entries : List Entry) → is_whole (request.Command idn) (answer_words (replies_of entries) ++ e.answer.word ∷ []) ≡ true → 3 ≤ length entries
+three_before idn e entries whole =
+    let words = answer_words (replies_of entries) ++ e.answer.word ∷ [] in
+    let many : length (steps_of (request.Command idn) words) ≤ length words = leb-true (length (steps_of (request.Command idn) words)) (length words) whole in
+    let first = one_long (drop 2 words) in
+    let three : 3 ≤ length words = omega arith in
+    let second = two_long (drop 2 words) (let two = length-drop_two words (omega arith) in omega (arith, two, three)) in
+    let count = length-append (answer_words (replies_of entries)) (e.answer.word ∷ []) in
+    let same = length-answer_words (replies_of entries) in
+    let as_many = length-replies_of entries in
+    omega arith
+
 module _ (idn : Idn) (blocks : List Block) (b : Block) (found : find_block idn.raw blocks ≡ Some b) where
-  whole_words : (e : Entry) (entries : List Entry) (bytes : List ℕ) → outcome_of (request.Command idn) (replies_of (e ∷ entries)) ≡ Some (outcome.Complete bytes) →
-      (is_whole (request.Command idn) (answer_words (replies_of entries) ++ e.answer.word ∷ []) ≡ true) × (bytes ≡ result_of (request.Command idn) (answer_words (replies_of entries) ++ e.answer.word ∷ []))
-  whole_words e entries bytes complete = by e.answer.error (is_whole (request.Command idn) (answer_words (replies_of entries) ++ e.answer.word ∷ [])) refl complete
-    where
-      by : (error whole : Bool) → is_whole (request.Command idn) (answer_words (replies_of entries) ++ e.answer.word ∷ []) ≡ whole →
-          (if error then Some (outcome.Refused (record { raw = e.answer.word })) else (if whole then Some (outcome.Complete (result_of (request.Command idn) (answer_words (replies_of entries) ++ e.answer.word ∷ []))) else None)) ≡ Some (outcome.Complete bytes) →
-          (is_whole (request.Command idn) (answer_words (replies_of entries) ++ e.answer.word ∷ []) ≡ true) × (bytes ≡ result_of (request.Command idn) (answer_words (replies_of entries) ++ e.answer.word ∷ []))
-      by true whole is got = absurd (cc)
-      by false true is got = (is, cc)
-      by false false is got = absurd (cc)
-
-  -- at least an opening, a setting and a poll come before the cancel
-  three_before : (e : Entry) (entries : List Entry) → is_whole (request.Command idn) (answer_words (replies_of entries) ++ e.answer.word ∷ []) ≡ true → 3 ≤ length entries
-  three_before e entries whole =
-      let words = answer_words (replies_of entries) ++ e.answer.word ∷ [] in
-      let many : length (steps_of (request.Command idn) words) ≤ length words = leb-true (length (steps_of (request.Command idn) words)) (length words) whole in
-      let first = one_long (drop 2 words) in
-      let three : 3 ≤ length words = omega arith in
-      let second = two_long (drop 2 words) (length-drop_two words three) in
-      let count = length-append (answer_words (replies_of entries)) (e.answer.word ∷ []) in
-      let same = length-answer_words (replies_of entries) in
-      let as_many = length-replies_of entries in
-      omega arith
-
   pub command_last : (e : Entry) (entries log : List Entry) → IsTransfer (request.Command idn) blocks e entries log → e.processed.step.last ≡ true
   command_last e entries log is =
       let words = answer_words (replies_of entries) in
-      all-slice_get (λ (s : Step). s.last) (steps_of (request.Command idn) words) (length words) e.processed.step (polling_last (drop 2 words)) (newest_step (request.Command idn) blocks log e entries is)
+      all-slice_get (λ (s : Step). s.last) (steps_of (request.Command idn) words) (length words) e.processed.step (polling_passes (λ (s : Step). s.last) (drop 2 words) refl refl) (newest_step (request.Command idn) blocks log e entries is)
 
   -- the entry before the cancel is a poll
   pub is_poll : (d o : Entry) (past log : List Entry) → 2 ≤ length (o ∷ past) → IsTransfer (request.Command idn) blocks d (o ∷ past) log → is_whole (request.Command idn) (answer_words (replies_of (o ∷ past)) ++ d.answer.word ∷ []) ≡ false →
@@ -117,19 +79,17 @@ module _ (idn : Idn) (blocks : List Block) (b : Block) (found : find_block idn.r
       let at : length ((words ++ d.answer.word ∷ []) ++ e.answer.word ∷ []) - 2 ≡ length words = omega arith in
       ap (λ (n : ℕ). bytes_in (n ∷ [])) (ap (slice_index ((words ++ d.answer.word ∷ []) ++ e.answer.word ∷ [])) at ∙ index_two words d.answer.word e.answer.word)
 
-  small_word : (n : ℕ) → n < 256 → bytes_in (n ∷ []) ≡ n ∷ 0 ∷ []
-  small_word n small = let low : n % 256 ≡ n = omega arith in let high : n / 256 ≡ 0 = omega arith in ap₂ (λ (x y : ℕ). x ∷ y ∷ []) low high
-
   command_ends : (e : Entry) (entries log : List Entry) (bytes : List ℕ) → IsTransfer (request.Command idn) blocks e entries log → outcome_of (request.Command idn) (replies_of (e ∷ entries)) ≡ Some (outcome.Complete bytes) → GivesStatus idn.raw bytes (e ∷ entries)
-  command_ends e entries log bytes is complete = by entries is (whole_words e entries bytes complete)
+  command_ends e entries log bytes is complete =
+      let done = complete_is (request.Command idn) e.answer (replies_of entries) bytes complete in by entries is (done.1, done.2)
     where
       by : (entries : List Entry) → IsTransfer (request.Command idn) blocks e entries log →
           (is_whole (request.Command idn) (answer_words (replies_of entries) ++ e.answer.word ∷ []) ≡ true) × (bytes ≡ result_of (request.Command idn) (answer_words (replies_of entries) ++ e.answer.word ∷ [])) →
           GivesStatus idn.raw bytes (e ∷ entries)
-      by [] is (whole, gives) = let long = three_before e [] whole in absurd (omega arith)
-      by (d ∷ []) is (whole, gives) = let long = three_before e (d ∷ []) whole in absurd (omega arith)
+      by [] is (whole, gives) = let long = three_before idn e [] whole in absurd (omega arith)
+      by (d ∷ []) is (whole, gives) = let long = three_before idn e (d ∷ []) whole in absurd (omega arith)
       by (d ∷ o ∷ past) is (whole, gives) =
-          let long = three_before e (d ∷ o ∷ past) whole in
+          let long = three_before idn e (d ∷ o ∷ past) whole in
           let was = without_newest (request.Command idn) blocks log e d (o ∷ past) is in
           let on = goes_on-outcome_of (request.Command idn) d.answer (replies_of (o ∷ past)) is.goes_on in
           let poll = is_poll d o past log (omega arith) was on.1 in
@@ -149,15 +109,11 @@ module _ (idn : Idn) (blocks : List Block) (b : Block) (found : find_block idn.r
 pub unknown_incomplete : (r : Request) (blocks : List Block) (e : Entry) (entries log : List Entry) (bytes : List ℕ) → find_block (idn_of r).raw blocks ≡ None → IsTransfer r blocks e entries log →
     outcome_of r (replies_of (e ∷ entries)) ≡ Some (outcome.Complete bytes) → ⊥
 unknown_incomplete r blocks e entries log bytes none is complete =
-    by e.answer.error (is_whole r (answer_words (replies_of entries) ++ e.answer.word ∷ [])) (ap (λ (a : Answer). a.error) (refuses_unknown r blocks e entries log none is).1) (sym (complete-outcome_of r e.answer (replies_of entries)) ∙ ap is_complete complete)
-  where
-    by : (error whole : Bool) → error ≡ true → (not error && whole) ≡ true → ⊥
-    by true whole on is = absurd (cc)
-    by false whole on is = absurd (cc)
+    let well = (complete_is r e.answer (replies_of entries) bytes complete).0 in
+    let refused = ap (λ (a : Answer). a.error) (refuses_unknown r blocks e entries log none is).1 in cc
 
 pub ends_with_status : EndsWithStatus
-ends_with_status idn bytes blocks e entries log is complete = by (find_block idn.raw blocks) refl
-  where
-    by : (o : Option Block) → find_block idn.raw blocks ≡ o → GivesStatus idn.raw bytes (e ∷ entries)
-    by None none = absurd (unknown_incomplete (request.Command idn) blocks e entries log bytes none is complete)
-    by (Some b) found = command_ends idn blocks b found e entries log bytes is complete
+ends_with_status idn bytes blocks e entries log is complete = elim (cases_Option (find_block idn.raw blocks)) [
+  | inl none ↦ absurd (unknown_incomplete (request.Command idn) blocks e entries log bytes none is complete)
+  | inr (b, found) ↦ command_ends idn blocks b found e entries log bytes is complete
+]

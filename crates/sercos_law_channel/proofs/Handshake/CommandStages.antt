@@ -1,5 +1,5 @@
 -- How far a transfer that sets a procedure command has come, and what it adds to the writes.
-use Rattle.sercos_law_channel.proofs.Words.{◌≡◌, ℕ, suc, ◌<◌, Bool, true, false, not, ◌&&◌, List, [], ◌∷◌, ◌++◌, length, refl, ap, ap₂, sym, ◌∙◌, arith, if◌then◌else◌, length-append, cond_both, ◌==◌, nat_le, Option, Some, None, slice_get, nat_tests, Idn, Step, Answer, Request, a_step, opening, polling, steps_of, outcome_of, answer_words, is_whole, Block, find_block, Entry, open_idn, run_before, reply_of, Write, AreAlike, writes_of, replies_of, IsTransfer, is_complete, SetsAndCancels, setting, second_of, added_by_setting, cancelled_by, and-false}
+use Rattle.sercos_law_channel.proofs.Words.{◌≡◌, ℕ, suc, ◌<◌, Bool, true, false, not, ◌&&◌, List, [], ◌∷◌, ◌++◌, length, refl, ap, ap₂, sym, ◌∙◌, arith, if◌then◌else◌, length-append, cond_both, ◌==◌, nat_le, Option, Some, None, slice_get, nat_tests, Idn, Step, Answer, Request, a_step, opening, polling, steps_of, outcome_of, answer_words, is_whole, Block, find_block, Entry, open_idn, run_before, reply_of, Write, AreAlike, writes_of, replies_of, IsTransfer, is_complete, SetsAndCancels, setting, second_of, added_by_setting, cancelled_by, and-false, and_right, inl, inr, cases_Option}
 use Rattle.sercos_idn.specs.declared.kinds.Length.TheVariants as len
 use Rattle.sercos_step.specs.declared.request.Request.TheVariants as request
 use Rattle.sercos_law_channel.proofs.Handshake.TransferSteps.{newest_step, without_newest, complete-outcome_of, goes_on-outcome_of, adds_none, effect_by}
@@ -13,10 +13,6 @@ pub data Poll (polled : List ℕ) (s : Step) : Type 0 where
   Reads : s ≡ a_step false true 1 0 → ((x : ℕ) → length (polling (polled ++ x ∷ [])) ≡ suc (suc (length polled))) → Poll polled s
   Cancels : s ≡ a_step true true 7 0 → ((x : ℕ) → length (polling (polled ++ x ∷ [])) ≡ suc (length polled)) → Poll polled s
 
-one_status : (status : ℕ) → length (polling (status ∷ [])) ≡ 2
-one_status status = cond_both (status == 7) (a_step false true 1 0 ∷ []) (a_step true true 7 0 ∷ [])
-    (λ v. suc (length v) ≡ 2) (λ on. refl) (λ off. refl)
-
 poll_more : (status : ℕ) (polled : List ℕ) (s : Step) → (status == 7) ≡ true → Poll polled s → Poll (status ∷ polled) s
 poll_more status polled s seven (Reads is long) = Reads is (λ x. ap (λ (v : Bool). suc (length (if v then polling (polled ++ x ∷ []) else a_step true true 7 0 ∷ []))) seven ∙ ap suc (long x))
 poll_more status polled s seven (Cancels is long) = Cancels is (λ x. ap (λ (v : Bool). suc (length (if v then polling (polled ++ x ∷ []) else a_step true true 7 0 ∷ []))) seven ∙ ap suc (long x))
@@ -27,7 +23,8 @@ poll_last status [] s other next =
 poll_last status (v ∷ polled) s other next = absurd (cc)
 
 polls : (polled : List ℕ) (s : Step) → slice_get (polling polled) (length polled) ≡ Some s → Poll polled s
-polls [] s next = Reads (some_same (a_step false true 1 0) s next) one_status
+polls [] s next = Reads (some_same (a_step false true 1 0) s next)
+    (λ x. cond_both (x == 7) (a_step false true 1 0 ∷ []) (a_step true true 7 0 ∷ []) (λ v. suc (length v) ≡ 2) (λ on. refl) (λ off. refl))
 polls (status ∷ polled) s next = by (status == 7) refl next (polls polled s)
   where
     by : (v : Bool) → (status == 7) ≡ v → slice_get (if v then polling polled else a_step true true 7 0 ∷ []) (length polled) ≡ Some s → (slice_get (polling polled) (length polled) ≡ Some s → Poll polled s) → Poll (status ∷ polled) s
@@ -56,12 +53,6 @@ module _ (idn : Idn) (b : Block) where
   next_poll words s w v polled is next = polls polled s (rw is at next)
 
   -- whether the answer is the last
-  whole_one : (words : List ℕ) (x : ℕ) → words ≡ [] → is_whole asked (words ++ x ∷ []) ≡ false
-  whole_one words x is = rw is refl
-
-  whole_two : (words : List ℕ) (w x : ℕ) → words ≡ w ∷ [] → is_whole asked (words ++ x ∷ []) ≡ false
-  whole_two words w x is = rw is refl
-
   whole_reads : (words : List ℕ) (w v : ℕ) (polled : List ℕ) (x : ℕ) → words ≡ w ∷ v ∷ polled → length (polling (polled ++ x ∷ [])) ≡ suc (suc (length polled)) → is_whole asked (words ++ x ∷ []) ≡ false
   whole_reads words w v polled x is long =
       let more = length-append polled (x ∷ []) in
@@ -108,9 +99,7 @@ module _ (idn : Idn) (b : Block) where
     AddsBy words e entries all before = writes_of (e ∷ all) ≡ cancelled_by idn.raw (not e.answer.error && is_whole asked (words ++ e.answer.word ∷ [])) e ++ (added_by_setting idn.raw (second_of (e ∷ entries)) ++ before)
 
     not_cancelled : (error whole : Bool) (e : Entry) (writes : List Write) → whole ≡ false → cancelled_by idn.raw (not error && whole) e ++ writes ≡ writes
-    not_cancelled true whole e writes off = refl
-    not_cancelled false true e writes off = absurd (cc)
-    not_cancelled false false e writes off = refl
+    not_cancelled error whole e writes off = ap (λ (v : Bool). cancelled_by idn.raw v e ++ writes) (and_right (not error) whole off)
 
     -- a word that isn't refused is written
     adds_value : (value : ℕ) (e : Entry) (all : List Entry) → value < 256 → e.processed.step ≡ a_step true true 7 value → e.answer.error ≡ false → open_idn all ≡ Some idn.raw → run_before true 7 all ≡ [] → AreAlike e.processed.blocks blocks →
@@ -124,7 +113,7 @@ module _ (idn : Idn) (b : Block) where
     adds_setting words e entries all o w those is opened before step reply alike =
         by e.answer.error refl
         ∙ ap (λ (l : List Entry). added_by_setting idn.raw (second_of (e ∷ l)) ++ writes_of all) (sym those)
-        ∙ sym (not_cancelled e.answer.error (is_whole asked (words ++ e.answer.word ∷ [])) e (added_by_setting idn.raw (second_of (e ∷ entries)) ++ writes_of all) (whole_two words w e.answer.word is))
+        ∙ sym (not_cancelled e.answer.error (is_whole asked (words ++ e.answer.word ∷ [])) e (added_by_setting idn.raw (second_of (e ∷ entries)) ++ writes_of all) (rw is refl))
       where
         by : (v : Bool) → e.answer.error ≡ v → writes_of (e ∷ all) ≡ added_by_setting idn.raw (Some e) ++ writes_of all
         by true off =
@@ -156,7 +145,7 @@ module _ (idn : Idn) (b : Block) where
     adds words e entries all before (AtOpening those is) next reply alike same =
         adds_none e all (effect_by (opening idn) e (next_opening words e.processed.step is next))
         ∙ same ∙ ap (λ (l : List Entry). added_by_setting idn.raw (second_of l) ++ before) those ∙ ap (λ (l : List Entry). added_by_setting idn.raw (second_of (e ∷ l)) ++ before) (sym those)
-        ∙ sym (not_cancelled e.answer.error (is_whole asked (words ++ e.answer.word ∷ [])) e (added_by_setting idn.raw (second_of (e ∷ entries)) ++ before) (whole_one words e.answer.word is))
+        ∙ sym (not_cancelled e.answer.error (is_whole asked (words ++ e.answer.word ∷ [])) e (added_by_setting idn.raw (second_of (e ∷ entries)) ++ before) (rw is refl))
     adds words e entries all before (AtSetting o w those is opened free) next reply alike same =
         adds_setting words e entries all o w those is opened free (next_setting words e.processed.step w is next) reply alike
         ∙ ap (λ (l : List Write). cancelled_by idn.raw (not e.answer.error && is_whole asked (words ++ e.answer.word ∷ [])) e ++ (added_by_setting idn.raw (second_of (e ∷ entries)) ++ l))
@@ -199,9 +188,7 @@ sets_nowhere idn blocks e entries log none is =
     ∙ ap₂ (λ (v : Bool) (l : List Entry). cancelled_by idn.raw v e ++ (added_by_setting idn.raw (second_of (e ∷ l)) ++ writes_of log)) (sym incomplete) (sym only.0)
 
 pub sets_and_cancels : SetsAndCancels
-sets_and_cancels idn blocks e entries log is = by (find_block idn.raw blocks) refl
-  where
-    by : (o : Option Block) → find_block idn.raw blocks ≡ o →
-        writes_of ((e ∷ entries) ++ log) ≡ cancelled_by idn.raw (is_complete (outcome_of (request.Command idn) (replies_of (e ∷ entries)))) e ++ (added_by_setting idn.raw (second_of (e ∷ entries)) ++ writes_of log)
-    by None none = sets_nowhere idn blocks e entries log none is
-    by (Some b) found = sets_found idn b blocks found e entries log is
+sets_and_cancels idn blocks e entries log is = elim (cases_Option (find_block idn.raw blocks)) [
+  | inl none ↦ sets_nowhere idn blocks e entries log none is
+  | inr (b, found) ↦ sets_found idn b blocks found e entries log is
+]

@@ -1,5 +1,5 @@
 -- The words of an element that a store keeps, read as the attribute says, are its bytes.
-use Rattle.sercos_law_channel.proofs.Words.{◌≡◌, ℕ, ◌+◌, ◌/◌, ◌≤◌, Bool, true, false, not, ◌&&◌, List, [], ◌∷◌, length, take, refl, ap, sym, ◌∙◌, arith, if◌then◌else◌, ◌==◌, nat_le, Option, Some, None, is_none, option_map, unwrap_or, slice_index, min, list_all, w16, w32, to_le_bytes, nat_tests, Attribute, Length, is_list, item_len, Shape, words_of, bytes_in, bytes_read, words_in, shape_by, as_value, width_of, bytes_for, is_text, is_printable, is_limit, list_words, low_back, high_back, bytes_back, and_parts, AreBytes}
+use Rattle.sercos_law_channel.proofs.Words.{◌≡◌, ℕ, ◌+◌, ◌/◌, ◌≤◌, Bool, true, false, not, ◌&&◌, List, [], ◌∷◌, length, take, refl, ap, ◌∙◌, arith, if◌then◌else◌, ◌==◌, nat_le, Option, Some, None, is_none, option_map, unwrap_or, slice_index, min, list_all, w16, w32, to_le_bytes, nat_tests, Attribute, Length, is_list, item_len, Shape, words_of, bytes_in, bytes_read, words_in, shape_by, as_value, width_of, bytes_for, is_text, is_printable, is_limit, list_words, low_back, high_back, bytes_back, and_parts, AreBytes, length-words_of, eqb-true, limit_of_number, leb-true}
 use Rattle.sercos_idn.specs.declared.kinds.Length.TheVariants as len
 use Rattle.sercos_step.specs.declared.shape.Shape.TheVariants as shape
 use Rattle.sercos_law_channel.proofs.Handshake.ReadRows.{row, row-all}
@@ -8,18 +8,10 @@ use Rattle.sercos_law_channel.proofs.Handshake.ReadRows.{row, row-all}
 abbrev pub read_from : Shape → List ℕ → List ℕ
 read_from s words = bytes_read s (row (words_in s (slice_index words 0)) words)
 
-length-words_of : (bytes : List ℕ) → length (words_of bytes) ≡ (length bytes + 1) / 2
-length-words_of [] = refl
-length-words_of (low ∷ []) = refl
-length-words_of (low ∷ high ∷ bytes) = let more = length-words_of bytes in omega arith
-
-min-first : (n m : ℕ) → n ≤ m → min n m ≡ n
-min-first n m less = grind (arith, nat_tests)
-
 pub list_read : (bytes : List ℕ) (longest : ℕ) → length bytes ≤ 1024 → AreBytes bytes → read_from shape.List (list_words longest bytes) ≡ bytes
 list_read bytes longest few are =
-    let least : min (length bytes) 1024 ≡ length bytes = min-first (length bytes) 1024 few in
-    let half : (min (length bytes) 1024 + 1) / 2 ≡ length (words_of bytes) = ap (λ (n : ℕ). (n + 1) / 2) least ∙ sym (length-words_of bytes) in
+    let least : min (length bytes) 1024 ≡ length bytes = omega (arith, few) in
+    let half : (min (length bytes) 1024 + 1) / 2 ≡ length (words_of bytes) = ap (λ (n : ℕ). (n + 1) / 2) least ∙ length-words_of bytes in
     let count : 2 + (min (length bytes) 1024 + 1) / 2 ≡ length (list_words longest bytes) = omega (arith, half) in
     ap (λ (n : ℕ). bytes_read shape.List (row n (list_words longest bytes))) count ∙ ap (bytes_read shape.List) (row-all (list_words longest bytes))
     ∙ ap (λ (n : ℕ). take n (bytes_in (words_of bytes))) least ∙ bytes_back bytes are
@@ -61,11 +53,7 @@ limit_read len.List4 n no_list = absurd (cc)
 pub bound_read : (a : Attribute) (o : Option ℕ) → is_limit a o ≡ true → is_none (option_map (bytes_for a) o) ≡ false →
     read_from (as_value (shape_by a.length)) (words_of (unwrap_or (option_map (bytes_for a) o) [])) ≡ unwrap_or (option_map (bytes_for a) o) []
 bound_read a None fits there = absurd (cc)
-bound_read a (Some bits) fits there = limit_read a.length bits (number (is_list a.length) (not a.command) _ fits)
-  where
-    number : (v u w : Bool) → ((not v && u) && w) ≡ true → v ≡ false
-    number false u w on = refl
-    number true u w on = absurd (cc)
+bound_read a (Some bits) fits there = limit_read a.length bits (limit_of_number a bits fits)
 
 pub printable_bytes : (text : List ℕ) → list_all is_printable text ≡ true → AreBytes text
 unfolding AreBytes
@@ -78,50 +66,39 @@ printable_bytes (byte ∷ text) are =
 pub text_read : (most : ℕ) (o : Option (List ℕ)) → most ≤ 1024 → is_text most o ≡ true → read_from shape.List (list_words most (unwrap_or o [])) ≡ unwrap_or o []
 text_read most None small fits = list_read [] most (omega arith) (printable_bytes [] refl)
 text_read most (Some text) small fits =
-    let kept = kept_by (nat_le 1 (length text)) (nat_le (length text) most) (list_all is_printable text) refl fits in
-    list_read text most (omega (arith, kept.0)) (printable_bytes text kept.1)
-  where
-    kept_by : (u v w : Bool) → nat_le (length text) most ≡ v → (u && (v && w)) ≡ true → (length text ≤ most) × (w ≡ true)
-    kept_by true true w is on = (grind (arith, nat_tests), on)
-    kept_by true false w is on = absurd (cc)
-    kept_by false v w is on = absurd (cc)
+    let few = and_parts (nat_le 1 (length text)) _ fits in
+    let kept = and_parts (nat_le (length text) most) (list_all is_printable text) few.1 in
+    let le = leb-true (length text) most kept.0 in
+    list_read text most (omega (arith, le)) (printable_bytes text kept.1)
 
 -- a number's own bytes, or those that it has grown to
 abbrev grown : Length → Bool → List ℕ → ℕ → List ℕ
 grown l still value n = if still then value else to_le_bytes (width_of l) n
 
-length-grown : (l : Length) (still : Bool) (value : List ℕ) (n : ℕ) → is_list l ≡ false → length value ≡ item_len l → length (grown l still value n) ≡ item_len l
-length-grown l true value n no_list is = is
-length-grown len.Two false value n no_list is = refl
-length-grown len.Four false value n no_list is = refl
-length-grown len.List1 false value n no_list is = absurd (cc)
-length-grown len.List2 false value n no_list is = absurd (cc)
-length-grown len.List4 false value n no_list is = absurd (cc)
-
-are_grown : (l : Length) (still : Bool) (value : List ℕ) (n : ℕ) → is_list l ≡ false → AreBytes value → AreBytes (grown l still value n)
-are_grown l true value n no_list are = are
-are_grown len.Two false value n no_list are = two_bytes n
-are_grown len.Four false value n no_list are = four_bytes n
-are_grown len.List1 false value n no_list are = absurd (cc)
-are_grown len.List2 false value n no_list are = absurd (cc)
-are_grown len.List4 false value n no_list are = absurd (cc)
-
-is_same : (n m : ℕ) → (n == m) ≡ true → n ≡ m
-is_same n m same = grind (arith, nat_tests)
+are_grown : (l : Length) (still : Bool) (value : List ℕ) (n : ℕ) → is_list l ≡ false → length value ≡ item_len l → AreBytes value →
+    (length (grown l still value n) ≡ item_len l) × AreBytes (grown l still value n)
+are_grown l true value n no_list is are = (is, are)
+are_grown len.Two false value n no_list is are = (refl, two_bytes n)
+are_grown len.Four false value n no_list is are = (refl, four_bytes n)
+are_grown len.List1 false value n no_list is are = absurd (cc)
+are_grown len.List2 false value n no_list is are = absurd (cc)
+are_grown len.List4 false value n no_list is are = absurd (cc)
 
 most_of : (n longest : ℕ) (v : Bool) → nat_le n longest ≡ true → (nat_le 1 longest && (nat_le longest 1024 && v)) ≡ true → n ≤ 1024
-most_of n longest v less fits = by (nat_le 1 longest) (nat_le longest 1024) refl fits
-  where
-    by : (x y : Bool) → nat_le longest 1024 ≡ y → (x && (y && v)) ≡ true → n ≤ 1024
-    by true true is on = grind (arith, nat_tests)
-    by true false is on = absurd (cc)
-    by false y is on = absurd (cc)
+most_of n longest v less fits =
+    let kept = and_parts (nat_le longest 1024) v (and_parts (nat_le 1 longest) _ fits).1 in
+    let le = leb-true n longest less in
+    let most = leb-true longest 1024 kept.0 in omega (arith, le, most)
 
 pub data_read : (l : Length) (still : Bool) (value : List ℕ) (n longest : ℕ) (v : Bool) → (if is_list l then nat_le (length value) longest else length value == item_len l) ≡ true →
     (if is_list l then nat_le 1 longest && (nat_le longest 1024 && v) else longest == 0) ≡ true → AreBytes value →
     read_from (shape_by l) (if is_list l then list_words longest value else words_of (grown l still value n)) ≡ (if not (is_list l) then grown l still value n else value)
-data_read len.Two still value n longest v fits most are = two_read (grown len.Two still value n) (length-grown len.Two still value n refl (is_same (length value) 2 fits)) (are_grown len.Two still value n refl are)
-data_read len.Four still value n longest v fits most are = four_read (grown len.Four still value n) (length-grown len.Four still value n refl (is_same (length value) 4 fits)) (are_grown len.Four still value n refl are)
+data_read len.Two still value n longest v fits most are =
+    let (long, all) = are_grown len.Two still value n refl (eqb-true (length value) 2 fits) are in
+    two_read (grown len.Two still value n) long all
+data_read len.Four still value n longest v fits most are =
+    let (long, all) = are_grown len.Four still value n refl (eqb-true (length value) 4 fits) are in
+    four_read (grown len.Four still value n) long all
 data_read len.List1 still value n longest v fits most are = list_read value longest (most_of (length value) longest v fits most) are
 data_read len.List2 still value n longest v fits most are = list_read value longest (most_of (length value) longest v fits most) are
 data_read len.List4 still value n longest v fits most are = list_read value longest (most_of (length value) longest v fits most) are

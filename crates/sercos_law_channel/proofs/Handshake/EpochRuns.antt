@@ -1,7 +1,7 @@
 -- Over falls and restarts: the drive is in step with the epoch of the master.
 use Rattle.sercos_law_channel.proofs.Words.{◌≡◌, ◌⊎◌, inl, inr, ℕ, suc, ◌+◌, ◌≤◌, Bool, true, false, not, ◌&&◌, List, [], ◌∷◌, length, refl, sym, ap, ◌∙◌, subst, arith, if◌then◌else◌, ◌==◌, Option, Some, None, IsSome, IfSome, cases_eq, cases_Bool, eqb-true, cond-true, cond-false, Request, change_in, Processed, Entry, reply_of, log_of, channel_says, shown_by, Begun, Said, open_in, master_says, AreInStep, Idle, Heard, View, Standing, stood_in, got_in, standing, record_in, processed_in, with_record, kept_in, since_reset, command, command_in, whole_row, with_heard, with_begun, unless_restart, epoch_begun, begun_in, epoch_records, records_in_views, epoch_log, log_in, IsShown, IsNext, IsRun, zero_run}
 use Rattle.sercos_law_channel.proofs.Handshake.HandshakeMoves.{hears, begins, takes, ahs-log, log-taken}
-use Rattle.sercos_law_channel.proofs.Handshake.PhaseMoves.{chosen, Stands, Down, Moves, Stays, stands, before, ends, Processes, Nothing, Record, processes, processed_phase, kept_on, kept_below, reset_on}
+use Rattle.sercos_law_channel.proofs.Handshake.PhaseMoves.{chosen, Stands, Down, Moves, Stays, stands, before, ends, processed_phase, kept_on, kept_below, reset_on, of_processed, uncut}
 
 whole_le_zero : (whole here there restart : Bool) (a b : ℕ) → a ≤ b → (if whole && (here && not there) then (if restart then 0 else a) + 1 else 0) ≤ (if here then b + 1 else 0)
 whole_le_zero true true false true a b le = omega arith
@@ -23,15 +23,20 @@ command_up true rises p h = absurd (omega arith)
 command_up false true p h = (refl, inl refl)
 command_up false false p h = (refl, inr h)
 
-command_low : (falls rises : Bool) (p : ℕ) → falls ≡ false → (if falls then 0 else (if rises then p + 1 else p)) ≤ 1 → p ≤ 1
-command_low true rises p off low = absurd (cc)
-command_low false true p off low = omega arith
-command_low false false p off low = low
+-- the phase that is commanded after a cycle without a fall
+pub next_phase : (u : View) (past : List View) → u.falls ≡ false → (command (u ∷ past) ≡ u.phase) ⊎ (command (u ∷ past) ≡ u.phase + 1)
+next_phase u past on = elim (chosen u.rises (u.phase + 1) u.phase) [
+  | inl up ↦ inr (cond-false u.falls 0 _ on ∙ up.1)
+  | inr rests ↦ inl (cond-false u.falls 0 _ on ∙ rests.1)
+]
 
 command_one : (falls rises : Bool) (p : ℕ) → (if falls then 0 else (if rises then p + 1 else p)) ≡ 1 → ((rises ≡ true) × (p ≡ 0)) ⊎ (p ≡ 1)
 command_one true rises p h = absurd (omega arith)
 command_one false true p h = inl (refl, omega arith)
 command_one false false p h = inr h
+
+pub two_ways : (p : ℕ) → (p ≤ 1) ⊎ (2 ≤ p)
+two_ways p = elim (cases_eq p 0) [ inl z ↦ inl (omega arith) | inr nz ↦ elim (cases_eq p 1) [ inl one ↦ inl (omega arith) | inr more ↦ inr (omega arith) ] ]
 
 -- the commanded phase of a cycle: 0 where the master restarts
 pub commanded : (v : View) (past : List View) → v.phase ≡ command_in v past → ((v.master_restarts ≡ true) × (v.phase ≡ 0)) ⊎ ((v.master_restarts ≡ false) × (v.phase ≡ command past))
@@ -39,6 +44,13 @@ commanded v past is = elim (chosen v.master_restarts 0 (command past)) [
   | inl r ↦ inl (r.0, is ∙ r.1)
   | inr on ↦ inr (on.0, is ∙ on.1)
 ]
+
+-- what an epoch has after a cycle without a fall
+pub begun_on : (v : View) (past : List View) → v.falls ≡ false → epoch_begun (v ∷ past) ≡ begun_in v past
+begun_on v past on = cond-false v.falls [] (begun_in v past) on
+
+pub log_on : (v : View) (past : List View) → v.falls ≡ false → epoch_log (v ∷ past) ≡ log_in v past
+log_on v past on = ap log_of (cond-false v.falls [] (records_in_views v past) on)
 
 pub unless_restart-on : {A : Type 0} (v : View) (xs : List A) → v.master_restarts ≡ false → unless_restart v xs ≡ xs
 unless_restart-on v xs on = cond-false v.master_restarts [] xs on
@@ -64,18 +76,16 @@ module _ (busy : ℕ) where
       ∙ ap (with_heard v.heard) none ∙ heard_none v.heard
 
   start_processed : (v : View) (past : List View) → v.phase ≤ 1 → processed_in v past ≡ None
-  start_processed v past low = by (processes v past)
-    where
-      by : Processes v past → processed_in v past ≡ None
-      by (Nothing none) = none
-      by (Record s got came two is) = let same = processed_phase v past came (omega arith) in absurd (omega arith)
+  start_processed v past low =
+      of_processed v past (λ o. o ≡ None) refl (λ s got came two. let same = processed_phase v past came (omega arith) in absurd
+      (omega arith))
 
   pub quiet : (past : List View) → IsRun busy past → command past ≤ 1 → (epoch_begun past ≡ []) × (epoch_records past ≡ [])
   quiet [] run low = (refl, refl)
   quiet (v ∷ past) run low = elim (cases_Bool v.falls) [
     | inl fell ↦ (cond-true v.falls [] (begun_in v past) fell, cond-true v.falls [] (records_in_views v past) fell)
     | inr on ↦
-        let p : v.phase ≤ 1 = command_low v.falls v.rises v.phase on low in
+        let p : v.phase ≤ 1 = elim (next_phase v past on) [ inl same ↦ omega (arith, low) | inr up ↦ omega (arith, low) ] in
         let earlier : v.master_restarts ≡ false → (epoch_begun past ≡ []) × (epoch_records past ≡ []) = λ still. quiet past run.0 (elim (commanded v past run.1.commanded) [ inl r ↦ absurd (cc) | inr c ↦ omega (arith, c.1) ]) in
         let taken : records_in_views v past ≡ [] =
         ap (λ (o : Option Processed). with_record o (unless_restart v (epoch_records past))) (start_processed v past p) ∙ unless_restart-none v (epoch_records past) (λ still. (earlier still).1) in
@@ -141,12 +151,11 @@ module _ (busy : ℕ) where
       by (Stays missed got_mst still is) = elim was [ inl z ↦ is ∙ z | inr off ↦ absurd (cc) ]
 
   first_zero : (v : View) (past : List View) → v.phase ≡ 0 → ((standing (v ∷ past)).ended ≡ 0) ⊎ ((standing (v ∷ past)).got_mst ≡ false)
-  first_zero v past zero = by (stands v (standing past))
-    where
-      by : Stands v (standing past) → ((standing (v ∷ past)).ended ≡ 0) ⊎ ((standing (v ∷ past)).got_mst ≡ false)
-      by (Down z) = inl (elim (ends v past) [ inl y ↦ y | inr e ↦ e ∙ z ])
-      by (Moves m is down up) = inl (elim (ends v past) [ inl y ↦ y | inr e ↦ e ∙ is ∙ zero ])
-      by (Stays missed got_mst still is) = inr missed
+  first_zero v past zero = elim (stands v (standing past)) [
+    | Down z ↦ inl (elim (ends v past) [ inl y ↦ y | inr e ↦ e ∙ z ])
+    | Moves m is down up ↦ inl (elim (ends v past) [ inl y ↦ y | inr e ↦ e ∙ is ∙ zero ])
+    | Stays missed got_mst still is ↦ inr missed
+  ]
 
   -- what it keeps at the end of a cycle commanded 1 or later
   same_after : (v : View) (past : List View) → IsRun busy (v ∷ past) → Joined past → 1 ≤ v.phase → ((standing (v ∷ past)).ended ≡ 0) ⊎ (since_reset (v ∷ past) ≡ records_in_views v past)
@@ -186,22 +195,15 @@ module _ (busy : ℕ) where
   InStepOver begun taken = AreInStep begun (log_of taken)
 
   pub restarted : (v : View) (begun : List Begun) (taken : List Processed) → InStepOver begun taken → InStepOver (unless_restart v begun) (unless_restart v taken)
-  restarted v begun taken h = by v.master_restarts
-    where
-      by : (r : Bool) → InStepOver (if r then [] else begun) (if r then [] else taken)
-      by true = Idle refl refl refl
-      by false = h
+  restarted v begun taken h = uncut InStepOver v.master_restarts begun taken (Idle refl refl refl) (λ still. h)
 
   -- what is heard shows what was taken in this epoch, or nothing was begun
   pub shown_of : (v : View) (past : List View) → IsRun busy (v ∷ past) → Joined past → (a : Heard) → IsShown busy a v past →
       (unless_restart v (epoch_begun past) ≡ []) ⊎ (shown_by a.status a.word ≡ channel_says busy (length past) v.showing (unless_restart v (epoch_records past)))
-  shown_of v past run j a shown = elim (cases_low v.phase) [
+  shown_of v past run j a shown = elim (two_ways v.phase) [
     | inl low ↦ inl (start v past run low).0
     | inr two ↦ inr (shown.says ∙ ap (channel_says busy (length past) v.showing) (same_at v past run j (omega arith) (λ z. let up = shown.stands in omega arith)))
   ]
-    where
-      cases_low : (p : ℕ) → (p ≤ 1) ⊎ (2 ≤ p)
-      cases_low p = elim (cases_eq p 0) [ inl z ↦ inl (omega arith) | inr nz ↦ elim (cases_eq p 1) [ inl one ↦ inl (omega arith) | inr more ↦ inr (omega arith) ] ]
 
   pub heard_of : (v : View) (past : List View) → IsRun busy (v ∷ past) → Joined past → (o : Option Heard) → IfSome o (λ a. IsShown busy a v past) →
       InStepOver (unless_restart v (epoch_begun past)) (unless_restart v (epoch_records past)) → InStepOver (with_heard o (unless_restart v (epoch_begun past))) (unless_restart v (epoch_records past))
@@ -225,14 +227,10 @@ module _ (busy : ℕ) where
       of false o got is = absurd (cc)
 
   taken_of : (v : View) (past : List View) (taken : List Processed) → IfSome v.sent (λ s. s ≡ master_says (begun_in v past)) → InStepOver (begun_in v past) taken → InStepOver (begun_in v past) (with_record (processed_in v past) taken)
-  taken_of v past taken sent h = by (processes v past)
-    where
-      by : Processes v past → InStepOver (begun_in v past) (with_record (processed_in v past) taken)
-      by (Nothing none) = subst (λ (o : Option Processed). InStepOver (begun_in v past) (with_record o taken)) (sym none) h
-      by (Record s got came two is) =
-          let t : Processed = record_in v (length past) (stood_in v (standing past)) s in
-          subst (λ (o : Option Processed). InStepOver (begun_in v past) (with_record o taken)) (sym is)
-          (subst (λ (l : List Entry). AreInStep (begun_in v past) l) (sym (log-taken t taken)) (takes (begun_in v past) (log_of taken) t (reply_of t (log_of taken)) h (said_of v past sent s got)))
+  taken_of v past taken sent h = of_processed v past (λ o. InStepOver (begun_in v past) (with_record o taken)) h (λ s got came two.
+      let t : Processed = record_in v (length past) (stood_in v (standing past)) s in
+      subst (λ (l : List Entry). AreInStep (begun_in v past) l) (sym (log-taken t taken))
+      (takes (begun_in v past) (log_of taken) t (reply_of t (log_of taken)) h (said_of v past sent s got)))
 
   -- one cycle, before it falls
   in_step_by : (v : View) (past : List View) → IsRun busy (v ∷ past) → AreInStep (epoch_begun past) (epoch_log past) → AreInStep (begun_in v past) (log_in v past)
@@ -245,11 +243,9 @@ module _ (busy : ℕ) where
   -- in every cycle, also where the drive has fallen
   pub in_step : (past : List View) → IsRun busy past → AreInStep (epoch_begun past) (epoch_log past)
   in_step [] run = Idle refl refl refl
-  in_step (v ∷ past) run = by v.falls (in_step_by v past run (in_step past run.0))
-    where
-      by : (falls : Bool) → AreInStep (begun_in v past) (log_in v past) → AreInStep (if falls then [] else begun_in v past) (log_of (if falls then [] else records_in_views v past))
-      by true h = Idle refl refl refl
-      by false h = h
+  in_step (v ∷ past) run =
+      uncut InStepOver v.falls (begun_in v past) (records_in_views v past) (Idle refl refl refl)
+      (λ on. in_step_by v past run (in_step past run.0))
 
   pub in_step_in : (v : View) (past : List View) → IsRun busy (v ∷ past) → AreInStep (begun_in v past) (log_in v past)
   in_step_in v past run = in_step_by v past run (in_step past run.0)

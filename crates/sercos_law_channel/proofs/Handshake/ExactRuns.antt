@@ -1,12 +1,12 @@
 -- All transfers of a run are exact, through all epochs.
-use Rattle.sercos_law_channel.proofs.Words.{◌≡◌, ◌⊎◌, inl, inr, ℕ, ◌+◌, Bool, true, false, List, [], ◌∷◌, ◌++◌, length, refl, sym, ap, ◌∙◌, subst, arith, if◌then◌else◌, append_assoc, cond_both, Option, Some, None, IsSome, IfSome, is_some, beq, Status, Answer, Request, Block, CommandHistory, change_in, Shown, channel_says, shown_by, Processed, Entry, ahs, accepted, reply_of, answered, log_of, Write, AreAlike, writes_of, Begun, open_in, is_odd, answers_it, answer_in, with_answer, master_says, AreInStep, with_status, said_in, AreInTurn, AreParts, AreReplies, HaveBlocks, Heard, View, standing, stood_in, record_in, with_record, command, with_heard, with_begun, unless_restart, epoch_begun, begun_in, epoch_records, records_in_views, epoch_log, log_in, IsShown, IsRun, leaving, begun_ago, all_begun, all_writes, IsSound, AreSound, AreSmall, AreExact, RunsAreExact}
+use Rattle.sercos_law_channel.proofs.Words.{◌≡◌, ◌⊎◌, inl, inr, ℕ, ◌+◌, Bool, true, false, List, [], ◌∷◌, ◌++◌, length, refl, sym, ap, ◌∙◌, subst, arith, if◌then◌else◌, append_assoc, cond_both, Option, Some, None, IsSome, IfSome, is_some, beq, Status, Answer, Request, Block, CommandHistory, change_in, Shown, channel_says, shown_by, Processed, Entry, ahs, accepted, reply_of, answered, log_of, Write, AreAlike, writes_of, Begun, open_in, is_odd, answers_it, answer_in, with_answer, master_says, AreInStep, with_status, said_in, AreInTurn, AreParts, AreReplies, HaveBlocks, Heard, View, standing, stood_in, record_in, with_record, command, with_heard, with_begun, unless_restart, epoch_begun, begun_in, epoch_records, records_in_views, epoch_log, log_in, IsShown, IsRun, leaving, begun_ago, all_begun, all_writes, IsSound, AreSound, AreSmall, AreExact, RunsAreExact, cond-false}
 use Rattle.sercos_law_channel.proofs.Handshake.HandshakeMoves.{ahs-shown, ahs-log, log-taken}
 use Rattle.sercos_law_channel.proofs.Handshake.LogParts.{heard_in_turn, fall_into_parts}
-use Rattle.sercos_law_channel.proofs.Handshake.PhaseMoves.{Processes, Nothing, Record, processes, processed_phase}
-use Rattle.sercos_law_channel.proofs.Handshake.EpochRuns.{commanded, joined, restarted, shown_of, heard_of, begun_of, said_of, in_step, in_step_in}
+use Rattle.sercos_law_channel.proofs.Handshake.PhaseMoves.{processed_phase, uncut, of_processed}
+use Rattle.sercos_law_channel.proofs.Handshake.EpochRuns.{joined, restarted, shown_of, heard_of, begun_of, said_of, in_step, in_step_in}
 use Rattle.sercos_law_channel.proofs.Handshake.OnePhase.{IsSteady, IsLevel, heard_level, begun_level, taken_level}
 use Rattle.sercos_law_channel.proofs.Handshake.WholeRuns.{HasReplies, answered_replies, entries_ago, writes_ago, entries_in_epochs, writes_in_epochs}
-use Rattle.sercos_law_channel.proofs.Handshake.ExactTransfers.{Laws, part_is}
+use Rattle.sercos_law_channel.proofs.Handshake.ExactTransfers.{part_is}
 
 -- the requests are sound
 abbrev AreAllSound : List Block → List Begun → Type 0
@@ -26,7 +26,7 @@ split_steady : (part rest : List Entry) → IsSteady (part ++ rest) → IsSteady
 split_steady [] rest steady = steady
 split_steady (e ∷ part) rest steady = split_steady part rest steady.0
 
-module _ (laws : Laws) (blocks : List Block) (small : AreSmall blocks) where
+module _ (blocks : List Block) (small : AreSmall blocks) where
   -- the parts of one epoch
   parts_exact : (begun : List Begun) (log : List Entry) → AreParts begun log → AreAllSound blocks begun → HasReplies log → HaveBlocks blocks log → IsSteady log → AreExact blocks begun log (writes_of log)
   parts_exact [] log none sound replies alike steady = (none, ap writes_of none)
@@ -34,7 +34,7 @@ module _ (laws : Laws) (blocks : List Block) (small : AreSmall blocks) where
       let replies_split = split_replies part rest (subst HasReplies those replies) in
       let blocks_split = split_blocks blocks part rest (subst (HaveBlocks blocks) those alike) in
       let whole : IsSteady (part ++ rest) = subst IsSteady those steady in
-      let is = part_is laws blocks small b part rest sound.1 replies_split.0 blocks_split.0 whole of in
+      let is = part_is blocks small b part rest sound.1 replies_split.0 blocks_split.0 whole of in
       (part, rest, is.own, writes_of rest, those, ap writes_of those ∙ is.adds, is.exact, parts_exact past rest others sound.0 replies_split.1 blocks_split.1 (split_steady part rest whole))
 
 -- one after the other
@@ -119,42 +119,25 @@ module _ (blocks : List Block) where
     in_cycle v past run sound is =
         let taken = unless_restart v (epoch_records past) in
         let begun = unless_restart v (epoch_begun past) in
-        let first : IsEpoch blocks v.phase begun taken = elim (commanded v past run.1.commanded) [
-          | inl r ↦ restarted_epoch r.0
-          | inr c ↦ going_epoch c.0 (subst (λ (p : ℕ). IsEpoch blocks p (epoch_begun past) (epoch_records past)) (sym c.1) is)
-        ] in
+        let first : IsEpoch blocks v.phase begun taken =
+        uncut (IsEpoch blocks v.phase) v.master_restarts (epoch_begun past) (epoch_records past) (at_start v.phase)
+        (λ still. subst (λ (p : ℕ). IsEpoch blocks p (epoch_begun past) (epoch_records past))
+        (sym (run.1.commanded ∙ cond-false v.master_restarts 0 (command past) still)) is) in
         let h0 = restarted busy v (epoch_begun past) (epoch_records past) (in_step busy past run.0) in
         let h1 = heard_of busy v past run (joined busy past run.0) v.heard run.1.heard h0 in
         let h2 = begun_of busy v.begins (with_heard v.heard begun) taken run.1.begins h1 in
         let second : IsEpoch blocks v.phase (with_heard v.heard begun) taken = heard_any v.heard run.1.heard h0 first in
         let third : IsEpoch blocks v.phase (begun_in v past) taken = begun_epoch v.phase v.begins (with_heard v.heard begun) taken h1 run.1.begins sound.1.1 second in
-        recorded h2 third (processes v past)
+        of_processed v past (λ o. IsEpoch blocks v.phase (begun_in v past) (with_record o taken)) third
+        (λ s got came up. taken_epoch v.phase (record_in v (length past) (stood_in v (standing past)) s) (begun_in v past) taken h2
+        (said_of busy v past run.1.sent s got)
+        (processed_phase v past came (omega arith)) sound.1.0 third)
       where
-        restarted_epoch : v.master_restarts ≡ true → IsEpoch blocks v.phase (unless_restart v (epoch_begun past)) (unless_restart v (epoch_records past))
-        restarted_epoch r = by v.master_restarts r
-          where
-            by : (b : Bool) → b ≡ true → IsEpoch blocks v.phase (if b then [] else epoch_begun past) (if b then [] else epoch_records past)
-            by true on = at_start v.phase
-            by false on = absurd (cc)
-
-        going_epoch : v.master_restarts ≡ false → IsEpoch blocks v.phase (epoch_begun past) (epoch_records past) → IsEpoch blocks v.phase (unless_restart v (epoch_begun past)) (unless_restart v (epoch_records past))
-        going_epoch still was = by v.master_restarts still
-          where
-            by : (b : Bool) → b ≡ false → IsEpoch blocks v.phase (if b then [] else epoch_begun past) (if b then [] else epoch_records past)
-            by true on = absurd (cc)
-            by false on = was
-
         heard_any : (o : Option Heard) → IfSome o (λ a. IsShown busy a v past) → AreInStep (unless_restart v (epoch_begun past)) (log_of (unless_restart v (epoch_records past))) →
             IsEpoch blocks v.phase (unless_restart v (epoch_begun past)) (unless_restart v (epoch_records past)) → IsEpoch blocks v.phase (with_heard o (unless_restart v (epoch_begun past))) (unless_restart v (epoch_records past))
         heard_any None shown h was = was
         heard_any (Some a) shown h was =
             heard_epoch v.phase busy (length past) v.showing a (unless_restart v (epoch_begun past)) (unless_restart v (epoch_records past)) h (shown_of busy v past run (joined busy past run.0) a shown) was
-
-        recorded : AreInStep (begun_in v past) (log_of (unless_restart v (epoch_records past))) → IsEpoch blocks v.phase (begun_in v past) (unless_restart v (epoch_records past)) → Processes v past → IsEpoch blocks v.phase (begun_in v past) (records_in_views v past)
-        recorded h was (Nothing none) = subst (λ (o : Option Processed). IsEpoch blocks v.phase (begun_in v past) (with_record o (unless_restart v (epoch_records past)))) (sym none) was
-        recorded h was (Record s got came two some) =
-            subst (λ (o : Option Processed). IsEpoch blocks v.phase (begun_in v past) (with_record o (unless_restart v (epoch_records past)))) (sym some)
-            (taken_epoch v.phase (record_in v (length past) (stood_in v (standing past)) s) (begun_in v past) (unless_restart v (epoch_records past)) h (said_of busy v past run.1.sent s got) (processed_phase v past came (omega arith)) sound.1.0 was)
 
     after_cycle : (v : View) (past : List View) → IsRun busy (v ∷ past) → IsEpoch blocks v.phase (begun_in v past) (records_in_views v past) → IsEpoch blocks (command (v ∷ past)) (epoch_begun (v ∷ past)) (epoch_records (v ∷ past))
     after_cycle v past run is = by v.falls v.rises refl
@@ -168,16 +151,16 @@ module _ (blocks : List Block) where
     epoch [] run sound = at_start 0
     epoch (v ∷ past) run sound = after_cycle v past run (in_cycle v past run sound (epoch past run.0 sound.0))
 
-    module _ (laws : Laws) (small : AreSmall blocks) where
+    module _ (small : AreSmall blocks) where
       epoch_exact : (past : List View) → IsRun busy past → AreSound blocks past → AreExact blocks (epoch_begun past) (epoch_log past) (writes_of (epoch_log past))
       epoch_exact past run sound =
           let is = epoch past run sound in
-          parts_exact laws blocks small (epoch_begun past) (epoch_log past) (fall_into_parts (epoch_begun past) (epoch_log past) is.in_turn (in_step busy past run)) is.sound (answered_replies (accepted (epoch_records past))) is.alike is.level.steady
+          parts_exact blocks small (epoch_begun past) (epoch_log past) (fall_into_parts (epoch_begun past) (epoch_log past) is.in_turn (in_step busy past run)) is.sound (answered_replies (accepted (epoch_records past))) is.alike is.level.steady
 
       pub cycle_exact : (v : View) (past : List View) → IsRun busy (v ∷ past) → AreSound blocks (v ∷ past) → AreExact blocks (begun_in v past) (log_in v past) (writes_of (log_in v past))
       cycle_exact v past run sound =
           let is = in_cycle v past run sound (epoch past run.0 sound.0) in
-          parts_exact laws blocks small (begun_in v past) (log_in v past) (fall_into_parts (begun_in v past) (log_in v past) is.in_turn (in_step_in busy v past run)) is.sound (answered_replies (accepted (records_in_views v past))) is.alike is.level.steady
+          parts_exact blocks small (begun_in v past) (log_in v past) (fall_into_parts (begun_in v past) (log_in v past) is.in_turn (in_step_in busy v past run)) is.sound (answered_replies (accepted (records_in_views v past))) is.alike is.level.steady
 
       left_exact : (ends : Bool) (xs ago : List Begun) (es fs : List Entry) (ws us : List Write) → AreExact blocks xs es ws → AreExact blocks ago fs us → AreExact blocks (leaving ends xs ago) (leaving ends es fs) (leaving ends ws us)
       left_exact true xs ago es fs ws us is behind = exact-append blocks xs ago es fs ws us is behind
@@ -190,8 +173,8 @@ module _ (blocks : List Block) where
           (cycle_exact v past run sound)
           (left_exact v.master_restarts (epoch_begun past) (begun_ago past) (epoch_log past) (entries_ago past) (writes_of (epoch_log past)) (writes_ago past) (epoch_exact past run.0 sound.0) (ago_exact past run.0 sound.0))
 
-pub runs_are_exact : Laws → (busy : ℕ) → RunsAreExact busy
-runs_are_exact laws busy blocks past small run sound =
+pub runs_are_exact : (busy : ℕ) → RunsAreExact busy
+runs_are_exact busy blocks past small run sound =
     subst (λ (l : List Entry). AreExact blocks (all_begun past) l (all_writes past)) (sym (entries_in_epochs busy past run))
     (subst (λ (l : List Write). AreExact blocks (all_begun past) (epoch_log past ++ entries_ago past) l) (sym (writes_in_epochs busy past run))
-    (exact-append blocks (epoch_begun past) (begun_ago past) (epoch_log past) (entries_ago past) (writes_of (epoch_log past)) (writes_ago past) (epoch_exact blocks busy laws small past run sound) (ago_exact blocks busy laws small past run sound)))
+    (exact-append blocks (epoch_begun past) (begun_ago past) (epoch_log past) (entries_ago past) (writes_of (epoch_log past)) (writes_ago past) (epoch_exact blocks busy small past run sound) (ago_exact blocks busy small past run sound)))

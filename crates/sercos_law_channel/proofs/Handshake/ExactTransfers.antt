@@ -1,5 +1,5 @@
 -- What one transfer writes and reads, whether it is complete, refused, open or broken.
-use Rattle.sercos_law_channel.proofs.Words.{◌≡◌, ℕ, ◌+◌, ◌≤◌, Bool, true, false, not, List, [], ◌∷◌, ◌++◌, map, drop, length, refl, sym, ap, ◌∙◌, subst, arith, if◌then◌else◌, length-append, ◌==◌, Option, Some, None, IfSome, and_parts, cond-false, cond-true, eqb-true, leb-true, AreBytes, Attribute, Code, Idn, Answer, Request, steps_before, steps_of, outcome_of, answer_words, is_whole, result_of, AreAnswers, Block, is_protected, find_block, Entry, Write, writes_of, Begun, replies_of, IsRow, IsPart, Unsent, Unheard, AreReplies, HaveBlocks, IsTransfer, stored, is_complete, WritesOnce, AreProtected, setting, second_of, added_by_setting, cancelled_by, idn_of, ReadsOnce, entry_behind, IsReadAt, length-answer_words, IsSound, AreSmall, Given, given_of, gives, written_to, given_by, HasBlock, AreWrites, Complete, Refused, Broken, AreInPhase, ReadsExactly, EndsExactly, IsExact}
+use Rattle.sercos_law_channel.proofs.Words.{◌≡◌, ℕ, ◌≤◌, Bool, true, false, not, List, [], ◌∷◌, ◌++◌, map, drop, length, refl, sym, ap, ◌∙◌, subst, arith, if◌then◌else◌, ◌==◌, Option, Some, None, IfSome, cond-false, cond-true, eqb-true, AreBytes, Attribute, Code, Idn, Answer, Request, steps_before, outcome_of, answer_words, is_whole, result_of, AreAnswers, Block, is_protected, find_block, Entry, Write, writes_of, Begun, replies_of, IsRow, IsPart, Unsent, Unheard, AreReplies, HaveBlocks, IsTransfer, stored, is_complete, WritesOnce, AreProtected, setting, second_of, added_by_setting, cancelled_by, idn_of, ReadsOnce, entry_behind, IsReadAt, IsSound, AreSmall, Given, given_of, gives, written_to, given_by, HasBlock, AreWrites, Complete, Refused, Broken, AreInPhase, ReadsExactly, EndsExactly, IsExact, drop-length, inl, inr, cases_Bool, cases_Option}
 use Rattle.sercos_step.specs.declared.request.Request.TheVariants as request
 use Rattle.sercos_step.specs.declared.request.Outcome.TheVariants as outcome
 use Rattle.sercos_law_channel.specs.Handshake.Parts.{Heard}
@@ -7,14 +7,10 @@ use Rattle.sercos_law_channel.proofs.Handshake.UnknownBlocks.{writes_nowhere}
 use Rattle.sercos_law_channel.proofs.Handshake.QuietSteps.{writes_nothing}
 use Rattle.sercos_law_channel.proofs.Handshake.CommandStages.{sets_and_cancels}
 use Rattle.sercos_law_channel.proofs.Handshake.CommandRefusals.{refused_adds_nothing}
-use Rattle.sercos_law_channel.proofs.Handshake.TransferSteps.{length-replies_of, complete-outcome_of, goes_on-outcome_of}
-use Rattle.sercos_law_channel.proofs.Handshake.CommandEnds.{one_long, unknown_incomplete, ends_with_status}
+use Rattle.sercos_law_channel.proofs.Handshake.TransferSteps.{goes_on-outcome_of, complete_is}
+use Rattle.sercos_law_channel.proofs.Handshake.CommandEnds.{unknown_incomplete, ends_with_status, three_before}
+use Rattle.sercos_law_channel.proofs.Handshake.Once.{reads_once, writes_once}
 use Rattle.sercos_law_channel.proofs.Handshake.OnePhase.{IsNamed, IsSteady, in_one_phase}
-
--- the two laws on transfers that stand on what the master takes for an attribute
-pub record Laws : Type 0 where
-  pub once : WritesOnce
-  pub reads : ReadsOnce
 
 -- how a request ends
 pub data Ends (r : Request) (h : List Answer) : Type 0 where
@@ -50,24 +46,24 @@ pub data Took (r : Request) (e : Entry) (entries : List Entry) (answers : List A
   All : answers ≡ replies_of (e ∷ entries) → Took r e entries answers
   AllButOne : answers ≡ replies_of entries → outcome_of r answers ≡ None → Took r e entries answers
 
-module _ (laws : Laws) (blocks : List Block) (small : AreSmall blocks) where
+module _ (blocks : List Block) (small : AreSmall blocks) where
   -- a transfer is complete only if the drive has the block
   has_block : (r : Request) (e : Entry) (entries log : List Entry) (answers : List Answer) (bytes : List ℕ) → IsTransfer r blocks e entries log → Took r e entries answers → outcome_of r answers ≡ Some (outcome.Complete bytes) → HasBlock blocks r
   has_block r e entries log answers bytes is (AllButOne same on) complete = absurd (cc)
-  has_block r e entries log answers bytes is (All same) complete = by (find_block (idn_of r).raw blocks) refl
-    where
-      by : (o : Option Block) → find_block (idn_of r).raw blocks ≡ o → HasBlock blocks r
-      by (Some b) found = (b, found)
-      by None none = absurd (unknown_incomplete r blocks e entries log bytes none is (ap (outcome_of r) (sym same) ∙ complete))
+  has_block r e entries log answers bytes is (All same) complete = elim (cases_Option (find_block (idn_of r).raw blocks)) [
+    | inl none ↦ absurd (unknown_incomplete r blocks e entries log bytes none is (ap (outcome_of r) (sym same) ∙ complete))
+    | inr (b, found) ↦ (b, found)
+  ]
 
-  -- a transfer that adds no write, and gives none
-  adds_nothing : (r : Request) (e : Entry) (entries log : List Entry) (answers : List Answer) → given_by blocks r ≡ [] → IsTransfer r blocks e entries log → Took r e entries answers → writes_of ((e ∷ entries) ++ log) ≡ writes_of log →
+  -- a transfer that adds no write, and gives none if the drive has its block
+  adds_nothing : (r : Request) (e : Entry) (entries log : List Entry) (answers : List Answer) → (HasBlock blocks r → given_by blocks r ≡ []) → IsTransfer r blocks e entries log → Took r e entries answers → writes_of ((e ∷ entries) ++ log) ≡ writes_of log →
       Wrote blocks (with r answers) (e ∷ entries) log
   adds_nothing r e entries log answers none is took same = record { own = []; adds = same; writes = by (ends_so r answers) }
     where
       by : Ends r answers → AreWrites blocks (with r answers) []
-      by (GoesOn on) = Broken 0 on (sym none)
-      by (IsWhole bytes complete) = Complete bytes complete (has_block r e entries log answers bytes is took complete) (sym none)
+      by (GoesOn on) = Broken (length (given_by blocks r)) on (sym (drop-length (given_by blocks r)))
+      by (IsWhole bytes complete) =
+          let has = has_block r e entries log answers bytes is took complete in Complete bytes complete has (sym (none has))
       by (IsRefused code refused) = Refused code refused refl
 
   -- a write of operation data
@@ -79,7 +75,7 @@ module _ (laws : Laws) (blocks : List Block) (small : AreSmall blocks) where
       given = ap (written_to idn.raw bytes) found
 
       law : writes_of ((e ∷ entries) ++ log) ≡ (if is_complete (outcome_of (request.Write idn 7 bytes) (replies_of (e ∷ entries))) then (record { cycle = e.processed.cycle; raw = idn.raw; bytes = stored b bytes }) ∷ writes_of log else writes_of log)
-      law = laws.once idn bytes blocks b e entries log are found (small idn.raw b found) is
+      law = writes_once idn bytes blocks b e entries log are found (small idn.raw b found) is
 
       whole : (x : List ℕ) → outcome_of (request.Write idn 7 bytes) (replies_of (e ∷ entries)) ≡ Some (outcome.Complete x) → writes_of ((e ∷ entries) ++ log) ≡ (record { cycle = e.processed.cycle; raw = idn.raw; bytes = stored b bytes }) ∷ writes_of log
       whole x complete = law ∙ cond-true _ _ _ (ap is_complete complete)
@@ -96,11 +92,7 @@ module _ (laws : Laws) (blocks : List Block) (small : AreSmall blocks) where
 
   given_front : (idn : Idn) (o : Option Entry) → (later : ℕ) × (map given_of (added_by_setting idn.raw o) ≡ drop later (given_by blocks (request.Command idn)))
   given_front idn None = (2, refl)
-  given_front idn (Some x) = by x.answer.error
-    where
-      by : (v : Bool) → (later : ℕ) × (map given_of (if v then [] else setting idn.raw 3 x ∷ []) ≡ drop later (given_by blocks (request.Command idn)))
-      by true = (2, refl)
-      by false = (1, refl)
+  given_front idn (Some x) = elim (cases_Bool x.answer.error) [ inl on ↦ rw on ((2, refl)) | inr off ↦ rw off ((1, refl)) ]
 
   -- after two answers without error it is set
   is_set : (idn : Idn) (d : Entry) (entries : List Entry) → AreAnswers (request.Command idn) (replies_of (d ∷ entries)) → outcome_of (request.Command idn) (replies_of (d ∷ entries)) ≡ None → 1 ≤ length entries →
@@ -109,17 +101,6 @@ module _ (laws : Laws) (blocks : List Block) (small : AreSmall blocks) where
   is_set idn d (o ∷ []) are on long =
       ap (λ (v : Bool). map given_of (if v then [] else setting idn.raw 3 d ∷ [])) (goes_on-outcome_of (request.Command idn) d.answer (replies_of (o ∷ [])) on).0
   is_set idn d (o ∷ p ∷ past) are on long = is_set idn o (p ∷ past) are.0 are.1 (omega arith)
-
-  complete_long : (idn : Idn) (e : Entry) (entries : List Entry) (bytes : List ℕ) → outcome_of (request.Command idn) (replies_of (e ∷ entries)) ≡ Some (outcome.Complete bytes) → 2 ≤ length entries
-  complete_long idn e entries bytes complete =
-      let words = answer_words (replies_of entries) ++ e.answer.word ∷ [] in
-      let whole = (and_parts (not e.answer.error) (is_whole (request.Command idn) words) (sym (complete-outcome_of (request.Command idn) e.answer (replies_of entries)) ∙ ap is_complete complete)).1 in
-      let many : length (steps_of (request.Command idn) words) ≤ length words = leb-true (length (steps_of (request.Command idn) words)) (length words) whole in
-      let more = one_long (drop 2 words) in
-      let count : length words ≡ length (answer_words (replies_of entries)) + 1 = length-append (answer_words (replies_of entries)) (e.answer.word ∷ []) in
-      let same = length-answer_words (replies_of entries) in
-      let as_many = length-replies_of entries in
-      omega arith
 
   command_front : (idn : Idn) (e : Entry) (entries log : List Entry) (answers : List Answer) → IsTransfer (request.Command idn) blocks e entries log → is_complete (outcome_of (request.Command idn) (replies_of (e ∷ entries))) ≡ false →
       outcome_of (request.Command idn) answers ≡ None → Wrote blocks (with (request.Command idn) answers) (e ∷ entries) log
@@ -135,10 +116,11 @@ module _ (laws : Laws) (blocks : List Block) (small : AreSmall blocks) where
   command_whole idn e entries log bytes is complete = (
     setting idn.raw 0 e ∷ added_by_setting idn.raw (second_of (e ∷ entries)),
     sets_and_cancels idn blocks e entries log is ∙ ap (λ (v : Bool). cancelled_by idn.raw v e ++ (added_by_setting idn.raw (second_of (e ∷ entries)) ++ writes_of log)) (ap is_complete complete),
-    ap (λ (l : List Given). gives idn.raw (0 ∷ 0 ∷ []) ∷ l) (by entries is (complete_long idn e entries bytes complete)),
+    ap (λ (l : List Given). gives idn.raw (0 ∷ 0 ∷ []) ∷ l)
+        (by entries is (three_before idn e entries (complete_is (request.Command idn) e.answer (replies_of entries) bytes complete).1)),
   )
     where
-      by : (entries : List Entry) → IsTransfer (request.Command idn) blocks e entries log → 2 ≤ length entries → map given_of (added_by_setting idn.raw (second_of (e ∷ entries))) ≡ gives idn.raw (3 ∷ 0 ∷ []) ∷ []
+      by : (entries : List Entry) → IsTransfer (request.Command idn) blocks e entries log → 3 ≤ length entries → map given_of (added_by_setting idn.raw (second_of (e ∷ entries))) ≡ gives idn.raw (3 ∷ 0 ∷ []) ∷ []
       by [] is two = absurd (omega arith)
       by (d ∷ []) is two = absurd (omega arith)
       by (d ∷ o ∷ past) is two = is_set idn d (o ∷ past) is.in_turn is.goes_on (omega arith)
@@ -159,35 +141,23 @@ module _ (laws : Laws) (blocks : List Block) (small : AreSmall blocks) where
       }
       by (IsRefused code refused) (AllButOne same before) = command_front idn e entries log answers is (ap is_complete refused) before
 
-  -- where the drive hasn't the block, the opening is refused
-  unknown_command : (idn : Idn) (e : Entry) (entries log : List Entry) (answers : List Answer) → find_block idn.raw blocks ≡ None → IsTransfer (request.Command idn) blocks e entries log → Took (request.Command idn) e entries answers →
-      Wrote blocks (with (request.Command idn) answers) (e ∷ entries) log
-  unknown_command idn e entries log answers none is took = by (ends_so (request.Command idn) answers)
-    where
-      by : Ends (request.Command idn) answers → Wrote blocks (with (request.Command idn) answers) (e ∷ entries) log
-      by (GoesOn on) = record { own = []; adds = writes_nowhere (request.Command idn) blocks e entries log none is; writes = Broken 2 on refl }
-      by (IsRefused code refused) = record { own = []; adds = writes_nowhere (request.Command idn) blocks e entries log none is; writes = Refused code refused refl }
-      by (IsWhole bytes complete) = absurd (never (has_block (request.Command idn) e entries log answers bytes is took complete))
-        where
-          never : HasBlock blocks (request.Command idn) → ⊥
-          never (b, found) = cc
-
   -- each transfer
   wrote : (r : Request) (e : Entry) (entries log : List Entry) (answers : List Answer) → IsSound blocks r → (phase : ℕ) → AreInPhase phase (e ∷ entries) → IsTransfer r blocks e entries log → Took r e entries answers → Wrote blocks (with r answers) (e ∷ entries) log
-  wrote (request.Read idn e) s entries log answers sound phase at is took = adds_nothing (request.Read idn e) s entries log answers refl is took (writes_nothing (request.Read idn e) blocks s entries log refl is)
-  wrote (request.Write idn e bytes) s entries log answers sound phase at is took = by (e == 7) refl
+  wrote (request.Read idn e) s entries log answers sound phase at is took = adds_nothing (request.Read idn e) s entries log answers (λ has. refl) is took (writes_nothing (request.Read idn e) blocks s entries log refl is)
+  wrote (request.Write idn e bytes) s entries log answers sound phase at is took = elim (cases_Bool (e == 7)) [
+    | inl on ↦ of_data (find_block idn.raw blocks) refl (eqb-true e 7 on)
+    | inr off ↦ adds_nothing (request.Write idn e bytes) s entries log answers (λ has. cond-false (e == 7) _ [] off) is took (writes_nothing (request.Write idn e bytes) blocks s entries log (ap not off) is)
+  ]
     where
       of_data : (o : Option Block) → find_block idn.raw blocks ≡ o → e ≡ 7 → Wrote blocks (with (request.Write idn e bytes) answers) (s ∷ entries) log
       of_data (Some b) found seven = rw seven (written idn bytes b s entries log answers sound.1 found (rw seven at is) (rw seven at took))
-      of_data None none seven = rw seven (adds_nothing (request.Write idn 7 bytes) s entries log answers (ap (written_to idn.raw bytes) none) (rw seven at is) (rw seven at took) (writes_nowhere (request.Write idn 7 bytes) blocks s entries log none (rw seven at is)))
-
-      by : (v : Bool) → (e == 7) ≡ v → Wrote blocks (with (request.Write idn e bytes) answers) (s ∷ entries) log
-      by true on = of_data (find_block idn.raw blocks) refl (eqb-true e 7 on)
-      by false off = adds_nothing (request.Write idn e bytes) s entries log answers (cond-false (e == 7) _ [] off) is took (writes_nothing (request.Write idn e bytes) blocks s entries log (ap not off) is)
+      of_data None none seven = rw seven (adds_nothing (request.Write idn 7 bytes) s entries log answers (λ has. ap (written_to idn.raw bytes) none) (rw seven at is) (rw seven at took) (writes_nowhere (request.Write idn 7 bytes) blocks s entries log none (rw seven at is)))
   wrote (request.Command idn) s entries log answers sound phase at is took = by (find_block idn.raw blocks) refl sound
     where
       by : (o : Option Block) → find_block idn.raw blocks ≡ o → IfSome o (λ b. b.attribute.command ≡ true) → Wrote blocks (with (request.Command idn) answers) (s ∷ entries) log
-      by None none command = unknown_command idn s entries log answers none is took
+      by None none command =
+          adds_nothing (request.Command idn) s entries log answers (λ has. let found = has.1 in absurd (cc)) is took
+          (writes_nowhere (request.Command idn) blocks s entries log none is)
       by (Some b) found command = commanded idn b s entries log answers found command phase at is took
 
   -- a complete read
@@ -199,7 +169,7 @@ module _ (laws : Laws) (blocks : List Block) (small : AreSmall blocks) where
       by : (o : Option Block) → find_block idn.raw blocks ≡ o → IsSound blocks (request.Read idn e) → IsTransfer (request.Read idn e) blocks s entries log → outcome_of (request.Read idn e) (replies_of (s ∷ entries)) ≡ Some (outcome.Complete bytes) →
           (block : Block) × (find_block idn.raw blocks ≡ Some block) × (selection : Entry) × (entry_behind (steps_before e) (s ∷ entries) ≡ Some selection) × IsReadAt idn.raw e block bytes selection.processed
       by None none range t whole = absurd (unknown_incomplete (request.Read idn e) blocks s entries log bytes none t whole)
-      by (Some b) found range t whole = let got = laws.reads idn e bytes blocks b s entries log range.0 range.1 found (small idn.raw b found) t whole in (b, found, got.0, got.1, got.2)
+      by (Some b) found range t whole = let got = reads_once idn e bytes blocks b s entries log range.0 range.1 found (small idn.raw b found) t whole in (b, found, got.0, got.1, got.2)
 
   -- a complete setting of a procedure command
   ends_exactly : (r : Request) (s : Entry) (entries log : List Entry) (answers : List Answer) → IsTransfer r blocks s entries log → Took r s entries answers → EndsExactly (with r answers) (s ∷ entries)
@@ -229,12 +199,6 @@ module _ (laws : Laws) (blocks : List Block) (small : AreSmall blocks) where
         exact = record { part_of = part; in_phase = (e.processed.phase, at); writes = w.writes; reads = read_exactly b.request e entries rest b.answers sound is took; ends = ends_exactly b.request e entries rest b.answers is took };
       }
 
-  unsent_reads : (b : Begun) (part : List Entry) → b.answers ≡ [] → ReadsExactly blocks b part
-  unsent_reads b part none idn e bytes names complete = let goes_on : outcome_of b.request b.answers ≡ None = ap (outcome_of b.request) none in absurd (cc)
-
-  unsent_ends : (b : Begun) (part : List Entry) → b.answers ≡ [] → EndsExactly b part
-  unsent_ends b part none idn bytes names complete = let goes_on : outcome_of b.request b.answers ≡ None = ap (outcome_of b.request) none in absurd (cc)
-
   pub part_is : (b : Begun) (part rest : List Entry) → IsSound blocks b.request → AreReplies part rest → HaveBlocks blocks part → IsSteady (part ++ rest) → IsPart b part → PartIs b part rest
   part_is b part rest sound replies alike steady (Unsent none unheard) = record {
     own = [];
@@ -242,21 +206,12 @@ module _ (laws : Laws) (blocks : List Block) (small : AreSmall blocks) where
     exact = record {
       part_of = Unsent none unheard;
       in_phase = (0, subst (AreInPhase 0) (sym none) tt);
-      writes = unsent_writes;
-      reads = unsent_reads b part unheard;
-      ends = unsent_ends b part unheard;
+      writes =
+          Broken (length (given_by blocks b.request)) (ap (outcome_of b.request) unheard) (sym (drop-length (given_by blocks b.request)));
+      reads = λ idn e bytes names complete. let goes_on : outcome_of b.request b.answers ≡ None = ap (outcome_of b.request) unheard in absurd (cc);
+      ends = λ idn bytes names complete. let goes_on : outcome_of b.request b.answers ≡ None = ap (outcome_of b.request) unheard in absurd (cc);
     };
   }
-    where
-      unsent_writes : AreWrites blocks b []
-      unsent_writes = let front = none_of b.request in Broken front.0 (ap (outcome_of b.request) unheard) front.1
-        where
-          none_of : (r : Request) → (later : ℕ) × (map given_of [] ≡ drop later (given_by blocks r))
-          none_of r = (length (given_by blocks r), sym (drop_all (given_by blocks r)))
-            where
-              drop_all : (xs : List Given) → drop (length xs) xs ≡ []
-              drop_all [] = refl
-              drop_all (x ∷ xs) = drop_all xs
   part_is b part rest sound replies alike steady (Heard e entries those row answers) =
       subst (λ (l : List Entry). PartIs b l rest) (sym those)
       (of_row b e entries rest sound (subst (λ (l : List Entry). AreReplies l rest) those replies) (subst (HaveBlocks blocks) those alike) (subst (λ (l : List Entry). IsSteady (l ++ rest)) those steady) row (All answers) (Heard e entries refl row answers))

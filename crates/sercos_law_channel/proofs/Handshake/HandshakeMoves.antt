@@ -97,30 +97,28 @@ hears_kept begun e past change status word false opened steps answers shows =
     let takes : answers_it begun status ≡ true = rw (opened, steps, bit, is_odd-steps_of past, beq-self (not (is_odd past)), free) refl in
     rw (takes, same) (takes_answer begun e past opened steps answers)
 
-hears_by : (begun : List Begun) (log : List Entry) (busy cycle : ℕ) (change : Bool) (status : Status) (word : ℕ) (e : Entry) (past : List Entry) → log ≡ e ∷ past →
-    open_in begun ≡ Some e.processed.step → steps_in begun ≡ log_steps log → answers_in begun ≡ replies_of past →
-    shown_by status word ≡ shown busy cycle (is_odd log) change log → AreInStep (with_status status word begun) log
-hears_by begun log busy cycle change status word e past is opened steps answers shows =
-    let kept = hears_kept begun e past change status word (nat_le (cycle - e.processed.cycle) busy) opened (rw is at steps) answers (rw is at shows) in
-    rw is kept
-
 -- the master hears what the drive shows
 pub hears : Hears
 hears begun log busy cycle change status word (Idle none s a) shows = quiet begun log status word (quiet_none begun status none) (Idle none s a)
 hears begun log busy cycle change status word (Sent step opened s a) shows =
     let bit : status.ahs ≡ is_odd log = ap (λ (s : Shown). s.ahs) shows ∙ ahs-shown busy cycle (is_odd log) change log in
     quiet begun log status word (quiet_bit begun log step status s bit opened) (Sent step opened s a)
-hears begun log busy cycle change status word (Kept e past opened is s a) shows = hears_by begun log busy cycle change status word e past is opened s a shows
+hears begun log busy cycle change status word (Kept e past opened is s a) shows =
+    let kept = hears_kept begun e past change status word (nat_le (cycle - e.processed.cycle) busy) opened (rw is at s) a (rw is at shows) in rw is kept
 
 -- the master begins a request where no step is open
-begins_idle : (o : Option Step) (begun : List Begun) (log : List Entry) → steps_in begun ≡ log_steps log → answers_in begun ≡ replies_of log → InStep o (with_step o [] ++ steps_in begun) (answers_in begun) log
-begins_idle None begun log s a = Idle refl s a
-begins_idle (Some step) begun log s a = Sent step refl (ap (λ (l : List Step). step ∷ l) s) a
-
 pub begins : Begins
-begins begun log r (Idle none s a) shut = begins_idle (step_at r []) begun log s a
+begins begun log r (Idle none s a) shut =
+    rw (with_step-append (step_at r []) [] (steps_in begun)) (next_open (step_at r []) (steps_in begun) (answers_in begun) log s a)
 begins begun log r (Sent step opened s a) shut = absurd (cc)
 begins begun log r (Kept e past opened is s a) shut = absurd (cc)
+
+-- where no step is open, all that was begun is accepted and answered
+pub idle_all : (begun : List Begun) (log : List Entry) → AreInStep begun log → open_in begun ≡ None →
+    (steps_in begun ≡ log_steps log) × (answers_in begun ≡ replies_of log)
+idle_all begun log (Idle none s a) shut = (s, a)
+idle_all begun log (Sent step opened s a) shut = absurd (cc)
+idle_all begun log (Kept e past opened is s a) shut = absurd (cc)
 
 -- the drive takes what the master says
 takes_same : (begun : List Begun) (log : List Entry) (t : Processed) (answer : Answer) → t.mhs ≡ is_odd log → AreInStep begun log → AreInStep begun (with_processed t answer log)

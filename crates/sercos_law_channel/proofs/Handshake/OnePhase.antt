@@ -1,9 +1,9 @@
 -- The entries of a transfer are of one phase, since the master doesn't rise while a step is open.
-use Rattle.sercos_law_channel.proofs.Words.{◌≡◌, ◌⊎◌, inl, inr, ⊎_elim, ℕ, suc, ◌+◌, ◌≤◌, Bool, true, false, not, ◌&&◌, List, [], ◌∷◌, ◌++◌, length, drop, refl, sym, ap, ◌∙◌, subst, arith, if◌then◌else◌, length-append, ◌==◌, Option, Some, None, is_some, slice_get, list_all, cond_both, not-true, nat_tests, beq, Status, Step, Answer, Request, shape_of, words_told, reading, writing, asks_attribute, polling, steps_of, answer_words, next_step, Processed, Entry, opens, Begun, step_at, with_step, steps_in, open_in, is_odd, mhs_in, answers_it, answer_in, with_answer, step_or_none, master_says, Block, Idle, Sent, Kept, AreInStep, replies_of, log_steps, IsTransfer, with_status, said_in, with_processed, AreInPhase}
+use Rattle.sercos_law_channel.proofs.Words.{◌≡◌, ◌⊎◌, inl, inr, ⊎_elim, ℕ, suc, ◌≤◌, Bool, true, false, not, ◌&&◌, List, [], ◌∷◌, ◌++◌, length, drop, refl, sym, ap, ◌∙◌, subst, arith, if◌then◌else◌, length-append, ◌==◌, Option, Some, None, is_some, slice_get, list_all, cond_both, not-true, nat_tests, beq, Status, Step, Answer, Request, shape_of, words_told, reading, writing, asks_attribute, steps_of, answer_words, next_step, Processed, Entry, opens, Begun, step_at, with_step, steps_in, open_in, is_odd, mhs_in, answers_it, answer_in, with_answer, step_or_none, master_says, Block, Idle, Sent, Kept, AreInStep, replies_of, log_steps, IsTransfer, with_status, said_in, with_processed, AreInPhase, cases_Bool}
 use Rattle.sercos_step.specs.declared.request.Request.TheVariants as request
-use Rattle.sercos_law_channel.proofs.Handshake.StepTests.{attribute_passes, reading_passes, run_passes}
+use Rattle.sercos_law_channel.proofs.Handshake.StepTests.{attribute_passes, reading_passes, run_passes, polling_passes}
 use Rattle.sercos_law_channel.proofs.Handshake.TransferSteps.{all-slice_get, newest_step, without_newest}
-use Rattle.sercos_law_channel.proofs.Handshake.HandshakeMoves.{parity, quiet_bit, said_bit, said_step, beq-self}
+use Rattle.sercos_law_channel.proofs.Handshake.HandshakeMoves.{parity, quiet_bit, said_bit, said_step, beq-self, idle_all}
 use Rattle.sercos_law_channel.proofs.Handshake.UnknownBlocks.{first_step}
 
 -- The steps of a request after the first open no identifier number.
@@ -13,14 +13,6 @@ is_inner s = not (opens s)
 
 abbrev are_inner : List Step → Bool
 are_inner steps = list_all is_inner steps
-
-polling_inner : (words : List ℕ) → are_inner (polling words) ≡ true
-polling_inner [] = refl
-polling_inner (status ∷ words) = by (status == 7) (polling_inner words)
-  where
-    by : (v : Bool) → are_inner (polling words) ≡ true → are_inner (if v then polling words else (record { write = true; last = true; element = 7; word = 0 }) ∷ []) ≡ true
-    by true more = more
-    by false more = refl
 
 -- a write names an element from 2 on
 abbrev pub IsNamed : Request → Type 0
@@ -40,7 +32,7 @@ rest_inner (request.Write idn e bytes) words named = cond_both (e == 7) _ _ (λ 
     (λ on. attribute_passes is_inner (λ attribute after. writing (shape_of 7 attribute) 7 bytes) (drop 1 words) (λ last word. refl)
     (λ word after. run_passes is_inner true 7 (words_told (shape_of 7 word) bytes) (λ last word. refl)))
     (λ off. run_passes is_inner true e (words_told (shape_of e 0) bytes) (λ last word. not_one e named))
-rest_inner (request.Command idn) words named = polling_inner (drop 2 words)
+rest_inner (request.Command idn) words named = polling_passes is_inner (drop 2 words) refl refl
 
 get_drop : {A : Type 0} (xs : List A) (k : ℕ) (x : A) → slice_get xs (suc k) ≡ Some x → slice_get (drop 1 xs) k ≡ Some x
 get_drop [] k x got = absurd (cc)
@@ -50,12 +42,9 @@ get_drop (y ∷ xs) k x got = got
 pub later_step : (r : Request) (a : Answer) (h : List Answer) (s : Step) → IsNamed r → next_step r (a ∷ h) ≡ Some s → opens s ≡ false
 later_step r a h s named next =
     let words = answer_words h ++ a.word ∷ [] in
-    let long : length words ≡ suc (length (answer_words h)) = length-append (answer_words h) (a.word ∷ []) ∙ one (length (answer_words h)) in
+    let long : length words ≡ suc (length (answer_words h)) = (let n = length-append (answer_words h) (a.word ∷ []) in omega (arith, n)) in
     let got : slice_get (steps_of r words) (suc (length (answer_words h))) ≡ Some s = ap (slice_get (steps_of r words)) (sym long) ∙ next in
     not-true (opens s) (all-slice_get is_inner (drop 1 (steps_of r words)) (length (answer_words h)) s (rest_inner r words named) (get_drop (steps_of r words) (length (answer_words h)) s got))
-  where
-    one : (n : ℕ) → n + 1 ≡ suc n
-    one n = omega arith
 
 -- A log whose steps come in the phase of the step before, but for openings.
 
@@ -96,17 +85,12 @@ heard_level phase begun log status word h bit l = cond_both (answers_it begun st
 pub no_longer : {A : Type 0} (x : A) (xs : List A) → x ∷ xs ≡ xs → ⊥
 no_longer x xs is = let long : suc (length xs) ≡ length xs = ap length is in omega arith
 
-idle_steps : (begun : List Begun) (log : List Entry) → AreInStep begun log → open_in begun ≡ None → steps_in begun ≡ log_steps log
-idle_steps begun log (Idle none s a) shut = s
-idle_steps begun log (Sent step opened s a) shut = absurd (cc)
-idle_steps begun log (Kept e past opened is s a) shut = absurd (cc)
-
 pub begun_level : (phase : ℕ) (begun : List Begun) (log : List Entry) (r : Request) → AreInStep begun log → open_in begun ≡ None → IsLevel phase begun log → IsLevel phase ((record { request = r; answers = [] }) ∷ begun) log
 begun_level phase begun log r h shut l = record { steady = l.steady; level = λ some which. absurd (⊎_elim (λ fresh. cc) (λ same. by (step_at r []) some same) which) }
   where
     by : (o : Option Step) → is_some o ≡ true → with_step o [] ++ steps_in begun ≡ log_steps log → ⊥
     by None some same = cc
-    by (Some s) some same = no_longer s (log_steps log) (ap (λ (l : List Step). s ∷ l) (sym (idle_steps begun log h shut)) ∙ same)
+    by (Some s) some same = no_longer s (log_steps log) (ap (λ (l : List Step). s ∷ l) (sym (idle_all begun log h shut).0) ∙ same)
 
 -- a fresh request's open step opens its identifier number
 fresh_opens : (begun : List Begun) (s : Step) → open_in begun ≡ Some s → is_fresh begun ≡ true → opens s ≡ true
@@ -118,7 +102,10 @@ fresh_opens (b ∷ past) s opened fresh = by b.answers opened fresh
     by (a ∷ answers) opened fresh = absurd (cc)
 
 pub taken_level : (phase : ℕ) (begun : List Begun) (log : List Entry) (t : Processed) (answer : Answer) → AreInStep begun log → said_in t ≡ master_says begun → t.phase ≡ phase → IsLevel phase begun log → IsLevel phase begun (with_processed t answer log)
-taken_level phase begun log t answer h says at l = by (beq t.mhs (is_odd log)) refl
+taken_level phase begun log t answer h says at l = elim (cases_Bool (beq t.mhs (is_odd log))) [
+  | inl on ↦ rw on l
+  | inr off ↦ rw off (record { steady = (l.steady, steady off); level = λ some which. at })
+]
   where
     is_last : AreInStep begun log → beq t.mhs (is_odd log) ≡ false → (is_some (open_in begun) ≡ true) × (open_in begun ≡ Some t.step)
     is_last (Idle none s a) off = let on : beq t.mhs (is_odd log) ≡ true = ap (λ (b : Bool). beq b (is_odd log)) (said_bit t begun says ∙ parity (steps_in begun) log s) ∙ beq-self (is_odd log) in absurd (cc)
@@ -134,10 +121,6 @@ taken_level phase begun log t answer h says at l = by (beq t.mhs (is_odd log)) r
         fresh_or : (v : Bool) → is_fresh begun ≡ v → is_fresh begun ≡ false
         fresh_or false is = is
         fresh_or true is = let opened = fresh_opens begun t.step (is_last h off).1 is in absurd (cc)
-
-    by : (v : Bool) → beq t.mhs (is_odd log) ≡ v → IsLevel phase begun (if v then log else (record { processed = t; answer = answer }) ∷ log)
-    by true on = l
-    by false off = record { steady = (l.steady, steady off); level = λ some which. at }
 
 -- So the entries of a transfer are of one phase.
 pub in_one_phase : (r : Request) (blocks : List Block) (e : Entry) (entries log : List Entry) → IsNamed r → IsSteady ((e ∷ entries) ++ log) → IsTransfer r blocks e entries log → AreInPhase e.processed.phase (e ∷ entries)

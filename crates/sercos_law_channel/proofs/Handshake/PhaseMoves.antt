@@ -1,5 +1,5 @@
 -- How the phase of the drive moves, and what it keeps of the records.
-use Rattle.sercos_law_channel.proofs.Words.{◌≡◌, ◌⊎◌, inl, inr, ℕ, ◌+◌, ◌≤◌, Bool, true, false, not, ◌&&◌, ◌||◌, List, [], ◌∷◌, length, refl, sym, ap, ◌∙◌, arith, if◌then◌else◌, nat_le, ◌==◌, Option, Some, None, cases_eq, and_parts, leb-true, eqb-true, ne_eqb, cond-false, Processed, Said, View, Standing, moved, afresh, before_mst, stood_in, got_in, takes_in, standing, record_in, processed_of, processed_in, with_record, kept_in_phase, kept_unless, since_reset, kept_in}
+use Rattle.sercos_law_channel.proofs.Words.{◌≡◌, ◌⊎◌, inl, inr, ℕ, ◌+◌, ◌≤◌, Bool, true, false, not, ◌&&◌, ◌||◌, List, [], ◌∷◌, length, refl, sym, ap, ◌∙◌, arith, if◌then◌else◌, nat_le, ◌==◌, Option, Some, None, cases_eq, and_parts, leb-true, eqb-true, ne_eqb, cond-false, Processed, Said, View, Standing, moved, afresh, before_mst, stood_in, got_in, takes_in, standing, record_in, processed_of, processed_in, with_record, kept_in_phase, kept_unless, since_reset, kept_in, subst, StandsAsCommanded}
 
 -- which way a choice went
 pub chosen : {A : Type 0} (b : Bool) (x y : A) → ((b ≡ true) × ((if b then x else y) ≡ x)) ⊎ ((b ≡ false) × ((if b then x else y) ≡ y))
@@ -66,21 +66,35 @@ processes v past = by (got_in v) refl
           Record s some parts.0 (leb-true 2 (stood_in v (standing past)) parts.1) (ap (processed_of v (length past) (stood_in v (standing past))) some ∙ on.1)
     ]
 
+-- what holds of no record, and of each that may be processed, holds of what is processed
+pub of_processed : (v : View) (past : List View) (P : Option Processed → Type 0) → P None →
+    ((s : Said) → got_in v ≡ Some s → v.mst_comes ≡ true → 2 ≤ stood_in v (standing past) → P
+    (Some (record_in v (length past) (stood_in v (standing past)) s))) →
+    P (processed_in v past)
+of_processed v past P none some = elim (processes v past) [
+  | Nothing is ↦ subst P (sym is) none
+  | Record s got came two is ↦ subst P (sym is) (some s got came two)
+]
+
+pub stands_as_commanded : StandsAsCommanded
+stands_as_commanded v past came = elim (stands v (standing past)) [
+  | Down z ↦ inl z
+  | Moves m is down up ↦ inr is
+  | Stays missed got_mst still is ↦ absurd (cc)
+]
+
 -- so the phase of a record is the commanded phase
 pub processed_phase : (v : View) (past : List View) → v.mst_comes ≡ true → 1 ≤ stood_in v (standing past) → stood_in v (standing past) ≡ v.phase
-processed_phase v past came up = by (stands v (standing past))
-  where
-    by : Stands v (standing past) → stood_in v (standing past) ≡ v.phase
-    by (Down z) = absurd (omega arith)
-    by (Moves m is low high) = is
-    by (Stays missed got_mst on is) = absurd (cc)
+processed_phase v past came up = elim (stands_as_commanded v past came) [ inl z ↦ absurd (omega arith) | inr is ↦ is ]
 
 pub nothing_below : (v : View) (past : List View) → stood_in v (standing past) ≤ 1 → processed_in v past ≡ None
-nothing_below v past low = by (processes v past)
-  where
-    by : Processes v past → processed_in v past ≡ None
-    by (Nothing none) = none
-    by (Record s got came two is) = absurd (omega arith)
+nothing_below v past low = of_processed v past (λ o. o ≡ None) refl (λ s got came two. absurd (omega arith))
+
+-- what holds of nothing, and of two lists that nothing cuts off, holds of what is left of the two
+pub uncut : {A B : Type 0} (P : List A → List B → Type 0) (cuts : Bool) (xs : List A) (ys : List B) → P [] [] → (cuts ≡ false → P xs ys) →
+    P (if cuts then [] else xs) (if cuts then [] else ys)
+uncut P true xs ys none some = none
+uncut P false xs ys none some = some refl
 
 pub kept_in_phase-other : (n : ℕ) (h : List Processed) → (n ≡ 0 → ⊥) → kept_in_phase n h ≡ h
 kept_in_phase-other n h nz = cond-false (n == 0) [] h (ne_eqb n 0 nz)

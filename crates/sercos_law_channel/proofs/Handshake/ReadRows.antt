@@ -1,5 +1,5 @@
 -- The steps that read an element's words, and the words that they answer.
-use Rattle.sercos_law_channel.proofs.Words.{◌≡◌, ℕ, zero, suc, ◌+◌, ◌/◌, ◌≤◌, Bool, true, false, List, [], ◌∷◌, ◌++◌, length, drop, replicate, refl, ap, ap₂, sym, ◌∙◌, arith, length-append, nat_le, Some, slice_get, slice_index, min, nat_tests, Step, Shape, words_in, words_in_list, a_step, run, reading, length-run, slice_get_within}
+use Rattle.sercos_law_channel.proofs.Words.{◌≡◌, ℕ, zero, suc, ◌+◌, ◌/◌, ◌≤◌, Bool, true, false, List, [], ◌∷◌, ◌++◌, length, drop, replicate, refl, ap, ap₂, sym, ◌∙◌, arith, length-append, nat_le, Some, slice_get, slice_index, min, nat_tests, Step, Shape, words_in, words_in_list, a_step, run, reading, length-run, slice_get_within, length-replicate, leb-true}
 use Rattle.sercos_step.specs.declared.shape.Shape.TheVariants as shape
 
 -- the first words of a list, filled up with zeros
@@ -23,18 +23,11 @@ row-all (word ∷ words) = ap (λ (l : List ℕ). word ∷ l) (row-all words)
 pub some_same : {A : Type 0} (x y : A) → Some x ≡ Some y → y ≡ x
 some_same x y is = cc
 
-length-zeros : (n : ℕ) → length {A = ℕ} (replicate n 0) ≡ n
-length-zeros zero = refl
-length-zeros (suc n) = ap suc (length-zeros n)
-
 more_than_one : (n : ℕ) → nat_le (suc (suc n)) 1 ≡ false
 more_than_one n = grind (arith, nat_tests)
 
-both_more : (n k : ℕ) → nat_le n k ≡ nat_le (suc n) (suc k)
+pub both_more : (n k : ℕ) → nat_le n k ≡ nat_le (suc n) (suc k)
 both_more n k = grind (arith, nat_tests)
-
-at_most : (n k : ℕ) → nat_le n k ≡ true → n ≤ k
-at_most n k is = grind (arith, nat_tests)
 
 -- the steps of a run of reads are alike, but for the last
 run_zeros : (e n k : ℕ) (s : Step) → slice_get (run false e (replicate n 0)) k ≡ Some s → s ≡ a_step false (nat_le n (suc k)) e 0
@@ -45,7 +38,7 @@ run_zeros e (suc (suc n)) zero s got = some_same (a_step false false e 0) s got 
 run_zeros e (suc (suc n)) (suc k) s got = run_zeros e (suc n) k s got ∙ ap (λ (v : Bool). a_step false v e 0) (both_more (suc n) (suc k))
 
 length-run_zeros : (e n : ℕ) → length (run false e (replicate n 0)) ≡ n
-length-run_zeros e n = length-run false e (replicate n 0) ∙ length-zeros n
+length-run_zeros e n = length-run false e (replicate n 0) ∙ length-replicate n 0
 
 next_zeros : (e n : ℕ) (own : List ℕ) (s : Step) (x : ℕ) → slice_get (run false e (replicate n 0)) (length own) ≡ Some s →
     s ≡ a_step false (nat_le (length (run false e (replicate n 0))) (length (own ++ x ∷ []))) e 0
@@ -72,7 +65,7 @@ full_zeros : (e n : ℕ) (own : List ℕ) (s : Step) (x : ℕ) → slice_get (ru
 full_zeros e n own s x got whole =
     let less = slice_get_within (run false e (replicate n 0)) (length own) s got in
     let long = length-run_zeros e n in
-    let most = at_most (length (run false e (replicate n 0))) (length (own ++ x ∷ [])) whole in
+    let most = leb-true (length (run false e (replicate n 0))) (length (own ++ x ∷ [])) whole in
     omega (arith, length-append own (x ∷ []))
 
 -- where they are whole, they are as many as the first of them says

@@ -1,17 +1,12 @@
 -- How far a read has come, and what it gives.
-use Rattle.sercos_law_channel.proofs.Words.{◌≡◌, ℕ, suc, ◌+◌, ◌*◌, ◌≤◌, Bool, true, false, ◌&&◌, List, [], ◌∷◌, ◌++◌, length, drop, refl, ap, ap₂, sym, ◌∙◌, arith, if◌then◌else◌, length-append, ◌==◌, nat_le, Option, Some, None, slice_get, slice_index, cond-true, cond-false, nat_tests, Idn, Step, Answer, Shape, Request, shape_of, words_in, bytes_read, a_step, opening, reading, attribute_then, asks_attribute, steps_of, steps_before, result_of, outcome_of, answer_words, is_whole, Block, find_block, Processed, Entry, open_idn, run_before, selection, answer_by, copy, read_cause, reply_of, AreAlike, replies_of, IsTransfer, entry_behind, length-answer_words, and-false}
+use Rattle.sercos_law_channel.proofs.Words.{◌≡◌, ℕ, suc, ◌+◌, ◌*◌, ◌≤◌, Bool, true, false, List, [], ◌∷◌, ◌++◌, length, drop, refl, ap, ap₂, sym, ◌∙◌, arith, if◌then◌else◌, length-append, ◌==◌, nat_le, Option, Some, None, slice_get, slice_index, cond-true, cond-false, nat_tests, Idn, Step, Answer, Shape, Request, shape_of, words_in, bytes_read, a_step, opening, reading, attribute_then, asks_attribute, steps_of, steps_before, result_of, outcome_of, answer_words, is_whole, Block, find_block, Processed, Entry, open_idn, run_before, selection, answer_by, copy, read_cause, reply_of, AreAlike, replies_of, IsTransfer, entry_behind, length-answer_words, and-false, no_cause, eq-eqb, ne_eqb, and_from}
 use Rattle.sercos_step.specs.declared.request.Request.TheVariants as request
 use Rattle.sercos_step.specs.declared.request.Outcome.TheVariants as outcome
-use Rattle.sercos_law_channel.proofs.Handshake.TransferSteps.{newest_step, without_newest, goes_on-outcome_of, length-replies_of}
-use Rattle.sercos_law_channel.proofs.Handshake.AttributeReplies.{attribute_words, IsRead, IsRead-alike, reply-read, reply_low, reply_high}
-use Rattle.sercos_law_channel.proofs.Handshake.ReadRows.{some_same, row, row-more, reading_next, reading_full, some_reading}
+use Rattle.sercos_law_channel.proofs.Handshake.TransferSteps.{newest_step, without_newest, goes_on-outcome_of, length-replies_of, complete_is}
+use Rattle.sercos_law_channel.proofs.Handshake.AttributeReplies.{IsRead, IsRead-alike, reply-read, reply_low, reply_high}
+use Rattle.sercos_law_channel.proofs.Handshake.ReadRows.{some_same, row, row-more, reading_next, reading_full, some_reading, both_more}
 use Rattle.sercos_law_channel.proofs.Handshake.WriteRuns.{run_grows, run_starts, open_by}
-
-abbrev pub low_of : Block → ℕ
-low_of b = slice_index (attribute_words b.attribute) 0
-
-abbrev pub high_of : Block → ℕ
-high_of b = slice_index (attribute_words b.attribute) 1
+pub use Rattle.sercos_law_channel.proofs.Handshake.WriteStages.{high_of, low_of}
 
 -- the layout that the master reads by
 abbrev pub shape_asked : ℕ → Bool → Block → Shape
@@ -45,14 +40,11 @@ record IsPlaced (idn : Idn) (e : ℕ) (b : Block) (asks : Bool) (words own : Lis
   result : result_by e asks words ≡ bytes_read (shape_asked e asks b) own
   count : length words ≡ before_by asks + length own
 
-one_more : (n k : ℕ) → nat_le (suc n) (suc k) ≡ nat_le n k
-one_more n k = grind (arith, nat_tests)
-
 three_more : (n k : ℕ) → nat_le (suc (suc (suc n))) (suc (suc (suc k))) ≡ nat_le n k
 three_more n k = grind (arith, nat_tests)
 
 placed_short : (idn : Idn) (e : ℕ) (b : Block) (w : ℕ) (own : List ℕ) → IsPlaced idn e b false (w ∷ own) own
-placed_short idn e b w own = record { next = refl; whole = one_more (length (reading (shape_of e 0) e own)) (length own); result = refl; count = omega arith }
+placed_short idn e b w own = record { next = refl; whole = sym (both_more (length (reading (shape_of e 0) e own)) (length own)); result = refl; count = omega arith }
 
 placed_long : (idn : Idn) (e : ℕ) (b : Block) (w : ℕ) (own : List ℕ) → IsPlaced idn e b true (w ∷ low_of b ∷ high_of b ∷ own) own
 placed_long idn e b w own = record {
@@ -67,22 +59,6 @@ placed idn e b false words own (Short off w is) = rw is (placed_short idn e b w 
 placed idn e b true words own (Short off w is) = absurd (cc)
 placed idn e b true words own (Long on w is) = rw is (placed_long idn e b w own)
 placed idn e b false words own (Long on w is) = absurd (cc)
-
--- where an answer is taken for no error, there was no cause, and it is the word
-no_cause : (o : Option ℕ) (word : ℕ) (a : Answer) → a ≡ answer_by o word → a.error ≡ false → (o ≡ None) × (a.word ≡ word)
-no_cause None word a is well = (refl, ap (λ (x : Answer). x.word) is)
-no_cause (Some code) word a is well = let off : a.error ≡ true = ap (λ (x : Answer). x.error) is in absurd (cc)
-
--- what an answer that completes a transfer shows
-pub complete_is : (r : Request) (a : Answer) (h : List Answer) (bytes : List ℕ) → outcome_of r (a ∷ h) ≡ Some (outcome.Complete bytes) →
-    (a.error ≡ false) × (is_whole r (answer_words h ++ a.word ∷ []) ≡ true) × (bytes ≡ result_of r (answer_words h ++ a.word ∷ []))
-complete_is r a h bytes is = by a.error (is_whole r (answer_words h ++ a.word ∷ [])) a.word (result_of r (answer_words h ++ a.word ∷ [])) is
-  where
-    by : (error whole : Bool) (code : ℕ) (given : List ℕ) → (if error then Some (outcome.Refused (record { raw = code })) else (if whole then Some (outcome.Complete given) else None)) ≡ Some (outcome.Complete bytes) →
-        (error ≡ false) × (whole ≡ true) × (bytes ≡ given)
-    by true whole code given is = absurd (cc)
-    by false true code given is = (refl, refl, cc)
-    by false false code given is = absurd (cc)
 
 module _ (idn : Idn) (e : ℕ) (b : Block) (blocks : List Block) (found : find_block idn.raw blocks ≡ Some b) (some : (e == 0) ≡ false) where
   abbrev asked : Request
@@ -108,18 +84,9 @@ module _ (idn : Idn) (e : ℕ) (b : Block) (blocks : List Block) (found : find_b
     AtWord : (own : List ℕ) (taken : List Processed) → Behind b (asks_attribute e) words own → (length own ≡ length taken) → (open_idn (entries ++ log) ≡ Some idn.raw) →
         (run_before false e (entries ++ log) ≡ taken) → ((x : Entry) → Chosen own taken entries x) → Stage words entries log
 
-  -- the next step
-  next_opening : (words : List ℕ) (s : Step) → words ≡ [] → slice_get (steps_of asked words) (length words) ≡ Some s → s ≡ opening idn
-  next_opening words s is next = some_same (opening idn) s (rw is at next)
-
+  -- the next step, by whether the attribute is read
   by_asked : (v : Bool) (words : List ℕ) (s : Step) → asks_attribute e ≡ v → slice_get (steps_of asked words) (length words) ≡ Some s → slice_get (steps_by idn e v words) (length words) ≡ Some s
   by_asked v words s asks next = ap (λ (x : Bool). slice_get (steps_by idn e x words) (length words)) (sym asks) ∙ next
-
-  next_low : (words : List ℕ) (s : Step) (w : ℕ) → asks_attribute e ≡ true → words ≡ w ∷ [] → slice_get (steps_of asked words) (length words) ≡ Some s → s ≡ a_step false false 3 0
-  next_low words s w asks is next = some_same (a_step false false 3 0) s (rw is at (by_asked true words s asks next))
-
-  next_high : (words : List ℕ) (s : Step) (w x : ℕ) → asks_attribute e ≡ true → words ≡ w ∷ x ∷ [] → slice_get (steps_of asked words) (length words) ≡ Some s → s ≡ a_step false true 3 0
-  next_high words s w x asks is next = some_same (a_step false true 3 0) s (rw is at (by_asked true words s asks next))
 
   pub next_word : (words own : List ℕ) (s : Step) (x : ℕ) → Behind b (asks_attribute e) words own → slice_get (steps_of asked words) (length words) ≡ Some s → s ≡ a_step false (is_whole asked (words ++ x ∷ [])) e 0
   next_word words own s x behind next =
@@ -130,39 +97,36 @@ module _ (idn : Idn) (e : ℕ) (b : Block) (blocks : List Block) (found : find_b
   first_chosen : (entries : List Entry) (x : Entry) → length entries ≡ steps_before e → Chosen [] [] entries x
   first_chosen entries x count = record {
     entry = x;
-    at = cond-true (length entries == steps_before e) (Some x) (entry_behind (steps_before e) entries) (same (length entries) (steps_before e) count);
+    at = cond-true (length entries == steps_before e) (Some x) (entry_behind (steps_before e) entries) (eq-eqb (length entries) (steps_before e) count);
     is = refl;
     copied = refl;
     reads = λ is. is;
     element = λ is. is;
     alike = λ is. is;
   }
-    where
-      same : (n k : ℕ) → n ≡ k → (n == k) ≡ true
-      same n k is = grind (arith, nat_tests)
 
   next_chosen : (own : List ℕ) (taken : List Processed) (entries : List Entry) (d x : Entry) (last : Bool) → length entries ≡ steps_before e + length own → d.processed.step ≡ a_step false last e 0 → AreAlike d.processed.blocks blocks →
       (c : Chosen own taken entries d) → d.answer.word ≡ slice_index (copy idn.raw c.entry.processed) (length taken) → Chosen (own ++ d.answer.word ∷ []) (d.processed ∷ taken) (d ∷ entries) x
   next_chosen own taken entries d x last count step alike c word = record {
     entry = c.entry;
-    at = cond-false (length (d ∷ entries) == steps_before e) (Some x) (entry_behind (steps_before e) (d ∷ entries)) (other (length entries) (steps_before e) (length own) count) ∙ c.at;
+    at = cond-false (length (d ∷ entries) == steps_before e) (Some x) (entry_behind (steps_before e) (d ∷ entries)) (ne_eqb (suc (length entries)) (steps_before e) (λ same. omega (arith, same, count))) ∙ c.at;
     is = c.is;
     copied = ap₂ (λ (l : List ℕ) (w : ℕ). l ++ w ∷ []) c.copied word ∙ row-more (length taken) (copy idn.raw c.entry.processed);
     reads = λ is. c.reads (ap (λ (s : Step). s.write) step);
     element = λ is. c.element (ap (λ (s : Step). s.element) step);
     alike = λ is. c.alike alike;
   }
-    where
-      other : (n k m : ℕ) → n ≡ k + m → (suc n == k) ≡ false
-      other n k m is = grind (arith, nat_tests)
 
   -- what an answer to a step of the run is
   word_answered : (own : List ℕ) (taken : List Processed) (entries log : List Entry) (d : Entry) (last : Bool) → d.processed.step ≡ a_step false last e 0 → open_idn (entries ++ log) ≡ Some idn.raw → run_before false e (entries ++ log) ≡ taken →
       d.answer ≡ reply_of d.processed (entries ++ log) → d.answer.error ≡ false → (c : Chosen own taken entries d) → (read_cause idn.raw c.entry.processed ≡ None) × (d.answer.word ≡ slice_index (copy idn.raw c.entry.processed) (length taken))
   word_answered own taken entries log d last step opened before reply well c =
-      no_cause (read_cause idn.raw c.entry.processed) (slice_index (copy idn.raw c.entry.processed) (length taken)) d.answer
-      (reply ∙ reply-read idn.raw e 0 last d.processed (entries ++ log) taken some step opened before
-      ∙ ap (λ (t : Processed). answer_by (read_cause idn.raw t) (slice_index (copy idn.raw t) (length taken))) (sym c.is)) well
+      let word = slice_index (copy idn.raw c.entry.processed) (length taken) in
+      let is : d.answer ≡ answer_by (read_cause idn.raw c.entry.processed) word =
+      reply ∙ reply-read idn.raw e 0 last d.processed (entries ++ log) taken some step opened before
+      ∙ ap (λ (t : Processed). answer_by (read_cause idn.raw t) (slice_index (copy idn.raw t) (length taken))) (sym c.is) in
+      let none = no_cause (read_cause idn.raw c.entry.processed) word (ap (λ (a : Answer). a.error) (sym is) ∙ well) in
+      (none, ap (λ (a : Answer). a.word) (is ∙ ap (λ (o : Option ℕ). answer_by o word) none))
 
   -- one entry more
   starts : (words : List ℕ) (d : Entry) (entries log : List Entry) (v : Bool) → asks_attribute e ≡ v → words ≡ [] → length words ≡ length entries → d.processed.step ≡ opening idn → d.answer.error ≡ false →
@@ -176,15 +140,15 @@ module _ (idn : Idn) (e : ℕ) (b : Block) (blocks : List Block) (found : find_b
   grows : (words : List ℕ) (d : Entry) (entries log : List Entry) → Stage words entries log → length words ≡ length entries → slice_get (steps_of asked words) (length words) ≡ Some d.processed.step →
       d.answer ≡ reply_of d.processed (entries ++ log) → AreAlike d.processed.blocks blocks → d.answer.error ≡ false → is_whole asked (words ++ d.answer.word ∷ []) ≡ false → Stage (words ++ d.answer.word ∷ []) (d ∷ entries) log
   grows words d entries log (AtOpening is) count next reply alike well goes_on =
-      starts words d entries log (asks_attribute e) refl is count (next_opening words d.processed.step is next) well
+      starts words d entries log (asks_attribute e) refl is count (some_same (opening idn) d.processed.step (rw is at next)) well
   grows words d entries log (AtLow asks w is opened before) count next reply alike well goes_on =
-      let step = next_low words d.processed.step w asks is next in
+      let step = some_same (a_step false false 3 0) d.processed.step (rw is at (by_asked true words d.processed.step asks next)) in
       let read = IsRead-alike idn.raw d.processed blocks b (ap (λ (s : Step). s.element) step) alike found in
       let word : d.answer.word ≡ low_of b = ap (λ (a : Answer). a.word) (reply ∙ reply_low idn.raw 0 false d.processed (entries ++ log) b.attribute step opened before read) in
       AtHigh asks w d.processed (ap₂ (λ (ws : List ℕ) (x : ℕ). ws ++ x ∷ []) is word) (open_by (a_step false false 3 0) d (entries ++ log) step well ∙ opened)
       (run_grows (a_step false false 3 0) false 3 d (entries ++ log) [] step well before refl) read
   grows words d entries log (AtHigh asks w t is opened before read) count next reply alike well goes_on =
-      let step = next_high words d.processed.step w (low_of b) asks is next in
+      let step = some_same (a_step false true 3 0) d.processed.step (rw is at (by_asked true words d.processed.step asks next)) in
       let word : d.answer.word ≡ high_of b = ap (λ (a : Answer). a.word) (reply ∙ reply_high idn.raw 0 true d.processed t (entries ++ log) b.attribute step opened before read) in
       let two : length words ≡ 2 = ap length is in
       let three : 3 ≡ steps_before e = ap before_by (sym asks) in
@@ -197,15 +161,9 @@ module _ (idn : Idn) (e : ℕ) (b : Block) (blocks : List Block) (found : find_b
       let there : length words ≡ steps_before e + length own = (placed idn e b (asks_attribute e) words own behind).count in
       AtWord (own ++ d.answer.word ∷ []) (d.processed ∷ taken) (behind_more b (asks_attribute e) words own d.answer.word behind)
       (omega (arith, length-append own (d.answer.word ∷ [])))
-      (open_by (a_step false false e 0) d (entries ++ log) step well ∙ still_open opened)
-      (run_grows (a_step false false e 0) false e d (entries ++ log) taken step well before (same e))
+      (open_by (a_step false false e 0) d (entries ++ log) step well ∙ cond-false (e == 0) None (open_idn (entries ++ log)) some ∙ opened)
+      (run_grows (a_step false false e 0) false e d (entries ++ log) taken step well before (and_from (e == e) true (eq-eqb e e refl) refl))
       (λ x. next_chosen own taken entries d x false (omega arith) step alike (chosen d) answered.1)
-    where
-      still_open : open_idn (entries ++ log) ≡ Some idn.raw → (if e == 0 then None else open_idn (entries ++ log)) ≡ Some idn.raw
-      still_open opened = cond-false (e == 0) None (open_idn (entries ++ log)) some ∙ opened
-
-      same : (n : ℕ) → ((n == n) && true) ≡ true
-      same n = grind (arith, nat_tests)
 
   -- the entries before the newest
   pub stage_before : (d : Entry) (entries log : List Entry) → IsTransfer asked blocks d entries log → Stage (answer_words (replies_of entries)) entries log

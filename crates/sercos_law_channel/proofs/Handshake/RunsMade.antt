@@ -1,5 +1,5 @@
 -- There is a run for any choices.
-use Rattle.sercos_law_channel.proofs.Words.{◌≡◌, ℕ, ◌+◌, ◌≤◌, Bool, true, false, not, ◌&&◌, ◌||◌, List, [], ◌∷◌, refl, arith, if◌then◌else◌, nat_le, nat_lt, ◌==◌, Option, Some, None, IsSome, IfSome, is_none, and_parts, leb-true, ltb-true, Step, Request, Block, Said, open_in, master_says, View, standing, stood_in, whole_row, IsShown, IsRun, IsSound, AreSound, Choice, silent_by, shown_at, heard_at, begun_before, begun_at, has_ten, rises_at, view_by, run_by, AreSoundChoices}
+use Rattle.sercos_law_channel.proofs.Words.{◌≡◌, ℕ, ◌+◌, ◌≤◌, Bool, true, false, not, ◌&&◌, ◌||◌, List, [], ◌∷◌, refl, arith, if◌then◌else◌, nat_le, nat_lt, ◌==◌, Option, Some, None, IsSome, IfSome, is_none, and_parts, leb-true, ltb-true, Step, Request, Block, open_in, master_says, View, standing, stood_in, whole_row, IsShown, IsRun, IsSound, AreSound, Choice, silent_by, heard_at, begun_before, begun_at, has_ten, rises_at, view_by, run_by, AreSoundChoices, cond_both}
 
 shut_at : (o : Option Step) → is_none o ≡ true → o ≡ None
 shut_at None e = refl
@@ -11,20 +11,13 @@ allowed false o some = absurd (cc)
 
 module _ (busy : ℕ) where
   heard_shown : (c : Choice) (past : List View) → IfSome (heard_at busy c past) (λ a. IsShown busy a (view_by busy c past) past)
-  heard_shown c past = by (c.mst_comes && (c.at_comes && nat_le 1 (stood_in (silent_by c past) (standing past)))) refl
-    where
-      by : (b : Bool) → (c.mst_comes && (c.at_comes && nat_le 1 (stood_in (silent_by c past) (standing past)))) ≡ b →
-          IfSome (if b then Some (record { status = record c.others { ahs = (shown_at busy c past).ahs; busy = (shown_at busy c past).busy; error = (shown_at busy c past).error; change = (shown_at busy c past).change }; word = (shown_at busy c past).word }) else None)
-          (λ a. IsShown busy a (view_by busy c past) past)
-      by true on =
-          let parts = and_parts c.mst_comes _ on in
-          let more = and_parts c.at_comes _ parts.1 in
-          record { got_mst = parts.0; stands = leb-true 1 (stood_in (silent_by c past) (standing past)) more.1; says = refl }
-      by false on = tt
-
-  sent_said : (b : Bool) (s : Said) → IfSome (if b then Some s else None) (λ x. x ≡ s)
-  sent_said true s = refl
-  sent_said false s = tt
+  heard_shown c past = cond_both (c.mst_comes && (c.at_comes && nat_le 1 (stood_in (silent_by c past) (standing past)))) _ None
+      (λ o. IfSome o (λ a. IsShown busy a (view_by busy c past) past))
+      (λ on.
+      let parts = and_parts c.mst_comes _ on in
+      let more = and_parts c.at_comes _ parts.1 in
+      record { got_mst = parts.0; stands = leb-true 1 (stood_in (silent_by c past) (standing past)) more.1; says = refl })
+      (λ off. tt)
 
   ten_by : (p n : ℕ) (whole falls restarts : Bool) → (nat_le 1 p || ((whole && not falls) && nat_le 9 (if restarts then 0 else n))) ≡ true → p ≡ 0 → 10 ≤ (if whole && ((p == 0) && not falls) then (if restarts then 0 else n) + 1 else 0)
   ten_by p n whole falls restarts up zero = at whole falls (if restarts then 0 else n) (rw zero at up)
@@ -48,7 +41,9 @@ module _ (busy : ℕ) where
           heard = heard_shown c past;
           late = λ some. leb-true 2 (silent_by c past).phase (and_parts (nat_le 2 (silent_by c past).phase) _ (allowed _ c.wants some)).0;
           begins = λ some. shut_at (open_in (begun_before busy c past)) (and_parts (nat_le 2 (silent_by c past).phase) _ (allowed _ c.wants some)).1;
-          sent = sent_said c.sends (master_says (begun_at busy c past));
+          sent =
+              cond_both c.sends (Some (master_says (begun_at busy c past))) None
+              (λ o. IfSome o (λ s. s ≡ master_says (begun_at busy c past))) (λ on. refl) (λ off. tt);
           ten = λ r zero. ten_by (silent_by c past).phase (whole_row past) c.whole c.falls c.master_restarts (up r).2 zero;
           rests = λ r. shut_at (open_in (begun_at busy c past)) (up r).0;
           top = λ r. ltb-true (silent_by c past).phase 4 (up r).1;
@@ -57,8 +52,7 @@ module _ (busy : ℕ) where
 
   pub is_sound : (blocks : List Block) (choices : List Choice) → AreSoundChoices blocks choices → AreSound blocks (run_by busy choices)
   is_sound blocks [] sound = tt
-  is_sound blocks (c ∷ choices) sound = (is_sound blocks choices sound.0, (sound.1.0, by (nat_le 2 (silent_by c (run_by busy choices)).phase && is_none (open_in (begun_before busy c (run_by busy choices))))))
-    where
-      by : (may : Bool) → IfSome (if may then c.wants else None) (λ r. IsSound blocks r)
-      by true = sound.1.1
-      by false = tt
+  is_sound blocks (c ∷ choices) sound =
+      let past = run_by busy choices in
+      let begins = cond_both (nat_le 2 (silent_by c past).phase && is_none (open_in (begun_before busy c past))) c.wants None
+      (λ o. IfSome o (λ r. IsSound blocks r)) (λ may. sound.1.1) (λ off. tt) in (is_sound blocks choices sound.0, (sound.1.0, begins))

@@ -1,8 +1,8 @@
 -- Where the setting of a procedure command isn't refused, the block has two bytes, and its cancel isn't refused either, unless
 -- it is write protected then.
-use Rattle.sercos_law_channel.proofs.Words.{◌≡◌, ℕ, ◌/◌, ◌%◌, ◌<◌, Bool, true, false, not, ◌&&◌, List, [], ◌∷◌, refl, ap, ap₂, sym, ◌∙◌, arith, ◌==◌, ◌||◌, Option, Some, None, option_map, int_lt, then_some, option_or, cond-true, cond-false, none_of-or, none_of-then, Attribute, Length, is_list, Step, Answer, a_step, Block, is_number, bits_in, meant, is_fixed, is_protected, find_block, is_below, is_above, Processed, Entry, opens, open_idn, run_before, answer_by, is_first_word, ends_early, is_over, is_uneven, is_no_command_value, write_cause_in, reply_of, reply_at, AreAlike, without_data, no_cause, bytes_written, write_cause, and-false, and_right, not_from_true}
+use Rattle.sercos_law_channel.proofs.Words.{◌≡◌, ℕ, ◌/◌, ◌%◌, ◌<◌, Bool, true, false, not, ◌&&◌, List, [], ◌∷◌, refl, ap, ap₂, sym, ◌∙◌, arith, ◌==◌, ◌||◌, Option, Some, None, int_lt, then_some, option_or, none_of-or, none_of-then, Length, is_list, Step, Answer, a_step, Block, is_number, bits_in, meant, is_fixed, is_protected, find_block, is_below, is_above, Processed, Entry, open_idn, run_before, answer_by, is_first_word, ends_early, is_over, is_uneven, is_no_command_value, write_cause_in, reply_of, AreAlike, without_data, no_cause, bytes_written, write_cause, and-false, and_right, not_from_true, in_order}
 use Rattle.sercos_idn.specs.declared.kinds.Length.TheVariants as len
-use Rattle.sercos_law_channel.proofs.Handshake.AttributeReplies.{find-alike}
+use Rattle.sercos_law_channel.proofs.Handshake.AttributeReplies.{alike_there, reply-data}
 
 -- A block that takes one word as the last has two bytes.
 two_wanted : (l : Length) → (b : Block) → b.attribute.length ≡ l → ends_early b true (3 ∷ []) ≡ false → l ≡ len.Two
@@ -41,34 +41,21 @@ pub two_bytes : (b : Block) (word : ℕ) → word < 256 → b.attribute.length �
 unfolding bytes_written
 two_bytes b word small two = let low : word % 256 ≡ word = omega arith in let high : word / 256 ≡ 0 = omega arith in rw (two, low, high) refl
 
--- where the setting isn't refused, the block has two bytes
-allows_by : (raw : ℕ) (t : Processed) (b : Block) → option_map without_data (find_block raw t.blocks) ≡ Some (without_data b) → write_cause_in (find_block raw t.blocks) t.phase true (3 ∷ []) ≡ None → Allows b t.phase
-allows_by raw t b found none = by (find_block raw t.blocks) found none
-  where
-    by : (o : Option Block) → option_map without_data o ≡ Some (without_data b) → write_cause_in o t.phase true (3 ∷ []) ≡ None → Allows b t.phase
-    by None found none = absurd (cc)
-    by (Some c) found none =
-        let same : without_data c ≡ without_data b = cc in
-        Allows-alike c b t.phase same (allows c t.phase none)
-
 -- the reply to a last word of operation data
 reply-word : (raw word : ℕ) (t : Processed) (all : List Entry) → t.step ≡ a_step true true 7 word → open_idn all ≡ Some raw → run_before true 7 all ≡ [] →
     reply_of t all ≡ answer_by (write_cause_in (find_block raw t.blocks) t.phase true (word ∷ [])) 0
 reply-word raw word t all is opened before =
-    let closed : opens t.step ≡ false = ap opens is in
-    let some : (t.step.element == 0) ≡ false = ap (λ (s : Step). s.element == 0) is in
-    let runs : run_before t.step.write t.step.element all ≡ [] = ap (λ (s : Step). run_before s.write s.element all) is ∙ before in
-    let writes : t.step.write ≡ true = ap (λ (s : Step). s.write) is in
-    let operation : (t.step.element == 7) ≡ true = ap (λ (s : Step). s.element == 7) is in
-    let cause : write_cause_in (find_block raw t.blocks) t.phase t.step.last (t.step.word ∷ []) ≡ write_cause_in (find_block raw t.blocks) t.phase true (word ∷ []) =
-    ap (λ (s : Step). write_cause_in (find_block raw t.blocks) t.phase s.last (s.word ∷ [])) is in
-    cond-false _ _ _ closed ∙ cond-false _ _ _ some ∙ ap₂ (λ (o : Option ℕ) (r : List Processed). reply_at o t r) opened runs ∙ cond-true _ _ _ writes
-    ∙ ap (λ (o : Option ℕ). answer_by o 0) (cond-true (t.step.element == 7) _ _ operation ∙ cause)
+    reply-data t all raw (ap (λ (s : Step). s.write) is) (ap (λ (s : Step). s.element == 7) is) opened
+    ∙ ap₂ (λ (s : Step) (run : List Processed). answer_by (write_cause_in (find_block raw t.blocks) t.phase s.last
+    (in_order run (s.word ∷ []))) 0)
+    is (ap (λ (s : Step). run_before s.write s.element all) is ∙ before)
 
 pub set_allows : (raw : ℕ) (t : Processed) (all : List Entry) (blocks : List Block) (b : Block) → t.step ≡ a_step true true 7 3 → open_idn all ≡ Some raw → run_before true 7 all ≡ [] → AreAlike t.blocks blocks → find_block raw blocks ≡ Some b →
     (reply_of t all).error ≡ false → Allows b t.phase
 set_allows raw t all blocks b is opened before alike found well =
-    allows_by raw t b (find-alike raw t.blocks blocks b alike found) (no_cause _ 0 (ap (λ (a : Answer). a.error) (sym (reply-word raw 3 t all is opened before)) ∙ well))
+    let (c, there, same) = alike_there raw t.blocks blocks b alike found in
+    let none = no_cause _ 0 (ap (λ (a : Answer). a.error) (sym (reply-word raw 3 t all is opened before)) ∙ well) in
+    Allows-alike c b t.phase same (allows c t.phase (sym (ap (λ (o : Option Block). write_cause_in o t.phase true (3 ∷ [])) there) ∙ none))
 
 -- there is no cause against a cancel
 or_none : (o p : Option ℕ) → o ≡ None → p ≡ None → option_or o p ≡ None
@@ -79,18 +66,9 @@ then_none : (test : Bool) (code : ℕ) → test ≡ false → then_some test cod
 then_none true code off = absurd (cc)
 then_none false code off = refl
 
-in_time : (l : Length) (b : Block) → b.attribute.length ≡ l → l ≡ len.Two → ends_early b true (0 ∷ []) ≡ false
-in_time l b is two = rw (is, two) refl
-
-no_longer : (b : Block) → b.attribute.length ≡ len.Two → is_over b true (0 ∷ []) ≡ false
-no_longer b two = rw two refl
-
 is_setting : (b : Block) → b.attribute.length ≡ len.Two → (is_uneven b (0 ∷ []) || is_no_command_value b true (0 ∷ [])) ≡ false
 unfolding bytes_written
 is_setting b two = rw two (and-false b.attribute.command)
-
-no_number : (a : Attribute) → a.command ≡ true → is_number a ≡ false
-no_number a command = and_right (not (is_list a.length)) (not a.command) (not_from_true a.command command)
 
 below_none : (b : Block) (bytes : List ℕ) (o : Option ℕ) → is_number b.attribute ≡ false → is_below b bytes o ≡ false
 below_none b bytes None off = refl
@@ -103,11 +81,11 @@ above_none b bytes (Some limit) off = ap (λ (v : Bool). v && int_lt (meant b.at
 cancel_free : (b : Block) (phase : ℕ) → b.attribute.command ≡ true → Allows b phase → write_cause b phase true (0 ∷ []) ≡ None
 unfolding write_cause
 cancel_free b phase command a =
-    let number = no_number b.attribute command in
+    let number = and_right (not (is_list b.attribute.length)) (not b.attribute.command) (not_from_true b.attribute.command command) in
     or_none _ _ (then_none (is_fixed b) 0x7004 a.loose)
     (or_none _ _ (then_none (is_protected b.attribute phase) 0x7005 a.bare)
-    (or_none _ _ (then_none (ends_early b true (0 ∷ [])) 0x7002 (in_time b.attribute.length b refl a.two))
-    (or_none _ _ (then_none (is_over b true (0 ∷ [])) 0x7003 (no_longer b a.two))
+    (or_none _ _ (then_none (ends_early b true (0 ∷ [])) 0x7002 (rw a.two refl))
+    (or_none _ _ (then_none (is_over b true (0 ∷ [])) 0x7003 (rw a.two refl))
     (or_none _ _ (then_none (is_uneven b (0 ∷ []) || is_no_command_value b true (0 ∷ [])) 0x7008 (is_setting b a.two))
     (or_none _ _ (then_none (is_below b (bytes_written b (0 ∷ [])) b.min) 0x7006 (below_none b (bytes_written b (0 ∷ [])) b.min number))
     (then_none (is_above b (bytes_written b (0 ∷ [])) b.max) 0x7007 (above_none b (bytes_written b (0 ∷ [])) b.max number)))))))
@@ -116,10 +94,7 @@ cancel_free b phase command a =
 pub cancels_well : (raw : ℕ) (t : Processed) (all : List Entry) (blocks : List Block) (b : Block) → t.step ≡ a_step true true 7 0 → open_idn all ≡ Some raw → run_before true 7 all ≡ [] → AreAlike t.blocks blocks → find_block raw blocks ≡ Some b →
     b.attribute.command ≡ true → Allows b t.phase → (reply_of t all).error ≡ false
 cancels_well raw t all blocks b is opened before alike found command a =
-    ap (λ (x : Answer). x.error) (reply-word raw 0 t all is opened before ∙ ap (λ (o : Option ℕ). answer_by o 0) (by (find_block raw t.blocks) (find-alike raw t.blocks blocks b alike found)))
-  where
-    by : (o : Option Block) → option_map without_data o ≡ Some (without_data b) → write_cause_in o t.phase true (0 ∷ []) ≡ None
-    by None same = absurd (cc)
-    by (Some c) same =
-        let alike_blocks : without_data c ≡ without_data b = cc in
-        cancel_free c t.phase (ap (λ (x : Block). x.attribute.command) alike_blocks ∙ command) (Allows-alike b c t.phase (sym alike_blocks) a)
+    let (c, there, same) = alike_there raw t.blocks blocks b alike found in
+    let none = cancel_free c t.phase (ap (λ (x : Block). x.attribute.command) same ∙ command) (Allows-alike b c t.phase (sym same) a) in
+    ap (λ (x : Answer). x.error) (reply-word raw 0 t all is opened before ∙ ap (λ (o : Option ℕ). answer_by o 0)
+    (ap (λ (o : Option Block). write_cause_in o t.phase true (0 ∷ [])) there ∙ none))

@@ -1,5 +1,5 @@
 -- A test that each step of a part of a transfer passes, by the element that it reads or writes.
-use Rattle.sercos_law_channel.proofs.Words.{◌≡◌, ℕ, ◌+◌, ◌*◌, Bool, true, false, List, [], ◌∷◌, replicate, refl, list_all, Step, Shape, words_in_list, a_step, run, reading, attribute_then}
+use Rattle.sercos_law_channel.proofs.Words.{◌≡◌, ℕ, ◌+◌, ◌*◌, Bool, true, false, List, [], ◌∷◌, replicate, refl, list_all, Step, Shape, words_in_list, a_step, run, reading, attribute_then, polling, cond_both, ◌==◌}
 use Rattle.sercos_step.specs.declared.shape.Shape.TheVariants as shape
 
 module _ (test : Step → Bool) where
@@ -24,3 +24,10 @@ module _ (test : Step → Bool) where
   attribute_passes rest [] each all = rw (each false 0, each true 0) refl
   attribute_passes rest (low ∷ []) each all = rw (each false 0, each true 0) refl
   attribute_passes rest (low ∷ high ∷ words) each all = rw (each false 0, each true 0) (all (low + 65536 * high) words)
+
+  pub polling_passes : (words : List ℕ) → test (a_step false true 1 0) ≡ true → test (a_step true true 7 0) ≡ true →
+      list_all test (polling words) ≡ true
+  polling_passes [] poll cancel = rw poll refl
+  polling_passes (status ∷ words) poll cancel =
+      rw poll (cond_both (status == 7) (polling words) (a_step true true 7 0 ∷ []) (λ l. list_all test l ≡ true)
+      (λ on. polling_passes words poll cancel) (λ off. rw cancel refl))

@@ -1,5 +1,5 @@
 -- What a block holds is what was written to it last.
-use Rattle.sercos_law_channel.proofs.Words.{◌≡◌, ℕ, Bool, true, false, not, ◌&&◌, List, [], ◌∷◌, ◌++◌, map, drop, zero, suc, refl, sym, ap, ◌∙◌, subst, if◌then◌else◌, append_assoc, ◌==◌, Option, Some, None, option_map, unwrap_or, list_all, and_parts, cond-true, cond-false, eqb-true, eq-eqb, not-true, Idn, outcome_of, Block, find_block, with_value, with_data, list_bytes, unfit_for_phase_3, unfit_for_phase_4, is_command, is_set, CommandHistory, Entry, Write, with_added, command_value, blocks_with, Begun, stored, View, processed_in, kept_in, begun_ago, all_entries, write_of, all_writes, Given, given_of, gives, written_to, given_by, AreWrites, Complete, Refused, Broken, AreExact, RunsAreExact, newest_to, store_in, is_plain, HoldsNewest, GiveElsewhere, StaysWritten}
+use Rattle.sercos_law_channel.proofs.Words.{◌≡◌, ℕ, Bool, true, false, not, ◌&&◌, List, [], ◌∷◌, ◌++◌, map, drop, zero, suc, refl, sym, ap, ◌∙◌, subst, if◌then◌else◌, append_assoc, ◌==◌, Option, Some, None, option_map, unwrap_or, list_all, and_parts, cond-true, cond-false, eqb-true, eq-eqb, not-true, Idn, outcome_of, Block, find_block, with_value, with_data, list_bytes, unfit_for_phase_3, unfit_for_phase_4, is_command, is_set, CommandHistory, Entry, Write, with_added, command_value, blocks_with, Begun, stored, View, processed_in, kept_in, begun_ago, all_entries, write_of, all_writes, Given, given_of, gives, written_to, given_by, AreWrites, Complete, Refused, Broken, AreExact, RunsAreExact, newest_to, store_in, is_plain, HoldsNewest, GiveElsewhere, StaysWritten, ne_eqb}
 use Rattle.sercos_step.specs.declared.request.Request.TheVariants as request
 use Rattle.sercos_step.specs.declared.request.Outcome.TheVariants as outcome
 use Rattle.sercos_command.specs.Calls.{with_check_list}
@@ -50,23 +50,17 @@ has-with_data raw other x bytes blocks has = by (has.block.idn.raw == other) ref
       block = has.block;
       found = find-with_data raw other bytes blocks ∙ ap (option_map (with_value other bytes)) has.found ∙ ap (λ (c : Block). Some c) (cond-false (has.block.idn.raw == other) _ _ off);
       named = has.named;
-      value = has.value ∙ sym (cond-false (other == raw) bytes x (which (other == raw) refl));
+      value =
+          has.value ∙ sym (cond-false (other == raw) bytes x
+          (ne_eqb other raw (λ is. let on : (has.block.idn.raw == other) ≡ true = eq-eqb has.block.idn.raw other (same ∙ sym is) in cc)));
     }
-      where
-        which : (v : Bool) → (other == raw) ≡ v → (other == raw) ≡ false
-        which false no_match = no_match
-        which true is = let on : (has.block.idn.raw == other) ≡ true = eq-eqb has.block.idn.raw other (same ∙ sym (eqb-true other raw is)) in absurd (cc)
 
 -- the lists of the checks are others
 other_list : (raw other : ℕ) (x bytes : List ℕ) (blocks : List Block) → (other == raw) ≡ false → HasValue raw x blocks → HasValue raw x (with_data other bytes blocks)
 other_list raw other x bytes blocks off has = subst (λ (y : List ℕ). HasValue raw y (with_data other bytes blocks)) (cond-false (other == raw) bytes x off) (has-with_data raw other x bytes blocks has)
 
 pub flipped : (n k : ℕ) → (n == k) ≡ false → (k == n) ≡ false
-flipped n k off = which (k == n) refl
-  where
-    which : (v : Bool) → (k == n) ≡ v → (k == n) ≡ false
-    which false is = is
-    which true is = let on : (n == k) ≡ true = eq-eqb n k (sym (eqb-true k n is)) in absurd (cc)
+flipped n k off = ne_eqb k n (λ is. let on : (n == k) ≡ true = eq-eqb n k (sym is) in cc)
 
 has-with_check_list : (raw : ℕ) (x : List ℕ) (c : CommandHistory) (r value : ℕ) (blocks : List Block) → is_plain raw ≡ true → HasValue raw x blocks → HasValue raw x (with_check_list c r value blocks)
 unfolding with_check_list

@@ -71,6 +71,17 @@ complete-outcome_of r a h = by a.error (is_whole r (answer_words h ++ a.word ∷
     by false true code bytes = refl
     by false false code bytes = refl
 
+-- what an answer that completes a transfer shows
+pub complete_is : (r : Request) (a : Answer) (h : List Answer) (bytes : List ℕ) → outcome_of r (a ∷ h) ≡ Some (outcome.Complete bytes) →
+    (a.error ≡ false) × (is_whole r (answer_words h ++ a.word ∷ []) ≡ true) × (bytes ≡ result_of r (answer_words h ++ a.word ∷ []))
+complete_is r a h bytes is = by a.error (is_whole r (answer_words h ++ a.word ∷ [])) a.word (result_of r (answer_words h ++ a.word ∷ [])) is
+  where
+    by : (error whole : Bool) (code : ℕ) (given : List ℕ) → (if error then Some (outcome.Refused (record { raw = code })) else (if whole then Some (outcome.Complete given) else None)) ≡ Some (outcome.Complete bytes) →
+        (error ≡ false) × (whole ≡ true) × (bytes ≡ given)
+    by true whole code given is = absurd (cc)
+    by false true code given is = (refl, refl, cc)
+    by false false code given is = absurd (cc)
+
 pub goes_on-outcome_of : (r : Request) (a : Answer) (h : List Answer) → outcome_of r (a ∷ h) ≡ None → (a.error ≡ false) × (is_whole r (answer_words h ++ a.word ∷ []) ≡ false)
 goes_on-outcome_of r a h on = by a.error (is_whole r (answer_words h ++ a.word ∷ [])) a.word (result_of r (answer_words h ++ a.word ∷ [])) on
   where

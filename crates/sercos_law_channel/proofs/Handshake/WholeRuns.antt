@@ -1,6 +1,6 @@
 -- What the drive accepted and wrote in the whole run is what it did in the epochs, one after the other.
-use Rattle.sercos_law_channel.proofs.Words.{◌≡◌, ℕ, Bool, true, false, List, [], ◌∷◌, ◌++◌, refl, sym, ap, ◌∙◌, arith, if◌then◌else◌, Option, Some, None, beq, Processed, Entry, ahs, accepted, reply_of, answered, log_of, Write, with_added, writes_of, adds, added_on, View, processed_in, with_record, kept_in, unless_restart, epoch_records, records_in_views, epoch_log, log_in, IsRun, accepted_of, all_entries, write_of, all_writes, leaving}
-use Rattle.sercos_law_channel.proofs.Handshake.PhaseMoves.{Processes, Nothing, Record, processes, processed_phase}
+use Rattle.sercos_law_channel.proofs.Words.{◌≡◌, ℕ, Bool, true, false, List, [], ◌∷◌, ◌++◌, refl, sym, ap, ◌∙◌, arith, if◌then◌else◌, Option, Some, None, beq, Processed, Entry, ahs, accepted, reply_of, answered, log_of, Write, with_added, writes_of, added_on, View, processed_in, with_record, kept_in, unless_restart, epoch_records, records_in_views, epoch_log, log_in, IsRun, accepted_of, all_entries, write_of, all_writes, leaving, grows, inl, inr, cases_Bool}
+use Rattle.sercos_law_channel.proofs.Handshake.PhaseMoves.{Nothing, Record, processes, processed_phase}
 use Rattle.sercos_law_channel.proofs.Handshake.EpochRuns.{joined, same_at}
 
 -- each entry of a log has the reply to its step, after those before it
@@ -23,22 +23,14 @@ writes_ago (v ∷ past) = leaving v.falls (writes_of (log_in v past)) (leaving v
 
 -- one record more, of a list that stays
 grown : (t : Processed) (h : List Processed) (ago : List Entry) → accepted_of (Some t) h (log_of h ++ ago) ≡ log_of (t ∷ h) ++ ago
-grown t h ago = by (beq t.mhs (ahs h))
-  where
-    by : (v : Bool) → (if v then log_of h ++ ago else (record { processed = t; answer = reply_of t (log_of h) }) ∷ (log_of h ++ ago)) ≡ answered (if v then accepted h else t ∷ accepted h) ++ ago
-    by true = refl
-    by false = refl
+grown t h ago = elim (cases_Bool (beq t.mhs (ahs h))) [ inl on ↦ rw on | inr off ↦ rw off ]
 
 with_added-append : (o : Option Write) (writes ago : List Write) → with_added o (writes ++ ago) ≡ with_added o writes ++ ago
 with_added-append None writes ago = refl
 with_added-append (Some w) writes ago = refl
 
 pub written : (t : Processed) (h : List Processed) → with_added (added_on t h) (writes_of (log_of h)) ≡ writes_of (log_of (t ∷ h))
-written t h = by (beq t.mhs (ahs h))
-  where
-    by : (v : Bool) → with_added (if v then None else adds t (log_of h)) (writes_of (log_of h)) ≡ writes_of (answered (if v then accepted h else t ∷ accepted h))
-    by true = refl
-    by false = refl
+written t h = sym (grows t h)
 
 entries_more : (o : Option Processed) (kept h : List Processed) (ago : List Entry) → ((t : Processed) → o ≡ Some t → kept ≡ h) → accepted_of o kept (log_of h ++ ago) ≡ log_of (with_record o h) ++ ago
 entries_more None kept h ago same = refl
@@ -57,13 +49,12 @@ moved_on false f h ago none = refl
 module _ (busy : ℕ) where
   -- what a drive that processes a record keeps is what it took in this epoch
   pub kept_same : (v : View) (past : List View) → IsRun busy (v ∷ past) → (t : Processed) → processed_in v past ≡ Some t → kept_in v past ≡ unless_restart v (epoch_records past)
-  kept_same v past run t is = by (processes v past)
-    where
-      by : Processes v past → kept_in v past ≡ unless_restart v (epoch_records past)
-      by (Nothing none) = absurd (cc)
-      by (Record s got came two some) =
-          let phase = processed_phase v past came (omega arith) in
-          same_at busy v past run (joined busy past run.0) (omega arith) (λ z. omega arith)
+  kept_same v past run t is = elim (processes v past) [
+    | Nothing none ↦ absurd (cc)
+    | Record s got came two some ↦
+        let phase = processed_phase v past came (omega arith) in
+        same_at busy v past run (joined busy past run.0) (omega arith) (λ z. omega arith)
+  ]
 
   pub entries_in_epochs : (past : List View) → IsRun busy past → all_entries past ≡ epoch_log past ++ entries_ago past
   entries_in_epochs [] run = refl

@@ -4,17 +4,17 @@ use Rattle.sercos_idn.specs.declared.kinds.Form.TheVariants as forms
 use Rattle.sercos_step.specs.declared.request.Request.TheVariants as request
 use Rattle.sercos_step.specs.declared.request.Outcome.TheVariants as outcome
 
--- a procedure command, or a number, that is write protected from phase 3 on
-abbrev attribute : Bool → Attribute
-attribute command = record {
+-- a procedure command, or a number, of two bytes, that is write protected from phase 3 on or in no phase
+abbrev pub attribute : Bool → Bool → Attribute
+attribute command protected = record {
   factor = 1;
   length = Two;
   command = command;
   form = forms.Unsigned;
   decimals = 0;
   protect2 = false;
-  protect3 = true;
-  protect4 = true;
+  protect3 = protected;
+  protect4 = protected;
   decimals_in_range = in_range;
   command_is_two = is_two command;
 }
@@ -25,10 +25,10 @@ attribute command = record {
     is_two : (v : Bool) → v ≡ true → Two ≡ Two
     is_two v on = refl
 
-abbrev block : Bool → Option ℕ → Block
-block command min = record { idn = record { raw = 1 }; attribute = attribute command; name = None; unit = None; min = min; max = None; value = 0 ∷ 0 ∷ []; max_len = 0; fixed = false; step = 0; fails = false }
+abbrev pub block_of : Attribute → Option ℕ → List ℕ → Block
+block_of a min value = record { idn = record { raw = 1 }; attribute = a; name = None; unit = None; min = min; max = None; value = value; max_len = 0; fixed = false; step = 0; fails = false }
 
-abbrev commands : CommandHistory
+abbrev pub commands : CommandHistory
 commands = record { rate = 2; time = 3; calls = [] }
 
 abbrev asked : Request
@@ -46,7 +46,7 @@ last phase b code = entry 3 phase false b (a_step true true 7 0) (refused code)
 
 -- a procedure command that is write protected at the cancel, and wasn't at the setting
 abbrev command : Block
-command = block true None
+command = block_of (attribute true true) None (0 ∷ 0 ∷ [])
 
 transfer : IsTransfer asked (command ∷ []) (last 3 command 0x7005) (others command) []
 unfolding bytes_written write_cause
@@ -61,7 +61,7 @@ stays_set = refl
 
 -- a number whose minimum is 1
 abbrev number : Block
-number = block false (Some 1)
+number = block_of (attribute false true) (Some 1) (0 ∷ 0 ∷ [])
 
 number_transfer : IsTransfer asked (number ∷ []) (last 2 number 0x7006) (others number) []
 unfolding bytes_written write_cause

@@ -1,9 +1,10 @@
 -- A read worked out from the definitions: of a number of four bytes, 64500, that grows by 10 in each cycle.
-use Rattle.sercos_law_channel.proofs.Words.{◌≡◌, ℕ, ◌<◌, ◌≤◌, Bool, true, false, List, [], ◌∷◌, refl, arith, Some, None, Attribute, Two, Four, Request, Step, a_step, outcome_of, Block, IsStore, CommandHistory, Processed, Entry, good, replies_of, IsTransfer, entry_behind, bytes_at, AreBytes, attribute_fault, attribute_of, element_of, data_in, element_words}
+use Rattle.sercos_law_channel.proofs.Words.{◌≡◌, ℕ, ◌<◌, ◌≤◌, Bool, true, false, List, [], ◌∷◌, refl, arith, Some, None, Attribute, Two, Four, Request, Step, a_step, outcome_of, Block, IsStore, Processed, Entry, good, replies_of, IsTransfer, entry_behind, bytes_at, AreBytes, attribute_fault, attribute_of, element_of, data_in, element_words}
 use Rattle.sercos_idn.specs.declared.kinds.Form.TheVariants as forms
 use Rattle.sercos_step.specs.declared.request.Request.TheVariants as request
 use Rattle.sercos_step.specs.declared.request.Outcome.TheVariants as outcome
 use Rattle.sercos_block.specs.Stores.{are_ascending, is_sound, is_typed}
+use Rattle.sercos_law_channel.proofs.Handshake.WorkedCommands.{commands}
 
 no_command : false ≡ true → Four ≡ Two
 no_command off = absurd (cc)
@@ -27,9 +28,6 @@ number = record {
 
 abbrev block : Block
 block = record { idn = record { raw = 51 }; attribute = number; name = None; unit = None; min = None; max = None; value = 0xf4 ∷ 0xfb ∷ 0 ∷ 0 ∷ []; max_len = 0; fixed = false; step = 10; fails = false }
-
-abbrev commands : CommandHistory
-commands = record { rate = 2; time = 3; calls = [] }
 
 abbrev asked : Request
 asked = request.Read (record { raw = 51 }) 7

@@ -1,36 +1,13 @@
 -- A run worked out from the definitions: a write, a second one that a fall breaks, the same again in the next epoch, restarts of
 -- both ends, and a read that comes through.
-use Rattle.sercos_law_channel.proofs.Words.{◌≡◌, ℕ, ◌<◌, Bool, true, false, List, [], ◌∷◌, ◌++◌, replicate, take, refl, arith, Option, Some, None, option_map, Status, Attribute, Two, Request, Outcome, Step, a_step, outcome_of, Block, CommandHistory, Entry, Write, good, Begun, Said, IsTransfer, Heard, View, standing, Choice, run_by, all_begun, all_entries, all_writes, store_in, attribute_fault, attribute_of, element_of, data_in, element_words, bytes_written, write_cause, status_rest}
-use Rattle.sercos_idn.specs.declared.kinds.Form.TheVariants as forms
+use Rattle.sercos_law_channel.proofs.Words.{◌≡◌, ℕ, Bool, true, false, List, [], ◌∷◌, ◌++◌, replicate, take, refl, Option, Some, None, option_map, Status, Request, Outcome, Step, a_step, outcome_of, Block, Entry, Write, good, Begun, Said, IsTransfer, Heard, View, standing, Choice, run_by, all_begun, all_entries, all_writes, store_in, attribute_fault, attribute_of, element_of, data_in, element_words, bytes_written, write_cause, status_rest}
 use Rattle.sercos_step.specs.declared.request.Request.TheVariants as request
 use Rattle.sercos_step.specs.declared.request.Outcome.TheVariants as outcome
+use Rattle.sercos_law_channel.proofs.Handshake.WorkedCommands.{attribute, block_of, commands}
 
 -- a number of two bytes that is written in phase 2
-abbrev number : Attribute
-number = record {
-  factor = 1;
-  length = Two;
-  command = false;
-  form = forms.Unsigned;
-  decimals = 0;
-  protect2 = false;
-  protect3 = true;
-  protect4 = true;
-  decimals_in_range = in_range;
-  command_is_two = is_two;
-}
-  where
-    in_range : 0 < 16
-    in_range = omega arith
-
-    is_two : false ≡ true → Two ≡ Two
-    is_two off = refl
-
 abbrev block : ℕ → ℕ → Block
-block low high = record { idn = record { raw = 1 }; attribute = number; name = None; unit = None; min = None; max = None; value = low ∷ high ∷ []; max_len = 0; fixed = false; step = 0; fails = false }
-
-abbrev pub commands : CommandHistory
-commands = record { rate = 2; time = 3; calls = [] }
+block low high = block_of (attribute false true) None (low ∷ high ∷ [])
 
 abbrev pub status : Status
 status = record { ahs = false; busy = false; error = false; change = false; cyclic = 0; cyclic_low = refl; cyclic_apart = status_rest 0 }

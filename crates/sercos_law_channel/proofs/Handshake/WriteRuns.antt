@@ -1,6 +1,6 @@
 -- A run of steps that write words, and what it adds to the writes.
 use Rattle.sercos_law_channel.proofs.Words.{◌≡◌, ℕ, suc, ◌+◌, Bool, true, false, not, ◌&&◌, List, [], ◌∷◌, length, take, drop, refl, ap, ap₂, ◌∙◌, arith, if◌then◌else◌, ◌==◌, Option, Some, None, slice_get, slice_index, option_map, option_and_then, beq, cond-true, cond-false, is_list, bytes_in, Step, a_step, run, Block, find_block, Processed, Entry, opens, open_idn, run_before, in_order, Write, AreAlike, without_data, written_by, with_added, writes_of, takes_effect, bytes_written}
-use Rattle.sercos_law_channel.proofs.Handshake.AttributeReplies.{find-alike}
+use Rattle.sercos_law_channel.proofs.Handshake.AttributeReplies.{alike_there}
 use Rattle.sercos_law_channel.proofs.Handshake.TransferSteps.{effect_by}
 
 -- the steps after those of a run are those of the words that are left
@@ -51,14 +51,11 @@ bytes_alike c d words same =
 -- the write of a last word
 written_found : (t : Processed) (taken : List Processed) (raw : ℕ) (blocks : List Block) (b : Block) (words : List ℕ) → AreAlike t.blocks blocks → find_block raw blocks ≡ Some b → in_order taken (t.step.word ∷ []) ≡ words →
     written_by t taken raw ≡ Some (record { cycle = t.cycle; raw = raw; bytes = bytes_written b words })
-written_found t taken raw blocks b words alike found ordered = by (find_block raw t.blocks) (in_order taken (t.step.word ∷ [])) (find-alike raw t.blocks blocks b alike found) ordered
-  where
-    by : (o : Option Block) (ws : List ℕ) → option_map without_data o ≡ Some (without_data b) → ws ≡ words →
-        option_map (λ (c : Block). (let w : Write = record { cycle = t.cycle; raw = raw; bytes = bytes_written c ws } in w)) o ≡ Some (record { cycle = t.cycle; raw = raw; bytes = bytes_written b words })
-    by None ws same is = absurd (cc)
-    by (Some c) ws same is =
-        let alike_blocks : without_data c ≡ without_data b = cc in
-        ap (λ (bytes : List ℕ). (let w : Write = record { cycle = t.cycle; raw = raw; bytes = bytes } in Some w)) (bytes_alike c b ws alike_blocks ∙ ap (bytes_written b) is)
+written_found t taken raw blocks b words alike found ordered =
+    let (c, there, same) = alike_there raw t.blocks blocks b alike found in
+    let made : List ℕ → Write = λ bytes. record { cycle = t.cycle; raw = raw; bytes = bytes } in
+    ap (option_map (λ (d : Block). made (bytes_written d (in_order taken (t.step.word ∷ []))))) there
+    ∙ ap (λ (bytes : List ℕ). Some (made bytes)) (bytes_alike c b (in_order taken (t.step.word ∷ [])) same ∙ ap (bytes_written b) ordered)
 
 pub last_word : (word : ℕ) (e : Entry) (all : List Entry) (taken : List Processed) (raw : ℕ) (blocks : List Block) (b : Block) (words : List ℕ) →
     e.processed.step ≡ a_step true true 7 word → e.answer.error ≡ false → open_idn all ≡ Some raw → run_before true 7 all ≡ taken → in_order taken (word ∷ []) ≡ words →

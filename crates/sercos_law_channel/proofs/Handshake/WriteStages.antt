@@ -1,5 +1,5 @@
 -- How far a write of operation data has come, and what it adds to the writes.
-use Rattle.sercos_law_channel.proofs.Words.{◌≡◌, ℕ, suc, ◌+◌, ◌*◌, ◌≤◌, Bool, true, false, not, ◌&&◌, List, [], ◌∷◌, ◌++◌, length, drop, refl, ap, ap₂, sym, ◌∙◌, arith, if◌then◌else◌, length-append, ◌==◌, nat_le, Some, slice_get, slice_index, nat_tests, AreBytes, Idn, Step, Answer, Shape, Request, words_of, at_least_one, words_told, shape_of, shape_by, a_step, opening, run, steps_of, outcome_of, answer_words, is_whole, Block, find_block, Processed, Entry, open_idn, run_before, in_order, reply_of, bytes_written, Write, AreAlike, writes_of, replies_of, IsTransfer, is_complete, stored, length-run, length-in_order}
+use Rattle.sercos_law_channel.proofs.Words.{◌≡◌, ℕ, suc, ◌+◌, ◌*◌, ◌≤◌, Bool, true, false, not, ◌&&◌, List, [], ◌∷◌, ◌++◌, length, drop, refl, ap, ap₂, sym, ◌∙◌, arith, if◌then◌else◌, length-append, ◌==◌, nat_le, Some, slice_get, slice_index, nat_tests, AreBytes, Idn, Step, Answer, Shape, Request, words_of, at_least_one, words_told, shape_of, shape_by, a_step, opening, run, steps_of, outcome_of, answer_words, is_whole, Block, find_block, Processed, Entry, open_idn, run_before, in_order, reply_of, bytes_written, Write, AreAlike, writes_of, replies_of, IsTransfer, is_complete, stored, length-run, length-in_order, and_right, cond-true, cond-false, inl, inr, cases_Bool}
 use Rattle.sercos_step.specs.declared.shape.Shape.TheVariants as shape
 use Rattle.sercos_step.specs.declared.request.Request.TheVariants as request
 use Rattle.sercos_law_channel.proofs.Handshake.TransferSteps.{newest_step, without_newest, complete-outcome_of, goes_on-outcome_of, adds_none, effect_by}
@@ -40,20 +40,6 @@ abbrev pub is_nil : List ℕ → Bool
 is_nil [] = true
 is_nil (w ∷ ws) = false
 
-none_of : (a b : Bool) (x y : List Write) → b ≡ false → (if a && b then x else y) ≡ y
-none_of true true x y off = absurd (cc)
-none_of true false x y off = refl
-none_of false b x y off = refl
-
-none_of_error : (a b : Bool) (x y : List Write) → a ≡ true → (if not a && b then x else y) ≡ y
-none_of_error true b x y on = refl
-none_of_error false b x y on = absurd (cc)
-
-both_of : (a b : Bool) (x y : List Write) → a ≡ false → b ≡ true → (if not a && b then x else y) ≡ x
-both_of false true x y off on = refl
-both_of false false x y off on = absurd (cc)
-both_of true b x y off on = absurd (cc)
-
 module _ (idn : Idn) (bytes : List ℕ) (b : Block) (said : shape_of 7 (low_of b + 65536 * high_of b) ≡ shape_by b.attribute.length) where
   abbrev asked : Request
   asked = request.Write idn 7 bytes
@@ -85,12 +71,6 @@ module _ (idn : Idn) (bytes : List ℕ) (b : Block) (said : shape_of 7 (low_of b
       some_same (a_step true (is_nil rest) 7 word) s (sym there ∙ sym at ∙ next)
 
   -- whether the answer is the last
-  whole_one : (words : List ℕ) (x : ℕ) → words ≡ [] → is_whole asked (words ++ x ∷ []) ≡ false
-  whole_one words x is = rw is refl
-
-  whole_two : (words : List ℕ) (w x : ℕ) → words ≡ w ∷ [] → is_whole asked (words ++ x ∷ []) ≡ false
-  whole_two words w x is = rw is refl
-
   whole_three : (words : List ℕ) (w v x : ℕ) → words ≡ w ∷ v ∷ [] → is_whole asked (words ++ x ∷ []) ≡ false
   whole_three words w v x is =
       let some : suc (length (drop 1 (words_told (shape_of 7 (v + 65536 * x)) bytes))) ≡ length (words_told (shape_of 7 (v + 65536 * x)) bytes) = ap length (told_parts (shape_of 7 (v + 65536 * x)) bytes) in
@@ -160,24 +140,23 @@ module _ (idn : Idn) (bytes : List ℕ) (b : Block) (said : shape_of 7 (low_of b
 
     adds_early : (words : List ℕ) (e : Entry) (all : List Entry) (s : Step) → e.processed.step ≡ s → (s.write && ((s.element == 7) && (s.last && not e.answer.error))) ≡ false → is_whole asked (words ++ e.answer.word ∷ []) ≡ false → AddsBy words e all
     adds_early words e all s step off open_still =
-        adds_none e all (effect_by s e step ∙ off) ∙ sym (none_of (not e.answer.error) (is_whole asked (words ++ e.answer.word ∷ [])) _ (writes_of all) open_still)
+        adds_none e all (effect_by s e step ∙ off) ∙ sym (cond-false _ _ _ (and_right (not e.answer.error) (is_whole asked (words ++ e.answer.word ∷ [])) open_still))
 
     adds_word : (words : List ℕ) (e : Entry) (all : List Entry) (taken : List Processed) (word : ℕ) (rest : List ℕ) → open_idn all ≡ Some idn.raw → run_before true 7 all ≡ taken → in_order taken (word ∷ rest) ≡ told b bytes →
         e.processed.step ≡ a_step true (is_nil rest) 7 word → AreAlike e.processed.blocks blocks → is_whole asked (words ++ e.answer.word ∷ []) ≡ is_nil rest → AddsBy words e all
     adds_word words e all taken word (v ∷ rest) opened before ordered step alike whole = adds_early words e all (a_step true false 7 word) step refl whole
-    adds_word words e all taken word [] opened before ordered step alike whole = by e.answer.error refl
-      where
-        by : (v : Bool) → e.answer.error ≡ v → AddsBy words e all
-        by true refused =
-            adds_none e all (effect_by (a_step true true 7 word) e step ∙ ap not refused)
-            ∙ sym (none_of_error e.answer.error (is_whole asked (words ++ e.answer.word ∷ [])) _ (writes_of all) refused)
-        by false well =
-            last_word word e all taken idn.raw blocks b (told b bytes) step well opened before ordered alike found
-            ∙ sym (both_of e.answer.error (is_whole asked (words ++ e.answer.word ∷ [])) _ (writes_of all) well whole)
+    adds_word words e all taken word [] opened before ordered step alike whole = elim (cases_Bool e.answer.error) [
+      | inl refused ↦
+          adds_none e all (effect_by (a_step true true 7 word) e step ∙ ap not refused)
+          ∙ sym (cond-false _ _ _ (ap (λ (v : Bool). not v && is_whole asked (words ++ e.answer.word ∷ [])) refused))
+      | inr well ↦
+          last_word word e all taken idn.raw blocks b (told b bytes) step well opened before ordered alike found
+          ∙ sym (cond-true _ _ _ (ap₂ (λ (v w : Bool). not v && w) well whole))
+    ]
 
     adds : (words : List ℕ) (e : Entry) (all : List Entry) → Stage idn bytes b words all → slice_get (steps_of asked words) (length words) ≡ Some e.processed.step → AreAlike e.processed.blocks blocks → AddsBy words e all
-    adds words e all (AtOpening is) next alike = adds_early words e all (opening idn) (next_opening words e.processed.step is next) refl (whole_one words e.answer.word is)
-    adds words e all (AtLow w is opened before) next alike = adds_early words e all (a_step false false 3 0) (next_low words e.processed.step w is next) refl (whole_two words w e.answer.word is)
+    adds words e all (AtOpening is) next alike = adds_early words e all (opening idn) (next_opening words e.processed.step is next) refl (rw is refl)
+    adds words e all (AtLow w is opened before) next alike = adds_early words e all (a_step false false 3 0) (next_low words e.processed.step w is next) refl (rw is refl)
     adds words e all (AtHigh w t is opened before read) next alike = adds_early words e all (a_step false true 3 0) (next_high words e.processed.step w (low_of b) is next) refl (whole_three words w (low_of b) e.answer.word is)
     adds words e all (AtWord w more taken word rest is count opened before ordered) next alike =
         adds_word words e all taken word rest opened before ordered (next_word words e.processed.step w more taken word rest is count ordered next) alike (whole_word words w more taken word rest e.answer.word is count ordered)
@@ -191,7 +170,7 @@ module _ (idn : Idn) (bytes : List ℕ) (b : Block) (said : shape_of 7 (low_of b
         let next = newest_step asked blocks log d entries was in
         let on = goes_on-outcome_of asked d.answer (replies_of entries) is.goes_on in (
           grows (answer_words (replies_of entries)) d (entries ++ log) before.0 next was.replies.1 was.alike.1 on.0 on.1,
-          adds (answer_words (replies_of entries)) d (entries ++ log) before.0 next was.alike.1 ∙ none_of (not d.answer.error) (is_whole asked (answer_words (replies_of entries) ++ d.answer.word ∷ [])) _ (writes_of (entries ++ log)) on.1 ∙ before.1,
+          adds (answer_words (replies_of entries)) d (entries ++ log) before.0 next was.alike.1 ∙ cond-false _ _ _ (and_right (not d.answer.error) (is_whole asked (answer_words (replies_of entries) ++ d.answer.word ∷ [])) on.1) ∙ before.1,
         )
 
     pub writes_once_by : (e : Entry) (entries log : List Entry) → AreBytes bytes → IsTransfer asked blocks e entries log →

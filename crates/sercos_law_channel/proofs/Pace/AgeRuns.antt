@@ -1,43 +1,41 @@
 -- For how many cycles a step is open, and channels that never idle.
-use Rattle.sercos_law_channel.proofs.Words.{◌≡◌, ◌⊎◌, inl, inr, ℕ, suc, ◌+◌, ◌*◌, ◌<◌, ◌≤◌, Bool, true, false, List, [], ◌∷◌, ◌++◌, length, refl, sym, ap, ◌∙◌, arith, if◌then◌else◌, ◌==◌, Option, is_some, cond-true, cond-false, eqb-true, eq-eqb, beq, Step, Processed, Entry, reply_of, log_of, Begun, open_in, steps_in, answers_in, is_odd, log_steps, View, standing, stood_in, record_in, with_record, unless_restart, epoch_begun, begun_in, epoch_records, records_in_views, epoch_log, log_in, IsRun, one_more, open_cycles, AreUndisturbed, IsOnTime, Rests, Waits, IsClean, AreClean, open_since, IsInTime, RestsNow, WaitsNow, BeginsEpoch, age_by, age_in, AgesInTime, AgesWhereDead, OpensAlways, KeepsTime}
+use Rattle.sercos_law_channel.proofs.Words.{◌≡◌, ◌⊎◌, inl, inr, ℕ, suc, ◌+◌, ◌*◌, ◌<◌, ◌≤◌, Bool, true, false, List, [], ◌∷◌, ◌++◌, length, refl, sym, ap, ◌∙◌, arith, if◌then◌else◌, ◌==◌, Option, is_some, cond-true, cond-false, eqb-true, eq-eqb, beq, Step, Processed, Entry, reply_of, log_of, Begun, open_in, steps_in, answers_in, is_odd, log_steps, View, standing, stood_in, record_in, with_record, unless_restart, epoch_begun, begun_in, epoch_records, epoch_log, log_in, IsRun, one_more, open_cycles, AreUndisturbed, IsOnTime, Rests, Waits, IsClean, AreClean, open_since, IsInTime, RestsNow, WaitsNow, BeginsEpoch, age_by, age_in, AgesInTime, AgesWhereDead, OpensAlways, KeepsTime, cases_Bool, both_ways}
 use Rattle.sercos_law_channel.proofs.Handshake.HandshakeMoves.{log-taken}
 use Rattle.sercos_law_channel.proofs.Handshake.TransferSteps.{length-steps_of}
-use Rattle.sercos_law_channel.proofs.Handshake.PhaseMoves.{Processes, Nothing, Record, processes}
+use Rattle.sercos_law_channel.proofs.Handshake.PhaseMoves.{of_processed, chosen}
 use Rattle.sercos_law_channel.proofs.Pace.OnTimeRuns.{on_time, time_of}
 use Rattle.sercos_law_channel.proofs.Pace.LateRuns.{comes_in_time}
 use Rattle.sercos_law_channel.proofs.Pace.WholeCycles.{stays_dead}
-use Rattle.sercos_law_channel.proofs.Pace.EpochBegins.{none_begun}
+use Rattle.sercos_law_channel.proofs.Pace.EpochBegins.{none_begun, run_after}
+use Rattle.sercos_law_channel.proofs.Handshake.EpochRuns.{begun_on, log_on, unless_restart-on}
 
 -- a cycle adds no entry to the log, or one of this cycle
 pub log_grows : (v : View) (past : List View) → v.master_restarts ≡ false → (log_in v past ≡ epoch_log past) ⊎ ((x : Entry) × (log_in v past ≡ x ∷ epoch_log past) × (x.processed.cycle ≡ length past))
-log_grows v past on = by (processes v past)
+log_grows v past on = of_processed v past
+    (λ o. (log_of (with_record o (unless_restart v (epoch_records past))) ≡ epoch_log past)
+    ⊎ ((x : Entry) × (log_of (with_record o (unless_restart v (epoch_records past))) ≡ x ∷ epoch_log past) ×
+    (x.processed.cycle ≡ length past)))
+    (inl same) (λ s got came two.
+    let t : Processed = record_in v (length past) (stood_in v (standing past)) s in
+    let log : List Entry = log_of (unless_restart v (epoch_records past)) in
+    let x : Entry = record { processed = t; answer = reply_of t log } in
+    elim (chosen (beq t.mhs (is_odd log)) log (x ∷ log)) [
+      | inl old ↦ inl (log-taken t (unless_restart v (epoch_records past)) ∙ old.1 ∙ same)
+      | inr new ↦ inr (x, log-taken t (unless_restart v (epoch_records past)) ∙ new.1 ∙ ap (λ (l : List Entry). x ∷ l) same, refl)
+    ])
   where
     same : log_of (unless_restart v (epoch_records past)) ≡ epoch_log past
     same = ap log_of (cond-false v.master_restarts [] (epoch_records past) on)
 
-    by : Processes v past → (log_in v past ≡ epoch_log past) ⊎ ((x : Entry) × (log_in v past ≡ x ∷ epoch_log past) × (x.processed.cycle ≡ length past))
-    by (Nothing none) = inl (ap (λ (o : Option Processed). log_of (with_record o (unless_restart v (epoch_records past)))) none ∙ same)
-    by (Record s got came two some) = which (beq t.mhs (is_odd log)) (ap (λ (o : Option Processed). log_of (with_record o (unless_restart v (epoch_records past)))) some ∙ log-taken t (unless_restart v (epoch_records past)))
-      where
-        t : Processed
-        t = record_in v (length past) (stood_in v (standing past)) s
-
-        log : List Entry
-        log = log_of (unless_restart v (epoch_records past))
-
-        which : (b : Bool) → log_in v past ≡ (if b then log else (record { processed = t; answer = reply_of t log }) ∷ log) → (log_in v past ≡ epoch_log past) ⊎ ((x : Entry) × (log_in v past ≡ x ∷ epoch_log past) × (x.processed.cycle ≡ length past))
-        which true is = inl (is ∙ same)
-        which false is = inr (record { processed = t; answer = reply_of t log }, is ∙ ap (λ (l : List Entry). (record { processed = t; answer = reply_of t log }) ∷ l) same, refl)
-
 -- where nothing was begun, no step is open
 none_old : (past : List View) → epoch_begun past ≡ [] → age_in past ≡ 0
 none_old [] none = refl
-none_old (v ∷ past) none = by v.falls none
-  where
-    by : (falls : Bool) → (if falls then [] else begun_in v past) ≡ []
-        → (if falls then 0 else age_by (is_some (open_in (begun_in v past))) (length (steps_in (begun_in v past)) == length (steps_in (unless_restart v (epoch_begun past)))) (age_in past)) ≡ 0
-    by true none = refl
-    by false none = ap (λ (l : List Begun). age_by (is_some (open_in l)) (length (steps_in (begun_in v past)) == length (steps_in (unless_restart v (epoch_begun past)))) (age_in past)) none
+none_old (v ∷ past) none = elim (cases_Bool v.falls) [
+  | inl fell ↦ cond-true v.falls 0 _ fell
+  | inr on ↦ cond-false v.falls 0 _ on
+      ∙ ap (λ (l : List Begun). age_by (is_some (open_in l)) (length (steps_in (begun_in v past)) == length (steps_in (unless_restart v (epoch_begun past)))) (age_in past))
+      (sym (cond-false v.falls [] (begun_in v past) on) ∙ none)
+]
 
 -- so it is while phase 0 is commanded
 pub nothing_old : (busy : ℕ) (past : List View) → IsRun busy past → BeginsEpoch past → age_in past ≡ 0
@@ -50,26 +48,13 @@ module _ (busy : ℕ) where
 
   -- one cycle more
   module _ (v : View) (all past : List View) (clean : IsClean v all) where
-    pub begun : epoch_begun (v ∷ all) ≡ begun_in v all
-    begun = cond-false v.falls [] (begun_in v all) clean.stays
-
-    pub logged : epoch_log (v ∷ all) ≡ log_in v all
-    logged = ap log_of (cond-false v.falls [] (records_in_views v all) clean.stays)
-
-    pub before : unless_restart v (epoch_begun all) ≡ epoch_begun all
-    before = cond-false v.master_restarts [] (epoch_begun all) clean.goes_on
-
     pub aged : age_in (v ∷ all) ≡ age_by (is_some (open_in (begun_in v all))) (length (steps_in (begun_in v all)) == length (steps_in (unless_restart v (epoch_begun all)))) (age_in all)
     aged = cond-false v.falls 0 _ clean.stays
 
     pub aged_open : is_some (open_in (epoch_begun (v ∷ all))) ≡ true → age_in (v ∷ all) ≡ (if length (steps_in (begun_in v all)) == length (steps_in (unless_restart v (epoch_begun all))) then age_in all + 1 else 1)
     aged_open some =
-        let at : is_some (open_in (begun_in v all)) ≡ true = ap (λ (l : List Begun). is_some (open_in l)) (sym begun) ∙ some in
+        let at : is_some (open_in (begun_in v all)) ≡ true = ap (λ (l : List Begun). is_some (open_in l)) (sym (begun_on v all clean.stays)) ∙ some in
         aged ∙ cond-true (is_some (open_in (begun_in v all))) _ 0 at
-
-    -- a new step is open
-    new_age : (e : Entry) → e.processed.cycle < length (v ∷ all) → age_in (v ∷ all) ≤ 1 → age_in (v ∷ all) + e.processed.cycle ≤ length (v ∷ all) + age_in past
-    new_age e earlier young = omega arith
 
     -- the step that was open is open still
     old_age : (e f : Entry) (log rest : List Entry) → epoch_log (v ∷ all) ≡ e ∷ log → epoch_log all ≡ f ∷ rest → e.processed.cycle < length (v ∷ all) → is_some (open_in (epoch_begun (v ∷ all))) ≡ true →
@@ -80,17 +65,21 @@ module _ (busy : ℕ) where
         by false is age = omega arith
         by true is age = elim (log_grows v all clean.goes_on) [
           | inl stays ↦
-              let one : e ∷ log ≡ f ∷ rest = sym those ∙ logged ∙ stays ∙ were in
+              let one : e ∷ log ≡ f ∷ rest = sym those ∙ log_on v all clean.stays ∙ stays ∙ were in
               let entry : e ≡ f = cc in
               let cycle = ap (λ (x : Entry). x.processed.cycle) entry in omega (arith, age, cycle, old)
           | inr (x, grows, at) ↦
               let count : length (steps_in (begun_in v all)) ≡ length (steps_in (unless_restart v (epoch_begun all))) = eqb-true _ _ is in
-              let left : length (steps_in (begun_in v all)) ≡ length (log_steps (epoch_log (v ∷ all))) = ap (λ (l : List Begun). length (steps_in l)) (sym begun) ∙ ap length now in
-              let right : length (steps_in (unless_restart v (epoch_begun all))) ≡ length (log_steps (epoch_log all)) = ap (λ (l : List Begun). length (steps_in l)) before ∙ ap length then_ in
+              let left : length (steps_in (begun_in v all)) ≡ length (log_steps (epoch_log (v ∷ all))) = ap (λ (l : List Begun). length (steps_in l)) (sym (begun_on v all clean.stays)) ∙ ap length now in
+              let right : length (steps_in (unless_restart v (epoch_begun all))) ≡ length (log_steps (epoch_log all)) = ap (λ (l : List Begun). length (steps_in l)) (unless_restart-on v (epoch_begun all) clean.goes_on) ∙ ap length then_ in
               let long = length-steps_of (epoch_log (v ∷ all)) in
               let short = length-steps_of (epoch_log all) in
-              let more : length (epoch_log (v ∷ all)) ≡ suc (length (epoch_log all)) = ap length (logged ∙ grows) in absurd (omega (arith, count, left, right, long, short, more))
+              let more : length (epoch_log (v ∷ all)) ≡ suc (length (epoch_log all)) = ap length (log_on v all clean.stays ∙ grows) in absurd (omega (arith, count, left, right, long, short, more))
         ]
+
+  age_choice : (b : Bool) (n : ℕ) → (if b then n + 1 else 1) ≤ n + 1
+  age_choice true n = omega arith
+  age_choice false n = omega arith
 
   ages_so : (v : View) (cycles past : List View) → IsRun busy (v ∷ (cycles ++ past)) → AreClean (v ∷ cycles) past → IsInTime busy (v ∷ cycles) past → AgesSo (v ∷ (cycles ++ past)) past
   ages_so v cycles past run clean (RestsNow none is) e log those some = absurd (cc)
@@ -99,10 +88,6 @@ module _ (busy : ℕ) where
       let cycle = ap (λ (y : Entry). y.processed.cycle) same in
       let age = aged_open v past past clean.1 some in
       let le = age_choice (length (steps_in (begun_in v past)) == length (steps_in (unless_restart v (epoch_begun past)))) (age_in past) in omega (arith, cycle, age, le, earlier)
-    where
-      age_choice : (b : Bool) (n : ℕ) → (if b then n + 1 else 1) ≤ n + 1
-      age_choice true n = omega arith
-      age_choice false n = omega arith
   ages_so v (u ∷ cycles) past run clean (WaitsNow x rest at opened all earlier late sum) e log those some =
       let same : x ≡ e = (let one : x ∷ rest ≡ e ∷ log = sym at ∙ those in cc) in
       let cycle = ap (λ (y : Entry). y.processed.cycle) same in
@@ -117,14 +102,10 @@ module _ (busy : ℕ) where
           old_age v before_all past clean.1 e f log more those were soon some all steps (old f more were (ap is_some was))
       behind (RestsNow none is) old soon =
           let zero : age_in before_all ≡ 0 = aged u (cycles ++ past) past clean.0.1 ∙ ap (λ (o : Option Step). age_by (is_some o) (length (steps_in (begun_in u (cycles ++ past))) == length (steps_in (unless_restart u (epoch_begun (cycles ++ past))))) (age_in (cycles ++ past)))
-          (ap open_in (sym (begun u (cycles ++ past) past clean.0.1)) ∙ none) in
+          (ap open_in (sym (begun_on u (cycles ++ past) clean.0.1.stays)) ∙ none) in
           let age = aged_open v before_all past clean.1 some in
-          let le = age_choice (length (steps_in (begun_in v before_all)) == length (steps_in (unless_restart v (epoch_begun before_all)))) (age_in before_all) zero in
-          new_age v before_all past clean.1 e soon (omega (arith, age, le))
-        where
-          age_choice : (b : Bool) (n : ℕ) → n ≡ 0 → (if b then n + 1 else 1) ≤ 1
-          age_choice true n z = omega arith
-          age_choice false n z = omega arith
+          let le = age_choice (length (steps_in (begun_in v before_all)) == length (steps_in (unless_restart v (epoch_begun before_all)))) (age_in before_all) in
+          omega (arith, age, le, zero, soon)
 
   pub ages_in_time : AgesInTime busy
   ages_in_time v cycles past run clean = by (comes_in_time busy v cycles past run clean) (ages_so v cycles past run clean (comes_in_time busy v cycles past run clean))
@@ -132,7 +113,7 @@ module _ (busy : ℕ) where
       by : IsInTime busy (v ∷ cycles) past → AgesSo (v ∷ (cycles ++ past)) past → age_in (v ∷ (cycles ++ past)) ≤ age_in past + (busy + 1)
       by (RestsNow none is) so =
           let zero : age_in (v ∷ (cycles ++ past)) ≡ 0 = aged v (cycles ++ past) past clean.1 ∙ ap (λ (o : Option Step). age_by (is_some o) (length (steps_in (begun_in v (cycles ++ past))) == length (steps_in (unless_restart v (epoch_begun (cycles ++ past))))) (age_in (cycles ++ past)))
-          (ap open_in (sym (begun v (cycles ++ past) past clean.1)) ∙ none) in omega (arith, zero)
+          (ap open_in (sym (begun_on v (cycles ++ past) clean.1.stays)) ∙ none) in omega (arith, zero)
       by (WaitsNow e log those opened all earlier late sum) so = let le = so e log those (ap is_some opened) in omega (arith, le, late)
 
   pub ages_where_dead : AgesWhereDead busy
@@ -172,14 +153,10 @@ module _ (busy : ℕ) where
 
   pub keeps_time : KeepsTime busy
   keeps_time v cycles past run clean undisturbed rests work =
-      by (on_time busy (v ∷ (cycles ++ past)) run (undisturbed_on (v ∷ cycles) past clean undisturbed)) (on_time busy past (run_behind (v ∷ cycles) run) undisturbed)
+      by (on_time busy (v ∷ (cycles ++ past)) run (undisturbed_on (v ∷ cycles) past clean undisturbed)) (on_time busy past (run_after busy (v ∷ cycles) past run) undisturbed)
     where
-      run_behind : (xs : List View) → IsRun busy (xs ++ past) → IsRun busy past
-      run_behind [] run = run
-      run_behind (x ∷ xs) run = run_behind xs run.0
-
       opened_now : is_some (open_in (epoch_begun (v ∷ (cycles ++ past)))) ≡ true
-      opened_now = ap (λ (l : List Begun). is_some (open_in l)) (begun v (cycles ++ past) past clean.1) ∙ work.1
+      opened_now = ap (λ (l : List Begun). is_some (open_in l)) (begun_on v (cycles ++ past) clean.1.stays) ∙ work.1
 
       spent : open_cycles (v ∷ (cycles ++ past)) ≡ length (v ∷ cycles) + open_cycles past
       spent = open_in_all (v ∷ cycles) past clean ∙ ap (λ (n : ℕ). n + open_cycles past) (opens_always (v ∷ cycles) past work)
@@ -187,10 +164,7 @@ module _ (busy : ℕ) where
       by : IsOnTime busy (v ∷ (cycles ++ past)) → IsOnTime busy past →
           (e : Entry) × (log : List Entry) × (epoch_log (v ∷ (cycles ++ past)) ≡ e ∷ log) × (e.processed.cycle ≤ length (cycles ++ past)) × (length (cycles ++ past) ≤ e.processed.cycle + busy)
           × (length (v ∷ cycles) + (busy + 1) * length (answers_in (epoch_begun past)) + e.processed.cycle ≡ (busy + 1) * length (answers_in (epoch_begun (v ∷ (cycles ++ past)))) + length (v ∷ (cycles ++ past)))
-      by (Rests none is) then_ = let off : is_some (open_in (epoch_begun (v ∷ (cycles ++ past)))) ≡ false = ap is_some none in absurd (apart opened_now off)
-        where
-          apart : {b : Bool} → b ≡ true → b ≡ false → ⊥
-          apart on off = let no : true ≡ false = sym on ∙ off in cc
+      by (Rests none is) then_ = let off : is_some (open_in (epoch_begun (v ∷ (cycles ++ past)))) ≡ false = ap is_some none in absurd (both_ways _ off opened_now)
       by (Waits e log those opened all earlier late sum) (Waits f more were was steps before_ late_ sum_) = absurd (cc)
       by (Waits e log those opened all earlier late sum) (Rests none is) =
           let now = time_of busy (answers_in (epoch_begun (v ∷ (cycles ++ past)))) in

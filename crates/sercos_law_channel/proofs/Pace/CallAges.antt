@@ -1,8 +1,9 @@
 -- The calls of the master's channel in a run.
-use Rattle.sercos_law_channel.proofs.Words.{◌≡◌, ℕ, suc, ◌+◌, ◌≤◌, Bool, true, false, not, ◌&&◌, List, [], ◌∷◌, ◌++◌, length, refl, min, sym, ap, ◌∙◌, subst, arith, if◌then◌else◌, nat_le, ◌==◌, Option, Some, None, IsSome, IfSome, is_some, option_map, unwrap_or, cond-true, cond-false, and_from, le-leb, eq-eqb, ne_eqb, Step, Answer, Request, Begun, step_at, with_step, steps_begun, open_in, steps_in, answers_it, answer_in, with_answer, Call, EndCycle, begun_by, age_of, AreCalls, Heard, View, whole_row, with_heard, with_begun, unless_restart, epoch_begun, begun_in, IsShown, IsRun, AreWhole, BeginsEpoch, age_by, age_in, staying, StaysARun, calls_heard, calls_begun, calls_sent, calls_in, channel_calls, IsSent, AreSent, CallsBegin, age_if_open, AgesAreThose, AgesBeforeEnd, NoneLate, and_left}
+use Rattle.sercos_law_channel.proofs.Words.{◌≡◌, ℕ, suc, ◌+◌, ◌≤◌, Bool, true, false, not, ◌&&◌, List, [], ◌∷◌, ◌++◌, length, refl, min, sym, ap, ◌∙◌, subst, arith, if◌then◌else◌, nat_le, ◌==◌, Option, Some, None, IsSome, IfSome, is_some, option_map, unwrap_or, cond-true, cond-false, and_from, le-leb, eq-eqb, ne_eqb, Step, Answer, Request, Begun, step_at, with_step, steps_begun, open_in, steps_in, answers_it, answer_in, with_answer, Call, EndCycle, begun_by, age_of, AreCalls, Heard, View, whole_row, with_heard, with_begun, unless_restart, epoch_begun, begun_in, IsShown, IsRun, AreWhole, BeginsEpoch, age_by, age_in, staying, StaysARun, calls_heard, calls_begun, calls_sent, calls_in, channel_calls, IsSent, AreSent, CallsBegin, age_if_open, AgesAreThose, AgesBeforeEnd, NoneLate, and_left, inl, inr, cases_Option}
 use Rattle.sercos_law_channel.proofs.Pace.WholeCycles.{open_late, stays_clean, hears_throughout}
 use Rattle.sercos_law_channel.proofs.Pace.EpochBegins.{run_after, Early, early_in}
 use Rattle.sercos_law_channel.proofs.Pace.AgeRuns.{nothing_old, ages_in_time}
+use Rattle.sercos_law_channel.proofs.Handshake.PhaseMoves.{uncut}
 
 -- without its fall a cycle continues the row of MSTs that came back whole
 row_more : (whole here falls restart : Bool) (n : ℕ) → (if whole && (here && not falls) then (if restart then 0 else n) + 1 else 0) ≤ (if whole && (here && not false) then (if restart then 0 else n) + 1 else 0)
@@ -43,16 +44,6 @@ sent_so : (sends : Bool) (h : List Call) → begun_by (calls_sent sends h) ≡ b
 sent_so true h = refl
 sent_so false h = refl
 
-restart_so : (r : Bool) (h : List Call) → begun_by (if r then [] else h) ≡ (if r then [] else begun_by h)
-restart_so true h = refl
-restart_so false h = refl
-
-calls_by : (v : View) (h : List Call) (begun : List Begun) → begun_by h ≡ begun → begun_by (calls_in v h) ≡ with_begun v.begins (with_heard v.heard (unless_restart v begun))
-calls_by v h begun is =
-    sent_so (nat_le 2 v.phase && is_some v.sent) (calls_begun v.begins (calls_heard v.heard (unless_restart v h)))
-    ∙ begun_so v.begins (calls_heard v.heard (unless_restart v h))
-    ∙ ap (with_begun v.begins) (heard_by v.heard (unless_restart v h) ∙ ap (with_heard v.heard) (restart_so v.master_restarts h ∙ ap (unless_restart v) is))
-
 allowed_heard : (o : Option Heard) (h : List Call) → AreCalls h → AreCalls (calls_heard o h)
 allowed_heard None h are = are
 allowed_heard (Some a) h are = are
@@ -65,34 +56,36 @@ allowed_sent : (sends : Bool) (h : List Call) → AreCalls h → AreCalls (calls
 allowed_sent true h are = are
 allowed_sent false h are = are
 
-allowed_restart : (r : Bool) (h : List Call) → AreCalls h → AreCalls (if r then [] else h)
-allowed_restart true h are = tt
-allowed_restart false h are = are
+-- the calls at the start of a cycle, if all before it are allowed
+calls_start : (v : View) (h : List Call) (begun : List Begun) → AreCalls h × (begun_by h ≡ begun) →
+    AreCalls (unless_restart v h) × (begun_by (unless_restart v h) ≡ unless_restart v begun)
+calls_start v h begun are =
+    uncut (λ (calls : List Call) (b : List Begun). AreCalls calls × (begun_by calls ≡ b)) v.master_restarts h begun (tt, refl) (λ on. are)
 
 pub calls_begin : (busy : ℕ) → CallsBegin busy
 calls_begin busy [] run = (tt, refl)
-calls_begin busy (v ∷ past) run = by v.falls (calls_begin busy past run.0)
-  where
-    by : (falls : Bool) → AreCalls (channel_calls past) × (begun_by (channel_calls past) ≡ epoch_begun past) →
-        AreCalls (if falls then [] else EndCycle ∷ calls_in v (channel_calls past)) × (begun_by (if falls then [] else EndCycle ∷ calls_in v (channel_calls past)) ≡ (if falls then [] else begun_in v past))
-    by true before = (tt, refl)
-    by false before =
-        let start = unless_restart v (channel_calls past) in
-        let heard : begun_by (calls_heard v.heard start) ≡ with_heard v.heard (unless_restart v (epoch_begun past)) = heard_by v.heard start ∙ ap (with_heard v.heard) (restart_so v.master_restarts (channel_calls past) ∙ ap (unless_restart v) before.1) in (
-          allowed_sent (nat_le 2 v.phase && is_some v.sent) (calls_begun v.begins (calls_heard v.heard start)) (allowed_begun v.begins (calls_heard v.heard start) (allowed_heard v.heard start (allowed_restart v.master_restarts (channel_calls past) before.0)) (λ some. ap open_in heard ∙ run.1.begins some)),
-          calls_by v (channel_calls past) (epoch_begun past) before.1,
-        )
+calls_begin busy (v ∷ past) run =
+    let start = unless_restart v (channel_calls past) in
+    let before = calls_start v (channel_calls past) (epoch_begun past) (calls_begin busy past run.0) in
+    let heard : begun_by (calls_heard v.heard start) ≡ with_heard v.heard (unless_restart v (epoch_begun past)) =
+    heard_by v.heard start ∙ ap (with_heard v.heard) before.1 in
+    let all : begun_by (calls_in v (channel_calls past)) ≡ begun_in v past =
+    sent_so (nat_le 2 v.phase && is_some v.sent) (calls_begun v.begins (calls_heard v.heard start))
+    ∙ begun_so v.begins (calls_heard v.heard start) ∙ ap (with_begun v.begins) heard in
+    uncut (λ (calls : List Call) (b : List Begun). AreCalls calls × (begun_by calls ≡ b)) v.falls
+    (EndCycle ∷ calls_in v (channel_calls past)) (begun_in v past) (tt, refl) (λ on. (
+      allowed_sent (nat_le 2 v.phase && is_some v.sent) (calls_begun v.begins (calls_heard v.heard start))
+          (allowed_begun v.begins (calls_heard v.heard start) (allowed_heard v.heard start before.0)
+          (λ some. ap open_in heard ∙ run.1.begins some)),
+      all,
+    ))
 
 -- The age.
 
 -- an answer adds a step if one is open after it
 answered_steps : (a : Answer) (begun : List Begun) → is_some (open_in begun) ≡ true → length (steps_in (with_answer a begun)) ≡ (if is_some (open_in (with_answer a begun)) then suc (length (steps_in begun)) else length (steps_in begun))
 answered_steps a [] some = absurd (cc)
-answered_steps a (b ∷ past) some = by (step_at b.request (a ∷ b.answers))
-  where
-    by : (o : Option Step) → length (with_step o (steps_begun b.request b.answers) ++ steps_in past) ≡ (if is_some o then suc (length (steps_begun b.request b.answers ++ steps_in past)) else length (steps_begun b.request b.answers ++ steps_in past))
-    by None = refl
-    by (Some s) = refl
+answered_steps a (b ∷ past) some = elim (cases_Option (step_at b.request (a ∷ b.answers))) [ inl none ↦ rw none | inr (s, some) ↦ rw some ]
 
 begun_steps : (r : Request) (begun : List Begun) → is_some (open_in ((record { request = r; answers = [] }) ∷ begun)) ≡ true → length (steps_in ((record { request = r; answers = [] }) ∷ begun)) ≡ suc (length (steps_in begun))
 begun_steps r begun some = by (step_at r []) some
@@ -174,7 +167,7 @@ module _ (busy : ℕ) where
       option_map (λ (n : ℕ). n + 1) (age_of (calls_in v (channel_calls past))) ≡ age_if_open (is_some (open_in (begun_in v past))) (age_in (staying v ∷ past))
   cycle_age v past run sent before =
       let start = unless_restart v (channel_calls past) in
-      let begun0 : begun_by start ≡ unless_restart v (epoch_begun past) = restart_so v.master_restarts (channel_calls past) ∙ ap (unless_restart v) (calls_begin busy past run.0).1 in
+      let begun0 : begun_by start ≡ unless_restart v (epoch_begun past) = (calls_start v (channel_calls past) (epoch_begun past) (calls_begin busy past run.0)).1 in
       let heard : begun_by (calls_heard v.heard start) ≡ with_heard v.heard (unless_restart v (epoch_begun past)) = heard_by v.heard start ∙ ap (with_heard v.heard) begun0 in
       let both : begun_by (calls_begun v.begins (calls_heard v.heard start)) ≡ begun_in v past = begun_so v.begins (calls_heard v.heard start) ∙ ap (with_begun v.begins) heard in
       let comes = begun_comes (begun_by start) (age_of start) v.begins (calls_heard v.heard start) (λ some. ap open_in heard ∙ run.1.begins some) (heard_comes v.heard start) in

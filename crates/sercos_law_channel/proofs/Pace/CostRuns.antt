@@ -1,16 +1,16 @@
 -- What the requests of an epoch cost.
-use Rattle.sercos_law_channel.proofs.Words.{◌≡◌, ℕ, suc, ◌+◌, ◌*◌, ◌^◌, ◌<◌, ◌≤◌, Bool, true, false, List, [], ◌∷◌, ◌++◌, length, refl, sym, ap, ◌∙◌, subst, arith, if◌then◌else◌, length-append, Option, Some, None, is_some, beq, Request, Outcome, shape_of, shape_by, outcome_of, next_step, has_next, times_le, Block, find_block, status_in, Processed, Entry, accepted, reply_of, log_of, Write, writes_of, Begun, step_at, open_in, steps_in, answers_in, is_odd, AreInStep, Idle, Sent, Kept, log_steps, replies_of, AreInTurn, IsRow, IsPart, Unsent, Unheard, AreParts, AreReplies, HaveBlocks, IsTransfer, View, standing, stood_in, record_in, processed_in, with_record, unless_restart, epoch_begun, epoch_records, records_in_views, epoch_log, log_in, IsRun, leaving, all_writes, AreSound, AreSmall, time_for, AreClean, open_since, IsInTime, RestsNow, WaitsNow, AreSpaced, newest_at, IsTimed, AreTimed, IsListed, AreListed, read_steps, write_steps, cost_of, cost_in}
+use Rattle.sercos_law_channel.proofs.Words.{◌≡◌, ℕ, suc, ◌+◌, ◌*◌, ◌^◌, ◌<◌, ◌≤◌, Bool, true, false, List, [], ◌∷◌, ◌++◌, length, refl, sym, ap, ◌∙◌, subst, arith, if◌then◌else◌, length-append, Option, Some, None, is_some, beq, Request, Outcome, shape_of, shape_by, outcome_of, next_step, has_next, times_le, Block, find_block, status_in, Processed, Entry, accepted, reply_of, log_of, Write, writes_of, Begun, step_at, open_in, steps_in, answers_in, is_odd, AreInStep, Idle, Sent, Kept, log_steps, replies_of, AreInTurn, IsRow, IsPart, Unsent, Unheard, AreParts, AreReplies, HaveBlocks, IsTransfer, View, standing, stood_in, record_in, with_record, unless_restart, epoch_begun, epoch_records, records_in_views, epoch_log, log_in, IsRun, leaving, all_writes, AreSound, AreSmall, time_for, AreClean, open_since, IsInTime, RestsNow, WaitsNow, AreSpaced, newest_at, IsTimed, AreTimed, AreListed, read_steps, write_steps, cost_of, cost_in, cond_both, append-nil, inl, inr, cases_Option}
 use Rattle.sercos_step.specs.declared.request.Request.TheVariants as request
 use Rattle.sercos_law_channel.specs.Handshake.Parts.{Heard}
 use Rattle.sercos_law_channel.proofs.Handshake.HandshakeMoves.{log-taken}
 use Rattle.sercos_law_channel.proofs.Handshake.LogParts.{fall_into_parts}
 use Rattle.sercos_law_channel.proofs.Handshake.ReadStages.{low_of, high_of}
 use Rattle.sercos_law_channel.proofs.Handshake.TransferSteps.{length-replies_of}
-use Rattle.sercos_law_channel.proofs.Handshake.PhaseMoves.{Processes, Nothing, Record, processes}
+use Rattle.sercos_law_channel.proofs.Handshake.PhaseMoves.{of_processed}
 use Rattle.sercos_law_channel.proofs.Handshake.EpochRuns.{in_step}
 use Rattle.sercos_law_channel.proofs.Handshake.WholeRuns.{HasReplies, answered_replies, writes_ago, writes_in_epochs}
 use Rattle.sercos_law_channel.proofs.Handshake.ExactRuns.{split_replies, split_blocks, epoch}
-use Rattle.sercos_law_channel.proofs.Pace.OnTimeRuns.{time_of}
+use Rattle.sercos_law_channel.proofs.Pace.OnTimeRuns.{time_of, one_more_time}
 use Rattle.sercos_law_channel.proofs.Pace.LateRuns.{comes_in_time}
 use Rattle.sercos_law_channel.proofs.Pace.SpacedSteps.{spaces_steps}
 use Rattle.sercos_law_channel.proofs.Pace.TransferCosts.{LogListed, unknown_one, read_found, write_found, HaveTime, command_found, command_unknown}
@@ -34,9 +34,6 @@ split_listed : (longest : ℕ → ℕ) (part rest : List Entry) → LogListed lo
 split_listed longest [] rest listed = (tt, listed)
 split_listed longest (e ∷ part) rest listed = let older = split_listed longest part rest listed.0 in ((older.0, listed.1), older.1)
 
-times_sum : (b n k : ℕ) → (b + 1) * (n + k) ≡ (b + 1) * n + (b + 1) * k
-times_sum b n k = grind arith
-
 module _ (said : (b : Block) → b.attribute.factor < 2 ^ 16 → shape_of 7 (low_of b + 65536 * high_of b) ≡ shape_by b.attribute.length) (busy time : ℕ) (longest : ℕ → ℕ) (blocks : List Block) (small : AreSmall blocks) where
   have_time : (raw : ℕ) (b : Block) (found : find_block raw blocks ≡ Some b) (ago : List Write) (part rest : List Entry) → LogTimed time ago (part ++ rest) → HaveTime (record { raw = raw }) blocks b found busy time rest ago part
   have_time raw b found ago [] rest timed = tt
@@ -54,15 +51,14 @@ module _ (said : (b : Block) → b.attribute.factor < 2 ^ 16 → shape_of 7 (low
       by : (o : Option Block) → find_block idn.raw blocks ≡ o → (busy + 1) * suc (length entries) ≤ (busy + 1) * write_steps n bytes o
       by None none = times_le (busy + 1) (suc (length entries)) 1 (unknown_one (request.Write idn n bytes) blocks e entries rest none is)
       by (Some b) found = times_le (busy + 1) (suc (length entries)) (write_steps n bytes (Some b)) (write_found idn blocks b found (said b (small idn.raw b found)) n bytes e entries rest is)
-  row_cost (request.Command idn) ago e entries rest is spaced timed listed = by (find_block idn.raw blocks) refl
+  row_cost (request.Command idn) ago e entries rest is spaced timed listed = elim (cases_Option (find_block idn.raw blocks)) [
+    | inl none ↦ command_unknown busy time (suc (length entries)) (unknown_one (request.Command idn) blocks e entries rest none is)
+    | inr (b, found) ↦ command_found idn blocks b found busy time rest ago e entries is (before entries spaced) (have_time idn.raw b found ago entries rest timed)
+  ]
     where
       before : (xs : List Entry) → AreSpaced busy (e ∷ xs) → AreSpaced busy xs
       before [] are = tt
       before (x ∷ xs) are = are.0
-
-      by : (o : Option Block) → find_block idn.raw blocks ≡ o → (busy + 1) * suc (length entries) ≤ time + 4 * (busy + 1)
-      by None none = command_unknown busy time (suc (length entries)) (unknown_one (request.Command idn) blocks e entries rest none is)
-      by (Some b) found = command_found idn blocks b found busy time rest ago e entries is (before entries spaced) (have_time idn.raw b found ago entries rest timed)
 
   part_row : (b : Begun) (ago : List Write) (e : Entry) (entries part rest : List Entry) → part ≡ e ∷ entries → IsRow b e entries → AreReplies part rest → HaveBlocks blocks part → AreSpaced busy part → LogTimed time ago (part ++ rest) → LogListed longest part → (busy + 1) * length part ≤ cost_of busy time longest blocks b.request
   part_row b ago e entries part rest those row replies alike spaced timed listed =
@@ -82,21 +78,6 @@ module _ (said : (b : Block) → b.attribute.factor < 2 ^ 16 → shape_of 7 (low
   part_cost b ago part rest replies alike spaced timed listed (Heard e entries those row answers) = part_row b ago e entries part rest those row replies alike spaced timed listed
   part_cost b ago part rest replies alike spaced timed listed (Unheard e entries those row answers) = part_row b ago e entries part rest those row replies alike spaced timed listed
 
-  -- all of them
-  parts_cost : (ago : List Write) (begun : List Begun) (log : List Entry) → AreParts begun log → HasReplies log → HaveBlocks blocks log → AreSpaced busy log → LogTimed time ago log → LogListed longest log → (busy + 1) * length log ≤ cost_in (cost_of busy time longest blocks) begun
-  parts_cost ago [] log none replies alike spaced timed listed = let zero : (busy + 1) * length log ≡ 0 = ap (λ (l : List Entry). (busy + 1) * length l) none ∙ nothing in omega (arith, zero)
-  parts_cost ago (b ∷ past) log (part, rest, those, of, others) replies alike spaced timed listed =
-      let replies_split = split_replies part rest (subst HasReplies those replies) in
-      let blocks_split = split_blocks blocks part rest (subst (HaveBlocks blocks) those alike) in
-      let spaced_split = split_spaced busy part rest (subst (AreSpaced busy) those spaced) in
-      let whole : LogTimed time ago (part ++ rest) = subst (LogTimed time ago) those timed in
-      let lists = split_listed longest part rest (subst (LogListed longest) those listed) in
-      let one = part_cost b ago part rest replies_split.0 blocks_split.0 spaced_split.0 whole lists.0 of in
-      let more = parts_cost ago past rest others replies_split.1 blocks_split.1 spaced_split.1 (split_timed time ago part rest whole) lists.1 in
-      let long : length log ≡ length part + length rest = ap length those ∙ length-append part rest in
-      let sum : (busy + 1) * length log ≡ (busy + 1) * length part + (busy + 1) * length rest = ap (λ (n : ℕ). (busy + 1) * n) long ∙ times_sum busy (length part) (length rest) in
-      omega (arith, one, more, sum)
-
   -- the cycles give the times
   timed_start : (r : Bool) (past : List View) → LogTimed time (writes_ago past) (epoch_log past) → LogTimed time (leaving r (writes_of (epoch_log past)) (writes_ago past)) (log_of (if r then [] else epoch_records past))
   timed_start true past timed = tt
@@ -107,24 +88,20 @@ module _ (said : (b : Block) → b.attribute.factor < 2 ^ 16 → shape_of 7 (low
   same_writes false past run = writes_in_epochs busy past run
 
   timed_cycle : (v : View) (past : List View) → IsRun busy (v ∷ past) → IsTimed time v past → LogTimed time (writes_ago past) (epoch_log past) → LogTimed time (leaving v.master_restarts (writes_of (epoch_log past)) (writes_ago past)) (log_in v past)
-  timed_cycle v past run is timed = by (processes v past)
+  timed_cycle v past run is timed =
+      of_processed v past (λ o. LogTimed time ago (log_of (with_record o (unless_restart v (epoch_records past))))) old (λ s got came two.
+      let t : Processed = record_in v (length past) (stood_in v (standing past)) s in
+      let log = log_of (unless_restart v (epoch_records past)) in
+      let same = same_writes v.master_restarts past run.0 in
+      subst (LogTimed time ago) (sym (log-taken t (unless_restart v (epoch_records past))))
+      (cond_both (beq t.mhs (is_odd log)) log ((record { processed = t; answer = reply_of t log }) ∷ log) (LogTimed time ago) (λ same. old)
+      (λ other. (old, λ raw seven. let w = is raw seven in (w.0, ap (newest_at raw) (sym same) ∙ w.1, w.2)))))
     where
       ago : List Write
       ago = leaving v.master_restarts (writes_of (epoch_log past)) (writes_ago past)
 
-      joined_so : (same : Bool) (x : Entry) (log : List Entry) → LogTimed time ago log → ((raw : ℕ) → status_in x.processed.commands raw x.processed.cycle ≡ 7 → (at : ℕ) × (newest_at raw (writes_of log ++ ago) ≡ Some at) × (x.processed.cycle < at + time)) → LogTimed time ago (if same then log else x ∷ log)
-      joined_so true x log old new = old
-      joined_so false x log old new = (old, new)
-
-      by : Processes v past → LogTimed time ago (log_in v past)
-      by (Nothing none) = subst (λ (o : Option Processed). LogTimed time ago (log_of (with_record o (unless_restart v (epoch_records past))))) (sym none) (timed_start v.master_restarts past timed)
-      by (Record s got came two some) =
-          let t : Processed = record_in v (length past) (stood_in v (standing past)) s in
-          let log = log_of (unless_restart v (epoch_records past)) in
-          subst (λ (o : Option Processed). LogTimed time ago (log_of (with_record o (unless_restart v (epoch_records past))))) (sym some)
-          (subst (LogTimed time ago) (sym (log-taken t (unless_restart v (epoch_records past))))
-          (joined_so (beq t.mhs (is_odd log)) (record { processed = t; answer = reply_of t log }) log (timed_start v.master_restarts past timed)
-          (λ raw seven. let w = is raw seven in (w.0, ap (newest_at raw) (sym (same_writes v.master_restarts past run.0)) ∙ w.1, w.2))))
+      old : LogTimed time ago (log_of (unless_restart v (epoch_records past)))
+      old = timed_start v.master_restarts past timed
 
   timed_in : (past : List View) → IsRun busy past → AreTimed time past → LogTimed time (writes_ago past) (epoch_log past)
   timed_in [] run are = tt
@@ -138,29 +115,17 @@ module _ (said : (b : Block) → b.attribute.factor < 2 ^ 16 → shape_of 7 (low
   -- .. and the lists
   listed_in : (past : List View) → AreListed longest past → LogListed longest (epoch_log past)
   listed_in [] are = tt
-  listed_in (v ∷ past) are = by v.falls v.master_restarts (listed_in past are.0) (processes v past)
-    where
-      old : (r : Bool) → LogListed longest (epoch_log past) → LogListed longest (log_of (if r then [] else epoch_records past))
-      old true listed = tt
-      old false listed = listed
-
-      joined_so : (same : Bool) (x : Entry) (log : List Entry) → IsListed longest x.processed.blocks → LogListed longest log → LogListed longest (if same then log else x ∷ log)
-      joined_so true x log new listed = listed
-      joined_so false x log new listed = (listed, new)
-
-      by : (falls r : Bool) → LogListed longest (epoch_log past) → Processes v past → LogListed longest (log_of (if falls then [] else with_record (processed_in v past) (if r then [] else epoch_records past)))
-      by true r listed p = tt
-      by false r listed (Nothing none) = subst (λ (o : Option Processed). LogListed longest (log_of (with_record o (if r then [] else epoch_records past)))) (sym none) (old r listed)
-      by false r listed (Record s got came two some) =
-          let t : Processed = record_in v (length past) (stood_in v (standing past)) s in
-          let log = log_of (if r then [] else epoch_records past) in
-          subst (λ (o : Option Processed). LogListed longest (log_of (with_record o (if r then [] else epoch_records past)))) (sym some)
-          (subst (LogListed longest) (sym (log-taken t (if r then [] else epoch_records past))) (joined_so (beq t.mhs (is_odd log)) (record { processed = t; answer = reply_of t log }) log are.1 (old r listed)))
-
-  pub stays_in_cost : (past : List View) → IsRun busy past → AreSound blocks past → AreTimed time past → AreListed longest past → (busy + 1) * length (epoch_log past) ≤ cost_in (cost_of busy time longest blocks) (epoch_begun past)
-  stays_in_cost past run sound timed listed =
-      let is = epoch blocks busy past run sound in
-      parts_cost (writes_ago past) (epoch_begun past) (epoch_log past) (fall_into_parts (epoch_begun past) (epoch_log past) is.in_turn (in_step busy past run)) (answered_replies (accepted (epoch_records past))) is.alike (spaces_steps busy past run) (timed_in past run timed) (listed_in past listed)
+  listed_in (v ∷ past) are =
+      let taken = unless_restart v (epoch_records past) in
+      let log = log_of taken in
+      let old = cond_both v.master_restarts [] (epoch_records past) (λ h. LogListed longest (log_of h)) (λ on. tt)
+      (λ off. listed_in past are.0) in
+      cond_both v.falls [] (records_in_views v past) (λ h. LogListed longest (log_of h)) (λ fell. tt)
+      (λ on. of_processed v past (λ o. LogListed longest (log_of (with_record o taken))) old (λ s got came two.
+      let t : Processed = record_in v (length past) (stood_in v (standing past)) s in
+      subst (LogListed longest) (sym (log-taken t taken))
+      (cond_both (beq t.mhs (is_odd log)) log ((record { processed = t; answer = reply_of t log }) ∷ log) (LogListed longest)
+      (λ same. old) (λ other. (old, are.1)))))
 
   -- the answers are at most the accepted steps
   answers_few : (begun : List Begun) (log : List Entry) → AreInStep begun log → length (answers_in begun) ≤ length log
@@ -209,11 +174,8 @@ module _ (said : (b : Block) → b.attribute.factor < 2 ^ 16 → shape_of 7 (low
       let one = part_cost b ago part rest replies_split.0 blocks_split.0 spaced_split.0 whole lists.0 of in
       let more = parts_since ago recent old rest others turn.0 shut replies_split.1 blocks_split.1 spaced_split.1 (split_timed time ago part rest whole) lists.1 in
       let long : length log ≡ length part + length rest = ap length those ∙ length-append part rest in
-      let sum : (busy + 1) * length log ≡ (busy + 1) * length part + (busy + 1) * length rest = ap (λ (n : ℕ). (busy + 1) * n) long ∙ times_sum busy (length part) (length rest) in
+      let sum : (busy + 1) * length log ≡ (busy + 1) * length part + (busy + 1) * length rest = ap (λ (n : ℕ). (busy + 1) * n) long ∙ grind arith in
       omega (arith, one, more, sum)
-
-  more_times : (n : ℕ) → (busy + 1) * (n + 1) ≡ (busy + 1) * n + (busy + 1)
-  more_times n = grind arith
 
   opens_in_log : (cycles past : List View) → IsRun busy (cycles ++ past) → AreClean cycles past → open_since cycles past + (busy + 1) * length (answers_in (epoch_begun past)) ≤ (busy + 1) * length (epoch_log (cycles ++ past))
   opens_in_log [] past run clean = let le = times_le (busy + 1) (length (answers_in (epoch_begun past))) (length (epoch_log past)) (answers_few (epoch_begun past) (epoch_log past) (in_step busy past run)) in omega (arith, le)
@@ -233,13 +195,7 @@ module _ (said : (b : Block) → b.attribute.factor < 2 ^ 16 → shape_of 7 (low
           let le = times_le (busy + 1) (length (answers_in (epoch_begun all))) (length (epoch_log all)) (answers_few (epoch_begun all) (epoch_log all) (in_step busy all run)) in omega (arith, before, now, le, is)
       by (WaitsNow e log those opened same earlier late sum) =
           let le = times_le (busy + 1) (length (answers_in (epoch_begun all)) + 1) (length (epoch_log all)) (answers_fewer e log (epoch_begun all) (epoch_log all) (in_step busy all run) same opened) in
-          let one = more_times (length (answers_in (epoch_begun all))) in omega (arith, before, now, le, one, late, sum)
-
-  pub opens_in_cost : (cycles past : List View) → IsRun busy (cycles ++ past) → AreSound blocks (cycles ++ past) → AreTimed time (cycles ++ past) → AreListed longest (cycles ++ past) → AreClean cycles past →
-      open_since cycles past + (busy + 1) * length (answers_in (epoch_begun past)) ≤ cost_in (cost_of busy time longest blocks) (epoch_begun (cycles ++ past))
-  opens_in_cost cycles past run sound timed listed clean =
-      let opens = opens_in_log cycles past run clean in
-      let cost = stays_in_cost (cycles ++ past) run sound timed listed in omega (arith, opens, cost)
+          let one = one_more_time busy (length (answers_in (epoch_begun all))) in omega (arith, before, now, le, one, late, sum)
 
   -- The steps accepted cost no more than the recent requests, and those before them, if these have ended.
   pub stays_in_cost_since : (past : List View) (recent old : List Begun) → IsRun busy past → AreSound blocks past → AreTimed time past
@@ -253,6 +209,19 @@ module _ (said : (b : Block) → b.attribute.factor < 2 ^ 16 → shape_of 7 (low
       (subst AreInTurn split is.in_turn) shut
       (answered_replies (accepted (epoch_records past))) is.alike (spaces_steps busy past run) (timed_in past run timed)
       (listed_in past listed)
+
+  -- so all cost no more than all requests
+  pub stays_in_cost : (past : List View) → IsRun busy past → AreSound blocks past → AreTimed time past → AreListed longest past → (busy + 1) * length (epoch_log past) ≤ cost_in (cost_of busy time longest blocks) (epoch_begun past)
+  stays_in_cost past run sound timed listed =
+      let since : (busy + 1) * length (epoch_log past) ≤ cost_in (cost_of busy time longest blocks) (epoch_begun past) + (busy + 1) * 0 =
+      stays_in_cost_since past (epoch_begun past) [] run sound timed listed (sym (append-nil (epoch_begun past))) refl in omega
+      (arith, since, nothing)
+
+  pub opens_in_cost : (cycles past : List View) → IsRun busy (cycles ++ past) → AreSound blocks (cycles ++ past) → AreTimed time (cycles ++ past) → AreListed longest (cycles ++ past) → AreClean cycles past →
+      open_since cycles past + (busy + 1) * length (answers_in (epoch_begun past)) ≤ cost_in (cost_of busy time longest blocks) (epoch_begun (cycles ++ past))
+  opens_in_cost cycles past run sound timed listed clean =
+      let opens = opens_in_log cycles past run clean in
+      let cost = stays_in_cost (cycles ++ past) run sound timed listed in omega (arith, opens, cost)
 
   -- the recent requests
   pub opens_since_cost : (cycles past : List View) (recent old : List Begun) → IsRun busy (cycles ++ past) → AreSound blocks (cycles ++ past) → AreTimed time (cycles ++ past) → AreListed longest (cycles ++ past) → AreClean cycles past →

@@ -1,78 +1,63 @@
 -- If nothing is lost, an open step is exactly as old as its entry.
-use Rattle.sercos_law_channel.proofs.Words.{◌≡◌, inl, inr, ℕ, suc, ◌+◌, Bool, true, false, List, [], ◌∷◌, ◌++◌, length, sym, ap, ◌∙◌, arith, if◌then◌else◌, ◌==◌, None, is_some, cond-true, cond-false, eq-eqb, ne_eqb, Entry, Begun, open_in, steps_in, answers_in, answers_it, AreInStep, Idle, Sent, Kept, log_steps, replies_of, View, unless_restart, epoch_begun, begun_in, epoch_log, log_in, IsRun, one_more, time_for, open_cycles, AreUndisturbed, IsOnTime, Rests, Waits, IsClean, AreClean, BeginsEpoch, age_in, AnswersAtAge, and_left}
+use Rattle.sercos_law_channel.proofs.Words.{◌≡◌, inl, inr, ℕ, suc, ◌+◌, Bool, true, false, List, [], ◌∷◌, ◌++◌, length, sym, ap, ◌∙◌, arith, if◌then◌else◌, ◌==◌, None, is_some, cond-true, cond-false, eq-eqb, ne_eqb, Entry, Begun, open_in, steps_in, answers_in, answers_it, log_steps, replies_of, View, unless_restart, epoch_begun, begun_in, epoch_log, log_in, IsRun, one_more, time_for, open_cycles, AreUndisturbed, IsOnTime, Rests, Waits, IsClean, AreClean, BeginsEpoch, age_in, AnswersAtAge, and_left, both_ways}
 use Rattle.sercos_law_channel.proofs.Handshake.TransferSteps.{length-steps_of}
-use Rattle.sercos_law_channel.proofs.Handshake.EpochRuns.{in_step}
+use Rattle.sercos_law_channel.proofs.Handshake.EpochRuns.{in_step, begun_on, log_on, unless_restart-on}
 use Rattle.sercos_law_channel.proofs.Pace.OnTime.{one_waits}
 use Rattle.sercos_law_channel.proofs.Pace.OnTimeRuns.{on_time, answers_on_time}
 use Rattle.sercos_law_channel.proofs.Pace.EpochBegins.{run_after, none_begun, Early, early_in}
-use Rattle.sercos_law_channel.proofs.Pace.AgeRuns.{log_grows, begun, logged, before, aged_open, undisturbed_on}
+use Rattle.sercos_law_channel.proofs.Pace.AgeRuns.{log_grows, aged_open, undisturbed_on}
+use Rattle.sercos_law_channel.proofs.Handshake.HandshakeMoves.{idle_all}
 
 -- in an epoch that is on time all steps that were begun are accepted
 all_accepted : (busy : ℕ) (past : List View) → IsRun busy past → IsOnTime busy past → steps_in (epoch_begun past) ≡ log_steps (epoch_log past)
 all_accepted busy past run (Waits e log those opened all earlier late sum) = all
-all_accepted busy past run (Rests none is) = by (in_step busy past run)
-  where
-    by : AreInStep (epoch_begun past) (epoch_log past) → steps_in (epoch_begun past) ≡ log_steps (epoch_log past)
-    by (Idle off s a) = s
-    by (Sent step opened s a) = absurd (cc)
-    by (Kept e log opened those s a) = s
+all_accepted busy past run (Rests none is) = (idle_all (epoch_begun past) (epoch_log past) (in_step busy past run) none).0
 
 module _ (busy : ℕ) where
   abbrev IsOld : List View → Type 0
   IsOld all = (e : Entry) (log : List Entry) → epoch_log all ≡ e ∷ log → is_some (open_in (epoch_begun all)) ≡ true → age_in all + e.processed.cycle ≡ length all
-
-  run_behind : (v : View) (all : List View) → IsRun busy (v ∷ all) → IsRun busy all
-  run_behind v all run = run.0
 
   -- one cycle more
   old_by : (v : View) (all : List View) → IsRun busy (v ∷ all) → IsClean v all → IsOnTime busy (v ∷ all) → IsOnTime busy all → (is_some (open_in (epoch_begun all)) ≡ true → IsOld all) → IsOld (v ∷ all)
   old_by v all run clean now then_ old e log those some = elim (log_grows v all clean.goes_on) [
     | inl stays ↦ stayed stays then_
     | inr (x, grows, at) ↦
-        let entry : x ≡ e = (let one : x ∷ epoch_log all ≡ e ∷ log = sym grows ∙ sym (logged busy v all all clean) ∙ those in cc) in
+        let entry : x ≡ e = (let one : x ∷ epoch_log all ≡ e ∷ log = sym grows ∙ sym (log_on v all clean.stays) ∙ those in cc) in
         let cycle = ap (λ (y : Entry). y.processed.cycle) entry in
-        let more : length (epoch_log (v ∷ all)) ≡ suc (length (epoch_log all)) = ap length (logged busy v all all clean ∙ grows) in
+        let more : length (epoch_log (v ∷ all)) ≡ suc (length (epoch_log all)) = ap length (log_on v all clean.stays ∙ grows) in
         let off : (length (steps_in (begun_in v all)) == length (steps_in (unless_restart v (epoch_begun all)))) ≡ false = ne_eqb _ _ (λ is. omega (arith, is, more, count_now, count_then)) in
         let age : age_in (v ∷ all) ≡ 1 = aged_open busy v all all clean some ∙ cond-false _ (age_in all + 1) 1 off in
         omega (arith, cycle, at, age)
   ]
     where
       count_now : length (steps_in (begun_in v all)) ≡ length (epoch_log (v ∷ all))
-      count_now = ap (λ (l : List Begun). length (steps_in l)) (sym (begun busy v all all clean)) ∙ ap length (all_accepted busy (v ∷ all) run now) ∙ length-steps_of (epoch_log (v ∷ all))
+      count_now = ap (λ (l : List Begun). length (steps_in l)) (sym (begun_on v all clean.stays)) ∙ ap length (all_accepted busy (v ∷ all) run now) ∙ length-steps_of (epoch_log (v ∷ all))
 
       count_then : length (steps_in (unless_restart v (epoch_begun all))) ≡ length (epoch_log all)
-      count_then = ap (λ (l : List Begun). length (steps_in l)) (before busy v all all clean) ∙ ap length (all_accepted busy all (run_behind v all run) then_) ∙ length-steps_of (epoch_log all)
+      count_then = ap (λ (l : List Begun). length (steps_in l)) (unless_restart-on v (epoch_begun all) clean.goes_on) ∙ ap length (all_accepted busy all run.0 then_) ∙ length-steps_of (epoch_log all)
 
       stayed : log_in v all ≡ epoch_log all → IsOnTime busy all → age_in (v ∷ all) + e.processed.cycle ≡ length (v ∷ all)
       stayed stays (Waits f rest were opened steps earlier late sum) =
-          let entry : f ≡ e = (let one : f ∷ rest ≡ e ∷ log = sym were ∙ sym stays ∙ sym (logged busy v all all clean) ∙ those in cc) in
+          let entry : f ≡ e = (let one : f ∷ rest ≡ e ∷ log = sym were ∙ sym stays ∙ sym (log_on v all clean.stays) ∙ those in cc) in
           let cycle = ap (λ (y : Entry). y.processed.cycle) entry in
-          let long : length (epoch_log (v ∷ all)) ≡ length (epoch_log all) = ap length (logged busy v all all clean ∙ stays) in
+          let long : length (epoch_log (v ∷ all)) ≡ length (epoch_log all) = ap length (log_on v all clean.stays ∙ stays) in
           let on : (length (steps_in (begun_in v all)) == length (steps_in (unless_restart v (epoch_begun all)))) ≡ true = eq-eqb _ _ (count_now ∙ long ∙ sym count_then) in
           let age : age_in (v ∷ all) ≡ age_in all + 1 = aged_open busy v all all clean some ∙ cond-true _ (age_in all + 1) 1 on in
           let was = old (ap is_some opened) f rest were (ap is_some opened) in omega (arith, cycle, age, was)
       stayed stays (Rests none is) = absurd (never now)
         where
           never : IsOnTime busy (v ∷ all) → ⊥
-          never (Rests off more) = let no : is_some (open_in (epoch_begun (v ∷ all))) ≡ false = ap is_some off in apart some no
-            where
-              apart : {b : Bool} → b ≡ true → b ≡ false → ⊥
-              apart on off = let bad : true ≡ false = sym on ∙ off in cc
+          never (Rests off more) = let no : is_some (open_in (epoch_begun (v ∷ all))) ≡ false = ap is_some off in both_ways _ no some
           never (Waits g rest were opened steps earlier late sum) =
-              let here : epoch_log all ≡ g ∷ rest = sym stays ∙ sym (logged busy v all all clean) ∙ were in
+              let here : epoch_log all ≡ g ∷ rest = sym stays ∙ sym (log_on v all clean.stays) ∙ were in
               let waiting : answers_in (epoch_begun (v ∷ all)) ≡ replies_of rest = one_waits (epoch_begun (v ∷ all)) (epoch_log (v ∷ all)) (in_step busy (v ∷ all) run) g rest were opened steps in
-              let done : answers_in (epoch_begun all) ≡ g.answer ∷ replies_of rest = all_answered (in_step busy all (run_behind v all run)) ∙ ap replies_of here in
+              let done : answers_in (epoch_begun all) ≡ g.answer ∷ replies_of rest = (idle_all (epoch_begun all) (epoch_log all) (in_step busy all run.0) none).1 ∙ ap replies_of here in
               let time_now : time_for busy (answers_in (epoch_begun (v ∷ all))) ≡ time_for busy (replies_of rest) = ap (time_for busy) waiting in
               let time_then : time_for busy (answers_in (epoch_begun all)) ≡ time_for busy (replies_of rest) + (busy + 1) = ap (time_for busy) done in
-              let at : is_some (open_in (begun_in v all)) ≡ true = ap (λ (l : List Begun). is_some (open_in l)) (sym (begun busy v all all clean)) ∙ some in
+              let at : is_some (open_in (begun_in v all)) ≡ true = ap (λ (l : List Begun). is_some (open_in l)) (sym (begun_on v all clean.stays)) ∙ some in
               let spent : open_cycles (v ∷ all) ≡ open_cycles all + 1 =
               cond-false v.falls 0 _ clean.stays ∙ ap (λ (b : Bool). one_more b (if v.master_restarts then 0 else open_cycles all)) at ∙ ap (λ (n : ℕ). n + 1) (cond-false v.master_restarts 0 (open_cycles all) clean.goes_on) in
               omega (arith, sum, is, time_now, time_then, spent, late)
-            where
-              all_answered : AreInStep (epoch_begun all) (epoch_log all) → answers_in (epoch_begun all) ≡ replies_of (epoch_log all)
-              all_answered (Idle off s a) = a
-              all_answered (Sent step opened s a) = a
-              all_answered (Kept e log opened those s a) = absurd (cc)
 
   olds : (cycles past : List View) → IsRun busy (cycles ++ past) → BeginsEpoch past → AreClean cycles past → AreUndisturbed past → IsOld (cycles ++ past)
   olds [] past run begins clean still = λ e log those some. let none : open_in (epoch_begun past) ≡ None = ap open_in (none_begun busy past run begins) in absurd (cc)

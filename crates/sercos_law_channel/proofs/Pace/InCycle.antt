@@ -1,7 +1,7 @@
 -- One cycle in which nothing is lost: how the time at its end is related to the answers, if it is so related at its start.
 use Rattle.sercos_law_channel.proofs.Words.{◌≡◌, inl, inr, ℕ, ◌+◌, true, false, List, ◌∷◌, length, refl, sym, ap, subst, Option, Some, None, IfSome, is_some, cond-false, Step, Processed, reply_of, log_of, Begun, open_in, answers_it, AreInStep, Heard, View, standing, stood_in, record_in, processed_in, with_record, with_heard, unless_restart, epoch_begun, begun_in, epoch_records, log_in, IsShown, IsRun, IsUndisturbed}
 use Rattle.sercos_law_channel.proofs.Handshake.HandshakeMoves.{log-taken}
-use Rattle.sercos_law_channel.proofs.Handshake.PhaseMoves.{Processes, Nothing, Record, processes}
+use Rattle.sercos_law_channel.proofs.Handshake.PhaseMoves.{of_processed}
 use Rattle.sercos_law_channel.proofs.Handshake.EpochRuns.{joined, restarted, shown_of, heard_of, begun_of, said_of, in_step}
 use Rattle.sercos_law_channel.proofs.Handshake.HandshakeMoves.{quiet_none}
 use Rattle.sercos_law_channel.proofs.Pace.OnTime.{Starts, StartsFree, StartsNew, StartsBusy, Works, Free, new_works, heard_works, Ends, taken_works, silent_works, begun_works}
@@ -42,25 +42,20 @@ module _ (Fits : ℕ → ℕ → Type 0) (add : (a b n : ℕ) → Fits a b → F
       → (is_some (open_in (begun_in v past)) ≡ true → is_some (processed_in v past) ≡ true) →
       Works Fits busy (length past) spent (begun_in v past) (log_of (unless_restart v (epoch_records past))) → Ends Fits busy
       (length past) spent (begun_in v past) (log_in v past)
-  recorded v past spent run takes w = by (processes v past)
+  recorded v past spent run takes w = of_processed v past
+      (λ o. (is_some (open_in (begun_in v past)) ≡ true → is_some o ≡ true) →
+      Ends Fits busy (length past) spent (begun_in v past) (log_of (with_record o (unless_restart v (epoch_records past)))))
+      (λ takes. silent_works Fits busy (length past) spent (begun_in v past) (log_of (unless_restart v (epoch_records past)))
+      (none_open (open_in (begun_in v past)) takes) w)
+      (λ s got came two takes.
+      let t : Processed = record_in v (length past) (stood_in v (standing past)) s in
+      subst (Ends Fits busy (length past) spent (begun_in v past)) (sym (log-taken t (unless_restart v (epoch_records past))))
+      (taken_works Fits busy (length past) spent (begun_in v past) (log_of (unless_restart v (epoch_records past))) add t
+      (reply_of t (log_of (unless_restart v (epoch_records past)))) (said_of busy v past run.1.sent s got) refl w)) takes
     where
-      none_open : processed_in v past ≡ None → (o : Option Step) → (is_some o ≡ true → is_some (processed_in v past) ≡ true) → o ≡ None
-      none_open none None takes = refl
-      none_open none (Some s) takes = let lost = takes refl in absurd (cc)
-
-      by : Processes v past → Ends Fits busy (length past) spent (begun_in v past) (log_in v past)
-      by (Nothing none) =
-          subst (λ (o : Option Processed). Ends Fits busy (length past) spent (begun_in v past)
-          (log_of (with_record o (unless_restart v (epoch_records past))))) (sym none)
-          (silent_works Fits busy (length past) spent (begun_in v past) (log_of (unless_restart v (epoch_records past)))
-          (none_open none (open_in (begun_in v past)) takes) w)
-      by (Record s got came two some) =
-          let t : Processed = record_in v (length past) (stood_in v (standing past)) s in
-          subst (λ (o : Option Processed). Ends Fits busy (length past) spent (begun_in v past)
-          (log_of (with_record o (unless_restart v (epoch_records past))))) (sym some)
-          (subst (Ends Fits busy (length past) spent (begun_in v past)) (sym (log-taken t (unless_restart v (epoch_records past))))
-          (taken_works Fits busy (length past) spent (begun_in v past) (log_of (unless_restart v (epoch_records past))) add t
-          (reply_of t (log_of (unless_restart v (epoch_records past)))) (said_of busy v past run.1.sent s got) refl w))
+      none_open : (o : Option Step) → (is_some o ≡ true → false ≡ true) → o ≡ None
+      none_open None takes = refl
+      none_open (Some s) takes = let lost = takes refl in absurd (cc)
 
   -- one cycle, before a fall
   pub in_cycle : (v : View) (past : List View) (spent : ℕ) → IsRun busy (v ∷ past) → IsUndisturbed v past

@@ -1,5 +1,5 @@
 -- What the requests of a start-up cost, and those after it.
-use Rattle.sercos_law_channel.proofs.Words.{◌≡◌, ℕ, suc, ◌+◌, ◌*◌, ◌≤◌, Bool, true, false, List, [], ◌∷◌, ◌++◌, length, map, refl, ap, ◌∙◌, arith, if◌then◌else◌, ◌==◌, Option, Some, None, sum_by, sum_by-cons, sum_by-append, is_list, Idn, Length, Shape, Request, shape_of, shape_by, words_of, words_told, times_le, few_told, length-words_of, length-at_least_one, Block, find_block, value_steps, read_steps, write_steps, cost_of, request_of, CostsRequests, AreWords, AreWordWrites, WordReadCosts, AttributeCosts, ListReadCosts, WordWriteCosts, ListWriteCosts, ReadsCost, WritesCost, RequestCosts}
+use Rattle.sercos_law_channel.proofs.Words.{◌≡◌, ℕ, suc, ◌+◌, ◌*◌, ◌≤◌, true, List, [], ◌∷◌, ◌++◌, length, map, refl, ap, ◌∙◌, arith, ◌==◌, Option, Some, None, sum_by, sum_by-cons, sum_by-append, is_list, Idn, Length, Shape, Request, shape_of, shape_by, words_of, words_told, times_le, few_told, length-words_of, length-at_least_one, Block, find_block, value_steps, read_steps, write_steps, cost_of, request_of, CostsRequests, AreWords, AreWordWrites, WordReadCosts, AttributeCosts, ListReadCosts, WordWriteCosts, ListWriteCosts, ReadsCost, WritesCost, RequestCosts, cond_both, inl, inr, cases_Option}
 use Rattle.sercos_idn.specs.declared.kinds.Length.TheVariants as len
 use Rattle.sercos_step.specs.declared.shape.Shape.TheVariants as shape
 use Rattle.sercos_step.specs.declared.request.Request.TheVariants as request
@@ -28,11 +28,10 @@ module _ (busy : ℕ) where
   list_read_costs time longest blocks idn (b, found, list) = read_by (longest idn.raw) (find_block idn.raw blocks) b shape.List found (list_shape b.attribute.length list)
 
   pub attribute_costs : AttributeCosts busy
-  attribute_costs time longest blocks idn = by (find_block idn.raw blocks)
-    where
-      by : (o : Option Block) → (busy + 1) * read_steps (longest idn.raw) 3 o ≤ (busy + 1) * 3
-      by None = times_le (busy + 1) 1 3 (omega arith)
-      by (Some b) = times_le (busy + 1) 3 3 (omega arith)
+  attribute_costs time longest blocks idn = elim (cases_Option (find_block idn.raw blocks)) [
+    | inl none ↦ rw none (times_le (busy + 1) 1 3 (omega arith))
+    | inr (b, some) ↦ rw some (times_le (busy + 1) 3 3 (omega arith))
+  ]
 
   write_by : (bytes : List ℕ) (o : Option Block) (b : Block) (s : Shape) (k : ℕ) → o ≡ Some b → shape_by b.attribute.length ≡ s → 3 + length (words_told s bytes) ≤ k → (busy + 1) * write_steps 7 bytes o ≤ (busy + 1) * k
   write_by bytes o b s k found is le =
@@ -53,16 +52,14 @@ module _ (busy : ℕ) where
   suc_times : (c n : ℕ) → (busy + 1) * (c * suc n) ≡ (busy + 1) * c + (busy + 1) * (c * n)
   suc_times c n = grind arith
 
-  times_sum : (n k : ℕ) → (busy + 1) * (n + k) ≡ (busy + 1) * n + (busy + 1) * k
-  times_sum n k = grind arith
-
   pub reads_cost : ReadsCost busy
   reads_cost time longest blocks values idns are six =
       let parts = sum_by-append (cost_of busy time longest blocks) (map (λ (idn : Idn). request.Read idn 7) values) (map (λ (idn : Idn). request.Read idn 3) idns) in
       let first = of_values values are in
       let second = of_attributes idns in
       let count : (busy + 1) * (4 * length values) ≡ (busy + 1) * 24 = ap (λ (n : ℕ). (busy + 1) * (4 * n)) six in
-      let sum = times_sum 24 (3 * length idns) in omega (arith, parts, first, second, count, sum)
+      let sum : (busy + 1) * (24 + 3 * length idns) ≡ (busy + 1) * 24 + (busy + 1) * (3 * length idns) = grind arith in
+      omega (arith, parts, first, second, count, sum)
     where
       of_values : (values : List Idn) → AreWords blocks values → sum_by (cost_of busy time longest blocks) (map (λ (idn : Idn). request.Read idn 7) values) ≤ (busy + 1) * (4 * length values)
       of_values [] are = omega arith
@@ -130,19 +127,13 @@ module _ (busy : ℕ) where
 
       by : (o : Option Block) → read_steps (longest idn.raw) e o ≤ 517
       by None = omega arith
-      by (Some b) = which (e == 3) (e == 7)
-        where
-          which : (three seven : Bool) → (if three then 3 else (if seven then value_steps (longest idn.raw) (shape_by b.attribute.length) else 517)) ≤ 517
-          which true seven = omega arith
-          which false true = value (shape_by b.attribute.length)
-          which false false = omega arith
+      by (Some b) = cond_both (e == 3) 3 _ (λ n. n ≤ 517) (λ three. omega arith)
+          (λ other. cond_both (e == 7) _ 517 (λ n. n ≤ 517) (λ seven. value (shape_by b.attribute.length)) (λ more. omega arith))
   request_costs time longest blocks (request.Write idn e bytes) short ok = most time (write_steps e bytes (find_block idn.raw blocks)) (by (find_block idn.raw blocks))
     where
       by : (o : Option Block) → write_steps e bytes o ≤ 517
       by None = omega arith
-      by (Some b) = which (e == 7)
-        where
-          which : (seven : Bool) → (if seven then 3 + length (words_told (shape_by b.attribute.length) bytes) else 1 + length (words_told (shape_of e 0) bytes)) ≤ 517
-          which true = let few = few_told (shape_by b.attribute.length) bytes ok in omega (arith, few)
-          which false = let few = few_told (shape_of e 0) bytes ok in omega (arith, few)
+      by (Some b) = cond_both (e == 7) _ _ (λ n. n ≤ 517)
+          (λ seven. let few = few_told (shape_by b.attribute.length) bytes ok in omega (arith, few))
+          (λ other. let few = few_told (shape_of e 0) bytes ok in omega (arith, few))
   request_costs time longest blocks (request.Command idn) short ok = let all : (busy + 2) * (520 + time) ≡ 520 * busy + busy * time + 1040 + 2 * time = grind arith in omega (arith, all)

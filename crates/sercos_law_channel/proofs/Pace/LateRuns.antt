@@ -1,9 +1,9 @@
 -- In a stretch in which nothing is lost a channel is in time.
-use Rattle.sercos_law_channel.proofs.Words.{◌≡◌, ℕ, suc, ◌+◌, ◌*◌, ◌<◌, ◌≤◌, Bool, true, false, List, [], ◌∷◌, ◌++◌, length, refl, sym, ap, ◌∙◌, subst, arith, if◌then◌else◌, Option, is_some, cond-false, beq, Step, Processed, Entry, reply_of, log_of, Begun, open_in, steps_in, answers_in, is_odd, log_steps, View, processed_in, with_record, epoch_begun, begun_in, epoch_records, records_in_views, epoch_log, log_in, IsRun, time_for, one_more, IsClean, open_since, spent_since, IsInTime, RestsNow, WaitsNow, ComesInTime, TakesTimeSince}
+use Rattle.sercos_law_channel.proofs.Words.{◌≡◌, ℕ, suc, ◌+◌, ◌*◌, ◌<◌, ◌≤◌, Bool, true, false, List, [], ◌∷◌, ◌++◌, length, refl, sym, ap, ◌∙◌, arith, if◌then◌else◌, Option, is_some, beq, Step, Processed, Entry, reply_of, log_of, Begun, open_in, steps_in, answers_in, is_odd, log_steps, View, with_record, epoch_begun, begun_in, epoch_records, records_in_views, epoch_log, log_in, IsRun, time_for, one_more, IsClean, open_since, spent_since, IsInTime, RestsNow, WaitsNow, ComesInTime, TakesTimeSince, cond_both, times_le, unless_restart}
 use Rattle.sercos_law_channel.proofs.Handshake.HandshakeMoves.{log-taken}
-use Rattle.sercos_law_channel.proofs.Handshake.PhaseMoves.{Processes, Nothing, Record, processes}
-use Rattle.sercos_law_channel.proofs.Handshake.EpochRuns.{in_step}
-use Rattle.sercos_law_channel.proofs.Pace.OnTimeRuns.{in_step_counts, waiting_counts, time_of}
+use Rattle.sercos_law_channel.proofs.Handshake.PhaseMoves.{of_processed}
+use Rattle.sercos_law_channel.proofs.Handshake.EpochRuns.{in_step, begun_on, log_on}
+use Rattle.sercos_law_channel.proofs.Pace.OnTimeRuns.{in_step_counts, waiting_counts, time_of, one_more_time}
 use Rattle.sercos_law_channel.proofs.Pace.LateMoves.{InTime, any_start}
 use Rattle.sercos_law_channel.proofs.Pace.InCycle.{in_cycle}
 use Rattle.sercos_law_channel.proofs.Pace.OnTime.{Starts, StartsFree, StartsBusy, Ends, AtRest, Waiting}
@@ -19,16 +19,12 @@ later n k (t ∷ h) le are = (later n k h le are.0, (let less = are.1 in omega a
 
 pub taken_before : (past : List View) → AreBefore (length past) (epoch_records past)
 taken_before [] = tt
-taken_before (v ∷ past) = by v.falls v.master_restarts (processes v past) (taken_before past)
-  where
-    old : (r : Bool) → AreBefore (length past) (epoch_records past) → AreBefore (suc (length past)) (if r then [] else epoch_records past)
-    old true are = tt
-    old false are = later (length past) (suc (length past)) (epoch_records past) (omega arith) are
-
-    by : (falls r : Bool) → Processes v past → AreBefore (length past) (epoch_records past) → AreBefore (suc (length past)) (if falls then [] else with_record (processed_in v past) (if r then [] else epoch_records past))
-    by true r p are = tt
-    by false r (Nothing none) are = subst (λ (o : Option Processed). AreBefore (suc (length past)) (with_record o (if r then [] else epoch_records past))) (sym none) (old r are)
-    by false r (Record s got came two some) are = subst (λ (o : Option Processed). AreBefore (suc (length past)) (with_record o (if r then [] else epoch_records past))) (sym some) (old r are, omega arith)
+taken_before (v ∷ past) =
+    let old = cond_both v.master_restarts [] (epoch_records past) (AreBefore (suc (length past))) (λ on. tt)
+    (λ off. later (length past) (suc (length past)) (epoch_records past) (omega arith) (taken_before past)) in
+    cond_both v.falls [] (records_in_views v past) (AreBefore (suc (length past))) (λ fell. tt)
+    (λ on. of_processed v past (λ o. AreBefore (suc (length past)) (with_record o (unless_restart v (epoch_records past)))) old
+    (λ s got came two. (old, omega arith)))
 
 pub head_before : (n : ℕ) (h : List Processed) → AreBefore n h → (e : Entry) (past : List Entry) → log_of h ≡ e ∷ past → e.processed.cycle < n
 head_before n [] are e past those = absurd (cc)
@@ -51,22 +47,18 @@ module _ (busy : ℕ) where
   after_cycle : (v : View) (cycles past : List View) → v.falls ≡ false → Ends InTime busy (length (cycles ++ past)) (spent_since busy cycles past) (begun_in v (cycles ++ past)) (log_in v (cycles ++ past)) → IsInTime busy (v ∷ cycles) past
   after_cycle v cycles past on is = by is
     where
-      begun : epoch_begun (v ∷ (cycles ++ past)) ≡ begun_in v (cycles ++ past)
-      begun = cond-false v.falls [] (begun_in v (cycles ++ past)) on
-
-      taken : epoch_log (v ∷ (cycles ++ past)) ≡ log_in v (cycles ++ past)
-      taken = ap log_of (cond-false v.falls [] (records_in_views v (cycles ++ past)) on)
-
       same : time_for busy (answers_in (epoch_begun (v ∷ (cycles ++ past)))) ≡ time_for busy (answers_in (begun_in v (cycles ++ past)))
-      same = ap (λ (l : List Begun). time_for busy (answers_in l)) begun
+      same = ap (λ (l : List Begun). time_for busy (answers_in l)) (begun_on v (cycles ++ past) on)
 
       by : Ends InTime busy (length (cycles ++ past)) (spent_since busy cycles past) (begun_in v (cycles ++ past)) (log_in v (cycles ++ past)) → IsInTime busy (v ∷ cycles) past
       by (AtRest none is) =
           let spent : open_since (v ∷ cycles) past ≡ open_since cycles past = ap (λ (o : Option Step). one_more (is_some o) (open_since cycles past)) none in
-          RestsNow (ap open_in begun ∙ none) (omega (arith, same))
+          RestsNow (ap open_in (begun_on v (cycles ++ past) on) ∙ none) (omega (arith, same))
       by (Waiting e log those opened all earlier late sum) =
           let spent : open_since (v ∷ cycles) past ≡ open_since cycles past + 1 = ap (λ (o : Option Step). one_more (is_some o) (open_since cycles past)) opened in
-          WaitsNow e log (taken ∙ those) (ap open_in begun ∙ opened) (ap steps_in begun ∙ all ∙ ap log_steps (sym taken)) (omega arith) (omega arith) (omega (arith, same))
+          WaitsNow e log (log_on v (cycles ++ past) on ∙ those) (ap open_in (begun_on v (cycles ++ past) on) ∙ opened) (ap steps_in
+          (begun_on v (cycles ++ past) on) ∙ all ∙ ap log_steps (sym (log_on v (cycles ++ past) on))) (omega arith) (omega arith)
+          (omega (arith, same))
 
   start_of : (cycles past : List View) → IsInTime busy cycles past → Starts InTime busy (length (cycles ++ past)) (spent_since busy cycles past) (epoch_begun (cycles ++ past)) (epoch_log (cycles ++ past))
   start_of cycles past (RestsNow none is) = StartsFree none is
@@ -79,14 +71,8 @@ module _ (busy : ℕ) where
   comes_in_time v (u ∷ cycles) past run clean =
       after_cycle v (u ∷ cycles) past clean.1.stays (in_one v (u ∷ (cycles ++ past)) (spent_since busy (u ∷ cycles) past) run clean.1 (start_of (u ∷ cycles) past (comes_in_time u cycles past run.0 clean.0)))
 
-  few : (n k : ℕ) → n ≤ k → (busy + 1) * n ≤ (busy + 1) * k
-  few n k le = grind arith
-
-  more : (n : ℕ) → (busy + 1) * (n + 1) ≡ (busy + 1) * n + (busy + 1)
-  more n = grind arith
-
   pub takes_time_since : TakesTimeSince busy
-  takes_time_since [] past run clean = let le = few (length (answers_in (epoch_begun past))) (length (steps_in (epoch_begun past))) (in_step_counts (epoch_begun past) (epoch_log past) (in_step busy past run)) in omega arith
+  takes_time_since [] past run clean = let le = times_le (busy + 1) (length (answers_in (epoch_begun past))) (length (steps_in (epoch_begun past))) (in_step_counts (epoch_begun past) (epoch_log past) (in_step busy past run)) in omega arith
   takes_time_since (v ∷ cycles) past run clean = by (comes_in_time v cycles past run clean)
     where
       then_ : time_for busy (answers_in (epoch_begun past)) ≡ (busy + 1) * length (answers_in (epoch_begun past))
@@ -96,9 +82,9 @@ module _ (busy : ℕ) where
       by (RestsNow none is) =
           let count = in_step_counts (epoch_begun (v ∷ (cycles ++ past))) (epoch_log (v ∷ (cycles ++ past))) (in_step busy (v ∷ (cycles ++ past)) run) in
           let time = time_of busy (answers_in (epoch_begun (v ∷ (cycles ++ past)))) in
-          let le = few (length (answers_in (epoch_begun (v ∷ (cycles ++ past))))) (length (steps_in (epoch_begun (v ∷ (cycles ++ past))))) count in omega (arith, then_)
+          let le = times_le (busy + 1) (length (answers_in (epoch_begun (v ∷ (cycles ++ past))))) (length (steps_in (epoch_begun (v ∷ (cycles ++ past))))) count in omega (arith, then_)
       by (WaitsNow e log those opened all earlier late sum) =
           let count = waiting_counts (epoch_begun (v ∷ (cycles ++ past))) (epoch_log (v ∷ (cycles ++ past))) (in_step busy (v ∷ (cycles ++ past)) run) e log those opened all in
           let time = time_of busy (answers_in (epoch_begun (v ∷ (cycles ++ past)))) in
-          let one = more (length (answers_in (epoch_begun (v ∷ (cycles ++ past))))) in
-          let le = few (length (answers_in (epoch_begun (v ∷ (cycles ++ past)))) + 1) (length (steps_in (epoch_begun (v ∷ (cycles ++ past))))) count in omega (arith, then_)
+          let one = one_more_time busy (length (answers_in (epoch_begun (v ∷ (cycles ++ past))))) in
+          let le = times_le (busy + 1) (length (answers_in (epoch_begun (v ∷ (cycles ++ past)))) + 1) (length (steps_in (epoch_begun (v ∷ (cycles ++ past))))) count in omega (arith, then_)

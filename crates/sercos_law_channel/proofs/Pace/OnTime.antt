@@ -1,6 +1,6 @@
 -- If nothing is lost, each answer comes busy time and one cycle after its step, and in time if nothing is lost from some cycle on.
-use Rattle.sercos_law_channel.proofs.Words.{◌≡◌, ℕ, ◌+◌, ◌-◌, ◌<◌, ◌≤◌, Bool, true, false, not, ◌&&◌, List, [], ◌∷◌, refl, sym, ap, ◌∙◌, subst, arith, if◌then◌else◌, nat_le, Option, Some, None, IsSome, is_some, and_right, both_ways, cond-true, cond-false, leb-true, nat_tests, beq, Status, Step, Answer, Request, CommandHistory, change_in, Processed, Entry, ahs, log_of, Shown, shown, channel_says, shown_by, Begun, open_in, steps_in, answers_in, is_odd, answers_it, answer_in, with_answer, master_says, step_or_none, AreInStep, Idle, Sent, Kept, log_steps, replies_of, with_status, said_in, with_processed, with_begun, time_for}
-use Rattle.sercos_law_channel.proofs.Handshake.HandshakeMoves.{ahs-shown, quiet_bit, said_bit, said_step, parity, parity_sent, ahs-log, beq-self, beq-not_left}
+use Rattle.sercos_law_channel.proofs.Words.{◌≡◌, ℕ, ◌+◌, ◌-◌, ◌<◌, ◌≤◌, Bool, true, false, not, ◌&&◌, List, [], ◌∷◌, refl, sym, ap, ◌∙◌, subst, arith, if◌then◌else◌, nat_le, Option, Some, None, IsSome, is_some, and_right, both_ways, cond-true, cond-false, leb-true, nat_tests, beq, Status, Step, Answer, Request, CommandHistory, change_in, Processed, Entry, ahs, log_of, Shown, shown, channel_says, shown_by, Begun, open_in, steps_in, answers_in, is_odd, answers_it, answer_in, with_answer, master_says, step_or_none, AreInStep, Idle, Sent, Kept, log_steps, replies_of, with_status, said_in, with_processed, with_begun, time_for, and-false}
+use Rattle.sercos_law_channel.proofs.Handshake.HandshakeMoves.{ahs-shown, quiet_bit, said_bit, said_step, parity, parity_sent, ahs-log, beq-self, beq-not_left, idle_all}
 use Rattle.sercos_law_channel.proofs.Handshake.OnePhase.{no_longer}
 
 -- At a place in cycle c, with `spent` cycles before it that `Fits` compares with the time for the answers: no step is open; or one that
@@ -57,21 +57,13 @@ one_waits begun log (Sent step at s a) e past those opened all = absurd (no_long
 one_waits begun log (Kept x rest at is s a) e past those opened all = let same : x ∷ rest ≡ e ∷ past = sym is ∙ those in
     let tail : rest ≡ past = cc in a ∙ ap replies_of tail
 
-never : (a b : Bool) → (a && (b && false)) ≡ false
-never true b = and_right b false refl
-never false b = refl
-
-same_bit : (b : Bool) → (true && (beq b b && not false)) ≡ true
-same_bit true = refl
-same_bit false = refl
-
 quiet : (status : Status) (word : ℕ) (begun : List Begun) → answers_it begun status ≡ false → with_status status word begun ≡ begun
 quiet status word begun off = cond-false (answers_it begun status) (with_answer (answer_in status word) begun) begun off
 
 -- a drive that shows that it is busy answers nothing
 busy_quiet : (status : Status) (begun : List Begun) → status.busy ≡ true → answers_it begun status ≡ false
-busy_quiet status begun on = ap (λ (b : Bool). is_some (open_in begun) && (beq status.ahs (is_odd (steps_in begun)) && not b)) on ∙ never
-    (is_some (open_in begun)) (beq status.ahs (is_odd (steps_in begun)))
+busy_quiet status begun on = ap (λ (b : Bool). is_some (open_in begun) && (beq status.ahs (is_odd (steps_in begun)) && not b)) on
+    ∙ and_right (is_some (open_in begun)) _ (and-false (beq status.ahs (is_odd (steps_in begun))))
 
 module _ (Fits : ℕ → ℕ → Type 0) (busy c spent : ℕ) (showing : CommandHistory) (status : Status) (word : ℕ) (begun : List Begun)
     (taken : List Processed) (says : shown_by status word ≡ channel_says busy c showing taken) where
@@ -104,8 +96,9 @@ module _ (Fits : ℕ → ℕ → Type 0) (busy c spent : ℕ) (showing : Command
       by false is shows =
           let same : answer_in status word ≡ e.answer = ap (λ (s : Shown). (let a : Answer = record { error = s.error; word = s.word } in a)) shows in
           let free : status.busy ≡ false = ap (λ (s : Shown). s.busy) shows in
-          let takes : answers_it begun status ≡ true = rw (opened, bit, parity (steps_in begun) (log_of taken) all, free)
-          (same_bit (is_odd (log_of taken))) in
+          let odd = parity (steps_in begun) (log_of taken) all in
+          let same_bit = beq-self (is_odd (log_of taken)) in
+          let takes : answers_it begun status ≡ true = rw (opened, bit, odd, free, same_bit) refl in
           let with_one : with_status status word begun ≡ with_answer e.answer begun = cond-true (answers_it begun status) _ _ takes ∙ ap (λ (a : Answer). with_answer a begun) same in
           let answers : answers_in (with_status status word begun) ≡ e.answer ∷ answers_in begun = ap answers_in with_one ∙ answered-answers e.answer begun e.processed.step opened in
           let whole : answers_in (with_status status word begun) ≡ replies_of (log_of taken) = answers
@@ -119,22 +112,18 @@ module _ (begun : List Begun) (log : List Entry) where
   pub dropped : (t : Processed) (answer : Answer) → said_in t ≡ master_says begun → steps_in begun ≡ log_steps log → with_processed t answer log ≡ log
   dropped t answer says all = cond-true (beq t.mhs (is_odd log)) log _ (ap (λ (b : Bool). beq b (is_odd log)) (said_bit t begun says ∙ parity (steps_in begun) log all) ∙ beq-self (is_odd log))
 
-  pub joins_log : (t : Processed) (answer : Answer) (s : Step) → said_in t ≡ master_says begun → steps_in begun ≡ s ∷ log_steps log
-      → with_processed t answer log ≡ (record { processed = t; answer = answer }) ∷ log
-  joins_log t answer s says more = cond-false (beq t.mhs (is_odd log)) log _
-      (ap (λ (b : Bool). beq b (is_odd log)) (said_bit t begun says ∙ parity_sent (steps_in begun) s log more) ∙ beq-not_left (is_odd log))
-
 pub joins : (busy c spent : ℕ) (begun : List Begun) (log : List Entry) (t : Processed) (answer : Answer) (s : Step)
     → said_in t ≡ master_says begun → steps_in begun ≡ s ∷ log_steps log
     → with_processed t answer log ≡ (record { processed = t; answer = answer }) ∷ log
-joins busy c spent begun log = joins_log begun log
+joins busy c spent begun log t answer s says more = cond-false (beq t.mhs (is_odd log)) log _
+    (ap (λ (b : Bool). beq b (is_odd log)) (said_bit t begun says ∙ parity_sent (steps_in begun) s log more) ∙ beq-not_left (is_odd log))
 
 module _ (Fits : ℕ → ℕ → Type 0) (busy c spent : ℕ) (begun : List Begun) (log : List Entry) where
   pub taken_works : ((a b n : ℕ) → Fits a b → Fits (a + n) (b + n)) → (t : Processed) (answer : Answer) → said_in t ≡ master_says begun
       → t.cycle ≡ c → Works Fits busy c spent begun log → Ends Fits busy c spent begun (with_processed t answer log)
   taken_works add t answer says at (Free none is) = AtRest none is
   taken_works add t answer says at (New s opened more is) =
-      let grown = joins_log begun log t answer s says more in
+      let grown = joins busy c spent begun log t answer s says more in
       let step : t.step ≡ s = said_step t begun says ∙ ap step_or_none opened in
       Waiting (record { processed = t; answer = answer }) log grown (opened ∙ ap (λ (x : Step). Some x) (sym step))
       (more ∙ ap (λ (x : Step). x ∷ log_steps log) (sym step) ∙ ap log_steps (sym grown)) (omega arith) (omega arith)
@@ -153,13 +142,8 @@ module _ (Fits : ℕ → ℕ → Type 0) (busy c spent : ℕ) (begun : List Begu
       → Works Fits busy c spent begun log → Works Fits busy c spent (with_begun o begun) log
   begun_works None shut h after w = w
   begun_works (Some r) shut h after w = settled Fits busy c spent ((record { request = r; answers = [] }) ∷ begun) log after
-      (idle_answers h (shut refl)) (rests w)
+      (idle_all begun log h (shut refl)).1 (rests w)
     where
-      idle_answers : AreInStep begun log → open_in begun ≡ None → answers_in begun ≡ replies_of log
-      idle_answers (Idle none s a) off = a
-      idle_answers (Sent step opened s a) off = absurd (cc)
-      idle_answers (Kept e past opened is s a) off = absurd (cc)
-
       rests : Works Fits busy c spent begun log → Fits spent (time_for busy (answers_in begun))
       rests (Free none is) = is
       rests (New s opened more is) = is

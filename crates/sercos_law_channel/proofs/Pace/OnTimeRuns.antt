@@ -1,7 +1,7 @@
 -- In an epoch in which nothing is lost a channel is on time.
-use Rattle.sercos_law_channel.proofs.Words.{◌≡◌, inl, inr, ℕ, ◌+◌, ◌*◌, ◌≤◌, Bool, true, false, List, [], ◌∷◌, length, refl, sym, ap, ◌∙◌, subst, arith, if◌then◌else◌, Option, Some, None, IfSome, is_some, cond-true, cond-false, Step, Answer, Entry, log_of, Begun, open_in, steps_in, answers_in, answers_it, AreInStep, Idle, Sent, Kept, log_steps, Heard, View, unless_restart, epoch_begun, begun_in, epoch_records, records_in_views, epoch_log, log_in, IsShown, time_for, one_more, open_cycles, AreUndisturbed, IsOnTime, Rests, Waits, AreOnTime, AnswersOnTime, TakesTime}
+use Rattle.sercos_law_channel.proofs.Words.{◌≡◌, inl, inr, ℕ, ◌+◌, ◌*◌, ◌≤◌, Bool, true, false, List, [], ◌∷◌, length, refl, sym, ap, ◌∙◌, subst, arith, if◌then◌else◌, Option, Some, None, IfSome, is_some, cond-true, cond-false, Step, Answer, Entry, log_of, Begun, open_in, steps_in, answers_in, answers_it, AreInStep, Idle, Sent, Kept, log_steps, Heard, View, unless_restart, epoch_begun, begun_in, epoch_records, epoch_log, log_in, IsShown, time_for, one_more, open_cycles, AreUndisturbed, IsOnTime, Rests, Waits, AreOnTime, AnswersOnTime, TakesTime, times_le, both_ways}
 use Rattle.sercos_law_channel.proofs.Handshake.TransferSteps.{length-steps_of, length-replies_of}
-use Rattle.sercos_law_channel.proofs.Handshake.EpochRuns.{joined, shown_of, in_step}
+use Rattle.sercos_law_channel.proofs.Handshake.EpochRuns.{joined, shown_of, in_step, begun_on, log_on}
 use Rattle.sercos_law_channel.proofs.Handshake.HandshakeMoves.{quiet_none}
 use Rattle.sercos_law_channel.proofs.Pace.InCycle.{in_cycle}
 use Rattle.sercos_law_channel.proofs.Pace.OnTime.{one_waits, Starts, StartsFree, StartsBusy, Ends, AtRest, Waiting, late_answer}
@@ -38,22 +38,16 @@ module _ (busy : ℕ) where
   after_cycle : (v : View) (past : List View) → v.falls ≡ false → Ends Exactly busy (length past) (spent_before v past) (begun_in v past) (log_in v past) → IsOnTime busy (v ∷ past)
   after_cycle v past on is = by is
     where
-      begun : epoch_begun (v ∷ past) ≡ begun_in v past
-      begun = cond-false v.falls [] (begun_in v past) on
-
-      taken : epoch_log (v ∷ past) ≡ log_in v past
-      taken = ap log_of (cond-false v.falls [] (records_in_views v past) on)
-
       spent : open_cycles (v ∷ past) ≡ one_more (is_some (open_in (begun_in v past))) (spent_before v past)
       spent = cond-false v.falls 0 _ on
 
       by : Ends Exactly busy (length past) (spent_before v past) (begun_in v past) (log_in v past) → IsOnTime busy (v ∷ past)
       by (AtRest none is) =
-          Rests (ap open_in begun ∙ none) (spent ∙ ap (λ (o : Option Step). one_more (is_some o) (spent_before v past)) none ∙ is ∙ ap (λ (l : List Begun). time_for busy (answers_in l)) (sym begun))
+          Rests (ap open_in (begun_on v past on) ∙ none) (spent ∙ ap (λ (o : Option Step). one_more (is_some o) (spent_before v past)) none ∙ is ∙ ap (λ (l : List Begun). time_for busy (answers_in l)) (sym (begun_on v past on)))
       by (Waiting e log those opened all earlier late sum) =
           let open_one : open_cycles (v ∷ past) ≡ spent_before v past + 1 = spent ∙ ap (λ (o : Option Step). one_more (is_some o) (spent_before v past)) opened in
-          let same : time_for busy (answers_in (epoch_begun (v ∷ past))) ≡ time_for busy (answers_in (begun_in v past)) = ap (λ (l : List Begun). time_for busy (answers_in l)) begun in
-          Waits e log (taken ∙ those) (ap open_in begun ∙ opened) (ap steps_in begun ∙ all ∙ ap log_steps (sym taken)) (omega arith) (omega arith) (omega arith)
+          let same : time_for busy (answers_in (epoch_begun (v ∷ past))) ≡ time_for busy (answers_in (begun_in v past)) = ap (λ (l : List Begun). time_for busy (answers_in l)) (begun_on v past on) in
+          Waits e log (log_on v past on ∙ those) (ap open_in (begun_on v past on) ∙ opened) (ap steps_in (begun_on v past on) ∙ all ∙ ap log_steps (sym (log_on v past on))) (omega arith) (omega arith) (omega arith)
 
   pub on_time : AreOnTime busy
   on_time [] run whole = Rests refl refl
@@ -88,41 +82,30 @@ module _ (busy : ℕ) where
       shown = subst (λ (o : Option Heard). IfSome o (λ x. IsShown busy x v past)) hears run.1.heard
 
       by : IsOnTime busy past → (e : Entry) × (log : List Entry) × (epoch_log past ≡ e ∷ log) × (length past ≡ e.processed.cycle + (busy + 1))
-      by (Rests none is) = absurd (both (answers_it (unless_restart v (epoch_begun past)) a.status) takes (quiet_none (unless_restart v (epoch_begun past)) a.status (ap open_in begun ∙ none)))
-        where
-          both : (v : Bool) → v ≡ true → v ≡ false → ⊥
-          both true on off = cc
-          both false on off = cc
+      by (Rests none is) = absurd (both_ways (answers_it (unless_restart v (epoch_begun past)) a.status) (quiet_none (unless_restart v (epoch_begun past)) a.status (ap open_in begun ∙ none)) takes)
       by (Waits e log those opened all earlier late sum) = elim (shown_of busy v past run (joined busy past run.0) a shown) [
-        | inl none ↦ let free : open_in (epoch_begun past) ≡ None = ap open_in (sym begun) ∙ ap open_in none in absurd (apart (sym opened ∙ free))
+        | inl none ↦ let free : open_in (epoch_begun past) ≡ None = ap open_in (sym begun) ∙ ap open_in none in absurd (cc)
         | inr says ↦
             let due = late_answer busy (length past) v.showing a.status a.word (unless_restart v (epoch_begun past)) (unless_restart v (epoch_records past)) e log says (ap log_of taken ∙ those) takes earlier in
             (e, log, those, omega arith)
       ]
-        where
-          apart : Some e.processed.step ≡ None → ⊥
-          apart is = cc
 
 pub time_of : (busy : ℕ) (answers : List Answer) → time_for busy answers ≡ (busy + 1) * length answers
 time_of busy [] = omega arith
 time_of busy (a ∷ answers) = let before = time_of busy answers in grind arith
 
-pub takes_time : (busy : ℕ) → TakesTime busy
-takes_time busy past run whole = by (on_time busy past run whole)
-  where
-    few : (n k : ℕ) → n ≤ k → (busy + 1) * n ≤ (busy + 1) * k
-    few n k le = grind arith
+pub one_more_time : (busy n : ℕ) → (busy + 1) * (n + 1) ≡ (busy + 1) * n + (busy + 1)
+one_more_time busy n = grind arith
 
-    by : IsOnTime busy past → open_cycles past ≤ (busy + 1) * length (steps_in (epoch_begun past))
-    by (Rests none is) =
-        let count = in_step_counts (epoch_begun past) (epoch_log past) (in_step busy past run) in
-        let time = time_of busy (answers_in (epoch_begun past)) in
-        let le = few (length (answers_in (epoch_begun past))) (length (steps_in (epoch_begun past))) count in omega arith
-    by (Waits e log those opened all earlier late sum) =
-        let count = waiting_counts (epoch_begun past) (epoch_log past) (in_step busy past run) e log those opened all in
-        let time = time_of busy (answers_in (epoch_begun past)) in
-        let one : (busy + 1) * (length (answers_in (epoch_begun past)) + 1) ≡ (busy + 1) * length (answers_in (epoch_begun past)) + (busy + 1) = more (length (answers_in (epoch_begun past))) in
-        let le = few (length (answers_in (epoch_begun past)) + 1) (length (steps_in (epoch_begun past))) count in omega arith
-      where
-        more : (n : ℕ) → (busy + 1) * (n + 1) ≡ (busy + 1) * n + (busy + 1)
-        more n = grind arith
+pub takes_time : (busy : ℕ) → TakesTime busy
+takes_time busy past run whole = elim (on_time busy past run whole) [
+  | Rests none is ↦
+      let count = in_step_counts (epoch_begun past) (epoch_log past) (in_step busy past run) in
+      let time = time_of busy (answers_in (epoch_begun past)) in
+      let le = times_le (busy + 1) (length (answers_in (epoch_begun past))) (length (steps_in (epoch_begun past))) count in omega arith
+  | Waits e log those opened all earlier late sum ↦
+      let count = waiting_counts (epoch_begun past) (epoch_log past) (in_step busy past run) e log those opened all in
+      let time = time_of busy (answers_in (epoch_begun past)) in
+      let one : (busy + 1) * (length (answers_in (epoch_begun past)) + 1) ≡ (busy + 1) * length (answers_in (epoch_begun past)) + (busy + 1) = one_more_time busy (length (answers_in (epoch_begun past))) in
+      let le = times_le (busy + 1) (length (answers_in (epoch_begun past)) + 1) (length (steps_in (epoch_begun past))) count in omega arith
+]

@@ -1,7 +1,7 @@
 -- The steps that a drive accepts are busy time and one apart.
 use Rattle.sercos_law_channel.proofs.Words.{◌≡◌, inl, inr, ℕ, suc, ◌+◌, ◌<◌, ◌≤◌, Bool, true, false, List, [], ◌∷◌, length, refl, sym, ap, ◌∙◌, subst, arith, if◌then◌else◌, Option, Some, None, IfSome, beq, Answer, Request, Processed, Entry, reply_of, log_of, channel_says, shown_by, Begun, steps_in, answers_in, is_odd, answers_it, answer_in, with_answer, master_says, AreInStep, Idle, Sent, Kept, replies_of, said_in, with_processed, Heard, View, standing, stood_in, record_in, with_record, with_heard, with_begun, unless_restart, epoch_begun, begun_in, epoch_records, records_in_views, epoch_log, log_in, IsShown, IsRun, AreSpaced, SpacesSteps}
 use Rattle.sercos_law_channel.proofs.Handshake.HandshakeMoves.{said_bit, parity, log-taken, beq-self}
-use Rattle.sercos_law_channel.proofs.Handshake.PhaseMoves.{Processes, Nothing, Record, processes}
+use Rattle.sercos_law_channel.proofs.Handshake.PhaseMoves.{uncut, of_processed}
 use Rattle.sercos_law_channel.proofs.Handshake.EpochRuns.{joined, restarted, shown_of, heard_of, begun_of, said_of, in_step}
 use Rattle.sercos_law_channel.proofs.Handshake.OnePhase.{no_longer}
 use Rattle.sercos_law_channel.proofs.Pace.OnTime.{late_answer}
@@ -14,12 +14,6 @@ record IsSpaced (busy c : ℕ) (begun : List Begun) (log : List Entry) : Type 0 
 
 nothing_spaced : (busy c : ℕ) (begun : List Begun) → IsSpaced busy c begun []
 nothing_spaced busy c begun = record { spaced = tt; due = λ all e past those. absurd (cc) }
-
-later_spaced : (busy c k : ℕ) (begun : List Begun) (log : List Entry) → c ≤ k → IsSpaced busy c begun log → IsSpaced busy k begun log
-later_spaced busy c k begun log le is = record { spaced = is.spaced; due = λ all e past those. let d = is.due all e past those in omega arith }
-
-same_answers : (busy c : ℕ) (begun others : List Begun) (log : List Entry) → answers_in others ≡ answers_in begun → IsSpaced busy c begun log → IsSpaced busy c others log
-same_answers busy c begun others log same is = record { spaced = is.spaced; due = λ all e past those. is.due (sym same ∙ all) e past those }
 
 with_one : (busy : ℕ) (x : Entry) (log : List Entry) → AreSpaced busy log → ((e : Entry) (past : List Entry) → log ≡ e ∷ past → e.processed.cycle + (busy + 1) ≤ x.processed.cycle) → AreSpaced busy (x ∷ log)
 with_one busy x [] are due = tt
@@ -68,18 +62,7 @@ module _ (busy : ℕ) where
 
   begun_spaced : (o : Option Request) (c : ℕ) (begun : List Begun) (log : List Entry) → IsSpaced busy c begun log → IsSpaced busy c (with_begun o begun) log
   begun_spaced None c begun log is = is
-  begun_spaced (Some r) c begun log is = same_answers busy c begun ((record { request = r; answers = [] }) ∷ begun) log refl is
-
-  recorded : (v : View) (past : List View) → IsRun busy (v ∷ past) → AreInStep (begun_in v past) (log_of (unless_restart v (epoch_records past))) → IsSpaced busy (length past) (begun_in v past) (log_of (unless_restart v (epoch_records past))) → IsSpaced busy (length past) (begun_in v past) (log_in v past)
-  recorded v past run h is = by (processes v past)
-    where
-      by : Processes v past → IsSpaced busy (length past) (begun_in v past) (log_in v past)
-      by (Nothing none) = subst (λ (o : Option Processed). IsSpaced busy (length past) (begun_in v past) (log_of (with_record o (unless_restart v (epoch_records past))))) (sym none) is
-      by (Record s got came two some) =
-          let t : Processed = record_in v (length past) (stood_in v (standing past)) s in
-          subst (λ (o : Option Processed). IsSpaced busy (length past) (begun_in v past) (log_of (with_record o (unless_restart v (epoch_records past))))) (sym some)
-          (subst (IsSpaced busy (length past) (begun_in v past)) (sym (log-taken t (unless_restart v (epoch_records past))))
-          (taken_spaced busy (length past) (begun_in v past) (log_of (unless_restart v (epoch_records past))) t (reply_of t (log_of (unless_restart v (epoch_records past)))) h (said_of busy v past run.1.sent s got) refl is))
+  begun_spaced (Some r) c begun log is = record { spaced = is.spaced; due = is.due }
 
   in_cycle : (v : View) (past : List View) → IsRun busy (v ∷ past) → IsSpaced busy (length past) (epoch_begun past) (epoch_log past) → IsSpaced busy (length past) (begun_in v past) (log_in v past)
   in_cycle v past run before =
@@ -87,25 +70,27 @@ module _ (busy : ℕ) where
       let h0 = restarted busy v (epoch_begun past) (epoch_records past) (in_step busy past run.0) in
       let h1 = heard_of busy v past run (joined busy past run.0) v.heard run.1.heard h0 in
       let h2 = begun_of busy v.begins (with_heard v.heard (unless_restart v (epoch_begun past))) taken run.1.begins h1 in
-      let first = heard_spaced v past run v.heard run.1.heard (earlier v.master_restarts) (start v.master_restarts) in
+      let start = uncut (λ b t. IsSpaced busy (length past) b (log_of t)) v.master_restarts (epoch_begun past) (epoch_records past)
+      (nothing_spaced busy (length past) []) (λ still. before) in
+      let first = heard_spaced v past run v.heard run.1.heard (earlier v.master_restarts) start in
       let second = begun_spaced v.begins (length past) (with_heard v.heard (unless_restart v (epoch_begun past))) (log_of taken) first in
-      recorded v past run h2 second
+      of_processed v past (λ o. IsSpaced busy (length past) (begun_in v past) (log_of (with_record o taken))) second (λ s got came two.
+      let t : Processed = record_in v (length past) (stood_in v (standing past)) s in
+      subst (IsSpaced busy (length past) (begun_in v past)) (sym (log-taken t taken))
+      (taken_spaced busy (length past) (begun_in v past) (log_of taken) t (reply_of t (log_of taken)) h2
+      (said_of busy v past run.1.sent s got) refl second))
     where
-      start : (r : Bool) → IsSpaced busy (length past) (if r then [] else epoch_begun past) (log_of (if r then [] else epoch_records past))
-      start true = nothing_spaced busy (length past) []
-      start false = before
-
       earlier : (r : Bool) (e : Entry) (log : List Entry) → log_of (if r then [] else epoch_records past) ≡ e ∷ log → e.processed.cycle < length past
       earlier true e log those = absurd (cc)
       earlier false e log those = head_before (length past) (epoch_records past) (taken_before past) e log those
 
   spaced_in : (past : List View) → IsRun busy past → IsSpaced busy (length past) (epoch_begun past) (epoch_log past)
   spaced_in [] run = nothing_spaced busy 0 []
-  spaced_in (v ∷ past) run = by v.falls (in_cycle v past run (spaced_in past run.0))
-    where
-      by : (falls : Bool) → IsSpaced busy (length past) (begun_in v past) (log_in v past) → IsSpaced busy (suc (length past)) (if falls then [] else begun_in v past) (log_of (if falls then [] else records_in_views v past))
-      by true is = nothing_spaced busy (suc (length past)) []
-      by false is = later_spaced busy (length past) (suc (length past)) (begun_in v past) (log_in v past) (omega arith) is
+  spaced_in (v ∷ past) run =
+      uncut (λ b t. IsSpaced busy (suc (length past)) b (log_of t)) v.falls (begun_in v past) (records_in_views v past)
+      (nothing_spaced busy (suc (length past)) [])
+      (λ on. let is = in_cycle v past run (spaced_in past run.0) in
+      record { spaced = is.spaced; due = λ all e log those. let due = is.due all e log those in omega (arith, due) })
 
   pub spaces_steps : SpacesSteps busy
   spaces_steps past run = (spaced_in past run).spaced

@@ -1,6 +1,6 @@
 -- A procedure command that runs was set by the newest write to it.
-use Rattle.sercos_law_channel.proofs.Words.{◌≡◌, ◌⊎◌, inl, inr, ℕ, suc, ◌+◌, ◌<◌, ◌≤◌, Bool, true, false, not, List, [], ◌∷◌, ◌++◌, length, refl, sym, ap, ◌∙◌, arith, if◌then◌else◌, nat_le, ◌==◌, Option, Some, None, is_some, option_map, option_and_then, eqb-true, cond-true, cond-false, nat_tests, beq, Block, find_block, with_data, SetCommand, is_command, ends_well, has_ended, status_by, Wrote, Other, setting_of, CommandHistory, with_call, find_set, without, with_set, set_in, Processed, ahs, open_idn, run_before, in_order, reply_of, log_of, bytes_written, Write, takes_effect, written_by, with_added, adds, command_value, commands_with, added_on, View, standing, stood_in, record_in, processed_in, kept_in, write_of, all_writes, newest_at, IsTimed, set_after, IsCarried, AreCarried, ComesTimed, find-settings}
-use Rattle.sercos_law_channel.proofs.Handshake.PhaseMoves.{Processes, Nothing, Record, processes}
+use Rattle.sercos_law_channel.proofs.Words.{◌≡◌, ◌⊎◌, inl, inr, ℕ, suc, ◌+◌, ◌<◌, ◌≤◌, Bool, true, false, not, List, [], ◌∷◌, ◌++◌, length, refl, sym, ap, ◌∙◌, arith, if◌then◌else◌, nat_le, ◌==◌, Option, Some, None, is_some, option_map, option_and_then, eqb-true, cond-true, cond-false, nat_tests, beq, Block, find_block, with_data, SetCommand, is_command, ends_well, has_ended, status_by, Wrote, Other, setting_of, CommandHistory, with_call, find_set, without, with_set, set_in, Processed, ahs, open_idn, run_before, in_order, reply_of, log_of, bytes_written, Write, takes_effect, written_by, with_added, adds, command_value, commands_with, added_on, View, standing, stood_in, record_in, processed_in, kept_in, write_of, all_writes, newest_at, IsTimed, set_after, IsCarried, AreCarried, ComesTimed, find-settings, cases_Bool}
+use Rattle.sercos_law_channel.proofs.Handshake.PhaseMoves.{Nothing, Record, processes}
 
 -- each set command was set at the newest write to it or earlier, and that write came before a cycle
 abbrev AreSetBy : List SetCommand → List Write → ℕ → Type 0
@@ -56,7 +56,10 @@ found_added raw (x ∷ set) n s found = by (x.idn.raw == raw) found (found_added
 
 set_by_command : (c : CommandHistory) (writes : List Write) (cycle value : ℕ) (blocks : List Block) (w : Write) → w.cycle ≡ cycle → AreSetBy (set_in c) writes cycle →
     AreSetBy (if value == 0 then without w.raw (set_in c) else with_set (record { idn = record { raw = w.raw }; cycle = w.cycle; well = ends_well c.rate w.raw blocks }) (set_in c)) (w ∷ writes) (suc cycle)
-set_by_command c writes cycle value blocks w at are = by (value == 0)
+set_by_command c writes cycle value blocks w at are = elim (cases_Bool (value == 0)) [
+  | inl on ↦ rw on (λ raw s found. old raw s (found_without raw w.raw (set_in c) s found))
+  | inr off ↦ rw off (added (is_some (find_set w.raw (set_in c))))
+]
   where
     n : SetCommand
     n = record { idn = record { raw = w.raw }; cycle = w.cycle; well = ends_well c.rate w.raw blocks }
@@ -73,16 +76,11 @@ set_by_command c writes cycle value blocks w at are = by (value == 0)
           (w.cycle, cond-true (w.raw == raw) (Some w.cycle) (newest_at raw writes) same, omega (arith, cycles), omega (arith, at))
     ]
 
-    by : (zero : Bool) → AreSetBy (if zero then without w.raw (set_in c) else with_set n (set_in c)) (w ∷ writes) (suc cycle)
-    by true = λ raw s found. old raw s (found_without raw w.raw (set_in c) s found)
-    by false = added (is_some (find_set w.raw (set_in c)))
-
 set_by_write : (c : CommandHistory) (writes : List Write) (cycle : ℕ) (blocks : List Block) (w : Write) → w.cycle ≡ cycle → AreSetBy (set_in c) writes cycle → AreSetBy (set_in (commands_with (Some w) blocks c)) (w ∷ writes) (suc cycle)
-set_by_write c writes cycle blocks w at are = by (is_command blocks w.raw)
-  where
-    by : (command : Bool) → AreSetBy (set_in (with_call (if command then Wrote w.raw (command_value w) w.cycle (with_data w.raw w.bytes blocks) else Other w.cycle) c)) (w ∷ writes) (suc cycle)
-    by true = set_by_command c writes cycle (command_value w) (with_data w.raw w.bytes blocks) w at are
-    by false = newest_write_sets (set_in c) writes cycle w at are
+set_by_write c writes cycle blocks w at are = elim (cases_Bool (is_command blocks w.raw)) [
+  | inl on ↦ rw on (set_by_command c writes cycle (command_value w) (with_data w.raw w.bytes blocks) w at are)
+  | inr off ↦ rw off (newest_write_sets (set_in c) writes cycle w at are)
+]
 
 set_by_any : (o : Option Write) (c : CommandHistory) (writes : List Write) (cycle : ℕ) (blocks : List Block) → ((w : Write) → o ≡ Some w → w.cycle ≡ cycle) → AreSetBy (set_in c) writes cycle →
     AreSetBy (set_in (commands_with o blocks c)) (with_added o writes) (suc cycle)
@@ -110,13 +108,12 @@ cycle_of t h w is = by (beq t.mhs (ahs h)) is
     by false is = effect (takes_effect (record { processed = t; answer = reply_of t (log_of h) })) (run_before true 7 (log_of h)) (open_idn (log_of h)) is
 
 written_now : (v : View) (past : List View) (w : Write) → write_of (processed_in v past) (kept_in v past) ≡ Some w → w.cycle ≡ length past
-written_now v past w is = by (processes v past)
-  where
-    by : Processes v past → w.cycle ≡ length past
-    by (Nothing none) = let off : write_of (processed_in v past) (kept_in v past) ≡ None = ap (λ (o : Option Processed). write_of o (kept_in v past)) none in absurd (cc)
-    by (Record s got came two some) =
-        let t : Processed = record_in v (length past) (stood_in v (standing past)) s in
-        cycle_of t (kept_in v past) w (sym (ap (λ (o : Option Processed). write_of o (kept_in v past)) some) ∙ is)
+written_now v past w is = elim (processes v past) [
+  | Nothing none ↦ let off : write_of (processed_in v past) (kept_in v past) ≡ None = ap (λ (o : Option Processed). write_of o (kept_in v past)) none in absurd (cc)
+  | Record s got came two some ↦
+      let t : Processed = record_in v (length past) (stood_in v (standing past)) s in
+      cycle_of t (kept_in v past) w (sym (ap (λ (o : Option Processed). write_of o (kept_in v past)) some) ∙ is)
+]
 
 carried_set : (time : ℕ) (v : View) (past : List View) → IsCarried time v past → AreSetBy (set_after past) (all_writes past) (length past) → AreSetBy (set_in v.commands) (all_writes past) (length past)
 carried_set time v past is are raw s found = are raw s (is.carried raw s found)

@@ -1,9 +1,9 @@
 -- How many steps a transfer has, and how long one that sets a procedure command takes.
-use Rattle.sercos_law_channel.proofs.Words.{◌≡◌, ◌⊎◌, inl, inr, ℕ, zero, suc, ◌+◌, ◌*◌, ◌<◌, ◌≤◌, Bool, true, false, List, [], ◌∷◌, ◌++◌, length, drop, refl, sym, ap, ◌∙◌, subst, arith, if◌then◌else◌, ◌==◌, Option, Some, None, is_some, slice_index, option_map, unwrap_or, nat_tests, cases_eq, cond-true, cond-false, eq-eqb, Idn, Length, is_list, Step, Answer, Shape, Request, shape_of, shape_by, words_in, words_told, steps_of, answer_words, polls, count_of, length-drop_two, read_ends, length-answer_words, steps_most, get_below, polls_by, times_le, times_more, Block, find_block, status_in, Processed, Entry, words_at, copy, Write, writes_of, AreAlike, without_data, replies_of, IsTransfer, entry_behind, idn_of, setting, second_of, added_by_setting, AreSpaced, IsListed, newest_at, value_steps, read_steps, write_steps, element_words}
+use Rattle.sercos_law_channel.proofs.Words.{◌≡◌, ◌⊎◌, inl, inr, ℕ, zero, suc, ◌+◌, ◌*◌, ◌<◌, ◌≤◌, Bool, true, false, List, [], ◌∷◌, ◌++◌, length, drop, refl, sym, ap, ◌∙◌, subst, arith, if◌then◌else◌, ◌==◌, Option, Some, None, is_some, slice_index, option_map, unwrap_or, nat_tests, cases_eq, cond-true, cond-false, eq-eqb, Idn, Length, is_list, Step, Answer, Shape, Request, shape_of, shape_by, words_in, words_told, steps_of, answer_words, polls, count_of, length-drop_two, read_ends, length-answer_words, steps_most, get_below, polls_by, times_le, times_more, Block, find_block, status_in, Processed, Entry, copy, Write, writes_of, AreAlike, replies_of, IsTransfer, entry_behind, idn_of, setting, second_of, added_by_setting, AreSpaced, IsListed, newest_at, value_steps, read_steps, write_steps, element_words, ap₂}
 use Rattle.sercos_idn.specs.declared.kinds.Length.TheVariants as len
 use Rattle.sercos_step.specs.declared.shape.Shape.TheVariants as shape
 use Rattle.sercos_step.specs.declared.request.Request.TheVariants as request
-use Rattle.sercos_law_channel.proofs.Handshake.AttributeReplies.{find-alike}
+use Rattle.sercos_law_channel.proofs.Handshake.AttributeReplies.{alike_there}
 use Rattle.sercos_law_channel.proofs.Handshake.ReadRows.{row}
 use Rattle.sercos_law_channel.proofs.Handshake.TransferSteps.{newest_step, without_newest, goes_on-outcome_of, length-replies_of}
 use Rattle.sercos_law_channel.proofs.Handshake.UnknownBlocks.{only_opening}
@@ -68,15 +68,12 @@ first_word cycle c is = ap (λ (l : List ℕ). slice_index l 0) (cond-true (is_l
 first_copied : (longest : ℕ → ℕ) (raw : ℕ) (blocks : List Block) (b : Block) (t : Processed) → find_block raw blocks ≡ Some b → AreAlike t.blocks blocks → is_list b.attribute.length ≡ true → IsListed longest t.blocks → t.step.element ≡ 7 →
     (slice_index (copy raw t) 0 ≤ 2 * longest raw) ⊎ (512 ≤ longest raw)
 first_copied longest raw blocks b t found alike is listed seven =
-    subst (λ (n : ℕ). (slice_index (words_at raw n t.cycle t.blocks t.commands) 0 ≤ 2 * longest raw) ⊎ (512 ≤ longest raw)) (sym seven) (by (find_block raw t.blocks) refl (find-alike raw t.blocks blocks b alike found))
-  where
-    by : (o : Option Block) → find_block raw t.blocks ≡ o → option_map without_data o ≡ Some (without_data b) → (slice_index (unwrap_or (option_map (element_words 7 t.cycle) o) []) 0 ≤ 2 * longest raw) ⊎ (512 ≤ longest raw)
-    by None at same = absurd (cc)
-    by (Some c) at same =
-        let alike_one : without_data c ≡ without_data b = cc in
-        let list : is_list c.attribute.length ≡ true = ap (λ (d : Block). is_list d.attribute.length) alike_one ∙ is in
-        let first = first_word t.cycle c list in
-        elim (listed raw c at list) [ inl le ↦ inl (omega (arith, le, first)) | inr le ↦ inr le ]
+    let (c, there, same) = alike_there raw t.blocks blocks b alike found in
+    let words = ap₂ (λ (n : ℕ) (o : Option Block). if n == 1 then status_in t.commands raw t.cycle ∷ [] else unwrap_or
+    (option_map (element_words n t.cycle) o) []) seven there in
+    let list = ap (λ (d : Block). is_list d.attribute.length) same ∙ is in
+    let copied = ap (λ (l : List ℕ). slice_index l 0) words ∙ first_word t.cycle c list in
+    elim (listed raw c there list) [ inl le ↦ inl (omega (arith, le, copied)) | inr le ↦ inr le ]
 
 first_of_row : (n : ℕ) (words : List ℕ) → slice_index (row n words) 0 ≤ slice_index words 0
 first_of_row zero words = omega arith

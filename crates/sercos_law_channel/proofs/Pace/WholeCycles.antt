@@ -1,13 +1,12 @@
 -- Cycles in which every telegram comes.
-use Rattle.sercos_law_channel.proofs.Words.{◌≡◌, ◌⊎◌, inl, inr, ℕ, ◌+◌, ◌≤◌, Bool, true, false, not, ◌&&◌, ◌||◌, List, [], ◌∷◌, ◌++◌, length, refl, sym, ap, ap₂, ◌∙◌, arith, if◌then◌else◌, nat_le, ◌==◌, Option, Some, None, IsSome, IfSome, is_some, cases_eq, and_from, leb-true, le-leb, eq-eqb, ne_eqb, cond-true, cond-false, Request, Begun, Said, open_in, answers_in, Heard, View, Standing, afresh, before_mst, moved, got_in, takes_in, standing, stood_in, record_in, processed_of, command, with_heard, with_begun, unless_restart, epoch_begun, begun_in, IsShown, IsRun, IsClean, AreClean, was_addressed, IsWhole, AreWhole, IsPassed, IsUp, AreUp, StandsThroughout, StaysClean, AreHeard, HearsThroughout, IsCleanOrDown, RecoversInTime, StaysDead}
-use Rattle.sercos_law_channel.proofs.Handshake.PhaseMoves.{Stands, Down, Moves, Stays, stands, ends}
-use Rattle.sercos_law_channel.proofs.Handshake.EpochRuns.{commanded, start, start_begun}
-use Rattle.sercos_law_channel.proofs.Handshake.RunFacts.{stands_as_commanded, stays_down, comes_to, moved_same}
+use Rattle.sercos_law_channel.proofs.Words.{◌≡◌, ◌⊎◌, inl, inr, ℕ, ◌+◌, ◌≤◌, true, ◌&&◌, List, [], ◌∷◌, ◌++◌, length, refl, sym, ap, ◌∙◌, arith, nat_le, Option, Some, None, IsSome, IfSome, is_some, cases_eq, and_from, le-leb, cond-true, cond-false, Request, Begun, Said, open_in, answers_in, Heard, View, got_in, standing, stood_in, record_in, processed_of, command, with_heard, with_begun, unless_restart, epoch_begun, begun_in, IsShown, IsRun, IsClean, AreClean, was_addressed, IsWhole, AreWhole, IsPassed, IsUp, AreUp, StandsThroughout, StaysClean, AreHeard, HearsThroughout, IsCleanOrDown, RecoversInTime, StaysDead}
+use Rattle.sercos_law_channel.proofs.Handshake.PhaseMoves.{ends}
+use Rattle.sercos_law_channel.proofs.Handshake.EpochRuns.{commanded, start, start_begun, two_ways, unless_restart-on}
+use Rattle.sercos_law_channel.proofs.Handshake.RunFacts.{stands_as_commanded, stays_down, stood_by, ended_by, stands_down}
 use Rattle.sercos_law_channel.proofs.Pace.LateRuns.{takes_time_since}
 use Rattle.sercos_law_channel.proofs.Pace.EpochBegins.{none_begun}
-
-two_ways : (p : ℕ) → (p ≤ 1) ⊎ (2 ≤ p)
-two_ways p = elim (cases_eq p 0) [ inl z ↦ inl (omega arith) | inr nz ↦ elim (cases_eq p 1) [ inl one ↦ inl (omega arith) | inr more ↦ inr (omega arith) ] ]
+pub use Rattle.sercos_law_channel.proofs.Handshake.RunFacts.{moved_next}
+pub use Rattle.sercos_law_channel.proofs.Handshake.EpochRuns.{next_phase}
 
 -- a record that is sent comes to the drive
 pub got_some : (v : View) → v.mdt_comes ≡ true → is_some v.sent ≡ true → is_some (got_in v) ≡ true
@@ -17,57 +16,15 @@ pub processed_some : (v : View) (cycle stood : ℕ) (o : Option Said) → v.mst_
 processed_some v cycle stood None came two some = absurd (cc)
 processed_some v cycle stood (Some s) came two some = ap is_some (cond-true (v.mst_comes && nat_le 2 stood) (Some (record_in v cycle stood s)) None (and_from v.mst_comes (nat_le 2 stood) came (le-leb 2 stood two)))
 
--- the step up to the next phase
-pub moved_next : (checked : Bool) (p q : ℕ) → q + 1 ≡ p → (3 ≤ p → checked ≡ true) → moved checked p q ≡ p
-moved_next checked p q up on =
-    let other : (p == q) ≡ false = ne_eqb p q (λ same. omega arith) in
-    let next : (p == q + 1) ≡ true = eq-eqb p (q + 1) (sym up) in
-    cond-false (p == q) p _ other ∙ cond-true ((p == q + 1) && (nat_le p 2 || checked)) p 0 (and_from (p == q + 1) (nat_le p 2 || checked) next (allowed (nat_le p 2) refl))
-  where
-    allowed : (low : Bool) → nat_le p 2 ≡ low → (low || checked) ≡ true
-    allowed true is = refl
-    allowed false is = on (grind (arith, is))
-
-pub same_drive : (v : View) (past : List View) → v.drive_restarts ≡ false → (before_mst v (standing past)).ended ≡ (standing past).ended
-same_drive v past still = ap (λ (f : Standing). f.ended) (cond-false v.drive_restarts afresh (standing past) still)
-
 -- a drive in the commanded phase, or in the one below with its check passed, comes to it in a whole cycle and stays
 pub up_by : (v : View) (past : List View) → IsWhole v past → IsPassed v past → ((standing past).ended ≡ v.phase) ⊎ ((standing past).ended + 1 ≡ v.phase) → IsUp v past
-up_by v past whole passed was = (stood, ended)
-  where
-    stood : stood_in v (standing past) ≡ v.phase
-    stood = comes_to v (standing past) (standing past).ended whole.mst (same_drive v past whole.drive) ∙ elim was [
-      | inl e ↦ ap (moved v.checked v.phase) e ∙ moved_same v.checked v.phase
-      | inr up ↦ moved_next v.checked v.phase (standing past).ended up (λ late. passed late up)
-    ]
-
-    ended : (standing (v ∷ past)).ended ≡ v.phase
-    ended = by (nat_le 3 (stood_in v (standing past))) refl
-      where
-        took : 3 ≤ stood_in v (standing past) → takes_in v (stood_in v (standing past)) ≡ true
-        took three =
-            let sent = whole.joint (omega (arith, stood, three)) in
-            let got = got_some v (whole.mdt sent (omega (arith, three))) sent in
-            and_from v.mst_comes _ whole.mst (and_from (nat_le 1 (stood_in v (standing past))) (is_some (got_in v)) (le-leb 1 (stood_in v (standing past)) (omega (arith, three))) got)
-
-        by : (late : Bool) → nat_le 3 (stood_in v (standing past)) ≡ late → (standing (v ∷ past)).ended ≡ v.phase
-        by true on =
-            let on_time = took (leb-true 3 (stood_in v (standing past)) on) in
-            ap₂ (λ (a t : Bool). if a && (not t && (before_mst v (standing past)).missed_mdt) then 0 else stood_in v (standing past)) on on_time ∙ stood
-        by false off = ap (λ (a : Bool). if a && (not (takes_in v (stood_in v (standing past))) && (before_mst v (standing past)).missed_mdt) then 0 else stood_in v (standing past)) off ∙ stood
-
--- the phase that is commanded after a cycle without a fall
-pub next_phase : (u : View) (past : List View) → u.falls ≡ false → (command (u ∷ past) ≡ u.phase) ⊎ (command (u ∷ past) ≡ u.phase + 1)
-next_phase u past on = by u.rises (cond-false u.falls 0 (if u.rises then u.phase + 1 else u.phase) on)
-  where
-    by : (rises : Bool) → command (u ∷ past) ≡ (if rises then u.phase + 1 else u.phase) → (command (u ∷ past) ≡ u.phase) ⊎ (command (u ∷ past) ≡ u.phase + 1)
-    by true is = inr is
-    by false is = inl is
+up_by v past whole passed was =
+    let stood = stood_by v past whole.mst whole.drive passed was in
+    let got : 3 ≤ v.phase → is_some (got_in v) ≡ true = λ late.
+    let sent = whole.joint late in got_some v (whole.mdt sent (omega (arith, stood, late))) sent in
+    (stood, ended_by v past whole.mst stood got)
 
 module _ (busy : ℕ) where
-  no_restart : {A : Type 0} (v : View) (xs : List A) → v.master_restarts ≡ false → unless_restart v xs ≡ xs
-  no_restart v xs on = cond-false v.master_restarts [] xs on
-
   -- while a step is open, phase 2 or later is commanded
   pub open_late : (v : View) (past : List View) → IsRun busy (v ∷ past) → is_some (open_in (begun_in v past)) ≡ true → 2 ≤ v.phase
   open_late v past run some = elim (two_ways v.phase) [
@@ -96,7 +53,7 @@ module _ (busy : ℕ) where
     undisturbed = record {
       hears = λ some.
           let two = open_later v past run some in
-          let at : is_some (open_in (epoch_begun past)) ≡ true = ap (λ (l : List Begun). is_some (open_in l)) (sym (no_restart v (epoch_begun past) whole.master)) ∙ some in
+          let at : is_some (open_in (epoch_begun past)) ≡ true = ap (λ (l : List Begun). is_some (open_in l)) (sym (unless_restart-on v (epoch_begun past) whole.master)) ∙ some in
           let same = up two in
           whole.hears at (addressed two at) (omega arith);
       takes = λ some.
@@ -107,22 +64,6 @@ module _ (busy : ℕ) where
           processed_some v (length past) (stood_in v (standing past)) (got_in v) whole.mst (omega arith) (got_some v comes sent);
     };
   }
-
-  -- while 2 to 4 is commanded, a drive in phase 0 stands there
-  stands_down : (v : View) (past : List View) → (standing past).ended ≡ 0 → 2 ≤ v.phase → stood_in v (standing past) ≡ 0
-  stands_down v past zero two = by (stands v (standing past))
-    where
-      low : (before_mst v (standing past)).ended ≡ 0
-      low = which v.drive_restarts
-        where
-          which : (r : Bool) → (let f : Standing = if r then afresh else standing past in f.ended) ≡ 0
-          which true = refl
-          which false = zero
-
-      by : Stands v (standing past) → stood_in v (standing past) ≡ 0
-      by (Down z) = z
-      by (Moves m is down up) = absurd (omega (arith, low))
-      by (Stays missed got_mst still is) = is ∙ zero
 
   -- so one that stands later was up in the cycle before
   was_up : (v u : View) (past : List View) → 2 ≤ v.phase → stood_in v (standing (u ∷ past)) ≡ v.phase → 1 ≤ stood_in u (standing past)

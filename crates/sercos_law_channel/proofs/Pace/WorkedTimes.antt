@@ -1,34 +1,14 @@
 -- A start-up worked out from the definitions: every telegram comes, and the channel never idles in phase 2.
-use Rattle.sercos_law_channel.proofs.Words.{◌≡◌, inr, ℕ, zero, suc, ◌^◌, ◌<◌, ◌≤◌, Bool, true, false, not, ◌&&◌, ◌||◌, List, [], ◌∷◌, ◌++◌, replicate, length, refl, ap, arith, if◌then◌else◌, ◌==◌, Some, None, IfSome, is_some, and_parts, eqb-true, not-true, Attribute, Two, Request, Block, CommandHistory, find_set, set_in, AreAlike, answers_in, View, standing, stood_in, epoch_begun, IsRun, Choice, run_by, AreSoundChoices, IsSound, AreSound, AreSmall, open_since, IsWhole, AreWhole, ArePassed, AreTimed, AreListed, cost_of, cost_in, AreCarried, age_in, AreBytes, attribute_fault, attribute_of, element_of, element_words, bytes_written, write_cause}
-use Rattle.sercos_idn.specs.declared.kinds.Form.TheVariants as forms
+use Rattle.sercos_law_channel.proofs.Words.{◌≡◌, inr, ℕ, zero, suc, ◌^◌, ◌<◌, ◌≤◌, Bool, true, false, not, ◌&&◌, ◌||◌, List, [], ◌∷◌, ◌++◌, replicate, length, refl, ap, arith, if◌then◌else◌, ◌==◌, Some, None, IfSome, is_some, and_parts, eqb-true, not-true, Request, Block, CommandHistory, find_set, set_in, AreAlike, answers_in, View, standing, stood_in, epoch_begun, IsRun, Choice, run_by, AreSoundChoices, IsSound, AreSound, AreSmall, open_since, IsWhole, AreWhole, ArePassed, AreTimed, AreListed, cost_of, cost_in, AreCarried, age_in, AreBytes, attribute_fault, attribute_of, element_of, element_words, bytes_written, write_cause}
 use Rattle.sercos_step.specs.declared.request.Request.TheVariants as request
 use Rattle.sercos_law_channel.proofs.Handshake.RunsMade.{is_run, is_sound}
 use Rattle.sercos_law_channel.proofs.Pace.TimedCommands.{comes_timed}
-use Rattle.sercos_law_channel.proofs.Handshake.WorkedRuns.{stepping, commands}
+use Rattle.sercos_law_channel.proofs.Handshake.WorkedRuns.{stepping}
+use Rattle.sercos_law_channel.proofs.Handshake.WorkedCommands.{attribute, block_of, commands}
 
 -- a number of two bytes that is written in every phase
-abbrev number : Attribute
-number = record {
-  factor = 1;
-  length = Two;
-  command = false;
-  form = forms.Unsigned;
-  decimals = 0;
-  protect2 = false;
-  protect3 = false;
-  protect4 = false;
-  decimals_in_range = in_range;
-  command_is_two = is_two;
-}
-  where
-    in_range : 0 < 16
-    in_range = omega arith
-
-    is_two : false ≡ true → Two ≡ Two
-    is_two off = refl
-
 abbrev block : Block
-block = record { idn = record { raw = 1 }; attribute = number; name = None; unit = None; min = None; max = None; value = 0 ∷ 0 ∷ []; max_len = 0; fixed = false; step = 0; fails = false }
+block = block_of (attribute false false) None (0 ∷ 0 ∷ [])
 
 -- a write of that block
 abbrev asked : Request

@@ -1,5 +1,5 @@
 -- Each task of the agenda is of one of seven kinds.
-use Rattle.sercos_law_run.proofs.Words.{◌≡◌, ℕ, zero, suc, ◌+◌, ◌<◌, Bool, true, false, ◌&&◌, List, [], ◌∷◌, ◌++◌, map, length, refl, sym, ap, ap₂, ◌∙◌, subst, arith, if◌then◌else◌, Option, Some, None, option_map, slice_get, unwrap_or, Outcome, PlanView, length_map, reads_length, Known, Task, member, startup, after_reads, bytes_of, idn, given, ended_well, reads, reads_count, writes, checking, agenda, is_checked, is_ready, IsTask, OfReads, OfWrites, Checks3, Lists3, Checks4, Lists4, OfWaiting}
+use Rattle.sercos_law_run.proofs.Words.{◌≡◌, ℕ, zero, suc, ◌+◌, ◌<◌, Bool, true, false, ◌&&◌, List, [], ◌∷◌, ◌++◌, map, length, refl, sym, ap, ap₂, ◌∙◌, subst, arith, if◌then◌else◌, Option, Some, None, option_map, slice_get, unwrap_or, Outcome, PlanView, length_map, reads_length, Known, Task, member, startup, after_reads, bytes_of, idn, given, ended_well, reads, reads_count, writes, checking, agenda, is_checked, is_ready, IsTask, OfReads, OfWrites, Checks3, Lists3, Checks4, Lists4, OfWaiting, ◌≤◌, false≢true, AreWaiting}
 use Rattle.sercos_step.specs.declared.request.Request.TheVariants as request
 
 -- where an item of two lists is
@@ -10,11 +10,8 @@ pub data IsIn {A : Type 0} (xs ys : List A) (n : ℕ) (x : A) : Type 0 where
 pub is_in : {A : Type 0} (xs ys : List A) (n : ℕ) (x : A) → slice_get (xs ++ ys) n ≡ Some x → IsIn xs ys n x
 is_in [] ys n x got = After n (omega arith) got
 is_in (y ∷ xs) ys zero x got = First (omega arith) got
-is_in {A = A} (y ∷ xs) ys (suc n) x got = by (is_in xs ys n x got)
-  where
-    by : IsIn xs ys n x → IsIn (y ∷ xs) ys (suc n) x
-    by (First less is) = First (omega arith) is
-    by (After j at is) = After j (omega arith) is
+is_in {A = A} (y ∷ xs) ys (suc n) x got =
+    elim (is_in xs ys n x got) [ First less is ↦ First (omega arith) is | After j at is ↦ After j (omega arith) is ]
 
 pub mapped : {A B : Type 0} (f : A → B) (xs : List A) (n : ℕ) (y : B) → slice_get (map f xs) n ≡ Some y → (x : A) × (slice_get xs n ≡ Some x) × (y ≡ f x)
 mapped f [] n y got = absurd (cc)
@@ -77,3 +74,34 @@ module _ (s : Known) (k : ℕ) (plan : Option PlanView) (waiting : List Task) (o
           → IsTask s k plan waiting outcomes t
       by (First less is) = let r = mapped (startup 2) (reads (member s k)) (length outcomes) t is in OfReads r.0 (subst (λ (n : ℕ). length outcomes < n) long less) r.1 r.2
       by (After j at is) = planned_task plan j refl (at ∙ ap (λ (n : ℕ). n + j) long) is
+
+-- No task begins before phase 2, and none of phase 2 after a check for phase 3 that has ended well.
+pub task_phase : (s : Known) (k : ℕ) (plan : Option PlanView) (waiting : List Task) (outs : List Outcome) (t : Task)
+    → AreWaiting waiting → IsTask s k plan waiting outs t
+    → (2 ≤ t.phase) × (reads_count (member s k) + 11 < length outs → is_checked (member s k) outs ≡ true → 3 ≤ t.phase)
+task_phase s k plan waiting outs t waits (OfReads r less got same) =
+    let e = ap (λ (x : Task). x.phase) same in (omega (arith, e), λ many checked. absurd (omega (arith, many, less)))
+task_phase s k plan waiting outs t waits (OfWrites p i r planned less at got same) =
+    let e = ap (λ (x : Task). x.phase) same in (omega (arith, e), λ many checked. absurd (omega (arith, many, less, at)))
+task_phase s k plan waiting outs t waits (Checks3 p planned at same) =
+    let e = ap (λ (x : Task). x.phase) same in (omega (arith, e), λ many checked. absurd (omega (arith, many, at)))
+task_phase s k plan waiting outs t waits (Lists3 at failed same) =
+    let e = ap (λ (x : Task). x.phase) same in (omega (arith, e), λ many checked. absurd (false≢true (sym failed ∙ checked)))
+task_phase s k plan waiting outs t waits (Checks4 at good same) =
+    let e = ap (λ (x : Task). x.phase) same in (omega (arith, e), λ many checked. omega (arith, e))
+task_phase s k plan waiting outs t waits (Lists4 at failed same) =
+    let e = ap (λ (x : Task). x.phase) same in (omega (arith, e), λ many checked. omega (arith, e))
+task_phase s k plan waiting outs t waits (OfWaiting j at ready got) =
+    let e = waits j t got in (omega (arith, e), λ many checked. omega (arith, e))
+
+-- After a check for phase 4 that has ended well, a task is one that waits.
+pub late_waits : (s : Known) (k : ℕ) (plan : Option PlanView) (waiting : List Task) (outs : List Outcome) (t : Task)
+    → reads_count (member s k) + 12 < length outs → is_ready (member s k) outs ≡ true → IsTask s k plan waiting outs t
+    → (j : ℕ) × (slice_get waiting j ≡ Some t)
+late_waits s k plan waiting outs t many ready (OfReads r less got same) = absurd (omega (arith, many, less))
+late_waits s k plan waiting outs t many ready (OfWrites p i r planned less at got same) = absurd (omega (arith, many, less, at))
+late_waits s k plan waiting outs t many ready (Checks3 p planned at same) = absurd (omega (arith, many, at))
+late_waits s k plan waiting outs t many ready (Lists3 at failed same) = absurd (omega (arith, many, at))
+late_waits s k plan waiting outs t many ready (Checks4 at checked same) = absurd (omega (arith, many, at))
+late_waits s k plan waiting outs t many ready (Lists4 at failed same) = absurd (false≢true (sym failed ∙ ready))
+late_waits s k plan waiting outs t many ready (OfWaiting j at is got) = (j, got)

@@ -1,5 +1,5 @@
 -- With each call of the master each channel goes by moves.
-use Rattle.sercos_law_run.proofs.Words.{◌≡◌, inl, inr, ℕ, ◌<◌, Bool, true, false, not, ◌&&◌, List, [], ◌∷◌, length, refl, sym, ap, ap₂, ◌∙◌, subst, arith, if◌then◌else◌, ◌==◌, Option, Some, None, is_none, slice_index, and_parts, eqb-true, not-true, cases_eq, status_of, word_at, at_fault, begun_by, Send, Begun, last_outcome, trouble_by, Known, Task, member, is_checked, is_ready, is_done_in, Call, HearMst, HearAt, End, Restart, Past, outcomes, is_awaited, wanted_len, after_taken, after_at, place_of, is_done, after_end, settled, with_begin, with_task, begun, sent_to, is_sent_to, addressed_in, ready_to_send, past, hearing, none_troubled, no_stop_before, settles, each_passes, at_keeps, begins_next, end_keeps, settled_keeps, same_place, CallsAreMoves, GoesByMoves, AreMoves, newest, Channel, channel_at, new_channel, IsNextTask, IsDoneWith, Steps, Stays, Identifies, Hears, Plans, Begins, Moves, Within, Ends, Falls}
+use Rattle.sercos_law_run.proofs.Words.{◌≡◌, inl, inr, ℕ, ◌<◌, Bool, true, false, not, ◌&&◌, List, [], ◌∷◌, length, refl, sym, ap, ap₂, ◌∙◌, subst, arith, if◌then◌else◌, ◌==◌, Option, Some, None, is_none, slice_index, and_parts, eqb-true, not-true, cases_eq, status_of, word_at, at_fault, begun_by, Send, Begun, last_outcome, trouble_by, Known, Task, member, is_checked, is_ready, is_done_in, Call, HearMst, HearAt, End, Restart, Past, outcomes, is_awaited, wanted_len, after_taken, after_at, place_of, is_done, after_end, settled, with_begin, with_task, begun, sent_to, is_sent_to, addressed_in, ready_to_send, past, hearing, none_troubled, no_stop_before, settles, each_passes, at_keeps, begins_next, end_keeps, settled_keeps, same_place, CallsAreMoves, GoesByMoves, AreMoves, newest, Channel, channel_at, new_channel, IsNextTask, IsDoneWith, Steps, Stays, Identifies, Hears, Plans, Begins, Moves, Within, Ends, Falls, cases_Bool, cases_Option, other_place}
 use Rattle.sercos_service_master.specs.Calls as channel
 use Rattle.sercos_master.specs.Annals.{Mdt, begins}
 use Rattle.sercos_law_run.proofs.Views.MasterSame.{done_below}
@@ -12,11 +12,6 @@ module _ (s : Known) (k : ℕ) where
     | inr other ↦ Stays (away other)
   ]
     where
-      one : (identifies : Bool) → p.now.heard k ≡ false →
-          Steps s k (channel_at p k) (record { phase = p.now.phase; waiting = p.waiting k; plan = p.plan; begun = begun_by (hearing identifies k content p).calls; tasks = p.tasks k; heard = true; report = (hearing identifies k content p).report })
-      one true off = Identifies refl
-      one false off = Hears (status_of (word_at content 1)) (word_at content 3) off refl
-
       set : Bool → Channel
       set on = record {
         phase = p.now.phase;
@@ -29,14 +24,10 @@ module _ (s : Known) (k : ℕ) where
       }
 
       here : p.now.heard k ≡ false → Steps s k (channel_at p k) (channel_at (after_taken k content p) k)
-      here off = subst (λ (on : Bool). Steps s k (channel_at p k) (set on)) (sym (same_place k)) (one (p.now.phase == 1) off)
-
-      off_place : (k ≡ i → ⊥) → (k == i) ≡ false
-      off_place other = which (k == i) refl
-        where
-          which : (v : Bool) → (k == i) ≡ v → (k == i) ≡ false
-          which false is = is
-          which true is = absurd (other (eqb-true k i is))
+      here off = subst (λ (on : Bool). Steps s k (channel_at p k) (set on)) (sym (same_place k)) (elim (cases_Bool (p.now.phase == 1)) [
+        | inl on ↦ rw on (Identifies refl)
+        | inr is ↦ rw is (Hears (status_of (word_at content 1)) (word_at content 3) off refl)
+      ])
 
       put : Bool → Channel
       put on = record {
@@ -50,7 +41,7 @@ module _ (s : Known) (k : ℕ) where
       }
 
       away : (k ≡ i → ⊥) → channel_at (after_taken i content p) k ≡ channel_at p k
-      away other = ap put (off_place other)
+      away other = ap put (other_place k i other)
 
   pub at_moves : (content : List ℕ) (p : Past) → Steps s k (channel_at p k) (channel_at (after_at s content p) k)
   at_moves content p = at_keeps (λ q. Steps s k (channel_at p k) (channel_at q k)) s (place_of s (slice_index content 0)) content p
@@ -66,11 +57,9 @@ module _ (s : Known) (k : ℕ) where
   module _ (there : k < length s.drives) where
     -- what is begun, after the answers of the cycle are looked at
     pub begun_moves : (p : Past) → Steps s k (channel_at (settled s p) k) (channel_at (begun s (settled s p)) k)
-    begun_moves p = by (begins s (settled s p) k) refl
+    begun_moves p =
+        elim (cases_Option (begins s (settled s p) k)) [ inl is ↦ Stays (rw is refl) | inr (t, is) ↦ Begins t (next t is) (rw is refl) ]
       where
-        q : Past
-        q = settled s p
-
         next : (t : Task) → begins s (settled s p) k ≡ Some t → IsNextTask s k (channel_at (settled s p) k) t
         next t is =
             let b = begins_next s (settled s p) k t is in
@@ -83,30 +72,8 @@ module _ (s : Known) (k : ℕ) where
               well = ap₂ (λ (l : List Task) (c : List channel.Call). trouble_by (member s k).address l (last_outcome (begun_by c))) (ap (λ (f : ℕ → List Task). f k) same.tasks) (ap (λ (f : ℕ → List channel.Call). f k) same.calls) ∙ none;
             }
 
-        set : Option Task → Channel
-        set o = record {
-          phase = (settled s p).now.phase;
-          waiting = (settled s p).waiting k;
-          plan = (settled s p).plan;
-          begun = begun_by (with_begin o ((settled s p).calls k));
-          tasks = with_task o ((settled s p).tasks k);
-          heard = (settled s p).now.heard k;
-          report = (settled s p).now.report k;
-        }
-
-        by : (o : Option Task) → begins s (settled s p) k ≡ o → Steps s k (channel_at (settled s p) k) (set (begins s (settled s p) k))
-        by None is = Stays (ap set is)
-        by (Some t) is = Begins t (next t is) (ap set is)
-
     pub sent_same : (addressed : Option ℕ) (p : Past) → channel_at (sent_to addressed p) k ≡ channel_at p k
-    sent_same addressed p = by (is_sent_to p addressed k)
-      where
-        set : List Begun → Channel
-        set l = record { phase = p.now.phase; waiting = p.waiting k; plan = p.plan; begun = l; tasks = p.tasks k; heard = p.now.heard k; report = p.now.report k }
-
-        by : (on : Bool) → set (begun_by (if on then Send ∷ p.calls k else p.calls k)) ≡ channel_at p k
-        by true = refl
-        by false = refl
+    sent_same addressed p = elim (cases_Bool (is_sent_to p addressed k)) [ inl on ↦ rw on | inr off ↦ rw off ]
 
     -- the end of the cycle
     pub end_done : (p : Past) → is_done s p ≡ true → IsDoneWith s k (channel_at p k)

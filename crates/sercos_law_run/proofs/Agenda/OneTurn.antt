@@ -1,8 +1,10 @@
 -- In phase 2 at most one channel has an open transfer.
-use Rattle.sercos_law_run.proofs.Words.{◌≡◌, inl, inr, ℕ, zero, suc, ◌+◌, ◌<◌, ◌≤◌, Bool, true, false, not, ◌&&◌, List, [], ◌∷◌, length, refl, sym, ap, ap₂, ◌∙◌, subst, arith, if◌then◌else◌, ◌==◌, Option, Some, None, is_some, is_none, option_or, and_parts, both_ways, eq-eqb, cases_eq, same_Some, beq, Status, status_of, word_at, Step, Answer, Outcome, outcome_of, next_step, PlanView, Begun, open_in, mhs_in, answers_it, answer_in, with_answer, outcome_with, Send, begun_by, with_status, going_on, Known, Task, member, is_read, is_checked, with_outcome, outcomes_in, AreWaiting, all_waiting, mdt_adds, leaves, begins_next, going, past_keeps, Call, Past, first_from, outcomes, is_idle, after_taken, in_turn, with_begin, settled, begun, is_sent_to, addressed_in, ready_to_send, after_mdt, past, hearing, HasNext, other_place, outcome_in, IsTask, OfReads, OfWrites, Checks3, Lists3, Checks4, Lists4, OfWaiting, AreBegunTasks, HasTurn}
+use Rattle.sercos_law_run.proofs.Words.{◌≡◌, inl, inr, ℕ, zero, suc, ◌+◌, ◌<◌, ◌≤◌, Bool, true, false, not, ◌&&◌, List, [], ◌∷◌, length, refl, sym, ap, ap₂, ◌∙◌, subst, arith, if◌then◌else◌, ◌==◌, Option, Some, None, is_some, is_none, option_or, and_parts, both_ways, eq-eqb, cases_eq, same_Some, beq, Status, status_of, word_at, Step, Answer, Outcome, outcome_of, next_step, PlanView, Begun, open_in, mhs_in, answers_it, answer_in, with_answer, outcome_with, Send, begun_by, with_status, going_on, Known, Task, member, is_read, is_checked, with_outcome, outcomes_in, AreWaiting, all_waiting, mdt_adds, leaves, begins_next, going, past_keeps, Call, Past, first_from, outcomes, is_idle, after_taken, in_turn, with_begin, settled, begun, is_sent_to, addressed_in, ready_to_send, after_mdt, past, hearing, other_place, outcome_in, IsTask, OfReads, OfWrites, Checks3, Lists3, Checks4, Lists4, OfWaiting, AreBegunTasks, HasTurn, cases_Bool}
 use Rattle.sercos_service_master.specs.Calls as channel
 use Rattle.sercos_master.specs.Annals.{begins}
 use Rattle.sercos_law_run.proofs.Agenda.TaskRuns.{begun_tasks}
+use Rattle.sercos_law_run.proofs.Views.MasterSame.{send_same}
+use Rattle.sercos_law_run.proofs.Agenda.AgendaTasks.{task_phase}
 
 -- A STATUS IS HEARD. Where no step is open, it changes nothing.
 pub idle_hears : (status : Status) (word : ℕ) (begun : List Begun) → is_none (open_in begun) ≡ true → with_status status word begun ≡ begun
@@ -71,15 +73,14 @@ elsewhere_same i k content p other = ap (λ (v : Bool). begun_by (if v then (hea
     (other_place k i other)
 
 pub here_hears : (i : ℕ) (content : List ℕ) (p : Past) → AtHears p (after_taken i content p) i
-here_hears i content p = by (p.now.phase == 1) refl
+here_hears i content p = elim (cases_Bool (p.now.phase == 1)) [
+  | inl on ↦ SameAt (place ∙ ap (λ (v : Bool). begun_by (hearing v i content p).calls) on)
+  | inr off ↦ HeardAt (status_of (word_at content 1)) (word_at content 3)
+      (place ∙ ap (λ (v : Bool). begun_by (hearing v i content p).calls) off)
+]
   where
     place : begun_by ((after_taken i content p).calls i) ≡ begun_by (hearing (p.now.phase == 1) i content p).calls
     place = ap (λ (v : Bool). begun_by (if v then (hearing (p.now.phase == 1) i content p).calls else p.calls i)) (eq-eqb i i refl)
-
-    by : (v : Bool) → (p.now.phase == 1) ≡ v → AtHears p (after_taken i content p) i
-    by true on = SameAt (place ∙ ap (λ (v : Bool). begun_by (hearing v i content p).calls) on)
-    by false off = HeardAt (status_of (word_at content 1)) (word_at content 3)
-        (place ∙ ap (λ (v : Bool). begun_by (hearing v i content p).calls) off)
 
 module _ (s : Known) where
   abbrev pub AllHaveTurn : Past → Type 0
@@ -89,17 +90,12 @@ module _ (s : Known) where
   taken_turn : (i : ℕ) (content : List ℕ) (p : Past) → i < length s.drives → AllHaveTurn p → AllHaveTurn (after_taken i content p)
   taken_turn i content p inside have k there two opens = by (here_hears i content p)
     where
-      q : Past
-      q = after_taken i content p
-
       same_all : begun_by ((after_taken i content p).calls i) ≡ begun_by (p.calls i) → in_turn s (after_taken i content p) ≡ Some k
-      same_all here = turn_same s p (after_taken i content p) (λ j. each j) ∙ have k there two (ap (λ (l : List Begun). is_none (open_in l)) (sym (at k)) ∙ opens)
+      same_all here = turn_same s p (after_taken i content p) (λ j. (ap outcomes_in (at j)))
+          ∙ have k there two (ap (λ (l : List Begun). is_none (open_in l)) (sym (at k)) ∙ opens)
         where
           at : (j : ℕ) → begun_by ((after_taken i content p).calls j) ≡ begun_by (p.calls j)
           at j = elim (cases_eq j i) [ inl same ↦ subst (λ (m : ℕ). begun_by ((after_taken i content p).calls m) ≡ begun_by (p.calls m)) (sym same) here | inr other ↦ elsewhere_same i j content p other ]
-
-          each : (j : ℕ) → outcomes (after_taken i content p) j ≡ outcomes p j
-          each j = ap outcomes_in (at j)
 
       by : AtHears p (after_taken i content p) i → in_turn s (after_taken i content p) ≡ Some k
       by (SameAt here) = same_all here
@@ -141,10 +137,6 @@ module _ (s : Known) where
               was_open (Some x) on = refl
 
   -- the MDT
-  pub send_same : (on : Bool) (calls : List channel.Call) → begun_by (if on then Send ∷ calls else calls) ≡ begun_by calls
-  send_same true calls = refl
-  send_same false calls = refl
-
   mdt_turn : (p : Past) → AllHaveTurn p → AllHaveTurn (after_mdt s p)
   mdt_turn p have k there two opens = by (begins s (settled s p) k) refl (ap (λ (l : List Begun). is_none (open_in l)) (sym (send_same (is_sent_to (ready_to_send s p) (addressed_in s (ready_to_send s p)) k) ((ready_to_send s p).calls k))) ∙ opens)
     where
@@ -163,25 +155,18 @@ module _ (s : Known) where
           (begins_next s (settled s p) k t some).turn two
 
   -- In phases 0 and 1 nothing was begun.
-  task_two : (k : ℕ) (plan : Option PlanView) (waiting : List Task) (outcomes : List Outcome) (t : Task) → AreWaiting waiting → IsTask s k plan waiting outcomes t → 2 ≤ t.phase
-  task_two k plan waiting outcomes t are (OfReads r less got same) = let e = ap (λ (x : Task). x.phase) same in omega (arith, e)
-  task_two k plan waiting outcomes t are (OfWrites p i r planned less at got same) = let e = ap (λ (x : Task). x.phase) same in omega (arith, e)
-  task_two k plan waiting outcomes t are (Checks3 p planned at same) = let e = ap (λ (x : Task). x.phase) same in omega (arith, e)
-  task_two k plan waiting outcomes t are (Lists3 at failed same) = let e = ap (λ (x : Task). x.phase) same in omega (arith, e)
-  task_two k plan waiting outcomes t are (Checks4 at checked same) = let e = ap (λ (x : Task). x.phase) same in omega (arith, e)
-  task_two k plan waiting outcomes t are (Lists4 at failed same) = let e = ap (λ (x : Task). x.phase) same in omega (arith, e)
-  task_two k plan waiting outcomes t are (OfWaiting j at ready got) = let e = are j t got in omega (arith, e)
-
   pub none_begun : (k : ℕ) (plan : Option PlanView) (waiting : List Task) (phase : ℕ) (begun : List Begun) (tasks : List Task) → AreWaiting waiting → AreBegunTasks s k plan waiting phase begun tasks → phase ≤ 1 → begun ≡ []
   none_begun k plan waiting phase [] tasks are tasks_are low = refl
   none_begun k plan waiting phase (b ∷ older) [] are tasks_are low = absurd tasks_are
-  none_begun k plan waiting phase (b ∷ older) (t ∷ tasks) are tasks_are low = let two = task_two k tasks_are.1.by_then waiting (outcomes_in older) t are tasks_are.1.task in let early = tasks_are.1.early in absurd (omega (arith, two, early, low))
+  none_begun k plan waiting phase (b ∷ older) (t ∷ tasks) are tasks_are low = let two =
+      (task_phase s k tasks_are.1.by_then waiting (outcomes_in older) t are tasks_are.1.task).0 in let early = tasks_are.1.early in absurd
+      (omega (arith, two, early, low))
 
-  module _ (has_next : HasNext) (requests : ℕ → List Task) (are : (j : ℕ) → AreWaiting (requests j)) where
+  module _ (requests : ℕ → List Task) (are : (j : ℕ) → AreWaiting (requests j)) where
     pub none_early : (h : List Call) (k : ℕ) → k < length s.drives → (past s requests h).now.phase ≤ 1 → begun_by ((past s requests h).calls k) ≡ []
     none_early h k there low =
         let p = past s requests h in
-        none_begun k p.plan (p.waiting k) p.now.phase (begun_by (p.calls k)) (p.tasks k) (all_waiting s requests h are k) (begun_tasks s k has_next there requests h) low
+        none_begun k p.plan (p.waiting k) p.now.phase (begun_by (p.calls k)) (p.tasks k) (all_waiting s requests h are k) (begun_tasks s k there requests h) low
 
     goes_turn : (h : List Call) (done : Bool) → AllHaveTurn (past s requests h) → AllHaveTurn (going done (past s requests h))
     goes_turn h false have k there two opens = turn_same s (past s requests h) (going false (past s requests h)) (λ j. refl)

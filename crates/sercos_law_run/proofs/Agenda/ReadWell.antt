@@ -1,5 +1,5 @@
 -- If there is a plan, all reads are complete.
-use Rattle.sercos_law_run.proofs.Words.{◌≡◌, inl, inr, ℕ, ◌<◌, ◌≤◌, true, List, [], ◌∷◌, ◌++◌, length, refl, sym, ap, ap₂, ◌∙◌, arith, length-append, Option, Some, None, slice_get, same_Some, slice_get_within, leb-true, cases_eq, Outcome, outcome_of, PlanView, planned, Begun, begun_by, IsRefused, ends_so, get_left, get_right, Known, Task, member, is_read, reads_count, with_outcome, outcomes_in, last_outcome, trouble_by, Adds, at_adds, none_troubled, HasNext, each_passes, mdt_adds, leaves, past_keeps, settled_keeps, Call, Past, outcomes, trouble, after_taken, all_read, first_trouble, settled, after_mdt, past, HasBegunTasks, EndsTasks, HasEndedAt, IsTask, OfReads, OfWrites, Checks3, Lists3, Checks4, Lists4, OfWaiting, HasEndedWell, AreBegunTasks, AreReadWell}
+use Rattle.sercos_law_run.proofs.Words.{◌≡◌, inl, inr, ℕ, ◌<◌, ◌≤◌, true, List, [], ◌∷◌, ◌++◌, length, refl, sym, ap, ap₂, ◌∙◌, arith, length-append, Option, Some, None, slice_get, same_Some, slice_get_within, leb-true, cases_eq, Outcome, outcome_of, PlanView, planned, Begun, begun_by, IsRefused, ends_so, get_left, get_right, Known, Task, member, is_read, reads_count, with_outcome, outcomes_in, last_outcome, trouble_by, Adds, at_adds, none_troubled, each_passes, mdt_adds, leaves, past_keeps, settled_keeps, Call, Past, outcomes, trouble, after_taken, all_read, first_trouble, settled, after_mdt, past, HasBegunTasks, EndsTasks, HasEndedAt, IsTask, OfReads, OfWrites, Checks3, Lists3, Checks4, Lists4, OfWaiting, HasEndedWell, AreBegunTasks, AreReadWell, ◌+◌}
 use Rattle.sercos_step.specs.declared.request.Outcome.TheVariants as outcome
 use Rattle.sercos_service_master.specs.Calls as channel
 use Rattle.sercos_law_channel.proofs.Theorems.{Ends as TransferEnds, GoesOn, IsWhole}
@@ -8,6 +8,17 @@ use Rattle.sercos_law_run.proofs.Agenda.TaskRuns.{begun_tasks}
 
 pub last_is : {A : Type 0} (xs : List A) (y : A) (j : ℕ) → j ≡ length xs → slice_get (xs ++ y ∷ []) j ≡ Some y
 last_is xs y j is = get_right xs (y ∷ []) j 0 (omega (arith, is))
+
+-- the tasks up to the check for phase 4 are of the start-up
+pub startup_until : (s : Known) (k : ℕ) (plan : Option PlanView) (waiting : List Task) (all : List Outcome) (t : Task)
+    → length all < reads_count (member s k) + 13 → IsTask s k plan waiting all t → t.number ≡ None
+startup_until s k plan waiting all t few (OfReads r less got same) = ap (λ (x : Task). x.number) same
+startup_until s k plan waiting all t few (OfWrites p i r has less at got same) = ap (λ (x : Task). x.number) same
+startup_until s k plan waiting all t few (Checks3 p has at same) = ap (λ (x : Task). x.number) same
+startup_until s k plan waiting all t few (Lists3 at failed same) = ap (λ (x : Task). x.number) same
+startup_until s k plan waiting all t few (Checks4 at checked same) = ap (λ (x : Task). x.number) same
+startup_until s k plan waiting all t few (Lists4 at failed same) = ap (λ (x : Task). x.number) same
+startup_until s k plan waiting all t few (OfWaiting j at ready got) = absurd (omega (arith, few, at))
 
 module _ (s : Known) (k : ℕ) (plan : Option PlanView) (waiting : List Task) (phase : ℕ) where
   pub ended_at : (begun : List Begun) (tasks : List Task) (j : ℕ) (o : Outcome) → AreBegunTasks s k plan waiting phase begun tasks → slice_get (outcomes_in begun) j ≡ Some o → HasEndedAt s k plan waiting phase begun j o
@@ -36,13 +47,11 @@ module _ (s : Known) (k : ℕ) (plan : Option PlanView) (waiting : List Task) (p
   IsWellIfEnded (b ∷ older) (t ∷ tasks) = t.number ≡ None → (o : Outcome) → outcome_of b.request b.answers ≡ Some o → (bytes : List ℕ) × (o ≡ outcome.Complete bytes)
   IsWellIfEnded _ _ = Unit {0}
 
-  some_same : (x : Option Outcome) (o p : Outcome) → x ≡ Some o → x ≡ Some p → o ≡ p
-  some_same x o p a c = cc
-
   well_if : (begun : List Begun) (tasks : List Task) → HasEndedWell begun tasks → IsWellIfEnded begun tasks
   well_if [] tasks well = tt
   well_if (b ∷ older) [] well = tt
-  well_if (b ∷ older) (t ∷ tasks) well = λ number o ended. let w = well number in (w.0, some_same (outcome_of b.request b.answers) o (outcome.Complete w.0) ended w.1)
+  well_if (b ∷ older) (t ∷ tasks) well = λ number o ended. let w = well number in
+      (w.0, (let one = w.1 in let same : o ≡ outcome.Complete w.0 = cc in same))
 
   pub no_trouble_well : (address : ℕ) (begun : List Begun) (tasks : List Task) → trouble_by address tasks (last_outcome begun) ≡ None → IsWellIfEnded begun tasks
   no_trouble_well address [] tasks none = tt
@@ -50,21 +59,12 @@ module _ (s : Known) (k : ℕ) (plan : Option PlanView) (waiting : List Task) (p
   no_trouble_well address (b ∷ older) (t ∷ tasks) none = λ number o ended. by number o ended (ends_so b.request b.answers)
     where
       by : t.number ≡ None → (o : Outcome) → outcome_of b.request b.answers ≡ Some o → TransferEnds b.request b.answers → (bytes : List ℕ) × (o ≡ outcome.Complete bytes)
-      by number o ended (IsWhole bytes is) = (bytes, some_same (outcome_of b.request b.answers) o (outcome.Complete bytes) ended is)
+      by number o ended (IsWhole bytes is) = (bytes, (let same : o ≡ outcome.Complete bytes = cc in same))
       by number o ended (GoesOn on) = absurd (cc)
       by number o ended (IsRefused code refused) =
           let stopped = ap₂ (λ (x : Option Outcome) (n : Option ℕ). trouble_by address ((record t { number = n }) ∷ tasks) x) (sym refused) (sym number) ∙ none in absurd (cc)
 
   -- so each read that has ended is complete
-  read_none : (by_then : Option PlanView) (all : List Outcome) (t : Task) → length all < reads_count (member s k) → IsTask s k by_then waiting all t → t.number ≡ None
-  read_none by_then all t early (OfReads r less got same) = ap (λ (x : Task). x.number) same
-  read_none by_then all t early (OfWrites p i r planned less at got same) = absurd (omega arith)
-  read_none by_then all t early (Checks3 p planned at same) = absurd (omega arith)
-  read_none by_then all t early (Lists3 at failed same) = absurd (omega arith)
-  read_none by_then all t early (Checks4 at checked same) = absurd (omega arith)
-  read_none by_then all t early (Lists4 at failed same) = absurd (omega arith)
-  read_none by_then all t early (OfWaiting j at ready got) = absurd (omega arith)
-
   pub reads_complete : (begun : List Begun) (tasks : List Task) (j : ℕ) (o : Outcome) → AreBegunTasks s k plan waiting phase begun tasks → IsWellIfEnded begun tasks → j < reads_count (member s k) → slice_get (outcomes_in begun) j ≡ Some o → (bytes : List ℕ) × (o ≡ outcome.Complete bytes)
   reads_complete [] tasks j o are well early got = absurd (cc)
   reads_complete (b ∷ older) [] j o are well early got = absurd are
@@ -74,7 +74,7 @@ module _ (s : Known) (k : ℕ) (plan : Option PlanView) (waiting : List Task) (p
       by None none got more = more got
       by (Some y) some got more = elim (cases_eq j (length (outcomes_in older))) [
         | inl at ↦
-            let number = read_none are.1.by_then (outcomes_in older) t (omega arith) are.1.task in
+            let number = startup_until s k are.1.by_then waiting (outcomes_in older) t (omega arith) are.1.task in
             let w = well number y some in
             (w.0, one y o (sym (last_is (outcomes_in older) y j at) ∙ got) w.0 w.1)
         | inr other ↦
@@ -109,7 +109,7 @@ module _ (s : Known) where
 
   -- a read that ended without a stop is complete
   complete_at : (p : Past) (k j : ℕ) → HasBegunTasks s p k → trouble s p k ≡ None → j < reads_count (member s k) → reads_count (member s k) ≤ length (outcomes p k) → (bytes : List ℕ) × (slice_get (outcomes p k) j ≡ Some (outcome.Complete bytes))
-  complete_at p k j are free early many = by (some_at (outcomes p k) j (omega (arith, early, many)))
+  complete_at p k j are free early many = let (o, got) = (some_at (outcomes p k) j (omega (arith, early, many))) in whole o got (well o got)
     where
       well : (o : Outcome) → slice_get (outcomes p k) j ≡ Some o → (bytes : List ℕ) × (o ≡ outcome.Complete bytes)
       well o got =
@@ -118,9 +118,6 @@ module _ (s : Known) where
 
       whole : (o : Outcome) → slice_get (outcomes p k) j ≡ Some o → (bytes : List ℕ) × (o ≡ outcome.Complete bytes) → (bytes : List ℕ) × (slice_get (outcomes p k) j ≡ Some (outcome.Complete bytes))
       whole o got (bytes, is) = (bytes, got ∙ ap (λ (x : Outcome). Some x) is)
-
-      by : (o : Outcome) × (slice_get (outcomes p k) j ≡ Some o) → (bytes : List ℕ) × (slice_get (outcomes p k) j ≡ Some (outcome.Complete bytes))
-      by (o, got) = whole o got (well o got)
 
   -- where no stop comes of the answers, they are complete
   pub complete : (p : Past) → ((k : ℕ) → k < length s.drives → HasBegunTasks s p k) → all_read s p ≡ true → first_trouble s p ≡ None
@@ -134,18 +131,18 @@ module _ (s : Known) where
       (settled_keeps (AreReadWell s) s p (λ rests. is) (λ x none brings. is)
       (λ plan makes other has. complete p are makes.by_reads.read makes.untroubled))
 
-  pub are_read_well : HasNext → (requests : ℕ → List Task) (h : List Call) → AreReadWell s (past s requests h)
-  are_read_well has requests = past_keeps (AreReadWell s) s requests (record {
+  pub are_read_well : (requests : ℕ → List Task) (h : List Call) → AreReadWell s (past s requests h)
+  are_read_well requests = past_keeps (AreReadWell s) s requests (record {
     first = λ plan is. absurd (cc);
     mst = λ h whole is. is;
     taken = λ h k content inside taken is. stays_well (past s requests h) (after_taken k content (past s requests h))
         (at_adds k content (past s requests h)) refl is;
-    mdt = λ h. mdt_well (past s requests h) (λ k there. begun_tasks s k has there requests h);
+    mdt = λ h. mdt_well (past s requests h) (λ k there. begun_tasks s k there requests h);
     on = λ h done at is. is;
     new = λ h cycle before plan is. absurd (cc);
   })
 
-pub ends_tasks : HasNext → EndsTasks
-ends_tasks has_next s requests h k j o there got =
+pub ends_tasks : EndsTasks
+ends_tasks s requests h k j o there got =
     let p = past s requests h in
-    ended_at s k p.plan (p.waiting k) p.now.phase (begun_by (p.calls k)) (p.tasks k) j o (begun_tasks s k has_next there requests h) got
+    ended_at s k p.plan (p.waiting k) p.now.phase (begun_by (p.calls k)) (p.tasks k) j o (begun_tasks s k there requests h) got

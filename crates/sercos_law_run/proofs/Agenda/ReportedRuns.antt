@@ -1,11 +1,12 @@
 -- After any calls the requests that were reported, then those that are left, are the requests to the drive in their order.
-use Rattle.sercos_law_run.proofs.Words.{◌≡◌, ◌⊎◌, inl, inr, ℕ, zero, suc, ◌+◌, ◌<◌, ◌≤◌, Bool, true, false, List, [], ◌∷◌, drop, length, refl, sym, ap, ◌∙◌, subst, arith, if◌then◌else◌, Option, Some, None, is_some, is_none, option_map, slice_get, option_or, and_parts, cases_eq, Status, Step, Answer, Outcome, outcome_of, next_step, PlanView, Begun, open_in, answers_it, answer_in, with_answer, outcome_with, ready_long, ready_stays, broken_number, numbered, Report, report_of, number_in, count_requests, with_outcome, outcomes_in, Known, Task, member, reads_count, is_ready, HasNext, not_longer, end_keeps, Restart, Call, HearMst, HearAt, End, Past, settled, begun, addressed_in, ready_to_send, fall_of, goes_on, next_phase, new_epoch, still_waiting, past, task_numbers, IsAtStart, RestartsAtStart, TellsInOrder, broken_in, AreNumbered, with_told, told_at_end, told, with_number, after_told, still_to_tell, Ends, Channel, channel_at, beginning, Steps, Stays, Identifies, Hears, Plans, Begins, Moves, Within, Falls, IsTask, OfReads, OfWrites, Checks3, Lists3, Checks4, Lists4, OfWaiting, AreBegunTasks}
+use Rattle.sercos_law_run.proofs.Words.{◌≡◌, ◌⊎◌, inl, inr, ℕ, zero, suc, ◌+◌, ◌<◌, ◌≤◌, Bool, true, false, List, [], ◌∷◌, drop, length, refl, sym, ap, ◌∙◌, subst, arith, if◌then◌else◌, Option, Some, None, is_some, is_none, option_map, slice_get, option_or, and_parts, cases_eq, Status, Step, Answer, Outcome, outcome_of, next_step, PlanView, Begun, open_in, answers_it, answer_in, with_answer, outcome_with, ready_long, ready_stays, broken_number, numbered, Report, report_of, number_in, count_requests, with_outcome, outcomes_in, Known, Task, member, reads_count, is_ready, not_longer, end_keeps, Restart, Call, HearMst, HearAt, End, Past, settled, begun, addressed_in, ready_to_send, fall_of, goes_on, next_phase, new_epoch, still_waiting, past, task_numbers, IsAtStart, RestartsAtStart, TellsInOrder, broken_in, AreNumbered, with_told, told_at_end, told, with_number, after_told, still_to_tell, Ends, Channel, channel_at, beginning, Steps, Stays, Identifies, Hears, Plans, Begins, Moves, Within, Falls, IsTask, OfReads, OfWrites, Checks3, Lists3, Checks4, Lists4, OfWaiting, AreBegunTasks, cases_Bool, has_next}
 use Rattle.sercos_master.specs.Annals.{Mdt}
 use Rattle.sercos_law_run.specs.Agenda.Channels.{hearing}
-use Rattle.sercos_law_run.proofs.Agenda.AgendaTasks.{is_task}
+use Rattle.sercos_law_run.proofs.Agenda.AgendaTasks.{is_task, late_waits}
 use Rattle.sercos_law_run.proofs.Agenda.CallMoves.{at_moves, settled_moves, begun_moves, sent_same, always}
 use Rattle.sercos_law_run.proofs.Agenda.TaskRuns.{tasks_step, all_ended}
 use Rattle.sercos_law_run.proofs.Agenda.Requests.{numbered_drop}
+use Rattle.sercos_law_run.proofs.Agenda.ReadWell.{startup_until}
 
 drop_get : (tasks : List Task) (j : ℕ) (t : Task) → slice_get tasks j ≡ Some t → task_numbers (drop j tasks) ≡ t.number ∷ task_numbers (drop (suc j) tasks)
 drop_get [] j t got = absurd (cc)
@@ -20,33 +21,14 @@ count_none : (o : Option ℕ) (n : ℕ) → o ≡ None → (if is_some o then n 
 count_none o n none = ap (λ (x : Option ℕ). if is_some x then n + 1 else n) none
 
 module _ (s : Known) (k : ℕ) (plan : Option PlanView) (waiting : List Task) (have : AreNumbered waiting) where
-  -- the tasks up to the check for phase 4 are of the start-up
-  early_none : (by_then : Option PlanView) (outcomes : List Outcome) (t : Task) → length outcomes < reads_count (member s k) + 13 → IsTask s k by_then waiting outcomes t → t.number ≡ None
-  early_none by_then outcomes t early (OfReads r less got same) = ap (λ (x : Task). x.number) same
-  early_none by_then outcomes t early (OfWrites p i r planned less at got same) = ap (λ (x : Task). x.number) same
-  early_none by_then outcomes t early (Checks3 p planned at same) = ap (λ (x : Task). x.number) same
-  early_none by_then outcomes t early (Lists3 at failed same) = ap (λ (x : Task). x.number) same
-  early_none by_then outcomes t early (Checks4 at checked same) = ap (λ (x : Task). x.number) same
-  early_none by_then outcomes t early (Lists4 at failed same) = absurd (omega arith)
-  early_none by_then outcomes t early (OfWaiting j at ready got) = absurd (omega arith)
-
-  -- and after it, where that has ended well, they are requests
-  late_some : (by_then : Option PlanView) (outcomes : List Outcome) (t : Task) → reads_count (member s k) + 12 < length outcomes → is_ready (member s k) outcomes ≡ true → IsTask s k by_then waiting outcomes t → is_some t.number ≡ true
-  late_some by_then outcomes t late ready (OfReads r less got same) = absurd (omega arith)
-  late_some by_then outcomes t late ready (OfWrites p i r planned less at got same) = absurd (omega arith)
-  late_some by_then outcomes t late ready (Checks3 p planned at same) = absurd (omega arith)
-  late_some by_then outcomes t late ready (Lists3 at failed same) = absurd (omega arith)
-  late_some by_then outcomes t late ready (Checks4 at checked same) = absurd (omega arith)
-  late_some by_then outcomes t late ready (Lists4 at failed same) = absurd (cc)
-  late_some by_then outcomes t late ready (OfWaiting j at is got) = have j t got
-
   early_count : (phase : ℕ) (begun : List Begun) (tasks : List Task) → AreBegunTasks s k plan waiting phase begun tasks → length begun ≤ reads_count (member s k) + 13 → count_requests tasks ≡ 0
   early_count phase [] [] are few = refl
   early_count phase [] (t ∷ tasks) are few = absurd are
   early_count phase (b ∷ older) [] are few = absurd are
   early_count phase (b ∷ older) (t ∷ tasks) are few =
       let ended = are.1.ended in
-      count_none t.number (count_requests tasks) (early_none are.1.by_then (outcomes_in older) t (omega arith) are.1.task) ∙ early_count phase older tasks are.0 (omega arith)
+      count_none t.number (count_requests tasks) (startup_until s k are.1.by_then waiting (outcomes_in older) t (omega arith) are.1.task)
+      ∙ early_count phase older tasks are.0 (omega arith)
 
   ready_more : (all : List Outcome) (o : Option Outcome) → reads_count (member s k) + 12 < length all → is_ready (member s k) (with_outcome o all) ≡ is_ready (member s k) all
   ready_more all None many = refl
@@ -67,7 +49,8 @@ module _ (s : Known) (k : ℕ) (plan : Option PlanView) (waiting : List Task) (h
           let few = not_longer (b ∷ older) in
           let ended = are.1.ended in
           let before : is_ready (member s k) (outcomes_in older) ≡ true = sym (ready_more (outcomes_in older) (outcome_of b.request b.answers) (omega (arith, many, few, ended, other))) ∙ ready in
-          let some = late_some are.1.by_then (outcomes_in older) t (omega arith) before are.1.task in
+          let some : is_some t.number ≡ true = (let (j, got) = late_waits s k are.1.by_then waiting (outcomes_in older) t (omega arith)
+          before are.1.task in have j t got) in
           let one = count_one t.number (count_requests tasks) some in
           let rest = more before in omega arith
 
@@ -85,11 +68,15 @@ module _ (s : Known) (k : ℕ) (plan : Option PlanView) (waiting : List Task) (h
       let same : count_requests tasks ≡ j = omega arith in
       inr (have j t got, ap (slice_get waiting) same ∙ got)
 
-module _ (has_next : HasNext) (s : Known) (k : ℕ) where
+module _ (s : Known) (k : ℕ) where
   pub record IsTelling (c : Channel) : Type 0 where
     pub tasks : AreBegunTasks s k c.plan c.waiting c.phase c.begun c.tasks
     pub have : AreNumbered c.waiting
     pub quiet : c.heard ≡ false → c.report ≡ None
+
+  some_then : (n : Option ℕ) (x : Option Step) → is_some x ≡ true → (if is_none x then None else broken_number n) ≡ broken_number n
+  some_then n None on = absurd (cc)
+  some_then n (Some y) on = refl
 
   -- what an answer ends is reported, and not broken any more
   answer_tells : (n : Option ℕ) (a : Answer) (begun : List Begun) (rest : List (Option ℕ)) → is_some (open_in begun) ≡ true →
@@ -97,12 +84,8 @@ module _ (has_next : HasNext) (s : Known) (k : ℕ) where
   answer_tells n a [] rest on = absurd (cc)
   answer_tells n a (b ∷ older) rest on = by (outcome_of b.request (a ∷ b.answers)) refl
     where
-      some_then : (x : Option Step) → is_some x ≡ true → (if is_none x then None else broken_number n) ≡ broken_number n
-      some_then None on = absurd (cc)
-      some_then (Some y) on = refl
-
       open_now : (if is_none (open_in (b ∷ older)) then None else broken_number n) ≡ broken_number n
-      open_now = some_then (open_in (b ∷ older)) on
+      open_now = some_then n (open_in (b ∷ older)) on
 
       ends : (o : Outcome) (m : Option ℕ) → with_number (option_map (numbered o) m) rest ≡ with_number (broken_number m) rest
       ends o None = refl
@@ -110,7 +93,8 @@ module _ (has_next : HasNext) (s : Known) (k : ℕ) where
 
       by : (o : Option Outcome) → outcome_of b.request (a ∷ b.answers) ≡ o →
           with_number (report_of o n) (with_number (if is_none (if is_some o then None else next_step b.request (a ∷ b.answers)) then None else broken_number n) rest) ≡ with_number (if is_none (open_in (b ∷ older)) then None else broken_number n) rest
-      by None none = ap (λ (x : Option Report). with_number x rest) (some_then (next_step b.request (a ∷ b.answers)) (has_next b.request (a ∷ b.answers) (ap is_some none)) ∙ sym open_now)
+      by None none = ap (λ (x : Option Report). with_number x rest)
+          (some_then n (next_step b.request (a ∷ b.answers)) (has_next b.request (a ∷ b.answers) (ap is_some none)) ∙ sym open_now)
       by (Some o) some = ends o n ∙ ap (λ (x : Option Report). with_number x rest) (sym open_now)
 
   none_report : (o : Option Report) → option_or o None ≡ o
@@ -120,34 +104,28 @@ module _ (has_next : HasNext) (s : Known) (k : ℕ) where
   hearing_tells : (status : Status) (word : ℕ) (c : Channel) → c.report ≡ None → still_to_tell (hearing status word c) ≡ still_to_tell c
   hearing_tells status word c none =
       ap (λ (r : Option Report). with_number (option_or (report_of (if answers_it c.begun status then outcome_with (answer_in status word) c.begun else None) (number_in c.tasks)) r) after) none
-      ∙ by (answers_it c.begun status) refl
-      ∙ sym (ap (λ (r : Option Report). with_number r (with_number (broken_in c) rest)) none)
+      ∙ (elim (cases_Bool (answers_it c.begun status)) [
+        | inl on ↦
+            rw on (ap (λ (r : Option Report). with_number r
+            (with_number (if is_none (open_in (with_answer (answer_in status word) c.begun)) then None else broken_number
+            (number_in c.tasks)) (task_numbers (drop (count_requests c.tasks) c.waiting))))
+            (none_report (report_of (outcome_with (answer_in status word) c.begun) (number_in c.tasks)))
+            ∙ answer_tells (number_in c.tasks) (answer_in status word) c.begun (task_numbers (drop (count_requests c.tasks) c.waiting))
+            (and_parts (is_some (open_in c.begun)) _ on).0)
+        | inr off ↦ rw off
+      ])
+      ∙ sym (ap (λ (r : Option Report). with_number r (with_number (broken_in c) (task_numbers (drop (count_requests c.tasks) c.waiting))))
+      none)
     where
-      rest : List (Option ℕ)
-      rest = task_numbers (drop (count_requests c.tasks) c.waiting)
-
       after : List (Option ℕ)
       after = with_number (broken_in (hearing status word c)) (task_numbers (drop (count_requests c.tasks) c.waiting))
-
-      by : (v : Bool) → answers_it c.begun status ≡ v →
-          with_number (option_or (report_of (if v then outcome_with (answer_in status word) c.begun else None) (number_in c.tasks)) None)
-          (with_number (if is_none (open_in (if v then with_answer (answer_in status word) c.begun else c.begun)) then None else broken_number (number_in c.tasks)) (task_numbers (drop (count_requests c.tasks) c.waiting)))
-          ≡ with_number (broken_in c) (task_numbers (drop (count_requests c.tasks) c.waiting))
-      by false off = refl
-      by true on =
-          ap (λ (r : Option Report). with_number r (with_number (if is_none (open_in (with_answer (answer_in status word) c.begun)) then None else broken_number (number_in c.tasks)) (task_numbers (drop (count_requests c.tasks) c.waiting))))
-          (none_report (report_of (outcome_with (answer_in status word) c.begun) (number_in c.tasks)))
-          ∙ answer_tells (number_in c.tasks) (answer_in status word) c.begun (task_numbers (drop (count_requests c.tasks) c.waiting)) (and_parts (is_some (open_in c.begun)) _ on).0
 
   begin_tells : (t : Task) (c : Channel) → is_none (open_in c.begun) ≡ true → (t.number ≡ None) ⊎ ((is_some t.number ≡ true) × (slice_get c.waiting (count_requests c.tasks) ≡ Some t)) → still_to_tell (beginning t c) ≡ still_to_tell c
   begin_tells t c idle which = ap (with_number c.report) (open_first ∙ by which ∙ sym (ap (λ (v : Bool). with_number (if v then None else broken_number (number_in c.tasks)) (task_numbers (drop (count_requests c.tasks) c.waiting))) idle))
     where
-      some_then : (x : Option Step) → is_some x ≡ true → (if is_none x then None else broken_number t.number) ≡ broken_number t.number
-      some_then None on = absurd (cc)
-      some_then (Some y) on = refl
-
       open_first : with_number (broken_in (beginning t c)) (task_numbers (drop (count_requests (t ∷ c.tasks)) c.waiting)) ≡ with_number (broken_number t.number) (task_numbers (drop (count_requests (t ∷ c.tasks)) c.waiting))
-      open_first = ap (λ (r : Option Report). with_number r (task_numbers (drop (count_requests (t ∷ c.tasks)) c.waiting))) (some_then (next_step t.request []) (has_next t.request [] refl))
+      open_first = ap (λ (r : Option Report). with_number r (task_numbers (drop (count_requests (t ∷ c.tasks)) c.waiting)))
+          (some_then t.number (next_step t.request []) (has_next t.request [] refl))
 
       some_number : (o : Option ℕ) (j : ℕ) → is_some o ≡ true → task_numbers (drop j c.waiting) ≡ o ∷ task_numbers (drop (suc j) c.waiting) → with_number (broken_number o) (task_numbers (drop (if is_some o then j + 1 else j) c.waiting)) ≡ task_numbers (drop j c.waiting)
       some_number None j on is = absurd (cc)
@@ -165,11 +143,11 @@ module _ (has_next : HasNext) (s : Known) (k : ℕ) where
   step_tells c d (Plans plan none two is) tells = ap still_to_tell is
   step_tells c d (Begins t next is) tells =
       ap still_to_tell is
-      ∙ begin_tells t c next.idle (begins_first s k c.plan c.waiting tells.have c.phase c.begun c.tasks t tells.tasks (all_ended s k has_next c.plan c.waiting c.phase c.begun c.tasks tells.tasks next.idle)
+      ∙ begin_tells t c next.idle (begins_first s k c.plan c.waiting tells.have c.phase c.begun c.tasks t tells.tasks (all_ended s k c.plan c.waiting c.phase c.begun c.tasks tells.tasks next.idle)
       (is_task s k c.plan c.waiting (outcomes_in c.begun) t next.next))
 
   telling_step : (c d : Channel) → Moves s k c d → IsTelling c → IsTelling d
-  telling_step c d moves tells = record { tasks = tasks_step s k has_next c d moves tells.tasks; have = have moves; quiet = quiet moves }
+  telling_step c d moves tells = record { tasks = tasks_step s k c d moves tells.tasks; have = have moves; quiet = quiet moves }
     where
       have : Moves s k c d → AreNumbered d.waiting
       have (Within (Stays is)) = subst (λ (x : Channel). AreNumbered x.waiting) (sym is) tells.have
@@ -246,5 +224,5 @@ module _ (has_next : HasNext) (s : Known) (k : ℕ) where
     tells (End ∷ h) order = end_tells h ∙ tells h order
     tells (Restart ∷ h) order = restart_tells h order.1 ∙ tells h order.0
 
-pub tells_in_order : HasNext → TellsInOrder
-tells_in_order has_next s requests h k have there order = tells has_next s k there requests have h order
+pub tells_in_order : TellsInOrder
+tells_in_order s requests h k have there order = tells s k there requests have h order

@@ -1,5 +1,5 @@
 -- After any calls a request that is reported as ended was begun in this epoch, and ended so.
-use Rattle.sercos_law_run.proofs.Words.{◌≡◌, ◌⊎◌, inl, inr, ℕ, ◌<◌, Bool, true, false, List, [], ◌∷◌, length, refl, sym, ap, ◌∙◌, subst, if◌then◌else◌, Option, Some, None, option_or, Status, Answer, Outcome, outcome_of, Begun, answers_it, answer_in, with_answer, outcome_with, Known, Task, Report, report_of, number_in, numbered, Call, past, IsReportOf, Ends, Channel, channel_at, Stays, Identifies, Hears, Plans, Begins, Moves, Within, Falls, same_Some}
+use Rattle.sercos_law_run.proofs.Words.{◌≡◌, ◌⊎◌, inl, inr, ℕ, ◌<◌, Bool, true, false, List, [], ◌∷◌, length, refl, sym, ap, ◌∙◌, subst, if◌then◌else◌, Option, Some, None, option_or, Status, Answer, Outcome, outcome_of, Begun, answers_it, answer_in, with_answer, outcome_with, Known, Task, Report, report_of, number_in, numbered, Call, past, IsReportOf, Ends, Channel, channel_at, Stays, Identifies, Hears, Plans, Begins, Moves, Within, Falls, same_Some, cases_Option}
 use Rattle.sercos_law_run.specs.Agenda.Channels.{hearing}
 use Rattle.sercos_law_run.proofs.Agenda.CallMoves.{always}
 
@@ -16,11 +16,10 @@ answer_right a [] tasks r is = absurd (none (number_in tasks) is)
   where
     none : (n : Option ℕ) → option_or (report_of None n) None ≡ Some r → ⊥
     none n is = cc
-answer_right a (b ∷ older) [] r is = absurd (by (outcome_of b.request (a ∷ b.answers)) is)
-  where
-    by : (o : Option Outcome) → option_or (report_of o None) None ≡ Some r → ⊥
-    by None is = cc
-    by (Some o) is = cc
+answer_right a (b ∷ older) [] r is = absurd (elim (cases_Option (outcome_of b.request (a ∷ b.answers))) [
+  | inl none ↦ let is = rw none at is in cc
+  | inr (o, some) ↦ let is = rw some at is in cc
+])
 answer_right a (b ∷ older) (t ∷ tasks) r is = by (outcome_of b.request (a ∷ b.answers)) t.number refl refl is
   where
     by : (o : Option Outcome) (n : Option ℕ) → outcome_of b.request (a ∷ b.answers) ≡ o → t.number ≡ n → option_or (report_of o n) None ≡ Some r →

@@ -1,5 +1,5 @@
 -- The cause of each kind of stop.
-use Rattle.sercos_law_run.proofs.Words.{same_Some, ◌≡◌, ◌⊎◌, inl, inr, ℕ, zero, suc, ◌+◌, ◌<◌, Bool, true, false, not, ◌&&◌, List, [], ◌∷◌, ◌++◌, map, take, length, refl, sym, ap, ap₂, ◌∙◌, subst, arith, if◌then◌else◌, ◌==◌, Option, Some, None, Err, is_some, is_none, option_map, slice_get, unwrap_or, list_all, and_parts, eqb-true, eq-eqb, not-true, Code, Idn, Request, Outcome, outcome_of, PlanView, ChainView, planned, Begun, begun_by, Stop, stop_by, asked_by, len_said, long_in, idns_in, attribute_stop, list_stop, reads, declared_times, idn, reads_count, is_checked, is_ready, given, bytes_of, ended_well, wishes_given, Known, Task, MemberView, member, startup, outcomes_in, with_outcome, last_outcome, trouble_by, get_left, before_end, HasNext, Call, past, outcomes, all_read, still_left, IsTask, OfReads, OfWrites, Checks3, Lists3, Checks4, Lists4, OfWaiting, HasEndedWell, IsBegunTask, AreBegunTasks, HasRefused, IsBadAttribute, AreTooLong, HasFailedCheck, AreNumbered}
+use Rattle.sercos_law_run.proofs.Words.{same_Some, ◌≡◌, ◌⊎◌, inl, inr, ℕ, zero, suc, ◌+◌, ◌<◌, Bool, true, false, not, ◌&&◌, List, [], ◌∷◌, ◌++◌, map, take, length, refl, sym, ap, ap₂, ◌∙◌, subst, arith, if◌then◌else◌, ◌==◌, Option, Some, None, Err, is_some, is_none, option_map, slice_get, unwrap_or, list_all, and_parts, eqb-true, eq-eqb, not-true, Code, Idn, Request, Outcome, outcome_of, PlanView, ChainView, planned, Begun, begun_by, Stop, stop_by, asked_by, len_said, long_in, idns_in, attribute_stop, list_stop, reads, declared_times, idn, reads_count, is_checked, is_ready, given, bytes_of, ended_well, wishes_given, Known, Task, MemberView, member, startup, outcomes_in, with_outcome, last_outcome, trouble_by, get_left, before_end, Call, past, outcomes, all_read, still_left, IsTask, OfReads, OfWrites, Checks3, Lists3, Checks4, Lists4, OfWaiting, HasEndedWell, IsBegunTask, AreBegunTasks, HasRefused, IsBadAttribute, AreTooLong, HasFailedCheck, AreNumbered, cases_Option}
 use Rattle.sercos_step.specs.declared.request.Request.TheVariants as request
 use Rattle.sercos_step.specs.declared.request.Outcome.TheVariants as outcome
 use Rattle.sercos_trace.specs.declared.events.Stop.TheVariants as stop
@@ -7,51 +7,46 @@ use Rattle.sercos_law_run.specs.Agenda.Stops.{HasEnded}
 use Rattle.sercos_law_run.proofs.Agenda.AgendaTasks.{IsIn, First, After, is_in, mapped}
 use Rattle.sercos_law_run.proofs.Agenda.TaskRuns.{begun_tasks}
 use Rattle.sercos_law_run.proofs.Agenda.WritesDone.{raw_of, IsDataWrite, DataWrite, all_data_writes}
-use Rattle.sercos_law_run.proofs.Agenda.ReadWell.{last_is}
+use Rattle.sercos_law_run.proofs.Agenda.ReadWell.{last_is, startup_until}
 use Rattle.sercos_law_run.proofs.Agenda.StopRuns.{StopsFor, OfTask, OfPlan, OfLength, stop_has_cause}
-use Rattle.sercos_law_run.proofs.Agenda.Requests.{numbered_drop}
+use Rattle.sercos_law_run.proofs.Agenda.Requests.{all_numbered}
+use Rattle.sercos_law_channel.proofs.Options.{all_at}
 
--- WHAT AN OUTCOME SAYS, by what is asked.
-pub data Says (address : ℕ) (r : Request) (o : Outcome) (x : Stop) : Type 0 where
-  SaysRefused : (code : Code) → o ≡ outcome.Refused code → x ≡ stop.Refused address (asked_by r).idn code → Says address r o x
-  SaysBad : (i : Idn) → (bytes : List ℕ) → r ≡ request.Read i 3 → o ≡ outcome.Complete bytes → len_said (long_in bytes) ≡ None → x ≡ stop.BadConfig address i (long_in bytes) → Says address r o x
-  Says127 : (i : Idn) → (bytes : List ℕ) → r ≡ request.Read i 7 → i.raw ≡ 21 → o ≡ outcome.Complete bytes → x ≡ stop.Check127 address (record { items = take 64 (idns_in bytes) }) → Says address r o x
-  Says128 : (i : Idn) → (bytes : List ℕ) → r ≡ request.Read i 7 → i.raw ≡ 22 → o ≡ outcome.Complete bytes → x ≡ stop.Check128 address (record { items = take 64 (idns_in bytes) }) → Says address r o x
+-- WHAT AN OUTCOME SAYS, by what is asked: the list of a check,
+abbrev IsListed : ℕ → Request → Outcome → ℕ → ℕ → List Idn → Type 0
+IsListed address r o raw place list = (place ≡ address) × (i : Idn) × (bytes : List ℕ) × (r ≡ request.Read i 7) × (i.raw ≡ raw) ×
+    (o ≡ outcome.Complete bytes) × (list ≡ take 64 (idns_in bytes))
 
--- what a stop names
-abbrev drive_in : Stop → ℕ
-drive_in (stop.NoFit chain) = 0
-drive_in (stop.Refused address i code) = address
-drive_in (stop.BadConfig address i word) = address
-drive_in (stop.Check127 address list) = address
-drive_in (stop.Check128 address list) = address
-
-abbrev list_in : Stop → List Idn
-list_in (stop.NoFit chain) = []
-list_in (stop.Refused address i code) = []
-list_in (stop.BadConfig address i word) = []
-list_in (stop.Check127 address list) = list.items
-list_in (stop.Check128 address list) = list.items
+-- a refusal, or an attribute that is bad.
+abbrev pub Says : ℕ → Request → Outcome → Stop → Type 0
+Says address r o (stop.NoFit chain) = ⊥
+Says address r o (stop.Refused place i code) = (place ≡ address) × (i ≡ (asked_by r).idn) × (o ≡ outcome.Refused code)
+Says address r o (stop.BadConfig place i word) = (place ≡ address) × (bytes : List ℕ) × (r ≡ request.Read i 3) ×
+    (o ≡ outcome.Complete bytes) × (word ≡ long_in bytes) × (len_said (long_in bytes) ≡ None)
+Says address r o (stop.Check127 place list) = IsListed address r o 21 place list.items
+Says address r o (stop.Check128 place list) = IsListed address r o 22 place list.items
 
 pub says_so : (address : ℕ) (r : Request) (o : Outcome) (x : Stop) → stop_by address (asked_by r) o ≡ Some x → Says address r o x
-says_so address r (outcome.Refused code) x is = SaysRefused code refl (sym (same_Some _ _ is))
+says_so address r (outcome.Refused code) x is = subst (Says address r (outcome.Refused code)) (same_Some _ _ is) (refl, refl, refl)
 says_so address r outcome.Broken x is = absurd (cc)
 says_so address (request.Write i e bytes) (outcome.Complete given_bytes) x is = absurd (cc)
 says_so address (request.Command i) (outcome.Complete given_bytes) x is = absurd (cc)
 says_so address (request.Read i e) (outcome.Complete bytes) x is = by (e == 3) (e == 7) refl refl is
   where
-    attribute : (o : Option ℕ) → len_said (long_in bytes) ≡ o → e ≡ 3 → (if is_none o then Some (stop.BadConfig address i (long_in bytes)) else None) ≡ Some x → Says address (request.Read i e) (outcome.Complete bytes) x
-    attribute None none three is = SaysBad i bytes (ap (request.Read i) three) refl none (sym (same_Some _ _ is))
-    attribute (Some n) some three is = absurd (cc)
-
     lists : (a b : Bool) → (i.raw == 21) ≡ a → (i.raw == 22) ≡ b → e ≡ 7 → (if a then Some (stop.Check127 address (record { items = take 64 (idns_in bytes) })) else (if b then Some (stop.Check128 address (record { items = take 64 (idns_in bytes) })) else None)) ≡ Some x →
         Says address (request.Read i e) (outcome.Complete bytes) x
-    lists true b one two seven is = Says127 i bytes (ap (request.Read i) seven) (eqb-true i.raw 21 one) refl (sym (same_Some _ _ is))
-    lists false true one two seven is = Says128 i bytes (ap (request.Read i) seven) (eqb-true i.raw 22 two) refl (sym (same_Some _ _ is))
+    lists true b one two seven is = subst (Says address (request.Read i e) (outcome.Complete bytes)) (same_Some _ _ is)
+        (refl, i, bytes, ap (request.Read i) seven, eqb-true i.raw 21 one, refl, refl)
+    lists false true one two seven is = subst (Says address (request.Read i e) (outcome.Complete bytes)) (same_Some _ _ is)
+        (refl, i, bytes, ap (request.Read i) seven, eqb-true i.raw 22 two, refl, refl)
     lists false false one two seven is = absurd (cc)
 
     by : (a b : Bool) → (e == 3) ≡ a → (e == 7) ≡ b → (if a then attribute_stop address i (long_in bytes) else (if b then list_stop address i.raw bytes else None)) ≡ Some x → Says address (request.Read i e) (outcome.Complete bytes) x
-    by true b three seven is = attribute (len_said (long_in bytes)) refl (eqb-true e 3 three) is
+    by true b three seven is = elim (cases_Option (len_said (long_in bytes))) [
+      | inl none ↦ subst (Says address (request.Read i e) (outcome.Complete bytes)) (same_Some _ _ (rw none at is))
+          (refl, bytes, ap (request.Read i) (eqb-true e 3 three), refl, refl, none)
+      | inr (n, some) ↦ let three = eqb-true e 3 three in let is = rw some at is in absurd (cc)
+    ]
     by false true three seven is = lists (i.raw == 21) (i.raw == 22) refl refl (eqb-true e 7 seven) is
     by false false three seven is = absurd (cc)
 
@@ -62,12 +57,9 @@ element_asked (request.Write i e bytes) = 0
 element_asked (request.Command i) = 0
 
 not_in : (n : ℕ) (xs : List ℕ) (j x : ℕ) → list_all (λ (m : ℕ). not (m == n)) xs ≡ true → slice_get xs j ≡ Some x → x ≡ n → ⊥
-not_in n [] j x all got is = absurd (cc)
-not_in n (y ∷ xs) zero x all got is =
-    let same : y ≡ x = same_Some _ _ got in
-    let off : (y == n) ≡ false = not-true (y == n) (and_parts (not (y == n)) _ all).0 in
-    let on : (y == n) ≡ true = eq-eqb y n (same ∙ is) in absurd (cc)
-not_in n (y ∷ xs) (suc j) x all got is = not_in n xs j x (and_parts (not (y == n)) _ all).1 got is
+not_in n xs j x all got is =
+    let off = not-true (x == n) (all_at (λ (m : ℕ). not (m == n)) xs j x all got) in
+    let on = eq-eqb x n is in absurd (cc)
 
 no_read : (d : MemberView) (j : ℕ) (r : Request) (i : Idn) → list_all (λ (m : ℕ). not (m == i.raw)) declared_times ≡ true → slice_get (reads d) j ≡ Some r → r ≡ request.Read i 7 → ⊥
 no_read d j r i none got form = by (is_in (map (λ raw. request.Read (idn raw) 7) declared_times) (map (λ i. request.Read i 3) (d.at ++ d.mdt)) j r got)
@@ -84,10 +76,9 @@ data IsList (s : Known) (k raw : ℕ) (all : List Outcome) : Type 0 where
 list_task : (s : Known) (k : ℕ) (plan : Option PlanView) (waiting : List Task) (all : List Outcome) (t : Task) (i : Idn) → AreNumbered waiting → list_all (λ (m : ℕ). not (m == i.raw)) declared_times ≡ true →
     t.number ≡ None → t.request ≡ request.Read i 7 → IsTask s k plan waiting all t → IsList s k i.raw all
 list_task s k plan waiting all t i have none number asks (OfReads r less got same) = absurd (no_read (member s k) (length all) r i none got (sym (ap (λ (x : Task). x.request) same) ∙ asks))
-list_task s k plan waiting all t i have none number asks (OfWrites p j r has less at got same) = written (all_data_writes s p k j r got)
-  where
-    written : IsDataWrite r → IsList s k i.raw all
-    written (DataWrite v bytes form) = let e = sym asks ∙ ap (λ (x : Task). x.request) same ∙ form in absurd (cc)
+list_task s k plan waiting all t i have none number asks (OfWrites p j r has less at got same) = elim (all_data_writes s p k j r got) [
+  | DataWrite v bytes form ↦ let e = sym asks ∙ ap (λ (x : Task). x.request) same ∙ form in absurd (cc)
+]
 list_task s k plan waiting all t i have none number asks (Checks3 p has at same) = let e = sym asks ∙ ap (λ (x : Task). x.request) same in absurd (cc)
 list_task s k plan waiting all t i have none number asks (Lists3 at failed same) = List3 (ap raw_of (sym asks ∙ ap (λ (x : Task). x.request) same)) at failed
 list_task s k plan waiting all t i have none number asks (Checks4 at checked same) = let e = sym asks ∙ ap (λ (x : Task). x.request) same in absurd (cc)
@@ -113,30 +104,14 @@ before s k plan waiting phase (c ∷ rest) (u ∷ others) n are ended at =
     let inner = are.1.ended in
     record { one = c; rest = rest; task = u; others = others; older_is = refl; tasks_are = refl; is = are.1; at = omega (arith, inner, ended, at) }
 
-startup_until : (s : Known) (k : ℕ) (plan : Option PlanView) (waiting : List Task) (all : List Outcome) (t : Task) → length all < reads_count (member s k) + 13 → IsTask s k plan waiting all t → t.number ≡ None
-startup_until s k plan waiting all t few (OfReads r less got same) = ap (λ (x : Task). x.number) same
-startup_until s k plan waiting all t few (OfWrites p i r has less at got same) = ap (λ (x : Task). x.number) same
-startup_until s k plan waiting all t few (Checks3 p has at same) = ap (λ (x : Task). x.number) same
-startup_until s k plan waiting all t few (Lists3 at failed same) = ap (λ (x : Task). x.number) same
-startup_until s k plan waiting all t few (Checks4 at checked same) = ap (λ (x : Task). x.number) same
-startup_until s k plan waiting all t few (Lists4 at failed same) = ap (λ (x : Task). x.number) same
-startup_until s k plan waiting all t few (OfWaiting j at ready got) = absurd (omega (arith, few, at))
-
-given_at : (all : List Outcome) (n : ℕ) (bytes : List ℕ) → slice_get all n ≡ Some (outcome.Complete bytes) → given all n ≡ bytes
-given_at all n bytes got = ap (λ (x : Option Outcome). unwrap_or (option_map bytes_of x) []) got
-
-and_second : (a b : Bool) → a ≡ true → (a && b) ≡ false → b ≡ false
-and_second true b on off = off
-and_second false b on off = absurd (cc)
-
-module _ (has_next : HasNext) (s : Known) (requests : ℕ → List Task) (h : List Call) where
+module _ (s : Known) (requests : ℕ → List Task) (h : List Call) where
   -- what was begun last on a channel, and its task
   newest_so : (k : ℕ) → k < length s.drives → (b : Begun) (older : List Begun) (t : Task) (tasks : List Task) → begun_by ((past s requests h).calls k) ≡ b ∷ older → (past s requests h).tasks k ≡ t ∷ tasks →
       AreBegunTasks s k (past s requests h).plan ((past s requests h).waiting k) (past s requests h).now.phase (b ∷ older) (t ∷ tasks)
   newest_so k there b older t tasks begun tasks_are =
       let p = past s requests h in
       subst (λ (l : List Begun). AreBegunTasks s k p.plan (p.waiting k) p.now.phase l (t ∷ tasks)) begun
-      (subst (AreBegunTasks s k p.plan (p.waiting k) p.now.phase (begun_by (p.calls k))) tasks_are (begun_tasks s k has_next there requests h))
+      (subst (AreBegunTasks s k p.plan (p.waiting k) p.now.phase (begun_by (p.calls k))) tasks_are (begun_tasks s k there requests h))
 
   of_task : (k : ℕ) (b : Begun) (older : List Begun) (t : Task) (tasks : List Task) (r : Request) (o z : Outcome) → k < length s.drives → begun_by ((past s requests h).calls k) ≡ b ∷ older → (past s requests h).tasks k ≡ t ∷ tasks → t.number ≡ None →
       t.request ≡ r → outcome_of b.request b.answers ≡ Some z → z ≡ o → HasEnded s (past s requests h) (member s k).address r o
@@ -151,13 +126,8 @@ module _ (has_next : HasNext) (s : Known) (requests : ℕ → List Task) (h : Li
       by : StopsFor s (past s requests h) (stop.NoFit chain) → (all_read s (past s requests h) ≡ true) × (planned (wishes_given s (outcomes (past s requests h))) ≡ Err chain)
       by (OfPlan other same whole all made) = let one : chain ≡ other = cc in (all, made ∙ ap (λ (x : ChainView). Err x) (sym one))
       by (OfLength address i word other whole long) = absurd (cc)
-      by (OfTask k b older t tasks o there begun tasks_are number ended says) = said (says_so (member s k).address t.request o (stop.NoFit chain) says)
-        where
-          said : Says (member s k).address t.request o (stop.NoFit chain) → (all_read s (past s requests h) ≡ true) × (planned (wishes_given s (outcomes (past s requests h))) ≡ Err chain)
-          said (SaysRefused code same other) = absurd (cc)
-          said (SaysBad i bytes asks complete none other) = absurd (cc)
-          said (Says127 i bytes asks raw complete other) = absurd (cc)
-          said (Says128 i bytes asks raw complete other) = absurd (cc)
+      by (OfTask k b older t tasks o there begun tasks_are number ended says) = absurd
+          (says_so (member s k).address t.request o (stop.NoFit chain) says)
 
   -- A REQUEST IS REFUSED.
   pub refused_cause : (address : ℕ) (i : Idn) (code : Code) → (past s requests h).stop ≡ Some (stop.Refused address i code) → HasRefused s (past s requests h) address i code
@@ -166,21 +136,13 @@ module _ (has_next : HasNext) (s : Known) (requests : ℕ → List Task) (h : Li
       by : StopsFor s (past s requests h) (stop.Refused address i code) → HasRefused s (past s requests h) address i code
       by (OfPlan other same whole all made) = absurd (cc)
       by (OfLength place j word other whole long) = absurd (cc)
-      by (OfTask k b older t tasks o there begun tasks_are number ended says) = said (says_so (member s k).address t.request o (stop.Refused address i code) says)
-        where
-          said : Says (member s k).address t.request o (stop.Refused address i code) → HasRefused s (past s requests h) address i code
-          said (SaysRefused other refused same) =
-              let places : address ≡ (member s k).address = ap drive_in same in
-              let names : i ≡ (asked_by t.request).idn = cc in
-              let codes : code ≡ other = cc in record {
-                asked = t.request;
-                names = sym names;
-                ended = subst (λ (a : ℕ). HasEnded s (past s requests h) a t.request (outcome.Refused code)) (sym places)
-                    (of_task k b older t tasks t.request (outcome.Refused code) o there begun tasks_are number refl ended (refused ∙ ap (λ (c : Code). outcome.Refused c) (sym codes)));
-              }
-          said (SaysBad j bytes asks complete none other) = absurd (cc)
-          said (Says127 j bytes asks raw complete other) = absurd (cc)
-          said (Says128 j bytes asks raw complete other) = absurd (cc)
+      by (OfTask k b older t tasks o there begun tasks_are number ended says) =
+          let (places, names, refused) = says_so (member s k).address t.request o (stop.Refused address i code) says in record {
+            asked = t.request;
+            names = sym names;
+            ended = subst (λ (a : ℕ). HasEnded s (past s requests h) a t.request (outcome.Refused code)) (sym places)
+                (of_task k b older t tasks t.request (outcome.Refused code) o there begun tasks_are number refl ended refused);
+          }
 
   -- AN ATTRIBUTE IS BAD, OR THE RECORDS ARE TOO LONG.
   pub bad_config_cause : (address : ℕ) (i : Idn) (word : ℕ) → (past s requests h).stop ≡ Some (stop.BadConfig address i word) → IsBadAttribute s (past s requests h) address i word ⊎ AreTooLong s (past s requests h) (stop.BadConfig address i word)
@@ -189,23 +151,16 @@ module _ (has_next : HasNext) (s : Known) (requests : ℕ → List Task) (h : Li
       by : StopsFor s (past s requests h) (stop.BadConfig address i word) → IsBadAttribute s (past s requests h) address i word ⊎ AreTooLong s (past s requests h) (stop.BadConfig address i word)
       by (OfPlan other same whole all made) = absurd (cc)
       by (OfLength place j other_word same whole long) = inr long
-      by (OfTask k b older t tasks o there begun tasks_are number ended says) = said (says_so (member s k).address t.request o (stop.BadConfig address i word) says)
-        where
-          said : Says (member s k).address t.request o (stop.BadConfig address i word) → IsBadAttribute s (past s requests h) address i word ⊎ AreTooLong s (past s requests h) (stop.BadConfig address i word)
-          said (SaysRefused code same other) = absurd (cc)
-          said (SaysBad j bytes asks complete none same) =
-              let places : address ≡ (member s k).address = ap drive_in same in
-              let names : i ≡ j = cc in
-              let words : word ≡ long_in bytes = cc in
-              inl (record {
-                bytes = bytes;
-                word_is = words;
-                no_length = ap len_said words ∙ none;
-                ended = subst (λ (a : ℕ). HasEnded s (past s requests h) a (request.Read i 3) (outcome.Complete bytes)) (sym places)
-                    (of_task k b older t tasks (request.Read i 3) (outcome.Complete bytes) o there begun tasks_are number (asks ∙ ap (λ (x : Idn). request.Read x 3) (sym names)) ended complete);
-              })
-          said (Says127 j bytes asks raw complete other) = absurd (cc)
-          said (Says128 j bytes asks raw complete other) = absurd (cc)
+      by (OfTask k b older t tasks o there begun tasks_are number ended says) =
+          let (places, bytes, asks, complete, words, none) = says_so (member s k).address t.request o (stop.BadConfig address i word) says
+          in
+          inl (record {
+            bytes = bytes;
+            word_is = words;
+            no_length = ap len_said words ∙ none;
+            ended = subst (λ (a : ℕ). HasEnded s (past s requests h) a (request.Read i 3) (outcome.Complete bytes)) (sym places)
+                (of_task k b older t tasks (request.Read i 3) (outcome.Complete bytes) o there begun tasks_are number asks ended complete);
+          })
 
   -- A CHECK HAS FAILED. The task before the list is the check.
   failed_so : (k after : ℕ) (b : Begun) (older : List Begun) (t : Task) (tasks : List Task) (z : Outcome) (bytes : List ℕ) → k < length s.drives → begun_by ((past s requests h).calls k) ≡ b ∷ older →
@@ -218,7 +173,7 @@ module _ (has_next : HasNext) (s : Known) (requests : ℕ → List Task) (h : Li
     address_is = refl;
     status = status;
     complete = all (reads_count (member s k) + after) ∙ get_left (outcomes_in older) (outcome.Complete bytes ∷ []) (reads_count (member s k) + after) (omega (arith, at)) ∙ checked;
-    badly = sym (ap ended_well (given_at (outcomes_in older) (reads_count (member s k) + after) status checked)) ∙ badly;
+    badly = sym (ap ended_well (ap (λ (x : Option Outcome). unwrap_or (option_map bytes_of x) []) checked)) ∙ badly;
     bytes = bytes;
     listed = all (reads_count (member s k) + (after + 1)) ∙ last_is (outcomes_in older) (outcome.Complete bytes) (reads_count (member s k) + (after + 1)) (sym at);
     list_is = refl;
@@ -228,9 +183,6 @@ module _ (has_next : HasNext) (s : Known) (requests : ℕ → List Task) (h : Li
       all n = ap (λ (l : List Begun). slice_get (outcomes_in l) n) begun ∙ ap (λ (x : Option Outcome). slice_get (with_outcome x (outcomes_in older)) n) (ended ∙ ap (λ (x : Outcome). Some x) complete)
 
   module _ (have : (j : ℕ) → AreNumbered (requests j)) where
-    numbered_now : (k : ℕ) → AreNumbered ((past s requests h).waiting k)
-    numbered_now k = let left = still_left s requests h k in subst AreNumbered (sym left.1) (numbered_drop left.0 (requests k) (have k))
-
     -- what the task before gave
     given_before : (k n : ℕ) (older : List Begun) (tasks : List Task) → (bytes : List ℕ) → (f : HasBefore s k (past s requests h).plan ((past s requests h).waiting k) (past s requests h).now.phase older tasks n) →
         outcome_of f.one.request f.one.answers ≡ Some (outcome.Complete bytes) → slice_get (outcomes_in older) n ≡ Some (outcome.Complete bytes)
@@ -252,7 +204,13 @@ module _ (has_next : HasNext) (s : Known) (requests : ℕ → List Task) (h : Li
         by : StopsFor s (past s requests h) (stop.Check127 address (record { items = list })) → HasFailedCheck s (past s requests h) 11 address list
         by (OfPlan chain other whole all made) = absurd (cc)
         by (OfLength place i word other whole long) = absurd (cc)
-        by (OfTask k b older t tasks o there begun tasks_are number ended says) = said (says_so (member s k).address t.request o (stop.Check127 address (record { items = list })) says)
+        by (OfTask k b older t tasks o there begun tasks_are number ended says) =
+            let (places, i, bytes, asks, raw, complete, lists) = says_so (member s k).address t.request o
+            (stop.Check127 address (record { items = list })) says in
+            let found = list_task s k are.1.by_then ((past s requests h).waiting k) (outcomes_in older) t i
+            (all_numbered s requests h have k) (ap (λ (n : ℕ). list_all (λ (m : ℕ). not (m == n)) declared_times) raw) number asks
+            are.1.task in
+            subst (λ (a : ℕ). HasFailedCheck s (past s requests h) 11 a list) (sym places) (subst (λ (l : List Idn). HasFailedCheck s (past s requests h) 11 (member s k).address l) (sym lists) (listed i bytes raw complete found))
           where
             are : AreBegunTasks s k (past s requests h).plan ((past s requests h).waiting k) (past s requests h).now.phase (b ∷ older) (t ∷ tasks)
             are = newest_so k there b older t tasks begun tasks_are
@@ -264,23 +222,19 @@ module _ (has_next : HasNext) (s : Known) (requests : ℕ → List Task) (h : Li
                 let well = well_before k (reads_count (member s k) + 11) b older t tasks f (omega arith) are.1.well in
                 failed_so k 11 b older t tasks o bytes there begun ended complete at well.0 (given_before k (reads_count (member s k) + 11) older tasks well.0 f well.1) failed
 
-            said : Says (member s k).address t.request o (stop.Check127 address (record { items = list })) → HasFailedCheck s (past s requests h) 11 address list
-            said (SaysRefused code same other) = absurd (cc)
-            said (SaysBad i bytes asks complete none other) = absurd (cc)
-            said (Says128 i bytes asks raw complete other) = absurd (cc)
-            said (Says127 i bytes asks raw complete same) =
-                let places : address ≡ (member s k).address = ap drive_in same in
-                let lists : list ≡ take 64 (idns_in bytes) = ap list_in same in
-                let found = list_task s k are.1.by_then ((past s requests h).waiting k) (outcomes_in older) t i (numbered_now k) (ap (λ (n : ℕ). list_all (λ (m : ℕ). not (m == n)) declared_times) raw) number asks are.1.task in
-                subst (λ (a : ℕ). HasFailedCheck s (past s requests h) 11 a list) (sym places) (subst (λ (l : List Idn). HasFailedCheck s (past s requests h) 11 (member s k).address l) (sym lists) (listed i bytes raw complete found))
-
     pub check128_cause : (address : ℕ) (list : List Idn) → (past s requests h).stop ≡ Some (stop.Check128 address (record { items = list })) → HasFailedCheck s (past s requests h) 12 address list
     check128_cause address list is = by (stop_has_cause s requests h (stop.Check128 address (record { items = list })) is)
       where
         by : StopsFor s (past s requests h) (stop.Check128 address (record { items = list })) → HasFailedCheck s (past s requests h) 12 address list
         by (OfPlan chain other whole all made) = absurd (cc)
         by (OfLength place i word other whole long) = absurd (cc)
-        by (OfTask k b older t tasks o there begun tasks_are number ended says) = said (says_so (member s k).address t.request o (stop.Check128 address (record { items = list })) says)
+        by (OfTask k b older t tasks o there begun tasks_are number ended says) =
+            let (places, i, bytes, asks, raw, complete, lists) = says_so (member s k).address t.request o
+            (stop.Check128 address (record { items = list })) says in
+            let found = list_task s k are.1.by_then ((past s requests h).waiting k) (outcomes_in older) t i
+            (all_numbered s requests h have k) (ap (λ (n : ℕ). list_all (λ (m : ℕ). not (m == n)) declared_times) raw) number asks
+            are.1.task in
+            subst (λ (a : ℕ). HasFailedCheck s (past s requests h) 12 a list) (sym places) (subst (λ (l : List Idn). HasFailedCheck s (past s requests h) 12 (member s k).address l) (sym lists) (listed i bytes raw complete found))
           where
             are : AreBegunTasks s k (past s requests h).plan ((past s requests h).waiting k) (past s requests h).now.phase (b ∷ older) (t ∷ tasks)
             are = newest_so k there b older t tasks begun tasks_are
@@ -317,14 +271,4 @@ module _ (has_next : HasNext) (s : Known) (requests : ℕ → List Task) (h : Li
                 let well = well_before k (reads_count (member s k) + 12) b older t tasks f (omega arith) are.1.well in
                 let checked = stays f (checked_before f well.0 well.1 f.is.task) in
                 failed_so k 12 b older t tasks o bytes there begun ended complete at well.0 (given_before k (reads_count (member s k) + 12) older tasks well.0 f well.1)
-                (and_second (is_checked (member s k) (outcomes_in older)) (ended_well (given (outcomes_in older) (reads_count (member s k) + 12))) checked failed)
-
-            said : Says (member s k).address t.request o (stop.Check128 address (record { items = list })) → HasFailedCheck s (past s requests h) 12 address list
-            said (SaysRefused code same other) = absurd (cc)
-            said (SaysBad i bytes asks complete none other) = absurd (cc)
-            said (Says127 i bytes asks raw complete other) = absurd (cc)
-            said (Says128 i bytes asks raw complete same) =
-                let places : address ≡ (member s k).address = ap drive_in same in
-                let lists : list ≡ take 64 (idns_in bytes) = ap list_in same in
-                let found = list_task s k are.1.by_then ((past s requests h).waiting k) (outcomes_in older) t i (numbered_now k) (ap (λ (n : ℕ). list_all (λ (m : ℕ). not (m == n)) declared_times) raw) number asks are.1.task in
-                subst (λ (a : ℕ). HasFailedCheck s (past s requests h) 12 a list) (sym places) (subst (λ (l : List Idn). HasFailedCheck s (past s requests h) 12 (member s k).address l) (sym lists) (listed i bytes raw complete found))
+                (sym (ap (λ (v : Bool). v && ended_well (given (outcomes_in older) (reads_count (member s k) + 12))) checked) ∙ failed)

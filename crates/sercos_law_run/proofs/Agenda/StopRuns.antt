@@ -1,11 +1,12 @@
 -- After any calls a stop has its cause.
-use Rattle.sercos_law_run.proofs.Words.{◌≡◌, ℕ, suc, ◌+◌, ◌<◌, Bool, true, false, ◌&&◌, List, [], ◌∷◌, ◌++◌, length, refl, sym, ap, ◌∙◌, subst, arith, if◌then◌else◌, ap₂, nat_le, Option, Some, None, Err, is_some, is_none, option_map, slice_get, filter, last_or, get_or_from_slice_get, same_Some, slice_get_within, leb-true, status_of, word_at, Idn, Outcome, outcome_of, next_step, has_next, record_bytes, WishesView, ChainView, planned, Begun, open_in, begun_by, Stop, is_read, reads_count, stop_by, asked_by, wishes_given, mdt_attributes, RecordEntry, record_entries, entries_from, has_four_bytes, stop_of_entry, last_long_stop, no_member, Known, Task, MemberView, member, with_outcome, outcomes_in, last_outcome, trouble_by, of_phase, each_passes, Brings, OfTrouble, OfChain, OfRecords, channel_keeps, going, made, past_keeps, settled_keeps, stopped, Adds, part_before, asks_same, at_adds, Call, Past, outcomes, is_idle, trouble, after_taken, all_read, settled, has_turn, next_task, with_begin, with_task, is_sent_to, addressed_in, ready_to_send, after_mdt, past, AreTooLong, HasBegunTasks}
+use Rattle.sercos_law_run.proofs.Words.{◌≡◌, ℕ, suc, ◌+◌, ◌<◌, Bool, true, false, ◌&&◌, List, [], ◌∷◌, ◌++◌, length, refl, sym, ap, ◌∙◌, subst, arith, if◌then◌else◌, ap₂, nat_le, Option, Some, None, Err, is_some, is_none, option_map, slice_get, filter, last_or, get_or_from_slice_get, same_Some, slice_get_within, leb-true, status_of, word_at, Idn, Outcome, outcome_of, next_step, record_bytes, WishesView, ChainView, planned, Begun, open_in, begun_by, Stop, is_read, reads_count, stop_by, asked_by, wishes_given, mdt_attributes, RecordEntry, record_entries, entries_from, has_four_bytes, stop_of_entry, last_long_stop, no_member, Known, Task, MemberView, member, with_outcome, outcomes_in, last_outcome, trouble_by, of_phase, each_passes, Brings, OfTrouble, OfChain, OfRecords, channel_keeps, going, made, past_keeps, settled_keeps, stopped, Adds, part_before, asks_same, at_adds, Call, Past, outcomes, is_idle, trouble, after_taken, all_read, settled, has_turn, next_task, with_begin, with_task, is_sent_to, addressed_in, ready_to_send, after_mdt, past, AreTooLong, HasBegunTasks, cases_Option, inl, inr}
 use Rattle.sercos_trace.specs.declared.events.Stop.TheVariants as stop
 use Rattle.sercos_master.proofs.Keeping.{came_back}
 use Rattle.sercos_master.specs.Annals.{begins}
 use Rattle.sercos_law_run.proofs.Agenda.ReadWell.{AllComplete, complete, stay_complete}
 use Rattle.sercos_law_run.proofs.Agenda.TaskRuns.{begun_tasks}
-use Rattle.sercos_law_run.proofs.Agenda.OneTurn.{idle_hears, send_same}
+use Rattle.sercos_law_run.proofs.Agenda.OneTurn.{idle_hears}
+use Rattle.sercos_law_run.proofs.Views.MasterSame.{send_same}
 
 -- A stop is what the outcome of a task of the start-up brought, the newest of its channel; or all reads are complete, and no plan
 -- fits what was read, or the records are too long for an MDT by it.
@@ -25,12 +26,10 @@ ended_idle begun b older o is ended = ap (λ (l : List Begun). is_none (open_in 
 -- records too long for an MDT are a bad configuration
 long_bad : (drives : List MemberView) (k : ℕ) (all : ℕ → List Outcome) (x : Stop) → last_long_stop drives k all ≡ Some x
     → (address : ℕ) × (i : Idn) × (word : ℕ) × (x ≡ stop.BadConfig address i word)
-long_bad drives k all x is = by (last_or None (filter has_four_bytes (entries_from drives k all))) is
-  where
-    by : (o : Option RecordEntry) → option_map stop_of_entry o ≡ Some x
-        → (address : ℕ) × (i : Idn) × (word : ℕ) × (x ≡ stop.BadConfig address i word)
-    by None is = absurd (cc)
-    by (Some e) is = (e.address, e.idn, e.word, sym (same_Some (stop_of_entry e) x is))
+long_bad drives k all x is = elim (cases_Option (last_or None (filter has_four_bytes (entries_from drives k all)))) [
+  | inl none ↦ let is = rw none at is in absurd (cc)
+  | inr (e, some) ↦ (e.address, e.idn, e.word, sym (same_Some (stop_of_entry e) x (rw some at is)))
+]
 
 -- what is the last value of four bytes stays, if outcomes come after the reads alone
 attributes_stay : (d : MemberView) (all : List Outcome) (o : Option Outcome) → is_read d all ≡ true → mdt_attributes d (with_outcome o all) ≡ mdt_attributes d all
@@ -88,15 +87,14 @@ module _ (s : Known) where
       by : (tasks : List Task) (begun : List Begun) → p.tasks k ≡ tasks → begun_by (p.calls k) ≡ begun → trouble_by (member s k).address tasks (last_outcome begun) ≡ Some x → StopsFor s p x
       by [] begun ts bs is = absurd (cc)
       by (t ∷ tasks) [] ts bs is = absurd (cc)
-      by (t ∷ tasks) (b ∷ older) ts bs is = ended (outcome_of b.request b.answers) refl is
+      by (t ∷ tasks) (b ∷ older) ts bs is = elim (cases_Option (outcome_of b.request b.answers)) [
+        | inl none ↦ let is = rw none at is in absurd (cc)
+        | inr (o, some) ↦ numbered o t.number refl some (rw some at is)
+      ]
         where
           numbered : (o : Outcome) (n : Option ℕ) → t.number ≡ n → outcome_of b.request b.answers ≡ Some o → (if is_some n then None else stop_by (member s k).address (asked_by t.request) o) ≡ Some x → StopsFor s p x
           numbered o None none some is = OfTask k b older t tasks o there bs ts none some is
           numbered o (Some i) none some is = absurd (cc)
-
-          ended : (o : Option Outcome) → outcome_of b.request b.answers ≡ o → trouble_by (member s k).address (t ∷ tasks) o ≡ Some x → StopsFor s p x
-          ended None none is = absurd (cc)
-          ended (Some o) some is = numbered o t.number refl some is
 
   settled_has : (p : Past) → ((k : ℕ) → k < length s.drives → HasBegunTasks s p k) → StopHasCause s p → StopHasCause s (settled s p)
   settled_has p are has = settled_keeps (StopHasCause s) s p (λ rests. has)
@@ -114,15 +112,13 @@ module _ (s : Known) where
   mdt_has : (p : Past) → ((k : ℕ) → k < length s.drives → HasBegunTasks s p k) → StopHasCause s p → StopHasCause s (after_mdt s p)
   mdt_has p are has x is = moved (settled s p) (after_mdt s p) x (λ k idle. begun_same k) (λ k. tasks_same k) (λ j. (None, ap outcomes_in (begun_same j))) (settled_has p are has x is)
     where
-      stopped : is_none (settled s p).stop ≡ false
-      stopped = ap is_none is
-
       none : (k : ℕ) → begins s (settled s p) k ≡ None
-      none k = ap (λ (v : Bool). if v && (is_idle (settled s p) k && has_turn s (settled s p) k) then of_phase (settled s p).now.phase (next_task s (settled s p) k) else None) stopped
+      none k = ap (λ (v : Bool). if v && (is_idle (settled s p) k && has_turn s (settled s p) k) then of_phase (settled s p).now.phase
+          (next_task s (settled s p) k) else None) (ap is_none is)
 
       begun_same : (k : ℕ) → begun_by ((after_mdt s p).calls k) ≡ begun_by ((settled s p).calls k)
       begun_same k =
-          send_same s (is_sent_to (ready_to_send s p) (addressed_in s (ready_to_send s p)) k) ((ready_to_send s p).calls k)
+          send_same (is_sent_to (ready_to_send s p) (addressed_in s (ready_to_send s p)) k) ((ready_to_send s p).calls k)
           ∙ ap (λ (t : Option Task). begun_by (with_begin t ((settled s p).calls k))) (none k)
 
       tasks_same : (k : ℕ) → (after_mdt s p).tasks k ≡ (settled s p).tasks k
@@ -134,7 +130,7 @@ module _ (s : Known) where
     mst = λ h whole. has_moved (past s requests h) (came_back whole (past s requests h)) (λ k idle. refl) (λ k. refl)
         (λ j. (None, refl)) refl;
     taken = λ h k content inside is. taken_has k content (past s requests h);
-    mdt = λ h. mdt_has (past s requests h) (λ k there. begun_tasks s k has_next there requests h);
+    mdt = λ h. mdt_has (past s requests h) (λ k there. begun_tasks s k there requests h);
     on = λ h done is. has_moved (past s requests h) (going done (past s requests h)) (λ k idle. refl) (λ k. refl) (λ j. (None, refl)) refl;
     new = λ h cycle before x is. absurd (cc);
   })

@@ -1,5 +1,5 @@
 -- No request is reported twice.
-use Rattle.sercos_law_run.proofs.Words.{ℕ, ◌+◌, ◌≤◌, List, [], ◌∷◌, sym, subst, arith, Option, Some, None, Task, tasks_for, Report, past, HasNext, channel_at, Ascend, Descend, TellsOnce, after_told, still_to_tell, task_numbers, told}
+use Rattle.sercos_law_run.proofs.Words.{ℕ, ◌+◌, ◌≤◌, List, [], ◌∷◌, sym, subst, arith, Option, Some, None, Task, tasks_for, Report, past, channel_at, Ascend, Descend, TellsOnce, after_told, still_to_tell, task_numbers, told}
 use Rattle.sercos_law_run.proofs.Agenda.ReportedRuns.{tells_in_order}
 use Rattle.sercos_law_run.proofs.Agenda.Requests.{are_requests}
 
@@ -26,8 +26,8 @@ split i (r ∷ reports) numbers up = by reports (split i reports (Some r.number 
     by [] (first, down) = (first.1.1, tt)
     by (q ∷ older) (first, down) = (first.1, ((let less = first.0 in omega (arith, less)), down))
 
-pub tells_once : HasNext → TellsOnce
-tells_once has s jobs h k there order =
+pub tells_once : TellsOnce
+tells_once s jobs h k there order =
     let are = are_requests s jobs k in
     (split 1 (told s (tasks_for s jobs) k h) (still_to_tell (channel_at (past s (tasks_for s jobs) h) k))
-    (subst (Rise 1) (sym (tells_in_order has s (tasks_for s jobs) h k are.1 there order)) (rises 1 (tasks_for s jobs k) are.2))).1
+    (subst (Rise 1) (sym (tells_in_order s (tasks_for s jobs) h k are.1 there order)) (rises 1 (tasks_for s jobs k) are.2))).1

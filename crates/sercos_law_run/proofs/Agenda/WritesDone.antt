@@ -1,8 +1,9 @@
 -- From where the check for phase 3 has been begun, each write of the plan is complete, and nothing that was begun after it gives
 -- anything to its identifier number.
-use Rattle.sercos_law_run.proofs.Words.{◌≡◌, ◌⊎◌, inl, inr, ℕ, zero, suc, ◌+◌, ◌<◌, ◌≤◌, Bool, true, false, not, ◌&&◌, List, [], ◌∷◌, length, refl, sym, ap, ap₂, ◌∙◌, subst, arith, ◌==◌, nat_lt, Option, Some, None, option_map, slice_get, list_all, slice_get_within, and_parts, eqb-true, cases_eq, ltb-true, Idn, Request, PlanView, Block, find_block, begun_by, Begun, Given, written_to, given_by, ended_there, get_map, Known, Task, member, startup, idn, reads_count, writes, is_checked, outcomes_in, AreWaiting, not_longer, HasNext, all_waiting, past, IsConfigured, WritesData, ConfiguresFromCheck, ConfiguresAtRise, start_numbers, IsWrittenLast, IsTask, OfReads, OfWrites, Checks3, Lists3, Checks4, Lists4, OfWaiting, IsBegunTask, AreBegunTasks}
+use Rattle.sercos_law_run.proofs.Words.{◌≡◌, ◌⊎◌, inl, inr, ℕ, zero, suc, ◌+◌, ◌<◌, ◌≤◌, Bool, true, false, not, ◌&&◌, List, [], ◌∷◌, length, refl, sym, ap, ap₂, ◌∙◌, subst, arith, ◌==◌, nat_lt, Option, Some, None, option_map, slice_get, list_all, slice_get_within, and_parts, eqb-true, cases_eq, ltb-true, Idn, Request, PlanView, Block, find_block, begun_by, Begun, Given, written_to, given_by, ended_there, get_map, Known, Task, member, startup, idn, reads_count, writes, is_checked, outcomes_in, AreWaiting, not_longer, all_waiting, past, IsConfigured, WritesData, ConfiguresFromCheck, ConfiguresAtRise, start_numbers, IsWrittenLast, IsTask, OfReads, OfWrites, Checks3, Lists3, Checks4, Lists4, OfWaiting, IsBegunTask, AreBegunTasks, cases_Bool, cases_Option}
 use Rattle.sercos_step.specs.declared.request.Request.TheVariants as request
 use Rattle.sercos_law_run.proofs.Agenda.TaskRuns.{begun_tasks}
+use Rattle.sercos_law_channel.proofs.Options.{all_at}
 
 -- The identifier numbers of the writes ascend, and all are below 127.
 
@@ -30,9 +31,7 @@ in_order n (z ∷ xs) (suc i) zero x y up got other less = absurd (omega arith)
 in_order n (z ∷ xs) (suc i) (suc j) x y up got other less = in_order z xs i j x y (and_parts (nat_lt n z) (ascends z xs) up).1 got other (omega arith)
 
 below : (xs : List ℕ) (i x : ℕ) → list_all (λ (n : ℕ). nat_lt n 127) xs ≡ true → slice_get xs i ≡ Some x → x < 127
-below [] i x all got = absurd (cc)
-below (y ∷ xs) zero x all got = let same : y ≡ x = cc in let less = ltb-true y 127 (and_parts (nat_lt y 127) _ all).0 in omega arith
-below (y ∷ xs) (suc i) x all got = below xs i x (and_parts (nat_lt y 127) _ all).1 got
+below xs i x all got = ltb-true x 127 (all_at (λ (n : ℕ). nat_lt n 127) xs i x all got)
 
 pub number_at : (s : Known) (p : PlanView) (k i : ℕ) (r : Request) → slice_get (writes s p k) i ≡ Some r → slice_get start_numbers i ≡ Some (raw_of r)
 number_at s p k i r got = get_map raw_of (writes s p k) i ∙ ap (option_map raw_of) got
@@ -55,21 +54,13 @@ all_data_writes s p k i r got = data_write (writes s p k) i r (DataWrite _ _ ref
 
 -- what gives to another identifier number
 other_number : (n raw : ℕ) → (n ≡ raw → ⊥) → not (n == raw) ≡ true
-other_number n raw other = which (n == raw) refl
-  where
-    which : (v : Bool) → (n == raw) ≡ v → not v ≡ true
-    which false is = refl
-    which true is = absurd (other (eqb-true n raw is))
+other_number n raw other = elim (cases_Bool (n == raw)) [ inl is ↦ absurd (other (eqb-true n raw is)) | inr is ↦ rw is ]
 
 pub write_away : (blocks : List Block) (raw : ℕ) (i : Idn) (bytes : List ℕ) → (i.raw ≡ raw → ⊥) → list_all (λ (g : Given). not (g.raw == raw)) (given_by blocks (request.Write i 7 bytes)) ≡ true
-write_away blocks raw i bytes other = by (find_block i.raw blocks)
-  where
-    by : (o : Option Block) → list_all (λ (g : Given). not (g.raw == raw)) (written_to i.raw bytes o) ≡ true
-    by None = refl
-    by (Some b) = ap (λ (v : Bool). v && true) (other_number i.raw raw other)
-
-command_away : (blocks : List Block) (raw n : ℕ) → (n ≡ raw → ⊥) → list_all (λ (g : Given). not (g.raw == raw)) (given_by blocks (request.Command (idn n))) ≡ true
-command_away blocks raw n other = ap (λ (v : Bool). v && (v && true)) (other_number n raw other)
+write_away blocks raw i bytes other = elim (cases_Option (find_block i.raw blocks)) [
+  | inl none ↦ rw none
+  | inr (b, some) ↦ rw some (ap (λ (v : Bool). v && true) (other_number i.raw raw other))
+]
 
 module _ (s : Known) (k : ℕ) (blocks : List Block) (plan : Option PlanView) (waiting : List Task) (phase : ℕ) (early : phase ≤ 3) (are_waiting : AreWaiting waiting) where
   same_plan : (pl p : PlanView) (by_then : Option PlanView) → plan ≡ Some pl → (by_then ≡ None) ⊎ (by_then ≡ plan) → by_then ≡ Some p → p ≡ pl
@@ -91,7 +82,8 @@ module _ (s : Known) (k : ℕ) (blocks : List Block) (plan : Option PlanView) (w
       reads_nothing n j same = ap (λ (x : Task). list_all (λ (g : Given). not (g.raw == w.raw)) (given_by blocks x.request)) same
 
       commands : (phase n : ℕ) → t ≡ startup phase (request.Command (idn n)) → (n ≡ w.raw → ⊥) → list_all (λ (g : Given). not (g.raw == w.raw)) (given_by blocks t.request) ≡ true
-      commands phase n same other = ap (λ (x : Task). list_all (λ (g : Given). not (g.raw == w.raw)) (given_by blocks x.request)) same ∙ command_away blocks w.raw n other
+      commands phase n same other = ap (λ (x : Task). list_all (λ (g : Given). not (g.raw == w.raw)) (given_by blocks x.request)) same
+          ∙ ap (λ (v : Bool). v && (v && true)) (other_number n w.raw other)
 
       by : IsTask s k task.by_then waiting (outcomes_in older) t → list_all (λ (g : Given). not (g.raw == w.raw)) (given_by blocks t.request) ≡ true
       by (OfReads r less got same) = let e = task.ended in absurd (omega arith)
@@ -149,31 +141,33 @@ module _ (s : Known) (k : ℕ) (blocks : List Block) (plan : Option PlanView) (w
     pub written : (x : Begun) (begun : List Begun) (t : Task) (tasks : List Task) → AreBegunTasks s k plan waiting phase (x ∷ begun) (t ∷ tasks) → reads_count (member s k) + i < length begun → IsWrittenLast blocks (x ∷ begun) w bytes
     written x [] t tasks are later = absurd (omega arith)
     written x (b ∷ older) t [] are later = absurd are.0
-    written x (b ∷ older) t (u ∷ tasks) are later = by (cases_eq (length older) (reads_count (member s k) + i)) (written b older u tasks are.0)
+    written x (b ∷ older) t (u ∷ tasks) are later = elim (cases_eq (length older) (reads_count (member s k) + i)) [
+      | inl at ↦
+          let so = is_write pl i (request.Write w 7 bytes) b u older tasks has is low at are.0.1 in
+          let well = are.1.well so.1 in record {
+            newer = x ∷ [];
+            one = b;
+            older = older;
+            split = refl;
+            asks = so.0;
+            whole = well.0;
+            complete = well.1;
+            away = (tt, elsewhere);
+          }
+      | inr other ↦ newer_more x (b ∷ older) elsewhere ((written b older u tasks are.0) (omega arith))
+    ]
       where
         elsewhere : list_all (λ (g : Given). not (g.raw == w.raw)) (given_by blocks x.request) ≡ true
         elsewhere = away pl i w bytes x t (b ∷ older) (u ∷ tasks) has is later are.1
-
-        by : (length older ≡ reads_count (member s k) + i) ⊎ (length older ≡ reads_count (member s k) + i → ⊥) → (reads_count (member s k) + i < length older → IsWrittenLast blocks (b ∷ older) w bytes) → IsWrittenLast blocks (x ∷ b ∷ older) w bytes
-        by (inl at) more =
-            let so = is_write pl i (request.Write w 7 bytes) b u older tasks has is low at are.0.1 in
-            let well = are.1.well so.1 in record {
-              newer = x ∷ [];
-              one = b;
-              older = older;
-              split = refl;
-              asks = so.0;
-              whole = well.0;
-              complete = well.1;
-              away = (tt, elsewhere);
-            }
-        by (inr other) more = newer_more x (b ∷ older) elsewhere (more (omega arith))
 
   -- where the check for phase 3 has been begun there is a plan
   has_plan : (begun : List Begun) (tasks : List Task) → AreBegunTasks s k plan waiting phase begun tasks → reads_count (member s k) + 11 < length begun → (pl : PlanView) × (plan ≡ Some pl)
   has_plan [] tasks are many = absurd (omega arith)
   has_plan (b ∷ older) [] are many = absurd are
-  has_plan (b ∷ older) (t ∷ tasks) are many = by (cases_eq (length older) (reads_count (member s k) + 11)) (has_plan older tasks are.0)
+  has_plan (b ∷ older) (t ∷ tasks) are many = elim (cases_eq (length older) (reads_count (member s k) + 11)) [
+    | inl at ↦ planned_by at are.1.task
+    | inr other ↦ (has_plan older tasks are.0) (omega arith)
+  ]
     where
       some : (o : Option PlanView) (p : PlanView) → (o ≡ None) ⊎ (o ≡ plan) → o ≡ Some p → (pl : PlanView) × (plan ≡ Some pl)
       some o p (inl none) planned = absurd (cc)
@@ -187,10 +181,6 @@ module _ (s : Known) (k : ℕ) (blocks : List Block) (plan : Option PlanView) (w
       planned_by at (Checks4 at_j checked same) = let e = are.1.ended in absurd (omega arith)
       planned_by at (Lists4 at_j failed same) = let e = are.1.ended in absurd (omega arith)
       planned_by at (OfWaiting j at_j ready got) = let e = are.1.ended in absurd (omega arith)
-
-      by : (length older ≡ reads_count (member s k) + 11) ⊎ (length older ≡ reads_count (member s k) + 11 → ⊥) → (reads_count (member s k) + 11 < length older → (pl : PlanView) × (plan ≡ Some pl)) → (pl : PlanView) × (plan ≡ Some pl)
-      by (inl at) more = planned_by at are.1.task
-      by (inr other) more = more (omega arith)
 
   pub check_configured : (begun : List Begun) (tasks : List Task) → AreBegunTasks s k plan waiting phase begun tasks → reads_count (member s k) + 11 < length begun → IsConfigured s k blocks plan begun
   check_configured [] tasks are many = absurd (omega arith)
@@ -224,13 +214,12 @@ writes_data s plan k i low = by (some_at (writes s plan k) i low)
         which : IsDataWrite r → (idn : Idn) × (bytes : List ℕ) × (slice_get (writes s plan k) i ≡ Some (request.Write idn 7 bytes)) × (slice_get start_numbers i ≡ Some idn.raw)
         which (DataWrite v bytes form) = (v, bytes, got ∙ ap (λ (x : Request). Some x) form, number_at s plan k i r got ∙ ap (λ (x : Request). Some (raw_of x)) form)
 
-module _ (has_next : HasNext) where
-  pub configures_from_check : ConfiguresFromCheck
-  configures_from_check s requests h k blocks wait there early many =
-      let p = past s requests h in
-      check_configured s k blocks p.plan (p.waiting k) p.now.phase early (all_waiting s requests h wait k) (begun_by (p.calls k)) (p.tasks k) (begun_tasks s k has_next there requests h) many
+pub configures_from_check : ConfiguresFromCheck
+configures_from_check s requests h k blocks wait there early many =
+    let p = past s requests h in
+    check_configured s k blocks p.plan (p.waiting k) p.now.phase early (all_waiting s requests h wait k) (begun_by (p.calls k)) (p.tasks k) (begun_tasks s k there requests h) many
 
-  pub configures_at_rise : ConfiguresAtRise
-  configures_at_rise s requests h k blocks wait there early checked =
-      let p = past s requests h in
-      rise_configured s k blocks p.plan (p.waiting k) p.now.phase early (all_waiting s requests h wait k) (begun_by (p.calls k)) (p.tasks k) (begun_tasks s k has_next there requests h) checked
+pub configures_at_rise : ConfiguresAtRise
+configures_at_rise s requests h k blocks wait there early checked =
+    let p = past s requests h in
+    rise_configured s k blocks p.plan (p.waiting k) p.now.phase early (all_waiting s requests h wait k) (begun_by (p.calls k)) (p.tasks k) (begun_tasks s k there requests h) checked

@@ -1,25 +1,17 @@
 -- In a cycle commanded 3 or 4 the telegrams are apart.
-use Rattle.sercos_law_run.proofs.Words.{◌≡◌, ◌⊎◌, inl, inr, ℕ, ◌+◌, ◌*◌, ◌<◌, ◌≤◌, Bool, true, false, List, [], ◌∷◌, ◌++◌, map, length, Option, Some, refl, sym, ◌∙◌, ap, ap₂, subst, arith, if◌then◌else◌, ◌==◌, nat_le, slice_index, pos, nat_tests, wire_bits, frame_of, all_drives, Job, WishesView, PlanView, record_bytes, Wish, wish_of, record_len, IsStore, store_of, DriveView, RingView, number_at, carried_len, phase_in, cycle_in, blocks_in, Said, values_in, SentView, CycleView, AtSlot, MdtSlot, IsSending, IsApart, Known, known_of, fields_length, IsStoreOf, start_up, Holds, held_by, AreSent, AllHold, Past, Sent, records_from, joint, mdt_said, Carry, Restarts, standing, stood_in, drive_at, given_mst, sent_mdt, ats_said, mst_next, ats_next, mdt_next, IsNext, at_start, behind_mdt, after_mst, view_of, views_of, IsSaid, IsSpelled, IsOpened, IsStored, takes_part, store_in_cycle, AreApartIn, stands_as_commanded, wishes_of}
+use Rattle.sercos_law_run.proofs.Words.{◌≡◌, ◌⊎◌, inl, inr, ℕ, ◌+◌, ◌*◌, ◌<◌, ◌≤◌, Bool, true, false, List, [], ◌∷◌, ◌++◌, map, length, Option, Some, refl, sym, ◌∙◌, ap, ap₂, subst, arith, if◌then◌else◌, ◌==◌, nat_le, slice_index, pos, nat_tests, wire_bits, frame_of, all_drives, Job, WishesView, PlanView, record_bytes, Wish, wish_of, record_len, IsStore, store_of, DriveView, RingView, number_at, carried_len, phase_in, cycle_in, blocks_in, Said, values_in, SentView, CycleView, AtSlot, MdtSlot, IsSending, IsApart, Known, known_of, fields_length, IsStoreOf, start_up, Holds, held_by, AreSent, AllHold, Past, Sent, records_from, joint, mdt_said, Carry, Restarts, standing, stood_in, drive_at, given_mst, sent_mdt, ats_said, mst_next, ats_next, mdt_next, IsNext, at_start, behind_mdt, after_mst, view_of, views_of, IsSaid, IsSpelled, IsOpened, IsStored, takes_part, store_in_cycle, AreApartIn, stands_as_commanded, wishes_of, same_Some}
 use Rattle.sercos_telegram.specs.declared.layout.Kind.TheVariants as kinds
 use Rattle.sercos_law_run.proofs.Slots.Places.{length_records}
 use Rattle.sercos_law_run.proofs.Start.CheckPasses.{wish_is}
 use Rattle.sercos_law_run.proofs.Views.Members.{members_count}
 use Rattle.sercos_law_run.proofs.Held.Laid.{records_of, records_concat, records_lengths}
-use Rattle.sercos_law_run.proofs.Held.Runs.{AllStand, IsPlannedIn, drive_got, got_inside, s_known, holding, one_plan, phase_same, kept_at_mst}
+use Rattle.sercos_law_run.proofs.Held.Runs.{AllStand, IsPlannedIn, drive_got, got_inside, s_known, holding, phase_same, kept_at_mst}
 use Rattle.sercos_law_run.proofs.Headline.Placed.{Placed, placed_below, placed_said, IsPlaced, are_placed, are_ordered}
 use Rattle.sercos_law_run.proofs.Headline.AtLengths.{carried_length}
 use Rattle.sercos_law_run.proofs.Headline.ApartRuns.{ends_at_0, slot_of, all_slots, slots_ordered, Sends, sent_by, ats_sent}
 use Rattle.sercos_law_run.proofs.Held.Agreed.{wishes_count}
 use Rattle.sercos_law_run.proofs.Start.RingSlotLemmas.{ring_sends_apart}
-
--- the ring's wishes
-record_lengths : (r : RingView) → map (λ (w : Wish). w.record_len) (wishes_of r).drives ≡ map record_len r.drives
-unfolding wishes_of
-record_lengths r = by r.drives
-  where
-    by : (drives : List DriveView) → map (λ (w : Wish). w.record_len) (map wish_of drives) ≡ map record_len drives
-    by [] = refl
-    by (d ∷ drives) = ap (λ (l : List ℕ). record_len d ∷ l) (by drives)
+use Rattle.sercos_law_run.proofs.Start.RingSlotLemmas.{lengths as wish_lengths}
 
 -- no frame is longer than its content may need
 pub record AreFramed (r : RingView) (jobs : List Job) (carry : Carry) (restarts : Restarts) (t : CycleView) (j : List CycleView) : Type 0 where
@@ -33,9 +25,6 @@ joint_said s p plan late has =
     let two : (p.now.phase == 2) ≡ false = grind (arith, nat_tests, late) in
     let three : nat_le 3 p.now.phase ≡ true = grind (arith, nat_tests, late) in
     rw (one, two, three, has) refl
-
-first_apart : {A : Type 0} (x : A) (xs ys : List A) → (x ∷ xs) ++ ys ≡ x ∷ (xs ++ ys)
-first_apart x xs ys = refl
 
 module _ (r : RingView) (jobs : List Job) (carry : Carry) (restarts : Restarts) (opened : IsOpened r jobs)
     (first : (k : ℕ) → k < length r.drives → IsStore (store_of (drive_at r k))) (t : CycleView) (j : List CycleView)
@@ -85,14 +74,14 @@ module _ (r : RingView) (jobs : List Job) (carry : Carry) (restarts : Restarts) 
     last = record { kind = kinds.Mdt; start = pos (r.rate * plan.t2); bits = length (frame_of content); content = content }
 
     sent_is : t.sent ≡ mst_next r jobs carry restarts j ∷ (ats_said r.rate (map (λ (x : Placed). x.says) placed) ++ last ∷ [])
-    sent_is = next.sent ∙ first_apart (mst_next r jobs carry restarts j) (ats_next r carry restarts t.sent j) (mdt_next r jobs carry restarts t.sent j)
+    sent_is = next.sent
         ∙ ap₂ (λ (l : List Said) (m : Option Sent). mst_next r jobs carry restarts j ∷ (ats_said r.rate l ++ sent_mdt r.rate m)) (sym (placed_said (length r.drives) (drive_at r) r.rate (given_mst carry restarts t.sent j))) said
 
     holds : AllHold r plan (takes_part r carry restarts t j) (store_in_cycle r carry restarts t j)
     holds k d got takes =
         let (low, same) = got_inside r.drives k d got in
         let (made, by, there) = holding r jobs carry restarts opened first t j next clear spelled stored all late k low in
-        let one : made ≡ plan = one_plan r jobs carry restarts opened first t j next clear spelled stored all by.before planned.before in
+        let one : made ≡ plan = same_Some _ _ (sym by.before ∙ planned.before) in
         subst (λ (x : DriveView). IsStoreOf x (store_in_cycle r carry restarts t j k) × Holds (store_in_cycle r carry restarts t j k) (start_up r.control r.cycle plan k x.at x.mdt)) (sym same)
         ((stored k low).1, subst (λ (p : PlanView). Holds (store_in_cycle r carry restarts t j k) (start_up r.control r.cycle p k (drive_at r k).at (drive_at r k).mdt)) one there)
 
@@ -132,7 +121,7 @@ module _ (r : RingView) (jobs : List Job) (carry : Carry) (restarts : Restarts) 
       in_order = slots_ordered r.rate (s_known r jobs carry restarts opened first).cycles.rate placed (are_ordered (length r.drives) (drive_at r) r.rate (given_mst carry restarts t.sent j));
       mdt_start = refl;
       mdt_bits = subst (λ (n : ℕ). length (frame_of content) ≤ wire_bits n) long (framed.mdt (joint (known_of r) (behind_mdt r jobs carry restarts t.sent j) plan) said);
-      records = lengths ∙ record_lengths r;
+      records = lengths ∙ sym (wish_lengths r);
     }
 
     sending : IsSending (wishes_of r) ats mdt (mst_next r jobs carry restarts j) (ats_said r.rate (map (λ (x : Placed). x.says) placed)) last

@@ -2,6 +2,7 @@
 use Rattle.sercos_law_run.proofs.Words.{◌≡◌, ◌⊎◌, inl, inr, ℕ, zero, suc, ◌*◌, ◌<◌, ◌≤◌, Bool, true, false, List, [], ◌∷◌, map, length, Option, Some, None, refl, ap, subst, arith, if◌then◌else◌, ◌-◌, nat_lt, slice_index, pos, ◌+ℤ◌, unwrap_or, All, AllPairs, nat_tests, All-nil, All-cons, AllPairs-cons, frame_of, fields, WishesView, wish, DriveView, DriveCall, Moment, phase_in, cycle_in, has_mst, has_taken, blocks_in, commands_in, records_in, Said, said, said_in, sends, shown_word, values_in, start_in, Shown, channel_says, AtSlot, IsSentBefore, AreAtsOf, start_before, ats_said}
 use Rattle.sercos_law_run.proofs.Headline.Placed.{Placed, IsPlaced, ArePlaced, ComesBefore, AreBehind, AreOrdered}
 use Rattle.sercos_law_run.proofs.Views.Coupled.{sends_so}
+use Rattle.sercos_law_run.proofs.Journal.StationLemmas.{says_that}
 
 -- an MST ends at 0
 pub ends_at_0 : (n : ℕ) → start_before n +ℤ pos n ≡ pos 0
@@ -48,20 +49,11 @@ pub record Sends (d : DriveView) (past : List Moment) (s : Said) : Type 0 where
   pub content : s.content ≡ d.address ∷ fields word info (values_in (cycle_in past) (phase_in past) (blocks_in d past))
 
 pub sent_by : (d : DriveView) (rate : ℕ) (past : List Moment) (s : Said) → said_in d rate past ≡ Some s → Sends d past s
-sent_by d rate past s is = by (sends past) refl is
-  where
-    shows : Shown
-    shows = channel_says d.busy (cycle_in past) (commands_in d rate past) (records_in past)
-
-    what : Said
-    what = said d.address (cycle_in past) (phase_in past) (blocks_in d past) (channel_says d.busy (cycle_in past) (commands_in d rate past) (records_in past))
-
-    by : (b : Bool) → sends past ≡ b → (if b then Some what else None) ≡ Some s → Sends d past s
-    by true sent is =
-        let same : what ≡ s = ap (λ (o : Option Said). unwrap_or o what) is in
-        let (got, stands) = sends_so (has_mst past) (has_taken past) (phase_in past) sent in
-        subst (λ x. Sends d past x) same (record { got = got; stands = stands; start = refl; word = shown_word shows; info = shows.word; content = refl })
-    by false sent is = cc
+sent_by d rate past s is =
+    let shows : Shown = channel_says d.busy (cycle_in past) (commands_in d rate past) (records_in past) in
+    let (sent, same) = says_that d rate past s is in
+    let (got, stands) = sends_so (has_mst past) (has_taken past) (phase_in past) sent in
+    subst (λ x. Sends d past x) same (record { got = got; stands = stands; start = refl; word = shown_word shows; info = shows.word; content = refl })
 
 -- the ATs that are sent in these slots
 pub ats_sent : (w : WishesView) (rate : ℕ) (n : ℕ) (d : ℕ → DriveView) (h : ℕ → List DriveCall) (others : List Placed) → ArePlaced n d rate h others

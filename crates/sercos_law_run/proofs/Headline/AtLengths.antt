@@ -1,5 +1,5 @@
 -- An AT is as long as the list in its drive's store says.
-use Rattle.sercos_law_run.proofs.Words.{◌≡◌, ℕ, ◌+◌, ◌*◌, ◌%◌, Bool, true, false, not, ◌&&◌, List, [], ◌∷◌, length, Option, Some, None, refl, ◌∙◌, ap, arith, if◌then◌else◌, length-append, cond_both, ◌==◌, nat_le, option_and_then, unwrap_or, sum_by, flat_map, to_le_bytes, nat_tests, flat_map-cons, sum_by-cons, Idn, Length, Two, Four, List1, List2, List4, is_list, item_len, Block, is_number, width_of, bits_in, number_end, bytes_for, number_len, IsStore, find_block, is_sound, is_len, SoundParts-is_sound, idns_at, bytes_in_cycle, values_in, found_sound, carried_len, data_in, value_in}
+use Rattle.sercos_law_run.proofs.Words.{◌≡◌, ℕ, ◌+◌, ◌*◌, ◌%◌, Bool, true, false, not, ◌&&◌, List, [], ◌∷◌, length, Option, Some, None, refl, ◌∙◌, ap, arith, if◌then◌else◌, length-append, cond_both, ◌==◌, nat_le, option_and_then, unwrap_or, sum_by, flat_map, to_le_bytes, nat_tests, flat_map-cons, sum_by-cons, Idn, Length, Two, Four, List1, List2, List4, is_list, item_len, Block, is_number, width_of, bits_in, number_end, bytes_for, number_len, IsStore, find_block, is_sound, is_len, SoundParts-is_sound, idns_at, bytes_in_cycle, values_in, found_sound, carried_len, data_in, value_in, cases_Option, inl, inr, not-true, and_parts}
 use Rattle.sercos_command.specs.Checks.{cyclic_len}
 
 number_length : (l : Length) (n : ℕ) → is_list l ≡ false → length (to_le_bytes (width_of l) n) ≡ item_len l
@@ -21,21 +21,17 @@ data_length cycle b single is = cond_both (b.step == 0) b.value
     (λ on. value_len (length b.value) b.max_len (item_len b.attribute.length) (is_list b.attribute.length) single is)
     (λ off. number_length b.attribute.length _ single)
 
-not_list : (a b : Bool) → (not a && b) ≡ true → a ≡ false
-not_list false b is = refl
-not_list true b is = cc
-
 value_length : (cycle : ℕ) (blocks : List Block) (idn : Idn) → IsStore blocks → length (value_in cycle blocks idn) ≡ unwrap_or (cyclic_len blocks idn.raw) 0
 unfolding value_in
-value_length cycle blocks idn store = by (find_block idn.raw blocks) refl
+value_length cycle blocks idn store = elim (cases_Option (find_block idn.raw blocks)) [
+  | inl is ↦ rw is
+  | inr (b, is) ↦ rw is (number b (found_sound idn.raw blocks b store.sound is) (is_number b.attribute) refl)
+]
   where
     number : (b : Block) → is_sound b ≡ true → (t : Bool) → is_number b.attribute ≡ t → length (unwrap_or (if t then Some (data_in cycle b) else None) []) ≡ unwrap_or (if t then Some (item_len b.attribute.length) else None) 0
-    number b sound true is = data_length cycle b (not_list (is_list b.attribute.length) _ is) (SoundParts-is_sound b sound).len
+    number b sound true is = data_length cycle b (not-true (is_list b.attribute.length)
+        (and_parts (not (is_list b.attribute.length)) _ is).0) (SoundParts-is_sound b sound).len
     number b sound false is = refl
-
-    by : (o : Option Block) → find_block idn.raw blocks ≡ o → length (unwrap_or (option_and_then (bytes_in_cycle cycle) o) []) ≡ unwrap_or (option_and_then (λ (b : Block). number_len b.attribute) o) 0
-    by None is = refl
-    by (Some b) is = number b (found_sound idn.raw blocks b store.sound is) (is_number b.attribute) refl
 
 values_length : (cycle : ℕ) (blocks : List Block) (idns : List Idn) → IsStore blocks → length (flat_map (value_in cycle blocks) idns) ≡ sum_by (λ (idn : Idn). unwrap_or (cyclic_len blocks idn.raw) 0) idns
 values_length cycle blocks [] store = refl

@@ -7,6 +7,7 @@ use Rattle.sercos_law_run.proofs.Agenda.ToldEvents.{all_to}
 use Rattle.sercos_law_run.proofs.Views.Members.{member_is, members_count, same_drive}
 use Rattle.sercos_law_run.proofs.Agenda.Requests.{are_requests}
 use Rattle.sercos_law_run.proofs.Cited.{told_in_order, told_once}
+use Rattle.sercos_law_run.proofs.Undisturbed.Arriving.AfterAt.{ats_keep}
 
 -- ---- the requests to two drives have no number in common
 
@@ -160,17 +161,11 @@ pub starts : (r : RingView) (carry : Carry) (restarts : Restarts) (j : List Cycl
 starts r carry restarts [] = tt
 starts r carry restarts (t ∷ j) = tt
 
-ats_start : (r : RingView) (carry : Carry) (cycle : ℕ) (ats : List (List ℕ)) (h : List Call) → RestartsAtStart h → RestartsAtStart (at_calls r carry cycle ats h)
-ats_start r carry cycle [] h are = are
-ats_start r carry cycle (at ∷ ats) h are = ats_start r carry cycle ats _ (by (heard carry (passage cycle kinds.At (station_of r (slice_index at 0)) 0) at))
-  where
-    by : (o : Option (List ℕ)) → RestartsAtStart (with_at o h)
-    by None = are
-    by (Some content) = are
-
 pub restarts_so : (r : RingView) (carry : Carry) (restarts : Restarts) (j : List CycleView) → RestartsAtStart (master_calls r carry restarts j)
 restarts_so r carry restarts [] = tt
-restarts_so r carry restarts (t ∷ j) = ats_start r carry (length j) (ats_in t.sent) (own_mst carry (length j) (mst_in t.sent) (begin_calls restarts (length j) (master_calls r carry restarts j))) (by (restarts (length j) 0) (restarts_so r carry restarts j) (starts r carry restarts j))
+restarts_so r carry restarts (t ∷ j) = ats_keep RestartsAtStart r carry (length j) (ats_in t.sent)
+    (own_mst carry (length j) (mst_in t.sent) (begin_calls restarts (length j) (master_calls r carry restarts j)))
+    (by (restarts (length j) 0) (restarts_so r carry restarts j) (starts r carry restarts j)) (λ content g are. are)
   where
     by : (b : Bool) → RestartsAtStart (master_calls r carry restarts j) → IsAtStart (master_calls r carry restarts j) → RestartsAtStart (if b then Restart ∷ master_calls r carry restarts j else master_calls r carry restarts j)
     by true are at = (are, at)
@@ -200,12 +195,7 @@ module _ (r : RingView) (jobs : List Job) (carry : Carry) (restarts : Restarts) 
           (number_of (reports_at h k) (still_to_tell (channel_at (looks_back r jobs h) k)) m o has)
 
   reports_ats : (k cycle : ℕ) (ats : List (List ℕ)) (h : List Call) → reports_at h k ≡ reports_at (at_calls r carry cycle ats h) k
-  reports_ats k cycle [] h = refl
-  reports_ats k cycle (at ∷ ats) h = by (heard carry (passage cycle kinds.At (station_of r (slice_index at 0)) 0) at) ∙ reports_ats k cycle ats _
-    where
-      by : (o : Option (List ℕ)) → reports_at h k ≡ reports_at (with_at o h) k
-      by None = refl
-      by (Some content) = refl
+  reports_ats k cycle ats h = ats_keep (λ g. reports_at h k ≡ reports_at g k) r carry cycle ats h refl (λ content g so. so)
 
   there_in : (t : CycleView) (j : List CycleView) → IsNext r jobs carry restarts t j → AreThere n (reports_at (master_calls r carry restarts j)) (reports_at (master_calls r carry restarts (t ∷ j))) t.events.outcomes
   there_in t j next =

@@ -1,5 +1,5 @@
 -- The ATs of a cycle in the order sent, each with the place of its drive.
-use Rattle.sercos_law_run.proofs.Words.{◌≡◌, ◌⊎◌, inl, inr, ℕ, zero, suc, ◌<◌, ◌≤◌, Bool, true, false, List, [], ◌∷◌, map, Option, Some, None, refl, ◌∙◌, ap, arith, if◌then◌else◌, nat_lt, cases_eq, nat_tests, DriveView, DriveCall, Said, drive_says, with_said, said_below}
+use Rattle.sercos_law_run.proofs.Words.{◌≡◌, ◌⊎◌, inl, inr, ℕ, zero, suc, ◌<◌, ◌≤◌, Bool, true, false, List, [], ◌∷◌, map, Option, Some, None, refl, ◌∙◌, ap, arith, if◌then◌else◌, nat_lt, cases_eq, nat_tests, DriveView, DriveCall, Said, drive_says, with_said, said_below, cases_Bool, cases_Option}
 use Rattle.sercos_law_run.specs.Journal.Runs.{inserted}
 
 pub record Placed : Type 0 where
@@ -21,20 +21,17 @@ placed_below (suc n) d rate h = with_placed n (drive_says (d n) rate (h n)) (pla
 -- they are the ATs of the cycle
 put_said : (s : Placed) (others : List Placed) → map (λ (x : Placed). x.says) (put s others) ≡ inserted s.says (map (λ (x : Placed). x.says) others)
 put_said s [] = refl
-put_said s (x ∷ others) = by (nat_lt s.says.start x.says.start) (put_said s others)
-  where
-    by : (b : Bool) → map (λ (y : Placed). y.says) (put s others) ≡ inserted s.says (map (λ (y : Placed). y.says) others)
-        → map (λ (y : Placed). y.says) (if b then s ∷ x ∷ others else x ∷ put s others) ≡ (if b then s.says ∷ x.says ∷ map (λ (y : Placed). y.says) others else x.says ∷ inserted s.says (map (λ (y : Placed). y.says) others))
-    by true rest = refl
-    by false rest = ap (λ (l : List Said). x.says ∷ l) rest
+put_said s (x ∷ others) = elim (cases_Bool (nat_lt s.says.start x.says.start)) [
+  | inl on ↦ rw on
+  | inr off ↦ rw off (ap (λ (l : List Said). x.says ∷ l) (put_said s others))
+]
 
 pub placed_said : (n : ℕ) (d : ℕ → DriveView) (rate : ℕ) (h : ℕ → List DriveCall) → map (λ (x : Placed). x.says) (placed_below n d rate h) ≡ said_below n d rate h
 placed_said zero d rate h = refl
-placed_said (suc n) d rate h = by (drive_says (d n) rate (h n)) (placed_said n d rate h)
-  where
-    by : (o : Option Said) → map (λ (x : Placed). x.says) (placed_below n d rate h) ≡ said_below n d rate h → map (λ (x : Placed). x.says) (with_placed n o (placed_below n d rate h)) ≡ with_said o (said_below n d rate h)
-    by None rest = rest
-    by (Some s) rest = put_said (record { place = n; says = s }) (placed_below n d rate h) ∙ ap (inserted s) rest
+placed_said (suc n) d rate h = elim (cases_Option (drive_says (d n) rate (h n))) [
+  | inl none ↦ rw none (placed_said n d rate h)
+  | inr (s, some) ↦ rw some (put_said (record { place = n; says = s }) (placed_below n d rate h) ∙ ap (inserted s) (placed_said n d rate h))
+]
 
 -- each is what the drive at its place says
 abbrev pub IsPlaced : ℕ → (ℕ → DriveView) → ℕ → (ℕ → List DriveCall) → Placed → Type 0
@@ -50,11 +47,10 @@ more n d rate h (x ∷ others) ((low, says), are) = ((omega (arith, low), says),
 
 put_placed : (n : ℕ) (d : ℕ → DriveView) (rate : ℕ) (h : ℕ → List DriveCall) (s : Placed) (others : List Placed) → IsPlaced n d rate h s → ArePlaced n d rate h others → ArePlaced n d rate h (put s others)
 put_placed n d rate h s [] one are = (one, tt)
-put_placed n d rate h s (x ∷ others) one (first, are) = by (nat_lt s.says.start x.says.start) (put_placed n d rate h s others one are)
-  where
-    by : (b : Bool) → ArePlaced n d rate h (put s others) → ArePlaced n d rate h (if b then s ∷ x ∷ others else x ∷ put s others)
-    by true rest = (one, (first, are))
-    by false rest = (first, rest)
+put_placed n d rate h s (x ∷ others) one (first, are) = elim (cases_Bool (nat_lt s.says.start x.says.start)) [
+  | inl on ↦ rw on (one, (first, are))
+  | inr off ↦ rw off (first, (put_placed n d rate h s others one are))
+]
 
 pub are_placed : (n : ℕ) (d : ℕ → DriveView) (rate : ℕ) (h : ℕ → List DriveCall) → ArePlaced n d rate h (placed_below n d rate h)
 are_placed zero d rate h = tt
@@ -97,11 +93,10 @@ behind_through a b (c ∷ others) first (next, are) = (through a b c first next,
 
 behind_put : (a s : Placed) (others : List Placed) → ComesBefore a s → AreBehind a others → AreBehind a (put s others)
 behind_put a s [] first are = (first, tt)
-behind_put a s (x ∷ others) first (next, are) = by (nat_lt s.says.start x.says.start) (behind_put a s others first are)
-  where
-    by : (b : Bool) → AreBehind a (put s others) → AreBehind a (if b then s ∷ x ∷ others else x ∷ put s others)
-    by true rest = (first, (next, are))
-    by false rest = (next, rest)
+behind_put a s (x ∷ others) first (next, are) = elim (cases_Bool (nat_lt s.says.start x.says.start)) [
+  | inl on ↦ rw on (first, (next, are))
+  | inr off ↦ rw off (next, (behind_put a s others first are))
+]
 
 ordered_put : (s : Placed) (others : List Placed) → AreBelow s.place others → AreOrdered others → AreOrdered (put s others)
 ordered_put s [] low are = (tt, tt)

@@ -1,5 +1,5 @@
 -- In a run of a ring in which nothing is unseen the master stops with `NoFit` only if no plan fits, and never at what is configured.
-use Rattle.sercos_law_run.proofs.Words.{◌≡◌, ℕ, zero, suc, ◌<◌, ◌≤◌, Bool, true, false, ◌||◌, List, [], ◌∷◌, ◌++◌, map, length, Option, Some, None, Result, Err, refl, sym, ap, ◌∙◌, subst, arith, if◌then◌else◌, append_assoc, ◌==◌, nat_le, slice_get, is_some, is_none, OnErr, list_any, eq-eqb, false≢true, le-leb, get_or_from_slice_get, same_Some, slice_get_within, Idn, Request, Outcome, Job, outcome_of, record_bytes, IsValid, PlanView, WishesView, wishes_of, IsStore, store_of, DriveView, RingView, NoneFits, planned, ChainView, planned_none, Begun, begun_by, Stop, idn, declared_times, reads, reads_count, asked_by, stop_by, long_in, len_said, attribute_stop, wishes_given, with_outcome, outcomes_in, Task, MemberView, member, member_of, known_of, tasks_for, reads_length, IsAnswer, AreAnswers, Call, Past, outcomes, carried_clean, never_restarts, View, epoch_begun, all_entries, all_writes, all_begun, begun_ago, AreSound, AreExact, no_drive, drive_at, looks_back, AreNumbered, IsTask, OfReads, OfWrites, Checks3, Lists3, Checks4, Lists4, OfWaiting, AreBegunTasks, HasEndedAt, IsOpened, AreStored, types, runs_exact}
+use Rattle.sercos_law_run.proofs.Words.{◌≡◌, ℕ, zero, suc, ◌<◌, ◌≤◌, Bool, true, false, ◌||◌, List, [], ◌∷◌, ◌++◌, map, length, Option, Some, None, Result, Err, refl, sym, ap, ◌∙◌, subst, arith, if◌then◌else◌, append_assoc, ◌==◌, nat_le, slice_get, is_some, is_none, OnErr, list_any, eq-eqb, false≢true, le-leb, get_or_from_slice_get, same_Some, slice_get_within, Idn, Request, Outcome, Job, outcome_of, record_bytes, IsValid, PlanView, WishesView, wishes_of, IsStore, store_of, DriveView, RingView, NoneFits, planned, ChainView, planned_none, Begun, begun_by, Stop, idn, declared_times, reads, reads_count, asked_by, stop_by, long_in, len_said, attribute_stop, wishes_given, with_outcome, outcomes_in, Task, MemberView, member, member_of, known_of, tasks_for, reads_length, IsAnswer, AreAnswers, Call, Past, outcomes, carried_clean, never_restarts, View, epoch_begun, all_entries, all_writes, all_begun, begun_ago, AreSound, AreExact, no_drive, drive_at, looks_back, AreNumbered, IsTask, OfReads, OfWrites, Checks3, Lists3, Checks4, Lists4, OfWaiting, AreBegunTasks, HasEndedAt, IsOpened, AreStored, types, runs_exact, cases_Bool, inl, inr}
 use Rattle.sercos_step.specs.declared.request.Request.TheVariants as request
 use Rattle.sercos_step.specs.declared.request.Outcome.TheVariants as outcome
 use Rattle.sercos_trace.specs.declared.events.Stop.TheVariants as stop
@@ -7,12 +7,12 @@ use Rattle.sercos_law_run.proofs.Start.CheckPasses.{ring_drive}
 use Rattle.sercos_law_channel.specs.Handshake.Runs.{IsRun}
 use Rattle.sercos_law_run.proofs.Agenda.AgendaTasks.{IsIn, First, After, is_in, mapped}
 use Rattle.sercos_law_run.proofs.Agenda.ReadWell.{AllComplete, last_is}
-use Rattle.sercos_law_run.proofs.Agenda.Requests.{are_requests, numbered_drop}
-use Rattle.sercos_law_run.proofs.Agenda.StopCauses.{element_asked, Says, SaysRefused, SaysBad, Says127, Says128, says_so}
+use Rattle.sercos_law_run.proofs.Agenda.Requests.{are_requests, all_numbered}
+use Rattle.sercos_law_run.proofs.Agenda.StopCauses.{element_asked, Says, says_so}
 use Rattle.sercos_law_run.proofs.Agenda.StopRuns.{StopsFor, OfTask, OfPlan, OfLength, stop_has_cause}
 use Rattle.sercos_law_run.proofs.Agenda.WritesDone.{raw_of, IsDataWrite, DataWrite, all_data_writes}
 use Rattle.sercos_law_run.proofs.Views.Members.{member_is, in_ring, in_known}
-use Rattle.sercos_law_run.proofs.Held.AnsweredRuns.{is_read_request, as_read, read_of, read_answers, answered_by, entries_stored}
+use Rattle.sercos_law_run.proofs.Held.AnsweredRuns.{is_read_request, as_read, read_of, read_answers, answered_by, entries_stored, answer_of as answer_so}
 use Rattle.sercos_law_run.proofs.Held.Runs.{drive_got, wishes_so}
 use Rattle.sercos_law_run.proofs.Cited.{begins_tasks, left_of, tasks_end}
 use Rattle.sercos_law_run.proofs.Start.AnswerLemmas.{no_attribute_stops, typed_have_factors}
@@ -23,11 +23,7 @@ any_at [] n i raw got is = absurd (cc)
 any_at (x ∷ xs) zero i raw got is =
     let same : x ≡ i = cc in
     ap (λ (b : Bool). b || list_any (λ (c : Idn). c.raw == raw) xs) (eq-eqb x.raw raw (ap (λ (c : Idn). c.raw) same ∙ is))
-any_at (x ∷ xs) (suc n) i raw got is = by (x.raw == raw) (any_at xs n i raw got is)
-  where
-    by : (b : Bool) → list_any (λ (c : Idn). c.raw == raw) xs ≡ true → (b || list_any (λ (c : Idn). c.raw == raw) xs) ≡ true
-    by true rest = refl
-    by false rest = rest
+any_at (x ∷ xs) (suc n) i raw got is = elim (cases_Bool (x.raw == raw)) [ inl on ↦ rw on | inr off ↦ rw off (any_at xs n i raw got is) ]
 
 -- an attribute that is read is that of a configured value
 configured_read : (m : MemberView) (n : ℕ) (x : Request) (i : Idn) → slice_get (reads m) n ≡ Some x → x ≡ request.Read i 3 → list_any (λ (c : Idn). c.raw == i.raw) (m.at ++ m.mdt) ≡ true
@@ -66,32 +62,11 @@ module _ (r : RingView) (jobs : List Job) (opened : IsOpened r jobs)
   answer_of : (k n : ℕ) (x : Request) (bytes : List ℕ) → k < length r.drives → n < reads_count (member (known_of r) k) → slice_get (reads (member (known_of r) k)) n ≡ Some x →
       slice_get (outcomes now k) n ≡ Some (outcome.Complete bytes) → IsAnswer (drive_at r k) x (outcome.Complete bytes)
   answer_of k n x bytes below early got complete =
-      let at = tasks_end (known_of r) (tasks_for (known_of r) jobs) h k n (outcome.Complete bytes) (in_known r k below) complete in by at at.is.task
-    where
-      by : (at : HasEndedAt (known_of r) k now.plan (now.waiting k) now.now.phase (begun_by (now.calls k)) n (outcome.Complete bytes)) → IsTask (known_of r) k at.is.by_then (now.waiting k) (outcomes_in at.older) at.task →
-          IsAnswer (drive_at r k) x (outcome.Complete bytes)
-      by at (OfReads y less found same) =
-          let stands = all k below in
-          let rules = (ring_drive r k (drive_at r k) opened.valid (drive_got r k below)).blocks in
-          let place : length (outcomes_in at.older) ≡ n = at.is.ended ∙ at.place in
-          let one : y ≡ x = same_Some y x (sym found ∙ ap (slice_get (reads (member (known_of r) k))) place ∙ got) in
-          let is = is_read_request (member (known_of r) k) n x got in
-          let (i, e, is_read, other) = as_read x is in
-          let asks : at.one.request ≡ request.Read i e = at.is.asks ∙ ap (λ (t : Task). t.request) same ∙ one ∙ is_read in
-          let begun : all_begun (views k) ≡ at.newer ++ at.one ∷ (at.older ++ begun_ago (views k)) =
-          ap (λ (l : List Begun). l ++ begun_ago (views k)) (sym stands.begun_are ∙ at.split) ∙ append_assoc at.newer (at.one ∷ at.older) (begun_ago (views k)) in
-          subst (λ (y : Request). IsAnswer (drive_at r k) y (outcome.Complete bytes)) (sym is_read)
-          (read_answers (drive_at r k) x i e bytes rules is is_read
-          (read_of (drive_at r k) (store_of (drive_at r k)) (at.older ++ begun_ago (views k)) at.one i e bytes other asks at.ended at.newer (all_entries (views k)) (all_writes (views k))
-          (subst (λ (l : List Begun). AreExact (store_of (drive_at r k)) l (all_entries (views k)) (all_writes (views k))) begun
-          (runs_exact (drive_at r k).busy (store_of (drive_at r k)) (views k) (λ raw b found. (types (store_of (drive_at r k)) raw b (first k below) found).0) stands.run stands.sound))
-          (entries_stored (drive_at r k) (views k) stands.stored)))
-      by at (OfWrites pl i y planned less at_i found same) = let a = at.is.ended in let b = at.place in absurd (omega (arith, a, b, at_i, early))
-      by at (Checks3 pl planned at_i same) = let a = at.is.ended in let b = at.place in absurd (omega (arith, a, b, at_i, early))
-      by at (Lists3 at_i failed same) = let a = at.is.ended in let b = at.place in absurd (omega (arith, a, b, at_i, early))
-      by at (Checks4 at_i checked same) = let a = at.is.ended in let b = at.place in absurd (omega (arith, a, b, at_i, early))
-      by at (Lists4 at_i failed same) = let a = at.is.ended in let b = at.place in absurd (omega (arith, a, b, at_i, early))
-      by at (OfWaiting i at_i ready found) = let a = at.is.ended in let b = at.place in absurd (omega (arith, a, b, at_i, early))
+      let stands = all k below in
+      answer_so r jobs h k (views k) (store_of (drive_at r k)) (in_known r k below)
+      (λ raw b found. (types (store_of (drive_at r k)) raw b (first k below) found).0)
+      (ring_drive r k (drive_at r k) opened.valid (drive_got r k below)).blocks stands.run stands.sound stands.stored stands.begun_are n x
+      bytes early got complete
 
   -- If all reads are complete, the master asks of the plan what the ring asks.
   answers : AllComplete (known_of r) now → (k : ℕ) → k < length r.drives → AreAnswers (drive_at r k) (reads (member_of (drive_at r k))) (outcomes now k)
@@ -114,11 +89,6 @@ module _ (r : RingView) (jobs : List Job) (opened : IsOpened r jobs)
       subst (λ (x : DriveView). (length x.at ≤ 16) × (length x.mdt ≤ 16)) (get_or_from_slice_get r.drives k d no_drive got) ((opened.typed k low).at, (opened.typed k low).mdt))
 
   -- NO ATTRIBUTE THAT IS CONFIGURED STOPS.
-  waits_numbered : (k : ℕ) → AreNumbered (now.waiting k)
-  waits_numbered k =
-      let left = left_of (known_of r) jobs h k in
-      subst AreNumbered (sym left.1) (numbered_drop left.0 (tasks_for (known_of r) jobs k) (are_requests (known_of r) jobs k).1)
-
   no_bad : (k : ℕ) (b : Begun) (older : List Begun) (t : Task) (tasks : List Task) (i : Idn) (bytes : List ℕ) → k < length r.drives → begun_by (now.calls k) ≡ b ∷ older → now.tasks k ≡ t ∷ tasks → t.number ≡ None →
       t.request ≡ request.Read i 3 → outcome_of b.request b.answers ≡ Some (outcome.Complete bytes) → len_said (long_in bytes) ≡ None → ⊥
   no_bad k b older t tasks i bytes below begun tasks_are number asks ended none = by are.1.by_then are.1.task
@@ -155,18 +125,22 @@ module _ (r : RingView) (jobs : List Job) (opened : IsOpened r jobs)
       by by_then (Lists3 at failed same) = other 7 (idn 21) (λ e. omega (arith, e)) (ap (λ (u : Task). u.request) same)
       by by_then (Checks4 at checked same) = let e : 0 ≡ 3 = sym (ap element_asked (ap (λ (u : Task). u.request) same)) ∙ ap element_asked asks in omega (arith, e)
       by by_then (Lists4 at failed same) = other 7 (idn 22) (λ e. omega (arith, e)) (ap (λ (u : Task). u.request) same)
-      by by_then (OfWaiting n at ready got) = false≢true (sym (ap (λ (o : Option ℕ). is_some o) number) ∙ waits_numbered k n t got)
+      by by_then (OfWaiting n at ready got) = false≢true
+          (sym (ap (λ (o : Option ℕ). is_some o) number)
+          ∙ all_numbered (known_of r) (tasks_for (known_of r) jobs) h (λ i. (are_requests (known_of r) jobs i).1) k n t got)
 
   -- So no outcome of the start-up brings such a stop.
   no_task : (x : Stop) → is_of_plan x ≡ true → (k : ℕ) (b : Begun) (older : List Begun) (t : Task) (tasks : List Task) (o : Outcome) → k < length r.drives → begun_by (now.calls k) ≡ b ∷ older → now.tasks k ≡ t ∷ tasks → t.number ≡ None →
       outcome_of b.request b.answers ≡ Some o → stop_by (member (known_of r) k).address (asked_by t.request) o ≡ Some x → ⊥
-  no_task x of k b older t tasks o below begun tasks_are number ended is = by (says_so (member (known_of r) k).address t.request o x is)
-    where
-      by : Says (member (known_of r) k).address t.request o x → ⊥
-      by (SaysRefused code same other) = false≢true (sym (ap is_of_plan other) ∙ of)
-      by (SaysBad i bytes asks complete none other) = no_bad k b older t tasks i bytes below begun tasks_are number asks (ended ∙ ap (λ (y : Outcome). Some y) complete) none
-      by (Says127 i bytes asks raw complete other) = false≢true (sym (ap is_of_plan other) ∙ of)
-      by (Says128 i bytes asks raw complete other) = false≢true (sym (ap is_of_plan other) ∙ of)
+  no_task (stop.NoFit chain) of k b older t tasks o below begun tasks_are number ended is = says_so (member (known_of r) k).address
+      t.request o (stop.NoFit chain) is
+  no_task (stop.BadConfig address i word) of k b older t tasks o below begun tasks_are number ended is =
+      let (places, bytes, asks, complete, words, none) = says_so (member (known_of r) k).address t.request o (stop.BadConfig address i word)
+      is in
+      no_bad k b older t tasks i bytes below begun tasks_are number asks (ended ∙ ap (λ (y : Outcome). Some y) complete) none
+  no_task (stop.Refused address i code) of k b older t tasks o below begun tasks_are number ended is = false≢true of
+  no_task (stop.Check127 address list) of k b older t tasks o below begun tasks_are number ended is = false≢true of
+  no_task (stop.Check128 address list) of k b older t tasks o below begun tasks_are number ended is = false≢true of
 
   -- With `NoFit` the stop has the chain of what the ring asks.
   pub no_plan_made : (chain : ChainView) → now.stop ≡ Some (stop.NoFit chain) → planned (wishes_of r) ≡ Err chain

@@ -1,5 +1,5 @@
 -- A worked run in which each request ends once, and altered journals in which one doesn't, computed from the definitions.
-use Rattle.sercos_law_run.proofs.Words.{◌≡◌, inl, inr, ℕ, ◌+◌, ◌==◌, Bool, true, false, ◌||◌, List, [], ◌∷◌, ◌++◌, refl, sym, ◌∙◌, ap, subst, arith, flat_map, list_any, nat_le, not, ◌&&◌, and_parts, false≢true, nat_tests, Outcome, Lose, Fault, CycleView, run_of, HasOutcome, AreOnce, HasEnded, NumbersAscend, carried, restarts_at, acts}
+use Rattle.sercos_law_run.proofs.Words.{◌≡◌, inl, inr, ℕ, ◌+◌, ◌==◌, Bool, true, false, ◌||◌, List, [], ◌∷◌, ◌++◌, refl, sym, ◌∙◌, ap, subst, arith, flat_map, list_any, nat_le, not, ◌&&◌, and_parts, false≢true, nat_tests, Outcome, Lose, Fault, CycleView, run_of, HasOutcome, AreOnce, HasEnded, NumbersAscend, carried, restarts_at, acts, cases_Bool}
 use Rattle.sercos_telegram.specs.declared.layout.Kind.TheVariants as kinds
 use Rattle.sercos_step.specs.declared.request.Outcome.TheVariants as outcome
 use Rattle.sercos_law_run.proofs.Journal.Worked.{ring, fault, write, read}
@@ -33,36 +33,28 @@ ends_in number t = list_any (λ x. x.0 == number) t.events.outcomes
 in_outcomes : (number : ℕ) (o : Outcome) (outcomes : List (ℕ × Outcome)) → HasOutcome outcomes number o → list_any (λ x. x.0 == number) outcomes ≡ true
 in_outcomes number o [] none = absurd none
 in_outcomes number o (x ∷ outcomes) (inl (is, same)) = let here : (x.0 == number) ≡ true = grind (arith, nat_tests, is) in rw here refl
-in_outcomes number o (x ∷ outcomes) (inr has) = by (x.0 == number) (in_outcomes number o outcomes has)
-  where
-    by : (b : Bool) → list_any (λ y. y.0 == number) outcomes ≡ true → (b || list_any (λ y. y.0 == number) outcomes) ≡ true
-    by true e = refl
-    by false e = e
+in_outcomes number o (x ∷ outcomes) (inr has) =
+    elim (cases_Bool (x.0 == number)) [ inl on ↦ rw on | inr off ↦ rw off (in_outcomes number o outcomes has) ]
 
 in_journal : (number : ℕ) (j : List CycleView) → HasEnded number j → list_any (ends_in number) j ≡ true
 in_journal number [] none = absurd none
 in_journal number (t ∷ j) (inl (o, has)) = let here = in_outcomes number o t.events.outcomes has in rw here refl
-in_journal number (t ∷ j) (inr before) = by (ends_in number t) (in_journal number j before)
-  where
-    by : (b : Bool) → list_any (ends_in number) j ≡ true → (b || list_any (ends_in number) j) ≡ true
-    by true e = refl
-    by false e = e
+in_journal number (t ∷ j) (inr before) =
+    elim (cases_Bool (ends_in number t)) [ inl on ↦ rw on | inr off ↦ rw off (in_journal number j before) ]
 
 out_of : (number : ℕ) (outcomes : List (ℕ × Outcome)) → list_any (λ x. x.0 == number) outcomes ≡ true → (o : Outcome) × HasOutcome outcomes number o
 out_of number [] any = absurd (cc)
-out_of number (x ∷ outcomes) any = by (x.0 == number) refl any (out_of number outcomes)
-  where
-    by : (b : Bool) → (x.0 == number) ≡ b → (b || list_any (λ y. y.0 == number) outcomes) ≡ true → (list_any (λ y. y.0 == number) outcomes ≡ true → (o : Outcome) × HasOutcome outcomes number o) → (o : Outcome) × HasOutcome (x ∷ outcomes) number o
-    by true is any rest = (x.1, inl ((grind (arith, nat_tests, is)), refl))
-    by false is any rest = let (o, has) = rest any in (o, inr has)
+out_of number (x ∷ outcomes) any = elim (cases_Bool (x.0 == number)) [
+  | inl is ↦ let any = rw is at any in let rest = out_of number outcomes in (x.1, inl ((grind (arith, nat_tests, is)), refl))
+  | inr is ↦ let (o, has) = (out_of number outcomes) (rw is at any) in (o, inr has)
+]
 
 out_of_journal : (number : ℕ) (j : List CycleView) → list_any (ends_in number) j ≡ true → HasEnded number j
 out_of_journal number [] any = absurd (cc)
-out_of_journal number (t ∷ j) any = by (ends_in number t) refl any (out_of_journal number j)
-  where
-    by : (b : Bool) → ends_in number t ≡ b → (b || list_any (ends_in number) j) ≡ true → (list_any (ends_in number) j ≡ true → HasEnded number j) → HasEnded number (t ∷ j)
-    by true is any rest = inl (out_of number t.events.outcomes is)
-    by false is any rest = inr (rest any)
+out_of_journal number (t ∷ j) any = elim (cases_Bool (ends_in number t)) [
+  | inl is ↦ inl (out_of number t.events.outcomes is)
+  | inr is ↦ inr ((out_of_journal number j) (rw is at any))
+]
 
 abbrev IsOnce : List CycleView → Type 0
 IsOnce [] = Unit {0}
@@ -101,11 +93,10 @@ new_so (x ∷ outcomes) j e number o (inr has) any = new_so outcomes j (and_part
 
 new_test : (outcomes : List (ℕ × Outcome)) (j : List CycleView) → ((number : ℕ) (o : Outcome) → HasOutcome outcomes number o → list_any (ends_in number) j ≡ true → ⊥) → are_new outcomes j ≡ true
 new_test [] j new = refl
-new_test (x ∷ outcomes) j new = by (list_any (ends_in x.0) j) refl (new_test outcomes j (λ number o has. new number o (inr has)))
-  where
-    by : (b : Bool) → list_any (ends_in x.0) j ≡ b → are_new outcomes j ≡ true → (not b && are_new outcomes j) ≡ true
-    by true is rest = absurd (new x.0 x.1 (inl (refl, refl)) is)
-    by false is rest = rest
+new_test (x ∷ outcomes) j new = elim (cases_Bool (list_any (ends_in x.0) j)) [
+  | inl is ↦ absurd (new x.0 x.1 (inl (refl, refl)) is)
+  | inr is ↦ rw is (new_test outcomes j (λ number o has. new number o (inr has)))
+]
 
 once_so : (j : List CycleView) → is_once j ≡ true → IsOnce j
 once_so [] e = tt

@@ -1,5 +1,5 @@
 -- A drive that holds the plan agrees with the MDT that the master lays.
-use Rattle.sercos_law_run.proofs.Words.{◌≡◌, ℕ, zero, suc, ◌+◌, ◌<◌, true, List, [], ◌∷◌, map, length, take, Option, Some, None, refl, sym, ap, ◌∙◌, subst, arith, cond, ◌==◌, ◌||◌, Bool, false, slice_index, slice_get, unwrap_or, is_some, concat, list_all, and_parts, slice_get_within, Request, WishesView, PlanView, IsValid, Fits, positions, record_bytes, wish, Wish, Block, is_ring, record_len, is_built_in, has_block, blocks_fault, find_block, store_of, DriveView, RingView, length_wishes, data_at, number_at, carried_len, Held, held_of, wishes_given, writes, Known, known_of, IsStoreOf, start_up, Holds, held_in, AreStoredWhole, Past, outcomes, records_from, stored, View, all_writes, store_in, is_plain, start_numbers, AreHeld, holds_newest, wishes_of}
+use Rattle.sercos_law_run.proofs.Words.{◌≡◌, ℕ, zero, suc, ◌+◌, ◌<◌, true, List, [], ◌∷◌, map, length, take, Option, Some, None, refl, sym, ap, ◌∙◌, subst, arith, cond, ◌==◌, ◌||◌, Bool, false, slice_index, slice_get, unwrap_or, is_some, concat, list_all, and_parts, slice_get_within, Request, WishesView, PlanView, IsValid, Fits, positions, record_bytes, wish, Wish, Block, is_ring, record_len, is_built_in, has_block, blocks_fault, find_block, store_of, DriveView, RingView, length_wishes, data_at, number_at, carried_len, Held, held_of, wishes_given, writes, Known, known_of, IsStoreOf, start_up, Holds, held_in, AreStoredWhole, Past, outcomes, records_from, stored, View, all_writes, store_in, is_plain, start_numbers, AreHeld, holds_newest, wishes_of, cases_Bool, inl, inr}
 use Rattle.sercos_step.specs.declared.request.Request.TheVariants as request
 use Rattle.sercos_law_run.proofs.Slots.Places.{record_place_is, length_records}
 use Rattle.sercos_law_run.specs.Start.Held.{written_by}
@@ -14,6 +14,9 @@ use Rattle.sercos_law_run.proofs.Agenda.WritesDone.{writes_data}
 use Rattle.sercos_law_run.proofs.Start.HeldLemmas.{holds_plan, writes_start_up}
 use Rattle.sercos_law_run.proofs.Start.LaterLemmas.{stores_start_up_whole}
 use Rattle.sercos_law_run.proofs.Start.Lengths.{are_as_long}
+use Rattle.sercos_law_run.proofs.Agenda.AgendaTasks.{mapped}
+use Rattle.sercos_law_channel.proofs.Options.{some_there}
+pub use Rattle.sercos_law_channel.proofs.Options.{all_at}
 
 -- a place of the ring has a wish
 pub wishes_count : (r : RingView) → length (wishes_of r).drives ≡ length r.drives
@@ -51,19 +54,11 @@ agrees_so r p plan k d blocks valid fits below at rules stored_so holds same =
     }
 
 -- WHAT A DRIVE HOLDS by its writes, its store holds.
-pub all_at : {A : Type 0} (p : A → Bool) (xs : List A) (i : ℕ) (x : A) → list_all p xs ≡ true → slice_get xs i ≡ Some x → p x ≡ true
-all_at p [] i x all got = absurd (cc)
-all_at p (y ∷ xs) zero x all got = let same : y ≡ x = cc in ap p (sym same) ∙ (and_parts (p y) (list_all p xs) all).0
-all_at p (y ∷ xs) (suc i) x all got = all_at p xs i x (and_parts (p y) (list_all p xs) all).1 got
-
 -- a block with the number is found
 has_some : (raw : ℕ) (blocks : List Block) → has_block raw blocks ≡ true → is_some (find_block raw blocks) ≡ true
 has_some raw [] has = cc
-has_some raw (b ∷ blocks) has = by (b.idn.raw == raw) has (has_some raw blocks)
-  where
-    by : (t : Bool) → (t || has_block raw blocks) ≡ true → (has_block raw blocks ≡ true → is_some (find_block raw blocks) ≡ true) → is_some (cond t (Some b) (find_block raw blocks)) ≡ true
-    by true has more = refl
-    by false has more = more has
+has_some raw (b ∷ blocks) has =
+    elim (cases_Bool (b.idn.raw == raw)) [ inl on ↦ rw on | inr off ↦ rw off ((has_some raw blocks) (rw off at has)) ]
 
 -- the data of each value, by its place
 pub holds_by : (blocks : List Block) (values : List (ℕ × List ℕ)) → ((i : ℕ) (v : ℕ × List ℕ) → slice_get values i ≡ Some v → data_at blocks v.0 ≡ v.1) → Holds blocks values
@@ -74,16 +69,6 @@ pub whole_at : (blocks : List Block) (values : List (ℕ × List ℕ)) (i : ℕ)
 whole_at blocks [] i v whole got b found = absurd (cc)
 whole_at blocks (x ∷ values) zero v whole got b found = let same : x ≡ v = cc in subst (λ (y : ℕ × List ℕ). stored b y.1 ≡ y.1) same (whole.0 b (ap (λ (y : ℕ × List ℕ). find_block y.0 blocks) same ∙ found))
 whole_at blocks (x ∷ values) (suc i) v whole got b found = whole_at blocks values i v whole.1 got b found
-
-got_mapped : (requests : List Request) (i : ℕ) (v : ℕ × List ℕ) → slice_get (map written_by requests) i ≡ Some v → (r : Request) × (slice_get requests i ≡ Some r) × (v ≡ written_by r)
-got_mapped [] i v got = absurd (cc)
-got_mapped (r ∷ requests) zero v got = (r, refl, cc)
-got_mapped (r ∷ requests) (suc i) v got = got_mapped requests i v got
-
--- some block has the number
-found_or : (o : Option Block) → is_some o ≡ true → (b : Block) × (o ≡ Some b)
-found_or None some = cc
-found_or (Some b) some = (b, refl)
 
 pub held_holds : (r : RingView) (plan : PlanView) (k : ℕ) (d : DriveView) (views : List View) → is_ring r ≡ true → IsValid (wishes_of r)
     → Fits (wishes_of r) plan → slice_get r.drives k ≡ Some d → blocks_fault [] d.blocks ≡ None
@@ -97,12 +82,12 @@ held_holds r plan k d views valid_ring valid fits at rules held =
 
     each : (i : ℕ) (v : ℕ × List ℕ) → slice_get (map written_by (writes (known_of r) plan k)) i ≡ Some v → data_at (store_in (store_of d) views) v.0 ≡ v.1
     each i v got =
-        let (q, there, is) = got_mapped (writes (known_of r) plan k) i v got in
+        let (q, there, is) = mapped written_by (writes (known_of r) plan k) i v got in
         let less = slice_get_within (writes (known_of r) plan k) i q there in
         let (w, bytes, write, number) = writes_data (known_of r) plan k i less in
         let one : q ≡ request.Write w 7 bytes = cc in
         let pair : v ≡ (w.raw, bytes) = is ∙ ap written_by one in
-        let (b, found) = found_or (find_block w.raw (store_of d)) (numbered i w.raw number) in
+        let (b, found) = some_there (find_block w.raw (store_of d)) (numbered i w.raw number) in
         let holding : data_at (store_in (store_of d) views) w.raw ≡ stored b bytes =
         holds_newest (store_of d) views w.raw b (all_at is_plain start_numbers i w.raw refl number) found
         ∙ ap (λ (o : Option (List ℕ)). unwrap_or o b.value) (held_at (store_of d) (all_writes views) (writes (known_of r) plan k) i (request.Write w 7 bytes) held write b found) in

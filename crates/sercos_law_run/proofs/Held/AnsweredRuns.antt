@@ -1,5 +1,5 @@
 -- If there is a plan, a drive has answered the first reads as it has its elements.
-use Rattle.sercos_law_run.proofs.Words.{◌≡◌, ℕ, zero, suc, ◌<◌, Bool, true, false, not, List, [], ◌∷◌, ◌++◌, length, Option, Some, None, refl, sym, ap, ◌∙◌, subst, arith, if◌then◌else◌, append_assoc, ◌==◌, slice_get, option_map, unwrap_or, option_or, beq, same_Some, slice_get_within, Idn, is_list, Request, Outcome, outcome_of, steps_before, Job, PlanView, Block, blocks_fault, find_block, store_of, DriveView, RingView, Processed, Entry, ahs, reply_of, log_of, Write, Begun, begun_by, CycleView, idn, reads, reads_count, outcomes_in, Task, MemberView, member, known_of, tasks_for, reads_length, IsStoreOf, kept, IsAnswer, AreAnswers, Past, outcomes, Carry, Restarts, entry_behind, element_in, View, standing, stood_in, record_in, kept_in, accepted_of, all_entries, all_writes, all_begun, begun_ago, AreSound, AreSmall, AreExact, Processes, Nothing, Record, processes, drive_at, master_calls, looks_back, IsTask, OfReads, OfWrites, Checks3, Lists3, Checks4, Lists4, OfWaiting, HasEndedAt, views_of, IsStored, AreStored, runs_exact, element_of, built_in, data_in}
+use Rattle.sercos_law_run.proofs.Words.{◌≡◌, ℕ, zero, suc, ◌<◌, Bool, true, false, not, List, [], ◌∷◌, ◌++◌, length, Option, Some, None, refl, sym, ap, ◌∙◌, subst, arith, if◌then◌else◌, append_assoc, ◌==◌, slice_get, option_map, unwrap_or, option_or, beq, same_Some, slice_get_within, Idn, is_list, Request, Outcome, outcome_of, steps_before, Job, PlanView, Block, blocks_fault, find_block, store_of, DriveView, RingView, Processed, Entry, ahs, reply_of, log_of, Write, Begun, begun_by, CycleView, idn, reads, reads_count, outcomes_in, Task, MemberView, member, known_of, tasks_for, reads_length, IsStoreOf, kept, IsAnswer, AreAnswers, Past, outcomes, Carry, Restarts, entry_behind, element_in, View, standing, stood_in, record_in, kept_in, accepted_of, all_entries, all_writes, all_begun, begun_ago, AreSound, AreSmall, AreExact, Processes, Nothing, Record, processes, drive_at, master_calls, looks_back, IsTask, OfReads, OfWrites, Checks3, Lists3, Checks4, Lists4, OfWaiting, HasEndedAt, views_of, IsStored, AreStored, runs_exact, element_of, built_in, data_in, cases_Bool, inl, inr, Call, epoch_begun}
 use Rattle.sercos_step.specs.declared.request.Request.TheVariants as request
 use Rattle.sercos_step.specs.declared.request.Outcome.TheVariants as outcome
 use Rattle.sercos_law_run.proofs.Start.BlockFinds.{find_store_of, same_kept}
@@ -7,26 +7,20 @@ use Rattle.sercos_law_run.proofs.Start.LimitLemmas.{kept_step}
 use Rattle.sercos_law_run.proofs.Agenda.AgendaTasks.{mapped}
 use Rattle.sercos_law_run.proofs.Views.ViewRuns.{Sees}
 use Rattle.sercos_law_run.proofs.Cited.{reads_well, tasks_end}
+use Rattle.sercos_law_run.proofs.Held.EntriesAre.{EntriesAre, ViewsAre, entries_are, entry_in, entry_is}
+use Rattle.sercos_law_channel.specs.Handshake.Runs.{IsRun}
 
 -- each accepted step was accepted on a store of the drive
 abbrev pub EntriesStored : DriveView → List Entry → Type 0
-EntriesStored d [] = Unit {0}
-EntriesStored d (e ∷ entries) = EntriesStored d entries × IsStored d e.processed.blocks
+EntriesStored d = EntriesAre (λ t. IsStored d t.blocks)
 
 pub entries_stored : (d : DriveView) (past : List View) → AreStored d past → EntriesStored d (all_entries past)
-entries_stored d [] have = tt
-entries_stored d (v ∷ past) have = by (processes v past) (entries_stored d past have.0)
+entries_stored d past have = entries_are (λ t. IsStored d t.blocks) (λ v. IsStored d v.blocks) (λ v cycle stood s is. is) past
+    (views past have)
   where
-    dropped : (t : Processed) (same : Bool) → IsStored d t.blocks → EntriesStored d (all_entries past) →
-        EntriesStored d (if same then all_entries past else (record { processed = t; answer = reply_of t (log_of (kept_in v past)) }) ∷ all_entries past)
-    dropped t true is before = before
-    dropped t false is before = (before, is)
-
-    by : Processes v past → EntriesStored d (all_entries past) → EntriesStored d (all_entries (v ∷ past))
-    by (Nothing none) before = subst (λ (o : Option Processed). EntriesStored d (accepted_of o (kept_in v past) (all_entries past))) (sym none) before
-    by (Record s got came two some) before =
-        subst (λ (o : Option Processed). EntriesStored d (accepted_of o (kept_in v past) (all_entries past))) (sym some)
-        (dropped (record_in v (length past) (stood_in v (standing past)) s) (beq s.mhs (ahs (kept_in v past))) have.1 before)
+    views : (past : List View) → AreStored d past → ViewsAre (λ v. IsStored d v.blocks) past
+    views [] have = tt
+    views (v ∷ past) have = (views past have.0, have.1)
 
 stored_left : (d : DriveView) (xs ys : List Entry) → EntriesStored d (xs ++ ys) → EntriesStored d xs
 stored_left d [] ys have = tt
@@ -37,12 +31,8 @@ stored_right d [] ys have = have
 stored_right d (e ∷ xs) ys have = stored_right d xs ys have.0
 
 stored_behind : (d : DriveView) (n : ℕ) (part : List Entry) (e : Entry) → EntriesStored d part → entry_behind n part ≡ Some e → IsStored d e.processed.blocks
-stored_behind d n [] e have got = absurd (cc)
-stored_behind d n (x ∷ part) e have got = by (length part == n) got (stored_behind d n part e have.0)
-  where
-    by : (b : Bool) → (if b then Some x else entry_behind n part) ≡ Some e → (entry_behind n part ≡ Some e → IsStored d e.processed.blocks) → IsStored d e.processed.blocks
-    by true got more = let same : x ≡ e = cc in subst (λ (y : Entry). IsStored d y.processed.blocks) same have.1
-    by false got more = more got
+stored_behind d n part e have got =
+    let is = entry_in n part e got in entry_is (λ t. IsStored d t.blocks) is.front e is.rest (subst (EntriesStored d) is.split have)
 
 -- a complete read gave the element of a block, in a store of the drive
 pub record IsReadOf (d : DriveView) (raw e : ℕ) (bytes : List ℕ) : Type 0 where
@@ -95,11 +85,7 @@ no_step d blocks raw b rules stored built found =
 -- so what was read is the element
 time_read : (cycle : ℕ) (b : Block) → b.step ≡ 0 → element_in 7 cycle b ≡ unwrap_or (element_of b 7) []
 unfolding data_in element_of
-time_read cycle b still = rw still (by (not (is_list b.attribute.length)))
-  where
-    by : (t : Bool) → (if t then b.value else b.value) ≡ b.value
-    by true = refl
-    by false = refl
+time_read cycle b still = rw still (elim (cases_Bool (not (is_list b.attribute.length))) [ inl on ↦ rw on | inr off ↦ rw off ])
 
 pub read_answers : (d : DriveView) (r : Request) (i : Idn) (e : ℕ) (bytes : List ℕ) → blocks_fault [] d.blocks ≡ None → IsRead r → r ≡ request.Read i e → IsReadOf d i.raw e bytes → IsAnswer d (request.Read i e) (outcome.Complete bytes)
 read_answers d r i e bytes rules (Time raw built is) asks read =
@@ -126,14 +112,51 @@ pub as_read : (r : Request) → IsRead r → (i : Idn) × (e : ℕ) × (r ≡ re
 as_read r (Time raw built is) = (idn raw, 7, is, refl)
 as_read r (Attribute i is) = (i, 3, is, refl)
 
+-- A COMPLETE READ of the start-up gave the drive's element, whatever calls the master looks back on.
+pub answer_of : (r : RingView) (jobs : List Job) (h : List Call) (k : ℕ) (views : List View) (blocks : List Block)
+    → k < length (known_of r).drives
+    → AreSmall blocks → blocks_fault [] (drive_at r k).blocks ≡ None → IsRun (drive_at r k).busy views → AreSound blocks views
+    → AreStored (drive_at r k) views
+    → begun_by ((looks_back r jobs h).calls k) ≡ epoch_begun views → (n : ℕ) (x : Request) (bytes : List ℕ)
+    → n < reads_count (member (known_of r) k)
+    → slice_get (reads (member (known_of r) k)) n ≡ Some x → slice_get (outcomes (looks_back r jobs h) k) n ≡ Some (outcome.Complete bytes)
+    → IsAnswer (drive_at r k) x (outcome.Complete bytes)
+answer_of r jobs h k views blocks below small rules run sound stored begun_are n x bytes early got complete =
+    let at = tasks_end (known_of r) (tasks_for (known_of r) jobs) h k n (outcome.Complete bytes) below complete in by at at.is.task
+  where
+    by : (at : HasEndedAt (known_of r) k (looks_back r jobs h).plan ((looks_back r jobs h).waiting k) (looks_back r jobs h).now.phase
+        (begun_by ((looks_back r jobs h).calls k)) n (outcome.Complete bytes))
+        → IsTask (known_of r) k at.is.by_then ((looks_back r jobs h).waiting k) (outcomes_in at.older) at.task
+        → IsAnswer (drive_at r k) x (outcome.Complete bytes)
+    by at (OfReads y less found same) =
+        let place : length (outcomes_in at.older) ≡ n = at.is.ended ∙ at.place in
+        let one : y ≡ x = same_Some y x (sym found ∙ ap (slice_get (reads (member (known_of r) k))) place ∙ got) in
+        let is = is_read_request (member (known_of r) k) n x got in
+        let (i, e, is_read, other) = as_read x is in
+        let asks : at.one.request ≡ request.Read i e = at.is.asks ∙ ap (λ (t : Task). t.request) same ∙ one ∙ is_read in
+        let all : all_begun views ≡ at.newer ++ at.one ∷ (at.older ++ begun_ago views) =
+        ap (λ (l : List Begun). l ++ begun_ago views) (sym begun_are ∙ at.split)
+        ∙ append_assoc at.newer (at.one ∷ at.older) (begun_ago views) in
+        subst (λ (y : Request). IsAnswer (drive_at r k) y (outcome.Complete bytes)) (sym is_read)
+        (read_answers (drive_at r k) x i e bytes rules is is_read
+        (read_of (drive_at r k) blocks (at.older ++ begun_ago views) at.one i e bytes other asks at.ended at.newer (all_entries views)
+        (all_writes views)
+        (subst (λ (l : List Begun). AreExact blocks l (all_entries views) (all_writes views)) all
+        (runs_exact (drive_at r k).busy blocks views small run sound))
+        (entries_stored (drive_at r k) views stored)))
+    by at (OfWrites pl i y planned less at_i found same) = let a = at.is.ended in let b = at.place in absurd (omega (arith, a, b, at_i, early))
+    by at (Checks3 pl planned at_i same) = let a = at.is.ended in let b = at.place in absurd (omega (arith, a, b, at_i, early))
+    by at (Lists3 at_i failed same) = let a = at.is.ended in let b = at.place in absurd (omega (arith, a, b, at_i, early))
+    by at (Checks4 at_i checked same) = let a = at.is.ended in let b = at.place in absurd (omega (arith, a, b, at_i, early))
+    by at (Lists4 at_i failed same) = let a = at.is.ended in let b = at.place in absurd (omega (arith, a, b, at_i, early))
+    by at (OfWaiting i at_i ready found) = let a = at.is.ended in let b = at.place in absurd (omega (arith, a, b, at_i, early))
+
 pub reads_answered : (r : RingView) (jobs : List Job) (carry : Carry) (restarts : Restarts) (k : ℕ) (j : List CycleView) (blocks : List Block) (plan : PlanView) → k < length (known_of r).drives
     → AreSmall blocks → blocks_fault [] (drive_at r k).blocks ≡ None → Sees r jobs carry restarts k j → AreSound blocks (views_of r jobs carry restarts k j) → AreStored (drive_at r k) (views_of r jobs carry restarts k j)
     → (looks_back r jobs (master_calls r carry restarts j)).plan ≡ Some plan → AreAnswers (drive_at r k) (reads (member (known_of r) k)) (outcomes (looks_back r jobs (master_calls r carry restarts j)) k)
-reads_answered r jobs carry restarts k j blocks plan below small rules sees sound have has = answered_by (drive_at r k) (reads (member (known_of r) k)) (outcomes p k) each
+reads_answered r jobs carry restarts k j blocks plan below small rules sees sound have has = answered_by (drive_at r k)
+    (reads (member (known_of r) k)) (outcomes (looks_back r jobs (master_calls r carry restarts j)) k) each
   where
-    p : Past
-    p = looks_back r jobs (master_calls r carry restarts j)
-
     m : MemberView
     m = member (known_of r) k
 
@@ -142,30 +165,10 @@ reads_answered r jobs carry restarts k j blocks plan below small rules sees soun
         let less = slice_get_within (reads m) n x got in
         let long = reads_length m in
         let early : n < reads_count m = omega (arith, less, long) in
-        let (bytes, complete) = reads_well (known_of r) (tasks_for (known_of r) jobs) (master_calls r carry restarts j) plan has k below n early in
-        let at = tasks_end (known_of r) (tasks_for (known_of r) jobs) (master_calls r carry restarts j) k n (outcome.Complete bytes) below complete in
-        (outcome.Complete bytes, complete, by n x got early bytes at at.is.task)
-      where
-        by : (n : ℕ) (x : Request) → slice_get (reads (member (known_of r) k)) n ≡ Some x → n < reads_count (member (known_of r) k) → (bytes : List ℕ)
-            → (at : HasEndedAt (known_of r) k (looks_back r jobs (master_calls r carry restarts j)).plan ((looks_back r jobs (master_calls r carry restarts j)).waiting k) (looks_back r jobs (master_calls r carry restarts j)).now.phase
-            (begun_by ((looks_back r jobs (master_calls r carry restarts j)).calls k)) n (outcome.Complete bytes))
-            → IsTask (known_of r) k at.is.by_then ((looks_back r jobs (master_calls r carry restarts j)).waiting k) (outcomes_in at.older) at.task → IsAnswer (drive_at r k) x (outcome.Complete bytes)
-        by n x got early bytes at (OfReads y less found same) =
-            let place : length (outcomes_in at.older) ≡ n = at.is.ended ∙ at.place in
-            let one : y ≡ x = same_Some y x (sym found ∙ ap (slice_get (reads (member (known_of r) k))) place ∙ got) in
-            let is = is_read_request (member (known_of r) k) n x got in
-            let (i, e, is_read, other) = as_read x is in
-            let asks : at.one.request ≡ request.Read i e = at.is.asks ∙ ap (λ (t : Task). t.request) same ∙ one ∙ is_read in
-            let all : all_begun (views_of r jobs carry restarts k j) ≡ at.newer ++ at.one ∷ (at.older ++ begun_ago (views_of r jobs carry restarts k j)) =
-            ap (λ (l : List Begun). l ++ begun_ago (views_of r jobs carry restarts k j)) (sym sees.master.begun_are ∙ at.split) ∙ append_assoc at.newer (at.one ∷ at.older) (begun_ago (views_of r jobs carry restarts k j)) in
-            subst (λ (y : Request). IsAnswer (drive_at r k) y (outcome.Complete bytes)) (sym is_read)
-            (read_answers (drive_at r k) x i e bytes rules is is_read
-            (read_of (drive_at r k) blocks (at.older ++ begun_ago (views_of r jobs carry restarts k j)) at.one i e bytes other asks at.ended at.newer (all_entries (views_of r jobs carry restarts k j)) (all_writes (views_of r jobs carry restarts k j))
-            (subst (λ (l : List Begun). AreExact blocks l (all_entries (views_of r jobs carry restarts k j)) (all_writes (views_of r jobs carry restarts k j))) all
-            (runs_exact (drive_at r k).busy blocks (views_of r jobs carry restarts k j) small sees.run sound)) (entries_stored (drive_at r k) (views_of r jobs carry restarts k j) have)))
-        by n x got early bytes at (OfWrites pl i y planned less at_i found same) = let a = at.is.ended in let b = at.place in absurd (omega (arith, a, b, at_i, early))
-        by n x got early bytes at (Checks3 pl planned at_i same) = let a = at.is.ended in let b = at.place in absurd (omega (arith, a, b, at_i, early))
-        by n x got early bytes at (Lists3 at_i failed same) = let a = at.is.ended in let b = at.place in absurd (omega (arith, a, b, at_i, early))
-        by n x got early bytes at (Checks4 at_i checked same) = let a = at.is.ended in let b = at.place in absurd (omega (arith, a, b, at_i, early))
-        by n x got early bytes at (Lists4 at_i failed same) = let a = at.is.ended in let b = at.place in absurd (omega (arith, a, b, at_i, early))
-        by n x got early bytes at (OfWaiting i at_i ready found) = let a = at.is.ended in let b = at.place in absurd (omega (arith, a, b, at_i, early))
+        let (bytes, complete) = reads_well (known_of r) (tasks_for (known_of r) jobs) (master_calls r carry restarts j) plan has k below n early in (
+          outcome.Complete bytes,
+          complete,
+          answer_of r jobs (master_calls r carry restarts j) k (views_of r jobs carry restarts k j) blocks
+              below small rules
+              sees.run sound have sees.master.begun_are n x bytes early got complete,
+        )

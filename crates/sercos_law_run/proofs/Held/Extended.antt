@@ -1,16 +1,15 @@
 -- Within a cycle outcomes only come to those that are there.
-use Rattle.sercos_law_run.proofs.Words.{◌≡◌, ℕ, true, false, List, [], ◌∷◌, ◌++◌, Option, Some, None, refl, sym, ap, ◌∙◌, subst, is_some, and_parts, cond_both, Status, Request, Outcome, Answer, Step, outcome_of, DriveView, Begun, open_in, step_at, answers_it, answer_in, with_answer, outcomes_in, with_outcome, AreAnswers, with_status, Heard, with_heard, with_begun}
+use Rattle.sercos_law_run.proofs.Words.{◌≡◌, ℕ, true, false, List, [], ◌∷◌, ◌++◌, Option, Some, None, refl, sym, ap, ◌∙◌, subst, is_some, and_parts, cond_both, Status, Request, Outcome, Answer, Step, outcome_of, DriveView, Begun, open_in, step_at, answers_it, answer_in, with_answer, outcomes_in, with_outcome, AreAnswers, with_status, Heard, with_heard, with_begun, inl, inr, cases_Option}
 
 -- one outcome more, or none
 abbrev pub Extends : List Outcome → List Outcome → Type 0
 Extends old new = (o : Option Outcome) × (new ≡ with_outcome o old)
 
 no_outcome : (b : Begun) → is_some (step_at b.request b.answers) ≡ true → outcome_of b.request b.answers ≡ None
-no_outcome b waits = by (outcome_of b.request b.answers) refl
-  where
-    by : (o : Option Outcome) → outcome_of b.request b.answers ≡ o → outcome_of b.request b.answers ≡ None
-    by None is = is
-    by (Some o) is = let closed : step_at b.request b.answers ≡ None = rw is refl in let f : false ≡ true = sym (ap (λ (x : Option Step). is_some x) closed) ∙ waits in absurd (cc)
+no_outcome b waits = elim (cases_Option (outcome_of b.request b.answers)) [
+  | inl is ↦ is
+  | inr (o, is) ↦ let closed : step_at b.request b.answers ≡ None = rw is refl in let f : false ≡ true = sym (ap (λ (x : Option Step). is_some x) closed) ∙ waits in absurd (cc)
+]
 
 answered_more : (a : Answer) (begun : List Begun) → is_some (open_in begun) ≡ true → Extends (outcomes_in begun) (outcomes_in (with_answer a begun))
 answered_more a [] waits = cc

@@ -16,9 +16,6 @@ records_take s p k zero n below = refl
 records_take s p k (suc i) zero below = absurd (omega (arith, below))
 records_take s p k (suc i) (suc n) below = ap (λ (l : List (List ℕ)). record_to s p k ∷ l) (records_take s p (k + 1) i n (omega (arith, below)))
 
-record_length : (s : Known) (p : Past) (k : ℕ) → length (record_to s p k) ≡ record_len (member s k) (outcomes p k)
-record_length s p k = seen_length p.cycle (member s k) (seen_at p k)
-
 -- each has the length that the drive asks for, by what was read
 lengths_from : (s : Known) (p : Past) (k : ℕ) (drives : List MemberView) → ((i : ℕ) → i < length drives → member s (k + i) ≡ slice_index_or drives i no_member)
     → map length (records_of s p k (length drives)) ≡ map (λ (w : Wish). w.record_len) (wishes_from drives k (outcomes p))
@@ -26,7 +23,8 @@ lengths_from s p k [] each = refl
 lengths_from s p k (d ∷ drives) each =
     let zero_more : k ≡ k + 0 = omega arith in
     let here : member s k ≡ d = ap (member s) zero_more ∙ each 0 (omega arith) in
-    let first : length (record_to s p k) ≡ record_len d (outcomes p k) = record_length s p k ∙ ap (λ (m : MemberView). record_len m (outcomes p k)) here in
+    let first : length (record_to s p k) ≡ record_len d (outcomes p k) = seen_length p.cycle (member s k) (seen_at p k)
+    ∙ ap (λ (m : MemberView). record_len m (outcomes p k)) here in
     ap₂ (λ (n : ℕ) (l : List ℕ). n ∷ l) first
     (lengths_from s p (k + 1) drives (λ i below. let e : k + 1 + i ≡ k + suc i = omega arith in ap (member s) e ∙ each (suc i) (omega (arith, below))))
 

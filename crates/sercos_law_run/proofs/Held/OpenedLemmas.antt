@@ -1,10 +1,10 @@
 -- A ring may be opened with requests that keep the rules of requests.
-use Rattle.sercos_law_run.proofs.Words.{◌≡◌, ℕ, drop, zero, suc, ◌+◌, ◌<◌, Bool, true, false, ◌&&◌, ◌||◌, List, [], ◌∷◌, length, Option, Some, None, refl, sym, ◌∙◌, ap, subst, arith, if◌then◌else◌, not-false, ◌==◌, slice_get, slice_index_or, IfSome, option_map, All, list_any, nat_tests, All-cons, Request, Job, IsJob, AreJobs, Block, DriveView, RingView, find_block, store_of, block_attribute, has_address, is_no_command, is_ring, Task, tasks_from, request_task, drive_at, no_drive, AreTyped, AreTypedJobs, IsTypedRequest, IsOpened, same_place, has_other_data}
+use Rattle.sercos_law_run.proofs.Words.{◌≡◌, ℕ, drop, zero, suc, ◌+◌, ◌<◌, Bool, true, false, ◌&&◌, ◌||◌, List, [], ◌∷◌, length, Option, Some, None, refl, sym, ◌∙◌, ap, subst, arith, if◌then◌else◌, not-false, ◌==◌, slice_get, slice_index_or, IfSome, option_map, All, list_any, nat_tests, All-cons, Request, Job, IsJob, AreJobs, Block, DriveView, RingView, find_block, store_of, block_attribute, has_address, is_no_command, is_ring, Task, tasks_from, request_task, drive_at, no_drive, AreTyped, AreTypedJobs, IsTypedRequest, IsOpened, same_place, has_other_data, get_or_from_slice_get, slice_get_within, cases_Bool, inl, inr}
 use Rattle.sercos_step.specs.declared.request.Request.TheVariants as request
 use Rattle.sercos_law_run.proofs.Start.BlockFinds.{attribute_store_of}
 use Rattle.sercos_law_run.proofs.Start.CheckPasses.{ring_drive}
 use Rattle.sercos_law_run.proofs.Views.Members.{member_is}
-use Rattle.sercos_law_run.proofs.Held.Runs.{get_drive}
+use Rattle.sercos_law_run.proofs.Held.Runs.{drive_got}
 pub use Rattle.sercos_law_channel.specs.Handshake.WholeRun.{IsSound}
 
 -- Each task of a drive is a job to it.
@@ -35,16 +35,11 @@ of_jobs address n (job ∷ jobs) i t there = by (job.drive == address) refl i th
 -- A drive's procedure commands are none that is known to be other data.
 no_other : (test : DriveView → Bool) (drives : List DriveView) (k : ℕ) → k < length drives → list_any test drives ≡ false → test (slice_index_or drives k no_drive) ≡ false
 no_other test [] k below none = absurd (omega (arith, below))
-no_other test (d ∷ drives) zero below none = first (test d) none
-  where
-    first : (b : Bool) → (b || list_any test drives) ≡ false → b ≡ false
-    first false e = refl
-    first true e = e
-no_other test (d ∷ drives) (suc k) below none = no_other test drives k (omega (arith, below)) (rest (test d) none)
-  where
-    rest : (b : Bool) → (b || list_any test drives) ≡ false → list_any test drives ≡ false
-    rest false e = e
-    rest true e = absurd (cc)
+no_other test (d ∷ drives) zero below none = elim (cases_Bool (test d)) [ inl on ↦ rw on (rw on at none) | inr off ↦ rw off ]
+no_other test (d ∷ drives) (suc k) below none = no_other test drives k (omega (arith, below)) (elim (cases_Bool (test d)) [
+  | inl on ↦ let e = rw on at none in absurd (cc)
+  | inr off ↦ (rw off at none)
+])
 
 command_by : (o : Option Block) → is_no_command (option_map (λ (b : Block). b.attribute) o) ≡ false → IfSome o (λ b. b.attribute.command ≡ true)
 command_by None e = tt
@@ -57,7 +52,8 @@ command_of r k raw valid below none =
     let d = drive_at r k in
     let here = no_other (λ e. (e.address == d.address) && is_no_command (block_attribute e.blocks raw)) r.drives k below none in
     let mine : is_no_command (block_attribute d.blocks raw) ≡ false = both (d.address == d.address) (same_place d.address) here in
-    command_by (find_block raw (store_of d)) (ap is_no_command (attribute_store_of raw d (ring_drive r k d valid (get_drive r.drives k below)).blocks) ∙ mine)
+    command_by (find_block raw (store_of d)) (ap is_no_command
+    (attribute_store_of raw d (ring_drive r k d valid (drive_got r k below)).blocks) ∙ mine)
   where
     both : (b : Bool) {c : Bool} → b ≡ true → (b && c) ≡ false → c ≡ false
     both true e none = none
@@ -71,17 +67,8 @@ sound r k address (request.Write idn e bytes) valid below same job typed = (type
 sound r k address (request.Command idn) valid below same job typed = command_of r k idn.raw valid below (subst (λ a. has_other_data a idn.raw r.drives ≡ false) same job.command)
 
 -- what is so of all is so of the one at a place
-record IsThere {X : Type 0} (xs : List X) (i : ℕ) (x : X) : Type 0 where
-  below : i < length xs
-  is : slice_index_or xs i x ≡ x
-
-is_there : {X : Type 0} (xs : List X) (i : ℕ) (x : X) → slice_get xs i ≡ Some x → IsThere xs i x
-is_there [] i x there = cc
-is_there (y ∷ xs) zero x there = record { below = omega arith; is = cc }
-is_there (y ∷ xs) (suc i) x there = let rest = is_there xs i x there in let below = rest.below in record { below = omega (arith, below); is = rest.is }
-
 pub all_at : {X : Type 0} (P : X → Type 0) (xs : List X) (i : ℕ) (x : X) → All P xs → slice_get xs i ≡ Some x → P x
-all_at P xs i x all there = let at = is_there xs i x there in subst P at.is (all i x at.below)
+all_at P xs i x all there = subst P (get_or_from_slice_get xs i x x there) (all i x (slice_get_within xs i x there))
 
 -- one more of a list, as at a step of a loop
 one_more : {X : Type 0} (P : X → Type 0) (xs : List X) (i : ℕ) (d : X) → i < length xs → P (slice_index_or xs i d) → All P (drop (suc i) xs) → All P (drop i xs)

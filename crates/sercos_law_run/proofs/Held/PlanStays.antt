@@ -1,42 +1,19 @@
 -- Within a cycle of phases 3 and 4 the plan stays.
-use Rattle.sercos_law_run.proofs.Words.{◌≡◌, ◌⊎◌, inl, inr, ℕ, ◌+◌, ◌≤◌, Bool, true, false, List, [], ◌∷◌, length, Option, Some, None, refl, sym, ◌∙◌, ap, subst, arith, if◌then◌else◌, is_some, slice_index, Job, PlanView, RingView, Known, known_of, Past, Call, place_of, is_taken, after_taken, after_at_of, after_at, settled, after_mdt, fall_of, next_phase, goes_on, new_epoch, still_waiting, after_end, settles, CycleView, Carry, Restarts, heard, passage, mst_in, ats_in, station_of, with_at, at_calls, looks_back, master_calls, own_mst, begins, at_start, behind_ats, behind_mdt}
+use Rattle.sercos_law_run.proofs.Words.{◌≡◌, ◌⊎◌, inl, inr, ℕ, ◌+◌, ◌≤◌, Bool, true, false, List, [], ◌∷◌, length, Option, Some, None, refl, sym, ◌∙◌, ap, subst, arith, if◌then◌else◌, is_some, slice_index, Job, PlanView, RingView, Known, known_of, Past, Call, place_of, is_taken, after_taken, after_at_of, after_at, settled, after_mdt, fall_of, next_phase, goes_on, new_epoch, still_waiting, after_end, settles, CycleView, Carry, Restarts, heard, passage, mst_in, ats_in, station_of, with_at, at_calls, looks_back, master_calls, own_mst, begins, at_start, behind_ats, behind_mdt, cases_Bool}
 use Rattle.sercos_telegram.specs.declared.layout.Kind.TheVariants as kinds
 use Rattle.sercos_law_run.proofs.Views.MasterSame.{begun_cycle}
 use Rattle.sercos_law_run.proofs.Views.ViewRuns.{started}
-
-at_plan : (s : Known) (content : List ℕ) (p : Past) → (after_at s content p).plan ≡ p.plan
-at_plan s content p = by (place_of s (slice_index content 0))
-  where
-    taken : (k : ℕ) (t : Bool) → (if t then after_taken k content p else p).plan ≡ p.plan
-    taken k true = refl
-    taken k false = refl
-
-    by : (o : Option ℕ) → (after_at_of s o content p).plan ≡ p.plan
-    by None = refl
-    by (Some k) = taken k (is_taken s p k content)
+use Rattle.sercos_law_run.proofs.Undisturbed.Arriving.AfterAt.{after_at_so, ats_same}
 
 pub ats_plan : (r : RingView) (jobs : List Job) (carry : Carry) (cycle : ℕ) (ats : List (List ℕ)) (h : List Call) → (looks_back r jobs (at_calls r carry cycle ats h)).plan ≡ (looks_back r jobs h).plan
-ats_plan r jobs carry cycle [] h = refl
-ats_plan r jobs carry cycle (at ∷ ats) h = ats_plan r jobs carry cycle ats _ ∙ by (heard carry (passage cycle kinds.At (station_of r (slice_index at 0)) 0) at)
-  where
-    by : (o : Option (List ℕ)) → (looks_back r jobs (with_at o h)).plan ≡ (looks_back r jobs h).plan
-    by None = refl
-    by (Some content) = at_plan (known_of r) content (looks_back r jobs h)
+ats_plan = ats_same (λ (p : Past). p.plan) (λ s content p. after_at_so (λ q. q.plan ≡ p.plan) s content p refl (λ k. refl))
 
 pub mdt_plan : (s : Known) (p : Past) (plan : PlanView) → p.plan ≡ Some plan → (after_mdt s p).plan ≡ Some plan
-mdt_plan s p plan has = by (settles s p).plan
-  where
-    by : (p.plan ≡ None) ⊎ ((settled s p).plan ≡ p.plan) → (settled s p).plan ≡ Some plan
-    by (inl none) = let no : Some plan ≡ None = sym has ∙ none in absurd (cc)
-    by (inr same) = same ∙ has
+mdt_plan s p plan has =
+    elim (settles s p).plan [ inl none ↦ let no : Some plan ≡ None = sym has ∙ none in absurd (cc) | inr same ↦ same ∙ has ]
 
 pub end_plan : (s : Known) (p : Past) → 1 ≤ (after_end s p).now.phase → (after_end s p).plan ≡ p.plan
-end_plan s p later = by (is_some (fall_of s p)) later
-  where
-    by : (falls : Bool) → 1 ≤ (if falls then new_epoch (p.cycle + 1) (still_waiting p) else goes_on (next_phase s p) p).now.phase
-        → (if falls then new_epoch (p.cycle + 1) (still_waiting p) else goes_on (next_phase s p) p).plan ≡ p.plan
-    by true later = absurd (omega (arith, later))
-    by false later = refl
+end_plan s p later = elim (cases_Bool (is_some (fall_of s p))) [ inl on ↦ absurd (omega (arith, (rw on at later))) | inr off ↦ rw off ]
 
 -- the plan of the end of the cycle before
 pub plan_kept : (r : RingView) (jobs : List Job) (carry : Carry) (restarts : Restarts) (t : CycleView) (j : List CycleView) (plan : PlanView) → 1 ≤ (at_start r jobs carry restarts j).now.phase

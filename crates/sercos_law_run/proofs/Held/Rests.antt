@@ -1,6 +1,7 @@
 -- The phase rises only where no step is open.
-use Rattle.sercos_law_run.proofs.Words.{◌≡◌, inl, inr, ℕ, ◌+◌, ◌<◌, ◌≤◌, true, List, [], ◌∷◌, length, Option, Some, None, refl, sym, ap, ◌∙◌, subst, arith, and_parts, cases_eq, false≢true, Outcome, outcome_of, Begun, open_in, step_at, begun_by, PlanView, given, ended_well, reads_count, is_checked, is_ready, outcomes_in, Known, Task, member, AreWaiting, ended_there, Past, outcomes, is_done, is_done_in, each_passes, IsTask, OfReads, OfWrites, Checks3, Lists3, Checks4, Lists4, OfWaiting, AreBegunTasks}
+use Rattle.sercos_law_run.proofs.Words.{◌≡◌, inl, inr, ℕ, ◌+◌, ◌<◌, ◌≤◌, true, List, [], ◌∷◌, length, Option, Some, None, refl, sym, ap, ◌∙◌, subst, arith, and_parts, cases_eq, false≢true, Outcome, outcome_of, Begun, open_in, step_at, begun_by, PlanView, given, ended_well, reads_count, is_checked, is_ready, outcomes_in, Known, Task, member, AreWaiting, ended_there, Past, outcomes, is_done, is_done_in, each_passes, IsTask, OfReads, OfWrites, Checks3, Lists3, Checks4, Lists4, OfWaiting, AreBegunTasks, cases_Option}
 use Rattle.sercos_law_run.proofs.Views.MasterSame.{done_below}
+use Rattle.sercos_law_run.proofs.Agenda.AgendaTasks.{late_waits, task_phase}
 
 -- No request is open if the drive's part of the phase is done.
 pub record IsDoneAt (s : Known) (k phase : ℕ) (outs : List Outcome) : Type 0 where
@@ -9,57 +10,29 @@ pub record IsDoneAt (s : Known) (k phase : ℕ) (outs : List Outcome) : Type 0 w
   pub ready : phase ≡ 3 → is_ready (member s k) outs ≡ true
 
 closed_task : (s : Known) (k phase : ℕ) (plan : Option PlanView) (waiting : List Task) (outs : List Outcome) (t : Task) → AreWaiting waiting → IsDoneAt s k phase outs → t.phase ≤ phase → IsTask s k plan waiting outs t → ⊥
-closed_task s k phase plan waiting outs t waits done early task = elim (cases_eq phase 2) [
-  | inl two ↦ second two (done.checked two) (ended_there outs (reads_count (member s k) + 11) (done.checked two)) task
-  | inr other ↦ elim (cases_eq phase 3) [
-    | inl three ↦
-        let parts = and_parts (is_checked (member s k) outs) (ended_well (given outs (reads_count (member s k) + 12))) (done.ready three) in
-        third three (done.ready three) (ended_there outs (reads_count (member s k) + 12) parts.1) task
-    | inr neither ↦ let low = done.below in first (omega (arith, other, neither, low)) task
-  ]
-]
-  where
-    start : (n : ℕ) → t.phase ≡ n → n ≤ phase
-    start n is = subst (λ m. m ≤ phase) is early
-
-    phase_of : (x : Task) → t ≡ x → t.phase ≡ x.phase
-    phase_of x is = ap (λ (y : Task). y.phase) is
-
-    first : phase < 2 → IsTask s k plan waiting outs t → ⊥
-    first low (OfReads r less found is) = let e = start 2 (phase_of _ is) in absurd (omega (arith, low, e))
-    first low (OfWrites p i r planned less at found is) = let e = start 2 (phase_of _ is) in absurd (omega (arith, low, e))
-    first low (Checks3 p planned at is) = let e = start 2 (phase_of _ is) in absurd (omega (arith, low, e))
-    first low (Lists3 at failed is) = let e = start 2 (phase_of _ is) in absurd (omega (arith, low, e))
-    first low (Checks4 at checked is) = let e = start 3 (phase_of _ is) in absurd (omega (arith, low, e))
-    first low (Lists4 at failed is) = let e = start 3 (phase_of _ is) in absurd (omega (arith, low, e))
-    first low (OfWaiting j at ready found) = let e = start 4 (waits j t found) in absurd (omega (arith, low, e))
-
-    second : phase ≡ 2 → is_checked (member s k) outs ≡ true → reads_count (member s k) + 11 < length outs → IsTask s k plan waiting outs t → ⊥
-    second two checked many (OfReads r less found is) = absurd (omega (arith, many, less))
-    second two checked many (OfWrites p i r planned less at found is) = absurd (omega (arith, many, less, at))
-    second two checked many (Checks3 p planned at is) = absurd (omega (arith, many, at))
-    second two checked many (Lists3 at failed is) = false≢true (sym failed ∙ checked)
-    second two checked many (Checks4 at good is) = let e = start 3 (phase_of _ is) in absurd (omega (arith, two, e))
-    second two checked many (Lists4 at failed is) = let e = start 3 (phase_of _ is) in absurd (omega (arith, two, e))
-    second two checked many (OfWaiting j at ready found) = let e = start 4 (waits j t found) in absurd (omega (arith, two, e))
-
-    third : phase ≡ 3 → is_ready (member s k) outs ≡ true → reads_count (member s k) + 12 < length outs → IsTask s k plan waiting outs t → ⊥
-    third three ready many (OfReads r less found is) = absurd (omega (arith, many, less))
-    third three ready many (OfWrites p i r planned less at found is) = absurd (omega (arith, many, less, at))
-    third three ready many (Checks3 p planned at is) = absurd (omega (arith, many, at))
-    third three ready many (Lists3 at failed is) = absurd (omega (arith, many, at))
-    third three ready many (Checks4 at good is) = absurd (omega (arith, many, at))
-    third three ready many (Lists4 at failed is) = false≢true (sym failed ∙ ready)
-    third three ready many (OfWaiting j at good found) = let e = start 4 (waits j t found) in absurd (omega (arith, three, e))
+closed_task s k phase plan waiting outs t waits done early task =
+    let (begins, later) = task_phase s k plan waiting outs t waits task in
+    elim (cases_eq phase 2) [
+      | inl two ↦
+          let three = later (ended_there outs (reads_count (member s k) + 11) (done.checked two)) (done.checked two) in
+          omega (arith, early, two, three)
+      | inr other ↦ elim (cases_eq phase 3) [
+        | inl three ↦
+            let parts = and_parts (is_checked (member s k) outs) (ended_well (given outs (reads_count (member s k) + 12))) (done.ready three) in
+            let many = ended_there outs (reads_count (member s k) + 12) parts.1 in
+            let (j, got) = late_waits s k plan waiting outs t many (done.ready three) task in
+            let four = waits j t got in omega (arith, early, three, four)
+        | inr neither ↦ let low = done.below in omega (arith, other, neither, low, begins, early)
+      ]
+    ]
 
 open_none : (s : Known) (k phase : ℕ) (plan : Option PlanView) (waiting : List Task) (begun : List Begun) (tasks : List Task) → AreWaiting waiting → AreBegunTasks s k plan waiting phase begun tasks → IsDoneAt s k phase (outcomes_in begun) → open_in begun ≡ None
 open_none s k phase plan waiting [] tasks waits are done = refl
 open_none s k phase plan waiting (b ∷ older) [] waits are done = absurd are
-open_none s k phase plan waiting (b ∷ older) (t ∷ tasks) waits are done = by (outcome_of b.request b.answers) refl
-  where
-    by : (o : Option Outcome) → outcome_of b.request b.answers ≡ o → step_at b.request b.answers ≡ None
-    by (Some o) ended = rw ended refl
-    by None ended = absurd (closed_task s k phase are.1.by_then waiting (outcomes_in older) t waits (rw ended at done) are.1.early are.1.task)
+open_none s k phase plan waiting (b ∷ older) (t ∷ tasks) waits are done = elim (cases_Option (outcome_of b.request b.answers)) [
+  | inl ended ↦ absurd (closed_task s k phase are.1.by_then waiting (outcomes_in older) t waits (rw ended at done) are.1.early are.1.task)
+  | inr (o, ended) ↦ rw ended refl
+]
 
 pub rests_so : (s : Known) (p : Past) (k : ℕ) → k < length s.drives → AreWaiting (p.waiting k) → AreBegunTasks s k p.plan (p.waiting k) p.now.phase (begun_by (p.calls k)) (p.tasks k) → is_done s p ≡ true → open_in (begun_by (p.calls k)) ≡ None
 rests_so s p k below waits are done = open_none s k p.now.phase p.plan (p.waiting k) (begun_by (p.calls k)) (p.tasks k) waits are (record {

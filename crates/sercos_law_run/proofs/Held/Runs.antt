@@ -1,6 +1,6 @@
 -- Through a run of a ring in which nothing is unseen: each drive and its channel are a run of views, the requests are sound, and in
 -- phases 3 and 4 each drive holds the plan.
-use Rattle.sercos_law_run.proofs.Words.{◌≡◌, ℕ, zero, suc, ◌+◌, ◌<◌, ◌≤◌, Bool, true, false, not, ◌&&◌, List, [], ◌∷◌, map, length, Option, Some, None, refl, sym, ◌∙◌, ap, ap₂, subst, arith, if◌then◌else◌, same_Some, slice_get, slice_index_or, IfSome, option_map, Attribute, Request, Outcome, Job, WishesView, PlanView, Block, is_fixed, is_protected, wishes_of, blocks_fault, IsStore, find_block, store_of, DriveView, RingView, AreAlike, without_data, open_in, begun_by, DriveCall, phase_in, blocks_in, annals, CycleView, reads, wishes_given, outcomes_in, MemberView, Task, member, member_of, known_of, tasks_for, IsKnown, IsStoreOf, is_given, kept, start_up, Holds, AreAnswers, HaveFactors, AreProtectedLater, Past, IsPlanned, outcomes, settled, is_done, tasks_wait, jobs_waiting, Carry, Restarts, standing, before_mst, kept_in, with_begun, begun_in, all_writes, IsSound, AreSound, AreSmall, store_in, ats_in, no_drive, drive_at, with_restart, given_before, master_calls, looks_back, middle, IsNext, HasBegunTasks, start_numbers, at_start, behind_mst, behind_ats, behind_mdt, heard_last, request_of, after_mst, view_of, views_of, IsSpelled, AreProtected, HoldsThePlan, IsStored, AreStored, IsOpened, IsRing-is_ring, types, is_planned}
+use Rattle.sercos_law_run.proofs.Words.{◌≡◌, ℕ, zero, suc, ◌+◌, ◌<◌, ◌≤◌, Bool, true, false, not, ◌&&◌, List, [], ◌∷◌, map, length, Option, Some, None, refl, sym, ◌∙◌, ap, ap₂, subst, arith, if◌then◌else◌, same_Some, slice_get, slice_index_or, IfSome, option_map, Attribute, Request, Outcome, Job, WishesView, PlanView, Block, is_fixed, is_protected, wishes_of, blocks_fault, IsStore, find_block, store_of, DriveView, RingView, AreAlike, without_data, open_in, begun_by, DriveCall, phase_in, blocks_in, annals, CycleView, reads, wishes_given, outcomes_in, MemberView, Task, member, member_of, known_of, tasks_for, IsKnown, IsStoreOf, is_given, kept, start_up, Holds, AreAnswers, HaveFactors, AreProtectedLater, Past, IsPlanned, outcomes, settled, is_done, tasks_wait, jobs_waiting, Carry, Restarts, standing, before_mst, kept_in, with_begun, begun_in, all_writes, IsSound, AreSound, AreSmall, store_in, ats_in, no_drive, drive_at, with_restart, given_before, master_calls, looks_back, middle, IsNext, HasBegunTasks, start_numbers, at_start, behind_mst, behind_ats, behind_mdt, heard_last, request_of, after_mst, view_of, views_of, IsSpelled, AreProtected, HoldsThePlan, IsStored, AreStored, IsOpened, IsRing-is_ring, types, is_planned, get_or_from_slice_get, slice_get-get_or, slice_get_within, cases_Bool, inl, inr}
 use Rattle.sercos_law_run.proofs.Start.CheckPasses.{ring_drive}
 use Rattle.sercos_master.specs.Annals.{begins}
 use Rattle.sercos_law_run.proofs.Views.MasterSame.{AfterAts, ats_none, begun_cycle, begun_so, heard_so, same_started, turn_mdt}
@@ -42,27 +42,19 @@ pub all_first : (r : RingView) (jobs : List Job) (carry : Carry) (restarts : Res
 all_first r jobs carry restarts k below = record { sees = sees_first r jobs carry restarts k; sound = tt; stored = tt; holds = holds_first r jobs k (store_of (drive_at r k)) [] }
 
 -- the drive at a place, in both ways of saying it
-pub get_drive : (drives : List DriveView) (k : ℕ) → k < length drives → slice_get drives k ≡ Some (slice_index_or drives k no_drive)
-get_drive [] k below = absurd (omega (arith, below))
-get_drive (d ∷ drives) zero below = refl
-get_drive (d ∷ drives) (suc k) below = get_drive drives k (omega (arith, below))
-
 pub drive_got : (r : RingView) (k : ℕ) → k < length r.drives → slice_get r.drives k ≡ Some (drive_at r k)
-drive_got r k below = get_drive r.drives k below
+drive_got r k below = slice_get-get_or r.drives k no_drive below
 
 pub got_inside : (drives : List DriveView) (k : ℕ) (d : DriveView) → slice_get drives k ≡ Some d → (k < length drives) × (d ≡ slice_index_or drives k no_drive)
-got_inside [] k d got = cc
-got_inside (c ∷ drives) zero d got = (omega arith, cc)
-got_inside (c ∷ drives) (suc k) d got = let (low, same) = got_inside drives k d got in (omega (arith, low), same)
+got_inside drives k d got = (slice_get_within drives k d got, sym (get_or_from_slice_get drives k d no_drive got))
 
 -- what no write changes has all but the operation data
 alike_kept : (blocks : List Block) → map without_data (map kept blocks) ≡ map without_data blocks
 alike_kept [] = refl
-alike_kept (b ∷ blocks) = ap₂ (λ (x : Block) (l : List Block). x ∷ l) (by (is_fixed b && not (is_given b.idn.raw))) (alike_kept blocks)
-  where
-    by : (t : Bool) → without_data (if t then b else record b { value = [] }) ≡ without_data b
-    by true = refl
-    by false = refl
+alike_kept (b ∷ blocks) = ap₂ (λ (x : Block) (l : List Block). x ∷ l) (elim (cases_Bool (is_fixed b && not (is_given b.idn.raw))) [
+  | inl on ↦ rw on
+  | inr off ↦ rw off
+]) (alike_kept blocks)
 
 pub alike_so : (d : DriveView) (blocks : List Block) → IsStoreOf d blocks → AreAlike blocks (store_of d)
 alike_so d blocks stored = sym (alike_kept blocks) ∙ ap (map without_data) stored ∙ alike_kept (store_of d)
@@ -125,11 +117,10 @@ module _ (r : RingView) (jobs : List Job) (carry : Carry) (restarts : Restarts) 
 
     -- in phase 3 or 4 the master hasn't restarted
     kept_on : 3 ≤ (at_start r jobs carry restarts j).now.phase → at_start r jobs carry restarts j ≡ looks_back r jobs (master_calls r carry restarts j)
-    kept_on late = at_first ∙ by (restarts (length j) 0) (subst (λ (p : Past). 3 ≤ p.now.phase) at_first late)
-      where
-        by : (b : Bool) → 3 ≤ (begun_cycle b (looks_back r jobs (master_calls r carry restarts j))).now.phase → begun_cycle b (looks_back r jobs (master_calls r carry restarts j)) ≡ looks_back r jobs (master_calls r carry restarts j)
-        by true some = absurd (omega (arith, some))
-        by false some = refl
+    kept_on late = at_first ∙ (elim (cases_Bool (restarts (length j) 0)) [
+      | inl on ↦ absurd (omega (arith, (rw on at (subst (λ (p : Past). 3 ≤ p.now.phase) at_first late))))
+      | inr off ↦ rw off
+    ])
 
     -- what a cycle leaves at the MDT's place
     passed_by : (k : ℕ) → AfterAts (known_of r) k (λ content. Unit {0}) (behind_mst r jobs carry restarts t.sent j) (behind_ats r jobs carry restarts t.sent j)
@@ -185,9 +176,6 @@ module _ (r : RingView) (jobs : List Job) (carry : Carry) (restarts : Restarts) 
           subst (λ (b : List Block). Holds b (start_up r.control r.cycle plan k (drive_at r k).at (drive_at r k).mdt)) (sym (store_is k below))
               (held_holds r plan k (drive_at r k) (views_of r jobs carry restarts k j) opened.valid planned.of.valid planned.of.least.fits (drive_got r k below) (rules k below) own),
         )
-
-    pub one_plan : {o : Option PlanView} {a b : PlanView} → o ≡ Some a → o ≡ Some b → a ≡ b
-    one_plan is same = let e = sym is ∙ same in cc
 
     pub agrees : (k : ℕ) → k < length r.drives → (plan : PlanView) → 3 ≤ (behind_mdt r jobs carry restarts t.sent j).now.phase → 3 ≤ phase_in (after_mst r carry restarts t.sent j k) → (behind_mdt r jobs carry restarts t.sent j).plan ≡ Some plan
         → Agrees (known_of r) (behind_mdt r jobs carry restarts t.sent j) k (blocks_in (drive_at r k) (after_mst r carry restarts t.sent j k))

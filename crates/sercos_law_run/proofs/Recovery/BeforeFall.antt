@@ -35,7 +35,7 @@ module _ (r : RingView) (jobs : List Job) (carry : Carry) (restarts : Restarts) 
   abbrev opened_in : List CycleView → List CycleView → ℕ → ℕ
   opened_in cycles rest k = open_since (views_since r jobs carry restarts k cycles rest) (views_of r jobs carry restarts k rest)
 
-  -- the drive that is spared: the one in phase 0 that has the work_in_turn, or any in phase 0
+  -- the drive that is spared: the one in phase 0 that has the turn, or any in phase 0
   record IsOne (limit : ℕ) (cycles rest : List CycleView) : Type 0 where
     place : ℕ
     there : place < length r.drives
@@ -53,7 +53,7 @@ module _ (r : RingView) (jobs : List Job) (carry : Carry) (restarts : Restarts) 
           × (is_some (open_in (begun_in (view_of r jobs carry restarts k t (cycles ++ first ∷ before)) (views_of r jobs carry restarts k (cycles ++ first ∷ before)))) ≡ true)
       its = works_in_turn r jobs carry restarts opened t (cycles ++ first ∷ before) run clear two.1
 
-      -- a drive in phase 0 that doesn't have the work_in_turn had no open step
+      -- a drive in phase 0 that doesn't have the turn had no open step
       none_of_others : (k : ℕ) → k < length r.drives → (k ≡ its.0 → ⊥) → IsDown r jobs carry restarts k (first ∷ before) → opened_in (t ∷ cycles) (first ∷ before) k ≡ 0
       none_of_others k below other is_down =
           let same = ap (λ (l : List Begun). is_some (open_in l)) (begun_end r jobs carry restarts opened t (cycles ++ first ∷ before) run clear stretch.stays.1 k) in

@@ -1,5 +1,5 @@
 -- Where a stop stands: it comes from phase 2 on, is told in a record, and no later record tells a fall.
-use Rattle.sercos_law_run.proofs.Words.{◌≡◌, ◌⊎◌, inl, inr, ℕ, ◌+◌, ◌<◌, ◌≤◌, Bool, true, false, List, [], ◌∷◌, length, Option, Some, None, refl, sym, ap, ◌∙◌, arith, if◌then◌else◌, ◌==◌, is_some, option_or, false≢true, nat_tests, Job, RingView, Begun, begun_by, CycleView, EventsView, Fall, Stop, last_outcome, trouble_by, Known, Task, known_of, member, tasks_for, Call, Past, after_mdt, fall_of, first_trouble, goes_on, is_plan_due, new_epoch, next_phase, past, planned_by, still_waiting, with_due_plan, with_stop, restart_told, past_keeps, Carry, Restarts, looks_back, master_calls, middle, no_events, IsNext, IsRun, AreWaiting, at_start, behind_mdt, StandsAt}
+use Rattle.sercos_law_run.proofs.Words.{◌≡◌, ◌⊎◌, inl, inr, ℕ, ◌+◌, ◌<◌, ◌≤◌, Bool, true, false, List, [], ◌∷◌, length, Option, Some, None, refl, sym, ap, ◌∙◌, arith, if◌then◌else◌, ◌==◌, is_some, option_or, false≢true, nat_tests, Job, RingView, Begun, begun_by, CycleView, EventsView, Fall, Stop, last_outcome, trouble_by, Known, Task, known_of, member, tasks_for, Call, Past, after_mdt, fall_of, first_trouble, goes_on, is_plan_due, new_epoch, next_phase, past, planned_by, still_waiting, with_due_plan, with_stop, restart_told, past_keeps, Carry, Restarts, looks_back, master_calls, middle, no_events, IsNext, IsRun, AreWaiting, at_start, behind_mdt, StandsAt, cases_Bool, cases_Option}
 use Rattle.sercos_law_run.proofs.Views.MasterSame.{begun_cycle, turn_mdt}
 use Rattle.sercos_law_run.proofs.Views.ViewRuns.{started}
 use Rattle.sercos_law_run.proofs.Undisturbed.PhaseZero.{none_first}
@@ -57,14 +57,13 @@ module _ (r : RingView) (jobs : List Job) (carry : Carry) (restarts : Restarts) 
 
   -- in a cycle in which the master restarts there is none
   goes_on_with : (t : CycleView) (j : List CycleView) (x : Stop) → IsNext r jobs carry restarts t j → (behind_mdt r jobs carry restarts t.sent j).stop ≡ Some x → restarts (length j) 0 ≡ false
-  goes_on_with t j x next is = by (restarts (length j) 0) refl
-    where
-      by : (b : Bool) → restarts (length j) 0 ≡ b → restarts (length j) 0 ≡ false
-      by false off = off
-      by true on =
-          let start : (at_start r jobs carry restarts j).now.phase ≡ 0 = ap (λ (p : Past). p.now.phase) (started r jobs (restarts (length j) 0) (master_calls r carry restarts j))
-          ∙ ap (λ (b : Bool). (begun_cycle b (looks_back r jobs (master_calls r carry restarts j))).now.phase) on in
-          let same = phase_then t j next in absurd (some_late (middle r carry restarts t.sent j) x is (omega (arith, start, same)))
+  goes_on_with t j x next is = elim (cases_Bool (restarts (length j) 0)) [
+    | inl on ↦
+        let start : (at_start r jobs carry restarts j).now.phase ≡ 0 = ap (λ (p : Past). p.now.phase) (started r jobs (restarts (length j) 0) (master_calls r carry restarts j))
+        ∙ ap (λ (b : Bool). (begun_cycle b (looks_back r jobs (master_calls r carry restarts j))).now.phase) on in
+        let same = phase_then t j next in absurd (some_late (middle r carry restarts t.sent j) x is (omega (arith, start, same)))
+    | inr off ↦ off
+  ]
 
   -- a cycle at whose end the ring doesn't fall, and in which the master doesn't restart, tells no fall
   pub tells_none : (t : CycleView) (j : List CycleView) → IsNext r jobs carry restarts t j → fall_of (known_of r) (behind_mdt r jobs carry restarts t.sent j) ≡ None → restarts (length j) 0 ≡ false → t.events.fall ≡ None
@@ -83,16 +82,14 @@ module _ (r : RingView) (jobs : List Job) (carry : Carry) (restarts : Restarts) 
   -- a stop that was there at the end of a cycle was there after its MDT's place, and the ring didn't fall
   stood_before : (u : CycleView) (j : List CycleView) (x : Stop) → (looks_back r jobs (master_calls r carry restarts (u ∷ j))).stop ≡ Some x
       → (fall_of (known_of r) (behind_mdt r jobs carry restarts u.sent j) ≡ None) × ((behind_mdt r jobs carry restarts u.sent j).stop ≡ Some x)
-  stood_before u j x is = by (fall_of (known_of r) (behind_mdt r jobs carry restarts u.sent j)) refl
-    where
-      by : (o : Option Fall) → fall_of (known_of r) (behind_mdt r jobs carry restarts u.sent j) ≡ o
-          → (fall_of (known_of r) (behind_mdt r jobs carry restarts u.sent j) ≡ None) × ((behind_mdt r jobs carry restarts u.sent j).stop ≡ Some x)
-      by None none = (none, sym (stop_after r jobs carry restarts u j none) ∙ is)
-      by (Some f) falls =
-          let none : (looks_back r jobs (master_calls r carry restarts (u ∷ j))).stop ≡ None =
-          ap (λ (o : Option Fall). (if is_some o then new_epoch ((behind_mdt r jobs carry restarts u.sent j).cycle + 1) (still_waiting (behind_mdt r jobs carry restarts u.sent j))
-          else goes_on (next_phase (known_of r) (behind_mdt r jobs carry restarts u.sent j)) (behind_mdt r jobs carry restarts u.sent j)).stop) falls in
-          let both : None ≡ Some x = sym none ∙ is in absurd (cc)
+  stood_before u j x is = elim (cases_Option (fall_of (known_of r) (behind_mdt r jobs carry restarts u.sent j))) [
+    | inl none ↦ (none, sym (stop_after r jobs carry restarts u j none) ∙ is)
+    | inr (f, falls) ↦
+        let none : (looks_back r jobs (master_calls r carry restarts (u ∷ j))).stop ≡ None =
+        ap (λ (o : Option Fall). (if is_some o then new_epoch ((behind_mdt r jobs carry restarts u.sent j).cycle + 1) (still_waiting (behind_mdt r jobs carry restarts u.sent j))
+        else goes_on (next_phase (known_of r) (behind_mdt r jobs carry restarts u.sent j)) (behind_mdt r jobs carry restarts u.sent j)).stop) falls in
+        let both : None ≡ Some x = sym none ∙ is in absurd (cc)
+  ]
 
   -- THE MASTER STANDS AT THE STOP that there is after the MDT's place.
   pub stands_at : (t : CycleView) (j : List CycleView) (x : Stop) → IsRun r jobs carry restarts (t ∷ j) → fall_of (known_of r) (behind_mdt r jobs carry restarts t.sent j) ≡ None → (behind_mdt r jobs carry restarts t.sent j).stop ≡ Some x

@@ -1,17 +1,17 @@
 -- Without a stop the ring falls in time if a drive is in phase 0, in whatever phases from 2 on.
-use Rattle.sercos_law_run.proofs.Words.{◌≡◌, inl, inr, ℕ, suc, ◌+◌, ◌<◌, ◌≤◌, false, List, [], ◌∷◌, ◌++◌, length, Option, None, sym, ap, ◌∙◌, arith, if◌then◌else◌, is_some, slice_index_or, cases_lt, false≢true, Job, DriveView, RingView, greatest, CycleView, Fall, known_of, Past, fall_of, is_done, is_done_in, Carry, Restarts, looks_back, master_calls, no_drive, IsClear, IsRun, at_start, behind_mdt, IsOpened, AreInTwo, GoesOnInTwo, IsSpared, IsDown, IsStretch}
+use Rattle.sercos_law_run.proofs.Words.{◌≡◌, inl, inr, ℕ, suc, ◌+◌, ◌<◌, ◌≤◌, false, List, [], ◌∷◌, ◌++◌, length, Option, None, sym, ap, ◌∙◌, arith, if◌then◌else◌, is_some, slice_index_or, cases_lt, false≢true, Job, DriveView, RingView, greatest, CycleView, Fall, known_of, Past, fall_of, is_done, Carry, Restarts, looks_back, master_calls, no_drive, IsClear, IsRun, at_start, behind_mdt, IsOpened, AreInTwo, GoesOnInTwo, IsSpared, IsDown, IsStretch, NoneFalls}
 use Rattle.sercos_law_run.proofs.Undisturbed.Arriving.Comes.{calm_in}
-use Rattle.sercos_law_run.proofs.Undisturbed.JobsBegun.{planned_now}
+use Rattle.sercos_law_run.proofs.Undisturbed.JobsBegun.{goes_in_two}
 use Rattle.sercos_law_run.proofs.Undisturbed.PhaseCounts.{end_kept}
 use Rattle.sercos_law_run.proofs.Undisturbed.Stops.StopStays.{none_before, stop_after}
 use Rattle.sercos_law_run.proofs.Undisturbed.Stops.StopOnce.{same_start}
 use Rattle.sercos_law_run.proofs.Undisturbed.NoFalls.{stays_at}
 use Rattle.sercos_law_run.proofs.Recovery.BeforeFall.{few_within}
-use Rattle.sercos_law_run.proofs.Recovery.DownSince.{shorter}
+use Rattle.sercos_law_run.proofs.Recovery.DownSince.{NeverRestarts, calm_quiet, shorter}
 use Rattle.sercos_law_run.proofs.Recovery.LateDown.{falls_if_down, no_lower, phase_now}
 use Rattle.sercos_law_run.proofs.Recovery.Limits.{ages_to_limit}
 use Rattle.sercos_law_run.proofs.Recovery.Stretches.{ages_down_in, stays_down_in}
-use Rattle.sercos_law_run.proofs.Recovery.UpSections.{no_lower_since}
+use Rattle.sercos_law_run.proofs.Recovery.UpSections.{no_lower_on, no_lower_since}
 
 -- the slowest drive is busy for at most 20 cycles
 pub greatest_low : (f : DriveView → ℕ) (most : ℕ) (drives : List DriveView) → ((k : ℕ) → k < length drives → f (slice_index_or drives k no_drive) ≤ most) → greatest f drives ≤ most
@@ -30,13 +30,21 @@ module _ (r : RingView) (jobs : List Job) (carry : Carry) (restarts : Restarts) 
       → IsStretch r jobs carry restarts (t ∷ cycles) first before → 2 ≤ first.phase → (k : ℕ) → k < length r.drives → 2 ≤ t.phase
   late_now t cycles first before run clear stretch late k below = let least = no_lower_since r jobs carry restarts opened t cycles first before run clear stretch k below in omega (arith, late, least)
 
+  -- a drive in phase 0 stays there, whatever is lost,
+  pub down_on : (cycles : List CycleView) (first : CycleView) (before : List CycleView) → IsRun r jobs carry restarts (cycles ++ first ∷ before)
+      → IsClear (cycles ++ first ∷ before) → fall_of (known_of r) (behind_mdt r jobs carry restarts first.sent before) ≡ None
+      → NoneFalls r jobs carry restarts cycles (first ∷ before) → NeverRestarts restarts cycles (first ∷ before) → 2 ≤ first.phase → (k : ℕ)
+      → k < length r.drives → IsDown r jobs carry restarts k (first ∷ before) → IsDown r jobs carry restarts k (cycles ++ first ∷ before)
+  down_on [] first before run clear first_stays stays quiet late k below down = down
+  down_on (t ∷ cycles) first before run clear first_stays stays quiet late k below down =
+      let least = no_lower_on r jobs carry restarts opened t cycles first before run clear first_stays stays.0 quiet k below in
+      (stays_down_in r jobs carry restarts opened t (cycles ++ first ∷ before) run clear k below
+      (down_on cycles first before run.0 clear.0 first_stays stays.0 quiet.0 late k below down) (omega (arith, least, late))).ended
+
   pub down_late : (cycles : List CycleView) (first : CycleView) (before : List CycleView) → IsRun r jobs carry restarts (cycles ++ first ∷ before) → IsClear (cycles ++ first ∷ before) → IsStretch r jobs carry restarts cycles first before
       → 2 ≤ first.phase → (k : ℕ) → k < length r.drives → IsDown r jobs carry restarts k (first ∷ before) → IsDown r jobs carry restarts k (cycles ++ first ∷ before)
-  down_late [] first before run clear stretch late k below down = down
-  down_late (t ∷ cycles) first before run clear stretch late k below down =
-      (stays_down_in r jobs carry restarts opened t (cycles ++ first ∷ before) run clear k below
-      (down_late cycles first before run.0 clear.0 (shorter r jobs carry restarts opened t cycles first before stretch) late k below down)
-      (late_now t cycles first before run clear stretch late k below)).ended
+  down_late cycles first before run clear stretch =
+      down_on cycles first before run clear stretch.first_stays stretch.stays (calm_quiet r carry restarts cycles (first ∷ before) stretch.calm)
 
   -- where the newest cycle is of phase 2 and has no stop, the master went on with phase 2 in those before it
   module _ (u t : CycleView) (j : List CycleView) (run : IsRun r jobs carry restarts (u ∷ t ∷ j)) (clear : IsClear (u ∷ t ∷ j))
@@ -52,28 +60,32 @@ module _ (r : RingView) (jobs : List Job) (carry : Carry) (restarts : Restarts) 
         let p : Past = behind_mdt r jobs carry restarts t.sent j in
         let phase : p.now.phase ≡ 2 = phase_now r jobs carry restarts t j run.0.1 ∙ t_two in
         let next : (if is_done (known_of r) p then p.now.phase + 1 else p.now.phase) ≡ 2 = sym (run.1.phase ∙ ap (λ (q : Past). q.now.phase) start ∙ ap (λ (q : Past). q.now.phase) (end_kept (known_of r) p stays)) ∙ u_two in
-        record {
-          phase = phase;
-          goes_on = stop_before none;
-          planned = planned_now r jobs carry restarts opened t j run.0 clear.0 phase (stop_before none);
-          unchecked = sym (ap (λ (n : ℕ). is_done_in n (known_of r) (behind_mdt r jobs carry restarts t.sent j)) phase) ∙ stays_at (is_done (known_of r) p) p.now.phase 2 phase next;
-        }
+        goes_in_two r jobs carry restarts opened t j run.0 clear.0 t_two (stop_before none) (stays_at (is_done (known_of r) p) p.now.phase 2 phase next)
 
   quiet : (t : CycleView) (cycles : List CycleView) (first : CycleView) (before : List CycleView) → IsStretch r jobs carry restarts (t ∷ cycles) first before → restarts (length (cycles ++ first ∷ before)) 0 ≡ false
   quiet t cycles first before stretch = (calm_in r carry restarts t (cycles ++ first ∷ before) stretch.calm.1).stays 0 (omega arith)
 
+  pub in_two_on : (u : CycleView) (cycles : List CycleView) (first : CycleView) (before : List CycleView)
+      → IsRun r jobs carry restarts (u ∷ (cycles ++ first ∷ before)) → IsClear (u ∷ (cycles ++ first ∷ before))
+      → fall_of (known_of r) (behind_mdt r jobs carry restarts first.sent before) ≡ None → NoneFalls r jobs carry restarts cycles (first ∷ before)
+      → NeverRestarts restarts (u ∷ cycles) (first ∷ before) → 2 ≤ first.phase → u.phase ≡ 2
+      → (behind_mdt r jobs carry restarts u.sent (cycles ++ first ∷ before)).stop ≡ None → (k : ℕ) → k < length r.drives
+      → AreInTwo r jobs carry restarts cycles (first ∷ before)
+  in_two_on u [] first before run clear first_stays stays on late two none k below = tt
+  in_two_on u (t ∷ cycles) first before run clear first_stays stays on late two none k below =
+      let least = no_lower_on r jobs carry restarts opened t cycles first before run.0 clear.0 first_stays stays.0 on.0 k below in
+      let most = no_lower r jobs carry restarts opened u t (cycles ++ first ∷ before) run clear stays.1 on.1 k below in
+      let t_two : t.phase ≡ 2 = omega (arith, least, most, two, late) in (
+        in_two_on t cycles first before run.0 clear.0 first_stays stays.0 on.0 late t_two
+            (stop_before u t (cycles ++ first ∷ before) run clear stays.1 on.1 none) k below,
+        goes_on_in_two u t (cycles ++ first ∷ before) run clear stays.1 on.1 two t_two none,
+      )
+
   pub are_in_two : (u : CycleView) (cycles : List CycleView) (first : CycleView) (before : List CycleView) → IsRun r jobs carry restarts (u ∷ (cycles ++ first ∷ before)) → IsClear (u ∷ (cycles ++ first ∷ before))
       → IsStretch r jobs carry restarts (u ∷ cycles) first before → 2 ≤ first.phase → u.phase ≡ 2 → (behind_mdt r jobs carry restarts u.sent (cycles ++ first ∷ before)).stop ≡ None → (k : ℕ) → k < length r.drives
       → AreInTwo r jobs carry restarts cycles (first ∷ before)
-  are_in_two u [] first before run clear stretch late two none k below = tt
-  are_in_two u (t ∷ cycles) first before run clear stretch late two none k below =
-      let least = late_now t cycles first before run.0 clear.0 (shorter r jobs carry restarts opened u (t ∷ cycles) first before stretch) late k below in
-      let most = no_lower r jobs carry restarts opened u t (cycles ++ first ∷ before) run clear stretch.stays.0.1 (quiet u (t ∷ cycles) first before stretch) k below in
-      let t_two : t.phase ≡ 2 = omega (arith, least, most, two) in (
-        are_in_two t cycles first before run.0 clear.0 (shorter r jobs carry restarts opened u (t ∷ cycles) first before stretch) late t_two
-            (stop_before u t (cycles ++ first ∷ before) run clear stretch.stays.0.1 (quiet u (t ∷ cycles) first before stretch) none) k below,
-        goes_on_in_two u t (cycles ++ first ∷ before) run clear stretch.stays.0.1 (quiet u (t ∷ cycles) first before stretch) two t_two none,
-      )
+  are_in_two u cycles first before run clear stretch = in_two_on u cycles first before run clear stretch.first_stays stretch.stays.0
+      (calm_quiet r carry restarts (u ∷ cycles) (first ∷ before) stretch.calm)
 
   module _ (d : ℕ) (there : d < length r.drives) where
     -- phase 2, up to a cycle without a fall

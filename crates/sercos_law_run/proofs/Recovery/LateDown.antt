@@ -1,5 +1,5 @@
 -- A drive in phase 0 isn't heard, so the ring falls in phases 3 and 4.
-use Rattle.sercos_law_run.proofs.Words.{◌≡◌, ◌⊎◌, inl, inr, ℕ, ◌+◌, ◌<◌, ◌≤◌, Bool, true, false, List, [], ◌∷◌, ◌++◌, length, Option, Some, None, refl, sym, ap, ◌∙◌, arith, if◌then◌else◌, ◌==◌, nat_le, is_some, slice_index, option_or, false≢true, false_from_ne_true, nat_tests, Job, RingView, CycleView, Fall, Known, known_of, Call, Past, Turn, after_taken, fall_at, fall_of, first_place, goes_on, has_lost_at, has_lost_mst, is_at_limit, new_epoch, next_phase, still_waiting, hearing, Carry, Restarts, Heard, staying, IsDead, IsUp, heard, passage, ats_in, mst_in, at_calls, begins, drive_at, looks_back, master_calls, own_mst, station_of, with_at, IsClear, IsNext, IsRun, at_start, behind_ats, behind_mdt, behind_mst, heard_last, view_of, views_of, IsOpened, IsUndisturbed, IsDown, IsStretch, IsUpNow}
+use Rattle.sercos_law_run.proofs.Words.{◌≡◌, ◌⊎◌, inl, inr, ℕ, ◌+◌, ◌<◌, ◌≤◌, Bool, true, false, List, [], ◌∷◌, ◌++◌, length, Option, Some, None, refl, sym, ap, ◌∙◌, arith, if◌then◌else◌, ◌==◌, nat_le, is_some, slice_index, option_or, false≢true, false_from_ne_true, nat_tests, Job, RingView, CycleView, Fall, Known, known_of, Call, Past, Turn, after_taken, fall_at, fall_of, first_place, goes_on, has_lost_at, has_lost_mst, is_at_limit, new_epoch, next_phase, still_waiting, hearing, Carry, Restarts, Heard, staying, IsDead, IsUp, heard, passage, ats_in, mst_in, at_calls, begins, drive_at, looks_back, master_calls, own_mst, station_of, with_at, IsClear, IsNext, IsRun, at_start, behind_ats, behind_mdt, behind_mst, heard_last, view_of, views_of, IsOpened, IsUndisturbed, IsDown, IsStretch, IsUpNow, cases_Bool}
 use Rattle.sercos_telegram.specs.declared.layout.Kind.TheVariants as kinds
 use Rattle.sercos_trace.specs.declared.events.Fall.TheVariants as fall
 use Rattle.sercos_law_run.proofs.Views.MasterSame.{begun_cycle, turn_mdt}
@@ -62,12 +62,10 @@ module _ (r : RingView) (jobs : List Job) (carry : Carry) (restarts : Restarts) 
   -- at the start of a cycle nothing is heard
   end_quiet : (j : List CycleView) (k : ℕ) → (looks_back r jobs (master_calls r carry restarts j)).now.heard k ≡ false
   end_quiet [] k = refl
-  end_quiet (t ∷ j) k = by (is_some (fall_of (known_of r) (behind_mdt r jobs carry restarts t.sent j)))
-    where
-      by : (b : Bool) → (if b then new_epoch ((behind_mdt r jobs carry restarts t.sent j).cycle + 1) (still_waiting (behind_mdt r jobs carry restarts t.sent j))
-          else goes_on (next_phase (known_of r) (behind_mdt r jobs carry restarts t.sent j)) (behind_mdt r jobs carry restarts t.sent j)).now.heard k ≡ false
-      by true = refl
-      by false = refl
+  end_quiet (t ∷ j) k = elim (cases_Bool (is_some (fall_of (known_of r) (behind_mdt r jobs carry restarts t.sent j)))) [
+    | inl on ↦ rw on
+    | inr off ↦ rw off
+  ]
 
   start_quiet : (j : List CycleView) (k : ℕ) → (at_start r jobs carry restarts j).now.heard k ≡ false
   start_quiet j k = ap (λ (p : Past). p.now.heard k) (started r jobs (restarts (length j) 0) (master_calls r carry restarts j)) ∙ by (restarts (length j) 0)

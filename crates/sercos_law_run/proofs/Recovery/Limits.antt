@@ -1,5 +1,5 @@
 -- A step to a drive in phase 0 makes the ring fall at its limit.
-use Rattle.sercos_law_run.proofs.Words.{◌≡◌, ℕ, ◌+◌, ◌<◌, ◌≤◌, Bool, true, false, ◌&&◌, List, [], ◌∷◌, length, Option, Some, None, refl, sym, ap, ◌∙◌, subst, arith, if◌then◌else◌, ◌==◌, nat_le, is_some, option_map, unwrap_or, min, cond-false, false≢true, nat_tests, Job, RingView, open_in, steps_in, age_of, cycles_open, CycleView, Fall, known_of, is_place, Past, count_addressed, fall_of, is_at_limit, Carry, Restarts, begun_in, epoch_begun, unless_restart, View, age_by, age_in, age_if_open, calls_in, channel_calls, open_late, drive_at, IsClear, IsRun, behind_mdt, view_of, views_of, IsOpened, ages_before_end, IsViewRun}
+use Rattle.sercos_law_run.proofs.Words.{◌≡◌, ℕ, ◌+◌, ◌<◌, ◌≤◌, Bool, true, false, ◌&&◌, List, [], ◌∷◌, length, Option, Some, None, refl, sym, ap, ◌∙◌, subst, arith, if◌then◌else◌, ◌==◌, nat_le, is_some, option_map, unwrap_or, min, cond-false, false≢true, nat_tests, Job, RingView, open_in, steps_in, age_of, cycles_open, CycleView, Fall, known_of, is_place, Past, count_addressed, fall_of, is_at_limit, Carry, Restarts, begun_in, epoch_begun, unless_restart, View, age_by, age_in, age_if_open, calls_in, channel_calls, open_late, drive_at, IsClear, IsRun, behind_mdt, view_of, views_of, IsOpened, ages_before_end, IsViewRun, inl, inr, cases_Option}
 use Rattle.sercos_service_master.specs.Calls as channel
 use Rattle.sercos_law_channel.specs.Pace.ChannelCalls.{AreSent}
 use Rattle.sercos_law_run.proofs.Views.Members.{members_count}
@@ -49,7 +49,10 @@ module _ (r : RingView) (jobs : List Job) (carry : Carry) (restarts : Restarts) 
   -- NO STEP GETS OLDER.
   pub ages_to_limit : (j : List CycleView) → IsRun r jobs carry restarts j → IsClear j → (k : ℕ) → k < length r.drives → age_in (views_of r jobs carry restarts k j) ≤ 64
   ages_to_limit [] run clear k below = omega arith
-  ages_to_limit (t ∷ j) run clear k below = by (fall_of (known_of r) (behind_mdt r jobs carry restarts t.sent j)) refl
+  ages_to_limit (t ∷ j) run clear k below = elim (cases_Option (fall_of (known_of r) (behind_mdt r jobs carry restarts t.sent j))) [
+    | inl is ↦ rw is (aged is (is_some (open_in (begun_in (view_of r jobs carry restarts k t j) (views_of r jobs carry restarts k j)))) refl)
+    | inr (x, is) ↦ rw is (omega arith)
+  ]
     where
       aged : fall_of (known_of r) (behind_mdt r jobs carry restarts t.sent j) ≡ None → (on : Bool) → is_some (open_in (begun_in (view_of r jobs carry restarts k t j) (views_of r jobs carry restarts k j))) ≡ on
           → age_by on (length (steps_in (begun_in (view_of r jobs carry restarts k t j) (views_of r jobs carry restarts k j))) == length (steps_in (unless_restart (view_of r jobs carry restarts k t j) (epoch_begun (views_of r jobs carry restarts k j)))))
@@ -71,10 +74,3 @@ module _ (r : RingView) (jobs : List Job) (carry : Carry) (restarts : Restarts) 
           few = subst (λ (c : List channel.Call). cycles_open c ≤ 63) (sym (calls_now r jobs carry restarts opened t j run clear k below))
               (few_open (behind_mdt r jobs carry restarts t.sent j) k (let is = phase_now r jobs carry restarts t j run.1 in omega (arith, is, late))
               (not_at_limit (known_of r) (behind_mdt r jobs carry restarts t.sent j) k (let count = members_count r in omega (arith, below, count)) none))
-
-      by : (o : Option Fall) → fall_of (known_of r) (behind_mdt r jobs carry restarts t.sent j) ≡ o → (if is_some o then 0
-          else age_by (is_some (open_in (begun_in (view_of r jobs carry restarts k t j) (views_of r jobs carry restarts k j))))
-          (length (steps_in (begun_in (view_of r jobs carry restarts k t j) (views_of r jobs carry restarts k j))) == length (steps_in (unless_restart (view_of r jobs carry restarts k t j) (epoch_begun (views_of r jobs carry restarts k j)))))
-          (age_in (views_of r jobs carry restarts k j))) ≤ 64
-      by (Some x) is = omega arith
-      by None is = aged is (is_some (open_in (begun_in (view_of r jobs carry restarts k t j) (views_of r jobs carry restarts k j)))) refl

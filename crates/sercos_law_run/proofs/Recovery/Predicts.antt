@@ -1,18 +1,16 @@
 -- What a cycle reports is the planner's answer to the ring's requirements, and each stop has its cause.
-use Rattle.sercos_law_run.proofs.Words.{◌≡◌, ◌⊎◌, inl, inr, ℕ, ◌<◌, ◌≤◌, Bool, true, false, List, ◌∷◌, length, Some, None, Ok, sym, ap, ◌∙◌, arith, if◌then◌else◌, option_or, cases_eq, cases_lt, Job, PlanView, planned, wishes_of, RingView, CycleView, EventsView, Stop, wishes_given, known_of, tasks_for, Past, outcomes, plan_told, restart_told, Carry, Restarts, begins, drive_at, looks_back, master_calls, middle, no_events, IsClear, IsRun, behind_mdt, view_of, views_of, IsOpened, StopsForTheCycleTime, StopsForThePlan, StopsForCause, IsPredicted, IsRing-is_ring, is_planned}
+use Rattle.sercos_law_run.proofs.Words.{◌≡◌, inl, inr, ℕ, ◌<◌, Bool, true, false, List, ◌∷◌, length, Some, Ok, sym, ap, ◌∙◌, arith, if◌then◌else◌, option_or, cases_lt, Job, PlanView, planned, wishes_of, RingView, CycleView, EventsView, wishes_given, known_of, tasks_for, Past, outcomes, plan_told, restart_told, Carry, Restarts, drive_at, looks_back, master_calls, middle, no_events, IsClear, IsRun, behind_mdt, view_of, views_of, IsOpened, IsPredicted, IsRing-is_ring, is_planned}
 use Rattle.sercos_trace.specs.declared.events.Stop.TheVariants as stop
-use Rattle.sercos_law_run.proofs.Typed.Mdts.{phase_low}
 use Rattle.sercos_law_run.proofs.Settings.NoCheck127.{next_still, stays}
 use Rattle.sercos_law_run.proofs.Held.Runs.{holding}
 use Rattle.sercos_law_run.proofs.Headline.HeadlineRuns.{all_stand, first_store, spelled_in, stored_in}
 use Rattle.sercos_law_run.proofs.Headline.StopRuns.{IsFollowed, no_plan_made}
 use Rattle.sercos_law_run.proofs.Headline.WellRuns.{event_stop, told_once, or_none}
 use Rattle.sercos_law_run.proofs.Undisturbed.JobsBegun.{asked_now, begun_then}
-use Rattle.sercos_law_run.proofs.Undisturbed.WholeRuns.{caused}
-use Rattle.sercos_law_run.proofs.Recovery.EarlyStops.{early_in}
 use Rattle.sercos_law_run.proofs.Recovery.LateDown.{phase_now}
+use Rattle.sercos_law_run.proofs.Recovery.StopCauses.{cause, caused, right_in}
 use Rattle.sercos_law_run.proofs.Cited.{reads_well}
-use Rattle.sercos_law_run.proofs.Undisturbed.Cited.{fits_in_three, never_stops_in_four, own_fits_in_four, stops_in_three, stops_in_two}
+use Rattle.sercos_law_run.proofs.Undisturbed.Cited.{fits_in_three}
 
 module _ (r : RingView) (jobs : List Job) (carry : Carry) (restarts : Restarts) (opened : IsOpened r jobs) (t : CycleView)
     (j : List CycleView) (run : IsRun r jobs carry restarts (t ∷ j)) (clear : IsClear (t ∷ j)) where
@@ -21,9 +19,6 @@ module _ (r : RingView) (jobs : List Job) (carry : Carry) (restarts : Restarts) 
 
   phase_is : (behind_mdt r jobs carry restarts t.sent j).now.phase ≡ t.phase
   phase_is = phase_now r jobs carry restarts t j run.1
-
-  low : t.phase ≤ 4
-  low = let most = phase_low (known_of r) (tasks_for (known_of r) jobs) (begins r carry restarts j) in let same = run.1.phase in omega (arith, most, same)
 
   -- THE PLAN of the master
   asked : (plan : PlanView) → (behind_mdt r jobs carry restarts t.sent j).plan ≡ Some plan → wishes_given (known_of r) (outcomes (behind_mdt r jobs carry restarts t.sent j)) ≡ wishes_of r
@@ -58,27 +53,6 @@ module _ (r : RingView) (jobs : List Job) (carry : Carry) (restarts : Restarts) 
         begun_are = begun_then r jobs carry restarts opened t j run clear k below;
       }
 
-  -- THE CAUSE of a stop
-  cause : (x : Stop) → (behind_mdt r jobs carry restarts t.sent j).stop ≡ Some x → StopsForCause r x
-  cause x is = elim (cases_lt t.phase 2) [
-    | inl soon ↦
-        let none = early_in r jobs carry restarts (middle r carry restarts t.sent j) (let same = phase_is in omega (arith, same, soon)) in
-        let both : None ≡ Some x = sym none ∙ is in absurd (cc)
-    | inr late ↦ elim (cases_eq t.phase 2) [
-      | inl two ↦ by (stops_in_two r jobs carry restarts t j x opened run clear two is)
-      | inr not_two ↦ elim (cases_eq t.phase 3) [
-        | inl three ↦ caused r jobs carry restarts t j x (inr (inr (stops_in_three r jobs carry restarts t j x opened run clear three is)))
-        | inr not_three ↦
-            let none = never_stops_in_four r jobs carry restarts t j opened run clear (let most = low in omega (arith, late, most, not_two, not_three)) in
-            let both : None ≡ Some x = sym none ∙ is in absurd (cc)
-      ]
-    ]
-  ]
-    where
-      by : StopsForThePlan r x ⊎ StopsForTheCycleTime r x → StopsForCause r x
-      by (inl plan) = inl plan
-      by (inr time) = inr (inl time)
-
   pub is_predicted : IsPredicted r t
   is_predicted = record {
     plan = λ p is. plan_made p (event_plan p is);
@@ -86,6 +60,6 @@ module _ (r : RingView) (jobs : List Job) (carry : Carry) (restarts : Restarts) 
         (λ k. stays (view_of r jobs carry restarts k t j) ∷ views_of r jobs carry restarts k j) followed c
         (event_stop r jobs carry restarts t j (stop.NoFit c) run.1 is);
     fit = λ late. fits_in_three r jobs carry restarts t j opened run clear late;
-    right = λ four. (fits_in_three r jobs carry restarts t j opened run clear (omega (arith, four)), λ k below. own_fits_in_four r jobs carry restarts t j k opened run clear below four);
-    stops = λ x is. cause x (event_stop r jobs carry restarts t j x run.1 is);
+    right = right_in r jobs carry restarts opened t j run clear;
+    stops = λ x is. caused r jobs carry restarts t j x (cause r jobs carry restarts opened t j run clear x (event_stop r jobs carry restarts t j x run.1 is));
   }

@@ -1,9 +1,6 @@
 -- Up to phase 2, where something of a drive has begun, each drive before it in the ring has been read.
-use Rattle.sercos_law_run.proofs.Words.{◌≡◌, inl, inr, ℕ, ◌<◌, ◌≤◌, Bool, true, false, not, List, ◌∷◌, length, Option, Some, None, refl, sym, ap, ◌∙◌, arith, is_none, option_or, cases_lt, not-false, same_Some, Begun, begun_by, is_checked, is_read, outcomes_in, Known, Task, member, Call, Past, outcomes, first_place, after_taken, settled, in_turn, past, each_passes, leaves, mdt_adds, at_adds, going, past_keeps, with_begun, request_of, read_stays}
-use Rattle.sercos_service_master.specs.Calls as channel
-use Rattle.sercos_master.specs.Annals.{Mdt, begins}
-use Rattle.sercos_law_run.proofs.Views.MasterSame.{begun_so, turn_mdt}
-use Rattle.sercos_law_run.proofs.Undisturbed.InOrder.{at_leaves_count, before_first, begins_in_turn}
+use Rattle.sercos_law_run.proofs.Words.{◌≡◌, ℕ, ◌<◌, ◌≤◌, Bool, true, false, not, List, length, Option, Some, None, refl, ap, arith, is_none, option_or, not-false, same_Some, is_checked, is_read, Known, Task, member, Call, Past, outcomes, first_place, settled, in_turn, past, each_passes, leaves, going, past_keeps, read_stays}
+use Rattle.sercos_law_run.proofs.Undisturbed.InOrder.{AreFirst, before_first, begins_in_turn, mdt_first, taken_first}
 
 -- a drive that has its turn comes after drives that have been read
 turn_reads : (s : Known) (p : Past) (k : ℕ) → k < length s.drives → in_turn s p ≡ Some k → (j : ℕ) → j < k → is_read (member s j) (outcomes p j) ≡ true
@@ -17,39 +14,7 @@ turn_reads s p k there turn j low = by (first_place s (λ i. not (is_read (membe
 
 module _ (s : Known) (requests : ℕ → List Task) where
   abbrev AreReadInOrder : Past → Type 0
-  AreReadInOrder p = p.now.phase ≤ 2 → (k : ℕ) → k < length s.drives → 1 ≤ length (begun_by (p.calls k)) → (j : ℕ) → j < k → is_read (member s j) (outcomes p j) ≡ true
-
-  -- AN AT
-  taken_order : (i : ℕ) (content : List ℕ) (p : Past) → AreReadInOrder p → AreReadInOrder (after_taken i content p)
-  taken_order i content p have two k there more j low =
-      let adds = at_adds i content p j in
-      ap (is_read (member s j)) adds.1 ∙ read_stays (member s j) (outcomes p j) adds.0 (have two k there (let same = at_leaves_count i content p k in omega (arith, more, same)) j low)
-
-  -- THE MDT
-  mdt_order : (h : List Call) → AreReadInOrder (past s requests h) → AreReadInOrder (past s requests (Mdt ∷ h))
-  mdt_order h have two k there more j low =
-      ap (is_read (member s j)) (mdt_adds s p j) ∙ elim (cases_lt 0 (length (begun_by (p.calls k)))) [
-        | inl had ↦ have before k there (omega (arith, had)) j low
-        | inr few ↦ fresh (begins s (settled s p) k) refl (omega (arith, few))
-      ]
-    where
-      p : Past
-      p = past s requests h
-
-      before : (past s requests h).now.phase ≤ 2
-      before = let same = (turn_mdt s (past s requests h)).phase_is in omega (arith, same, two)
-
-      same_outs : (i : ℕ) → outcomes (settled s (past s requests h)) i ≡ outcomes (past s requests h) i
-      same_outs i = ap (λ (calls : ℕ → List channel.Call). outcomes_in (begun_by (calls i))) (leaves s (past s requests h)).calls
-
-      fresh : (o : Option Task) → begins s (settled s (past s requests h)) k ≡ o → length (begun_by ((past s requests h).calls k)) ≤ 0 → is_read (member s j) (outcomes (past s requests h) j) ≡ true
-      fresh None none few =
-          let same = ap (λ (l : List Begun). length l) (begun_so s (past s requests h) k ∙ ap (λ (o : Option Task). with_begun (request_of o) (begun_by ((past s requests h).calls k))) none) in
-          absurd (omega (arith, few, more, same))
-      fresh (Some t) some few = ap (is_read (member s j)) (sym (same_outs j)) ∙ turn_reads s (settled s (past s requests h)) k there turn j low
-        where
-          turn : in_turn s (settled s (past s requests h)) ≡ Some k
-          turn = begins_in_turn s (settled s (past s requests h)) k t (let same = (leaves s (past s requests h)).phase in let low_is = before in omega (arith, same, low_is)) some
+  AreReadInOrder p = AreFirst s requests (λ n. n ≤ 2) (λ k. 0) is_read read_stays p
 
   -- THE END OF A CYCLE
   goes_order : (h : List Call) (done : Bool) → AreReadInOrder (past s requests h) → AreReadInOrder (going done (past s requests h))
@@ -60,8 +25,10 @@ module _ (s : Known) (requests : ℕ → List Task) where
   reads_in_order = past_keeps AreReadInOrder s requests (record {
     first = λ two k there more j low. absurd (omega (arith, more));
     mst = λ h whole have. have;
-    taken = λ h i content inside is. taken_order i content (past s requests h);
-    mdt = mdt_order;
+    taken = λ h i content inside is. taken_first s requests (λ n. n ≤ 2) (λ k. 0) is_read read_stays i content (past s requests h);
+    mdt = λ h. mdt_first s requests (λ n. n ≤ 2) (λ k. 0) is_read read_stays h (λ before k there t some few more j low.
+        turn_reads s (settled s (past s requests h)) k there (begins_in_turn s (settled s (past s requests h)) k t
+        (let same = (leaves s (past s requests h)).phase in omega (arith, same, before)) some) j low);
     on = λ h done is. goes_order h done;
     new = λ h cycle have two k there more j low. absurd (omega (arith, more));
   })

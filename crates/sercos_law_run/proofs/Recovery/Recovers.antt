@@ -1,15 +1,15 @@
 -- So the ring is back in time after the last disturbed cycle.
-use Rattle.sercos_law_run.proofs.Words.{◌≡◌, ◌⊎◌, inl, inr, ℕ, suc, ◌+◌, ◌*◌, ◌<◌, ◌≤◌, true, List, [], ◌∷◌, ◌++◌, length, Option, Some, None, refl, sym, ap, ◌∙◌, subst, arith, length-append, is_some, slice_get, cases_eq, cases_lt, false≢true, slice_get_within, Job, startup_bound, RingView, slowest, CycleView, Fall, Stop, get_left, known_of, tasks_for, Past, fall_of, Carry, Restarts, standing, begins, IsClear, IsRun, behind_mdt, views_of, IsOpened, StartsAtFall, StartsEpoch, HaveTold, left_after, request_cycles, waiting_after, NoneFalls, StaysUpUndisturbed, TellsNoFall, StopsForTheCycleTime, StopsForThePlan, IsRight, StopsForTheCheck, AreUndisturbed, IsUndisturbed, IsSpared, IsBack, IsDown, IsStretch, IsRing-is_ring}
-use Rattle.sercos_law_run.proofs.Typed.Mdts.{phase_low}
+use Rattle.sercos_law_run.proofs.Words.{◌≡◌, ◌⊎◌, inl, inr, ℕ, suc, ◌+◌, ◌*◌, ◌<◌, ◌≤◌, true, List, [], ◌∷◌, ◌++◌, length, Option, Some, None, refl, sym, ap, ◌∙◌, subst, arith, length-append, is_some, slice_get, cases_eq, cases_lt, false≢true, slice_get_within, Job, startup_bound, RingView, slowest, CycleView, Fall, Stop, get_left, known_of, Past, fall_of, Carry, Restarts, standing, IsClear, IsRun, behind_mdt, views_of, IsOpened, StartsEpoch, HaveTold, left_after, request_cycles, waiting_after, NoneFalls, TellsNoFall, AreUndisturbed, IsUndisturbed, IsSpared, IsBack, IsDown, IsStretch, IsRing-is_ring}
 use Rattle.sercos_law_run.proofs.Undisturbed.Answered.{tells_in}
 use Rattle.sercos_law_run.proofs.Undisturbed.Arriving.Comes.{calm_in}
 use Rattle.sercos_law_run.proofs.Undisturbed.EpochCycles.{AreOn, IsCut, IsOn, cut, none_along, run_rest}
 use Rattle.sercos_law_run.proofs.Undisturbed.InTime.{within_bound}
+use Rattle.sercos_law_run.proofs.Undisturbed.NeverFalls.{never_falls}
+use Rattle.sercos_law_run.proofs.Undisturbed.PhaseZero.{starts_at_fall}
 use Rattle.sercos_law_run.proofs.Undisturbed.Arriving.Small.{first_is}
 use Rattle.sercos_law_run.proofs.Undisturbed.Stops.StopStays.{stop_after}
 use Rattle.sercos_law_run.proofs.Undisturbed.Stops.StopOnce.{same_start}
 use Rattle.sercos_law_run.proofs.Undisturbed.ToldInTime.{IsTold, beyond, left_first, left_in_epoch, left_in_time, numbers_long, told_since, told_there}
-use Rattle.sercos_law_run.proofs.Undisturbed.WholeRuns.{caused}
 use Rattle.sercos_law_run.proofs.Recovery.ComesBack.{on_now}
 use Rattle.sercos_law_run.proofs.Recovery.DownSince.{shorter, up_all}
 use Rattle.sercos_law_run.proofs.Recovery.EarlyPhases.{early_or_entered}
@@ -18,8 +18,9 @@ use Rattle.sercos_law_run.proofs.Recovery.FallsInTime.{falls_in_time, late_now}
 use Rattle.sercos_law_run.proofs.Recovery.FallsSoon.{down_or_up, falls_soon}
 use Rattle.sercos_law_run.proofs.Recovery.LateDown.{no_lower}
 use Rattle.sercos_law_run.proofs.Recovery.SpareStops.{falls_anyway}
-use Rattle.sercos_law_run.proofs.Recovery.Stretches.{rest_clear, rest_runs}
-use Rattle.sercos_law_run.proofs.Undisturbed.Cited.{fits_in_three, never_stops_in_four, own_fits_in_four, stops_in_three, stops_in_two}
+use Rattle.sercos_law_run.proofs.Recovery.StopCauses.{IsAtEnd, cause, caused, right_in}
+use Rattle.sercos_law_run.proofs.Recovery.Stretches.{rest_runs}
+use Rattle.sercos_law_run.proofs.Undisturbed.Cited.{never_stops_in_four}
 
 -- WHAT ENDS ALIKE: of two ways to write a list, the longer end goes on from the shorter one.
 record IsSuffix (r : RingView) (carry : Carry) (restarts : Restarts) (base rest : List CycleView) : Type 0 where
@@ -37,10 +38,7 @@ abbrev pub EndsIn : RingView → List Job → Carry → Restarts → ℕ → Typ
 EndsIn r jobs carry restarts tail = (t : CycleView) (cycles before : List CycleView) → IsRun r jobs carry restarts (t ∷ (cycles ++ before)) →
     IsClear (t ∷ (cycles ++ before)) → StartsEpoch r jobs carry restarts before → AreUndisturbed r carry restarts (t ∷ cycles) before →
     startup_bound r + tail ≤ length cycles →
-    ((t.phase ≡ 4) × ((behind_mdt r jobs carry restarts t.sent (cycles ++ before)).stop ≡ None) × IsRight r)
-    ⊎ ((x : Stop) × ((behind_mdt r jobs carry restarts t.sent (cycles ++ before)).stop ≡ Some x)
-    × (StopsForThePlan r x ⊎ (StopsForTheCycleTime r x
-    ⊎ StopsForTheCheck r (behind_mdt r jobs carry restarts t.sent (cycles ++ before)) x)))
+    IsAtEnd r jobs carry restarts t (cycles ++ before)
 
 -- and what is left of one, if no drive is in phase 0
 abbrev pub ComesIn : RingView → List Job → Carry → Restarts → ℕ → Type 0
@@ -50,50 +48,29 @@ ComesIn r jobs carry restarts tail = (first : CycleView) (before : List CycleVie
     IsStretch r jobs carry restarts (t ∷ cycles) first before → startup_bound r + tail ≤ length cycles + 1 →
     (t.phase ≡ 4) ⊎ (is_some (behind_mdt r jobs carry restarts t.sent (cycles ++ first ∷ before)).stop ≡ true)
 
--- phase 4 says that the ring is right
-pub right_in : (r : RingView) (jobs : List Job) (carry : Carry) (restarts : Restarts) → IsOpened r jobs → (t : CycleView) (j : List CycleView)
-    → IsRun r jobs carry restarts (t ∷ j) → IsClear (t ∷ j) → t.phase ≡ 4 → IsRight r
-right_in r jobs carry restarts opened t j run clear four = (fits_in_three r jobs carry restarts t j opened run clear (omega (arith, four)), λ k below. own_fits_in_four r jobs carry restarts t j k opened run clear below four)
-
-module _ (r : RingView) (jobs : List Job) (carry : Carry) (restarts : Restarts) (opened : IsOpened r jobs) (stays_up : StaysUpUndisturbed)
-    (at_fall : StartsAtFall) (fall tail : ℕ) (room : slowest r.drives + length r.drives + 47 ≤ fall)
+module _ (r : RingView) (jobs : List Job) (carry : Carry) (restarts : Restarts) (opened : IsOpened r jobs) (fall tail : ℕ)
+    (room : slowest r.drives + length r.drives + 47 ≤ fall)
     (spared : (n : ℕ) → IsSpared r 65 n → n + 3 ≤ fall) (ends : EndsIn r jobs carry restarts tail)
     (comes : ComesIn r jobs carry restarts tail) where
   some_drive : 1 ≤ length r.drives
   some_drive = (IsRing-is_ring r opened.valid).some
 
-  abbrev IsCause : CycleView → List CycleView → Stop → Type 0
-  IsCause t j x = StopsForThePlan r x ⊎ (StopsForTheCycleTime r x ⊎ StopsForTheCheck r (behind_mdt r jobs carry restarts t.sent j) x)
-
-  stands : (t : CycleView) (j : List CycleView) (x : Stop) → IsRun r jobs carry restarts (t ∷ j) → fall_of (known_of r) (behind_mdt r jobs carry restarts t.sent j) ≡ None → (behind_mdt r jobs carry restarts t.sent j).stop ≡ Some x → IsCause t j x → IsBack r t j
-  stands t j x run stays is cause = inr (x, stands_at r jobs carry restarts t j x run stays is, caused r jobs carry restarts t j x cause)
-
-  -- A STOP of phase 2 or later has a cause.
-  at_stop : (t : CycleView) (j : List CycleView) (x : Stop) → IsRun r jobs carry restarts (t ∷ j) → IsClear (t ∷ j) → fall_of (known_of r) (behind_mdt r jobs carry restarts t.sent j) ≡ None → 2 ≤ t.phase → (behind_mdt r jobs carry restarts t.sent j).stop ≡ Some x
+  -- AT A STOP the ring is back.
+  at_stop : (t : CycleView) (j : List CycleView) (x : Stop) → IsRun r jobs carry restarts (t ∷ j) → IsClear (t ∷ j)
+      → fall_of (known_of r) (behind_mdt r jobs carry restarts t.sent j) ≡ None → (behind_mdt r jobs carry restarts t.sent j).stop ≡ Some x
       → IsBack r t j
-  at_stop t j x run clear stays late is = elim (cases_eq t.phase 2) [
-    | inl two ↦ stands t j x run stays is (by (stops_in_two r jobs carry restarts t j x opened run clear two is))
-    | inr not_two ↦ elim (cases_eq t.phase 3) [
-      | inl three ↦ stands t j x run stays is (inr (inr (stops_in_three r jobs carry restarts t j x opened run clear three is)))
-      | inr not_three ↦
-          let none = never_stops_in_four r jobs carry restarts t j opened run clear (omega (arith, late, low, not_two, not_three)) in
-          let both : None ≡ Some x = sym none ∙ is in absurd (cc)
-    ]
-  ]
-    where
-      low : t.phase ≤ 4
-      low = let most = phase_low (known_of r) (tasks_for (known_of r) jobs) (begins r carry restarts j) in let same = run.1.phase in omega (arith, most, same)
-
-      by : StopsForThePlan r x ⊎ StopsForTheCycleTime r x → IsCause t j x
-      by (inl plan) = inl plan
-      by (inr time) = inr (inl time)
+  at_stop t j x run clear stays is = inr (
+    x,
+    stands_at r jobs carry restarts t j x run stays is,
+    caused r jobs carry restarts t j x (cause r jobs carry restarts opened t j run clear x is),
+  )
 
   -- AN EPOCH without disturbance
   after_start : (t : CycleView) (cycles before : List CycleView) → IsRun r jobs carry restarts (t ∷ (cycles ++ before)) → IsClear (t ∷ (cycles ++ before)) → StartsEpoch r jobs carry restarts before → AreUndisturbed r carry restarts (t ∷ cycles) before
       → startup_bound r + tail ≤ length cycles → IsBack r t (cycles ++ before)
   after_start t cycles before run clear starts calm long = elim (ends t cycles before run clear starts calm long) [
     | inl four ↦ inl (four.0, four.2)
-    | inr stop ↦ stands t (cycles ++ before) stop.0 run (stays_up r jobs carry restarts (t ∷ cycles) before opened run clear starts calm).stays.1 stop.1 stop.2
+    | inr stop ↦ at_stop t (cycles ++ before) stop.0 run clear (never_falls r jobs carry restarts opened (t ∷ cycles) before run clear starts calm).stays.1 stop.1
   ]
 
   -- a drive that isn't in phase 0 after a first cycle of phase 2 or later never is
@@ -110,11 +87,8 @@ module _ (r : RingView) (jobs : List Job) (carry : Carry) (restarts : Restarts) 
       → 2 ≤ first.phase → startup_bound r + tail ≤ length cycles + 1 → ((d : ℕ) → d < length r.drives → IsDown r jobs carry restarts d (first ∷ before) → IsSpared r 65 (suc (length cycles)) → ⊥) → IsBack r t (cycles ++ first ∷ before)
   late_back t cycles first before run clear stretch late long never = by (behind_mdt r jobs carry restarts t.sent (cycles ++ first ∷ before)).stop refl
     where
-      late_too : 2 ≤ t.phase
-      late_too = late_now r jobs carry restarts opened t cycles first before run clear stretch late 0 (let some = some_drive in omega (arith, some))
-
       by : (o : Option Stop) → (behind_mdt r jobs carry restarts t.sent (cycles ++ first ∷ before)).stop ≡ o → IsBack r t (cycles ++ first ∷ before)
-      by (Some x) is = at_stop t (cycles ++ first ∷ before) x run clear stretch.stays.1 late_too is
+      by (Some x) is = at_stop t (cycles ++ first ∷ before) x run clear stretch.stays.1 is
       by None none = elim (down_or_up r jobs carry restarts (first ∷ before)) [
         | inl down ↦ absurd (never down.0 down.1 down.2 (falls_in_time r jobs carry restarts opened down.0 down.1 (t ∷ cycles) first before
             run clear stretch late (stop_after r jobs carry restarts t (cycles ++ first ∷ before) stretch.stays.1 ∙ none) down.2))
@@ -220,7 +194,7 @@ module _ (r : RingView) (jobs : List Job) (carry : Carry) (restarts : Restarts) 
       falls_in (u ∷ cycles) run clear calm stays falls = by (first_of u cycles calm.0 stays)
         where
           never : StartsEpoch r jobs carry restarts (lost ∷ before) → ⊥
-          never starts = false≢true (sym (ap (λ (o : Option Fall). is_some o) (stays_up r jobs carry restarts (f ∷ u ∷ cycles) (lost ∷ before) opened run clear starts calm).stays.1) ∙ falls)
+          never starts = false≢true (sym (ap (λ (o : Option Fall). is_some o) (never_falls r jobs carry restarts opened (f ∷ u ∷ cycles) (lost ∷ before) run clear starts calm).stays.1) ∙ falls)
 
           by : IsOpenedBy (u ∷ (cycles ++ lost ∷ before)) → IsInTime (u ∷ (cycles ++ lost ∷ before))
           by o =
@@ -235,59 +209,6 @@ module _ (r : RingView) (jobs : List Job) (carry : Carry) (restarts : Restarts) 
                   | inr other ↦ absurd (never (zero_at_first o.newer o.first run_is.0 o.stretch.first_calm (omega (arith, low, other))))
                 ]
               ])
-
-    -- WITHOUT A FALL
-    abbrev pub BackAt : List CycleView → Type 0
-    BackAt [] = Unit {0}
-    BackAt (t ∷ j) = length before + fall + startup_bound r + tail ≤ length j → IsBack r t j
-
-    late_at : (cycles : List CycleView) (first : CycleView) → IsRun r jobs carry restarts (cycles ++ first ∷ lost ∷ before) → IsClear (cycles ++ first ∷ lost ∷ before) → IsStretch r jobs carry restarts cycles first (lost ∷ before) → 2 ≤ first.phase
-        → BackAt (cycles ++ first ∷ lost ∷ before)
-    late_at [] first run clear stretch late = λ long. absurd (omega (arith, long, room))
-    late_at (t ∷ cycles) first run clear stretch late = λ long. late_back t cycles first (lost ∷ before) run clear stretch late
-        (let length_is = length-append cycles (first ∷ lost ∷ before) in omega (arith, long, length_is, room))
-        (λ d there down is. let most = spared (suc (length cycles)) is in let length_is = length-append cycles (first ∷ lost ∷ before) in omega (arith, most, length_is, long))
-
-    entered_at : (cycles : List CycleView) (two : CycleView) (older : List CycleView) → IsRun r jobs carry restarts (cycles ++ two ∷ older) → IsClear (cycles ++ two ∷ older) → IsStretch r jobs carry restarts cycles two older → two.phase ≡ 2
-        → length older ≤ length before + 2 + length r.drives → ((k : ℕ) → k < length r.drives → IsDown r jobs carry restarts k (two ∷ older) → ⊥) → BackAt (cycles ++ two ∷ older)
-    entered_at [] two older run clear stretch is_two most up = λ long. absurd (omega (arith, long, most, room))
-    entered_at (t ∷ cycles) two older run clear stretch is_two most up = λ long. late_back t cycles two older run clear stretch (omega (arith, is_two))
-        (let length_is = length-append cycles (two ∷ older) in omega (arith, long, length_is, most, room))
-        (λ d there down is. up d there down)
-
-    one_at : (cycles : List CycleView) (first : CycleView) → IsRun r jobs carry restarts (cycles ++ first ∷ lost ∷ before) → IsClear (cycles ++ first ∷ lost ∷ before) → IsStretch r jobs carry restarts cycles first (lost ∷ before) → first.phase ≡ 1
-        → BackAt (cycles ++ first ∷ lost ∷ before)
-    one_at cycles first run clear stretch one = elim (early_or_entered r jobs carry restarts opened first (lost ∷ before) one cycles run clear stretch) [
-      | inl few ↦ short cycles few
-      | inr e ↦ subst BackAt (sym e.is) (entered_at e.newer e.two e.older (subst (λ (l : List CycleView). IsRun r jobs carry restarts l) e.is run) (subst (λ (l : List CycleView). IsClear l) e.is clear) e.stretch e.phase_is (let most = e.few in omega (arith, most)) e.up)
-    ]
-      where
-        short : (l : List CycleView) → length l ≤ length r.drives → BackAt (l ++ first ∷ lost ∷ before)
-        short [] few = λ long. absurd (omega (arith, long, room))
-        short (t ∷ l) few = λ long. absurd (let length_is = length-append l (first ∷ lost ∷ before) in omega (arith, long, few, room, length_is))
-
-    from_start : (cycles : List CycleView) → IsRun r jobs carry restarts (cycles ++ lost ∷ before) → IsClear (cycles ++ lost ∷ before) → StartsEpoch r jobs carry restarts (lost ∷ before) → AreUndisturbed r carry restarts cycles (lost ∷ before)
-        → BackAt (cycles ++ lost ∷ before)
-    from_start [] run clear starts calm = λ long. absurd (omega (arith, long, room))
-    from_start (t ∷ cycles) run clear starts calm = λ long. after_start t cycles (lost ∷ before) run clear starts calm
-        (let length_is = length-append cycles (lost ∷ before) in omega (arith, long, length_is, room))
-
-    none_falls_at : (cycles : List CycleView) → IsRun r jobs carry restarts (cycles ++ lost ∷ before) → IsClear (cycles ++ lost ∷ before) → AreUndisturbed r carry restarts cycles (lost ∷ before) → NoneFalls r jobs carry restarts cycles (lost ∷ before)
-        → BackAt (cycles ++ lost ∷ before)
-    none_falls_at [] run clear calm stays = λ long. absurd (omega (arith, long, room))
-    none_falls_at (u ∷ cycles) run clear calm stays = by (first_of u cycles calm stays)
-      where
-        by : IsOpenedBy (u ∷ (cycles ++ lost ∷ before)) → BackAt (u ∷ (cycles ++ lost ∷ before))
-        by o =
-            let run_is : IsRun r jobs carry restarts (o.newer ++ o.first ∷ lost ∷ before) = subst (λ (l : List CycleView). IsRun r jobs carry restarts l) o.is run in
-            let clear_is : IsClear (o.newer ++ o.first ∷ lost ∷ before) = subst (λ (l : List CycleView). IsClear l) o.is clear in
-            elim (cases_lt 1 o.first.phase) [
-              | inl late ↦ subst BackAt (sym o.is) (late_at o.newer o.first run_is clear_is o.stretch (omega (arith, late)))
-              | inr low ↦ elim (cases_eq o.first.phase 1) [
-                | inl one ↦ subst BackAt (sym o.is) (one_at o.newer o.first run_is clear_is o.stretch one)
-                | inr other ↦ from_start (u ∷ cycles) run clear (zero_at_first o.newer o.first run_is o.stretch.first_calm (omega (arith, low, other))) calm
-              ]
-            ]
 
     -- THE OLDEST FALL after `lost`, if there is one
     record IsFell (j : List CycleView) : Type 0 where
@@ -321,46 +242,97 @@ module _ (r : RingView) (jobs : List Job) (carry : Carry) (restarts : Restarts) 
         by None is stays = inl (stays, is)
         by (Some f) is stays = inr (record { newer = []; one = t; older = cycles; is = refl; calm = tt; calm_then = calm; stays = stays; falls = ap (λ (o : Option Fall). is_some o) is })
 
-    fell_at : (newer : List CycleView) (one : CycleView) (older : List CycleView) → IsRun r jobs carry restarts (newer ++ one ∷ (older ++ lost ∷ before)) → IsClear (newer ++ one ∷ (older ++ lost ∷ before))
-        → AreUndisturbed r carry restarts newer (one ∷ (older ++ lost ∷ before)) → AreUndisturbed r carry restarts (one ∷ older) (lost ∷ before) → NoneFalls r jobs carry restarts older (lost ∷ before)
-        → is_some (fall_of (known_of r) (behind_mdt r jobs carry restarts one.sent (older ++ lost ∷ before))) ≡ true → BackAt (newer ++ one ∷ (older ++ lost ∷ before))
-    fell_at [] one older run clear calm calm_then stays falls = λ long. absurd (let soon_is = falls_in one older run clear calm_then stays falls in omega (arith, long, soon_is))
-    fell_at (t ∷ newer) one older run clear calm calm_then stays falls = λ long.
-        let soon_is = falls_in one older (rest_runs r jobs carry restarts (t ∷ newer) (one ∷ (older ++ lost ∷ before)) run) (rest_clear (t ∷ newer) (one ∷ (older ++ lost ∷ before)) clear) calm_then stays falls in
-        let length_is = length-append newer (one ∷ (older ++ lost ∷ before)) in
-        after_start t newer (one ∷ (older ++ lost ∷ before)) run clear (at_fall r jobs carry restarts one (older ++ lost ∷ before) falls).0 calm (omega (arith, soon_is, length_is, long))
+    -- HOW THE RING GOT ON up to a cycle t, after the cycles j: an epoch has begun in time; or phase 2 or a later one was commanded soon, and
+    -- the ring hasn't fallen since; or few cycles have passed.
+    data IsSince (t : CycleView) (j : List CycleView) : Type 0 where
+      InEpoch : (newer mid : List CycleView) → j ≡ newer ++ (mid ++ lost ∷ before) → StartsEpoch r jobs carry restarts (mid ++ lost ∷ before)
+          → AreUndisturbed r carry restarts (t ∷ newer) (mid ++ lost ∷ before) → AreUndisturbed r carry restarts mid (lost ∷ before)
+          → length (mid ++ lost ∷ before) ≤ length before + fall → IsSince t j
+      FromTwo : (newer : List CycleView) (first : CycleView) (older : List CycleView) → j ≡ newer ++ first ∷ older
+          → IsStretch r jobs carry restarts (t ∷ newer) first older → 2 ≤ first.phase → length older ≤ length before + 2 + length r.drives
+          → (length before + fall ≤ length j → (d : ℕ) → d < length r.drives → IsDown r jobs carry restarts d (first ∷ older)
+          → IsSpared r 65 (suc (length newer)) → ⊥) → IsSince t j
+      Few : suc (length j) ≤ length before + fall → IsSince t j
 
-    -- THE RING IS BACK
-    pub back_after : (cycles : List CycleView) → IsRun r jobs carry restarts (cycles ++ lost ∷ before) → IsClear (cycles ++ lost ∷ before) → AreUndisturbed r carry restarts cycles (lost ∷ before) → BackAt (cycles ++ lost ∷ before)
-    back_after cycles run clear calm = by (fell_or_not cycles calm)
+    longer_stretch : (t : CycleView) (j : List CycleView) → IsUndisturbed r carry restarts t j
+        → fall_of (known_of r) (behind_mdt r jobs carry restarts t.sent j) ≡ None → (newer : List CycleView) (first : CycleView)
+        (older : List CycleView) → j ≡ newer ++ first ∷ older → IsStretch r jobs carry restarts newer first older
+        → IsStretch r jobs carry restarts (t ∷ newer) first older
+    longer_stretch t j calm stays newer first older is s = record {
+      calm = (s.calm, subst (IsUndisturbed r carry restarts t) is calm);
+      stays = (s.stays, subst (λ (l : List CycleView). fall_of (known_of r) (behind_mdt r jobs carry restarts t.sent l) ≡ None) is stays);
+      first_calm = s.first_calm;
+      first_stays = s.first_stays;
+    }
+
+    since : (t : CycleView) (cycles : List CycleView) → IsRun r jobs carry restarts (t ∷ (cycles ++ lost ∷ before))
+        → IsClear (t ∷ (cycles ++ lost ∷ before)) → AreUndisturbed r carry restarts (t ∷ cycles) (lost ∷ before)
+        → IsSince t (cycles ++ lost ∷ before)
+    since t [] run clear calm = Few (omega (arith, room))
+    since t (u ∷ cycles) run clear calm = elim (fell_or_not (u ∷ cycles) calm.0) [
+      | inr x ↦ InEpoch x.newer (x.one ∷ x.older) x.is (starts_at_fall r jobs carry restarts x.one (x.older ++ lost ∷ before) x.falls).0
+          (x.calm, subst (IsUndisturbed r carry restarts t) x.is calm.1) x.calm_then
+          (let soon_is = falls_in x.one x.older (older_run x).0 (older_run x).1 x.calm_then x.stays x.falls in omega (arith, soon_is))
+      | inl stays ↦ by stays (fall_of (known_of r) (behind_mdt r jobs carry restarts t.sent (u ∷ (cycles ++ lost ∷ before)))) refl
+    ]
       where
-        by : NoneFalls r jobs carry restarts cycles (lost ∷ before) ⊎ IsFell (cycles ++ lost ∷ before) → BackAt (cycles ++ lost ∷ before)
-        by (inl stays) = none_falls_at cycles run clear calm stays
-        by (inr x) = subst BackAt (sym x.is) (fell_at x.newer x.one x.older (subst (λ (l : List CycleView). IsRun r jobs carry restarts l) x.is run) (subst (λ (l : List CycleView). IsClear l) x.is clear) x.calm x.calm_then x.stays x.falls)
+        older_run : (x : IsFell (u ∷ (cycles ++ lost ∷ before))) → IsRun r jobs carry restarts (x.one ∷ (x.older ++ lost ∷ before)) × IsClear (x.one ∷ (x.older ++ lost ∷ before))
+        older_run x = run_rest r jobs carry restarts x.newer (x.one ∷ (x.older ++ lost ∷ before)) (subst (IsRun r jobs carry restarts) x.is run.0) (subst IsClear x.is clear.0)
 
-    -- NO FALL, AND NOTHING BROKEN, from the bound of a recovery on
-    abbrev pub TellsAt : List CycleView → Type 0
-    TellsAt [] = Unit {0}
-    TellsAt (t ∷ j) = length before + fall ≤ length j → TellsNoFall t
+        from_first : (o : IsOpenedBy (u ∷ (cycles ++ lost ∷ before))) → IsRun r jobs carry restarts (o.newer ++ o.first ∷ lost ∷ before)
+            → IsClear (o.newer ++ o.first ∷ lost ∷ before)
+            → fall_of (known_of r) (behind_mdt r jobs carry restarts t.sent (u ∷ (cycles ++ lost ∷ before))) ≡ None
+            → IsSince t (u ∷ (cycles ++ lost ∷ before))
+        from_first o run_is clear_is stays = elim (cases_lt 1 o.first.phase) [
+          | inl late ↦ FromTwo o.newer o.first (lost ∷ before) o.is (longer_stretch t _ calm.1 stays o.newer o.first (lost ∷ before) o.is o.stretch)
+              (omega (arith, late)) (omega arith)
+              (λ long d there down is. let most = spared (suc (length o.newer)) is in let all = all_long in omega (arith, most, all, long))
+          | inr low ↦ elim (cases_eq o.first.phase 1) [
+            | inl one ↦ elim (early_or_entered r jobs carry restarts opened o.first (lost ∷ before) one o.newer run_is clear_is o.stretch) [
+              | inl few ↦ Few (let all = all_long in omega (arith, few, room, all))
+              | inr e ↦ FromTwo e.newer e.two e.older (o.is ∙ e.is) (longer_stretch t _ calm.1 stays e.newer e.two e.older (o.is ∙ e.is) e.stretch)
+                  (let is_two = e.phase_is in omega (arith, is_two)) (let most = e.few in omega (arith, most)) (λ long d there down is. e.up d there down)
+            ]
+            | inr other ↦ InEpoch (u ∷ cycles) [] refl (zero_at_first o.newer o.first run_is o.stretch.first_calm (omega (arith, low, other))) calm tt
+                (omega (arith, room))
+          ]
+        ]
+          where
+            all_long : length (u ∷ (cycles ++ lost ∷ before)) ≡ length o.newer + 2 + length before
+            all_long = let same = ap length o.is in let parts = length-append o.newer (o.first ∷ lost ∷ before) in omega (arith, same, parts)
 
-    pub tells_after : (cycles : List CycleView) → IsRun r jobs carry restarts (cycles ++ lost ∷ before) → IsClear (cycles ++ lost ∷ before) → AreUndisturbed r carry restarts cycles (lost ∷ before) → TellsAt (cycles ++ lost ∷ before)
-    tells_after cycles run clear calm = by (fell_or_not cycles calm)
-      where
-        stays_at : (l : List CycleView) → IsRun r jobs carry restarts (l ++ lost ∷ before) → IsClear (l ++ lost ∷ before) → AreUndisturbed r carry restarts l (lost ∷ before) → NoneFalls r jobs carry restarts l (lost ∷ before) → TellsAt (l ++ lost ∷ before)
-        stays_at [] run clear calm stays = λ long. absurd (omega (arith, long, room))
-        stays_at (t ∷ l) run clear calm stays = λ long. tells_in r jobs carry restarts opened t (l ++ lost ∷ before) run clear calm.1 stays.1
+        by : NoneFalls r jobs carry restarts (u ∷ cycles) (lost ∷ before) → (o : Option Fall)
+            → fall_of (known_of r) (behind_mdt r jobs carry restarts t.sent (u ∷ (cycles ++ lost ∷ before))) ≡ o → IsSince t (u ∷ (cycles ++ lost ∷ before))
+        by stays (Some f) falls = Few (let soon_is = falls_in t (u ∷ cycles) run clear calm stays (ap (λ (o : Option Fall). is_some o) falls) in omega (arith, soon_is))
+        by stays None none =
+            let o = first_of u cycles calm.0 stays in
+            from_first o (subst (IsRun r jobs carry restarts) o.is run.0) (subst IsClear o.is clear.0) none
 
-        fell_then : (newer : List CycleView) (one : CycleView) (older : List CycleView) → IsRun r jobs carry restarts (newer ++ one ∷ (older ++ lost ∷ before)) → IsClear (newer ++ one ∷ (older ++ lost ∷ before))
-            → AreUndisturbed r carry restarts newer (one ∷ (older ++ lost ∷ before)) → AreUndisturbed r carry restarts (one ∷ older) (lost ∷ before) → NoneFalls r jobs carry restarts older (lost ∷ before)
-            → is_some (fall_of (known_of r) (behind_mdt r jobs carry restarts one.sent (older ++ lost ∷ before))) ≡ true → TellsAt (newer ++ one ∷ (older ++ lost ∷ before))
-        fell_then [] one older run clear calm calm_then stays falls = λ long. absurd (let soon_is = falls_in one older run clear calm_then stays falls in omega (arith, long, soon_is))
-        fell_then (t ∷ newer) one older run clear calm calm_then stays falls = λ long. tells_in r jobs carry restarts opened t
-            (newer ++ one ∷ (older ++ lost ∷ before)) run clear calm.1
-            (stays_up r jobs carry restarts (t ∷ newer) (one ∷ (older ++ lost ∷ before)) opened run clear (at_fall r jobs carry restarts one (older ++ lost ∷ before) falls).0 calm).stays.1
+    -- IN A CYCLE t since then
+    module _ (t : CycleView) (cycles : List CycleView) (run : IsRun r jobs carry restarts (t ∷ (cycles ++ lost ∷ before)))
+        (clear : IsClear (t ∷ (cycles ++ lost ∷ before))) (calm : AreUndisturbed r carry restarts (t ∷ cycles) (lost ∷ before)) where
+      run_at : (l : List CycleView) → cycles ++ lost ∷ before ≡ l → IsRun r jobs carry restarts (t ∷ l) × IsClear (t ∷ l)
+      run_at l is = (subst (λ (j : List CycleView). IsRun r jobs carry restarts (t ∷ j)) is run, subst (λ (j : List CycleView). IsClear (t ∷ j)) is clear)
 
-        by : NoneFalls r jobs carry restarts cycles (lost ∷ before) ⊎ IsFell (cycles ++ lost ∷ before) → TellsAt (cycles ++ lost ∷ before)
-        by (inl stays) = stays_at cycles run clear calm stays
-        by (inr x) = subst TellsAt (sym x.is) (fell_then x.newer x.one x.older (subst (λ (l : List CycleView). IsRun r jobs carry restarts l) x.is run) (subst (λ (l : List CycleView). IsClear l) x.is clear) x.calm x.calm_then x.stays x.falls)
+      -- the ring is back
+      pub back_after : length before + fall + startup_bound r + tail ≤ length (cycles ++ lost ∷ before) → IsBack r t (cycles ++ lost ∷ before)
+      back_after long = elim (since t cycles run clear calm) [
+        | Few few ↦ absurd (omega (arith, few, long))
+        | InEpoch newer mid is starts calm_since calm_mid soon_is ↦ subst (IsBack r t) (sym is) (after_start t newer (mid ++ lost ∷ before) (run_at _ is).0
+            (run_at _ is).1 starts calm_since (let same = ap length is in let parts = length-append newer (mid ++ lost ∷ before) in omega (arith, same, parts, soon_is, long)))
+        | FromTwo newer first older is stretch late most never ↦ subst (IsBack r t) (sym is) (late_back t newer first older (run_at _ is).0 (run_at _ is).1
+            stretch late (let same = ap length is in let parts = length-append newer (first ∷ older) in omega (arith, same, parts, most, long, room)) (never (omega (arith, long))))
+      ]
+
+      -- no fall, and nothing broken
+      pub tells_after : length before + fall ≤ length (cycles ++ lost ∷ before) → TellsNoFall t
+      tells_after long = tells_in r jobs carry restarts opened t (cycles ++ lost ∷ before) run clear calm.1 (elim (since t cycles run clear calm) [
+        | Few few ↦ absurd (omega (arith, few, long))
+        | InEpoch newer mid is starts calm_since calm_mid soon_is ↦ subst (λ (l : List CycleView). fall_of (known_of r) (behind_mdt r jobs carry restarts t.sent l) ≡ None)
+            (sym is) (never_falls r jobs carry restarts opened (t ∷ newer) (mid ++ lost ∷ before) (run_at _ is).0 (run_at _ is).1 starts calm_since).stays.1
+        | FromTwo newer first older is stretch late most never ↦ subst (λ (l : List CycleView). fall_of (known_of r) (behind_mdt r jobs carry restarts t.sent l) ≡ None)
+            (sym is) stretch.stays.1
+      ])
 
   -- WHAT IS LEFT of the requests to a drive
   module _ (k : ℕ) (below : k < length r.drives) (n i : ℕ) where
@@ -419,7 +391,7 @@ module _ (r : RingView) (jobs : List Job) (carry : Carry) (restarts : Restarts) 
         one_run : IsRun r jobs carry restarts (c.one ∷ (c.older ++ first ∷ older)) × IsClear (c.one ∷ (c.older ++ first ∷ older))
         one_run = run_rest r jobs carry restarts (t ∷ c.newer) (c.one ∷ (c.older ++ first ∷ older)) run_cut clear_cut
 
-        -- phase 4 has come by then: there is no stop, rest_since there is none in the newest cycle
+        -- phase 4 has come by then: there is no stop, since there is none in the newest cycle
         none_then : (behind_mdt r jobs carry restarts c.one.sent (c.older ++ first ∷ older)).stop ≡ None
         none_then = sym (stop_after r jobs carry restarts c.one (c.older ++ first ∷ older) c.on_older.1.stays)
             ∙ none_along r jobs carry restarts (t ∷ c.newer) (c.one ∷ (c.older ++ first ∷ older)) on_cut
@@ -452,91 +424,31 @@ module _ (r : RingView) (jobs : List Job) (carry : Carry) (restarts : Restarts) 
             (let few = left_then xs is calm in omega (arith, few, enough)))
 
     -- AFTER THE LAST DISTURBED CYCLE
-    module _ (lost : CycleView) (before : List CycleView) where
-      -- in the newest cycle, if it is commanded phase 4 and that late
-      abbrev LeftAt : List CycleView → Type 0
-      LeftAt [] = Unit {0}
-      LeftAt (t ∷ j) = t.phase ≡ 4 → length before + fall + startup_bound r + tail + suc i * request_cycles r k ≤ length j → left_now (lost ∷ before) ≤ n + suc i → left_now (t ∷ j) ≤ n
-
-      start_left : (cycles : List CycleView) → IsRun r jobs carry restarts (cycles ++ lost ∷ before) → IsClear (cycles ++ lost ∷ before) → StartsEpoch r jobs carry restarts (lost ∷ before) → AreUndisturbed r carry restarts cycles (lost ∷ before)
-          → LeftAt (cycles ++ lost ∷ before)
-      start_left [] run clear starts calm = λ four long enough. absurd (omega (arith, long, room))
-      start_left (t ∷ cycles) run clear starts calm = λ four long enough.
-          left_in_epoch r jobs carry restarts opened t cycles (lost ∷ before) run clear starts calm four k below n i
-          (let parts = length-append cycles (lost ∷ before) in omega (arith, parts, room, long)) (waiting_few (lost ∷ before) starts enough)
-
-      -- with the first undisturbed cycle
-      late_left : (newer : List CycleView) (first : CycleView) → IsRun r jobs carry restarts (newer ++ first ∷ lost ∷ before) → IsClear (newer ++ first ∷ lost ∷ before) → IsStretch r jobs carry restarts newer first (lost ∷ before) → 2 ≤ first.phase
-          → (xs : List CycleView) → xs ++ lost ∷ before ≡ newer ++ first ∷ lost ∷ before → AreUndisturbed r carry restarts xs (lost ∷ before) → LeftAt (newer ++ first ∷ lost ∷ before)
-      late_left [] first run clear stretch late xs is calm = λ four long enough. absurd (omega (arith, long, room))
-      late_left (t ∷ newer) first run clear stretch late xs is calm = λ four long enough.
-          left_up first (lost ∷ before) late (never four long) t newer run clear stretch four (lost ∷ before) (omega arith) (omega (arith, long)) xs is calm enough
-        where
-          never : t.phase ≡ 4 → length before + fall + startup_bound r + tail + suc i * request_cycles r k ≤ length (newer ++ first ∷ lost ∷ before) → (d : ℕ) → d < length r.drives → IsDown r jobs carry restarts d (first ∷ lost ∷ before) → ⊥
-          never four long d there down =
-              let is = falls_in_time r jobs carry restarts opened d there (t ∷ newer) first (lost ∷ before) run clear stretch late
-              (stop_after r jobs carry restarts t (newer ++ first ∷ lost ∷ before) stretch.stays.1 ∙ never_stops_in_four r jobs carry restarts t (newer ++ first ∷ lost ∷ before) opened run clear four)
-              down in
-              let most = spared (suc (length newer)) is in
-              let parts = length-append newer (first ∷ lost ∷ before) in omega (arith, parts, most, long)
-
-      entered_left : (newer : List CycleView) (two : CycleView) (older : List CycleView) → IsRun r jobs carry restarts (newer ++ two ∷ older) → IsClear (newer ++ two ∷ older) → IsStretch r jobs carry restarts newer two older → two.phase ≡ 2
-          → length older ≤ length before + 2 + length r.drives → ((d : ℕ) → d < length r.drives → IsDown r jobs carry restarts d (two ∷ older) → ⊥)
-          → (xs : List CycleView) → xs ++ lost ∷ before ≡ newer ++ two ∷ older → AreUndisturbed r carry restarts xs (lost ∷ before) → LeftAt (newer ++ two ∷ older)
-      entered_left [] two older run clear stretch is_two most up xs is calm = λ four long enough. absurd (omega (arith, long, most, room))
-      entered_left (t ∷ newer) two older run clear stretch is_two most up xs is calm = λ four long enough.
-          left_up two older (omega (arith, is_two)) up t newer run clear stretch four (lost ∷ before) (omega (arith, most)) (omega (arith, long)) xs is calm enough
-
-      one_left : (newer : List CycleView) (first : CycleView) → IsRun r jobs carry restarts (newer ++ first ∷ lost ∷ before) → IsClear (newer ++ first ∷ lost ∷ before) → IsStretch r jobs carry restarts newer first (lost ∷ before) → first.phase ≡ 1
-          → (xs : List CycleView) → xs ++ lost ∷ before ≡ newer ++ first ∷ lost ∷ before → AreUndisturbed r carry restarts xs (lost ∷ before) → LeftAt (newer ++ first ∷ lost ∷ before)
-      one_left newer first run clear stretch one xs is calm = elim (early_or_entered r jobs carry restarts opened first (lost ∷ before) one newer run clear stretch) [
-        | inl few ↦ short newer few
-        | inr e ↦ subst LeftAt (sym e.is) (entered_left e.newer e.two e.older (subst (λ (l : List CycleView). IsRun r jobs carry restarts l) e.is run) (subst (λ (l : List CycleView). IsClear l) e.is clear) e.stretch e.phase_is
-            (let most = e.few in omega (arith, most)) e.up xs (is ∙ e.is) calm)
-      ]
-        where
-          short : (l : List CycleView) → length l ≤ length r.drives → LeftAt (l ++ first ∷ lost ∷ before)
-          short [] few = λ four long enough. absurd (omega (arith, long, room))
-          short (t ∷ l) few = λ four long enough. absurd (let length_is = length-append l (first ∷ lost ∷ before) in omega (arith, long, few, room, length_is))
-
-      none_falls_left : (cycles : List CycleView) → IsRun r jobs carry restarts (cycles ++ lost ∷ before) → IsClear (cycles ++ lost ∷ before) → AreUndisturbed r carry restarts cycles (lost ∷ before) → NoneFalls r jobs carry restarts cycles (lost ∷ before)
-          → LeftAt (cycles ++ lost ∷ before)
-      none_falls_left [] run clear calm stays = λ four long enough. absurd (omega (arith, long, room))
-      none_falls_left (u ∷ cycles) run clear calm stays = by (first_of lost before u cycles calm stays)
-        where
-          by : IsOpenedBy lost before (u ∷ (cycles ++ lost ∷ before)) → LeftAt (u ∷ (cycles ++ lost ∷ before))
-          by o =
-              let run_is : IsRun r jobs carry restarts (o.newer ++ o.first ∷ lost ∷ before) = subst (λ (l : List CycleView). IsRun r jobs carry restarts l) o.is run in
-              let clear_is : IsClear (o.newer ++ o.first ∷ lost ∷ before) = subst (λ (l : List CycleView). IsClear l) o.is clear in
-              elim (cases_lt 1 o.first.phase) [
-                | inl late ↦ subst LeftAt (sym o.is) (late_left o.newer o.first run_is clear_is o.stretch (omega (arith, late)) (u ∷ cycles) o.is calm)
-                | inr low ↦ elim (cases_eq o.first.phase 1) [
-                  | inl one ↦ subst LeftAt (sym o.is) (one_left o.newer o.first run_is clear_is o.stretch one (u ∷ cycles) o.is calm)
-                  | inr other ↦ start_left (u ∷ cycles) run clear (zero_at_first lost before o.newer o.first run_is o.stretch.first_calm (omega (arith, low, other))) calm
-                ]
-              ]
-
-      -- with a fall
-      fell_left : (newer : List CycleView) (one : CycleView) (older : List CycleView) → IsRun r jobs carry restarts (newer ++ one ∷ (older ++ lost ∷ before)) → IsClear (newer ++ one ∷ (older ++ lost ∷ before))
-          → AreUndisturbed r carry restarts newer (one ∷ (older ++ lost ∷ before)) → AreUndisturbed r carry restarts (one ∷ older) (lost ∷ before) → NoneFalls r jobs carry restarts older (lost ∷ before)
-          → is_some (fall_of (known_of r) (behind_mdt r jobs carry restarts one.sent (older ++ lost ∷ before))) ≡ true → LeftAt (newer ++ one ∷ (older ++ lost ∷ before))
-      fell_left [] one older run clear calm calm_then stays falls = λ four long enough. absurd (let soon_is = falls_in lost before one older run clear calm_then stays falls in omega (arith, long, soon_is))
-      fell_left (t ∷ newer) one older run clear calm calm_then stays falls = λ four long enough.
-          let run_then = rest_runs r jobs carry restarts (t ∷ newer) (one ∷ (older ++ lost ∷ before)) run in
-          let clear_then = rest_clear (t ∷ newer) (one ∷ (older ++ lost ∷ before)) clear in
-          let starts = (at_fall r jobs carry restarts one (older ++ lost ∷ before) falls).0 in
-          let soon_is = falls_in lost before one older run_then clear_then calm_then stays falls in
-          let length_is = length-append newer (one ∷ (older ++ lost ∷ before)) in
-          let few = left_fewer (one ∷ older) (lost ∷ before) run_then clear_then calm_then in
-          left_in_epoch r jobs carry restarts opened t newer (one ∷ (older ++ lost ∷ before)) run clear starts calm four k below n i
-          (omega (arith, soon_is, length_is, long)) (waiting_few (one ∷ (older ++ lost ∷ before)) starts (omega (arith, few, enough)))
-
-      pub left_at_last : (cycles : List CycleView) → IsRun r jobs carry restarts (cycles ++ lost ∷ before) → IsClear (cycles ++ lost ∷ before) → AreUndisturbed r carry restarts cycles (lost ∷ before) → LeftAt (cycles ++ lost ∷ before)
-      left_at_last cycles run clear calm = by (fell_or_not lost before cycles calm)
-        where
-          by : NoneFalls r jobs carry restarts cycles (lost ∷ before) ⊎ IsFell lost before (cycles ++ lost ∷ before) → LeftAt (cycles ++ lost ∷ before)
-          by (inl stays) = none_falls_left cycles run clear calm stays
-          by (inr x) = subst LeftAt (sym x.is) (fell_left x.newer x.one x.older (subst (λ (l : List CycleView). IsRun r jobs carry restarts l) x.is run) (subst (λ (l : List CycleView). IsClear l) x.is clear) x.calm x.calm_then x.stays x.falls)
+    left_at_last : (lost : CycleView) (before : List CycleView) (t : CycleView) (cycles : List CycleView)
+        → IsRun r jobs carry restarts (t ∷ (cycles ++ lost ∷ before)) → IsClear (t ∷ (cycles ++ lost ∷ before))
+        → AreUndisturbed r carry restarts (t ∷ cycles) (lost ∷ before) → t.phase ≡ 4
+        → length before + fall + startup_bound r + tail + suc i * request_cycles r k ≤ length (cycles ++ lost ∷ before)
+        → left_now (lost ∷ before) ≤ n + suc i → left_now (t ∷ (cycles ++ lost ∷ before)) ≤ n
+    left_at_last lost before t cycles run clear calm four long enough = elim (since lost before t cycles run clear calm) [
+      | Few few ↦ absurd (omega (arith, few, long))
+      | InEpoch newer mid is starts calm_since calm_mid soon_is ↦
+          let base_run = run_rest r jobs carry restarts (t ∷ newer) (mid ++ lost ∷ before) (at _ is).0 (at _ is).1 in
+          let few = left_fewer mid (lost ∷ before) base_run.0 base_run.1 calm_mid in
+          subst (λ (l : List CycleView). left_now (t ∷ l) ≤ n) (sym is) (left_in_epoch r jobs carry restarts opened t newer (mid ++ lost ∷ before)
+          (at _ is).0 (at _ is).1 starts calm_since four k below n i
+          (let same = ap length is in let parts = length-append newer (mid ++ lost ∷ before) in omega (arith, same, parts, soon_is, long))
+          (waiting_few (mid ++ lost ∷ before) starts (omega (arith, few, enough))))
+      | FromTwo newer first older is stretch late most never ↦
+          subst (λ (l : List CycleView). left_now (t ∷ l) ≤ n) (sym is) (left_up first older late
+          (λ d there down. never (omega (arith, long)) d there down (falls_in_time r jobs carry restarts opened d there (t ∷ newer) first older
+          (at _ is).0 (at _ is).1 stretch late (stop_after r jobs carry restarts t (newer ++ first ∷ older) stretch.stays.1
+          ∙ never_stops_in_four r jobs carry restarts t (newer ++ first ∷ older) opened (at _ is).0 (at _ is).1 four) down))
+          t newer (at _ is).0 (at _ is).1 stretch four (lost ∷ before) (omega (arith, most))
+          (let same = ap length is in omega (arith, same, long)) (t ∷ cycles) (ap (λ (l : List CycleView). t ∷ l) is) calm enough)
+    ]
+      where
+        at : (l : List CycleView) → cycles ++ lost ∷ before ≡ l → IsRun r jobs carry restarts (t ∷ l) × IsClear (t ∷ l)
+        at = run_at lost before t cycles run clear calm
 
   -- SO THE REQUESTS THAT WERE LEFT ARE REPORTED IN TIME.
   module _ (lost : CycleView) (before : List CycleView) where
@@ -556,7 +468,7 @@ module _ (r : RingView) (jobs : List Job) (carry : Carry) (restarts : Restarts) 
         rest = beyond (suc i) (length (left_after r jobs carry restarts (lost ∷ before) k)) (omega (arith, low))
 
         few : length (left_after r jobs carry restarts (t ∷ (cycles ++ lost ∷ before)) k) ≤ rest.0
-        few = left_at_last k below rest.0 i lost before (t ∷ cycles) run clear calm four
+        few = left_at_last k below rest.0 i lost before t cycles run clear calm four
             (let same : (i + 1) * request_cycles r k ≡ suc i * request_cycles r k = grind arith in omega (arith, same, long)) (let count = rest.1 in omega (arith, count))
 
         early_is : i < length told.numbers

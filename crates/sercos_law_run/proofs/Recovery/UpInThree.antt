@@ -17,7 +17,6 @@ use Rattle.sercos_law_run.proofs.Undisturbed.Reached.{all_checked_in}
 use Rattle.sercos_law_run.proofs.Undisturbed.Sections.{never_idle}
 use Rattle.sercos_law_run.proofs.Undisturbed.Stops.StopOnce.{same_start}
 use Rattle.sercos_law_run.proofs.Undisturbed.Checks.ShortLists.{few_blocks, lists_short, longest_list}
-use Rattle.sercos_law_run.proofs.Undisturbed.Cited.{ReadyIfEnded}
 use Rattle.sercos_law_run.proofs.Recovery.DownSince.{shorter, up_all}
 use Rattle.sercos_law_run.proofs.Recovery.FallsSoon.{busy_slowest}
 use Rattle.sercos_law_run.proofs.Recovery.LateDown.{phase_now}
@@ -85,7 +84,7 @@ module _ (r : RingView) (jobs : List Job) (carry : Carry) (restarts : Restarts) 
       rules : blocks_fault [] (drive_at r k).blocks ≡ None
       rules = (ring_drive r k (drive_at r k) opened.valid (drive_got r k below)).blocks
 
-      -- what the requests cost that were begun rest_since, if a bound on what they cost is known from their places
+      -- what the requests cost that were begun since, if a bound on what they cost is known from their places
       costs_few : (longest : ℕ → ℕ) (most : ℕ) → AreListed longest (views_of r jobs carry restarts k (t ∷ (cycles ++ first ∷ before)))
           → ((recent old : List Begun) → epoch_begun (views_of r jobs carry restarts k (t ∷ (cycles ++ first ∷ before))) ≡ recent ++ old
           → length old ≡ reads_count (member (known_of r) k) + 12
@@ -119,10 +118,10 @@ module _ (r : RingView) (jobs : List Job) (carry : Carry) (restarts : Restarts) 
           (places_of recent old is) long)
 
       -- Its check hasn't ended: if it had, it would have ended well.
-      few_begun : ReadyIfEnded → list_any is_outside (drive_at r k).blocks ≡ false
+      few_begun : list_any is_outside (drive_at r k).blocks ≡ false
           → length (epoch_begun (views_of r jobs carry restarts k (t ∷ (cycles ++ first ∷ before))))
           ≤ reads_count (member (known_of r) k) + 13
-      few_begun ready inside = let most = begun_few (known_of r) k now.plan (now.waiting k) now.now.phase
+      few_begun inside = let most = begun_few (known_of r) k now.plan (now.waiting k) now.now.phase
           (reads_count (member (known_of r) k) + 12) (epoch_begun (views_of r jobs carry restarts k (t ∷ (cycles ++ first ∷ before))))
           (now.tasks k)
           (tasks_now r jobs carry restarts opened t (cycles ++ first ∷ before) run clear stretch.stays.1 k below)
@@ -137,17 +136,17 @@ module _ (r : RingView) (jobs : List Job) (carry : Carry) (restarts : Restarts) 
               ≤ reads_count (member (known_of r) k) + 12
           few = elim (cases_lt (reads_count (member (known_of r) k) + 12)
               (length (outcomes (behind_mdt r jobs carry restarts t.sent (cycles ++ first ∷ before)) k))) [
-                | inl ended ↦ absurd (false≢true (sym three.1.unready ∙ ready r jobs carry restarts opened t (cycles ++ first ∷ before) run clear
+                | inl ended ↦ absurd (false≢true (sym three.1.unready ∙ is_ready_if_ended r jobs carry restarts opened t (cycles ++ first ∷ before) run clear
                     k below inside ended))
                 | inr less ↦ omega (arith, less)
               ]
 
-      pub without_list : ReadyIfEnded → list_any is_outside (drive_at r k).blocks ≡ false → suc (length cycles)
+      pub without_list : list_any is_outside (drive_at r k).blocks ≡ false → suc (length cycles)
           ≤ command_cycles (drive_at r k)
-      without_list ready inside = costs_few (λ raw. 512) (command_cycles (drive_at r k)) (listed_all
+      without_list inside = costs_few (λ raw. 512) (command_cycles (drive_at r k)) (listed_all
           (views_of r jobs carry restarts k (t ∷ (cycles ++ first ∷ before))))
           (λ recent old is long. check_fits (λ raw. 512) (drive_at r k) rules (known_of r) plan.0 k recent old (places_of recent old is) long
-          (subst (λ (l : List Begun). length l ≤ reads_count (member (known_of r) k) + 13) is (few_begun ready inside)))
+          (subst (λ (l : List Begun). length l ≤ reads_count (member (known_of r) k) + 13) is (few_begun inside)))
 
 -- Phase 3 lasts no longer than the check of a drive takes that isn't in phase 0, and a number of cycles more.
 abbrev pub LastsInThree : RingView → List Job → Carry → Restarts → ℕ → Type 0
@@ -169,5 +168,5 @@ module _ (r : RingView) (jobs : List Job) (carry : Carry) (restarts : Restarts) 
   pub lasts_if_right : IsRight r → LastsInThree r jobs carry restarts 0
   lasts_if_right right k below [] first before run clear stretch three up = omega arith
   lasts_if_right right k below (t ∷ cycles) first before run clear stretch three up =
-      let lasts = without_list r jobs carry restarts opened k below t cycles first before run clear stretch three up is_ready_if_ended
+      let lasts = without_list r jobs carry restarts opened k below t cycles first before run clear stretch three up
       (right.1 k below) in omega (arith, lasts)

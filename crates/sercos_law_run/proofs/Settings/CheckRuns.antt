@@ -1,12 +1,14 @@
 -- In a run in which each check for phase 3 was set well, each complete one of an epoch gives 3.
-use Rattle.sercos_law_run.proofs.Words.{◌≡◌, ℕ, Bool, true, false, List, [], ◌∷◌, ◌++◌, refl, sym, ap, ap₂, ◌∙◌, subst, if◌then◌else◌, append_assoc, Option, Some, None, beq, Request, outcome_of, Block, is_command, Processed, Entry, ahs, accepted, answered, reply_of, log_of, Begun, replies_of, HaveBlocks, IsTransfer, IsRow, IsPart, Unsent, Unheard, AreParts, fall_into_parts, Processes, Nothing, Record, processes, in_step, HasReplies, answered_replies, IsEpoch, epoch, split_replies, split_blocks, View, processed_in, with_record, command, unless_restart, epoch_begun, epoch_records, epoch_log, AreSound, idn, HaveStores, are_well_set, AreSetWell, StandWell, SettingsFollow}
+use Rattle.sercos_law_run.proofs.Words.{◌≡◌, ℕ, Bool, true, false, List, [], ◌∷◌, ◌++◌, refl, sym, ap, ap₂, ◌∙◌, subst, if◌then◌else◌, append_assoc, Option, Some, None, beq, Request, outcome_of, Block, is_command, Processed, Entry, ahs, accepted, answered, reply_of, log_of, Begun, replies_of, HaveBlocks, IsTransfer, IsRow, IsPart, Unsent, Unheard, AreParts, fall_into_parts, Processes, Nothing, Record, processes, in_step, HasReplies, answered_replies, IsEpoch, epoch, split_replies, split_blocks, View, processed_in, with_record, command, unless_restart, epoch_begun, epoch_records, epoch_log, AreSound, idn, HaveStores, are_well_set, AreSetWell, StandWell, SettingsFollow, SetCommand, find_set, set_in}
 use Rattle.sercos_step.specs.declared.request.Request.TheVariants as request
 use Rattle.sercos_step.specs.declared.request.Outcome.TheVariants as outcome
 use Rattle.sercos_law_channel.specs.Handshake.Parts.{Heard}
 use Rattle.sercos_law_channel.specs.Handshake.Runs.{IsRun}
-use Rattle.sercos_law_run.proofs.Settings.WellRuns.{stand_well}
+use Rattle.sercos_law_run.proofs.Settings.WellRuns.{found_well, stand_well}
 use Rattle.sercos_law_run.proofs.Settings.SetInEpoch.{set_at_entry}
 use Rattle.sercos_law_run.proofs.Settings.CheckGives3.{check_gives_3}
+use Rattle.sercos_law_run.proofs.Settings.EpochRecords.{at_entry, epoch_next}
+use Rattle.sercos_law_run.specs.Settings.Checks.{ChecksGive3}
 
 -- the part of a request in the log
 pub record IsPartAt (log : List Entry) (b : Begun) : Type 0 where
@@ -49,40 +51,20 @@ abbrev pub WellAt : List Processed → Type 0
 WellAt [] = Unit {0}
 WellAt (t ∷ h) = WellAt h × (are_well_set t.commands ≡ true)
 
-entry_well : (h : List Processed) (newer : List Entry) (e : Entry) (behind : List Entry) → WellAt h → log_of h ≡ newer ++ e ∷ behind → are_well_set e.processed.commands ≡ true
-entry_well [] [] e behind well is = absurd (cc)
-entry_well [] (x ∷ newer) e behind well is = absurd (cc)
-entry_well (t ∷ h) newer e behind well is = by (beq t.mhs (ahs h)) is (λ n more. entry_well h n e behind well.0 more)
-  where
-    one : (x : Entry) (n : List Entry) → x ∷ log_of h ≡ n ++ e ∷ behind → x.processed ≡ t → ((m : List Entry) → log_of h ≡ m ++ e ∷ behind → are_well_set e.processed.commands ≡ true) → are_well_set e.processed.commands ≡ true
-    one x [] is taken more = let first : x ≡ e = cc in ap (λ (y : Entry). are_well_set y.processed.commands) (sym first) ∙ ap (λ (y : Processed). are_well_set y.commands) taken ∙ well.1
-    one x (y ∷ n) is taken more = let rest : log_of h ≡ n ++ e ∷ behind = cc in more n rest
-
-    by : (v : Bool) → answered (if v then accepted h else t ∷ accepted h) ≡ newer ++ e ∷ behind → ((m : List Entry) → log_of h ≡ m ++ e ∷ behind → are_well_set e.processed.commands ≡ true) → are_well_set e.processed.commands ≡ true
-    by true is more = more newer is
-    by false is more = one (record { processed = t; answer = reply_of t (log_of h) }) newer is refl more
-
 epoch_well : (past : List View) → StandWell past → WellAt (epoch_records past)
 epoch_well [] well = tt
-epoch_well (v ∷ past) well = fell v.falls (recorded (processes v past) (restarted v.master_restarts (epoch_well past well.0)))
-  where
-    restarted : (r : Bool) → WellAt (epoch_records past) → WellAt (if r then [] else epoch_records past)
-    restarted true all = tt
-    restarted false all = all
+epoch_well (v ∷ past) well =
+    epoch_next WellAt v past tt (λ t some blocks commands all. (all, ap are_well_set commands ∙ well.1)) (epoch_well past well.0)
 
-    recorded : Processes v past → WellAt (unless_restart v (epoch_records past)) → WellAt (with_record (processed_in v past) (unless_restart v (epoch_records past)))
-    recorded (Nothing none) all = subst (λ (o : Option Processed). WellAt (with_record o (unless_restart v (epoch_records past)))) (sym none) all
-    recorded (Record s got came two some) all = subst (λ (o : Option Processed). WellAt (with_record o (unless_restart v (epoch_records past)))) (sym some) (all, well.1)
-
-    fell : (f : Bool) → WellAt (with_record (processed_in v past) (unless_restart v (epoch_records past))) → WellAt (if f then [] else with_record (processed_in v past) (unless_restart v (epoch_records past)))
-    fell true all = tt
-    fell false all = all
-
-module _ (busy : ℕ) (blocks : List Block) where
-  -- EACH COMPLETE CHECK for phase 3 of the epoch gives 3
-  pub checks_give_3 : (past : List View) → IsRun busy past → AreSound blocks past → SettingsFollow past → AreSetWell past → HaveStores (λ blocks. is_command blocks 127 ≡ true) past →
-      (newer older : List Begun) (b : Begun) (bytes : List ℕ) → epoch_begun past ≡ newer ++ b ∷ older → b.request ≡ request.Command (idn 127) → outcome_of b.request b.answers ≡ Some (outcome.Complete bytes) → bytes ≡ 3 ∷ 0 ∷ []
-  checks_give_3 past run sound follow well have newer older b bytes split asks complete = of_part at.part refl at.is
+module _ (raw busy : ℕ) (blocks : List Block) where
+  -- EACH COMPLETE COMMAND of the epoch gives 3, if it ends well wherever it is set.
+  pub checks_give : (past : List View) → IsRun busy past → AreSound blocks past → SettingsFollow past
+      → ((newer : List Entry) (poll : Entry) (behind : List Entry) → epoch_log past ≡ newer ++ poll ∷ behind → (s : SetCommand) → find_set
+      raw (set_in poll.processed.commands) ≡ Some s → s.well ≡ true)
+      → HaveStores (λ blocks. is_command blocks raw ≡ true) past →
+      (newer older : List Begun) (b : Begun) (bytes : List ℕ) → epoch_begun past ≡ newer ++ b ∷ older → b.request ≡ request.Command
+      (idn raw) → outcome_of b.request b.answers ≡ Some (outcome.Complete bytes) → bytes ≡ 3 ∷ 0 ∷ []
+  checks_give past run sound follow well have newer older b bytes split asks complete = of_part at.part refl at.is
     where
       is_epoch : IsEpoch blocks (command past) (epoch_begun past) (epoch_records past)
       is_epoch = epoch blocks busy past run sound
@@ -93,12 +75,21 @@ module _ (busy : ℕ) (blocks : List Block) where
       whole : (e : Entry) (entries : List Entry) → at.part ≡ e ∷ entries → IsRow b e entries → b.answers ≡ replies_of (e ∷ entries) → bytes ≡ 3 ∷ 0 ∷ []
       whole e entries part row answers =
           let transfer = transfer_at blocks (epoch_log past) b at e entries (answered_replies (accepted (epoch_records past))) is_epoch.alike part row in
-          check_gives_3 blocks e entries at.rest bytes (subst (λ (r : Request). IsTransfer r blocks e entries at.rest) asks transfer)
+          check_gives_3 raw blocks e entries at.rest bytes (subst (λ (r : Request). IsTransfer r blocks e entries at.rest) asks transfer)
           (sym (ap₂ (λ (r : Request) (h : List _). outcome_of r h) asks answers) ∙ complete)
-          (λ poll before behind. entry_well (epoch_records past) (at.front ++ e ∷ []) poll (before ++ at.rest) (epoch_well past (stand_well past well)) (poll_at (epoch_log past) b at e entries part poll before behind))
-          (λ poll before behind newest. set_at_entry 127 busy past (at.front ++ e ∷ []) poll (before ++ at.rest) (3 ∷ 0 ∷ []) run follow have (poll_at (epoch_log past) b at e entries part poll before behind) newest refl)
+          (λ poll before behind. well (at.front ++ e ∷ []) poll (before ++ at.rest)
+          (poll_at (epoch_log past) b at e entries part poll before behind))
+          (λ poll before behind newest. set_at_entry raw busy past (at.front ++ e ∷ []) poll (before ++ at.rest) (3 ∷ 0 ∷ []) run follow
+          have (poll_at (epoch_log past) b at e entries part poll before behind) newest refl)
 
       of_part : (part : List Entry) → at.part ≡ part → IsPart b at.part → bytes ≡ 3 ∷ 0 ∷ []
       of_part part same (Unsent none answers) = let on : outcome_of b.request b.answers ≡ None = ap (outcome_of b.request) answers in absurd (cc)
       of_part part same (Heard e entries those row answers) = whole e entries those row answers
       of_part part same (Unheard e entries those row answers) = let on : outcome_of b.request b.answers ≡ None = ap (outcome_of b.request) answers ∙ row.goes_on in absurd (cc)
+
+-- so does each complete check for phase 3
+pub checks_give_3 : (busy : ℕ) → ChecksGive3 busy
+checks_give_3 busy blocks past run sound follow well have = checks_give 127 busy blocks past run sound follow
+    (λ newer poll behind is s. found_well (set_in poll.processed.commands) s
+    (at_entry WellAt (λ t h all. all.0) (epoch_records past) newer poll behind (epoch_well past (stand_well past well)) is).2.1)
+    have

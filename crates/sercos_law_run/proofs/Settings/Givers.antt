@@ -1,5 +1,5 @@
 -- Which request the newest write of a log belongs to. In phase 2 only the check for phase 3 gives anything to S-0-0127.
-use Rattle.sercos_law_run.proofs.Words.{◌≡◌, ℕ, zero, suc, ◌+◌, ◌<◌, ◌≤◌, Bool, true, false, not, List, [], ◌∷◌, ◌++◌, map, drop, length, refl, sym, ap, ◌∙◌, subst, arith, if◌then◌else◌, ◌==◌, Option, Some, None, slice_get, list_all, and_parts, eq-eqb, not-true, false≢true, Idn, Request, PlanView, Block, Entry, Write, Begun, answers_it, answer_in, with_answer, Heard, with_heard, Given, given_of, given_by, AreWrites, Complete, Refused, Broken, AreExact, Known, Task, member, startup, idn, reads, reads_count, writes, outcomes_in, AreWaiting, IsTask, OfReads, OfWrites, Checks3, Lists3, Checks4, Lists4, OfWaiting, IsBegunTask, AreBegunTasks, start_numbers}
+use Rattle.sercos_law_run.proofs.Words.{◌≡◌, ℕ, zero, suc, ◌+◌, ◌<◌, ◌≤◌, Bool, true, false, not, List, [], ◌∷◌, ◌++◌, map, drop, length, refl, sym, ap, ◌∙◌, subst, arith, if◌then◌else◌, ◌==◌, Option, Some, None, slice_get, list_all, and_parts, eq-eqb, not-true, false≢true, Idn, Request, PlanView, Block, Entry, Write, Begun, answers_it, answer_in, with_answer, Heard, with_heard, Given, given_of, given_by, AreWrites, Complete, Refused, Broken, AreExact, Known, Task, member, startup, idn, reads, reads_count, writes, outcomes_in, AreWaiting, IsTask, OfReads, OfWrites, Checks3, Lists3, Checks4, Lists4, OfWaiting, IsBegunTask, AreBegunTasks, start_numbers, cases_Bool, inl, inr, nat_lt, ltb-true, Outcome}
 use Rattle.sercos_step.specs.declared.request.Request.TheVariants as request
 use Rattle.sercos_law_run.proofs.Agenda.WritesDone.{raw_of, number_at, IsDataWrite, DataWrite, all_data_writes, write_away}
 use Rattle.sercos_law_run.proofs.Held.Agreed.{all_at}
@@ -46,7 +46,8 @@ gives_newest blocks (b ∷ past) entries w writes (part, rest, own, others, of_e
 -- an answer more to the newest request changes no request
 pub given_heard : (blocks : List Block) (o : Option Heard) (begun : List Begun) (raw : ℕ) → IsGiven blocks (with_heard o begun) raw → IsGiven blocks begun raw
 given_heard blocks None begun raw is = is
-given_heard blocks (Some a) begun raw is = by (answers_it begun a.status) is
+given_heard blocks (Some a) begun raw is =
+    elim (cases_Bool (answers_it begun a.status)) [ inl on ↦ answered begun (rw on at is) | inr off ↦ (rw off at is) ]
   where
     answered : (l : List Begun) → IsGiven blocks (with_answer (answer_in a.status a.word) l) raw → IsGiven blocks l raw
     answered [] is = is
@@ -57,10 +58,6 @@ given_heard blocks (Some a) begun raw is = by (answers_it begun a.status) is
             let first : (record b { answers = answer_in a.status a.word ∷ b.answers }) ≡ one = cc in
             record { newer = []; one = b; older = past; split = refl; gives = subst (λ (x : Begun). are_away raw (given_by blocks x.request) ≡ true → ⊥) (sym first) gives }
         which (x ∷ newer) one older split gives = let rest : past ≡ newer ++ one ∷ older = cc in given_more blocks b past raw (record { newer = newer; one = one; older = older; split = rest; gives = gives })
-
-    by : (t : Bool) → IsGiven blocks (if t then with_answer (answer_in a.status a.word) begun else begun) raw → IsGiven blocks begun raw
-    by true is = answered begun is
-    by false is = is
 
 -- THE CHECK FOR PHASE 3. The first tasks are reads.
 abbrev pub is_reading : Request → Bool
@@ -77,33 +74,38 @@ reading_away blocks raw (request.Read i e) is = refl
 reading_away blocks raw (request.Write i e bytes) is = absurd (cc)
 reading_away blocks raw (request.Command i) is = absurd (cc)
 
+-- WHERE A TASK GIVES to a number that isn't of the start-up's writes: nowhere, or it is a check, or it waits.
+pub data Gives (s : Known) (k raw : ℕ) (blocks : List Block) (outs : List Outcome) (t : Task) : Type 0 where
+  Away : are_away raw (given_by blocks t.request) ≡ true → Gives s k raw blocks outs t
+  AtCheck3 : length outs ≡ reads_count (member s k) + 11 → t.request ≡ request.Command (idn 127) → Gives s k raw blocks outs t
+  AtCheck4 : reads_count (member s k) + 12 ≤ length outs → 3 ≤ t.phase → Gives s k raw blocks outs t
+
+pub gives_so : (s : Known) (k raw : ℕ) (blocks : List Block) (plan : Option PlanView) (waiting : List Task) (outs : List Outcome) (t : Task)
+    → 127 ≤ raw → AreWaiting waiting → IsTask s k plan waiting outs t → Gives s k raw blocks outs t
+gives_so s k raw blocks plan waiting outs t large waits (OfReads r less got same) = Away (rw same (reading_away blocks raw r
+    (all_at is_reading (reads (member s k)) (length outs) r (attributes_read ((member s k).at ++ (member s k).mdt)) got)))
+gives_so s k raw blocks plan waiting outs t large waits (OfWrites p i r planned less at got same) = elim (all_data_writes s p k i r got) [
+  | DataWrite w bytes is ↦
+      let number : slice_get start_numbers i ≡ Some w.raw = number_at s p k i r got ∙ ap (λ (x : Request). Some (raw_of x)) is in
+      let small = ltb-true w.raw 127 (all_at (λ (n : ℕ). nat_lt n 127) start_numbers i w.raw refl number) in
+      Away (rw (same, is) (write_away blocks raw w bytes (λ e. omega (arith, e, small, large))))
+]
+gives_so s k raw blocks plan waiting outs t large waits (Checks3 p planned at same) = AtCheck3 at (ap (λ (x : Task). x.request) same)
+gives_so s k raw blocks plan waiting outs t large waits (Lists3 at failed same) = Away (rw same refl)
+gives_so s k raw blocks plan waiting outs t large waits (Checks4 at checked same) =
+    let e = ap (λ (x : Task). x.phase) same in AtCheck4 (omega (arith, at)) (omega (arith, e))
+gives_so s k raw blocks plan waiting outs t large waits (Lists4 at failed same) = Away (rw same refl)
+gives_so s k raw blocks plan waiting outs t large waits (OfWaiting j at ready got) =
+    let e = waits j t got in AtCheck4 (omega (arith, at)) (omega (arith, e))
+
 module _ (s : Known) (k : ℕ) (blocks : List Block) (plan : Option PlanView) (waiting : List Task) (phase : ℕ) (low : phase ≤ 2) (waits : AreWaiting waiting) where
   is_check : (b : Begun) (t : Task) (older : List Begun) (tasks : List Task) → IsBegunTask s k plan waiting phase b t older tasks → (are_away 127 (given_by blocks b.request) ≡ true → ⊥) → length older ≡ reads_count (member s k) + 11
-  is_check b t older tasks begun gives = by begun.task
-    where
-      away : (r : Request) → t.request ≡ r → are_away 127 (given_by blocks r) ≡ true → ⊥
-      away r is all = gives (ap (λ (x : Request). are_away 127 (given_by blocks x)) (begun.asks ∙ is) ∙ all)
-
-      asked : (n : ℕ) (r : Request) → t ≡ startup n r → t.request ≡ r
-      asked n r same = ap (λ (x : Task). x.request) same
-
-      early : (n : ℕ) (r : Request) → t ≡ startup n r → n ≤ 2
-      early n r same = let e : t.phase ≡ n = ap (λ (x : Task). x.phase) same in let le = begun.early in omega (arith, e, le, low)
-
-      writes_away : (p : PlanView) (i : ℕ) (r : Request) → slice_get (writes s p k) i ≡ Some r → IsDataWrite r → are_away 127 (given_by blocks r) ≡ true
-      writes_away p i r got (DataWrite w bytes is) =
-          let number : slice_get start_numbers i ≡ Some w.raw = number_at s p k i r got ∙ ap (λ (x : Request). Some (raw_of x)) is in
-          let other = not-true (w.raw == 127) (all_at (λ (n : ℕ). not (n == 127)) start_numbers i w.raw refl number) in
-          ap (λ (x : Request). are_away 127 (given_by blocks x)) is ∙ write_away blocks 127 w bytes (λ e. false≢true (sym other ∙ eq-eqb w.raw 127 e))
-
-      by : IsTask s k begun.by_then waiting (outcomes_in older) t → length older ≡ reads_count (member s k) + 11
-      by (OfReads r less got same) = absurd (away r (asked 2 r same) (reading_away blocks 127 r (all_at is_reading (reads (member s k)) (length (outcomes_in older)) r (attributes_read ((member s k).at ++ (member s k).mdt)) got)))
-      by (OfWrites p i r planned less at got same) = absurd (away r (asked 2 r same) (writes_away p i r got (all_data_writes s p k i r got)))
-      by (Checks3 p planned at same) = sym begun.ended ∙ at
-      by (Lists3 at failed same) = absurd (away (request.Read (idn 21) 7) (asked 2 (request.Read (idn 21) 7) same) refl)
-      by (Checks4 at checked same) = let n = early 3 (request.Command (idn 128)) same in absurd (omega (arith, n))
-      by (Lists4 at failed same) = let n = early 3 (request.Read (idn 22) 7) same in absurd (omega (arith, n))
-      by (OfWaiting j at ready got) = let late = begun.early in let four = waits j t got in absurd (omega (arith, late, four, low))
+  is_check b t older tasks begun gives =
+      elim (gives_so s k 127 blocks begun.by_then waiting (outcomes_in older) t (omega arith) waits begun.task) [
+        | Away all ↦ absurd (gives (ap (λ (x : Request). are_away 127 (given_by blocks x)) begun.asks ∙ all))
+        | AtCheck3 at is ↦ sym begun.ended ∙ at
+        | AtCheck4 long late ↦ let early = begun.early in absurd (omega (arith, late, early, low))
+      ]
 
   begun_by_split : (newer : List Begun) (one : Begun) (older : List Begun) (tasks : List Task) → AreBegunTasks s k plan waiting phase (newer ++ one ∷ older) tasks → (are_away 127 (given_by blocks one.request) ≡ true → ⊥) → reads_count (member s k) + 11 < length (newer ++ one ∷ older)
   begun_by_split [] one older [] are gives = absurd are

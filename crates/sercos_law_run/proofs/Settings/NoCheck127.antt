@@ -11,7 +11,9 @@ use Rattle.sercos_law_run.proofs.Settings.WellSets.{IsWellSet}
 use Rattle.sercos_law_run.proofs.Cited.{check127_has_cause, tasks_end}
 
 -- the request whose outcome comes after those of the reads and the writes is the check
-is_127 : (s : Known) (k : ℕ) (plan : Option PlanView) (waiting : List Task) (b : Begun) (older : List Begun) (t : Task) → b.request ≡ t.request → length (outcomes_in older) ≡ reads_count (member s k) + 11 → IsTask s k plan waiting (outcomes_in older) t → b.request ≡ request.Command (idn 127)
+pub is_127 : (s : Known) (k : ℕ) (plan : Option PlanView) (waiting : List Task) (b : Begun) (older : List Begun) (t : Task)
+    → b.request ≡ t.request → length (outcomes_in older) ≡ reads_count (member s k) + 11 → IsTask s k plan waiting (outcomes_in older) t
+    → b.request ≡ request.Command (idn 127)
 is_127 s k plan waiting b older t asks long (OfReads r less got same) = absurd (omega (arith, long, less))
 is_127 s k plan waiting b older t asks long (OfWrites p i r planned less at got same) = absurd (omega (arith, long, less, at))
 is_127 s k plan waiting b older t asks long (Checks3 p planned at same) = asks ∙ ap (λ (x : Task). x.request) same

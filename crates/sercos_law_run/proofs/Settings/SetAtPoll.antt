@@ -41,15 +41,14 @@ module _ (idn : Idn) (blocks : List Block) where
       ∙ ap (λ (v : Bool). if v then Some (3 ∷ 0 ∷ []) else newest_to idn.raw (writes_of log)) (eq-eqb idn.raw idn.raw refl)
 
   pub set_at_poll : (e : Entry) (entries log : List Entry) (bytes : List ℕ) → IsTransfer (request.Command idn) blocks e entries log → outcome_of (request.Command idn) (replies_of (e ∷ entries)) ≡ Some (outcome.Complete bytes) → IsSetAtPoll idn.raw e entries log
-  set_at_poll e entries log bytes is complete = by (ends_with_status idn bytes blocks e entries log is complete)
-    where
-      by : GivesStatus idn.raw bytes (e ∷ entries) → IsSetAtPoll idn.raw e entries log
-      by (cancel, poll, before, split, reads, element, gives) =
-          let behind : entries ≡ poll ∷ before = (first_is e cancel entries (poll ∷ before) split).1 in
-          let whole = subst (λ (l : List Entry). IsTransfer (request.Command idn) blocks e l log) behind is in
-          record {
-            poll = poll;
-            before = before;
-            behind = behind;
-            newest = set_poll e poll before log whole reads (longer idn blocks poll before log (without_newest (request.Command idn) blocks log e poll before whole) reads);
-          }
+  set_at_poll e entries log bytes is complete =
+      let (cancel, poll, before, split, reads, element, gives) = ends_with_status idn bytes blocks e entries log is complete in
+      let behind : entries ≡ poll ∷ before = (first_is e cancel entries (poll ∷ before) split).1 in
+      let whole = subst (λ (l : List Entry). IsTransfer (request.Command idn) blocks e l log) behind is in
+      record {
+        poll = poll;
+        before = before;
+        behind = behind;
+        newest = set_poll e poll before log whole reads
+            (longer idn blocks poll before log (without_newest (request.Command idn) blocks log e poll before whole) reads);
+      }

@@ -1,38 +1,21 @@
 -- A drive accepts a setting of the check for phase 3 in phase 2 alone, and after the check has been begun.
-use Rattle.sercos_law_run.proofs.Words.{◌≡◌, ℕ, Bool, true, false, List, [], ◌∷◌, length, refl, sym, ap, ◌∙◌, subst, arith, if◌then◌else◌, ◌==◌, Option, Some, None, IfSome, option_map, option_and_then, then_some, and_parts, eqb-true, false≢true, beq, none_of-or, none_of-then, Attribute, Request, Block, is_fixed, is_protected, find_block, write_fault, data_fault, put_fault, Processed, ahs, open_idn, run_before, reply_of, log_of, Write, written_by, with_added, writes_of, adds, added_on, takes_effect, Begun, step_at, step_or_none, master_says, View, standing, stood_in, record_in, processed_in, with_record, kept_in, command, command_in, with_heard, with_begun, unless_restart, epoch_begun, epoch_records, begun_in, log_in, write_of, AreSound, AreSmall, AreExact, Processes, Nothing, Record, processes, processed_phase, said_of, written, kept_same, Laws, cycle_exact, AreAllowed, those_kept, those_since, those_moved, IsProtectedLater}
+use Rattle.sercos_law_run.proofs.Words.{◌≡◌, ℕ, Bool, true, false, List, [], ◌∷◌, length, refl, sym, ap, ◌∙◌, subst, arith, if◌then◌else◌, ◌==◌, Option, Some, None, IfSome, option_map, option_and_then, then_some, and_parts, eqb-true, false≢true, beq, none_of-or, none_of-then, Attribute, Request, Block, is_fixed, is_protected, find_block, write_fault, data_fault, put_fault, Processed, ahs, open_idn, run_before, reply_of, log_of, Write, written_by, with_added, writes_of, adds, added_on, takes_effect, Begun, step_at, step_or_none, master_says, View, standing, stood_in, record_in, processed_in, with_record, kept_in, command, command_in, with_heard, with_begun, unless_restart, epoch_begun, epoch_records, begun_in, log_in, write_of, AreSound, AreSmall, AreExact, Processes, Nothing, Record, processes, processed_phase, said_of, written, kept_same, cycle_exact, those_kept, those_since, those_moved, IsProtectedLater, cases_Bool, inl, inr, allowed}
 use Rattle.sercos_step.specs.declared.request.Request.TheVariants as request
 use Rattle.sercos_service_master.specs.Begun.{Said}
 use Rattle.sercos_law_channel.specs.Handshake.Runs.{IsRun}
 use Rattle.sercos_law_run.proofs.Settings.Givers.{IsGiven, gives_newest, given_heard}
-
--- if a write isn't refused, the block isn't write protected
-pub bare : (o : Option Block) (phase : ℕ) (bytes : List ℕ) (a : Attribute) → option_map (λ (b : Block). b.attribute) o ≡ Some a → put_fault o phase bytes ≡ None → is_protected a phase ≡ false
-bare None phase bytes a has none = absurd (cc)
-bare (Some b) phase bytes a has none =
-    let same : b.attribute ≡ a = cc in
-    let write = (none_of-or (write_fault (Some b) phase) (data_fault b bytes) none).0 in
-    ap (λ (x : Attribute). is_protected x phase) (sym same) ∙ none_of-then (is_protected b.attribute phase) 0x7005 (none_of-or (then_some (is_fixed b) 0x7004) (then_some (is_protected b.attribute phase) 0x7005) write).1
-
--- so the phase is 2, if the block is write protected in phases 3 and 4
-in_two : (a : Attribute) (phase : ℕ) → a.protect3 ≡ true → a.protect4 ≡ true → is_protected a phase ≡ false → phase ≡ 2
-in_two a phase three four off = by (phase == 2) (phase == 3) refl off
-  where
-    by : (two other : Bool) → (phase == 2) ≡ two → (if two then a.protect2 else (if other then a.protect3 else a.protect4)) ≡ false → phase ≡ 2
-    by true other is off = eqb-true phase 2 is
-    by false true is off = absurd (false≢true (sym off ∙ three))
-    by false false is off = absurd (false≢true (sym off ∙ four))
+use Rattle.sercos_law_run.proofs.Start.KeptLemmas.{bare, in_two}
 
 -- a write comes with a step of operation data
 writes_data : (t : Processed) (h : List Processed) (w : Write) → added_on t h ≡ Some w → (t.step.element == 7) ≡ true
 writes_data t h w is = dropped (beq t.mhs (ahs h)) is
   where
-    effect : (v : Bool) → takes_effect (record { processed = t; answer = reply_of t (log_of h) }) ≡ v → (if v then option_and_then (written_by t (run_before true 7 (log_of h))) (open_idn (log_of h)) else None) ≡ Some w → (t.step.element == 7) ≡ true
-    effect true on is = (and_parts (t.step.element == 7) _ (and_parts t.step.write _ on).1).0
-    effect false on is = absurd (cc)
-
     dropped : (v : Bool) → (if v then None else adds t (log_of h)) ≡ Some w → (t.step.element == 7) ≡ true
     dropped true is = absurd (cc)
-    dropped false is = effect (takes_effect (record { processed = t; answer = reply_of t (log_of h) })) refl is
+    dropped false is = elim (cases_Bool (takes_effect (record { processed = t; answer = reply_of t (log_of h) }))) [
+      | inl on ↦ (and_parts (t.step.element == 7) _ (and_parts t.step.write _ on).1).0
+      | inr on ↦ let is = rw on at is in absurd (cc)
+    ]
 
 -- each request begins with its opening, and that writes element 1
 opens_first : (r : Request) → (step_or_none (step_at r [])).element ≡ 1
@@ -46,11 +29,10 @@ none_begins None begun seven = refl
 none_begins (Some r) begun seven = let e : 1 ≡ 7 = sym (opens_first r) ∙ eqb-true (master_says (with_begun (Some r) begun)).step.element 7 seven in absurd (omega (arith, e))
 
 going : (v : View) (past : List View) (begun : List Begun) → v.phase ≡ 2 → v.phase ≡ command_in v past → (unless_restart v begun ≡ begun) × (command past ≡ 2)
-going v past begun two commanded = by v.master_restarts (sym commanded ∙ two)
-  where
-    by : (r : Bool) → (if r then 0 else command past) ≡ 2 → ((if r then [] else begun) ≡ begun) × (command past ≡ 2)
-    by true is = absurd (omega (arith, is))
-    by false is = (refl, is)
+going v past begun two commanded = elim (cases_Bool v.master_restarts) [
+  | inl on ↦ absurd (omega (arith, (rw on at (sym commanded ∙ two))))
+  | inr off ↦ rw off (refl, (rw off at (sym commanded ∙ two)))
+]
 
 -- What a setting of the check for phase 3 says of its cycle: phase 2 is commanded, the write isn't refused, and a request that was
 -- begun in this epoch, before the cycle, gives something to the check's identifier number.
@@ -60,7 +42,7 @@ pub record IsSetIn (blocks : List Block) (v : View) (past : List View) (w : Writ
   pub two : command past ≡ 2
   pub given : IsGiven blocks (epoch_begun past) w.raw
 
-module _ (allowed : AreAllowed) (laws : Laws) (busy : ℕ) (blocks : List Block) (small : AreSmall blocks) (v : View) (past : List View) (run : IsRun busy (v ∷ past)) (sound : AreSound blocks (v ∷ past)) where
+module _ (busy : ℕ) (blocks : List Block) (small : AreSmall blocks) (v : View) (past : List View) (run : IsRun busy (v ∷ past)) (sound : AreSound blocks (v ∷ past)) where
   pub set_in : (w : Write) → IsProtectedLater v.blocks w.raw → write_of (processed_in v past) (kept_in v past) ≡ Some w → IsSetIn blocks v past w
   set_in w (a, has, second, third, fourth) is = by (processes v past)
     where
@@ -99,4 +81,4 @@ module _ (allowed : AreAllowed) (laws : Laws) (busy : ℕ) (blocks : List Block)
 
           gave : IsGiven blocks (epoch_begun past) w.raw
           gave = given_heard blocks v.heard (epoch_begun past) w.raw (subst (λ (l : List Begun). IsGiven blocks l w.raw) before
-              (gives_newest blocks (begun_in v past) (log_in v past) w _ (subst (AreExact blocks (begun_in v past) (log_in v past)) grown (cycle_exact blocks busy laws small v past run sound))))
+              (gives_newest blocks (begun_in v past) (log_in v past) w _ (subst (AreExact blocks (begun_in v past) (log_in v past)) grown (cycle_exact blocks busy small v past run sound))))

@@ -1,5 +1,5 @@
 -- At each MST's place the settings are what the records since the drive was last in phase 0 left.
-use Rattle.sercos_law_run.proofs.Words.{◌≡◌, Bool, true, false, List, [], ◌∷◌, refl, sym, ◌∙◌, subst, if◌then◌else◌, ◌==◌, Option, SetCommand, CommandHistory, set_in, Processed, added_on, commands_with, View, standing, stood_in, processed_in, with_record, kept_unless, since_reset, kept_in, write_of, Processes, Nothing, Record, processes, AreSetBy, settings_left, SettingsFollow, SetByKept}
+use Rattle.sercos_law_run.proofs.Words.{◌≡◌, Bool, true, false, List, [], ◌∷◌, refl, sym, ◌∙◌, subst, if◌then◌else◌, ◌==◌, Option, SetCommand, CommandHistory, set_in, Processed, added_on, commands_with, View, standing, stood_in, processed_in, with_record, kept_unless, since_reset, kept_in, write_of, Processes, Nothing, Record, processes, AreSetBy, settings_left, SettingsFollow, SetByKept, cases_Bool, inl, inr}
 
 -- settings that these records left; only the settings matter
 abbrev AreLeft : List Processed → List SetCommand → Type 0
@@ -24,7 +24,10 @@ kept_set v past follow before = by (stood_in v (standing past) == 0) v.drive_res
 
 since_set : (past : List View) → SettingsFollow past → AreLeft (since_reset past) (settings_left past)
 since_set [] follow = refl
-since_set (v ∷ past) follow = by ((standing (v ∷ past)).ended == 0) (kept_set v past follow (since_set past follow.0))
+since_set (v ∷ past) follow = elim (cases_Bool ((standing (v ∷ past)).ended == 0)) [
+  | inl on ↦ rw on
+  | inr off ↦ rw off (taken (kept_set v past follow (since_set past follow.0)) (processes v past))
+]
   where
     taken : AreSetBy (kept_in v past) v.commands → Processes v past → AreLeft (with_record (processed_in v past) (kept_in v past)) (set_in (commands_with (write_of (processed_in v past) (kept_in v past)) v.blocks v.commands))
     taken at (Nothing none) =
@@ -32,10 +35,6 @@ since_set (v ∷ past) follow = by ((standing (v ∷ past)).ended == 0) (kept_se
         (left_by (kept_in v past) v.commands at)
     taken at (Record s got came two some) =
         subst (λ (o : Option Processed). AreLeft (with_record o (kept_in v past)) (set_in (commands_with (write_of o (kept_in v past)) v.blocks v.commands))) (sym some) (at, refl)
-
-    by : (zero : Bool) → AreSetBy (kept_in v past) v.commands → AreLeft (if zero then [] else with_record (processed_in v past) (kept_in v past)) (if zero then [] else set_in (commands_with (write_of (processed_in v past) (kept_in v past)) v.blocks v.commands))
-    by true at = refl
-    by false at = taken at (processes v past)
 
 pub set_by_kept : SetByKept
 set_by_kept v past follow = kept_set v past follow (since_set past follow.0)

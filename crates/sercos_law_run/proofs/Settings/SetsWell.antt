@@ -1,5 +1,5 @@
 -- In a ring whose plan fits, a check for phase 3 that is set in a cycle ends well.
-use Rattle.sercos_law_run.proofs.Words.{◌≡◌, ℕ, ◌+◌, ◌<◌, ◌≤◌, true, List, [], ◌∷◌, map, length, refl, sym, ap, ◌∙◌, subst, arith, ◌==◌, Some, None, slice_get, slice_get-get_or, length-map, Idn, Job, PlanView, IsValid, Fits, Block, find_block, with_data, put_fault, store_of, IsStore, is_ring, wishes_of, blocks_fault, DriveView, RingView, unfit_for_phase_3, ends_well, Begun, begun_by, CycleView, member, member_of, known_of, tasks_for, reads_count, writes, AreWaiting, all_waiting, Past, Carry, Restarts, IsStoreOf, Holds, start_up, NoneOf, IsProtectedLater, AreProtectedLater, AreStoredWhole, View, command, epoch_begun, AreSound, AreSmall, store_in, drive_at, master_calls, looks_back, AreBegunTasks, IsConfigured, IsWrittenLast, view_of, views_of, SetsWell, transfers, written_stays, allowed}
+use Rattle.sercos_law_run.proofs.Words.{◌≡◌, ℕ, ◌+◌, ◌<◌, ◌≤◌, true, List, [], ◌∷◌, map, length, refl, sym, ap, ◌∙◌, subst, arith, ◌==◌, Some, None, slice_get, slice_get-get_or, length-map, Idn, Job, PlanView, IsValid, Fits, Block, find_block, with_data, put_fault, store_of, IsStore, is_ring, wishes_of, blocks_fault, DriveView, RingView, unfit_for_phase_3, ends_well, Begun, begun_by, CycleView, member, member_of, known_of, tasks_for, reads_count, writes, AreWaiting, all_waiting, Past, Carry, Restarts, IsStoreOf, Holds, start_up, NoneOf, IsProtectedLater, AreProtectedLater, AreStoredWhole, View, command, epoch_begun, AreSound, AreSmall, store_in, drive_at, master_calls, looks_back, AreBegunTasks, IsConfigured, IsWrittenLast, view_of, views_of, SetsWell, written_stays}
 use Rattle.sercos_step.specs.declared.request.Request.TheVariants as request
 use Rattle.sercos_law_run.specs.Start.Held.{written_by}
 use Rattle.sercos_law_run.proofs.Start.CheckPasses.{ring_drive}
@@ -72,7 +72,7 @@ module _ (r : RingView) (jobs : List Job) (carry : Carry) (restarts : Restarts) 
   pub sets_well : SetsWell v past
   sets_well w is raw sets =
       let guard = subst (IsProtectedLater v.blocks) (sym raw) (checks_are_protected d v.blocks rules is_of).0 in
-      let at = set_in allowed transfers d.busy (store_of d) small v past after.run sound w guard is in
+      let at = set_in d.busy (store_of d) small v past after.run sound w guard is in
       let tasks : AreBegunTasks (known_of r) k p.plan (p.waiting k) p.now.phase (epoch_begun past) (p.tasks k) = subst (λ (l : List Begun). AreBegunTasks (known_of r) k p.plan (p.waiting k) p.now.phase l (p.tasks k)) sees.master.begun_are
       (begins_tasks (known_of r) (tasks_for (known_of r) jobs) (master_calls r carry restarts j) k place) in
       let low : p.now.phase ≤ 2 = let e = sees.master.phase_is in let two = at.two in omega (arith, e, two) in

@@ -1,15 +1,11 @@
 -- The settings at a drive's MST's place are what the cycle before left.
-use Rattle.sercos_law_run.proofs.Words.{◌≡◌, ◌⊎◌, inl, inr, ℕ, Bool, true, false, List, [], ◌∷◌, Option, Some, None, refl, ap, ◌∙◌, if◌then◌else◌, ◌==◌, nat_le, ◌&&◌, SetCommand, Reset, CommandHistory, with_call, set_in, Processed, commands_with, commands_after, reset_in, View, standing, stood_in, record_in, processed_of, processed_in, kept_in, write_of, commands_left, settings_left, SettingsFollow, commands_before, commands_ended, CommandsFollow, KeepsSettings}
+use Rattle.sercos_law_run.proofs.Words.{◌≡◌, ◌⊎◌, inl, inr, ℕ, Bool, true, false, List, [], ◌∷◌, Option, Some, None, refl, ap, ◌∙◌, if◌then◌else◌, ◌==◌, nat_le, ◌&&◌, SetCommand, Reset, CommandHistory, with_call, set_in, Processed, commands_with, commands_after, reset_in, View, standing, stood_in, record_in, processed_of, processed_in, kept_in, write_of, commands_left, settings_left, SettingsFollow, commands_before, commands_ended, CommandsFollow, KeepsSettings, cases_Bool}
 use Rattle.sercos_service_master.specs.Begun.{Said}
 use Rattle.sercos_law_run.proofs.Settings.Histories.{reset_if}
 
 -- in phase 0, and after a restart
 set_reset : (phase : ℕ) (c : CommandHistory) → set_in (reset_in phase c) ≡ (if phase == 0 then [] else set_in c)
-set_reset phase c = by (phase == 0)
-  where
-    by : (v : Bool) → set_in (reset_if v c) ≡ (if v then [] else set_in c)
-    by true = refl
-    by false = refl
+set_reset phase c = elim (cases_Bool (phase == 0)) [ inl on ↦ rw on | inr off ↦ rw off ]
 
 set_restarted : (restarts : Bool) (c : CommandHistory) → set_in (if restarts then with_call Reset c else c) ≡ (if restarts then [] else set_in c)
 set_restarted true c = refl
@@ -33,11 +29,7 @@ settings_follow c (v ∷ past) none follow = (
 -- a record that was processed was processed on the blocks and with the commands of the cycle
 pub commands_same : (v : View) (cycle stood : ℕ) (o : Option Said) (h : List Processed) → commands_after (processed_of v cycle stood o) h v.commands ≡ commands_with (write_of (processed_of v cycle stood o) h) v.blocks v.commands
 commands_same v cycle stood None h = refl
-commands_same v cycle stood (Some s) h = by (v.mst_comes && nat_le 2 stood)
-  where
-    by : (is : Bool) → commands_after (if is then Some (record_in v cycle stood s) else None) h v.commands ≡ commands_with (write_of (if is then Some (record_in v cycle stood s) else None) h) v.blocks v.commands
-    by true = refl
-    by false = refl
+commands_same v cycle stood (Some s) h = elim (cases_Bool (v.mst_comes && nat_le 2 stood)) [ inl on ↦ rw on | inr off ↦ rw off ]
 
 -- so at the MST's place of each cycle none is set, or those are that the cycle before left
 pub keeps_settings : (v : View) (past : List View) → SettingsFollow (v ∷ past) → KeepsSettings v past

@@ -1,10 +1,9 @@
 -- If each check for phase 3 was set well, each that is set ends well. The status that a complete one gives isn't that of a command
 -- that runs.
-use Rattle.sercos_law_run.proofs.Words.{◌≡◌, ◌⊎◌, inl, inr, ℕ, zero, suc, ◌-◌, ◌<◌, ◌≤◌, Bool, true, false, not, ◌&&◌, ◌||◌, List, [], ◌∷◌, ◌++◌, length, refl, sym, ap, ap₂, ◌∙◌, subst, arith, if◌then◌else◌, length-append, ◌==◌, Option, Some, None, is_some, slice_index, list_all, and_parts, cond_both, eqb-true, leb-true, nat_tests, Idn, Answer, bytes_in, a_step, polling, steps_of, result_of, is_whole, answer_words, outcome_of, Block, with_data, SetCommand, is_command, ends_well, has_ended, status_by, Wrote, Other, CommandHistory, with_call, status_in, find_set, without, with_set, set_in, Write, command_value, commands_with, View, processed_in, kept_in, write_of, is_well_set, are_well_set, AreSetWell, StandWell}
+use Rattle.sercos_law_run.proofs.Words.{◌≡◌, ◌⊎◌, inl, inr, ℕ, zero, suc, ◌-◌, ◌<◌, ◌≤◌, Bool, true, false, not, ◌&&◌, ◌||◌, List, [], ◌∷◌, ◌++◌, length, refl, sym, ap, ap₂, ◌∙◌, subst, arith, if◌then◌else◌, length-append, ◌==◌, Option, Some, None, is_some, slice_index, list_all, and_parts, cond_both, eqb-true, leb-true, nat_tests, Idn, Answer, bytes_in, a_step, polling, steps_of, result_of, is_whole, answer_words, outcome_of, Block, with_data, SetCommand, is_command, ends_well, has_ended, status_by, Wrote, Other, CommandHistory, with_call, status_in, find_set, without, with_set, set_in, Write, command_value, commands_with, View, processed_in, kept_in, write_of, is_well_set, are_well_set, AreSetWell, StandWell, cases_Bool}
 use Rattle.sercos_step.specs.declared.request.Request.TheVariants as request
 use Rattle.sercos_step.specs.declared.request.Outcome.TheVariants as outcome
 use Rattle.sercos_step.specs.Steps.{AreAnswers}
-use Rattle.sercos_law_run.proofs.Settings.Histories.{status_set}
 
 -- THE SETTINGS
 without_well : (raw : ℕ) (set : List SetCommand) → list_all is_well_set set ≡ true → list_all is_well_set (without raw set) ≡ true
@@ -57,8 +56,8 @@ stand_well (v ∷ u ∷ past) are =
       ],
     )
 
--- the setting that is found, and its status
-found_well : (set : List SetCommand) (s : SetCommand) → list_all is_well_set set ≡ true → find_set 127 set ≡ Some s → s.well ≡ true
+-- the setting that is found
+pub found_well : (set : List SetCommand) (s : SetCommand) → list_all is_well_set set ≡ true → find_set 127 set ≡ Some s → s.well ≡ true
 found_well [] s all found = absurd (cc)
 found_well (x ∷ set) s all found = by (x.idn.raw == 127) refl found (found_well set s parts.1)
   where
@@ -68,21 +67,6 @@ found_well (x ∷ set) s all found = by (x.idn.raw == 127) refl found (found_wel
     by : (v : Bool) → (x.idn.raw == 127) ≡ v → (if v then Some x else find_set 127 set) ≡ Some s → (find_set 127 set ≡ Some s → s.well ≡ true) → s.well ≡ true
     by true on found more = let same : x ≡ s = cc in ap (λ (y : SetCommand). y.well) (sym same) ∙ (sym (ap (λ (v : Bool). not v || x.well) on) ∙ parts.0)
     by false off found more = more found
-
--- its status is 3, or 7 while it runs, if the check is set at all
-pub well_status : (c : CommandHistory) (cycle : ℕ) → are_well_set c ≡ true → (find_set 127 (set_in c) ≡ None) ⊎ ((status_in c 127 cycle ≡ 3) ⊎ (status_in c 127 cycle ≡ 7))
-well_status c cycle all = rw (status_set c 127 cycle) (by (find_set 127 (set_in c)) refl)
-  where
-    by : (o : Option SetCommand) → find_set 127 (set_in c) ≡ o → (o ≡ None) ⊎ ((status_by c.time o cycle ≡ 3) ⊎ (status_by c.time o cycle ≡ 7))
-    by None is = inl refl
-    by (Some s) is = inr (which (has_ended c.time cycle s))
-      where
-        ended_as : Bool → ℕ
-        ended_as w = if w then 3 else 15
-
-        which : (v : Bool) → ((if v then ended_as s.well else 7) ≡ 3) ⊎ ((if v then ended_as s.well else 7) ≡ 7)
-        which true = inl (ap ended_as (found_well (set_in c) s all is))
-        which false = inr refl
 
 -- THE STATUS of a complete command isn't 7.
 last_word : ℕ → List ℕ → ℕ
@@ -94,11 +78,7 @@ unfolding last_word
 polls_end x [] c going whole seven = by (x == 7) refl whole
   where
     by : (v : Bool) → (x == 7) ≡ v → length (a_step false true 1 0 ∷ (if v then a_step false true 1 0 ∷ (if c == 7 then a_step false true 1 0 ∷ [] else a_step true true 7 0 ∷ []) else a_step true true 7 0 ∷ [])) ≤ 2 → ⊥
-    by true on whole = two (c == 7) whole
-      where
-        two : (w : Bool) → length (a_step false true 1 0 ∷ a_step false true 1 0 ∷ (if w then a_step false true 1 0 ∷ [] else a_step true true 7 0 ∷ [])) ≤ 2 → ⊥
-        two true less = omega (arith, less)
-        two false less = omega (arith, less)
+    by true on whole = elim (cases_Bool (c == 7)) [ inl on ↦ omega (arith, (rw on at whole)) | inr off ↦ omega (arith, (rw off at whole)) ]
     by false off whole = let on : (x == 7) ≡ true = ap (λ (n : ℕ). n == 7) seven in cc
 polls_end x (y ∷ words) c going whole seven = by (x == 7) going whole (λ a b. polls_end y words c a b seven)
   where
@@ -132,22 +112,25 @@ complete_status i a h bytes are complete = by_error a.error complete
 
         on : (g : List Answer) → answer_words g ≡ words → outcome_of (request.Command i) g ≡ None → (words ≡ []) ⊎ (length words < length (steps_of (request.Command i) words))
         on [] is none = inl (sym is)
-        on (b ∷ g) is none = inr (subst (λ (ws : List ℕ). length ws < length (steps_of (request.Command i) ws)) is (error b.error none))
-          where
-            error : (v : Bool) → (if v then Some (outcome.Refused (record { raw = b.word })) else (if is_whole (request.Command i) (answer_words (b ∷ g)) then Some (outcome.Complete (result_of (request.Command i) (answer_words (b ∷ g)))) else None)) ≡ None →
-                length (answer_words (b ∷ g)) < length (steps_of (request.Command i) (answer_words (b ∷ g)))
-            error true none = absurd (cc)
-            error false none = not_whole (answer_words (b ∷ g)) (is_whole (request.Command i) (answer_words (b ∷ g))) refl none
+        on (b ∷ g) is none = inr (subst (λ (ws : List ℕ). length ws < length (steps_of (request.Command i) ws)) is
+            (elim (cases_Bool b.error) [
+              | inl bad ↦ let none = rw bad at none in absurd (cc)
+              | inr off ↦ not_whole (answer_words (b ∷ g)) (is_whole (request.Command i) (answer_words (b ∷ g))) refl (rw off at none)
+            ]))
 
     ends : (words : List ℕ) → answer_words h ≡ words → length (steps_of (request.Command i) (words ++ a.word ∷ [])) ≤ length (words ++ a.word ∷ []) → (x : ℕ) × (result_of (request.Command i) (words ++ a.word ∷ []) ≡ bytes_in (x ∷ [])) × (x ≡ 7 → ⊥)
     ends [] is whole = absurd (omega (arith, whole))
     ends (p ∷ []) is whole = absurd (omega (arith, whole))
-    ends (p ∷ q ∷ []) is whole = absurd (first (a.word == 7) whole)
-      where
-        first : (v : Bool) → suc (suc (length (a_step false true 1 0 ∷ (if v then a_step false true 1 0 ∷ [] else a_step true true 7 0 ∷ [])))) ≤ 3 → ⊥
-        first true less = omega (arith, less)
-        first false less = omega (arith, less)
-    ends (p ∷ q ∷ x ∷ words) is whole = (last_word x words, ap (λ (n : ℕ). bytes_in (n ∷ [])) at, λ seven. polls_end x words a.word going shorter seven)
+    ends (p ∷ q ∷ []) is whole = absurd (elim (cases_Bool (a.word == 7)) [
+      | inl on ↦ omega (arith, (rw on at whole))
+      | inr off ↦ omega (arith, (rw off at whole))
+    ])
+    ends (p ∷ q ∷ x ∷ words) is whole = (
+      last_word x words,
+      ap (λ (n : ℕ). bytes_in (n ∷ [])) at,
+      λ seven. polls_end x words a.word going
+          (let l = long in omega (arith, whole)) seven,
+    )
       where
         long : length (words ++ a.word ∷ []) ≡ suc (length words)
         long = let e = length-append words (a.word ∷ []) in omega arith
@@ -157,9 +140,6 @@ complete_status i a h bytes are complete = by_error a.error complete
 
         going : suc (length words) < length (polling (x ∷ words))
         going = elim (goes_on (p ∷ q ∷ x ∷ words) is) [ inl none ↦ absurd (cc) | inr less ↦ omega (arith, less) ]
-
-        shorter : length (polling (x ∷ words ++ a.word ∷ [])) ≤ suc (suc (length words))
-        shorter = let l = long in omega (arith, whole)
 
     by_error : (v : Bool) → (if v then Some (outcome.Refused (record { raw = a.word })) else (if is_whole (request.Command i) (answer_words h ++ a.word ∷ []) then Some (outcome.Complete (result_of (request.Command i) (answer_words h ++ a.word ∷ []))) else None)) ≡ Some (outcome.Complete bytes) →
         (x : ℕ) × (bytes ≡ bytes_in (x ∷ [])) × (x ≡ 7 → ⊥)

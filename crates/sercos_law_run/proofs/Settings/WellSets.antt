@@ -1,23 +1,22 @@
 -- In a run of a ring whose plan fits, in which nothing is unseen, each check for phase 3 is set well.
-use Rattle.sercos_law_run.proofs.Words.{◌≡◌, ℕ, ◌<◌, ◌≤◌, true, false, List, [], ◌∷◌, length, refl, ap, ◌∙◌, Option, Some, None, option_map, unwrap_or, slice_get-get_or, Attribute, Job, PlanView, IsValid, Fits, Block, is_ring, wishes_of, blocks_fault, find_block, store_of, IsStore, DriveView, RingView, is_command, open_in, begun_by, phase_in, blocks_in, CycleView, known_of, tasks_for, AreWaiting, is_done, Carry, Restarts, IsStoreOf, AreSound, AreSmall, drive_at, master_calls, looks_back, behind_mdt, after_mst, view_of, views_of, IsSpelled, HaveStores, AreSetWell, SettingsFollow, attribute_fault, attribute_of, block_attribute, built_in_attribute, row_in, attribute_in}
+use Rattle.sercos_law_run.proofs.Words.{◌≡◌, ℕ, ◌<◌, ◌≤◌, true, false, List, [], ◌∷◌, length, refl, ap, ◌∙◌, Option, Some, None, option_map, unwrap_or, slice_get-get_or, Attribute, Job, PlanView, IsValid, Fits, Block, is_ring, wishes_of, blocks_fault, find_block, store_of, IsStore, DriveView, RingView, is_command, open_in, begun_by, phase_in, blocks_in, CycleView, known_of, tasks_for, AreWaiting, is_done, Carry, Restarts, IsStoreOf, AreSound, AreSmall, drive_at, master_calls, looks_back, behind_mdt, after_mst, view_of, views_of, IsSpelled, HaveStores, AreSetWell, SettingsFollow, attribute_fault, attribute_of, block_attribute, built_in_attribute, row_in, attribute_in, cases_Option, inl, inr}
 use Rattle.sercos_law_run.proofs.Start.BlockFinds.{same_attribute}
 use Rattle.sercos_law_run.proofs.Start.CheckPasses.{ring_drive}
 use Rattle.sercos_law_run.specs.Journal.Runs.{IsNext as IsNextCycle}
 use Rattle.sercos_law_run.proofs.Views.Received.{Agrees}
 use Rattle.sercos_law_run.proofs.Views.ViewRuns.{Sees, at_mst, sees_next}
 use Rattle.sercos_law_run.proofs.Settings.SettingsRuns.{keeps_settings, settings_follow}
-use Rattle.sercos_law_run.proofs.Undisturbed.Checks.CommandRuns.{AreCommandsSo, commands_first, commands_next, first_commands}
+use Rattle.sercos_law_run.proofs.Undisturbed.Checks.CommandRuns.{AreCommandsSo, commands_next, first_commands}
 use Rattle.sercos_law_run.proofs.Settings.SetsWell.{sets_well}
 
 -- S-0-0127 is a procedure command of each drive
 pub is_command_127 : (d : DriveView) (blocks : List Block) → blocks_fault [] d.blocks ≡ None → IsStoreOf d blocks → is_command blocks 127 ≡ true
 unfolding block_attribute built_in_attribute row_in attribute_in attribute_fault attribute_of
 is_command_127 d blocks none is =
-    known (find_block 127 blocks) ∙ ap (λ (o : Option Attribute). unwrap_or (option_map (λ (a : Attribute). a.command) o) false) (same_attribute 127 d blocks none is)
-  where
-    known : (o : Option Block) → unwrap_or (option_map (λ (b : Block). b.attribute.command) o) false ≡ unwrap_or (option_map (λ (a : Attribute). a.command) (option_map (λ (b : Block). b.attribute) o)) false
-    known None = refl
-    known (Some b) = refl
+    (elim (cases_Option (find_block 127 blocks)) [
+      | inl none ↦ rw none
+      | inr (b, some) ↦ rw some
+    ]) ∙ ap (λ (o : Option Attribute). unwrap_or (option_map (λ (a : Attribute). a.command) o) false) (same_attribute 127 d blocks none is)
 
 -- What holds of the drive at a place after a journal: its settings are those of its views, each check for phase 3 was set well, and
 -- S-0-0127 is a procedure command in each cycle.
@@ -28,7 +27,7 @@ pub record IsWellSet (r : RingView) (jobs : List Job) (carry : Carry) (restarts 
   pub commands : HaveStores (λ blocks. is_command blocks 127 ≡ true) (views_of r jobs carry restarts k j)
 
 pub well_first : (r : RingView) (jobs : List Job) (carry : Carry) (restarts : Restarts) (k : ℕ) → IsWellSet r jobs carry restarts k []
-well_first r jobs carry restarts k = record { set = commands_first r jobs carry restarts k; follow = tt; well = tt; commands = tt }
+well_first r jobs carry restarts k = record { set = record { follow = tt; behind = refl }; follow = tt; well = tt; commands = tt }
 
 module _ (r : RingView) (jobs : List Job) (carry : Carry) (restarts : Restarts) (valid : is_ring r ≡ true) (wishes : IsValid (wishes_of r))
     (waits : (i : ℕ) → AreWaiting (tasks_for (known_of r) jobs i)) (t : CycleView) (j : List CycleView)

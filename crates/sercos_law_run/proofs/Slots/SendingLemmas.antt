@@ -45,13 +45,10 @@ ats_of w (s ∷ sent) (a ∷ ats) last valid are kind =
     let P : Kind → Type 0 = λ k. IsInCycleBy k s.start s.bits in
     (rw (at, at_of w s a valid are.0, more) refl, rw (at, none) refl, rw (at, one) refl, All-cons IsInCycle s sent (subst P (sym at) (a.start, are.0.1)) cycle)
 
-mdt_same : (m : MdtSlot) (a b : ℕ) → a ≡ m.start → b ≡ m.bits → ◌≡◌ {A = MdtSlot} (record { start = a; bits = b; records = m.records }) m
-mdt_same m a b ea eb = rw (ea, eb) refl
-
 pub sends_slots : SendsSlots
 sends_slots w held ats mdt mst sent last valid is apart =
     let (are, none, one, cycle) = ats_of w sent ats last valid is.are_ats is.mdt_kind in
-    let slot : mdt_slot mdt.records last ≡ mdt = mdt_same mdt _ _ (ap bit_time is.mdt_start) is.mdt_bits in
+    let slot : mdt_slot mdt.records last ≡ mdt = rw ((ap bit_time is.mdt_start), is.mdt_bits) refl in
     let at_mst : ats_in w (mst ∷ (sent ++ last ∷ [])) ≡ ats = rw is.mst_kind are in
     let P : Kind → Type 0 = λ k. IsInCycleBy k mst.start mst.bits in
     let Q : Kind → Type 0 = λ k. IsInCycleBy k last.start last.bits in

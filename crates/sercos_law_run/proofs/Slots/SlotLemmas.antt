@@ -1,5 +1,5 @@
 -- The slots of a cycle are apart.
-use Rattle.sercos_law_run.proofs.Words.{◌≡◌, ℕ, suc, ◌+◌, ◌-◌, ◌*◌, ◌<◌, ◌≤◌, ◌⊎◌, inl, inr, max, Bool, true, false, List, map, length, take, drop, slice_index, slice_index_or, refl, sym, ap, ◌∙◌, arith, Option, Some, if◌then◌else◌, concat, length-map, mul-le-mul_left, Wish, WishesView, PlanView, times, sent, same_slave, at_bits, mdt_bits, bits_of, record_bytes, greatest_tmtsy, positions, Fits, IsValid, Among, among_greatest, AtSlot, MdtSlot, Held, mdt_content, slot_record, record_start, end_of, HasPause, HasRecovered, IsAtItsTime, IsServed, held_of, IsSentBefore, AreOnPlan, PlanKeepsApart}
+use Rattle.sercos_law_run.proofs.Words.{◌≡◌, ℕ, suc, ◌+◌, ◌-◌, ◌*◌, ◌<◌, ◌≤◌, ◌⊎◌, inl, inr, max, Bool, true, false, List, map, length, take, drop, slice_index, slice_index_or, refl, sym, ap, ◌∙◌, arith, Option, Some, if◌then◌else◌, concat, length-map, mul-le-mul_left, Wish, WishesView, PlanView, times, sent, same_slave, at_bits, mdt_bits, bits_of, record_bytes, greatest_tmtsy, positions, Fits, IsValid, Among, among_greatest, AtSlot, MdtSlot, Held, mdt_content, slot_record, record_start, end_of, HasPause, HasRecovered, IsAtItsTime, IsServed, held_of, IsSentBefore, AreOnPlan, PlanKeepsApart, cases_Bool}
 use Rattle.sercos_plan.proofs.ListedLemmas.{listed}
 use Rattle.sercos_law_run.proofs.Slots.Spacing.{IsSpaced, AreSpaced, spaced, either_first, after_mst, before_mdt, kept_at}
 use Rattle.sercos_law_run.proofs.Slots.Places.{place_from, place_within, places_apart, record_place_is, length_records, length_record, record_there}
@@ -42,17 +42,16 @@ in_turn w p s t sp hs ht before = elim (either_first w (bits_of w p.t1) (sent w)
     not_late a b a' b' n j k e f h (inr both) some = let same = both.0 in omega arith
 
 le_pause : (w : WishesView) (p : PlanView) (s t : AtSlot) → IsPlanned w p s → IsPlanned w p t → IsSpaced w (bits_of w p.t1) s.drive t.drive → HasPause w s t
-le_pause w p s t hs ht sp = by (same_slave w s.drive t.drive) refl
+le_pause w p s t hs ht sp = elim (cases_Bool (same_slave w s.drive t.drive)) [
+  | inl e ↦ rw e (none _ _ _ _ _ _ hs.start ht.start hs.bits sp.after)
+  | inr e ↦ rw e (some _ _ _ _ _ _ _ hs.start ht.start hs.bits (sp.gap e))
+]
   where
     none : (a n b a' n' b' : ℕ) → a ≡ a' → b ≡ b' → n ≤ n' → a' + n' ≤ b' → (a + n) + 0 ≤ b
     none a n b a' n' b' e f less h = omega arith
 
     some : (a n b a' n' b' g : ℕ) → a ≡ a' → b ≡ b' → n ≤ n' → a' + (n' + g) ≤ b' → (a + n) + g ≤ b
     some a n b a' n' b' g e f less h = omega arith
-
-    by : (same : Bool) → same_slave w s.drive t.drive ≡ same → end_of s + (if same then 0 else w.rate * w.gap) ≤ t.start
-    by true e = none _ _ _ _ _ _ hs.start ht.start hs.bits sp.after
-    by false e = some _ _ _ _ _ _ _ hs.start ht.start hs.bits (sp.gap e)
 
 le_recovered : (w : WishesView) (p : PlanView) (s t : AtSlot) → IsPlanned w p s → IsPlanned w p t → IsSpaced w (bits_of w p.t1) s.drive t.drive → HasRecovered w s t
 le_recovered w p s t hs ht sp same = some _ _ _ _ _ _ _ hs.start ht.start hs.bits (sp.recovered same)
@@ -97,7 +96,7 @@ served w p held ats mdt valid fits on k h within is =
       position = position ∙ sym (place k within);
       there = there_at mdt k h.position _ (position ∙ sym (place k within)) (length_record mdt.records w.drives k on.records within) (enough _ _ (count mdt.records w.drives on.records) within);
       mdt_len = one_more _ _ _ len (length_records mdt.records w.drives on.records);
-      inside = (from_one _ _ position first, up_to _ _ _ _ _ position len last);
+      inside = (omega arith, omega arith);
       apart = λ j in' other. rw (position, place j in') (places_apart 1 w.drives j k in' within other);
     }
   where
@@ -115,12 +114,6 @@ served w p held ats mdt valid fits on k h within is =
 
     one_more : (a b c : ℕ) → a ≡ b → c ≡ b → a + 1 ≡ suc c
     one_more a b c e f = omega arith
-
-    from_one : (a b : ℕ) → a ≡ b → 1 ≤ b → 1 ≤ a
-    from_one a b e h = omega arith
-
-    up_to : (a b n m m' : ℕ) → a ≡ b → m ≡ m' → b + n ≤ 1 + m' → a + n ≤ m + 1
-    up_to a b n m m' e f h = omega arith
 
 pub keeps_apart : PlanKeepsApart
 keeps_apart w p held ats mdt valid fits on =

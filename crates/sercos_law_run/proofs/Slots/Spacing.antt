@@ -15,9 +15,6 @@ AreSpaced w b (k ∷ before) = ((j : ℕ) → Among j before → IsSpaced w b j 
 at_same : (w : WishesView) (i j k : ℕ) → same_slave w i k ≡ true → same_slave w j k ≡ same_slave w j i
 at_same w i j k same = ap (λ s. (wish w j).slave == s) (sym (eqb-true (wish w i).slave (wish w k).slave same))
 
-same_for : (w : WishesView) (i j k : ℕ) (x : Bool) → j ≡ i → same_slave w i k ≡ x → same_slave w j k ≡ x
-same_for w i j k x e h = ap (λ l. same_slave w l k) e ∙ h
-
 -- the previous AT of the same slave ends no earlier than any other before it
 pub record IsLast (w : WishesView) (b : ℕ → ℕ) (j k : ℕ) (before : List ℕ) : Type 0 where
   pub last : ℕ
@@ -30,11 +27,8 @@ found_last w b j k i rest same later = record { last = i; is = rw same refl; lat
 last_of_slave : (w : WishesView) (b : ℕ → ℕ) (j k : ℕ) (before : List ℕ) → AreSpaced w b before → Among j before → same_slave w j k ≡ true → IsLast w b j k before
 last_of_slave w b j k [] spaced among same = absurd among
 last_of_slave w b j k (i ∷ rest) spaced (inl e) same =
-    let same' : same_slave w i k ≡ true = same_for w j i k true (sym e) same in
-    found_last w b j k i rest same' (at_end b (at_bits w) j i e)
-  where
-    at_end : (b c : ℕ → ℕ) (j i : ℕ) → j ≡ i → b j + c j ≤ b i + c i
-    at_end b c j i e = rw e (omega arith)
+    let same' : same_slave w i k ≡ true = ap (λ l. same_slave w l k) (sym e) ∙ same in
+    found_last w b j k i rest same' (rw e (omega arith))
 last_of_slave w b j k (i ∷ rest) spaced (inr h) same = elim (cases_Bool (same_slave w i k)) [
   | inl same' ↦ let here = (spaced.0 j h).after in found_last w b j k i rest same' (omega arith)
   | inr other ↦

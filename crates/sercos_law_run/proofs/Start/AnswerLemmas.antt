@@ -1,5 +1,5 @@
 -- From the answers of its drives the master asks of the plan what the ring asks.
-use Rattle.sercos_law_run.proofs.Words.{◌≡◌, ℕ, suc, ◌+◌, ◌<◌, ◌≤◌, ◌^◌, ◌==◌, nat_le, nat_lt, Bool, true, false, cond, List, [], ◌∷◌, ◌++◌, map, length, take, drop, Option, Some, None, IfSome, is_none, is_some, inl, inr, slice_get, option_map, option_and_then, unwrap_or, refl, sym, ◌∙◌, ap, append_assoc, arith, w16, w32, to_le_bytes, All, fold, find, list_all, list_any, option_or, and_parts, or_cases, eqb-true, leb-true, ltb-true, take-append_seam, drop-append_seam, length-map, map-append, list_any-append, All-nil, All-cons, All-tail, All-head, Attribute, Idn, attribute_word, attribute_word-below, attribute_fault-attribute_word, attribute_of-attribute_word, Outcome, Wish, Times, Block, BuiltIn, built_ins, blocks_fault, find_block, row_in, number_len, value_len, wish_of, DriveView, data_at, IsStoreOf, member_of, bytes_of, short_in, long_in, reads, words_given, len_said, len_or_none, wish_given, wishes_from, attribute_stop, element_read, IsAnswer, AreAnswers, HaveFactors, TypedHaveFactors, AsksAsRing, SaysLength, NoAttributeStops, attribute_fault, attribute_of, element_of, is_typed, attribute_in, built_in_attribute, own_attribute, block_attribute, listed_len, are_cyclic, are_times, wishes_of}
+use Rattle.sercos_law_run.proofs.Words.{◌≡◌, ℕ, suc, ◌+◌, ◌<◌, ◌≤◌, ◌^◌, ◌==◌, nat_le, nat_lt, Bool, true, false, cond, List, [], ◌∷◌, ◌++◌, map, length, take, drop, Option, Some, None, IfSome, is_none, is_some, inl, inr, slice_get, option_map, option_and_then, unwrap_or, refl, sym, ◌∙◌, ap, append_assoc, arith, w16, w32, to_le_bytes, All, fold, find, list_all, list_any, option_or, and_parts, or_cases, eqb-true, leb-true, ltb-true, take-append_seam, drop-append_seam, length-map, map-append, list_any-append, All-nil, All-cons, All-tail, All-head, Attribute, Idn, attribute_word, attribute_word-below, attribute_fault-attribute_word, attribute_of-attribute_word, Outcome, Wish, Times, Block, BuiltIn, built_ins, blocks_fault, find_block, row_in, number_len, value_len, wish_of, DriveView, data_at, IsStoreOf, member_of, bytes_of, short_in, long_in, reads, words_given, len_said, len_or_none, wish_given, wishes_from, attribute_stop, element_read, IsAnswer, AreAnswers, HaveFactors, TypedHaveFactors, AsksAsRing, SaysLength, NoAttributeStops, attribute_fault, attribute_of, element_of, is_typed, attribute_in, built_in_attribute, own_attribute, block_attribute, listed_len, are_cyclic, are_times, wishes_of, cases_Bool}
 use Rattle.sercos_step.specs.declared.request.Request.TheVariants as request
 use Rattle.sercos_block.specs.Rings.{cyclic_len}
 use Rattle.sercos_law_run.proofs.Start.BlockFinds.{same_attribute}
@@ -26,11 +26,7 @@ seventh (Some b) = refl
 -- What its word says: the factor has 16 bits, and the length is the block's.
 factor_of_word : (word : ℕ) → IfSome (attribute_in word) (λ (a : Attribute). a.factor < 65536)
 unfolding attribute_in attribute_of
-factor_of_word word = by (is_none (attribute_fault word))
-  where
-    by : (good : Bool) → IfSome (cond good (Some (attribute_of word)) None) (λ (a : Attribute). a.factor < 65536)
-    by true = omega arith
-    by false = tt
+factor_of_word word = elim (cases_Bool (is_none (attribute_fault word))) [ inl on ↦ rw on (omega arith) | inr off ↦ rw off tt ]
 
 factor_of_row : (o : Option BuiltIn) → IfSome (option_and_then (λ (row : BuiltIn). attribute_in row.attribute) o) (λ (a : Attribute). a.factor < 65536)
 factor_of_row None = tt
@@ -39,12 +35,10 @@ factor_of_row (Some row) = factor_of_word row.attribute
 factor_of_own : (raw : ℕ) (blocks : List Block) → All (λ (b : Block). b.attribute.factor < 65536) blocks → IfSome (option_map (λ (b : Block). b.attribute) (find (λ (b : Block). b.idn.raw == raw) blocks)) (λ (a : Attribute). a.factor < 65536)
 factor_of_own raw [] small = tt
 factor_of_own raw (b ∷ blocks) small =
-    by (b.idn.raw == raw) (All-head (λ (c : Block). c.attribute.factor < 65536) b blocks small) (factor_of_own raw blocks (All-tail (λ (c : Block). c.attribute.factor < 65536) b blocks small))
-  where
-    by : (same : Bool) → b.attribute.factor < 65536 → IfSome (option_map (λ (b : Block). b.attribute) (find (λ (b : Block). b.idn.raw == raw) blocks)) (λ (a : Attribute). a.factor < 65536)
-        → IfSome (option_map (λ (b : Block). b.attribute) (cond same (Some b) (find (λ (b : Block). b.idn.raw == raw) blocks))) (λ (a : Attribute). a.factor < 65536)
-    by true here rest = here
-    by false here rest = rest
+    (elim (cases_Bool (b.idn.raw == raw)) [
+      | inl on ↦ rw on (All-head (λ (c : Block). c.attribute.factor < 65536) b blocks small)
+      | inr off ↦ rw off (factor_of_own raw blocks (All-tail (λ (c : Block). c.attribute.factor < 65536) b blocks small))
+    ])
 
 factor_small : (d : DriveView) (raw : ℕ) → HaveFactors d → IfSome (block_attribute d.blocks raw) (λ (a : Attribute). a.factor < 65536)
 unfolding block_attribute built_in_attribute own_attribute
@@ -120,34 +114,6 @@ lens_same : (d : DriveView) → HaveFactors d → (a : ℕ) (idns : List Idn)
 lens_same d small a idns = sum_mapped len_or_none (λ i. long_in (attribute_bytes d i.raw)) (λ i. value_len d.blocks i.raw) (λ i. ap (λ (o : Option ℕ). unwrap_or o 0) (len_read d i.raw small)) a idns
 
 -- what the master asks of the plan for a drive
-record SmallTimes (t : Times) : Type 0 where
-  t1min : t.t1min < 65536
-  tatmt : t.tatmt < 65536
-  t4min : t.t4min < 65536
-  tatat : t.tatat < 65536
-  tmtsy : t.tmtsy < 65536
-  tmtsg : t.tmtsg < 65536
-
-small_times : (t : Times) → are_times t ≡ true → SmallTimes t
-unfolding are_times
-small_times t ok =
-    let (a, r1) = and_parts (nat_le t.t1min 300) _ ok in
-    let (b, r2) = and_parts (nat_le t.tatmt 300) _ r1 in
-    let (c, r3) = and_parts (nat_le t.t4min 64000) _ r2 in
-    let (d, r4) = and_parts (nat_le t.tatat 64000) _ r3 in
-    let (e, f) = and_parts (nat_le t.tmtsy 250) _ r4 in
-    record {
-      t1min = below t.t1min 300 (leb-true _ _ a) (omega arith);
-      tatmt = below t.tatmt 300 (leb-true _ _ b) (omega arith);
-      t4min = below t.t4min 64000 (leb-true _ _ c) (omega arith);
-      tatat = below t.tatat 64000 (leb-true _ _ d) (omega arith);
-      tmtsy = below t.tmtsy 250 (leb-true _ _ e) (omega arith);
-      tmtsg = below t.tmtsg 64000 (leb-true _ _ f) (omega arith);
-    }
-  where
-    below : (n most : ℕ) → n ≤ most → most < 65536 → n < 65536
-    below n most h g = omega arith
-
 made_times : (a a' b b' c c' d d' e e' f f' : ℕ) → a ≡ a' → b ≡ b' → c ≡ c' → d ≡ d' → e ≡ e' → f ≡ f'
     → ◌≡◌ {A = Times} (record { t1min = a; tatmt = b; t4min = c; tatat = d; tmtsy = e; tmtsg = f }) (record { t1min = a'; tatmt = b'; t4min = c'; tatat = d'; tmtsy = e'; tmtsg = f' })
 made_times a a' b b' c c' d d' e e' f f' ea eb ec ed ee ef = rw (ea, eb, ec, ed, ee, ef) refl
@@ -159,7 +125,7 @@ made_wish address slave t t' a a' m m' et ea em = rw (et, ea, em) refl
 pub wish_by_answers : (d : DriveView) (outcomes : List Outcome) → KeepsRules d → HaveFactors d → AreAnswers d (reads (member_of d)) outcomes → wish_given (member_of d) outcomes ≡ wish_of d
 unfolding listed_len
 wish_by_answers d (a ∷ b ∷ c ∷ e ∷ f ∷ g ∷ outcomes) rules factors h =
-    let small = small_times d.times rules.times in
+    let small = rules.times in
     let words = read_words d (d.at ++ d.mdt) outcomes rules.blocks h.1.1.1.1.1.1 in
     let said : Idn → ℕ = λ i. long_in (attribute_bytes d i.raw) in
     let all : words_given outcomes ≡ map said d.at ++ (map said d.mdt ++ words.rest) = words.are ∙ ap (λ xs. xs ++ words.rest) (map-append said d.at d.mdt) ∙ append_assoc (map said d.at) (map said d.mdt) words.rest in
@@ -167,12 +133,14 @@ wish_by_answers d (a ∷ b ∷ c ∷ e ∷ f ∷ g ∷ outcomes) rules factors h
     let mdt_words : take (length d.mdt) (drop (length d.at) (words_given outcomes)) ≡ map said d.mdt = rw (all, drop_mapped said d.at (map said d.mdt ++ words.rest)) (take_mapped said d.mdt words.rest) in
     made_wish d.address d.slave _ _ _ _ _ _
     (made_times _ _ _ _ _ _ _ _ _ _ _ _
-    (time_answer d _ d.times.t1min a (λ blocks is. (declares_times d blocks rules.blocks is).t1min) small.t1min h.0)
-    (time_answer d _ d.times.tatmt b (λ blocks is. (declares_times d blocks rules.blocks is).tatmt) small.tatmt h.1.0)
-    (time_answer d _ d.times.t4min c (λ blocks is. (declares_times d blocks rules.blocks is).t4min) small.t4min h.1.1.0)
-    (time_answer d _ d.times.tatat e (λ blocks is. (declares_times d blocks rules.blocks is).tatat) small.tatat h.1.1.1.0)
-    (time_answer d _ d.times.tmtsy f (λ blocks is. (declares_times d blocks rules.blocks is).tmtsy) small.tmtsy h.1.1.1.1.0)
-    (time_answer d _ d.times.tmtsg g (λ blocks is. (declares_times d blocks rules.blocks is).tmtsg) small.tmtsg h.1.1.1.1.1.0))
+    (time_answer d _ d.times.t1min a (λ blocks is. (declares_times d blocks rules.blocks is).t1min) (omega (arith, small.t1min)) h.0)
+    (time_answer d _ d.times.tatmt b (λ blocks is. (declares_times d blocks rules.blocks is).tatmt) (omega (arith, small.tatmt)) h.1.0)
+    (time_answer d _ d.times.t4min c (λ blocks is. (declares_times d blocks rules.blocks is).t4min) (omega (arith, small.t4min)) h.1.1.0)
+    (time_answer d _ d.times.tatat e (λ blocks is. (declares_times d blocks rules.blocks is).tatat) (omega (arith, small.tatat)) h.1.1.1.0)
+    (time_answer d _ d.times.tmtsy f (λ blocks is. (declares_times d blocks rules.blocks is).tmtsy) (omega (arith, small.tmtsy))
+    h.1.1.1.1.0)
+    (time_answer d _ d.times.tmtsg g (λ blocks is. (declares_times d blocks rules.blocks is).tmtsg) (omega (arith, small.tmtsg))
+    h.1.1.1.1.1.0))
     (ap (λ n. 4 + n) (ap (λ (xs : List ℕ). fold (λ (n : ℕ) (word : ℕ). n + len_or_none word) 0 xs) at_words ∙ lens_same d factors 0 d.at))
     (ap (λ n. 4 + n) (ap (λ (xs : List ℕ). fold (λ (n : ℕ) (word : ℕ). n + len_or_none word) 0 (take (length d.mdt) xs)) (drop_six (length d.at) _ _ _ _ _ _ (words_given outcomes))
     ∙ ap (λ (xs : List ℕ). fold (λ (n : ℕ) (word : ℕ). n + len_or_none word) 0 xs) mdt_words ∙ lens_same d factors 0 d.mdt))

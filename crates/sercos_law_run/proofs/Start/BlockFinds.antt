@@ -1,5 +1,5 @@
 -- Which block of a drive's store is found by an identifier number, and with which attribute.
-use Rattle.sercos_law_run.proofs.Words.{◌≡◌, ℕ, ◌==◌, nat_lt, Bool, true, false, cond, not, ◌&&◌, ◌||◌, List, [], ◌∷◌, ◌++◌, map, length, Option, Some, None, is_none, option_map, option_and_then, refl, sym, ◌∙◌, ap, arith, list_all, option_or, and_parts, nat_tests, none_of-or, Block, BuiltIn, Field, BadBlock, DriveView, is_fixed, built_ins, is_built_in, built_in_block, has_block, block_fault, find_block, number_len, either_none, IsNew, IsNew-block_fault, is_given, kept, IsStoreOf, CarryAlike, attribute_fault, built_in, blocks_fault, with_own, store_of, attribute_in, row_in, built_in_attribute, own_attribute, block_attribute}
+use Rattle.sercos_law_run.proofs.Words.{◌≡◌, ℕ, ◌==◌, nat_lt, Bool, true, false, cond, not, ◌&&◌, ◌||◌, List, [], ◌∷◌, ◌++◌, map, length, Option, Some, None, is_none, option_map, option_and_then, refl, sym, ◌∙◌, ap, arith, list_all, option_or, and_parts, nat_tests, none_of-or, Block, BuiltIn, Field, BadBlock, DriveView, is_fixed, built_ins, is_built_in, built_in_block, has_block, block_fault, find_block, number_len, either_none, IsNew, IsNew-block_fault, is_given, kept, IsStoreOf, CarryAlike, attribute_fault, built_in, blocks_fault, with_own, store_of, attribute_in, row_in, built_in_attribute, own_attribute, block_attribute, cases_Bool, cases_Option, inl, inr}
 use Rattle.sercos_block.specs.Stores.{inserted}
 use Rattle.sercos_block.specs.Rings.{cyclic_len}
 
@@ -34,11 +34,10 @@ unfolding inserted
 none_inserted n b [] other none = rw other refl
 none_inserted n b (c ∷ blocks) other none =
     let (here, rest) = either_none (c.idn.raw == n) (has_block n blocks) none in
-    by (nat_lt b.idn.raw c.idn.raw) here (none_inserted n b blocks other rest)
-  where
-    by : (less : Bool) → (c.idn.raw == n) ≡ false → has_block n (inserted b blocks) ≡ false → has_block n (cond less (b ∷ c ∷ blocks) (c ∷ inserted b blocks)) ≡ false
-    by true here more = rw other none
-    by false here more = rw (here, more) refl
+    (elim (cases_Bool (nat_lt b.idn.raw c.idn.raw)) [
+      | inl on ↦ rw on (rw other none)
+      | inr off ↦ rw off (rw (here, (none_inserted n b blocks other rest)) refl)
+    ])
 
 none_appended : (n : ℕ) (b : Block) (before : List Block) → has_block n (before ++ b ∷ []) ≡ false → ((b.idn.raw == n) ≡ false) × (has_block n before ≡ false)
 none_appended n b [] none = ((either_none (b.idn.raw == n) false none).0, refl)
@@ -63,12 +62,13 @@ new_at b blocks n is new = let same : b.idn.raw ≡ n = grind (arith, nat_tests)
 pub first_is_new : (before : List Block) (b : Block) (own : List Block) → blocks_fault before (b ∷ own) ≡ None → IsNew before b × (blocks_fault (before ++ b ∷ []) own ≡ None)
 unfolding blocks_fault
 first_is_new before b own none =
-    let (here, rest) = none_of-or (option_map {U = BadBlock} (λ (field : Field). record { index = length before; field = field }) (block_fault before b)) _ none in
-    (IsNew-block_fault before b (no_fault (block_fault before b) here), rest)
-  where
-    no_fault : (o : Option Field) → option_map {U = BadBlock} (λ (field : Field). record { index = length before; field = field }) o ≡ None → o ≡ None
-    no_fault None e = refl
-    no_fault (Some field) e = cc
+    let (here, rest) = none_of-or (option_map {U = BadBlock} (λ (field : Field). record { index = length before; field = field }) (block_fault before b)) _ none in (
+      IsNew-block_fault before b (elim (cases_Option (block_fault before b)) [
+        | inl none ↦ rw none
+        | inr (field, some) ↦ rw some (let e = rw some at here in cc)
+      ]),
+      rest,
+    )
 
 find_with_own : (raw : ℕ) (before own blocks : List Block) → blocks_fault before own ≡ None → ((n : ℕ) → (is_built_in n || has_block n before) ≡ false → has_block n blocks ≡ false)
     → find_block raw (with_own blocks own) ≡ option_or (find_block raw blocks) (find_block raw own)
@@ -94,12 +94,7 @@ find_store_of raw d none = find_with_own raw [] d.blocks (built_in d) none (λ n
 find_rows : (d : DriveView) (raw : ℕ) (rows : List BuiltIn) → find_block raw (map (built_in_block d) rows) ≡ option_map (built_in_block d) (row_in rows raw)
 unfolding row_in
 find_rows d raw [] = refl
-find_rows d raw (row ∷ rows) = by (row.idn.raw == raw) (find_rows d raw rows)
-  where
-    by : (same : Bool) → find_block raw (map (built_in_block d) rows) ≡ option_map (built_in_block d) (row_in rows raw)
-        → cond same (Some (built_in_block d row)) (find_block raw (map (built_in_block d) rows)) ≡ option_map (built_in_block d) (cond same (Some row) (row_in rows raw))
-    by true e = refl
-    by false e = e
+find_rows d raw (row ∷ rows) = elim (cases_Bool (row.idn.raw == raw)) [ inl on ↦ rw on | inr off ↦ rw off (find_rows d raw rows) ]
 
 pub find_built_in : (d : DriveView) (raw : ℕ) → find_block raw (built_in d) ≡ option_map (built_in_block d) (row_in built_ins raw)
 unfolding built_in
@@ -111,14 +106,7 @@ unfolding row_in attribute_in
 row_attribute d raw [] good = refl
 row_attribute d raw (row ∷ rows) good =
     let (here, rest) = and_parts (is_none (attribute_fault row.attribute)) _ good in
-    by (row.idn.raw == raw) here (row_attribute d raw rows rest)
-  where
-    by : (same : Bool) → is_none (attribute_fault row.attribute) ≡ true
-        → option_map (λ (b : Block). b.attribute) (option_map (built_in_block d) (row_in rows raw)) ≡ option_and_then (λ (row : BuiltIn). attribute_in row.attribute) (row_in rows raw)
-        → option_map (λ (b : Block). b.attribute) (option_map (built_in_block d) (cond same (Some row) (row_in rows raw)))
-        ≡ option_and_then (λ (row : BuiltIn). attribute_in row.attribute) (cond same (Some row) (row_in rows raw))
-    by true good e = rw good refl
-    by false good e = e
+    (elim (cases_Bool (row.idn.raw == raw)) [ inl on ↦ rw on (rw here refl) | inr off ↦ rw off (row_attribute d raw rows rest) ])
 
 rows_good : list_all (λ (row : BuiltIn). is_none (attribute_fault row.attribute)) built_ins ≡ true
 unfolding attribute_fault
@@ -137,33 +125,24 @@ attribute_store_of raw d none =
 
 -- What no write changes: number, attribute, and which block is found.
 pub kept_field : {X : Type 0} (f : Block → X) → ((b : Block) → f (record b { value = [] }) ≡ f b) → (b : Block) → f (kept b) ≡ f b
-kept_field {X} f same b = by (is_fixed b && not (is_given b.idn.raw))
-  where
-    by : (stays : Bool) → f (cond stays b (record b { value = [] })) ≡ f b
-    by true = refl
-    by false = same b
+kept_field {X} f same b = elim (cases_Bool (is_fixed b && not (is_given b.idn.raw))) [ inl on ↦ rw on | inr off ↦ rw off (same b) ]
 
 pub kept_idn : (b : Block) → (kept b).idn ≡ b.idn
 kept_idn = kept_field (λ b. b.idn) (λ b. refl)
 
-pub kept_attribute : (b : Block) → (kept b).attribute ≡ b.attribute
-kept_attribute = kept_field (λ b. b.attribute) (λ b. refl)
-
 pub find_kept : (raw : ℕ) (blocks : List Block) → find_block raw (map kept blocks) ≡ option_map kept (find_block raw blocks)
 find_kept raw [] = refl
-find_kept raw (b ∷ blocks) = rw (kept_idn b) (by (b.idn.raw == raw) (find_kept raw blocks))
-  where
-    by : (same : Bool) → find_block raw (map kept blocks) ≡ option_map kept (find_block raw blocks)
-        → cond same (Some (kept b)) (find_block raw (map kept blocks)) ≡ option_map kept (cond same (Some b) (find_block raw blocks))
-    by true e = refl
-    by false e = e
+find_kept raw (b ∷ blocks) = rw (kept_idn b) (elim (cases_Bool (b.idn.raw == raw)) [
+  | inl on ↦ rw on
+  | inr off ↦ rw off (find_kept raw blocks)
+])
 
 pub same_kept : (raw : ℕ) (d : DriveView) (blocks : List Block) → IsStoreOf d blocks → option_map kept (find_block raw blocks) ≡ option_map kept (find_block raw (store_of d))
 same_kept raw d blocks is = sym (find_kept raw blocks) ∙ ap (find_block raw) is ∙ find_kept raw (store_of d)
 
 attribute_kept : (o : Option Block) → option_map (λ (b : Block). b.attribute) (option_map kept o) ≡ option_map (λ (b : Block). b.attribute) o
 attribute_kept None = refl
-attribute_kept (Some b) = ap Some (kept_attribute b)
+attribute_kept (Some b) = ap Some (kept_field (λ c. c.attribute) (λ c. refl) b)
 
 pub same_attribute : (raw : ℕ) (d : DriveView) (blocks : List Block) → blocks_fault [] d.blocks ≡ None → IsStoreOf d blocks
     → option_map (λ (b : Block). b.attribute) (find_block raw blocks) ≡ block_attribute d.blocks raw

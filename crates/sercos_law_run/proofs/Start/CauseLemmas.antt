@@ -1,5 +1,5 @@
 -- Which words of the master's writes in phase 2 are refused.
-use Rattle.sercos_law_run.proofs.Words.{◌≡◌, inl, inr, ℕ, suc, ◌+◌, ◌*◌, ◌<◌, ◌≤◌, ◌/◌, ◌%◌, ◌==◌, nat_lt, nat_le, Bool, true, false, not, ◌&&◌, ◌||◌, List, [], ◌∷◌, length, Option, Some, None, option_map, refl, sym, ◌∙◌, ap, arith, then_some, option_or, le-ltb, lt-leb, eq-eqb, eqb-true, eqb-false, Block, blocks_fault, find_block, store_of, DriveView, write_cause_in, kept, IsStoreOf, CausesAlike, CycleCause, NumberHasNoCause, ListHasNoCause, attribute_of, built_in, bytes_written, write_cause}
+use Rattle.sercos_law_run.proofs.Words.{◌≡◌, inl, inr, ℕ, suc, ◌+◌, ◌*◌, ◌<◌, ◌≤◌, ◌/◌, ◌%◌, ◌==◌, nat_lt, nat_le, Bool, true, false, not, ◌&&◌, ◌||◌, List, [], ◌∷◌, length, Option, Some, None, option_map, refl, sym, ◌∙◌, ap, arith, then_some, option_or, le-ltb, lt-leb, eq-eqb, eqb-true, eqb-false, Block, blocks_fault, find_block, store_of, DriveView, write_cause_in, kept, IsStoreOf, CausesAlike, CycleCause, NumberHasNoCause, ListHasNoCause, attribute_of, built_in, bytes_written, write_cause, cases_Bool}
 use Rattle.std.proofs.lemmas.Bool.{and_right}
 use Rattle.sercos_law_run.proofs.Start.BlockFinds.{find_store_of, kept_field, same_kept}
 use Rattle.sercos_law_run.proofs.Start.LimitLemmas.{or_first, in_order}
@@ -55,20 +55,18 @@ no_cause : (a c d e f g : Bool) → a ≡ false → c ≡ false → d ≡ false 
 no_cause a c d e f g ea ec ed ee ef eg = rw (ea, ec, ed, ee, ef, eg) refl
 
 early : (n m : ℕ) → ((n == 1 + m) && nat_lt (suc n) (2 + (2 * m + 1) / 2)) ≡ false
-early n m = by (n == 1 + m) refl
-  where
-    by : (last : Bool) → (n == 1 + m) ≡ last → (last && nat_lt (suc n) (2 + (2 * m + 1) / 2)) ≡ false
-    by true e = let same : n ≡ 1 + m = eqb-true n (1 + m) e in le-ltb (suc n) (2 + (2 * m + 1) / 2) (omega arith)
-    by false e = refl
+early n m = elim (cases_Bool (n == 1 + m)) [
+  | inl e ↦ rw e (let same : n ≡ 1 + m = eqb-true n (1 + m) e in le-ltb (suc n) (2 + (2 * m + 1) / 2) (omega arith))
+  | inr e ↦ rw e
+]
 
 over : (n m : ℕ) → n < 2 + m → m ≤ 16 → (((suc n == 1) && nat_lt 32 (2 * m)) || (not (n == 1 + m) && nat_le (2 + (2 * m + 1) / 2) (suc n))) ≡ false
 over n m less small =
     let short : nat_lt 32 (2 * m) ≡ false = le-ltb 32 (2 * m) (omega arith) in
-    rw (short, and_right (suc n == 1) false refl) (by (n == 1 + m) refl)
-  where
-    by : (last : Bool) → (n == 1 + m) ≡ last → (not last && nat_le (2 + (2 * m + 1) / 2) (suc n)) ≡ false
-    by true e = refl
-    by false e = let other = eqb-false n (1 + m) e in lt-leb (2 + (2 * m + 1) / 2) (suc n) (omega (arith, other))
+    rw (short, and_right (suc n == 1) false refl) (elim (cases_Bool (n == 1 + m)) [
+      | inl e ↦ rw e
+      | inr e ↦ rw e (let other = eqb-false n (1 + m) e in lt-leb (2 + (2 * m + 1) / 2) (suc n) (omega (arith, other)))
+    ])
 
 even : (n m : ℕ) → (((suc n == 1) && not (2 * m % 2 == 0)) || false) ≡ false
 even n m = let whole : (2 * m % 2 == 0) ≡ true = eq-eqb (2 * m % 2) 0 (omega arith) in rw (whole, and_right (suc n == 1) false refl) refl

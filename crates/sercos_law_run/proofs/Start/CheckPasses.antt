@@ -1,56 +1,36 @@
 -- If a drive holds the start-up values of a plan that fits, its check for phase 3 finds nothing.
-use Rattle.sercos_law_run.proofs.Words.{◌≡◌, ℕ, zero, suc, ◌+◌, ◌-◌, ◌*◌, ◌<◌, ◌≤◌, ◌%◌, ◌==◌, nat_lt, nat_le, Bool, true, false, not, ◌||◌, List, [], ◌∷◌, ◌++◌, length, map, Option, Some, None, is_none, slice_get, slice_index, slice_index_or, refl, ◌∙◌, ap, subst, arith, and_parts, le-ltb, ne_eqb, or_from, leb-true, nat_tests, slice_get_within, wire_bits, Wish, Times, WishesView, PlanView, no_wish, wish, times, Fits, most_cycle, IsValid, is_address, Block, BadBlock, blocks_fault, DriveView, RingView, has_ring_numbers, has_drive_numbers, are_cyclic, has_address, is_order, record_len, wish_of, length_wishes, number_at, carried_len, listed_if, PlanPassesCheck, is_cycle, is_control, are_ring_numbers, are_times, are_drive_numbers, has_blocks, is_drive, are_drives, has_drives, is_ring, wishes_of, breaks_1, breaks_2, breaks_6, breaks_7, breaks_8, breaks_9, breaks_10, breaks_15, breaks_89, unfit_for_phase_3}
+use Rattle.sercos_law_run.proofs.Words.{◌≡◌, ℕ, zero, suc, ◌+◌, ◌-◌, ◌*◌, ◌<◌, ◌≤◌, ◌%◌, ◌==◌, nat_lt, nat_le, Bool, true, false, not, ◌||◌, List, [], ◌∷◌, ◌++◌, length, map, Option, Some, None, is_none, slice_get, slice_index, slice_index_or, refl, ◌∙◌, ap, subst, arith, and_parts, le-ltb, ne_eqb, or_from, leb-true, nat_tests, slice_get_within, wire_bits, Wish, Times, WishesView, PlanView, no_wish, wish, times, Fits, most_cycle, IsValid, is_address, Block, BadBlock, blocks_fault, DriveView, RingView, has_ring_numbers, has_drive_numbers, are_cyclic, has_address, is_order, record_len, wish_of, length_wishes, number_at, carried_len, listed_if, PlanPassesCheck, is_cycle, is_control, are_ring_numbers, are_times, are_drive_numbers, has_blocks, is_drive, are_drives, has_drives, is_ring, wishes_of, breaks_1, breaks_2, breaks_6, breaks_7, breaks_8, breaks_9, breaks_10, breaks_15, breaks_89, unfit_for_phase_3, IsRing-is_ring, get_or_from_slice_get, no_drive, none_of}
 use Rattle.sercos_block.specs.Rings.{at_len}
 use Rattle.sercos_law_run.proofs.Start.Lengths.{number_is, are_as_long, list_fits, declares_times}
 use Rattle.sercos_law_run.proofs.Start.PlanNumbers.{HasNumbers, has_numbers}
+use Rattle.sercos_law_run.proofs.Journal.StationLemmas.{drive_so, drives_so}
+use Rattle.sercos_block.specs.ValidRings.{AreWithinLimits}
+use Rattle.std.proofs.lemmas.List.{get_or-map}
 
 -- the rules that each drive of a ring keeps, as far as they are needed here
 pub record KeepsRules (d : DriveView) : Type 0 where
-  pub times : are_times d.times ≡ true
+  pub times : AreWithinLimits d.times
   pub blocks : blocks_fault [] d.blocks ≡ None
   pub at : are_cyclic d.blocks d.at ≡ true
   pub mdt : are_cyclic d.blocks d.mdt ≡ true
 
-none_from : (o : Option BadBlock) → is_none o ≡ true → o ≡ None
-none_from None e = refl
-none_from (Some x) e = cc
-
-keeps_rules : (before : List DriveView) (d : DriveView) → is_drive before d ≡ true → KeepsRules d
-unfolding is_drive are_drive_numbers has_blocks
-keeps_rules before d ok =
+keeps_rules : (before : List DriveView) (d : DriveView) → is_drive before d ≡ true → AreWithinLimits d.times → KeepsRules d
+unfolding is_drive has_blocks
+keeps_rules before d ok times =
     let (_, rest) = and_parts (not (has_address d.address before)) _ ok in
-    let (numbers, rest2) = and_parts (has_drive_numbers d) _ rest in
+    let (_, rest2) = and_parts (has_drive_numbers d) _ rest in
     let (blocks, rest3) = and_parts (has_blocks d) _ rest2 in
     let (at, mdt) = and_parts (are_cyclic d.blocks d.at) (are_cyclic d.blocks d.mdt) rest3 in
-    let (_, n1) = and_parts (is_address d.address) _ numbers in
-    let (_, n2) = and_parts (is_address d.slave) _ n1 in
-    let (_, n3) = and_parts (nat_le d.busy 20) _ n2 in
-    let (_, n4) = and_parts (nat_le d.command 200) _ n3 in
-    let (times, _) = and_parts (are_times d.times) _ n4 in
     let (_, fault) = and_parts (nat_le (length d.blocks) 36) _ blocks in
-    record { times = times; blocks = none_from _ fault; at = at; mdt = mdt }
-
-drive_keeps : (before drives : List DriveView) (k : ℕ) (d : DriveView) → are_drives before drives ≡ true → slice_get drives k ≡ Some d → KeepsRules d
-unfolding are_drives
-drive_keeps before [] k d ok at = cc
-drive_keeps before (c ∷ drives) zero d ok at =
-    let (here, rest) = and_parts (is_drive before c) (are_drives (before ++ c ∷ []) drives) ok in
-    let same : c ≡ d = cc in
-    let P : DriveView → Type 0 = λ e. is_drive before e ≡ true in
-    keeps_rules before d (subst P same here)
-drive_keeps before (c ∷ drives) (suc k) d ok at =
-    let (here, rest) = and_parts (is_drive before c) (are_drives (before ++ c ∷ []) drives) ok in
-    drive_keeps (before ++ c ∷ []) drives k d rest at
+    record { times = times; blocks = none_of _ fault; at = at; mdt = mdt }
 
 pub ring_drive : (r : RingView) (k : ℕ) (d : DriveView) → is_ring r ≡ true → slice_get r.drives k ≡ Some d → KeepsRules d
-unfolding is_ring has_drives
 ring_drive r k d ok at =
-    let (_, rest) = and_parts (has_ring_numbers r) _ ok in
-    let (drives, _) = and_parts (has_drives r) (is_order (length r.drives) r.order) rest in
-    let (_, d1) = and_parts (nat_le 1 (length r.drives)) _ drives in
-    let (_, d2) = and_parts (nat_le (length r.drives) 64) _ d1 in
-    let (are, _) = and_parts (are_drives [] r.drives) _ d2 in
-    drive_keeps [] r.drives k d are at
+    let below = slice_get_within r.drives k d at in
+    let is : slice_index_or r.drives k no_drive ≡ d = get_or_from_slice_get r.drives k d no_drive at in
+    let (before, so) = drive_so [] r.drives k no_drive (drives_so r ok) below in
+    keeps_rules before d (subst (λ (e : DriveView). is_drive before e ≡ true) is so)
+    (subst (λ (e : DriveView). AreWithinLimits e.times) is ((IsRing-is_ring r ok).times k no_drive below))
 
 pub ring_cycles : (r : RingView) → is_ring r ≡ true → (is_cycle r.cycle ≡ true) × (is_control r.cycle r.control ≡ true) × (nat_le r.control most_cycle ≡ true)
 unfolding is_ring are_ring_numbers
@@ -62,14 +42,10 @@ ring_cycles r ok =
     let (most, _) = and_parts (nat_le r.control most_cycle) _ n3 in
     (cycle, control, most)
 
-wish_from : (drives : List DriveView) (k : ℕ) (d : DriveView) → slice_get drives k ≡ Some d → slice_index_or (map wish_of drives) k no_wish ≡ wish_of d
-wish_from [] k d at = cc
-wish_from (c ∷ drives) zero d at = let same : c ≡ d = cc in ap wish_of same
-wish_from (c ∷ drives) (suc k) d at = wish_from drives k d at
-
 pub wish_is : (r : RingView) (k : ℕ) (d : DriveView) → slice_get r.drives k ≡ Some d → wish (wishes_of r) k ≡ wish_of d
 unfolding wishes_of
-wish_is r k d at = wish_from r.drives k d at
+wish_is r k d at = get_or-map wish_of r.drives k d no_wish (slice_get_within r.drives k d at)
+    ∙ ap wish_of (get_or_from_slice_get r.drives k d d at)
 
 within : (r : RingView) (k : ℕ) (d : DriveView) → slice_get r.drives k ≡ Some d → k < length (wishes_of r).drives
 unfolding wishes_of
@@ -125,14 +101,6 @@ pub fit_in_ring : (r : RingView) (p : PlanView) (k : ℕ) (d : DriveView) → Is
 unfolding wishes_of
 fit_in_ring r p k d valid fits at = fit_drive (wishes_of r) p k d (wish_is r k d at) (has_numbers (wishes_of r) p k valid fits (within r k d at))
 
-small_times : (t : Times) → are_times t ≡ true → (t.t1min < 65536) × (t.tatmt < 65536) × (t.t4min < 65536)
-unfolding are_times
-small_times t ok =
-    let (a, r1) = and_parts (nat_le t.t1min 300) _ ok in
-    let (b, r2) = and_parts (nat_le t.tatmt 300) _ r1 in
-    let (c, _) = and_parts (nat_le t.t4min 64000) _ r2 in
-    (grind (arith, nat_tests), grind (arith, nat_tests), grind (arith, nat_tests))
-
 keeps_1 : (cycle control : ℕ) → 1 ≤ cycle → is_control cycle control ≡ true → ((cycle == 0) || ((control == 0) || not (control % cycle == 0))) ≡ false
 unfolding is_control
 keeps_1 cycle control some ok =
@@ -158,18 +126,6 @@ row_1 : (blocks : List Block) (control cycle : ℕ) → number_at blocks 1 ≡ c
 unfolding breaks_1
 row_1 blocks control cycle e f some ok = rw (e, f) (keeps_1 cycle control some ok)
 
-row_2 : (blocks : List Block) (cycle : ℕ) → number_at blocks 2 ≡ cycle → is_cycle cycle ≡ true → breaks_2 blocks ≡ false
-unfolding breaks_2
-row_2 blocks cycle e ok = rw (e, ok) refl
-
-row_6 : (blocks : List Block) (t1 t1min : ℕ) → number_at blocks 6 ≡ t1 → number_at blocks 3 ≡ t1min → t1min ≤ t1 → breaks_6 blocks ≡ false
-unfolding breaks_6
-row_6 blocks t1 t1min e f h = rw (e, f) (le-ltb t1 t1min h)
-
-row_7 : (blocks : List Block) (t4 t4min cycle : ℕ) → number_at blocks 7 ≡ t4 → number_at blocks 5 ≡ t4min → number_at blocks 2 ≡ cycle → t4 + t4min ≤ cycle → breaks_7 blocks ≡ false
-unfolding breaks_7
-row_7 blocks t4 t4min cycle e f g h = rw (e, f, g) (le-ltb cycle (t4 + t4min) h)
-
 row_8 : (blocks : List Block) (t3 cycle : ℕ) → number_at blocks 8 ≡ t3 → number_at blocks 2 ≡ cycle → 1 ≤ t3 → t3 ≤ cycle → breaks_8 blocks ≡ false
 unfolding breaks_8
 row_8 blocks t3 cycle e f some h = rw (e, f) (or_from (t3 == 0) (nat_lt cycle t3) (ne_eqb t3 0 (λ z. omega arith)) (le-ltb cycle t3 h))
@@ -179,27 +135,14 @@ unfolding breaks_9
 row_9 blocks position len mdt e f g some h =
     rw (e, f, g) (or_from (position == 0) (nat_lt mdt (position + len - 1)) (ne_eqb position 0 (λ z. omega arith)) (le-ltb mdt (position + len - 1) (omega arith)))
 
-row_10 : (blocks : List Block) (mdt : ℕ) → number_at blocks 10 ≡ mdt → 4 ≤ mdt → breaks_10 blocks ≡ false
-unfolding breaks_10
-row_10 blocks mdt e h = rw e (le-ltb mdt 4 h)
-
-row_15 : (blocks : List Block) → number_at blocks 15 ≡ 7 → breaks_15 blocks ≡ false
-unfolding breaks_15
-row_15 blocks e = rw e refl
-
-row_89 : (rate : ℕ) (blocks : List Block) (t2 t1 len tatmt : ℕ) → number_at blocks 89 ≡ t2 → number_at blocks 6 ≡ t1 → carried_len blocks 16 ≡ len → number_at blocks 4 ≡ tatmt
-    → rate * t1 + wire_bits (1 + len) + rate * tatmt ≤ rate * t2 → breaks_89 rate blocks ≡ false
-unfolding breaks_89
-row_89 rate blocks t2 t1 len tatmt e f g i h = rw (e, f, g, i) (le-ltb (rate * t2) (rate * t1 + wire_bits (1 + len) + rate * tatmt) h)
-
 pub plan_passes_check : PlanPassesCheck
-unfolding unfit_for_phase_3
+unfolding unfit_for_phase_3 breaks_2 breaks_6 breaks_7 breaks_10 breaks_15 breaks_89
 plan_passes_check r p k d blocks ok valid fits at is holds =
     let rules = ring_drive r k d ok at in
     let cycles = ring_cycles r ok in
     let n = fit_in_ring r p k d valid fits at in
     let declared = declares_times d blocks rules.blocks is in
-    let small = small_times d.times rules.times in
+    let small = rules.times in
     let long = are_as_long d blocks rules.blocks is in
     let a = n.t1_t2 in
     let b = n.t2_t3 in
@@ -230,18 +173,18 @@ plan_passes_check r p k d blocks ok valid fits at is holds =
     let n_10 = number_is blocks 10 p.mdt_len h_10 (omega arith) in
     let n_15 = number_is blocks 15 7 h_15 (omega arith) in
     let n_89 = number_is blocks 89 p.t2 h_89 (omega arith) in
-    let n_3 = number_is blocks 3 d.times.t1min declared.t1min small.0 in
-    let n_4 = number_is blocks 4 d.times.tatmt declared.tatmt small.1 in
-    let n_5 = number_is blocks 5 d.times.t4min declared.t4min small.2 in
+    let n_3 = number_is blocks 3 d.times.t1min declared.t1min (omega (arith, small.t1min)) in
+    let n_4 = number_is blocks 4 d.times.tatmt declared.tatmt (omega (arith, small.tatmt)) in
+    let n_5 = number_is blocks 5 d.times.t4min declared.t4min (omega (arith, small.t4min)) in
     none_named _ _ _ _ _ _ _ _ _ _ _
     (row_1 blocks r.control r.cycle n_1 n_2 (cycle_some r.cycle cycles.0) cycles.1)
-    (row_2 blocks r.cycle n_2 cycles.0)
-    (row_6 blocks _ _ n_6 n_3 n.t1)
-    (row_7 blocks _ _ _ n_7 n_5 n_2 n.t4)
+    (rw (n_2, cycles.0) refl)
+    (rw (n_6, n_3) (le-ltb _ _ n.t1))
+    (rw (n_7, n_5, n_2) (le-ltb _ _ n.t4))
     (row_8 blocks _ _ n_8 n_2 n.t3 n.t3_end)
     (row_9 blocks _ _ _ n_9 (long.1 h_24) n_10 n.position n.record_end)
-    (row_10 blocks _ n_10 (omega arith))
-    (row_15 blocks n_15)
+    (rw n_10 (le-ltb p.mdt_len 4 (omega arith)))
+    (rw n_15 refl)
     (list_fits d blocks 16 d.at rules.blocks is h_16 rules.at)
     (list_fits d blocks 24 d.mdt rules.blocks is h_24 rules.mdt)
-    (row_89 r.rate blocks _ _ _ _ n_89 n_6 (long.0 h_16) n_4 n.receive)
+    (rw (n_89, n_6, long.0 h_16, n_4) (le-ltb _ _ n.receive))

@@ -1,7 +1,8 @@
 -- The master writes the start-up values, and a drive that holds them holds the plan.
-use Rattle.sercos_law_run.proofs.Words.{◌≡◌, ℕ, zero, suc, ◌<◌, ◌/◌, ◌%◌, List, [], ◌∷◌, map, Some, slice_get, slice_index, slice_index_or, refl, ◌∙◌, ap, arith, w16, to_le_bytes, Idn, bytes_in, PlanView, RingView, DriveView, list_bytes, Held, MemberView, no_member, member, member_of, known_of, HoldsPlan, WritesStartUp}
+use Rattle.sercos_law_run.proofs.Words.{◌≡◌, ℕ, zero, suc, ◌<◌, ◌/◌, ◌%◌, List, [], ◌∷◌, map, Some, slice_get, slice_index, slice_index_or, refl, ◌∙◌, ap, arith, w16, to_le_bytes, Idn, bytes_in, PlanView, RingView, DriveView, list_bytes, Held, MemberView, no_member, member, member_of, known_of, HoldsPlan, WritesStartUp, get_or_from_slice_get, no_drive}
 use Rattle.sercos_law_run.proofs.Start.Lengths.{number_is}
 use Rattle.sercos_law_run.proofs.Start.CheckPasses.{FitDrive, fit_in_ring, ring_cycles, small_control}
+use Rattle.sercos_law_run.proofs.Views.Members.{member_is}
 
 -- the numbers that are written have 16 bits
 record SmallPlan (r : RingView) (p : PlanView) (k : ℕ) : Type 0 where
@@ -53,16 +54,11 @@ list_told : (idns : List Idn) → bytes_in (map (λ (i : Idn). i.raw) idns) ≡ 
 list_told [] = refl
 list_told (i ∷ idns) = ap (λ rest. (i.raw % 256) ∷ (i.raw / 256) ∷ rest) (list_told idns)
 
-member_from : (drives : List DriveView) (k : ℕ) (d : DriveView) → slice_get drives k ≡ Some d → slice_index_or (map member_of drives) k no_member ≡ member_of d
-member_from [] k d at = cc
-member_from (c ∷ drives) zero d at = let same : c ≡ d = cc in ap member_of same
-member_from (c ∷ drives) (suc k) d at = member_from drives k d at
-
 pub writes_start_up : WritesStartUp
 writes_start_up r p k d ok valid fits at =
     let small = small_plan r p k d (fit_in_ring r p k d valid fits at) in
     let cycles = ring_cycles r ok in
-    let is = member_from r.drives k d at in
+    let is = member_is r k ∙ ap member_of (get_or_from_slice_get r.drives k d no_drive at) in
     let at_list : bytes_in (map (λ (i : Idn). i.raw) (member (known_of r) k).at) ≡ list_bytes d.at = ap (λ (m : MemberView). bytes_in (map (λ (i : Idn). i.raw) m.at)) is ∙ list_told d.at in
     let mdt_list : bytes_in (map (λ (i : Idn). i.raw) (member (known_of r) k).mdt) ≡ list_bytes d.mdt = ap (λ (m : MemberView). bytes_in (map (λ (i : Idn). i.raw) m.mdt)) is ∙ list_told d.mdt in
     eleven

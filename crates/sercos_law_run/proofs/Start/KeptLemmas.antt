@@ -1,5 +1,5 @@
 -- What no write changes of a store.
-use Rattle.sercos_law_run.proofs.Words.{◌≡◌, ℕ, ◌≤◌, ◌==◌, nat_lt, Bool, true, false, cond, not, ◌&&◌, ◌||◌, List, [], ◌∷◌, map, Option, Some, None, IfSome, option_map, unwrap_or, refl, sym, ◌∙◌, ap, arith, then_some, list_all, and_parts, nat_tests, none_of-or, none_of-then, Block, is_fixed, is_protected, has_block, find_block, with_value, with_data, write_fault, put_fault, store_of, with_data-nowhere, data_at, is_given, kept, WritesKeep, WritesHold, RefuseAlike, data_fault, are_ascending}
+use Rattle.sercos_law_run.proofs.Words.{◌≡◌, ℕ, ◌≤◌, ◌==◌, nat_lt, Bool, true, false, cond, not, ◌&&◌, ◌||◌, List, [], ◌∷◌, map, Option, Some, None, IfSome, option_map, unwrap_or, refl, sym, ◌∙◌, ap, arith, then_some, list_all, and_parts, nat_tests, none_of-or, none_of-then, Block, is_fixed, is_protected, has_block, find_block, with_value, with_data, write_fault, put_fault, store_of, with_data-nowhere, data_at, is_given, kept, WritesKeep, WritesHold, RefuseAlike, data_fault, are_ascending, Attribute, eqb-true, false≢true, if◌then◌else◌, cases_Bool, inl, inr}
 use Rattle.sercos_law_run.proofs.Start.BlockFinds.{kept_field, same_kept}
 
 -- a block whose value may change
@@ -7,11 +7,7 @@ abbrev pub Changes : Block → Type 0
 Changes b = (is_fixed b && not (is_given b.idn.raw)) ≡ false
 
 kept_written : (raw : ℕ) (bytes : List ℕ) (b : Block) → Changes b → kept (with_value raw bytes b) ≡ kept b
-kept_written raw bytes b changes = by (b.idn.raw == raw)
-  where
-    by : (same : Bool) → kept (cond same (record b { value = bytes }) b) ≡ kept b
-    by true = rw changes refl
-    by false = refl
+kept_written raw bytes b changes = elim (cases_Bool (b.idn.raw == raw)) [ inl on ↦ rw on (rw changes refl) | inr off ↦ rw off ]
 
 pub above_none : (low raw : ℕ) (blocks : List Block) → raw ≤ low → list_all (λ c. nat_lt low c.idn.raw) blocks ≡ true → find_block raw blocks ≡ None
 above_none low raw [] under above = refl
@@ -25,15 +21,13 @@ unfolding are_ascending
 keeps_by raw bytes [] up changes = refl
 keeps_by raw bytes (b ∷ blocks) up changes =
     let (above, rest) = and_parts (list_all (λ c. nat_lt b.idn.raw c.idn.raw) blocks) (are_ascending blocks) up in
-    by (b.idn.raw == raw) refl above changes (keeps_by raw bytes blocks rest)
-  where
-    by : (same : Bool) → (b.idn.raw == raw) ≡ same → list_all (λ c. nat_lt b.idn.raw c.idn.raw) blocks ≡ true → IfSome (cond same (Some b) (find_block raw blocks)) Changes
-        → (IfSome (find_block raw blocks) Changes → map kept (with_data raw bytes blocks) ≡ map kept blocks)
-        → kept (with_value raw bytes b) ∷ map kept (with_data raw bytes blocks) ≡ kept b ∷ map kept blocks
-    by true e above changes more =
-        let under : raw ≤ b.idn.raw = grind (arith, nat_tests) in
-        rw (kept_written raw bytes b changes, with_data-nowhere blocks raw bytes (above_none b.idn.raw raw blocks under above)) refl
-    by false e above changes more = rw (e, more changes) refl
+    (elim (cases_Bool (b.idn.raw == raw)) [
+      | inl e ↦ let more = keeps_by raw bytes blocks rest in
+          let under : raw ≤ b.idn.raw = grind (arith, nat_tests) in
+          rw (kept_written raw bytes b (rw e at changes), with_data-nowhere blocks raw bytes (above_none b.idn.raw raw blocks under above))
+          refl
+      | inr e ↦ rw (e, (keeps_by raw bytes blocks rest) (rw e at changes)) refl
+    ])
 
 may_write : (o : Option Block) (phase : ℕ) (bytes : List ℕ) → put_fault o phase bytes ≡ None → IfSome o Changes
 may_write None phase bytes none = tt
@@ -42,16 +36,32 @@ may_write (Some b) phase bytes none =
     let (fixed, _) = none_of-or (then_some (is_fixed b) 0x7004) (then_some (is_protected b.attribute phase) 0x7005) write in
     rw (none_of-then (is_fixed b) 0x7004 fixed) refl
 
+-- if a write isn't refused, the block isn't write protected
+pub bare : (o : Option Block) (phase : ℕ) (bytes : List ℕ) (a : Attribute) → option_map (λ (b : Block). b.attribute) o ≡ Some a → put_fault o phase bytes ≡ None → is_protected a phase ≡ false
+bare None phase bytes a has none = absurd (cc)
+bare (Some b) phase bytes a has none =
+    let same : b.attribute ≡ a = cc in
+    let write = (none_of-or (write_fault (Some b) phase) (data_fault b bytes) none).0 in
+    ap (λ (x : Attribute). is_protected x phase) (sym same) ∙ none_of-then (is_protected b.attribute phase) 0x7005 (none_of-or (then_some (is_fixed b) 0x7004) (then_some (is_protected b.attribute phase) 0x7005) write).1
+
+-- so the phase is 2, if the block is write protected in phases 3 and 4
+pub in_two : (a : Attribute) (phase : ℕ) → a.protect3 ≡ true → a.protect4 ≡ true → is_protected a phase ≡ false → phase ≡ 2
+in_two a phase three four off = by (phase == 2) (phase == 3) refl off
+  where
+    by : (two other : Bool) → (phase == 2) ≡ two → (if two then a.protect2 else (if other then a.protect3 else a.protect4)) ≡ false → phase ≡ 2
+    by true other is off = eqb-true phase 2 is
+    by false true is off = absurd (false≢true (sym off ∙ three))
+    by false false is off = absurd (false≢true (sym off ∙ four))
+
 given_may : (raw : ℕ) (blocks : List Block) → is_given raw ≡ true → IfSome (find_block raw blocks) Changes
 given_may raw [] given = tt
 given_may raw (b ∷ blocks) given = by (b.idn.raw == raw) refl (given_may raw blocks given)
   where
-    last : (x : Bool) → (x && not true) ≡ false
-    last true = refl
-    last false = refl
-
     by : (same : Bool) → (b.idn.raw == raw) ≡ same → IfSome (find_block raw blocks) Changes → IfSome (cond same (Some b) (find_block raw blocks)) Changes
-    by true e rest = let at : b.idn.raw ≡ raw = grind (arith, nat_tests) in rw (at, given) (last (is_fixed b))
+    by true e rest = let at : b.idn.raw ≡ raw = grind (arith, nat_tests) in rw (at, given) (elim (cases_Bool (is_fixed b)) [
+      | inl on ↦ rw on
+      | inr off ↦ rw off
+    ])
     by false e rest = rest
 
 pub writes_keep : WritesKeep

@@ -1,5 +1,5 @@
 -- Numbers and lists that a drive holds, and the lengths of what its telegrams carry.
-use Rattle.sercos_law_run.proofs.Words.{◌≡◌, ℕ, ◌+◌, ◌*◌, ◌<◌, ◌/◌, ◌%◌, Bool, true, false, cond, not, ◌&&◌, List, [], ◌∷◌, Option, Some, None, is_some, option_map, unwrap_or, refl, ◌∙◌, ap, arith, list_all, fold, w16, to_le_bytes, and_parts, and_from, Idn, Block, DriveView, is_fixed, blocks_fault, find_block, store_of, cyclic_len, data_at, list_bytes, is_given, kept, IsStoreOf, AreAsLong, built_in, listed_len, are_cyclic, idns_at, carried_len, breaks_list}
+use Rattle.sercos_law_run.proofs.Words.{◌≡◌, ℕ, ◌+◌, ◌*◌, ◌<◌, ◌/◌, ◌%◌, Bool, true, false, cond, not, ◌&&◌, List, [], ◌∷◌, Option, Some, None, is_some, option_map, unwrap_or, refl, ◌∙◌, ap, arith, list_all, fold, w16, to_le_bytes, and_parts, and_from, Idn, Block, DriveView, is_fixed, blocks_fault, find_block, store_of, cyclic_len, data_at, list_bytes, is_given, kept, IsStoreOf, AreAsLong, built_in, listed_len, are_cyclic, idns_at, carried_len, breaks_list, cases_Bool, inl, inr}
 use Rattle.sercos_command.specs.Checks as checks
 use Rattle.sercos_command.specs.Checks.{number_at, idns_in}
 use Rattle.sercos_law_run.proofs.Start.BlockFinds.{find_store_of, same_kept, carry_alike}
@@ -51,14 +51,13 @@ list_fits d blocks raw idns none is e all = rw (idns_are blocks raw idns e, all_
 -- a fixed block has the operation data that it was opened with
 value_kept : (o : Option Block) (c : Block) (x : ℕ) (xs : List ℕ) → option_map kept o ≡ Some c → c.value ≡ x ∷ xs → unwrap_or (option_map (λ (b : Block). b.value) o) [] ≡ x ∷ xs
 value_kept None c x xs e is = cc
-value_kept (Some b) c x xs e is = by (is_fixed b && not (is_given b.idn.raw)) e
-  where
-    by : (stays : Bool) → Some (cond stays b (record b { value = [] })) ≡ Some c → b.value ≡ x ∷ xs
-    by true e = let same : b ≡ c = cc in ap (λ (b : Block). b.value) same ∙ is
-    by false e =
-        let same : record b { value = [] } ≡ c = cc in
-        let empty : [] ≡ c.value = ap (λ (b : Block). b.value) same in
-        cc
+value_kept (Some b) c x xs e is = elim (cases_Bool (is_fixed b && not (is_given b.idn.raw))) [
+  | inl on ↦ let e = rw on at e in let same : b ≡ c = cc in ap (λ (b : Block). b.value) same ∙ is
+  | inr off ↦ let e = rw off at e in
+      let same : record b { value = [] } ≡ c = cc in
+      let empty : [] ≡ c.value = ap (λ (b : Block). b.value) same in
+      cc
+]
 
 -- the times that the drive declares
 pub record DeclaresTimes (d : DriveView) (blocks : List Block) : Type 0 where

@@ -1,5 +1,5 @@
 -- Which blocks can be outside their limits, and which of the start-up values can be refused.
-use Rattle.sercos_law_run.proofs.Words.{◌≡◌, ◌↔◌, ℕ, ◌+◌, ◌*◌, ◌/◌, ◌<◌, ◌≤◌, ◌%◌, ◌==◌, nat_lt, Bool, true, false, cond, not, ◌&&◌, ◌||◌, List, [], ◌∷◌, map, length, Option, Some, None, option_map, refl, sym, ◌∙◌, ap, arith, slice_index, then_some, w16, to_le_bytes, list_all, list_any, filter, option_or, and_parts, le-ltb, eq-eqb, eqb-true, or_from, nat_tests, Idn, Block, BuiltIn, Opening, CycleTime, built_ins, is_built_in, built_in_block, opening_limit, blocks_fault, find_block, put_fault, store_of, DriveView, data_at, is_outside, list_bytes, kept, IsStoreOf, RefusesCycle, TakesStartUp, is_own_outside, NamesOwn, PassesForPhase4, BuiltInIsSteady, attribute_of, built_in, data_fault, are_ascending, row_in, unfit_for_phase_4, data_in}
+use Rattle.sercos_law_run.proofs.Words.{◌≡◌, ◌↔◌, ℕ, ◌+◌, ◌*◌, ◌/◌, ◌<◌, ◌≤◌, ◌%◌, ◌==◌, nat_lt, Bool, true, false, cond, not, ◌&&◌, ◌||◌, List, [], ◌∷◌, map, length, Option, Some, None, option_map, refl, sym, ◌∙◌, ap, arith, slice_index, then_some, w16, to_le_bytes, list_all, list_any, filter, option_or, and_parts, le-ltb, eq-eqb, eqb-true, or_from, nat_tests, Idn, Block, BuiltIn, Opening, CycleTime, built_ins, is_built_in, built_in_block, opening_limit, blocks_fault, find_block, put_fault, store_of, DriveView, data_at, is_outside, list_bytes, kept, IsStoreOf, RefusesCycle, TakesStartUp, is_own_outside, NamesOwn, PassesForPhase4, BuiltInIsSteady, attribute_of, built_in, data_fault, are_ascending, row_in, unfit_for_phase_4, data_in, cases_Bool, inl, inr}
 use Rattle.sercos_law_run.proofs.Start.BlockFinds.{find_store_of, find_built_in, kept_field, same_kept}
 use Rattle.sercos_law_run.proofs.Start.KeptLemmas.{refuse_alike}
 
@@ -207,12 +207,10 @@ names_own d blocks cycle store none is value small low high =
 -- no block passes a test exactly if none is listed
 none_passes : (p : Block → Bool) (blocks : List Block) → (map (λ (b : Block). b.idn) (filter p blocks) ≡ []) ↔ (list_any p blocks ≡ false)
 none_passes p [] = ((λ e. refl), (λ e. refl))
-none_passes p (b ∷ blocks) = by (p b) (none_passes p blocks)
-  where
-    by : (passes : Bool) → (map (λ (c : Block). c.idn) (filter p blocks) ≡ []) ↔ (list_any p blocks ≡ false)
-        → (map (λ (c : Block). c.idn) (cond passes (b ∷ filter p blocks) (filter p blocks)) ≡ []) ↔ ((passes || list_any p blocks) ≡ false)
-    by true same = ((λ e. cc), (λ e. cc))
-    by false same = same
+none_passes p (b ∷ blocks) = elim (cases_Bool (p b)) [
+  | inl on ↦ rw on (let same = none_passes p blocks in ((λ e. cc), (λ e. cc)))
+  | inr off ↦ rw off (none_passes p blocks)
+]
 
 pub passes_for_phase_4 : PassesForPhase4
 passes_for_phase_4 d blocks cycle store none is value small low high =

@@ -41,19 +41,16 @@ has_numbers w p k valid fits within =
       t3 = positive w.rate p.t3 _ _ _ seven (omega arith);
       t3_end = fits.rule_8;
       t4 = ten;
-      receive = grouped _ _ _ _ six;
-      position = from_one _ _ place first;
-      record_end = up_to _ _ _ _ _ place len last;
+      receive = omega arith;
+      position = omega arith;
+      record_end = omega arith;
       record_some = is.record_len.0;
-      mdt_len = at_most _ _ _ len most;
+      mdt_len = omega arith;
       cycle = elim valid.cycles.cycle [ inl e ↦ omega arith | inr h ↦ h.1 ];
     }
   where
     left : (a b c : ℕ) → a + b ≤ c → a ≤ c
     left a b c h = omega arith
-
-    grouped : (a b c d : ℕ) → a + (b + c) ≤ d → a + b + c ≤ d
-    grouped a b c d h = omega arith
 
     times_zero : (r : ℕ) → r * 0 ≡ 0
     times_zero r = omega arith
@@ -61,12 +58,3 @@ has_numbers w p k valid fits within =
     positive : (r t a m g : ℕ) → a + (m + g) ≤ r * t → 0 < m → 1 ≤ t
     positive r zero a m g h some = absurd (omega (arith, times_zero r))
     positive r (suc t) a m g h some = omega arith
-
-    from_one : (a b : ℕ) → a ≡ b → 1 ≤ b → 1 ≤ a
-    from_one a b e h = omega arith
-
-    up_to : (a b n m m' : ℕ) → a ≡ b → m ≡ m' → b + n ≤ 1 + m' → a + n ≤ m + 1
-    up_to a b n m m' e f h = omega arith
-
-    at_most : (a b c : ℕ) → a ≡ b → b ≤ c → a ≤ c
-    at_most a b c e h = omega arith

@@ -1,5 +1,5 @@
 -- The time slots of a ring whose drives hold one plan are apart.
-use Rattle.sercos_law_run.proofs.Words.{◌≡◌, ℕ, zero, suc, ◌+◌, ◌*◌, ◌<◌, ◌≤◌, Bool, true, false, cond, List, [], ◌∷◌, map, length, Some, None, slice_get, slice_index_or, refl, sym, ◌∙◌, ap, arith, cond-true, wire_bits, Wish, PlanView, at_bits, record_bytes, IsValid, Fits, Block, is_ring, record_len, wish_of, RingView, DriveView, number_at, carried_len, AtSlot, MdtSlot, Held, IsAtItsTime, held_of, AreOnPlan, held_in, held_by, AreSent, AllHold, RingKeepsApart, RingSendsApart, wishes_of}
+use Rattle.sercos_law_run.proofs.Words.{◌≡◌, ℕ, zero, suc, ◌+◌, ◌*◌, ◌<◌, ◌≤◌, Bool, true, false, cond, List, [], ◌∷◌, map, length, Some, None, slice_get, slice_index_or, refl, sym, ◌∙◌, ap, arith, cond-true, wire_bits, Wish, PlanView, at_bits, record_bytes, IsValid, Fits, Block, is_ring, record_len, wish_of, RingView, DriveView, number_at, carried_len, AtSlot, MdtSlot, Held, IsAtItsTime, held_of, AreOnPlan, held_in, held_by, AreSent, AllHold, RingKeepsApart, RingSendsApart, wishes_of, drive_at, no_drive, slice_get-get_or}
 use Rattle.sercos_law_run.proofs.Slots.SlotLemmas.{keeps_apart}
 use Rattle.sercos_law_run.proofs.Slots.SendingLemmas.{sends_slots}
 use Rattle.sercos_law_run.proofs.Start.Lengths.{are_as_long}
@@ -7,21 +7,11 @@ use Rattle.sercos_law_run.proofs.Start.CheckPasses.{ring_drive, wish_is}
 use Rattle.sercos_law_run.proofs.Start.HeldLemmas.{holds_plan}
 use Rattle.sercos_law_run.proofs.Held.Agreed.{wishes_count}
 
--- the drive at a place
-record DriveAt (drives : List DriveView) (k : ℕ) : Type 0 where
-  drive : DriveView
-  is : slice_get drives k ≡ Some drive
-
-drive_at : (drives : List DriveView) (k : ℕ) → k < length drives → DriveAt drives k
-drive_at [] k in' = absurd (omega arith)
-drive_at (d ∷ drives) zero in' = record { drive = d; is = refl }
-drive_at (d ∷ drives) (suc k) in' = let found = drive_at drives k (omega arith) in record { drive = found.drive; is = found.is }
-
 lengths_from : (drives : List DriveView) → map record_len drives ≡ map (λ (d : Wish). d.record_len) (map wish_of drives)
 lengths_from [] = refl
 lengths_from (d ∷ drives) = ap (λ rest. record_len d ∷ rest) (lengths_from drives)
 
-lengths : (r : RingView) → map record_len r.drives ≡ map (λ (d : Wish). d.record_len) (wishes_of r).drives
+pub lengths : (r : RingView) → map record_len r.drives ≡ map (λ (d : Wish). d.record_len) (wishes_of r).drives
 unfolding wishes_of
 lengths r = lengths_from r.drives
 
@@ -36,10 +26,7 @@ lt_eq : (a b c : ℕ) → a < b → b ≡ c → a < c
 lt_eq a b c h e = omega arith
 
 wire_same : (a b : ℕ) → a ≡ b → wire_bits (1 + a) ≡ wire_bits (b + 1)
-wire_same a b e = ap wire_bits (swapped a b e)
-  where
-    swapped : (a b : ℕ) → a ≡ b → 1 + a ≡ b + 1
-    swapped a b e = omega arith
+wire_same a b e = ap wire_bits (omega arith)
 
 -- what a drive holds is the plan's
 held_is : (b : Bool) (g h : Held) → cond b (Some g) None ≡ Some h → (b ≡ true) × (g ≡ h)
@@ -63,18 +50,19 @@ on_plan r p takes_part stores ats mdt ok valid fits hold sent =
     holds : (k : ℕ) (h : Held) → k < length (wishes_of r).drives → held_by takes_part stores k ≡ Some h → h ≡ held_of p k
     holds k h in' e =
         let (up, same) = held_is (takes_part k) (held_in (stores k)) h e in
-        let at = drive_at r.drives k (lt_eq _ _ _ in' (wishes_count r)) in
-        sym same ∙ holds_plan r p k at.drive (stores k) valid fits at.is (hold k at.drive at.is up).1
+        let at = slice_get-get_or r.drives k no_drive (lt_eq _ _ _ in' (wishes_count r)) in
+        sym same ∙ holds_plan r p k (drive_at r k) (stores k) valid fits at (hold k (drive_at r k) at up).1
 
     start : (s : AtSlot) → takes_part s.drive ≡ true → s.start ≡ r.rate * number_at (stores s.drive) 6 → IsAtItsTime (wishes_of r) (held_by takes_part stores) s
     start s up e = (held_in (stores s.drive), cond-true _ _ _ up, e ∙ ap (λ rate. rate * number_at (stores s.drive) 6) (sym (rate_is r)))
 
     bits : (s : AtSlot) → s.drive < length r.drives → takes_part s.drive ≡ true → s.bits ≤ wire_bits (1 + carried_len (stores s.drive) 16) → s.bits ≤ at_bits (wishes_of r) s.drive
     bits s in' up less =
-        let at = drive_at r.drives s.drive in' in
-        let there = hold s.drive at.drive at.is up in
-        let long = (are_as_long at.drive (stores s.drive) (ring_drive r s.drive at.drive ok at.is).blocks there.0).0 there.1.1.1.1.1.1.1.1.1.0 in
-        let len = ap (λ (x : Wish). x.at_len) (wish_is r s.drive at.drive at.is) in
+        let at = slice_get-get_or r.drives s.drive no_drive in' in
+        let there = hold s.drive (drive_at r s.drive) at up in
+        let long = (are_as_long (drive_at r s.drive) (stores s.drive) (ring_drive r s.drive (drive_at r s.drive) ok at).blocks there.0).0
+        there.1.1.1.1.1.1.1.1.1.0 in
+        let len = ap (λ (x : Wish). x.at_len) (wish_is r s.drive (drive_at r s.drive) at) in
         le_eq _ _ _ less (wire_same _ _ (long ∙ sym len))
 
 pub ring_keeps_apart : RingKeepsApart

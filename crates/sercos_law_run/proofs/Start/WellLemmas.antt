@@ -1,5 +1,5 @@
 -- A ring's wishes are valid, and how the checks end.
-use Rattle.sercos_law_run.proofs.Words.{◌≡◌, ℕ, suc, ◌+◌, ◌*◌, ◌<◌, ◌≤◌, ◌==◌, Bool, true, false, cond, List, [], ◌∷◌, map, take, length, Option, Some, None, slice_get, option_and_then, unwrap_or, refl, ap, arith, fold, filter, All, eqb-true, take_all, All-cons, All-nil, Idn, Attribute, Length, Two, Four, List1, List2, List4, item_len, Block, is_number, DriveView, HasLens, number_len, block_attribute, value_len, wish_of, IsValid-wishes_of, breaks_1, breaks_2, breaks_6, breaks_7, breaks_8, breaks_9, breaks_10, breaks_15, breaks_list, breaks_89, listed_if, list_bytes, is_outside, idns_in, RingIsValid, ChecksEndWell, StopsWithList, listed_len, unfit_for_phase_3, unfit_for_phase_4, ◌/◌, ◌%◌}
+use Rattle.sercos_law_run.proofs.Words.{◌≡◌, ℕ, suc, ◌+◌, ◌*◌, ◌<◌, ◌≤◌, ◌==◌, Bool, true, false, cond, List, [], ◌∷◌, map, take, length, Option, Some, None, slice_get, option_and_then, unwrap_or, refl, ap, arith, fold, filter, All, eqb-true, take_all, All-cons, All-nil, Idn, Attribute, Length, Two, Four, List1, List2, List4, item_len, Block, is_number, DriveView, HasLens, number_len, block_attribute, value_len, wish_of, IsValid-wishes_of, breaks_1, breaks_2, breaks_6, breaks_7, breaks_8, breaks_9, breaks_10, breaks_15, breaks_list, breaks_89, listed_if, list_bytes, is_outside, idns_in, RingIsValid, ChecksEndWell, StopsWithList, listed_len, unfit_for_phase_3, unfit_for_phase_4, ◌/◌, ◌%◌, cases_Bool, inl, inr}
 use Rattle.sercos_block.specs.Rings.{cyclic_len}
 use Rattle.sercos_trace.specs.declared.events.Stop.TheVariants as stop
 use Rattle.sercos_law_run.proofs.Start.CheckPasses.{plan_passes_check, ring_drive, fit_in_ring}
@@ -14,11 +14,7 @@ item_small List4 = omega arith
 
 len_small : (o : Option Attribute) → unwrap_or (option_and_then number_len o) 0 ≤ 4
 len_small None = omega arith
-len_small (Some a) = by (is_number a)
-  where
-    by : (number : Bool) → unwrap_or (cond number (Some (item_len a.length)) None) 0 ≤ 4
-    by true = item_small a.length
-    by false = omega arith
+len_small (Some a) = elim (cases_Bool (is_number a)) [ inl on ↦ rw on (item_small a.length) | inr off ↦ rw off (omega arith) ]
 
 value_small : (blocks : List Block) (raw : ℕ) → value_len blocks raw ≤ 4
 unfolding cyclic_len
@@ -90,11 +86,10 @@ unfit_short rate blocks =
 
 outside_short : (p : Block → Bool) (blocks : List Block) → length (map (λ (b : Block). b.idn) (filter p blocks)) ≤ length blocks
 outside_short p [] = omega arith
-outside_short p (b ∷ blocks) = by (p b) (outside_short p blocks)
-  where
-    by : (passes : Bool) → length (map (λ (c : Block). c.idn) (filter p blocks)) ≤ length blocks → length (map (λ (c : Block). c.idn) (cond passes (b ∷ filter p blocks) (filter p blocks))) ≤ suc (length blocks)
-    by true h = omega arith
-    by false h = omega arith
+outside_short p (b ∷ blocks) = elim (cases_Bool (p b)) [
+  | inl on ↦ rw on (let h = outside_short p blocks in omega arith)
+  | inr off ↦ rw off (let h = outside_short p blocks in omega arith)
+]
 
 unfit_4_short : (blocks : List Block) → length (unfit_for_phase_4 blocks) ≤ length blocks
 unfolding unfit_for_phase_4

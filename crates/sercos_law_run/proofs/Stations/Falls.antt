@@ -1,5 +1,5 @@
 -- Why a ring falls, by what arrived at the master in its last cycles.
-use Rattle.sercos_law_run.proofs.Words.{◌≡◌, ℕ, zero, suc, ◌+◌, ◌<◌, ◌≤◌, ◌==◌, Bool, true, false, not, ◌&&◌, List, [], ◌∷◌, length, Option, Some, None, refl, sym, ◌∙◌, ap, subst, arith, if◌then◌else◌, nat_le, min, is_some, is_none, option_map, slice_index, unwrap_or, then_some, option_or, and_parts, false_from_ne_true, false≢true, not-true, nat_tests, at_fault, Layout, Address, Outcome, Job, RingView, answer_in, answers_it, open_in, with_answer, Begin, Send, Hear, EndCycle, age_of, begun_by, cycles_open, at_len, is_place, outcomes_in, Known, MemberView, known_of, member, tasks_for, Past, Turn, Call, after_at, after_at_of, after_taken, count_addressed, fall_at, fall_of, first_place, goes_on, has_lost_at, has_lost_mst, is_at_limit, is_done, is_mst, is_taken, new_epoch, next_phase, outcomes, place_of, still_waiting, restart_told, CycleView, EventsView, Fall, MstLost, AtLost, StepLimit, Carry, Restarts, heard, passage, mst_in, ats_in, IsRun, IsNext, at_calls, begins, drive_at, looks_back, master_calls, middle, no_events, own_mst, station_of, with_at, at_start, behind_ats, behind_mdt, behind_mst, IsOpened, AreTo, FallsHaveCause, HasCause, Identification, IsLate, IsOpenFor, MissesAt, MissesMst, MstComesFirst, NoneReads, NoneReadsIn, comes_back, was_sent, first_found, head_fault}
+use Rattle.sercos_law_run.proofs.Words.{◌≡◌, ℕ, zero, suc, ◌+◌, ◌<◌, ◌≤◌, ◌==◌, Bool, true, false, not, ◌&&◌, List, [], ◌∷◌, length, Option, Some, None, refl, sym, ◌∙◌, ap, subst, arith, if◌then◌else◌, nat_le, min, is_some, is_none, option_map, slice_index, unwrap_or, then_some, option_or, and_parts, false_from_ne_true, false≢true, not-true, nat_tests, at_fault, Layout, Address, Outcome, Job, RingView, answer_in, answers_it, open_in, with_answer, Begin, Send, Hear, EndCycle, age_of, begun_by, cycles_open, at_len, is_place, outcomes_in, Known, MemberView, known_of, member, tasks_for, Past, Turn, Call, after_at, after_at_of, after_taken, count_addressed, fall_at, fall_of, first_place, goes_on, has_lost_at, has_lost_mst, is_at_limit, is_done, is_mst, is_taken, new_epoch, next_phase, outcomes, place_of, still_waiting, restart_told, CycleView, EventsView, Fall, MstLost, AtLost, StepLimit, Carry, Restarts, heard, passage, mst_in, ats_in, IsRun, IsNext, at_calls, begins, drive_at, looks_back, master_calls, middle, no_events, own_mst, station_of, with_at, at_start, behind_ats, behind_mdt, behind_mst, IsOpened, AreTo, FallsHaveCause, HasCause, Identification, IsLate, IsOpenFor, MissesAt, MissesMst, MstComesFirst, NoneReads, NoneReadsIn, comes_back, was_sent, first_found, head_fault, cases_Bool, cases_Option, inl, inr}
 use Rattle.std.proofs.Common.{eq-eqb}
 use Rattle.sercos_telegram.specs.declared.layout.Layout.TheVariants.{Length}
 use Rattle.sercos_telegram.specs.declared.layout.Kind.TheVariants as kinds
@@ -12,6 +12,7 @@ use Rattle.sercos_law_run.proofs.Undisturbed.NoFalls.{heard_mdt}
 use Rattle.sercos_law_run.proofs.Views.MasterSame.{SameTurn, begun_cycle, turn_mdt}
 use Rattle.sercos_law_run.proofs.Views.Members.{member_is, members_count}
 use Rattle.sercos_law_run.proofs.Views.ViewRuns.{started}
+use Rattle.sercos_law_run.proofs.Undisturbed.Arriving.AfterAt.{after_at_so, ats_keep}
 
 -- Without an age no record was sent for the open step.
 never_sent : (h : List channel.Call) → is_some (open_in (begun_by h)) ≡ true → age_of h ≡ None → was_sent h ≡ false
@@ -20,18 +21,14 @@ never_sent (Begin r ∷ h) waits none = refl
 never_sent (Send ∷ h) waits none =
     let some : Some (unwrap_or (age_of h) 0) ≡ None = sym (ap (λ (b : Bool). if b then Some (unwrap_or (age_of h) 0) else None) waits) ∙ none in
     absurd (cc)
-never_sent (EndCycle ∷ h) waits none = never_sent h waits (by (age_of h) none)
-  where
-    by : (o : Option ℕ) → option_map (λ age. age + 1) o ≡ None → o ≡ None
-    by None none = refl
-    by (Some n) none = absurd (cc)
-never_sent (Hear status word ∷ h) waits none = by (answers_it (begun_by h) status) waits none (never_sent h)
-  where
-    by : (answers : Bool) → is_some (open_in (if answers then with_answer (answer_in status word) (begun_by h) else begun_by h)) ≡ true
-        → (if answers then None else age_of h) ≡ None
-        → (is_some (open_in (begun_by h)) ≡ true → age_of h ≡ None → was_sent h ≡ false) → (not answers && was_sent h) ≡ false
-    by true waits none before = refl
-    by false waits none before = before waits none
+never_sent (EndCycle ∷ h) waits none = never_sent h waits (elim (cases_Option (age_of h)) [
+  | inl is ↦ rw is
+  | inr (n, some) ↦ let none = rw some at none in absurd (cc)
+])
+never_sent (Hear status word ∷ h) waits none = elim (cases_Bool (answers_it (begun_by h) status)) [
+  | inl on ↦ rw on
+  | inr off ↦ rw off ((never_sent h) (rw off at waits) (rw off at none))
+]
 
 -- A STEP is open for as many cycles as its age has.
 abbrev IsOpenAt : List channel.Call → Type 0
@@ -48,14 +45,21 @@ open_for (EndCycle ∷ h) n e = by (age_of h) refl e (open_for h)
         let since = more m is in
         let next : m + 1 ≡ n = cc in
         record { newer = EndCycle ∷ since.newer; older = since.older; split = ap (λ (c : List channel.Call). EndCycle ∷ c) since.split; waits = since.waits; first = since.first; same = since.same; count = ap (λ (m : ℕ). m + 1) since.count ∙ next }
-open_for (Hear status word ∷ h) n e = by (answers_it (begun_by h) status) refl e (open_for h)
-  where
-    by : (answers : Bool) → answers_it (begun_by h) status ≡ answers → (if answers then None else age_of h) ≡ Some n → IsOpenAt h
-        → IsOpenFor (Hear status word ∷ h) n
-    by true is e more = cc
-    by false is e more =
-        let since = more n e in
-        record { newer = Hear status word ∷ since.newer; older = since.older; split = ap (λ (c : List channel.Call). Hear status word ∷ c) since.split; waits = since.waits; first = since.first; same = rw is since.same; count = since.count }
+open_for (Hear status word ∷ h) n e = elim (cases_Bool (answers_it (begun_by h) status)) [
+  | inl is ↦ let e = rw is at e in cc
+  | inr is ↦
+      let since = (open_for h) n (rw is at e) in
+      record {
+        newer = Hear status word ∷ since.newer;
+        older = since.older;
+        split = ap (λ (c : List channel.Call). Hear status word ∷ c)
+            since.split;
+        waits = since.waits;
+        first = since.first;
+        same = rw is since.same;
+        count = since.count;
+      }
+]
 open_for (Send ∷ h) n e = by (is_some (open_in (begun_by h))) refl (age_of h) refl e (open_for h)
   where
     by : (waits : Bool) → is_some (open_in (begun_by h)) ≡ waits → (o : Option ℕ) → age_of h ≡ o
@@ -68,14 +72,13 @@ open_for (Send ∷ h) n e = by (is_some (open_in (begun_by h))) refl (age_of h) 
         record { newer = Send ∷ since.newer; older = since.older; split = ap (λ (c : List channel.Call). Send ∷ c) since.split; waits = since.waits; first = since.first; same = since.same; count = since.count ∙ same }
 
 late_step : (h : List channel.Call) → nat_le 64 (cycles_open h) ≡ true → ((n : ℕ) → age_of h ≡ Some n → n ≤ 64) → IsOpenFor h 64
-late_step h late few = by (age_of h) refl late
-  where
-    by : (o : Option ℕ) → age_of h ≡ o → nat_le 64 (min (unwrap_or o 0) 64) ≡ true → IsOpenFor h 64
-    by None is late = absurd (false≢true late)
-    by (Some n) is late =
-        let most = few n is in
-        let least : 64 ≤ n = grind (arith, nat_tests, late) in
-        open_for h 64 (is ∙ ap Some (omega (arith, most, least)))
+late_step h late few = elim (cases_Option (age_of h)) [
+  | inl is ↦ absurd (false≢true (rw is at late))
+  | inr (n, is) ↦
+      let most = few n is in
+      let least : 64 ≤ n = grind (arith, nat_tests, (rw is at late)) in
+      open_for h 64 (is ∙ ap Some (omega (arith, most, least)))
+]
 
 -- AN IDENTIFICATION goes to one drive.
 are_to : (k n : ℕ) (turns : List Turn) → n ≤ count_addressed k turns → AreTo k n turns
@@ -99,18 +102,15 @@ no_more k (suc n) (t ∷ turns) are =
     let one = ap (λ (b : Bool). if b then count_addressed k turns + 1 else 0) on in omega (arith, rest, one)
 
 late_so : (p : Past) (k : ℕ) → IsWithin p k → is_at_limit p k ≡ true → IsLate p k
-late_so p k within limit = by (p.now.phase == 1) refl limit
-  where
-    by : (b : Bool) → (p.now.phase == 1) ≡ b
-        → (if b then is_place k p.now.addressed && nat_le 64 (count_addressed k p.turns) else nat_le 64 (cycles_open (p.calls k))) ≡ true
-        → IsLate p k
-    by true one limit =
-        let (to, many) = and_parts (is_place k p.now.addressed) (nat_le 64 (count_addressed k p.turns)) limit in
-        let is : p.now.phase ≡ 1 = grind (arith, nat_tests, one) in
-        let few = within.few in
-        Identification is (is, place_so k p.now.addressed to, are_to k 64 p.turns (grind (arith, nat_tests, many)))
-        (λ are. let more = no_more k 65 p.turns are.2 in omega (arith, few, more))
-    by false one limit = Step (late_step (p.calls k) limit within.aged.1)
+late_so p k within limit = elim (cases_Bool (p.now.phase == 1)) [
+  | inl one ↦
+      let (to, many) = and_parts (is_place k p.now.addressed) (nat_le 64 (count_addressed k p.turns)) (rw one at limit) in
+      let is : p.now.phase ≡ 1 = grind (arith, nat_tests, one) in
+      let few = within.few in
+      Identification is (is, place_so k p.now.addressed to, are_to k 64 p.turns (grind (arith, nat_tests, many)))
+      (λ are. let more = no_more k 65 p.turns are.2 in omega (arith, few, more))
+  | inr one ↦ Step (late_step (p.calls k) (rw one at limit) within.aged.1)
+]
 
 -- THE ATS of a cycle, as the master takes them. A place from which none was taken has its channel as before.
 record AtsLeave (k : ℕ) (q p : Past) : Type 0 where
@@ -131,23 +131,13 @@ leaves_then k q p o one two = record {
 }
 
 at_leaves : (s : Known) (k : ℕ) (content : List ℕ) (q : Past) → AtsLeave k q (after_at s content q)
-at_leaves s k content q = by (place_of s (slice_index content 0))
+at_leaves s k content q = after_at_so (λ x. AtsLeave k q x) s content q (leaves_same k q)
+    (λ i. record { phase_is = refl; whole_is = refl; turns_are = refl; quiet = which (k == i) _ })
   where
-    taken : (i : ℕ) → AtsLeave k q (after_taken i content q)
-    taken i = record { phase_is = refl; whole_is = refl; turns_are = refl; quiet = which (k == i) _ }
-      where
-        which : (same : Bool) (calls : List channel.Call) → (if same then true else q.now.heard k) ≡ false
-            → (q.now.heard k ≡ false) × ((if same then calls else q.calls k) ≡ q.calls k)
-        which true calls none = absurd (false≢true (sym none))
-        which false calls none = (none, refl)
-
-    by : (o : Option ℕ) → AtsLeave k q (after_at_of s o content q)
-    by None = leaves_same k q
-    by (Some i) = which (is_taken s q i content)
-      where
-        which : (b : Bool) → AtsLeave k q (if b then after_taken i content q else q)
-        which true = taken i
-        which false = leaves_same k q
+    which : (same : Bool) (calls : List channel.Call) → (if same then true else q.now.heard k) ≡ false
+        → (q.now.heard k ≡ false) × ((if same then calls else q.calls k) ≡ q.calls k)
+    which true calls none = absurd (false≢true (sym none))
+    which false calls none = (none, refl)
 
 -- a place from which none is taken in phases 3 and 4 gets none that reads
 unread : (s : Known) (k : ℕ) (content : List ℕ) (q : Past) → place_of s (slice_index content 0) ≡ Some k → 3 ≤ q.now.phase
@@ -177,12 +167,7 @@ unread s k content q found late none =
 other_address : (address len : ℕ) (content : List ℕ) → (slice_index content 0 == address) ≡ false
     → is_some (at_fault address len content) ≡ true
 unfolding head_fault
-other_address address len content other = rw other (by (length content == 1 + len))
-  where
-    by : (b : Bool)
-        → is_some (option_or (then_some (not b) (Length (length content) (1 + len))) (Some (Address (slice_index content 0) address))) ≡ true
-    by true = refl
-    by false = refl
+other_address address len content other = rw other (elim (cases_Bool (length content == 1 + len)) [ inl on ↦ rw on | inr off ↦ rw off ])
 
 some_so : (o : Option Layout) → is_none o ≡ false → is_some o ≡ true
 some_so None e = absurd (false≢true (sym e))
@@ -228,36 +213,28 @@ module _ (r : RingView) (jobs : List Job) (carry : Carry) (restarts : Restarts) 
               → (after_at (known_of r) got (looks_back r jobs h)).calls k ≡ (looks_back r jobs h).calls k
               → 3 ≤ (looks_back r jobs h).now.phase
               → is_some (at_fault (drive_at r k).address (at_len (member (known_of r) k) (outcomes last k)) got) ≡ true
-          reads before calls same late = which (slice_index got 0 == (drive_at r k).address) refl
+          reads before calls same late = elim (cases_Bool (slice_index got 0 == (drive_at r k).address)) [
+            | inl own ↦
+                let mine : slice_index got 0 ≡ (drive_at r k).address = grind (arith, nat_tests, own) in
+                let found : place_of (known_of r) (slice_index got 0) ≡ Some k = ap (place_of (known_of r)) mine ∙ place_found r k opened.valid below in
+                let address : (member (known_of r) k).address ≡ (drive_at r k).address = ap (λ (m : MemberView). m.address) (member_is r k) in
+                some_so _ (ap (λ (l : List Outcome). is_none (at_fault (drive_at r k).address (at_len (member (known_of r) k) l) got)) (sym outs)
+                ∙ ap (λ (a : ℕ). is_none (at_fault a (at_len (member (known_of r) k) (outcomes (looks_back r jobs h) k)) got)) (sym address)
+                ∙ unread (known_of r) k got (looks_back r jobs h) found late before)
+            | inr other ↦ other_address (drive_at r k).address (at_len (member (known_of r) k) (outcomes last k)) got other
+          ]
             where
               outs : outcomes (looks_back r jobs h) k ≡ outcomes last k
               outs = ap (λ (c : List channel.Call). outcomes_in (begun_by c)) (sym same ∙ sym calls)
-
-              which : (b : Bool) → (slice_index got 0 == (drive_at r k).address) ≡ b
-                  → is_some (at_fault (drive_at r k).address (at_len (member (known_of r) k) (outcomes last k)) got) ≡ true
-              which false other = other_address (drive_at r k).address (at_len (member (known_of r) k) (outcomes last k)) got other
-              which true own =
-                  let mine : slice_index got 0 ≡ (drive_at r k).address = grind (arith, nat_tests, own) in
-                  let found : place_of (known_of r) (slice_index got 0) ≡ Some k = ap (place_of (known_of r)) mine ∙ place_found r k opened.valid below in
-                  let address : (member (known_of r) k).address ≡ (drive_at r k).address = ap (λ (m : MemberView). m.address) (member_is r k) in
-                  some_so _ (ap (λ (l : List Outcome). is_none (at_fault (drive_at r k).address (at_len (member (known_of r) k) l) got)) (sym outs)
-                  ∙ ap (λ (a : ℕ). is_none (at_fault a (at_len (member (known_of r) k) (outcomes (looks_back r jobs h) k)) got)) (sym address)
-                  ∙ unread (known_of r) k got (looks_back r jobs h) found late before)
 
   -- THE TURN of a cycle.
   -- it is there whether or not the ring has drives
   ats_turn : (cycle : ℕ) (ats : List (List ℕ)) (h : List Call)
       → SameTurn (looks_back r jobs (at_calls r carry cycle ats h)) (looks_back r jobs h)
-  ats_turn cycle [] h = record { phase_is = refl; whole_is = refl; turns_are = refl }
-  ats_turn cycle (at ∷ ats) h = by (heard carry (passage cycle kinds.At (station_of r (slice_index at 0)) 0) at) (λ (o : Option (List ℕ)). ats_turn cycle ats (with_at o h))
-    where
-      by : (o : Option (List ℕ)) → ((o : Option (List ℕ)) → SameTurn (looks_back r jobs (at_calls r carry cycle ats (with_at o h))) (looks_back r jobs (with_at o h)))
-          → SameTurn (looks_back r jobs (at_calls r carry cycle ats (with_at o h))) (looks_back r jobs h)
-      by None more = more None
-      by (Some got) more =
-          let rest = more (Some got) in
-          let first = at_leaves (known_of r) 0 got (looks_back r jobs h) in
-          record { phase_is = rest.phase_is ∙ first.phase_is; whole_is = rest.whole_is ∙ first.whole_is; turns_are = rest.turns_are ∙ first.turns_are }
+  ats_turn cycle ats h = ats_keep (λ g. SameTurn (looks_back r jobs g) (looks_back r jobs h)) r carry cycle ats h
+      (record { phase_is = refl; whole_is = refl; turns_are = refl })
+      (λ content g so. after_at_so (λ p. SameTurn p (looks_back r jobs h)) (known_of r) content (looks_back r jobs g) so
+      (λ k. record { phase_is = so.phase_is; whole_is = so.whole_is; turns_are = so.turns_are }))
 
   turn_at : (t : CycleView) (j : List CycleView)
       → SameTurn (behind_mdt r jobs carry restarts t.sent j) (behind_mst r jobs carry restarts t.sent j)
@@ -294,11 +271,7 @@ module _ (r : RingView) (jobs : List Job) (carry : Carry) (restarts : Restarts) 
   turn_before t j b rest is = by (restarts (length j) 0) j (started r jobs (restarts (length j) 0) (master_calls r carry restarts j)) (sym (turn_at t j).turns_are ∙ is) refl
     where
       up : (s : Known) (p : Past) → p.now.phase ≤ next_phase s p
-      up s p = which (is_done s p)
-        where
-          which : (b : Bool) → p.now.phase ≤ (if b then p.now.phase + 1 else p.now.phase)
-          which true = omega arith
-          which false = omega arith
+      up s p = elim (cases_Bool (is_done s p)) [ inl on ↦ rw on (omega arith) | inr off ↦ rw off (omega arith) ]
 
       last : (u : CycleView) (older : List CycleView) → (b' : Bool) → (p : Past) → p ≡ (behind_mdt r jobs carry restarts u.sent older)
           → (if b' then new_epoch (p.cycle + 1) (still_waiting p) else goes_on (next_phase (known_of r) p) p).turns ≡ b ∷ rest

@@ -1,5 +1,5 @@
 -- In phase 4 no block of a drive has operation data outside its limits.
-use Rattle.sercos_law_run.proofs.Words.{◌≡◌, ℕ, ◌≤◌, ◌==◌, nat_lt, Bool, true, false, cond, not, ◌&&◌, ◌||◌, List, [], ◌∷◌, map, length, Option, Some, None, IfSome, refl, sym, ◌∙◌, ap, ap₂, subst, arith, if◌then◌else◌, option_map, list_all, filter, and_parts, false≢true, nat_tests, none_of-or, Attribute, Block, is_number, blocks_fault, find_block, with_data, write_fault, data_fault, put_fault, is_below, is_above, DriveView, with_data-nowhere, is_outside, is_passed-kept, may_rise, FitInFour, attribute_of, attribute_fault, attribute_in, row_in, built_in_attribute, block_attribute, are_ascending, unfit_for_phase_4}
+use Rattle.sercos_law_run.proofs.Words.{◌≡◌, ℕ, ◌≤◌, ◌==◌, nat_lt, Bool, true, false, cond, not, ◌&&◌, ◌||◌, List, [], ◌∷◌, map, length, Option, Some, None, IfSome, refl, sym, ◌∙◌, ap, ap₂, subst, arith, if◌then◌else◌, option_map, list_all, filter, and_parts, false≢true, nat_tests, none_of-or, Attribute, Block, is_number, blocks_fault, find_block, with_data, write_fault, data_fault, put_fault, is_below, is_above, DriveView, with_data-nowhere, is_outside, is_passed-kept, may_rise, FitInFour, attribute_of, attribute_fault, attribute_in, row_in, built_in_attribute, block_attribute, are_ascending, unfit_for_phase_4, cases_Bool, cases_Option, inl, inr, or_from}
 use Rattle.sercos_drive.specs.Moments.{calls_in}
 use Rattle.sercos_law_run.proofs.Undisturbed.Checks.OwnInside.{within}
 use Rattle.sercos_law_run.proofs.Start.BlockFinds.{same_attribute}
@@ -14,24 +14,18 @@ AreInside blocks = list_all (λ b. not (is_outside b)) blocks ≡ true
 inside_so : (blocks : List Block) → (length (unfit_for_phase_4 blocks) == 0) ≡ true → AreInside blocks
 unfolding unfit_for_phase_4
 inside_so [] none = refl
-inside_so (b ∷ blocks) none = by (is_outside b) none (inside_so blocks)
-  where
-    by : (out : Bool)
-        → (length (map (λ (b : Block). b.idn) (if out then b ∷ filter is_outside blocks else filter is_outside blocks)) == 0) ≡ true
-        → ((length (map (λ (b : Block). b.idn) (filter is_outside blocks)) == 0) ≡ true → AreInside blocks)
-        → (not out && list_all (λ b. not (is_outside b)) blocks) ≡ true
-    by true none more = absurd (grind (arith, nat_tests, none))
-    by false none more = more none
+inside_so (b ∷ blocks) none = elim (cases_Bool (is_outside b)) [
+  | inl on ↦ let more = inside_so blocks in absurd (grind (arith, nat_tests, (rw on at none)))
+  | inr off ↦ rw off ((inside_so blocks) (rw off at none))
+]
 
 none_so : (blocks : List Block) → AreInside blocks → unfit_for_phase_4 blocks ≡ []
 unfolding unfit_for_phase_4
 none_so [] inside = refl
-none_so (b ∷ blocks) inside = by (is_outside b) inside (none_so blocks)
-  where
-    by : (out : Bool) → (not out && list_all (λ b. not (is_outside b)) blocks) ≡ true → (AreInside blocks → map (λ (b : Block). b.idn) (filter is_outside blocks) ≡ [])
-        → map (λ (b : Block). b.idn) (if out then b ∷ filter is_outside blocks else filter is_outside blocks) ≡ []
-    by true inside more = absurd (false≢true inside)
-    by false inside more = more inside
+none_so (b ∷ blocks) inside = elim (cases_Bool (is_outside b)) [
+  | inl on ↦ absurd (false≢true (rw on at inside))
+  | inr off ↦ rw off ((none_so blocks) (rw off at inside))
+]
 
 -- a write that leaves the block inside its limits leaves all of them so
 inside_written : (raw : ℕ) (bytes : List ℕ) (blocks : List Block) → are_ascending blocks ≡ true
@@ -42,17 +36,12 @@ inside_written raw bytes [] up fine inside = refl
 inside_written raw bytes (b ∷ blocks) up fine inside =
     let (above, rest) = and_parts (list_all (λ c. nat_lt b.idn.raw c.idn.raw) blocks) (are_ascending blocks) up in
     let (here, others) = and_parts (not (is_outside b)) (list_all (λ b. not (is_outside b)) blocks) inside in
-    by (b.idn.raw == raw) refl above here others fine (inside_written raw bytes blocks rest)
-  where
-    by : (same : Bool) → (b.idn.raw == raw) ≡ same → list_all (λ c. nat_lt b.idn.raw c.idn.raw) blocks ≡ true
-        → not (is_outside b) ≡ true → AreInside blocks
-        → IfSome (cond same (Some b) (find_block raw blocks)) (λ (b : Block). is_outside (record b { value = bytes }) ≡ false)
-        → (IfSome (find_block raw blocks) (λ (b : Block). is_outside (record b { value = bytes }) ≡ false) → AreInside blocks → AreInside (with_data raw bytes blocks))
-        → (not (is_outside (cond same (record b { value = bytes }) b)) && list_all (λ b. not (is_outside b)) (with_data raw bytes blocks)) ≡ true
-    by true e above here others fine more =
-        let under : raw ≤ b.idn.raw = grind (arith, nat_tests, e) in
-        rw (with_data-nowhere blocks raw bytes (above_none b.idn.raw raw blocks under above), fine) others
-    by false e above here others fine more = rw here (more fine others)
+    (elim (cases_Bool (b.idn.raw == raw)) [
+      | inl e ↦ rw e (let more = inside_written raw bytes blocks rest in
+          let under : raw ≤ b.idn.raw = grind (arith, nat_tests, e) in
+          rw (with_data-nowhere blocks raw bytes (above_none b.idn.raw raw blocks under above), (rw e at fine)) others)
+      | inr e ↦ rw e (rw here ((inside_written raw bytes blocks rest) (rw e at fine) others))
+    ])
 
 -- An accepted write is inside the limits.
 accepted : (o : Option Block) (phase : ℕ) (bytes : List ℕ) → put_fault o phase bytes ≡ None

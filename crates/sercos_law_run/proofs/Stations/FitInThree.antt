@@ -3,9 +3,11 @@ use Rattle.sercos_law_run.proofs.Words.{◌≡◌, ℕ, ◌+◌, ◌≤◌, ◌=
 use Rattle.sercos_command.specs.Checks.{number_at, cyclic_len}
 use Rattle.sercos_drive.specs.Moments.{calls_in}
 use Rattle.sercos_law_run.proofs.Start.BlockFinds.{carry_alike, same_attribute}
-use Rattle.sercos_law_run.proofs.Start.KeptLemmas.{stays, writes_keep}
+use Rattle.sercos_law_run.proofs.Start.KeptLemmas.{bare, in_two, stays, writes_keep}
 use Rattle.sercos_law_run.proofs.Start.WellLemmas.{none_long}
 use Rattle.sercos_law_run.proofs.Stations.KeepsFit.{IsFound, holds_at}
+use Rattle.std.specs.List.{AllByRecursion}
+use Rattle.std.proofs.lemmas.List.Elements.{All-from_recursion, All-weaker, recursion_from_All}
 
 -- The block with a number is no procedure command, and protected in phases 3 and 4.
 pub record IsLater (d : DriveView) (raw : ℕ) : Type 0 where
@@ -20,28 +22,16 @@ of_attribute : (o : Option Block) (a : Attribute) (f : Attribute → Bool) → o
 of_attribute None a f e = cc
 of_attribute (Some b) a f e = let same : b.attribute ≡ a = cc in ap f same
 
-locked : (o : Option Block) (a : Attribute) (phase : ℕ) (bytes : List ℕ) → option_map (λ (b : Block). b.attribute) o ≡ Some a
-    → a.protect3 ≡ true → a.protect4 ≡ true → 3 ≤ phase → put_fault o phase bytes ≡ None → ⊥
-locked None a phase bytes e three four late none = cc
-locked (Some b) a phase bytes e three four late none =
-    let same : b.attribute ≡ a = cc in
-    let (write, _) = none_of-or (write_fault (Some b) phase) (data_fault b bytes) none in
-    let (_, free) = none_of-or (then_some (is_fixed b) 0x7004) (then_some (is_protected b.attribute phase) 0x7005) write in
-    let free_in : is_protected b.attribute phase ≡ false = none_of-then (is_protected b.attribute phase) 0x7005 free in
-    false≢true (sym free_in ∙ ap (λ (x : Attribute). is_protected x phase) same ∙ by (phase == 2) (phase == 3) refl)
-  where
-    by : (two three_is : Bool) → (phase == 2) ≡ two → (if two then a.protect2 else (if three_is then a.protect3 else a.protect4)) ≡ true
-    by true three_is is = absurd (grind (arith, nat_tests, is, late))
-    by false true is = three
-    by false false is = four
-
--- so a write that is accepted there, and one to a procedure command, is to another block
+-- So a write that is accepted there, and one to a procedure command, is to another block
 pub other_later : (d : DriveView) (n : ℕ) (blocks : List Block) (raw phase : ℕ) (bytes : List ℕ) → blocks_fault [] d.blocks ≡ None
     → IsStoreOf d blocks → IsLater d n → 3 ≤ phase
     → put_fault (find_block raw blocks) phase bytes ≡ None → (n == raw) ≡ false
 other_later d n blocks raw phase bytes none is later late fine =
-    other_place n raw (λ same. locked (find_block n blocks) later.attribute phase bytes (same_attribute n d blocks none is ∙ later.has) later.three later.four late
-    (subst (λ (m : ℕ). put_fault (find_block m blocks) phase bytes ≡ None) (sym same) fine))
+    other_place n raw (λ same.
+    let two = in_two later.attribute phase later.three later.four (bare (find_block n blocks) phase bytes later.attribute
+    (same_attribute n d blocks none is ∙ later.has) (subst (λ (m : ℕ). put_fault (find_block m blocks) phase bytes ≡ None) (sym same) fine))
+    in
+    omega (arith, two, late))
 
 pub other_command : (d : DriveView) (n : ℕ) (blocks : List Block) (raw : ℕ) → blocks_fault [] d.blocks ≡ None → IsStoreOf d blocks
     → IsLater d n → is_command blocks raw ≡ true → (n == raw) ≡ false
@@ -53,19 +43,11 @@ other_command d n blocks raw none is later command =
 abbrev looks_at : List ℕ
 looks_at = 1 ∷ 2 ∷ 3 ∷ 4 ∷ 5 ∷ 6 ∷ 7 ∷ 8 ∷ 9 ∷ 10 ∷ 15 ∷ 16 ∷ 24 ∷ 89 ∷ []
 
-abbrev AreEach : (ℕ → Type 0) → List ℕ → Type 0
-AreEach such [] = Unit {0}
-AreEach such (n ∷ numbers) = such n × AreEach such numbers
-
-mapped : (such so : ℕ → Type 0) (numbers : List ℕ) → ((n : ℕ) → such n → so n) → AreEach such numbers → AreEach so numbers
-mapped such so [] give are = tt
-mapped such so (n ∷ numbers) give are = (give n are.0, mapped such so numbers give are.1)
-
 abbrev pub later_by : (d : DriveView) (raw : ℕ) (a : Attribute) → block_attribute d.blocks raw ≡ Some a → a.command ≡ false
     → a.protect3 ≡ true → a.protect4 ≡ true → IsLater d raw
 later_by d raw a has plain three four = record { attribute = a; has = has; plain = plain; three = three; four = four }
 
-all_later : (d : DriveView) → AreEach (IsLater d) looks_at
+all_later : (d : DriveView) → AllByRecursion (IsLater d) looks_at
 unfolding block_attribute built_in_attribute row_in attribute_in attribute_fault attribute_of
 all_later d = (
   later_by d 1 _ refl refl refl refl,
@@ -118,7 +100,7 @@ all_same f g (i ∷ idns) same = ap₂ (λ (m n : Bool). m && n) (same i) (all_s
 
 -- Two stores in which these blocks have the same operation data, and each block is a number in both or in none.
 record LookAlike (blocks others : List Block) : Type 0 where
-  values : AreEach (λ n. data_at others n ≡ data_at blocks n) looks_at
+  values : AllByRecursion (λ n. data_at others n ≡ data_at blocks n) looks_at
   carry : (raw : ℕ) → cyclic_len others raw ≡ cyclic_len blocks raw
 
 unfit_alike : (rate : ℕ) (blocks others : List Block) → LookAlike blocks others
@@ -134,10 +116,12 @@ unfit_alike rate blocks others alike =
 
 -- a write to another block, which leaves the store that of the drive
 alike_by : (d : DriveView) (blocks : List Block) (raw : ℕ) (bytes : List ℕ) → blocks_fault [] d.blocks ≡ None → IsStoreOf d blocks
-    → IsStoreOf d (with_data raw bytes blocks) → AreEach (λ n. (n == raw) ≡ false) looks_at
+    → IsStoreOf d (with_data raw bytes blocks) → AllByRecursion (λ n. (n == raw) ≡ false) looks_at
     → LookAlike blocks (with_data raw bytes blocks)
 alike_by d blocks raw bytes none is after others = record {
-  values = mapped (λ n. (n == raw) ≡ false) (λ n. data_at (with_data raw bytes blocks) n ≡ data_at blocks n) looks_at (λ n other. stays blocks raw n bytes other) others;
+  values = recursion_from_All (λ n. data_at (with_data raw bytes blocks) n ≡ data_at blocks n) looks_at
+      (All-weaker (λ n. (n == raw) ≡ false) _ (λ n other. stays blocks raw n bytes other) looks_at
+      (All-from_recursion (λ n. (n == raw) ≡ false) looks_at others));
   carry = λ i. carry_alike d (with_data raw bytes blocks) none after i ∙ sym (carry_alike d blocks none is i);
 }
 
@@ -146,26 +130,23 @@ module _ (d : DriveView) (rate : ℕ) (none : blocks_fault [] d.blocks ≡ None)
   IsFit blocks = unfit_for_phase_3 rate blocks ≡ []
 
   written : (blocks : List Block) (raw : ℕ) (bytes : List ℕ) → IsStoreOf d blocks → IsStoreOf d (with_data raw bytes blocks)
-      → AreEach (λ n. (n == raw) ≡ false) looks_at → IsFit blocks → IsFit (with_data raw bytes blocks)
+      → AllByRecursion (λ n. (n == raw) ≡ false) looks_at → IsFit blocks → IsFit (with_data raw bytes blocks)
   written blocks raw bytes is after others fit = unfit_alike rate blocks (with_data raw bytes blocks) (alike_by d blocks raw bytes none is after others) ∙ fit
 
-  each_other : (raw : ℕ) → ((n : ℕ) → IsLater d n → (n == raw) ≡ false) → AreEach (λ n. (n == raw) ≡ false) looks_at
-  each_other raw other = mapped (IsLater d) (λ n. (n == raw) ≡ false) looks_at other (all_later d)
-
-  -- the lists of the checks are none of these blocks
-  beside_21 : AreEach (λ n. (n == 21) ≡ false) looks_at
-  beside_21 = (refl, (refl, (refl, (refl, (refl, (refl, (refl, (refl, (refl, (refl, (refl, (refl, (refl, (refl, tt))))))))))))))
-
-  beside_22 : AreEach (λ n. (n == 22) ≡ false) looks_at
-  beside_22 = (refl, (refl, (refl, (refl, (refl, (refl, (refl, (refl, (refl, (refl, (refl, (refl, (refl, (refl, tt))))))))))))))
+  each_other : (raw : ℕ) → ((n : ℕ) → IsLater d n → (n == raw) ≡ false) → AllByRecursion (λ n. (n == raw) ≡ false) looks_at
+  each_other raw other = recursion_from_All (λ n. (n == raw) ≡ false) looks_at
+      (All-weaker (IsLater d) _ other looks_at (All-from_recursion (IsLater d) looks_at (all_later d)))
 
   pub found_in_3 : IsFound d rate 127 3 IsFit
   found_in_3 = record {
     above = omega arith;
     set = λ blocks well. none_long (unfit_for_phase_3 rate blocks) well;
+    -- the lists of the checks are none of the blocks that the check looks at
     listed = λ blocks bytes is fit. (
-      written blocks 21 bytes is.0 ((writes_keep d blocks 21 0 bytes is.1 is.0).1 refl) beside_21 fit,
-      written blocks 22 bytes is.0 ((writes_keep d blocks 22 0 bytes is.1 is.0).1 refl) beside_22 fit,
+      written blocks 21 bytes is.0 ((writes_keep d blocks 21 0 bytes is.1 is.0).1 refl)
+          (refl, (refl, (refl, (refl, (refl, (refl, (refl, (refl, (refl, (refl, (refl, (refl, (refl, (refl, tt)))))))))))))) fit,
+      written blocks 22 bytes is.0 ((writes_keep d blocks 22 0 bytes is.1 is.0).1 refl)
+          (refl, (refl, (refl, (refl, (refl, (refl, (refl, (refl, (refl, (refl, (refl, (refl, (refl, (refl, tt)))))))))))))) fit,
     );
     command = λ blocks raw phase bytes is fine command fit.
         written blocks raw bytes is.0 ((writes_keep d blocks raw phase bytes is.1 is.0).0 fine) (each_other raw (λ n such. other_command d n blocks raw none is.0 such command)) fit;

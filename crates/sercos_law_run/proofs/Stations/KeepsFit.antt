@@ -1,5 +1,5 @@
 -- What a check found of a drive's store stays true in the phases that need the check, whatever the drive is handed.
-use Rattle.sercos_law_run.proofs.Words.{◌≡◌, ℕ, ◌+◌, ◌≤◌, ◌==◌, Bool, true, false, not, ◌&&◌, ◌||◌, List, [], ◌∷◌, Option, Some, None, IfSome, refl, sym, ◌∙◌, arith, if◌then◌else◌, nat_le, is_none, min, and_parts, false≢true, nat_tests, to_cancel, Block, find_block, with_data, put_fault, are_ascending, store_of, DriveView, is_command, ends_well, CommandCall, Wrote, Other, Reset, CommandHistory, with_check_list, find_set, settings, passed_so_far, Write, AreThose, added_on, command_value, blocks_with, calls_with, allowed, Told, DriveCall, Mst, Mdt, mst_got, mdt_got, Moment, phase_in, has_mst, has_missed, records_in, blocks_in, blocks_after, commands_in, calls_after, with_reset, annals, may_rise, stands_in, ends_in, takes, phase_below}
+use Rattle.sercos_law_run.proofs.Words.{◌≡◌, ℕ, ◌+◌, ◌≤◌, ◌==◌, Bool, true, false, not, ◌&&◌, ◌||◌, List, [], ◌∷◌, Option, Some, None, IfSome, refl, sym, ◌∙◌, arith, if◌then◌else◌, nat_le, is_none, min, and_parts, false≢true, nat_tests, to_cancel, Block, find_block, with_data, put_fault, are_ascending, store_of, DriveView, is_command, ends_well, CommandCall, Wrote, Other, Reset, CommandHistory, with_check_list, find_set, settings, passed_so_far, Write, AreThose, added_on, command_value, blocks_with, calls_with, allowed, Told, DriveCall, Mst, Mdt, mst_got, mdt_got, Moment, phase_in, has_mst, has_missed, records_in, blocks_in, blocks_after, commands_in, calls_after, with_reset, annals, may_rise, stands_in, ends_in, takes, phase_below, cases_Bool, inl, inr}
 use Rattle.sercos_drive.specs.Heard.{Restart}
 use Rattle.sercos_drive.specs.Moments.{calls_in}
 use Rattle.sercos_drive.specs.Annals.{processed_in}
@@ -68,31 +68,27 @@ module _ (d : DriveView) (rate check top : ℕ) (P : List Block → Type 0) (fou
       passed_by cycle false cancels so = written (holds.passed cycle so)
       passed_by cycle true true so = written (holds.passed (min cycle w.cycle) so)
       passed_by cycle true false so =
-          either (is_none (find_set check (settings rate calls)) && (ends_well rate check after && nat_le (w.cycle + d.command) cycle)) refl so
-        where
-          either : (now : Bool)
-              → (is_none (find_set check (settings rate calls)) && (ends_well rate check after && nat_le (w.cycle + d.command) cycle)) ≡ now
-              → (now || passed_so_far rate d.command check calls cycle) ≡ true → P after
-          either true now so =
-              let well = (and_parts (is_none (find_set check (settings rate calls))) (ends_well rate check after && nat_le (w.cycle + d.command) cycle) now).1 in
-              found.set after (and_parts (ends_well rate check after) (nat_le (w.cycle + d.command) cycle) well).0
-          either false now so = written (holds.passed cycle so)
+          (elim (cases_Bool (is_none (find_set check (settings rate calls)) &&
+          (ends_well rate check after && nat_le (w.cycle + d.command) cycle))) [
+            | inl now ↦
+                let well = (and_parts (is_none (find_set check (settings rate calls)))
+                (ends_well rate check after && nat_le (w.cycle + d.command) cycle) now).1 in
+                found.set after (and_parts (ends_well rate check after) (nat_le (w.cycle + d.command) cycle) well).0
+            | inr now ↦ written (holds.passed cycle (rw now at so))
+          ])
 
   -- what a record makes of it
   recorded : (blocks : List Block) (calls : List CommandCall) (phase : ℕ) (o : Option Write) (c : CommandHistory) → IsOf d blocks → phase ≤ 4
       → IfSome o (λ (w : Write). put_fault (find_block w.raw blocks) phase w.bytes ≡ None)
       → Holds d rate check top P calls phase blocks → Holds d rate check top P (calls_with o blocks calls) phase (blocks_with o c blocks)
   recorded blocks calls phase None c is below fine holds = holds
-  recorded blocks calls phase (Some w) c is below fine holds = by (is_command blocks w.raw) refl
-    where
-      by : (command : Bool) → is_command blocks w.raw ≡ command
-          → Holds d rate check top P ((if command then Wrote w.raw (command_value w) w.cycle (with_data w.raw w.bytes blocks) else Other w.cycle) ∷ calls) phase
-          (if command then with_check_list c w.raw (command_value w) (with_data w.raw w.bytes blocks) else with_data w.raw w.bytes blocks)
-      by true command = commanded blocks calls phase w c is fine command holds
-      by false command = record {
-        passed = λ cycle so. absurd (false≢true so);
-        stands = λ high. found.later blocks w.raw phase w.bytes is fine high below (holds.stands high);
-      }
+  recorded blocks calls phase (Some w) c is below fine holds = elim (cases_Bool (is_command blocks w.raw)) [
+    | inl command ↦ rw command (commanded blocks calls phase w c is fine command holds)
+    | inr command ↦ rw command (record {
+      passed = λ cycle so. absurd (false≢true so);
+      stands = λ high. found.later blocks w.raw phase w.bytes is fine high below (holds.stands high);
+    })
+  ]
 
   -- what the MST's place makes of it
   at_mst : (past : List Moment) (cycle : ℕ) (o : Option ℕ) → Holds d rate check top P (calls_in past) (phase_in past) (blocks_in d past)
@@ -114,12 +110,7 @@ module _ (d : DriveView) (rate check top : ℕ) (P : List Block → Type 0) (fou
 
       got : (o : Option ℕ)
           → Holds d rate check top P (with_reset (stands_in d rate cycle o past) (calls_in past)) (stands_in d rate cycle o past) (blocks_in d past)
-      got None = by (has_mst past)
-        where
-          by : (b : Bool)
-              → Holds d rate check top P (with_reset (if b then phase_in past else 0) (calls_in past)) (if b then phase_in past else 0) (blocks_in d past)
-          by true = same (phase_in past) before.stands
-          by false = zero
+      got None = elim (cases_Bool (has_mst past)) [ inl on ↦ rw on (same (phase_in past) before.stands) | inr off ↦ rw off zero ]
       got (Some phase) = by (phase == phase_in past) ((phase == phase_in past + 1) && may_rise d rate cycle phase past) refl refl
         where
           by : (stays rises : Bool) → (phase == phase_in past) ≡ stays
@@ -130,13 +121,12 @@ module _ (d : DriveView) (rate check top : ℕ) (P : List Block → Type 0) (fou
           by false true stays rise = same phase up
             where
               up : top ≤ phase → P (blocks_in d past)
-              up high = which (nat_le top (phase_in past)) refl
-                where
-                  which : (b : Bool) → nat_le top (phase_in past) ≡ b → P (blocks_in d past)
-                  which true there = before.stands (grind (arith, nat_tests, there))
-                  which false there =
-                      let (one, has) = and_parts (phase == phase_in past + 1) (may_rise d rate cycle phase past) rise in
-                      before.passed cycle (found.rise cycle phase past high (grind (arith, nat_tests, there, one)) has)
+              up high = elim (cases_Bool (nat_le top (phase_in past))) [
+                | inl there ↦ before.stands (grind (arith, nat_tests, there))
+                | inr there ↦
+                    let (one, has) = and_parts (phase == phase_in past + 1) (may_rise d rate cycle phase past) rise in
+                    before.passed cycle (found.rise cycle phase past high (grind (arith, nat_tests, there, one)) has)
+              ]
 
   -- and what the MDT's place does
   at_mdt : (past : List Moment) (told : Option Told) → phase_in past ≤ 4 → IsOf d (blocks_in d past)
@@ -147,11 +137,10 @@ module _ (d : DriveView) (rate check top : ℕ) (P : List Block → Type 0) (fou
   at_mdt past told below is are before = left (phase_in past) (ends_in told past) _ _ (ends_low told) at
     where
       ends_low : (told : Option Told) → ends_in told past ≤ phase_in past
-      ends_low told = low (nat_le 3 (phase_in past) && (not (takes told past) && has_missed past))
-        where
-          low : (b : Bool) → (if b then 0 else phase_in past) ≤ phase_in past
-          low true = omega arith
-          low false = omega arith
+      ends_low told = elim (cases_Bool (nat_le 3 (phase_in past) && (not (takes told past) && has_missed past))) [
+        | inl on ↦ rw on (omega arith)
+        | inr off ↦ rw off (omega arith)
+      ]
 
       at : Holds d rate check top P (calls_after (processed_in d rate told past) (records_in past) (calls_in past)) (phase_in past)
           (blocks_after (processed_in d rate told past) (records_in past) (blocks_in d past))

@@ -1,5 +1,5 @@
 -- No step is open for more than 64 cycles, and no identification goes to one drive in more: then the ring falls, whatever arrived.
-use Rattle.sercos_law_run.proofs.Words.{◌≡◌, ◌⊎◌, inl, inr, ℕ, ◌+◌, ◌<◌, ◌≤◌, ◌==◌, Bool, true, false, ◌&&◌, List, [], ◌∷◌, length, Option, Some, None, refl, sym, ◌∙◌, ap, subst, arith, if◌then◌else◌, nat_le, min, is_some, option_map, slice_index, unwrap_or, option_or, and_parts, cases_lt, cond_both, false_from_ne_true, or_cases, nat_tests, word_at, status_of, answers_it, open_in, Send, age_of, begun_by, cycles_open, is_place, Known, Task, Fall, Past, Call, HearMst, HearAt, End, Restart, addressed_in, after_mdt, after_taken, count_addressed, fall_at, fall_of, first_place, goes_on, has_lost_at, has_lost_mst, is_at_limit, is_done, is_sent_to, new_epoch, next_phase, past, place_of, ready_to_send, settled, still_waiting, with_begin, leaves, at_keeps, channel_keeps}
+use Rattle.sercos_law_run.proofs.Words.{◌≡◌, ◌⊎◌, inl, inr, ℕ, ◌+◌, ◌<◌, ◌≤◌, ◌==◌, Bool, true, false, ◌&&◌, List, [], ◌∷◌, length, Option, Some, None, refl, sym, ◌∙◌, ap, subst, arith, if◌then◌else◌, nat_le, min, is_some, option_map, slice_index, unwrap_or, option_or, and_parts, cases_lt, cond_both, false_from_ne_true, or_cases, nat_tests, word_at, status_of, answers_it, open_in, Send, age_of, begun_by, cycles_open, is_place, Known, Task, Fall, Past, Call, HearMst, HearAt, End, Restart, addressed_in, after_mdt, after_taken, count_addressed, fall_at, fall_of, first_place, goes_on, has_lost_at, has_lost_mst, is_at_limit, is_done, is_sent_to, new_epoch, next_phase, past, place_of, ready_to_send, settled, still_waiting, with_begin, leaves, at_keeps, channel_keeps, cases_Bool}
 use Rattle.sercos_service_master.specs.Calls as channel
 use Rattle.sercos_trace.specs.declared.events.Fall.TheVariants as fall
 use Rattle.sercos_master.specs.Annals.{Mdt, begins}
@@ -26,14 +26,11 @@ no_first (Some x) a l f is = absurd (cc)
 pub not_at_limit : (s : Known) (p : Past) (k : ℕ) → k < length s.drives → fall_of s p ≡ None → is_at_limit p k ≡ false
 not_at_limit s p k there none = false_from_ne_true (is_at_limit p k) (λ on.
     let some : is_some (first_place s (is_at_limit p)) ≡ true =
-    ap (λ (o : Option ℕ). is_some o) (finds 0 (length s.drives) k (is_at_limit p) low below on).found in
+    ap (λ (o : Option ℕ). is_some o) (finds 0 (length s.drives) k (is_at_limit p) low (omega (arith, there)) on).found in
     never (sym some ∙ ap (λ (o : Option ℕ). is_some o) first))
   where
     low : 0 ≤ k
     low = omega arith
-
-    below : k < 0 + length s.drives
-    below = omega (arith, there)
 
     first : first_place s (is_at_limit p) ≡ None
     first = no_first (if has_lost_mst (p.now ∷ p.turns) then Some fall.MstLost else None)
@@ -66,14 +63,13 @@ older phase next (Some n) low aged off = (
 counted : (p : Past) (k : ℕ) → count_addressed k p.turns ≤ 64
     → (p.now.phase ≡ 1 → (is_place k p.now.addressed && nat_le 64 (count_addressed k p.turns)) ≡ false)
     → count_addressed k (p.now ∷ p.turns) ≤ 64
-counted p k few off = by ((p.now.phase == 1) && is_place k p.now.addressed) refl
-  where
-    by : (b : Bool) → ((p.now.phase == 1) && is_place k p.now.addressed) ≡ b → (if b then count_addressed k p.turns + 1 else 0) ≤ 64
-    by false is = omega arith
-    by true is =
-        let (one, to) = and_parts (p.now.phase == 1) (is_place k p.now.addressed) is in
-        let phase : p.now.phase ≡ 1 = grind (arith, nat_tests, one) in
-        let less : count_addressed k p.turns < 64 = grind (arith, nat_tests, off phase, to) in omega (arith, less)
+counted p k few off = elim (cases_Bool ((p.now.phase == 1) && is_place k p.now.addressed)) [
+  | inl is ↦
+      rw is (let (one, to) = and_parts (p.now.phase == 1) (is_place k p.now.addressed) is in
+      let phase : p.now.phase ≡ 1 = grind (arith, nat_tests, one) in
+      let less : count_addressed k p.turns < 64 = grind (arith, nat_tests, off phase, to) in omega (arith, less))
+  | inr is ↦ rw is (omega arith)
+]
 
 module _ (s : Known) (requests : ℕ → List Task) (k : ℕ) (there : k < length s.drives) where
   fresh : (cycle : ℕ) (waiting : ℕ → List Task) → IsWithin (new_epoch cycle waiting) k

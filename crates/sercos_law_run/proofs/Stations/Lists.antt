@@ -1,11 +1,11 @@
 -- What a drive's lists of invalid operation data contain.
-use Rattle.sercos_law_run.proofs.Words.{◌≡◌, ℕ, ◌==◌, Bool, true, false, not, ◌&&◌, List, [], ◌∷◌, Option, Some, None, IfSome, refl, sym, ◌∙◌, subst, arith, if◌then◌else◌, option_map, unwrap_or, then_some, cond_both, false≢true, nat_tests, option_or, none_of-or, none_of-then, to_cancel, Block, is_fixed, is_protected, built_in_block, built_ins, blocks_fault, has_block, find_block, with_data, write_fault, data_fault, put_fault, are_ascending, store_of, DriveView, data_at, list_bytes, unfit_for_phase_3, unfit_for_phase_4, is_command, CommandCall, Wrote, Other, Reset, is_set, CommandHistory, Write, added_on, command_value, blocks_with, calls_with, allowed, Told, DriveCall, Mst, Mdt, mst_got, mdt_got, Moment, phase_in, records_in, blocks_in, blocks_after, calls_after, with_reset, annals, stands_in, ends_in, IsStoreOf, found_for_3, found_for_4, ListsAreFound, attribute_of, attribute_fault, attribute_in, row_in, built_in_attribute, block_attribute, with_check_list}
+use Rattle.sercos_law_run.proofs.Words.{◌≡◌, ℕ, ◌==◌, Bool, true, false, not, ◌&&◌, List, [], ◌∷◌, Option, Some, None, IfSome, refl, sym, ◌∙◌, subst, arith, if◌then◌else◌, option_map, unwrap_or, then_some, cond_both, false≢true, nat_tests, option_or, none_of-or, none_of-then, to_cancel, Block, is_fixed, is_protected, built_in_block, built_ins, blocks_fault, has_block, find_block, with_data, write_fault, data_fault, put_fault, are_ascending, store_of, DriveView, data_at, list_bytes, unfit_for_phase_3, unfit_for_phase_4, is_command, CommandCall, Wrote, Other, Reset, is_set, CommandHistory, Write, added_on, command_value, blocks_with, calls_with, allowed, Told, DriveCall, Mst, Mdt, mst_got, mdt_got, Moment, phase_in, records_in, blocks_in, blocks_after, calls_after, with_reset, annals, stands_in, ends_in, IsStoreOf, found_for_3, found_for_4, ListsAreFound, attribute_of, attribute_fault, attribute_in, row_in, built_in_attribute, block_attribute, with_check_list, other_place, cases_Bool, inl, inr}
 use Rattle.sercos_drive.specs.Heard.{Restart}
 use Rattle.sercos_drive.specs.Moments.{calls_in}
 use Rattle.sercos_drive.specs.Annals.{processed_in}
 use Rattle.sercos_law_run.proofs.Start.BlockFinds.{find_built_in, find_store_of, same_attribute}
 use Rattle.sercos_law_run.proofs.Start.LaterLemmas.{has_of}
-use Rattle.sercos_law_run.proofs.Start.KeptLemmas.{stays, writes_hold, writes_keep}
+use Rattle.sercos_law_run.proofs.Start.KeptLemmas.{bare, stays, writes_hold, writes_keep}
 use Rattle.sercos_law_run.proofs.Held.Processed.{processed_keeps, taken_at}
 use Rattle.sercos_law_run.proofs.Held.StoreOf.{IsOf, store_of_so}
 use Rattle.sercos_law_run.proofs.Stations.FitInThree.{IsLater, later_by}
@@ -16,21 +16,9 @@ record IsLocked (d : DriveView) (raw : ℕ) : Type 0 where
   later : IsLater d raw
   two : later.attribute.protect2 ≡ true
 
-locked : (o : Option Block) (d : DriveView) (raw phase : ℕ) (bytes : List ℕ) (locks : IsLocked d raw)
-    → option_map (λ (b : Block). b.attribute) o ≡ Some locks.later.attribute → put_fault o phase bytes ≡ None → ⊥
-locked None d raw phase bytes locks e none = cc
-locked (Some b) d raw phase bytes locks e none =
-    let same : b.attribute ≡ locks.later.attribute = cc in
-    let (write, _) = none_of-or (write_fault (Some b) phase) (data_fault b bytes) none in
-    let (_, free) = none_of-or (then_some (is_fixed b) 0x7004) (then_some (is_protected b.attribute phase) 0x7005) write in
-    let may : is_protected b.attribute phase ≡ false = none_of-then (is_protected b.attribute phase) 0x7005 free in
-    false≢true (sym may ∙ rw same (by (phase == 2) (phase == 3)))
-  where
-    by : (two three : Bool)
-        → (if two then locks.later.attribute.protect2 else (if three then locks.later.attribute.protect3 else locks.later.attribute.protect4)) ≡ true
-    by true three = locks.two
-    by false true = locks.later.three
-    by false false = locks.later.four
+locked : (d : DriveView) (raw phase : ℕ) (locks : IsLocked d raw) → is_protected locks.later.attribute phase ≡ true
+locked d raw phase locks = cond_both (phase == 2) _ _ (λ v. v ≡ true) (λ on. locks.two)
+    (λ off. cond_both (phase == 3) _ _ (λ v. v ≡ true) (λ on. locks.later.three) (λ other. locks.later.four))
 
 module _ (d : DriveView) (rate : ℕ) (none : blocks_fault [] d.blocks ≡ None) where
   locks_21 : IsLocked d 21
@@ -43,13 +31,11 @@ module _ (d : DriveView) (rate : ℕ) (none : blocks_fault [] d.blocks ≡ None)
 
   other : (n : ℕ) → IsLocked d n → (blocks : List Block) (raw phase : ℕ) (bytes : List ℕ) → IsStoreOf d blocks
       → put_fault (find_block raw blocks) phase bytes ≡ None → (n == raw) ≡ false
-  other n locks blocks raw phase bytes is fine = by (n == raw) refl
-    where
-      by : (b : Bool) → (n == raw) ≡ b → b ≡ false
-      by false e = refl
-      by true e =
-          let same : raw ≡ n = grind (arith, nat_tests, e) in
-          absurd (locked (find_block n blocks) d n phase bytes locks (same_attribute n d blocks none is ∙ locks.later.has) (subst (λ (m : ℕ). put_fault (find_block m blocks) phase bytes ≡ None) same fine))
+  other n locks blocks raw phase bytes is fine = other_place n raw
+      (λ same. false≢true (sym (bare (find_block n blocks) phase bytes locks.later.attribute
+      (same_attribute n d blocks none is ∙ locks.later.has)
+      (subst (λ (m : ℕ). put_fault (find_block m blocks) phase bytes ≡ None) (sym same) fine))
+      ∙ locked d n phase locks))
 
   abbrev Contain : List CommandCall → List Block → Type 0
   Contain calls blocks = (data_at blocks 21 ≡ list_bytes (found_for_3 rate calls)) × (data_at blocks 22 ≡ list_bytes (found_for_4 rate calls))
@@ -87,7 +73,11 @@ module _ (d : DriveView) (rate : ℕ) (none : blocks_fault [] d.blocks ≡ None)
       → IfSome o (λ (w : Write). put_fault (find_block w.raw blocks) phase w.bytes ≡ None)
       → Contain calls blocks → Contain (calls_with o blocks calls) (blocks_with o (commands calls) blocks)
   recorded blocks calls phase None is fine has = has
-  recorded blocks calls phase (Some w) is fine has = by (is_command blocks w.raw)
+  recorded blocks calls phase (Some w) is fine has = elim (cases_Bool (is_command blocks w.raw)) [
+    | inl on ↦
+        rw on (listed w.raw (command_value w) w.cycle after calls ((writes_keep d blocks w.raw phase w.bytes is.1 is.0).0 fine) written)
+    | inr off ↦ rw off written
+  ]
     where
       after : List Block
       after = with_data w.raw w.bytes blocks
@@ -97,11 +87,6 @@ module _ (d : DriveView) (rate : ℕ) (none : blocks_fault [] d.blocks ≡ None)
         stays blocks w.raw 21 w.bytes (other 21 locks_21 blocks w.raw phase w.bytes is.0 fine) ∙ has.0,
         stays blocks w.raw 22 w.bytes (other 22 locks_22 blocks w.raw phase w.bytes is.0 fine) ∙ has.1,
       )
-
-      by : (command : Bool)
-          → Contain ((if command then Wrote w.raw (command_value w) w.cycle after else Other w.cycle) ∷ calls) (if command then with_check_list (commands calls) w.raw (command_value w) after else after)
-      by true = listed w.raw (command_value w) w.cycle after calls ((writes_keep d blocks w.raw phase w.bytes is.1 is.0).0 fine) written
-      by false = written
 
   kept_by : (phase : ℕ) (calls : List CommandCall) (blocks : List Block) → Contain calls blocks → Contain (with_reset phase calls) blocks
   kept_by phase calls blocks has = cond_both (phase == 0) (Reset ∷ calls) calls (λ v. Contain v blocks) (λ on. has) (λ off. has)

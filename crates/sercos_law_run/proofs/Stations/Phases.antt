@@ -1,5 +1,5 @@
 -- In which phase a drive stands, and why.
-use Rattle.sercos_law_run.proofs.Words.{◌≡◌, ◌⊎◌, inl, inr, ℕ, ◌+◌, ◌≤◌, ◌==◌, Bool, true, false, not, ◌&&◌, ◌||◌, List, [], ◌∷◌, Option, Some, None, IfSome, refl, sym, ◌∙◌, ap, subst, arith, if◌then◌else◌, nat_le, is_some, and_parts, false≢true, nat_tests, DriveView, is_passed, Told, DriveCall, Mst, Mdt, mst_got, mdt_got, Moment, phase_in, has_mst, has_missed, annals, phase_at, store_at, may_rise, stands_in, ends_in, takes, mst_below, newest_got, IsByMst, StandsByMst, Rises, HasPassed, RisesByOne, misses, missed_before, Drops, ByPhase, ByMst, ByMdt, ByRestart, DropsByCause}
+use Rattle.sercos_law_run.proofs.Words.{◌≡◌, ◌⊎◌, inl, inr, ℕ, ◌+◌, ◌≤◌, ◌==◌, Bool, true, false, not, ◌&&◌, ◌||◌, List, [], ◌∷◌, Option, Some, None, IfSome, refl, sym, ◌∙◌, ap, subst, arith, if◌then◌else◌, nat_le, is_some, and_parts, false≢true, nat_tests, DriveView, is_passed, Told, DriveCall, Mst, Mdt, mst_got, mdt_got, Moment, phase_in, has_mst, has_missed, annals, phase_at, store_at, may_rise, stands_in, ends_in, takes, mst_below, newest_got, IsByMst, StandsByMst, Rises, HasPassed, RisesByOne, misses, missed_before, Drops, ByPhase, ByMst, ByMdt, ByRestart, DropsByCause, cases_Bool}
 use Rattle.sercos_drive.specs.Heard.{Restart}
 use Rattle.sercos_drive.specs.Moments.{calls_in}
 
@@ -15,11 +15,10 @@ none_got (Some n) e = cc
 
 -- an MDT is missed if it isn't taken
 missing : (phase : ℕ) (mst told : Bool) → (nat_le 3 phase && not (mst && (nat_le 1 phase && told))) ≡ (nat_le 3 phase && not (mst && told))
-missing phase mst told = by (nat_le 3 phase) refl
-  where
-    by : (high : Bool) → nat_le 3 phase ≡ high → (high && not (mst && (nat_le 1 phase && told))) ≡ (high && not (mst && told))
-    by true high = let one : nat_le 1 phase ≡ true = grind (arith, nat_tests, high) in rw one refl
-    by false high = refl
+missing phase mst told = elim (cases_Bool (nat_le 3 phase)) [
+  | inl high ↦ rw high (let one : nat_le 1 phase ≡ true = grind (arith, nat_tests, high) in rw one refl)
+  | inr high ↦ rw high
+]
 
 missed_same : (d : DriveView) (rate : ℕ) (h : List DriveCall) → has_missed (annals d rate h) ≡ missed_before d rate h
 missed_same d rate [] = refl
@@ -31,11 +30,10 @@ missed_same d rate (Restart ∷ h) = refl
 
 -- an MDT's place leaves the phase, or it takes the drive to phase 0
 ends_so : (told : Option Told) (past : List Moment) → (ends_in told past ≡ phase_in past) ⊎ (ends_in told past ≡ 0)
-ends_so told past = by (nat_le 3 (phase_in past) && (not (takes told past) && has_missed past))
-  where
-    by : (b : Bool) → ((if b then 0 else phase_in past) ≡ phase_in past) ⊎ ((if b then 0 else phase_in past) ≡ 0)
-    by true = inr refl
-    by false = inl refl
+ends_so told past = elim (cases_Bool (nat_le 3 (phase_in past) && (not (takes told past) && has_missed past))) [
+  | inl on ↦ rw on (inr refl)
+  | inr off ↦ rw off (inl refl)
+]
 
 abbrev StandsSo : List DriveCall → ℕ → Type 0
 StandsSo h phase = 1 ≤ phase → IsByMst h phase
@@ -64,11 +62,13 @@ stands_by_mst d rate (Mst cycle content ∷ h) high = got (mst_got content) refl
         by : (b : Bool) → b ≡ is_some (newest_got h) → 1 ≤ (if b then phase_at d rate h else 0)
             → GotSo h None (if b then phase_at d rate h else 0)
         by false none high = absurd (omega (arith, high))
-        by true some high = inr (refl, which (before high))
-          where
-            which : IsByMst h (phase_at d rate h) → newest_got h ≡ Some (phase_at d rate h)
-            which (inl is) = is
-            which (inr none) = absurd (false≢true (sym (ap is_some none.0) ∙ sym some))
+        by true some high = inr (
+          refl,
+          elim (before high) [
+            | inl is ↦ is
+            | inr none ↦ absurd (false≢true (sym (ap is_some none.0) ∙ sym some))
+          ],
+        )
     got (Some phase) is high before = inl (ap Some (by (phase == phase_at d rate h) ((phase == phase_at d rate h + 1) && may_rise d rate cycle phase (annals d rate h)) high))
       where
         by : (stays rises : Bool) → 1 ≤ (if stays then phase else (if rises then phase else 0))
@@ -100,14 +100,10 @@ Moves d rate call h after = after ≡ phase_at d rate (call ∷ h) → (after �
 
 pub rises_by_one : RisesByOne
 rises_by_one d rate Restart h = inr (inl refl)
-rises_by_one d rate (Mdt content) h = by (ends_so (mdt_got d.address (phase_at d rate h) (store_at d rate h) content) (annals d rate h))
-  where
-    after : ℕ
-    after = phase_at d rate (Mdt content ∷ h)
-
-    by : (after ≡ phase_at d rate h) ⊎ (after ≡ 0) → (after ≡ phase_at d rate h) ⊎ ((after ≡ 0) ⊎ Rises d rate (Mdt content) h)
-    by (inl same) = inl same
-    by (inr zero) = inr (inl zero)
+rises_by_one d rate (Mdt content) h = elim (ends_so (mdt_got d.address (phase_at d rate h) (store_at d rate h) content) (annals d rate h)) [
+  | inl same ↦ inl same
+  | inr zero ↦ inr (inl zero)
+]
 rises_by_one d rate (Mst cycle content) h = got (mst_got content) refl refl
   where
     got : (o : Option ℕ) → mst_got content ≡ o → Moves d rate (Mst cycle content) h (stands_in d rate cycle o (annals d rate h))
@@ -147,26 +143,23 @@ now_same d rate content h = missed_same d rate (Mdt content ∷ h)
 drops_so : (d : DriveView) (rate : ℕ) (call : DriveCall) (h : List DriveCall) → 1 ≤ phase_at d rate h → phase_at d rate (call ∷ h) ≡ 0
     → Drops d rate call h
 drops_so d rate Restart h high zero = ByRestart refl
-drops_so d rate (Mdt content) h high zero = by (nat_le 3 (phase_at d rate h) && (not took && has_missed (annals d rate h))) refl zero
+drops_so d rate (Mdt content) h high zero = elim (cases_Bool (nat_le 3 (phase_at d rate h) && (not took && has_missed (annals d rate h)))) [
+  | inl is ↦
+      let (late, both) = and_parts (nat_le 3 (phase_at d rate h)) (not took && has_missed (annals d rate h)) is in
+      let (none, before) = and_parts (not took) (has_missed (annals d rate h)) both in
+      ByMdt content refl (sym (now_same d rate content h) ∙ rw (late, none) refl) (sym (missed_same d rate h) ∙ before)
+  | inr is ↦ absurd (omega (arith, high, (rw is at zero)))
+]
   where
     took : Bool
     took = takes (mdt_got d.address (phase_at d rate h) (store_at d rate h) content) (annals d rate h)
-
-    by : (b : Bool) → (nat_le 3 (phase_at d rate h) && (not took && has_missed (annals d rate h))) ≡ b
-        → (if b then 0 else phase_at d rate h) ≡ 0 → Drops d rate (Mdt content) h
-    by true is zero =
-        let (late, both) = and_parts (nat_le 3 (phase_at d rate h)) (not took && has_missed (annals d rate h)) is in
-        let (none, before) = and_parts (not took) (has_missed (annals d rate h)) both in
-        ByMdt content refl (sym (now_same d rate content h) ∙ rw (late, none) refl) (sym (missed_same d rate h) ∙ before)
-    by false is zero = absurd (omega (arith, high, zero))
 drops_so d rate (Mst cycle content) h high zero = got (mst_got content) refl zero
   where
     got : (o : Option ℕ) → mst_got content ≡ o → stands_in d rate cycle o (annals d rate h) ≡ 0 → Drops d rate (Mst cycle content) h
-    got None is zero = by (has_mst (annals d rate h)) (got_same d rate h) zero
-      where
-        by : (b : Bool) → b ≡ is_some (newest_got h) → (if b then phase_at d rate h else 0) ≡ 0 → Drops d rate (Mst cycle content) h
-        by true some zero = absurd (omega (arith, high, zero))
-        by false some zero = ByMst cycle content refl is (none_got (newest_got h) (sym some))
+    got None is zero = elim (cases_Bool (has_mst (annals d rate h))) [
+      | inl on ↦ let some = sym on ∙ (got_same d rate h) in absurd (omega (arith, high, (rw on at zero)))
+      | inr off ↦ ByMst cycle content refl is (none_got (newest_got h) (sym (sym off ∙ (got_same d rate h))))
+    ]
     got (Some phase) is zero = by (phase == phase_at d rate h) ((phase == phase_at d rate h + 1) && may_rise d rate cycle phase (annals d rate h)) refl refl zero
       where
         by : (stays rises : Bool) → (phase == phase_at d rate h) ≡ stays

@@ -1,5 +1,5 @@
 -- Which drive sends in the phases 0 to 2.
-use Rattle.sercos_law_run.proofs.Words.{◌≡◌, ◌⊎◌, inl, inr, ℕ, zero, suc, ◌+◌, ◌<◌, ◌≤◌, ◌==◌, Bool, true, false, not, ◌&&◌, ◌||◌, List, [], ◌∷◌, length, Option, Some, None, refl, sym, ◌∙◌, ap, subst, arith, if◌then◌else◌, nat_le, is_some, is_none, slice_index, then_some, option_or, and_parts, false≢true, nat_tests, Address, Job, Block, DriveView, RingView, Told, DriveCall, Mst, Mdt, mst_got, mdt_got, joint_in, told_at, Moment, phase_in, has_mst, has_taken, has_missed, blocks_in, annals, may_rise, stands_in, takes, Said, drive_says, sends, CycleView, known_of, tasks_for, Sent, mdt_said, Carry, Restarts, heard, passage, unseen_at, sum_below, mst_in, ats_in, mdt_in, IsRun, IsNext, IsClear, begins, content_of, contents, drive_at, given_before, given_mst, mdt_heard, said_below, unseen_ats, unseen_mdt, unseen_mst, with_restart, with_said, at_start, behind_mdt, IsSpelled, SpelledNext, IsOpened, SendsAlone, head_fault, single_in}
+use Rattle.sercos_law_run.proofs.Words.{◌≡◌, ◌⊎◌, inl, inr, ℕ, zero, suc, ◌+◌, ◌<◌, ◌≤◌, ◌==◌, Bool, true, false, not, ◌&&◌, ◌||◌, List, [], ◌∷◌, length, Option, Some, None, refl, sym, ◌∙◌, ap, subst, arith, if◌then◌else◌, nat_le, is_some, is_none, slice_index, then_some, option_or, and_parts, false≢true, nat_tests, Address, Job, Block, DriveView, RingView, Told, DriveCall, Mst, Mdt, mst_got, mdt_got, joint_in, told_at, Moment, phase_in, has_mst, has_taken, has_missed, blocks_in, annals, may_rise, stands_in, takes, Said, drive_says, sends, CycleView, known_of, tasks_for, Sent, mdt_said, Carry, Restarts, heard, passage, unseen_at, sum_below, mst_in, ats_in, mdt_in, IsRun, IsNext, IsClear, begins, content_of, contents, drive_at, given_before, given_mst, mdt_heard, said_below, unseen_ats, unseen_mdt, unseen_mst, with_restart, with_said, at_start, behind_mdt, IsSpelled, SpelledNext, IsOpened, SendsAlone, head_fault, single_in, cases_Bool, cases_Option}
 use Rattle.sercos_telegram.specs.declared.layout.Kind.TheVariants as kinds
 use Rattle.sercos_telegram.specs.declared.layout.Layout.TheVariants.{Length}
 use Rattle.sercos_law_run.specs.Stations.Senders.{IsAnswer}
@@ -38,18 +38,20 @@ one_said (suc n) d rate h are = by (drive_says (d n) rate (h n)) refl (one_said 
     by (Some s) e before = inr (record { place = n; inside = omega arith; says = s; is = e; alone = ap (with_said (Some s)) (none_said n d rate h others) })
       where
         others : (i : ℕ) → i < n → drive_says (d i) rate (h i) ≡ None
-        others i below = silent (drive_says (d i) rate (h i)) refl
-          where
-            silent : (o : Option Said) → drive_says (d i) rate (h i) ≡ o → o ≡ None
-            silent None is = refl
-            silent (Some u) is = let same = are i n u s (omega (arith, below)) (omega arith) is e in absurd (omega (arith, below, same))
+        others i below = elim (cases_Option (drive_says (d i) rate (h i))) [
+          | inl is ↦ rw is
+          | inr (u, is) ↦ rw is (let same = are i n u s (omega (arith, below)) (omega arith) is e in absurd (omega (arith, below, same)))
+        ]
 
 -- WHAT A DRIVE NEEDS to send in the phases 1 and 2.
 -- a single MDT is got by its address
 addressed : (address phase : ℕ) (blocks : List Block) (content : List ℕ) → phase ≤ 2
     → is_some (mdt_got address phase blocks (Some content)) ≡ true → slice_index content 0 ≡ address
 unfolding single_in head_fault
-addressed address phase blocks content early got = by (nat_le 3 phase) refl got
+addressed address phase blocks content early got = elim (cases_Bool (nat_le 3 phase)) [
+  | inl e ↦ let got = rw e at got in absurd (grind (arith, nat_tests, e, early))
+  | inr e ↦ read (length content == 5) (slice_index content 0 == address) refl (rw e at got)
+]
   where
     read : (long other : Bool) → (slice_index content 0 == address) ≡ other
         → is_some (if is_none (option_or (then_some (not long) (Length (length content) 5)) (then_some (not other) (Address (slice_index content 0) address))) then Some (told_at content 1) else None) ≡ true
@@ -58,11 +60,6 @@ addressed address phase blocks content early got = by (nat_le 3 phase) refl got
     read true false e got = absurd (false≢true got)
     read false true e got = absurd (false≢true got)
     read false false e got = absurd (false≢true got)
-
-    by : (late : Bool) → nat_le 3 phase ≡ late → is_some (if late then joint_in blocks content else single_in address content) ≡ true
-        → slice_index content 0 ≡ address
-    by true e got = absurd (grind (arith, nat_tests, e, early))
-    by false e got = read (length content == 5) (slice_index content 0 == address) refl got
 
 sends_by : (mst : Bool) (phase : ℕ) (taken : Bool) → (mst && (nat_le 3 phase || (nat_le 1 phase && taken))) ≡ true → phase ≤ 2
     → (mst ≡ true) × (1 ≤ phase) × (taken ≡ true)
@@ -220,19 +217,19 @@ module _ (spells : SpelledNext) (r : RingView) (jobs : List Job) (carry : Carry)
       → drive_says (drive_at r k) r.rate (given_mst carry restarts t.sent j k) ≡ Some s → IsAnswering t (drive_at r k).address j
   answering t j run clear low k s below says = by (sends (annals (drive_at r k) r.rate (given_mst carry restarts t.sent j k))) _ refl says
     where
-      fresh : (b : Bool) → phase_in (annals (drive_at r k) r.rate (with_restart b (given_before carry restarts j k))) ≤ t.phase
-          → has_taken (annals (drive_at r k) r.rate (with_restart b (given_before carry restarts j k))) ≡ true
-          → IsTold (drive_at r k).address j
-      fresh true near took = absurd (false≢true took)
-      fresh false near took = told_by t.phase j run.0 clear.0 k below low near took
-
       by : (b : Bool) (x : Said) → sends (annals (drive_at r k) r.rate (given_mst carry restarts t.sent j k)) ≡ b
           → (if b then Some x else None) ≡ Some s → IsAnswering t (drive_at r k).address j
       by false x sent is = cc
       by true x sent is =
           let sending = is_sending (drive_at r k) r.rate (length j) t.phase (heard carry (passage (length j) kinds.Mst 0 (k + 1)) (mst_in t.sent)) (with_restart (restarts (length j) (k + 1)) (given_before carry restarts j k)) low
           (mst_got_so t j run.1 clear.1 k below) sent in
-          record { up = sending.up; told = fresh (restarts (length j) (k + 1)) sending.near sending.took }
+          record {
+            up = sending.up;
+            told = (elim (cases_Bool (restarts (length j) (k + 1))) [
+              | inl on ↦ absurd (false≢true (rw on at sending.took))
+              | inr off ↦ told_by t.phase j run.0 clear.0 k below low (rw off at sending.near) (rw off at sending.took)
+            ]);
+          }
 
   same_told : (address other : ℕ) (j : List CycleView) → IsTold address j → IsTold other j → address ≡ other
   same_told address other j one two =
@@ -243,7 +240,24 @@ module _ (spells : SpelledNext) (r : RingView) (jobs : List Job) (carry : Carry)
       sym one.same ∙ ap (λ (m : List ℕ). slice_index m 0) is ∙ two.same
 
 pub sends_alone : SpelledNext → SendsAlone
-sends_alone spells r jobs carry restarts t j opened run clear low = by (one_said (length r.drives) (drive_at r) r.rate (given_mst carry restarts t.sent j) one)
+sends_alone spells r jobs carry restarts t j opened run clear low =
+    elim (one_said (length r.drives) (drive_at r) r.rate (given_mst carry restarts t.sent j) one) [
+      | inl none ↦ inl (ats_are ∙ ap contents none)
+      | inr is ↦
+          let answer = answering spells r jobs carry restarts opened t j run clear low is.place is.says is.inside is.is in
+          let told = answer.told in
+          inr (record {
+            phase = answer.up;
+            at = is.says.content;
+            one = ats_are ∙ ap contents is.alone;
+            before = told.before;
+            older = told.older;
+            follows = told.follows;
+            mdt = told.mdt;
+            told = told.told;
+            same = told.same ∙ sym (said_address (drive_at r is.place) r.rate (given_mst carry restarts t.sent j is.place) is.says is.is);
+          })
+    ]
   where
     ats_are : ats_in t.sent ≡ contents (said_below (length r.drives) (drive_at r) r.rate (given_mst carry restarts t.sent j))
     ats_are = ap ats_in run.1.sent ∙ ats_in-said r.rate _ (mdt_said (known_of r) (behind_mdt r jobs carry restarts t.sent j))
@@ -251,21 +265,3 @@ sends_alone spells r jobs carry restarts t j opened run clear low = by (one_said
     one : AreOne (length r.drives) (drive_at r) r.rate (given_mst carry restarts t.sent j)
     one i k s u low_i low_k says tells = same_drive r i k opened.valid low_i low_k (same_told spells r jobs carry restarts opened (drive_at r i).address (drive_at r k).address j
         (answering spells r jobs carry restarts opened t j run clear low i s low_i says).told (answering spells r jobs carry restarts opened t j run clear low k u low_k tells).told)
-
-    by : (said_below (length r.drives) (drive_at r) r.rate (given_mst carry restarts t.sent j) ≡ []) ⊎ IsOne (length r.drives) (drive_at r) r.rate (given_mst carry restarts t.sent j) (said_below (length r.drives) (drive_at r) r.rate (given_mst carry restarts t.sent j))
-        → (ats_in t.sent ≡ []) ⊎ IsAnswer t j
-    by (inl none) = inl (ats_are ∙ ap contents none)
-    by (inr is) =
-        let answer = answering spells r jobs carry restarts opened t j run clear low is.place is.says is.inside is.is in
-        let told = answer.told in
-        inr (record {
-          phase = answer.up;
-          at = is.says.content;
-          one = ats_are ∙ ap contents is.alone;
-          before = told.before;
-          older = told.older;
-          follows = told.follows;
-          mdt = told.mdt;
-          told = told.told;
-          same = told.same ∙ sym (said_address (drive_at r is.place) r.rate (given_mst carry restarts t.sent j is.place) is.says is.is);
-        })

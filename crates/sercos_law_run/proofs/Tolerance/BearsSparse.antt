@@ -1,26 +1,19 @@
 -- What a ring bears while disturbed cycles are sparse.
-use Rattle.sercos_law_run.proofs.Words.{◌≡◌, ◌⊎◌, inl, inr, ℕ, ◌+◌, ◌<◌, ◌≤◌, List, [], ◌∷◌, ◌++◌, length, ◌∙◌, ap, arith, cases_eq, Job, RingView, CycleView, known_of, tasks_for, Carry, Restarts, age_in, IsUp, nothing_old, drive_at, master_calls, IsClear, IsRun, view_of, views_of, IsOpened, StartsEpoch, Bears, IsBehind, EndsSparse, EndsAnyway, RisesAnyway, ReportsSparse, RisesSparse, AreSparse, CalmIsSparse}
+use Rattle.sercos_law_run.proofs.Words.{◌≡◌, ◌⊎◌, inl, inr, ℕ, ◌+◌, ◌<◌, ◌≤◌, List, [], ◌∷◌, ◌++◌, length, ◌∙◌, ap, arith, cases_eq, Job, RingView, CycleView, known_of, tasks_for, Carry, Restarts, age_in, IsUp, nothing_old, drive_at, master_calls, IsClear, IsRun, view_of, views_of, IsOpened, StartsEpoch, Bears, IsBehind, AreSparse}
 use Rattle.sercos_law_run.proofs.Typed.Mdts.{phase_low}
 use Rattle.sercos_law_run.proofs.Undisturbed.Answered.{tells_going}
-use Rattle.sercos_law_run.proofs.Undisturbed.Arriving.Comes.{calm_in}
-use Rattle.sercos_law_run.proofs.Undisturbed.Arriving.Small.{never_both}
 use Rattle.sercos_law_run.proofs.Undisturbed.NeverFalls.{begins_so}
 use Rattle.sercos_law_run.proofs.Recovery.LateDown.{no_lower, phase_after}
 use Rattle.sercos_law_run.proofs.Tolerance.Borne.{IsBorne, all_borne, calm_or_not, late_age, is_run, some_drive}
 use Rattle.sercos_law_run.proofs.Tolerance.EarlySparse.{phase_is}
+use Rattle.sercos_law_run.proofs.Tolerance.Ends.{ends_sparse}
+use Rattle.sercos_law_run.proofs.Tolerance.Many.{ends_anyway, rises_anyway}
+use Rattle.sercos_law_run.proofs.Tolerance.Reported.{reports_sparse}
+use Rattle.sercos_law_run.proofs.Tolerance.Rises.{rises_sparse}
 use Rattle.sercos_law_run.proofs.Tolerance.Standing.{zero_again}
 use Rattle.sercos_law_run.proofs.Tolerance.Steps.{closed_age, oldest}
 
--- cycles in which nothing is disturbed are sparse
-pub calm_is_sparse : CalmIsSparse
-calm_is_sparse r carry restarts t j calm = record {
-  goes_on = (calm_in r carry restarts t j calm).stays;
-  early = λ disturbed one low. absurd (never_both _ disturbed calm);
-  late = λ disturbed high. absurd (never_both _ disturbed calm);
-}
-
-module _ (rises : RisesSparse) (reports : ReportsSparse) (ends : EndsSparse) (rises_anyway : RisesAnyway) (ends_anyway : EndsAnyway)
-    (r : RingView) (jobs : List Job) (carry : Carry) (restarts : Restarts) (opened : IsOpened r jobs) where
+module _ (r : RingView) (jobs : List Job) (carry : Carry) (restarts : Restarts) (opened : IsOpened r jobs) where
   abbrev Borne : CycleView → List CycleView → Type 0
   Borne t j = IsBorne r jobs carry restarts opened t j
 
@@ -119,12 +112,12 @@ module _ (rises : RisesSparse) (reports : ReportsSparse) (ends : EndsSparse) (ri
     late_ages = λ late k below. late_age_of t (cycles ++ before) run clear is late k below;
     answers = λ k a below hears fits. ages_before t before starts cycles run clear sparse k below;
     late_answers = λ late k a below hears fits. late_before t before starts cycles run clear sparse late k below;
-    rises = λ right long. rises r jobs carry restarts t cycles before opened run clear starts sparse right long;
+    rises = λ right long. rises_sparse r jobs carry restarts opened t cycles before run clear (inl starts) sparse long right;
     stays = four_stays t before starts cycles run clear sparse;
-    rises_anyway = λ right long. rises_anyway r jobs carry restarts t cycles before opened run clear starts sparse right long;
-    ends_anyway = λ long. ends_anyway r jobs carry restarts t cycles before opened run clear starts sparse long;
-    ends = λ long. ends r jobs carry restarts t cycles before opened run clear starts sparse long;
-    reports = λ k i x below got long. reports r jobs carry restarts t cycles before opened run clear starts sparse k i x below got long;
+    rises_anyway = rises_anyway r jobs carry restarts opened t cycles before run clear starts sparse;
+    ends = ends_sparse r jobs carry restarts opened t cycles before run clear starts sparse;
+    ends_anyway = ends_anyway r jobs carry restarts opened t cycles before run clear starts sparse;
+    reports = reports_sparse r jobs carry restarts opened t cycles before run clear starts sparse;
   }
     where
       is : Borne t (cycles ++ before)

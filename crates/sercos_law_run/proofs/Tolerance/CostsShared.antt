@@ -1,5 +1,5 @@
 -- Up to phase 2 a disturbed cycle costs all channels together no more than one.
-use Rattle.sercos_law_run.proofs.Words.{◌≡◌, ◌⊎◌, inl, inr, ℕ, zero, suc, ◌+◌, ◌<◌, ◌≤◌, Bool, true, false, not, ◌&&◌, ◌||◌, List, [], ◌∷◌, ◌++◌, length, Option, Some, None, refl, sym, ap, ◌∙◌, arith, if◌then◌else◌, IsSome, is_some, cases_lt, false≢true, false_from_ne_true, same_Some, Job, Request, store_of, RingView, Begun, open_in, CycleView, known_of, in_turn, Carry, Restarts, begun_in, epoch_begun, unless_restart, with_begun, with_heard, Heard, View, processed_in, AreListed, cost_in, cost_of, open_since, one_more, sum_below, drive_at, is_disturbed_in, IsClear, IsDisturbed, IsRun, behind_mdt, view_of, views_of, IsOpened, IsUndisturbed, views_since, cycles_for, disturbances, loses_step, lost_since, AreSparse, IsSparse, IsViewRun}
+use Rattle.sercos_law_run.proofs.Words.{◌≡◌, ◌⊎◌, inl, inr, ℕ, zero, suc, ◌+◌, ◌<◌, ◌≤◌, Bool, true, false, not, ◌&&◌, ◌||◌, List, [], ◌∷◌, ◌++◌, length, Option, Some, None, refl, sym, ap, ◌∙◌, arith, if◌then◌else◌, IsSome, is_some, cases_lt, false≢true, false_from_ne_true, same_Some, Job, Request, store_of, RingView, Begun, open_in, CycleView, known_of, in_turn, Carry, Restarts, begun_in, epoch_begun, unless_restart, with_begun, with_heard, Heard, View, processed_in, AreListed, cost_in, cost_of, open_since, one_more, sum_below, drive_at, is_disturbed_in, IsClear, IsDisturbed, IsRun, behind_mdt, view_of, views_of, IsOpened, IsUndisturbed, views_since, cycles_for, disturbances, loses_step, lost_since, AreSparse, IsSparse, IsViewRun, cases_Bool}
 use Rattle.sercos_law_run.proofs.Undisturbed.Checks.PassedCycles.{views_split}
 use Rattle.sercos_law_run.proofs.Undisturbed.Sections.{sum_most}
 use Rattle.sercos_law_run.proofs.Recovery.LateDown.{no_lower, phase_after}
@@ -54,22 +54,21 @@ none_begun (Some q) begun shut some = absurd (false≢true (sym (ap (λ (o : Opt
 
 lost_opens : (busy : ℕ) (v : View) (past : List View) → IsViewRun busy (v ∷ past) → loses_step v past ≡ true
     → is_some (open_in (begun_in v past)) ≡ true
-lost_opens busy v past run lost = by (is_some (open_in (begun_in v past))) refl
+lost_opens busy v past run lost = elim (cases_Bool (is_some (open_in (begun_in v past)))) [
+  | inl on ↦ on
+  | inr off ↦
+      let parts = first_part (is_some (open_in (unless_restart v (epoch_begun past)))) (is_some v.heard)
+      (is_some (open_in (begun_in v past))) (is_some (processed_in v past)) lost off in
+      let same : with_heard v.heard (unless_restart v (epoch_begun past)) ≡ unless_restart v (epoch_begun past) = unheard_same v.heard
+      (unless_restart v (epoch_begun past)) parts.1 in
+      let some : is_some (open_in (with_heard v.heard (unless_restart v (epoch_begun past)))) ≡ true = ap
+      (λ (l : List Begun). is_some (open_in l)) same ∙ parts.0 in
+      ap (λ (l : List Begun). is_some (open_in l)) (none_begun v.begins (with_heard v.heard (unless_restart v (epoch_begun past)))
+      run.1.begins some) ∙ some
+]
   where
     start : List Begun
     start = unless_restart v (epoch_begun past)
-
-    by : (b : Bool) → is_some (open_in (begun_in v past)) ≡ b → is_some (open_in (begun_in v past)) ≡ true
-    by true on = on
-    by false off =
-        let parts = first_part (is_some (open_in (unless_restart v (epoch_begun past)))) (is_some v.heard)
-        (is_some (open_in (begun_in v past))) (is_some (processed_in v past)) lost off in
-        let same : with_heard v.heard (unless_restart v (epoch_begun past)) ≡ unless_restart v (epoch_begun past) = unheard_same v.heard
-        (unless_restart v (epoch_begun past)) parts.1 in
-        let some : is_some (open_in (with_heard v.heard (unless_restart v (epoch_begun past)))) ≡ true = ap
-        (λ (l : List Begun). is_some (open_in l)) same ∙ parts.0 in
-        ap (λ (l : List Begun). is_some (open_in l)) (none_begun v.begins (with_heard v.heard (unless_restart v (epoch_begun past)))
-        run.1.begins some) ∙ some
 
 module _ (r : RingView) (jobs : List Job) (carry : Carry) (restarts : Restarts) (opened : IsOpened r jobs) where
   abbrev Borne : CycleView → List CycleView → Type 0

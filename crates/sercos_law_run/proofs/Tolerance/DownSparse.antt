@@ -1,5 +1,5 @@
 -- How soon the ring falls while faults are sparse, if a drive is in phase 0.
-use Rattle.sercos_law_run.proofs.Words.{◌≡◌, inl, inr, ℕ, zero, suc, ◌+◌, ◌<◌, ◌≤◌, Bool, true, false, List, [], ◌∷◌, ◌++◌, length, Option, Some, refl, sym, ap, ◌∙◌, arith, if◌then◌else◌, ◌⊎◌, None, length-append, ◌==◌, is_some, cases_eq, cases_lt, cond-false, cond-true, eqb-true, false≢true, false_from_ne_true, same_Some, Job, RingView, Begun, open_in, CycleView, Fall, known_of, in_turn, Past, fall_of, Carry, Restarts, begun_in, epoch_begun, standing, age_in, open_since, section_cycles, spared_cycles, sum_below, drive_at, is_disturbed_in, IsClear, IsRun, looks_back, master_calls, behind_mdt, view_of, views_of, IsOpened, AreInTwo, NoneFalls, StopsForTheCycleTime, StopsForThePlan, StopsForTheCheck, IsUndisturbed, views_since, IsDown, cycles_for, disturbances, loses_step, lost_since, start_cost, start_costs, AreSparse, IsSparse, cycles_open, Stop}
+use Rattle.sercos_law_run.proofs.Words.{◌≡◌, inl, inr, ℕ, zero, suc, ◌+◌, ◌<◌, ◌≤◌, Bool, true, false, List, [], ◌∷◌, ◌++◌, length, Option, Some, refl, sym, ap, ◌∙◌, arith, if◌then◌else◌, ◌⊎◌, None, length-append, ◌==◌, is_some, cases_eq, cases_lt, cond-false, cond-true, eqb-true, false≢true, false_from_ne_true, same_Some, Job, RingView, Begun, open_in, CycleView, Fall, known_of, in_turn, Past, fall_of, Carry, Restarts, begun_in, epoch_begun, standing, age_in, open_since, section_cycles, spared_cycles, sum_below, drive_at, is_disturbed_in, IsClear, IsRun, looks_back, master_calls, behind_mdt, view_of, views_of, IsOpened, AreInTwo, NoneFalls, StopsForTheCycleTime, StopsForThePlan, StopsForTheCheck, IsUndisturbed, views_since, IsDown, cycles_for, disturbances, loses_step, lost_since, start_cost, start_costs, AreSparse, IsSparse, cycles_open, Stop, cases_Bool}
 use Rattle.std.proofs.Common.{eq-eqb}
 use Rattle.sercos_law_run.proofs.Bounds.FallCycles.{least_at}
 use Rattle.sercos_law_run.proofs.Headline.HeadlineRuns.{all_stand}
@@ -7,17 +7,17 @@ use Rattle.sercos_law_run.proofs.Undisturbed.JobsBegun.{begun_end}
 use Rattle.sercos_law_run.proofs.Undisturbed.PhaseTwo.{listed_all, sum_within}
 use Rattle.sercos_law_run.proofs.Undisturbed.Sections.{none_idle, sum_most}
 use Rattle.sercos_law_run.proofs.Recovery.DownSince.{NeverRestarts, never_open, open_at_most}
-use Rattle.sercos_law_run.proofs.Recovery.FallsInTime.{goes_on_in_two, stop_before}
+use Rattle.sercos_law_run.proofs.Recovery.FallsInTime.{down_on, in_two_on, stop_before}
 use Rattle.sercos_law_run.proofs.Recovery.LateDown.{falls_if_down, no_lower, phase_after}
 use Rattle.sercos_law_run.proofs.Recovery.Limits.{ages_to_limit, open_age}
 use Rattle.sercos_law_run.proofs.Recovery.Stretches.{stays_down_in, ages_down_in}
 use Rattle.sercos_law_run.proofs.Recovery.Turns.{opens_in_turn, works_in_turn}
-use Rattle.sercos_law_run.proofs.Recovery.UpSections.{goes_on_since, section_most}
+use Rattle.sercos_law_run.proofs.Recovery.UpSections.{goes_on_since, no_lower_on, section_most}
 use Rattle.sercos_law_run.proofs.Tolerance.Borne.{IsHeld, stays_if}
 use Rattle.sercos_law_run.proofs.Tolerance.CostsShared.{AreHeld, few_lost, kept_lost, sum_both}
 use Rattle.sercos_law_run.proofs.Tolerance.CostsSparse.{opens_if, opens_recent_if}
 use Rattle.sercos_law_run.proofs.Tolerance.NotYet.{same_for}
-use Rattle.sercos_law_run.proofs.Tolerance.Settles.{held_all}
+use Rattle.sercos_law_run.proofs.Tolerance.Settles.{held_all, sparse_quiet}
 use Rattle.sercos_law_run.proofs.Tolerance.ThreeLasts.{sum_split, without, without_mono}
 use Rattle.sercos_law_run.proofs.Undisturbed.NeverFalls.{busy_low}
 use Rattle.sercos_law_run.proofs.Undisturbed.Stops.StopStays.{stop_after, stop_kept}
@@ -94,28 +94,19 @@ module _ (r : RingView) (jobs : List Job) (carry : Carry) (restarts : Restarts) 
         → loses_step (view_of r jobs carry restarts k t (f ∷ b)) (views_of r jobs carry restarts k (f ∷ b)) ≡ false
     nothing_lost t run clear is sparse off k low up = is.kept off (inr (tt, calm)) k (those k low up)
 
-    quiet_all : (cycles : List CycleView) → AreSparse r carry restarts cycles (f ∷ b) → NeverRestarts restarts cycles (f ∷ b)
-    quiet_all [] sparse = tt
-    quiet_all (t ∷ cycles) sparse = (quiet_all cycles sparse.0, sparse.1.goes_on 0 (omega arith))
-
     late_all : (t : CycleView) (cycles : List CycleView) → IsRun r jobs carry restarts (t ∷ (cycles ++ f ∷ b))
         → IsClear (t ∷ (cycles ++ f ∷ b)) → AreSparse r carry restarts (t ∷ cycles) (f ∷ b)
         → NoneFalls r jobs carry restarts cycles (f ∷ b) → 2 ≤ t.phase
-    late_all t [] run clear sparse stays =
-        let least = no_lower r jobs carry restarts opened t f b run clear first.stays (sparse.1.goes_on 0 (omega arith)) d
-        there in omega (arith, least, late)
-    late_all t (u ∷ cycles) run clear sparse stays =
-        let least = no_lower r jobs carry restarts opened t u (cycles ++ f ∷ b) run clear stays.1 (sparse.1.goes_on 0 (omega arith)) d
-        there in
-        let before = late_all u cycles run.0 clear.0 sparse.0 stays.0 in omega (arith, least, before)
+    late_all t cycles run clear sparse stays =
+        let least = no_lower_on r jobs carry restarts opened t cycles f b run clear first.stays stays
+        (sparse_quiet r carry restarts (t ∷ cycles) (f ∷ b) sparse) d there in omega (arith, least, late)
 
     -- a drive in phase 0 stays there
     pub down_all : (cycles : List CycleView) → IsRun r jobs carry restarts (cycles ++ f ∷ b) → IsClear (cycles ++ f ∷ b)
         → AreSparse r carry restarts cycles (f ∷ b) → NoneFalls r jobs carry restarts cycles (f ∷ b) → (k : ℕ) → k < length r.drives
         → IsDown r jobs carry restarts k (f ∷ b) → IsDown r jobs carry restarts k (cycles ++ f ∷ b)
-    down_all [] run clear sparse stays k low is = is
-    down_all (t ∷ cycles) run clear sparse stays k low is = (stays_down_in r jobs carry restarts opened t (cycles ++ f ∷ b) run clear k low
-        (down_all cycles run.0 clear.0 sparse.0 stays.0 k low is) (late_all t cycles run clear sparse stays.0)).ended
+    down_all cycles run clear sparse stays = down_on r jobs carry restarts opened cycles f b run clear first.stays stays
+        (sparse_quiet r carry restarts cycles (f ∷ b) sparse) late
 
     held_from : (cycles : List CycleView) → IsRun r jobs carry restarts (cycles ++ f ∷ b) → IsClear (cycles ++ f ∷ b)
         → AreSparse r carry restarts cycles (f ∷ b) → NoneFalls r jobs carry restarts cycles (f ∷ b)
@@ -127,7 +118,7 @@ module _ (r : RingView) (jobs : List Job) (carry : Carry) (restarts : Restarts) 
           stays,
     )
 
-    -- THE CYCLES OF PHASE 2, while the master stays_a_run on with it
+    -- THE CYCLES OF PHASE 2, while the master goes on with it
     module _ (t : CycleView) (cycles : List CycleView) (run : IsRun r jobs carry restarts (t ∷ (cycles ++ f ∷ b)))
         (clear : IsClear (t ∷ (cycles ++ f ∷ b))) (sparse : AreSparse r carry restarts (t ∷ cycles) (f ∷ b))
         (stays : NoneFalls r jobs carry restarts (t ∷ cycles) (f ∷ b)) (at_two : t.phase ≡ 2)
@@ -138,9 +129,9 @@ module _ (r : RingView) (jobs : List Job) (carry : Carry) (restarts : Restarts) 
       its = works_in_turn r jobs carry restarts opened t (cycles ++ f ∷ b) run clear goes_on.1
 
       quiet : NeverRestarts restarts (t ∷ cycles) (f ∷ b)
-      quiet = quiet_all (t ∷ cycles) sparse
+      quiet = sparse_quiet r carry restarts (t ∷ cycles) (f ∷ b) sparse
 
-      -- a drive in phase 0 that doesn't have the work_in_turn had no open step
+      -- a drive in phase 0 that doesn't have the turn had no open step
       none_of_others : (k : ℕ) → k < length r.drives → (k ≡ its.0 → ⊥) → IsDown r jobs carry restarts k (f ∷ b)
           → opens_of (t ∷ cycles) (f ∷ b) k ≡ 0
       none_of_others k below other is =
@@ -161,33 +152,31 @@ module _ (r : RingView) (jobs : List Job) (carry : Carry) (restarts : Restarts) 
 
       each : (k : ℕ) → k < length r.drives
           → opens_of (t ∷ cycles) (f ∷ b) k ≤ at_place its.0 64 k + (sections k + kept k)
-      each k below = by (is_down k) refl
-        where
-          by : (on : Bool) → is_down k ≡ on
-              → opens_of (t ∷ cycles) (f ∷ b) k ≤ at_place its.0 64 k + (sections k + kept k)
-          by true on =
-              let is : IsDown r jobs carry restarts k (f ∷ b) = eqb-true (standing (views_of r jobs carry restarts k (f ∷ b))).ended 0 on in
-              elim (cases_eq k its.0) [
-                | inl same ↦ (
-                    let few = open_at_most r jobs carry restarts opened (t ∷ cycles) (f ∷ b) run clear quiet stays goes_on k below is in
-                    let old = ages_to_limit r jobs carry restarts opened (t ∷ (cycles ++ f ∷ b)) run clear k below in
-                    let most = ap (at_place its.0 64) same ∙ here_is its.0 64 in omega (arith, few, old, most))
-                | inr other ↦ (let none = none_of_others k below other is in omega (arith, none))
-              ]
-          by false off =
-              let up = (those k below off).1 in
-              let going = goes_on_since r jobs carry restarts opened k (t ∷ cycles) (f ∷ b) stays quiet in
-              let listed = listed_all (views_of r jobs carry restarts k (t ∷ (cycles ++ f ∷ b))) in
-              let most = section_most r jobs carry restarts opened t cycles f b run clear first.stays stays quiet goes_on d there down k below
-              up (lost_since (views_since r jobs carry restarts k (t ∷ cycles) (f ∷ b)) (views_of r jobs carry restarts k (f ∷ b)))
-              (opens_if r jobs carry restarts opened (t ∷ cycles) (f ∷ b) run clear k (λ raw. 512) below listed going)
-              (λ recent old is shut few. opens_recent_if r jobs carry restarts opened (t ∷ cycles) (f ∷ b) run clear k (λ raw. 512) below
-              listed going recent old is shut few) in
-              let section : sections k ≡ section_cycles (drive_at r k) = cond-false (is_down k) 0 _ off in
-              let same : kept k ≡
-              lost_since (views_since r jobs carry restarts k (t ∷ cycles) (f ∷ b)) (views_of r jobs carry restarts k (f ∷ b)) =
-              cond-false (is_down k) 0 _ off in
-              omega (arith, most, section, same)
+      each k below = elim (cases_Bool (is_down k)) [
+        | inl on ↦
+            let is : IsDown r jobs carry restarts k (f ∷ b) = eqb-true (standing (views_of r jobs carry restarts k (f ∷ b))).ended 0 on in
+            elim (cases_eq k its.0) [
+              | inl same ↦ (
+                  let few = open_at_most r jobs carry restarts opened (t ∷ cycles) (f ∷ b) run clear quiet stays goes_on k below is in
+                  let old = ages_to_limit r jobs carry restarts opened (t ∷ (cycles ++ f ∷ b)) run clear k below in
+                  let most = ap (at_place its.0 64) same ∙ here_is its.0 64 in omega (arith, few, old, most))
+              | inr other ↦ (let none = none_of_others k below other is in omega (arith, none))
+            ]
+        | inr off ↦
+            let up = (those k below off).1 in
+            let going = goes_on_since r jobs carry restarts opened k (t ∷ cycles) (f ∷ b) stays quiet in
+            let listed = listed_all (views_of r jobs carry restarts k (t ∷ (cycles ++ f ∷ b))) in
+            let most = section_most r jobs carry restarts opened t cycles f b run clear first.stays stays quiet goes_on d there down k below
+            up (lost_since (views_since r jobs carry restarts k (t ∷ cycles) (f ∷ b)) (views_of r jobs carry restarts k (f ∷ b)))
+            (opens_if r jobs carry restarts opened (t ∷ cycles) (f ∷ b) run clear k (λ raw. 512) below listed going)
+            (λ recent old is shut few. opens_recent_if r jobs carry restarts opened (t ∷ cycles) (f ∷ b) run clear k (λ raw. 512) below
+            listed going recent old is shut few) in
+            let section : sections k ≡ section_cycles (drive_at r k) = cond-false (is_down k) 0 _ off in
+            let same : kept k ≡
+            lost_since (views_since r jobs carry restarts k (t ∷ cycles) (f ∷ b)) (views_of r jobs carry restarts k (f ∷ b)) =
+            cond-false (is_down k) 0 _ off in
+            omega (arith, most, section, same)
+      ]
 
       -- the drive at place d has none
       few_sections : sum_below (length r.drives) sections ≤ spared_cycles r
@@ -202,11 +191,10 @@ module _ (r : RingView) (jobs : List Job) (carry : Carry) (restarts : Restarts) 
           omega (arith, split, none, rest, whole, sums, least_is)
         where
           fewer : (k : ℕ) → sections k ≤ section_cycles (drive_at r k)
-          fewer k = by (is_down k) refl
-            where
-              by : (on : Bool) → is_down k ≡ on → sections k ≤ section_cycles (drive_at r k)
-              by true on = let none : sections k ≡ 0 = cond-true (is_down k) 0 _ on in omega (arith, none)
-              by false off = let all : sections k ≡ section_cycles (drive_at r k) = cond-false (is_down k) 0 _ off in omega (arith, all)
+          fewer k = elim (cases_Bool (is_down k)) [
+            | inl on ↦ let none : sections k ≡ 0 = cond-true (is_down k) 0 _ on in omega (arith, none)
+            | inr off ↦ let all : sections k ≡ section_cycles (drive_at r k) = cond-false (is_down k) 0 _ off in omega (arith, all)
+          ]
 
       pub few_in_two : suc (length cycles) ≤ 64 + spared_cycles r + disturbances r carry restarts (t ∷ cycles) (f ∷ b)
       few_in_two =
@@ -228,20 +216,13 @@ module _ (r : RingView) (jobs : List Job) (carry : Carry) (restarts : Restarts) 
         → (behind_mdt r jobs carry restarts t.sent (cycles ++ f ∷ b)).stop ≡ None
     none_then u t cycles run clear sparse stays none = stop_before r jobs carry restarts opened u t (cycles ++ f ∷ b) run clear stays.1 (sparse.1.goes_on 0 (omega arith)) none
 
-    -- up to a cycle of phase 2 without a stop the master stays_a_run on with it
+    -- up to a cycle of phase 2 without a stop the master goes on with it
     are_two : (u : CycleView) (cycles : List CycleView) → IsRun r jobs carry restarts (u ∷ (cycles ++ f ∷ b))
         → IsClear (u ∷ (cycles ++ f ∷ b)) → AreSparse r carry restarts (u ∷ cycles) (f ∷ b)
         → NoneFalls r jobs carry restarts cycles (f ∷ b) → u.phase ≡ 2
         → (behind_mdt r jobs carry restarts u.sent (cycles ++ f ∷ b)).stop ≡ None → AreInTwo r jobs carry restarts cycles (f ∷ b)
-    are_two u [] run clear sparse stays at_two none = tt
-    are_two u (t ∷ cycles) run clear sparse stays at_two none =
-        let on = sparse.1.goes_on 0 (omega arith) in
-        let least = late_all t cycles run.0 clear.0 sparse.0 stays.0 in
-        let most = no_lower r jobs carry restarts opened u t (cycles ++ f ∷ b) run clear stays.1 on d there in
-        let t_two : t.phase ≡ 2 = omega (arith, least, most, at_two) in (
-          are_two t cycles run.0 clear.0 sparse.0 stays.0 t_two (none_then u t cycles run clear sparse stays none),
-          goes_on_in_two r jobs carry restarts opened u t (cycles ++ f ∷ b) run clear stays.1 on at_two t_two none,
-        )
+    are_two u cycles run clear sparse stays at_two none = in_two_on r jobs carry restarts opened u cycles f b run clear first.stays stays
+        (sparse_quiet r carry restarts (u ∷ cycles) (f ∷ b) sparse) late at_two none d there
 
     -- what the disturbed cycles cost a start-up
     same_cost : (t : CycleView) (j : List CycleView) → t.phase ≤ 3

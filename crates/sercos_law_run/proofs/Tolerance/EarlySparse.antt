@@ -281,7 +281,7 @@ module _ (r : RingView) (jobs : List Job) (carry : Carry) (restarts : Restarts) 
         ]
       ]
 
-  -- not all drives are identified while phase 1 stays_a_run on
+  -- not all drives are identified while phase 1 goes on
   pub known_few : (t : CycleView) (j : List CycleView) → IsRun r jobs carry restarts (t ∷ j) → Borne t j → t.phase ≡ 1
       → is_done (known_of r) (now t j) ≡ false → known (back (t ∷ j)).turns + 1 ≤ length r.drives
   known_few t j run is one unfinished =

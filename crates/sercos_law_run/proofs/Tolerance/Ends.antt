@@ -1,29 +1,25 @@
 -- How a start-up ends while disturbed cycles are sparse.
-use Rattle.sercos_law_run.proofs.Words.{◌≡◌, ◌⊎◌, inl, inr, ℕ, suc, ◌+◌, ◌*◌, ◌<◌, ◌≤◌, false, List, [], ◌∷◌, ◌++◌, length, Option, None, Some, refl, sym, ap, ◌∙◌, subst, arith, sum_by, cases_eq, cases_lt, none-some, Job, Request, startup_bound, store_of, RingView, Begun, PlanView, CycleView, Stop, is_ready, reads_count, outcomes_in, known_of, member, tasks_for, Carry, Restarts, epoch_begun, cost_in, cost_of, command_cycles, slowest, drive_at, looks_back, master_calls, IsClear, IsRun, behind_mdt, views_of, IsOpened, StartsEpoch, AreAt, jobs_of, IsRight, HasTold, StopsForCause, early_costs, IsUpOrStopped, disturbances, start_costs, AreSparse, list_read_costs, reads_cost, writes_cost}
+use Rattle.sercos_law_run.proofs.Words.{◌≡◌, inl, inr, ℕ, suc, ◌+◌, ◌*◌, ◌<◌, ◌≤◌, false, List, [], ◌∷◌, ◌++◌, length, Option, None, Some, refl, sym, ap, ◌∙◌, subst, arith, sum_by, cases_eq, cases_lt, Job, Request, startup_bound, store_of, RingView, Begun, PlanView, CycleView, Stop, is_ready, reads_count, outcomes_in, known_of, member, Carry, Restarts, epoch_begun, cost_in, cost_of, command_cycles, slowest, drive_at, looks_back, master_calls, IsClear, IsRun, behind_mdt, views_of, IsOpened, StartsEpoch, NoneFalls, AreAt, jobs_of, IsRight, early_costs, IsUpOrStopped, disturbances, start_costs, AreSparse, list_read_costs, reads_cost, writes_cost}
 use Rattle.sercos_law_run.proofs.Start.CheckPasses.{KeepsRules, ring_drive}
 use Rattle.sercos_law_run.proofs.Views.Members.{member_is}
 use Rattle.sercos_law_run.proofs.Held.Runs.{drive_got}
 use Rattle.sercos_law_run.proofs.Headline.HeadlineRuns.{first_store}
-use Rattle.sercos_law_run.proofs.Typed.Mdts.{phase_low}
 use Rattle.sercos_law_run.proofs.Undisturbed.InTime.{steps_fit, within_bound}
 use Rattle.sercos_law_run.proofs.Undisturbed.JobsBegun.{places_now}
 use Rattle.sercos_law_run.proofs.Undisturbed.JobsCost.{list_fits, two_fits}
 use Rattle.sercos_law_run.proofs.Undisturbed.NeverFalls.{busy_low}
 use Rattle.sercos_law_run.proofs.Undisturbed.PhaseTwo.{section_two, sum_within}
-use Rattle.sercos_law_run.proofs.Undisturbed.PhaseZero.{in_zero}
 use Rattle.sercos_law_run.proofs.Undisturbed.Checks.ShortLists.{few_blocks, longest_list, lists_short}
-use Rattle.sercos_law_run.proofs.Undisturbed.Stops.StopStays.{stop_after}
-use Rattle.sercos_law_run.proofs.Undisturbed.Stops.StopsTold.{stop_at}
-use Rattle.sercos_law_run.proofs.Undisturbed.WholeRuns.{caused}
+use Rattle.sercos_law_run.proofs.Recovery.EpochStops.{told_since}
 use Rattle.sercos_law_run.proofs.Recovery.LateDown.{phase_now}
+use Rattle.sercos_law_run.proofs.Recovery.StopCauses.{IsAtEnd, cause, caused, never_right, phase_most, right_in}
 use Rattle.sercos_law_run.proofs.Tolerance.Borne.{IsBase, IsBorne, borne_on}
 use Rattle.sercos_law_run.proofs.Tolerance.CostsSparse.{opens_so}
-use Rattle.sercos_law_run.proofs.Tolerance.EarlySparse.{early_sparse, phase_is}
+use Rattle.sercos_law_run.proofs.Tolerance.EarlySparse.{early_sparse}
 use Rattle.sercos_law_run.proofs.Tolerance.NotYet.{AtRise, InEarly, InThree, InTwo, IsEpoch, IsUnready, NotYet, epoch_before, not_yet, same_costs}
 use Rattle.sercos_law_run.proofs.Tolerance.ThreeLasts.{planned, sum_split, three_counts}
 use Rattle.sercos_law_run.proofs.Tolerance.TwoLasts.{two_sparse}
 use Rattle.sercos_law_run.proofs.Bounds.BoundSums.{is_below_greatest}
-use Rattle.sercos_law_run.proofs.Undisturbed.Cited.{fits_in_three, never_stops_in_four, own_fits_in_four, stops_in_three, stops_in_two}
 
 -- A LIST cut after its newest items: n are left.
 record IsLeft (begun : List Begun) (n : ℕ) : Type 0 where
@@ -58,13 +54,13 @@ module _ (r : RingView) (jobs : List Job) (carry : Carry) (restarts : Restarts) 
   abbrev Epoch : List CycleView → List CycleView → Type 0
   Epoch cycles before = IsEpoch r jobs carry restarts opened cycles before
 
-  -- A STOP of an epoch was told in it.
-  told_since : (cycles before : List CycleView) (x : Stop) → StartsEpoch r jobs carry restarts before → Epoch cycles before
-      → (looks_back r jobs (master_calls r carry restarts (cycles ++ before))).stop ≡ Some x → HasTold x cycles
-  told_since [] before x starts e is = absurd (none-some x (sym (in_zero r jobs carry restarts before starts).stop ∙ is))
-  told_since (t ∷ cycles) before x starts e is = stop_at r jobs carry restarts t (cycles ++ before) x (HasTold x cycles) e.run.1
-      (λ had. told_since cycles before x starts (record { run = e.run.0; clear = e.clear.0; sparse = e.sparse.0 }) had)
-      (sym (stop_after r jobs carry restarts t (cycles ++ before) (borne_on r jobs carry restarts opened t cycles before e.run e.clear (inl starts) e.sparse).stays) ∙ is)
+  -- the ring doesn't fall
+  none_falls : (cycles before : List CycleView) → Epoch cycles before → Base before → NoneFalls r jobs carry restarts cycles before
+  none_falls [] before e starts = tt
+  none_falls (t ∷ cycles) before e starts = (
+    none_falls cycles before (record { run = e.run.0; clear = e.clear.0; sparse = e.sparse.0 }) starts,
+    (borne_on r jobs carry restarts opened t cycles before e.run e.clear starts e.sparse).stays,
+  )
 
   -- WHAT THE REQUESTS of phases 2 and 3 to a drive cost, its list included
   pub all_fit : (t : CycleView) (j : List CycleView) → IsRun r jobs carry restarts (t ∷ j) → IsClear (t ∷ j) → Borne t j → t.phase ≡ 3
@@ -132,107 +128,84 @@ module _ (r : RingView) (jobs : List Job) (carry : Carry) (restarts : Restarts) 
       let sums = sum_within (λ j. section_two (drive_at r j)) section_two r.drives (λ j low. omega arith) in
       omega (arith, counted, opens, cost, split, sums)
 
-  -- HOW IT ENDS, if neither phase 0 nor 1 is commanded any more, and 2 and 3 only at a stop
-  end_so_by : (t : CycleView) (cycles before : List CycleView) → IsRun r jobs carry restarts (t ∷ (cycles ++ before))
-      → IsClear (t ∷ (cycles ++ before)) → Base before → AreSparse r carry restarts (t ∷ cycles) before
-      → (t.phase ≤ 1 → ⊥) → (t.phase ≤ 3 → (behind_mdt r jobs carry restarts t.sent (cycles ++ before)).stop ≡ None → ⊥)
-      → ((t.phase ≡ 4) × IsRight r)
-      ⊎ ((x : Stop) × ((behind_mdt r jobs carry restarts t.sent (cycles ++ before)).stop ≡ Some x) × StopsForCause r x)
-  end_so_by t cycles before run clear starts sparse never_early never_late = by
-      (behind_mdt r jobs carry restarts t.sent (cycles ++ before)).stop refl
+  -- HOW IT ENDS: in phase 4, if the ring is right
+  pub right_ends : (t : CycleView) (j : List CycleView) → IsAtEnd r jobs carry restarts t j → IsRight r → t.phase ≡ 4
+  right_ends t j (inl up) right = up.0
+  right_ends t j (inr (x, is, cause_is)) right = absurd (never_right r x (caused r jobs carry restarts t j x cause_is) right)
+
+  -- if phases 0 to 3 are commanded only at a stop
+  pub end_at : (t : CycleView) (j : List CycleView) → IsRun r jobs carry restarts (t ∷ j) → IsClear (t ∷ j)
+      → (t.phase ≤ 3 → (behind_mdt r jobs carry restarts t.sent j).stop ≡ None → ⊥) → IsAtEnd r jobs carry restarts t j
+  end_at t j run clear never_late = by (behind_mdt r jobs carry restarts t.sent j).stop refl
     where
-      high : t.phase ≤ 4
-      high =
-          let low = phase_low (known_of r) (tasks_for (known_of r) jobs) (master_calls r carry restarts (cycles ++ before)) in
-          let same = phase_is r jobs carry restarts opened t (cycles ++ before) run
-          (borne_on r jobs carry restarts opened t cycles before run clear starts sparse) in omega (arith, low, same)
-
-      up : t.phase ≡ 4 → ((t.phase ≡ 4) × IsRight r)
-          ⊎ ((x : Stop) × ((behind_mdt r jobs carry restarts t.sent (cycles ++ before)).stop ≡ Some x) × StopsForCause r x)
-      up four = inl (
-        four,
-        (
-          fits_in_three r jobs carry restarts t (cycles ++ before) opened run clear (omega (arith, four)),
-          λ k below. own_fits_in_four r jobs carry restarts t (cycles ++ before) k opened run clear below four,
-        ),
-      )
-
-      -- a stop, by the phase
-      cause : (x : Stop) → (behind_mdt r jobs carry restarts t.sent (cycles ++ before)).stop ≡ Some x → StopsForCause r x
-      cause x is = caused r jobs carry restarts t (cycles ++ before) x (elim (cases_lt t.phase 2) [
-        | inl early ↦ absurd (never_early (omega (arith, early)))
-        | inr later ↦ elim (cases_eq t.phase 2) [
-          | inl is_two ↦ elim (stops_in_two r jobs carry restarts t (cycles ++ before) x opened run clear is_two is) [
-            | inl plan ↦ inl plan
-            | inr cycle ↦ inr (inl cycle)
-          ]
-          | inr other ↦ elim (cases_eq t.phase 3) [
-            | inl is_three ↦ inr (inr (stops_in_three r jobs carry restarts t (cycles ++ before) x opened run clear is_three is))
-            | inr more_than ↦ absurd (none-some x (sym (never_stops_in_four r jobs carry restarts t (cycles ++ before) opened run clear
-                (let most = high in omega (arith, later, other, more_than, most))) ∙ is))
-          ]
-        ]
-      ])
-
-      by : (o : Option Stop) → (behind_mdt r jobs carry restarts t.sent (cycles ++ before)).stop ≡ o
-          → ((t.phase ≡ 4) × IsRight r)
-          ⊎ ((x : Stop) × ((behind_mdt r jobs carry restarts t.sent (cycles ++ before)).stop ≡ Some x) × StopsForCause r x)
-      by (Some x) is = inr (x, is, cause x is)
+      by : (o : Option Stop) → (behind_mdt r jobs carry restarts t.sent j).stop ≡ o → IsAtEnd r jobs carry restarts t j
+      by (Some x) is = inr (x, is, cause r jobs carry restarts opened t j run clear x is)
       by None none = elim (cases_lt t.phase 4) [
-        | inr four ↦ up (let most = high in omega (arith, four, most))
         | inl low ↦ absurd (never_late (omega (arith, low)) none)
+        | inr high ↦
+            let four : t.phase ≡ 4 = let most = phase_most r jobs carry restarts opened t j run clear in omega (arith, high, most) in
+            inl (four, none, right_in r jobs carry restarts opened t j run clear four)
       ]
 
-  -- What it ends with was told in the epoch.
-  since_told : (t : CycleView) (cycles before : List CycleView) → IsRun r jobs carry restarts (t ∷ (cycles ++ before))
-      → IsClear (t ∷ (cycles ++ before)) → StartsEpoch r jobs carry restarts before → AreSparse r carry restarts (t ∷ cycles) before
-      → (((t.phase ≡ 4) × IsRight r)
-      ⊎ ((x : Stop) × ((behind_mdt r jobs carry restarts t.sent (cycles ++ before)).stop ≡ Some x) × StopsForCause r x))
-      → IsUpOrStopped r t cycles
-  since_told t cycles before run clear starts sparse (inl four) = inl four
-  since_told t cycles before run clear starts sparse (inr stop) = inr (
-    stop.0,
-    told_since (t ∷ cycles) before stop.0 starts (record { run = run; clear = clear; sparse = sparse })
-        (stop_after r jobs carry restarts t (cycles ++ before) (borne_on r jobs carry restarts opened t cycles before run clear (inl starts) sparse).stays ∙ stop.1),
-    stop.2,
-  )
+  -- A START-UP HAS HAD ITS TIME: its bound, `extra` cycles for phase 3 more, and what the cycles so far cost.
+  module _ (extra : ℕ) (t : CycleView) (cycles before : List CycleView) (run : IsRun r jobs carry restarts (t ∷ (cycles ++ before)))
+      (clear : IsClear (t ∷ (cycles ++ before))) (starts : Base before) (sparse : AreSparse r carry restarts (t ∷ cycles) before)
+      (long : startup_bound r + extra + start_costs r jobs carry restarts cycles before ≤ length cycles) where
+    abbrev pub IsLong : List CycleView → Type 0
+    IsLong l = startup_bound r + extra + (early_costs r jobs carry restarts l before + disturbances r carry restarts l before) ≤ length l
 
-  pub end_by : (t : CycleView) (cycles before : List CycleView) → IsRun r jobs carry restarts (t ∷ (cycles ++ before))
-      → IsClear (t ∷ (cycles ++ before)) → StartsEpoch r jobs carry restarts before → AreSparse r carry restarts (t ∷ cycles) before
-      → (t.phase ≤ 1 → ⊥) → (t.phase ≤ 3 → (behind_mdt r jobs carry restarts t.sent (cycles ++ before)).stop ≡ None → ⊥)
-      → IsUpOrStopped r t cycles
-  end_by t cycles before run clear starts sparse never_early never_late = since_told t cycles before run clear starts sparse
-      (end_so_by t cycles before run clear (inl starts) sparse never_early never_late)
+    is_long : t.phase ≤ 3 → (l : List CycleView) → cycles ≡ l → IsLong l
+    is_long low l is = subst IsLong is
+        (let same = same_costs r jobs carry restarts opened t cycles before run clear starts sparse low in omega (arith, same, long))
+
+    -- Then phases 0 to 2 are over, and 3, if `three` says so: but for a stop they aren't commanded.
+    pub never_late : (C : Type 0)
+        → (three : (u : CycleView) (rest : List CycleView) → cycles ≡ u ∷ rest → Epoch (u ∷ rest) before → u.phase ≡ 3
+        → (looks_back r jobs (master_calls r carry restarts (u ∷ (rest ++ before)))).now.phase ≡ 3
+        → (looks_back r jobs (master_calls r carry restarts (u ∷ (rest ++ before)))).stop ≡ None
+        → IsUnready r jobs carry restarts opened u (rest ++ before) → IsLong (u ∷ rest) → C)
+        → t.phase ≤ 3 → (behind_mdt r jobs carry restarts t.sent (cycles ++ before)).stop ≡ None → C
+    never_late C three low none = by (not_yet r jobs carry restarts opened t cycles before run clear starts sparse
+        (let bound = within_bound r in omega (arith, bound, long)) low (λ is_three. none))
+      where
+        epoch : (l : List CycleView) → cycles ≡ l → Epoch l before
+        epoch l is = epoch_before r jobs carry restarts opened t cycles before run clear sparse l is
+
+        two_long : (u : CycleView) (rest : List CycleView) → Epoch (u ∷ rest) before → u.phase ≡ 2
+            → (behind_mdt r jobs carry restarts u.sent (rest ++ before)).stop ≡ None → IsLong (u ∷ rest) → ⊥
+        two_long u rest e was_two none_then enough =
+            let le = two_sparse r jobs carry restarts opened u rest before e.run e.clear starts e.sparse was_two none_then in
+            let bound = within_bound r in omega (arith, le, bound, enough)
+
+        by : NotYet r jobs carry restarts opened t cycles before → C
+        by (InEarly early) =
+            let le = early_sparse r jobs carry restarts opened t cycles before run clear starts sparse early in
+            let bound = within_bound r in
+            let enough = is_long low cycles refl in absurd (omega (arith, le, bound, enough))
+        by (InTwo is_two) =
+            let le = two_sparse r jobs carry restarts opened t cycles before run clear starts sparse is_two none in
+            let bound = within_bound r in
+            let enough = is_long low cycles refl in absurd (omega (arith, le, bound, enough))
+        by (AtRise u rest is was_two none_then) =
+            absurd (two_long u rest (epoch (u ∷ rest) is) was_two none_then (is_long low (u ∷ rest) is))
+        by (InThree u rest is was_three then_three none_then last) =
+            three u rest is (epoch (u ∷ rest) is) was_three then_three none_then last (is_long low (u ∷ rest) is)
 
   -- THE END
-  pub ends_so : (t : CycleView) (cycles before : List CycleView) → IsRun r jobs carry restarts (t ∷ (cycles ++ before))
+  pub ends_at : (t : CycleView) (cycles before : List CycleView) → IsRun r jobs carry restarts (t ∷ (cycles ++ before))
       → IsClear (t ∷ (cycles ++ before)) → Base before → AreSparse r carry restarts (t ∷ cycles) before
       → startup_bound r + 41 * (slowest r.drives + 2) + start_costs r jobs carry restarts cycles before ≤ length cycles
-      → ((t.phase ≡ 4) × IsRight r)
-      ⊎ ((x : Stop) × ((behind_mdt r jobs carry restarts t.sent (cycles ++ before)).stop ≡ Some x) × StopsForCause r x)
-  ends_so t cycles before run clear starts sparse long = end_so_by t cycles before run clear starts sparse never_early
-      (λ low none. never_so_late low none (not_yet r jobs carry restarts opened t cycles before run clear starts sparse
-      (let bound = within_bound r in omega (arith, bound, long)) low (λ is_three. none)))
+      → IsAtEnd r jobs carry restarts t (cycles ++ before)
+  ends_at t cycles before run clear starts sparse long = end_at t (cycles ++ before) run clear
+      (never_late (41 * (slowest r.drives + 2)) t cycles before run clear starts sparse long ⊥ three_long)
     where
-      with_costs : t.phase ≤ 3 → startup_bound r + 41 * (slowest r.drives + 2) +
-          (early_costs r jobs carry restarts cycles before + disturbances r carry restarts cycles before) ≤ length cycles
-      with_costs low = let same = same_costs r jobs carry restarts opened t cycles before run clear starts sparse low in omega (arith, same, long)
-
-      -- neither phase 0 nor 1 is commanded any more
-      never_early : t.phase ≤ 1 → ⊥
-      never_early early =
-          let le = early_sparse r jobs carry restarts opened t cycles before run clear starts sparse early in
-          let bound = within_bound r in
-          let costs = with_costs (omega (arith, early)) in omega (arith, le, bound, costs)
-
-      -- phase 3 has had its time
-      in_three_long : (u : CycleView) (rest : List CycleView) → Epoch (u ∷ rest) before → u.phase ≡ 3
+      three_long : (u : CycleView) (rest : List CycleView) → cycles ≡ u ∷ rest → Epoch (u ∷ rest) before → u.phase ≡ 3
           → (looks_back r jobs (master_calls r carry restarts (u ∷ (rest ++ before)))).now.phase ≡ 3
           → (looks_back r jobs (master_calls r carry restarts (u ∷ (rest ++ before)))).stop ≡ None
           → IsUnready r jobs carry restarts opened u (rest ++ before)
           → startup_bound r + 41 * (slowest r.drives + 2) + (early_costs r jobs carry restarts (u ∷ rest) before + disturbances r carry
           restarts (u ∷ rest) before) ≤ suc (length rest) → ⊥
-      in_three_long u rest e was_three then_three none last enough =
+      three_long u rest is e was_three then_three none last enough =
           let le = three_any u rest before e starts was_three then_three none last.place last.there last.unready in
           let most = is_below_greatest command_cycles r.drives last.place (drive_at r last.place) (command_cycles (drive_at r last.place))
           (drive_got r last.place last.there) (omega arith) in
@@ -241,35 +214,20 @@ module _ (r : RingView) (jobs : List Job) (carry : Carry) (restarts : Restarts) 
           let steps = steps_fit (drive_at r last.place).busy (slowest r.drives) (busy_low r last.place opened.valid last.there) slow in
           let bound = within_bound r in omega (arith, le, most, steps, bound, enough)
 
-      -- and so has phase 2
-      in_two_long : (u : CycleView) (rest : List CycleView) → Epoch (u ∷ rest) before → u.phase ≡ 2
-          → (behind_mdt r jobs carry restarts u.sent (rest ++ before)).stop ≡ None
-          → startup_bound r + 41 * (slowest r.drives + 2) + (early_costs r jobs carry restarts (u ∷ rest) before + disturbances r carry
-          restarts (u ∷ rest) before) ≤ suc (length rest) → ⊥
-      in_two_long u rest e was_two none enough =
-          let le = two_sparse r jobs carry restarts opened u rest before e.run e.clear starts e.sparse was_two none in
-          let bound = within_bound r in omega (arith, le, bound, enough)
+  -- What it ends with was told in the epoch.
+  pub since_told : (t : CycleView) (cycles before : List CycleView) → IsRun r jobs carry restarts (t ∷ (cycles ++ before))
+      → IsClear (t ∷ (cycles ++ before)) → StartsEpoch r jobs carry restarts before → AreSparse r carry restarts (t ∷ cycles) before
+      → IsAtEnd r jobs carry restarts t (cycles ++ before) → IsUpOrStopped r t cycles
+  since_told t cycles before run clear starts sparse (inl up) = inl (up.0, up.2)
+  since_told t cycles before run clear starts sparse (inr (x, is, cause_is)) = inr (
+    x,
+    told_since r jobs carry restarts before starts t cycles x run (none_falls cycles before (record { run = run.0; clear = clear.0; sparse = sparse.0 }) (inl starts)) is,
+    caused r jobs carry restarts t (cycles ++ before) x cause_is,
+  )
 
-      never_so_late : t.phase ≤ 3 → (behind_mdt r jobs carry restarts t.sent (cycles ++ before)).stop ≡ None
-          → NotYet r jobs carry restarts opened t cycles before → ⊥
-      never_so_late low none (InEarly early) = never_early early
-      never_so_late low none (InTwo is_two) =
-          let le = two_sparse r jobs carry restarts opened t cycles before run clear starts sparse is_two none in
-          let bound = within_bound r in
-          let costs = with_costs low in omega (arith, le, bound, costs)
-      never_so_late low none (AtRise u rest is was_two none_then) = in_two_long u rest
-          (epoch_before r jobs carry restarts opened t cycles before run clear sparse (u ∷ rest) is) was_two none_then
-          (subst (λ (l : List CycleView). startup_bound r + 41 * (slowest r.drives + 2) + (early_costs r jobs carry restarts l before +
-          disturbances r carry restarts l before) ≤ length l) is (with_costs low))
-      never_so_late low none (InThree u rest is was_three then_three none_then last) = in_three_long u rest (epoch_before r jobs carry restarts opened t cycles before run clear sparse (u ∷ rest) is) was_three then_three
-          none_then last
-          (subst (λ (l : List CycleView). startup_bound r + 41 * (slowest r.drives + 2) + (early_costs r jobs carry restarts l before +
-          disturbances r carry restarts l before) ≤ length l) is (with_costs low))
-
-  -- THE END
   pub ends_sparse : (t : CycleView) (cycles before : List CycleView) → IsRun r jobs carry restarts (t ∷ (cycles ++ before))
       → IsClear (t ∷ (cycles ++ before)) → StartsEpoch r jobs carry restarts before → AreSparse r carry restarts (t ∷ cycles) before
       → startup_bound r + 41 * (slowest r.drives + 2) + start_costs r jobs carry restarts cycles before ≤ length cycles
       → IsUpOrStopped r t cycles
   ends_sparse t cycles before run clear starts sparse long = since_told t cycles before run clear starts sparse
-      (ends_so t cycles before run clear (inl starts) sparse long)
+      (ends_at t cycles before run clear (inl starts) sparse long)

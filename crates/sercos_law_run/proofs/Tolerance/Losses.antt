@@ -1,5 +1,5 @@
 -- How long a channel is at work in a stretch of which something is lost.
-use Rattle.sercos_law_run.proofs.Words.{◌≡◌, inl, inr, ℕ, suc, ◌+◌, ◌*◌, ◌≤◌, Bool, true, false, not, ◌&&◌, ◌||◌, List, [], ◌∷◌, ◌++◌, length, Option, refl, sym, ap, ◌∙◌, arith, is_some, cond-false, false≢true, Step, times_le, Entry, Begun, answers_in, open_in, steps_in, begun_in, epoch_begun, epoch_log, epoch_records, unless_restart, AreInStep, Idle, Kept, View, processed_in, open_since, one_more, in_step, length-replies_of, length-steps_of, start, start_begun, head_before, taken_before, GoesOn, TakesTimeAndLosses, loses_step, lost_since}
+use Rattle.sercos_law_run.proofs.Words.{◌≡◌, inl, inr, ℕ, suc, ◌+◌, ◌*◌, ◌≤◌, Bool, true, false, not, ◌&&◌, ◌||◌, List, [], ◌∷◌, ◌++◌, length, Option, refl, sym, ap, ◌∙◌, arith, is_some, cond-false, false≢true, Step, times_le, Entry, Begun, answers_in, open_in, steps_in, begun_in, epoch_begun, epoch_log, epoch_records, unless_restart, AreInStep, Idle, Kept, View, processed_in, open_since, one_more, in_step, length-replies_of, length-steps_of, start, start_begun, head_before, taken_before, GoesOn, TakesTimeAndLosses, loses_step, lost_since, cases_Bool}
 use Rattle.sercos_law_channel.specs.Handshake.InStep.{Sent}
 use Rattle.sercos_law_channel.specs.Handshake.Runs.{IsRun}
 use Rattle.sercos_law_run.proofs.Tolerance.Steps.{Counts, NoneOpen, NotAnswered, NotTaken, answers_more, begun_is, busy_still, counts, grows, none_new, same_head}
@@ -142,11 +142,10 @@ module _ (busy : ℕ) where
     ]
       where
         opens : open_since (v ∷ cycles) past ≤ open_since cycles past + 1
-        opens = by (is_some (open_in (begun_in v (cycles ++ past))))
-          where
-            by : (b : Bool) → one_more b (open_since cycles past) ≤ open_since cycles past + 1
-            by true = omega arith
-            by false = omega arith
+        opens = elim (cases_Bool (is_some (open_in (begun_in v (cycles ++ past))))) [
+          | inl on ↦ rw on (omega arith)
+          | inr off ↦ rw off (omega arith)
+        ]
 
         least : lost_since cycles past ≤ lost_since (v ∷ cycles) past
         least = more_or_same (loses_step v (cycles ++ past)) (lost_since cycles past)

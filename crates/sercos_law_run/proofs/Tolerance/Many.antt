@@ -1,9 +1,8 @@
 -- Phase 4 begins in time while disturbed cycles are sparse, however many they are, if the ring is right; else a stop is reported.
-use Rattle.sercos_law_run.proofs.Words.{◌≡◌, inl, inr, ℕ, suc, ◌+◌, ◌*◌, ◌<◌, ◌≤◌, List, [], ◌∷◌, ◌++◌, length, None, refl, sym, ◌∙◌, subst, arith, sum_by, cases_lt, Job, times_le, store_of, DriveView, RingView, CycleView, reads_count, outcomes_in, known_of, member, tasks_for, is_done, Carry, Restarts, epoch_begun, epoch_log, listed, slowest, drive_at, looks_back, master_calls, IsClear, IsRun, behind_mdt, views_of, IsOpened, StartsEpoch, IsRight, IsUpOrStopped, own_costs, slow_bound, slow_startup_of, AreSparse, in_cost}
+use Rattle.sercos_law_run.proofs.Words.{◌≡◌, inl, ℕ, suc, ◌+◌, ◌*◌, ◌<◌, ◌≤◌, List, [], ◌∷◌, ◌++◌, length, None, refl, sym, ◌∙◌, subst, arith, sum_by, Job, times_le, store_of, DriveView, RingView, CycleView, reads_count, outcomes_in, known_of, member, is_done, Carry, Restarts, epoch_begun, epoch_log, listed, slowest, drive_at, looks_back, master_calls, IsClear, IsRun, behind_mdt, views_of, IsOpened, StartsEpoch, IsRight, IsUpOrStopped, own_costs, slow_bound, slow_startup_of, AreSparse, in_cost}
 use Rattle.sercos_law_run.proofs.Start.CheckPasses.{ring_drive}
 use Rattle.sercos_law_run.proofs.Held.Runs.{drive_got, small}
 use Rattle.sercos_law_run.proofs.Headline.HeadlineRuns.{all_stand, first_store}
-use Rattle.sercos_law_run.proofs.Typed.Mdts.{phase_low}
 use Rattle.sercos_law_run.proofs.Undisturbed.PhaseTwo.{listed_all, sum_within}
 use Rattle.sercos_law_run.proofs.Undisturbed.Checks.ShortLists.{few_blocks, longest_list, lists_short}
 use Rattle.sercos_law_run.proofs.Undisturbed.Stops.StopStays.{none_before}
@@ -11,12 +10,12 @@ use Rattle.sercos_law_run.proofs.Undisturbed.Sections.{sum_most}
 use Rattle.sercos_law_run.proofs.Undisturbed.NoFalls.{was_low}
 use Rattle.sercos_law_run.proofs.Tolerance.Borne.{IsBorne, all_borne}
 use Rattle.sercos_law_run.proofs.Tolerance.EarlySparse.{phase_is, phase_next, start_is}
-use Rattle.sercos_law_run.proofs.Tolerance.Ends.{all_fit, end_by}
+use Rattle.sercos_law_run.proofs.Tolerance.Ends.{all_fit, end_at, right_ends, since_told}
 use Rattle.sercos_law_run.proofs.Tolerance.ManyEarly.{early_many}
 use Rattle.sercos_law_run.proofs.Tolerance.ManyThree.{at_rise, others_two, three_spent, two_cycles}
 use Rattle.sercos_law_run.proofs.Tolerance.ManyTwo.{costs_in, few_steps, ones, steps_in_two, two_spent, two_steps, weigh_at, weight_at}
 use Rattle.sercos_law_run.proofs.Tolerance.NotYet.{AtRise, InEarly, InThree, InTwo, IsEpoch, IsUnready, NotYet, epoch_before, not_yet}
-use Rattle.sercos_law_run.proofs.Tolerance.Rises.{few_in, none_in_three, none_in_two}
+use Rattle.sercos_law_run.proofs.Tolerance.Rises.{few_in}
 use Rattle.sercos_law_run.proofs.Tolerance.ThreeLasts.{check_fit, sum_split, without, without_mono}
 use Rattle.sercos_law_run.proofs.Bounds.BoundSums.{is_below_greatest}
 
@@ -117,7 +116,7 @@ module _ (r : RingView) (jobs : List Job) (carry : Carry) (restarts : Restarts) 
       let steps = few_steps (drive_at r k).busy (accepted k (u ∷ (cycles ++ before))) (120 + 4 * listed (drive_at r k))
       (2 * (drive_at r k).command) (omega (arith, cost, fits)) in omega (arith, steps)
 
-  -- NOT SO LATE, if a drive that isn't is_ready_if_ended has at most x steps more in phase 3
+  -- NOT SO LATE, if a drive that isn't ready has at most x steps more in phase 3
   module _ (x extra : ℕ) (room : (k : ℕ) → k < length r.drives → ((drive_at r k).busy + 2) * x ≤ extra + (drive_at r k).busy + 2)
       (t : CycleView) (cycles before : List CycleView) (starts : StartsEpoch r jobs carry restarts before) (e : Epoch (t ∷ cycles) before)
       (steps : (u : CycleView) (rest : List CycleView) → Epoch (u ∷ rest) before → u.phase ≡ 3 → (n : Unready u (rest ++ before)) → accepted n.place (u ∷ (rest ++ before)) ≤ three_steps (drive_at r n.place) + x)
@@ -197,39 +196,27 @@ module _ (r : RingView) (jobs : List Job) (carry : Carry) (restarts : Restarts) 
   pub rises_anyway : (t : CycleView) (cycles before : List CycleView) → IsRun r jobs carry restarts (t ∷ (cycles ++ before))
       → IsClear (t ∷ (cycles ++ before)) → StartsEpoch r jobs carry restarts before → AreSparse r carry restarts (t ∷ cycles) before
       → IsRight r → slow_bound r + own_costs r jobs carry restarts cycles before ≤ length cycles → t.phase ≡ 4
-  rises_anyway t cycles before run clear starts sparse right long = elim (cases_lt t.phase 4) [
-    | inr high ↦ (let low = phase_low (known_of r) (tasks_for (known_of r) jobs) (master_calls r carry restarts (cycles ++ before)) in
-        let same = phase_is r jobs carry restarts opened t (cycles ++ before) run (borne t cycles before starts epoch) in omega (arith, high, low, same))
-    | inl low ↦ absurd (never_so_late 0 0 (λ k below. omega arith) t cycles before starts epoch few (omega (arith, long))
-        (λ is_two. stop_two is_two) (not_yet r jobs carry restarts opened t cycles before run clear (inl starts) sparse
-        (omega (arith, long)) (omega (arith, low)) (λ is_three. stop_three is_three)))
-  ]
+  rises_anyway t cycles before run clear starts sparse right long = right_ends r jobs carry restarts opened t (cycles ++ before)
+      (end_at r jobs carry restarts opened t (cycles ++ before) run clear
+      (λ low none. never_so_late 0 0 (λ k below. omega arith) t cycles before starts epoch few (omega (arith, long)) (λ is_two. none)
+      (not_yet r jobs carry restarts opened t cycles before run clear (inl starts) sparse (omega (arith, long)) low (λ is_three. none)))) right
     where
       epoch : Epoch (t ∷ cycles) before
       epoch = record { run = run; clear = clear; sparse = sparse }
 
-      stop_two : t.phase ≡ 2 → (behind_mdt r jobs carry restarts t.sent (cycles ++ before)).stop ≡ None
-      stop_two is_two = none_in_two r jobs carry restarts opened t (cycles ++ before) run clear is_two right _ refl
-
-      stop_three : t.phase ≡ 3 → (behind_mdt r jobs carry restarts t.sent (cycles ++ before)).stop ≡ None
-      stop_three is_three = none_in_three r jobs carry restarts opened t (cycles ++ before) run clear is_three right _ refl
-
       few : (u : CycleView) (rest : List CycleView) → Epoch (u ∷ rest) before → u.phase ≡ 3
           → (n : Unready u (rest ++ before)) → accepted n.place (u ∷ (rest ++ before)) ≤ three_steps (drive_at r n.place) + 0
       few u rest all u_three n = few_accepted u rest before starts all u_three n.place n.there
-          (few_in r jobs carry restarts opened u (rest ++ before) all.run all.clear (borne u rest before starts all) right n.place n.there
-          n.unready)
+          (few_in r jobs carry restarts opened u (rest ++ before) all.run all.clear (borne u rest before starts all) right n)
 
   -- THE END in any case
   pub ends_anyway : (t : CycleView) (cycles before : List CycleView) → IsRun r jobs carry restarts (t ∷ (cycles ++ before))
       → IsClear (t ∷ (cycles ++ before)) → StartsEpoch r jobs carry restarts before → AreSparse r carry restarts (t ∷ cycles) before
       → slow_bound r + 41 * (slowest r.drives + 2) + own_costs r jobs carry restarts cycles before ≤ length cycles
       → IsUpOrStopped r t cycles
-  ends_anyway t cycles before run clear starts sparse long = end_by r jobs carry restarts opened t cycles before run
-      clear starts sparse
-      (λ early. early_long 42 (41 * (slowest r.drives + 2)) room t cycles before starts epoch few long early)
-      (λ low none. never_so_late 42 (41 * (slowest r.drives + 2)) room t cycles before starts epoch few long (λ is_two. none)
-      (not_yet r jobs carry restarts opened t cycles before run clear (inl starts) sparse (omega (arith, long)) low (λ is_three. none)))
+  ends_anyway t cycles before run clear starts sparse long = since_told r jobs carry restarts opened t cycles before run clear starts sparse
+      (end_at r jobs carry restarts opened t (cycles ++ before) run clear (λ low none. never_so_late 42 (41 * (slowest r.drives + 2)) room t cycles before starts epoch few long (λ is_two. none)
+      (not_yet r jobs carry restarts opened t cycles before run clear (inl starts) sparse (omega (arith, long)) low (λ is_three. none))))
     where
       epoch : Epoch (t ∷ cycles) before
       epoch = record { run = run; clear = clear; sparse = sparse }

@@ -1,15 +1,14 @@
 -- How long phase 2 lasts while disturbed cycles are sparse, however many they are.
-use Rattle.sercos_law_run.proofs.Words.{◌≡◌, inl, inr, ℕ, zero, suc, ◌+◌, ◌*◌, ◌<◌, ◌≤◌, true, false, List, [], ◌∷◌, ◌++◌, length, Option, None, refl, sym, ap, ◌∙◌, arith, is_some, cases_lt, Job, times_le, store_of, DriveView, RingView, Entry, Begun, answers_in, open_in, steps_in, CycleView, Fall, known_of, Past, is_done, is_done_in, Carry, Restarts, begun_in, epoch_begun, epoch_log, epoch_records, View, AreTimed, in_step, head_before, taken_before, listed, sum_below, drive_at, looks_back, master_calls, IsClear, IsDisturbed, IsRun, behind_mdt, view_of, views_of, IsOpened, StartsEpoch, GoesOnInTwo, IsUndisturbed, own_costs, AreSparse, IsSparse, in_cost, comes_timed}
+use Rattle.sercos_law_run.proofs.Words.{◌≡◌, inl, inr, ℕ, zero, suc, ◌+◌, ◌*◌, ◌<◌, ◌≤◌, true, false, List, [], ◌∷◌, ◌++◌, length, Option, None, refl, sym, ap, ◌∙◌, arith, is_some, cases_lt, Job, times_le, store_of, DriveView, RingView, Entry, Begun, answers_in, open_in, steps_in, CycleView, Fall, known_of, Past, is_done, Carry, Restarts, begun_in, epoch_begun, epoch_log, epoch_records, View, AreTimed, in_step, head_before, taken_before, listed, sum_below, drive_at, looks_back, master_calls, IsClear, IsDisturbed, IsRun, behind_mdt, view_of, views_of, IsOpened, StartsEpoch, IsUndisturbed, own_costs, AreSparse, IsSparse, in_cost, comes_timed}
 use Rattle.sercos_law_run.proofs.Held.Runs.{small}
 use Rattle.sercos_law_run.proofs.Headline.HeadlineRuns.{all_stand, first_store}
 use Rattle.sercos_law_run.proofs.Undisturbed.Checks.Carried.{are_carried}
 use Rattle.sercos_law_run.proofs.Undisturbed.Checks.CommandRuns.{first_commands}
 use Rattle.sercos_law_run.proofs.Undisturbed.Checks.PassedRuns.{commands_so}
 use Rattle.sercos_law_run.proofs.Undisturbed.PhaseTwo.{listed_all}
-use Rattle.sercos_law_run.proofs.Undisturbed.JobsBegun.{planned_now}
+use Rattle.sercos_law_run.proofs.Undisturbed.JobsBegun.{goes_in_two}
 use Rattle.sercos_law_run.proofs.Undisturbed.Sections.{opens_in_two, sum_most, sum_more}
 use Rattle.sercos_law_run.proofs.Undisturbed.Stops.StopStays.{none_before, stop_after}
-use Rattle.sercos_law_run.proofs.Recovery.LateDown.{phase_now}
 use Rattle.sercos_law_run.proofs.Recovery.Limits.{open_age}
 use Rattle.sercos_law_run.proofs.Recovery.Stretches.{whole_at}
 use Rattle.sercos_law_run.proofs.Tolerance.Borne.{IsBorne, all_borne, before_lost, calm_or_not, is_run}
@@ -189,14 +188,12 @@ module _ (r : RingView) (jobs : List Job) (carry : Carry) (restarts : Restarts) 
       → (back (t ∷ j)).now.phase ≡ 2 → (back (t ∷ j)).stop ≡ None
       → (k : ℕ) × (k < length r.drives) × (is_some (open_in (epoch_begun (views k (t ∷ j)))) ≡ true)
   some_open t j run clear is t_two is_two none =
-      let o = opens_in_two r jobs carry restarts opened t j run clear goes_on in
+      let o = opens_in_two r jobs carry restarts opened t j run clear
+      (goes_in_two r jobs carry restarts opened t j run clear t_two stop_none unfinished) in
       (o.0, o.1, open_now t j run clear is o.0 o.1 o.2)
     where
       stop_none : (behind_mdt r jobs carry restarts t.sent j).stop ≡ None
       stop_none = sym (stop_after r jobs carry restarts t j is.stays) ∙ none
-
-      phase : (behind_mdt r jobs carry restarts t.sent j).now.phase ≡ 2
-      phase = phase_now r jobs carry restarts t j run.1 ∙ t_two
 
       unfinished : is_done (known_of r) (behind_mdt r jobs carry restarts t.sent j) ≡ false
       unfinished = elim (two_phase (is_done (known_of r) (behind_mdt r jobs carry restarts t.sent j)) t.phase
@@ -204,14 +201,6 @@ module _ (r : RingView) (jobs : List Job) (carry : Carry) (restarts : Restarts) 
             | inl first ↦ (let one = first.1 in absurd (omega (arith, one, t_two)))
             | inr later ↦ later.0
           ]
-
-      goes_on : GoesOnInTwo r (behind_mdt r jobs carry restarts t.sent j)
-      goes_on = record {
-        phase = phase;
-        goes_on = stop_none;
-        planned = planned_now r jobs carry restarts opened t j run clear phase stop_none;
-        unchecked = sym (ap (λ (n : ℕ). is_done_in n (known_of r) (behind_mdt r jobs carry restarts t.sent j)) phase) ∙ unfinished;
-      }
 
   two_many : (t : CycleView) (cycles before : List CycleView) → IsRun r jobs carry restarts (t ∷ (cycles ++ before))
       → IsClear (t ∷ (cycles ++ before)) → StartsEpoch r jobs carry restarts before → AreSparse r carry restarts (t ∷ cycles) before

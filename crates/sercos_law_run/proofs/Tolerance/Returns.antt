@@ -1,5 +1,5 @@
 -- After the last faults that aren't sparse the ring returns in time, while sparse ones go on.
-use Rattle.sercos_law_run.proofs.Words.{◌≡◌, ◌⊎◌, inl, inr, ℕ, suc, ◌+◌, ◌*◌, ◌<◌, ◌≤◌, Bool, true, false, List, [], ◌∷◌, ◌++◌, length, Option, Some, None, refl, sym, ap, ◌∙◌, subst, arith, length-append, is_some, cases_eq, cases_lt, false≢true, none-some, Job, startup_bound, RingView, CycleView, Fall, known_of, tasks_for, Past, fall_of, Carry, Restarts, IsUp, recovery_bound, slowest, spared_cycles, IsClear, IsDisturbed, IsRun, begins, looks_back, master_calls, middle, behind_mdt, view_of, views_of, IsOpened, StartsEpoch, NoneFalls, TellsNoFall, IsUndisturbed, IsDown, BeginsAnew, Tolerates, HasFallen, ReturnsSparse, start_cost, start_costs, AreSparse, IsSparse, Stop, StopsForCause, IsBack}
+use Rattle.sercos_law_run.proofs.Words.{◌≡◌, ◌⊎◌, inl, inr, ℕ, suc, ◌+◌, ◌*◌, ◌<◌, ◌≤◌, Bool, true, false, List, [], ◌∷◌, ◌++◌, length, Option, Some, None, refl, sym, ap, ◌∙◌, subst, arith, length-append, is_some, cases_eq, cases_lt, false≢true, Job, startup_bound, RingView, CycleView, Fall, known_of, Past, fall_of, Carry, Restarts, IsUp, recovery_bound, slowest, spared_cycles, IsClear, IsDisturbed, IsRun, looks_back, master_calls, behind_mdt, view_of, views_of, IsOpened, StartsEpoch, NoneFalls, TellsNoFall, IsUndisturbed, IsDown, BeginsAnew, HasFallen, ReturnsSparse, start_cost, start_costs, AreSparse, IsSparse, Stop, IsBack}
 use Rattle.sercos_law_run.proofs.Bounds.FallCycles.{spared_room}
 use Rattle.sercos_law_run.proofs.Undisturbed.Answered.{tells_going}
 use Rattle.sercos_law_run.proofs.Undisturbed.Arriving.Small.{never_both}
@@ -8,19 +8,18 @@ use Rattle.sercos_law_run.proofs.Undisturbed.PhaseZero.{starts_at_fall, starts_a
 use Rattle.sercos_law_run.proofs.Recovery.EarlyPhases.{up_in_one}
 use Rattle.sercos_law_run.proofs.Recovery.FallsInTime.{greatest_low}
 use Rattle.sercos_law_run.proofs.Recovery.FallsSoon.{down_or_up}
-use Rattle.sercos_law_run.proofs.Recovery.LateDown.{no_lower, phase_now}
+use Rattle.sercos_law_run.proofs.Recovery.LateDown.{no_lower}
 use Rattle.sercos_law_run.proofs.Recovery.Stretches.{rest_clear, rest_runs, stays_down_in, up_in, whole_at}
 use Rattle.sercos_law_run.proofs.Tolerance.Borne.{IsBase, borne_on, calm_or_not, zero_is, IsHeld, some_drive}
 use Rattle.sercos_law_run.proofs.Tolerance.DownSparse.{falls_sparse, fall_sparse}
+use Rattle.sercos_law_run.proofs.Tolerance.Tolerates.{tolerates}
 use Rattle.sercos_law_run.proofs.Tolerance.Settles.{IsSettled, early_few, first_held, settles}
-use Rattle.sercos_law_run.proofs.Typed.Mdts.{phase_low}
 use Rattle.sercos_law_run.proofs.Undisturbed.Stops.StopStays.{none_before}
 use Rattle.sercos_law_run.proofs.Undisturbed.Stops.StopOnce.{same_start}
-use Rattle.sercos_law_run.proofs.Undisturbed.WholeRuns.{caused}
-use Rattle.sercos_law_run.proofs.Recovery.EarlyStops.{early_in, stands_at}
+use Rattle.sercos_law_run.proofs.Recovery.StopCauses.{cause, caused}
+use Rattle.sercos_law_run.proofs.Recovery.EarlyStops.{stands_at}
 use Rattle.sercos_law_run.proofs.Recovery.Returns.{right_four}
-use Rattle.sercos_law_run.proofs.Tolerance.Ends.{ends_so}
-use Rattle.sercos_law_run.proofs.Undisturbed.Cited.{never_stops_in_four, stops_in_three, stops_in_two}
+use Rattle.sercos_law_run.proofs.Tolerance.Ends.{ends_at}
 
 -- A JOURNAL CUT where none of some cycles falls: the oldest of them,
 record IsOpenedBy (r : RingView) (jobs : List Job) (carry : Carry) (restarts : Restarts) (cycles rest : List CycleView) : Type 0 where
@@ -146,10 +145,10 @@ cut_at_fall r carry restarts t (u ∷ cycles) rest sparse (inr earlier) =
     }
 
 -- AT MOST ONE FALL comes after the last cycle that isn't sparse.
-pub once_sparse : Tolerates → (r : RingView) (jobs : List Job) (carry : Carry) (restarts : Restarts) (t : CycleView) (j : List CycleView)
+pub once_sparse : (r : RingView) (jobs : List Job) (carry : Carry) (restarts : Restarts) (t : CycleView) (j : List CycleView)
     → IsOpened r jobs → IsRun r jobs carry restarts (t ∷ j) → IsClear (t ∷ j) → (cycles before : List CycleView) (lost : CycleView)
     → j ≡ cycles ++ lost ∷ before → AreSparse r carry restarts (t ∷ cycles) (lost ∷ before) → HasFallen cycles → TellsNoFall t
-once_sparse tolerates r jobs carry restarts t j opened run clear cycles before lost is sparse fallen =
+once_sparse r jobs carry restarts t j opened run clear cycles before lost is sparse fallen =
     let x = cut_at_fall r carry restarts t cycles (lost ∷ before) sparse fallen in
     (tolerates r jobs carry restarts t j opened run clear x.newer x.before (is ∙ x.is) x.anew x.sparse).tells
 
@@ -239,7 +238,7 @@ module _ (r : RingView) (jobs : List Job) (carry : Carry) (restarts : Restarts) 
           | inr other ↦ omega (arith, late, other)
         ]
 
-  -- a cut of the older cycles stays_a_run for all of them
+  -- a cut of the older cycles is one for all of them
   lifted : (n : ℕ) (cycles rest : List CycleView) (o : IsOpenedBy r jobs carry restarts cycles rest) → Settled n o.newer (o.first ∷ rest)
       → Settled n cycles rest
   lifted n cycles rest o x = record {
@@ -574,26 +573,6 @@ module _ (r : RingView) (jobs : List Job) (carry : Carry) (restarts : Restarts) 
               let costs = x.costs in omega (arith, parts, few, some_room, counted, costs, long);
         }
 
-    -- A stop of phase 2 or later has its cause; before phase 2 there is no stop.
-    cause_at : (t : CycleView) (j : List CycleView) (x : Stop) → IsRun r jobs carry restarts (t ∷ j) → IsClear (t ∷ j)
-        → (behind_mdt r jobs carry restarts t.sent j).stop ≡ Some x → StopsForCause r x
-    cause_at t j x run clear is = caused r jobs carry restarts t j x (elim (cases_lt t.phase 2) [
-      | inl low ↦ absurd (none-some x (sym (early_in r jobs carry restarts (middle r carry restarts t.sent j)
-          (let same = phase_now r jobs carry restarts t j run.1 in omega (arith, same, low))) ∙ is))
-      | inr late ↦ elim (cases_eq t.phase 2) [
-        | inl at_two ↦ elim (stops_in_two r jobs carry restarts t j x opened run clear at_two is) [
-          | inl plan ↦ inl plan
-          | inr cycle ↦ inr (inl cycle)
-        ]
-        | inr other ↦ elim (cases_eq t.phase 3) [
-          | inl at_three ↦ inr (inr (stops_in_three r jobs carry restarts t j x opened run clear at_three is))
-          | inr more_than ↦ absurd (none-some x (sym (never_stops_in_four r jobs carry restarts t j opened run clear
-              (let most = phase_low (known_of r) (tasks_for (known_of r) jobs) (begins r carry restarts j) in
-              let same = run.1.phase in omega (arith, late, other, more_than, most, same))) ∙ is))
-        ]
-      ]
-    ])
-
     -- THE RING IS BACK, and tells no fall.
     pub back_again : (t : CycleView) (cycles : List CycleView) → IsRun r jobs carry restarts (t ∷ (cycles ++ lost ∷ before))
         → IsClear (t ∷ (cycles ++ lost ∷ before)) → AreSparse r carry restarts (t ∷ cycles) (lost ∷ before)
@@ -626,7 +605,7 @@ module _ (r : RingView) (jobs : List Job) (carry : Carry) (restarts : Restarts) 
           inr (
             x,
             stands_at r jobs carry restarts t (cycles ++ lost ∷ before) x run stays stop,
-            cause_at t (cycles ++ lost ∷ before) x run clear stop,
+            caused r jobs carry restarts t (cycles ++ lost ∷ before) x (cause r jobs carry restarts opened t (cycles ++ lost ∷ before) run clear x stop),
           ),
           tells_going r jobs carry restarts opened t (cycles ++ lost ∷ before) run clear on stays,
         )
@@ -637,24 +616,24 @@ module _ (r : RingView) (jobs : List Job) (carry : Carry) (restarts : Restarts) 
             subst (λ (l : List CycleView). IsRun r jobs carry restarts (t ∷ l)) x.is run in
             let clear_is : IsClear (t ∷ (x.newer ++ x.since_then)) = subst (λ (l : List CycleView). IsClear (t ∷ l)) x.is clear in
             let borne = borne_on r jobs carry restarts opened t x.newer x.since_then run_is clear_is x.base x.sparse in (
-              subst (λ (l : List CycleView). IsBack r t l) (sym x.is) (elim (ends_so r jobs carry restarts opened t x.newer x.since_then run_is
+              subst (λ (l : List CycleView). IsBack r t l) (sym x.is) (elim (ends_at r jobs carry restarts opened t x.newer x.since_then run_is
                   clear_is x.base x.sparse x.long) [
-                    | inl four ↦ inl four
+                    | inl up ↦ inl (up.0, up.2)
                     | inr stop ↦ inr (
                       stop.0,
                       stands_at r jobs carry restarts t (x.newer ++ x.since_then) stop.0 run_is borne.stays stop.1,
-                      stop.2,
+                      caused r jobs carry restarts t (x.newer ++ x.since_then) stop.0 stop.2,
                     )
                   ]),
               tells_going r jobs carry restarts opened t (x.newer ++ x.since_then) run_is clear_is borne.goes_on borne.stays,
             )
 
   -- RECOVERY WHILE SPARSE FAULTS GO ON
-  pub returns_sparse : Tolerates → (t : CycleView) (j : List CycleView) → IsRun r jobs carry restarts (t ∷ j) → IsClear (t ∷ j)
+  pub returns_sparse : (t : CycleView) (j : List CycleView) → IsRun r jobs carry restarts (t ∷ j) → IsClear (t ∷ j)
       → ReturnsSparse r jobs carry restarts t j
-  returns_sparse tolerates t j run clear = record {
+  returns_sparse t j run clear = record {
     once = λ cycles before lost is sparse fallen.
-        once_sparse tolerates r jobs carry restarts t j opened run clear cycles before lost is sparse fallen;
+        once_sparse r jobs carry restarts t j opened run clear cycles before lost is sparse fallen;
     back = λ cycles before lost is sparse disturbed long. (now cycles before lost is sparse disturbed long).0;
     rises = λ cycles before lost is sparse disturbed right long. right_four r t j right (now cycles before lost is sparse disturbed long).0;
     tells = λ cycles before lost is sparse disturbed long. (now cycles before lost is sparse disturbed long).1;

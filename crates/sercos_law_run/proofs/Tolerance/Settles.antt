@@ -8,7 +8,9 @@ use Rattle.sercos_law_run.proofs.Undisturbed.NeverFalls.{busy_low}
 use Rattle.sercos_law_run.proofs.Undisturbed.StaysUp.{addressed_once}
 use Rattle.sercos_law_run.proofs.Undisturbed.Arriving.WholeIn.{whole_in}
 use Rattle.sercos_law_run.proofs.Undisturbed.Arriving.Small.{never_both}
-use Rattle.sercos_law_run.proofs.Recovery.LateDown.{no_lower, phase_after, phase_now}
+use Rattle.sercos_law_run.proofs.Recovery.DownSince.{NeverRestarts}
+use Rattle.sercos_law_run.proofs.Recovery.UpSections.{no_lower_on}
+use Rattle.sercos_law_run.proofs.Recovery.LateDown.{phase_after, phase_now}
 use Rattle.sercos_law_run.proofs.Recovery.Stretches.{whole_at}
 use Rattle.sercos_law_run.proofs.Tolerance.Borne.{HasStood, IsBorne, IsHeld, aged_after, aged_all, calm_or_not, next_held}
 use Rattle.sercos_law_run.proofs.Tolerance.FirstCycles.{never_first}
@@ -16,8 +18,15 @@ use Rattle.sercos_law_run.proofs.Tolerance.Losses.{none_lost_in}
 use Rattle.sercos_law_run.proofs.Tolerance.Standing.{hears_whole, takes_whole}
 use Rattle.sercos_law_run.proofs.Tolerance.Steps.{IsYoungSince, young_at_last, young_first}
 
+-- the master restarts in none of sparse cycles
+pub sparse_quiet : (r : RingView) (carry : Carry) (restarts : Restarts) (cycles before : List CycleView)
+    → AreSparse r carry restarts cycles before → NeverRestarts restarts cycles before
+sparse_quiet r carry restarts [] before sparse = tt
+sparse_quiet r carry restarts (t ∷ cycles) before sparse =
+    (sparse_quiet r carry restarts cycles before sparse.0, sparse.1.goes_on 0 (omega arith))
+
 -- of two undisturbed cycles the newest is
-newest_of : (r : RingView) (carry : Carry) (restarts : Restarts) (l : List CycleView) → AreCalm r carry restarts 2 l
+pub newest_of : (r : RingView) (carry : Carry) (restarts : Restarts) (l : List CycleView) → AreCalm r carry restarts 2 l
     → AreCalm r carry restarts 1 l
 newest_of r carry restarts [] are = tt
 newest_of r carry restarts (u ∷ l) are = (tt, are.1)
@@ -187,13 +196,9 @@ module _ (r : RingView) (jobs : List Job) (carry : Carry) (restarts : Restarts) 
     late_all : (t : CycleView) (cycles : List CycleView) → IsRun r jobs carry restarts (t ∷ (cycles ++ f ∷ b))
         → IsClear (t ∷ (cycles ++ f ∷ b)) → AreSparse r carry restarts (t ∷ cycles) (f ∷ b)
         → NoneFalls r jobs carry restarts (t ∷ cycles) (f ∷ b) → 1 ≤ t.phase
-    late_all t [] run clear sparse stays =
-        let least = no_lower r jobs carry restarts opened t f b run clear first.stays (sparse.1.goes_on 0 (omega arith)) 0
-        some_drive in omega (arith, least, late)
-    late_all t (u ∷ cycles) run clear sparse stays =
-        let least = no_lower r jobs carry restarts opened t u (cycles ++ f ∷ b) run clear stays.0.1 (sparse.1.goes_on 0 (omega arith)) 0
-        some_drive in
-        let before = late_all u cycles run.0 clear.0 sparse.0 stays.0 in omega (arith, least, before)
+    late_all t cycles run clear sparse stays =
+        let least = no_lower_on r jobs carry restarts opened t cycles f b run clear first.stays stays.0
+        (sparse_quiet r carry restarts (t ∷ cycles) (f ∷ b) sparse) 0 some_drive in omega (arith, least, late)
 
     newer_by : (t : CycleView) (cycles : List CycleView) → IsSparse r carry restarts t (cycles ++ f ∷ b)
         → IsSettled (length (f ∷ b)) cycles (f ∷ b) → IsSettled (length (f ∷ b)) (t ∷ cycles) (f ∷ b)

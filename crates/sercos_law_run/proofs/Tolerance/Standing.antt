@@ -1,5 +1,5 @@
 -- How a drive stands in a cycle of which it may miss something, and what is heard and processed in a whole one.
-use Rattle.sercos_law_run.proofs.Words.{◌≡◌, ◌⊎◌, inl, inr, ℕ, ◌+◌, ◌≤◌, Bool, true, false, not, ◌&&◌, List, [], ◌∷◌, length, refl, sym, ap, ap₂, ◌∙◌, arith, if◌then◌else◌, max, nat_le, is_some, and_from, cond-false, cond-true, le-leb, leb-true, Begun, open_in, begun_in, epoch_begun, Standing, View, afresh, before_mst, got_in, moved, processed_in, standing, stood_in, takes_in, staying, IsPassed, IsUp, IsWhole, was_addressed, comes_to, ends, open_late, moved_same, got_some, moved_next, IsBehind, stands_no_later, processed_some}
+use Rattle.sercos_law_run.proofs.Words.{◌≡◌, ◌⊎◌, inl, inr, ℕ, ◌+◌, ◌≤◌, Bool, true, false, not, ◌&&◌, List, [], ◌∷◌, length, refl, sym, ap, ap₂, ◌∙◌, arith, if◌then◌else◌, max, nat_le, is_some, and_from, cond-false, cond-true, le-leb, leb-true, Begun, open_in, begun_in, epoch_begun, Standing, View, afresh, before_mst, got_in, moved, processed_in, standing, stood_in, takes_in, staying, IsPassed, IsUp, IsWhole, was_addressed, comes_to, ends, open_late, moved_same, got_some, moved_next, IsBehind, stands_no_later, processed_some, cases_Bool}
 use Rattle.sercos_law_channel.specs.Handshake.Runs.{IsRun}
 use Rattle.sercos_law_channel.proofs.Theorems.{stands_as_commanded}
 
@@ -10,7 +10,10 @@ stays_same v stays = ap (λ (b : Bool). (let w : View = record v { falls = b } i
 -- A WHOLE CYCLE leaves no MDT missed, if the drive is in the commanded phase.
 pub took_mdt : (v : View) (past : List View) → IsWhole v past → stood_in v (standing past) ≡ v.phase
     → (standing (v ∷ past)).missed_mdt ≡ false
-took_mdt v past whole up = by (nat_le 3 (stood_in v (standing past))) refl
+took_mdt v past whole up = elim (cases_Bool (nat_le 3 (stood_in v (standing past)))) [
+  | inl on ↦ ap₂ (λ (a t : Bool). a && not t) on (took (leb-true 3 (stood_in v (standing past)) on))
+  | inr off ↦ ap (λ (a : Bool). a && not (takes_in v (stood_in v (standing past)))) off
+]
   where
     took : 3 ≤ stood_in v (standing past) → takes_in v (stood_in v (standing past)) ≡ true
     took three =
@@ -18,11 +21,6 @@ took_mdt v past whole up = by (nat_le 3 (stood_in v (standing past))) refl
         let got = got_some v (whole.mdt sent (omega (arith, three))) sent in
         and_from v.mst_comes _ whole.mst (and_from (nat_le 1 (stood_in v (standing past))) (is_some (got_in v))
         (le-leb 1 (stood_in v (standing past)) (omega (arith, three))) got)
-
-    by : (late : Bool) → nat_le 3 (stood_in v (standing past)) ≡ late
-        → (nat_le 3 (stood_in v (standing past)) && not (takes_in v (stood_in v (standing past)))) ≡ false
-    by true on = ap₂ (λ (a t : Bool). a && not t) on (took (leb-true 3 (stood_in v (standing past)) on))
-    by false off = ap (λ (a : Bool). a && not (takes_in v (stood_in v (standing past)))) off
 
 -- while phase 0 is commanded, a drive that gets the MST is in it, and any drive is from the second such cycle on
 pub zero_up : (v : View) (past : List View) → v.mst_comes ≡ true → v.phase ≡ 0 → IsUp v past

@@ -1,5 +1,5 @@
 -- How old a step gets on a channel, if few cycles in a row lose its record or its answer.
-use Rattle.sercos_law_run.proofs.Words.{◌≡◌, ◌⊎◌, inl, inr, ℕ, suc, ◌+◌, ◌<◌, ◌≤◌, Bool, true, false, List, [], ◌∷◌, length, Option, Some, None, refl, sym, ap, ◌∙◌, arith, if◌then◌else◌, ◌==◌, IfSome, is_some, cond-false, cond-true, eqb-true, false≢true, Status, Request, Step, Entry, Processed, log_of, reply_of, Begun, answer_in, answers_in, answers_it, open_in, steps_in, with_answer, begun_in, epoch_begun, epoch_log, epoch_records, log_in, records_in_views, unless_restart, with_begun, with_heard, AreInStep, Idle, Kept, log_steps, with_processed, IsShown, Heard, View, processed_in, record_in, standing, stood_in, with_record, age_by, age_in, Nothing, Processes, Record, in_step, length-replies_of, length-steps_of, processes, said_of, begun_of, heard_of, joined, restarted, shown_of, log-taken, log_grows, BusyLate, FreeLate, NewLate, WorksLate, heard_late, head_before, taken_before, joins}
+use Rattle.sercos_law_run.proofs.Words.{◌≡◌, ◌⊎◌, inl, inr, ℕ, suc, ◌+◌, ◌<◌, ◌≤◌, Bool, true, false, List, [], ◌∷◌, length, Option, Some, None, refl, sym, ap, ◌∙◌, arith, if◌then◌else◌, ◌==◌, IfSome, is_some, cond-false, cond-true, eqb-true, false≢true, Status, Request, Step, Entry, Processed, log_of, reply_of, Begun, answer_in, answers_in, answers_it, open_in, steps_in, with_answer, begun_in, epoch_begun, epoch_log, epoch_records, log_in, records_in_views, unless_restart, with_begun, with_heard, AreInStep, Idle, Kept, log_steps, with_processed, IsShown, Heard, View, processed_in, record_in, standing, stood_in, with_record, age_by, age_in, Nothing, Processes, Record, in_step, length-replies_of, length-steps_of, processes, said_of, begun_of, heard_of, joined, restarted, shown_of, log-taken, log_grows, BusyLate, FreeLate, NewLate, WorksLate, heard_late, head_before, taken_before, joins, cases_Option}
 use Rattle.sercos_law_channel.specs.Handshake.InStep.{Sent}
 use Rattle.sercos_law_channel.specs.Handshake.Runs.{IsRun}
 
@@ -85,7 +85,10 @@ rested since busy all none = record {
 -- so it is no older than this
 pub oldest : (busy fresh late : ℕ) (all : List View) → IsRun busy all → fresh ≤ 1 → IsYoung busy fresh late all
     → age_in all ≤ busy + 2 + late
-oldest busy fresh late all run few y = by (open_in (epoch_begun all)) refl
+oldest busy fresh late all run few y = elim (cases_Option (open_in (epoch_begun all))) [
+  | inl none ↦ let zero = closed_age all none in omega (arith, zero)
+  | inr (s, some) ↦ which (ap (λ (x : Option Step). is_some x) some) (counts (epoch_begun all) (epoch_log all) (in_step busy all run))
+]
   where
     accepted : (log : List Entry) → epoch_log all ≡ log → is_some (open_in (epoch_begun all)) ≡ true
         → length (steps_in (epoch_begun all)) ≡ length (epoch_log all)
@@ -99,10 +102,6 @@ oldest busy fresh late all run few y = by (open_in (epoch_begun all)) refl
     which some (NoneOpen none s a) = absurd (never_some (open_in (epoch_begun all)) none some)
     which some (NotTaken s a) = let young = y.new some s in omega (arith, young, few)
     which some (NotAnswered s a) = accepted (epoch_log all) refl some s a
-
-    by : (o : Option Step) → open_in (epoch_begun all) ≡ o → age_in all ≤ busy + 2 + late
-    by None none = let zero = closed_age all none in omega (arith, zero)
-    by (Some s) some = which (ap (λ (x : Option Step). is_some x) some) (counts (epoch_begun all) (epoch_log all) (in_step busy all run))
 
 -- ONE CYCLE, without a fall or a restart of the master
 module _ (busy : ℕ) (v : View) (past : List View) (run : IsRun busy (v ∷ past)) (stays : v.falls ≡ false)

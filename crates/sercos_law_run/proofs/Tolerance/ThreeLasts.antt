@@ -1,5 +1,5 @@
 -- How long phase 3 lasts while disturbed cycles are sparse.
-use Rattle.sercos_law_run.proofs.Words.{◌≡◌, inl, inr, ℕ, zero, suc, ◌+◌, ◌<◌, ◌≤◌, Bool, true, false, List, [], ◌∷◌, ◌++◌, length, Option, None, Some, refl, sym, ap, ◌∙◌, subst, arith, if◌then◌else◌, ◌==◌, is_some, sum_by, cases_eq, cond-false, eq-eqb, ne_eqb, Job, store_of, RingView, Begun, open_in, PlanView, CycleView, is_ready, reads_count, outcomes_in, known_of, member, Past, is_done, Carry, Restarts, begun_in, epoch_begun, unless_restart, with_heard, View, cost_in, cost_of, open_since, one_more, command_cycles, sum_below, drive_at, is_disturbed_in, looks_back, master_calls, IsClear, IsRun, at_start, behind_mdt, view_of, views_of, IsOpened, jobs_of, AreAt, GoesOnInThree, views_since, early_costs, cycles_for, disturbances, loses_step, lost_since, AreSparse, reads_cost, writes_cost}
+use Rattle.sercos_law_run.proofs.Words.{◌≡◌, inl, inr, ℕ, zero, suc, ◌+◌, ◌<◌, ◌≤◌, Bool, true, false, List, [], ◌∷◌, ◌++◌, length, Option, None, Some, refl, sym, ap, ◌∙◌, subst, arith, if◌then◌else◌, ◌==◌, is_some, sum_by, cases_eq, cond-false, eq-eqb, ne_eqb, Job, store_of, RingView, Begun, open_in, PlanView, CycleView, is_ready, reads_count, outcomes_in, known_of, member, Past, is_done, Carry, Restarts, begun_in, epoch_begun, unless_restart, with_heard, View, cost_in, cost_of, open_since, one_more, command_cycles, sum_below, drive_at, is_disturbed_in, looks_back, master_calls, IsClear, IsRun, at_start, behind_mdt, view_of, views_of, IsOpened, jobs_of, AreAt, GoesOnInThree, views_since, early_costs, cycles_for, disturbances, loses_step, lost_since, AreSparse, reads_cost, writes_cost, cases_Bool}
 use Rattle.sercos_law_run.proofs.Start.CheckPasses.{ring_drive}
 use Rattle.sercos_law_run.proofs.Held.Extended.{heard_more, begun_same}
 use Rattle.sercos_law_run.proofs.Held.Runs.{drive_got, holding}
@@ -46,19 +46,10 @@ sum_split (suc n) k f low = elim (cases_eq n k) [
 ]
 
 without_most : (k j : ℕ) (f g h : ℕ → ℕ) → f j ≤ g j + h j → without k f j ≤ without k g j + without k h j
-without_most k j f g h le = by (j == k)
-  where
-    by : (b : Bool) → (let n : ℕ = if b then 0 else f j in n) ≤ (let n : ℕ = if b then 0 else g j in n) +
-        (let n : ℕ = if b then 0 else h j in n)
-    by true = omega arith
-    by false = le
+without_most k j f g h le = elim (cases_Bool (j == k)) [ inl on ↦ rw on (omega arith) | inr off ↦ rw off le ]
 
 pub without_mono : (k j : ℕ) (f g : ℕ → ℕ) → f j ≤ g j → without k f j ≤ without k g j
-without_mono k j f g le = by (j == k)
-  where
-    by : (b : Bool) → (let n : ℕ = if b then 0 else f j in n) ≤ (let n : ℕ = if b then 0 else g j in n)
-    by true = omega arith
-    by false = le
+without_mono k j f g le = elim (cases_Bool (j == k)) [ inl on ↦ rw on (omega arith) | inr off ↦ rw off le ]
 
 grown : (b : Bool) (n : ℕ) → n + 1 ≤ one_more b n → b ≡ true
 grown true n le = refl

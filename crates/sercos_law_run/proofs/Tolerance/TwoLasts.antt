@@ -1,9 +1,9 @@
 -- How long phase 2 lasts while disturbed cycles are sparse.
-use Rattle.sercos_law_run.proofs.Words.{◌≡◌, ◌⊎◌, inl, inr, ℕ, zero, suc, ◌+◌, ◌<◌, ◌≤◌, Bool, true, false, List, [], ◌∷◌, ◌++◌, length, None, refl, sym, ap, ◌∙◌, subst, arith, if◌then◌else◌, sum_by, Job, store_of, RingView, CycleView, known_of, Past, fall_of, is_done, is_done_in, Carry, Restarts, epoch_begun, cost_in, cost_of, open_since, sum_below, drive_at, looks_back, master_calls, IsClear, IsRun, behind_mdt, views_of, IsOpened, GoesOnInTwo, views_since, early_costs, disturbances, AreSparse, reads_cost, writes_cost}
+use Rattle.sercos_law_run.proofs.Words.{◌≡◌, ◌⊎◌, inl, inr, ℕ, zero, suc, ◌+◌, ◌<◌, ◌≤◌, Bool, true, false, List, [], ◌∷◌, ◌++◌, length, None, refl, sym, ◌∙◌, subst, arith, if◌then◌else◌, sum_by, Job, store_of, RingView, CycleView, known_of, Past, fall_of, is_done, Carry, Restarts, epoch_begun, cost_in, cost_of, open_since, sum_below, drive_at, looks_back, master_calls, IsClear, IsRun, behind_mdt, views_of, IsOpened, views_since, early_costs, disturbances, AreSparse, reads_cost, writes_cost}
 use Rattle.sercos_law_run.proofs.Start.CheckPasses.{ring_drive}
 use Rattle.sercos_law_run.proofs.Views.Members.{member_is}
 use Rattle.sercos_law_run.proofs.Held.Runs.{drive_got}
-use Rattle.sercos_law_run.proofs.Undisturbed.JobsBegun.{few_now, places_now, planned_now}
+use Rattle.sercos_law_run.proofs.Undisturbed.JobsBegun.{few_now, places_now, goes_in_two}
 use Rattle.sercos_law_run.proofs.Undisturbed.JobsCost.{two_fits}
 use Rattle.sercos_law_run.proofs.Undisturbed.PhaseTwo.{listed_all, section_two, sum_within}
 use Rattle.sercos_law_run.proofs.Undisturbed.Sections.{one_works}
@@ -67,15 +67,7 @@ module _ (r : RingView) (jobs : List Job) (carry : Carry) (restarts : Restarts) 
           → suc (length cycles) ≤ 11 + length r.drives + early_costs r jobs carry restarts (t ∷ cycles) before + opens_in (t ∷ cycles)
           before
       by unfinished t_two earlier =
-          let phase : (behind_mdt r jobs carry restarts t.sent (cycles ++ before)).now.phase ≡ 2 = phase_now r jobs carry restarts t
-          (cycles ++ before) run.1 ∙ t_two in
-          let goes_on : GoesOnInTwo r (behind_mdt r jobs carry restarts t.sent (cycles ++ before)) = record {
-            phase = phase;
-            goes_on = stop_none;
-            planned = planned_now r jobs carry restarts opened t (cycles ++ before) run clear phase stop_none;
-            unchecked = sym (ap (λ (n : ℕ). is_done_in n (known_of r) (behind_mdt r jobs carry restarts t.sent (cycles ++ before))) phase)
-                ∙ unfinished;
-          } in
+          let goes_on = goes_in_two r jobs carry restarts opened t (cycles ++ before) run clear t_two stop_none unfinished in
           let works = one_works r jobs carry restarts opened t cycles before run clear goes_on in
           omega (arith, works, earlier)
 

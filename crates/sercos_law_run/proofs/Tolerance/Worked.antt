@@ -1,5 +1,5 @@
 -- Worked runs whose disturbed cycles are sparse, and some whose are not, computed from the definitions.
-use Rattle.sercos_law_run.proofs.Words.{◌≡◌, inl, inr, ℕ, true, List, [], ◌∷◌, ◌++◌, length, ◌+◌, ◌≤◌, Option, Some, None, refl, sym, ◌∙◌, if◌then◌else◌, arith, ◌*◌, false≢true, Kind, Deaf, Fault, startup_bound, CycleView, Fall, recovery_bound, slowest, is_disturbed_in, run_of, IsDisturbed, left_after, IsRight, IsUpOrStopped, own_costs, slow_bound, cycles_commanded, HasFallen, ReturnsSparse, start_costs, AreSparse, IsSparse, Stop, StandsAt, carried, restarts_at, acts}
+use Rattle.sercos_law_run.proofs.Words.{◌≡◌, inl, inr, ℕ, true, List, [], ◌∷◌, ◌++◌, length, ◌+◌, ◌≤◌, Option, Some, None, refl, sym, ◌∙◌, if◌then◌else◌, arith, false≢true, Kind, Deaf, Fault, startup_bound, CycleView, Fall, recovery_bound, is_disturbed_in, run_of, IsDisturbed, left_after, IsRight, IsUpOrStopped, own_costs, slow_bound, cycles_commanded, HasFallen, ReturnsSparse, start_costs, AreSparse, IsSparse, Stop, StandsAt, carried, restarts_at, acts}
 use Rattle.sercos_telegram.specs.declared.layout.Kind.TheVariants as kinds
 use Rattle.sercos_trace.specs.declared.events.Fall.TheVariants as fall
 use Rattle.sercos_law_run.proofs.Journal.Worked.{fault, read, ring}

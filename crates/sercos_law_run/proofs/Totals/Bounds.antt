@@ -57,9 +57,6 @@ if_counts : {E : Type 0} (w : WishesView) (e : E) (b : Bool) (p : PlanView) → 
 if_counts w e true p is = subst (Counts w) (same_ok (least_plan w) p (Ok (least_plan w)) refl is) (least_counts w)
 if_counts w e false p is = absurd (cc)
 
-planned_counts : (w : WishesView) (p : PlanView) → planned w ≡ Ok p → Counts w p
-planned_counts w p is = if_counts w (chain_of w) (is_roomy w) p is
-
 -- what a plan has of a ring
 abbrev pub HasEach : RingView → Option PlanView → Type 0
 HasEach r plan = IfSome plan (λ p. (length p.t1 ≡ length r.drives) × (length p.position ≡ length r.drives))
@@ -68,7 +65,7 @@ told_each : (r : RingView) (p : Past) (plan : Option PlanView) → IsPlanned (kn
 told_each r p None planned is = tt
 told_each r p (Some plan) planned is =
     let w : WishesView = wishes_given (known_of r) (outcomes p) in
-    let counts : Counts w plan = planned_counts w plan (planned plan is).planned_is in
+    let counts : Counts w plan = if_counts w (chain_of w) (is_roomy w) plan (planned plan is).planned_is in
     let drives : length w.drives ≡ length r.drives = wishes_length (known_of r).drives 0 (outcomes p) ∙ length-map r.drives member_of in
     both w plan drives counts
   where

@@ -1,5 +1,5 @@
 -- The totals of cycles and one more.
-use Rattle.sercos_law_run.proofs.Words.{◌≡◌, ℕ, ◌==◌, Bool, true, false, if◌then◌else◌, List, [], ◌∷◌, ◌++◌, Option, Some, None, option_map, refl, length-append, option_or, find, sum_by_push, fold-append, find-append, CycleView, ended_in, falls_in, is_refused, is_broken, with_cycle, totals_of}
+use Rattle.sercos_law_run.proofs.Words.{◌≡◌, ℕ, ◌==◌, Bool, true, false, if◌then◌else◌, List, [], ◌∷◌, ◌++◌, Option, Some, None, option_map, refl, length-append, option_or, find, sum_by_push, fold-append, find-append, CycleView, ended_in, falls_in, is_refused, is_broken, with_cycle, totals_of, cases_Bool, inl, inr}
 use Rattle.sercos_law_run.specs.Totals.Totals.{is_complete}
 
 map_or : (found other : Option CycleView) → option_map (λ (t : CycleView). t.cycle) (option_or found other) ≡ option_or (option_map (λ (t : CycleView). t.cycle) found) (option_map (λ (t : CycleView). t.cycle) other)
@@ -7,11 +7,7 @@ map_or None other = refl
 map_or (Some t) other = refl
 
 first_of_one : (t : CycleView) → option_map (λ (t : CycleView). t.cycle) (find (λ (t : CycleView). t.phase == 4) (t ∷ [])) ≡ (if t.phase == 4 then Some t.cycle else None)
-first_of_one t = by (t.phase == 4)
-  where
-    by : (b : Bool) → option_map (λ (t : CycleView). t.cycle) (if b then Some t else None) ≡ (if b then Some t.cycle else None)
-    by true = refl
-    by false = refl
+first_of_one t = elim (cases_Bool (t.phase == 4)) [ inl on ↦ rw on | inr off ↦ rw off ]
 
 pub totals_more : (cycles : List CycleView) (made : CycleView) → totals_of (cycles ++ made ∷ []) ≡ with_cycle (totals_of cycles) made
 unfolding totals_of

@@ -1,9 +1,10 @@
 -- The AT of a drive is whole: bytes, and no more than an AT has.
-use Rattle.sercos_law_run.proofs.Words.{inl, ◌≡◌, ℕ, suc, ◌+◌, ◌*◌, ◌%◌, ◌<◌, ◌≤◌, ◌==◌, nat_le, Bool, true, false, not, List, [], ◌∷◌, length, Option, Some, None, option_map, unwrap_or, refl, sym, subst, arith, if◌then◌else◌, length-append, option_and_then, flat_map, flat_map-cons, and_parts, cond_both, not-true, to_le_bytes, AreBytes-append, Idn, Length, Two, Four, List1, List2, List4, is_list, Block, width_of, bytes_for, bits_in, number_end, is_number, find_block, is_sound, IsStore, DriveView, found_sound, found-carried, types, data_at, Shown, channel_says, DriveCall, phase_in, cycle_in, records_in, blocks_in, commands_in, annals, Said, shown_word, bytes_in_cycle, values_in, sends, said, drive_says, fields_length, Keeps, two_bytes, AreBytes, word_bytes, fields, idns_at, data_in, value_in}
+use Rattle.sercos_law_run.proofs.Words.{inl, ◌≡◌, ℕ, suc, ◌+◌, ◌*◌, ◌%◌, ◌<◌, ◌≤◌, ◌==◌, nat_le, Bool, true, false, not, List, [], ◌∷◌, length, Option, Some, None, option_map, unwrap_or, refl, sym, subst, arith, if◌then◌else◌, length-append, option_and_then, flat_map, flat_map-cons, and_parts, cond_both, not-true, to_le_bytes, AreBytes-append, Idn, Length, Two, Four, List1, List2, List4, is_list, Block, width_of, bytes_for, bits_in, number_end, is_number, find_block, is_sound, IsStore, DriveView, found_sound, found-carried, types, data_at, Shown, channel_says, DriveCall, phase_in, cycle_in, records_in, blocks_in, commands_in, annals, Said, shown_word, bytes_in_cycle, values_in, sends, said, drive_says, fields_length, Keeps, two_bytes, AreBytes, word_bytes, fields, idns_at, data_in, value_in, cases_Option, inr, cases_Bool}
 use Rattle.sercos_block.proofs.SoundLemmas.{value_len}
 use Rattle.sercos_command.specs.Checks.{idns_in}
 use Rattle.sercos_law_run.proofs.Typed.Replies.{data_bytes}
 use Rattle.sercos_law_run.proofs.Start.WellLemmas.{item_small}
+use Rattle.sercos_law_run.proofs.Journal.StationLemmas.{says_that}
 
 -- a content that has a frame
 pub record IsContent (content : List ℕ) : Type 0 where
@@ -47,19 +48,17 @@ data_long cycle b single sound = cond_both (b.step == 0) b.value
     (λ off. number_long b.attribute.length _)
 
 block_value : (cycle : ℕ) (b : Block) → is_sound b ≡ true → AreBytes b.value → IsValue (unwrap_or (bytes_in_cycle cycle b) [])
-block_value cycle b sound are = by (is_number b.attribute) refl
-  where
-    by : (number : Bool) → is_number b.attribute ≡ number → IsValue (unwrap_or (if number then Some (data_in cycle b) else None) [])
-    by true is = record { are = data_bytes cycle b are; few = data_long cycle b (not-true _ (and_parts (not (is_list b.attribute.length)) (not b.attribute.command) is).0) sound }
-    by false is = no_value
+block_value cycle b sound are = elim (cases_Bool (is_number b.attribute)) [
+  | inl is ↦ rw is (record { are = data_bytes cycle b are; few = data_long cycle b (not-true _ (and_parts (not (is_list b.attribute.length)) (not b.attribute.command) is).0) sound })
+  | inr is ↦ rw is no_value
+]
 
 value_so : (cycle : ℕ) (blocks : List Block) (idn : Idn) → IsStore blocks → IsValue (value_in cycle blocks idn)
 unfolding value_in
-value_so cycle blocks idn store = by (find_block idn.raw blocks) refl
-  where
-    by : (o : Option Block) → find_block idn.raw blocks ≡ o → IsValue (unwrap_or (option_and_then (bytes_in_cycle cycle) o) [])
-    by None is = no_value
-    by (Some b) is = block_value cycle b (found_sound idn.raw blocks b store.sound is) (types blocks idn.raw b store is).1
+value_so cycle blocks idn store = elim (cases_Option (find_block idn.raw blocks)) [
+  | inl is ↦ rw is no_value
+  | inr (b, is) ↦ rw is (block_value cycle b (found_sound idn.raw blocks b store.sound is) (types blocks idn.raw b store is).1)
+]
 
 -- ALL VALUES: at most sixteen
 record AreValues (bytes : List ℕ) (n : ℕ) : Type 0 where
@@ -105,11 +104,5 @@ said_content address cycle phase blocks s low store =
     record { bytes = address_bytes address _ low (fields_bytes (shown_word s) s.word (values_in cycle phase blocks) v.are); some = omega arith; most = omega (arith, few, long) }
 
 pub at_content : (d : DriveView) (rate : ℕ) (h : List DriveCall) (s : Said) → d.address < 256 → Keeps d (annals d rate h) → drive_says d rate h ≡ Some s → IsContent s.content
-at_content d rate h s low keeps is = by (sends (annals d rate h)) is
-  where
-    x : Said
-    x = said d.address (cycle_in (annals d rate h)) (phase_in (annals d rate h)) (blocks_in d (annals d rate h)) (channel_says d.busy (cycle_in (annals d rate h)) (commands_in d rate (annals d rate h)) (records_in (annals d rate h)))
-
-    by : (b : Bool) → (if b then Some x else None) ≡ Some s → IsContent s.content
-    by true e = let same : x ≡ s = cc in subst (λ (y : Said). IsContent y.content) same (said_content d.address (cycle_in (annals d rate h)) (phase_in (annals d rate h)) (blocks_in d (annals d rate h)) _ low keeps.store)
-    by false e = cc
+at_content d rate h s low keeps is = subst (λ (y : Said). IsContent y.content) (says_that d rate (annals d rate h) s is).1
+    (said_content d.address (cycle_in (annals d rate h)) (phase_in (annals d rate h)) (blocks_in d (annals d rate h)) _ low keeps.store)

@@ -1,48 +1,35 @@
 -- Each request that the master begins is typed.
-use Rattle.sercos_law_run.proofs.Words.{◌≡◌, ℕ, zero, suc, ◌+◌, ◌*◌, ◌<◌, ◌≤◌, ◌==◌, Bool, true, false, List, [], ◌∷◌, ◌++◌, map, length, drop, Option, Some, None, IfSome, refl, sym, subst, arith, if◌then◌else◌, cond_both, slice_index, slice_get, All-head, All-tail, Idn, Status, status_of, word_at, Request, Job, Outcome, Answer, bytes_in, PlanView, Begun, answers_it, answer_in, with_answer, Hear, begun_by, Known, IsKnown, MemberView, Task, member, startup, request_task, tasks_from, tasks_for, after_reads, bytes_of, idn, declared_times, reads, reads_count, writes_word, writes_list, writes, ended_well, checking, agenda, count_requests, Call, Past, IsPlanned, past, outcomes, after_taken, settled, with_begin, ready_to_send, is_sent_to, addressed_in, after_mdt, new_epoch, still_waiting, settles, begins_next, channel_keeps, past_keeps, IsTypedRequest, AreTypedJobs}
+use Rattle.sercos_law_run.proofs.Words.{◌≡◌, ℕ, zero, suc, ◌+◌, ◌*◌, ◌<◌, ◌≤◌, ◌==◌, Bool, true, false, List, [], ◌∷◌, ◌++◌, map, length, drop, Option, Some, None, IfSome, refl, sym, subst, arith, if◌then◌else◌, cond_both, slice_index, slice_get, All-head, All-tail, Idn, Status, status_of, word_at, Request, Job, Outcome, Answer, bytes_in, PlanView, Begun, answers_it, answer_in, with_answer, Hear, begun_by, Known, IsKnown, MemberView, Task, member, startup, request_task, tasks_from, tasks_for, after_reads, bytes_of, idn, declared_times, reads, reads_count, writes_word, writes_list, writes, ended_well, checking, agenda, count_requests, Call, Past, IsPlanned, past, outcomes, after_taken, settled, with_begin, ready_to_send, is_sent_to, addressed_in, after_mdt, new_epoch, still_waiting, settles, begins_next, channel_keeps, past_keeps, IsTypedRequest, AreTypedJobs, cases_Bool, cases_Option, inl, inr}
 use Rattle.sercos_step.specs.declared.request.Request.TheVariants as request
 use Rattle.sercos_service_master.specs.Calls as channel
 use Rattle.sercos_master.specs.Annals.{Mdt, begins}
 use Rattle.sercos_law_run.proofs.Typed.Words.{AreWords, bytes_of_words}
 use Rattle.sercos_law_run.proofs.Typed.Steps.{AreBegun}
 use Rattle.sercos_law_run.proofs.Typed.Plans.{IsTimed, PlanWords, plan_words, AreIdns, IsMember}
+use Rattle.std.specs.List.{AllByRecursion}
+use Rattle.std.proofs.lemmas.List.Elements.{All-append, All-drop, All-from_recursion, recursion_from_All}
 
 abbrev pub AreRequests : List Request → Type 0
-AreRequests [] = Unit {0}
-AreRequests (r ∷ requests) = IsTypedRequest r × AreRequests requests
+AreRequests requests = AllByRecursion IsTypedRequest requests
 
 abbrev pub AreTasks : List Task → Type 0
-AreTasks [] = Unit {0}
-AreTasks (t ∷ tasks) = IsTypedRequest t.request × AreTasks tasks
+AreTasks tasks = AllByRecursion (λ t. IsTypedRequest t.request) tasks
 
-requests_append : (xs ys : List Request) → AreRequests xs → AreRequests ys → AreRequests (xs ++ ys)
-requests_append [] ys left right = right
-requests_append (x ∷ xs) ys left right = (left.0, requests_append xs ys left.1 right)
-
-tasks_append : (xs ys : List Task) → AreTasks xs → AreTasks ys → AreTasks (xs ++ ys)
-tasks_append [] ys left right = right
-tasks_append (x ∷ xs) ys left right = (left.0, tasks_append xs ys left.1 right)
+every_append : {X : Type 0} (P : X → Type 0) (xs ys : List X) → AllByRecursion P xs → AllByRecursion P ys → AllByRecursion P (xs ++ ys)
+every_append P xs ys left right =
+    recursion_from_All P (xs ++ ys) (All-append P xs ys (All-from_recursion P xs left) (All-from_recursion P ys right))
 
 started : (phase : ℕ) (requests : List Request) → AreRequests requests → AreTasks (map (startup phase) requests)
 started phase [] are = tt
 started phase (r ∷ requests) are = (are.0, started phase requests are.1)
 
-tasks_drop : (n : ℕ) (tasks : List Task) → AreTasks tasks → AreTasks (drop n tasks)
-tasks_drop zero tasks are = are
-tasks_drop (suc n) [] are = tt
-tasks_drop (suc n) (t ∷ tasks) are = tasks_drop n tasks are.1
-
 -- THE AGENDA
-idns_append : (xs ys : List Idn) → AreIdns xs → AreIdns ys → AreIdns (xs ++ ys)
-idns_append [] ys left right = right
-idns_append (x ∷ xs) ys left right = (left.0, idns_append xs ys left.1 right)
-
 attributes_so : (idns : List Idn) → AreIdns idns → AreRequests (map (λ i. request.Read i 3) idns)
 attributes_so [] are = tt
 attributes_so (i ∷ idns) are = ((are.0, (omega arith, omega arith)), attributes_so idns are.1)
 
 reads_so : (d : MemberView) → IsMember d → AreRequests (reads d)
-reads_so d is = requests_append (map (λ raw. request.Read (idn raw) 7) declared_times) _ (
+reads_so d is = every_append IsTypedRequest (map (λ raw. request.Read (idn raw) 7) declared_times) _ (
   (omega arith, (omega arith, omega arith)),
   (
     (omega arith, (omega arith, omega arith)),
@@ -52,7 +39,7 @@ reads_so d is = requests_append (map (λ raw. request.Read (idn raw) 7) declared
     ),
   ),
 )
-    (attributes_so (d.at ++ d.mdt) (idns_append d.at d.mdt is.at is.mdt))
+    (attributes_so (d.at ++ d.mdt) (every_append (λ i. i.raw < 65536) d.at d.mdt is.at is.mdt))
 
 word_so : (raw value : ℕ) → raw < 65536 → value < 65536 → IsTypedRequest (writes_word raw value)
 word_so raw value low small = (low, (omega arith, omega arith), bytes_of_words (value ∷ []) (small, tt), omega arith)
@@ -103,22 +90,26 @@ writes_so s p k timed is w = (
 
 checking_so : (phase command list : ℕ) (o : Option Outcome) (next : List Task) → command < 65536 → list < 65536 → AreTasks next → AreTasks (checking phase command list o next)
 checking_so phase command list None next low small are = (low, tt)
-checking_so phase command list (Some o) next low small are = (low, by (ended_well (bytes_of o)))
-  where
-    by : (well : Bool) → AreTasks (if well then next else startup phase (request.Read (idn list) 7) ∷ [])
-    by true = are
-    by false = ((small, (omega arith, omega arith)), tt)
+checking_so phase command list (Some o) next low small are = (
+  low,
+  elim (cases_Bool (ended_well (bytes_of o))) [
+    | inl on ↦ rw on are
+    | inr off ↦ rw off ((small, (omega arith, omega arith)), tt)
+  ],
+)
 
 -- the plan's numbers are words, if there is a plan
 abbrev pub AreNumbers : Option PlanView → ℕ → Type 0
 AreNumbers plan k = IfSome plan (λ p. PlanWords p k)
 
 agenda_so : (s : Known) (plan : Option PlanView) (waiting : List Task) (k : ℕ) (outs : List Outcome) → IsTimed s → IsMember (member s k) → AreNumbers plan k → AreTasks waiting → AreTasks (agenda s plan waiting k outs)
-agenda_so s plan waiting k outs timed is numbers are = tasks_append (map (startup 2) (reads (member s k))) _ (started 2 (reads (member s k)) (reads_so (member s k) is)) (by plan numbers)
+agenda_so s plan waiting k outs timed is numbers are = every_append (λ t. IsTypedRequest t.request) (map (startup 2) (reads (member s k))) _
+    (started 2 (reads (member s k)) (reads_so (member s k) is)) (by plan numbers)
   where
     by : (o : Option PlanView) → AreNumbers o k → AreTasks (after_reads s o waiting k outs)
     by None numbers = tt
-    by (Some p) numbers = tasks_append (map (startup 2) (writes s p k)) _ (started 2 (writes s p k) (writes_so s p k timed is numbers))
+    by (Some p) numbers = every_append (λ t. IsTypedRequest t.request) (map (startup 2) (writes s p k)) _
+        (started 2 (writes s p k) (writes_so s p k timed is numbers))
         (checking_so 2 127 21 (slice_get outs (reads_count (member s k) + 11)) _ (omega arith) (omega arith)
         (checking_so 3 128 22 (slice_get outs (reads_count (member s k) + 12)) waiting (omega arith) (omega arith) are))
 
@@ -185,14 +176,18 @@ mdt_so s p timed is numbers are = record { waiting = settles_so.waiting; begun =
     by k false = begins_so s (settled s p) k timed (is k) (numbers k) settles_so
 
 numbers_so : (s : Known) (q : Past) (k : ℕ) → IsKnown s → IsPlanned s q → AreNumbers q.plan k
-numbers_so s q k known planned = by q.plan refl
-  where
-    by : (o : Option PlanView) → q.plan ≡ o → AreNumbers o k
-    by None is = tt
-    by (Some p) is = let made = planned p is in plan_words s (outcomes q) p k known made.fits made.planned_is
+numbers_so s q k known planned = elim (cases_Option q.plan) [
+  | inl is ↦ rw is tt
+  | inr (p, is) ↦ rw is (let made = planned p is in plan_words s (outcomes q) p k known made.fits made.planned_is)
+]
 
 new_so : (cycle : ℕ) (p : Past) → IsTypedPast p → IsTypedPast (new_epoch cycle (still_waiting p))
-new_so cycle p are = record { waiting = λ k. tasks_drop (count_requests (p.tasks k)) (p.waiting k) (are.waiting k); begun = λ k. tt }
+new_so cycle p are = record {
+  waiting = λ k. recursion_from_All (λ t. IsTypedRequest t.request) _
+      (All-drop (λ t. IsTypedRequest t.request) (count_requests (p.tasks k)) (p.waiting k)
+      (All-from_recursion (λ t. IsTypedRequest t.request) (p.waiting k) (are.waiting k)));
+  begun = λ k. tt;
+}
 
 pub typed_past : (s : Known) → IsKnown s → IsTimed s → ((k : ℕ) → IsMember (member s k)) → (requests : ℕ → List Task) → ((h : List Call) → IsPlanned s (past s requests h)) → ((k : ℕ) → AreTasks (requests k)) → (h : List Call) → IsTypedPast (past s requests h)
 typed_past s known timed is requests planned are = past_keeps IsTypedPast s requests (record {

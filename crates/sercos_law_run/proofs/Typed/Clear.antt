@@ -1,5 +1,5 @@
 -- Over a harmless link no arrival is unseen.
-use Rattle.sercos_law_run.proofs.Words.{◌≡◌, ℕ, ◌+◌, Bool, true, false, not, ◌&&◌, List, [], ◌∷◌, length, Option, Some, None, is_none, if◌then◌else◌, refl, ◌∙◌, ap, arith, slice_index, IfSome, reason_of, plain, frame_of, BadFrame, Job, DriveView, RingView, DriveCall, Said, known_of, Sent, mdt_said, CycleView, Passage, Carry, Restarts, arrival, are_same, passage, sum_below, unseen_at, IsHarmless, ats_in, mdt_in, mst_in, contents, drive_at, given_mst, said_below, station_of, unseen_ats, unseen_mdt, unseen_mst, IsNext, behind_mdt, IsSaid, IsSpelled, HarmlessIsClear, SpelledNext, content_in, is_unseen}
+use Rattle.sercos_law_run.proofs.Words.{◌≡◌, ℕ, ◌+◌, Bool, true, false, not, ◌&&◌, List, [], ◌∷◌, length, Option, Some, None, is_none, if◌then◌else◌, refl, ◌∙◌, ap, arith, slice_index, IfSome, reason_of, plain, frame_of, BadFrame, Job, DriveView, RingView, DriveCall, Said, known_of, Sent, mdt_said, CycleView, Passage, Carry, Restarts, arrival, are_same, passage, sum_below, unseen_at, IsHarmless, ats_in, mdt_in, mst_in, contents, drive_at, given_mst, said_below, station_of, unseen_ats, unseen_mdt, unseen_mst, IsNext, behind_mdt, IsSaid, IsSpelled, HarmlessIsClear, SpelledNext, content_in, is_unseen, cases_Option, inl, inr}
 use Rattle.std.proofs.lemmas.Bool.{and_left, and_right}
 use Rattle.sercos_hdlc.specs.Reason.{content_of}
 use Rattle.sercos_telegram.specs.declared.layout.Kind.TheVariants as kinds
@@ -12,11 +12,8 @@ use Rattle.sercos_law_run.proofs.Views.Members.{AreSaid, all_said}
 -- bits that have a content are a frame
 framed : (bits : List Bool) (content : List ℕ) → content_in bits ≡ Some content → reason_of bits ≡ None
 unfolding content_in
-framed bits content whole = by (reason_of bits) whole
-  where
-    by : (o : Option BadFrame) → (if is_none o then Some (content_of (plain bits)) else None) ≡ Some content → o ≡ None
-    by None has = refl
-    by (Some bad) has = cc
+framed bits content whole =
+    elim (cases_Option (reason_of bits)) [ inl none ↦ rw none | inr (bad, some) ↦ rw some (let has = rw some at whole in cc) ]
 
 seen : (sent : List Bool) (o : Option (List Bool)) → IfSome o (λ came. reason_of came ≡ None → came ≡ sent) → is_unseen sent o ≡ false
 unfolding is_unseen

@@ -1,24 +1,17 @@
 -- What a drive keeps, whatever it hears: its blocks are a store, and the records that it took fit.
-use Rattle.sercos_law_run.proofs.Words.{◌≡◌, ℕ, zero, suc, ◌+◌, ◌<◌, ◌≤◌, ◌==◌, nat_le, Bool, true, false, ◌&&◌, List, [], ◌∷◌, ◌++◌, length, Option, Some, None, IfSome, is_none, slice_index_or, refl, sym, subst, arith, if◌then◌else◌, option_and_then, and_parts, cond_both, leb-true, AreBytes, AreBytes-bytes_of, none_of, reason_of, plain, control_element, word_at, single_fault, joint_fault, Block, blocks_fault, is_address, is_ring, are_times, find_block, store_of, put_fault, IsStore, DriveView, RingView, number_at, carried_len, Processed, processed_record, AreThose, added_on, Told, DriveCall, Mst, Mdt, mst_got, told_at, lies_within, mdt_got, Moment, phase_in, cycle_in, has_mst, unless_phase_0, records_in, blocks_in, blocks_after, commands_in, ends_in, stands_in, annals, Passage, Carry, Restarts, SentView, CycleView, arrival, heard, passage, mdt_in, no_drive, drive_at, with_restart, mdt_heard, drive_calls, given_before, given_mst, IsTyped, AreTyped, IsRecord, AreRecords, Keeps, IsStore-store_of, control_of, is_drive, are_drives, are_drive_numbers, has_blocks, single_in, content_in}
+use Rattle.sercos_law_run.proofs.Words.{◌≡◌, ℕ, zero, suc, ◌+◌, ◌<◌, ◌≤◌, ◌==◌, nat_le, Bool, true, false, ◌&&◌, List, [], ◌∷◌, ◌++◌, length, Option, Some, None, IfSome, is_none, slice_index_or, refl, sym, subst, arith, if◌then◌else◌, option_and_then, and_parts, cond_both, leb-true, AreBytes, AreBytes-bytes_of, none_of, reason_of, plain, control_element, word_at, single_fault, joint_fault, Block, blocks_fault, is_address, is_ring, are_times, find_block, store_of, put_fault, IsStore, DriveView, RingView, number_at, carried_len, Processed, processed_record, AreThose, added_on, Told, DriveCall, Mst, Mdt, mst_got, told_at, lies_within, mdt_got, Moment, phase_in, cycle_in, has_mst, unless_phase_0, records_in, blocks_in, blocks_after, commands_in, ends_in, stands_in, annals, Passage, Carry, Restarts, SentView, CycleView, arrival, heard, passage, mdt_in, no_drive, drive_at, with_restart, mdt_heard, drive_calls, given_before, given_mst, IsTyped, AreTyped, IsRecord, AreRecords, Keeps, IsStore-store_of, control_of, is_drive, are_drives, are_drive_numbers, has_blocks, single_in, content_in, cases_Bool, cases_Option, inl, inr, allowed}
 use Rattle.sercos_hdlc.specs.Reason.{content_of}
 use Rattle.sercos_drive.specs.Heard.{Restart, joint_in}
 use Rattle.sercos_drive.specs.Moments.{with_record}
 use Rattle.sercos_drive.specs.Annals.{processed_in}
 use Rattle.sercos_telegram.specs.declared.layout.Kind.TheVariants as kinds
-use Rattle.sercos_law_run.proofs.Journal.StationLemmas.{drives_so}
+use Rattle.sercos_law_run.proofs.Journal.StationLemmas.{drives_so, drive_so}
 use Rattle.sercos_law_run.proofs.Typed.Words.{read_word}
 use Rattle.sercos_law_run.proofs.Typed.StoreStays.{blocks_stay}
 use Rattle.sercos_law_run.proofs.Typed.Records.{added_bytes}
 use Rattle.sercos_law_run.proofs.Cited.{handed_those}
 
--- AT OPENING
-pub drive_so : (before drives : List DriveView) (k : ℕ) → are_drives before drives ≡ true → k < length drives → (others : List DriveView) × (is_drive others (slice_index_or drives k no_drive) ≡ true)
-unfolding are_drives
-drive_so before [] k are below = absurd (omega (arith, below))
-drive_so before (d ∷ drives) zero are below = (before, (and_parts _ _ are).0)
-drive_so before (d ∷ drives) (suc k) are below = drive_so (before ++ d ∷ []) drives k (and_parts _ _ are).1 (omega (arith, below))
-
--- the first store of a drive
+-- AT OPENING: the first store of a drive
 below_word : (n : ℕ) → n ≤ 64000 → n < 65536
 below_word n low = omega (arith, low)
 
@@ -46,11 +39,8 @@ unfolding content_in
 read_bytes bits = cond_both (is_none (reason_of bits)) (Some (content_of (plain bits))) None IsHeard (λ on. AreBytes-bytes_of _) (λ off. tt)
 
 pub heard_bytes : (carry : Carry) (p : Passage) (content : List ℕ) → IsHeard (heard carry p content)
-heard_bytes carry p content = by (arrival carry p content)
-  where
-    by : (o : Option (List Bool)) → IsHeard (option_and_then content_in o)
-    by None = tt
-    by (Some bits) = read_bytes bits
+heard_bytes carry p content =
+    elim (cases_Option (arrival carry p content)) [ inl none ↦ rw none tt | inr (bits, some) ↦ rw some (read_bytes bits) ]
 
 abbrev pub AreHeard : List DriveCall → Type 0
 AreHeard [] = Unit {0}
@@ -100,45 +90,40 @@ got_told address phase blocks (Some content) are = cond_both (nat_le 3 phase) (j
     IsTold (λ on. joint_told blocks content are) (λ off. single_told address content are)
 
 -- WHAT IS KEPT after any calls
--- each write that a record adds was allowed
-abbrev pub AreAllowed : Type 0
-AreAllowed = (t : Processed) (h : List Processed) → AreThose t.blocks h → IfSome (added_on t h) (λ w. put_fault (find_block w.raw t.blocks) t.phase w.bytes ≡ None)
-
 phase_taken : (phase : ℕ) (h : List Processed) → AreRecords h → AreRecords (unless_phase_0 phase h)
 phase_taken phase h are = cond_both (phase == 0) [] h AreRecords (λ on. tt) (λ off. are)
 
 processed : (d : DriveView) (rate : ℕ) (told : Option Told) (past : List Moment) → IsTold told → IsStore (blocks_in d past) → IfSome (processed_in d rate told past) (λ t. IsRecord t × (t.blocks ≡ blocks_in d past))
 processed d rate None past is store = tt
-processed d rate (Some told) past is store = by (has_mst past && nat_le 2 (phase_in past))
-  where
-    by : (b : Bool) → IfSome (if b then Some (processed_record (cycle_in past) (phase_in past) told.control told.info (blocks_in d past) (commands_in d rate past)) else None) (λ t. IsRecord t × (t.blocks ≡ blocks_in d past))
-    by true = (record { blocks = store; element = is.0; word = is.1 }, refl)
-    by false = tt
+processed d rate (Some told) past is store = elim (cases_Bool (has_mst past && nat_le 2 (phase_in past))) [
+  | inl on ↦ rw on (record { blocks = store; element = is.0; word = is.1 }, refl)
+  | inr off ↦ rw off tt
+]
 
-after_record : AreAllowed → (d : DriveView) (past : List Moment) (o : Option Processed) → Keeps d past → AreThose (blocks_in d past) (records_in past) → IfSome o (λ t. IsRecord t × (t.blocks ≡ blocks_in d past)) →
+after_record : (d : DriveView) (past : List Moment) (o : Option Processed) → Keeps d past → AreThose (blocks_in d past) (records_in past) → IfSome o (λ t. IsRecord t × (t.blocks ≡ blocks_in d past)) →
     IsStore (blocks_after o (records_in past) (blocks_in d past)) × AreRecords (with_record o (records_in past))
-after_record allowed d past None keeps those is = (keeps.store, keeps.records)
-after_record allowed d past (Some t) keeps those is = (
+after_record d past None keeps those is = (keeps.store, keeps.records)
+after_record d past (Some t) keeps those is = (
   blocks_stay (added_on t (records_in past)) t.commands t.phase t.blocks is.0.blocks (allowed t (records_in past) (subst (λ (b : List Block). AreThose b (records_in past)) (sym is.1) those))
       (added_bytes t (records_in past) is.0.word keeps.records),
   (is.0, keeps.records),
 )
 
-pub keeps_typed : AreAllowed → (d : DriveView) (rate : ℕ) (h : List DriveCall) → IsStore (store_of d) → AreHeard h → Keeps d (annals d rate h)
-keeps_typed allowed d rate [] store are = record { store = store; records = tt }
-keeps_typed allowed d rate (Mst cycle content ∷ h) store are =
-    let before = keeps_typed allowed d rate h store are in
+pub keeps_typed : (d : DriveView) (rate : ℕ) (h : List DriveCall) → IsStore (store_of d) → AreHeard h → Keeps d (annals d rate h)
+keeps_typed d rate [] store are = record { store = store; records = tt }
+keeps_typed d rate (Mst cycle content ∷ h) store are =
+    let before = keeps_typed d rate h store are in
     record { store = before.store; records = phase_taken (stands_in d rate cycle (mst_got content) (annals d rate h)) (records_in (annals d rate h)) before.records }
-keeps_typed allowed d rate (Mdt content ∷ h) store are =
-    let before = keeps_typed allowed d rate h store are.1 in
+keeps_typed d rate (Mdt content ∷ h) store are =
+    let before = keeps_typed d rate h store are.1 in
     let told : Option Told = mdt_got d.address (phase_in (annals d rate h)) (blocks_in d (annals d rate h)) content in
-    let after = after_record allowed d (annals d rate h) (processed_in d rate told (annals d rate h)) before (handed_those d rate h)
+    let after = after_record d (annals d rate h) (processed_in d rate told (annals d rate h)) before (handed_those d rate h)
     (processed d rate told (annals d rate h) (got_told d.address (phase_in (annals d rate h)) (blocks_in d (annals d rate h)) content are.0) before.store) in
     record { store = after.0; records = phase_taken (ends_in told (annals d rate h)) _ after.1 }
-keeps_typed allowed d rate (Restart ∷ h) store are = record { store = (keeps_typed allowed d rate h store are).store; records = tt }
+keeps_typed d rate (Restart ∷ h) store are = record { store = (keeps_typed d rate h store are).store; records = tt }
 
 -- a drive of a typed ring
-pub drive_keeps : AreAllowed → (r : RingView) → is_ring r ≡ true → AreTyped r → (k : ℕ) → k < length r.drives → (h : List DriveCall) → AreHeard h → Keeps (drive_at r k) (annals (drive_at r k) r.rate h)
-drive_keeps allowed r valid typed k below h are =
-    let (others, is) = drive_so [] r.drives k (drives_so r valid) below in
-    keeps_typed allowed (drive_at r k) r.rate h (opened others (drive_at r k) is (typed k below)) are
+pub drive_keeps : (r : RingView) → is_ring r ≡ true → AreTyped r → (k : ℕ) → k < length r.drives → (h : List DriveCall) → AreHeard h → Keeps (drive_at r k) (annals (drive_at r k) r.rate h)
+drive_keeps r valid typed k below h are =
+    let (others, is) = drive_so [] r.drives k no_drive (drives_so r valid) below in
+    keeps_typed (drive_at r k) r.rate h (opened others (drive_at r k) is (typed k below)) are

@@ -1,5 +1,5 @@
 -- MST and MDT are whole: bytes, and no more than a telegram has.
-use Rattle.sercos_law_run.proofs.Words.{◌≡◌, ℕ, zero, suc, ◌+◌, ◌<◌, ◌≤◌, ◌==◌, Bool, true, false, List, [], ◌∷◌, length, Option, Some, None, is_some, slice_index_or, refl, sym, ◌∙◌, ap, subst, arith, if◌then◌else◌, length-append, nat_le, option_map, All, All-head, All-tail, AreBytes-append, AreBytes-take, all_drives, mst_content, PlanView, Known, IsKnown, MemberView, member, no_member, len_or_none, mdt_attributes, word_said, value_said, values_said, fields_length, Past, IsPlanned, outcomes, seen_at, records_upto, Sent, said_to, record_to, records_from, idle, single, joint, mdt_said, fits_planned, AreBytes}
+use Rattle.sercos_law_run.proofs.Words.{◌≡◌, ℕ, zero, suc, ◌+◌, ◌<◌, ◌≤◌, ◌==◌, Bool, true, false, List, [], ◌∷◌, length, Option, Some, None, is_some, slice_index_or, refl, sym, ◌∙◌, ap, subst, arith, if◌then◌else◌, length-append, nat_le, option_map, All, All-head, All-tail, AreBytes-append, AreBytes-take, all_drives, mst_content, PlanView, Known, IsKnown, MemberView, member, no_member, len_or_none, mdt_attributes, word_said, value_said, values_said, fields_length, Past, IsPlanned, outcomes, seen_at, records_upto, Sent, said_to, record_to, records_from, idle, single, joint, mdt_said, fits_planned, AreBytes, cases_Bool, cases_Option, inl, inr}
 use Rattle.sercos_service_master.specs.Begun.{Said}
 pub use Rattle.sercos_master.proofs.Configured.{phase_low}
 use Rattle.sercos_law_run.proofs.Typed.Ats.{IsContent, fields_bytes, address_bytes}
@@ -55,7 +55,13 @@ joint_whole s p plan planned is =
     record { bytes = address_bytes all_drives _ (omega arith) (records_bytes s p 0 (length s.drives)); some = omega arith; most = omega (arith, fits, long) }
 
 pub mdt_whole : (s : Known) (p : Past) (m : Sent) → IsKnown s → IsPlanned s p → mdt_said s p ≡ Some m → IsContent m.content
-mdt_whole s p m known planned said = first (p.now.phase == 1) said
+mdt_whole s p m known planned said = elim (cases_Bool (p.now.phase == 1)) [
+  | inl on ↦ to_one (λ i. idle) p.now.addressed (rw on at said)
+  | inr is ↦ elim (cases_Bool (p.now.phase == 2)) [
+    | inl on ↦ to_one (said_to p) p.now.addressed (rw on at (rw is at said))
+    | inr off ↦ third (nat_le 3 p.now.phase) (rw off at (rw is at said))
+  ]
+]
   where
     same_content : (x : Sent) → Some x ≡ Some m → IsContent x.content → IsContent m.content
     same_content x e is = let same : x ≡ m = cc in subst (λ (y : Sent). IsContent y.content) same is
@@ -64,19 +70,9 @@ mdt_whole s p m known planned said = first (p.now.phase == 1) said
     to_one word None e = cc
     to_one word (Some i) e = same_content (single s (word i) i) e (single_whole s (word i) i known)
 
-    to_all : (o : Option PlanView) → p.plan ≡ o → option_map (joint s p) o ≡ Some m → IsContent m.content
-    to_all None has e = cc
-    to_all (Some plan) has e = same_content (joint s p plan) e (joint_whole s p plan planned has)
-
     third : (b : Bool) → (if b then option_map (joint s p) p.plan else None) ≡ Some m → IsContent m.content
-    third true e = to_all p.plan refl e
+    third true e = elim (cases_Option p.plan) [
+      | inl has ↦ let e = rw has at e in cc
+      | inr (plan, has) ↦ same_content (joint s p plan) (rw has at e) (joint_whole s p plan planned has)
+    ]
     third false e = cc
-
-    second : (b : Bool) → (if b then option_map (λ i. single s (said_to p i) i) p.now.addressed else (if nat_le 3 p.now.phase then option_map (joint s p) p.plan else None)) ≡ Some m → IsContent m.content
-    second true e = to_one (said_to p) p.now.addressed e
-    second false e = third (nat_le 3 p.now.phase) e
-
-    first : (b : Bool) → (if b then option_map (single s idle) p.now.addressed else (if p.now.phase == 2 then option_map (λ i. single s (said_to p i) i) p.now.addressed
-        else (if nat_le 3 p.now.phase then option_map (joint s p) p.plan else None))) ≡ Some m → IsContent m.content
-    first true e = to_one (λ i. idle) p.now.addressed e
-    first false e = second (p.now.phase == 2) e

@@ -1,10 +1,11 @@
 -- The numbers of a plan are words, and so are the identifier numbers that telegrams carry.
-use Rattle.sercos_law_run.proofs.Words.{◌≡◌, ◌⊎◌, inl, inr, ℕ, zero, suc, ◌%◌, ◌<◌, ◌≤◌, ◌==◌, nat_lt, nat_le, Bool, true, false, not, ◌&&◌, List, [], ◌∷◌, ◌++◌, length, Option, Some, None, is_some, slice_index_or, refl, sym, subst, arith, if◌then◌else◌, slice_index, option_map, option_and_then, Ok, Err, option_or, list_all, find, leb-true, and_parts, false≢true, nat_tests, get_or_past, All-map, All-from_get_or, Idn, Attribute, Outcome, WishesView, PlanView, record_bytes, Fits, IsValid, is_rate, is_cycle, is_control, is_roomy, least_plan, planned, chain_of, roomy_test, is_of_least, least_fits, Block, BuiltIn, built_ins, has_address, has_drive_numbers, has_blocks, has_ring_numbers, attribute_in, number_len, is_typed, IsRing, DriveView, RingView, Known, MemberView, HasLists, IsKnown, member, member_of, known_of, wishes_given, known_of-IsRing, is_valid, no_drive, IsTyped, AreTyped, is_ring, are_ring_numbers, is_drive, are_drives, row_in, built_in_attribute, own_attribute, block_attribute, are_cyclic}
+use Rattle.sercos_law_run.proofs.Words.{◌≡◌, ◌⊎◌, inl, inr, ℕ, zero, suc, ◌%◌, ◌<◌, ◌≤◌, ◌==◌, nat_lt, nat_le, Bool, true, false, not, ◌&&◌, List, [], ◌∷◌, ◌++◌, length, Option, Some, None, is_some, slice_index_or, refl, sym, subst, arith, if◌then◌else◌, slice_index, option_map, option_and_then, Ok, Err, option_or, list_all, find, leb-true, and_parts, false≢true, nat_tests, get_or_past, All-map, All-from_get_or, Idn, Attribute, Outcome, WishesView, PlanView, record_bytes, Fits, IsValid, is_rate, is_cycle, is_control, is_roomy, least_plan, planned, chain_of, roomy_test, is_of_least, least_fits, Block, BuiltIn, built_ins, has_address, has_drive_numbers, has_blocks, has_ring_numbers, attribute_in, number_len, is_typed, IsRing, DriveView, RingView, Known, MemberView, HasLists, IsKnown, member, member_of, known_of, wishes_given, known_of-IsRing, is_valid, no_drive, IsTyped, AreTyped, is_ring, are_ring_numbers, is_drive, are_drives, row_in, built_in_attribute, own_attribute, block_attribute, are_cyclic, cases_Bool}
 use Rattle.sercos_block.specs.Rings.{cyclic_len, is_cyclic}
 use Rattle.sercos_law_run.proofs.Start.PlanNumbers.{has_numbers}
 use Rattle.sercos_law_run.proofs.Journal.StationLemmas.{drives_so}
 use Rattle.sercos_law_run.proofs.Views.Members.{member_is}
 use Rattle.sercos_law_run.proofs.Typed.StoreStays.{raw_typed}
+use Rattle.std.specs.List.{AllByRecursion}
 
 -- THE RING THAT THE MASTER KNOWS
 pub ring_known : ((r : RingView) → is_ring r ≡ true → IsRing r) → (r : RingView) → is_ring r ≡ true → AreTyped r → IsKnown (known_of r)
@@ -23,11 +24,13 @@ ring_timed r known valid =
     let after_cycle = (and_parts (is_cycle r.cycle) _ after_rate).1 in
     let after_control = (and_parts (is_control r.cycle r.control) _ after_cycle).1 in
     let top : r.control ≤ 64000 = leb-true r.control 64000 (and_parts (nat_le r.control 64000) _ after_control).0 in
-    record { cycle = short known.cycles.cycle; control = omega (arith, top) }
-  where
-    short : (r.cycle ≡ 125) ⊎ ((250 ≤ r.cycle) × (r.cycle ≤ 64000) × (r.cycle % 250 ≡ 0)) → r.cycle < 65536
-    short (inl e) = omega (arith, e)
-    short (inr h) = let high = h.1 in omega (arith, high)
+    record {
+      cycle = (elim known.cycles.cycle [
+        | inl e ↦ omega (arith, e)
+        | inr h ↦ let high = h.1 in omega (arith, high)
+      ]);
+      control = omega (arith, top);
+    }
 
 -- THE NUMBERS OF A PLAN, for one drive
 pub record PlanWords (p : PlanView) (k : ℕ) : Type 0 where
@@ -39,7 +42,24 @@ pub record PlanWords (p : PlanView) (k : ℕ) : Type 0 where
   pub mdt_len : p.mdt_len < 65536
 
 fitting_words : (w : WishesView) (p : PlanView) (k : ℕ) → IsValid w → Fits w p → PlanWords p k
-fitting_words w p k valid fits = by (nat_lt k (length w.drives)) refl
+fitting_words w p k valid fits = elim (cases_Bool (nat_lt k (length w.drives))) [
+  | inl is ↦
+      let n = has_numbers w p k valid fits (grind (arith, nat_tests, is)) in
+      let a = n.t1_t2 in
+      let b = n.t2_t3 in
+      let c = n.t3_end in
+      let d = n.cycle in
+      let e = n.record_end in
+      let f = n.mdt_len in
+      make (omega (arith, a, b, c, d)) (omega (arith, e, f))
+  | inr is ↦
+      let out : length w.drives ≤ k = grind (arith, nat_tests, is) in
+      let times = fits.times in
+      let places = fits.places in
+      let a : slice_index p.t1 k ≡ 0 = get_or_past p.t1 k 0 (omega (arith, out, times)) in
+      let b : slice_index p.position k ≡ 0 = get_or_past p.position k 0 (omega (arith, out, places)) in
+      make (omega (arith, a)) (omega (arith, b))
+]
   where
     some : 0 < length w.drives
     some = valid.drives.some
@@ -54,24 +74,6 @@ fitting_words w p k valid fits = by (nat_lt k (length w.drives)) refl
         let e = n.cycle in
         record { t1 = t1; t2 = omega (arith, a, b, e); t3 = omega (arith, b, e); t4 = omega (arith, c, e); position = position; mdt_len = omega (arith, d) }
 
-    by : (inside : Bool) → nat_lt k (length w.drives) ≡ inside → PlanWords p k
-    by true is =
-        let n = has_numbers w p k valid fits (grind (arith, nat_tests, is)) in
-        let a = n.t1_t2 in
-        let b = n.t2_t3 in
-        let c = n.t3_end in
-        let d = n.cycle in
-        let e = n.record_end in
-        let f = n.mdt_len in
-        make (omega (arith, a, b, c, d)) (omega (arith, e, f))
-    by false is =
-        let out : length w.drives ≤ k = grind (arith, nat_tests, is) in
-        let times = fits.times in
-        let places = fits.places in
-        let a : slice_index p.t1 k ≡ 0 = get_or_past p.t1 k 0 (omega (arith, out, times)) in
-        let b : slice_index p.position k ≡ 0 = get_or_past p.position k 0 (omega (arith, out, places)) in
-        make (omega (arith, a)) (omega (arith, b))
-
 planned_fits : (w : WishesView) (p : PlanView) → IsValid w → planned w ≡ Ok p → Fits w p
 planned_fits w p valid is = by (is_roomy w) refl is
   where
@@ -84,8 +86,7 @@ plan_words s outs p k known fits is = let valid = is_valid s outs known fits in 
 
 -- THE IDENTIFIER NUMBERS of what telegrams carry
 abbrev pub AreIdns : List Idn → Type 0
-AreIdns [] = Unit {0}
-AreIdns (i ∷ idns) = (i.raw < 65536) × AreIdns idns
+AreIdns idns = AllByRecursion (λ i. i.raw < 65536) idns
 
 both_some : (a b : Option Attribute) → is_some (option_or a b) ≡ true → (is_some a ≡ true) ⊎ (is_some b ≡ true)
 both_some None b is = inr is

@@ -1,5 +1,5 @@
 -- The records that a drive took: their elements and words fit, and their blocks are a store. So what they write are bytes.
-use Rattle.sercos_law_run.proofs.Words.{ℕ, zero, suc, ◌<◌, ◌==◌, Bool, true, false, not, ◌&&◌, List, [], ◌∷◌, drop, take, Option, Some, None, IfSome, option_map, if◌then◌else◌, cond_both, option_and_then, slice_index, beq, AreBytes, AreBytes-take, is_list, bytes_in, Block, find_block, Processed, Entry, ahs, accepted, open_idn, run_before, selection, in_order, reply_of, answered, log_of, Write, written_by, takes_effect, adds, added_on, IsRecord, AreRecords, bytes_written}
+use Rattle.sercos_law_run.proofs.Words.{ℕ, zero, suc, ◌<◌, ◌==◌, Bool, true, false, not, ◌&&◌, List, [], ◌∷◌, drop, take, Option, Some, None, IfSome, option_map, if◌then◌else◌, cond_both, option_and_then, slice_index, beq, AreBytes, AreBytes-take, is_list, bytes_in, Block, find_block, Processed, Entry, ahs, accepted, open_idn, run_before, selection, in_order, reply_of, answered, log_of, Write, written_by, takes_effect, adds, added_on, IsRecord, AreRecords, bytes_written, cases_Bool, cases_Option, inl, inr}
 use Rattle.sercos_law_run.proofs.Typed.Words.{AreWords, bytes_of_words}
 
 abbrev pub AreEntries : List Entry → Type 0
@@ -8,11 +8,8 @@ AreEntries (e ∷ log) = IsRecord e.processed × AreEntries log
 
 pub accepted_so : (h : List Processed) → AreRecords h → AreRecords (accepted h)
 accepted_so [] are = tt
-accepted_so (t ∷ h) are = by (beq t.mhs (ahs h)) (accepted_so h are.1)
-  where
-    by : (same : Bool) → AreRecords (accepted h) → AreRecords (if same then accepted h else t ∷ accepted h)
-    by true rest = rest
-    by false rest = (are.0, rest)
+accepted_so (t ∷ h) are =
+    elim (cases_Bool (beq t.mhs (ahs h))) [ inl on ↦ rw on (accepted_so h are.1) | inr off ↦ rw off (are.0, (accepted_so h are.1)) ]
 
 pub answered_so : (h : List Processed) → AreRecords h → AreEntries (answered h)
 answered_so [] are = tt
@@ -52,23 +49,19 @@ bytes_so b words are = cond_both (is_list b.attribute.length) (take (slice_index
 
 -- what a record adds are bytes
 pub added_bytes : (t : Processed) (h : List Processed) → t.step.word < 65536 → AreRecords h → IfSome (added_on t h) (λ w. AreBytes w.bytes)
-added_bytes t h fits are = on (beq t.mhs (ahs h))
+added_bytes t h fits are = elim (cases_Bool (beq t.mhs (ahs h))) [
+  | inl on ↦ rw on tt
+  | inr off ↦ rw off (effect (takes_effect (record { processed = t; answer = reply_of t (log_of h) })))
+]
   where
-    run_is : AreRecords (run_before true 7 (log_of h))
-    run_is = run_so true 7 (log_of h) (log_so h are)
-
     found : (raw : ℕ) (o : Option Block) → IfSome {T = Write} (option_map (λ (b : Block). record { cycle = t.cycle; raw = raw; bytes = bytes_written b (in_order (run_before true 7 (log_of h)) (t.step.word ∷ [])) }) o) (λ w. AreBytes w.bytes)
     found raw None = tt
-    found raw (Some b) = bytes_so b _ (in_order_so (run_before true 7 (log_of h)) (t.step.word ∷ []) run_is (fits, tt))
-
-    opened : (o : Option ℕ) → IfSome (option_and_then (written_by t (run_before true 7 (log_of h))) o) (λ w. AreBytes w.bytes)
-    opened None = tt
-    opened (Some raw) = found raw (find_block raw t.blocks)
+    found raw (Some b) = bytes_so b _ (in_order_so (run_before true 7 (log_of h)) (t.step.word ∷ [])
+        (run_so true 7 (log_of h) (log_so h are)) (fits, tt))
 
     effect : (b : Bool) → IfSome (if b then option_and_then (written_by t (run_before true 7 (log_of h))) (open_idn (log_of h)) else None) (λ w. AreBytes w.bytes)
-    effect true = opened (open_idn (log_of h))
+    effect true = elim (cases_Option (open_idn (log_of h))) [
+      | inl none ↦ rw none tt
+      | inr (raw, some) ↦ rw some (found raw (find_block raw t.blocks))
+    ]
     effect false = tt
-
-    on : (same : Bool) → IfSome (if same then None else adds t (log_of h)) (λ w. AreBytes w.bytes)
-    on true = tt
-    on false = effect (takes_effect (record { processed = t; answer = reply_of t (log_of h) }))

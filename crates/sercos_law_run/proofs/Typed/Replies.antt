@@ -1,5 +1,5 @@
 -- What a drive replies, and so what it shows, are words.
-use Rattle.sercos_law_run.proofs.Words.{sym, ◌≡◌, ℕ, ◌+◌, ◌*◌, ◌%◌, ◌<◌, ◌≤◌, ◌==◌, nat_le, Bool, true, false, ◌&&◌, ◌||◌, List, [], ◌∷◌, length, Option, Some, None, IfSome, is_none, is_some, option_map, unwrap_or, refl, arith, if◌then◌else◌, slice_index, ◌-◌, w32, to_le_bytes, then_some, option_or, list_all, and_parts, cond_both, nat_tests, attribute_word, Length, Two, Four, List1, List2, List4, Attribute, is_list, words_of, Block, width_of, bytes_for, bits_in, number_end, is_fixed, is_protected, is_text, is_printable, find_block, read_fault, is_below, is_above, IsStore, is_sound, SoundParts, SoundParts-is_sound, found_sound, max_len_bound, fits-is_len, types, SetCommand, has_ended, status_by, setting_of, CommandHistory, status_in, change_in, Processed, Entry, accepted, ahs, opens, open_idn, run_before, selection, in_order, good, refused, answer_by, list_words, copy, read_cause, write_cause_in, is_first_word, ends_early, is_over, is_uneven, is_no_command_value, bytes_written, reply_on, reply_at, reply_of, answered, Shown, shown, channel_says, IsRecord, AreRecords, two_bytes, four_bytes, printable_bytes, AreBytes, element_of, data_in, element_words, write_cause}
+use Rattle.sercos_law_run.proofs.Words.{sym, ◌≡◌, ℕ, ◌+◌, ◌*◌, ◌%◌, ◌<◌, ◌≤◌, ◌==◌, nat_le, Bool, true, false, ◌&&◌, ◌||◌, List, [], ◌∷◌, length, Option, Some, None, IfSome, is_none, is_some, option_map, unwrap_or, refl, arith, if◌then◌else◌, slice_index, ◌-◌, w32, to_le_bytes, then_some, option_or, list_all, and_parts, cond_both, nat_tests, attribute_word, Length, Two, Four, List1, List2, List4, Attribute, is_list, words_of, Block, width_of, bytes_for, bits_in, number_end, is_fixed, is_protected, is_text, is_printable, find_block, read_fault, is_below, is_above, IsStore, is_sound, SoundParts, SoundParts-is_sound, found_sound, max_len_bound, fits-is_len, types, SetCommand, has_ended, status_by, setting_of, CommandHistory, status_in, change_in, Processed, Entry, accepted, ahs, opens, open_idn, run_before, selection, in_order, good, refused, answer_by, list_words, copy, read_cause, write_cause_in, is_first_word, ends_early, is_over, is_uneven, is_no_command_value, bytes_written, reply_on, reply_at, reply_of, answered, Shown, shown, channel_says, IsRecord, AreRecords, two_bytes, four_bytes, printable_bytes, AreBytes, element_of, data_in, element_words, write_cause, cases_Bool, inl, inr}
 use Rattle.sercos_law_run.proofs.Typed.Words.{AreWords, word_of, words_of_bytes}
 use Rattle.sercos_law_run.proofs.Typed.Records.{AreEntries, accepted_so, answered_so, run_so, selection_so}
 
@@ -83,13 +83,6 @@ element_so e cycle b sound most are = by (e == 2) (e == 3) (e == 4) (e == 5) (e 
     parts : SoundParts b
     parts = SoundParts-is_sound b sound
 
-    short : length b.value ≤ 1024
-    short = fits-is_len b (length b.value) sound parts.len
-
-    own : (list : Bool) → AreWords (if list then list_words b.max_len b.value else words_of (data_in cycle b))
-    own true = let s = short in list_so b.max_len b.value (omega (arith, most)) (omega (arith, s)) are
-    own false = words_of_bytes (data_in cycle b) (data_bytes cycle b are)
-
     by : (two three four five six seven : Bool) → AreWords (
         if two then list_words 60 (unwrap_or (element_by b two three four five six) [])
         else (if four then list_words 12 (unwrap_or (element_by b two three four five six) [])
@@ -98,7 +91,11 @@ element_so e cycle b sound most are = by (e == 2) (e == 3) (e == 4) (e == 5) (e 
     by true three four five six seven = text_words 60 b.name (omega arith) parts.name
     by false false true five six seven = text_words 12 b.unit (omega arith) parts.unit
     by false true true five six seven = list_so 12 _ (omega arith) (omega arith) (four_bytes (attribute_word b.attribute))
-    by false three false five six true = own (is_list b.attribute.length)
+    by false three false five six true = elim (cases_Bool (is_list b.attribute.length)) [
+      | inl on ↦ rw on (let s = fits-is_len b (length b.value) sound parts.len in list_so b.max_len b.value (omega (arith, most))
+          (omega (arith, s)) are)
+      | inr off ↦ rw off (words_of_bytes (data_in cycle b) (data_bytes cycle b are))
+    ]
     by false true false five six false = words_of_bytes _ (four_bytes (attribute_word b.attribute))
     by false false false true six false = words_of_bytes _ (limit_words b.attribute b.min)
     by false false false false true false = words_of_bytes _ (limit_words b.attribute b.max)
@@ -118,11 +115,10 @@ status_small time (Some s) cycle = by (has_ended time cycle s) s.well
     by false well = omega arith
 
 copy_so : (raw : ℕ) (t : Processed) → IsRecord t → AreWords (copy raw t)
-copy_so raw t is = by (t.step.element == 1)
-  where
-    by : (status : Bool) → AreWords (if status then status_in t.commands raw t.cycle ∷ [] else unwrap_or (option_map (element_words t.step.element t.cycle) (find_block raw t.blocks)) [])
-    by true = (status_small t.commands.time (setting_of t.commands.rate raw t.commands.calls) t.cycle, tt)
-    by false = found_so raw t.step.element t.cycle t.blocks (find_block raw t.blocks) is.blocks refl
+copy_so raw t is = elim (cases_Bool (t.step.element == 1)) [
+  | inl on ↦ rw on (status_small t.commands.time (setting_of t.commands.rate raw t.commands.calls) t.cycle, tt)
+  | inr off ↦ rw off (found_so raw t.step.element t.cycle t.blocks (find_block raw t.blocks) is.blocks refl)
+]
 
 missing_so : (e : ℕ) (o : Option Block) → e < 8 → IsCode (read_fault o e)
 missing_so e None low = omega arith

@@ -20,10 +20,10 @@ module _ where
       rw (frame_reads content (frame_of content) framed, sym (frame_only content (frame_of content) framed)) refl
 
   pub keeps_always : KeepsAlways
-  keeps_always r carry restarts j k valid typed below = drive_keeps allowed r valid typed k below (given_before carry restarts j k) (all_heard carry restarts (k + 1) j)
+  keeps_always r carry restarts j k valid typed below = drive_keeps r valid typed k below (given_before carry restarts j k) (all_heard carry restarts (k + 1) j)
 
   pub keeps_within : KeepsWithin
-  keeps_within r carry restarts sent j k valid typed below = drive_keeps allowed r valid typed k below (given_mst carry restarts sent j k) (mst_heard carry restarts sent j k)
+  keeps_within r carry restarts sent j k valid typed below = drive_keeps r valid typed k below (given_mst carry restarts sent j k) (mst_heard carry restarts sent j k)
 
   pub spelled_next : SpelledNext
   spelled_next r jobs carry restarts t j valid typed jobs_typed next = record {

@@ -1,16 +1,16 @@
 -- The steps of a typed request fit into a record.
-use Rattle.sercos_law_run.proofs.Words.{ℕ, zero, suc, ◌+◌, ◌*◌, ◌<◌, ◌==◌, Bool, true, false, List, [], ◌∷◌, length, replicate, drop, None, arith, if◌then◌else◌, cond_both, slice_get, is_some, AreBytes, Step, Shape, Request, words_of, words_told, at_least_one, shape_of, words_in_list, a_step, run, reading, writing, attribute_then, asks_attribute, polling, steps_of, outcome_of, next_step, answer_words, Begun, step_or_none, master_says, IsSayable, IsTypedRequest}
+use Rattle.sercos_law_run.proofs.Words.{ℕ, zero, suc, ◌+◌, ◌*◌, ◌<◌, ◌==◌, Bool, true, false, List, [], ◌∷◌, length, replicate, drop, None, arith, if◌then◌else◌, cond_both, slice_get, is_some, AreBytes, Step, Shape, Request, words_of, words_told, at_least_one, shape_of, words_in_list, a_step, run, reading, writing, attribute_then, asks_attribute, polling, steps_of, outcome_of, next_step, answer_words, Begun, step_or_none, master_says, IsSayable, IsTypedRequest, cases_Bool, inl, inr}
 use Rattle.sercos_step.specs.declared.shape.Shape.TheVariants as shape
 use Rattle.sercos_step.specs.declared.request.Request.TheVariants as request
 use Rattle.sercos_law_run.proofs.Typed.Words.{AreWords, words_of_bytes}
+use Rattle.std.specs.List.{AllByRecursion}
 
 -- the element and the word of a step fit into a record
 abbrev pub IsStep : Step → Type 0
 IsStep s = (s.element < 8) × (s.word < 65536)
 
 abbrev pub AreSteps : List Step → Type 0
-AreSteps [] = Unit {0}
-AreSteps (s ∷ steps) = IsStep s × AreSteps steps
+AreSteps steps = AllByRecursion IsStep steps
 
 step_there : (steps : List Step) (i : ℕ) → AreSteps steps → IsStep (step_or_none (slice_get steps i))
 step_there [] i are = (omega arith, omega arith)
@@ -51,11 +51,13 @@ attribute_steps rest (low ∷ high ∷ words) are = ((omega arith, omega arith),
 
 polls : (words : List ℕ) → AreSteps (polling words)
 polls [] = ((omega arith, omega arith), tt)
-polls (status ∷ words) = ((omega arith, omega arith), by (status == 7) (polls words))
-  where
-    by : (b : Bool) → AreSteps (polling words) → AreSteps (if b then polling words else a_step true true 7 0 ∷ [])
-    by true rest = rest
-    by false rest = ((omega arith, omega arith), tt)
+polls (status ∷ words) = (
+  (omega arith, omega arith),
+  elim (cases_Bool (status == 7)) [
+    | inl on ↦ rw on (polls words)
+    | inr off ↦ rw off ((omega arith, omega arith), tt)
+  ],
+)
 
 all_steps : (r : Request) (words : List ℕ) → IsTypedRequest r → AreSteps (steps_of r words)
 all_steps (request.Read idn e) words typed = ((omega arith, typed.0), by (asks_attribute e))

@@ -1,5 +1,5 @@
 -- A drive's store stays one, whatever is written to it.
-use Rattle.sercos_law_run.proofs.Words.{◌≡◌, ◌⊎◌, inl, inr, ℕ, suc, ◌*◌, ◌<◌, ◌≤◌, ◌==◌, nat_lt, Bool, true, false, cond, not, ◌&&◌, List, [], ◌∷◌, length, map, Option, Some, None, IfSome, slice_get, refl, sym, subst, arith, if◌then◌else◌, list_all, position, filter, and_parts, nat_tests, Idn, Block, find_block, with_data, put_fault, is_len, IsStore, IsWritten-at, fits-put_fault, find_block-at, find_block-nowhere, with_data-nowhere, fits-given, bytes_from, listed_if, is_outside, list_bytes, is_command, is_set, CommandHistory, Write, command_value, blocks_with, AreBytes, is_typed, unfit_for_phase_3, unfit_for_phase_4, with_check_list}
+use Rattle.sercos_law_run.proofs.Words.{◌≡◌, ◌⊎◌, inl, inr, ℕ, suc, ◌*◌, ◌<◌, ◌≤◌, ◌==◌, nat_lt, Bool, true, false, cond, not, ◌&&◌, List, [], ◌∷◌, length, map, Option, Some, None, IfSome, slice_get, refl, sym, subst, arith, if◌then◌else◌, list_all, position, filter, and_parts, nat_tests, Idn, Block, find_block, with_data, put_fault, is_len, IsStore, IsWritten-at, fits-put_fault, find_block-at, find_block-nowhere, with_data-nowhere, fits-given, bytes_from, listed_if, is_outside, list_bytes, is_command, is_set, CommandHistory, Write, command_value, blocks_with, AreBytes, is_typed, unfit_for_phase_3, unfit_for_phase_4, with_check_list, cases_Bool}
 
 -- A WRITE
 put_at : (raw : ℕ) (bytes : List ℕ) (blocks : List Block) (place : Option ℕ) → IsStore blocks → position (λ b. b.idn.raw == raw) blocks ≡ place →
@@ -78,11 +78,10 @@ lists_stay c raw value blocks is = by (not (value == 0) && not (is_set raw c.cal
 -- WHAT A RECORD WRITES, if it writes something
 pub blocks_stay : (w : Option Write) (c : CommandHistory) (phase : ℕ) (blocks : List Block) → IsStore blocks → IfSome w (λ x. put_fault (find_block x.raw blocks) phase x.bytes ≡ None) → IfSome w (λ x. AreBytes x.bytes) → IsStore (blocks_with w c blocks)
 blocks_stay None c phase blocks is allowed are = is
-blocks_stay (Some w) c phase blocks is allowed are = by (is_command blocks w.raw)
+blocks_stay (Some w) c phase blocks is allowed are = elim (cases_Bool (is_command blocks w.raw)) [
+  | inl on ↦ rw on (lists_stay c w.raw (command_value w) (with_data w.raw w.bytes blocks) put)
+  | inr off ↦ rw off put
+]
   where
     put : IsStore (with_data w.raw w.bytes blocks)
     put = put_stays w.raw phase w.bytes blocks is are allowed
-
-    by : (command : Bool) → IsStore (if command then with_check_list c w.raw (command_value w) (with_data w.raw w.bytes blocks) else with_data w.raw w.bytes blocks)
-    by true = lists_stay c w.raw (command_value w) (with_data w.raw w.bytes blocks) put
-    by false = put

@@ -1,5 +1,5 @@
 -- Bytes and words.
-use Rattle.sercos_law_run.proofs.Words.{ℕ, zero, suc, ◌+◌, ◌<◌, List, [], ◌∷◌, ◌++◌, get_or, arith, slice_index, w16, w32, to_le_bytes, AreBytes-by_index, AreBytes-get_or, words_of, bytes_in, AreBytes, word_at}
+use Rattle.sercos_law_run.proofs.Words.{ℕ, zero, suc, ◌+◌, ◌<◌, List, [], ◌∷◌, ◌++◌, arith, slice_index, AreBytes-get_or, words_of, bytes_in, AreBytes, word_at}
 
 -- each number fits into sixteen bits
 abbrev pub AreWords : List ℕ → Type 0

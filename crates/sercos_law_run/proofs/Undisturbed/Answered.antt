@@ -1,12 +1,8 @@
--- In an undisturbed epoch answers come in time, no request is broken, and requests take no more cycles than they cost.
-use Rattle.sercos_law_run.proofs.Words.{◌≡◌, ◌⊎◌, inl, inr, ℕ, ◌+◌, ◌<◌, ◌≤◌, Bool, true, false, if◌then◌else◌, List, [], ◌∷◌, ◌++◌, length, Option, Some, None, refl, sym, ap, ◌∙◌, subst, arith, or_parts, is_some, Job, Code, Request, Outcome, Answer, answer_words, is_whole, outcome_of, store_of, RingView, Begun, answers_it, begun_by, CycleView, EventsView, Fall, Known, Task, known_of, Report, Past, Call, fall_of, broken, events_told, Carry, Restarts, Heard, View, epoch_begun, AreSound, AreClean, open_since, nothing_old, age_in, AreListed, AreTimed, cost_of, cost_in, drive_at, no_events, master_calls, restart_events, IsRun, IsClear, IsReportOf, with_told, told_at_end, HasOutcome, HasReport, behind_mdt, view_of, views_of, IsOpened, KeepsAll, AreUndisturbed, IsUndisturbed, StartsEpoch, views_since, TellsNoFall, start_in_cost, ages_in_time, answers_at_age, comes_timed, stays_clean}
+-- In an undisturbed epoch answers come in time, and no request is broken.
+use Rattle.sercos_law_run.proofs.Words.{◌≡◌, ◌⊎◌, inl, inr, ℕ, ◌+◌, ◌<◌, ◌≤◌, Bool, true, false, if◌then◌else◌, List, [], ◌∷◌, ◌++◌, length, Option, Some, None, refl, ap, ◌∙◌, subst, arith, or_parts, is_some, Job, Code, Request, Outcome, Answer, answer_words, is_whole, outcome_of, RingView, Begun, answers_it, begun_by, CycleView, EventsView, Fall, Known, Task, known_of, Report, Past, Call, fall_of, broken, events_told, Carry, Restarts, Heard, View, epoch_begun, AreClean, nothing_old, age_in, drive_at, no_events, master_calls, restart_events, IsRun, IsClear, IsReportOf, with_told, told_at_end, HasOutcome, HasReport, behind_mdt, view_of, views_of, IsOpened, KeepsAll, AreUndisturbed, IsUndisturbed, StartsEpoch, views_since, TellsNoFall, ages_in_time, answers_at_age, stays_clean}
 use Rattle.sercos_step.specs.declared.request.Outcome.TheVariants as outcome
 use Rattle.sercos_law_run.proofs.Views.Members.{members_count}
-use Rattle.sercos_law_run.proofs.Held.Runs.{small}
-use Rattle.sercos_law_run.proofs.Headline.HeadlineRuns.{all_stand, first_store, keeps_all}
-use Rattle.sercos_law_run.proofs.Undisturbed.Checks.CommandRuns.{first_commands}
-use Rattle.sercos_law_run.proofs.Undisturbed.Checks.PassedRuns.{commands_so}
-use Rattle.sercos_law_run.proofs.Undisturbed.Checks.Carried.{are_carried}
+use Rattle.sercos_law_run.proofs.Headline.HeadlineRuns.{keeps_all}
 use Rattle.sercos_law_run.proofs.Undisturbed.Checks.PassedCycles.{views_split}
 use Rattle.sercos_law_run.proofs.Undisturbed.NeverFalls.{begins_so, runs_split, never_falls}
 use Rattle.sercos_law_run.proofs.Undisturbed.Arriving.Comes.{none_below}
@@ -114,21 +110,3 @@ module _ (r : RingView) (jobs : List Job) (carry : Carry) (restarts : Restarts) 
       → AreUndisturbed r carry restarts (t ∷ cycles) before → TellsNoFall t
   tells_no_fall t cycles before run clear starts calm =
       tells_in r jobs carry restarts opened t (cycles ++ before) run clear calm.1 (never_falls r jobs carry restarts opened (t ∷ cycles) before run clear starts calm).stays.1
-
-  -- The cycles with an open step are at most the cost of the requests.
-  pub costs_undisturbed : (cycles before : List CycleView) → IsRun r jobs carry restarts (cycles ++ before) → IsClear (cycles ++ before)
-      → StartsEpoch r jobs carry restarts before → AreUndisturbed r carry restarts cycles before → (k : ℕ) (longest : ℕ → ℕ) → k < length r.drives → AreListed longest (views_of r jobs carry restarts k (cycles ++ before))
-      → open_since (views_since r jobs carry restarts k cycles before) (views_of r jobs carry restarts k before)
-      ≤ cost_in (cost_of (drive_at r k).busy (drive_at r k).command longest (store_of (drive_at r k))) (epoch_begun (views_of r jobs carry restarts k (cycles ++ before)))
-  costs_undisturbed cycles before run clear starts calm k longest below listed =
-      let split = views_split r jobs carry restarts k cycles before in
-      let all = never_falls r jobs carry restarts opened cycles before run clear starts calm in
-      let stands = all_stand r jobs carry restarts opened (cycles ++ before) run clear k below in
-      let follow = (commands_so r jobs carry restarts opened (cycles ++ before) run clear k below).follow in
-      let in_time = comes_timed (drive_at r k).command (views_of r jobs carry restarts k (cycles ++ before)) (are_carried (drive_at r k).command (first_commands r k) refl refl (views_of r jobs carry restarts k (cycles ++ before)) follow) in
-      subst (λ (l : List View). open_since (views_since r jobs carry restarts k cycles before) (views_of r jobs carry restarts k before)
-      ≤ cost_in (cost_of (drive_at r k).busy (drive_at r k).command longest (store_of (drive_at r k))) (epoch_begun l)) (sym split)
-      (start_in_cost (drive_at r k).busy (drive_at r k).command longest (store_of (drive_at r k)) (views_since r jobs carry restarts k cycles before) (views_of r jobs carry restarts k before)
-      (small r jobs carry restarts opened (first_store r jobs carry restarts opened) k below) (runs_split r jobs carry restarts opened cycles before run clear k below)
-      (subst (λ (l : List View). AreSound (store_of (drive_at r k)) l) split stands.sound) (subst (λ (l : List View). AreTimed (drive_at r k).command l) split in_time)
-      (subst (λ (l : List View). AreListed longest l) split listed) (begins_so r jobs carry restarts opened cycles before run clear starts k below).1 (all.whole k below) (all.passed k below)).0

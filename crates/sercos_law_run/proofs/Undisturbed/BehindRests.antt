@@ -1,5 +1,5 @@
 -- Behind requests that have ended whatever comes is begun after them.
-use Rattle.sercos_law_run.proofs.Words.{◌≡◌, Bool, true, false, if◌then◌else◌, List, [], ◌∷◌, ◌++◌, Option, Some, None, refl, sym, ap, subst, is_none, Request, Step, Begun, open_in, answers_it, answer_in, with_answer, Heard, View, with_heard, with_begun, epoch_begun, begun_in, AreWhole, GoesOn}
+use Rattle.sercos_law_run.proofs.Words.{◌≡◌, Bool, true, false, if◌then◌else◌, List, [], ◌∷◌, ◌++◌, Option, Some, None, refl, sym, ap, subst, is_none, Request, Step, Begun, open_in, answers_it, answer_in, with_answer, Heard, View, with_heard, with_begun, epoch_begun, begun_in, AreWhole, GoesOn, inl, inr, cases_Bool}
 use Rattle.sercos_law_run.proofs.Agenda.OneTurn.{idle_hears}
 
 -- these requests were begun first, and the recent ones after them
@@ -9,11 +9,10 @@ Follow old now = (recent : List Begun) × (now ≡ recent ++ old)
 heard_behind : (o : Option Heard) (recent old : List Begun) → open_in old ≡ None → Follow old (with_heard o (recent ++ old))
 heard_behind None recent old rests = (recent, refl)
 heard_behind (Some a) [] old rests = ([], idle_hears a.status a.word old (ap (λ (x : Option Step). is_none x) rests))
-heard_behind (Some a) (b ∷ recent) old rests = by (answers_it (b ∷ (recent ++ old)) a.status)
-  where
-    by : (v : Bool) → Follow old (if v then with_answer (answer_in a.status a.word) (b ∷ (recent ++ old)) else b ∷ (recent ++ old))
-    by true = (record b { answers = answer_in a.status a.word ∷ b.answers } ∷ recent, refl)
-    by false = (b ∷ recent, refl)
+heard_behind (Some a) (b ∷ recent) old rests = elim (cases_Bool (answers_it (b ∷ (recent ++ old)) a.status)) [
+  | inl on ↦ rw on ((record b { answers = answer_in a.status a.word ∷ b.answers } ∷ recent, refl))
+  | inr off ↦ rw off ((b ∷ recent, refl))
+]
 
 begun_behind : (o : Option Request) (old now : List Begun) → Follow old now → Follow old (with_begun o now)
 begun_behind None old now is = is

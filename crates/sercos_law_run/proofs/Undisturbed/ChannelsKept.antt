@@ -1,5 +1,5 @@
 -- The calls of a master's channel are those that the views of its cycles give.
-use Rattle.sercos_law_run.proofs.Words.{◌≡◌, ℕ, ◌+◌, ◌<◌, ◌≤◌, ◌||◌, Bool, true, false, ◌&&◌, List, [], ◌∷◌, length, Option, Some, None, refl, sym, ◌∙◌, ap, ap₂, subst, arith, if◌then◌else◌, ◌==◌, nat_le, is_some, nat_tests, Job, RingView, master_says, Send, EndCycle, begun_by, PlanView, is_place, Known, Task, known_of, Past, settled, with_begin, is_sent_to, addressed_in, ready_to_send, after_mdt, fall_of, new_epoch, still_waiting, goes_on, next_phase, leaves, CycleView, Carry, Restarts, unless_restart, calls_heard, calls_begun, calls_sent, calls_in, channel_calls, ats_in, master_calls, looks_back, IsRun, IsClear, at_start, behind_mst, behind_ats, behind_mdt, heard_last, is_told, told_to, request_of, view_of, views_of, IsOpened}
+use Rattle.sercos_law_run.proofs.Words.{◌≡◌, ℕ, ◌+◌, ◌<◌, ◌≤◌, ◌||◌, Bool, true, false, ◌&&◌, List, [], ◌∷◌, length, Option, Some, None, refl, sym, ◌∙◌, ap, ap₂, subst, arith, if◌then◌else◌, ◌==◌, nat_le, is_some, nat_tests, Job, RingView, master_says, Send, EndCycle, begun_by, PlanView, is_place, Known, Task, known_of, Past, settled, with_begin, is_sent_to, addressed_in, ready_to_send, after_mdt, fall_of, new_epoch, still_waiting, goes_on, next_phase, leaves, CycleView, Carry, Restarts, unless_restart, calls_heard, calls_begun, calls_sent, calls_in, channel_calls, ats_in, master_calls, looks_back, IsRun, IsClear, at_start, behind_mst, behind_ats, behind_mdt, heard_last, is_told, told_to, request_of, view_of, views_of, IsOpened, inl, inr, cases_Bool}
 use Rattle.sercos_service_master.specs.Calls as channel
 use Rattle.sercos_master.specs.Annals.{begins}
 use Rattle.sercos_law_run.proofs.Views.MasterSame.{begun_cycle, HasHeard, Nothing, One, AfterAts, ats_none, turn_mdt, same_started}
@@ -21,11 +21,7 @@ begun_calls (Some t) c = refl
 
 -- The drive is told of a record in the cycles of phases 2 to 4 in which its channel sends one. There is a plan in phases 3 and 4.
 some_told : (p : Past) (k : ℕ) → is_some (told_to p k) ≡ is_told p k
-some_told p k = by (is_told p k)
-  where
-    by : (b : Bool) → is_some (if b then Some (master_says (begun_by (p.calls k))) else None) ≡ b
-    by true = refl
-    by false = refl
+some_told p k = elim (cases_Bool (is_told p k)) [ inl on ↦ rw on | inr off ↦ rw off ]
 
 sends_same : (n : ℕ) (plan to : Bool) → (3 ≤ n → plan ≡ true) → (nat_le 2 n && ((nat_le 3 n && plan) || to)) ≡ (nat_le 3 n || ((n == 2) && to))
 sends_same n plan to planned = by (nat_le 3 n) (n == 2) refl refl

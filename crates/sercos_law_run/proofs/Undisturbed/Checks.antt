@@ -14,7 +14,6 @@ pub mod BuiltInWrites
 pub mod OwnFit
 pub mod OwnInside
 pub mod SetsFour
-pub mod EntriesSay
 pub mod WellGiven
 pub mod ListSet
 pub mod SinceSet

@@ -1,20 +1,16 @@
 -- What the laws on undisturbed cycles say of every clear run, as they state it.
-use Rattle.sercos_law_run.proofs.Words.{◌≡◌, ℕ, ◌+◌, ◌<◌, true, false, List, ◌∷◌, length, list_any, Job, RingView, CycleView, is_outside, is_ready, reads_count, known_of, member, outcomes, Carry, Restarts, drive_at, IsRun, IsClear, behind_mdt, IsOpened, ComesToPhaseFour, FitsInThree, OwnFitsInFour, StopsInTwo, NoStopInFour, StopsInThree}
+use Rattle.sercos_law_run.proofs.Words.{◌≡◌, ℕ, ◌+◌, ◌<◌, true, false, List, ◌∷◌, length, list_any, Job, RingView, CycleView, is_outside, is_ready, reads_count, known_of, member, outcomes, Carry, Restarts, drive_at, IsRun, IsClear, behind_mdt, IsOpened, FitsInThree, OwnFitsInFour, StopsInTwo, NoStopInFour, StopsInThree}
 use Rattle.sercos_law_run.proofs.Views.Members.{in_known}
 use Rattle.sercos_law_run.proofs.Undisturbed.CycleHeld.{fits_in}
-use Rattle.sercos_law_run.proofs.Undisturbed.InTime.{comes_to_four}
 use Rattle.sercos_law_run.proofs.Undisturbed.Stops.LaterStops.{no_stop_in_four, ready_if_ended, stop_in_three}
 use Rattle.sercos_law_run.proofs.Undisturbed.Checks.OwnFit.{own_fits}
 use Rattle.sercos_law_run.proofs.Undisturbed.Stops.RefusedStops.{refused_stop}
 use Rattle.sercos_law_run.proofs.Undisturbed.Stops.TwoStops.{stop_in_two}
 
 -- a check for phase 4 that has ended, of a drive of which no own block was outside its limits, has ended well
-abbrev pub ReadyIfEnded : Type 0
-ReadyIfEnded = (r : RingView) (jobs : List Job) (carry : Carry) (restarts : Restarts) (opened : IsOpened r jobs) (t : CycleView) (j : List CycleView) → IsRun r jobs carry restarts (t ∷ j) → IsClear (t ∷ j) →
+pub is_ready_if_ended : (r : RingView) (jobs : List Job) (carry : Carry) (restarts : Restarts) (opened : IsOpened r jobs) (t : CycleView) (j : List CycleView) → IsRun r jobs carry restarts (t ∷ j) → IsClear (t ∷ j) →
     (k : ℕ) → k < length r.drives → list_any is_outside (drive_at r k).blocks ≡ false →
     reads_count (member (known_of r) k) + 12 < length (outcomes (behind_mdt r jobs carry restarts t.sent j) k) → is_ready (member (known_of r) k) (outcomes (behind_mdt r jobs carry restarts t.sent j) k) ≡ true
-
-pub is_ready_if_ended : ReadyIfEnded
 is_ready_if_ended r jobs carry restarts opened t j run clear k below none ended =
     ready_if_ended r jobs carry restarts opened t j run clear k below (in_known r k below) none ended
 
@@ -27,10 +23,6 @@ stops_in_three r jobs carry restarts t j x opened run clear three is = stop_in_t
 
 pub never_stops_in_four : NoStopInFour
 never_stops_in_four r jobs carry restarts t j opened run clear four = no_stop_in_four r jobs carry restarts opened t j run clear four
-
-pub comes_to_phase_four : ComesToPhaseFour
-comes_to_phase_four r jobs carry restarts t cycles before opened run clear starts calm long =
-    comes_to_four r jobs carry restarts opened t cycles before run clear starts calm long
 
 pub fits_in_three : FitsInThree
 fits_in_three r jobs carry restarts t j opened run clear late = fits_in r jobs carry restarts opened t j run clear late

@@ -1,6 +1,6 @@
 -- In phase 4 the requests to a drive end one after the other, each within the cycles that this profile gives a request, if none lasts
 -- longer; and in undisturbed cycles none does.
-use Rattle.sercos_law_run.proofs.Words.{◌≡◌, inl, inr, ℕ, zero, suc, ◌+◌, ◌*◌, ◌<◌, ◌≤◌, false, List, [], ◌∷◌, ◌++◌, length, Option, Some, None, refl, sym, ap, ◌∙◌, subst, arith, if◌then◌else◌, length-append, is_none, is_some, cases_lt, false≢true, Job, Outcome, next_step, outcome_of, PlanView, store_of, RingView, Begun, open_in, answers_in, CycleView, Fall, reads_count, outcomes_in, with_outcome, Known, Task, known_of, member, outcomes, is_idle, not_longer, Carry, Restarts, epoch_begun, View, standing, AreSound, AreAtWork, AreTimed, RecoversInTime, open_since, drive_at, master_calls, looks_back, IsRun, IsClear, AreBegunTasks, behind_mdt, view_of, views_of, IsOpened, request_cycles, GoesOn, views_since, always_opens, rest_since, comes_timed, times_suc}
+use Rattle.sercos_law_run.proofs.Words.{◌≡◌, inl, inr, ℕ, zero, suc, ◌+◌, ◌*◌, ◌<◌, ◌≤◌, false, List, [], ◌∷◌, ◌++◌, length, Option, Some, None, refl, sym, ap, ◌∙◌, subst, arith, if◌then◌else◌, length-append, is_none, is_some, cases_lt, false≢true, Job, Outcome, next_step, outcome_of, PlanView, store_of, RingView, Begun, open_in, answers_in, CycleView, Fall, reads_count, outcomes_in, with_outcome, Known, Task, known_of, member, outcomes, is_idle, not_longer, Carry, Restarts, epoch_begun, View, standing, AreSound, AreAtWork, AreTimed, RecoversInTime, open_since, drive_at, master_calls, looks_back, IsRun, IsClear, AreBegunTasks, behind_mdt, view_of, views_of, IsOpened, request_cycles, GoesOn, views_since, always_opens, rest_since, comes_timed, times_suc, cases_Option}
 use Rattle.sercos_law_run.proofs.Held.Runs.{small}
 use Rattle.sercos_law_run.proofs.Headline.HeadlineRuns.{all_stand, first_store}
 use Rattle.sercos_law_run.proofs.Undisturbed.BehindRests.{Follow, follow_on}
@@ -29,14 +29,13 @@ record IsAlone (n : ℕ) (begun : List Begun) : Type 0 where
 
 rest_shut : (older : List Begun) → length (outcomes_in older) ≡ length older → open_in older ≡ None
 rest_shut [] ended = refl
-rest_shut (c ∷ older) ended = by (outcome_of c.request c.answers) refl
-  where
-    by : (o : Option Outcome) → outcome_of c.request c.answers ≡ o → open_in (c ∷ older) ≡ None
-    by (Some o) is = ap (λ (x : Option Outcome). if is_some x then None else next_step c.request c.answers) is
-    by None is =
-        let few = not_longer older in
-        let all : length (with_outcome (outcome_of c.request c.answers) (outcomes_in older)) ≡ length (outcomes_in older) = ap (λ (x : Option Outcome). length (with_outcome x (outcomes_in older))) is in
-        absurd (omega (arith, few, all, ended))
+rest_shut (c ∷ older) ended = elim (cases_Option (outcome_of c.request c.answers)) [
+  | inl is ↦
+      let few = not_longer older in
+      let all : length (with_outcome (outcome_of c.request c.answers) (outcomes_in older)) ≡ length (outcomes_in older) = ap (λ (x : Option Outcome). length (with_outcome x (outcomes_in older))) is in
+      absurd (omega (arith, few, all, ended))
+  | inr (o, is) ↦ ap (λ (x : Option Outcome). if is_some x then None else next_step c.request c.answers) is
+]
 
 alone : (s : Known) (k : ℕ) (plan : Option PlanView) (waiting : List Task) (phase : ℕ) (begun : List Begun) (tasks : List Task) → AreBegunTasks s k plan waiting phase begun tasks → is_none (open_in begun) ≡ false → IsAlone (length (outcomes_in begun)) begun
 alone s k plan waiting phase [] tasks are works = absurd (false≢true (sym works))

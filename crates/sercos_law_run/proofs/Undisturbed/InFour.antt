@@ -1,6 +1,6 @@
 -- In an undisturbed epoch in which phase 4 comes it is commanded from the bound of a start-up on; and in phase 4, disturbed or not, a step
 -- to a drive is open in each cycle until the first i + 1 of its requests have ended.
-use Rattle.sercos_law_run.proofs.Words.{◌≡◌, ◌⊎◌, inl, inr, ℕ, zero, suc, ◌+◌, ◌<◌, ◌≤◌, Bool, true, false, List, [], ◌∷◌, ◌++◌, drop, length, Option, None, refl, sym, ap, ◌∙◌, subst, arith, is_none, is_some, false≢true, Job, Outcome, has_next, PlanView, startup_bound, RingView, Begun, open_in, begun_by, CycleView, Stop, reads_count, is_ready, count_requests, Task, known_of, member, tasks_for, Past, outcomes, is_idle, still_left, Carry, Restarts, begun_in, View, AreAtWork, mst_in, ats_in, at_calls, own_mst, begin_calls, master_calls, looks_back, middle, IsRun, IsClear, AreNumbered, AreBegunTasks, at_start, behind_mdt, view_of, views_of, IsOpened, StartsEpoch, HasBadCheck, AreUndisturbed, views_since}
+use Rattle.sercos_law_run.proofs.Words.{◌≡◌, ◌⊎◌, inl, inr, ℕ, zero, suc, ◌+◌, ◌<◌, ◌≤◌, Bool, true, false, List, [], ◌∷◌, ◌++◌, drop, length, Option, None, refl, sym, ap, ◌∙◌, subst, arith, is_none, is_some, false≢true, Job, Outcome, PlanView, startup_bound, RingView, Begun, open_in, begun_by, CycleView, Stop, reads_count, is_ready, count_requests, Task, known_of, member, tasks_for, Past, outcomes, is_idle, still_left, Carry, Restarts, begun_in, View, AreAtWork, mst_in, ats_in, at_calls, own_mst, begin_calls, master_calls, looks_back, middle, IsRun, IsClear, AreNumbered, AreBegunTasks, at_start, behind_mdt, view_of, views_of, IsOpened, StartsEpoch, HasBadCheck, AreUndisturbed, views_since, cases_Bool}
 use Rattle.sercos_law_run.proofs.Agenda.ReportedRuns.{count_so}
 use Rattle.sercos_law_run.proofs.Agenda.TaskRuns.{all_ended}
 use Rattle.sercos_law_run.proofs.Held.Extended.{Extends}
@@ -14,7 +14,8 @@ use Rattle.sercos_law_run.proofs.Undisturbed.Arriving.Small.{never_both}
 use Rattle.sercos_law_run.proofs.Undisturbed.Stops.StopStays.{none_before, stop_after}
 use Rattle.sercos_law_run.proofs.Agenda.Requests.{are_requests, numbered_drop}
 use Rattle.sercos_law_run.proofs.Cited.{begins_tasks, work_in_four}
-use Rattle.sercos_law_run.proofs.Undisturbed.Cited.{comes_to_phase_four, never_stops_in_four}
+use Rattle.sercos_law_run.proofs.Undisturbed.Cited.{never_stops_in_four}
+use Rattle.sercos_law_run.proofs.Tolerance.Calm.{comes_to_phase_four}
 use Rattle.sercos_law_run.proofs.Views.Members.{in_known}
 
 -- nothing is left of a list of which no more items are dropped than it has
@@ -103,17 +104,16 @@ module _ (r : RingView) (jobs : List Job) (carry : Carry) (restarts : Restarts) 
     -- a channel is at work as long as one of the first i + 1 requests hasn't ended
     pub busy_now : (i : ℕ) → i < length ((behind_mdt r jobs carry restarts t.sent j).waiting k) → (behind_mdt r jobs carry restarts t.sent j).stop ≡ None → length (outcomes (behind_mdt r jobs carry restarts t.sent j) k) ≤ reads_count (member (known_of r) k) + (13 + i)
         → is_idle (behind_mdt r jobs carry restarts t.sent j) k ≡ false
-    busy_now i low none few = by (is_idle (behind_mdt r jobs carry restarts t.sent j) k) refl
-      where
-        by : (idle : Bool) → is_idle (behind_mdt r jobs carry restarts t.sent j) k ≡ idle → is_idle (behind_mdt r jobs carry restarts t.sent j) k ≡ false
-        by false is = is
-        by true is =
-            let empty = work_in_four (known_of r) (tasks_for (known_of r) jobs) (at_calls r carry (length j) (ats_in t.sent) (own_mst carry (length j) (mst_in t.sent) (begin_calls restarts (length j) (master_calls r carry restarts j)))) k
-            (λ n. (are_requests (known_of r) jobs n).0) (λ n. (are_requests (known_of r) jobs n).1) (in_known r k below) four_now none planned is in
-            let all = dropped_all ((behind_mdt r jobs carry restarts t.sent j).waiting k) (count_requests ((behind_mdt r jobs carry restarts t.sent j).tasks k)) empty in
-            let ended = all_ended (known_of r) k has_next (now_in t j).plan ((now_in t j).waiting k) (now_in t j).now.phase (begun_by ((now_in t j).calls k)) ((now_in t j).tasks k) begun_tasks is in
-            let count = counted in
-            absurd (omega (arith, all, ended, count, low, few))
+    busy_now i low none few = elim (cases_Bool (is_idle (behind_mdt r jobs carry restarts t.sent j) k)) [
+      | inl is ↦
+          let empty = work_in_four (known_of r) (tasks_for (known_of r) jobs) (at_calls r carry (length j) (ats_in t.sent) (own_mst carry (length j) (mst_in t.sent) (begin_calls restarts (length j) (master_calls r carry restarts j)))) k
+          (λ n. (are_requests (known_of r) jobs n).0) (λ n. (are_requests (known_of r) jobs n).1) (in_known r k below) four_now none planned is in
+          let all = dropped_all ((behind_mdt r jobs carry restarts t.sent j).waiting k) (count_requests ((behind_mdt r jobs carry restarts t.sent j).tasks k)) empty in
+          let ended = all_ended (known_of r) k (now_in t j).plan ((now_in t j).waiting k) (now_in t j).now.phase (begun_by ((now_in t j).calls k)) ((now_in t j).tasks k) begun_tasks is in
+          let count = counted in
+          absurd (omega (arith, all, ended, count, low, few))
+      | inr is ↦ is
+    ]
 
   -- SO IT IS IN EACH CYCLE from one after which phase 4 is commanded.
   pub at_work : (i : ℕ) (cycles rest : List CycleView) → IsRun r jobs carry restarts (cycles ++ rest) → IsClear (cycles ++ rest)

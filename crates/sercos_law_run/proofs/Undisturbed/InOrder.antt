@@ -44,62 +44,69 @@ turn_after s p k turn read j low = by (first_place s (λ i. not (is_read (member
         let unread = found_passes 0 (length s.drives) i (λ m. not (is_read (member s m) (outcomes p m))) found in
         absurd (false≢true (sym (ap not (subst (λ (m : ℕ). is_read (member s m) (outcomes p m) ≡ true) (sym same) read)) ∙ unread))
 
-module _ (s : Known) (requests : ℕ → List Task) (waits : (j : ℕ) → AreWaiting (requests j)) where
-  abbrev AreInOrder : Past → Type 0
-  AreInOrder p = p.now.phase ≡ 2 → (k : ℕ) → k < length s.drives → reads_count (member s k) < length (begun_by (p.calls k)) → (j : ℕ) → j < k → is_checked (member s j) (outcomes p j) ≡ true
+-- WHAT COMES FIRST: in an early phase, where more than so many requests of a drive have begun, each drive before it in the ring passes a
+-- test that outcomes keep.
+module _ (s : Known) (requests : ℕ → List Task) (early : ℕ → Type 0) (count : ℕ → ℕ) (test : MemberView → List Outcome → Bool)
+    (stays : (m : MemberView) (outs : List Outcome) (o : Option Outcome) → test m outs ≡ true → test m (with_outcome o outs) ≡ true) where
+  abbrev pub AreFirst : Past → Type 0
+  AreFirst p = early p.now.phase → (k : ℕ) → k < length s.drives → count k < length (begun_by (p.calls k)) → (j : ℕ) → j < k → test (member s j) (outcomes p j) ≡ true
 
-  -- AN AT
-  taken_order : (i : ℕ) (content : List ℕ) (p : Past) → AreInOrder p → AreInOrder (after_taken i content p)
-  taken_order i content p have two k there more j low =
+  -- an AT
+  pub taken_first : (i : ℕ) (content : List ℕ) (p : Past) → AreFirst p → AreFirst (after_taken i content p)
+  taken_first i content p have two k there more j low =
       let adds = at_adds i content p j in
-      ap (is_checked (member s j)) adds.1 ∙ checked_stays (member s j) (outcomes p j) adds.0 (have two k there (let same = at_leaves_count i content p k in omega (arith, more, same)) j low)
+      ap (test (member s j)) adds.1 ∙ stays (member s j) (outcomes p j) adds.0 (have two k there (let same = at_leaves_count i content p k in omega (arith, more, same)) j low)
 
-  -- THE MDT
-  mdt_order : (h : List Call) → AreInOrder (past s requests h) → AreInOrder (past s requests (Mdt ∷ h))
-  mdt_order h have two k there more j low =
-      ap (is_checked (member s j)) (mdt_adds s p j) ∙ elim (cases_lt (reads_count (member s k)) (length (begun_by (p.calls k)))) [
+  -- an MDT, if it is so where a request begins
+  pub mdt_first : (h : List Call) → (early (past s requests h).now.phase → (k : ℕ) → k < length s.drives → (t : Task) → begins s (settled s (past s requests h)) k ≡ Some t
+      → length (begun_by ((past s requests h).calls k)) ≤ count k → count k < length (begun_by ((past s requests (Mdt ∷ h)).calls k))
+      → (j : ℕ) → j < k → test (member s j) (outcomes (settled s (past s requests h)) j) ≡ true)
+      → AreFirst (past s requests h) → AreFirst (past s requests (Mdt ∷ h))
+  mdt_first h begun have two k there more j low =
+      ap (test (member s j)) (mdt_adds s (past s requests h) j) ∙ elim (cases_lt (count k) (length (begun_by ((past s requests h).calls k)))) [
         | inl had ↦ have before k there had j low
-        | inr few ↦ fresh (begins s (settled s p) k) refl (omega (arith, few))
+        | inr few ↦ fresh (begins s (settled s (past s requests h)) k) refl (omega (arith, few))
       ]
     where
-      p : Past
-      p = past s requests h
+      before : early (past s requests h).now.phase
+      before = subst early (turn_mdt s (past s requests h)).phase_is two
 
-      before : (past s requests h).now.phase ≡ 2
-      before = sym (turn_mdt s (past s requests h)).phase_is ∙ two
+      fresh : (o : Option Task) → begins s (settled s (past s requests h)) k ≡ o → length (begun_by ((past s requests h).calls k)) ≤ count k → test (member s j) (outcomes (past s requests h) j) ≡ true
+      fresh None none few =
+          let same = ap (λ (l : List Begun). length l) (begun_so s (past s requests h) k ∙ ap (λ (o : Option Task). with_begun (request_of o) (begun_by ((past s requests h).calls k))) none) in
+          absurd (omega (arith, few, more, same))
+      fresh (Some t) some few = ap (λ (calls : ℕ → List channel.Call). test (member s j) (outcomes_in (begun_by (calls j)))) (sym (leaves s (past s requests h)).calls)
+          ∙ begun before k there t some few more j low
 
-      same_outs : (i : ℕ) → outcomes (settled s (past s requests h)) i ≡ outcomes (past s requests h) i
-      same_outs i = ap (λ (calls : ℕ → List channel.Call). outcomes_in (begun_by (calls i))) (leaves s (past s requests h)).calls
+module _ (s : Known) (requests : ℕ → List Task) (waits : (j : ℕ) → AreWaiting (requests j)) where
+  abbrev AreInOrder : Past → Type 0
+  AreInOrder p = AreFirst s requests (λ n. n ≡ 2) (λ k. reads_count (member s k)) is_checked checked_stays p
 
-      newest : (r : Request) → request_of (begins s (settled s (past s requests h)) k) ≡ Some r → begun_by ((past s requests (Mdt ∷ h)).calls k) ≡ record { request = r; answers = [] } ∷ begun_by ((past s requests h).calls k)
-      newest r is = begun_so s (past s requests h) k ∙ ap (λ (o : Option Request). with_begun o (begun_by ((past s requests h).calls k))) is
-
+  -- a request that begins: the reads have ended, so it is the turn of a drive after those that are checked
+  order_begun : (h : List Call) → (past s requests h).now.phase ≡ 2 → (k : ℕ) → k < length s.drives → (t : Task) → begins s (settled s (past s requests h)) k ≡ Some t
+      → length (begun_by ((past s requests h).calls k)) ≤ reads_count (member s k) → reads_count (member s k) < length (begun_by ((past s requests (Mdt ∷ h)).calls k))
+      → (j : ℕ) → j < k → is_checked (member s j) (outcomes (settled s (past s requests h)) j) ≡ true
+  order_begun h before k there t some few more j low = turn_after s (settled s (past s requests h)) k turn read j low
+    where
       ended : (b : Begun) (older : List Begun) (ts : List Task) → AreBegunTasks s k (past s requests (Mdt ∷ h)).plan ((past s requests (Mdt ∷ h)).waiting k) (past s requests (Mdt ∷ h)).now.phase (b ∷ older) ts → length (outcomes_in older) ≡ length older
       ended b older [] are = absurd are
       ended b older (t ∷ ts) are = are.1.ended
 
-      fresh : (o : Option Task) → begins s (settled s (past s requests h)) k ≡ o → length (begun_by ((past s requests h).calls k)) ≤ reads_count (member s k) → is_checked (member s j) (outcomes (past s requests h) j) ≡ true
-      fresh None none few =
-          let same = ap (λ (l : List Begun). length l) (begun_so s (past s requests h) k ∙ ap (λ (o : Option Task). with_begun (request_of o) (begun_by ((past s requests h).calls k))) none) in
-          absurd (omega (arith, few, more, same))
-      fresh (Some t) some few =
-          ap (is_checked (member s j)) (sym (same_outs j)) ∙ turn_after s (settled s (past s requests h)) k turn read j low
-        where
-          begun_is : begun_by ((past s requests (Mdt ∷ h)).calls k) ≡ record { request = t.request; answers = [] } ∷ begun_by ((past s requests h).calls k)
-          begun_is = newest t.request (ap request_of some)
+      begun_is : begun_by ((past s requests (Mdt ∷ h)).calls k) ≡ record { request = t.request; answers = [] } ∷ begun_by ((past s requests h).calls k)
+      begun_is = begun_so s (past s requests h) k ∙ ap (λ (o : Option Request). with_begun o (begun_by ((past s requests h).calls k))) (ap request_of some)
 
-          all_ended : length (outcomes (past s requests h) k) ≡ length (begun_by ((past s requests h).calls k))
-          all_ended = ended (record { request = t.request; answers = [] }) (begun_by ((past s requests h).calls k)) ((past s requests (Mdt ∷ h)).tasks k)
-              (subst (λ (l : List Begun). AreBegunTasks s k (past s requests (Mdt ∷ h)).plan ((past s requests (Mdt ∷ h)).waiting k) (past s requests (Mdt ∷ h)).now.phase l ((past s requests (Mdt ∷ h)).tasks k)) begun_is (begins_tasks s requests (Mdt ∷ h) k there))
+      all_ended : length (outcomes (past s requests h) k) ≡ length (begun_by ((past s requests h).calls k))
+      all_ended = ended (record { request = t.request; answers = [] }) (begun_by ((past s requests h).calls k)) ((past s requests (Mdt ∷ h)).tasks k)
+          (subst (λ (l : List Begun). AreBegunTasks s k (past s requests (Mdt ∷ h)).plan ((past s requests (Mdt ∷ h)).waiting k) (past s requests (Mdt ∷ h)).now.phase l ((past s requests (Mdt ∷ h)).tasks k)) begun_is (begins_tasks s requests (Mdt ∷ h) k there))
 
-          many : reads_count (member s k) ≤ length (outcomes (past s requests h) k)
-          many = let long = ap (λ (l : List Begun). length l) begun_is in let same = all_ended in omega (arith, long, same, more)
+      many : reads_count (member s k) ≤ length (outcomes (past s requests h) k)
+      many = let long = ap (λ (l : List Begun). length l) begun_is in let same = all_ended in omega (arith, long, same, more)
 
-          read : is_read (member s k) (outcomes (settled s (past s requests h)) k) ≡ true
-          read = ap (is_read (member s k)) (same_outs k) ∙ le-leb (reads_count (member s k)) (length (outcomes (past s requests h) k)) many
+      read : is_read (member s k) (outcomes (settled s (past s requests h)) k) ≡ true
+      read = ap (λ (calls : ℕ → List channel.Call). is_read (member s k) (outcomes_in (begun_by (calls k)))) (leaves s (past s requests h)).calls ∙ le-leb (reads_count (member s k)) (length (outcomes (past s requests h) k)) many
 
-          turn : in_turn s (settled s (past s requests h)) ≡ Some k
-          turn = begins_in_turn s (settled s (past s requests h)) k t (let same = (leaves s (past s requests h)).phase in let is_two = before in omega (arith, same, is_two)) some
+      turn : in_turn s (settled s (past s requests h)) ≡ Some k
+      turn = begins_in_turn s (settled s (past s requests h)) k t (let same = (leaves s (past s requests h)).phase in omega (arith, same, before)) some
 
   -- THE END OF A CYCLE
   goes_order : (h : List Call) (done : Bool) → AreInOrder (past s requests h) → AreInOrder (going done (past s requests h))
@@ -111,8 +118,8 @@ module _ (s : Known) (requests : ℕ → List Task) (waits : (j : ℕ) → AreWa
   in_order = past_keeps AreInOrder s requests (record {
     first = λ two k there more j low. absurd (omega (arith, two));
     mst = λ h whole have. have;
-    taken = λ h i content inside is. taken_order i content (past s requests h);
-    mdt = mdt_order;
+    taken = λ h i content inside is. taken_first s requests (λ n. n ≡ 2) (λ k. reads_count (member s k)) is_checked checked_stays i content (past s requests h);
+    mdt = λ h. mdt_first s requests (λ n. n ≡ 2) (λ k. reads_count (member s k)) is_checked checked_stays h (order_begun h);
     on = λ h done is. goes_order h done;
     new = λ h cycle have two k there more j low. absurd (omega (arith, two));
   })

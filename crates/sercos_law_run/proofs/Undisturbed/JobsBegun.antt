@@ -1,6 +1,6 @@
 -- In each cycle up to phase 3 the requests that were begun have the places of a start-up's; and if all reads have ended and there is no
 -- stop, the master has made the plan.
-use Rattle.sercos_law_run.proofs.Words.{◌≡◌, ℕ, ◌+◌, ◌<◌, ◌≤◌, true, false, List, [], ◌∷◌, ◌++◌, length, Option, Some, None, sym, ap, ◌∙◌, subst, arith, append_assoc, if◌then◌else◌, ◌==◌, nat_le, is_some, slice_get, le-leb, slice_get_within, same_Some, Idn, Job, Request, Outcome, record_bytes, IsValid, WishesView, wishes_of, store_of, DriveView, RingView, Begun, begun_by, CycleView, Fall, reads, reads_count, wishes_given, MemberView, known_of, member, member_of, tasks_for, reads_length, Past, outcomes, all_read, fall_of, jobs_waiting, mdt_adds, no_stop_before, Carry, Restarts, epoch_begun, begun_in, View, all_begun, begun_ago, all_entries, all_writes, AreExact, IsAnswer, AreAnswers, mst_in, ats_in, drive_at, at_calls, own_mst, begin_calls, master_calls, middle, IsRun, IsClear, AreBegunTasks, HasEndedAt, behind_ats, behind_mdt, view_of, views_of, IsOpened, jobs_of, AreAt, runs_exact}
+use Rattle.sercos_law_run.proofs.Words.{◌≡◌, ℕ, ◌+◌, ◌<◌, ◌≤◌, true, false, List, [], ◌∷◌, ◌++◌, length, Option, Some, None, sym, ap, ◌∙◌, subst, arith, append_assoc, if◌then◌else◌, ◌==◌, nat_le, is_some, slice_get, le-leb, slice_get_within, same_Some, Idn, Job, Request, Outcome, record_bytes, IsValid, WishesView, wishes_of, store_of, DriveView, RingView, Begun, begun_by, CycleView, Fall, reads, reads_count, wishes_given, MemberView, known_of, member, member_of, tasks_for, reads_length, Past, outcomes, all_read, fall_of, jobs_waiting, mdt_adds, no_stop_before, Carry, Restarts, epoch_begun, begun_in, View, all_begun, begun_ago, all_entries, all_writes, AreExact, IsAnswer, AreAnswers, mst_in, ats_in, drive_at, at_calls, own_mst, begin_calls, master_calls, middle, IsRun, IsClear, AreBegunTasks, HasEndedAt, behind_ats, behind_mdt, view_of, views_of, IsOpened, jobs_of, AreAt, runs_exact, is_done, is_done_in, GoesOnInTwo}
 use Rattle.sercos_step.specs.declared.request.Request.TheVariants as request
 use Rattle.sercos_step.specs.declared.request.Outcome.TheVariants as outcome
 use Rattle.sercos_law_run.proofs.Start.CheckPasses.{ring_drive}
@@ -13,6 +13,7 @@ use Rattle.sercos_law_run.proofs.Held.Runs.{drive_got, got_inside, small, wishes
 use Rattle.sercos_law_run.proofs.Headline.HeadlineRuns.{all_stand, first_store, keeps_all, spelled_in, stored_in}
 use Rattle.sercos_law_run.proofs.Headline.WellRuns.{AllWell, all_well}
 use Rattle.sercos_law_run.proofs.Undisturbed.JobPlaces.{Give3, begun_at, few_in_two, reading}
+use Rattle.sercos_law_run.proofs.Undisturbed.StaysUp.{phase_now}
 use Rattle.sercos_law_run.proofs.Undisturbed.PlanMade.{plan_made, read_same}
 use Rattle.sercos_law_run.proofs.Settings.NoCheck127.{next_still, stays}
 use Rattle.sercos_law_run.proofs.Cited.{begins_tasks, tasks_end}
@@ -153,3 +154,14 @@ module _ (r : RingView) (jobs : List Job) (carry : Carry) (restarts : Restarts) 
         let asks = asked_now (omega (arith, two)) (complete_now none read) in
         let most : record_bytes (wishes_of r).drives ≤ 2047 = wishes_valid.drives.mdt_len in
         plan_made (known_of r) (behind_ats r jobs carry restarts t.sent j) two none read (ap (λ (w : WishesView). nat_le (record_bytes w.drives) 2047) asks ∙ le-leb (record_bytes (wishes_of r).drives) 2047 most)
+
+    -- without a stop the master goes on with phase 2, as long as that isn't done
+    pub goes_in_two : t.phase ≡ 2 → now.stop ≡ None → is_done (known_of r) now ≡ false → GoesOnInTwo r now
+    goes_in_two two none unfinished =
+        let phase : now.now.phase ≡ 2 = phase_now r jobs carry restarts opened t j run.1 ∙ two in
+        record {
+          phase = phase;
+          goes_on = none;
+          planned = planned_now phase none;
+          unchecked = sym (ap (λ (n : ℕ). is_done_in n (known_of r) now) phase) ∙ unfinished;
+        }

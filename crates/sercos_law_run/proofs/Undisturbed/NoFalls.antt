@@ -1,5 +1,5 @@
 -- Where the ring doesn't fall at the end of a cycle.
-use Rattle.sercos_law_run.proofs.Words.{◌≡◌, ℕ, ◌+◌, ◌<◌, ◌≤◌, Bool, true, false, not, ◌&&◌, List, [], ◌∷◌, length, Option, Some, None, refl, sym, ◌∙◌, ap, arith, if◌then◌else◌, ◌==◌, nat_le, option_or, false≢true, nat_tests, cycles_open, is_place, Known, Task, Past, Turn, Call, past, first_from, first_place, after_mdt, has_lost_mst, has_lost_at, count_addressed, is_at_limit, fall_at, fall_of, leaves, past_keeps}
+use Rattle.sercos_law_run.proofs.Words.{◌≡◌, ℕ, ◌+◌, ◌<◌, ◌≤◌, Bool, true, false, not, ◌&&◌, List, [], ◌∷◌, length, Option, Some, None, refl, sym, ◌∙◌, ap, arith, if◌then◌else◌, ◌==◌, nat_le, option_or, false≢true, nat_tests, cycles_open, is_place, Known, Task, Past, Turn, Call, past, first_from, first_place, after_mdt, has_lost_mst, has_lost_at, count_addressed, is_at_limit, fall_at, fall_of, leaves, past_keeps, inl, inr, cases_Bool}
 use Rattle.std.proofs.lemmas.Bool.{and_right}
 use Rattle.sercos_trace.specs.declared.events.Fall.TheVariants as fall
 use Rattle.sercos_master.proofs.Rings.{none_from as none_first}
@@ -69,7 +69,10 @@ pub record IsKept (s : Known) (p : Past) : Type 0 where
 -- NO LIMIT is reached.
 pub limit_so : (p : Past) (k : ℕ) → (p.now.phase ≡ 1 → is_place k p.now.addressed ≡ true → count_addressed k p.turns ≤ 63)
     → ((p.now.phase ≡ 1 → ⊥) → cycles_open (p.calls k) ≤ 63) → is_at_limit p k ≡ false
-limit_so p k identifies answers = by (p.now.phase == 1) refl
+limit_so p k identifies answers = elim (cases_Bool (p.now.phase == 1)) [
+  | inl one ↦ rw one (addressed (grind (arith, nat_tests, one)) (is_place k p.now.addressed) refl)
+  | inr other ↦ rw other (short (cycles_open (p.calls k)) (answers (not_one other)))
+]
   where
     short : (n : ℕ) → n ≤ 63 → nat_le 64 n ≡ false
     short n few = grind (arith, nat_tests, few)
@@ -80,11 +83,6 @@ limit_so p k identifies answers = by (p.now.phase == 1) refl
 
     not_one : (p.now.phase == 1) ≡ false → p.now.phase ≡ 1 → ⊥
     not_one other one = let yes : (p.now.phase == 1) ≡ true = grind (arith, nat_tests, one) in false≢true (sym other ∙ yes)
-
-    by : (one : Bool) → (p.now.phase == 1) ≡ one → (if one then is_place k p.now.addressed && nat_le 64 (count_addressed k p.turns) else
-        nat_le 64 (cycles_open (p.calls k))) ≡ false
-    by true one = addressed (grind (arith, nat_tests, one)) (is_place k p.now.addressed) refl
-    by false other = short (cycles_open (p.calls k)) (answers (not_one other))
 
 pub none_falls : (s : Known) (p : Past) → has_lost_mst (p.now ∷ p.turns) ≡ false
     → ((k : ℕ) → k < length s.drives → has_lost_at k (p.now ∷ p.turns) ≡ false) → ((k : ℕ) → k < length s.drives → is_at_limit p k ≡ false)

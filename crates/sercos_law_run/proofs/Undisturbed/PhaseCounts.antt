@@ -1,5 +1,5 @@
 -- What a cycle of phase 0 or 1 brings in which every telegram comes: the tenth MST in a row, or one drive more that is identified.
-use Rattle.sercos_law_run.proofs.Words.{◌≡◌, inl, inr, ℕ, zero, suc, ◌+◌, ◌<◌, ◌≤◌, ◌||◌, Bool, true, false, not, ◌&&◌, List, [], ◌∷◌, length, Option, Some, None, refl, sym, ◌∙◌, ap, subst, arith, if◌then◌else◌, ◌==◌, nat_le, nat_lt, is_some, is_none, cases_eq, false≢true, nat_tests, is_place, Known, Past, Turn, first_from, first_place, addressed_before, has_identified, is_identified, count_addressed, whole_row, is_done, is_done_in, next_phase, goes_on, new_epoch, still_waiting, fall_of, after_end}
+use Rattle.sercos_law_run.proofs.Words.{◌≡◌, inl, inr, ℕ, zero, suc, ◌+◌, ◌<◌, ◌≤◌, ◌||◌, Bool, true, false, not, ◌&&◌, List, [], ◌∷◌, length, Option, Some, None, refl, sym, ◌∙◌, ap, subst, arith, if◌then◌else◌, ◌==◌, nat_le, nat_lt, is_some, is_none, cases_eq, nat_tests, Known, Past, Turn, first_from, first_place, addressed_before, has_identified, is_identified, whole_row, is_done, is_done_in, next_phase, goes_on, new_epoch, still_waiting, fall_of, after_end, cases_Bool}
 use Rattle.sercos_law_run.proofs.Undisturbed.NoFalls.{none_from}
 
 -- In phase 0, after n cycles: n MSTs in a row came back.
@@ -58,25 +58,6 @@ tenth_next s p is none = subst (λ (q : Past). Identifies 0 q) (sym (end_kept s 
   last = is.addressed;
 })
 
--- PHASE 1
-pub not_twice : (m : ℕ) (turns : List Turn) → LastTo m turns → count_addressed m turns ≡ 0
-not_twice zero [] last = refl
-not_twice zero (t ∷ turns) last = by (t.phase == 1)
-  where
-    by : (b : Bool) → (if b && is_place 0 t.addressed then count_addressed 0 turns + 1 else 0) ≡ 0
-    by true = rw last refl
-    by false = refl
-not_twice (suc i) [] last = absurd last
-not_twice (suc i) (t ∷ turns) (one, to) =
-    let other : (suc i == i) ≡ false = grind (arith, nat_tests) in
-    let off : is_place (suc i) t.addressed ≡ false = ap (is_place (suc i)) to ∙ other in
-    by (t.phase == 1) (is_place (suc i) t.addressed) off
-  where
-    by : (b c : Bool) → c ≡ false → (if b && c then count_addressed (suc i) turns + 1 else 0) ≡ 0
-    by true true off = absurd (false≢true (sym off))
-    by true false off = refl
-    by false c off = refl
-
 found_at : (k n m : ℕ) (test : ℕ → Bool) → ((i : ℕ) → i < m → test i ≡ false) → k ≤ m → m < k + n → test m ≡ true → first_from k n test ≡ Some m
 found_at k zero m test before low high passes = absurd (omega (arith, low, high))
 found_at k (suc n) m test before low high passes = elim (cases_eq k m) [
@@ -124,11 +105,10 @@ one_next s p m is less to none = subst (λ (q : Past). Identifies (suc m) q) (sy
 })
   where
     shift : (k m : ℕ) → nat_lt k m ≡ nat_lt (k + 1) (suc m)
-    shift k m = by (nat_lt k m) refl
-      where
-        by : (b : Bool) → nat_lt k m ≡ b → nat_lt k m ≡ nat_lt (k + 1) (suc m)
-        by true less = let yes : nat_lt (k + 1) (suc m) ≡ true = grind (arith, nat_tests, less) in less ∙ sym yes
-        by false not_less = let no : nat_lt (k + 1) (suc m) ≡ false = grind (arith, nat_tests, not_less) in not_less ∙ sym no
+    shift k m = elim (cases_Bool (nat_lt k m)) [
+      | inl less ↦ let yes : nat_lt (k + 1) (suc m) ≡ true = grind (arith, nat_tests, less) in less ∙ sym yes
+      | inr not_less ↦ let no : nat_lt (k + 1) (suc m) ≡ false = grind (arith, nat_tests, not_less) in not_less ∙ sym no
+    ]
 
 pub one_done : (s : Known) (p : Past) (m : ℕ) → IsOne m p → m ≡ length s.drives → fall_of s p ≡ None → (after_end s p).now.phase ≡ 2
 one_done s p m is all none = subst (λ (q : Past). q.now.phase ≡ 2) (sym (end_kept s p none))

@@ -1,15 +1,15 @@
 -- How long phases 0 and 1 last in an undisturbed epoch.
-use Rattle.sercos_law_run.proofs.Words.{◌≡◌, ℕ, zero, suc, ◌+◌, ◌<◌, ◌≤◌, Bool, true, false, not, List, [], ◌∷◌, ◌++◌, length, Some, None, refl, sym, ◌∙◌, ap, subst, arith, ◌==◌, nat_lt, is_some, cond_both, false≢true, ltb-true, nat_tests, Job, RingView, CycleView, is_place, Known, known_of, tasks_for, Past, Turn, first_place, addressed_before, is_awaited, has_identified, is_identified, count_addressed, whole_row, fall_of, next_phase, goes_on, new_epoch, still_waiting, after_end, Carry, Restarts, mst_in, ats_in, master_calls, middle, begins, own_mst, looks_back, IsRun, IsClear, at_start, behind_mst, behind_ats, behind_mdt, IsOpened, IsUndisturbed, AreUndisturbed, StartsEpoch, came_back}
+use Rattle.sercos_law_run.proofs.Words.{◌≡◌, ℕ, zero, suc, ◌+◌, ◌<◌, ◌≤◌, Bool, true, false, not, List, [], ◌∷◌, ◌++◌, length, Some, None, refl, sym, ◌∙◌, ap, subst, arith, ◌==◌, is_some, cond_both, false≢true, nat_tests, Job, RingView, CycleView, is_place, Known, known_of, Past, Turn, first_place, addressed_before, is_awaited, has_identified, is_identified, whole_row, fall_of, next_phase, goes_on, new_epoch, still_waiting, after_end, Carry, Restarts, mst_in, ats_in, master_calls, begins, own_mst, looks_back, IsRun, IsClear, at_start, behind_mst, behind_ats, behind_mdt, IsOpened, IsUndisturbed, AreUndisturbed, StartsEpoch, came_back}
 use Rattle.sercos_law_run.proofs.Views.MasterSame.{ats_none}
-use Rattle.sercos_law_run.proofs.Views.Members.{members_count, in_ring}
+use Rattle.sercos_law_run.proofs.Views.Members.{members_count}
+use Rattle.sercos_law_run.proofs.Undisturbed.NeverFalls.{never_falls}
 use Rattle.sercos_law_run.proofs.Undisturbed.Arriving.Comes.{calm_in}
 use Rattle.sercos_law_run.proofs.Undisturbed.Arriving.AtsTaken.{unheard_ats}
 use Rattle.sercos_law_run.proofs.Undisturbed.Identified.{starts_so, goes_so, heard_next}
-use Rattle.sercos_law_run.proofs.Undisturbed.NoFalls.{heard_mdt, has_risen, no_fall}
-use Rattle.sercos_law_run.proofs.Undisturbed.StaysUp.{addressed_first, phase_now, turns_now, whole_now, stands_so, idle_then}
-use Rattle.sercos_law_run.proofs.Undisturbed.Arriving.Addressed.{place_so}
+use Rattle.sercos_law_run.proofs.Undisturbed.NoFalls.{heard_mdt}
+use Rattle.sercos_law_run.proofs.Undisturbed.StaysUp.{addressed_first, phase_now, turns_now, whole_now, stands_so}
 use Rattle.sercos_law_run.proofs.Undisturbed.PhaseZero.{none_addressed, few_back, zero_waits}
-use Rattle.sercos_law_run.proofs.Undisturbed.PhaseCounts.{Waits, Identifies, LastTo, IsZero, IsOne, zero_next, tenth_next, not_twice, first_unknown, all_known, one_next, one_done}
+use Rattle.sercos_law_run.proofs.Undisturbed.PhaseCounts.{Waits, Identifies, LastTo, IsZero, IsOne, zero_next, tenth_next, first_unknown, one_next, one_done}
 
 -- whose AT is awaited in phase 1: that of the drive addressed in the cycle before
 awaits_one : (p : Past) (k : ℕ) → p.now.phase ≡ 1 → is_awaited p k ≡ is_place k (addressed_before p.turns)
@@ -28,10 +28,6 @@ fresh_end s k p = cond_both (is_some (fall_of s p)) (new_epoch (p.cycle + 1) (st
 pub fresh_at : (r : RingView) (jobs : List Job) (carry : Carry) (restarts : Restarts) (k : ℕ) (j : List CycleView) → (looks_back r jobs (master_calls r carry restarts j)).now.heard k ≡ false
 fresh_at r jobs carry restarts k [] = refl
 fresh_at r jobs carry restarts k (t ∷ j) = fresh_end (known_of r) k (behind_mdt r jobs carry restarts t.sent j)
-
--- what tests say of places
-equal_of : (m n : ℕ) → m ≤ n → nat_lt m n ≡ false → m ≡ n
-equal_of m n most is = grind (arith, nat_tests, most, is)
 
 never_before : (k : ℕ) → (k + 1 == 0) ≡ true → ⊥
 never_before k is = let no : (k + 1 == 0) ≡ false = grind (arith, nat_tests) in false≢true (sym no ∙ is)
@@ -54,7 +50,8 @@ module _ (r : RingView) (jobs : List Job) (carry : Carry) (restarts : Restarts) 
 
   -- A CYCLE OF PHASE 0
   module _ (t : CycleView) (j : List CycleView) (run : IsRun r jobs carry restarts (t ∷ j)) (clear : IsClear (t ∷ j))
-      (calm : IsUndisturbed r carry restarts t j) (n : ℕ) (waits : Waits n (looks_back r jobs (master_calls r carry restarts j))) where
+      (calm : IsUndisturbed r carry restarts t j) (stays : fall_of (known_of r) (behind_mdt r jobs carry restarts t.sent j) ≡ None) (n : ℕ)
+      (waits : Waits n (looks_back r jobs (master_calls r carry restarts j))) where
     zero_is : (behind_mdt r jobs carry restarts t.sent j).now.phase ≡ 0
     zero_is = phase_now r jobs carry restarts opened t j run.1 ∙ next_phase_is t j run calm ∙ waits.phase_is
 
@@ -67,24 +64,16 @@ module _ (r : RingView) (jobs : List Job) (carry : Carry) (restarts : Restarts) 
       addressed = none_addressed (known_of r) (behind_ats r jobs carry restarts t.sent j) zero_is;
     }
 
-    no_fall_0 : fall_of (known_of r) (behind_mdt r jobs carry restarts t.sent j) ≡ None
-    no_fall_0 = no_fall (known_of r) (behind_mdt r jobs carry restarts t.sent j) (has_risen (known_of r) (tasks_for (known_of r) jobs) (middle r carry restarts t.sent j)) (record {
-      whole = whole_now r jobs carry restarts opened t j run.1 calm;
-      hears = λ late k below. absurd (omega (arith, late, zero_is));
-      identifies = λ one k below to. absurd (omega (arith, one, zero_is));
-      answers = λ other k below. let low : t.phase ≡ 0 = next_phase_is t j run calm ∙ waits.phase_is in
-          let none = idle_then r jobs carry restarts opened t j run clear (omega (arith, low)) k (in_ring r k below) in omega (arith, none);
-    })
-
     zero_step : n ≤ 8 → Waits (suc n) (looks_back r jobs (master_calls r carry restarts (t ∷ j)))
-    zero_step few = zero_next (known_of r) (behind_mdt r jobs carry restarts t.sent j) n in_zero no_fall_0 few
+    zero_step few = zero_next (known_of r) (behind_mdt r jobs carry restarts t.sent j) n in_zero stays few
 
     tenth_step : n ≡ 9 → Identifies 0 (looks_back r jobs (master_calls r carry restarts (t ∷ j)))
-    tenth_step nine = tenth_next (known_of r) (behind_mdt r jobs carry restarts t.sent j) (subst (λ (i : ℕ). IsZero i (behind_mdt r jobs carry restarts t.sent j)) nine in_zero) no_fall_0
+    tenth_step nine = tenth_next (known_of r) (behind_mdt r jobs carry restarts t.sent j) (subst (λ (i : ℕ). IsZero i (behind_mdt r jobs carry restarts t.sent j)) nine in_zero) stays
 
   -- A CYCLE OF PHASE 1
   module _ (t : CycleView) (j : List CycleView) (run : IsRun r jobs carry restarts (t ∷ j)) (clear : IsClear (t ∷ j))
-      (calm : IsUndisturbed r carry restarts t j) (m : ℕ) (now : Identifies m (looks_back r jobs (master_calls r carry restarts j)))
+      (calm : IsUndisturbed r carry restarts t j) (stays : fall_of (known_of r) (behind_mdt r jobs carry restarts t.sent j) ≡ None) (m : ℕ)
+      (now : Identifies m (looks_back r jobs (master_calls r carry restarts j)))
       (hears : (k : ℕ) → (k + 1 == m) ≡ true → (behind_ats r jobs carry restarts t.sent j).now.heard k ≡ true) where
     one_is : (behind_mdt r jobs carry restarts t.sent j).now.phase ≡ 1
     one_is = phase_now r jobs carry restarts opened t j run.1 ∙ next_phase_is t j run calm ∙ now.phase_is
@@ -126,33 +115,11 @@ module _ (r : RingView) (jobs : List Job) (carry : Carry) (restarts : Restarts) 
     addressed_so : m < length (known_of r).drives → (behind_mdt r jobs carry restarts t.sent j).now.addressed ≡ Some m
     addressed_so less = to_first ∙ first_unknown (length (known_of r).drives) m (behind_mdt r jobs carry restarts t.sent j) in_one less
 
-    no_fall_1 : m ≤ length (known_of r).drives → fall_of (known_of r) (behind_mdt r jobs carry restarts t.sent j) ≡ None
-    no_fall_1 most = no_fall (known_of r) (behind_mdt r jobs carry restarts t.sent j) (has_risen (known_of r) (tasks_for (known_of r) jobs) (middle r carry restarts t.sent j)) (record {
-      whole = in_one.whole;
-      hears = λ late k below. absurd (omega (arith, late, one_is));
-      identifies = λ one k below to. once k (place_so k (behind_mdt r jobs carry restarts t.sent j).now.addressed to);
-      answers = λ other k below. absurd (other one_is);
-    })
-      where
-        once : (k : ℕ) → (behind_mdt r jobs carry restarts t.sent j).now.addressed ≡ Some k → count_addressed k (behind_mdt r jobs carry restarts t.sent j).turns ≤ 63
-        once k to = by (nat_lt m (length (known_of r).drives)) refl
-          where
-            by : (b : Bool) → nat_lt m (length (known_of r).drives) ≡ b → count_addressed k (behind_mdt r jobs carry restarts t.sent j).turns ≤ 63
-            by true less =
-                let first : (behind_mdt r jobs carry restarts t.sent j).now.addressed ≡ Some m = addressed_so (ltb-true m (length (known_of r).drives) less) in
-                let same : m ≡ k = cc in
-                let none : count_addressed m (behind_mdt r jobs carry restarts t.sent j).turns ≡ 0 = not_twice m (behind_mdt r jobs carry restarts t.sent j).turns in_one.last in
-                subst (λ (i : ℕ). count_addressed i (behind_mdt r jobs carry restarts t.sent j).turns ≤ 63) same (omega (arith, none))
-            by false not_less =
-                let first : (behind_mdt r jobs carry restarts t.sent j).now.addressed ≡ None = to_first ∙ all_known (length (known_of r).drives) m (behind_mdt r jobs carry restarts t.sent j) in_one (equal_of m (length (known_of r).drives) most not_less) in
-                let no : None ≡ Some k = sym first ∙ to in
-                absurd (cc)
-
     one_step : m < length (known_of r).drives → Identifies (suc m) (looks_back r jobs (master_calls r carry restarts (t ∷ j)))
-    one_step less = one_next (known_of r) (behind_mdt r jobs carry restarts t.sent j) m in_one less (addressed_so less) (no_fall_1 (omega (arith, less)))
+    one_step less = one_next (known_of r) (behind_mdt r jobs carry restarts t.sent j) m in_one less (addressed_so less) stays
 
     last_step : m ≡ length (known_of r).drives → (looks_back r jobs (master_calls r carry restarts (t ∷ j))).now.phase ≡ 2
-    last_step all = one_done (known_of r) (behind_mdt r jobs carry restarts t.sent j) m in_one all (no_fall_1 (omega (arith, all)))
+    last_step all = one_done (known_of r) (behind_mdt r jobs carry restarts t.sent j) m in_one all stays
 
   -- A drive that was addressed in the cycle before is heard.
   hears_in : (t : CycleView) (j : List CycleView) → IsRun r jobs carry restarts (t ∷ j) → IsClear (t ∷ j) → IsUndisturbed r carry restarts t j → NewestUndisturbed r carry restarts j → (m : ℕ)
@@ -179,6 +146,11 @@ module _ (r : RingView) (jobs : List Job) (carry : Carry) (restarts : Restarts) 
       first : c.phase ≡ 1
       first = sym (phase_now r jobs carry restarts opened c j run.0.1) ∙ last.0
 
+  -- the ring doesn't fall
+  stays_in : (t : CycleView) (cycles before : List CycleView) → IsRun r jobs carry restarts (t ∷ (cycles ++ before)) → IsClear (t ∷ (cycles ++ before)) → StartsEpoch r jobs carry restarts before
+      → AreUndisturbed r carry restarts (t ∷ cycles) before → fall_of (known_of r) (behind_mdt r jobs carry restarts t.sent (cycles ++ before)) ≡ None
+  stays_in t cycles before run clear starts calm = (never_falls r jobs carry restarts opened (t ∷ cycles) before run clear starts calm).stays.1
+
   -- HOW LONG THE PHASES LAST, from phase 0 of an epoch on: after n cycles, before which w MSTs in a row came back, n + w in a row did, if that
   -- is at most nine ..
   abbrev back_before : List CycleView → ℕ
@@ -192,7 +164,7 @@ module _ (r : RingView) (jobs : List Job) (carry : Carry) (restarts : Restarts) 
   waits_in (t ∷ cycles) before run clear starts calm few =
       let more : suc (length cycles + back_before before) ≡ length (t ∷ cycles) + back_before before = omega arith in
       subst (λ (n : ℕ). Waits n (looks_back r jobs (master_calls r carry restarts (t ∷ (cycles ++ before))))) more
-      (zero_step t (cycles ++ before) run clear calm.1 (length cycles + back_before before) (waits_in cycles before run.0 clear.0 starts calm.0 (omega (arith, few))) (omega (arith, few)))
+      (zero_step t (cycles ++ before) run clear calm.1 (stays_in t cycles before run clear starts calm) (length cycles + back_before before) (waits_in cycles before run.0 clear.0 starts calm.0 (omega (arith, few))) (omega (arith, few)))
 
   newest_calm : (cycles before : List CycleView) → AreUndisturbed r carry restarts cycles before → 1 ≤ length cycles → NewestUndisturbed r carry restarts (cycles ++ before)
   newest_calm [] before calm some = absurd (omega (arith, some))
@@ -202,7 +174,7 @@ module _ (r : RingView) (jobs : List Job) (carry : Carry) (restarts : Restarts) 
   identifies_first : (t : CycleView) (cycles before : List CycleView) → IsRun r jobs carry restarts (t ∷ (cycles ++ before)) → IsClear (t ∷ (cycles ++ before)) → StartsEpoch r jobs carry restarts before
       → AreUndisturbed r carry restarts (t ∷ cycles) before → length cycles + back_before before ≡ 9 → Identifies 0 (looks_back r jobs (master_calls r carry restarts (t ∷ (cycles ++ before))))
   identifies_first t cycles before run clear starts calm nine =
-      tenth_step t (cycles ++ before) run clear calm.1 (length cycles + back_before before) (waits_in cycles before run.0 clear.0 starts calm.0 (omega (arith, nine))) nine
+      tenth_step t (cycles ++ before) run clear calm.1 (stays_in t cycles before run clear starts calm) (length cycles + back_before before) (waits_in cycles before run.0 clear.0 starts calm.0 (omega (arith, nine))) nine
 
   -- .. m cycles later the drives at the places below m - 1 are ..
   pub identifies_in : (m : ℕ) (cycles before : List CycleView) → IsRun r jobs carry restarts (cycles ++ before) → IsClear (cycles ++ before) → StartsEpoch r jobs carry restarts before → AreUndisturbed r carry restarts cycles before
@@ -213,7 +185,7 @@ module _ (r : RingView) (jobs : List Job) (carry : Carry) (restarts : Restarts) 
       let few = few_back r jobs carry restarts before starts in
       let now : Identifies i (looks_back r jobs (master_calls r carry restarts (cycles ++ before))) = identifies_in i cycles before run.0 clear.0 starts calm.0 (omega (arith, most)) (omega (arith, long)) in
       let count = members_count r in
-      one_step t (cycles ++ before) run clear calm.1 i now (hears_in t (cycles ++ before) run clear calm.1 (newest_calm cycles before calm.0 (omega (arith, long, few))) i now (omega (arith, most))) (omega (arith, most, count))
+      one_step t (cycles ++ before) run clear calm.1 (stays_in t cycles before run clear starts calm) i now (hears_in t (cycles ++ before) run clear calm.1 (newest_calm cycles before calm.0 (omega (arith, long, few))) i now (omega (arith, most))) (omega (arith, most, count))
 
   -- .. and in the cycle after the one in which the last drive is identified phase 2 is commanded.
   pub second_in : (cycles before : List CycleView) → IsRun r jobs carry restarts (cycles ++ before) → IsClear (cycles ++ before) → StartsEpoch r jobs carry restarts before → AreUndisturbed r carry restarts cycles before
@@ -223,7 +195,7 @@ module _ (r : RingView) (jobs : List Job) (carry : Carry) (restarts : Restarts) 
       let few = few_back r jobs carry restarts before starts in
       let now : Identifies (length r.drives) (looks_back r jobs (master_calls r carry restarts (cycles ++ before))) = identifies_in (length r.drives) cycles before run.0 clear.0 starts calm.0 (omega arith) (omega (arith, long)) in
       let count = members_count r in
-      last_step t (cycles ++ before) run clear calm.1 (length r.drives) now (hears_in t (cycles ++ before) run clear calm.1 (newest_calm cycles before calm.0 (omega (arith, long, few))) (length r.drives) now (omega arith)) (sym count)
+      last_step t (cycles ++ before) run clear calm.1 (stays_in t cycles before run clear starts calm) (length r.drives) now (hears_in t (cycles ++ before) run clear calm.1 (newest_calm cycles before calm.0 (omega (arith, long, few))) (length r.drives) now (omega arith)) (sym count)
 
   -- So it is told by the number of cycles before it which phase a cycle is commanded.
   pub phases_in : (t : CycleView) (cycles before : List CycleView) → IsRun r jobs carry restarts (t ∷ (cycles ++ before)) → IsClear (t ∷ (cycles ++ before)) → StartsEpoch r jobs carry restarts before

@@ -1,5 +1,5 @@
 -- While phase 0 is commanded, at most nine MSTs in a row came back, no drive is identified, nothing was begun, and there is no stop.
-use Rattle.sercos_law_run.proofs.Words.{◌≡◌, ℕ, zero, suc, ◌+◌, ◌<◌, ◌≤◌, ◌||◌, Bool, true, false, not, ◌&&◌, List, [], ◌∷◌, length, Option, None, refl, sym, ◌∙◌, ap, subst, arith, if◌then◌else◌, ◌==◌, nat_le, is_none, is_some, false≢true, nat_tests, Job, RingView, CycleView, Stop, is_place, last_outcome, of_phase, trouble_by, Known, Task, known_of, member, begun_by, Past, Turn, Restart, first_place, first_trouble, first_trouble_from, trouble, with_stop, with_due_plan, planned_by, all_read, settled, in_turn, is_idle, next_task, with_task, addressed_before, addressed_in, ready_to_send, has_identified, is_identified, whole_row, is_done, is_done_in, next_phase, goes_on, new_epoch, still_waiting, fall_of, after_at, after_mdt, Carry, Restarts, mst_in, ats_in, own_mst, master_calls, looks_back, at_start, behind_ats, behind_mdt, StartsEpoch, came_back, StartsAtFall, StartsAtOpening, StartsAtRestart}
+use Rattle.sercos_law_run.proofs.Words.{◌≡◌, ℕ, zero, suc, ◌+◌, ◌<◌, ◌≤◌, ◌||◌, Bool, true, false, not, ◌&&◌, List, [], ◌∷◌, length, Option, None, refl, sym, ◌∙◌, ap, subst, arith, if◌then◌else◌, ◌==◌, nat_le, is_none, is_some, false≢true, nat_tests, Job, RingView, CycleView, Stop, is_place, last_outcome, of_phase, trouble_by, Known, Task, known_of, member, begun_by, Past, Turn, Restart, first_place, first_trouble, first_trouble_from, trouble, with_stop, with_due_plan, planned_by, all_read, settled, in_turn, is_idle, next_task, with_task, addressed_before, addressed_in, ready_to_send, has_identified, is_identified, whole_row, is_done, is_done_in, next_phase, goes_on, new_epoch, still_waiting, fall_of, after_at, after_mdt, Carry, Restarts, mst_in, ats_in, own_mst, master_calls, looks_back, at_start, behind_ats, behind_mdt, StartsEpoch, came_back, StartsAtFall, StartsAtOpening, StartsAtRestart, inl, inr, cases_Bool}
 use Rattle.sercos_master.specs.Annals.{begins}
 use Rattle.sercos_law_run.specs.Journal.Runs.{begins as begins_cycle}
 use Rattle.sercos_law_run.proofs.Views.MasterSame.{turn_mdt}
@@ -151,7 +151,10 @@ module _ (r : RingView) (jobs : List Job) (carry : Carry) (restarts : Restarts) 
   one_at_most false = omega arith
 
   pub starts_anew : (t : CycleView) (j : List CycleView) → restarts (length j) 0 ≡ true → StartsEpoch r jobs carry restarts (t ∷ j) × (came_back r jobs carry restarts (t ∷ j) ≤ 1)
-  starts_anew t j on = by (is_some (fall_of (known_of r) (now_in t j)))
+  starts_anew t j on = elim (cases_Bool (is_some (fall_of (known_of r) (now_in t j)))) [
+    | inl on ↦ rw on ((refl, omega arith))
+    | inr off ↦ rw off ((ap (λ (done : Bool). if done then (now_in t j).now.phase + 1 else (now_in t j).now.phase) not_done ∙ phase, one))
+  ]
     where
       new : ((at_start r jobs carry restarts j).now.phase ≡ 0) × ((at_start r jobs carry restarts j).turns ≡ [])
       new = begins_new t j on
@@ -167,11 +170,6 @@ module _ (r : RingView) (jobs : List Job) (carry : Carry) (restarts : Restarts) 
 
       not_done : is_done (known_of r) (now_in t j) ≡ false
       not_done = ap (λ (n : ℕ). is_done_in n (known_of r) (now_in t j)) phase ∙ low (whole_row ((now_in t j).now ∷ (now_in t j).turns)) one
-
-      by : (falls : Bool) → ((if falls then new_epoch ((now_in t j).cycle + 1) (still_waiting (now_in t j)) else goes_on (next_phase (known_of r) (now_in t j)) (now_in t j)).now.phase ≡ 0)
-          × (whole_row (if falls then new_epoch ((now_in t j).cycle + 1) (still_waiting (now_in t j)) else goes_on (next_phase (known_of r) (now_in t j)) (now_in t j)).turns ≤ 1)
-      by true = (refl, omega arith)
-      by false = (ap (λ (done : Bool). if done then (now_in t j).now.phase + 1 else (now_in t j).now.phase) not_done ∙ phase, one)
 
   pub starts_fallen : (t : CycleView) (j : List CycleView) → is_some (fall_of (known_of r) (now_in t j)) ≡ true → StartsEpoch r jobs carry restarts (t ∷ j) × (came_back r jobs carry restarts (t ∷ j) ≡ 0)
   starts_fallen t j falls = by (is_some (fall_of (known_of r) (now_in t j))) falls

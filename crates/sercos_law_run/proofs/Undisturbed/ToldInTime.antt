@@ -1,5 +1,5 @@
 -- Each request that ends is told in the record of its cycle. So in an undisturbed epoch the requests to a drive are reported in time.
-use Rattle.sercos_law_run.proofs.Words.{◌≡◌, inl, inr, ℕ, zero, suc, ◌+◌, ◌*◌, ◌<◌, ◌≤◌, Bool, true, false, if◌then◌else◌, List, [], ◌∷◌, ◌++◌, drop, length, Option, Some, None, refl, sym, ap, ◌∙◌, subst, arith, length-append, append_assoc, is_none, is_some, option_map, slice_get, slice_index, cases_lt, false≢true, slice_get_within, Job, Outcome, next_step, outcome_of, has_next, PlanView, startup_bound, RingView, Begun, open_in, begun_by, CycleView, reads_count, is_ready, Report, broken_number, count_requests, number_in, outcomes_in, with_outcome, Known, Task, known_of, member, tasks_for, get_left, get_map, ready_long, Past, Call, Restart, outcomes, is_idle, fall_of, goes_on, next_phase, new_epoch, still_waiting, broken, Carry, Restarts, heard, passage, mst_in, ats_in, drive_at, station_of, with_at, at_calls, own_mst, begins, master_calls, looks_back, middle, IsRun, IsClear, Channel, channel_at, HasOutcome, HasReport, AreNumbered, told, told_at_end, with_number, after_told, still_to_tell, task_numbers, IsTask, OfReads, OfWrites, Checks3, Lists3, Checks4, Lists4, OfWaiting, AreBegunTasks, behind_mdt, IsOpened, StartsEpoch, HaveTold, left_after, request_cycles, waiting_after, AreUndisturbed, recovers_in_time, times_suc}
+use Rattle.sercos_law_run.proofs.Words.{◌≡◌, inl, inr, ℕ, zero, suc, ◌+◌, ◌*◌, ◌<◌, ◌≤◌, Bool, true, false, if◌then◌else◌, List, [], ◌∷◌, ◌++◌, drop, length, Option, Some, None, refl, sym, ap, ◌∙◌, subst, arith, length-append, append_assoc, is_none, is_some, option_map, slice_get, slice_index, cases_lt, false≢true, slice_get_within, Job, Outcome, next_step, outcome_of, PlanView, startup_bound, RingView, Begun, open_in, begun_by, CycleView, reads_count, is_ready, Report, broken_number, count_requests, number_in, outcomes_in, with_outcome, Known, Task, known_of, member, tasks_for, get_left, get_map, ready_long, Past, Call, Restart, outcomes, is_idle, fall_of, goes_on, next_phase, new_epoch, still_waiting, broken, Carry, Restarts, heard, passage, mst_in, ats_in, drive_at, station_of, with_at, at_calls, own_mst, begins, master_calls, looks_back, middle, IsRun, IsClear, Channel, channel_at, HasOutcome, HasReport, AreNumbered, told, told_at_end, with_number, after_told, still_to_tell, task_numbers, IsTask, OfReads, OfWrites, Checks3, Lists3, Checks4, Lists4, OfWaiting, AreBegunTasks, behind_mdt, IsOpened, StartsEpoch, HaveTold, left_after, request_cycles, waiting_after, AreUndisturbed, recovers_in_time, times_suc, cases_Bool}
 use Rattle.sercos_telegram.specs.declared.layout.Kind.TheVariants as kinds
 use Rattle.sercos_law_run.proofs.Agenda.TaskRuns.{all_ended}
 use Rattle.sercos_law_run.proofs.Headline.HeadlineRuns.{keeps_all}
@@ -166,12 +166,10 @@ module _ (r : RingView) (jobs : List Job) (carry : Carry) (restarts : Restarts) 
   -- in phase 0 of an epoch all that wait are left
   none_reported : (before : List CycleView) → (looks_back r jobs (master_calls r carry restarts before)).now.report k ≡ None
   none_reported [] = refl
-  none_reported (t ∷ j) = by (is_some (fall_of (known_of r) (behind_mdt r jobs carry restarts t.sent j)))
-    where
-      by : (b : Bool) → (if b then new_epoch ((behind_mdt r jobs carry restarts t.sent j).cycle + 1) (still_waiting (behind_mdt r jobs carry restarts t.sent j))
-          else goes_on (next_phase (known_of r) (behind_mdt r jobs carry restarts t.sent j)) (behind_mdt r jobs carry restarts t.sent j)).now.report k ≡ None
-      by true = refl
-      by false = refl
+  none_reported (t ∷ j) = elim (cases_Bool (is_some (fall_of (known_of r) (behind_mdt r jobs carry restarts t.sent j)))) [
+    | inl on ↦ rw on
+    | inr off ↦ rw off
+  ]
 
   pub left_first : (before : List CycleView) → StartsEpoch r jobs carry restarts before → left before ≡ task_numbers (waiting_after r jobs carry restarts before k)
   left_first before starts =
@@ -260,7 +258,7 @@ module _ (r : RingView) (jobs : List Job) (carry : Carry) (restarts : Restarts) 
         by : (idle : Bool) → is_idle (behind_mdt r jobs carry restarts t.sent j) k ≡ idle
             → length (with_number (if idle then None else broken_number (number_in (now.tasks k))) (task_numbers (drop (count_requests (now.tasks k)) (now.waiting k)))) + n ≤ length (now.waiting k)
         by true is =
-            let same = all_ended (known_of r) k has_next now.plan (now.waiting k) now.now.phase (begun_by (now.calls k)) (now.tasks k) begun_tasks is in
+            let same = all_ended (known_of r) k now.plan (now.waiting k) now.now.phase (begun_by (now.calls k)) (now.tasks k) begun_tasks is in
             let count = counted r jobs carry restarts opened k below t j run clear on four in
             let rest = dropped (now.waiting k) n (count_requests (now.tasks k)) (omega (arith, same, count, ended)) low in
             let long = numbers_long (drop (count_requests (now.tasks k)) (now.waiting k)) in
@@ -294,7 +292,7 @@ module _ (r : RingView) (jobs : List Job) (carry : Carry) (restarts : Restarts) 
             → length (now.waiting k) + (reads_count (member (known_of r) k) + 13)
             ≤ length (with_number (if idle then None else broken_number (number_in (now.tasks k))) (task_numbers (drop (count_requests (now.tasks k)) (now.waiting k)))) + length (outcomes now k)
         by true is =
-            let same = all_ended (known_of r) k has_next now.plan (now.waiting k) now.now.phase (begun_by (now.calls k)) (now.tasks k) begun_tasks is in
+            let same = all_ended (known_of r) k now.plan (now.waiting k) now.now.phase (begun_by (now.calls k)) (now.tasks k) begun_tasks is in
             let count = counted r jobs carry restarts opened k below t j run clear on four in
             let rest = kept_most (count_requests (now.tasks k)) (now.waiting k) in
             let long = numbers_long (drop (count_requests (now.tasks k)) (now.waiting k)) in

@@ -5,6 +5,7 @@ use Rattle.sercos_service_master.specs.Calls as channel
 use Rattle.sercos_law_run.proofs.Views.MasterSame.{HasHeard, Nothing, One, AfterAts, ats_next}
 use Rattle.sercos_law_run.proofs.Views.Members.{AreHeardAs, place_is}
 use Rattle.sercos_law_run.proofs.Views.Codecs.{at_clear}
+use Rattle.sercos_law_run.proofs.Journal.StationLemmas.{says_that}
 
 -- all ATs of a cycle
 pub ats_heard : (r : RingView) (jobs : List Job) (carry : Carry) (cycle k : ℕ) (such : List ℕ → Type 0) (p : Past) (ats : List (List ℕ)) (h : List Call)
@@ -37,18 +38,11 @@ sends_so false took phase sent = cc
 
 spoken : (d : DriveView) (rate : ℕ) (past : List Moment) (s : Said) → said_in d rate past ≡ Some s → (channel_says d.busy (cycle_in past) (commands_in d rate past) (records_in past)).word < 65536
     → Speaks d rate past s.content × (slice_index s.content 0 ≡ d.address)
-spoken d rate past s says small = by (sends past) refl says
-  where
-    what : Said
-    what = said d.address (cycle_in past) (phase_in past) (blocks_in d past) (channel_says d.busy (cycle_in past) (commands_in d rate past) (records_in past))
-
-    by : (b : Bool) → sends past ≡ b → (if b then Some what else None) ≡ Some s → Speaks d rate past s.content × (slice_index s.content 0 ≡ d.address)
-    by true sent is =
-        let same : what ≡ s = ap (λ (o : Option Said). unwrap_or o what) is in
-        let (got, stands) = sends_so (has_mst past) (has_taken past) (phase_in past) sent in
-        subst (λ x. Speaks d rate past x.content × (slice_index x.content 0 ≡ d.address)) same
-        (record { got = got; stands = stands; shows = at_clear _ d.address (values_in (cycle_in past) (phase_in past) (blocks_in d past)) small }, refl)
-    by false sent is = cc
+spoken d rate past s says small =
+    let (sent, same) = says_that d rate past s says in
+    let (got, stands) = sends_so (has_mst past) (has_taken past) (phase_in past) sent in
+    subst (λ x. Speaks d rate past x.content × (slice_index x.content 0 ≡ d.address)) same
+    (record { got = got; stands = stands; shows = at_clear _ d.address (values_in (cycle_in past) (phase_in past) (blocks_in d past)) small }, refl)
 
 pub speaks : (r : RingView) (k : ℕ) (h : ℕ → List DriveCall) (content : List ℕ) → is_ring r ≡ true
     → ((i : ℕ) → i < length r.drives → let past : List Moment = annals (drive_at r i) r.rate (h i) in (channel_says (drive_at r i).busy (cycle_in past) (commands_in (drive_at r i) r.rate past) (records_in past)).word < 65536)

@@ -1,5 +1,5 @@
 -- What a drive keeps of its calls is what the views of its cycles give.
-use Rattle.sercos_law_run.proofs.Words.{◌≡◌, ℕ, ◌+◌, Bool, true, false, ◌&&◌, ◌||◌, List, [], ◌∷◌, Option, Some, None, refl, sym, ◌∙◌, ap, ap₂, if◌then◌else◌, ◌==◌, nat_le, is_some, option_map, Block, DriveView, store_of, Processed, Write, with_added, added_on, blocks_with, said_by, Told, DriveCall, mst_got, Moment, AtMst, phase_in, cycle_in, has_mst, has_missed, records_in, writes_in, blocks_in, blocks_after, write_in, commands_in, annals, may_rise, stands_in, takes, ends_in, mdt_moment, View, Standing, afresh, moved, stood_from, got_in, takes_in, standing_after, record_in, processed_of, with_record, kept_in_phase, kept_unless, write_of, with_restart, or_self_left}
+use Rattle.sercos_law_run.proofs.Words.{◌≡◌, ℕ, ◌+◌, Bool, true, false, ◌&&◌, ◌||◌, List, [], ◌∷◌, Option, Some, None, refl, sym, ◌∙◌, ap, ap₂, if◌then◌else◌, ◌==◌, nat_le, is_some, option_map, Block, DriveView, store_of, Processed, Write, with_added, added_on, blocks_with, said_by, Told, DriveCall, mst_got, Moment, AtMst, phase_in, cycle_in, has_mst, has_missed, records_in, writes_in, blocks_in, blocks_after, write_in, commands_in, annals, may_rise, stands_in, takes, ends_in, mdt_moment, View, Standing, afresh, moved, stood_from, got_in, takes_in, standing_after, record_in, processed_of, with_record, kept_in_phase, kept_unless, write_of, with_restart, or_self_left, cases_Bool, inl, inr}
 use Rattle.sercos_service_master.specs.Begun.{Said}
 use Rattle.sercos_drive.specs.Moments.{with_record as with_record_in}
 use Rattle.sercos_drive.specs.Annals.{processed_in}
@@ -75,11 +75,10 @@ some_map f (Some x) = refl
 blocks_same : (v : View) (cycle stood : ℕ) (o : Option Said) (h : List Processed) (b : List Block) → v.blocks ≡ b
     → blocks_after (processed_of v cycle stood o) h b ≡ blocks_with (write_of (processed_of v cycle stood o) h) v.commands b
 blocks_same v cycle stood None h b same = refl
-blocks_same v cycle stood (Some s) h b same = by (v.mst_comes && nat_le 2 stood)
-  where
-    by : (is : Bool) → blocks_after (if is then Some (record_in v cycle stood s) else None) h b ≡ blocks_with (write_of (if is then Some (record_in v cycle stood s) else None) h) v.commands b
-    by true = ap (λ (l : List Block). blocks_with (added_on (record_in v cycle stood s) h) v.commands l) same
-    by false = refl
+blocks_same v cycle stood (Some s) h b same = elim (cases_Bool (v.mst_comes && nat_le 2 stood)) [
+  | inl on ↦ rw on (ap (λ (l : List Block). blocks_with (added_on (record_in v cycle stood s) h) v.commands l) same)
+  | inr off ↦ rw off
+]
 
 writes_same : (o : Option Processed) (h : List Processed) → write_in o h ≡ write_of o h
 writes_same None h = refl

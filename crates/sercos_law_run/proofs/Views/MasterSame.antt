@@ -1,5 +1,5 @@
 -- What the master keeps of a channel is what the views of its cycles give.
-use Rattle.sercos_law_run.proofs.Words.{◌≡◌, inl, inr, ℕ, ◌+◌, ◌<◌, ◌≤◌, Bool, true, false, not, ◌&&◌, List, [], ◌∷◌, Option, Some, None, refl, sym, ◌∙◌, ap, ap₂, subst, arith, if◌then◌else◌, ◌==◌, is_some, is_none, IsSome, IfSome, slice_index, and_parts, cases_eq, false≢true, leb-true, not-true, nat_tests, status_of, word_at, Request, Begun, open_in, master_says, Hear, Send, begun_by, Report, Known, Task, Past, place_of, is_taken, after_taken, after_at_of, after_at, with_begin, settled, is_sent_to, addressed_in, ready_to_send, after_mdt, fall_of, is_done, is_done_in, next_phase, goes_on, new_epoch, still_waiting, after_end, after_restart, is_awaited, leaves, begins_next, none_of, same_place, Heard, View, command, command_in, with_heard, with_begun, unless_restart, epoch_begun, begun_in, IsShown, heard_last, told_to, is_told, request_of}
+use Rattle.sercos_law_run.proofs.Words.{◌≡◌, inl, inr, ℕ, ◌+◌, ◌<◌, ◌≤◌, Bool, true, false, not, ◌&&◌, List, [], ◌∷◌, Option, Some, None, refl, sym, ◌∙◌, ap, ap₂, subst, arith, if◌then◌else◌, ◌==◌, is_some, is_none, IsSome, IfSome, slice_index, and_parts, cases_eq, false≢true, leb-true, not-true, nat_tests, status_of, word_at, Request, Begun, open_in, master_says, Hear, Send, begun_by, Report, Known, Task, Past, place_of, is_taken, after_taken, after_at_of, after_at, with_begin, settled, is_sent_to, addressed_in, ready_to_send, after_mdt, fall_of, is_done, is_done_in, next_phase, goes_on, new_epoch, still_waiting, after_end, after_restart, is_awaited, leaves, begins_next, none_of, same_place, Heard, View, command, command_in, with_heard, with_begun, unless_restart, epoch_begun, begun_in, IsShown, heard_last, told_to, is_told, request_of, at_keeps, cases_Bool}
 use Rattle.sercos_service_master.specs.Begun.{Said}
 use Rattle.sercos_service_master.specs.Calls as channel
 use Rattle.sercos_master.specs.Annals.{with_at, begins}
@@ -49,7 +49,8 @@ not_taken true b false is taken = false≢true is
 not_taken false b heard is taken = false≢true taken
 
 pub ats_next : (s : Known) (k : ℕ) (such : List ℕ → Type 0) (p q : Past) (content : List ℕ) → such content → AfterAts s k such p q → AfterAts s k such p (after_at s content q)
-ats_next s k such p q content is a = place (place_of s (slice_index content 0)) refl
+ats_next s k such p q content is a = at_keeps (λ x. AfterAts s k such p x) s (place_of s (slice_index content 0)) content q a
+    (λ i found taken. record { has = by i found taken; phase_is = a.phase_is; whole_is = a.whole_is; turns_are = a.turns_are })
   where
     here : place_of s (slice_index content 0) ≡ Some k → is_taken s q k content ≡ true → HasHeard s k such (p.calls k) q → (identifies : Bool)
         → HasHeard s k such (p.calls k) (record q {
@@ -69,30 +70,22 @@ ats_next s k such p q content is a = place (place_of s (slice_index content 0)) 
     elsewhere i other calls report (Nothing same) = Nothing (rw other same)
     elsewhere i other calls report (One content such_is there said heard) = One content such_is there (rw other said) (rw other heard)
 
-    taken : (i : ℕ) → place_of s (slice_index content 0) ≡ Some i → (t : Bool) → is_taken s q i content ≡ t → AfterAts s k such p (if t then after_taken i content q else q)
-    taken i found false e = a
-    taken i found true e = record { has = by; phase_is = a.phase_is; whole_is = a.whole_is; turns_are = a.turns_are }
-      where
-        by : HasHeard s k such (p.calls k) (after_taken i content q)
-        by = elim (cases_eq k i) [
-          | inl same ↦ subst (λ n. HasHeard s k such (p.calls k) (after_taken n content q)) same
-              (here (found ∙ ap (λ (n : ℕ). Some n) (sym same)) (ap (λ (n : ℕ). is_taken s q n content) same ∙ e) a.has (q.now.phase == 1))
-          | inr other ↦ elsewhere i (grind (arith, nat_tests, other)) (master.hearing (q.now.phase == 1) i content q).calls
-              (master.hearing (q.now.phase == 1) i content q).report a.has
-        ]
-
-    place : (o : Option ℕ) → place_of s (slice_index content 0) ≡ o → AfterAts s k such p (after_at_of s o content q)
-    place None found = a
-    place (Some i) found = taken i found (is_taken s q i content) refl
+    by : (i : ℕ) → place_of s (slice_index content 0) ≡ Some i → is_taken s q i content ≡ true
+        → HasHeard s k such (p.calls k) (after_taken i content q)
+    by i found taken = elim (cases_eq k i) [
+      | inl same ↦ subst (λ n. HasHeard s k such (p.calls k) (after_taken n content q)) same
+          (here (found ∙ ap (λ (n : ℕ). Some n) (sym same)) (ap (λ (n : ℕ). is_taken s q n content) same ∙ taken) a.has (q.now.phase == 1))
+      | inr other ↦ elsewhere i (grind (arith, nat_tests, other)) (master.hearing (q.now.phase == 1) i content q).calls
+          (master.hearing (q.now.phase == 1) i content q).report a.has
+    ]
 
 -- what the channel has begun after the ATs
 pub heard_so : (s : Known) (k : ℕ) (such : List ℕ → Type 0) (p q : Past) → AfterAts s k such p q → heard_last (p.calls k) ≡ None
     → begun_by (q.calls k) ≡ with_heard (heard_last (q.calls k)) (begun_by (p.calls k))
-heard_so s k such p q a quiet = by a.has
-  where
-    by : HasHeard s k such (p.calls k) q → begun_by (q.calls k) ≡ with_heard (heard_last (q.calls k)) (begun_by (p.calls k))
-    by (Nothing same) = ap begun_by same ∙ sym (ap (λ (o : Option Heard). with_heard o (begun_by (p.calls k))) (ap heard_last same ∙ quiet))
-    by (One content is there same heard) = rw same refl
+heard_so s k such p q a quiet = elim a.has [
+  | Nothing same ↦ ap begun_by same ∙ sym (ap (λ (o : Option Heard). with_heard o (begun_by (p.calls k))) (ap heard_last same ∙ quiet))
+  | One content is there same heard ↦ rw same refl
+]
 
 -- THE MDT. Looking at the answers leaves the turn and the cycles before it, but for the plan and the stop.
 pub record SameTurn (q p : Past) : Type 0 where
@@ -103,16 +96,17 @@ pub record SameTurn (q p : Past) : Type 0 where
 pub turn_mdt : (s : Known) (p : Past) → SameTurn (after_mdt s p) p
 turn_mdt s p = let l = leaves s p in record { phase_is = l.phase; whole_is = l.whole; turns_are = l.turns }
 
+-- sending changes nothing of what a channel has begun
+pub send_same : (on : Bool) (calls : List channel.Call) → begun_by (if on then Send ∷ calls else calls) ≡ begun_by calls
+send_same true calls = refl
+send_same false calls = refl
+
 pub begun_so : (s : Known) (p : Past) (k : ℕ) → begun_by ((after_mdt s p).calls k) ≡ with_begun (request_of (begins s (settled s p) k)) (begun_by (p.calls k))
 begun_so s p k =
-    sent (is_sent_to (ready_to_send s p) (addressed_in s (ready_to_send s p)) k) ((ready_to_send s p).calls k)
+    send_same (is_sent_to (ready_to_send s p) (addressed_in s (ready_to_send s p)) k) ((ready_to_send s p).calls k)
     ∙ begin (begins s (settled s p) k) ((settled s p).calls k)
     ∙ ap (λ (c : ℕ → List channel.Call). with_begun (request_of (begins s (settled s p) k)) (begun_by (c k))) (leaves s p).calls
   where
-    sent : (b : Bool) (calls : List channel.Call) → begun_by (if b then Send ∷ calls else calls) ≡ begun_by calls
-    sent true calls = refl
-    sent false calls = refl
-
     begin : (o : Option Task) (calls : List channel.Call) → begun_by (with_begin o calls) ≡ with_begun (request_of o) (begun_by calls)
     begin None calls = refl
     begin (Some t) calls = refl
@@ -177,11 +171,7 @@ abbrev pub row_from : View → ℕ → ℕ
 row_from v row = if v.whole && ((v.phase == 0) && not v.falls) then row + 1 else 0
 
 row_next : (v : View) (p : Past) (row : ℕ) → p.now.whole ≡ v.whole → v.phase ≡ 0 → v.falls ≡ false → master.whole_row p.turns ≡ row → master.whole_row (p.now ∷ p.turns) ≡ row_from v row
-row_next v p row whole zero stands turns = rw (whole, zero, stands, turns) (by v.whole)
-  where
-    by : (b : Bool) → (if b then row + 1 else 0) ≡ (if b && true then row + 1 else 0)
-    by true = refl
-    by false = refl
+row_next v p row whole zero stands turns = rw (whole, zero, stands, turns) (elim (cases_Bool v.whole) [ inl on ↦ rw on | inr off ↦ rw off ])
 
 pub done_below : (n : ℕ) (s : Known) (p : Past) → is_done_in n s p ≡ true → n < 4
 done_below n s p done = grind (arith, nat_tests, done)
@@ -201,7 +191,8 @@ next_led s k such busy v past p1 p2 p3 p4 same led shown rests =
       late = λ some. subst (λ n. 2 ≤ n) b.phase_behind (may some).late;
       begins = λ some. ap open_in (sym b.heard_are) ∙ (may some).idle;
       sent = told v.sent led.sent b.begun_are;
-      ten = λ up zero. subst (λ n. 10 ≤ n) (row_next v p4 _ b.whole_is zero (stands up) (ap master.whole_row b.turns_are ∙ same.row_is (sym led.phase ∙ zero))) (closed p4.now.phase s p4 (b.phase_is ∙ zero) (done up));
+      ten = λ up zero. subst (λ n. 10 ≤ n) (row_next v p4 _ b.whole_is zero (led.falls ∙ not-true _ (both up).0)
+          (ap master.whole_row b.turns_are ∙ same.row_is (sym led.phase ∙ zero))) (closed p4.now.phase s p4 (b.phase_is ∙ zero) (done up));
       rests = λ up. ap open_in (sym b.begun_are) ∙ rests (done up);
       top = λ up. subst (λ n. n < 4) b.phase_is (done_below p4.now.phase s p4 (done up));
     }
@@ -214,9 +205,6 @@ next_led s k such busy v past p1 p2 p3 p4 same led shown rests =
 
     done : v.rises ≡ true → is_done s p4 ≡ true
     done up = (both up).1
-
-    stands : v.rises ≡ true → v.falls ≡ false
-    stands up = led.falls ∙ not-true _ (both up).0
 
     told : (o : Option Said) → o ≡ told_to p4 k → begun_by (p4.calls k) ≡ begun_in v past → IfSome o (λ x. x ≡ master_says (begun_in v past))
     told o is all = by (is_told p4 k) o is

@@ -6,6 +6,7 @@ use Rattle.sercos_law_run.specs.Journal.Runs.{inserted}
 use Rattle.sercos_law_run.proofs.Journal.ClearLemmas.{heard-clear}
 use Rattle.sercos_law_run.proofs.Journal.StationLemmas.{station_found, drives_so}
 use Rattle.sercos_law_run.specs.Views.Spelled.{IsWhole}
+use Rattle.sercos_law_run.proofs.Headline.Placed.{Placed, ArePlaced, are_placed, placed_below, placed_said}
 
 -- the master knows each drive by its place
 index_map : (drives : List DriveView) (k : ℕ) → slice_index_or (map member_of drives) k no_member ≡ member_of (slice_index_or drives k no_drive)
@@ -47,26 +48,15 @@ abbrev pub AreSaid : ℕ → (ℕ → DriveView) → ℕ → (ℕ → List Drive
 AreSaid n d rate h [] = Unit {0}
 AreSaid n d rate h (s ∷ others) = IsSaid n d rate h s.content × AreSaid n d rate h others
 
-said_more : (n : ℕ) (d : ℕ → DriveView) (rate : ℕ) (h : ℕ → List DriveCall) (others : List Said) → AreSaid n d rate h others → AreSaid (suc n) d rate h others
-said_more n d rate h [] all = tt
-said_more n d rate h (s ∷ others) (one, all) =
-    let low = one.inside in (record { place = one.place; says = one.says; inside = omega (arith, low); said = one.said; content_is = one.content_is }, said_more n d rate h others all)
-
-said_inserted : (n : ℕ) (d : ℕ → DriveView) (rate : ℕ) (h : ℕ → List DriveCall) (s : Said) (others : List Said) → IsSaid n d rate h s.content → AreSaid n d rate h others → AreSaid n d rate h (inserted s others)
-said_inserted n d rate h s [] one all = (one, tt)
-said_inserted n d rate h s (x ∷ others) one (first, all) = by (nat_lt s.start x.start) (said_inserted n d rate h s others one all)
-  where
-    by : (b : Bool) → AreSaid n d rate h (inserted s others) → AreSaid n d rate h (if b then s ∷ x ∷ others else x ∷ inserted s others)
-    by true next = (one, (first, all))
-    by false next = (first, next)
+all_placed : (n : ℕ) (d : ℕ → DriveView) (rate : ℕ) (h : ℕ → List DriveCall) (others : List Placed) → ArePlaced n d rate h others
+    → AreSaid n d rate h (map (λ (x : Placed). x.says) others)
+all_placed n d rate h [] are = tt
+all_placed n d rate h (x ∷ others) (one, are) =
+    (record { place = x.place; says = x.says; inside = one.0; said = one.1; content_is = refl }, all_placed n d rate h others are)
 
 pub all_said : (n : ℕ) (d : ℕ → DriveView) (rate : ℕ) (h : ℕ → List DriveCall) → AreSaid n d rate h (said_below n d rate h)
-all_said zero d rate h = tt
-all_said (suc n) d rate h = by (drive_says (d n) rate (h n)) refl (said_more n d rate h (said_below n d rate h) (all_said n d rate h))
-  where
-    by : (o : Option Said) → drive_says (d n) rate (h n) ≡ o → AreSaid (suc n) d rate h (said_below n d rate h) → AreSaid (suc n) d rate h (with_said o (said_below n d rate h))
-    by None e before = before
-    by (Some s) e before = said_inserted (suc n) d rate h s (said_below n d rate h) (record { place = n; says = s; inside = omega arith; said = e; content_is = refl }) before
+all_said n d rate h = subst (AreSaid n d rate h) (placed_said n d rate h)
+    (all_placed n d rate h (placed_below n d rate h) (are_placed n d rate h))
 
 -- WHAT IS HEARD of a content in a passage where nothing is unseen
 abbrev one_if : Bool → ℕ

@@ -1,5 +1,5 @@
 -- What a drive gets of the MDT is what the master tells it, or nothing.
-use Rattle.sercos_law_run.proofs.Words.{◌≡◌, inl, inr, ℕ, zero, suc, ◌+◌, ◌<◌, ◌≤◌, Bool, true, false, not, ◌&&◌, List, [], ◌∷◌, ◌++◌, length, Option, Some, None, refl, sym, ◌∙◌, ap, subst, arith, if◌then◌else◌, append_assoc, ◌==◌, nat_le, nat_lt, slice_index, slice_index_or, is_some, is_none, option_map, then_some, option_or, cases_eq, and_parts, nat_tests, all_drives, joint_fault, Block, DriveView, RingView, is_address, is_ring, number_at, carried_len, master_says, begun_by, PlanView, Told, mdt_got, lies_within, mdt_attributes, record_said, values_said, Known, MemberView, member, known_of, Past, outcomes, Sent, said_to, record_to, records_from, idle, single, joint, mdt_said, no_drive, drive_at, told_to, IsSayable, head_fault, is_drive, are_drives, are_drive_numbers, single_in}
+use Rattle.sercos_law_run.proofs.Words.{◌≡◌, inl, inr, ℕ, zero, suc, ◌+◌, ◌<◌, ◌≤◌, Bool, true, false, not, ◌&&◌, List, [], ◌∷◌, ◌++◌, length, Option, Some, None, refl, sym, ◌∙◌, ap, subst, arith, if◌then◌else◌, append_assoc, ◌==◌, nat_le, nat_lt, slice_index, slice_index_or, is_some, is_none, option_map, then_some, option_or, cases_eq, and_parts, nat_tests, all_drives, joint_fault, Block, DriveView, RingView, is_address, is_ring, number_at, carried_len, master_says, begun_by, PlanView, Told, mdt_got, lies_within, mdt_attributes, record_said, values_said, Known, MemberView, member, known_of, Past, outcomes, Sent, said_to, record_to, records_from, idle, single, joint, mdt_said, no_drive, drive_at, told_to, IsSayable, head_fault, is_drive, are_drives, are_drive_numbers, single_in, IsRing-is_ring, get_or_past, cases_Bool}
 use Rattle.std.proofs.lemmas.Bool.{and_right}
 use Rattle.sercos_service_master.specs.Begun.{Said}
 use Rattle.sercos_drive.specs.Heard.{joint_in}
@@ -9,22 +9,8 @@ use Rattle.sercos_law_run.proofs.Views.DriveSame.{said_to as said_by_told}
 use Rattle.sercos_law_run.proofs.Views.Members.{member_is, members_count, same_drive}
 
 -- the address of a drive isn't one of the master's
-address_in : (before drives : List DriveView) (k : ℕ) → are_drives before drives ≡ true → k < length drives → is_address (slice_index_or drives k no_drive).address ≡ true
-unfolding are_drives is_drive are_drive_numbers
-address_in before [] k are below = absurd (omega arith)
-address_in before (d ∷ drives) zero are below = (and_parts _ _ (and_parts _ _ (and_parts _ _ (and_parts _ _ are).0).1).0).0
-address_in before (d ∷ drives) (suc k) are below = address_in (before ++ d ∷ []) drives k (and_parts _ _ are).1 (omega arith)
-
 pub address_of : (r : RingView) (k : ℕ) → is_ring r ≡ true → k < length r.drives → (1 ≤ (drive_at r k).address) × ((drive_at r k).address ≤ 254)
-address_of r k valid below =
-    let both : (nat_le 1 (drive_at r k).address && nat_le (drive_at r k).address 254) ≡ true = address_in [] r.drives k (drives_so r valid) below in
-    let (low, high) = and_parts (nat_le 1 (drive_at r k).address) (nat_le (drive_at r k).address 254) both in
-    (grind (arith, nat_tests, low), grind (arith, nat_tests, high))
-
-beyond : (drives : List DriveView) (i : ℕ) → length drives ≤ i → slice_index_or drives i no_drive ≡ no_drive
-beyond [] i past = refl
-beyond (d ∷ drives) zero past = absurd (omega (arith, past))
-beyond (d ∷ drives) (suc i) past = beyond drives i (omega (arith, past))
+address_of r k valid below = (IsRing-is_ring r valid).addresses k no_drive below
 
 -- a content with another address has a fault
 fault_later : {A : Type 0} (b : Bool) (x y : A) → is_none (option_or (then_some b x) (Some y)) ≡ false
@@ -74,21 +60,22 @@ single_got r k i said phase blocks valid below low small = elim (cases_eq k i) [
 
     -- the address of a place that isn't this one
     foreign : (k ≡ i → ⊥) → ((member (known_of r) i).address ≡ (drive_at r k).address → ⊥)
-    foreign other same = inside (nat_lt i (length r.drives)) refl
-      where
-        inside : (b : Bool) → nat_lt i (length r.drives) ≡ b → ⊥
-        inside true is = other (sym (same_drive r i k valid (grind (arith, nat_tests, is)) below (ap (λ (m : MemberView). m.address) (sym (member_is r i)) ∙ same)))
-        inside false is =
-            let none : (member (known_of r) i).address ≡ 0 = ap (λ (m : MemberView). m.address) (member_is r i) ∙ ap (λ (d : DriveView). d.address) (beyond r.drives i (grind (arith, nat_tests, is))) in
-            let low = bounds.0 in
-            absurd (omega (arith, none, same, low))
+    foreign other same = elim (cases_Bool (nat_lt i (length r.drives))) [
+      | inl is ↦ other (sym (same_drive r i k valid (grind (arith, nat_tests, is)) below (ap (λ (m : MemberView). m.address) (sym (member_is r i)) ∙ same)))
+      | inr is ↦
+          let none : (member (known_of r) i).address ≡ 0 = ap (λ (m : MemberView). m.address) (member_is r i)
+          ∙ ap (λ (d : DriveView). d.address) (get_or_past r.drives i no_drive (grind (arith, nat_tests, is))) in
+          let low = bounds.0 in
+          absurd (omega (arith, none, same, low))
+    ]
 
     high_of : (member (known_of r) i).address ≤ 254
     high_of = by (nat_lt i (length r.drives)) refl
       where
         by : (b : Bool) → nat_lt i (length r.drives) ≡ b → (member (known_of r) i).address ≤ 254
         by true is = subst (λ a. a ≤ 254) (ap (λ (m : MemberView). m.address) (sym (member_is r i))) (address_of r i valid (grind (arith, nat_tests, is))).1
-        by false is = let none : (member (known_of r) i).address ≡ 0 = ap (λ (m : MemberView). m.address) (member_is r i) ∙ ap (λ (d : DriveView). d.address) (beyond r.drives i (grind (arith, nat_tests, is))) in omega (arith, none)
+        by false is = let none : (member (known_of r) i).address ≡ 0 = ap (λ (m : MemberView). m.address) (member_is r i)
+            ∙ ap (λ (d : DriveView). d.address) (get_or_past r.drives i no_drive (grind (arith, nat_tests, is))) in omega (arith, none)
 
     elsewhere : (early : Bool) → nat_le phase 2 ≡ early → (k ≡ i → ⊥) → mdt_got (drive_at r k).address phase blocks (Some ((member (known_of r) i).address ∷ record_said said [])) ≡ None
     elsewhere true early other = let differs = foreign other in single_other said (drive_at r k).address (member (known_of r) i).address phase blocks (grind (arith, nat_tests, early)) (grind (arith, nat_tests, differs))
@@ -182,14 +169,13 @@ mdt_told r p k phase blocks m valid below said quiet small agrees = first (p.now
             let high = (address_of r k valid below).1 in
             NothingGot (joint_early (drive_at r k).address phase blocks (joint s p plan).content (grind (arith, nat_tests, stands)) (grind (arith, nat_tests, high)))
 
-    third : (b : Bool) → nat_le 3 p.now.phase ≡ b → (if b then option_map (joint s p) p.plan else None) ≡ Some m → GotTold (mdt_got (drive_at r k).address phase blocks (Some m.content)) (told_to p k)
-    third true late is = to_all late p.plan refl is
-    third false late is = cc
-
     second : (b : Bool) → (p.now.phase == 2) ≡ b → (if b then option_map (λ i. single s (said_to p i) i) p.now.addressed else (if nat_le 3 p.now.phase then option_map (joint s p) p.plan else None)) ≡ Some m
         → GotTold (mdt_got (drive_at r k).address phase blocks (Some m.content)) (told_to p k)
     second true two is = to_one (said_to p) small (λ same. refl) (grind (arith, nat_tests, two)) p.now.addressed refl is
-    second false two is = third (nat_le 3 p.now.phase) refl is
+    second false two is = elim (cases_Bool (nat_le 3 p.now.phase)) [
+      | inl late ↦ to_all late p.plan refl (rw late at is)
+      | inr late ↦ let is = rw late at is in cc
+    ]
 
     first : (b : Bool) → (p.now.phase == 1) ≡ b → (if b then option_map (single s idle) p.now.addressed else (if p.now.phase == 2 then option_map (λ i. single s (said_to p i) i) p.now.addressed
         else (if nat_le 3 p.now.phase then option_map (joint s p) p.plan else None))) ≡ Some m → GotTold (mdt_got (drive_at r k).address phase blocks (Some m.content)) (told_to p k)

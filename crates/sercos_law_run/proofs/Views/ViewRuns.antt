@@ -1,5 +1,5 @@
 -- In a run of a ring in which nothing is unseen, each drive with its channel makes a run of views.
-use Rattle.sercos_law_run.proofs.Words.{◌≡◌, ◌⊎◌, inl, inr, ℕ, zero, suc, ◌+◌, ◌<◌, ◌≤◌, Bool, true, false, List, [], ◌∷◌, length, Option, Some, None, refl, sym, ◌∙◌, ap, ap₂, subst, arith, if◌then◌else◌, slice_index, is_some, IsSome, IfSome, cases_eq, status_of, word_at, mst_content, Request, Job, RingView, is_ring, store_of, Processed, channel_says, Begun, open_in, master_says, begun_by, PlanView, mst_got, mdt_got, phase_in, blocks_in, commands_in, annals, CycleView, known_of, Past, Call, is_done, past, Sent, idle, mdt_said, Carry, Restarts, Heard, View, standing, kept_in, since_reset, command, command_in, with_heard, with_begun, unless_restart, epoch_begun, IsShown, all_writes, store_in, heard, passage, sum_below, unseen_at, mst_in, ats_in, mdt_in, drive_at, given_before, given_mst, master_calls, mdt_heard, content_of, contents, said_below, unseen_mst, unseen_mdt, unseen_ats, looks_back, at_start, behind_mst, behind_ats, behind_mdt, heard_last, told_to, after_mst, view_of, views_of, IsSaid, IsSpelled, begins_empty, heard_none}
+use Rattle.sercos_law_run.proofs.Words.{◌≡◌, ◌⊎◌, inl, inr, ℕ, zero, suc, ◌+◌, ◌<◌, ◌≤◌, Bool, true, false, List, [], ◌∷◌, length, Option, Some, None, refl, sym, ◌∙◌, ap, ap₂, subst, arith, if◌then◌else◌, slice_index, is_some, IsSome, IfSome, cases_eq, status_of, word_at, mst_content, Request, Job, RingView, is_ring, store_of, Processed, channel_says, Begun, open_in, master_says, begun_by, PlanView, mst_got, mdt_got, phase_in, blocks_in, commands_in, annals, CycleView, known_of, Past, Call, is_done, past, Sent, idle, mdt_said, Carry, Restarts, Heard, View, standing, kept_in, since_reset, command, command_in, with_heard, with_begun, unless_restart, epoch_begun, IsShown, all_writes, store_in, heard, passage, sum_below, unseen_at, mst_in, ats_in, mdt_in, drive_at, given_before, given_mst, master_calls, mdt_heard, content_of, contents, said_below, unseen_mst, unseen_mdt, unseen_ats, looks_back, at_start, behind_mst, behind_ats, behind_mdt, heard_last, told_to, after_mst, view_of, views_of, IsSaid, IsSpelled, begins_empty, heard_none, cases_Bool}
 use Rattle.sercos_telegram.specs.declared.layout.Kind.TheVariants as kinds
 use Rattle.sercos_master.specs.Annals as master
 use Rattle.sercos_law_channel.specs.Handshake.Views.{before_mst as standing_before}
@@ -35,11 +35,7 @@ views_count r jobs carry restarts k (t ∷ j) = ap suc (views_count r jobs carry
 
 -- no phase above 4 is commanded
 command_in_below : (v : View) (past : List View) → command past ≤ 4 → command_in v past ≤ 4
-command_in_below v past low = by v.master_restarts
-  where
-    by : (b : Bool) → (if b then 0 else command past) ≤ 4
-    by true = omega arith
-    by false = low
+command_in_below v past low = elim (cases_Bool v.master_restarts) [ inl on ↦ rw on (omega arith) | inr off ↦ rw off low ]
 
 pub command_below : (busy : ℕ) (past : List View) → IsRun busy past → command past ≤ 4
 command_below busy [] run = omega arith

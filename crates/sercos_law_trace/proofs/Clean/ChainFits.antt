@@ -1,5 +1,5 @@
 -- The numbers of a chain that shows that no plan fits are small.
-use Rattle.sercos_law_trace.proofs.Words.{◌≡◌, ◌⊎◌, inl, inr, ℕ, zero, suc, ◌+◌, ◌*◌, ◌≤◌, ◌==◌, nat_le, Bool, true, false, List, [], ◌∷◌, ◌++◌, length, max, Option, Some, None, option_map, unwrap_or, slice_index_or, subst, arith, if◌then◌else◌, sum_by-cons, Wish, wish, no_wish, times, sent, neighbor, previous, at_bits, record_bytes, mdt_bits, asked_1, asked_2, asked_3, asked_5, asked_6, asked_7, sum_9, bound_9, greatest, greatest_tmtsy, WishesView, round_up, needed, least_t1, least_bits, greatest_t4min, last_place, is_tight, link_of, back_of, first_tight, starts, bits_of_starts, trail_by_master, greatest_of, first_with, first_greatest, mst_chain, cycle_chain, capture_chain, Link, ChainView, length_first, chain_of}
+use Rattle.sercos_law_trace.proofs.Words.{◌≡◌, ◌⊎◌, inl, inr, ℕ, zero, suc, ◌+◌, ◌*◌, ◌≤◌, ◌==◌, nat_le, Bool, true, false, List, [], ◌∷◌, ◌++◌, length, max, Option, Some, None, option_map, unwrap_or, slice_index_or, subst, arith, if◌then◌else◌, sum_by-cons, Wish, wish, no_wish, times, sent, neighbor, previous, at_bits, record_bytes, mdt_bits, asked_1, asked_2, asked_3, asked_5, asked_6, asked_7, sum_9, bound_9, greatest, greatest_tmtsy, WishesView, round_up, needed, least_t1, least_bits, greatest_t4min, last_place, is_tight, link_of, back_of, first_tight, starts, bits_of_starts, trail_by_master, greatest_of, first_with, first_greatest, mst_chain, cycle_chain, capture_chain, Link, ChainView, length_first, chain_of, mul-le-mul_left, sym}
 use Rattle.sercos_plan.specs.LeastTimes.{least_t2, least_t3}
 use Rattle.sercos_plan.specs.ChainOf.{trail_at, trail, trail_t2, trail_t3}
 use Rattle.sercos_law_trace.proofs.Clean.SeenLemmas.{Each}
@@ -40,37 +40,27 @@ record_small (d ∷ ds) are =
     let here = are.0.record_len in
     omega (arith, first, rest, here)
 
--- by the rate
-at_low : (rate t bits time n m : ℕ) → IsRate rate → t ≤ 66300 * n → bits ≤ 697 → time ≤ 65535 → m ≡ 66300 * n + 66300 → rate * t + (bits + rate * time) ≤ rate * m
-at_low rate t bits time n m (inl is) a b c d = rw is (omega (arith, a, b, c, d))
-at_low rate t bits time n m (inr (inl is)) a b c d = rw is (omega (arith, a, b, c, d))
-at_low rate t bits time n m (inr (inr (inl is))) a b c d = rw is (omega (arith, a, b, c, d))
-at_low rate t bits time n m (inr (inr (inr is))) a b c d = rw is (omega (arith, a, b, c, d))
+-- what holds at each rate
+pub by_rate : (P : ℕ → Type 0) (rate : ℕ) → IsRate rate → P 2 → P 4 → P 8 → P 16 → P rate
+by_rate P rate (inl is) two four eight sixteen = subst P (sym is) two
+by_rate P rate (inr (inl is)) two four eight sixteen = subst P (sym is) four
+by_rate P rate (inr (inr (inl is))) two four eight sixteen = subst P (sym is) eight
+by_rate P rate (inr (inr (inr is))) two four eight sixteen = subst P (sym is) sixteen
 
-time_low : (rate time m : ℕ) → IsRate rate → time ≤ m → rate * time ≤ rate * m
-time_low rate time m (inl is) a = rw is (omega (arith, a))
-time_low rate time m (inr (inl is)) a = rw is (omega (arith, a))
-time_low rate time m (inr (inr (inl is))) a = rw is (omega (arith, a))
-time_low rate time m (inr (inr (inr is))) a = rw is (omega (arith, a))
-
-mdt_low : (rate t bits time m : ℕ) → IsRate rate → t ≤ 66300 * 65 → bits ≤ 41824 → time ≤ 65535 → m ≡ 66300 * 67 → rate * t + (bits + rate * time) ≤ rate * m
-mdt_low rate t bits time m (inl is) a b c d = rw is (omega (arith, a, b, c, d))
-mdt_low rate t bits time m (inr (inl is)) a b c d = rw is (omega (arith, a, b, c, d))
-mdt_low rate t bits time m (inr (inr (inl is))) a b c d = rw is (omega (arith, a, b, c, d))
-mdt_low rate t bits time m (inr (inr (inr is))) a b c d = rw is (omega (arith, a, b, c, d))
+-- a time, some bits and another time end in time at each rate, if they do at the lowest
+ends_low : (rate t bits time m : ℕ) → IsRate rate → 2 * t + bits + 2 * time ≤ 2 * m → rate * t + (bits + rate * time) ≤ rate * m
+ends_low rate t bits time m is a =
+    by_rate (λ r. r * t + (bits + r * time) ≤ r * m) rate is (omega (arith, a)) (omega (arith, a)) (omega (arith, a)) (omega (arith, a))
 
 rounded_low : (rate bits m : ℕ) → IsRate rate → bits ≤ rate * m → round_up rate bits ≤ m
-rounded_low rate bits m (inl is) a = let b : bits ≤ 2 * m = subst (λ (x : ℕ). bits ≤ x * m) is a in rw is (omega (arith, b))
-rounded_low rate bits m (inr (inl is)) a = let b : bits ≤ 4 * m = subst (λ (x : ℕ). bits ≤ x * m) is a in rw is (omega (arith, b))
-rounded_low rate bits m (inr (inr (inl is))) a = let b : bits ≤ 8 * m = subst (λ (x : ℕ). bits ≤ x * m) is a in rw is (omega (arith, b))
-rounded_low rate bits m (inr (inr (inr is))) a = let b : bits ≤ 16 * m = subst (λ (x : ℕ). bits ≤ x * m) is a in rw is (omega (arith, b))
+rounded_low rate bits m is =
+    by_rate (λ r. bits ≤ r * m → round_up r bits ≤ m) rate is (λ a. omega (arith, a)) (λ a. omega (arith, a)) (λ a. omega (arith, a))
+    (λ a. omega (arith, a))
 
 -- a number of bit times of a small time fits a field
 bits_fit : (rate time : ℕ) → IsRate rate → time ≤ 66300 * 67 → rate * time ≤ 4294967295
-bits_fit rate time (inl is) a = rw is (omega (arith, a))
-bits_fit rate time (inr (inl is)) a = rw is (omega (arith, a))
-bits_fit rate time (inr (inr (inl is))) a = rw is (omega (arith, a))
-bits_fit rate time (inr (inr (inr is))) a = rw is (omega (arith, a))
+bits_fit rate time is a =
+    by_rate (λ r. r * time ≤ 4294967295) rate is (omega (arith, a)) (omega (arith, a)) (omega (arith, a)) (omega (arith, a))
 
 max_low : (a b m : ℕ) → a ≤ m → b ≤ m → max a b ≤ m
 max_low a b m la lb = omega (arith, la, lb)
@@ -110,13 +100,17 @@ module _ (w : WishesView) (small : AreSmallWishes w) where
   -- STARTS
   needed_low : (t : ℕ → ℕ) (n k m : ℕ) (before : List ℕ) → ((j : ℕ) → t j ≤ 66300 * n) → m ≡ 66300 * n + 66300 → needed w (λ i. w.rate * t i) k before ≤ w.rate * m
   needed_low t n k m before low is =
-      max_low _ _ (w.rate * m) (time_low w.rate (times w k).t1min m small.rate (let a = (of k).t1min in omega (arith, a, is)))
+      max_low _ _ (w.rate * m) (mul-le-mul_left w.rate (let a = (of k).t1min in omega (arith, a, is)))
       (max_low _ _ (w.rate * m) (second before)
-      (max_low _ _ (w.rate * m) (some_low (neighbor w k before) (λ j. w.rate * t j + (at_bits w j + w.rate * w.gap)) (w.rate * m) (λ j. at_low w.rate (t j) (at_bits w j) w.gap n m small.rate (low j) (at_bits_low j) (let a = small.gap in omega (arith, a)) is))
-      (some_low (previous w k before) (λ j. w.rate * t j + (at_bits w j + w.rate * (times w k).tatat)) (w.rate * m) (λ j. at_low w.rate (t j) (at_bits w j) (times w k).tatat n m small.rate (low j) (at_bits_low j) (of k).tatat is))))
+      (max_low _ _ (w.rate * m) (some_low (neighbor w k before) (λ j. w.rate * t j + (at_bits w j + w.rate * w.gap)) (w.rate * m)
+      (λ j. ends_low w.rate (t j) (at_bits w j) w.gap m small.rate
+      (let a = small.gap in let b = low j in let c = at_bits_low j in omega (arith, a, b, c, is))))
+      (some_low (previous w k before) (λ j. w.rate * t j + (at_bits w j + w.rate * (times w k).tatat)) (w.rate * m)
+      (λ j. ends_low w.rate (t j) (at_bits w j) (times w k).tatat m small.rate
+      (let a = (of k).tatat in let b = low j in let c = at_bits_low j in omega (arith, a, b, c, is))))))
     where
       second : (before : List ℕ) → unwrap_or (asked_2 w (λ i. w.rate * t i) k before) 0 ≤ w.rate * m
-      second [] = time_low w.rate w.gap m small.rate (let a = small.gap in omega (arith, a, is))
+      second [] = mul-le-mul_left w.rate (let a = small.gap in omega (arith, a, is))
       second (j ∷ before) = omega arith
 
   least_low : (ats : List ℕ) (j : ℕ) → least_t1 w ats j ≤ 66300 * length ats
@@ -137,11 +131,14 @@ module _ (w : WishesView) (small : AreSmallWishes w) where
   unfolding least_t2
   t2_low = rounded_low w.rate _ (66300 * 65) small.rate (max_low _ _ (w.rate * (66300 * 65)) (five (sent w))
       (greatest_low (λ k. unwrap_or (asked_6 w (least_bits w (sent w)) k []) 0) (sent w) (w.rate * (66300 * 65))
-      (λ k. at_low w.rate (least_t1 w (sent w) k) (at_bits w k) (times w k).tatmt 64 (66300 * 65) small.rate (start_low k) (at_bits_low k) (of k).tatmt (omega arith))))
+      (λ k. ends_low w.rate (least_t1 w (sent w) k) (at_bits w k) (times w k).tatmt (66300 * 65) small.rate
+      (let a = (of k).tatmt in let b = start_low k in let c = at_bits_low k in omega (arith, a, b, c)))))
     where
       five : (ats : List ℕ) → unwrap_or (asked_5 w (least_bits w (sent w)) ats) 0 ≤ w.rate * (66300 * 65)
       five [] = omega arith
-      five (k ∷ before) = at_low w.rate (least_t1 w (sent w) k) (at_bits w k) w.gap 64 (66300 * 65) small.rate (start_low k) (at_bits_low k) (let a = small.gap in omega (arith, a)) (omega arith)
+      five (k ∷ before) =
+          ends_low w.rate (least_t1 w (sent w) k) (at_bits w k) w.gap (66300 * 65) small.rate
+          (let a = small.gap in let b = start_low k in let c = at_bits_low k in omega (arith, a, b, c))
 
   mdt_bits_low : mdt_bits w ≤ 41824
   mdt_bits_low = let low = record_small w.drives small.drives in let few = small.few in omega (arith, low, few)
@@ -149,7 +146,8 @@ module _ (w : WishesView) (small : AreSmallWishes w) where
   t3_low : least_t3 w ≤ 66300 * 67
   unfolding least_t3
   t3_low = rounded_low w.rate _ (66300 * 67) small.rate (greatest_low (λ k. unwrap_or (asked_7 w (w.rate * least_t2 w) k []) 0) (sent w) (w.rate * (66300 * 67))
-      (λ k. mdt_low w.rate (least_t2 w) (mdt_bits w) (times w k).tmtsg (66300 * 67) small.rate t2_low mdt_bits_low (of k).tmtsg (omega arith)))
+      (λ k. ends_low w.rate (least_t2 w) (mdt_bits w) (times w k).tmtsg (66300 * 67) small.rate
+      (let a = (of k).tmtsg in let b = t2_low in let c = mdt_bits_low in omega (arith, a, b, c))))
 
   -- THE LINKS
   one_link : (rule k t : ℕ) → rule ≤ 255 → t ≤ 66300 * 67 → IsSmallLink (link_of w rule k t)
@@ -221,7 +219,9 @@ module _ (w : WishesView) (small : AreSmallWishes w) where
     links = t2_trail;
     rule = omega arith;
     drive = by (nat_le (greatest_tmtsy w) w.gap);
-    sum = let here = mdt_low w.rate (least_t2 w) (mdt_bits w) (max w.gap (greatest_tmtsy w)) (66300 * 67) small.rate t2_low mdt_bits_low (max_low w.gap (greatest_tmtsy w) 65535 (let a = small.gap in omega (arith, a)) switch_low) (omega arith) in
+    sum = let here = ends_low w.rate (least_t2 w) (mdt_bits w) (max w.gap (greatest_tmtsy w)) (66300 * 67) small.rate
+        (let a = max_low w.gap (greatest_tmtsy w) 65535 (let g = small.gap in omega
+        (arith, g)) switch_low in let b = t2_low in let c = mdt_bits_low in omega (arith, a, b, c)) in
         let fits = bits_fit w.rate (66300 * 67) small.rate (omega arith) in omega (arith, here, fits);
     bound = let a = cycle_bound in omega (arith, a);
   }

@@ -1,10 +1,11 @@
 -- The numbers of the telegrams of a run fit the fields of their lines, whatever arrives.
-use Rattle.sercos_law_trace.proofs.Words.{◌≡◌, ◌⊎◌, inl, inr, ℕ, pos, zero, suc, ◌+◌, ◌*◌, ◌<◌, ◌≤◌, ◌==◌, Bool, true, false, List, [], ◌∷◌, ◌++◌, length, Option, Some, None, option_map, unwrap_or, refl, sym, subst, arith, if◌then◌else◌, cond_both, nat_le, slice_index, All, All-nil, All-cons, wire_bits, frame_of, Kind, mst_content, PlanView, Job, Block, find_block, IsStore, RingView, types, phase_in, blocks_in, Said, start_in, CycleView, Known, IsKnown, known_of, tasks_for, Past, IsPlanned, outcomes, Sent, said_to, idle, single, joint, mdt_said, Carry, Restarts, IsOpened, drive_at, given_mst, begins, middle, said_below, start_before, sent_at, sent_mst, sent_mdt, ats_said, IsRun, at_start, behind_mdt, after_mst, sent_by, IsContent, address_of, at_content, mdt_whole, mst_whole, phase_low, plan_words, s_known, first_store, FitsLine, RunsFitLines, length-IsFrame, is_framed, keeps_within, is_planned, AreBytes, IsSmall}
+use Rattle.sercos_law_trace.proofs.Words.{◌≡◌, ℕ, pos, zero, suc, ◌+◌, ◌*◌, ◌<◌, ◌≤◌, ◌==◌, Bool, true, false, List, [], ◌∷◌, ◌++◌, length, Option, Some, None, option_map, unwrap_or, refl, sym, subst, arith, if◌then◌else◌, cond_both, nat_le, slice_index, All, All-nil, All-cons, wire_bits, frame_of, Kind, mst_content, PlanView, Job, Block, find_block, IsStore, RingView, types, phase_in, blocks_in, Said, start_in, CycleView, Known, IsKnown, known_of, tasks_for, Past, IsPlanned, outcomes, Sent, said_to, idle, single, joint, mdt_said, Carry, Restarts, IsOpened, drive_at, given_mst, begins, middle, said_below, start_before, sent_at, sent_mst, sent_mdt, ats_said, IsRun, at_start, behind_mdt, after_mst, sent_by, IsContent, address_of, at_content, mdt_whole, mst_whole, phase_low, plan_words, s_known, first_store, FitsLine, RunsFitLines, length-IsFrame, is_framed, keeps_within, is_planned, AreBytes, IsSmall, inl, inr, cases_Option}
 use Rattle.sercos_command.specs.Checks.{number_at}
 use Rattle.sercos_service_master.specs.Begun.{Said as Told}
 use Rattle.sercos_law_trace.proofs.Clean.RuleLemmas.{mdt_at}
 use Rattle.sercos_law_trace.proofs.Clean.SaidLemmas.{each_said}
 use Rattle.sercos_law_trace.proofs.Clean.SeenLemmas.{Each}
+use Rattle.sercos_law_trace.proofs.Clean.ChainFits.{IsRate, by_rate}
 
 small_start : (n : ℕ) → n ≤ 2147483647 → IsSmall (pos n)
 unfolding IsSmall
@@ -20,11 +21,9 @@ few_bits : (n : ℕ) → n ≤ 2048 → wire_bits n ≤ 19699
 few_bits n low = omega (arith, low)
 
 -- A START is a word, in microseconds.
-start_low : (rate start : ℕ) → (rate ≡ 2) ⊎ (rate ≡ 4) ⊎ (rate ≡ 8) ⊎ (rate ≡ 16) → start < 65536 → rate * start ≤ 1048560
-start_low rate start (inl is) low = rw is (omega (arith, low))
-start_low rate start (inr (inl is)) low = rw is (omega (arith, low))
-start_low rate start (inr (inr (inl is))) low = rw is (omega (arith, low))
-start_low rate start (inr (inr (inr is))) low = rw is (omega (arith, low))
+start_low : (rate start : ℕ) → IsRate rate → start < 65536 → rate * start ≤ 1048560
+start_low rate start is low =
+    by_rate (λ r. r * start ≤ 1048560) rate is (omega (arith, low)) (omega (arith, low)) (omega (arith, low)) (omega (arith, low))
 
 word_low : (bytes : List ℕ) → AreBytes bytes → slice_index bytes 0 + 256 * slice_index bytes 1 < 65536
 unfolding AreBytes
@@ -34,11 +33,10 @@ word_low (low ∷ high ∷ bytes) are = let first = are.0 in let second = are.1.
 
 number_low : (blocks : List Block) (raw : ℕ) → IsStore blocks → number_at blocks raw < 65536
 unfolding number_at
-number_low blocks raw store = by (find_block raw blocks) refl
-  where
-    by : (o : Option Block) → find_block raw blocks ≡ o → slice_index (unwrap_or (option_map (λ (b : Block). b.value) o) []) 0 + 256 * slice_index (unwrap_or (option_map (λ (b : Block). b.value) o) []) 1 < 65536
-    by None is = omega arith
-    by (Some b) is = word_low b.value (types blocks raw b store is).1
+number_low blocks raw store = elim (cases_Option (find_block raw blocks)) [
+  | inl is ↦ rw is (omega arith)
+  | inr (b, is) ↦ rw is (word_low b.value (types blocks raw b store is).1)
+]
 
 at_low : (phase : ℕ) (blocks : List Block) → IsStore blocks → start_in phase blocks < 65536
 at_low phase blocks store = cond_both (nat_le 3 phase) (number_at blocks 6) 300

@@ -1,7 +1,7 @@
 -- The telegrams of phases 3 and 4 keep the rules.
-use Rattle.sercos_law_trace.proofs.Words.{◌≡◌, ℕ, ℤ, pos, ◌+◌, ◌*◌, ◌≤◌, ◌+ℤ◌, ◌==◌, nat_lt, nat_le, Bool, true, false, not, cond, ◌&&◌, ◌||◌, if◌then◌else◌, List, [], ◌∷◌, length, max, Some, None, is_none, option_map, refl, ◌∙◌, ap, arith, slice_index, list_all, find, le_z, and_from, eq-eqb, le-leb, nat_tests, frame_of, joint_fault, record_bytes, bound_9, greatest_tmtsy, WishesView, Said, Sent, Command, is_drive, wish_for, mark_of, is_at_of, is_after_gap, is_after_mark, is_after_transition, start_before, sent_at, sent_mst, ends_at_0}
+use Rattle.sercos_law_trace.proofs.Words.{◌≡◌, ℕ, ℤ, pos, ◌+◌, ◌*◌, ◌≤◌, ◌+ℤ◌, ◌==◌, nat_lt, nat_le, Bool, true, false, cond, if◌then◌else◌, List, [], ◌∷◌, length, max, Some, None, is_none, option_map, refl, ◌∙◌, ap, arith, slice_index, list_all, find, le_z, and_from, eq-eqb, le-leb, nat_tests, frame_of, joint_fault, record_bytes, bound_9, greatest_tmtsy, WishesView, Said, Sent, Command, is_drive, wish_for, mark_of, is_at_of, is_after_gap, is_after_mark, is_after_transition, start_before, sent_at, sent_mst, ends_at_0, cond-false, or_left, not_from_false}
 use Rattle.sercos_law_trace.proofs.Clean.RuleLemmas.{none_broken, broken_by, seen_of, mdt_at, AreRuled, newest_by}
-use Rattle.sercos_law_trace.proofs.Clean.SeenLemmas.{Each, EachAfter, each_map, not_asked, asked, no_mdt_seen, HasOther, none_from, later_start, IsFramed, frame_kept, fresh}
+use Rattle.sercos_law_trace.proofs.Clean.SeenLemmas.{Each, EachAfter, each_map, not_asked, asked, no_mdt_seen, HasOther, none_from, later_start, IsFramed, frame_kept, fresh, order}
 
 -- the drive's slave, and the end of its AT
 abbrev pub slave_by : WishesView → Said → ℕ
@@ -50,21 +50,6 @@ record IsLate (phase : ℕ) : Type 0 where
 is_late : (phase : ℕ) → 3 ≤ phase → IsLate phase
 is_late phase late = record { some = grind (arith, nat_tests, late); not_early = grind (arith, nat_tests, late); late = grind (arith, nat_tests, late) }
 
-order : (b c : Bool) → b ≡ true → c ≡ false → (cycle : ℕ) → ((cycle == cycle) && (b && not c)) ≡ true
-order b c kb kc cycle = rw (eq-eqb cycle cycle refl, kb, kc) refl
-
-at_layout : (some low single long drive : Bool) → some ≡ true → low ≡ false → long ≡ true → drive ≡ true → (some && (if low then single else (long && drive))) ≡ true
-at_layout some low single long drive ks kl kg kd = rw (ks, kl, kg, kd) refl
-
-mdt_layout : (some low single joint : Bool) → some ≡ true → low ≡ false → joint ≡ true → (some && (if low then single else joint)) ≡ true
-mdt_layout some low single joint ks kl kj = rw (ks, kl, kj) refl
-
-late_start : (low other is : Bool) → low ≡ false → is ≡ true → (if low then other else is) ≡ true
-late_start low other is kl ki = rw (kl, ki) refl
-
-free_start : (low kept : Bool) → low ≡ false → (not low || kept) ≡ true
-free_start low kept none = rw none refl
-
 -- after the MST is the gap
 after_mst : (n gap start : ℕ) → gap ≤ start → le_z ((start_before n +ℤ pos n) +ℤ pos gap) (pos start) ≡ true
 after_mst n gap start low = ap (λ (z : ℤ). le_z (z +ℤ pos gap) (pos start)) (ends_at_0 n) ∙ le-leb (0 + gap) start (omega (arith, low))
@@ -72,9 +57,6 @@ after_mst n gap start low = ap (λ (z : ℤ). le_z (z +ℤ pos gap) (pos start))
 module _ (w : WishesView) (rate : ℕ) (c : Command) (mst : List ℕ) (late : 3 ≤ c.phase) where
   tests : IsLate c.phase
   tests = is_late c.phase late
-
-  starts_before : (s : Said) (x : Said) → IsBefore w rate s x → rate * x.start ≤ rate * s.start
-  starts_before s x is = let p = is.pause in omega (arith, p)
 
   gap_kept : (done : List Said) (s : Said) → w.rate * w.gap ≤ rate * s.start → Each (IsBefore w rate s) done → is_after_gap w (newest_by w (seen_of rate (sent_mst mst) done)) (sent_at rate s.start s.content) ≡ true
   gap_kept [] s first are = after_mst (length (frame_of mst)) (w.rate * w.gap) (rate * s.start) first
@@ -93,14 +75,14 @@ module _ (w : WishesView) (rate : ℕ) (c : Command) (mst : List ℕ) (late : 3 
 
   at_ruled : (done : List Said) (s : Said) → IsLateAt w rate s → Each (IsBefore w rate s) done → broken_by w (Some c) (seen_of rate (sent_mst mst) done) c.cycle (sent_at rate s.start s.content) ≡ None
   at_ruled done s is are =
-      let later = later_start w rate (rate * s.start) mst done (each_map (IsBefore w rate s) (λ (x : Said). rate * x.start ≤ rate * s.start) (starts_before s) done are) in
+      let later = later_start w rate (rate * s.start) mst done (each_map (IsBefore w rate s) (λ (x : Said). rate * x.start ≤ rate * s.start) (λ x is. let p = is.pause in omega (arith, p)) done are) in
       let others = each_map (IsBefore w rate s) (HasOther (slice_index s.content 0)) (λ x before. before.other) done are in
       none_broken _ _ _ _ _ _ _ _ _
       (and_from _ _ (order _ _ later (no_mdt_seen rate mst done) c.cycle) (fresh (nat_lt 0 (length s.content)) _ (none_from rate (slice_index s.content 0) mst done others)))
       (frame_kept s.content is.framed)
-      (at_layout _ _ _ _ _ tests.some tests.not_early (eq-eqb (length s.content) ((wish_for w (slice_index s.content 0)).at_len + 1) is.long) is.drive)
+      (and_from _ _ tests.some (cond-false _ _ _ tests.not_early ∙ and_from _ _ (eq-eqb (length s.content) ((wish_for w (slice_index s.content 0)).at_len + 1) is.long) is.drive))
       refl
-      (late_start _ _ _ tests.not_early (le-leb (w.rate * (wish_for w (slice_index s.content 0)).times.t1min) (rate * s.start) is.ready))
+      (cond-false _ _ _ tests.not_early ∙ (le-leb (w.rate * (wish_for w (slice_index s.content 0)).times.t1min) (rate * s.start) is.ready))
       (asked _ _ (gap_kept done s is.after_mst are))
       (asked _ _ (mark_kept done s are))
       (not_asked (nat_le 3 c.phase) _)
@@ -121,9 +103,9 @@ module _ (w : WishesView) (rate : ℕ) (c : Command) (mst : List ℕ) (late : 3 
       none_broken _ _ _ _ _ _ _ _ _
       (order _ _ later (no_mdt_seen rate mst done) c.cycle)
       (frame_kept m.content is.framed)
-      (mdt_layout _ _ _ _ tests.some tests.not_early is.layout)
+      (and_from _ _ tests.some (cond-false _ _ _ tests.not_early ∙ is.layout))
       refl
-      (free_start _ _ tests.not_early)
+      (or_left _ _ (not_from_false _ tests.not_early))
       (asked _ _ (mdt_gap done m is.after_mst are))
       (not_asked (nat_le 3 c.phase) _)
       (asked _ _ (transition_kept done (rate * m.start) are))

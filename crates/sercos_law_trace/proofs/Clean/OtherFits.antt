@@ -1,11 +1,12 @@
 -- The numbers of moves, plans, falls and totals fit the fields of their lines.
-use Rattle.sercos_law_trace.proofs.Words.{◌≡◌, ℕ, zero, suc, ◌+◌, ◌*◌, ◌<◌, ◌≤◌, ◌==◌, nat_lt, Bool, true, false, List, [], ◌∷◌, ◌++◌, length, reverse, Option, Some, None, is_some, slice_index_or, refl, sym, ◌∙◌, ap, subst, arith, if◌then◌else◌, slice_index, All, option_or, reverse_onto, All-nil, All-cons, All-head, All-tail, All-append, length-filter, count_by-le-length, wish, IsValid, WishesView, PlanView, Job, Outcome, wishes_of, DriveView, RingView, DriveCall, phase_at, Move, Totals, Fall, EventsView, CycleView, Report, Known, IsKnown, MemberView, member, no_member, known_of, tasks_for, Past, IsPlanned, fall_of, fall_at, has_lost_mst, has_lost_at, first_place, is_at_limit, outcomes, inserted, with_report, with_reports, broken, with_broken, plan_told, outcomes_told, restart_told, Carry, Restarts, drive_at, move_of, moves_below, given_before, given_mst, given_mdt, master_calls, middle, looks_back, no_events, restart_events, IsNext, IsRun, IsClear, behind_mdt, address_of, plan_words, s_known, first_store, IsOpened, with_cycle, ended, is_complete, is_refused, is_broken, FitsMove, FitsPlan, FitsFall, FitsCycle, FitTotals, FitsReports, FitReports, RunsFitOthers, phase_below, is_planned, fell_once, field_of, AreOf, IsOf, part_left, template_of, totals_of}
+use Rattle.sercos_law_trace.proofs.Words.{◌≡◌, ℕ, zero, suc, ◌+◌, ◌*◌, ◌<◌, ◌≤◌, ◌==◌, Bool, true, false, List, [], ◌∷◌, ◌++◌, length, reverse, Option, Some, None, is_some, slice_index_or, refl, sym, ◌∙◌, ap, subst, arith, if◌then◌else◌, slice_index, All, option_or, reverse_onto, All-nil, All-cons, All-head, All-tail, All-append, length-filter, count_by-le-length, wish, IsValid, WishesView, PlanView, Job, Outcome, wishes_of, DriveView, RingView, DriveCall, phase_at, Move, Totals, Fall, EventsView, CycleView, Known, IsKnown, MemberView, member, no_member, known_of, tasks_for, Past, IsPlanned, fall_of, fall_at, has_lost_mst, has_lost_at, first_place, is_at_limit, outcomes, with_reports, broken, with_broken, plan_told, outcomes_told, restart_told, Carry, Restarts, drive_at, move_of, moves_below, given_before, given_mst, given_mdt, master_calls, middle, looks_back, no_events, restart_events, IsNext, IsRun, IsClear, behind_mdt, address_of, plan_words, s_known, first_store, IsOpened, with_cycle, ended, is_complete, is_refused, is_broken, FitsMove, FitsPlan, FitsFall, FitsCycle, FitTotals, FitsReports, FitReports, RunsFitOthers, phase_below, is_planned, fell_once, field_of, AreOf, IsOf, part_left, template_of, totals_of, inl, inr, cases_Bool}
 use Rattle.sercos_text.specs.Templates.Value.{number as counted}
 use Rattle.sercos_text.specs.Templates.{IsPart}
 use Rattle.sercos_trace.specs.declared.kind.LineKind.TheVariants as kind
 use Rattle.sercos_trace.specs.declared.events.Fall.TheVariants as fall
 use Rattle.sercos_law_trace.proofs.Clean.RunRules.{low}
 use Rattle.sercos_law_trace.proofs.Clean.TraceClean.{valid}
+use Rattle.sercos_master.proofs.Told.{reports_length}
 
 -- MOVES
 move_fits : (cycle : ℕ) (m : Move) → cycle ≤ 4294967295 → m.drive ≤ 255 → m.phase ≤ 255 → FitsMove cycle m
@@ -44,15 +45,14 @@ plan_fits w s p cycle is_valid known planned number (Some plan) has =
     )
 
 told_fits : (w : WishesView) (s : Known) (p : Past) (cycle : ℕ) → IsValid w → IsKnown s → IsPlanned s p → cycle ≤ 4294967295 → FitsPlan cycle w (option_or (plan_told p) None)
-told_fits w s p cycle is_valid known planned number = by p.now.plans
+told_fits w s p cycle is_valid known planned number = elim (cases_Bool p.now.plans) [
+  | inl on ↦ rw on (same p.plan (plan_fits w s p cycle is_valid known planned number p.plan refl))
+  | inr off ↦ rw off tt
+]
   where
     same : (o : Option PlanView) → FitsPlan cycle w o → FitsPlan cycle w (option_or o None)
     same None is = is
     same (Some plan) is = is
-
-    by : (b : Bool) → FitsPlan cycle w (option_or (if b then p.plan else None) None)
-    by true = same p.plan (plan_fits w s p cycle is_valid known planned number p.plan refl)
-    by false = tt
 
 -- A FALL
 at_fits : (cycle a : ℕ) → cycle ≤ 4294967295 → a ≤ 255 → FitsFall cycle (Some (fall.AtLost a))
@@ -98,30 +98,16 @@ fall_fits s p cycle known number =
     step (Some k) = step_fits cycle (member s k).address number (member_low s.drives k known.addresses)
 
 -- HOW MANY OUTCOMES a cycle has
-inserted_long : (number : ℕ) (o : Outcome) (reports : List (ℕ × Outcome)) → length (inserted number o reports) ≡ suc (length reports)
-inserted_long number o [] = refl
-inserted_long number o (x ∷ reports) = by (nat_lt number x.0) (inserted_long number o reports)
-  where
-    by : (b : Bool) → length (inserted number o reports) ≡ suc (length reports) → length (if b then (number, o) ∷ x ∷ reports else x ∷ inserted number o reports) ≡ suc (suc (length reports))
-    by true rest = refl
-    by false rest = ap suc rest
-
-with_long : (report : ℕ → Option Report) (n : ℕ) (reports : List (ℕ × Outcome)) → length (with_reports report n reports) ≤ n + length reports
-with_long report zero reports = omega arith
-with_long report (suc n) reports = by (report n) (with_long report n reports)
-  where
-    by : (o : Option Report) → length (with_reports report n reports) ≤ n + length reports → length (with_report o (with_reports report n reports)) ≤ suc n + length reports
-    by None rest = omega (arith, rest)
-    by (Some x) rest = let one = inserted_long x.number x.outcome (with_reports report n reports) in omega (arith, one, rest)
-
 told_long : (s : Known) (p : Past) (reports : List (ℕ × Outcome)) → length (outcomes_told s p reports) ≤ 2 * length s.drives + length reports
 told_long s p reports = by (is_some (fall_of s p))
   where
-    first : length (with_reports p.now.report (length s.drives) reports) ≤ length s.drives + length reports
-    first = with_long p.now.report (length s.drives) reports
+    first : length (with_reports p.now.report (length s.drives) reports) ≤ length reports + length s.drives
+    first = reports_length p.now.report (length s.drives) reports
 
     by : (b : Bool) → length (if b then with_broken s p (with_reports p.now.report (length s.drives) reports) else with_reports p.now.report (length s.drives) reports) ≤ 2 * length s.drives + length reports
-    by true = let a = first in let b = with_long (broken p) (length s.drives) (with_reports p.now.report (length s.drives) reports) in omega (arith, a, b)
+    by true =
+        let a = first in let b = reports_length (broken p) (length s.drives) (with_reports p.now.report (length s.drives) reports) in
+        omega (arith, a, b)
     by false = let a = first in omega (arith, a)
 
 ended_few : (test : Outcome → Bool) (reports : List (ℕ × Outcome)) → ended test reports ≤ length reports
@@ -166,7 +152,9 @@ module _ (grow : TotalsGrow) (r : RingView) (jobs : List Job) (carry : Carry) (r
       omega (arith, events, here, first, few)
     where
       by : (b : Bool) → length (if b then restart_told (known_of r) (looks_back r jobs (master_calls r carry restarts j)) no_events else no_events).outcomes ≤ length (known_of r).drives
-      by true = let long = with_long (broken (looks_back r jobs (master_calls r carry restarts j))) (length (known_of r).drives) [] in omega (arith, long)
+      by true =
+          let long = reports_length (broken (looks_back r jobs (master_calls r carry restarts j))) (length (known_of r).drives) [] in
+          omega (arith, long)
       by false = omega arith
 
   few_with : (t : CycleView) (n : ℕ) (totals : Totals) → t.phase ≤ 4 → length t.events.outcomes ≤ 192 → t.unseen ≡ 0 → AreFew totals n → AreFew (with_cycle totals t) (suc n)

@@ -1,5 +1,5 @@
 -- The outcomes that a cycle reports fit the fields of their lines.
-use Rattle.sercos_law_trace.proofs.Words.{◌≡◌, inl, inr, ℕ, zero, suc, ◌+◌, ◌-◌, ◌<◌, ◌≤◌, ◌==◌, nat_lt, Bool, true, false, List, [], ◌∷◌, ◌++◌, length, drop, min, Option, Some, None, is_some, is_none, refl, sym, ◌∙◌, ap, subst, arith, if◌then◌else◌, cond_both, slice_index, slice_get, option_and_then, All, All-nil, All-cons, All-head, All-tail, length-take, length-drop, AreBytes-take, AreBytes-bytes_of, reason_of, content_of, plain, Job, Request, Outcome, Shape, Answer, CountsAnswers, count_of, answer_words, outcome_of, is_whole, result_of, steps_before, attribute_read, AreAnswers, bytes_in, bytes_read, shape_of, words_in, length-answer_words, PlanView, RingView, Begun, open_in, answers_it, answer_in, with_answer, Begin, Send, Hear, EndCycle, begun_by, EventsView, CycleView, Report, number_in, broken_number, Known, Task, known_of, tasks_from, tasks_for, request_task, member, Call, HearMst, HearAt, Mdt, End, Restart, Past, past, after_taken, settled, with_begin, ready_to_send, is_sent_to, addressed_in, after_mdt, fall_of, is_idle, inserted, with_report, with_reports, broken, with_broken, outcomes_told, restart_told, settles, at_keeps, channel_keeps, end_keeps, Passage, Carry, Restarts, IsReportOf, IsTask, OfReads, OfWrites, Checks3, Lists3, Checks4, Lists4, OfWaiting, AreBegunTasks, HasBegunTasks, arrival, heard, passage, ats_in, station_of, with_at, at_calls, begin_calls, master_calls, middle, looks_back, no_events, IsNext, AreWords, word_of, words_append, bytes_of_words, read_word, words_drop, FitsEnded, begins_tasks, left_of, told_right, goes_on_at, and_left, length-bytes_in, AreBytes, field_of, AreOf, IsOf, part_left, template_of, same_Some}
+use Rattle.sercos_law_trace.proofs.Words.{◌≡◌, inl, inr, ℕ, zero, suc, ◌+◌, ◌-◌, ◌<◌, ◌≤◌, ◌==◌, nat_lt, Bool, true, false, List, [], ◌∷◌, ◌++◌, length, drop, min, Option, Some, None, is_some, is_none, refl, sym, ◌∙◌, ap, subst, arith, if◌then◌else◌, cond_both, slice_index, slice_get, option_and_then, All, All-nil, All-cons, All-head, All-tail, length-take, length-drop, AreBytes-take, AreBytes-bytes_of, reason_of, content_of, plain, Job, Request, Outcome, Shape, Answer, CountsAnswers, count_of, answer_words, outcome_of, is_whole, result_of, steps_before, attribute_read, AreAnswers, bytes_in, bytes_read, shape_of, words_in, length-answer_words, PlanView, RingView, Begun, open_in, answers_it, answer_in, with_answer, Begin, Send, Hear, EndCycle, begun_by, EventsView, CycleView, Report, number_in, broken_number, Known, Task, known_of, tasks_from, tasks_for, request_task, member, Call, HearMst, HearAt, Mdt, End, Restart, Past, past, after_taken, settled, with_begin, ready_to_send, is_sent_to, addressed_in, after_mdt, fall_of, is_idle, inserted, with_report, with_reports, broken, with_broken, outcomes_told, restart_told, settles, at_keeps, channel_keeps, end_keeps, Passage, Carry, Restarts, IsReportOf, IsTask, OfReads, OfWrites, Checks3, Lists3, Checks4, Lists4, OfWaiting, AreBegunTasks, HasBegunTasks, arrival, heard, passage, ats_in, station_of, with_at, at_calls, begin_calls, master_calls, middle, looks_back, no_events, IsNext, AreWords, word_of, words_append, bytes_of_words, read_word, words_drop, FitsEnded, begins_tasks, left_of, told_right, goes_on_at, and_left, length-bytes_in, AreBytes, field_of, AreOf, IsOf, part_left, template_of, same_Some, cases_Bool}
 use Rattle.sercos_telegram.specs.declared.layout.Kind.TheVariants as kinds
 use Rattle.sercos_step.specs.declared.request.Request.TheVariants as request
 use Rattle.sercos_step.specs.declared.request.Outcome.TheVariants as outcome
@@ -61,7 +61,10 @@ taken_told : (i : ℕ) (content : List ℕ) (p : Past) (k : ℕ) → AreBytes co
 taken_told i content p k bytes are = channel_keeps AreTold i k content p (are k) (λ same. (read_word content 3 bytes, are k))
 
 mdt_told : (s : Known) (p : Past) → ((k : ℕ) → AreTold (p.calls k)) → (k : ℕ) → AreTold ((after_mdt s p).calls k)
-mdt_told s p are k = by (is_sent_to (ready_to_send s p) (addressed_in s (ready_to_send s p)) k)
+mdt_told s p are k = elim (cases_Bool (is_sent_to (ready_to_send s p) (addressed_in s (ready_to_send s p)) k)) [
+  | inl on ↦ rw on (begun (begins s (settled s p) k))
+  | inr off ↦ rw off (begun (begins s (settled s p) k))
+]
   where
     kept : AreTold ((settled s p).calls k)
     kept = subst (λ (c : ℕ → List channel.Call). AreTold (c k)) (sym (settles s p).calls) (are k)
@@ -69,10 +72,6 @@ mdt_told s p are k = by (is_sent_to (ready_to_send s p) (addressed_in s (ready_t
     begun : (o : Option Task) → AreTold (with_begin o ((settled s p).calls k))
     begun None = kept
     begun (Some t) = kept
-
-    by : (b : Bool) → AreTold (if b then Send ∷ (ready_to_send s p).calls k else (ready_to_send s p).calls k)
-    by true = begun (begins s (settled s p) k)
-    by false = begun (begins s (settled s p) k)
 
 pub all_told : (s : Known) (requests : ℕ → List Task) (h : List Call) → AreHeard h → (k : ℕ) → AreTold ((past s requests h).calls k)
 all_told s requests [] are k = tt
@@ -279,14 +278,13 @@ module _ (counts : CountsAnswers) (r : RingView) (jobs : List Job) (few : length
     with_broken_fits reports are = reports_all FitsPair (broken p) (length (known_of r).drives) reports broken_fits are
 
     all_told_fits : (reports : List (ℕ × Outcome)) → All FitsPair reports → All FitsPair (outcomes_told (known_of r) p reports)
-    all_told_fits reports are = by (is_some (fall_of (known_of r) p))
+    all_told_fits reports are = elim (cases_Bool (is_some (fall_of (known_of r) p))) [
+      | inl on ↦ rw on (with_broken_fits (with_reports p.now.report (length (known_of r).drives) reports) ended)
+      | inr off ↦ rw off ended
+    ]
       where
         ended : All FitsPair (with_reports p.now.report (length (known_of r).drives) reports)
         ended = reports_all FitsPair p.now.report (length (known_of r).drives) reports told_fits are
-
-        by : (b : Bool) → All FitsPair (if b then with_broken (known_of r) p (with_reports p.now.report (length (known_of r).drives) reports) else with_reports p.now.report (length (known_of r).drives) reports)
-        by true = with_broken_fits (with_reports p.now.report (length (known_of r).drives) reports) ended
-        by false = ended
 
   pub outcomes_spelt : (carry : Carry) (restarts : Restarts) (t : CycleView) (j : List CycleView) → IsNext r jobs carry restarts t j → All FitsPair t.events.outcomes
   outcomes_spelt carry restarts t j next = subst (All FitsPair) (sym (ap (λ (e : EventsView). e.outcomes) next.events)) (all_told_fits (middle r carry restarts t.sent j) (middle_heard r carry restarts t j) _ (by (restarts (length j) 0)))

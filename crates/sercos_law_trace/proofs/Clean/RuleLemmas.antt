@@ -56,14 +56,17 @@ pub none_broken : (a b c d e f g h i : Bool) → a ≡ true → b ≡ true → c
     → first_broken (a ∷ b ∷ c ∷ d ∷ e ∷ f ∷ g ∷ h ∷ i ∷ []) ≡ None
 none_broken a b c d e f g h i ka kb kc kd ke kf kg kh ki = rw (ka, kb, kc, kd, ke, kf, kg, kh, ki) refl
 
-pub at_broken : (w : WishesView) (before : List Told) (cycle : ℕ) (start : ℤ) (bits : ℕ) (content : List ℕ) (command : Option Command) (seen : List SentView) → command_before before ≡ command → in_cycle before ≡ seen
-    → broken_rule w before (record { cycle = cycle; sent = record { kind = kinds.At; start = start; bits = bits; content = content } }) ≡ broken_by w command seen cycle (record { kind = kinds.At; start = start; bits = bits; content = content })
-at_broken w before cycle start bits content command seen is are =
+pub rule_so : (w : WishesView) (before : List Told) (cycle : ℕ) (k : Kind) (start : ℤ) (bits : ℕ) (content : List ℕ)
+    (command : Option Command) (seen : List SentView) →
+    command_before before ≡ command → in_cycle before ≡ seen →
+    (let s : SentView = record { kind = k; start = start; bits = bits; content = content } in
+    broken_rule w before (record { cycle = cycle; sent = s }) ≡ broken_by w command seen cycle s)
+rule_so w before cycle kinds.Mst start bits content command seen is are =
+    ap₂ (λ (o : Option Command) (l : List SentView). broken_by w o l cycle
+    (record { kind = kinds.Mst; start = start; bits = bits; content = content })) is are
+rule_so w before cycle kinds.At start bits content command seen is are =
     ap₂ (λ (o : Option Command) (l : List SentView). broken_by w o l cycle (record { kind = kinds.At; start = start; bits = bits; content = content })) is are
-
-pub mdt_broken : (w : WishesView) (before : List Told) (cycle : ℕ) (start : ℤ) (bits : ℕ) (content : List ℕ) (command : Option Command) (seen : List SentView) → command_before before ≡ command → in_cycle before ≡ seen
-    → broken_rule w before (record { cycle = cycle; sent = record { kind = kinds.Mdt; start = start; bits = bits; content = content } }) ≡ broken_by w command seen cycle (record { kind = kinds.Mdt; start = start; bits = bits; content = content })
-mdt_broken w before cycle start bits content command seen is are =
+rule_so w before cycle kinds.Mdt start bits content command seen is are =
     ap₂ (λ (o : Option Command) (l : List SentView). broken_by w o l cycle (record { kind = kinds.Mdt; start = start; bits = bits; content = content })) is are
 
 -- what was seen after some ATs, the newest first
@@ -89,12 +92,12 @@ rest_kept : (w : WishesView) (rate : ℕ) (c : Command) (mst : SentView) (ats : 
     → AreRuled w rate c mst done ats m → AreKept w c (told_after c.cycle (ats_said rate ats ++ sent_mdt rate m) before)
 rest_kept w rate c mst [] done None before is are kept ruled = record { kept = kept; command = is }
 rest_kept w rate c mst [] done (Some m) before is are kept ruled = record {
-  kept = (kept, mdt_broken w before c.cycle (pos (rate * m.start)) (length (frame_of m.content)) m.content (Some c) (seen_of rate mst done) is are ∙ ruled);
+  kept = (kept, rule_so w before c.cycle kinds.Mdt (pos (rate * m.start)) (length (frame_of m.content)) m.content (Some c) (seen_of rate mst done) is are ∙ ruled);
   command = is;
 }
 rest_kept w rate c mst (s ∷ ats) done m before is are kept ruled =
     rest_kept w rate c mst ats (s ∷ done) m _ is (ap (λ (l : List SentView). sent_at rate s.start s.content ∷ l) are)
-    (kept, at_broken w before c.cycle (pos (rate * s.start)) (length (frame_of s.content)) s.content (Some c) (seen_of rate mst done) is are ∙ ruled.0) ruled.1
+    (kept, rule_so w before c.cycle kinds.At (pos (rate * s.start)) (length (frame_of s.content)) s.content (Some c) (seen_of rate mst done) is are ∙ ruled.0) ruled.1
 
 -- A WHOLE CYCLE: the MST keeps the rules after those before it, and then the others do.
 abbrev pub command_at : ℕ → List ℕ → Command

@@ -1,5 +1,5 @@
 -- The telegrams of a run keep the rules, by induction over its cycles.
-use Rattle.sercos_law_trace.proofs.Words.{◌≡◌, inl, inr, ℕ, zero, suc, ◌+◌, ◌<◌, ◌≤◌, ◌==◌, nat_le, Bool, true, false, ◌||◌, if◌then◌else◌, List, [], ◌∷◌, ◌++◌, length, Option, Some, None, is_some, refl, sym, ◌∙◌, ap, subst, arith, slice_index, eq-eqb, nat_tests, mst_content, IsValid, IsCycle, WishesView, PlanView, Wish, Job, at_len, RingView, carried_len, Moment, phase_in, cycle_in, blocks_in, Said, drive_says, values_in, SentView, CycleView, Known, known_of, tasks_for, fields_length, held_by, Holds, start_up, Past, ready_to_send, fall_of, is_done, after_end, new_epoch, next_phase, still_waiting, Sent, mdt_said, Carry, Restarts, IsApart, Command, command_before, is_drive, wish_for, is_next_cycle, is_next_phase, drive_at, given_mst, master_calls, begins, middle, looks_back, said_below, ats_said, sent_mst, sent_mdt, IsNext, IsRun, IsClear, at_start, behind_ats, behind_mdt, after_mst, Sends, sender_phase, sent_by, same_drive, members_count, address_of, IsContent, at_content, phase_low, mdt_whole, AllStand, IsPlannedIn, s_known, phase_same, holding, rules, carried_length, first_store, stored_in, spelled_in, all_stand, keeps_all, IsOpened, takes_part, store_in_cycle, told_after, told_in, KeepRules, RunsKeepRules, are_as_long, keeps_within, is_planned, rate_is, wishes_of, or_right, or_left, or-true}
+use Rattle.sercos_law_trace.proofs.Words.{◌≡◌, inl, inr, ℕ, zero, suc, ◌+◌, ◌<◌, ◌≤◌, ◌==◌, nat_le, Bool, true, false, ◌||◌, if◌then◌else◌, List, [], ◌∷◌, ◌++◌, length, Option, Some, None, is_some, refl, sym, ◌∙◌, ap, subst, arith, slice_index, eq-eqb, nat_tests, mst_content, IsValid, IsCycle, WishesView, PlanView, Wish, Job, at_len, RingView, carried_len, Moment, phase_in, cycle_in, blocks_in, Said, drive_says, values_in, SentView, CycleView, Known, known_of, tasks_for, fields_length, held_by, Holds, start_up, Past, ready_to_send, fall_of, is_done, after_end, new_epoch, next_phase, still_waiting, Sent, mdt_said, Carry, Restarts, IsApart, Command, command_before, is_drive, wish_for, is_next_cycle, is_next_phase, drive_at, given_mst, master_calls, begins, middle, looks_back, said_below, ats_said, sent_mst, sent_mdt, IsNext, IsRun, IsClear, at_start, behind_ats, behind_mdt, after_mst, Sends, sender_phase, sent_by, same_drive, members_count, address_of, IsContent, at_content, phase_low, mdt_whole, AllStand, IsPlannedIn, s_known, phase_same, holding, rules, carried_length, first_store, stored_in, spelled_in, all_stand, keeps_all, IsOpened, takes_part, store_in_cycle, told_after, told_in, KeepRules, RunsKeepRules, are_as_long, keeps_within, is_planned, rate_is, wishes_of, or_right, or_left, or-true, cases_Bool}
 use Rattle.sercos_master.specs.Annals.{goes_on}
 use Rattle.sercos_master.specs.Annals as master
 use Rattle.sercos_law_trace.proofs.Clean.RuleLemmas.{AreRuled, command_at, cycle_kept}
@@ -41,18 +41,10 @@ restarted_so false c phase is = is
 
 started_phase : (r : RingView) (jobs : List Job) (carry : Carry) (restarts : Restarts) (j : List CycleView)
     → (at_start r jobs carry restarts j).now.phase ≡ (if restarts (length j) 0 then 0 else (looks_back r jobs (master_calls r carry restarts j)).now.phase)
-started_phase r jobs carry restarts j = by (restarts (length j) 0)
-  where
-    by : (b : Bool) → (looks_back r jobs (if b then master.Restart ∷ master_calls r carry restarts j else master_calls r carry restarts j)).now.phase ≡ (if b then 0 else (looks_back r jobs (master_calls r carry restarts j)).now.phase)
-    by true = refl
-    by false = refl
+started_phase r jobs carry restarts j = elim (cases_Bool (restarts (length j) 0)) [ inl on ↦ rw on | inr off ↦ rw off ]
 
 ended_phase : (s : Known) (p : Past) → (after_end s p).now.phase ≡ (if is_some (fall_of s p) then 0 else (if is_done s p then p.now.phase + 1 else p.now.phase))
-ended_phase s p = by (is_some (fall_of s p))
-  where
-    by : (b : Bool) → (if b then new_epoch (p.cycle + 1) (still_waiting p) else goes_on (next_phase s p) p).now.phase ≡ (if b then 0 else next_phase s p)
-    by true = refl
-    by false = refl
+ended_phase s p = elim (cases_Bool (is_some (fall_of s p))) [ inl on ↦ rw on | inr off ↦ rw off ]
 
 -- the newest command of a journal
 abbrev newest : List CycleView → Option Command

@@ -1,7 +1,7 @@
 -- The ATs that the drives of a ring say, and the wishes of these drives.
-use Rattle.sercos_law_trace.proofs.Words.{◌≡◌, ℕ, zero, suc, ◌+◌, ◌<◌, ◌==◌, nat_lt, Bool, true, false, cond, ◌||◌, if◌then◌else◌, List, [], ◌∷◌, length, map, Option, Some, None, unwrap_or, slice_index_or, refl, sym, ◌∙◌, ap, arith, slice_index, list_any, find, position_or_len, eq-eqb, ne_eqb, eqb-true, nat_tests, Wish, wish, no_wish, WishesView, is_ring, wish_of, DriveView, RingView, DriveCall, Said, drive_says, place_of, is_drive, wish_for, no_drive, drive_at, with_said, said_below, same_drive, wishes_of, or-true}
+use Rattle.sercos_law_trace.proofs.Words.{◌≡◌, ℕ, zero, suc, ◌+◌, ◌<◌, ◌==◌, nat_lt, Bool, true, false, cond, ◌||◌, if◌then◌else◌, List, [], ◌∷◌, length, map, Option, Some, None, unwrap_or, slice_index_or, refl, sym, ◌∙◌, ap, arith, slice_index, list_any, find, position_or_len, eq-eqb, ne_eqb, nat_tests, Wish, wish, no_wish, WishesView, is_ring, wish_of, DriveView, RingView, DriveCall, Said, drive_says, place_of, is_drive, wish_for, no_drive, drive_at, with_said, said_below, same_drive, wishes_of, or-true}
 use Rattle.sercos_law_run.specs.Journal.Runs.{inserted}
-use Rattle.sercos_law_trace.proofs.Clean.SeenLemmas.{Each, EachPair, HasOther}
+use Rattle.sercos_law_trace.proofs.Clean.SeenLemmas.{Each, EachPair, HasOther, each_map}
 
 -- EACH AT of a cycle is what a drive says.
 pub each_inserted : (P : Said → Type 0) (s : Said) (others : List Said) → P s → Each P others → Each P (inserted s others)
@@ -49,13 +49,9 @@ pairs_said (suc n) d rate h apart own =
     differs : (s : Said) → slice_index s.content 0 ≡ (d n).address → (x : Said) → IsFrom n d x → IsOther s x
     differs s is x (k, low, from) = ne_eqb (slice_index s.content 0) (slice_index x.content 0) (λ same. let one = apart n k (omega arith) (omega (arith, low)) (sym is ∙ same ∙ from) in absurd (omega (arith, one, low)))
 
-    all_differ : (s : Said) → slice_index s.content 0 ≡ (d n).address → (xs : List Said) → Each (IsFrom n d) xs → Each (IsOther s) xs
-    all_differ s is [] are = tt
-    all_differ s is (x ∷ xs) are = (differs s is x are.0, all_differ s is xs are.1)
-
     by : (o : Option Said) → drive_says (d n) rate (h n) ≡ o → Each (IsFrom n d) (said_below n d rate h) → EachPair IsOther (said_below n d rate h) → EachPair IsOther (with_said o (said_below n d rate h))
     by None is from rest = rest
-    by (Some s) is from rest = pairs_inserted s (said_below n d rate h) (all_differ s (own n (omega arith) s is) (said_below n d rate h) from) rest
+    by (Some s) is from rest = pairs_inserted s (said_below n d rate h) (each_map (IsFrom n d) (IsOther s) (differs s (own n (omega arith) s is)) (said_below n d rate h) from) rest
 
 -- THE WISHES of the drives, by their addresses
 pub drive_there : (r : RingView) (k : ℕ) → k < length r.drives → is_drive (wishes_of r) (drive_at r k).address ≡ true
@@ -81,13 +77,6 @@ wish_found w address = by w.drives
         which false is rest = let next : 1 + position_or_len (λ (x : Wish). x.address == address) drives ≡ suc (position_or_len (λ (x : Wish). x.address == address) drives) = omega arith in rw (is, next) rest
 
 -- the drive at a place is the first with its address
-same_address : (r : RingView) (i k : ℕ) → is_ring r ≡ true → i < length r.drives → k < length r.drives → (i ≡ k → ⊥) → ((drive_at r i).address == (drive_at r k).address) ≡ false
-same_address r i k valid low high other = by ((drive_at r i).address == (drive_at r k).address) refl
-  where
-    by : (b : Bool) → ((drive_at r i).address == (drive_at r k).address) ≡ b → b ≡ false
-    by false is = refl
-    by true is = absurd (other (same_drive r i k valid low high (eqb-true _ _ is)))
-
 first_with : (drives : List DriveView) (k : ℕ) → k < length drives → ((i : ℕ) → i < k → ((slice_index_or drives i no_drive).address == (slice_index_or drives k no_drive).address) ≡ false)
     → find (λ (d : Wish). d.address == (slice_index_or drives k no_drive).address) (map wish_of drives) ≡ Some (wish_of (slice_index_or drives k no_drive))
 first_with [] k below others = absurd (omega (arith, below))
@@ -99,4 +88,6 @@ first_with (d ∷ drives) (suc k) below others =
 pub wish_is_for : (r : RingView) (k : ℕ) → is_ring r ≡ true → k < length r.drives → wish_for (wishes_of r) (drive_at r k).address ≡ wish_of (drive_at r k)
 unfolding wishes_of
 wish_is_for r k valid below =
-    ap (λ (o : Option Wish). unwrap_or o no_wish) (first_with r.drives k below (λ i low. same_address r i k valid (omega (arith, low, below)) below (λ is. absurd (omega (arith, is, low)))))
+    ap (λ (o : Option Wish). unwrap_or o no_wish) (first_with r.drives k below (λ i low.
+    ne_eqb (drive_at r i).address (drive_at r k).address (λ same. let is = same_drive r i k valid
+    (omega (arith, low, below)) below same in omega (arith, is, low))))

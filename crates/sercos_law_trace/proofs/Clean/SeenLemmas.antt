@@ -60,6 +60,10 @@ pub asked : (b kept : Bool) → kept ≡ true → (not b || kept) ≡ true
 asked true kept is = is
 asked false kept is = refl
 
+-- a telegram of the cycle, after the one before it, and before the MDT
+pub order : (b c : Bool) → b ≡ true → c ≡ false → (cycle : ℕ) → ((cycle == cycle) && (b && not c)) ≡ true
+order b c kb kc cycle = rw (eq-eqb cycle cycle refl, kb, kc) refl
+
 -- an MST isn't after another telegram
 mst_before : (n start : ℕ) → le_z (start_before n) (pos start) ≡ true
 mst_before zero start = le-leb 0 start (omega arith)

@@ -16,36 +16,26 @@ slots_by w rate [] = []
 slots_by w rate (s ∷ ats) = slot_by w rate s ∷ slots_by w rate ats
 
 slots_are : (w : WishesView) (rate : ℕ) (mst : List ℕ) (ats : List Said) (o : Option Sent) → ats_in w (sent_mst mst ∷ ats_said rate ats ++ sent_mdt rate o) ≡ slots_by w rate ats
-slots_are w rate mst ats o = by ats o
-  where
-    by : (ats : List Said) (o : Option Sent) → ats_in w (ats_said rate ats ++ sent_mdt rate o) ≡ slots_by w rate ats
-    by [] None = refl
-    by [] (Some m) = refl
-    by (s ∷ ats) o = ap (λ (l : List AtSlot). slot_by w rate s ∷ l) (by ats o)
+slots_are w rate mst [] None = refl
+slots_are w rate mst [] (Some m) = refl
+slots_are w rate mst (s ∷ ats) o = ap (λ (l : List AtSlot). slot_by w rate s ∷ l) (slots_are w rate mst ats o)
 
 mdts_are : (rate : ℕ) (mst : List ℕ) (ats : List Said) (o : Option Sent) → filter (λ (s : SentView). is_mdt s.kind) (sent_mst mst ∷ ats_said rate ats ++ sent_mdt rate o) ≡ sent_mdt rate o
-mdts_are rate mst ats o = by ats o
-  where
-    by : (ats : List Said) (o : Option Sent) → filter (λ (s : SentView). is_mdt s.kind) (ats_said rate ats ++ sent_mdt rate o) ≡ sent_mdt rate o
-    by [] None = refl
-    by [] (Some m) = refl
-    by (s ∷ ats) o = by ats o
+mdts_are rate mst [] None = refl
+mdts_are rate mst [] (Some m) = refl
+mdts_are rate mst (s ∷ ats) o = mdts_are rate mst ats o
 
 -- what holds of all slots
 each_slot : (w : WishesView) (rate : ℕ) (P : AtSlot → Type 0) (ats : List Said) → All P (slots_by w rate ats) → Each (λ (s : Said). P (slot_by w rate s)) ats
 each_slot w rate P [] all = tt
 each_slot w rate P (s ∷ ats) all = (All-head P (slot_by w rate s) (slots_by w rate ats) all, each_slot w rate P ats (All-tail P (slot_by w rate s) (slots_by w rate ats) all))
 
-first_pairs : {X : Type 0} (R : X → X → Type 0) (x : X) (xs : List X) → AllPairs R (x ∷ xs) → All (R x) xs
-first_pairs R x xs pairs = λ j d within. pairs 0 (suc j) d (omega arith) (omega (arith, within))
-
-other_pairs : {X : Type 0} (R : X → X → Type 0) (x : X) (xs : List X) → AllPairs R (x ∷ xs) → AllPairs R xs
-other_pairs R x xs pairs = λ i j d low within. pairs (suc i) (suc j) d (omega (arith, low)) (omega (arith, within))
-
 each_pair : (w : WishesView) (rate : ℕ) (R : AtSlot → AtSlot → Type 0) (ats : List Said) → AllPairs R (slots_by w rate ats) → EachPair (λ (x y : Said). R (slot_by w rate x) (slot_by w rate y)) ats
 each_pair w rate R [] pairs = tt
-each_pair w rate R (s ∷ ats) pairs =
-    (each_slot w rate (R (slot_by w rate s)) ats (first_pairs R (slot_by w rate s) (slots_by w rate ats) pairs), each_pair w rate R ats (other_pairs R (slot_by w rate s) (slots_by w rate ats) pairs))
+each_pair w rate R (s ∷ ats) pairs = (
+  each_slot w rate (R (slot_by w rate s)) ats (λ j d within. pairs 0 (suc j) d (omega arith) (omega (arith, within))),
+  each_pair w rate R ats (λ i j d low within. pairs (suc i) (suc j) d (omega (arith, low)) (omega (arith, within))),
+)
 
 -- what the ring declares for a drive, by its address
 pause_so : (w : WishesView) (rate : ℕ) (x y : Said) → HasPause w (slot_by w rate x) (slot_by w rate y) → end_at rate x + pause_by w x y ≤ rate * y.start

@@ -1,5 +1,5 @@
 -- What a cycle reports fits the fields of its lines.
-use Rattle.sercos_law_trace.proofs.Words.{◌≡◌, ℕ, zero, suc, ◌+◌, ◌<◌, ◌≤◌, Bool, true, false, List, [], ◌∷◌, ◌++◌, length, take, drop, Option, Some, None, option_map, unwrap_or, Ok, Err, refl, sym, ◌∙◌, ap, subst, arith, if◌then◌else◌, slice_get, option_or, All, All-nil, All-cons, All-head, All-tail, AreBytes-get_or, Idn, Code, Job, Request, Outcome, CountsAnswers, outcome_of, RingView, Begun, begun_by, Ident, Stop, raws, EventsView, CycleView, asked_by, idns_in, with_outcome, outcomes_in, Known, IsKnown, MemberView, HasLists, known_of, tasks_for, member, Past, outcomes, restart_told, Carry, Restarts, master_calls, middle, looks_back, no_events, IsRun, IsClear, IsTypedRequest, ring_timed, all_members, tasks_so, IsTypedPast, typed_past, AreBegun, s_known, first_store, keeps_all, IsOpened, Fit, FitsStop, FitsLink, FitsChain, FitsReports, FitReports, RunsFitReports, WishesView, chain_of, planned, is_roomy, least_plan, ChainView, Link, lens, are_requests, check128_has_cause, no_fit_has_cause, refused_has_cause, is_planned, AreBytes, AreItems, IsItem, IsTail, field_of, AreOf, IsOf, part_left, template_of, tail_for, or_none}
+use Rattle.sercos_law_trace.proofs.Words.{◌≡◌, ℕ, zero, suc, ◌+◌, ◌<◌, ◌≤◌, Bool, true, false, List, [], ◌∷◌, ◌++◌, length, take, drop, Option, Some, None, option_map, unwrap_or, Ok, Err, refl, sym, ◌∙◌, ap, subst, arith, if◌then◌else◌, slice_get, option_or, All, All-nil, All-cons, All-head, All-tail, AreBytes-get_or, Idn, Code, Job, Request, Outcome, CountsAnswers, outcome_of, RingView, Begun, begun_by, Ident, Stop, raws, EventsView, CycleView, asked_by, idns_in, with_outcome, outcomes_in, Known, IsKnown, MemberView, HasLists, known_of, tasks_for, member, Past, outcomes, restart_told, Carry, Restarts, master_calls, middle, looks_back, no_events, IsRun, IsClear, IsTypedRequest, ring_timed, all_members, tasks_so, IsTypedPast, typed_past, AreBegun, s_known, first_store, keeps_all, IsOpened, Fit, FitsStop, FitsLink, FitsReports, FitReports, RunsFitReports, WishesView, chain_of, planned, is_roomy, least_plan, ChainView, Link, lens, are_requests, check128_has_cause, no_fit_has_cause, refused_has_cause, is_planned, AreBytes, AreItems, IsItem, IsTail, field_of, AreOf, IsOf, part_left, template_of, tail_for, or_none, inl, inr, cases_Option}
 use Rattle.sercos_step.specs.declared.request.Request.TheVariants as request
 use Rattle.sercos_step.specs.declared.request.Outcome.TheVariants as outcome
 use Rattle.sercos_text.specs.Templates.Value.{number as counted}
@@ -48,28 +48,21 @@ request_low (request.Read i e) typed = typed.0
 request_low (request.Write i e bytes) typed = typed.0
 request_low (request.Command i) typed = typed
 
-first_request : (begun : List Begun) (one : Begun) (older : List Begun) → begun ≡ one ∷ older → AreBegun begun → IsTypedRequest one.request
-first_request begun one older is are = let here : AreBegun (one ∷ older) = subst AreBegun is are in here.0
-
-first_going : (begun : List Begun) (one : Begun) (older : List Begun) → begun ≡ one ∷ older → AreGoing begun → AreGoing (one ∷ older)
-first_going begun one older is are = subst AreGoing is are
-
 -- WHAT THE DRIVES ANSWER gives small numbers.
 short_low : (bytes : List ℕ) → AreBytes bytes → agenda.short_in bytes ≤ 65535
 short_low bytes are = let a = AreBytes-get_or bytes 0 are in let b = AreBytes-get_or bytes 1 are in omega (arith, a, b)
 
 given_bytes : (outs : List Outcome) (i : ℕ) → Each IsSpelt outs → AreBytes (agenda.given outs i)
 unfolding AreBytes
-given_bytes outs i are = by (slice_get outs i) refl
+given_bytes outs i are = elim (cases_Option (slice_get outs i)) [
+  | inl is ↦ rw is tt
+  | inr (x, is) ↦ rw is (one x (spelt_at outs i x are is))
+]
   where
     one : (o : Outcome) → IsSpelt o → AreBytes (agenda.bytes_of o)
     one (outcome.Complete bytes) is = is.0
     one (outcome.Refused code) is = tt
     one outcome.Broken is = tt
-
-    by : (o : Option Outcome) → slice_get outs i ≡ o → AreBytes (unwrap_or (option_map agenda.bytes_of o) [])
-    by None is = tt
-    by (Some x) is = one x (spelt_at outs i x are is)
 
 given_low : (outs : List Outcome) (i : ℕ) → Each IsSpelt outs → agenda.short_in (agenda.given outs i) ≤ 65535
 given_low outs i are = short_low (agenda.given outs i) (given_bytes outs i are)
@@ -133,9 +126,6 @@ link_lines : (cycle : ℕ) (links : List Link) → cycle ≤ 4294967295 → Each
 link_lines cycle [] low are = All-nil (FitsLink cycle)
 link_lines cycle (l ∷ links) low are = All-cons (FitsLink cycle) l links (link_line cycle l low are.0) (link_lines cycle links low are.1)
 
-chain_lines : (cycle : ℕ) (c : ChainView) → cycle ≤ 4294967295 → IsSmallChain c → FitsChain cycle c
-chain_lines cycle c low is = (nofit_line cycle low, link_lines cycle c.links low is.links, sum_line cycle c low is)
-
 refused_line : (cycle drive : ℕ) (i : Idn) (code : Code) → cycle ≤ 4294967295 → drive ≤ 255 → i.raw < 65536 → code.raw < 65536 → FitsStop cycle (Some (stop.Refused drive i code))
 unfolding template_of AreOf IsPart IsOf field_of part_left IsItem AreBytes
 refused_line cycle drive i code number low idn small = (tt, (tt, (tt, (tt, (tt, (number, (tt, (tt, (tt, (tt, (tt, (tt, (tt, (tt, (tt, (low, (tt, (idn, (tt, (tt, (tt, (((omega (arith, small), (omega arith, tt)), refl), tt))))))))))))))))))))))
@@ -179,12 +169,15 @@ module _ (counts : CountsAnswers) (r : RingView) (jobs : List Job) (few : length
         let has = no_fit_has_cause (known_of r) (tasks_for (known_of r) jobs) (middle r carry restarts t.sent j) c (stop_is _ is) in
         let known = s_known r jobs carry restarts opened (first_store r jobs carry restarts opened) in
         let asked = asked_low (known_of r) (outcomes p) known (λ k. all_spelt counts (begun_by (p.calls k)) (going k)) in
-        chain_lines t.cycle c number (subst IsSmallChain (chain_is (agenda.wishes_given (known_of r) (outcomes p)) c has.1) (chain_small (agenda.wishes_given (known_of r) (outcomes p)) asked))
+        let is : IsSmallChain c =
+        subst IsSmallChain (chain_is (agenda.wishes_given (known_of r) (outcomes p)) c has.1)
+        (chain_small (agenda.wishes_given (known_of r) (outcomes p)) asked) in
+        (nofit_line t.cycle number, link_lines t.cycle c.links number is.links, sum_line t.cycle c number is)
     stop_fits (Some (stop.Refused address i code)) is =
         let has = refused_has_cause (known_of r) (tasks_for (known_of r) jobs) (middle r carry restarts t.sent j) address i code (stop_is _ is) in
         let ended = has.ended in
-        let going_one = first_going (begun_by (p.calls ended.place)) ended.one ended.older ended.begun (going ended.place) in
-        let typed_one : IsTypedRequest ended.one.request = first_request (begun_by (p.calls ended.place)) ended.one ended.older ended.begun (typed.begun ended.place) in
+        let going_one = subst AreGoing ended.begun (going ended.place) in
+        let typed_one : IsTypedRequest ended.one.request = (subst AreBegun ended.begun (typed.begun ended.place)).0 in
         let raw : i.raw < 65536 = subst (λ (x : Idn). x.raw < 65536) has.names (request_low has.asked (subst IsTypedRequest ended.asks typed_one)) in
         refused_line t.cycle address i code number (address_low ended.place address ended.address_is) raw (outcome_fits counts ended.one.request ended.one.answers (outcome.Refused code) going_one.0.0 going_one.0.1 ended.ended)
     stop_fits (Some (stop.BadConfig address i word)) is = absurd ((keeps_all r jobs carry restarts opened t j run clear).stops.no_bad_config address i word is)

@@ -1,5 +1,5 @@
 -- The trace of a run is a clean capture that begins with cycle 0.
-use Rattle.sercos_law_trace.proofs.Words.{◌≡◌, ◌⊎◌, inl, inr, ℕ, zero, suc, ◌<◌, ◌≤◌, nat_le, true, false, not, List, [], ◌∷◌, ◌++◌, length, map, reverse, Option, Some, None, slice_index_or, refl, sym, ◌∙◌, ap, subst, arith, append-nil, option_and_then, All, flat_map, option_or, and_parts, nat_tests, All-nil, All-cons, IsValid, IsWish, is_address, WishesView, Job, has_address, has_drive_numbers, wish_of, AreWithinLimits, DriveView, RingView, Line, Totals, ReadsBack, cycle_text, header_text, end_text, trace_of, SentView, CycleView, has_head, TellsFollowing, Clean, read_as, wish_is, drives_so, address_of, ring_timed, s_known, drive_got, got_inside, first_store, wishes_count, Carry, Restarts, mst_said, no_drive, drive_at, sent_mst, looks_back, begins, ats_next, mdt_next, IsRun, IsOpened, lines_with, lines_of, FitLines, ReadsTraces, reads_traces, told_in, KeepRules, FitOthers, TracesAreClean, IsRing-is_ring, ring_is_valid, are_drives, are_drive_numbers, wishes_of, capture_fault, first_violation, verdict_by, verdict_of, lines_after, lines_read, kind_cycle, mst_cycle, first_cycle, late, late_start}
+use Rattle.sercos_law_trace.proofs.Words.{◌≡◌, ℕ, zero, suc, ◌<◌, ◌≤◌, nat_le, true, false, not, List, [], ◌∷◌, ◌++◌, length, map, reverse, Option, Some, None, slice_index_or, refl, sym, ◌∙◌, ap, subst, arith, append-nil, option_and_then, All, flat_map, option_or, and_parts, nat_tests, All-nil, All-cons, IsValid, IsWish, is_address, WishesView, Job, has_address, has_drive_numbers, wish_of, AreWithinLimits, DriveView, RingView, Line, Totals, ReadsBack, cycle_text, header_text, end_text, trace_of, SentView, CycleView, has_head, TellsFollowing, Clean, read_as, wish_is, drives_so, address_of, ring_timed, s_known, drive_got, got_inside, first_store, wishes_count, Carry, Restarts, mst_said, no_drive, drive_at, sent_mst, looks_back, begins, ats_next, mdt_next, IsRun, IsOpened, lines_with, lines_of, FitLines, ReadsTraces, reads_traces, told_in, KeepRules, FitOthers, TracesAreClean, IsRing-is_ring, ring_is_valid, are_drives, are_drive_numbers, wishes_of, capture_fault, first_violation, verdict_by, verdict_of, lines_after, lines_read, kind_cycle, mst_cycle, first_cycle, late, late_start}
 use Rattle.sercos_block.specs.Rings.{is_drive}
 use Rattle.sercos_trace.specs.declared.reading.Line.TheVariants as line
 use Rattle.sercos_answer.specs.Lines as answer
@@ -9,6 +9,7 @@ use Rattle.sercos_law_trace.proofs.Clean.LineLeads.{Stands, journal_leads, end_l
 use Rattle.sercos_law_trace.proofs.Clean.HeadLeads.{FitsDrive, FitsHead, header_leads}
 use Rattle.sercos_law_trace.proofs.Clean.RunRules.{runs_keep_rules, cycle_low}
 use Rattle.sercos_law_trace.proofs.Clean.FitRuns.{runs_fit_lines}
+use Rattle.sercos_law_trace.proofs.Clean.ChainFits.{by_rate}
 
 -- THE VERDICT
 ended : (lines : List Line) → has_head lines ≡ true → capture_fault lines [] ≡ None
@@ -141,12 +142,6 @@ module _ (r : RingView) (jobs : List Job) (opened : IsOpened r jobs) where
         record_len = omega (arith, h);
       }
 
-  rate_low : (rate : ℕ) → (rate ≡ 2) ⊎ (rate ≡ 4) ⊎ (rate ≡ 8) ⊎ (rate ≡ 16) → rate ≤ 255
-  rate_low rate (inl is) = omega (arith, is)
-  rate_low rate (inr (inl is)) = omega (arith, is)
-  rate_low rate (inr (inr (inl is))) = omega (arith, is)
-  rate_low rate (inr (inr (inr is))) = omega (arith, is)
-
   head_fits : FitsHead (wishes_of r)
   unfolding wishes_of
   head_fits =
@@ -155,7 +150,7 @@ module _ (r : RingView) (jobs : List Job) (opened : IsOpened r jobs) where
       let control = (ring_timed r known opened.valid).control in
       let gap = valid.cycles.gap in
       record {
-        rate = rate_low r.rate valid.cycles.rate;
+        rate = by_rate (λ rate. rate ≤ 255) r.rate valid.cycles.rate (omega arith) (omega arith) (omega arith) (omega arith);
         cycle = omega (arith, cycle);
         control = omega (arith, control);
         gap = omega (arith, gap);

@@ -103,12 +103,6 @@ enough bound place requests cost cycles made below long count =
     let more : (place + 1) * cost ≤ requests * cost = mul-le-mul_right cost low in
     omega (arith, more, long, count)
 
-long_enough : (bound rest cycles made : ℕ) → bound + rest < cycles → made + 1 ≡ cycles → bound ≤ made
-long_enough bound rest cycles made long count = omega (arith, long, count)
-
-some_cycles : (bound rest cycles : ℕ) → bound + rest < cycles → 0 < cycles
-some_cycles bound rest cycles long = omega (arith, long)
-
 -- of the request with this number an outcome was told, and not a broken one
 pub record IsToldWhole (told : List (ℕ × Outcome)) (number : ℕ) : Type 0 where
   pub told_so : Outcome
@@ -124,9 +118,9 @@ pub told_whole : (r : RingView) (jobs : List Job) (carry : Carry) (restarts : Re
     → job.drive ≡ (drive_at r k).address → IsToldWhole (told_in run) (1 + n)
 told_whole r jobs carry restarts run n k job starts right long calm there below to =
     let task = task_at (drive_at r k).address 1 n jobs job there to in
-    let made = is_made run (some_cycles _ _ _ long) in
+    let made = is_made run (omega (arith, long)) in
     let up = starts [] made.one made.before made.is (subst (NeverDisturbed r carry restarts) made.is calm) in
-    let four = up.rises (long_enough _ _ _ _ long made.count) right in
+    let four = up.rises (let count = made.count in omega (arith, long, count)) right in
     let mine : slice_get (tasks_for (known_of r) jobs k) task.place ≡ Some task.task = subst (λ (a : ℕ). slice_get (tasks_from a 1 jobs) task.place ≡ Some task.task) (sym (ap (λ (m : MemberView). m.address) (member_is r k))) task.there in
     let told = up.reports four k task.place task.task below mine (enough _ _ _ _ _ _ task.few long made.count) in
     let number : told.0 ≡ 1 + n = same_Some _ _ (sym told.1 ∙ task.is) in

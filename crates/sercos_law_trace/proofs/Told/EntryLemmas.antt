@@ -31,7 +31,7 @@ behind_in count e (x ∷ entries) is = by (length entries == count) is (behind_i
     by false is rest = inr (rest is)
 
 -- A request that was begun in a cycle is among all that were begun.
-both_begun : (falls : Bool) (begun ago : List Begun) → (if falls then [] else begun) ++ leaving falls begun ago ≡ begun ++ ago
+pub both_begun : (falls : Bool) (begun ago : List Begun) → (if falls then [] else begun) ++ leaving falls begun ago ≡ begun ++ ago
 both_begun true begun ago = refl
 both_begun false begun ago = refl
 

@@ -1,6 +1,6 @@
 -- Before phase 4 no request of the document is begun: so where the phase rises, a channel has begun at most the requests of the start-up,
 -- and all have ended.
-use Rattle.sercos_law_trace.proofs.Words.{◌≡◌, ℕ, suc, ◌+◌, ◌<◌, ◌≤◌, true, List, [], ◌∷◌, length, Option, Some, None, refl, sym, ap, ◌∙◌, arith, length-append, is_none, false≢true, nat_tests, has_next, Outcome, outcome_of, Begun, begun_by, PlanView, reads_count, is_ready, outcomes_in, with_outcome, Known, Task, member, AreWaiting, ready_stays, Past, outcomes, is_done, is_done_in, each_passes, IsTask, OfReads, OfWrites, Checks3, Lists3, Checks4, Lists4, OfWaiting, AreBegunTasks, HasBegunTasks, all_ended, rests_so, not_longer, subst}
+use Rattle.sercos_law_trace.proofs.Words.{◌≡◌, ℕ, suc, ◌+◌, ◌<◌, ◌≤◌, true, List, [], ◌∷◌, length, Option, Some, None, refl, sym, ap, ◌∙◌, arith, length-append, is_none, false≢true, nat_tests, Outcome, outcome_of, Begun, begun_by, PlanView, reads_count, is_ready, outcomes_in, with_outcome, Known, Task, member, AreWaiting, ready_stays, Past, outcomes, is_done, is_done_in, each_passes, IsTask, OfReads, OfWrites, Checks3, Lists3, Checks4, Lists4, OfWaiting, AreBegunTasks, HasBegunTasks, all_ended, rests_so, not_longer, subst}
 use Rattle.sercos_law_trace.proofs.Told.GuardedWrites.{HaveEnded}
 
 -- the requests that have ended
@@ -43,7 +43,7 @@ pub few_at_end : (s : Known) (p : Past) (k : ℕ) → k < length s.drives → Ar
 few_at_end s p k below waits are done = (
   few_tasks s k p.plan (p.waiting k) p.now.phase (begun_by (p.calls k)) (p.tasks k) waits (low p.now.phase done) are
       (λ three. each_passes (length s.drives) 0 (λ j. is_ready (member s j) (outcomes p j)) (subst (λ (n : ℕ). is_done_in n s p ≡ true) three done) k (omega arith) (omega (arith, below))),
-  ended_each (begun_by (p.calls k)) (all_ended s k has_next p.plan (p.waiting k) p.now.phase (begun_by (p.calls k)) (p.tasks k) are (ap (λ o. is_none o) (rests_so s p k below waits are done))),
+  ended_each (begun_by (p.calls k)) (all_ended s k p.plan (p.waiting k) p.now.phase (begun_by (p.calls k)) (p.tasks k) are (ap (λ o. is_none o) (rests_so s p k below waits are done))),
 )
   where
     low : (n : ℕ) → is_done_in n s p ≡ true → n ≤ 3

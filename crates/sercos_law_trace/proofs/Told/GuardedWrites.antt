@@ -1,6 +1,6 @@
 -- In phase 4 nothing is written to a block that is write protected in phase 4: so no request that is begun in phase 4 ends as a complete
 -- write to it.
-use Rattle.sercos_law_trace.proofs.Words.{◌≡◌, ℕ, ◌+◌, ◌≤◌, ◌==◌, Bool, true, false, List, [], ◌∷◌, ◌++◌, length, map, Option, Some, None, refl, sym, ap, ◌∙◌, subst, arith, if◌then◌else◌, length-append, none-some, is_some, and_parts, eqb-true, nat_tests, Idn, Request, Outcome, Answer, outcome_of, Block, is_protected, find_block, Processed, Entry, log_of, Write, with_added, writes_of, added_on, Begun, open_in, answers_it, answer_in, with_answer, Given, given_of, written_to, given_by, AreWrites, Complete, Refused, Broken, AreExact, Heard, View, standing, stood_in, record_in, with_record, processed_in, command, with_heard, with_begun, epoch_begun, begun_in, epoch_records, epoch_log, log_in, records_in_views, AreSound, AreSmall, cycle_exact, Laws, Processes, Nothing, Record, processes, processed_phase, added_bare, written, command_below}
+use Rattle.sercos_law_trace.proofs.Words.{◌≡◌, ℕ, ◌+◌, ◌≤◌, ◌==◌, Bool, true, false, List, [], ◌∷◌, ◌++◌, length, map, Option, Some, None, refl, sym, ap, ◌∙◌, subst, arith, if◌then◌else◌, length-append, none-some, is_some, and_parts, nat_tests, Idn, Request, Outcome, Answer, outcome_of, Block, is_protected, find_block, Processed, Entry, log_of, Write, with_added, writes_of, added_on, Begun, open_in, answers_it, answer_in, with_answer, Given, given_of, written_to, given_by, AreWrites, Complete, Refused, Broken, AreExact, Heard, View, standing, stood_in, record_in, with_record, processed_in, command, with_heard, with_begun, epoch_begun, begun_in, epoch_records, epoch_log, log_in, records_in_views, AreSound, AreSmall, cycle_exact, Processes, Nothing, Record, processes, processed_phase, added_bare, written, command_below, ne_eqb}
 use Rattle.sercos_step.specs.declared.request.Request.TheVariants as request
 use Rattle.sercos_step.specs.declared.request.Outcome.TheVariants as outcome
 use Rattle.sercos_law_channel.specs.Handshake.Runs.{IsRun}
@@ -130,7 +130,7 @@ below_most busy v past run low = by v.master_restarts run.1.commanded
 pub phase_most : (busy : ℕ) (v : View) (past : List View) → IsRun busy (v ∷ past) → v.phase ≤ 4
 phase_most busy v past run = below_most busy v past run (command_below busy past run.0)
 
-module _ (laws : Laws) (busy few : ℕ) (blocks : List Block) (small : AreSmall blocks) (idn : Idn) (b : Block) (found : find_block idn.raw blocks ≡ Some b) (guard : is_protected b.attribute 4 ≡ true) where
+module _ (busy few : ℕ) (blocks : List Block) (small : AreSmall blocks) (idn : Idn) (b : Block) (found : find_block idn.raw blocks ≡ Some b) (guard : is_protected b.attribute 4 ≡ true) where
   -- a record of phase 4
   taken_guarded : (v : View) (past : List View) → AreSound blocks (v ∷ past) → v.phase ≡ 4 → (h : List Processed) → count_writes idn.raw (writes_of (log_of (with_record (processed_in v past) h))) ≤ count_writes idn.raw (writes_of (log_of h))
   taken_guarded v past sound four h = by (processes v past)
@@ -145,13 +145,9 @@ module _ (laws : Laws) (busy few : ℕ) (blocks : List Block) (small : AreSmall 
           omega (arith, same)
         where
           other : (w : Write) → added_on (record_in v (length past) (stood_in v (standing past)) s) h ≡ Some w → stood_in v (standing past) ≡ 4 → (w.raw == idn.raw) ≡ false
-          other w is phase = which (w.raw == idn.raw) refl
-            where
-              which : (x : Bool) → (w.raw == idn.raw) ≡ x → (w.raw == idn.raw) ≡ false
-              which false off = off
-              which true at =
-                  let off = added_bare (record_in v (length past) (stood_in v (standing past)) s) h w blocks b is sound.1.0 (ap (λ (n : ℕ). find_block n blocks) (eqb-true w.raw idn.raw at) ∙ found) in
-                  let on : is_protected b.attribute (stood_in v (standing past)) ≡ true = ap (is_protected b.attribute) phase ∙ guard in absurd (cc)
+          other w is phase = ne_eqb w.raw idn.raw (λ at.
+              let off = added_bare (record_in v (length past) (stood_in v (standing past)) s) h w blocks b is sound.1.0 (ap (λ (n : ℕ). find_block n blocks) at ∙ found) in
+              let on : is_protected b.attribute (stood_in v (standing past)) ≡ true = ap (is_protected b.attribute) phase ∙ guard in cc)
 
   -- a cycle of phase 4
   in_four : (v : View) (past : List View) → IsRun busy (v ∷ past) → AreSound blocks (v ∷ past) → v.phase ≡ 4 → (command past ≡ 4 → IsGuarded few idn.raw blocks (epoch_begun past) (writes_of (epoch_log past)))
@@ -172,7 +168,7 @@ module _ (laws : Laws) (busy few : ℕ) (blocks : List Block) (small : AreSmall 
     split = refl;
     short = short;
     rests = run.1.rests on;
-    counted = let same = exact_same idn.raw blocks (begun_in v past) (log_in v past) (writes_of (log_in v past)) ended (cycle_exact blocks busy laws small v past run sound) in omega (arith, same);
+    counted = let same = exact_same idn.raw blocks (begun_in v past) (log_in v past) (writes_of (log_in v past)) ended (cycle_exact blocks busy small v past run sound) in omega (arith, same);
   }
 
   pub guarded : (past : List View) → IsRun busy past → AreSound blocks past → AreFewAtRise few past → command past ≡ 4 → IsGuarded few idn.raw blocks (epoch_begun past) (writes_of (epoch_log past))
@@ -190,7 +186,7 @@ module _ (laws : Laws) (busy few : ℕ) (blocks : List Block) (small : AreSmall 
       → few ≤ length older → one.request ≡ request.Write idn 7 bytes → outcome_of one.request one.answers ≡ Some (outcome.Complete whole) → ⊥
   never_complete v past run sound fews four newer older one bytes whole split late asks complete =
       let is = in_four v past run sound four (guarded past run.0 sound.0 fews) in
-      let least = exact_least idn.raw blocks (begun_in v past) (log_in v past) (writes_of (log_in v past)) (cycle_exact blocks busy laws small v past run sound) in
+      let least = exact_least idn.raw blocks (begun_in v past) (log_in v past) (writes_of (log_in v past)) (cycle_exact blocks busy small v past run sound) in
       let short = is.short in
       let counted = is.counted in
       let middle = behind is.newer is.start newer older one (sym is.split ∙ split) (omega (arith, short, late)) in

@@ -1,5 +1,5 @@
 -- A complete write of operation data is kept, if no later request writes to its block: the start-up doesn't write it either.
-use Rattle.sercos_law_trace.proofs.Words.{◌≡◌, ◌⊎◌, inl, inr, ℕ, zero, suc, ◌+◌, ◌<◌, ◌==◌, Bool, true, false, not, ◌||◌, if◌then◌else◌, List, [], ◌∷◌, ◌++◌, length, Option, Some, None, refl, sym, ap, subst, ◌∙◌, arith, none-some, same_Some, IfSome, option_map, nat_lt, drop, map, is_some, unwrap_or, slice_get, slice_index, list_all, list_any, cond-true, nat_tests, Idn, Request, Job, Outcome, PlanView, Block, find_block, store_of, RingView, data_at, AreAlike, without_data, flipped, find-alike, is_fixed, blocks_in, annals, Begun, begun_by, CycleView, Carry, Restarts, Known, MemberView, Task, known_of, tasks_for, member, declared_times, reads, writes, count_requests, outcomes_in, Call, HearMst, HearAt, Mdt, End, Restart, Past, past, settled, still_waiting, with_task, channel_at, CallsAreMoves, IsTask, OfReads, OfWrites, Checks3, Lists3, Checks4, Lists4, OfWaiting, AreBegunTasks, AreNumbered, AreRequests, IsWrittenLast, WritesData, numbered_drop, member_is, members_count, stored, all_begun, all_writes, AreSound, Given, written_to, newest_to, is_plain, store_in, HoldsNewest, StaysFixed, GiveElsewhere, heard, passage, mst_in, ats_in, IsRun, IsClear, drive_at, looks_back, middle, master_calls, own_mst, at_calls, with_at, station_of, given_before, behind_ats, behind_mdt, view_of, views_of, IsOpened, Headline, KeepsAll, writes_to, IsLastTo, WritesAreKept, get_dropped, writes_data, rest_runs, rest_clear, or_parts}
+use Rattle.sercos_law_trace.proofs.Words.{◌≡◌, ◌⊎◌, inl, inr, ℕ, zero, suc, ◌+◌, ◌<◌, ◌==◌, Bool, true, false, not, ◌||◌, if◌then◌else◌, List, [], ◌∷◌, ◌++◌, length, Option, Some, None, refl, sym, ap, subst, ◌∙◌, arith, none-some, same_Some, IfSome, option_map, nat_lt, drop, map, is_some, unwrap_or, slice_get, slice_index, list_all, list_any, cond-true, nat_tests, Idn, Request, Job, Outcome, PlanView, Block, find_block, store_of, RingView, data_at, AreAlike, without_data, flipped, find-alike, is_fixed, blocks_in, annals, Begun, begun_by, CycleView, Carry, Restarts, Known, MemberView, Task, known_of, tasks_for, member, declared_times, reads, writes, count_requests, outcomes_in, Call, HearMst, HearAt, Mdt, End, Restart, Past, past, settled, still_waiting, with_task, channel_at, IsTask, OfReads, OfWrites, Checks3, Lists3, Checks4, Lists4, OfWaiting, AreBegunTasks, AreNumbered, IsWrittenLast, numbered_drop, member_is, members_count, stored, all_begun, all_writes, Given, written_to, newest_to, is_plain, GiveElsewhere, heard, passage, mst_in, ats_in, IsRun, IsClear, drive_at, looks_back, middle, master_calls, own_mst, at_calls, with_at, station_of, given_before, behind_ats, behind_mdt, view_of, views_of, IsOpened, KeepsAll, writes_to, IsLastTo, WritesAreKept, get_dropped, writes_data, rest_runs, rest_clear, or_parts, left_of, all_stand, alike_so, store_of_so, first_store, keeps_all, calls_are_moves, first_waiting, has_next, are_requests, holds_newest, stays_fixed}
 use Rattle.sercos_step.specs.declared.request.Request.TheVariants as request
 use Rattle.sercos_step.specs.declared.request.Outcome.TheVariants as outcome
 use Rattle.sercos_service_drive.specs.Replies.{data_in}
@@ -11,28 +11,10 @@ use Rattle.sercos_law_run.specs.Views.RingViews.{request_of as request_in}
 use Rattle.sercos_law_trace.proofs.Told.ToldLemmas.{told_cut, HasReported, IsRequestOf, request_of}
 use Rattle.sercos_law_trace.proofs.Told.ReadLemmas.{reported_at, begun_as}
 use Rattle.sercos_law_trace.proofs.Told.StartNumbers.{all_start, is_start}
-use Rattle.sercos_law_trace.proofs.Told.StartBlocks.{StartLaws, not_start}
+use Rattle.sercos_law_trace.proofs.Told.StartBlocks.{not_start}
 use Rattle.sercos_law_trace.proofs.Told.LastWrites.{Elsewhere, newest_last, last_next, last_now}
 use Rattle.sercos_law_trace.proofs.Told.KnownBlocks.{known_block}
 use Rattle.sercos_law_trace.proofs.Told.LaterTasks.{IsAbove, AreAbove, AreLater, HasEnded, later_above, still, above_call, has_ended, ended_count}
-
--- the laws below
-pub record KeptLaws : Type 0 where
-  pub headline : Headline
-  pub moves : CallsAreMoves
-  pub first : (s : Known) (jobs : List Job) (h : List Call) (k : ℕ) (t : Task) → k < length s.drives → begins s (settled s (past s (tasks_for s jobs) h)) k ≡ Some t → is_some t.number ≡ true → slice_get (still_waiting (past s (tasks_for s jobs) h) k) 0 ≡ Some t
-  pub left : (s : Known) (jobs : List Job) (h : List Call) (k : ℕ) → (n : ℕ) × ((past s (tasks_for s jobs) h).waiting k ≡ drop n (tasks_for s jobs k))
-  pub requests : AreRequests
-  pub write_data : WritesData
-  pub start : StartLaws
-  pub newest : HoldsNewest
-  pub fixed : StaysFixed
-  pub sound : (r : RingView) (jobs : List Job) (carry : Carry) (restarts : Restarts) (j : List CycleView) (k : ℕ) → IsOpened r jobs → IsRun r jobs carry restarts j → IsClear j → k < length r.drives
-      → AreSound (store_of (drive_at r k)) (views_of r jobs carry restarts k j)
-  pub alike : (r : RingView) (jobs : List Job) (carry : Carry) (restarts : Restarts) (j : List CycleView) (k : ℕ) → IsOpened r jobs → k < length r.drives
-      → AreAlike (blocks_in (drive_at r k) (annals (drive_at r k) r.rate (given_before carry restarts j k))) (store_of (drive_at r k))
-  pub stores : (r : RingView) (jobs : List Job) (carry : Carry) (restarts : Restarts) (j : List CycleView) (k : ℕ) → IsOpened r jobs → IsRun r jobs carry restarts j → IsClear j → k < length r.drives
-      → blocks_in (drive_at r k) (annals (drive_at r k) r.rate (given_before carry restarts j k)) ≡ store_in (store_of (drive_at r k)) (views_of r jobs carry restarts k j)
 
 -- A request that doesn't write to a block gives nothing to its number.
 pub gives_elsewhere : (raw : ℕ) (blocks : List Block) (q : Request) → writes_to raw q ≡ false → Elsewhere raw blocks q
@@ -51,41 +33,35 @@ any_not raw [] i y none got = absurd (none-some _ got)
 any_not raw (x ∷ xs) zero y none got = let same : x ≡ y = cc in subst (λ (z : ℕ). (z == raw) ≡ false) same (or_parts (x == raw) _ none).0
 any_not raw (x ∷ xs) (suc i) y none got = any_not raw xs i y (or_parts (x == raw) _ none).1 got
 
-start_at : (raw : ℕ) (i y : ℕ) → is_start raw ≡ false → slice_get all_start i ≡ Some y → (y == raw) ≡ false
-start_at raw i y none got = any_not raw all_start i y none got
-
 map_got : {A B : Type 0} (f : A → B) (xs : List A) (i : ℕ) (y : B) → slice_get (map f xs) i ≡ Some y → (x : A) × (f x ≡ y)
 map_got f [] i y got = absurd (none-some _ got)
 map_got f (x ∷ xs) zero y got = (x, cc)
 map_got f (x ∷ xs) (suc i) y got = map_got f xs i y got
-
-data IsReading (q : Request) : Type 0 where
-  Reads : (idn : Idn) → (e : ℕ) → q ≡ request.Read idn e → IsReading q
 
 got_in_two : {A : Type 0} (P : A → Type 0) (xs ys : List A) (i : ℕ) (y : A) → ((i : ℕ) (y : A) → slice_get xs i ≡ Some y → P y) → ((i : ℕ) (y : A) → slice_get ys i ≡ Some y → P y) → slice_get (xs ++ ys) i ≡ Some y → P y
 got_in_two P [] ys i y one two got = two i y got
 got_in_two P (x ∷ xs) ys zero y one two got = one zero y got
 got_in_two P (x ∷ xs) ys (suc i) y one two got = got_in_two P xs ys i y (λ j z there. one (suc j) z there) two got
 
-reads_read : (d : MemberView) (i : ℕ) (q : Request) → slice_get (reads d) i ≡ Some q → IsReading q
-reads_read d i q got = got_in_two IsReading (map (λ raw. request.Read (number_of raw) 7) declared_times) (map (λ n. request.Read n 3) (d.at ++ d.mdt)) i q
-    (λ j z there. let (x, is) = map_got (λ (raw : ℕ). request.Read (number_of raw) 7) declared_times j z there in Reads (number_of x) 7 (sym is))
-    (λ j z there. let (x, is) = map_got (λ (n : Idn). request.Read n 3) (d.at ++ d.mdt) j z there in Reads x 3 (sym is)) got
-
-reading_elsewhere : (raw : ℕ) (q : Request) → IsReading q → writes_to raw q ≡ false
-reading_elsewhere raw q (Reads idn e is) = ap (writes_to raw) is
+reads_elsewhere : (raw : ℕ) (d : MemberView) (i : ℕ) (q : Request) → slice_get (reads d) i ≡ Some q → writes_to raw q ≡ false
+reads_elsewhere raw d i q got =
+    got_in_two (λ r. writes_to raw r ≡ false) (map (λ n. request.Read (number_of n) 7) declared_times)
+    (map (λ n. request.Read n 3) (d.at ++ d.mdt)) i q
+    (λ j z there. let (x, is) = map_got (λ (n : ℕ). request.Read (number_of n) 7) declared_times j z there in ap (writes_to raw) (sym is))
+    (λ j z there. let (x, is) = map_got (λ (n : Idn). request.Read n 3) (d.at ++ d.mdt) j z there in ap (writes_to raw) (sym is)) got
 
 startup_elsewhere : (s : Known) (k : ℕ) (by_then : Option PlanView) (waiting : List Task) (outs : List Outcome) (t : Task) (raw : ℕ)
     → is_start raw ≡ false → IsTask s k by_then waiting outs t
     → (writes_to raw t.request ≡ false) ⊎ ((j : ℕ) × (slice_get waiting j ≡ Some t))
-startup_elsewhere s k by_then waiting outs t raw none (OfReads r less found is) = inl (ap (λ (x : Task). writes_to raw x.request) is ∙ reading_elsewhere raw r (reads_read (member s k) _ r found))
+startup_elsewhere s k by_then waiting outs t raw none (OfReads r less found is) = inl (ap (λ (x : Task). writes_to raw x.request) is ∙ reads_elsewhere raw (member s k) _ r found)
 startup_elsewhere s k by_then waiting outs t raw none (OfWrites p n r planned less at found is) =
     let (w, bytes, got, number) = writes_data s p k n less in
     let same : r ≡ request.Write w 7 bytes = same_Some r (request.Write w 7 bytes) (sym found ∙ got) in
-    inl (ap (λ (x : Task). writes_to raw x.request) is ∙ ap (writes_to raw) same ∙ start_at raw (suc (suc (suc (suc n)))) w.raw none number)
-startup_elsewhere s k by_then waiting outs t raw none (Checks3 p planned at is) = inl (ap (λ (x : Task). writes_to raw x.request) is ∙ start_at raw 2 127 none refl)
+    inl (ap (λ (x : Task). writes_to raw x.request) is ∙ ap (writes_to raw) same ∙ any_not raw all_start
+    (suc (suc (suc (suc n)))) w.raw none number)
+startup_elsewhere s k by_then waiting outs t raw none (Checks3 p planned at is) = inl (ap (λ (x : Task). writes_to raw x.request) is ∙ any_not raw all_start 2 127 none refl)
 startup_elsewhere s k by_then waiting outs t raw none (Lists3 at failed is) = inl (ap (λ (x : Task). writes_to raw x.request) is)
-startup_elsewhere s k by_then waiting outs t raw none (Checks4 at checked is) = inl (ap (λ (x : Task). writes_to raw x.request) is ∙ start_at raw 3 128 none refl)
+startup_elsewhere s k by_then waiting outs t raw none (Checks4 at checked is) = inl (ap (λ (x : Task). writes_to raw x.request) is ∙ any_not raw all_start 3 128 none refl)
 startup_elsewhere s k by_then waiting outs t raw none (Lists4 at failed is) = inl (ap (λ (x : Task). writes_to raw x.request) is)
 startup_elsewhere s k by_then waiting outs t raw none (OfWaiting j at ready found) = inr (j, found)
 
@@ -99,7 +75,7 @@ begun_task s k plan waiting phase (b ∷ begun) (x ∷ tasks) older t is are =
     let same : x ≡ t = cc in
     (are.1.by_then, outcomes_in begun, subst (λ (y : Task). IsTask s k are.1.by_then waiting (outcomes_in begun) y) same are.1.task)
 
-module _ (laws : KeptLaws) (r : RingView) (jobs : List Job) (carry : Carry) (restarts : Restarts) (opened : IsOpened r jobs) (k n : ℕ)
+module _ (r : RingView) (jobs : List Job) (carry : Carry) (restarts : Restarts) (opened : IsOpened r jobs) (k n : ℕ)
     (below : k < length r.drives) (raw : ℕ) (last : IsLastTo jobs n (drive_at r k).address raw) (none : is_start raw ≡ false) where
   inside : k < length (known_of r).drives
   inside = let count = members_count r in omega (arith, below, count)
@@ -118,7 +94,7 @@ module _ (laws : KeptLaws) (r : RingView) (jobs : List Job) (carry : Carry) (res
 
   waiting_elsewhere : (h : List Call) (i : ℕ) (t : Task) → slice_get ((looks_back r jobs h).waiting k) i ≡ Some t → IsAbove (n + 1) t → Elsewhere raw (store_of (drive_at r k)) t.request
   waiting_elsewhere h i t got above =
-      let of = laws.left (known_of r) jobs h k in
+      let of = left_of (known_of r) jobs h k in
       above_elsewhere (of.0 + i) t (sym (get_dropped of.0 (tasks_for (known_of r) jobs k) i) ∙ sym (ap (λ w. slice_get w i) of.1) ∙ got) above
 
   -- WHAT STILL WAITS, call by call
@@ -126,7 +102,7 @@ module _ (laws : KeptLaws) (r : RingView) (jobs : List Job) (carry : Carry) (res
   Waits h = AreAbove (n + 1) (still (channel_at (looks_back r jobs h) k))
 
   waits_call : (call : Call) (h : List Call) → Waits h → Waits (call ∷ h)
-  waits_call call h are = above_call laws.moves (known_of r) (tasks_for (known_of r) jobs) k (n + 1) inside call h are
+  waits_call call h are = above_call calls_are_moves (known_of r) (tasks_for (known_of r) jobs) k (n + 1) inside call h are
 
   waits_ats : (cycle : ℕ) (ats : List (List ℕ)) (h : List Call) → Waits h → Waits (at_calls r carry cycle ats h)
   waits_ats cycle [] h are = are
@@ -146,9 +122,6 @@ module _ (laws : KeptLaws) (r : RingView) (jobs : List Job) (carry : Carry) (res
   waits_to_ats : (t : CycleView) (j : List CycleView) → Waits (master_calls r carry restarts j) → Waits (to_ats t j)
   waits_to_ats t j are = waits_ats (length j) (ats_in t.sent) (own_mst carry (length j) (mst_in t.sent) (begin_of r carry restarts j)) (waits_call (HearMst (heard carry (passage (length j) kinds.Mst 0 0) (mst_in t.sent))) (begin_of r carry restarts j) (waits_begin (restarts (length j) 0) (master_calls r carry restarts j) are))
 
-  waits_next : (t : CycleView) (j : List CycleView) → Waits (master_calls r carry restarts j) → Waits (master_calls r carry restarts (t ∷ j))
-  waits_next t j are = waits_call End (middle r carry restarts t.sent j) (waits_call Mdt (to_ats t j) (waits_to_ats t j are))
-
   -- WHAT BEGINS in a cycle gives nothing to the number
   begins_elsewhere : (t : CycleView) (j : List CycleView) → KeepsAll r jobs carry restarts t j → Waits (master_calls r carry restarts j) → IfSome (view_of r jobs carry restarts k t j).begins (Elsewhere raw (store_of (drive_at r k)))
   begins_elsewhere t j keeps are = by (begins (known_of r) (settled (known_of r) (behind_ats r jobs carry restarts t.sent j)) k) refl
@@ -165,10 +138,10 @@ module _ (laws : KeptLaws) (r : RingView) (jobs : List Job) (carry : Carry) (res
           which : (writes_to raw u.request ≡ false) ⊎ ((i : ℕ) × (slice_get ((behind_mdt r jobs carry restarts t.sent j).waiting k) i ≡ Some u)) → Elsewhere raw (store_of (drive_at r k)) u.request
           which (inl away) = gives_elsewhere raw (store_of (drive_at r k)) u.request away
           which (inr (i, got)) =
-              let of = laws.left (known_of r) jobs (middle r carry restarts t.sent j) k in
+              let of = left_of (known_of r) jobs (middle r carry restarts t.sent j) k in
               let there : slice_get (tasks_for (known_of r) jobs k) (of.0 + i) ≡ Some u = sym (get_dropped of.0 (tasks_for (known_of r) jobs k) i) ∙ sym (ap (λ w. slice_get w i) of.1) ∙ got in
-              let numbered : is_some u.number ≡ true = (laws.requests (known_of r) jobs k).1 (of.0 + i) u there in
-              let head = laws.first (known_of r) jobs (to_ats t j) k u inside is numbered in
+              let numbered : is_some u.number ≡ true = (are_requests (known_of r) jobs k).1 (of.0 + i) u there in
+              let head = first_waiting has_next (known_of r) jobs (to_ats t j) k u inside is numbered in
               above_elsewhere (of.0 + i) u there (waits_to_ats t j are 0 u head)
 
       by : (o : Option Task) → begins (known_of r) (settled (known_of r) (behind_ats r jobs carry restarts t.sent j)) k ≡ o → IfSome (request_in o) (Elsewhere raw (store_of (drive_at r k)))
@@ -185,26 +158,27 @@ module _ (laws : KeptLaws) (r : RingView) (jobs : List Job) (carry : Carry) (res
     kept_next t j keeps kept = record {
       written = last_next (store_of (drive_at r k)) idn bytes (view_of r jobs carry restarts k t j) (views_of r jobs carry restarts k j)
           (subst (λ (m : ℕ). IfSome (view_of r jobs carry restarts k t j).begins (Elsewhere m (store_of (drive_at r k)))) (sym named) (begins_elsewhere t j keeps kept.waits)) kept.written;
-      waits = waits_next t j kept.waits;
+      waits = waits_call End (middle r carry restarts t.sent j) (waits_call Mdt (to_ats t j) (waits_to_ats t j kept.waits));
     }
 
     kept_later : (later j : List CycleView) → IsRun r jobs carry restarts (later ++ j) → IsClear (later ++ j) → Kept j → Kept (later ++ j)
     kept_later [] j run clear kept = kept
-    kept_later (t ∷ later) j run clear kept = kept_next t (later ++ j) (laws.headline r jobs carry restarts t (later ++ j) opened run clear) (kept_later later j run.0 clear.0 kept)
+    kept_later (t ∷ later) j run clear kept = kept_next t (later ++ j) (keeps_all r jobs carry restarts opened t (later ++ j) run clear) (kept_later later j run.0 clear.0 kept)
 
     -- WHERE IT IS TOLD
     kept_told : (t : CycleView) (j : List CycleView) (job : Job) (whole : List ℕ) → KeepsAll r jobs carry restarts t j → slice_get jobs n ≡ Some job → job.request ≡ request.Write idn 7 bytes
         → HasReported ((behind_mdt r jobs carry restarts t.sent j).now.report k) (n + 1) (outcome.Complete whole) → Kept (t ∷ j)
     kept_told t j job whole keeps there writes has = record {
       written = last_now (store_of (drive_at r k)) idn bytes (view_of r jobs carry restarts k t j) (views_of r jobs carry restarts k j) (record {
-        newer = ended.newer;
-        one = ended.one;
-        older = ended.older;
-        split = (keeps.exact k below).begun_now ∙ ended.split;
-        asks = ended.asks ∙ asked.same ∙ ap (λ (x : Job). x.request) same ∙ writes;
+        newer = ended.so.newer;
+        one = ended.so.one;
+        older = ended.so.older;
+        split = (keeps.exact k below).begun_now ∙ ended.so.split;
+        asks = ended.so.asks ∙ asked.same ∙ ap (λ (x : Job). x.request) same ∙ writes;
         whole = whole;
-        complete = ended.ended ∙ ap Some has.outcome;
-        away = subst (λ (m : ℕ). GiveElsewhere m (store_of (drive_at r k)) ended.newer) (sym named) (later_away ended.newer ended.later);
+        complete = ended.so.ended ∙ ap Some has.outcome;
+        away =
+            subst (λ (m : ℕ). GiveElsewhere m (store_of (drive_at r k)) ended.so.newer) (sym named) (later_away ended.so.newer ended.later);
       });
       waits = waits_call End (middle r carry restarts t.sent j) still_above;
     }
@@ -216,30 +190,27 @@ module _ (laws : KeptLaws) (r : RingView) (jobs : List Job) (carry : Carry) (res
         ended = has_ended (known_of r) k p.plan (p.waiting k) p.now.phase (begun_by (p.calls k)) (p.tasks k) has.report (keeps.reported.right k has.report below has.is) (keeps.reported.tasks k below)
 
         left : (c : ℕ) × ((behind_mdt r jobs carry restarts t.sent j).waiting k ≡ drop c (tasks_for (known_of r) jobs k))
-        left = laws.left (known_of r) jobs (middle r carry restarts t.sent j) k
+        left = left_of (known_of r) jobs (middle r carry restarts t.sent j) k
 
         in_all : (i : ℕ) (u : Task) → slice_get ((behind_mdt r jobs carry restarts t.sent j).waiting k) i ≡ Some u → slice_get (tasks_for (known_of r) jobs k) (left.0 + i) ≡ Some u
         in_all i u got = sym (get_dropped left.0 (tasks_for (known_of r) jobs k) i) ∙ sym (ap (λ w. slice_get w i) left.1) ∙ got
 
-        number : ended.task.number ≡ Some (n + 1)
-        number = ended.number ∙ ap Some has.number
+        number : ended.so.task.number ≡ Some (n + 1)
+        number = ended.so.number ∙ ap Some has.number
 
-        asked : IsRequestOf (member (known_of r) k).address 1 jobs ended.task (n + 1)
-        asked = request_of (member (known_of r) k).address 1 jobs (left.0 + ended.place) ended.task (n + 1) (in_all ended.place ended.task ended.got) number
+        asked : IsRequestOf (member (known_of r) k).address 1 jobs ended.so.task (n + 1)
+        asked = request_of (member (known_of r) k).address 1 jobs (left.0 + ended.place) ended.so.task (n + 1) (in_all ended.place ended.so.task ended.got) number
 
         same : asked.job ≡ job
         same =
             let at = asked.at in
             let place : asked.place ≡ n = omega (arith, at) in
-            one_job (sym (ap (slice_get jobs) place) ∙ asked.there) there
-          where
-            one_job : {a b : Job} {o : Option Job} → o ≡ Some a → o ≡ Some b → a ≡ b
-            one_job x y = let e = sym x ∙ y in cc
+            same_Some asked.job job (sym asked.there ∙ ap (slice_get jobs) place ∙ there)
 
         -- a request that waited after it
         after : (i : ℕ) (u : Task) → ended.place < i → slice_get ((behind_mdt r jobs carry restarts t.sent j).waiting k) i ≡ Some u → IsAbove (n + 1) u
         after i u less got =
-            later_above 1 (tasks_for (known_of r) jobs k) (left.0 + ended.place) (left.0 + i) (n + 1) ended.task u (laws.requests (known_of r) jobs k).2 (in_all ended.place ended.task ended.got) (in_all i u got) (omega (arith, less)) number
+            later_above 1 (tasks_for (known_of r) jobs k) (left.0 + ended.place) (left.0 + i) (n + 1) ended.so.task u (are_requests (known_of r) jobs k).2 (in_all ended.place ended.so.task ended.got) (in_all i u got) (omega (arith, less)) number
 
         later_away : (newer : List Begun) → AreLater ((behind_mdt r jobs carry restarts t.sent j).waiting k) ended.place newer → GiveElsewhere raw (store_of (drive_at r k)) newer
         later_away [] are = tt
@@ -248,7 +219,7 @@ module _ (laws : KeptLaws) (r : RingView) (jobs : List Job) (carry : Carry) (res
 
         count : ended.place < count_requests ((behind_mdt r jobs carry restarts t.sent j).tasks k)
         count = ended_count (known_of r) k p.plan (p.waiting k) p.now.phase
-            (subst AreNumbered (sym left.1) (numbered_drop left.0 (tasks_for (known_of r) jobs k) (laws.requests (known_of r) jobs k).1))
+            (subst AreNumbered (sym left.1) (numbered_drop left.0 (tasks_for (known_of r) jobs k) (are_requests (known_of r) jobs k).1))
             (begun_by (p.calls k)) (p.tasks k) has.report (keeps.reported.tasks k below) ended
 
         still_above : Waits (middle r carry restarts t.sent j)
@@ -258,7 +229,7 @@ module _ (laws : KeptLaws) (r : RingView) (jobs : List Job) (carry : Carry) (res
 
 -- AT THE END
 plain_so : (raw : ℕ) → is_start raw ≡ false → is_plain raw ≡ true
-plain_so raw none = rw (flipped 21 raw (start_at raw 0 21 none refl), flipped 22 raw (start_at raw 1 22 none refl)) refl
+plain_so raw none = rw (flipped 21 raw (any_not raw all_start 0 21 none refl), flipped 22 raw (any_not raw all_start 1 22 none refl)) refl
 
 -- a block that may be written doesn't change by itself
 still_block : (b : Block) → is_fixed b ≡ false → (b.step == 0) ≡ true
@@ -285,47 +256,49 @@ has_block raw now blocks b x alike found free holds = by (find_block raw now) re
         let rests : (c.step == 0) ≡ true = ap (λ (y : Block). y.step == 0) one ∙ still_block b free in
         (c, is, λ cycle. data_still cycle c rests ∙ value)
 
-module _ (laws : KeptLaws) (r : RingView) (jobs : List Job) (carry : Carry) (restarts : Restarts) (opened : IsOpened r jobs) (k : ℕ)
+module _ (r : RingView) (jobs : List Job) (carry : Carry) (restarts : Restarts) (opened : IsOpened r jobs) (k : ℕ)
     (below : k < length r.drives) (idn : Idn) (bytes : List ℕ) (none : is_start idn.raw ≡ false) where
   -- what the store has
   in_store : (t : CycleView) (j : List CycleView) → IsRun r jobs carry restarts (t ∷ j) → IsClear (t ∷ j) → IsWrittenLast (store_of (drive_at r k)) (all_begun (views_of r jobs carry restarts k (t ∷ j))) idn bytes
       → (b : Block) → find_block idn.raw (store_of (drive_at r k)) ≡ Some b → (c : Block) × (find_block idn.raw (blocks_in (drive_at r k) (annals (drive_at r k) r.rate (given_before carry restarts (t ∷ j) k))) ≡ Some c) × ((cycle : ℕ) → data_in cycle c ≡ stored b bytes)
   in_store t j run clear last b found =
-      let keeps = laws.headline r jobs carry restarts t j opened run clear in
+      let keeps = keeps_all r jobs carry restarts opened t j run clear in
       let written = newest_last (store_of (drive_at r k)) _ idn bytes b _ _ found (keeps.exact k below).exact last in
-      has_block idn.raw (blocks_in (drive_at r k) (annals (drive_at r k) r.rate (given_before carry restarts (t ∷ j) k))) (store_of (drive_at r k)) b (stored b bytes) (laws.alike r jobs carry restarts (t ∷ j) k opened below) found (free (is_fixed b) refl written)
-      (ap (λ (l : List Block). data_at l idn.raw) (laws.stores r jobs carry restarts (t ∷ j) k opened run clear below)
-      ∙ laws.newest (store_of (drive_at r k)) (views_of r jobs carry restarts k (t ∷ j)) idn.raw b (plain_so idn.raw none) found
+      has_block idn.raw (blocks_in (drive_at r k) (annals (drive_at r k) r.rate (given_before carry restarts (t ∷ j) k))) (store_of
+      (drive_at r k)) b (stored b bytes) (alike_so (drive_at r k) _ (store_of_so (drive_at r k) r.rate (given_before carry restarts
+      (t ∷ j) k) (first_store r jobs carry restarts opened k below).ascending).0) found (free (is_fixed b) refl written)
+      (ap (λ (l : List Block). data_at l idn.raw) (all_stand r jobs carry restarts opened (t ∷ j) run clear k below).sees.drive.blocks
+      ∙ holds_newest (store_of (drive_at r k)) (views_of r jobs carry restarts k (t ∷ j)) idn.raw b (plain_so idn.raw none) found
       ∙ ap (λ (o : Option (List ℕ)). unwrap_or o b.value) written)
     where
       free : (fixed : Bool) → is_fixed b ≡ fixed → newest_to idn.raw (all_writes (views_of r jobs carry restarts k (t ∷ j))) ≡ Some (stored b bytes) → is_fixed b ≡ false
       free false is written = is
-      free true is written = absurd (none-some _ (sym (laws.fixed (store_of (drive_at r k)) (views_of r jobs carry restarts k (t ∷ j)) idn.raw b (laws.sound r jobs carry restarts (t ∷ j) k opened run clear below) found is) ∙ written))
+      free true is written = absurd (none-some _ (sym (stays_fixed (store_of (drive_at r k)) (views_of r jobs carry restarts k (t ∷ j)) idn.raw b (all_stand r jobs carry restarts opened (t ∷ j) run clear k below).sound found is) ∙ written))
 
   in_store_of : (run : List CycleView) → 0 < length run → IsRun r jobs carry restarts run → IsClear run → IsWrittenLast (store_of (drive_at r k)) (all_begun (views_of r jobs carry restarts k run)) idn bytes
       → (b : Block) → find_block idn.raw (store_of (drive_at r k)) ≡ Some b → (c : Block) × (find_block idn.raw (blocks_in (drive_at r k) (annals (drive_at r k) r.rate (given_before carry restarts run k))) ≡ Some c) × ((cycle : ℕ) → data_in cycle c ≡ stored b bytes)
   in_store_of [] some run clear last b found = absurd (omega (arith, some))
   in_store_of (t ∷ j) some run clear last b found = in_store t j run clear last b found
 
-pub writes_kept : KeptLaws → WritesAreKept
-writes_kept laws r jobs carry restarts run n job idn bytes whole opened is_run clear there writes told last =
+pub writes_kept : WritesAreKept
+writes_kept r jobs carry restarts run n job idn bytes whole opened is_run clear there writes told last =
     let at = told_cut run (n + 1) (outcome.Complete whole) told in
     let run_so = subst (IsRun r jobs carry restarts) at.cut is_run in
     let clear_so = subst IsClear at.cut clear in
     let run_then = rest_runs r jobs carry restarts at.later (at.one ∷ at.before) run_so in
     let clear_then = rest_clear at.later (at.one ∷ at.before) clear_so in
-    let keeps = laws.headline r jobs carry restarts at.one at.before opened run_then clear_then in
+    let keeps = keeps_all r jobs carry restarts opened at.one at.before run_then clear_then in
     let place = reported_at r jobs carry restarts at.one at.before (n + 1) whole keeps.reported at.told in
     let asked = begun_as r jobs carry restarts at.one at.before place.place n (outcome.Complete whole) keeps.reported place.below place.reported in
-    let same : asked.job ≡ job = one_job asked.there there in
+    let same : asked.job ≡ job = same_Some asked.job job (sym asked.there ∙ there) in
     let (b, found) = known_block r jobs carry restarts at.one at.before place.place n idn 7 bytes whole (keeps.exact place.place place.below)
-    (laws.sound r jobs carry restarts (at.one ∷ at.before) place.place opened run_then clear_then place.below) asked (ap (λ (x : Job). x.request) same ∙ writes) in
+    asked (ap (λ (x : Job). x.request) same ∙ writes) in
     let drive : job.drive ≡ (drive_at r place.place).address = sym (ap (λ (x : Job). x.drive) same) ∙ asked.drive in
     let last_so = subst (λ (a : ℕ). IsLastTo jobs n a idn.raw) drive last in
-    let none = not_start laws.start r jobs carry restarts opened place.place place.below at.one at.before run_then clear_then n job idn bytes whole b there writes place.reported found in
-    let now = kept_told laws r jobs carry restarts opened place.place n place.below idn.raw last_so none idn bytes refl at.one at.before job whole keeps there writes place.reported in
-    let later = kept_later laws r jobs carry restarts opened place.place n place.below idn.raw last_so none idn bytes refl at.later (at.one ∷ at.before) run_so clear_so now in
-    let (c, holds, written) = in_store_of laws r jobs carry restarts opened place.place place.below idn bytes none run (some_in run at.later at.one at.before at.cut) is_run clear
+    let none = not_start r jobs carry restarts opened place.place place.below at.one at.before run_then clear_then n job idn bytes whole b there writes place.reported found in
+    let now = kept_told r jobs carry restarts opened place.place n place.below idn.raw last_so none idn bytes refl at.one at.before job whole keeps there writes place.reported in
+    let later = kept_later r jobs carry restarts opened place.place n place.below idn.raw last_so none idn bytes refl at.later (at.one ∷ at.before) run_so clear_so now in
+    let (c, holds, written) = in_store_of r jobs carry restarts opened place.place place.below idn bytes none run (some_in run at.later at.one at.before at.cut) is_run clear
     (subst (λ (l : List CycleView). IsWrittenLast (store_of (drive_at r place.place)) (all_begun (views_of r jobs carry restarts place.place l)) idn bytes) (sym at.cut) later.written) b found in record {
       place = place.place;
       below = place.below;
@@ -337,9 +310,6 @@ writes_kept laws r jobs carry restarts run n job idn bytes whole opened is_run c
       written = written;
     }
   where
-    one_job : {a b : Job} {o : Option Job} → o ≡ Some a → o ≡ Some b → a ≡ b
-    one_job x y = let e = sym x ∙ y in cc
-
     some_in : (run later : List CycleView) (t : CycleView) (j : List CycleView) → run ≡ later ++ t ∷ j → 0 < length run
     some_in [] [] t j cut = absurd (cc)
     some_in [] (u ∷ later) t j cut = absurd (cc)

@@ -3,6 +3,7 @@ use Rattle.sercos_law_trace.proofs.Words.{◌≡◌, ℕ, Bool, true, false, not
 use Rattle.sercos_step.specs.declared.request.Request.TheVariants as request
 use Rattle.sercos_step.specs.declared.request.Outcome.TheVariants as outcome
 use Rattle.sercos_law_channel.proofs.Theorems.{newest_of}
+use Rattle.sercos_law_trace.proofs.Told.EntryLemmas.{both_begun}
 
 -- a request gives nothing to the number
 abbrev pub Elsewhere : ℕ → List Block → Request → Type 0
@@ -62,10 +63,6 @@ module _ (blocks : List Block) (idn : Idn) (bytes : List ℕ) where
   last_heard (Some h) xs rest last = cond_both (answers_it xs h.status) (with_answer (answer_in h.status h.word) xs) xs
       (λ v. Last (v ++ rest))
       (λ on. last_answer (answer_in h.status h.word) xs rest (and_parts (is_some (open_in xs)) _ on).0 last) (λ off. last)
-
-  both_begun : (falls : Bool) (xs ago : List Begun) → (if falls then [] else xs) ++ leaving falls xs ago ≡ xs ++ ago
-  both_begun true xs ago = refl
-  both_begun false xs ago = refl
 
   -- a cycle in which nothing is begun that gives anything to the number
   pub last_next : (v : View) (past : List View) → IfSome v.begins (Elsewhere idn.raw blocks) → IsWrittenLast blocks (all_begun past) idn bytes → IsWrittenLast blocks (all_begun (v ∷ past)) idn bytes

@@ -1,5 +1,5 @@
 -- Complete reads of operation data are exact.
-use Rattle.sercos_law_trace.proofs.Words.{◌≡◌, ◌⊎◌, inl, inr, ℕ, ◌+◌, ◌<◌, Bool, true, false, if◌then◌else◌, List, [], ◌∷◌, ◌++◌, length, Some, sym, ap, subst, ◌∙◌, arith, is_some, slice_get, length-map, Idn, data_element, Job, Outcome, outcome_of, find_block, store_of, RingView, Begun, begun_by, Entry, CycleView, Carry, Restarts, MemberView, Task, member_of, known_of, tasks_for, member, Report, number_in, Past, fall_of, is_idle, broken, restart_told, still_left, HasOutcome, HasReport, told_at_end, all_entries, all_writes, AreExact, Write, element_in, IsRun, IsClear, drive_at, looks_back, middle, master_calls, no_events, restart_events, behind_mdt, view_of, views_of, member_is, Headline, AreReportedIn, IsExactAt, IsReadFrom, ReadsAreExact, get_dropped, rest_runs, rest_clear}
+use Rattle.sercos_law_trace.proofs.Words.{◌≡◌, ◌⊎◌, inl, inr, ℕ, ◌+◌, ◌<◌, Bool, true, false, if◌then◌else◌, List, [], ◌∷◌, ◌++◌, length, Some, sym, ap, subst, ◌∙◌, arith, is_some, slice_get, length-map, Idn, data_element, Job, Outcome, outcome_of, find_block, store_of, RingView, Begun, begun_by, Entry, CycleView, Carry, Restarts, MemberView, Task, member_of, known_of, tasks_for, member, Report, number_in, Past, fall_of, is_idle, broken, restart_told, still_left, HasOutcome, HasReport, told_at_end, all_entries, all_writes, AreExact, Write, element_in, IsRun, IsClear, drive_at, looks_back, middle, master_calls, no_events, restart_events, behind_mdt, view_of, views_of, member_is, Headline, AreReportedIn, IsExactAt, IsReadFrom, ReadsAreExact, get_dropped, rest_runs, rest_clear, same_Some}
 use Rattle.sercos_step.specs.declared.request.Request.TheVariants as request
 use Rattle.sercos_step.specs.declared.request.Outcome.TheVariants as outcome
 use Rattle.sercos_law_trace.proofs.Told.ToldLemmas.{told_cut, not_broken, HasReported, reported_at_end, ended_so, has_waited, request_of}
@@ -21,9 +21,6 @@ reported_at r jobs carry restarts t j n bytes reported told = by ((reported.even
     count : length (known_of r).drives ≡ length r.drives
     count = length-map r.drives member_of
 
-    none : HasOutcome [] n (outcome.Complete bytes) → ⊥
-    none has = has
-
     at_restart : HasOutcome (restart_told (known_of r) (looks_back r jobs (master_calls r carry restarts j)) no_events).outcomes n (outcome.Complete bytes) → ⊥
     at_restart has =
         let (k, below, broken) = (reported.at_restart n (outcome.Complete bytes)).0 has in
@@ -31,7 +28,7 @@ reported_at r jobs carry restarts t j n bytes reported told = by ((reported.even
 
     if_restarts : (b : Bool) → HasOutcome (if b then restart_told (known_of r) (looks_back r jobs (master_calls r carry restarts j)) no_events else no_events).outcomes n (outcome.Complete bytes) → ⊥
     if_restarts true has = at_restart has
-    if_restarts false has = none has
+    if_restarts false has = has
 
     by : HasOutcome (restart_events r jobs restarts (length j) (master_calls r carry restarts j)).outcomes n (outcome.Complete bytes)
         ⊎ ((k : ℕ) × (k < length (known_of r).drives) × HasReport (told_at_end (is_some (fall_of (known_of r) p)) (p.now.report k) (broken p k) []) n (outcome.Complete bytes))
@@ -65,10 +62,10 @@ begun_as r jobs carry restarts t j k n o reported below has =
     let x : Report = has.report in
     let so = ended_so (known_of r) k p.plan (p.waiting k) p.now.phase (begun_by (p.calls k)) (p.tasks k) x (reported.right k x below has.is) (reported.tasks k below) in
     let number : so.task.number ≡ Some (n + 1) = so.number ∙ ap Some has.number in
-    let (i, waited) = has_waited (known_of r) k so.by_then (p.waiting k) _ so.task (n + 1) so.is number in
+    let waited = has_waited (known_of r) k so.by_then (p.waiting k) _ so.task (n + 1) so.is number in
     let left = still_left (known_of r) (tasks_for (known_of r) jobs) (middle r carry restarts t.sent j) k in
-    let there : slice_get (tasks_for (known_of r) jobs k) (left.0 + i) ≡ Some so.task = sym (get_dropped left.0 (tasks_for (known_of r) jobs k) i) ∙ sym (ap (λ w. slice_get w i) left.1) ∙ waited in
-    let of = request_of (member (known_of r) k).address 1 jobs (left.0 + i) so.task (n + 1) there number in
+    let there : slice_get (tasks_for (known_of r) jobs k) (left.0 + waited.place) ≡ Some so.task = sym (get_dropped left.0 (tasks_for (known_of r) jobs k) waited.place) ∙ sym (ap (λ w. slice_get w waited.place) left.1) ∙ waited.got in
+    let of = request_of (member (known_of r) k).address 1 jobs (left.0 + waited.place) so.task (n + 1) there number in
     let at = of.at in
     let place : of.place ≡ n = omega (arith, at) in record {
       newer = so.newer;
@@ -136,9 +133,6 @@ read_at r jobs carry restarts run later t j k n idn bytes below cut told exact a
       gives = is.gives (λ two. stored) ∙ ap (λ c. element_in data_element c is.block) inside.at;
     }
 
-one_job : (jobs : List Job) (n : ℕ) (a b : Job) → slice_get jobs n ≡ Some a → slice_get jobs n ≡ Some b → a ≡ b
-one_job jobs n a b one two = let same : Some a ≡ Some b = sym one ∙ two in cc
-
 pub reads_exact : Headline → ReadsAreExact
 reads_exact law r jobs carry restarts run n job idn bytes opened is_run clear there reads told =
     let at = told_cut run (n + 1) (outcome.Complete bytes) told in
@@ -147,6 +141,6 @@ reads_exact law r jobs carry restarts run n job idn bytes opened is_run clear th
     let keeps = law r jobs carry restarts at.one at.before opened run_so clear_so in
     let place = reported_at r jobs carry restarts at.one at.before (n + 1) bytes keeps.reported at.told in
     let asked = begun_as r jobs carry restarts at.one at.before place.place n (outcome.Complete bytes) keeps.reported place.below place.reported in
-    let same : asked.job ≡ job = one_job jobs n asked.job job asked.there there in
+    let same : asked.job ≡ job = same_Some asked.job job (sym asked.there ∙ there) in
     subst (λ (x : Job). IsReadFrom r jobs carry restarts run n x.drive idn bytes) same
     (read_at r jobs carry restarts run at.later at.one at.before place.place n idn bytes place.below at.cut at.told (keeps.exact place.place place.below) asked (ap (λ (x : Job). x.request) same ∙ reads))

@@ -1,28 +1,14 @@
 -- No request of the document ends as a complete write to a block that the start-up writes.
-use Rattle.sercos_law_trace.proofs.Words.{◌≡◌, inl, inr, ℕ, ◌+◌, ◌<◌, ◌≤◌, Bool, true, false, not, List, [], ◌∷◌, length, Option, Some, refl, sym, ap, ◌∙◌, subst, arith, is_some, drop, slice_get, and_parts, cases_lt, Idn, Job, Block, find_block, store_of, RingView, Begun, begun_by, reads_count, Known, known_of, member, tasks_for, Call, Past, fall_of, is_done, past, get_dropped, jobs_waiting, Carry, Restarts, CycleView, begun_in, AreSound, AreSmall, Laws, ring_drive, members_count, drive_got, IsRun, IsClear, drive_at, middle, behind_mdt, view_of, views_of, IsOpened, Headline, KeepsAll}
+use Rattle.sercos_law_trace.proofs.Words.{◌≡◌, inl, inr, ℕ, ◌+◌, ◌<◌, ◌≤◌, Bool, true, false, not, List, [], ◌∷◌, length, Some, refl, sym, ap, ◌∙◌, subst, arith, is_some, slice_get, and_parts, cases_lt, Idn, Job, Block, find_block, store_of, RingView, Begun, begun_by, reads_count, known_of, member, tasks_for, Past, fall_of, is_done, get_dropped, jobs_waiting, Carry, Restarts, CycleView, begun_in, ring_drive, members_count, drive_got, IsRun, IsClear, drive_at, middle, behind_mdt, view_of, views_of, IsOpened, KeepsAll, same_Some, left_of, all_stand, small, first_store, phase_same, spelled_in, stored_in, keeps_all}
 use Rattle.sercos_step.specs.declared.request.Request.TheVariants as request
 use Rattle.sercos_step.specs.declared.request.Outcome.TheVariants as outcome
-use Rattle.sercos_law_channel.specs.Handshake.Runs.{IsRun as AreNext}
 use Rattle.sercos_law_trace.proofs.Told.ToldLemmas.{HasReported, IsRequestOf, request_of}
 use Rattle.sercos_law_trace.proofs.Told.LaterTasks.{HasEnded, has_ended}
 use Rattle.sercos_law_trace.proofs.Told.GuardedWrites.{AreFewAtRise, HaveEnded, phase_most, never_complete}
 use Rattle.sercos_law_trace.proofs.Told.FewTasks.{few_tasks, few_at_end}
 use Rattle.sercos_law_trace.proofs.Told.StartNumbers.{is_start, start_guarded}
 
--- the laws below
-pub record StartLaws : Type 0 where
-  pub headline : Headline
-  pub transfers : Laws
-  pub left : (s : Known) (jobs : List Job) (h : List Call) (k : ℕ) → (n : ℕ) × ((past s (tasks_for s jobs) h).waiting k ≡ drop n (tasks_for s jobs k))
-  pub small : (r : RingView) (jobs : List Job) (carry : Carry) (restarts : Restarts) (k : ℕ) → IsOpened r jobs → k < length r.drives → AreSmall (store_of (drive_at r k))
-  pub next : (r : RingView) (jobs : List Job) (carry : Carry) (restarts : Restarts) (j : List CycleView) (k : ℕ) → IsOpened r jobs → IsRun r jobs carry restarts j → IsClear j → k < length r.drives
-      → AreNext (drive_at r k).busy (views_of r jobs carry restarts k j)
-  pub sound : (r : RingView) (jobs : List Job) (carry : Carry) (restarts : Restarts) (j : List CycleView) (k : ℕ) → IsOpened r jobs → IsRun r jobs carry restarts j → IsClear j → k < length r.drives
-      → AreSound (store_of (drive_at r k)) (views_of r jobs carry restarts k j)
-  pub phase : (r : RingView) (jobs : List Job) (carry : Carry) (restarts : Restarts) (t : CycleView) (j : List CycleView) → IsOpened r jobs → IsRun r jobs carry restarts (t ∷ j) → IsClear (t ∷ j)
-      → (behind_mdt r jobs carry restarts t.sent j).now.phase ≡ t.phase
-
-module _ (laws : StartLaws) (r : RingView) (jobs : List Job) (carry : Carry) (restarts : Restarts) (opened : IsOpened r jobs) (k : ℕ) (below : k < length r.drives) where
+module _ (r : RingView) (jobs : List Job) (carry : Carry) (restarts : Restarts) (opened : IsOpened r jobs) (k : ℕ) (below : k < length r.drives) where
   inside : k < length (known_of r).drives
   inside = let count = members_count r in omega (arith, below, count)
 
@@ -36,13 +22,13 @@ module _ (laws : StartLaws) (r : RingView) (jobs : List Job) (carry : Carry) (re
 
   fews : (j : List CycleView) → IsRun r jobs carry restarts j → IsClear j → AreFewAtRise (reads_count (member (known_of r) k) + 13) (views_of r jobs carry restarts k j)
   fews [] run clear = tt
-  fews (t ∷ j) run clear = (fews j run.0 clear.0, few_now t j (laws.headline r jobs carry restarts t j opened run clear))
+  fews (t ∷ j) run clear = (fews j run.0 clear.0, few_now t j (keeps_all r jobs carry restarts opened t j run clear))
 
   -- A WRITE THAT IS TOLD as complete
   module _ (t : CycleView) (j : List CycleView) (run : IsRun r jobs carry restarts (t ∷ j)) (clear : IsClear (t ∷ j)) (n : ℕ) (job : Job) (idn : Idn) (bytes whole : List ℕ) (b : Block) (there : slice_get jobs n ≡ Some job) (asks : job.request ≡ request.Write idn 7 bytes)
       (has : HasReported ((behind_mdt r jobs carry restarts t.sent j).now.report k) (n + 1) (outcome.Complete whole)) (found : find_block idn.raw (store_of (drive_at r k)) ≡ Some b) where
     keeps : KeepsAll r jobs carry restarts t j
-    keeps = laws.headline r jobs carry restarts t j opened run clear
+    keeps = keeps_all r jobs carry restarts opened t j run clear
 
     abbrev now : Past
     now = behind_mdt r jobs carry restarts t.sent j
@@ -50,22 +36,16 @@ module _ (laws : StartLaws) (r : RingView) (jobs : List Job) (carry : Carry) (re
     ended : HasEnded (known_of r) k ((behind_mdt r jobs carry restarts t.sent j).waiting k) (begun_by ((behind_mdt r jobs carry restarts t.sent j).calls k)) ((behind_mdt r jobs carry restarts t.sent j).tasks k) has.report
     ended = has_ended (known_of r) k now.plan (now.waiting k) now.now.phase (begun_by (now.calls k)) (now.tasks k) has.report (keeps.reported.right k has.report below has.is) (keeps.reported.tasks k below)
 
-    number : ended.task.number ≡ Some (n + 1)
-    number = ended.number ∙ ap Some has.number
-
-    asked : IsRequestOf (member (known_of r) k).address 1 jobs ended.task (n + 1)
+    asked : IsRequestOf (member (known_of r) k).address 1 jobs ended.so.task (n + 1)
     asked =
-        let of = laws.left (known_of r) jobs (middle r carry restarts t.sent j) k in
-        request_of (member (known_of r) k).address 1 jobs (of.0 + ended.place) ended.task (n + 1) (sym (get_dropped of.0 (tasks_for (known_of r) jobs k) ended.place) ∙ sym (ap (λ w. slice_get w ended.place) of.1) ∙ ended.got) number
+        let of = left_of (known_of r) jobs (middle r carry restarts t.sent j) k in
+        request_of (member (known_of r) k).address 1 jobs (of.0 + ended.place) ended.so.task (n + 1) (sym (get_dropped of.0 (tasks_for (known_of r) jobs k) ended.place) ∙ sym (ap (λ w. slice_get w ended.place) of.1) ∙ ended.got) (ended.so.number ∙ ap Some has.number)
 
     same : asked.job ≡ job
     same =
         let at = asked.at in
         let place : asked.place ≡ n = omega (arith, at) in
-        one_job (sym (ap (slice_get jobs) place) ∙ asked.there) there
-      where
-        one_job : {a b : Job} {o : Option Job} → o ≡ Some a → o ≡ Some b → a ≡ b
-        one_job x y = let e = sym x ∙ y in cc
+        same_Some asked.job job (sym asked.there ∙ ap (slice_get jobs) place ∙ there)
 
     -- phase 4 is commanded
     four : t.phase ≡ 4
@@ -74,19 +54,20 @@ module _ (laws : StartLaws) (r : RingView) (jobs : List Job) (carry : Carry) (re
           let few = few_tasks (known_of r) k now.plan (now.waiting k) now.now.phase (begun_by (now.calls k)) (now.tasks k) (jobs_waiting (known_of r) jobs (middle r carry restarts t.sent j) k) (omega (arith, low)) (keeps.reported.tasks k below) (λ three. ended.ready) in
           let long = ended.long in absurd (omega (arith, few, long))
       | inr high ↦
-          let is = laws.phase r jobs carry restarts t j opened run clear in
-          let most = top in omega (arith, high, is, most)
+          let is = phase_same r jobs carry restarts opened (first_store r jobs carry restarts opened) t j run.1 clear.1
+          (spelled_in r jobs carry restarts opened t j run.1)
+          (stored_in r jobs carry restarts opened t j) (all_stand r jobs carry restarts opened j run.0 clear.0) ∙ sym run.1.phase in
+          let most = phase_most (drive_at r k).busy (view_of r jobs carry restarts k t j) (views_of r jobs carry restarts k j)
+          (all_stand r jobs carry restarts opened (t ∷ j) run clear k below).sees.run in omega (arith, high, is, most)
     ]
-      where
-        top : t.phase ≤ 4
-        top = phase_most (drive_at r k).busy (view_of r jobs carry restarts k t j) (views_of r jobs carry restarts k j) (laws.next r jobs carry restarts (t ∷ j) k opened run clear below)
 
     pub not_start : is_start idn.raw ≡ false
     not_start = by (is_start idn.raw) refl
       where
         by : (x : Bool) → is_start idn.raw ≡ x → is_start idn.raw ≡ false
         by false is = is
-        by true is = absurd (never_complete laws.transfers (drive_at r k).busy (reads_count (member (known_of r) k) + 13) (store_of (drive_at r k)) (laws.small r jobs carry restarts k opened below) idn b found
+        by true is = absurd (never_complete (drive_at r k).busy (reads_count (member (known_of r) k) + 13) (store_of (drive_at r k)) (small r jobs carry restarts opened (first_store r jobs carry restarts opened) k below) idn b found
             (start_guarded (drive_at r k) (ring_drive r k (drive_at r k) opened.valid (drive_got r k below)).blocks idn.raw b is found)
-            (view_of r jobs carry restarts k t j) (views_of r jobs carry restarts k j) (laws.next r jobs carry restarts (t ∷ j) k opened run clear below) (laws.sound r jobs carry restarts (t ∷ j) k opened run clear below)
-            (fews j run.0 clear.0) four ended.newer ended.older ended.one bytes whole ((keeps.exact k below).begun_now ∙ ended.split) ended.late (ended.asks ∙ asked.same ∙ ap (λ (x : Job). x.request) same ∙ asks) (ended.ended ∙ ap Some has.outcome))
+            (view_of r jobs carry restarts k t j) (views_of r jobs carry restarts k j) (all_stand r jobs carry restarts opened
+            (t ∷ j) run clear k below).sees.run (all_stand r jobs carry restarts opened (t ∷ j) run clear k below).sound
+            (fews j run.0 clear.0) four ended.so.newer ended.so.older ended.so.one bytes whole ((keeps.exact k below).begun_now ∙ ended.so.split) ended.late (ended.so.asks ∙ asked.same ∙ ap (λ (x : Job). x.request) same ∙ asks) (ended.so.ended ∙ ap Some has.outcome))

@@ -1,5 +1,5 @@
 -- From what is told of a request to the request that was begun.
-use Rattle.sercos_law_trace.proofs.Words.{◌≡◌, inl, inr, ℕ, zero, suc, ◌+◌, ◌==◌, Bool, true, false, if◌then◌else◌, List, [], ◌∷◌, ◌++◌, length, reverse, Option, Some, None, option_map, refl, sym, ap, ◌∙◌, arith, append-nil, none-some, slice_get, find, flat_map, option_or, nat_tests, flat_map-append, reverse-append, find-append, Job, Outcome, outcome_of, PlanView, CycleView, Begun, Known, Task, tasks_from, request_task, Report, broken_number, outcomes_in, told_at_end, with_told, IsReportOf, HasOutcome, HasReport, IsTask, AreBegunTasks, told_of, map_or}
+use Rattle.sercos_law_trace.proofs.Words.{◌≡◌, inl, inr, ℕ, zero, suc, ◌+◌, ◌==◌, Bool, true, false, if◌then◌else◌, List, [], ◌∷◌, ◌++◌, length, reverse, Option, Some, None, option_map, refl, sym, ap, ◌∙◌, arith, append-nil, none-some, slice_get, find, flat_map, option_or, nat_tests, flat_map-append, reverse-append, find-append, Job, Outcome, outcome_of, PlanView, CycleView, Begun, Known, Task, tasks_from, request_task, Report, broken_number, outcomes_in, told_at_end, with_told, IsReportOf, HasOutcome, HasReport, IsTask, AreBegunTasks, told_of, map_or, reads_count, member, is_ready}
 use Rattle.sercos_step.specs.declared.request.Outcome.TheVariants as outcome
 use Rattle.sercos_law_run.specs.Agenda.Tasks.IsTask.{OfReads, OfWrites, Checks3, Lists3, Checks4, Lists4, OfWaiting}
 use Rattle.sercos_law_trace.specs.Told.Told.{told_in}
@@ -46,10 +46,7 @@ told_cut (m ∷ j) n o e = by (told_of (told_in j) n) refl (sym (ap (λ t. told_
 pub not_broken : (idle : Bool) (number : Option ℕ) (n : ℕ) (bytes : List ℕ) → HasReport (with_told (if idle then None else broken_number number) []) n (outcome.Complete bytes) → ⊥
 not_broken true number n bytes told = told
 not_broken false None n bytes told = told
-not_broken false (Some i) n bytes (inl is) = never is.1
-  where
-    never : outcome.Broken ≡ outcome.Complete bytes → ⊥
-    never e = cc
+not_broken false (Some i) n bytes (inl is) = let e = is.1 in cc
 not_broken false (Some i) n bytes (inr told) = told
 
 pub record HasReported (ended : Option Report) (n : ℕ) (o : Outcome) : Type 0 where
@@ -68,10 +65,7 @@ pub reported_at_end : (falls : Bool) (ended : Option Report) (idle : Bool) (numb
 reported_at_end false ended idle number n bytes told = reported_one ended n (outcome.Complete bytes) told
 reported_at_end true ended true number n bytes told = reported_one ended n (outcome.Complete bytes) told
 reported_at_end true ended false None n bytes told = reported_one ended n (outcome.Complete bytes) told
-reported_at_end true ended false (Some i) n bytes (inl is) = absurd (never is.1)
-  where
-    never : outcome.Broken ≡ outcome.Complete bytes → ⊥
-    never e = cc
+reported_at_end true ended false (Some i) n bytes (inl is) = let e = is.1 in absurd (cc)
 reported_at_end true ended false (Some i) n bytes (inr told) = reported_one ended n (outcome.Complete bytes) told
 
 -- What is reported was begun, as the task with the number.
@@ -88,25 +82,46 @@ pub record HasEndedSo (s : Known) (k : ℕ) (waiting : List Task) (begun : List 
   pub by_then : Option PlanView
   pub is : IsTask s k by_then waiting (outcomes_in older) task
 
-pub ended_so : (s : Known) (k : ℕ) (plan : Option PlanView) (waiting : List Task) (phase : ℕ) (begun : List Begun) (tasks : List Task) (x : Report) → IsReportOf x begun tasks
+unfoldable pub later_so : {s : Known} {k : ℕ} {waiting : List Task} {older : List Begun} {tasks : List Task} {x : Report}
+    → (b : Begun) (t : Task) → HasEndedSo s k waiting older tasks x → HasEndedSo s k waiting (b ∷ older) (t ∷ tasks) x
+later_so b t rest = record {
+  newer = b ∷ rest.newer;
+  one = rest.one;
+  older = rest.older;
+  split = ap (λ l. b ∷ l) rest.split;
+  task = rest.task;
+  at = rest.at;
+  number = rest.number;
+  ended = rest.ended;
+  asks = rest.asks;
+  by_then = rest.by_then;
+  is = rest.is;
+}
+
+unfoldable pub ended_so : (s : Known) (k : ℕ) (plan : Option PlanView) (waiting : List Task) (phase : ℕ) (begun : List Begun) (tasks : List Task) (x : Report) → IsReportOf x begun tasks
     → AreBegunTasks s k plan waiting phase begun tasks → HasEndedSo s k waiting begun tasks x
 ended_so s k plan waiting phase [] tasks x of are = absurd of
 ended_so s k plan waiting phase (b ∷ older) [] x of are = absurd of
 ended_so s k plan waiting phase (b ∷ older) (t ∷ tasks) x (inl is) are =
     record { newer = []; one = b; older = older; split = refl; task = t; at = refl; number = is.0; ended = is.1; asks = are.1.asks; by_then = are.1.by_then; is = are.1.task }
 ended_so s k plan waiting phase (b ∷ older) (t ∷ tasks) x (inr of) are =
-    let rest = ended_so s k plan waiting phase older tasks x of are.0 in
-    record { newer = b ∷ rest.newer; one = rest.one; older = rest.older; split = ap (λ l. b ∷ l) rest.split; task = rest.task; at = rest.at; number = rest.number; ended = rest.ended; asks = rest.asks; by_then = rest.by_then; is = rest.is }
+    later_so b t (ended_so s k plan waiting phase older tasks x of are.0)
 
--- A task with a number waited.
-pub has_waited : (s : Known) (k : ℕ) (plan : Option PlanView) (waiting : List Task) (outcomes : List Outcome) (t : Task) (n : ℕ) → IsTask s k plan waiting outcomes t → t.number ≡ Some n → (j : ℕ) × (slice_get waiting j ≡ Some t)
+-- A task with a number waited, and comes after the tasks of the start-up.
+pub record HasWaited (s : Known) (k : ℕ) (waiting : List Task) (outcomes : List Outcome) (t : Task) : Type 0 where
+  pub place : ℕ
+  pub got : slice_get waiting place ≡ Some t
+  pub at : length outcomes ≡ reads_count (member s k) + (13 + place)
+  pub ready : is_ready (member s k) outcomes ≡ true
+
+pub has_waited : (s : Known) (k : ℕ) (plan : Option PlanView) (waiting : List Task) (outcomes : List Outcome) (t : Task) (n : ℕ) → IsTask s k plan waiting outcomes t → t.number ≡ Some n → HasWaited s k waiting outcomes t
 has_waited s k plan waiting outcomes t n (OfReads r less got same) number = absurd (none-some _ (sym (ap (λ (x : Task). x.number) same) ∙ number))
 has_waited s k plan waiting outcomes t n (OfWrites p i r planned less at got same) number = absurd (none-some _ (sym (ap (λ (x : Task). x.number) same) ∙ number))
 has_waited s k plan waiting outcomes t n (Checks3 p planned at same) number = absurd (none-some _ (sym (ap (λ (x : Task). x.number) same) ∙ number))
 has_waited s k plan waiting outcomes t n (Lists3 at checked same) number = absurd (none-some _ (sym (ap (λ (x : Task). x.number) same) ∙ number))
 has_waited s k plan waiting outcomes t n (Checks4 at checked same) number = absurd (none-some _ (sym (ap (λ (x : Task). x.number) same) ∙ number))
 has_waited s k plan waiting outcomes t n (Lists4 at ready same) number = absurd (none-some _ (sym (ap (λ (x : Task). x.number) same) ∙ number))
-has_waited s k plan waiting outcomes t n (OfWaiting j at ready got) number = (j, got)
+has_waited s k plan waiting outcomes t n (OfWaiting j at ready got) number = record { place = j; got = got; at = at; ready = ready }
 
 -- The task with a number is the request with that number.
 pub record IsRequestOf (address i : ℕ) (jobs : List Job) (t : Task) (n : ℕ) : Type 0 where

@@ -1,5 +1,5 @@
 -- To which drive an MDT is, and that the drive gets of it what it is told.
-use Rattle.sercos_law_run.proofs.Words.{◌≡◌, inl, inr, ℕ, zero, suc, ◌+◌, ◌<◌, ◌≤◌, Bool, true, false, not, ◌&&◌, ◌||◌, List, [], ◌∷◌, length, Option, Some, None, refl, sym, ◌∙◌, ap, arith, if◌then◌else◌, ◌==◌, nat_le, is_some, is_none, option_map, and_from, cases_eq, cond-false, cond-true, eqb-true, false≢true, not-true, nat_tests, PlanView, Block, is_ring, RingView, open_in, master_says, Send, begun_by, Told, mdt_got, is_place, record_said, Known, MemberView, member, known_of, Past, first_from, first_place, place_of, is_idle, is_identified, in_turn, ready_to_send, is_sent_to, addressed_in, after_mdt, Sent, idle, said_to, single, joint, mdt_said, HasTurn, drive_at, is_told, told_to, IsSayable}
+use Rattle.sercos_law_run.proofs.Words.{◌≡◌, inl, inr, ℕ, zero, suc, ◌+◌, ◌<◌, ◌≤◌, Bool, true, false, not, ◌&&◌, ◌||◌, List, [], ◌∷◌, length, Option, Some, None, refl, sym, ◌∙◌, ap, arith, if◌then◌else◌, ◌==◌, nat_le, is_some, is_none, option_map, and_from, cases_eq, cond-false, cond-true, eqb-true, false≢true, not-true, nat_tests, PlanView, Block, is_ring, RingView, open_in, master_says, Send, begun_by, Told, mdt_got, is_place, record_said, Known, MemberView, member, known_of, Past, first_from, first_place, place_of, is_idle, is_identified, in_turn, ready_to_send, is_sent_to, addressed_in, after_mdt, Sent, idle, said_to, single, joint, mdt_said, HasTurn, drive_at, is_told, told_to, IsSayable, Begun, cases_Bool}
 use Rattle.sercos_service_master.specs.Begun.{Said}
 use Rattle.sercos_service_master.specs.Calls as channel
 use Rattle.sercos_law_run.proofs.Views.DriveSame.{said_to as said_by_told}
@@ -8,6 +8,7 @@ use Rattle.sercos_law_run.proofs.Views.Codecs.{single_clear}
 use Rattle.sercos_law_run.proofs.Views.Received.{Agrees, joint_got}
 use Rattle.sercos_law_run.proofs.Headline.ApartCycles.{joint_said}
 use Rattle.sercos_law_run.proofs.Agenda.AtWork.{IsFound}
+use Rattle.sercos_law_run.proofs.Views.MasterSame.{send_same}
 
 -- if some place passes the test, one is found
 pub finds : (k n i : ℕ) (test : ℕ → Bool) → k ≤ i → i < k + n → test i ≡ true → IsFound k n test
@@ -42,11 +43,8 @@ place_some k o is = let same : (k == k) ≡ true = grind (arith, nat_tests) in a
 
 -- PHASE 2. Sending changes nothing of what a channel has begun.
 idle_same : (s : Known) (p : Past) (k : ℕ) → is_idle (after_mdt s p) k ≡ is_idle (ready_to_send s p) k
-idle_same s p k = by (is_sent_to (ready_to_send s p) (addressed_in s (ready_to_send s p)) k) ((ready_to_send s p).calls k)
-  where
-    by : (b : Bool) (calls : List channel.Call) → is_none (open_in (begun_by (if b then Send ∷ calls else calls))) ≡ is_none (open_in (begun_by calls))
-    by true calls = refl
-    by false calls = refl
+idle_same s p k = ap (λ (l : List Begun). is_none (open_in l))
+    (send_same (is_sent_to (ready_to_send s p) (addressed_in s (ready_to_send s p)) k) ((ready_to_send s p).calls k))
 
 addressed_two : (s : Known) (p : Past) → p.now.phase ≡ 2 → addressed_in s p ≡ first_place s (λ k. not (is_idle p k))
 addressed_two s p two =
@@ -80,11 +78,8 @@ told_late p k plan late has =
     ap (λ (b : Bool). b || is_place k p.now.addressed) (and_from (nat_le 3 p.now.phase) (is_some p.plan) three (ap (λ (o : Option PlanView). is_some o) has))
 
 pub told_one : (p : Past) (k : ℕ) → p.now.addressed ≡ Some k → is_told p k ≡ true
-told_one p k to = by (nat_le 3 p.now.phase && is_some p.plan) (place_some k p.now.addressed to)
-  where
-    by : (a : Bool) → is_place k p.now.addressed ≡ true → (a || is_place k p.now.addressed) ≡ true
-    by true here = refl
-    by false here = here
+told_one p k to =
+    elim (cases_Bool (nat_le 3 p.now.phase && is_some p.plan)) [ inl on ↦ rw on | inr off ↦ rw off (place_some k p.now.addressed to) ]
 
 pub told_early : (p : Past) (k : ℕ) → p.now.phase ≤ 2 → is_told p k ≡ true → p.now.addressed ≡ Some k
 told_early p k early told =
@@ -103,7 +98,21 @@ some_got (Some t) said is = refl
 
 pub told_got : (r : RingView) (p : Past) (k : ℕ) (blocks : List Block) → is_ring r ≡ true → k < length r.drives → 1 ≤ p.now.phase → is_told p k ≡ true → ((i : ℕ) → IsSayable (said_to p i))
     → (3 ≤ p.now.phase → (plan : PlanView) × (p.plan ≡ Some plan) × Agrees (known_of r) p k blocks) → IsTold r p k blocks
-told_got r p k blocks valid below some told small planned = third (nat_le 3 p.now.phase) refl
+told_got r p k blocks valid below some told small planned = elim (cases_Bool (nat_le 3 p.now.phase)) [
+  | inl is ↦
+      let late : 3 ≤ p.now.phase = grind (arith, nat_tests, is) in
+      let (plan, has, agrees) = planned late in
+      let count = members_count r in
+      record {
+        sent = joint s p plan;
+        said = joint_said s p plan late has;
+        got = some_got (mdt_got (drive_at r k).address p.now.phase blocks (Some (joint s p plan).content)) (said_to p k)
+            (joint_got s p k (drive_at r k).address p.now.phase blocks (omega (arith, below, count)) late (small k) agrees);
+      }
+  | inr is ↦
+      let early : p.now.phase ≤ 2 = grind (arith, nat_tests, is) in
+      early_by (p.now.phase == 1) refl early (told_early p k early told)
+]
   where
     s : Known
     s = known_of r
@@ -123,18 +132,3 @@ told_got r p k blocks valid below some told small planned = third (nat_le 3 p.no
     early_by false is early to =
         let two : (p.now.phase == 2) ≡ true = grind (arith, nat_tests, is, early, some) in
         to_one (said_to p k) (small k) early (rw (is, two, to) refl)
-
-    third : (late : Bool) → nat_le 3 p.now.phase ≡ late → IsTold r p k blocks
-    third true is =
-        let late : 3 ≤ p.now.phase = grind (arith, nat_tests, is) in
-        let (plan, has, agrees) = planned late in
-        let count = members_count r in
-        record {
-          sent = joint s p plan;
-          said = joint_said s p plan late has;
-          got = some_got (mdt_got (drive_at r k).address p.now.phase blocks (Some (joint s p plan).content)) (said_to p k)
-              (joint_got s p k (drive_at r k).address p.now.phase blocks (omega (arith, below, count)) late (small k) agrees);
-        }
-    third false is =
-        let early : p.now.phase ≤ 2 = grind (arith, nat_tests, is) in
-        early_by (p.now.phase == 1) refl early (told_early p k early told)

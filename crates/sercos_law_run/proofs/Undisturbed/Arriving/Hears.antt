@@ -1,8 +1,8 @@
 -- Before phase 3 the master hears a drive with an open step, if the drive took the MDT of the cycle before.
-use Rattle.sercos_law_run.proofs.Words.{◌≡◌, inl, inr, ℕ, ◌+◌, ◌<◌, ◌≤◌, Bool, true, false, ◌&&◌, List, [], ◌∷◌, length, None, refl, sym, ◌∙◌, ap, subst, if◌then◌else◌, nat_le, is_some, cases_eq, and_from, and_parts, cond-false, false≢true, leb-true, Job, RingView, Begun, open_in, phase_in, has_mst, has_taken, annals, sends, CycleView, is_place, known_of, Past, is_awaited, addressed_before, next_phase, new_epoch, still_waiting, goes_on, Carry, Restarts, View, standing, stood_in, before_mst, moved, got_in, afresh, Standing, command, epoch_begun, begun_in, ends, comes_to, drive_at, with_restart, given_before, IsRun, IsClear, behind_mst, behind_mdt, after_mst, view_of, views_of, IsOpened, was_addressed, IsUndisturbed, begins_empty}
+use Rattle.sercos_law_run.proofs.Words.{◌≡◌, inl, inr, ℕ, ◌+◌, ◌<◌, ◌≤◌, Bool, true, false, ◌&&◌, List, [], ◌∷◌, length, None, refl, sym, ◌∙◌, ap, subst, if◌then◌else◌, nat_le, is_some, cases_eq, and_from, and_parts, cond-false, false≢true, leb-true, Job, RingView, Begun, open_in, phase_in, has_mst, has_taken, annals, sends, CycleView, is_place, known_of, Past, is_awaited, addressed_before, next_phase, new_epoch, still_waiting, goes_on, Carry, Restarts, View, standing, stood_in, before_mst, moved, got_in, afresh, Standing, command, epoch_begun, begun_in, ends, comes_to, drive_at, with_restart, given_before, IsRun, IsClear, behind_mst, behind_mdt, after_mst, view_of, views_of, IsOpened, was_addressed, IsUndisturbed, begins_empty, arith, nat_tests, cases_Bool}
 use Rattle.sercos_law_run.proofs.Undisturbed.Arriving.Addressed.{place_some, told_then, told_early}
 use Rattle.sercos_law_run.proofs.Undisturbed.Arriving.Speaking.{sends_early}
-use Rattle.sercos_law_run.proofs.Undisturbed.Arriving.Phases.{not_late, is_up, one_two, not_up, later_so, same_two, up_at, was_two}
+use Rattle.sercos_law_run.proofs.Undisturbed.Arriving.Phases.{not_late, is_up, one_two, not_up, up_at, was_two}
 use Rattle.sercos_law_run.proofs.Undisturbed.Arriving.Sending.{stood_is, mst_is, phase_then}
 use Rattle.sercos_law_run.proofs.Undisturbed.Arriving.MdtComes.{drive_in, start_is, commanded_in, mst_came, stands_in}
 use Rattle.sercos_law_run.proofs.Undisturbed.Arriving.AtsCome.{taken_if}
@@ -35,15 +35,14 @@ module _ (r : RingView) (jobs : List Job) (carry : Carry) (restarts : Restarts) 
 
     -- phase 2 or later is commanded, since a step is open
     two : 2 ≤ t.phase
-    two = low (nat_le t.phase 1) refl
-      where
-        low : (b : Bool) → nat_le t.phase 1 ≡ b → 2 ≤ t.phase
-        low true is =
-            let early : command (views_of r jobs carry restarts k (u ∷ j)) ≤ 1 = subst (λ (n : ℕ). n ≤ 1) commanded (leb-true t.phase 1 is) in
-            let none : epoch_begun (views_of r jobs carry restarts k (u ∷ j)) ≡ [] = (begins_empty (drive_at r k).busy (views_of r jobs carry restarts k (u ∷ j)) (all_stand r jobs carry restarts opened (u ∷ j) run.0 clear.0 k below).sees.run early).0 in
-            let closed : false ≡ true = sym (ap (λ (l : List Begun). is_some (open_in l)) none) ∙ opens in
-            absurd (false≢true closed)
-        low false is = later_so t.phase is
+    two = elim (cases_Bool (nat_le t.phase 1)) [
+      | inl is ↦
+          let early : command (views_of r jobs carry restarts k (u ∷ j)) ≤ 1 = subst (λ (n : ℕ). n ≤ 1) commanded (leb-true t.phase 1 is) in
+          let none : epoch_begun (views_of r jobs carry restarts k (u ∷ j)) ≡ [] = (begins_empty (drive_at r k).busy (views_of r jobs carry restarts k (u ∷ j)) (all_stand r jobs carry restarts opened (u ∷ j) run.0 clear.0 k below).sees.run early).0 in
+          let closed : false ≡ true = sym (ap (λ (l : List Begun). is_some (open_in l)) none) ∙ opens in
+          absurd (false≢true closed)
+      | inr is ↦ grind (arith, nat_tests, is)
+    ]
 
     -- the phase of the cycle before
     before_two : t.phase ≤ 2 → u.phase ≤ 2
@@ -60,7 +59,7 @@ module _ (r : RingView) (jobs : List Job) (carry : Carry) (restarts : Restarts) 
     was_up : t.phase ≤ 2 → 1 ≤ stood_in (view_of r jobs carry restarts k u j) (standing (views_of r jobs carry restarts k j))
     was_up early = elim (cases_eq (standing (views_of r jobs carry restarts k (u ∷ j))).ended 0) [
       | inl none ↦
-          let phase_two : t.phase ≡ 2 = same_two t.phase two early in
+          let phase_two : t.phase ≡ 2 = omega (arith, two, early) in
           let still_drive : (before_mst (view_of r jobs carry restarts k t (u ∷ j)) (standing (views_of r jobs carry restarts k (u ∷ j)))).ended ≡ 0 =
           ap (λ (f : Standing). f.ended) (cond-false (restarts (length (u ∷ j)) (k + 1)) afresh (standing (views_of r jobs carry restarts k (u ∷ j))) (drive_in r jobs carry restarts opened t (u ∷ j) run clear undisturbed k below)) ∙ none in
           let down : stood_in (view_of r jobs carry restarts k t (u ∷ j)) (standing (views_of r jobs carry restarts k (u ∷ j))) ≡ 0 =

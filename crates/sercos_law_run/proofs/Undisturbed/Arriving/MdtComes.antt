@@ -1,5 +1,5 @@
 -- In an undisturbed cycle MST and MDT come to each drive.
-use Rattle.sercos_law_run.proofs.Words.{◌≡◌, ◌⊎◌, inl, inr, ℕ, ◌+◌, ◌<◌, ◌≤◌, Bool, true, false, List, ◌∷◌, length, Option, Some, None, refl, sym, ◌∙◌, ap, ap₂, subst, is_some, cond-false, mst_content, Job, PlanView, RingView, mst_got, mdt_got, phase_in, blocks_in, CycleView, known_of, mdt_said, Carry, Restarts, standing, stood_in, command, passage, mst_in, mdt_in, drive_at, given_mst, master_calls, looks_back, mdt_heard, said_below, content_of, disturbs_mdt, IsRun, IsClear, at_start, behind_mdt, told_to, gets_record, after_mst, view_of, views_of, IsOpened, IsUndisturbed, stands_as_commanded}
+use Rattle.sercos_law_run.proofs.Words.{◌≡◌, ◌⊎◌, inl, inr, ℕ, ◌+◌, ◌<◌, ◌≤◌, Bool, true, false, List, ◌∷◌, length, Option, Some, None, refl, sym, ◌∙◌, ap, ap₂, subst, is_some, cond-false, mst_content, Job, PlanView, RingView, mst_got, mdt_got, phase_in, blocks_in, CycleView, known_of, mdt_said, Carry, Restarts, standing, stood_in, command, passage, mst_in, mdt_in, drive_at, given_mst, master_calls, looks_back, mdt_heard, said_below, content_of, disturbs_mdt, IsRun, IsClear, at_start, behind_mdt, told_to, gets_record, after_mst, view_of, views_of, IsOpened, IsUndisturbed, stands_as_commanded, arith}
 use Rattle.sercos_telegram.specs.declared.layout.Kind.TheVariants as kinds
 use Rattle.sercos_law_run.proofs.Journal.RunLemmas.{mdt_in-said}
 use Rattle.sercos_law_run.proofs.Views.MasterSame.{begun_cycle}
@@ -11,7 +11,7 @@ use Rattle.sercos_law_run.proofs.Held.Runs.{holding, agrees}
 use Rattle.sercos_law_run.proofs.Headline.HeadlineRuns.{first_store, all_stand}
 use Rattle.sercos_law_run.proofs.Undisturbed.Arriving.Arrivals.{heard_sent}
 use Rattle.sercos_law_run.proofs.Undisturbed.Arriving.Addressed.{told_then, IsTold, told_got}
-use Rattle.sercos_law_run.proofs.Undisturbed.Arriving.Phases.{not_up, next_station, first_station}
+use Rattle.sercos_law_run.proofs.Undisturbed.Arriving.Phases.{not_up}
 use Rattle.sercos_law_run.proofs.Undisturbed.Arriving.Sending.{spelled, stored, all, stood_is, phase_then, started_late}
 use Rattle.sercos_law_run.proofs.Undisturbed.Arriving.Comes.{IsCalm, calm_in}
 
@@ -29,10 +29,10 @@ module _ (r : RingView) (jobs : List Job) (carry : Carry) (restarts : Restarts) 
     still = calm_in r carry restarts t j undisturbed
 
     pub drive_in : (k : ℕ) → k < length r.drives → restarts (length j) (k + 1) ≡ false
-    drive_in k below = still.stays (k + 1) (next_station k (length r.drives) below)
+    drive_in k below = still.stays (k + 1) (omega (arith, below))
 
     pub master_in : restarts (length j) 0 ≡ false
-    master_in = still.stays 0 (first_station (length r.drives))
+    master_in = still.stays 0 (omega arith)
 
     pub start_is : at_start r jobs carry restarts j ≡ looks_back r jobs (master_calls r carry restarts j)
     start_is = started r jobs (restarts (length j) 0) (master_calls r carry restarts j) ∙ ap (λ (b : Bool). begun_cycle b (looks_back r jobs (master_calls r carry restarts j))) master_in
@@ -50,12 +50,11 @@ module _ (r : RingView) (jobs : List Job) (carry : Carry) (restarts : Restarts) 
         ∙ mst_clear (at_start r jobs carry restarts j).now.phase (Some (mst_content (at_start r jobs carry restarts j).now.phase)) low (inr refl))
 
     pub stands_in : (k : ℕ) → k < length r.drives → 1 ≤ stood_in (view_of r jobs carry restarts k t j) (standing (views_of r jobs carry restarts k j)) → phase_in (after_mst r carry restarts t.sent j k) ≡ t.phase
-    stands_in k below up = stood_is r jobs carry restarts opened t j run clear k below ∙ by (stands_as_commanded (view_of r jobs carry restarts k t j) (views_of r jobs carry restarts k j) (mst_came k below)) up
-      where
-        by : (stood_in (view_of r jobs carry restarts k t j) (standing (views_of r jobs carry restarts k j)) ≡ 0) ⊎ (stood_in (view_of r jobs carry restarts k t j) (standing (views_of r jobs carry restarts k j)) ≡ t.phase)
-            → 1 ≤ stood_in (view_of r jobs carry restarts k t j) (standing (views_of r jobs carry restarts k j)) → stood_in (view_of r jobs carry restarts k t j) (standing (views_of r jobs carry restarts k j)) ≡ t.phase
-        by (inl none) up = absurd (not_up _ none up)
-        by (inr same) up = same
+    stands_in k below up = stood_is r jobs carry restarts opened t j run clear k below
+        ∙ (elim (stands_as_commanded (view_of r jobs carry restarts k t j) (views_of r jobs carry restarts k j) (mst_came k below)) [
+          | inl none ↦ absurd (not_up _ none up)
+          | inr same ↦ same
+        ])
 
     -- the MDT
     pub mdt_came : (k : ℕ) → k < length r.drives → is_some (told_to (behind_mdt r jobs carry restarts t.sent j) k) ≡ true → 1 ≤ stood_in (view_of r jobs carry restarts k t j) (standing (views_of r jobs carry restarts k j))

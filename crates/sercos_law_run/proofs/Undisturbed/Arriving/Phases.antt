@@ -7,9 +7,6 @@ late_so n is = leb-true 3 n is
 pub early_so : (n : ℕ) → nat_le 3 n ≡ false → n ≤ 2
 early_so n is = grind (arith, nat_tests, is)
 
-pub two_so : (n : ℕ) → nat_le 3 n ≡ false → 2 ≤ n → n ≡ 2
-two_so n is two = let early = early_so n is in omega (arith, early, two)
-
 pub is_late : (n : ℕ) → 3 ≤ n → nat_le 3 n ≡ true
 is_late n late = le-leb 3 n late
 
@@ -19,26 +16,11 @@ not_late n early = grind (arith, nat_tests, early)
 pub is_up : (n : ℕ) → 1 ≤ n → nat_le 1 n ≡ true
 is_up n up = le-leb 1 n up
 
-pub two_late : (n : ℕ) → 3 ≤ n → 2 ≤ n
-two_late n late = omega (arith, late)
-
 pub one_two : (n : ℕ) → 2 ≤ n → 1 ≤ n
 one_two n two = omega (arith, two)
 
 pub not_up : (n : ℕ) → n ≡ 0 → 1 ≤ n → ⊥
 not_up n none up = omega (arith, none, up)
-
-pub later_so : (n : ℕ) → nat_le n 1 ≡ false → 2 ≤ n
-later_so n is = grind (arith, nat_tests, is)
-
-pub same_two : (n : ℕ) → 2 ≤ n → n ≤ 2 → n ≡ 2
-same_two n two early = omega (arith, two, early)
-
-pub next_station : (k n : ℕ) → k < n → k + 1 ≤ n
-next_station k n below = omega (arith, below)
-
-pub first_station : (n : ℕ) → 0 ≤ n
-first_station n = omega arith
 
 pub up_at : (n m : ℕ) → (n ≡ 0 → ⊥) → n ≡ m → 1 ≤ m
 up_at n m some same = omega (arith, some, same)

@@ -1,10 +1,10 @@
 -- What the master sends in a cycle of a clear run.
-use Rattle.sercos_law_run.proofs.Words.{◌≡◌, ℕ, ◌<◌, ◌≤◌, Bool, true, false, List, ◌∷◌, length, refl, sym, ◌∙◌, ap, subst, nat_le, is_some, Job, RingView, Begun, open_in, begun_by, phase_in, has_mst, blocks_in, CycleView, member, known_of, tasks_for, is_idle, tasks_wait, Carry, Restarts, standing, stood_in, begun_in, drive_at, middle, IsRun, IsClear, HasTurn, at_start, behind_ats, behind_mdt, told_to, after_mst, view_of, views_of, IsSpelled, IsOpened, IsStored, open_late, none_of_some}
+use Rattle.sercos_law_run.proofs.Words.{◌≡◌, ℕ, ◌<◌, ◌≤◌, Bool, true, false, List, ◌∷◌, length, refl, sym, ◌∙◌, ap, subst, nat_le, is_some, Job, RingView, Begun, open_in, begun_by, phase_in, has_mst, blocks_in, CycleView, member, known_of, tasks_for, is_idle, tasks_wait, Carry, Restarts, standing, stood_in, begun_in, drive_at, middle, IsRun, IsClear, HasTurn, at_start, behind_ats, behind_mdt, told_to, after_mst, view_of, views_of, IsSpelled, IsOpened, IsStored, open_late, none_of_some, arith}
 use Rattle.sercos_law_run.proofs.Views.Members.{members_count}
 use Rattle.sercos_law_run.proofs.Held.Runs.{AllStand, phase_same, holding, kept_at_mst, begun_then}
 use Rattle.sercos_law_run.proofs.Headline.HeadlineRuns.{first_store, stored_in, spelled_in, all_stand}
 use Rattle.sercos_law_run.proofs.Undisturbed.Arriving.Addressed.{addressed_open, told_if, told_late, told_one}
-use Rattle.sercos_law_run.proofs.Undisturbed.Arriving.Phases.{late_so, two_so}
+use Rattle.sercos_law_run.proofs.Undisturbed.Arriving.Phases.{late_so, early_so}
 use Rattle.sercos_law_run.proofs.Cited.{work_in_turn}
 
 module _ (r : RingView) (jobs : List Job) (carry : Carry) (restarts : Restarts) (opened : IsOpened r jobs) where
@@ -55,4 +55,6 @@ module _ (r : RingView) (jobs : List Job) (carry : Carry) (restarts : Restarts) 
         by true is two = joint_in k below (late_so t.phase is)
         by false is two =
             told_if (behind_mdt r jobs carry restarts t.sent j) k (told_one (behind_mdt r jobs carry restarts t.sent j) k
-            (addressed_open (known_of r) (behind_ats r jobs carry restarts t.sent j) k (subst (λ (n : ℕ). k < n) (sym (members_count r)) below) turns (phase_then ∙ two_so t.phase is two) not_idle))
+            (addressed_open (known_of r) (behind_ats r jobs carry restarts t.sent j) k
+            (subst (λ (n : ℕ). k < n) (sym (members_count r)) below) turns
+            (phase_then ∙ (let early = early_so t.phase is in omega (arith, early, two))) not_idle))

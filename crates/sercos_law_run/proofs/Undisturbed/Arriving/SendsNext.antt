@@ -1,5 +1,6 @@
 -- A drive that is addressed in a cycle of phase 1 sends its AT in the next.
 use Rattle.sercos_law_run.proofs.Words.{◌≡◌, ℕ, ◌||◌, Bool, true, not, ◌&&◌, List, ◌∷◌, length, Option, Some, None, refl, ◌∙◌, ap, arith, if◌then◌else◌, ◌==◌, nat_le, is_some, is_none, slice_index, at_fault, head_fault-none, DriveView, Shown, channel_says, Told, DriveCall, Mst, Mdt, mst_got, mdt_got, Moment, phase_in, cycle_in, has_mst, has_taken, has_missed, records_in, blocks_in, commands_in, annals, stands_in, takes, Said, said, said_in, sends, shown_word, values_in, fields_length}
+use Rattle.sercos_law_run.proofs.Undisturbed.Arriving.Speaking.{speaks}
 
 ends_one : (n : ℕ) (b : Bool) → n ≡ 1 → (if nat_le 3 n && b then 0 else n) ≡ 1
 ends_one n b one = rw one refl
@@ -24,24 +25,16 @@ no_values : (cycle : ℕ) (n : ℕ) (d : DriveView) (past : List Moment) → n �
 no_values cycle n d past one = rw one refl
 
 says_one : (d : DriveView) (rate : ℕ) (past : List Moment) → sends past ≡ true → phase_in past ≡ 1 → SaysOne d rate past
-says_one d rate past sending one = record {
-  says = what;
-  said_is = ap (λ (b : Bool). if b then Some what else None) sending;
-  head = refl;
-  reads = ap (λ o. is_none o) (head_fault-none 5 d.address what.content long refl);
-}
-  where
-    shows : Shown
-    shows = channel_says d.busy (cycle_in past) (commands_in d rate past) (records_in past)
-
-    what : Said
-    what = said d.address (cycle_in past) (phase_in past) (blocks_in d past) (channel_says d.busy (cycle_in past) (commands_in d rate past) (records_in past))
-
-    long : length what.content ≡ 5
-    long =
-        let a = fields_length (shown_word shows) shows.word (values_in (cycle_in past) (phase_in past) (blocks_in d past)) in
-        let b = no_values (cycle_in past) (phase_in past) d past one in
-        omega (arith, a, b)
+says_one d rate past sending one =
+    let speaking = speaks d rate past sending in
+    let long = speaking.long in
+    let none = no_values (cycle_in past) (phase_in past) d past one in
+    record {
+      says = speaking.says;
+      said_is = speaking.is;
+      head = speaking.address;
+      reads = ap (λ o. is_none o) (head_fault-none 5 d.address speaking.says.content (omega (arith, long, none)) speaking.address);
+    }
 
 pub sends_next : (d : DriveView) (rate cycle : ℕ) (h : List DriveCall) (mdt mst : Option (List ℕ)) → has_mst (annals d rate h) ≡ true → phase_in (annals d rate h) ≡ 1
     → is_some (mdt_got d.address (phase_in (annals d rate h)) (blocks_in d (annals d rate h)) mdt) ≡ true → mst_got mst ≡ Some 1

@@ -7,6 +7,7 @@ use Rattle.sercos_law_run.proofs.Views.Members.{members_count}
 use Rattle.sercos_law_run.proofs.Held.Runs.{drive_got}
 use Rattle.sercos_law_run.proofs.Headline.AtLengths.{carried_length}
 use Rattle.sercos_law_run.proofs.Start.Lengths.{are_as_long}
+use Rattle.sercos_law_run.proofs.Journal.StationLemmas.{would_say}
 
 -- what it sends
 pub record Speaks (d : DriveView) (rate : ℕ) (past : List Moment) : Type 0 where
@@ -16,35 +17,26 @@ pub record Speaks (d : DriveView) (rate : ℕ) (past : List Moment) : Type 0 whe
   pub long : length says.content ≡ 1 + (4 + length (values_in (cycle_in past) (phase_in past) (blocks_in d past)))
 
 pub speaks : (d : DriveView) (rate : ℕ) (past : List Moment) → sends past ≡ true → Speaks d rate past
-speaks d rate past sent = record {
-  says = what;
-  is = cond-true (sends past) (Some what) None sent;
-  address = refl;
-  long = let fields = fields_length (shown_word shows) shows.word (values_in (cycle_in past) (phase_in past) (blocks_in d past)) in omega (arith, fields);
-}
-  where
-    shows : Shown
-    shows = channel_says d.busy (cycle_in past) (commands_in d rate past) (records_in past)
-
-    what : Said
-    what = said d.address (cycle_in past) (phase_in past) (blocks_in d past) shows
+speaks d rate past sent =
+    let shows : Shown = channel_says d.busy (cycle_in past) (commands_in d rate past) (records_in past) in
+    let fields = fields_length (shown_word shows) shows.word (values_in (cycle_in past) (phase_in past) (blocks_in d past)) in
+    record {
+      says = would_say d rate past;
+      is = cond-true (sends past) (Some (would_say d rate past)) None sent;
+      address = refl;
+      long =
+          omega (arith, fields);
+    }
 
 -- in phases 3 and 4 always, in phases 1 and 2 if it took an MDT in the cycle before
 pub sends_late : (past : List Moment) → has_mst past ≡ true → 3 ≤ phase_in past → sends past ≡ true
-sends_late past got late = by (has_mst past) (has_taken past) (phase_in past) got late
-  where
-    by : (got took : Bool) (phase : ℕ) → got ≡ true → 3 ≤ phase → (got && (nat_le 3 phase || (nat_le 1 phase && took))) ≡ true
-    by got took phase is late = let three : nat_le 3 phase ≡ true = grind (arith, nat_tests, late) in rw (is, three) refl
+sends_late past got late = let three : nat_le 3 (phase_in past) ≡ true = grind (arith, nat_tests, late) in rw (got, three) refl
 
 pub sends_early : (past : List Moment) → has_mst past ≡ true → 1 ≤ phase_in past → has_taken past ≡ true → sends past ≡ true
 sends_early past got up took = by (has_mst past) (has_taken past) (phase_in past) got up took
   where
     by : (got took : Bool) (phase : ℕ) → got ≡ true → 1 ≤ phase → took ≡ true → (got && (nat_le 3 phase || (nat_le 1 phase && took))) ≡ true
     by got took phase is up taken = let one : nat_le 1 phase ≡ true = grind (arith, nat_tests, up) in rw (is, taken, one) (or_right (nat_le 3 phase) true refl)
-
--- an AT of the wanted address and length has no fault
-pub at_sound : (address wanted : ℕ) (content : List ℕ) → slice_index content 0 ≡ address → length content ≡ 1 + wanted → at_fault address wanted content ≡ None
-at_sound address wanted content there long = head_fault-none (1 + wanted) address content long there
 
 -- in phases 1 and 2 it carries no values
 pub no_values : (cycle phase : ℕ) (blocks : List Block) → phase ≤ 2 → length (values_in cycle phase blocks) ≡ 0

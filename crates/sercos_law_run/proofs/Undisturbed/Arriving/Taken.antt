@@ -1,10 +1,11 @@
 -- The master takes the first AT of a drive in a cycle that is awaited and has the wanted bytes.
-use Rattle.sercos_law_run.proofs.Words.{◌≡◌, ◌⊎◌, inl, inr, ℕ, zero, suc, ◌<◌, ◌≤◌, Bool, true, false, not, ◌&&◌, List, [], ◌∷◌, Option, Some, None, refl, sym, ◌∙◌, ap, ap₂, subst, arith, if◌then◌else◌, ◌==◌, nat_le, nat_lt, slice_index, is_some, is_none, cases_eq, and_from, nat_tests, at_fault, Job, DriveView, RingView, begun_by, DriveCall, Said, drive_says, at_len, is_place, outcomes_in, Known, member, known_of, Past, Turn, Call, addressed_before, place_of, is_awaited, wanted_len, is_taken, after_taken, after_at_of, after_at, hearing, same_place, Carry, heard, passage, station_of, with_said, said_below, contents, with_at, at_calls, looks_back, heard_last}
+use Rattle.sercos_law_run.proofs.Words.{◌≡◌, ◌⊎◌, inl, inr, ℕ, zero, suc, ◌<◌, ◌≤◌, Bool, true, false, not, ◌&&◌, List, [], ◌∷◌, Option, Some, None, refl, sym, ◌∙◌, ap, ap₂, subst, arith, if◌then◌else◌, ◌==◌, nat_le, nat_lt, slice_index, is_some, is_none, cases_eq, and_from, nat_tests, at_fault, Job, DriveView, RingView, begun_by, DriveCall, Said, drive_says, at_len, is_place, outcomes_in, Known, member, known_of, Past, Turn, Call, addressed_before, place_of, is_awaited, wanted_len, is_taken, after_taken, after_at_of, after_at, hearing, same_place, Carry, heard, passage, station_of, with_said, said_below, contents, with_at, at_calls, looks_back, heard_last, at_keeps, cases_Bool}
 use Rattle.sercos_telegram.specs.declared.layout.Kind.TheVariants as kinds
 use Rattle.sercos_service_master.specs.Calls as channel
 use Rattle.sercos_law_run.specs.Journal.Runs.{inserted}
 use Rattle.sercos_law_run.proofs.Undisturbed.Arriving.Arrivals.{AllHeard}
 use Rattle.sercos_law_run.proofs.Views.MasterSame.{not_taken}
+use Rattle.sercos_law_run.proofs.Undisturbed.Arriving.AfterAt.{after_at_so, ats_keep}
 
 -- After some ATs of a cycle none was taken from the drive at a place ..
 pub record Waits (k : ℕ) (p q : Past) : Type 0 where
@@ -34,38 +35,21 @@ takes_it k p q content w = record {
 
 -- what is heard of another drive, or isn't taken, changes nothing
 took_stays : (s : Known) (k : ℕ) (p q : Past) (content : List ℕ) → Took k p q → Took k p (after_at s content q)
-took_stays s k p q content a = place (place_of s (slice_index content 0))
-  where
-    elsewhere : (i : ℕ) → (k == i) ≡ false → Took k p (after_taken i content q)
-    elsewhere i other = record { taken = rw other a.taken; phase_is = a.phase_is; last = λ two. rw other (a.last two) }
-
-    taken : (i : ℕ) (b : Bool) → is_taken s q i content ≡ b → Took k p (if b then after_taken i content q else q)
-    taken i false is = a
-    taken i true is = elim (cases_eq k i) [
+took_stays s k p q content a = at_keeps (λ x. Took k p x) s (place_of s (slice_index content 0)) content q a
+    (λ i found is. elim (cases_eq k i) [
       | inl same ↦ absurd (not_taken (is_awaited q k) _ (q.now.heard k) a.taken (ap (λ (n : ℕ). is_taken s q n content) same ∙ is))
-      | inr other ↦ elsewhere i (grind (arith, nat_tests, other))
-    ]
-
-    place : (o : Option ℕ) → Took k p (after_at_of s o content q)
-    place None = a
-    place (Some i) = taken i (is_taken s q i content) refl
+      | inr other ↦
+          let off : (k == i) ≡ false = grind (arith, nat_tests, other) in
+          record { taken = rw off a.taken; phase_is = a.phase_is; last = λ two. rw off (a.last two) }
+    ])
 
 waits_or_took : (s : Known) (k : ℕ) (p q : Past) (content : List ℕ) → Waits k p q → Waits k p (after_at s content q) ⊎ Took k p (after_at s content q)
-waits_or_took s k p q content w = place (place_of s (slice_index content 0))
-  where
-    elsewhere : (i : ℕ) → (k == i) ≡ false → Waits k p (after_taken i content q)
-    elsewhere i other = record { unheard = rw other w.unheard; calls_are = rw other w.calls_are; phase_is = w.phase_is; turns_are = w.turns_are }
-
-    taken : (i : ℕ) (b : Bool) → Waits k p (if b then after_taken i content q else q) ⊎ Took k p (if b then after_taken i content q else q)
-    taken i false = inl w
-    taken i true = elim (cases_eq k i) [
-      | inl same ↦ inr (subst (λ (n : ℕ). Took k p (after_taken n content q)) same (takes_it k p q content w))
-      | inr other ↦ inl (elsewhere i (grind (arith, nat_tests, other)))
-    ]
-
-    place : (o : Option ℕ) → Waits k p (after_at_of s o content q) ⊎ Took k p (after_at_of s o content q)
-    place None = inl w
-    place (Some i) = taken i (is_taken s q i content)
+waits_or_took s k p q content w = after_at_so (λ x. Waits k p x ⊎ Took k p x) s content q (inl w) (λ i. elim (cases_eq k i) [
+  | inl same ↦ inr (subst (λ (n : ℕ). Took k p (after_taken n content q)) same (takes_it k p q content w))
+  | inr other ↦
+      let off : (k == i) ≡ false = grind (arith, nat_tests, other) in
+      inl (record { unheard = rw off w.unheard; calls_are = rw off w.calls_are; phase_is = w.phase_is; turns_are = w.turns_are })
+])
 
 -- the drive's own, if it is awaited and has no fault
 takes_own : (s : Known) (k : ℕ) (p q : Past) (content : List ℕ) → place_of s (slice_index content 0) ≡ Some k → is_awaited p k ≡ true → at_fault (member s k).address (wanted_len s p k) content ≡ None → Waits k p q
@@ -86,13 +70,9 @@ takes_own s k p q content found awaited sound w =
 
 -- ALL ATS OF A CYCLE
 pub stays_taken : (r : RingView) (jobs : List Job) (carry : Carry) (cycle k : ℕ) (p : Past) (ats : List (List ℕ)) (h : List Call) → Took k p (looks_back r jobs h) → Took k p (looks_back r jobs (at_calls r carry cycle ats h))
-stays_taken r jobs carry cycle k p [] h a = a
-stays_taken r jobs carry cycle k p (at ∷ ats) h a =
-    stays_taken r jobs carry cycle k p ats (with_at (heard carry (passage cycle kinds.At (station_of r (slice_index at 0)) 0) at) h) (by (heard carry (passage cycle kinds.At (station_of r (slice_index at 0)) 0) at))
-  where
-    by : (o : Option (List ℕ)) → Took k p (looks_back r jobs (with_at o h))
-    by None = a
-    by (Some content) = took_stays (known_of r) k p (looks_back r jobs h) content a
+stays_taken r jobs carry cycle k p ats h a =
+    ats_keep (λ g. Took k p (looks_back r jobs g)) r carry cycle ats h a
+    (λ content g so. took_stays (known_of r) k p (looks_back r jobs g) content so)
 
 abbrev pub IsAmong : List ℕ → List (List ℕ) → Type 0
 IsAmong content [] = ⊥
@@ -114,11 +94,8 @@ own_taken r jobs carry cycle k p content (at ∷ ats) h found awaited sound (inr
 -- what a drive says is among the ATs of the cycle
 among_inserted : (s : Said) (others : List Said) → IsAmong s.content (contents (inserted s others))
 among_inserted s [] = inl refl
-among_inserted s (x ∷ others) = by (nat_lt s.start x.start) (among_inserted s others)
-  where
-    by : (b : Bool) → IsAmong s.content (contents (inserted s others)) → IsAmong s.content (contents (if b then s ∷ x ∷ others else x ∷ inserted s others))
-    by true rest = inl refl
-    by false rest = inr rest
+among_inserted s (x ∷ others) =
+    elim (cases_Bool (nat_lt s.start x.start)) [ inl on ↦ rw on (inl refl) | inr off ↦ rw off (inr (among_inserted s others)) ]
 
 among_more : (content : List ℕ) (s : Said) (others : List Said) → IsAmong content (contents others) → IsAmong content (contents (inserted s others))
 among_more content s [] among = absurd among

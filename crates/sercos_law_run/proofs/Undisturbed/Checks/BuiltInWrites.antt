@@ -1,5 +1,5 @@
 -- As long as phase 4 was never commanded, built-in blocks alone were written.
-use Rattle.sercos_law_run.proofs.Words.{◌≡◌, ℕ, zero, suc, ◌<◌, ◌≤◌, Bool, true, false, List, [], ◌∷◌, ◌++◌, length, map, drop, Option, Some, None, refl, sym, ap, ◌∙◌, subst, arith, if◌then◌else◌, same_Some, ◌==◌, slice_get, Job, Request, Outcome, PlanView, is_built_in, find_block, store_of, RingView, Block, Entry, Write, Begun, answers_it, answer_in, with_answer, begun_by, CycleView, writes, Known, Task, known_of, member, tasks_for, AreWaiting, Past, jobs_waiting, Carry, Restarts, with_heard, with_begun, epoch_begun, begun_in, Given, given_of, given_by, written_to, AreWrites, Complete, Refused, Broken, AreExact, Heard, View, all_begun, begun_ago, all_entries, all_writes, drive_at, middle, IsRun, IsClear, IsTask, OfReads, OfWrites, Checks3, Lists3, Checks4, Lists4, OfWaiting, AreBegunTasks, start_numbers, behind_mdt, view_of, views_of, IsOpened, runs_exact}
+use Rattle.sercos_law_run.proofs.Words.{◌≡◌, ℕ, zero, suc, ◌<◌, ◌≤◌, Bool, true, false, List, [], ◌∷◌, ◌++◌, length, map, drop, Option, Some, None, refl, sym, ap, ◌∙◌, subst, arith, if◌then◌else◌, same_Some, ◌==◌, slice_get, Job, Request, Outcome, PlanView, is_built_in, find_block, store_of, RingView, Block, Entry, Write, Begun, answers_it, answer_in, with_answer, begun_by, CycleView, writes, Known, Task, known_of, member, tasks_for, AreWaiting, Past, jobs_waiting, Carry, Restarts, with_heard, with_begun, epoch_begun, begun_in, Given, given_of, given_by, written_to, AreWrites, Complete, Refused, Broken, AreExact, Heard, View, all_begun, begun_ago, all_entries, all_writes, drive_at, middle, IsRun, IsClear, IsTask, OfReads, OfWrites, Checks3, Lists3, Checks4, Lists4, OfWaiting, AreBegunTasks, start_numbers, behind_mdt, view_of, views_of, IsOpened, runs_exact, cases_Bool, inl, inr}
 use Rattle.sercos_step.specs.declared.request.Request.TheVariants as request
 use Rattle.sercos_law_run.proofs.Views.Members.{members_count}
 use Rattle.sercos_law_run.proofs.Held.AnsweredRuns.{IsRead, Time, Attribute, is_read_request}
@@ -10,6 +10,7 @@ use Rattle.sercos_law_run.proofs.Undisturbed.Checks.OwnSet.{AreBuiltIn}
 use Rattle.sercos_law_run.proofs.Agenda.WritesDone.{writes_data}
 use Rattle.sercos_law_run.proofs.Cited.{begins_tasks}
 use Rattle.sercos_law_run.proofs.Undisturbed.Arriving.Small.{first_is}
+use Rattle.sercos_law_run.proofs.Held.Agreed.{all_at}
 
 -- A REQUEST names a built-in block, if it writes at all.
 abbrev pub is_built : Request → Bool
@@ -65,18 +66,6 @@ exact_built blocks (b ∷ begun) entries writes (part, rest, own, others, of_ent
     subst AreBuiltIn (sym of_writes) (writes_append own others (own_built blocks b own built.1 is.writes) (exact_built blocks begun rest others behind built.0))
 
 -- WHAT A TASK OF THE START-UP NAMES
-abbrev AllBuiltIn : List ℕ → Type 0
-AllBuiltIn [] = Unit {0}
-AllBuiltIn (n ∷ numbers) = (is_built_in n ≡ true) × AllBuiltIn numbers
-
-start_built : (i raw : ℕ) → slice_get start_numbers i ≡ Some raw → is_built_in raw ≡ true
-start_built i raw got = by start_numbers i (refl, (refl, (refl, (refl, (refl, (refl, (refl, (refl, (refl, (refl, (refl, tt))))))))))) got
-  where
-    by : (numbers : List ℕ) (i : ℕ) → AllBuiltIn numbers → slice_get numbers i ≡ Some raw → is_built_in raw ≡ true
-    by [] i all got = absurd (cc)
-    by (n ∷ numbers) zero all got = ap is_built_in (sym (same_Some _ _ got)) ∙ all.0
-    by (n ∷ numbers) (suc i) all got = by numbers i all.1 got
-
 task_built : (s : Known) (k : ℕ) (by_then : Option PlanView) (waiting : List Task) (outs : List Outcome) (t : Task) → AreWaiting waiting → t.phase ≤ 3 → IsTask s k by_then waiting outs t → is_built t.request ≡ true
 task_built s k by_then waiting outs t wait early (OfReads r less got is) = ap (λ (x : Task). is_built x.request) is ∙ by (is_read_request (member s k) (length outs) r got)
   where
@@ -85,7 +74,8 @@ task_built s k by_then waiting outs t wait early (OfReads r less got is) = ap (�
     by (Attribute i same) = ap is_built same
 task_built s k by_then waiting outs t wait early (OfWrites p i r has less at got is) =
     let (named, bytes, there, number) = writes_data s p k i less in
-    ap (λ (x : Task). is_built x.request) is ∙ ap is_built (same_Some r (request.Write named 7 bytes) (sym got ∙ there)) ∙ start_built i named.raw number
+    ap (λ (x : Task). is_built x.request) is ∙ ap is_built (same_Some r (request.Write named 7 bytes) (sym got ∙ there))
+    ∙ all_at is_built_in start_numbers i named.raw refl number
 task_built s k by_then waiting outs t wait early (Checks3 p has at is) = ap (λ (x : Task). is_built x.request) is
 task_built s k by_then waiting outs t wait early (Lists3 at failed is) = ap (λ (x : Task). is_built x.request) is
 task_built s k by_then waiting outs t wait early (Checks4 at well is) = ap (λ (x : Task). is_built x.request) is
@@ -145,7 +135,13 @@ module _ (r : RingView) (jobs : List Job) (carry : Carry) (restarts : Restarts) 
   BothBuilt j = AreBuilt (epoch_begun (views_of r jobs carry restarts k j)) × AreBuilt (begun_ago (views_of r jobs carry restarts k j))
 
   built_next : (t : CycleView) (j : List CycleView) → IsRun r jobs carry restarts (t ∷ j) → IsClear (t ∷ j) → t.phase ≤ 3 → BothBuilt j → BothBuilt (t ∷ j)
-  built_next t j run clear low before = (ended v.falls, left v.falls v.master_restarts)
+  built_next t j run clear low before = (
+    (elim (cases_Bool v.falls) [
+      | inl on ↦ rw on tt
+      | inr off ↦ rw off now
+    ]),
+    left v.falls v.master_restarts,
+  )
     where
       v : View
       v = view_of r jobs carry restarts k t j
@@ -158,10 +154,6 @@ module _ (r : RingView) (jobs : List Job) (carry : Carry) (restarts : Restarts) 
       now = begun_built v.begins (with_heard v.heard (if v.master_restarts then [] else epoch_begun (views_of r jobs carry restarts k j)))
           (begins_built t j run clear (let now = phase_now r jobs carry restarts opened t j run.1 in omega (arith, now, low)))
           (heard_built v.heard (if v.master_restarts then [] else epoch_begun (views_of r jobs carry restarts k j)) (restarted v.master_restarts))
-
-      ended : (b : Bool) → AreBuilt (if b then [] else begun_in (view_of r jobs carry restarts k t j) (views_of r jobs carry restarts k j))
-      ended true = tt
-      ended false = now
 
       restarts_left : (c : Bool) → AreBuilt (if c then epoch_begun (views_of r jobs carry restarts k j) ++ begun_ago (views_of r jobs carry restarts k j) else begun_ago (views_of r jobs carry restarts k j))
       restarts_left true = built_append (epoch_begun (views_of r jobs carry restarts k j)) (begun_ago (views_of r jobs carry restarts k j)) before.0 before.1

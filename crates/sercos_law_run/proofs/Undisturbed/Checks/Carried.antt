@@ -2,20 +2,17 @@
 use Rattle.sercos_law_run.proofs.Words.{◌≡◌, ℕ, Bool, true, false, List, [], ◌∷◌, Option, Some, None, refl, ap, ◌∙◌, subst, if◌then◌else◌, ◌==◌, SetCommand, Reset, CommandHistory, with_call, find_set, set_in, View, standing, stood_in, set_after, AreCarried, commands_left, commands_ended, commands_before, CommandsFollow}
 use Rattle.sercos_law_run.proofs.Settings.Histories.{reset_if}
 
-none_some : {A : Type 0} (o : Option A) (x : A) → o ≡ None → o ≡ Some x → ⊥
-none_some o x is some = cc
-
 -- a restart doesn't change how long a command runs, and it, as phase 0, sets nothing
 time_restarted : (is : Bool) (c : CommandHistory) → (if is then with_call Reset c else c).time ≡ c.time
 time_restarted true c = refl
 time_restarted false c = refl
 
 set_restarted : (is : Bool) (c : CommandHistory) (raw : ℕ) (s : SetCommand) → find_set raw (set_in (if is then with_call Reset c else c)) ≡ Some s → find_set raw (set_in c) ≡ Some s
-set_restarted true c raw s found = absurd (none_some (find_set raw []) s refl found)
+set_restarted true c raw s found = (let no : None ≡ Some s = found in absurd (cc))
 set_restarted false c raw s found = found
 
 set_reset : (is : Bool) (c : CommandHistory) (raw : ℕ) (s : SetCommand) → find_set raw (set_in (reset_if is c)) ≡ Some s → find_set raw (set_in c) ≡ Some s
-set_reset true c raw s found = absurd (none_some (find_set raw []) s refl found)
+set_reset true c raw s found = (let no : None ≡ Some s = found in absurd (cc))
 set_reset false c raw s found = found
 
 module _ (time : ℕ) (c : CommandHistory) (same : c.time ≡ time) (fresh : set_in c ≡ []) where

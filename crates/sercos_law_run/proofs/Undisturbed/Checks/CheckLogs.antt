@@ -1,74 +1,21 @@
 -- In a log that ends with a complete check, whose status was 3, the check counts as passed. Each list has its newest item first.
 use Rattle.sercos_law_run.proofs.Words.{◌≡◌, ℕ, ◌+◌, ◌≤◌, Bool, true, false, not, List, [], ◌∷◌, ◌++◌, map, refl, sym, ap, ◌∙◌, subst, arith, if◌then◌else◌, ◌==◌, nat_le, Option, Some, None, is_some, and_parts, cond_both, eq-eqb, leb-true, not-true, Block, with_data, SetCommand, is_command, ends_well, status_by, Wrote, Other, CommandHistory, with_call, status_in, find_set, without, with_set, set_in, Entry, Write, added_by, with_added, writes_of, command_value, commands_with, Given, given_of, gives, sets_to, LogLeaves}
 use Rattle.sercos_law_run.proofs.Settings.Givers.{are_away}
-use Rattle.sercos_law_run.proofs.Settings.Histories.{status_set}
+use Rattle.sercos_law_run.proofs.Settings.Histories.{status_as, status_set, set_beside, set_cancelled, set_new}
 use Rattle.sercos_law_run.proofs.Undisturbed.Checks.LogLeaves.{added_cycle, read_adds_none}
-use Rattle.sercos_law_run.proofs.Undisturbed.Checks.OwnSet.{none_without}
 use Rattle.sercos_law_run.proofs.Undisturbed.Arriving.Small.{first_is}
-
--- THE SETTINGS. A command that isn't set isn't, once another is set or any is cancelled.
-pub unset_without : (raw other : ℕ) (set : List SetCommand) → find_set raw set ≡ None → find_set raw (without other set) ≡ None
-unset_without raw other [] none = refl
-unset_without raw other (x ∷ set) none = by (x.idn.raw == raw) (x.idn.raw == other) refl none (unset_without raw other set)
-  where
-    by : (same gone : Bool) → (x.idn.raw == raw) ≡ same → (if same then Some x else find_set raw set) ≡ None → (find_set raw set ≡ None → find_set raw (without other set) ≡ None)
-        → find_set raw (if not gone then x ∷ without other set else without other set) ≡ None
-    by true gone e none more = absurd (cc)
-    by false true e none more = more none
-    by false false e none more = ap (λ (v : Bool). if v then Some x else find_set raw (without other set)) e ∙ more none
-
-unset_last : (raw : ℕ) (set : List SetCommand) (s : SetCommand) → find_set raw set ≡ None → (s.idn.raw == raw) ≡ false → find_set raw (set ++ s ∷ []) ≡ None
-unset_last raw [] s none other = ap (λ (v : Bool). if v then Some s else None) other
-unset_last raw (x ∷ set) s none other = by (x.idn.raw == raw) none (λ n. unset_last raw set s n other)
-  where
-    by : (v : Bool) → (if v then Some x else find_set raw set) ≡ None → (find_set raw set ≡ None → find_set raw (set ++ s ∷ []) ≡ None) → (if v then Some x else find_set raw (set ++ s ∷ [])) ≡ None
-    by true none more = absurd (cc)
-    by false none more = more none
-
-set_last : (raw : ℕ) (set : List SetCommand) (s : SetCommand) → find_set raw set ≡ None → s.idn.raw ≡ raw → find_set raw (set ++ s ∷ []) ≡ Some s
-set_last raw [] s none same = ap (λ (v : Bool). if v then Some s else None) (eq-eqb s.idn.raw raw same)
-set_last raw (x ∷ set) s none same = by (x.idn.raw == raw) none (λ n. set_last raw set s n same)
-  where
-    by : (v : Bool) → (if v then Some x else find_set raw set) ≡ None → (find_set raw set ≡ None → find_set raw (set ++ s ∷ []) ≡ Some s) → (if v then Some x else find_set raw (set ++ s ∷ [])) ≡ Some s
-    by true none more = absurd (cc)
-    by false none more = more none
-
-unset_with : (raw : ℕ) (set : List SetCommand) (s : SetCommand) → find_set raw set ≡ None → (s.idn.raw == raw) ≡ false → find_set raw (with_set s set) ≡ None
-unset_with raw set s none other = cond_both (is_some (find_set s.idn.raw set)) set (set ++ s ∷ [])
-    (λ v. find_set raw v ≡ None) (λ on. none) (λ off. unset_last raw set s none other)
-
-set_with : (raw : ℕ) (set : List SetCommand) (s : SetCommand) → find_set raw set ≡ None → s.idn.raw ≡ raw → find_set raw (with_set s set) ≡ Some s
-set_with raw set s none same =
-    ap (λ (v : Bool). find_set raw (if v then set else set ++ s ∷ [])) (ap (λ (n : ℕ). is_some (find_set n set)) same ∙ ap (λ (o : Option SetCommand). is_some o) none) ∙ set_last raw set s none same
-
--- a write to another command
-write_unset : (raw other value cycle : ℕ) (blocks : List Block) (c : CommandHistory) → (other == raw) ≡ false → find_set raw (set_in c) ≡ None → find_set raw (set_in (with_call (Wrote other value cycle blocks) c)) ≡ None
-write_unset raw other value cycle blocks c off none = by (value == 0)
-  where
-    by : (v : Bool) → find_set raw (if v then without other (set_in c) else with_set (record { idn = record { raw = other }; cycle = cycle; well = ends_well c.rate other blocks }) (set_in c)) ≡ None
-    by true = unset_without raw other (set_in c) none
-    by false = unset_with raw (set_in c) (record { idn = record { raw = other }; cycle = cycle; well = ends_well c.rate other blocks }) none off
-
-pub other_unset : (raw : ℕ) (w : Write) (blocks : List Block) (c : CommandHistory) → (w.raw == raw) ≡ false → find_set raw (set_in c) ≡ None → find_set raw (set_in (commands_with (Some w) blocks c)) ≡ None
-other_unset raw w blocks c off none = by (is_command blocks w.raw)
-  where
-    by : (v : Bool) → find_set raw (set_in (with_call (if v then Wrote w.raw (command_value w) w.cycle (with_data w.raw w.bytes blocks) else Other w.cycle) c)) ≡ None
-    by true = write_unset raw w.raw (command_value w) w.cycle (with_data w.raw w.bytes blocks) c off none
-    by false = none
 
 -- a command that is cancelled has the status 0
 cancelled_status : (raw at n : ℕ) (blocks : List Block) (c : CommandHistory) → status_in (with_call (Wrote raw 0 at blocks) c) raw n ≡ 0
-cancelled_status raw at n blocks c = status_set (with_call (Wrote raw 0 at blocks) c) raw n ∙ ap (λ (o : Option SetCommand). status_by c.time o n) (none_without raw (set_in c))
-
--- the status of a command that is set, by whether it has ended and ends well
-abbrev status_as : Bool → Bool → ℕ
-status_as ended well = if ended then (if well then 3 else 15) else 7
+cancelled_status raw at n blocks c = status_set (with_call (Wrote raw 0 at blocks) c) raw n
+    ∙ ap (λ (o : Option SetCommand). status_by c.time o n) (set_cancelled raw 0 at blocks c refl)
 
 -- If a command is set where it wasn't, and its status is 3 then, it ends well and has ended.
 set_status : (raw at n : ℕ) (blocks : List Block) (c : CommandHistory) → find_set raw (set_in c) ≡ None → status_in (with_call (Wrote raw 3 at blocks) c) raw n ≡ 3 → (ends_well c.rate raw blocks ≡ true) × (at + c.time ≤ n)
 set_status raw at n blocks c none three =
     by (ends_well c.rate raw blocks) (nat_le (at + c.time) n) refl refl
-    (sym (status_set (with_call (Wrote raw 3 at blocks) c) raw n ∙ ap (λ (o : Option SetCommand). status_by c.time o n) (set_with raw (set_in c) (record { idn = record { raw = raw }; cycle = at; well = ends_well c.rate raw blocks }) none refl)) ∙ three)
+    (sym (status_set (with_call (Wrote raw 3 at blocks) c) raw n
+    ∙ ap (λ (o : Option SetCommand). status_by c.time o n) (set_new raw 3 at blocks c refl none)) ∙ three)
   where
     by : (well ended : Bool) → ends_well c.rate raw blocks ≡ well → nat_le (at + c.time) n ≡ ended → status_as ended well ≡ 3 → (ends_well c.rate raw blocks ≡ true) × (at + c.time ≤ n)
     by true true w e is = (w, leb-true (at + c.time) n e)
@@ -94,7 +41,7 @@ none_set raw (e ∷ log) c leaves none = ap (λ (x : CommandHistory). find_set r
     by None none more = more none
     by (Some w) none more =
         let parts = and_parts (not (w.raw == raw)) (are_away raw (map given_of (writes_of log))) none in
-        other_unset raw w e.processed.blocks e.processed.commands (not-true (w.raw == raw) parts.0) (more parts.1)
+        set_beside raw w e.processed.blocks e.processed.commands (not-true (w.raw == raw) parts.0) ∙ more parts.1
 
 -- What the newest write of a log found, and what it left: the entries after it added nothing.
 record IsNewest (raw : ℕ) (w : Write) (writes : List Write) (c : CommandHistory) : Type 0 where

@@ -4,8 +4,10 @@ use Rattle.sercos_law_run.proofs.Words.{◌≡◌, inl, inr, ℕ, ◌+◌, ◌<�
 use Rattle.sercos_step.specs.declared.request.Request.TheVariants as request
 use Rattle.sercos_step.specs.declared.request.Outcome.TheVariants as outcome
 use Rattle.sercos_law_run.proofs.Agenda.WritesDone.{raw_of, number_at, IsDataWrite, DataWrite, all_data_writes, write_away}
-use Rattle.sercos_law_run.proofs.Settings.Givers.{are_away, is_reading, attributes_read, reading_away}
+use Rattle.sercos_law_run.proofs.Settings.Givers.{are_away, is_reading, attributes_read, reading_away, Away, AtCheck3, AtCheck4, gives_so}
 use Rattle.sercos_law_run.proofs.Held.Agreed.{all_at}
+use Rattle.sercos_law_run.proofs.Settings.NoCheck127.{is_127}
+use Rattle.sercos_law_run.proofs.Agenda.AgendaTasks.{late_waits, task_phase}
 
 -- The newest request is that command, which is complete and has ended well; those before it give nothing to its number.
 pub record IsCheckNewest (blocks : List Block) (raw : ℕ) (begun : List Begun) : Type 0 where
@@ -43,31 +45,15 @@ module _ (s : Known) (k : ℕ) (blocks : List Block) (plan : Option PlanView) (w
   -- a task before number m gives elsewhere
   gives_elsewhere : (raw m : ℕ) → 127 ≤ raw → m ≤ 12 → (11 < m → 127 ≡ raw → ⊥) → (b : Begun) (t : Task) (older : List Begun) (tasks : List Task) → length older < reads_count (member s k) + m
       → IsBegunTask s k plan waiting phase b t older tasks → are_away raw (given_by blocks b.request) ≡ true
-  gives_elsewhere raw m large few other b t older tasks less begun = ap (λ (r : Request). are_away raw (given_by blocks r)) begun.asks ∙ by begun.task
-    where
-      long : length (outcomes_in older) ≡ length older
-      long = begun.ended
-
-      asked : (n : ℕ) (r : Request) → t ≡ startup n r → are_away raw (given_by blocks r) ≡ true → are_away raw (given_by blocks t.request) ≡ true
-      asked n r same away = ap (λ (x : Task). are_away raw (given_by blocks x.request)) same ∙ away
-
-      written : (p : PlanView) (i : ℕ) (r : Request) → slice_get (writes s p k) i ≡ Some r → IsDataWrite r → are_away raw (given_by blocks r) ≡ true
-      written p i r got (DataWrite w bytes is) =
-          let number : slice_get start_numbers i ≡ Some w.raw = number_at s p k i r got ∙ ap (λ (x : Request). Some (raw_of x)) is in
-          let small = ltb-true w.raw 127 (all_at (λ (n : ℕ). nat_lt n 127) start_numbers i w.raw refl number) in
-          ap (λ (x : Request). are_away raw (given_by blocks x)) is ∙ write_away blocks raw w bytes (λ e. omega (arith, e, small, large))
-
-      by : IsTask s k begun.by_then waiting (outcomes_in older) t → are_away raw (given_by blocks t.request) ≡ true
-      by (OfReads r early got same) = asked 2 r same (reading_away blocks raw r (all_at is_reading (reads (member s k)) (length (outcomes_in older)) r (attributes_read ((member s k).at ++ (member s k).mdt)) got))
-      by (OfWrites p i r planned early at got same) = asked 2 r same (written p i r got (all_data_writes s p k i r got))
-      by (Checks3 p planned at same) =
-          let late : 11 < m = let l = long in omega (arith, l, at, less) in
-          let off : (127 == raw) ≡ false = ne_eqb 127 raw (other late) in
-          asked 2 (request.Command (idn 127)) same (ap (λ (v : Bool). not v && (not v && true)) off)
-      by (Lists3 at failed same) = let l = long in absurd (omega (arith, l, at, less, few))
-      by (Checks4 at checked same) = let l = long in absurd (omega (arith, l, at, less, few))
-      by (Lists4 at failed same) = let l = long in absurd (omega (arith, l, at, less, few))
-      by (OfWaiting j at ready got) = let l = long in absurd (omega (arith, l, at, less, few))
+  gives_elsewhere raw m large few other b t older tasks less begun =
+      elim (gives_so s k raw blocks begun.by_then waiting (outcomes_in older) t large waits begun.task) [
+        | Away all ↦ ap (λ (r : Request). are_away raw (given_by blocks r)) begun.asks ∙ all
+        | AtCheck3 at is ↦
+            let same = begun.ended in
+            let off : (127 == raw) ≡ false = ne_eqb 127 raw (other (omega (arith, at, less, same))) in
+            ap (λ (r : Request). are_away raw (given_by blocks r)) (begun.asks ∙ is) ∙ ap (λ (v : Bool). not v && (not v && true)) off
+        | AtCheck4 long late ↦ let same = begun.ended in absurd (omega (arith, long, less, few, same))
+      ]
 
   all_elsewhere : (raw m : ℕ) → 127 ≤ raw → m ≤ 12 → (11 < m → 127 ≡ raw → ⊥) → (begun : List Begun) (tasks : List Task) → AreBegunTasks s k plan waiting phase begun tasks → length begun ≤ reads_count (member s k) + m → GiveElsewhere raw blocks begun
   all_elsewhere raw m large few other [] tasks are less = tt
@@ -107,48 +93,20 @@ module _ (s : Known) (k : ℕ) (blocks : List Block) (plan : Option PlanView) (w
   well_before : (b : Begun) (older : List Begun) (i : ℕ) → i < length (outcomes_in older) → ended_well (given (outcomes_in (b ∷ older)) i) ≡ true → ended_well (given (outcomes_in older) i) ≡ true
   well_before b older i less well = sym (ap ended_well (given_before (outcome_of b.request b.answers) (outcomes_in older) i less)) ∙ well
 
-  of_phase : (n : ℕ) (r : Request) (t : Task) → t ≡ startup n r → t.phase ≡ n
-  of_phase n r t same = ap (λ (x : Task). x.phase) same
-
   -- THE CHECK FOR PHASE 3 in phase 2
   pub check_127 : phase ≤ 2 → (begun : List Begun) (tasks : List Task) → AreBegunTasks s k plan waiting phase begun tasks → is_checked (member s k) (outcomes_in begun) ≡ true → IsCheckNewest blocks 127 begun
-  check_127 low begun tasks are well = newest_check 127 11 (omega arith) (omega arith) (λ less same. omega (arith, less)) begun tasks are well here late
+  check_127 low begun tasks are well = newest_check 127 11 (omega arith) (omega arith) (λ less same. omega (arith, less)) begun tasks are
+      well
+      (λ b t older more split is place. is_127 s k is.by_then waiting b older t is.asks (is.ended ∙ place) is.task) late
     where
-      here : (b : Begun) (t : Task) (older : List Begun) (more : List Task) → begun ≡ b ∷ older → IsBegunTask s k plan waiting phase b t older more → length older ≡ reads_count (member s k) + 11 → b.request ≡ request.Command (idn 127)
-      here b t older more split is place = by is.task
-        where
-          long : length (outcomes_in older) ≡ reads_count (member s k) + 11
-          long = is.ended ∙ place
-
-          by : IsTask s k is.by_then waiting (outcomes_in older) t → b.request ≡ request.Command (idn 127)
-          by (OfReads r early got same) = let l = long in absurd (omega (arith, l, early))
-          by (OfWrites p i r planned early at got same) = let l = long in absurd (omega (arith, l, early, at))
-          by (Checks3 p planned at same) = is.asks ∙ ap (λ (x : Task). x.request) same
-          by (Lists3 at failed same) = let l = long in absurd (omega (arith, l, at))
-          by (Checks4 at checked same) = let l = long in absurd (omega (arith, l, at))
-          by (Lists4 at failed same) = let l = long in absurd (omega (arith, l, at))
-          by (OfWaiting j at ready got) = let l = long in absurd (omega (arith, l, at))
-
       late : (b : Begun) (t : Task) (older : List Begun) (more : List Task) → begun ≡ b ∷ older → IsBegunTask s k plan waiting phase b t older more → reads_count (member s k) + 11 < length older → ⊥
-      late b t older more split is place = by is.task
-        where
-          long : reads_count (member s k) + 11 < length (outcomes_in older)
-          long = let e = is.ended in omega (arith, e, place)
-
-          checked_then : is_checked (member s k) (outcomes_in older) ≡ true
-          checked_then = well_before b older (reads_count (member s k) + 11) long (ap (λ (l : List Begun). is_checked (member s k) (outcomes_in l)) (sym split) ∙ well)
-
-          early_phase : (n : ℕ) (r : Request) → t ≡ startup n r → n ≤ 2
-          early_phase n r same = let e = of_phase n r t same in let le = is.early in omega (arith, e, le, low)
-
-          by : IsTask s k is.by_then waiting (outcomes_in older) t → ⊥
-          by (OfReads r early got same) = let l = long in omega (arith, l, early)
-          by (OfWrites p i r planned early at got same) = let l = long in omega (arith, l, early, at)
-          by (Checks3 p planned at same) = let l = long in omega (arith, l, at)
-          by (Lists3 at failed same) = false≢true (sym failed ∙ checked_then)
-          by (Checks4 at checked same) = let le = early_phase 3 (request.Command (idn 128)) same in omega (arith, le)
-          by (Lists4 at failed same) = let le = early_phase 3 (request.Read (idn 22) 7) same in omega (arith, le)
-          by (OfWaiting j at ready got) = let four = waits j t got in let le = is.early in omega (arith, four, le, low)
+      late b t older more split is place =
+          let long : reads_count (member s k) + 11 < length (outcomes_in older) = let e = is.ended in omega (arith, e, place) in
+          let was = well_before b older (reads_count (member s k) + 11) long
+          (ap (λ (l : List Begun). is_checked (member s k) (outcomes_in l)) (sym split) ∙ well) in
+          let three = (task_phase s k is.by_then waiting (outcomes_in older) t waits is.task).1 long was in
+          let early = is.early in
+          omega (arith, three, early, low)
 
   -- THE CHECK FOR PHASE 4 in phase 3
   pub check_128 : phase ≤ 3 → (begun : List Begun) (tasks : List Task) → AreBegunTasks s k plan waiting phase begun tasks → is_ready (member s k) (outcomes_in begun) ≡ true → IsCheckNewest blocks 128 begun
@@ -161,22 +119,25 @@ module _ (s : Known) (k : ℕ) (blocks : List Block) (plan : Option PlanView) (w
       checked_before b older split long = well_before b older (reads_count (member s k) + 11) (omega (arith, long)) (ap (λ (l : List Begun). is_checked (member s k) (outcomes_in l)) (sym split) ∙ both.0)
 
       here : (b : Begun) (t : Task) (older : List Begun) (more : List Task) → begun ≡ b ∷ older → IsBegunTask s k plan waiting phase b t older more → length older ≡ reads_count (member s k) + 12 → b.request ≡ request.Command (idn 128)
-      here b t older more split is place = by is.task
+      here b t older more split is place = elim is.task [
+        | OfReads r early got same ↦ let l = long in absurd (omega (arith, l, early))
+        | OfWrites p i r planned early at got same ↦ let l = long in absurd (omega (arith, l, early, at))
+        | Checks3 p planned at same ↦ let l = long in absurd (omega (arith, l, at))
+        | Lists3 at failed same ↦ absurd (false≢true (sym failed ∙ checked_before b older split (let l = long in omega (arith, l))))
+        | Checks4 at checked same ↦ is.asks ∙ ap (λ (x : Task). x.request) same
+        | Lists4 at failed same ↦ let l = long in absurd (omega (arith, l, at))
+        | OfWaiting j at made got ↦ let l = long in absurd (omega (arith, l, at))
+      ]
         where
           long : length (outcomes_in older) ≡ reads_count (member s k) + 12
           long = is.ended ∙ place
 
-          by : IsTask s k is.by_then waiting (outcomes_in older) t → b.request ≡ request.Command (idn 128)
-          by (OfReads r early got same) = let l = long in absurd (omega (arith, l, early))
-          by (OfWrites p i r planned early at got same) = let l = long in absurd (omega (arith, l, early, at))
-          by (Checks3 p planned at same) = let l = long in absurd (omega (arith, l, at))
-          by (Lists3 at failed same) = absurd (false≢true (sym failed ∙ checked_before b older split (let l = long in omega (arith, l))))
-          by (Checks4 at checked same) = is.asks ∙ ap (λ (x : Task). x.request) same
-          by (Lists4 at failed same) = let l = long in absurd (omega (arith, l, at))
-          by (OfWaiting j at made got) = let l = long in absurd (omega (arith, l, at))
-
       late : (b : Begun) (t : Task) (older : List Begun) (more : List Task) → begun ≡ b ∷ older → IsBegunTask s k plan waiting phase b t older more → reads_count (member s k) + 12 < length older → ⊥
-      late b t older more split is place = by is.task
+      late b t older more split is place =
+          let (j, got) = late_waits s k is.by_then waiting (outcomes_in older) t long ready_then is.task in
+          let four = waits j t got in
+          let early = is.early in
+          omega (arith, four, early, low)
         where
           long : reads_count (member s k) + 12 < length (outcomes_in older)
           long = let e = is.ended in omega (arith, e, place)
@@ -184,12 +145,3 @@ module _ (s : Known) (k : ℕ) (blocks : List Block) (plan : Option PlanView) (w
           ready_then : is_ready (member s k) (outcomes_in older) ≡ true
           ready_then = ap₂ (λ (x y : Bool). x && y) (checked_before b older split (let l = long in omega (arith, l)))
               (well_before b older (reads_count (member s k) + 12) long (ap (λ (l : List Begun). ended_well (given (outcomes_in l) (reads_count (member s k) + 12))) (sym split) ∙ both.1))
-
-          by : IsTask s k is.by_then waiting (outcomes_in older) t → ⊥
-          by (OfReads r early got same) = let l = long in omega (arith, l, early)
-          by (OfWrites p i r planned early at got same) = let l = long in omega (arith, l, early, at)
-          by (Checks3 p planned at same) = let l = long in omega (arith, l, at)
-          by (Lists3 at failed same) = let l = long in omega (arith, l, at)
-          by (Checks4 at checked same) = let l = long in omega (arith, l, at)
-          by (Lists4 at failed same) = false≢true (sym failed ∙ ready_then)
-          by (OfWaiting j at made got) = let four = waits j t got in let le = is.early in omega (arith, four, le, low)

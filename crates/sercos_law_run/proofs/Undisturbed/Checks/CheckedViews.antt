@@ -1,6 +1,6 @@
 -- At the end of a cycle in which a drive is up and its complete check is the newest request of the epoch, that check counts as passed. Each
 -- list has its newest item first.
-use Rattle.sercos_law_run.proofs.Words.{◌≡◌, inl, inr, ℕ, suc, ◌+◌, ◌*◌, ◌≤◌, true, false, not, List, [], ◌∷◌, ◌++◌, map, length, Option, Some, None, refl, sym, ap, ◌∙◌, subst, arith, ◌==◌, option_map, unwrap_or, and_parts, and_from, cond-false, eqb-true, false≢true, outcome_of, Block, find_block, is_command, CommandHistory, status_in, set_in, Processed, Entry, log_of, Write, writes_of, without_data, AreAlike, Begun, idn, ended_well, View, standing, since_reset, begun_in, epoch_records, records_in_views, log_in, AreBefore, HaveBlocks, GivesStatus, AreSound, AreSmall, Given, given_of, gives, given_by, AreWrites, Complete, Refused, Broken, AreExact, GiveElsewhere, find-alike, same_log, accepts_in_order, entries_ago, entries_in_epochs, Laws, epoch, cycle_exact, commands_ended, CommandsFollow, LogLeaves}
+use Rattle.sercos_law_run.proofs.Words.{◌≡◌, inl, inr, ℕ, suc, ◌+◌, ◌*◌, ◌≤◌, true, false, not, List, [], ◌∷◌, ◌++◌, map, length, Option, Some, None, refl, sym, ap, ◌∙◌, subst, arith, ◌==◌, option_map, unwrap_or, and_parts, and_from, cond-false, eqb-true, false≢true, outcome_of, Block, find_block, is_command, CommandHistory, status_in, set_in, Processed, Entry, log_of, Write, writes_of, without_data, AreAlike, Begun, idn, ended_well, View, standing, since_reset, begun_in, epoch_records, records_in_views, log_in, AreBefore, HaveBlocks, GivesStatus, AreSound, AreSmall, Given, given_of, gives, given_by, AreWrites, Complete, Refused, Broken, AreExact, GiveElsewhere, find-alike, same_log, accepts_in_order, entries_ago, entries_in_epochs, epoch, cycle_exact, commands_ended, CommandsFollow, LogLeaves}
 use Rattle.sercos_step.specs.declared.request.Request.TheVariants as request
 use Rattle.sercos_step.specs.declared.request.Outcome.TheVariants as outcome
 use Rattle.sercos_law_channel.specs.Handshake.Runs.{IsRun}
@@ -82,7 +82,7 @@ commands_there raw blocks (e ∷ log) is have = (commands_there raw blocks log i
 pub status_3 : (n : ℕ) (bytes : List ℕ) → bytes ≡ n ∷ 0 ∷ [] → ended_well bytes ≡ true → n ≡ 3
 status_3 n bytes is well = let same : n + 256 * 0 ≡ 3 = eqb-true (n + 256 * 0) 3 (ap (λ (l : List ℕ). ended_well l) (sym is) ∙ well) in omega (arith, same)
 
-module _ (raw : ℕ) (passed : CommandHistory → Option ℕ) (sets : PassesIfSet raw passed) (stays : StaysIfCancelled raw passed) (laws : Laws) (busy : ℕ) (blocks : List Block) (small : AreSmall blocks) (command : is_command blocks raw ≡ true)
+module _ (raw : ℕ) (passed : CommandHistory → Option ℕ) (sets : PassesIfSet raw passed) (stays : StaysIfCancelled raw passed) (busy : ℕ) (blocks : List Block) (small : AreSmall blocks) (command : is_command blocks raw ≡ true)
     (c : CommandHistory) (fresh : set_in c ≡ []) (v : View) (past : List View) (run : IsRun busy (v ∷ past)) (sound : AreSound blocks (v ∷ past)) (follow : CommandsFollow c (v ∷ past))
     (up : 1 ≤ v.phase) (goes_on : v.falls ≡ false) (stands : (standing (v ∷ past)).ended ≡ 0 → ⊥) where
   -- the log is that of the epoch, and leaves the commands
@@ -105,7 +105,7 @@ module _ (raw : ℕ) (passed : CommandHistory → Option ℕ) (sets : PassesIfSe
   pub check_counts : (b : Begun) (older : List Begun) (bytes : List ℕ) → begun_in v past ≡ b ∷ older → b.request ≡ request.Command (idn raw) → outcome_of b.request b.answers ≡ Some (outcome.Complete bytes) → ended_well bytes ≡ true
       → GiveElsewhere raw blocks older → CountsBy passed (commands_ended c (v ∷ past)) (length past)
   check_counts b older bytes split asks complete well away =
-      by (subst (λ (l : List Begun). AreExact blocks l (log_in v past) (writes_of (log_in v past))) split (cycle_exact blocks busy laws small v past run sound))
+      by (subst (λ (l : List Begun). AreExact blocks l (log_in v past) (writes_of (log_in v past))) split (cycle_exact blocks busy small v past run sound))
     where
       by : AreExact blocks (b ∷ older) (log_in v past) (writes_of (log_in v past)) → CountsBy passed (commands_ended c (v ∷ past)) (length past)
       by (part, rest, own, others, of_entries, of_writes, is, behind) = with_status (is.ends (idn raw) bytes asks complete)

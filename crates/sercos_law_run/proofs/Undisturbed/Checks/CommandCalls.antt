@@ -1,6 +1,6 @@
 -- The calls on the procedure commands of a drive are in order, through all cycles of a run. So what is kept of a check tells whether it
 -- counts as passed.
-use Rattle.sercos_law_run.proofs.Words.{◌≡◌, ℕ, suc, ◌+◌, ◌≤◌, ◌==◌, Bool, true, false, List, [], ◌∷◌, length, Option, Some, None, refl, ◌∙◌, arith, ap, sym, if◌then◌else◌, IfSome, le-leb, beq, Block, with_data, DriveView, RingView, is_command, CommandCall, Wrote, Other, Reset, newest_cycle, AreInOrder, is_from, first_passed_in, Processed, ahs, reply_of, log_of, Write, command_value, added_by, adds, added_on, calls_with, Told, DriveCall, mdt_got, Moment, phase_in, cycle_in, records_in, blocks_in, calls_after, commands_in, with_reset, annals, may_rise, ends_in, CycleView, Carry, Restarts, mdt_in, drive_at, with_restart, mdt_heard, given_before, given_mst, passes_by_first}
+use Rattle.sercos_law_run.proofs.Words.{◌≡◌, ℕ, suc, ◌+◌, ◌≤◌, ◌==◌, Bool, true, false, List, [], ◌∷◌, length, Option, Some, None, refl, ◌∙◌, arith, ap, sym, if◌then◌else◌, IfSome, le-leb, beq, Block, with_data, DriveView, RingView, is_command, CommandCall, Wrote, Other, Reset, newest_cycle, AreInOrder, is_from, first_passed_in, Processed, ahs, reply_of, log_of, Write, command_value, added_by, adds, added_on, calls_with, Told, DriveCall, mdt_got, Moment, phase_in, cycle_in, records_in, blocks_in, calls_after, commands_in, with_reset, annals, may_rise, ends_in, CycleView, Carry, Restarts, mdt_in, drive_at, with_restart, mdt_heard, given_before, given_mst, passes_by_first, cases_Bool, cases_Option, inl, inr, ◌++◌, is_passed}
 use Rattle.sercos_drive.specs.Moments.{calls_in}
 use Rattle.sercos_law_run.proofs.Held.Processed.{processed_keeps, taken_at}
 use Rattle.sercos_drive.specs.Annals.{processed_in}
@@ -12,15 +12,17 @@ pub record StandBy (h : List CommandCall) (cycle : ℕ) : Type 0 where
   pub order : newest_cycle h ≤ cycle
 
 with_phase : (phase : ℕ) (h : List CommandCall) (cycle : ℕ) → StandBy h cycle → StandBy (with_reset phase h) cycle
-with_phase phase h cycle s = by (phase == 0)
-  where
-    by : (zero : Bool) → StandBy (if zero then Reset ∷ h else h) cycle
-    by true = record { in_order = (s.in_order, omega arith); order = s.order }
-    by false = s
+with_phase phase h cycle s = elim (cases_Bool (phase == 0)) [
+  | inl on ↦ rw on (record { in_order = (s.in_order, omega arith); order = s.order })
+  | inr off ↦ rw off s
+]
 
 with_one : (o : Option Write) (blocks : List Block) (h : List CommandCall) (cycle : ℕ) → IfSome o (λ w. w.cycle ≡ cycle) → StandBy h cycle → StandBy (calls_with o blocks h) cycle
 with_one None blocks h cycle at s = s
-with_one (Some w) blocks h cycle at s = by (is_command blocks w.raw)
+with_one (Some w) blocks h cycle at s = elim (cases_Bool (is_command blocks w.raw)) [
+  | inl on ↦ rw on (record { in_order = (s.in_order, order); order = late })
+  | inr off ↦ rw off (record { in_order = (s.in_order, order); order = late })
+]
   where
     order : newest_cycle h ≤ w.cycle
     order = let before = s.order in omega (arith, before, at)
@@ -28,21 +30,16 @@ with_one (Some w) blocks h cycle at s = by (is_command blocks w.raw)
     late : w.cycle ≤ cycle
     late = omega (arith, at)
 
-    by : (b : Bool) → StandBy ((if b then Wrote w.raw (command_value w) w.cycle (with_data w.raw w.bytes blocks) else Other w.cycle) ∷ h) cycle
-    by true = record { in_order = (s.in_order, order); order = late }
-    by false = record { in_order = (s.in_order, order); order = late }
-
 -- the write of a record is in its cycle
 record_cycle : (t : Processed) (h : List Processed) → IfSome (added_on t h) (λ w. w.cycle ≡ t.cycle)
 record_cycle t h = dropped (beq t.mhs (ahs h))
   where
-    one : (o : Option Write) → added_by (record { processed = t; answer = reply_of t (log_of h) }) (log_of h) ≡ o → IfSome o (λ w. w.cycle ≡ t.cycle)
-    one None is = tt
-    one (Some w) is = added_cycle (record { processed = t; answer = reply_of t (log_of h) }) (log_of h) w is
-
     dropped : (v : Bool) → IfSome (if v then None else adds t (log_of h)) (λ w. w.cycle ≡ t.cycle)
     dropped true = tt
-    dropped false = one (adds t (log_of h)) refl
+    dropped false = elim (cases_Option (adds t (log_of h))) [
+      | inl is ↦ rw is tt
+      | inr (w, is) ↦ rw is (added_cycle (record { processed = t; answer = reply_of t (log_of h) }) (log_of h) w is)
+    ]
 
 -- THE DRIVE after some moments
 abbrev pub Keeps : List Moment → ℕ → Type 0
@@ -82,8 +79,7 @@ keeps_before r carry restarts k (t ∷ j) =
     later _ (length j) at_mdt
 
 -- THE CHECKS in a cycle before which the drive doesn't restart
-pub counts_127 : (d : DriveView) (rate cycle first : ℕ) (past : List Moment) → Keeps past cycle → first_passed_in 127 (commands_in d rate past) ≡ Some first → first ≤ cycle → may_rise d rate cycle 3 past ≡ true
-counts_127 d rate cycle first past s is le = sym (passes_by_first 127 (commands_in d rate past) cycle s.in_order s.order) ∙ ap (λ (o : Option ℕ). is_from o cycle) is ∙ le-leb first cycle le
-
-pub counts_128 : (d : DriveView) (rate cycle first : ℕ) (past : List Moment) → Keeps past cycle → first_passed_in 128 (commands_in d rate past) ≡ Some first → first ≤ cycle → may_rise d rate cycle 4 past ≡ true
-counts_128 d rate cycle first past s is le = sym (passes_by_first 128 (commands_in d rate past) cycle s.in_order s.order) ∙ ap (λ (o : Option ℕ). is_from o cycle) is ∙ le-leb first cycle le
+pub check_passed : (raw : ℕ) (d : DriveView) (rate cycle first : ℕ) (past : List Moment) → Keeps past cycle
+    → first_passed_in raw (commands_in d rate past) ≡ Some first → first ≤ cycle → is_passed rate d.command raw (calls_in past) cycle ≡ true
+check_passed raw d rate cycle first past s is le = sym (passes_by_first raw (commands_in d rate past) cycle s.in_order s.order)
+    ∙ ap (λ (o : Option ℕ). is_from o cycle) is ∙ le-leb first cycle le

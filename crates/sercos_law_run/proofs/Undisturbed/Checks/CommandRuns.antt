@@ -19,10 +19,6 @@ pub record AreCommandsSo (r : RingView) (jobs : List Job) (carry : Carry) (resta
   pub follow : CommandsFollow (first_commands r k) (views_of r jobs carry restarts k j)
   pub behind : commands_at r carry restarts k j ≡ commands_ended (first_commands r k) (views_of r jobs carry restarts k j)
 
--- before the first cycle
-pub commands_first : (r : RingView) (jobs : List Job) (carry : Carry) (restarts : Restarts) (k : ℕ) → AreCommandsSo r jobs carry restarts k []
-commands_first r jobs carry restarts k = record { follow = tt; behind = refl }
-
 -- after a restart
 pub commands_restarted : (d : DriveView) (rate : ℕ) (restarts : Bool) (calls : List DriveCall) (c : CommandHistory) → commands_in d rate (annals d rate calls) ≡ c
     → commands_in d rate (annals d rate (with_restart restarts calls)) ≡ (if restarts then with_call Reset c else c)

@@ -8,6 +8,7 @@ use Rattle.sercos_law_run.proofs.Settings.SetAtPoll.{IsSetAtPoll, set_at_poll}
 use Rattle.sercos_law_run.proofs.Settings.SetInEpoch.{set_at_entry}
 use Rattle.sercos_law_run.proofs.Held.AnsweredRuns.{EntriesStored, entries_stored}
 use Rattle.sercos_law_run.proofs.Undisturbed.Checks.SinceSet.{WasSet, HaveSince, since_at, was_more}
+use Rattle.sercos_law_run.proofs.Held.EntriesAre.{IsIn, entry_in, entry_is}
 
 -- THE PARTS of two requests that follow each other
 record ArePartsAt (log : List Entry) (b c : Begun) : Type 0 where
@@ -32,24 +33,6 @@ parts_at (x ∷ newer) older b c log (part, rest, those, is, others) =
       of_later = more.of_later;
       of_earlier = more.of_earlier;
     }
-
--- an entry of a part, by how many come before it
-record IsIn (e : Entry) (part : List Entry) : Type 0 where
-  front : List Entry
-  rest : List Entry
-  split : part ≡ front ++ e ∷ rest
-
-entry_in : (n : ℕ) (part : List Entry) (e : Entry) → entry_behind n part ≡ Some e → IsIn e part
-entry_in n [] e got = absurd (cc)
-entry_in n (x ∷ part) e got = by (length part == n) got (λ more. entry_in n part e more)
-  where
-    by : (v : Bool) → (if v then Some x else entry_behind n part) ≡ Some e → (entry_behind n part ≡ Some e → IsIn e part) → IsIn e (x ∷ part)
-    by true got more = record { front = []; rest = part; split = ap (λ (y : Entry). y ∷ part) (same_Some x e got) }
-    by false got more = let is = more got in record { front = x ∷ is.front; rest = is.rest; split = ap (λ (l : List Entry). x ∷ l) is.split }
-
-stored_at : (d : DriveView) (front : List Entry) (e : Entry) (rest : List Entry) → EntriesStored d (front ++ e ∷ rest) → IsStored d e.processed.blocks
-stored_at d [] e rest have = have.1
-stored_at d (x ∷ front) e rest have = stored_at d front e rest have.0
 
 -- WHAT IS READ is the operation data, if that has no step.
 pub data_read : (cycle : ℕ) (b : Block) → data_in cycle b ≡ b.value → element_in 7 cycle b ≡ b.value
@@ -138,7 +121,8 @@ module _ (busy : ℕ) (d : DriveView) (such : List Block → Type 0) (past : Lis
               ∙ sym (append_assoc at.front is.front (s ∷ (is.rest ++ (at.earlier ++ (at.rest ++ entries_ago past)))))
 
           store : IsStored d s.processed.blocks
-          store = stored_at d (at.front ++ is.front) s (is.rest ++ (at.earlier ++ (at.rest ++ entries_ago past))) (subst (EntriesStored d) here (entries_stored d past stored))
+          store = entry_is (λ t. IsStored d t.blocks) (at.front ++ is.front) s (is.rest ++ (at.earlier ++ (at.rest ++ entries_ago past)))
+              (subst (EntriesStored d) here (entries_stored d past stored))
 
       read_at : (e : Entry) (entries : List Entry) → at.later ≡ e ∷ entries → (s : Entry) × (entry_behind (steps_before 7) (e ∷ entries) ≡ Some s) × IsReadAt 22 7 list bytes s.processed → IsListRead d such bytes
       read_at e entries those (s, got, read) = found_at s read (subst (IsIn s) (sym those) (entry_in (steps_before 7) (e ∷ entries) s got))

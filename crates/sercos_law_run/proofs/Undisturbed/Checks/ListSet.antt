@@ -1,7 +1,7 @@
 -- A setting of the check for phase 4 writes its list into block 22, and nothing else changes that block.
-use Rattle.sercos_law_run.proofs.Words.{◌≡◌, ℕ, Bool, true, false, not, ◌&&◌, List, [], ◌∷◌, Option, Some, None, refl, sym, ap, ap₂, ◌∙◌, subst, arith, if◌then◌else◌, ◌==◌, is_none, cond, eqb-true, same_Some, none-some, find_block, with_data, Block, unfit_for_phase_3, unfit_for_phase_4, list_bytes, is_command, ends_well, Wrote, Other, is_set, CommandHistory, with_call, find_set, without, with_set, set_in, SetCommand, is_none-settings, Write, command_value, blocks_with, commands_with, with_check_list}
+use Rattle.sercos_law_run.proofs.Words.{◌≡◌, ℕ, Bool, true, false, not, ◌&&◌, List, [], ◌∷◌, Option, Some, None, refl, sym, ap, ap₂, ◌∙◌, subst, arith, if◌then◌else◌, ◌==◌, is_none, cond, eqb-true, same_Some, none-some, find_block, with_data, Block, unfit_for_phase_3, unfit_for_phase_4, list_bytes, is_command, ends_well, Wrote, Other, is_set, CommandHistory, with_call, find_set, without, with_set, set_in, SetCommand, is_none-settings, Write, command_value, blocks_with, commands_with, with_check_list, cases_Bool, cases_Option, inl, inr}
 use Rattle.sercos_law_run.proofs.Undisturbed.Checks.BlockStays.{IsAt, written_at}
-use Rattle.sercos_law_run.proofs.Undisturbed.Checks.CheckLogs.{other_unset, unset_without}
+use Rattle.sercos_law_run.proofs.Settings.Histories.{set_beside, set_cancelled}
 use Rattle.sercos_law_run.proofs.Undisturbed.Checks.OwnSet.{Say}
 
 -- block 22 has these bytes
@@ -36,14 +36,13 @@ listed bytes c raw value blocks lists is = by (not (value == 0) && not (is_set r
 
 pub list_left : (bytes : List ℕ) (o : Option Write) (c : CommandHistory) (blocks : List Block) → ((w : Write) → o ≡ Some w → IsFair bytes w blocks) → HasList bytes blocks → HasList bytes (blocks_with o c blocks)
 list_left bytes None c blocks fair is = is
-list_left bytes (Some w) c blocks fair is = by (is_command blocks w.raw)
+list_left bytes (Some w) c blocks fair is = elim (cases_Bool (is_command blocks w.raw)) [
+  | inl on ↦ rw on (listed bytes c w.raw (command_value w) (with_data w.raw w.bytes blocks) (fair w refl).lists written)
+  | inr off ↦ rw off written
+]
   where
     written : HasList bytes (with_data w.raw w.bytes blocks)
     written = written_at 22 w.raw w.bytes (λ b. b.value ≡ bytes) blocks (λ same b found. absurd ((fair w refl).other same)) is
-
-    by : (x : Bool) → HasList bytes (if x then with_check_list c w.raw (command_value w) (with_data w.raw w.bytes blocks) else with_data w.raw w.bytes blocks)
-    by true = listed bytes c w.raw (command_value w) (with_data w.raw w.bytes blocks) (fair w refl).lists written
-    by false = written
 
 -- A SETTING where the check wasn't set, and a cancel
 list_set : (bytes : List ℕ) (c : CommandHistory) (value : ℕ) (blocks : List Block) → (value == 0) ≡ false → find_set 128 (set_in c) ≡ None → list_bytes (unfit_for_phase_4 blocks) ≡ bytes → HasList bytes (with_check_list c 128 value blocks)
@@ -54,21 +53,21 @@ list_set bytes c value blocks some none lists =
     on : (not (value == 0) && not (is_set 128 c.calls)) ≡ true
     on = ap₂ (λ (x y : Bool). not x && y) some (sym (is_none-settings c.rate 128 c.calls) ∙ ap (λ (o : Option SetCommand). is_none o) none)
 
-unset_cancelled : (raw value cycle : ℕ) (blocks : List Block) (c : CommandHistory) → (value == 0) ≡ true → find_set 128 (set_in c) ≡ None → find_set 128 (set_in (with_call (Wrote raw value cycle blocks) c)) ≡ None
-unset_cancelled raw value cycle blocks c zero none =
-    ap (λ (v : Bool). find_set 128 (if v then without raw (set_in c) else with_set (record { idn = record { raw = raw }; cycle = cycle; well = ends_well c.rate raw blocks }) (set_in c))) zero ∙ unset_without 128 raw (set_in c) none
-
 -- SO IF THE CHECK IS SET, block 22 has its list.
 pub set_lists : (bytes : List ℕ) (o : Option Write) (c : CommandHistory) (blocks : List Block) → is_command blocks 128 ≡ true → ((w : Write) → o ≡ Some w → IsFair bytes w blocks) → Say (λ s. HasList bytes blocks) c
     → Say (λ s. HasList bytes (blocks_with o c blocks)) (commands_with o blocks c)
-set_lists bytes o c blocks command fair say = by (find_set 128 (set_in c)) refl
+set_lists bytes o c blocks command fair say = elim (cases_Option (find_set 128 (set_in c))) [
+  | inl none ↦ elim (cases_Option o) [
+    | inl is ↦ rw is (λ s found. absurd (none-some s (sym none ∙ found)))
+    | inr (w, some) ↦ rw some (written w ((rw some at fair) w refl) none (w.raw == 128) (command_value w == 0) refl refl)
+  ]
+  | inr (s, was) ↦ λ t found. list_left bytes o c blocks fair (say s was)
+]
   where
-    cancelled : (w : Write) → (command_value w == 0) ≡ true → find_set 128 (set_in c) ≡ None → find_set 128 (set_in (commands_with (Some w) blocks c)) ≡ None
-    cancelled w zero none = which (is_command blocks w.raw)
-      where
-        which : (x : Bool) → find_set 128 (set_in (with_call (if x then Wrote w.raw (command_value w) w.cycle (with_data w.raw w.bytes blocks) else Other w.cycle) c)) ≡ None
-        which true = unset_cancelled w.raw (command_value w) w.cycle (with_data w.raw w.bytes blocks) c zero none
-        which false = none
+    cancelled : (w : Write) → w.raw ≡ 128 → (command_value w == 0) ≡ true → find_set 128 (set_in (commands_with (Some w) blocks c)) ≡ None
+    cancelled w number zero = rw (ap (is_command blocks) number ∙ command) (subst (λ (n : ℕ). find_set n (set_in (with_call (Wrote w.raw
+        (command_value w) w.cycle (with_data w.raw w.bytes blocks)) c)) ≡ None) number
+        (set_cancelled w.raw (command_value w) w.cycle (with_data w.raw w.bytes blocks) c zero))
 
     set_now : (w : Write) → IsFair bytes w blocks → w.raw ≡ 128 → (command_value w == 0) ≡ false → find_set 128 (set_in c) ≡ None → HasList bytes (blocks_with (Some w) c blocks)
     set_now w is number some none =
@@ -76,14 +75,6 @@ set_lists bytes o c blocks command fair say = by (find_set 128 (set_in c)) refl
         (subst (λ (n : ℕ). HasList bytes (with_check_list c n (command_value w) (with_data w.raw w.bytes blocks))) (sym number) (list_set bytes c (command_value w) (with_data w.raw w.bytes blocks) some none (is.lists number)))
 
     written : (w : Write) → IsFair bytes w blocks → find_set 128 (set_in c) ≡ None → (x y : Bool) → (w.raw == 128) ≡ x → (command_value w == 0) ≡ y → Say (λ s. HasList bytes (blocks_with (Some w) c blocks)) (commands_with (Some w) blocks c)
-    written w is none false y other value s found = absurd (none-some s (sym (other_unset 128 w blocks c other none) ∙ found))
-    written w is none true true same value s found = absurd (none-some s (sym (cancelled w value none) ∙ found))
+    written w is none false y other value s found = absurd (none-some s (sym (set_beside 128 w blocks c other ∙ none) ∙ found))
+    written w is none true true same value s found = absurd (none-some s (sym (cancelled w (eqb-true w.raw 128 same) value) ∙ found))
     written w is none true false same value s found = set_now w is (eqb-true w.raw 128 same) value none
-
-    fresh : (o : Option Write) → ((w : Write) → o ≡ Some w → IsFair bytes w blocks) → find_set 128 (set_in c) ≡ None → Say (λ s. HasList bytes (blocks_with o c blocks)) (commands_with o blocks c)
-    fresh None fair none = λ s found. absurd (none-some s (sym none ∙ found))
-    fresh (Some w) fair none = written w (fair w refl) none (w.raw == 128) (command_value w == 0) refl refl
-
-    by : (x : Option SetCommand) → find_set 128 (set_in c) ≡ x → Say (λ s. HasList bytes (blocks_with o c blocks)) (commands_with o blocks c)
-    by (Some s) was = λ t found. list_left bytes o c blocks fair (say s was)
-    by None none = fresh o fair none

@@ -18,10 +18,11 @@ use Rattle.sercos_law_run.proofs.Undisturbed.Checks.OwnInside.{all_at}
 use Rattle.sercos_law_run.proofs.Undisturbed.Checks.OwnSet.{Say}
 use Rattle.sercos_law_run.proofs.Undisturbed.Stops.RefusedCauses.{check_4, found_4, found_list, list_4}
 use Rattle.sercos_law_run.proofs.Undisturbed.Checks.SetsFour.{allowed_in, names_in, three_in}
-use Rattle.sercos_law_run.proofs.Undisturbed.Checks.SinceSet.{AreKept, StaysFrom, have_since}
+use Rattle.sercos_law_run.proofs.Undisturbed.Checks.SinceSet.{AreKept, StaysFrom, since_so}
 use Rattle.sercos_law_run.proofs.Undisturbed.Checks.ShortLists.{fixed_22}
 use Rattle.sercos_law_run.proofs.Settings.NoCheck127.{next_still, stays}
-use Rattle.sercos_law_run.proofs.Undisturbed.Checks.WellGiven.{have_commands, is_command_128}
+use Rattle.sercos_law_run.proofs.Undisturbed.Checks.WellGiven.{have_commands, is_command_128, say_each}
+use Rattle.sercos_law_channel.proofs.Options.{some_there}
 
 -- A WRITE to a block that is never outside its limits leaves which are.
 abbrev IsInside : List ℕ → Block → Type 0
@@ -35,9 +36,6 @@ outside_left raw bytes (b ∷ blocks) ascending inside = by (b.idn.raw == raw) r
     parts : (list_all (λ c. nat_lt b.idn.raw c.idn.raw) blocks ≡ true) × (are_ascending blocks ≡ true)
     parts = and_parts (list_all (λ c. nat_lt b.idn.raw c.idn.raw) blocks) (are_ascending blocks) ascending
 
-    found_first : (x : Bool) → (b.idn.raw == raw) ≡ x → find_block raw (b ∷ blocks) ≡ cond x (Some b) (find_block raw blocks)
-    found_first x is = ap (λ (v : Bool). cond v (Some b) (find_block raw blocks)) is
-
     -- no later block has the number
     later : (b.idn.raw == raw) ≡ true → IsAt raw (IsInside bytes) blocks
     later is c found =
@@ -48,14 +46,15 @@ outside_left raw bytes (b ∷ blocks) ascending inside = by (b.idn.raw == raw) r
     by : (x : Bool) → (b.idn.raw == raw) ≡ x → (IsAt raw (IsInside bytes) blocks → filter is_outside (with_data raw bytes blocks) ≡ filter is_outside blocks)
         → filter is_outside ((if b.idn.raw == raw then record b { value = bytes } else b) ∷ with_data raw bytes blocks) ≡ cond (is_outside b) (b ∷ filter is_outside blocks) (filter is_outside blocks)
     by true is more =
-        let here = inside b (found_first true is) in
+        let here = inside b (rw is refl) in
         ap (λ (v : Bool). filter is_outside ((if v then record b { value = bytes } else b) ∷ with_data raw bytes blocks)) is
         ∙ ap (λ (v : Bool). cond v ((record b { value = bytes }) ∷ filter is_outside (with_data raw bytes blocks)) (filter is_outside (with_data raw bytes blocks))) here.1
         ∙ more (later is)
         ∙ sym (ap (λ (v : Bool). cond v (b ∷ filter is_outside blocks) (filter is_outside blocks)) here.0)
     by false is more =
         ap (λ (v : Bool). filter is_outside ((if v then record b { value = bytes } else b) ∷ with_data raw bytes blocks)) is
-        ∙ ap (λ (l : List Block). cond (is_outside b) (b ∷ l) l) (more (λ c found. inside c (found_first false is ∙ found)))
+        ∙ ap (λ (l : List Block). cond (is_outside b) (b ∷ l) l)
+        (more (λ c found. inside c (ap (λ (v : Bool). cond v (Some b) (find_block raw blocks)) is ∙ found)))
 
 -- S-0-0128 has no limits
 unlimited : (b : Block) (bytes : List ℕ) → b.min ≡ None → b.max ≡ None → is_outside (record b { value = bytes }) ≡ false
@@ -77,10 +76,6 @@ unfit_left : (bytes : List ℕ) (blocks : List Block) → are_ascending blocks �
 unfolding unfit_for_phase_4
 unfit_left bytes blocks ascending inside = ap (map (λ (b : Block). b.idn)) (outside_left 128 bytes blocks ascending inside)
 
-set_some : (o : Option SetCommand) → is_some o ≡ true → (s : SetCommand) × (o ≡ Some s)
-set_some None on = absurd (false≢true on)
-set_some (Some s) on = (s, refl)
-
 -- THE LIST of a check for phase 4, as bytes: the own blocks that were outside at opening
 abbrev pub own_bytes : DriveView → List ℕ
 own_bytes d = list_bytes (map (λ (b : Block). b.idn) (filter is_own_outside (store_of d)))
@@ -91,11 +86,10 @@ module _ (r : RingView) (jobs : List Job) (carry : Carry) (restarts : Restarts) 
   rules = (ring_drive r k (drive_at r k) opened.valid (drive_got r k below)).blocks
 
   never : (j : List CycleView) → IsRun r jobs carry restarts j → IsClear j → NeverFour j
-  never j run clear = by (never_or_own r jobs carry restarts opened k below j run clear)
-    where
-      by : NeverFour j ⊎ (list_any is_outside (drive_at r k).blocks ≡ false) → NeverFour j
-      by (inl is) = is
-      by (inr fits) = absurd (false≢true (sym fits ∙ outside))
+  never j run clear = elim (never_or_own r jobs carry restarts opened k below j run clear) [
+    | inl is ↦ is
+    | inr fits ↦ absurd (false≢true (sym fits ∙ outside))
+  ]
 
   -- EACH WRITE of a cycle is fair to block 22.
   fair_in : (t : CycleView) (j : List CycleView) → IsRun r jobs carry restarts (t ∷ j) → IsClear (t ∷ j) → (w : Write)
@@ -140,32 +134,28 @@ module _ (r : RingView) (jobs : List Job) (carry : Carry) (restarts : Restarts) 
       (list_left (own_bytes (drive_at r k)) (write_of (processed_in (view_of r jobs carry restarts k u j) (views_of r jobs carry restarts k j)) (kept_in (view_of r jobs carry restarts k u j) (views_of r jobs carry restarts k j))) (view_of r jobs carry restarts k u j).commands
       (view_of r jobs carry restarts k u j).blocks (fair_in u j run.0 clear.0) has)
 
+  abbrev ListIn : List CycleView → SetCommand → Type 0
+  ListIn [] s = Unit {0}
+  ListIn (t ∷ j) s = HasList (own_bytes (drive_at r k)) (view_of r jobs carry restarts k t j).blocks
+
   says_list : (t : CycleView) (j : List CycleView) → IsRun r jobs carry restarts (t ∷ j) → IsClear (t ∷ j) → Say (λ s. HasList (own_bytes (drive_at r k)) (view_of r jobs carry restarts k t j).blocks) (view_of r jobs carry restarts k t j).commands
-  says_list t [] run clear = λ s found.
-      let empty = keeps_settings (view_of r jobs carry restarts k t []) [] (wells r jobs carry restarts opened (t ∷ []) run clear k below).follow in
-      absurd (none-some s (sym (ap (find_set 128) empty) ∙ found))
-  says_list t (u ∷ j) run clear = by (says_list u j run.0 clear.0) (keeps_settings (view_of r jobs carry restarts k t (u ∷ j)) (views_of r jobs carry restarts k (u ∷ j)) (wells r jobs carry restarts opened (t ∷ u ∷ j) run clear k below).follow)
-    where
-      v : View
-      v = view_of r jobs carry restarts k t (u ∷ j)
-
-      w : View
-      w = view_of r jobs carry restarts k u j
-
-      past : List View
-      past = views_of r jobs carry restarts k j
-
-      command : is_command (view_of r jobs carry restarts k u j).blocks 128 ≡ true
-      command = is_command_128 (drive_at r k) (view_of r jobs carry restarts k u j).blocks rules (stored_in r jobs carry restarts opened u j k below).1
-
-      by : Say (λ s. HasList (own_bytes (drive_at r k)) w.blocks) w.commands → (set_in v.commands ≡ []) ⊎ (set_in v.commands ≡ set_in (commands_left w past)) → Say (λ s. HasList (own_bytes (drive_at r k)) v.blocks) v.commands
-      by before (inl empty) s found = absurd (none-some s (sym (ap (find_set 128) empty) ∙ found))
-      by before (inr same) s found = subst (HasList (own_bytes (drive_at r k))) (sym (blocks_next t u j run clear))
-          (set_lists (own_bytes (drive_at r k)) (write_of (processed_in w past) (kept_in w past)) w.commands w.blocks command (fair_in u j run.0 clear.0) before s (sym (ap (find_set 128) same) ∙ found))
+  says_list = say_each r jobs carry restarts opened k below ListIn (λ t u j run clear before s found.
+      let command = is_command_128 (drive_at r k) (view_of r jobs carry restarts k u j).blocks rules
+      (stored_in r jobs carry restarts opened u j k below).1 in
+      subst (HasList (own_bytes (drive_at r k))) (sym (blocks_next t u j run clear))
+      (set_lists (own_bytes (drive_at r k)) (write_of
+      (processed_in (view_of r jobs carry restarts k u j) (views_of r jobs carry restarts k j))
+      (kept_in (view_of r jobs carry restarts k u j) (views_of r jobs carry restarts k j))) (view_of r jobs carry restarts k u j).commands
+      (view_of r jobs carry restarts k u j).blocks command (fair_in u j run.0 clear.0) before s found))
 
   kept_so : (j : List CycleView) → IsRun r jobs carry restarts j → IsClear j → AreKept (HasList (own_bytes (drive_at r k))) (views_of r jobs carry restarts k j)
   kept_so [] run clear = tt
-  kept_so (t ∷ j) run clear = (kept_so j run.0 clear.0, (λ on. let s = set_some (find_set 128 (set_in (view_of r jobs carry restarts k t j).commands)) on in says_list t j run clear s.0 s.1), stays_from t j run clear)
+  kept_so (t ∷ j) run clear = (
+    kept_so j run.0 clear.0,
+    (λ on. let s = some_there (find_set 128 (set_in (view_of r jobs carry restarts k t j).commands)) on in says_list t j run clear s.0
+        s.1),
+    stays_from t j run clear,
+  )
 
   -- THE LIST that is read
   pub list_is : (t : CycleView) (j : List CycleView) → IsRun r jobs carry restarts (t ∷ j) → IsClear (t ∷ j) → (newer older : List Begun) (b c : Begun) (bytes status : List ℕ) → begun_in (view_of r jobs carry restarts k t j) (views_of r jobs carry restarts k j) ≡ newer ++ b ∷ c ∷ older
@@ -188,5 +178,5 @@ module _ (r : RingView) (jobs : List Job) (carry : Carry) (restarts : Restarts) 
           (stands.sees.run.0, next_still (drive_at r k).busy (view_of r jobs carry restarts k t j) (views_of r jobs carry restarts k j) stands.sees.run.1)
           stands.sound stands.stored (wells r jobs carry restarts opened (t ∷ j) run clear k below).follow
           (have_commands (drive_at r k) views rules stands.stored)
-          (have_since (HasList (own_bytes (drive_at r k))) views (kept_so (t ∷ j) run clear)) (list_4 (drive_at r k))
+          (since_so (HasList (own_bytes (drive_at r k))) views (kept_so (t ∷ j) run clear)).0 (list_4 (drive_at r k))
           (found_list (drive_at r k) rules) factor newer older b c bytes status split asks complete sets_it ended

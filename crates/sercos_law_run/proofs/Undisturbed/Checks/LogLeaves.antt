@@ -1,5 +1,5 @@
 -- What the steps that a drive accepted since its reset leave of its procedure commands. Each list has its newest item first.
-use Rattle.sercos_law_run.proofs.Words.{◌≡◌, ℕ, Bool, true, false, not, ◌&&◌, List, [], ◌∷◌, length, refl, sym, ap, subst, if◌then◌else◌, ◌==◌, Option, Some, None, IfSome, option_map, option_and_then, beq, Block, find_block, Reset, CommandHistory, with_call, set_in, Processed, Entry, ahs, accepted, open_idn, run_before, in_order, bytes_written, answered, log_of, Write, takes_effect, written_by, added_by, adds, added_on, commands_with, View, standing, stood_in, record_in, processed_in, with_record, since_reset, kept_in, write_of, Processes, Nothing, Record, processes, commands_left, commands_ended, CommandsFollow, LogLeaves}
+use Rattle.sercos_law_run.proofs.Words.{◌≡◌, ℕ, Bool, true, false, not, ◌&&◌, List, [], ◌∷◌, length, refl, sym, ap, subst, if◌then◌else◌, ◌==◌, Option, Some, None, IfSome, option_map, option_and_then, beq, Block, find_block, Reset, CommandHistory, with_call, set_in, Processed, Entry, ahs, accepted, open_idn, run_before, in_order, bytes_written, answered, log_of, Write, takes_effect, written_by, added_by, adds, added_on, commands_with, View, standing, stood_in, record_in, processed_in, with_record, since_reset, kept_in, write_of, Processes, Nothing, Record, processes, commands_left, commands_ended, CommandsFollow, LogLeaves, cases_Bool, inl, inr}
 use Rattle.sercos_law_run.proofs.Settings.Histories.{reset_if}
 
 -- The cycle of a write is that of its step.
@@ -26,11 +26,7 @@ read_adds_none e log reads =
 
 -- one record more
 leaves_record : (t : Processed) (h : List Processed) → LogLeaves (log_of h) t.commands → LogLeaves (log_of (t ∷ h)) (commands_with (added_on t h) t.blocks t.commands)
-leaves_record t h before = by (beq t.mhs (ahs h))
-  where
-    by : (v : Bool) → LogLeaves (answered (if v then accepted h else t ∷ accepted h)) (commands_with (if v then None else adds t (log_of h)) t.blocks t.commands)
-    by true = before
-    by false = (before, refl)
+leaves_record t h before = elim (cases_Bool (beq t.mhs (ahs h))) [ inl on ↦ rw on before | inr off ↦ rw off (before, refl) ]
 
 -- at the MST's place of a cycle
 leaves_kept : (c : CommandHistory) (v : View) (past : List View) → CommandsFollow c (v ∷ past) → LogLeaves (log_of (since_reset past)) (commands_ended c past) → LogLeaves (log_of (kept_in v past)) v.commands
@@ -47,15 +43,13 @@ leaves_kept c v past follow before = by (stood_in v (standing past) == 0) v.driv
 -- AT THE END of all cycles
 pub leaves_since : (c : CommandHistory) → set_in c ≡ [] → (past : List View) → CommandsFollow c past → LogLeaves (log_of (since_reset past)) (commands_ended c past)
 leaves_since c none [] follow = none
-leaves_since c none (v ∷ past) follow = by ((standing (v ∷ past)).ended == 0) (taken (processes v past) (leaves_kept c v past follow (leaves_since c none past follow.0)))
+leaves_since c none (v ∷ past) follow = elim (cases_Bool ((standing (v ∷ past)).ended == 0)) [
+  | inl on ↦ rw on
+  | inr off ↦ rw off (taken (processes v past) (leaves_kept c v past follow (leaves_since c none past follow.0)))
+]
   where
     taken : Processes v past → LogLeaves (log_of (kept_in v past)) v.commands → LogLeaves (log_of (with_record (processed_in v past) (kept_in v past))) (commands_left v past)
     taken (Nothing none) at = subst (λ (o : Option Processed). LogLeaves (log_of (with_record o (kept_in v past))) (commands_with (write_of o (kept_in v past)) v.blocks v.commands)) (sym none) at
     taken (Record s got came two some) at =
         subst (λ (o : Option Processed). LogLeaves (log_of (with_record o (kept_in v past))) (commands_with (write_of o (kept_in v past)) v.blocks v.commands)) (sym some)
         (leaves_record (record_in v (length past) (stood_in v (standing past)) s) (kept_in v past) at)
-
-    by : (zero : Bool) → LogLeaves (log_of (with_record (processed_in v past) (kept_in v past))) (commands_left v past)
-        → LogLeaves (log_of (if zero then [] else with_record (processed_in v past) (kept_in v past))) (reset_if zero (commands_left v past))
-    by true at = refl
-    by false at = at

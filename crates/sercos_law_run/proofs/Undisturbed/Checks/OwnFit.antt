@@ -8,25 +8,22 @@ use Rattle.sercos_law_run.proofs.Views.Members.{members_count}
 use Rattle.sercos_law_run.proofs.Views.ViewRuns.{started}
 use Rattle.sercos_law_run.proofs.Held.Runs.{drive_got, kept_at_mst}
 use Rattle.sercos_law_run.proofs.Headline.HeadlineRuns.{all_stand, first_store, keeps_all, spelled_in, stored_in}
-use Rattle.sercos_law_run.proofs.Settings.Histories.{status_set}
+use Rattle.sercos_law_run.proofs.Settings.Histories.{status_as, status_set}
 use Rattle.sercos_law_run.proofs.Undisturbed.Checks.CheckTasks.{IsCheckNewest, check_128}
 use Rattle.sercos_law_run.proofs.Undisturbed.Checks.CheckedViews.{status_3}
 use Rattle.sercos_law_run.proofs.Typed.Mdts.{phase_low}
 use Rattle.sercos_law_run.proofs.Undisturbed.StaysUp.{phase_now}
 use Rattle.sercos_law_run.proofs.Undisturbed.JobsBegun.{begun_now}
-use Rattle.sercos_law_run.proofs.Undisturbed.Checks.EntriesSay.{EntriesSay, ViewsSay, entries_say}
+use Rattle.sercos_law_run.proofs.Held.EntriesAre.{EntriesSay, ViewsSay, entries_say}
 use Rattle.sercos_law_run.proofs.Undisturbed.Checks.OwnSet.{AreBuiltIn, IsOwn, SaysOwn, own_so}
 use Rattle.sercos_law_run.proofs.Undisturbed.Checks.BuiltInWrites.{NeverFour, writes_built}
 use Rattle.sercos_law_run.proofs.Cited.{begins_tasks}
-
-abbrev status_of : Bool → Bool → ℕ
-status_of x y = if x then (if y then 3 else 15) else 7
 
 well_status : (time cycle : ℕ) (o : Option SetCommand) → status_by time o cycle ≡ 3 → (s : SetCommand) × (o ≡ Some s) × (s.well ≡ true)
 well_status time cycle None is = absurd (omega (arith, is))
 well_status time cycle (Some s) is = by (has_ended time cycle s) s.well refl is
   where
-    by : (x y : Bool) → s.well ≡ y → status_of x y ≡ 3 → (c : SetCommand) × (Some s ≡ Some c) × (c.well ≡ true)
+    by : (x y : Bool) → s.well ≡ y → status_as x y ≡ 3 → (c : SetCommand) × (Some s ≡ Some c) × (c.well ≡ true)
     by true true well is = (s, refl, well)
     by true false well is = absurd (omega (arith, is))
     by false y well is = absurd (omega (arith, is))
@@ -65,21 +62,16 @@ module _ (r : RingView) (jobs : List Job) (carry : Carry) (restarts : Restarts) 
       (first_store r jobs carry restarts opened) t j next clear (spelled_in r jobs carry restarts opened t j next)
       (stored_in r jobs carry restarts opened t j) (all_stand r jobs carry restarts opened j run before) k below).writes) (writes_built r jobs carry restarts opened k below j run before never))
 
-  says_in : (t : CycleView) (j : List CycleView) → IsRun r jobs carry restarts (t ∷ j) → IsClear (t ∷ j) → NeverFour j → SaysOwn (drive_at r k) (view_of r jobs carry restarts k t j).commands
-  says_in t j run clear never = (own_in t j run clear never).says
-
   views_say : (j : List CycleView) → IsRun r jobs carry restarts j → IsClear j → NeverFour j → ViewsSay (SaysOwn (drive_at r k)) (views_of r jobs carry restarts k j)
   views_say [] run clear never = tt
-  views_say (t ∷ j) run clear never = (views_say j run.0 clear.0 never.0, says_in t j run clear never.0)
+  views_say (t ∷ j) run clear never = (views_say j run.0 clear.0 never.0, (own_in t j run clear never.0).says)
 
   -- THE CYCLE IN WHICH IT RISES to phase 4
   rise_own : (u : CycleView) (j : List CycleView) → IsRun r jobs carry restarts (u ∷ j) → IsClear (u ∷ j) → NeverFour (u ∷ j) → (looks_back r jobs (master_calls r carry restarts (u ∷ j))).now.phase ≡ 4 → FitsOwn
   rise_own u j run clear never four =
-      sym (own_at_opening (drive_at r k) rules) ∙ none_any is_own_outside (store_of (drive_at r k)) (by exact)
+      sym (own_at_opening (drive_at r k) ((ring_drive r k (drive_at r k) opened.valid (drive_got r k below)).blocks))
+      ∙ none_any is_own_outside (store_of (drive_at r k)) (by exact)
     where
-      rules : blocks_fault [] (drive_at r k).blocks ≡ None
-      rules = (ring_drive r k (drive_at r k) opened.valid (drive_got r k below)).blocks
-
       now : (behind_mdt r jobs carry restarts u.sent j).now.phase ≤ 3
       now = let same = phase_now r jobs carry restarts opened u j run.1 in let low = never.1 in omega (arith, same, low)
 
@@ -143,8 +135,4 @@ module _ (r : RingView) (jobs : List Job) (carry : Carry) (restarts : Restarts) 
       ]
 
   pub own_fits : (t : CycleView) (j : List CycleView) → IsRun r jobs carry restarts (t ∷ j) → IsClear (t ∷ j) → t.phase ≡ 4 → FitsOwn
-  own_fits t j run clear four = by (never_or_own j run.0 clear.0)
-    where
-      by : NeverFour j ⊎ FitsOwn → FitsOwn
-      by (inl never) = rises_own t j run clear never four
-      by (inr own) = own
+  own_fits t j run clear four = elim (never_or_own j run.0 clear.0) [ inl never ↦ rises_own t j run clear never four | inr own ↦ own ]

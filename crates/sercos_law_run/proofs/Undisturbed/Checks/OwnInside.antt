@@ -1,5 +1,5 @@
 -- If no own block of a drive was outside its limits at opening, none ever is.
-use Rattle.sercos_law_run.proofs.Words.{◌≡◌, ℕ, Bool, true, false, not, ◌&&◌, ◌||◌, List, [], ◌∷◌, Option, Some, None, refl, sym, ap, ap₂, ◌∙◌, subst, arith, ◌==◌, nat_lt, cond, then_some, filter, list_all, list_any, and_parts, eq-eqb, eqb-true, false≢true, or_parts, nat_tests, same_Some, none_of-or, none_of-then, is_built_in, blocks_fault, find_block, store_of, write_fault, put_fault, is_short, is_long, is_invalid, is_below, is_above, DriveView, Block, is_outside, list_bytes, unfit_for_phase_3, unfit_for_phase_4, is_own_outside, data_fault, are_ascending}
+use Rattle.sercos_law_run.proofs.Words.{◌≡◌, ℕ, Bool, true, false, not, ◌&&◌, ◌||◌, List, [], ◌∷◌, Option, Some, None, refl, sym, ap, ap₂, ◌∙◌, subst, arith, ◌==◌, nat_lt, cond, then_some, filter, list_all, list_any, and_parts, eq-eqb, eqb-true, false≢true, or_parts, nat_tests, same_Some, none_of-or, none_of-then, is_built_in, blocks_fault, find_block, store_of, write_fault, put_fault, is_short, is_long, is_invalid, is_below, is_above, DriveView, Block, is_outside, list_bytes, unfit_for_phase_3, unfit_for_phase_4, is_own_outside, data_fault, are_ascending, cases_Bool, inl, inr}
 use Rattle.sercos_law_run.proofs.Start.OwnLemmas.{own_at_opening}
 use Rattle.sercos_law_run.proofs.Undisturbed.Checks.BlockStays.{IsAt, Stays}
 use Rattle.sercos_law_run.proofs.Undisturbed.CycleHeld.{second_none}
@@ -73,18 +73,10 @@ pub no_data_fault : (o : Option Block) (b : Block) (phase : ℕ) (bytes : List �
 no_data_fault o b phase bytes found allowed = second_none (write_fault (Some b) phase) (data_fault b bytes) (sym (ap (λ (x : Option Block). put_fault x phase bytes) found) ∙ allowed)
 
 own_written : (b : Block) (bytes : List ℕ) → data_fault b bytes ≡ None → is_own_outside (record b { value = bytes }) ≡ false
-own_written b bytes none = by (is_built_in b.idn.raw) (within b bytes none)
-  where
-    by : (x : Bool) → is_outside (record b { value = bytes }) ≡ false → (not x && is_outside (record b { value = bytes })) ≡ false
-    by true is = refl
-    by false is = is
+own_written b bytes none = elim (cases_Bool (is_built_in b.idn.raw)) [ inl on ↦ rw on | inr off ↦ rw off (within b bytes none) ]
 
 built_in_own : (b : Block) (bytes : List ℕ) → is_built_in b.idn.raw ≡ true → is_own_outside (record b { value = bytes }) ≡ false
-built_in_own b bytes built = by (is_built_in b.idn.raw) built
-  where
-    by : (x : Bool) → x ≡ true → (not x && is_outside (record b { value = bytes })) ≡ false
-    by true is = refl
-    by false is = absurd (false≢true is)
+built_in_own b bytes built = elim (cases_Bool (is_built_in b.idn.raw)) [ inl on ↦ rw on | inr off ↦ absurd (false≢true (sym off ∙ built)) ]
 
 -- SO NO OWN BLOCK gets outside its limits.
 pub own_stays : (d : DriveView) → blocks_fault [] d.blocks ≡ None → list_any is_outside d.blocks ≡ false → (n : ℕ) → Stays d n (λ b. is_own_outside b ≡ false)

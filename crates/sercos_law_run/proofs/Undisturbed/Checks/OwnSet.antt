@@ -1,12 +1,12 @@
 -- As long as built-in blocks alone are written to a drive, those of its own that are outside their limits are the same as at opening; so
 -- if a check for phase 4 is set that ends well, there are none.
-use Rattle.sercos_law_run.proofs.Words.{◌≡◌, ℕ, suc, arith, Bool, true, false, not, ◌&&◌, List, [], ◌∷◌, ◌++◌, length, Option, Some, None, refl, sym, ap, ◌∙◌, if◌then◌else◌, subst, ◌==◌, is_some, cond, false≢true, eqb-true, nat_tests, none-some, is_built_in, with_data, store_of, DriveView, Block, is_outside, is_command, ends_well, Wrote, Other, CommandHistory, with_call, find_set, without, with_set, set_in, SetCommand, Processed, Write, added_on, with_added, command_value, blocks_with, commands_with, Told, DriveCall, Mst, Mdt, mst_got, mdt_got, Moment, phase_in, records_in, writes_in, blocks_in, blocks_after, commands_in, write_in, commands_after, reset_in, annals, stands_in, ends_in, is_own_outside, length_map, unfit_for_phase_4}
+use Rattle.sercos_law_run.proofs.Words.{◌≡◌, ℕ, suc, arith, Bool, true, false, not, ◌&&◌, List, [], ◌∷◌, ◌++◌, length, Option, Some, None, refl, sym, ap, ◌∙◌, if◌then◌else◌, subst, ◌==◌, is_some, cond, false≢true, eqb-true, nat_tests, none-some, is_built_in, with_data, store_of, DriveView, Block, is_outside, is_command, ends_well, Wrote, Other, CommandHistory, with_call, find_set, without, with_set, set_in, SetCommand, Processed, Write, added_on, with_added, command_value, blocks_with, commands_with, Told, DriveCall, Mst, Mdt, mst_got, mdt_got, Moment, phase_in, records_in, writes_in, blocks_in, blocks_after, commands_in, write_in, commands_after, reset_in, annals, stands_in, ends_in, is_own_outside, length_map, unfit_for_phase_4, cases_Bool, cases_Option, inl, inr, same_Some}
 use Rattle.std.proofs.Common.{filter}
 use Rattle.sercos_law_run.proofs.Held.Processed.{processed_keeps, taken_at}
 use Rattle.sercos_drive.specs.Heard.{Restart}
 use Rattle.sercos_drive.specs.Annals.{processed_in}
 use Rattle.sercos_law_run.proofs.Start.OwnLemmas.{leaves_own, own_stay}
-use Rattle.sercos_law_run.proofs.Settings.Histories.{reset_if}
+use Rattle.sercos_law_run.proofs.Settings.Histories.{reset_if, set_elsewhere, set_cancelled, set_new, set_stays}
 
 -- each of these writes is to a built-in block
 abbrev pub AreBuiltIn : List Write → Type 0
@@ -25,45 +25,6 @@ pub record IsOwn (d : DriveView) (blocks : List Block) (c : CommandHistory) : Ty
   pub same : filter is_own_outside blocks ≡ filter is_own_outside (store_of d)
   pub says : SaysOwn d c
 
--- THE SETTINGS
-pub none_without : (raw : ℕ) (set : List SetCommand) → find_set raw (without raw set) ≡ None
-none_without raw [] = refl
-none_without raw (s ∷ set) = by (s.idn.raw == raw) refl (none_without raw set)
-  where
-    by : (x : Bool) → (s.idn.raw == raw) ≡ x → find_set raw (without raw set) ≡ None → find_set raw (cond (not x) (s ∷ without raw set) (without raw set)) ≡ None
-    by true is more = more
-    by false is more = ap (λ (x : Bool). cond x (Some s) (find_set raw (without raw set))) is ∙ more
-
-same_without : (n raw : ℕ) (set : List SetCommand) → (raw == n) ≡ false → find_set n (without raw set) ≡ find_set n set
-same_without n raw [] other = refl
-same_without n raw (s ∷ set) other = by (s.idn.raw == raw) refl (same_without n raw set other)
-  where
-    by : (x : Bool) → (s.idn.raw == raw) ≡ x → find_set n (without raw set) ≡ find_set n set → find_set n (cond (not x) (s ∷ without raw set) (without raw set)) ≡ cond (s.idn.raw == n) (Some s) (find_set n set)
-    by true is more =
-        let apart : (s.idn.raw == n) ≡ false = ap (λ (m : ℕ). m == n) (eqb-true s.idn.raw raw is) ∙ other in
-        more ∙ sym (ap (λ (x : Bool). cond x (Some s) (find_set n set)) apart)
-    by false is more = ap (λ (o : Option SetCommand). cond (s.idn.raw == n) (Some s) o) more
-
-found_append : (n : ℕ) (set : List SetCommand) (new s : SetCommand) → find_set n (set ++ new ∷ []) ≡ Some s → find_set n set ≡ None → ((new.idn.raw == n) ≡ true) × (new ≡ s)
-found_append n [] new s found none = by (new.idn.raw == n) refl found
-  where
-    by : (x : Bool) → (new.idn.raw == n) ≡ x → cond x (Some new) None ≡ Some s → ((new.idn.raw == n) ≡ true) × (new ≡ s)
-    by true is found = (is, cc)
-    by false is found = absurd (cc)
-found_append n (x ∷ set) new s found none = by (x.idn.raw == n) found none (λ more rest. found_append n set new s more rest)
-  where
-    by : (y : Bool) → cond y (Some x) (find_set n (set ++ new ∷ [])) ≡ Some s → cond y (Some x) (find_set n set) ≡ None → (find_set n (set ++ new ∷ []) ≡ Some s → find_set n set ≡ None → ((new.idn.raw == n) ≡ true) × (new ≡ s)) → ((new.idn.raw == n) ≡ true) × (new ≡ s)
-    by true found none next = absurd (cc)
-    by false found none next = next found none
-
-found_before : (n : ℕ) (set : List SetCommand) (new s x : SetCommand) → find_set n set ≡ Some x → find_set n (set ++ new ∷ []) ≡ Some s → find_set n set ≡ Some s
-found_before n [] new s x before found = absurd (cc)
-found_before n (y ∷ set) new s x before found = by (y.idn.raw == n) before found (λ more rest. found_before n set new s x more rest)
-  where
-    by : (b : Bool) → cond b (Some y) (find_set n set) ≡ Some x → cond b (Some y) (find_set n (set ++ new ∷ [])) ≡ Some s → (find_set n set ≡ Some x → find_set n (set ++ new ∷ []) ≡ Some s → find_set n set ≡ Some s) → cond b (Some y) (find_set n set) ≡ Some s
-    by true before found next = found
-    by false before found next = next before found
-
 -- if nothing is outside, no own block is
 none_own : (blocks : List Block) → (length (filter is_outside blocks) == 0) ≡ true → filter is_own_outside blocks ≡ []
 none_own [] none = refl
@@ -81,29 +42,20 @@ well_own rate blocks well = none_own blocks (sym (ap (λ (n : ℕ). n == 0) (len
 -- ONE WRITE
 pub say_written : (such : SetCommand → Type 0) (raw value cycle : ℕ) (blocks : List Block) (c : CommandHistory) → (raw ≡ 128 → such (record { idn = record { raw = raw }; cycle = cycle; well = ends_well c.rate raw blocks })) → Say such c
     → Say such (with_call (Wrote raw value cycle blocks) c)
-say_written such raw value cycle blocks c sets say s found = by (value == 0) found
-  where
-    new : SetCommand
-    new = record { idn = record { raw = raw }; cycle = cycle; well = ends_well c.rate raw blocks }
-
-    cancelled : find_set 128 (without raw (set_in c)) ≡ Some s → such s
-    cancelled found = which (raw == 128) refl
-      where
-        which : (x : Bool) → (raw == 128) ≡ x → such s
-        which true is = let none : find_set 128 (without raw (set_in c)) ≡ None = ap (λ (n : ℕ). find_set 128 (without n (set_in c))) (eqb-true raw 128 is) ∙ none_without 128 (set_in c) in absurd (none-some s (sym none ∙ found))
-        which false other = say s (sym (same_without 128 raw (set_in c) other) ∙ found)
-
-    added : (o : Option SetCommand) → find_set 128 (set_in c) ≡ o → find_set 128 (set_in c ++ (record { idn = record { raw = raw }; cycle = cycle; well = ends_well c.rate raw blocks }) ∷ []) ≡ Some s → such s
-    added (Some x) before found = say s (found_before 128 (set_in c) new s x before found)
-    added None none found = let is = found_append 128 (set_in c) new s found none in subst such is.1 (sets (eqb-true raw 128 is.0))
-
-    set_so : (x : Bool) → find_set 128 (if x then set_in c else set_in c ++ (record { idn = record { raw = raw }; cycle = cycle; well = ends_well c.rate raw blocks }) ∷ []) ≡ Some s → such s
-    set_so true found = say s found
-    set_so false found = added (find_set 128 (set_in c)) refl found
-
-    by : (x : Bool) → find_set 128 (if x then without raw (set_in c) else with_set (record { idn = record { raw = raw }; cycle = cycle; well = ends_well c.rate raw blocks }) (set_in c)) ≡ Some s → such s
-    by true found = cancelled found
-    by false found = set_so (is_some (find_set raw (set_in c))) found
+say_written such raw value cycle blocks c sets say s found = elim (cases_Bool (raw == 128)) [
+  | inr off ↦ say s (sym (set_elsewhere 128 raw value cycle blocks c off) ∙ found)
+  | inl on ↦
+      let here : raw ≡ 128 = eqb-true raw 128 on in
+      let at = subst (λ (n : ℕ). find_set n (set_in (with_call (Wrote raw value cycle blocks) c)) ≡ Some s) (sym here) found in
+      elim (cases_Bool (value == 0)) [
+        | inl zero ↦ absurd (none-some s (sym (set_cancelled raw value cycle blocks c zero) ∙ at))
+        | inr some ↦ elim (cases_Option (find_set raw (set_in c))) [
+          | inr (x, was) ↦ say s (subst (λ (n : ℕ). find_set n (set_in c) ≡ Some s) here
+              (was ∙ sym (set_stays raw value cycle blocks c x some was) ∙ at))
+          | inl none ↦ subst such (same_Some _ s (sym (set_new raw value cycle blocks c some none) ∙ at)) (sets here)
+        ]
+      ]
+]
 
 says_written : (d : DriveView) (raw value cycle : ℕ) (blocks : List Block) (c : CommandHistory) → filter is_own_outside blocks ≡ filter is_own_outside (store_of d) → SaysOwn d c → SaysOwn d (with_call (Wrote raw value cycle blocks) c)
 says_written d raw value cycle blocks c same says =
@@ -118,11 +70,7 @@ own_written d w blocks c built own = record { same = own_stay w c blocks built �
 
 -- A RESET sets nothing.
 says_reset : (d : DriveView) (phase : ℕ) (c : CommandHistory) → SaysOwn d c → SaysOwn d (reset_in phase c)
-says_reset d phase c says = by (phase == 0)
-  where
-    by : (zero : Bool) → SaysOwn d (reset_if zero c)
-    by true = λ s found well. absurd (cc)
-    by false = says
+says_reset d phase c says = elim (cases_Bool (phase == 0)) [ inl on ↦ rw on (λ s found well. absurd (cc)) | inr off ↦ rw off says ]
 
 behind : (o : Option Write) (writes : List Write) → AreBuiltIn (with_added o writes) → AreBuiltIn writes
 behind None writes are = are

@@ -1,6 +1,6 @@
 -- The own blocks of a drive in its store are those of its description, ascending by identifier number; and the master takes the list of those
 -- that are outside from its bytes.
-use Rattle.sercos_law_run.proofs.Words.{◌≡◌, ℕ, Bool, true, false, not, ◌&&◌, List, [], ◌∷◌, ◌++◌, None, refl, sym, ap, ◌∙◌, arith, ◌≤◌, nat_le, nat_lt, cond, length, map, take, filter, list_all, and_from, and_parts, nat_tests, take_all, length-filter_both, is_built_in, blocks_fault, has_block, DriveView, Block, all_inserted, either_none, is_outside, list_bytes, idns_in, length_map, is_own_outside, built_in, with_own, store_of}
+use Rattle.sercos_law_run.proofs.Words.{◌≡◌, ℕ, Bool, true, false, not, ◌&&◌, List, [], ◌∷◌, ◌++◌, None, refl, sym, ap, ◌∙◌, arith, ◌≤◌, nat_le, nat_lt, cond, length, map, take, filter, list_all, and_from, and_parts, nat_tests, take_all, length-filter_both, is_built_in, blocks_fault, has_block, DriveView, Block, all_inserted, either_none, is_outside, list_bytes, idns_in, length_map, is_own_outside, built_in, with_own, store_of, cases_Bool, inl, inr}
 use Rattle.sercos_block.specs.Stores.{inserted}
 use Rattle.sercos_law_run.proofs.Start.BlockFinds.{first_is_new}
 use Rattle.sercos_law_run.proofs.Start.WellLemmas.{read_back}
@@ -106,11 +106,10 @@ all_own before (b ∷ own) none =
 
 both_tests : (blocks : List Block) → filter is_own_outside blocks ≡ filter is_outside (filter is_own blocks)
 both_tests [] = refl
-both_tests (b ∷ blocks) = by (is_built_in b.idn.raw) (both_tests blocks)
-  where
-    by : (x : Bool) → filter is_own_outside blocks ≡ filter is_outside (filter is_own blocks) → cond (not x && is_outside b) (b ∷ filter is_own_outside blocks) (filter is_own_outside blocks) ≡ filter is_outside (cond (not x) (b ∷ filter is_own blocks) (filter is_own blocks))
-    by true more = more
-    by false more = ap (λ (l : List Block). cond (is_outside b) (b ∷ l) l) more
+both_tests (b ∷ blocks) = elim (cases_Bool (is_built_in b.idn.raw)) [
+  | inl on ↦ rw on (both_tests blocks)
+  | inr off ↦ rw off (ap (λ (l : List Block). cond (is_outside b) (b ∷ l) l) (both_tests blocks))
+]
 
 own_sorted : (d : DriveView) → blocks_fault [] d.blocks ≡ None → filter is_own_outside (store_of d) ≡ filter is_outside (with_own [] d.blocks)
 unfolding store_of

@@ -1,6 +1,6 @@
 -- Where the master commands the next phase, a drive's check counts as passed: in every run in which nothing was unseen, if the drive doesn't
 -- restart in this very cycle.
-use Rattle.sercos_law_run.proofs.Words.{◌≡◌, inl, inr, ℕ, suc, ◌+◌, ◌<◌, ◌≤◌, Bool, true, false, not, List, [], ◌∷◌, length, Option, None, refl, sym, ap, ◌∙◌, subst, arith, if◌then◌else◌, is_some, cases_eq, and_parts, cond-false, ne_eqb, Job, blocks_fault, store_of, RingView, is_command, Reset, CommandHistory, with_call, first_passed_in, Processed, commands_with, Begun, annals, may_rise, reset_in, CycleView, member, known_of, tasks_for, is_checked, is_ready, outcomes_in, Past, outcomes, fall_of, is_done, is_done_in, each_passes, jobs_waiting, Carry, Restarts, View, standing, stood_in, processed_in, kept_in, command, begun_in, write_of, Stands, Down, stands, ends, Processes, Nothing, Record, processes, commanded, passes_by_setting, passes_last, stays_passed, stays_passed_last, drive_at, with_restart, given_before, middle, IsRun, IsClear, AreBegunTasks, behind_mdt, view_of, views_of, IsOpened, IsPassed, commands_ended, commands_before, CommandsFollow, transfers}
+use Rattle.sercos_law_run.proofs.Words.{◌≡◌, inl, inr, ℕ, suc, ◌+◌, ◌<◌, ◌≤◌, Bool, true, false, not, List, [], ◌∷◌, length, Option, None, refl, sym, ap, ◌∙◌, subst, arith, if◌then◌else◌, is_some, cases_eq, and_parts, cond-false, ne_eqb, Job, blocks_fault, store_of, RingView, is_command, Reset, CommandHistory, with_call, first_passed_in, Processed, commands_with, Begun, annals, may_rise, reset_in, CycleView, member, known_of, tasks_for, is_checked, is_ready, outcomes_in, Past, outcomes, fall_of, is_done, is_done_in, each_passes, jobs_waiting, Carry, Restarts, View, standing, stood_in, processed_in, kept_in, command, begun_in, write_of, Stands, Down, stands, ends, Processes, Nothing, Record, processes, commanded, passes_by_setting, passes_last, stays_passed, stays_passed_last, drive_at, with_restart, given_before, middle, IsRun, IsClear, AreBegunTasks, behind_mdt, view_of, views_of, IsOpened, IsPassed, commands_ended, commands_before, CommandsFollow, is_passed}
 use Rattle.sercos_law_run.proofs.Start.CheckPasses.{ring_drive}
 use Rattle.sercos_law_channel.specs.Handshake.Runs.{IsNext as IsNextView}
 use Rattle.sercos_law_channel.proofs.Theorems.{Moves, Stays}
@@ -13,11 +13,12 @@ use Rattle.sercos_law_run.proofs.Headline.HeadlineRuns.{first_store, stored_in, 
 use Rattle.sercos_law_run.proofs.Undisturbed.Checks.CheckLogs.{PassesIfSet, StaysIfCancelled, CountsBy}
 use Rattle.sercos_law_run.proofs.Undisturbed.Checks.CheckTasks.{IsCheckNewest, check_127, check_128}
 use Rattle.sercos_law_run.proofs.Undisturbed.Checks.CheckedViews.{check_counts}
-use Rattle.sercos_law_run.proofs.Undisturbed.Checks.CommandCalls.{keeps_before, counts_127, counts_128}
+use Rattle.sercos_law_run.proofs.Undisturbed.Checks.CommandCalls.{keeps_before, check_passed}
 use Rattle.sercos_law_run.proofs.Undisturbed.Checks.CommandRuns.{first_commands, AreCommandsSo}
 use Rattle.sercos_law_run.proofs.Undisturbed.JobsBegun.{wells}
 use Rattle.sercos_law_run.proofs.Undisturbed.Checks.WellGiven.{is_command_128}
 use Rattle.sercos_law_run.proofs.Cited.{begins_tasks}
+use Rattle.sercos_drive.specs.Moments.{calls_in}
 
 -- A drive that is a phase below the commanded one at the end of a cycle, and was so before, got no MST in it: so all stays.
 stays_below : (passed : CommandHistory → Option ℕ) (busy n : ℕ) (c : CommandHistory) (v : View) (past : List View) → IsNextView busy v past → CommandsFollow c (v ∷ past) → 1 ≤ n → v.phase ≡ n + 1 → (standing (v ∷ past)).ended ≡ n
@@ -111,7 +112,7 @@ module _ (r : RingView) (jobs : List Job) (carry : Carry) (restarts : Restarts) 
         → CountsBy passed (commands_ended (first_commands r k) (views_of r jobs carry restarts k (t ∷ j))) (suc (length (views_of r jobs carry restarts k j)))
     counts_so raw n passed sets stays command some phase on ended newest =
         let now = all_stand r jobs carry restarts opened (t ∷ j) run clear k below in
-        let counts = check_counts raw passed sets stays transfers (drive_at r k).busy (store_of (drive_at r k)) (small r jobs carry restarts opened (first_store r jobs carry restarts opened) k below) command
+        let counts = check_counts raw passed sets stays (drive_at r k).busy (store_of (drive_at r k)) (small r jobs carry restarts opened (first_store r jobs carry restarts opened) k below) command
         (first_commands r k) refl v (views_of r jobs carry restarts k j) now.sees.run now.sound (commands_so (t ∷ j) run clear k below).follow (omega (arith, phase, some)) on (λ zero_is. omega (arith, zero_is, ended, some))
         newest.one newest.older newest.bytes newest.split newest.asks newest.complete newest.well newest.away in
         let le = counts.2 in
@@ -154,10 +155,12 @@ module _ (r : RingView) (jobs : List Job) (carry : Carry) (restarts : Restarts) 
   pub passed_in : (t : CycleView) (j : List CycleView) → IsRun r jobs carry restarts (t ∷ j) → IsClear (t ∷ j) → (k : ℕ) → k < length r.drives → restarts (length j) (k + 1) ≡ false
       → IsPassed (view_of r jobs carry restarts k t j) (views_of r jobs carry restarts k j)
   passed_in t j run clear k below still late up = elim (cases_eq t.phase 3) [
-    | inl three ↦ for_3 three (counts_for_3 j run.0 clear.0 k below (sym (going 3 three (omega arith)) ∙ three) (let lower = up in omega (arith, lower, three)))
+    | inl three ↦ unrestarted ∙ at 3 three ∙ passed 127
+        (counts_for_3 j run.0 clear.0 k below (sym (going 3 three (omega arith)) ∙ three) (let lower = up in omega (arith, lower, three)))
     | inr other ↦
         let four : t.phase ≡ 4 = let most = high in omega (arith, late, other, most) in
-        for_4 four (counts_for_4 j run.0 clear.0 k below (sym (going 4 four (omega arith)) ∙ four) (let lower = up in omega (arith, lower, four)))
+        unrestarted ∙ at 4 four ∙ passed 128 (counts_for_4 j run.0 clear.0 k below (sym (going 4 four (omega arith)) ∙ four)
+        (let lower = up in omega (arith, lower, four)))
   ]
     where
       sees_run : IsNextView (drive_at r k).busy (view_of r jobs carry restarts k t j) (views_of r jobs carry restarts k j)
@@ -181,12 +184,10 @@ module _ (r : RingView) (jobs : List Job) (carry : Carry) (restarts : Restarts) 
       same : length (views_of r jobs carry restarts k j) ≡ length j
       same = views_count r jobs carry restarts k j
 
-      for_3 : t.phase ≡ 3 → CountsBy (first_passed_in 127) (commands_ended (first_commands r k) (views_of r jobs carry restarts k j)) (length (views_of r jobs carry restarts k j)) → (view_of r jobs carry restarts k t j).checked ≡ true
-      for_3 three (first, is, le) = unrestarted ∙ at 3 three
-          ∙ counts_127 (drive_at r k) r.rate (length j) first (annals (drive_at r k) r.rate (given_before carry restarts j k)) (keeps_before r carry restarts k j)
-          (ap (first_passed_in 127) (commands_so j run.0 clear.0 k below).behind ∙ is) (let long = same in omega (arith, le, long))
-
-      for_4 : t.phase ≡ 4 → CountsBy (first_passed_in 128) (commands_ended (first_commands r k) (views_of r jobs carry restarts k j)) (length (views_of r jobs carry restarts k j)) → (view_of r jobs carry restarts k t j).checked ≡ true
-      for_4 four (first, is, le) = unrestarted ∙ at 4 four
-          ∙ counts_128 (drive_at r k) r.rate (length j) first (annals (drive_at r k) r.rate (given_before carry restarts j k)) (keeps_before r carry restarts k j)
-          (ap (first_passed_in 128) (commands_so j run.0 clear.0 k below).behind ∙ is) (let long = same in omega (arith, le, long))
+      passed : (raw : ℕ) → CountsBy (first_passed_in raw) (commands_ended (first_commands r k) (views_of r jobs carry restarts k j))
+          (length (views_of r jobs carry restarts k j))
+          → is_passed r.rate (drive_at r k).command raw (calls_in (annals (drive_at r k) r.rate (given_before carry restarts j k)))
+          (length j) ≡ true
+      passed raw (first, is, le) = check_passed raw (drive_at r k) r.rate (length j) first
+          (annals (drive_at r k) r.rate (given_before carry restarts j k)) (keeps_before r carry restarts k j)
+          (ap (first_passed_in raw) (commands_so j run.0 clear.0 k below).behind ∙ is) (let long = same in omega (arith, le, long))

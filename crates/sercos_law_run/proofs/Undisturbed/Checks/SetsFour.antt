@@ -1,5 +1,5 @@
 -- A check for phase 4 that is set ends well, if no own block of the drive was outside its limits at opening.
-use Rattle.sercos_law_run.proofs.Words.{◌≡◌, ℕ, ◌<◌, ◌≤◌, Bool, true, false, List, [], ◌∷◌, length, map, Option, Some, None, refl, sym, ap, ◌∙◌, subst, arith, if◌then◌else◌, ◌==◌, IfSome, option_map, then_some, filter, list_any, eqb-true, false≢true, none_of-or, none_of-then, Attribute, Job, is_fixed, is_protected, blocks_fault, find_block, with_data, store_of, write_fault, data_fault, put_fault, are_ascending, DriveView, RingView, Block, is_outside, ends_well, Processed, Write, added_on, DriveCall, blocks_in, annals, CycleView, Carry, Restarts, is_own_outside, IsStoreOf, without_data, View, standing, stood_in, record_in, processed_in, kept_in, write_of, find-alike, Processes, Nothing, Record, processes, processed_phase, those_kept, those_since, those_moved, drive_at, given_mst, IsRun, IsClear, view_of, views_of, IsOpened, IsStored, allowed, attribute_of, unfit_for_phase_4}
+use Rattle.sercos_law_run.proofs.Words.{◌≡◌, ℕ, ◌<◌, ◌≤◌, Bool, true, false, List, [], ◌∷◌, length, map, Option, Some, None, refl, sym, ap, ◌∙◌, subst, arith, if◌then◌else◌, ◌==◌, IfSome, option_map, then_some, filter, list_any, eqb-true, false≢true, none_of-or, none_of-then, Attribute, Job, is_fixed, is_protected, blocks_fault, find_block, with_data, store_of, write_fault, data_fault, put_fault, are_ascending, DriveView, RingView, Block, is_outside, ends_well, Processed, Write, added_on, DriveCall, blocks_in, annals, CycleView, Carry, Restarts, is_own_outside, IsStoreOf, without_data, View, standing, stood_in, record_in, processed_in, kept_in, write_of, find-alike, Processes, Nothing, Record, processes, processed_phase, those_kept, those_since, those_moved, drive_at, given_mst, IsRun, IsClear, view_of, views_of, IsOpened, IsStored, allowed, attribute_of, unfit_for_phase_4, same_Some}
 use Rattle.sercos_law_run.proofs.Start.CheckPasses.{ring_drive}
 use Rattle.sercos_law_run.proofs.Start.LimitLemmas.{names_own}
 use Rattle.sercos_law_run.proofs.Held.Runs.{Stands, alike_so, drive_got, s_known}
@@ -10,18 +10,13 @@ use Rattle.sercos_law_run.proofs.Undisturbed.Checks.OwnFit.{none_any}
 use Rattle.sercos_law_run.proofs.Undisturbed.Checks.OwnInside.{no_data_fault, none_at, none_listed, own_stays, within}
 use Rattle.sercos_law_run.proofs.Undisturbed.Stops.RefusedCauses.{check_4, found_4}
 use Rattle.sercos_law_run.proofs.Start.LaterLemmas.{still_ascending}
-use Rattle.sercos_law_run.proofs.Start.KeptLemmas.{writes_keep}
+use Rattle.sercos_law_run.proofs.Start.KeptLemmas.{bare, writes_keep}
 
 -- PHASE 3 is the one in which the check for phase 4 can be set.
-bare_4 : (d : DriveView) (o : Option Block) (phase : ℕ) (bytes : List ℕ) → option_map without_data o ≡ Some (without_data (check_4 d)) → put_fault o phase bytes ≡ None → is_protected (check_4 d).attribute phase ≡ false
-bare_4 d None phase bytes alike allowed = absurd (cc)
-bare_4 d (Some b) phase bytes alike allowed =
-    let same : b.attribute ≡ (check_4 d).attribute = attribute_is (without_data b) (without_data (check_4 d)) alike in
-    let write = (none_of-or (write_fault (Some b) phase) (data_fault b bytes) allowed).0 in
-    ap (λ (x : Attribute). is_protected x phase) (sym same) ∙ none_of-then (is_protected b.attribute phase) 0x7005 (none_of-or (then_some (is_fixed b) 0x7004) (then_some (is_protected b.attribute phase) 0x7005) write).1
-  where
-    attribute_is : (x y : Block) → Some x ≡ Some y → x.attribute ≡ y.attribute
-    attribute_is x y e = cc
+attribute_left : (o : Option Block) (b : Block) → option_map without_data o ≡ Some (without_data b)
+    → option_map (λ (c : Block). c.attribute) o ≡ Some b.attribute
+attribute_left None b alike = absurd (cc)
+attribute_left (Some c) b alike = ap (λ (x : Block). Some x.attribute) (same_Some (without_data c) (without_data b) alike)
 
 in_three : (d : DriveView) (phase : ℕ) → is_protected (check_4 d).attribute phase ≡ false → phase ≡ 3
 unfolding attribute_of
@@ -101,8 +96,11 @@ module _ (r : RingView) (jobs : List Job) (carry : Carry) (restarts : Restarts) 
         by (Nothing nothing) = let no : Some w ≡ None = sym is ∙ ap (λ (o : Option Processed). write_of o (kept_in v past)) nothing in absurd (cc)
         by (Record s got came two some) =
             sym (processed_phase v past came (omega (arith, two)))
-            ∙ in_three (drive_at r k) (stood_in v (standing past)) (bare_4 (drive_at r k) (find_block 128 v.blocks) (stood_in v (standing past)) w.bytes
-            (find-alike 128 v.blocks (store_of (drive_at r k)) (check_4 (drive_at r k)) (alike_so (drive_at r k) v.blocks stored.1) (found_4 (drive_at r k) rules))
+            ∙ in_three (drive_at r k) (stood_in v (standing past))
+            (bare (find_block 128 v.blocks) (stood_in v (standing past)) w.bytes (check_4 (drive_at r k)).attribute
+            (attribute_left (find_block 128 v.blocks) (check_4 (drive_at r k))
+            (find-alike 128 v.blocks (store_of (drive_at r k)) (check_4 (drive_at r k)) (alike_so (drive_at r k) v.blocks stored.1)
+            (found_4 (drive_at r k) rules)))
             (ap (λ (n : ℕ). put_fault (find_block n v.blocks) (stood_in v (standing past)) w.bytes) (sym number) ∙ allowed_in))
 
 -- FROM PHASE 3 ON a drive's check for phase 4 names its own blocks that are outside their limits.

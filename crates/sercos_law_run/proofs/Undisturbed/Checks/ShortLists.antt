@@ -1,5 +1,5 @@
 -- The list of a check for phase 4 names at most 37 blocks: a drive's own ones, of which there are 36, and the cycle time.
-use Rattle.sercos_law_run.proofs.Words.{◌≡◌, inl, inr, ℕ, zero, suc, ◌+◌, ◌<◌, ◌≤◌, Bool, true, false, ◌||◌, List, [], ◌∷◌, ◌++◌, length, map, Option, Some, None, refl, sym, ap, ◌∙◌, subst, arith, if◌then◌else◌, ◌==◌, nat_lt, nat_le, is_some, slice_index_or, cond, cases_eq, false≢true, and_parts, leb-true, nat_tests, none-some, Job, built_in_block, row, Empty, is_ring, blocks_fault, find_block, is_below, is_above, put_fault, are_ascending, DriveView, RingView, Block, is_outside, list_bytes, blocks_in, annals, CycleView, Carry, Restarts, IsStoreOf, kept, AreListed, no_drive, drive_at, given_mst, views_of, built_in, is_drive, are_drives, has_blocks, with_own, store_of, unfit_for_phase_4, length_map}
+use Rattle.sercos_law_run.proofs.Words.{◌≡◌, inl, inr, ℕ, zero, suc, ◌+◌, ◌<◌, ◌≤◌, Bool, true, false, ◌||◌, List, [], ◌∷◌, ◌++◌, length, map, Option, Some, None, refl, sym, ap, ◌∙◌, subst, arith, if◌then◌else◌, ◌==◌, nat_lt, nat_le, is_some, slice_index_or, cond, cases_eq, false≢true, and_parts, leb-true, nat_tests, none-some, Job, built_in_block, row, Empty, is_ring, blocks_fault, find_block, is_below, is_above, put_fault, are_ascending, DriveView, RingView, Block, is_outside, list_bytes, blocks_in, annals, CycleView, Carry, Restarts, IsStoreOf, kept, AreListed, no_drive, drive_at, given_mst, views_of, built_in, is_drive, are_drives, has_blocks, with_own, store_of, unfit_for_phase_4, length_map, cases_Bool}
 use Rattle.std.proofs.Common.{filter}
 use Rattle.sercos_block.specs.Stores.{inserted}
 use Rattle.sercos_law_run.proofs.Start.BlockFinds.{find_store_of, kept_field}
@@ -51,24 +51,16 @@ one_limited d = refl
 
 limited_inserted : (b : Block) (blocks : List Block) → limited (inserted b blocks) ≤ suc (limited blocks)
 unfolding inserted
-limited_inserted b [] = by (is_limited b)
-  where
-    by : (x : Bool) → length (cond x (b ∷ []) []) ≤ 1
-    by true = omega arith
-    by false = omega arith
+limited_inserted b [] = elim (cases_Bool (is_limited b)) [ inl on ↦ rw on (omega arith) | inr off ↦ rw off (omega arith) ]
 limited_inserted b (c ∷ blocks) = by (nat_lt b.idn.raw c.idn.raw) (limited_inserted b blocks)
   where
     first : (x y : Bool) → length (cond x (b ∷ cond y (c ∷ filter is_limited blocks) (filter is_limited blocks)) (cond y (c ∷ filter is_limited blocks) (filter is_limited blocks))) ≤ suc (length (cond y (c ∷ filter is_limited blocks) (filter is_limited blocks)))
     first true y = omega arith
     first false y = omega arith
 
-    later : (y : Bool) → limited (inserted b blocks) ≤ suc (limited blocks) → length (cond y (c ∷ filter is_limited (inserted b blocks)) (filter is_limited (inserted b blocks))) ≤ suc (length (cond y (c ∷ filter is_limited blocks) (filter is_limited blocks)))
-    later true more = omega (arith, more)
-    later false more = more
-
     by : (less : Bool) → limited (inserted b blocks) ≤ suc (limited blocks) → limited (if less then b ∷ c ∷ blocks else c ∷ inserted b blocks) ≤ suc (limited (c ∷ blocks))
     by true more = first (is_limited b) (is_limited c)
-    by false more = later (is_limited c) more
+    by false more = elim (cases_Bool (is_limited c)) [ inl on ↦ rw on (omega (arith, more)) | inr off ↦ rw off more ]
 
 limited_own : (blocks own : List Block) → limited (with_own blocks own) ≤ limited blocks + length own
 unfolding with_own

@@ -27,7 +27,7 @@ abbrev LastHas : (List Block → Type 0) → List View → Type 0
 LastHas such [] = Unit {0}
 LastHas such (v ∷ past) = WasSet (all_entries (v ∷ past)) → such v.blocks
 
-since_so : (such : List Block → Type 0) (past : List View) → AreKept such past → HaveSince such (all_entries past) × LastHas such past
+pub since_so : (such : List Block → Type 0) (past : List View) → AreKept such past → HaveSince such (all_entries past) × LastHas such past
 since_so such [] kept = (tt, tt)
 since_so such (v ∷ past) kept = by (processes v past) (since_so such past kept.0)
   where
@@ -52,9 +52,6 @@ since_so such (v ∷ past) kept = by (processes v past) (since_so such past kept
         subst (λ (o : Option Processed). HaveSince such (accepted_of o (kept_in v past) (all_entries past)) × (WasSet (accepted_of o (kept_in v past) (all_entries past)) → such v.blocks)) (sym some)
         (one (beq s.mhs (ahs (kept_in v past))) (record { processed = record_in v (length past) (stood_in v (standing past)) s; answer = reply_of (record_in v (length past) (stood_in v (standing past)) s) (log_of (kept_in v past)) }) refl refl before.0
         (earlier past kept.2 before.1))
-
-pub have_since : (such : List Block → Type 0) (past : List View) → AreKept such past → HaveSince such (all_entries past)
-have_since such past kept = (since_so such past kept).0
 
 -- AT A STEP, if the check was set at one before it
 pub since_at : (such : List Block → Type 0) (front : List Entry) (e : Entry) (rest : List Entry) → HaveSince such (front ++ e ∷ rest) → WasSet rest → such e.processed.blocks

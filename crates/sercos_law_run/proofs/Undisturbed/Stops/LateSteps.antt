@@ -1,5 +1,5 @@
 -- The newest step of a request that is begun in phase 3 or later was accepted in such a phase.
-use Rattle.sercos_law_run.proofs.Words.{◌≡◌, inl, inr, ℕ, ◌+◌, ◌<◌, ◌≤◌, Bool, true, false, List, [], ◌∷◌, length, Option, Some, None, refl, sym, ap, ◌∙◌, subst, arith, if◌then◌else◌, length-append, none-some, is_some, cases_lt, beq, Job, Request, Idn, Answer, Step, RingView, Processed, Entry, ahs, accepted, answered, log_of, Begun, steps_begun, steps_in, step_at, with_step, answers_it, answer_in, with_answer, CycleView, Fall, reads_count, known_of, member, fall_of, Carry, Restarts, epoch_begun, begun_in, epoch_records, records_in_views, epoch_log, log_in, unless_restart, with_heard, with_begun, AreInStep, Idle, Kept, Heard, View, with_record, processed_in, IsRun, IsClear, behind_mdt, view_of, views_of, IsOpened, drive_at, length-steps_of, processes_in_phase}
+use Rattle.sercos_law_run.proofs.Words.{◌≡◌, inl, inr, ℕ, ◌+◌, ◌<◌, ◌≤◌, Bool, true, false, List, [], ◌∷◌, length, Option, Some, None, refl, sym, ap, ◌∙◌, subst, arith, if◌then◌else◌, length-append, none-some, is_some, cases_lt, beq, Job, Request, Idn, Answer, Step, RingView, Processed, Entry, ahs, accepted, answered, log_of, Begun, steps_begun, steps_in, step_at, with_step, answers_it, answer_in, with_answer, CycleView, Fall, reads_count, known_of, member, fall_of, Carry, Restarts, epoch_begun, begun_in, epoch_records, records_in_views, epoch_log, log_in, unless_restart, with_heard, with_begun, AreInStep, Idle, Kept, Heard, View, with_record, processed_in, IsRun, IsClear, behind_mdt, view_of, views_of, IsOpened, drive_at, length-steps_of, processes_in_phase, cases_Option}
 use Rattle.sercos_step.specs.declared.request.Request.TheVariants as request
 use Rattle.sercos_law_channel.specs.Handshake.InStep.{Sent}
 use Rattle.sercos_law_run.proofs.Headline.HeadlineRuns.{all_stand}
@@ -10,11 +10,7 @@ use Rattle.sercos_law_channel.proofs.Handshake.EpochRuns.{in_step}
 
 -- STEPS: an answer leaves those that were begun
 more_steps : (r : Request) (a : Answer) (h : List Answer) → length (steps_begun r h) ≤ length (steps_begun r (a ∷ h))
-more_steps r a h = by (step_at r (a ∷ h))
-  where
-    by : (o : Option Step) → length (steps_begun r h) ≤ length (with_step o (steps_begun r h))
-    by None = omega arith
-    by (Some s) = omega arith
+more_steps r a h = elim (cases_Option (step_at r (a ∷ h))) [ inl none ↦ rw none (omega arith) | inr (s, some) ↦ rw some (omega arith) ]
 
 heard_steps : (o : Option Heard) (begun : List Begun) → length (steps_in begun) ≤ length (steps_in (with_heard o begun))
 heard_steps None begun = omega arith
@@ -127,17 +123,10 @@ module _ (r : RingView) (jobs : List Job) (carry : Carry) (restarts : Restarts) 
 
   late_at : (j : List CycleView) → IsRun r jobs carry restarts j → IsClear j → ChecksLate (epoch_begun (views_of r jobs carry restarts k j)) (epoch_log (views_of r jobs carry restarts k j))
   late_at [] run clear = λ one older e rest begun many log steps. absurd (nothing_there one older begun)
-  late_at (t ∷ j) run clear = by (fall_of (known_of r) (behind_mdt r jobs carry restarts t.sent j)) refl (late_at j run.0 clear.0)
-    where
-      v : View
-      v = view_of r jobs carry restarts k t j
-
-      past : List View
-      past = views_of r jobs carry restarts k j
-
-      by : (o : Option Fall) → fall_of (known_of r) (behind_mdt r jobs carry restarts t.sent j) ≡ o → ChecksLate (epoch_begun past) (epoch_log past) → ChecksLate (epoch_begun (v ∷ past)) (epoch_log (v ∷ past))
-      by None stays before = subst (λ (fell : Bool). ChecksLate (if fell then [] else begun_in v past) (log_of (if fell then [] else records_in_views v past))) (sym (ap (λ (o : Option Fall). is_some o) stays)) (late_in_cycle t j run clear before)
-      by (Some f) falls before = subst (λ (fell : Bool). ChecksLate (if fell then [] else begun_in v past) (log_of (if fell then [] else records_in_views v past))) (sym (ap (λ (o : Option Fall). is_some o) falls)) (λ one older e rest begun many log steps. absurd (nothing_there one older begun))
+  late_at (t ∷ j) run clear = elim (cases_Option (fall_of (known_of r) (behind_mdt r jobs carry restarts t.sent j))) [
+    | inl stays ↦ rw stays (late_in_cycle t j run clear (late_at j run.0 clear.0))
+    | inr (f, falls) ↦ rw falls (λ one older e rest begun many log steps. absurd (nothing_there one older begun))
+  ]
 
   pub late_now : (t : CycleView) (j : List CycleView) → IsRun r jobs carry restarts (t ∷ j) → IsClear (t ∷ j)
       → ChecksLate (begun_in (view_of r jobs carry restarts k t j) (views_of r jobs carry restarts k j)) (log_in (view_of r jobs carry restarts k t j) (views_of r jobs carry restarts k j))

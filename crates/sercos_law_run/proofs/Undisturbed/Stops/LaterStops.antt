@@ -1,11 +1,11 @@
 -- In phase 3 the master stops for a check for phase 4 alone, and in phase 4 for nothing.
-use Rattle.sercos_law_run.proofs.Words.{◌≡◌, ◌⊎◌, inl, inr, ℕ, suc, ◌+◌, ◌<◌, ◌≤◌, Bool, true, false, ◌&&◌, List, [], ◌∷◌, ◌++◌, length, Option, Some, None, refl, sym, ap, ap₂, ◌∙◌, subst, arith, if◌then◌else◌, append_assoc, length-append, map, slice_get, is_some, take, unwrap_or, option_map, cases_lt, and_parts, cases_eq, false≢true, same_Some, filter, list_any, Code, Idn, Job, Outcome, Request, next_step, outcome_of, PlanView, Block, blocks_fault, find_block, store_of, with_own, DriveView, RingView, is_outside, write_cause_in, Begun, step_at, steps_begun, steps_in, begun_by, CycleView, Stop, idn, idns_in, reads, reads_count, writes, is_checked, is_ready, ended_well, given, bytes_of, outcomes_in, with_outcome, Known, Task, known_of, member, tasks_for, ended_there, reads_length, before_end, Past, outcomes, Carry, Restarts, begun_in, log_in, AreInStep, IsTransfer, Allows, drive_at, middle, IsRun, IsClear, AreNumbered, HasRefused, HasFailedCheck, HasEndedAt, IsTask, OfReads, OfWrites, Checks3, Lists3, Checks4, Lists4, OfWaiting, AreBegunTasks, behind_mdt, view_of, views_of, IsOpened, jobs_of, AreAt, StopsForTheCheck, not_longer, transfers, in_step_in, attribute_of}
+use Rattle.sercos_law_run.proofs.Words.{◌≡◌, ◌⊎◌, inl, inr, ℕ, suc, ◌+◌, ◌<◌, ◌≤◌, Bool, true, false, ◌&&◌, List, [], ◌∷◌, ◌++◌, length, Option, Some, None, refl, sym, ap, ap₂, ◌∙◌, subst, arith, if◌then◌else◌, append_assoc, length-append, map, slice_get, is_some, take, unwrap_or, option_map, cases_lt, and_parts, cases_eq, false≢true, same_Some, filter, list_any, Code, Idn, Job, Outcome, Request, next_step, outcome_of, PlanView, Block, blocks_fault, find_block, store_of, with_own, DriveView, RingView, is_outside, write_cause_in, Begun, step_at, steps_begun, steps_in, begun_by, CycleView, Stop, idn, idns_in, reads, reads_count, writes, is_checked, is_ready, ended_well, given, bytes_of, outcomes_in, with_outcome, Known, Task, known_of, member, tasks_for, ended_there, reads_length, before_end, Past, outcomes, Carry, Restarts, begun_in, log_in, AreInStep, IsTransfer, Allows, drive_at, middle, IsRun, IsClear, AreNumbered, HasRefused, HasFailedCheck, HasEndedAt, IsTask, OfReads, OfWrites, Checks3, Lists3, Checks4, Lists4, OfWaiting, AreBegunTasks, behind_mdt, view_of, views_of, IsOpened, jobs_of, AreAt, StopsForTheCheck, not_longer, in_step_in, attribute_of, cases_Option, cases_Bool}
 use Rattle.sercos_step.specs.declared.request.Outcome.TheVariants as outcome
 use Rattle.sercos_step.specs.declared.request.Request.TheVariants as request
 use Rattle.sercos_trace.specs.declared.events.Stop.TheVariants as stop
 use Rattle.sercos_law_run.proofs.Start.CheckPasses.{ring_drive}
 use Rattle.sercos_law_run.proofs.Agenda.ReadWell.{last_is}
-use Rattle.sercos_law_run.proofs.Agenda.Requests.{are_requests, numbered_drop}
+use Rattle.sercos_law_run.proofs.Agenda.Requests.{are_requests, all_numbered}
 use Rattle.sercos_law_run.proofs.Agenda.WritesDone.{some_at}
 use Rattle.sercos_law_run.proofs.Views.Members.{members_count}
 use Rattle.sercos_law_run.proofs.Held.Runs.{drive_got, small}
@@ -27,6 +27,7 @@ use Rattle.sercos_law_run.proofs.Undisturbed.Stops.StopsTold.{stops_right}
 use Rattle.sercos_law_run.proofs.Undisturbed.Arriving.Small.{first_is, never_both}
 use Rattle.sercos_law_run.proofs.Undisturbed.Answered.{outcome_unbroken}
 use Rattle.sercos_law_run.proofs.Cited.{check128_has_cause, left_of, refused_has_cause, tasks_end}
+use Rattle.sercos_law_run.proofs.Agenda.AgendaTasks.{late_waits}
 
 -- A request that was refused is no check that ended well.
 refused_badly : (outs : List Outcome) (code : Code) (i : ℕ) → ended_well (given (outs ++ outcome.Refused code ∷ []) i) ≡ true → i < length outs
@@ -91,14 +92,12 @@ module _ (r : RingView) (jobs : List Job) (carry : Carry) (restarts : Restarts) 
       | inr other ↦ let low = past_check in let high = few in at_list (omega (arith, low, high, other))
     ]
       where
-        low_phase : (behind_mdt r jobs carry restarts t.sent j).now.phase ≤ 3
-        low_phase = let same = phase_is in omega (arith, same, three)
-
         past_check : reads_count (member (known_of r) k) + 11 < length older
         past_check = let same = phase_is in passed (reads_count (member (known_of r) k) + 11) (all_checked_in (known_of r) (tasks_for (known_of r) jobs) (middle r carry restarts t.sent j) (omega (arith, same, three)) k there)
 
         places : AreAt (jobs_of (known_of r) (behind_mdt r jobs carry restarts t.sent j).plan k) (one ∷ older)
-        places = subst (AreAt (jobs_of (known_of r) (behind_mdt r jobs carry restarts t.sent j).plan k)) split (places_then r jobs carry restarts opened t j run clear k below low_phase)
+        places = subst (AreAt (jobs_of (known_of r) (behind_mdt r jobs carry restarts t.sent j).plan k)) split
+            (places_then r jobs carry restarts opened t j run clear k below (let same = phase_is in omega (arith, same, three)))
 
         made : (p : PlanView) × ((behind_mdt r jobs carry restarts t.sent j).plan ≡ Some p)
         made = some_plan (known_of r) k (behind_mdt r jobs carry restarts t.sent j).plan (one ∷ older) places (let low = past_check in omega (arith, low))
@@ -120,7 +119,7 @@ module _ (r : RingView) (jobs : List Job) (carry : Carry) (restarts : Restarts) 
         rules = (ring_drive r k (drive_at r k) opened.valid (drive_got r k below)).blocks
 
         refused : (ref : IsRefused (drive_at r k) one.request code t.phase) × (log_in (view_of r jobs carry restarts k t j) (views_of r jobs carry restarts k j) ≡ ref.e ∷ (ref.entries ++ ref.log))
-        refused = newest_refused transfers (drive_at r k).busy (drive_at r k)
+        refused = newest_refused (drive_at r k).busy (drive_at r k)
             (small r jobs carry restarts opened (first_store r jobs carry restarts opened) k below) (view_of r jobs carry restarts k t j)
             (views_of r jobs carry restarts k j) stands.sees.run stands.sound stands.stored one older code split ended
 
@@ -166,7 +165,12 @@ module _ (r : RingView) (jobs : List Job) (carry : Carry) (restarts : Restarts) 
                 let most = ref.between.0 in omega (arith, late, most, three)
 
     never_four : t.phase ≡ 4 → ⊥
-    never_four four = by are.1.by_then are.1.task
+    never_four four =
+        let (i, got) = late_waits (known_of r) k are.1.by_then ((behind_mdt r jobs carry restarts t.sent j).waiting k) (outcomes_in older)
+        task
+        past_check ready_before are.1.task in
+        false≢true (sym (ap (λ (o : Option ℕ). is_some o) startup) ∙ all_numbered (known_of r) (tasks_for (known_of r) jobs)
+        (middle r carry restarts t.sent j) (λ i. (are_requests (known_of r) jobs i).1) k i task got)
       where
         ready : is_ready (member (known_of r) k) (outcomes (behind_mdt r jobs carry restarts t.sent j) k) ≡ true
         ready = let same = phase_is in all_ready_in (known_of r) (tasks_for (known_of r) jobs) (middle r carry restarts t.sent j) (omega (arith, same, four)) k there
@@ -185,20 +189,6 @@ module _ (r : RingView) (jobs : List Job) (carry : Carry) (restarts : Restarts) 
         ready_before =
             let low = past_check in
             ap₂ (λ (a b : Bool). a && b) (well_before (reads_count (member (known_of r) k) + 11) (omega (arith, low)) both.0) (well_before (reads_count (member (known_of r) k) + 12) low both.1)
-
-        numbered : AreNumbered ((behind_mdt r jobs carry restarts t.sent j).waiting k)
-        numbered =
-            let left = left_of (known_of r) jobs (middle r carry restarts t.sent j) k in
-            subst AreNumbered (sym left.1) (numbered_drop left.0 (tasks_for (known_of r) jobs k) (are_requests (known_of r) jobs k).1)
-
-        by : (by_then : Option PlanView) → IsTask (known_of r) k by_then ((behind_mdt r jobs carry restarts t.sent j).waiting k) (outcomes_in older) task → ⊥
-        by by_then (OfReads x less got is) = let low = past_check in omega (arith, low, less)
-        by by_then (OfWrites p i x has less at got is) = let low = past_check in omega (arith, low, less, at)
-        by by_then (Checks3 p has at is) = let low = past_check in omega (arith, low, at)
-        by by_then (Lists3 at failed is) = let low = past_check in omega (arith, low, at)
-        by by_then (Checks4 at well is) = let low = past_check in omega (arith, low, at)
-        by by_then (Lists4 at failed is) = false≢true (sym failed ∙ ready_before)
-        by by_then (OfWaiting i at well got) = false≢true (sym (ap (λ (o : Option ℕ). is_some o) startup) ∙ numbered i task got)
 
   -- NO REFUSAL
   no_refusal : (t.phase ≡ 3) ⊎ (t.phase ≡ 4) → (address : ℕ) (i : Idn) (code : Code) → (behind_mdt r jobs carry restarts t.sent j).stop ≡ Some (stop.Refused address i code) → ⊥
@@ -236,17 +226,14 @@ module _ (r : RingView) (jobs : List Job) (carry : Carry) (restarts : Restarts) 
 
   -- A CHECK THAT HAS FAILED found an own block
   own_outside : t.phase ≡ 3 → (address : ℕ) (list : List Idn) (failed : HasFailedCheck (known_of r) (behind_mdt r jobs carry restarts t.sent j) 12 address list) → failed.place < length r.drives → list_any is_outside (drive_at r failed.place).blocks ≡ true
-  own_outside three address list failed low = by (list_any is_outside (drive_at r failed.place).blocks) refl
-    where
-      at : HasEndedAt (known_of r) failed.place (behind_mdt r jobs carry restarts t.sent j).plan ((behind_mdt r jobs carry restarts t.sent j).waiting failed.place) (behind_mdt r jobs carry restarts t.sent j).now.phase
-          (begun_by ((behind_mdt r jobs carry restarts t.sent j).calls failed.place)) (reads_count (member (known_of r) failed.place) + 12) (outcome.Complete failed.status)
-      at = tasks_end (known_of r) (tasks_for (known_of r) jobs) (middle r carry restarts t.sent j) failed.place (reads_count (member (known_of r) failed.place) + 12) (outcome.Complete failed.status) failed.there failed.complete
-
-      by : (b : Bool) → list_any is_outside (drive_at r failed.place).blocks ≡ b → list_any is_outside (drive_at r failed.place).blocks ≡ true
-      by true is = is
-      by false none =
-          let gives = check_gives_3 r jobs carry restarts opened failed.place low none t j run clear at.newer at.older at.one failed.status (split_at failed.place low 12 (outcome.Complete failed.status) at) (asks_at three failed.place low 12 (request.Command (idn 128)) (λ p. refl) (outcome.Complete failed.status) at) at.ended in
-          absurd (false≢true (sym failed.badly ∙ ap ended_well gives))
+  own_outside three address list failed low = elim (cases_Bool (list_any is_outside (drive_at r failed.place).blocks)) [
+    | inl is ↦ is
+    | inr none ↦
+        let at = tasks_end (known_of r) (tasks_for (known_of r) jobs) (middle r carry restarts t.sent j) failed.place
+        (reads_count (member (known_of r) failed.place) + 12) (outcome.Complete failed.status) failed.there failed.complete in
+        let gives = check_gives_3 r jobs carry restarts opened failed.place low none t j run clear at.newer at.older at.one failed.status (split_at failed.place low 12 (outcome.Complete failed.status) at) (asks_at three failed.place low 12 (request.Command (idn 128)) (λ p. refl) (outcome.Complete failed.status) at) at.ended in
+        absurd (false≢true (sym failed.badly ∙ ap ended_well gives))
+  ]
 
   -- THE LIST that the drive then gave has the numbers of these blocks.
   lists_own : t.phase ≡ 3 → (address : ℕ) (list : List Idn) (failed : HasFailedCheck (known_of r) (behind_mdt r jobs carry restarts t.sent j) 12 address list) → failed.place < length r.drives → list_any is_outside (drive_at r failed.place).blocks ≡ true
@@ -369,8 +356,5 @@ module _ (r : RingView) (jobs : List Job) (carry : Carry) (restarts : Restarts) 
       no_failed_check four address list.items (check128_has_cause (known_of r) (tasks_for (known_of r) jobs) (middle r carry restarts t.sent j) address list.items (λ i. (are_requests (known_of r) jobs i).1) is)
 
   pub no_stop_in_four : t.phase ≡ 4 → (behind_mdt r jobs carry restarts t.sent j).stop ≡ None
-  no_stop_in_four four = by (behind_mdt r jobs carry restarts t.sent j).stop refl
-    where
-      by : (o : Option Stop) → (behind_mdt r jobs carry restarts t.sent j).stop ≡ o → (behind_mdt r jobs carry restarts t.sent j).stop ≡ None
-      by None is = is
-      by (Some x) is = absurd (none_so four x is)
+  no_stop_in_four four =
+      elim (cases_Option (behind_mdt r jobs carry restarts t.sent j).stop) [ inl is ↦ is | inr (x, is) ↦ absurd (none_so four x is) ]

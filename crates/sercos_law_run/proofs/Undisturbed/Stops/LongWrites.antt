@@ -1,5 +1,5 @@
 -- A write of more than 1,024 bytes ends early: no block has room for them, and a drive refuses the word that says so.
-use Rattle.sercos_law_run.proofs.Words.{◌≡◌, inl, inr, ℕ, suc, ◌+◌, ◌*◌, ◌/◌, ◌<◌, ◌≤◌, Bool, true, false, ◌&&◌, ◌||◌, List, [], ◌∷◌, ◌++◌, length, Option, Some, None, refl, sym, ap, ap₂, ◌∙◌, subst, arith, if◌then◌else◌, ◌==◌, nat_le, nat_lt, option_map, slice_get, then_some, cases_eq, cond-true, cond-false, eqb-true, false≢true, nat_tests, same_Some, none_of-or, none_of-then, is_list, item_len, Attribute, Idn, Length, Request, Answer, Step, run, writing, steps_of, answer_words, words_of, at_least_one, words_told, shape_of, shape_by, length-words_of, length-at_least_one, is_fixed, is_protected, IsStore, find_block, Block, max_len_bound, Processed, Entry, open_idn, run_before, in_order, answer_by, is_first_word, ends_early, is_over, write_cause_in, reply_at, reply_of, without_data, replies_of, IsTransfer, AreSmall, find-alike, goes_on-outcome_of, newest_step, without_newest, only_opening, low_of, high_of, is_nil, long_words, length-in_order, says_shape, write_cause}
+use Rattle.sercos_law_run.proofs.Words.{◌≡◌, inl, inr, ℕ, suc, ◌+◌, ◌*◌, ◌/◌, ◌<◌, ◌≤◌, Bool, true, false, ◌&&◌, ◌||◌, List, [], ◌∷◌, ◌++◌, length, Option, Some, None, refl, sym, ap, ap₂, ◌∙◌, subst, arith, if◌then◌else◌, ◌==◌, nat_le, nat_lt, option_map, slice_get, then_some, cases_eq, cond-true, cond-false, eqb-true, false≢true, nat_tests, same_Some, none_of-or, none_of-then, is_list, item_len, Attribute, Idn, Length, Request, Answer, Step, run, writing, steps_of, answer_words, words_of, at_least_one, words_told, shape_of, shape_by, length-words_of, length-at_least_one, is_fixed, is_protected, IsStore, find_block, Block, max_len_bound, Processed, Entry, open_idn, run_before, in_order, answer_by, is_first_word, ends_early, is_over, write_cause_in, reply_at, reply_of, without_data, replies_of, IsTransfer, AreSmall, find-alike, goes_on-outcome_of, newest_step, without_newest, only_opening, low_of, high_of, is_nil, long_words, length-in_order, says_shape, write_cause, cases_Bool}
 use Rattle.sercos_idn.specs.declared.kinds.Length.TheVariants as len
 use Rattle.sercos_step.specs.declared.request.Request.TheVariants as request
 use Rattle.sercos_law_channel.proofs.Theorems.{told}
@@ -89,9 +89,6 @@ module _ (idn : Idn) (bytes : List ℕ) (long : 1024 < length bytes) (b : Block)
   never_word m low never d past log is good w more taken word rest those count opened before ordered at =
       never there.block taken word rest there.attribute there.max_len at ordered (not_over there.block d.processed.phase false (in_order taken (word ∷ [])) free)
     where
-      next : slice_get (steps_of asked (answer_words (replies_of past))) (length (answer_words (replies_of past))) ≡ Some d.processed.step
-      next = newest_step asked blocks log d past is
-
       goes : is_nil rest ≡ false
       goes =
           let known : length (told b bytes) ≡ length taken + suc (length rest) = ap (λ (l : List ℕ). length l) (sym ordered) ∙ length-in_order taken (word ∷ rest) in
@@ -103,7 +100,8 @@ module _ (idn : Idn) (bytes : List ℕ) (long : 1024 < length bytes) (b : Block)
 
       none : write_cause_in (find_block idn.raw d.processed.blocks) d.processed.phase (is_nil rest) (in_order taken (word ∷ [])) ≡ None
       none = no_cause _ 0 d.answer (is.replies.1 ∙ reply_word idn.raw word (is_nil rest) d.processed (past ++ log) taken
-          (write.next_word idn bytes b said (answer_words (replies_of past)) d.processed.step w more taken word rest those count ordered next) opened before) good
+          (write.next_word idn bytes b said (answer_words (replies_of past)) d.processed.step w more taken word rest those count ordered
+          (newest_step asked blocks log d past is)) opened before) good
 
       free : write_cause there.block d.processed.phase false (in_order taken (word ∷ [])) ≡ None
       free = ap₂ (λ (o : Option Block) (last : Bool). write_cause_in o d.processed.phase last (in_order taken (word ∷ []))) (sym there.is) (sym goes) ∙ none
@@ -141,11 +139,10 @@ module _ (idn : Idn) (bytes : List ℕ) (long : 1024 < length bytes) (b : Block)
       never_both (is_over c false (t.step.word ∷ word ∷ [])) (over_value c t.step.word word (ap (λ (a : Attribute). is_list a.length) attribute ∙ value)) free
 
   data_few : (e : Entry) (entries log : List Entry) → IsTransfer asked blocks e entries log → length entries ≤ 4
-  data_few e entries log is = by (is_list b.attribute.length) refl
-    where
-      by : (list : Bool) → is_list b.attribute.length ≡ list → length entries ≤ 4
-      by true list = let most = few 0 (omega arith) (list_never list) e entries log is in omega (arith, most)
-      by false value = few 1 (omega arith) (value_never value) e entries log is
+  data_few e entries log is = elim (cases_Bool (is_list b.attribute.length)) [
+    | inl list ↦ let most = few 0 (omega arith) (list_never list) e entries log is in omega (arith, most)
+    | inr value ↦ few 1 (omega arith) (value_never value) e entries log is
+  ]
 
 -- ANOTHER ELEMENT can't be written at all.
 second_of : (first : Step) (seven : Bool) (some others : List Step) (n : ℕ) (s : Step) → n ≡ 1 → seven ≡ false → slice_get (first ∷ (if seven then some else others)) n ≡ Some s → slice_get others 0 ≡ Some s
@@ -195,8 +192,7 @@ ends_soon blocks small store idn e bytes low long x entries log is = by (find_bl
   where
     by : (o : Option Block) → find_block idn.raw blocks ≡ o → length entries ≤ 4
     by None none = let empty = ap (λ (l : List Entry). length l) (only_opening (request.Write idn e bytes) blocks x entries log none is).0 in omega (arith, empty)
-    by (Some b) found = which (e == 7) refl
-      where
-        which : (seven : Bool) → (e == 7) ≡ seven → length entries ≤ 4
-        which true seven = data_few idn bytes long b (says_shape b (small idn.raw b found)) blocks found store x entries log (subst (λ (n : ℕ). IsTransfer (request.Write idn n bytes) blocks x entries log) (eqb-true e 7 seven) is)
-        which false other = let most = other_few idn e bytes blocks low other x entries log is in omega (arith, most)
+    by (Some b) found = elim (cases_Bool (e == 7)) [
+      | inl seven ↦ data_few idn bytes long b (says_shape b (small idn.raw b found)) blocks found store x entries log (subst (λ (n : ℕ). IsTransfer (request.Write idn n bytes) blocks x entries log) (eqb-true e 7 seven) is)
+      | inr other ↦ let most = other_few idn e bytes blocks low other x entries log is in omega (arith, most)
+    ]

@@ -6,6 +6,7 @@ use Rattle.sercos_law_run.proofs.Start.CauseLemmas.{causes_alike, cycle_cause, n
 use Rattle.sercos_law_channel.proofs.Theorems.{told}
 use Rattle.sercos_law_run.proofs.Undisturbed.Stops.RefusedSteps.{IsCaused}
 use Rattle.sercos_law_run.proofs.Undisturbed.Arriving.Small.{first_is}
+use Rattle.sercos_service_drive.proofs.WordLemmas.{words_of-bytes_in}
 
 -- WORDS
 -- the one word of a number
@@ -23,10 +24,6 @@ record StartsSo (x : ℕ) (l : List ℕ) : Type 0 where
 starts_so : (x : ℕ) (l rest ys : List ℕ) → 1 ≤ length l → l ++ rest ≡ x ∷ ys → StartsSo x l
 starts_so x [] rest ys some same = absurd (omega (arith, some))
 starts_so x (y ∷ l) rest ys some same = record { others = l; is = ap (λ (n : ℕ). n ∷ l) (first_is _ _ _ _ same).0 }
-
-words_back : (words : List ℕ) → length (words_of (bytes_in words)) ≡ length words
-words_back [] = refl
-words_back (w ∷ words) = ap (λ (n : ℕ). suc n) (words_back words)
 
 -- so this is the cause of a number's word
 abbrev word_of : ℕ → ℕ
@@ -63,7 +60,8 @@ module _ (d : DriveView) (rules : blocks_fault [] d.blocks ≡ None) (e : Entry)
   -- A LIST
   pub list_free : (raw : ℕ) (idns : List Idn) (b : Block) → e.processed.phase ≡ 2 → is_list b.attribute.length ≡ true → ((raw == 16) ≡ true) ⊎ ((raw == 24) ≡ true) → length idns ≤ 16 → IsCaused (idn raw) (bytes_in (map (λ i. i.raw) idns)) b e → ⊥
   list_free raw idns b two list which few c =
-      none-some e.answer.word (sym (list_has_no_cause d e.processed.blocks raw (length idns) (length first.others) first.others rules stored which few refl within) ∙ same_cause)
+      none-some e.answer.word (sym (list_has_no_cause d e.processed.blocks raw (length idns) (length first.others) first.others rules stored
+      which few refl (let sum = count in omega (arith, sum))) ∙ same_cause)
     where
       bytes : List ℕ
       bytes = bytes_in (map (λ (i : Idn). i.raw) idns)
@@ -71,11 +69,9 @@ module _ (d : DriveView) (rules : blocks_fault [] d.blocks ≡ None) (e : Entry)
       long : length bytes ≡ 2 * length idns
       long = let l = length-bytes_in (map (λ (i : Idn). i.raw) idns) in let m = length_map (λ (i : Idn). i.raw) idns in omega (arith, l, m)
 
-      told_is : told b bytes ≡ length bytes ∷ 0 ∷ words_of bytes
-      told_is = ap (λ s. words_told s bytes) (list_shape b.attribute.length list)
-
       joined : in_order c.before (c.word ∷ []) ++ c.rest ≡ length bytes ∷ 0 ∷ words_of bytes
-      joined = sym (in_order-append c.before (c.word ∷ []) c.rest) ∙ c.words ∙ told_is
+      joined = sym (in_order-append c.before (c.word ∷ []) c.rest) ∙ c.words
+          ∙ ap (λ s. words_told s bytes) (list_shape b.attribute.length list)
 
       first : StartsSo (length bytes) (in_order c.before (c.word ∷ []))
       first = starts_so (length bytes) (in_order c.before (c.word ∷ [])) c.rest (0 ∷ words_of bytes) (let l = length-in_order c.before (c.word ∷ []) in omega (arith, l)) joined
@@ -85,12 +81,9 @@ module _ (d : DriveView) (rules : blocks_fault [] d.blocks ≡ None) (e : Entry)
           let all = ap (λ (l : List ℕ). length l) joined in
           let parts = length-append (in_order c.before (c.word ∷ [])) c.rest in
           let head = ap (λ (l : List ℕ). length l) first.is in
-          let words = words_back (map (λ (i : Idn). i.raw) idns) in
+          let words = ap (λ (l : List ℕ). length l) (words_of-bytes_in (map (λ (i : Idn). i.raw) idns)) in
           let m = length_map (λ (i : Idn). i.raw) idns in
           omega (arith, all, parts, head, words, m)
-
-      within : length first.others < 2 + length idns
-      within = let sum = count in omega (arith, sum)
 
       last : (rest : List ℕ) (n m : ℕ) → n + length rest ≡ 1 + m → is_nil rest ≡ (n == 1 + m)
       last [] n m is = let same : (n == 1 + m) ≡ true = grind (arith, nat_tests, is) in sym same

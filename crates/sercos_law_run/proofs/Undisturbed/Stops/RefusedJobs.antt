@@ -1,12 +1,12 @@
 -- Of the requests of phase 2 a drive can refuse the write of the cycle time alone.
-use Rattle.sercos_law_run.proofs.Words.{◌≡◌, ◌⊎◌, inl, inr, ℕ, zero, suc, ◌+◌, ◌<◌, ◌≤◌, true, false, List, [], ◌∷◌, ◌++◌, ◌-◌, length, map, Option, Some, None, refl, sym, ap, ◌∙◌, subst, arith, ◌==◌, is_some, option_map, option_and_then, slice_get, slice_index, option_or, and_parts, cases_lt, false≢true, same_Some, Code, Idn, Request, bytes_in, PlanView, built_in_block, row, cyclic_len, number_len, blocks_fault, find_block, store_of, DriveView, Block, Zero, CycleTime, Empty, idn, declared_times, reads, reads_count, writes, writes_word, writes_list, Known, MemberView, member, member_of, write_cause_in, Allows, AreSmall, IsTransfer, is_start_number, jobs_of, says_shape, attribute_of, built_in, are_cyclic}
+use Rattle.sercos_law_run.proofs.Words.{◌≡◌, ◌⊎◌, inl, inr, ℕ, zero, suc, ◌+◌, ◌<◌, ◌≤◌, true, false, List, [], ◌∷◌, ◌++◌, ◌-◌, length, map, Option, Some, None, refl, sym, ap, ◌∙◌, subst, arith, ◌==◌, is_some, option_map, option_and_then, slice_get, slice_index, option_or, and_parts, cases_lt, false≢true, same_Some, Code, Idn, Request, bytes_in, PlanView, built_in_block, row, cyclic_len, number_len, blocks_fault, find_block, store_of, DriveView, Block, Zero, CycleTime, Empty, idn, declared_times, reads, reads_count, writes, writes_word, writes_list, Known, MemberView, member, member_of, write_cause_in, Allows, AreSmall, IsTransfer, is_start_number, jobs_of, says_shape, attribute_of, built_in, are_cyclic, cases_Option}
 use Rattle.sercos_step.specs.declared.request.Request.TheVariants as request
 use Rattle.sercos_law_run.proofs.Start.BlockFinds.{find_store_of, carry_alike}
 use Rattle.sercos_law_run.proofs.Agenda.AgendaTasks.{IsIn, First, After, is_in, mapped}
 use Rattle.sercos_law_run.proofs.Agenda.StopCauses.{element_asked}
 use Rattle.sercos_law_run.proofs.Held.AnsweredRuns.{IsRead, Time, Attribute, is_read_request}
 use Rattle.sercos_law_run.proofs.Undisturbed.JobPlaces.{reading, later}
-use Rattle.sercos_law_run.proofs.Undisturbed.Stops.RefusedSteps.{IsCaused, write_caused, attribute_reads_well, data_reads_well, command_well}
+use Rattle.sercos_law_run.proofs.Undisturbed.Stops.RefusedSteps.{IsCaused, write_caused, always_3, data_reads_well, reads_well, command_well}
 use Rattle.sercos_law_run.proofs.Undisturbed.Stops.RefusedCauses.{number_free, cycle_refused, list_free, check_free_3, check_3, allows_3, found_3}
 use Rattle.sercos_law_run.proofs.Undisturbed.Stops.RefusedRuns.{IsRefused, IsCycle}
 use Rattle.sercos_law_run.proofs.Undisturbed.Arriving.Small.{never_both}
@@ -37,18 +37,16 @@ module _ (d : DriveView) (rules : blocks_fault [] d.blocks ≡ None) (small : Ar
     (member_so : member s k ≡ member_of d) (cycle_small : s.cycle < 65536) (code : Code) where
   -- A READ is never refused.
   pub found_time : (raw : ℕ) → option_map (λ (b : Block). b.step) (find_block raw (built_in d)) ≡ Some 0 → (b : Block) × (find_block raw (store_of d) ≡ Some b)
-  found_time raw built = by (find_block raw (built_in d)) refl built
-    where
-      by : (o : Option Block) → find_block raw (built_in d) ≡ o → option_map (λ (b : Block). b.step) o ≡ Some 0 → (b : Block) × (find_block raw (store_of d) ≡ Some b)
-      by None is none = absurd (cc)
-      by (Some b) is there = (b, find_store_of raw d rules ∙ ap (λ (o : Option Block). option_or o (find_block raw d.blocks)) is)
+  found_time raw built = elim (cases_Option (find_block raw (built_in d))) [
+    | inl is ↦ let none = rw is at built in absurd (cc)
+    | inr (b, is) ↦ (b, find_store_of raw d rules ∙ ap (λ (o : Option Block). option_or o (find_block raw d.blocks)) is)
+  ]
 
   found_cyclic : (i : Idn) → is_some (cyclic_len d.blocks i.raw) ≡ true → (b : Block) × (find_block i.raw (store_of d) ≡ Some b)
-  found_cyclic i cyclic = by (find_block i.raw (store_of d)) refl (ap (λ (o : Option ℕ). is_some o) (carry_alike d (store_of d) rules refl i.raw) ∙ cyclic)
-    where
-      by : (o : Option Block) → find_block i.raw (store_of d) ≡ o → is_some (option_and_then (λ (b : Block). number_len b.attribute) o) ≡ true → (b : Block) × (find_block i.raw (store_of d) ≡ Some b)
-      by None is none = absurd (false≢true none)
-      by (Some b) is there = (b, is)
+  found_cyclic i cyclic = elim (cases_Option (find_block i.raw (store_of d))) [
+    | inl is ↦ absurd (false≢true (rw is at (ap (λ (o : Option ℕ). is_some o) (carry_alike d (store_of d) rules refl i.raw) ∙ cyclic)))
+    | inr (b, is) ↦ (b, is)
+  ]
 
   read_never : (n : ℕ) (q : Request) → slice_get (reads (member s k)) n ≡ Some q → IsRefused d q code 2 → ⊥
   read_never n q got ref = by (is_read_request (member s k) n q got)
@@ -61,7 +59,8 @@ module _ (d : DriveView) (rules : blocks_fault [] d.blocks ≡ None) (small : Ar
           let f = mapped (λ i. request.Read i 3) ((member s k).at ++ (member s k).mdt) j q is in
           let there : slice_get (d.at ++ d.mdt) j ≡ Some f.0 = sym (ap (λ (m : MemberView). slice_get (m.at ++ m.mdt) j) member_so) ∙ f.1 in
           let b = found_cyclic f.0 (cyclic_at d.blocks (d.at ++ d.mdt) j f.0 (cyclic_append d.blocks d.at d.mdt at mdt) there) in
-          never_both ref.e.answer.error ref.error (attribute_reads_well f.0 b.0 (store_of d) b.1 ref.e ref.entries ref.log (subst (λ (x : Request). IsTransfer x (store_of d) ref.e ref.entries ref.log) f.2 ref.transfer))
+          never_both ref.e.answer.error ref.error (reads_well f.0 3 b.0 (store_of d) b.1 refl always_3 ref.e ref.entries ref.log
+          (subst (λ (x : Request). IsTransfer x (store_of d) ref.e ref.entries ref.log) f.2 ref.transfer))
 
       by : IsRead q → ⊥
       by (Time raw built same) =
@@ -95,12 +94,6 @@ module _ (d : DriveView) (rules : blocks_fault [] d.blocks ≡ None) (small : Ar
   list_never raw idns q found which few same ref two =
       absurd (list_free d rules ref.e ref.stored raw idns (list_block d raw) two refl which few (caused_by raw (bytes_in (map (λ i. i.raw) idns)) (list_block d raw) q found same ref))
 
-  few_of_at : length (member s k).at ≤ 16
-  few_of_at = subst (λ (m : MemberView). length m.at ≤ 16) (sym member_so) few_at
-
-  few_of_mdt : length (member s k).mdt ≤ 16
-  few_of_mdt = subst (λ (m : MemberView). length m.mdt ≤ 16) (sym member_so) few_mdt
-
   write_is : (p : PlanView) (i : ℕ) (q : Request) → slice_get (writes s p k) i ≡ Some q → (ref : IsRefused d q code 2) → ref.e.processed.phase ≡ 2 → IsCycle d s.cycle q code
   unfolding built_in
   write_is p zero q got ref two = number_never 1 s.control q (find_store_of 1 d rules) refl (sym (same_Some _ q got)) ref two
@@ -111,8 +104,11 @@ module _ (d : DriveView) (rules : blocks_fault [] d.blocks ≡ None) (small : Ar
   write_is p (suc (suc (suc (suc (suc zero))))) q got ref two = number_never 9 (slice_index p.position k) q (find_store_of 9 d rules) refl (sym (same_Some _ q got)) ref two
   write_is p (suc (suc (suc (suc (suc (suc zero)))))) q got ref two = number_never 10 p.mdt_len q (find_store_of 10 d rules) refl (sym (same_Some _ q got)) ref two
   write_is p (suc (suc (suc (suc (suc (suc (suc zero))))))) q got ref two = number_never 15 7 q (find_store_of 15 d rules) refl (sym (same_Some _ q got)) ref two
-  write_is p (suc (suc (suc (suc (suc (suc (suc (suc zero)))))))) q got ref two = list_never 16 (member s k).at q (find_store_of 16 d rules) (inl refl) few_of_at (sym (same_Some _ q got)) ref two
-  write_is p (suc (suc (suc (suc (suc (suc (suc (suc (suc zero))))))))) q got ref two = list_never 24 (member s k).mdt q (find_store_of 24 d rules) (inr refl) few_of_mdt (sym (same_Some _ q got)) ref two
+  write_is p (suc (suc (suc (suc (suc (suc (suc (suc zero)))))))) q got ref two = list_never 16 (member s k).at q (find_store_of 16 d rules)
+      (inl refl) (subst (λ (m : MemberView). length m.at ≤ 16) (sym member_so) few_at) (sym (same_Some _ q got)) ref two
+  write_is p (suc (suc (suc (suc (suc (suc (suc (suc (suc zero))))))))) q got ref two = list_never 24 (member s k).mdt q
+      (find_store_of 24 d rules) (inr refl) (subst (λ (m : MemberView). length m.mdt ≤ 16) (sym member_so) few_mdt)
+      (sym (same_Some _ q got)) ref two
   write_is p (suc (suc (suc (suc (suc (suc (suc (suc (suc (suc zero)))))))))) q got ref two = number_never 89 p.t2 q (find_store_of 89 d rules) refl (sym (same_Some _ q got)) ref two
   write_is p (suc (suc (suc (suc (suc (suc (suc (suc (suc (suc (suc i))))))))))) q got ref two = absurd (cc)
 

@@ -1,5 +1,5 @@
 -- A request of the start-up that a drive refuses in phase 2 is the write of the cycle time, outside the drive's limits.
-use Rattle.sercos_law_run.proofs.Words.{◌≡◌, ◌⊎◌, ℕ, ◌+◌, ◌<◌, ◌≤◌, Bool, true, false, List, [], ◌∷◌, ◌++◌, Option, Some, None, refl, sym, ap, ◌∙◌, subst, arith, if◌then◌else◌, beq, Code, Request, Answer, answer_words, is_whole, result_of, outcome_of, bytes_in, row, store_of, DriveView, Processed, Entry, ahs, accepted, answered, writes_of, Begun, idn, command, command_in, epoch_records, unless_restart, begun_in, records_in_views, log_in, AreExact, replies_of, IsPart, Unsent, Unheard, HaveBlocks, IsTransfer, View, with_record, processed_in, AreSound, AreSmall, all_entries, Laws, epoch, cycle_exact, entries_ago, entries_in_epochs, IsStoreOf, AreStored, make_transfers, have_replies, processes_in_phase, IsViewRun}
+use Rattle.sercos_law_run.proofs.Words.{◌≡◌, ◌⊎◌, ℕ, ◌+◌, ◌<◌, ◌≤◌, Bool, true, false, List, [], ◌∷◌, ◌++◌, Option, Some, None, refl, sym, ap, ◌∙◌, subst, arith, if◌then◌else◌, beq, Code, Request, Answer, answer_words, is_whole, result_of, outcome_of, bytes_in, row, store_of, DriveView, Processed, Entry, ahs, accepted, answered, writes_of, Begun, idn, command, command_in, epoch_records, unless_restart, begun_in, records_in_views, log_in, AreExact, replies_of, IsPart, Unsent, Unheard, HaveBlocks, IsTransfer, View, with_record, processed_in, AreSound, AreSmall, all_entries, epoch, cycle_exact, entries_ago, entries_in_epochs, IsStoreOf, AreStored, make_transfers, have_replies, processes_in_phase, IsViewRun, cases_Bool, inl, inr}
 use Rattle.sercos_step.specs.declared.request.Request.TheVariants as request
 use Rattle.sercos_step.specs.declared.request.Outcome.TheVariants as outcome
 use Rattle.sercos_law_channel.specs.Handshake.Parts.{Heard}
@@ -21,23 +21,21 @@ between_more n m (t ∷ h) le are = (between_more n m h le are.0, (let low = are
 
 between_accepted : (n : ℕ) (h : List Processed) → AreBetween n h → AreBetween n (accepted h)
 between_accepted n [] are = tt
-between_accepted n (t ∷ h) are = by (beq t.mhs (ahs h)) (between_accepted n h are.0)
-  where
-    by : (b : Bool) → AreBetween n (accepted h) → AreBetween n (if b then accepted h else t ∷ accepted h)
-    by true more = more
-    by false more = (more, are.1)
+between_accepted n (t ∷ h) are = elim (cases_Bool (beq t.mhs (ahs h))) [
+  | inl on ↦ rw on (between_accepted n h are.0)
+  | inr off ↦ rw off ((between_accepted n h are.0), are.1)
+]
 
 newest_between : (n : ℕ) (h : List Processed) (e : Entry) (entries rest : List Entry) → answered h ≡ (e ∷ entries) ++ rest → AreBetween n h → IsBetween n e.processed
 newest_between n [] e entries rest same are = absurd (cc)
 newest_between n (t ∷ h) e entries rest same are = subst (λ (x : Entry). IsBetween n x.processed) (first_is _ _ _ _ same).0 are.1
 
 cycle_between : (v : View) (past : List View) → v.phase ≡ command_in v past → AreBetween (command past) (epoch_records past) → AreBetween v.phase (records_in_views v past)
-cycle_between v past commanded before = by (processed_in v past) refl (restarted v.master_restarts commanded)
+cycle_between v past commanded before = by (processed_in v past) refl (elim (cases_Bool v.master_restarts) [
+  | inl on ↦ rw on tt
+  | inr off ↦ rw off (between_more (command past) v.phase (epoch_records past) (omega (arith, (rw off at commanded))) before)
+])
   where
-    restarted : (b : Bool) → v.phase ≡ (if b then 0 else command past) → AreBetween v.phase (if b then [] else epoch_records past)
-    restarted true is = tt
-    restarted false is = between_more (command past) v.phase (epoch_records past) (omega (arith, is)) before
-
     by : (o : Option Processed) → processed_in v past ≡ o → AreBetween v.phase (unless_restart v (epoch_records past)) → AreBetween v.phase (with_record o (unless_restart v (epoch_records past)))
     by None none are = are
     by (Some t) some are = let is = processes_in_phase v past t some in (are, (let same = is.0 in omega (arith, same), is.2))
@@ -73,7 +71,7 @@ refused_is r a h code is = by a.error (is_whole r (answer_words h ++ a.word ∷ 
     by false true on is = absurd (cc)
     by false false on is = absurd (cc)
 
-module _ (laws : Laws) (busy : ℕ) (d : DriveView) (small : AreSmall (store_of d)) (v : View) (past : List View)
+module _ (busy : ℕ) (d : DriveView) (small : AreSmall (store_of d)) (v : View) (past : List View)
     (run : IsViewRun busy (v ∷ past)) (sound : AreSound (store_of d) (v ∷ past)) (stored : AreStored d (v ∷ past)) where
   have : HaveBlocks (store_of d) (log_in v past)
   have = (epoch (store_of d) busy (stays v ∷ past) (run.0, next_still busy v past run.1) sound).alike
@@ -83,7 +81,7 @@ module _ (laws : Laws) (busy : ℕ) (d : DriveView) (small : AreSmall (store_of 
   have_first (e ∷ part) rest are = (have_first part rest are.0, are.1)
 
   pub newest_refused : (one : Begun) (older : List Begun) (code : Code) → begun_in v past ≡ one ∷ older → outcome_of one.request one.answers ≡ Some (outcome.Refused code) → (ref : IsRefused d one.request code v.phase) × (log_in v past ≡ ref.e ∷ (ref.entries ++ ref.log))
-  newest_refused one older code split refused = by (subst (λ (l : List Begun). AreExact (store_of d) l (log_in v past) (writes_of (log_in v past))) split (cycle_exact (store_of d) busy laws small v past run sound))
+  newest_refused one older code split refused = by (subst (λ (l : List Begun). AreExact (store_of d) l (log_in v past) (writes_of (log_in v past))) split (cycle_exact (store_of d) busy small v past run sound))
     where
       by : AreExact (store_of d) (one ∷ older) (log_in v past) (writes_of (log_in v past)) → (ref : IsRefused d one.request code v.phase) × (log_in v past ≡ ref.e ∷ (ref.entries ++ ref.log))
       by (part, rest, own, others, of_entries, of_writes, is, behind) = which is.part_of

@@ -36,11 +36,9 @@ reply_word raw word last t all run is opened before =
     let writes : t.step.write ≡ true = ap (λ (s : Step). s.write) is in
     let seven : (t.step.element == 7) ≡ true = ap (λ (s : Step). s.element == 7) is in
     let runs : run_before t.step.write t.step.element all ≡ run = ap (λ (s : Step). run_before s.write s.element all) is ∙ before in
-    cond-false _ _ _ closed ∙ cond-false _ _ _ some ∙ at (open_idn all) (run_before t.step.write t.step.element all) opened runs ∙ cond-true _ _ _ writes
+    cond-false _ _ _ closed ∙ cond-false _ _ _ some ∙ ap₂ (λ (x : Option ℕ) (y : List Processed). reply_at x t y) opened runs
+    ∙ cond-true _ _ _ writes
     ∙ ap (λ (o : Option ℕ). answer_by o 0) (cond-true _ _ _ seven ∙ ap (λ (s : Step). write_cause_in (find_block raw t.blocks) t.phase s.last (in_order run (s.word ∷ []))) is)
-  where
-    at : (o : Option ℕ) (r : List Processed) → o ≡ Some raw → r ≡ run → reply_at o t r ≡ reply_on raw t run
-    at o r is_open is_run = ap₂ (λ (x : Option ℕ) (y : List Processed). reply_at x t y) is_open is_run
 
 -- A WRITE
 pub record IsCaused (idn : Idn) (bytes : List ℕ) (b : Block) (e : Entry) : Type 0 where
@@ -89,7 +87,7 @@ read_free None b e there same = absurd (cc)
 read_free (Some c) b e there same = cond_both (e == 1) None (then_some (is_none (element_of c e)) (0x1000 * e + 1))
     (λ v. v ≡ None) (λ on. refl) (λ off. rw (there c) refl)
 
-always_3 : (c : Block) → is_none (element_of c 3) ≡ false
+pub always_3 : (c : Block) → is_none (element_of c 3) ≡ false
 unfolding element_of
 always_3 c = refl
 
@@ -98,7 +96,8 @@ unfolding element_of
 always_7 c = refl
 
 module _ (idn : Idn) (element : ℕ) (b : Block) (blocks : List Block) (found : find_block idn.raw blocks ≡ Some b) (some : (element == 0) ≡ false) (there : (c : Block) → is_none (element_of c element) ≡ false) where
-  reads_well : (e : Entry) (entries log : List Entry) → IsTransfer (request.Read idn element) blocks e entries log → e.answer.error ≡ false
+  pub reads_well : (e : Entry) (entries log : List Entry) → IsTransfer (request.Read idn element) blocks e entries log
+      → e.answer.error ≡ false
   reads_well e entries log is = by (read.stage_before idn element b blocks found some e entries log is)
     where
       words : List ℕ
@@ -135,9 +134,6 @@ module _ (idn : Idn) (element : ℕ) (b : Block) (blocks : List Block) (found : 
           let free : read_cause idn.raw (selection e.processed taken) ≡ None =
           ap (read_cause idn.raw) (sym c.is) ∙ ap (λ (n : ℕ). missing idn.raw n c.entry.processed.blocks) named ∙ read_free (find_block idn.raw c.entry.processed.blocks) b element there (find-alike idn.raw c.entry.processed.blocks blocks b (c.alike is.alike.1) found) in
           ap (λ (a : Answer). a.error) (reply ∙ reply-read idn.raw element 0 _ e.processed (entries ++ log) taken some step opened before ∙ ap (λ (o : Option ℕ). answer_by o (slice_index (copy idn.raw (selection e.processed taken)) (length taken))) free)
-
-pub attribute_reads_well : (idn : Idn) (b : Block) (blocks : List Block) → find_block idn.raw blocks ≡ Some b → (e : Entry) (entries log : List Entry) → IsTransfer (request.Read idn 3) blocks e entries log → e.answer.error ≡ false
-attribute_reads_well idn b blocks found = reads_well idn 3 b blocks found refl always_3
 
 pub data_reads_well : (idn : Idn) (b : Block) (blocks : List Block) → find_block idn.raw blocks ≡ Some b → (e : Entry) (entries log : List Entry) → IsTransfer (request.Read idn 7) blocks e entries log → e.answer.error ≡ false
 data_reads_well idn b blocks found = reads_well idn 7 b blocks found refl always_7

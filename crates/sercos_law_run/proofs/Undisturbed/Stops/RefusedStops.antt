@@ -1,5 +1,5 @@
 -- A stop in phase 2 that comes of a refusal comes of the cycle time.
-use Rattle.sercos_law_run.proofs.Words.{◌≡◌, inl, inr, ℕ, ◌<◌, List, [], ◌∷◌, length, Some, sym, ap, ◌∙◌, subst, arith, cases_lt, Code, Idn, Job, Request, bytes_in, PlanView, RingView, Begun, begun_by, CycleView, asked_by, idn, reads_count, MemberView, known_of, member, tasks_for, Past, Carry, Restarts, begun_in, drive_at, middle, IsRun, IsClear, HasRefused, behind_mdt, view_of, views_of, IsOpened, jobs_of, AreAt, RefusesCycleTime, transfers}
+use Rattle.sercos_law_run.proofs.Words.{◌≡◌, inl, inr, ℕ, ◌<◌, List, [], ◌∷◌, length, Some, sym, ap, ◌∙◌, subst, arith, cases_lt, Code, Idn, Job, Request, bytes_in, PlanView, RingView, Begun, begun_by, CycleView, asked_by, idn, reads_count, MemberView, known_of, member, tasks_for, Past, Carry, Restarts, begun_in, drive_at, middle, IsRun, IsClear, HasRefused, behind_mdt, view_of, views_of, IsOpened, jobs_of, AreAt, RefusesCycleTime}
 use Rattle.sercos_step.specs.declared.request.Request.TheVariants as request
 use Rattle.sercos_trace.specs.declared.events.Stop.TheVariants as stop
 use Rattle.sercos_law_run.proofs.Start.CheckPasses.{KeepsRules, ring_drive}
@@ -55,7 +55,7 @@ module _ (r : RingView) (jobs : List Job) (carry : Carry) (restarts : Restarts) 
           stands = all_stand r jobs carry restarts opened (t ∷ j) run clear has.ended.place low
 
           ref : IsRefused (drive_at r has.ended.place) has.ended.one.request code t.phase
-          ref = (newest_refused transfers (drive_at r has.ended.place).busy (drive_at r has.ended.place)
+          ref = (newest_refused (drive_at r has.ended.place).busy (drive_at r has.ended.place)
               (small r jobs carry restarts opened (first_store r jobs carry restarts opened) has.ended.place low)
               (view_of r jobs carry restarts has.ended.place t j) (views_of r jobs carry restarts has.ended.place j) stands.sees.run
               stands.sound stands.stored has.ended.one has.ended.older code split has.ended.ended).0

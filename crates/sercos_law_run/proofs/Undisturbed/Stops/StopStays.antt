@@ -1,21 +1,12 @@
 -- A stop stays as long as the ring doesn't fall and the master doesn't restart.
-use Rattle.sercos_law_run.proofs.Words.{◌≡◌, ℕ, true, List, [], ◌∷◌, length, Option, Some, None, refl, sym, ◌∙◌, ap, is_some, slice_index, Job, RingView, Stop, CycleView, Known, known_of, Past, Call, after_at, first_trouble, with_due_plan, after_mdt, fall_of, due_stopped, stop_stays, Carry, Restarts, heard, passage, mst_in, ats_in, station_of, with_at, at_calls, looks_back, master_calls, own_mst, begins, at_start, behind_mdt, behind_ats}
+use Rattle.sercos_law_run.proofs.Words.{◌≡◌, ℕ, true, List, [], ◌∷◌, length, Option, Some, None, refl, sym, ◌∙◌, ap, is_some, slice_index, Job, RingView, Stop, CycleView, Known, known_of, Past, Call, after_at, first_trouble, with_due_plan, after_mdt, fall_of, due_stopped, stop_stays, Carry, Restarts, heard, passage, mst_in, ats_in, station_of, with_at, at_calls, looks_back, master_calls, own_mst, begins, at_start, behind_mdt, behind_ats, cases_Option, inl, inr}
 use Rattle.sercos_telegram.specs.declared.layout.Kind.TheVariants as kinds
 use Rattle.sercos_law_run.proofs.Undisturbed.PhaseCounts.{end_kept}
 use Rattle.sercos_law_run.proofs.Undisturbed.Arriving.AfterAt.{after_at_so}
+pub use Rattle.sercos_law_run.proofs.Undisturbed.Arriving.AfterAt.{ats_same}
 
 at_stop : (s : Known) (content : List ℕ) (p : Past) → (after_at s content p).stop ≡ p.stop
 at_stop s content p = after_at_so (λ q. q.stop ≡ p.stop) s content p refl (λ k. refl)
-
--- what no AT changes is the same after all of them
-pub ats_same : {A : Type 0} (f : Past → A) → ((s : Known) (content : List ℕ) (p : Past) → f (after_at s content p) ≡ f p) → (r : RingView) (jobs : List Job) (carry : Carry) (cycle : ℕ) (ats : List (List ℕ)) (h : List Call)
-    → f (looks_back r jobs (at_calls r carry cycle ats h)) ≡ f (looks_back r jobs h)
-ats_same f same r jobs carry cycle [] h = refl
-ats_same f same r jobs carry cycle (at ∷ ats) h = ats_same f same r jobs carry cycle ats _ ∙ by (heard carry (passage cycle kinds.At (station_of r (slice_index at 0)) 0) at)
-  where
-    by : (o : Option (List ℕ)) → f (looks_back r jobs (with_at o h)) ≡ f (looks_back r jobs h)
-    by None = refl
-    by (Some content) = same (known_of r) content (looks_back r jobs h)
 
 pub ats_stop : (r : RingView) (jobs : List Job) (carry : Carry) (cycle : ℕ) (ats : List (List ℕ)) (h : List Call) → (looks_back r jobs (at_calls r carry cycle ats h)).stop ≡ (looks_back r jobs h).stop
 ats_stop = ats_same (λ (p : Past). p.stop) at_stop
@@ -34,11 +25,10 @@ module _ (r : RingView) (jobs : List Job) (carry : Carry) (restarts : Restarts) 
 
   pub none_before : (t : CycleView) (j : List CycleView) → at_start r jobs carry restarts j ≡ looks_back r jobs (master_calls r carry restarts j) → (behind_mdt r jobs carry restarts t.sent j).stop ≡ None
       → (looks_back r jobs (master_calls r carry restarts j)).stop ≡ None
-  none_before t j same none = by (looks_back r jobs (master_calls r carry restarts j)).stop refl
-    where
-      by : (o : Option Stop) → (looks_back r jobs (master_calls r carry restarts j)).stop ≡ o → (looks_back r jobs (master_calls r carry restarts j)).stop ≡ None
-      by None is = is
-      by (Some x) is = let both : None ≡ Some x = sym none ∙ stop_kept t j same (ap (λ (o : Option Stop). is_some o) is) ∙ is in absurd (cc)
+  none_before t j same none = elim (cases_Option (looks_back r jobs (master_calls r carry restarts j)).stop) [
+    | inl is ↦ is
+    | inr (x, is) ↦ let both : None ≡ Some x = sym none ∙ stop_kept t j same (ap (λ (o : Option Stop). is_some o) is) ∙ is in absurd (cc)
+  ]
 
   -- and to its end
   pub stop_after : (t : CycleView) (j : List CycleView) → fall_of (known_of r) (behind_mdt r jobs carry restarts t.sent j) ≡ None

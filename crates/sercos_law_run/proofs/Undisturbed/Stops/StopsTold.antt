@@ -1,5 +1,5 @@
 -- Each stop was told in the record of a cycle of the run, so it is there for its cause.
-use Rattle.sercos_law_run.proofs.Words.{◌≡◌, ◌⊎◌, inl, inr, ◌+◌, Bool, true, false, List, [], ◌∷◌, length, Option, Some, None, refl, sym, ap, ◌∙◌, subst, if◌then◌else◌, is_some, option_or, false≢true, none-some, Job, RingView, CycleView, EventsView, Fall, Stop, Known, known_of, Past, after_mdt, fall_of, is_done, still_waiting, new_epoch, goes_on, after_end, stop_told, restart_told, settled_keeps, Carry, Restarts, mst_in, ats_in, own_mst, begins, master_calls, looks_back, no_events, IsNext, IsRun, IsClear, at_start, behind_ats, behind_mdt, IsOpened, StopsRight, HasTold}
+use Rattle.sercos_law_run.proofs.Words.{◌≡◌, ◌⊎◌, inl, inr, ◌+◌, Bool, true, false, List, [], ◌∷◌, length, Option, Some, None, refl, sym, ap, ◌∙◌, subst, if◌then◌else◌, is_some, option_or, false≢true, none-some, Job, RingView, CycleView, EventsView, Fall, Stop, Known, known_of, Past, after_mdt, fall_of, is_done, still_waiting, new_epoch, goes_on, after_end, stop_told, restart_told, settled_keeps, Carry, Restarts, mst_in, ats_in, own_mst, begins, master_calls, looks_back, no_events, IsNext, IsRun, IsClear, at_start, behind_ats, behind_mdt, IsOpened, StopsRight, HasTold, cases_Option}
 use Rattle.sercos_law_run.proofs.Views.MasterSame.{begun_cycle}
 use Rattle.sercos_law_run.proofs.Views.ViewRuns.{started}
 use Rattle.sercos_law_run.proofs.Headline.HeadlineRuns.{keeps_all}
@@ -47,21 +47,19 @@ module _ (r : RingView) (jobs : List Job) (carry : Carry) (restarts : Restarts) 
   pub stop_at : (t : CycleView) (j : List CycleView) (x : Stop) (Before : Type 0) → IsNext r jobs carry restarts t j
       → ((looks_back r jobs (master_calls r carry restarts j)).stop ≡ Some x → Before)
       → (behind_mdt r jobs carry restarts t.sent j).stop ≡ Some x → (t.events.stop ≡ Some x) ⊎ Before
-  stop_at t j x Before next before is = by (at_start r jobs carry restarts j).stop refl
-    where
-      by : (o : Option Stop) → (at_start r jobs carry restarts j).stop ≡ o → (t.events.stop ≡ Some x) ⊎ Before
-      by None none = inl (fresh t j x next none is)
-      by (Some y) had =
-          let there : is_some (behind_ats r jobs carry restarts t.sent j).stop ≡ true = ap (λ (o : Option Stop). is_some o) (ats_kept t j ∙ had) in
-          inr (before (begun_stop j x (sym (ats_kept t j) ∙ sym (mdt_stop (known_of r) (behind_ats r jobs carry restarts t.sent j) there) ∙ is)))
+  stop_at t j x Before next before is = elim (cases_Option (at_start r jobs carry restarts j).stop) [
+    | inl none ↦ inl (fresh t j x next none is)
+    | inr (y, had) ↦
+        let there : is_some (behind_ats r jobs carry restarts t.sent j).stop ≡ true = ap (λ (o : Option Stop). is_some o) (ats_kept t j ∙ had) in
+        inr (before (begun_stop j x (sym (ats_kept t j) ∙ sym (mdt_stop (known_of r) (behind_ats r jobs carry restarts t.sent j) there) ∙ is)))
+  ]
 
   at_end : (j : List CycleView) (x : Stop) → IsRun r jobs carry restarts j → (looks_back r jobs (master_calls r carry restarts j)).stop ≡ Some x → HasTold x j
   at_end [] x run is = none-some x is
-  at_end (t ∷ j) x run is = by (fall_of (known_of r) (behind_mdt r jobs carry restarts t.sent j)) refl (at_end j x run.0)
-    where
-      by : (o : Option Fall) → fall_of (known_of r) (behind_mdt r jobs carry restarts t.sent j) ≡ o → ((looks_back r jobs (master_calls r carry restarts j)).stop ≡ Some x → HasTold x j) → HasTold x (t ∷ j)
-      by None stays before = stop_at t j x (HasTold x j) run.1 before (sym (stop_after r jobs carry restarts t j stays) ∙ is)
-      by (Some f) falls before = absurd (none-some x (sym (fallen_stop (known_of r) (behind_mdt r jobs carry restarts t.sent j) f falls) ∙ is))
+  at_end (t ∷ j) x run is = elim (cases_Option (fall_of (known_of r) (behind_mdt r jobs carry restarts t.sent j))) [
+    | inl stays ↦ stop_at t j x (HasTold x j) run.1 (at_end j x run.0) (sym (stop_after r jobs carry restarts t j stays) ∙ is)
+    | inr (f, falls) ↦ absurd (none-some x (sym (fallen_stop (known_of r) (behind_mdt r jobs carry restarts t.sent j) f falls) ∙ is))
+  ]
 
   -- THE STOP after the MDT's place was told.
   pub stop_told_in : (t : CycleView) (j : List CycleView) (x : Stop) → IsRun r jobs carry restarts (t ∷ j) → (behind_mdt r jobs carry restarts t.sent j).stop ≡ Some x → HasTold x (t ∷ j)
@@ -70,11 +68,10 @@ module _ (r : RingView) (jobs : List Job) (carry : Carry) (restarts : Restarts) 
 -- What is told is right.
 told_right : (r : RingView) (jobs : List Job) (carry : Carry) (restarts : Restarts) → IsOpened r jobs → (j : List CycleView) (x : Stop) → IsRun r jobs carry restarts j → IsClear j → HasTold x j → StopsRight r (Some x)
 told_right r jobs carry restarts opened [] x run clear told = absurd told
-told_right r jobs carry restarts opened (t ∷ j) x run clear told = by told (told_right r jobs carry restarts opened j x run.0 clear.0)
-  where
-    by : (t.events.stop ≡ Some x) ⊎ HasTold x j → (HasTold x j → StopsRight r (Some x)) → StopsRight r (Some x)
-    by (inl here) rest = subst (StopsRight r) here (keeps_all r jobs carry restarts opened t j run clear).stops
-    by (inr there) rest = rest there
+told_right r jobs carry restarts opened (t ∷ j) x run clear told = elim told [
+  | inl here ↦ subst (StopsRight r) here (keeps_all r jobs carry restarts opened t j run clear).stops
+  | inr there ↦ (told_right r jobs carry restarts opened j x run.0 clear.0) there
+]
 
 pub stops_right : (r : RingView) (jobs : List Job) (carry : Carry) (restarts : Restarts) → IsOpened r jobs
     → (t : CycleView) (j : List CycleView) (x : Stop) → IsRun r jobs carry restarts (t ∷ j) → IsClear (t ∷ j)

@@ -13,7 +13,6 @@ use Rattle.sercos_law_run.proofs.recovery_laws.recovery_law.Goals as goal
 
 pub returns : goal.returns
 returns c =
-    let calm = c.undisturbed_law.ensures in
     record {
       up_or_down = λ r jobs carry restarts cycles first before opened run clear stretch k below.
           keeps_up r jobs carry restarts opened cycles first before run clear stretch k below;
@@ -32,11 +31,8 @@ returns c =
       comes_back = λ r jobs carry restarts t cycles first before opened run clear stretch late up long.
           comes_back r jobs carry restarts opened first before late up (41 * (slowest r.drives + 2))
           (lasts_with_list r jobs carry restarts opened) t cycles run clear stretch long;
-      after_fall = after_fall calm.fall calm.restart calm.tells calm.rises calm.at_end calm.outcome calm.ages calm.answers calm.reports calm.stays;
+      after_fall = after_fall;
       predicts = λ r jobs carry restarts t j opened run clear.
           is_predicted r jobs carry restarts opened t j run clear;
-      recovers = λ r jobs carry restarts t j opened run clear.
-          recovers_in r jobs carry restarts opened calm.outcome calm.rises calm.stays calm.fall
-          (after_fall calm.fall calm.restart calm.tells calm.rises calm.at_end calm.outcome calm.ages calm.answers calm.reports calm.stays)
-          t j run clear;
+      recovers = λ r jobs carry restarts t j opened run clear. recovers_in r jobs carry restarts opened t j run clear;
     }

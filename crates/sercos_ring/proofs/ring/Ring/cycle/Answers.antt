@@ -11,11 +11,11 @@ returns g c =
       record {
         after = tt;
         next = next;
-        headline = keeps_lent g.L.BitLink.carry g.L.BitLink.restart c.args.self.now c.deref.result.now c.cycle_laws.ensures.headline next;
-        undisturbed = starts_lent g.L.BitLink.carry g.L.BitLink.restart c.args.self.now c.deref.result.now c.cycle_laws.ensures.undisturbed next;
-        recovers = recovers_lent g.L.BitLink.carry g.L.BitLink.restart c.args.self.now c.deref.result.now c.cycle_laws.ensures.recovers next;
-        bears = bears_lent g.L.BitLink.carry g.L.BitLink.restart c.args.self.now c.deref.result.now c.cycle_laws.ensures.bears next;
-        returns = returns_lent g.L.BitLink.carry g.L.BitLink.restart c.args.self.now c.deref.result.now c.cycle_laws.ensures.returns next;
-        stations = stations_lent g.L.BitLink.carry g.L.BitLink.restart c.args.self.now c.deref.result.now c.cycle_laws.ensures.plain c.cycle_laws.ensures.falls c.cycle_laws.ensures.alone next;
+        headline = keeps_lent g.L.BitLink.carry g.L.BitLink.restart c.args.self.now c.deref.result.now c.headline_law.ensures next;
+        undisturbed = starts_lent g.L.BitLink.carry g.L.BitLink.restart c.args.self.now c.deref.result.now c.undisturbed_law.ensures.starts next;
+        recovers = recovers_lent g.L.BitLink.carry g.L.BitLink.restart c.args.self.now c.deref.result.now c.recovery_law.ensures.recovers next;
+        bears = bears_lent g.L.BitLink.carry g.L.BitLink.restart c.args.self.now c.deref.result.now c.tolerance_law.ensures.tolerates next;
+        returns = returns_lent g.L.BitLink.carry g.L.BitLink.restart c.args.self.now c.deref.result.now c.tolerance_law.ensures.returns next;
+        stations = stations_lent g.L.BitLink.carry g.L.BitLink.restart c.args.self.now c.deref.result.now c.station_law.ensures.plain c.fall_law.ensures.causes c.station_law.ensures.alone next;
       },
     )
