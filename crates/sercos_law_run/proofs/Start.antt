@@ -1,3 +1,4 @@
+pub mod Nested
 pub mod BlockFinds
 pub mod Lengths
 pub mod PlanNumbers

@@ -21,6 +21,7 @@ pub mod Spared
 pub mod InARow
 pub mod Reported
 pub mod DownSparse
+pub mod Since
 pub mod BearsSparse
 pub mod Calm
 pub mod Tolerates

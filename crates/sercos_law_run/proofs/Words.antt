@@ -1,5 +1,5 @@
 -- The words that the proofs speak in, of std, of the crates below and of this crate's specs, each under one name.
-pub use Rattle.sercos_law_channel.proofs.Options.{cases_Option}
+pub use Rattle.sercos_law_channel.proofs.Options.{all_at as each_at, cases_Option, some_there}
 pub use Rattle.std.proofs.Common.{Bool, Err, List, None, Ok, Option, Result, Some, [], ap, append-nil, append_assoc, ap₂, arith, cond, drop, false, get_or, if◌then◌else◌, inl, inr, length, length-append, map, max, not, refl, replicate, subst, suc, sym, take, true, zero, ℕ, ◌%◌, ◌&&◌, ◌*◌, ◌++◌, ◌+◌, ◌-◌, ◌/◌, ◌<◌, ◌^◌, ◌||◌, ◌↔◌, ◌∙◌, ◌∷◌, ◌≡◌, ◌≢◌, ◌≤◌, ◌⊎◌}
 pub use Rattle.std.proofs.Math.Nat.{le_of_mul-le-mul_left, mul-le-mul_left}
 pub use Rattle.std.proofs.Math.Seq.{drop-append-add, drop-append_seam, take-append_seam}
@@ -18,7 +18,7 @@ pub use Rattle.std.proofs.lemmas.Option.{get_or_from_slice_get, none-some, same_
 pub use Rattle.std.proofs.Math.Bool.{or_self_left}
 pub use Rattle.std.specs.Bool.{then_some}
 pub use Rattle.std.specs.Int.{from_le_bytes, to_le_bytes, w16, w32}
-pub use Rattle.std.specs.List.{All, AllPairs, concat, filter, find, flat_map, fold, last_or, list_all, list_any, position, position_or_len, sum, sum_by}
+pub use Rattle.std.specs.List.{All, AllByRecursion, AllPairs, concat, filter, find, flat_map, fold, last_or, list_all, list_any, position, position_or_len, sum, sum_by}
 pub use Rattle.std.specs.Option.{option_or}
 pub use Rattle.std.specs.Prelude.{IfOk, IfSome, IsSome, OnErr, is_none, is_some, min, nat_le, nat_lt, negsuc, option_and_then, option_map, pos, slice_get, slice_index, slice_index_or, unwrap_or, ◌+ℤ◌, ◌==◌}
 pub use mathlib.Core.Bool.{beq}
@@ -28,7 +28,7 @@ unfoldable pub use Rattle.sercos_model.specs.Bits.{AreBytes}
 pub use Rattle.sercos_model.specs.Frames.{IsFrame, wire_bits}
 pub use Rattle.sercos_hdlc.proofs.FramingLemmas.{IsFrame-framed, length-IsFrame, no_longer_frame}
 pub use Rattle.sercos_hdlc.proofs.ReasonLemmas.{IsFrame-reason_none, reason_of-IsFrame}
-pub use Rattle.sercos_hdlc.specs.Reason.{plain, reason_of}
+pub use Rattle.sercos_hdlc.specs.Reason.{content_of as content_read, plain, reason_of}
 unfoldable pub use Rattle.sercos_hdlc.specs.Stuffed.{frame_of}
 pub use Rattle.sercos_hdlc.specs.declared.bad_frame.BadFrame.{BadFrame}
 pub use Rattle.sercos_telegram.proofs.Spellings.{head_fault-none}
@@ -41,7 +41,7 @@ pub use Rattle.sercos_telegram.specs.Words.{control_element, has}
 unfoldable pub use Rattle.sercos_telegram.specs.Words.{control_of, status_of}
 pub use Rattle.sercos_telegram.specs.declared.layout.Kind.{Kind}
 pub use Rattle.sercos_telegram.specs.declared.layout.Layout.{Layout}
-pub use Rattle.sercos_telegram.specs.declared.layout.Layout.TheVariants.{Address}
+pub use Rattle.sercos_telegram.specs.declared.layout.Layout.TheVariants.{Address, Length as LengthFault}
 pub use Rattle.sercos_telegram.specs.declared.words.Status.{Status}
 pub use Rattle.sercos_idn.proofs.AttributeLemmas.{attribute_fault-attribute_word, attribute_of-attribute_word, attribute_word-below}
 pub use Rattle.sercos_idn.specs.Attributes.{attribute_word}
@@ -74,13 +74,13 @@ pub use Rattle.sercos_block.specs.Blocks.{bits_in, bytes_for, is_fixed, is_numbe
 unfoldable pub use Rattle.sercos_block.specs.Blocks.{element_of}
 pub use Rattle.sercos_block.specs.BuiltIns.{built_in_block, built_ins, is_built_in, opening_limit, row}
 unfoldable pub use Rattle.sercos_block.specs.BuiltIns.{built_in}
-pub use Rattle.sercos_block.specs.Rings.{HasLens, cyclic_len, has_drive_numbers, has_ring_numbers, is_no_command, number_len, record_len, value_len, wish_of}
-unfoldable pub use Rattle.sercos_block.specs.Rings.{are_cyclic, are_drive_numbers, are_drives, are_ring_numbers, are_times, are_turns, attribute_in, block_attribute, built_in_attribute, has_address, has_blocks, has_drives, has_other_data, is_drive, is_order, is_ring, is_turn, listed_len, mdt_len, own_attribute, row_in, wishes_of}
+pub use Rattle.sercos_block.specs.Rings.{HasLens, has_drive_numbers, has_ring_numbers, is_no_command, number_len, record_len, value_len, wish_of}
+unfoldable pub use Rattle.sercos_block.specs.Rings.{are_cyclic, are_drive_numbers, are_drives, are_ring_numbers, are_times, are_turns, attribute_in, block_attribute, built_in_attribute, cyclic_len, has_address, has_blocks, has_drives, has_other_data, is_drive, is_order, is_ring, is_turn, listed_len, mdt_len, own_attribute, row_in, wishes_of}
 pub use Rattle.sercos_block.specs.Rules.{has_block, is_printable, is_text}
 unfoldable pub use Rattle.sercos_block.specs.Rules.{block_fault, blocks_fault}
 pub use Rattle.sercos_block.specs.Startup.{startup_bound, startup_of}
 pub use Rattle.sercos_block.specs.Stores.{IsStore, IsTyped, find_block, is_above, is_below, is_invalid, is_len, is_long, is_short, is_sound, put_fault, read_fault, with_data, with_value, write_fault}
-unfoldable pub use Rattle.sercos_block.specs.Stores.{are_ascending, data_fault, is_typed, store_of, with_own}
+unfoldable pub use Rattle.sercos_block.specs.Stores.{are_ascending, data_fault, inserted, is_typed, store_of, with_own}
 pub use Rattle.sercos_block.specs.ValidRings.{IsRing}
 pub use Rattle.sercos_block.specs.Views.{DriveView, RingView}
 pub use Rattle.sercos_block.specs.declared.block.Block.{Block}
@@ -103,7 +103,7 @@ pub use Rattle.sercos_step.proofs.Ends.{has_next, read_ends, write_ends}
 pub use Rattle.sercos_step.proofs.Flags.{and_left, and_right}
 pub use Rattle.sercos_step.proofs.WrittenWords.{length-at_least_one, length-words_of}
 pub use Rattle.sercos_step.specs.Jobs.{AreJobs, IsJob}
-pub use Rattle.sercos_step.specs.Steps.{a_step, answer_words, asks_attribute, attribute_then, is_whole, next_step, opening, outcome_of, polling, reading, result_of, run, steps_before, steps_of, writing, AreTypedJobs, IsTypedRequest}
+pub use Rattle.sercos_step.specs.Steps.{AreAnswers as AreStepAnswers, AreTypedJobs, IsTypedRequest, a_step, answer_words, asks_attribute, attribute_then, is_whole, next_step, opening, outcome_of, polling, reading, result_of, run, steps_before, steps_of, writing}
 pub use Rattle.sercos_step.specs.Words.{at_least_one, bytes_in, shape_by, shape_of, words_in_list, words_of, words_told}
 pub use Rattle.sercos_step.specs.declared.request.Job.{Job}
 pub use Rattle.sercos_step.specs.declared.request.Outcome.{Outcome}
@@ -115,8 +115,8 @@ pub use Rattle.sercos_command.proofs.CallLemmas.{passes_by_first}
 pub use Rattle.sercos_command.proofs.History.{find-settings, is_none-settings, is_passed-kept}
 pub use Rattle.sercos_command.specs.Calls.{CommandCall, CommandHistory, Other, Reset, Wrote, change_in, is_passed, is_set, setting_of, status_in, with_call}
 unfoldable pub use Rattle.sercos_command.specs.Calls.{with_check_list}
-pub use Rattle.sercos_command.specs.Checks.{data_at, is_cyclic, is_outside, list_bytes, listed_if, number_at}
-unfoldable pub use Rattle.sercos_command.specs.Checks.{breaks_1, breaks_10, breaks_15, breaks_2, breaks_6, breaks_7, breaks_8, breaks_89, breaks_9, breaks_list, carried_len, idns_at, unfit_for_phase_3, unfit_for_phase_4}
+pub use Rattle.sercos_command.specs.Checks.{data_at, idns_in as idns_listed, is_cyclic, is_outside, list_bytes, listed_if}
+unfoldable pub use Rattle.sercos_command.specs.Checks.{breaks_1, breaks_10, breaks_15, breaks_2, breaks_6, breaks_7, breaks_8, breaks_89, breaks_9, breaks_list, carried_len, idns_at, number_at, unfit_for_phase_3, unfit_for_phase_4}
 pub use Rattle.sercos_command.specs.Kept.{AreInOrder, find_set, first_passed_in, is_from, newest_cycle, passed_so_far, set_in, settings, with_set, without}
 pub use Rattle.sercos_command.specs.Settings.{ends_well, has_ended, is_command, status_by}
 pub use Rattle.sercos_command.specs.declared.commands.SetCommand.{SetCommand}
@@ -128,8 +128,8 @@ pub use Rattle.sercos_service_drive.specs.Replies.{answer_by, answered, copy, en
 unfoldable pub use Rattle.sercos_service_drive.specs.Replies.{bytes_written, data_in, element_words, write_cause}
 pub use Rattle.sercos_service_drive.specs.Says.{Shown, channel_says, shown, shown_by}
 pub use Rattle.sercos_service_drive.specs.Writes.{AreAlike, AreThose, Write, added_by, added_on, adds, blocks_with, calls_with, command_value, commands_with, takes_effect, with_added, without_data, writes_of, written_by}
-pub use Rattle.sercos_service_master.specs.Begun.{Begun, answer_in, answers_in, answers_it, master_says, mhs_in, open_in, outcome_with, said_by, step_at, step_or_none, steps_begun, steps_in, with_answer, with_step}
-pub use Rattle.sercos_service_master.specs.Calls.{Begin, EndCycle, Hear, Send, age_of, begun_by, cycles_open}
+pub use Rattle.sercos_service_master.specs.Begun.{Begun, Said as StepSaid, answer_in, answers_in, answers_it, master_says, mhs_in, open_in, outcome_with, said_by, step_at, step_or_none, steps_begun, steps_in, with_answer, with_step}
+pub use Rattle.sercos_service_master.specs.Calls.{Begin, Call as ChannelCall, EndCycle, Hear, Send, age_of, begun_by, cycles_open}
 pub use Rattle.sercos_trace.specs.Views.{CycleView, EventsView, SentView}
 pub use Rattle.sercos_trace.specs.declared.events.Fall.{Fall}
 pub use Rattle.sercos_trace.specs.declared.events.Fall.TheVariants.{AtLost, MstLost, StepLimit}
@@ -139,11 +139,11 @@ pub use Rattle.sercos_trace.specs.declared.record.Totals.{Totals}
 pub use Rattle.sercos_drive.proofs.DriveLemmas.{those_at}
 pub use Rattle.sercos_drive.proofs.RecordLemmas.{mst_below, phase_below}
 pub use Rattle.sercos_drive.proofs.Worked.{drive}
-pub use Rattle.sercos_drive.specs.Annals.{accepted_at, annals, ends_in, may_rise, mdt_moment, phase_at, stands_in, store_at, takes}
-pub use Rattle.sercos_drive.specs.Heard.{DriveCall, Mdt, Mst, joint_in, lies_within, mdt_got, mst_got, told_at}
-unfoldable pub use Rattle.sercos_drive.specs.Heard.{single_in}
+pub use Rattle.sercos_drive.specs.Annals.{accepted_at, annals, ends_in, may_rise, mdt_moment, phase_at, processed_in as processed_at, stands_in, store_at, takes}
+pub use Rattle.sercos_drive.specs.Heard.{DriveCall, Mdt, Mst, Restart as DriveRestart, lies_within, mdt_got, mst_got, told_at}
+unfoldable pub use Rattle.sercos_drive.specs.Heard.{joint_in, single_in}
 pub use Rattle.sercos_drive.specs.Laws.{HandedThose}
-pub use Rattle.sercos_drive.specs.Moments.{AtMst, Moment, blocks_after, blocks_in, calls_after, commands_in, cycle_in, has_missed, has_mst, has_taken, phase_in, records_in, unless_phase_0, with_reset, write_in, writes_in}
+pub use Rattle.sercos_drive.specs.Moments.{AtMst, Moment, blocks_after, blocks_in, calls_after, calls_in as command_calls, commands_in, cycle_in, has_missed, has_mst, has_taken, phase_in, records_in, unless_phase_0, with_reset, write_in, writes_in}
 pub use Rattle.sercos_drive.specs.Says.{Said, bytes_in_cycle, drive_says, said, said_in, sends, shown_word, start_in, values_in}
 unfoldable pub use Rattle.sercos_drive.specs.Says.{value_in}
 pub use Rattle.sercos_drive.specs.Steps.{commands_after, reset_in}
@@ -170,7 +170,7 @@ pub use Rattle.sercos_master.proofs.Planned.{Adds, asks_same, at_adds, is_planne
 pub use Rattle.sercos_master.proofs.Rings.{due_stopped, none_of_some, stop_stays}
 pub use Rattle.sercos_master.proofs.Sent.{fits_planned}
 pub use Rattle.sercos_master.proofs.Wishes.{is_valid, wish_there, wishes_length}
-pub use Rattle.sercos_master.specs.Annals.{Call, End, HearAt, HearMst, IsPlanned, Past, Restart, Turn, addressed_before, addressed_in, after_at, after_at_of, after_end, after_mdt, after_restart, after_taken, all_checked, all_identified, all_read, all_ready, begun, count_addressed, fall_at, fall_of, first_from, first_place, first_trouble, first_trouble_from, goes_on, has_identified, has_lost_at, has_lost_mst, has_turn, hearing, in_turn, is_at_limit, is_awaited, is_done, is_done_in, is_identified, is_idle, is_mst, is_plan_due, is_sent_to, is_taken, new_epoch, next_phase, next_task, outcomes, past, place_of, planned_by, ready_to_send, sent_to, settled, still_waiting, trouble, wanted_len, whole_row, with_begin, with_due_plan, with_stop, with_task}
+pub use Rattle.sercos_master.specs.Annals.{Call, End, HearAt, HearMst, IsPlanned, Mdt as MasterMdt, Past, Restart, Turn, addressed_before, addressed_in, after_at, after_at_of, after_end, after_mdt, after_restart, after_taken, all_checked, all_identified, all_read, all_ready, begins as task_begun, begun, count_addressed, fall_at, fall_of, first_from, first_place, first_trouble, first_trouble_from, goes_on, has_identified, has_lost_at, has_lost_mst, has_turn, hearing, in_turn, is_at_limit, is_awaited, is_done, is_done_in, is_identified, is_idle, is_mst, is_plan_due, is_sent_to, is_taken, new_epoch, next_phase, next_task, outcomes, past, place_of, planned_by, ready_to_send, sent_to, settled, still_waiting, trouble, wanted_len, whole_row, with_begin, with_due_plan, with_stop, with_task}
 pub use Rattle.sercos_master.specs.Kept.{records_upto, seen_at}
 pub use Rattle.sercos_master.specs.Reports.{broken, events_told, plan_told, restart_told, stop_told, with_report, with_reports}
 pub use Rattle.sercos_master.specs.Says.{Sent, idle, joint, mdt_said, mst_said, record_to, records_from, said_to, single}
@@ -203,16 +203,16 @@ pub use Rattle.sercos_law_channel.proofs.Pace.LateRuns.{head_before, taken_befor
 pub use Rattle.sercos_law_channel.proofs.Pace.OnTime.{joins}
 pub use Rattle.sercos_law_channel.proofs.Pace.TimedCommands.{comes_timed}
 pub use Rattle.sercos_law_channel.proofs.Pace.WholeCycles.{got_some, hears_throughout, is_clean_or_down, moved_next, recovers_in_time, stands_throughout, stays_clean, stays_dead}
-pub use Rattle.sercos_law_channel.proofs.Theorems.{Allows, Cancels, Down, HasReplies, IsEpoch, IsRead-alike, IsRefused, Nothing, Poll, Processes, Reads, Record, Stands, accepts_in_order, answered_replies, cancels_well, comes_to, commanded, cycle_exact, ends, ends_so, entries_ago, entries_in_epochs, epoch, fall_into_parts, few_steps, find-alike, four_bytes, goes_on-outcome_of, heard_none, high_of, in_step, is_nil, kept_same, length-replies_of, length-steps_begun, length-steps_of, list_shape, long_words, low_of, newest_step, next_poll, next_setting, nothing_old, only_opening, open_late, passes_by_setting, passes_last, printable_bytes, processed_phase, processed_some, processes, reply-read, reply_high, reply_low, said_of, same_log, split_blocks, split_replies, stands, stays_passed, stays_passed_last, those_kept, those_since, times_suc, two_bytes, up_by, without_newest, written}
+pub use Rattle.sercos_law_channel.proofs.Theorems.{Allows, Cancels, Down, Ends as TransferEnds, GoesOn as TransferGoesOn, HasReplies, IsEpoch, IsRead-alike, IsRefused, IsWhole as TransferWhole, Nothing, Poll, Processes, Reads, Record, Stands, accepts_in_order, answered_replies, cancels_well, comes_to, commanded, cycle_exact, ends, ends_so, entries_ago, entries_in_epochs, epoch, fall_into_parts, few_steps, find-alike, four_bytes, goes_on-outcome_of, heard_none, high_of, in_step, is_nil, kept_same, length-replies_of, length-steps_begun, length-steps_of, list_shape, long_words, low_of, newest_step, next_poll, next_setting, nothing_old, only_opening, open_late, passes_by_setting, passes_last, printable_bytes, processed_phase, processed_some, processes, reply-read, reply_high, reply_low, said_of, same_log, split_blocks, split_replies, stands, stays_passed, stays_passed_last, those_kept, those_since, times_suc, told as told_of, two_bytes, up_by, without_newest, written}
 pub use Rattle.sercos_law_channel.specs.Handshake.CommandTransfers.{GivesStatus, added_by_setting, cancelled_by, second_of, setting}
 pub use Rattle.sercos_law_channel.specs.Handshake.Epochs.{begun_in, command, command_in, epoch_begun, epoch_log, epoch_records, log_in, records_in_views, unless_restart, with_begun, with_heard}
 pub use Rattle.sercos_law_channel.specs.Handshake.Exact.{AreExact, AreWrites, Broken, Complete, Given, Refused, given_by, given_of, gives, written_to}
 pub use Rattle.sercos_law_channel.specs.Handshake.InStep.{AreInStep, Idle, Kept, log_steps, replies_of}
 pub use Rattle.sercos_law_channel.specs.Handshake.Moves.{with_processed, with_status}
-pub use Rattle.sercos_law_channel.specs.Handshake.Parts.{AreInTurn, AreParts, IsPart, IsRow, Unheard, Unsent}
+pub use Rattle.sercos_law_channel.specs.Handshake.Parts.{AreInTurn, AreParts, Heard as HeardPart, IsPart, IsRow, Unheard, Unsent}
 pub use Rattle.sercos_law_channel.specs.Handshake.ReadTransfers.{IsReadAt, element_in, entry_behind}
 pub use Rattle.sercos_law_channel.specs.Handshake.RunLaws.{AreBefore, BeginsEmpty, phase_commanded}
-pub use Rattle.sercos_law_channel.specs.Handshake.Runs.{IsShown, IsRun as IsViewRun}
+pub use Rattle.sercos_law_channel.specs.Handshake.Runs.{IsNext as IsNextView, IsRun as IsViewRun, IsShown}
 pub use Rattle.sercos_law_channel.specs.Handshake.Transfers.{AreReplies, HaveBlocks, IsTransfer, is_complete, stored}
 pub use Rattle.sercos_law_channel.specs.Handshake.Values.{GiveElsewhere, StaysWritten, is_plain, newest_to, store_in}
 pub use Rattle.sercos_law_channel.specs.Handshake.Views.{Heard, Standing, View, afresh, before_mst, got_in, kept_in, kept_in_phase, kept_unless, moved, processed_in, processed_of, record_in, since_reset, standing, standing_after, stood_from, stood_in, takes_in, with_record}
@@ -305,3 +305,4 @@ pub use Rattle.sercos_law_run.specs.Undisturbed.ViewsSince.{views_since}
 pub use Rattle.sercos_law_run.specs.Undisturbed.WholeRuns.{HasTold, NeverDisturbed, StartsUndisturbed, StartsUp, StopsForCause}
 pub use Rattle.sercos_law_run.specs.Views.RingViews.{after_mst, at_start, behind_ats, behind_mdt, behind_mst, gets_record, heard_last, is_told, phase_got, request_of, told_to, view_of, views_of}
 pub use Rattle.sercos_law_run.specs.Views.Spelled.{IsSaid, IsSayable, IsSpelled}
+pub use Rattle.sercos_plan.proofs.ListedLemmas.{listed as plan_listed}

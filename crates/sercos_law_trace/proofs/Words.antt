@@ -9,7 +9,7 @@ pub use Rattle.std.proofs.lemmas.List.{drop-drop, length-drop, length-map, lengt
 pub use Rattle.std.proofs.lemmas.List.Elements.{All-append, All-cons, All-drop, All-head, All-nil, All-tail, All-take}
 pub use Rattle.std.proofs.lemmas.List.Folds.{find-append}
 pub use Rattle.std.proofs.lemmas.List.Sums.{count_by-le-length, length-filter, sum_by-cons}
-pub use Rattle.std.proofs.lemmas.Option.{none-some, same_Some}
+pub use Rattle.std.proofs.lemmas.Option.{none-some, same_Some, slice_get_within}
 pub use Rattle.std.proofs.Math.Bool.{and-false, or-true}
 pub use Rattle.std.specs.Int.Signed.{le_z}
 pub use Rattle.std.specs.List.{All, AllPairs, concat, filter, find, flat_map, list_all, list_any, position_or_len}
@@ -140,12 +140,12 @@ pub use Rattle.sercos_law_channel.specs.Handshake.Transfers.{stored}
 pub use Rattle.sercos_law_channel.specs.Handshake.Values.{GiveElsewhere, HoldsNewest, StaysFixed, is_plain, newest_to, store_in}
 pub use Rattle.sercos_law_channel.specs.Handshake.Views.{Heard, View, got_in, kept_in, processed_in, processed_of, record_in, standing, stood_in, with_record}
 pub use Rattle.sercos_law_channel.specs.Handshake.WholeRun.{AreSmall, AreSound, accepted_of, all_begun, all_entries, all_writes, begun_ago, leaving}
-pub use Rattle.sercos_law_run.proofs.Agenda.Requests.{are_requests}
+pub use Rattle.sercos_law_run.proofs.Agenda.Requests.{all_numbered, are_requests}
 pub use Rattle.sercos_law_run.proofs.Agenda.WritesDone.{writes_data}
 pub use Rattle.sercos_law_run.proofs.Cited.{begins_tasks, check128_has_cause, is_framed, left_of, no_fit_has_cause, refused_has_cause, told_right}
 pub use Rattle.sercos_law_run.proofs.Start.Lengths.{are_as_long}
 pub use Rattle.sercos_law_run.proofs.Start.WellLemmas.{ring_is_valid}
-pub use Rattle.sercos_law_run.proofs.Theorems.{AllStand, AreBegun, AreWords, IsContent, IsPlannedIn, IsTypedPast, Sends, address_of, alike_so, all_ended, all_members, all_stand, are_requests, at_content, bytes_of_words, calls_are_moves, carried_length, command_below, count_so, drive_got, drives_so, ends_at_0, fell_once, find_built_in, find_store_of, first_store, got_inside, holding, keeps_all, length-run_of, length_records, mdt_whole, member_is, members_count, mst_whole, numbered_drop, or_none, phase_low, phase_same, place_by, plan_words, rate_is, read_word, rest_clear, rest_runs, rests_so, ring_drive, ring_timed, rules, s_known, same_drive, sender_phase, sent_by, small, spelled_in, store_of_so, stored_in, tasks_so, typed_past, views_count, wish_is, wishes_count, word_of, words_append, words_drop, writes_data}
+pub use Rattle.sercos_law_run.proofs.Theorems.{AllStand, AreBegun, AreWords, IsContent, IsPlannedIn, IsTypedPast, Sends, address_of, alike_so, all_ended, all_members, all_stand, are_requests, at_content, bytes_of_words, calls_are_moves, carried_length, command_below, count_so, drive_got, drives_so, ends_at_0, fell_once, find_built_in, find_store_of, first_store, got_inside, holding, keeps_all, length-run_of, length_records, mdt_whole, member_is, members_count, mst_whole, or_none, phase_low, phase_same, place_by, plan_words, rate_is, read_word, rest_clear, rest_runs, rests_so, ring_drive, ring_timed, rules, s_known, same_drive, sender_phase, sent_by, small, spelled_in, store_of_so, stored_in, tasks_so, typed_past, views_count, wish_is, wishes_count, word_of, words_append, words_drop, writes_data}
 pub use Rattle.sercos_law_run.proofs.Typed.Spelled.{keeps_within}
 pub use Rattle.sercos_law_run.specs.Agenda.Channels.{AreMoves, Begins, CallsAreMoves, Channel, Ends, Falls, Hears, Identifies, Moves, Plans, Stays, Steps, Within, beginning, channel_at, newest}
 pub use Rattle.sercos_law_run.specs.Agenda.Events.{HasOutcome, HasReport}

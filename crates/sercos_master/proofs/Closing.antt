@@ -21,10 +21,8 @@ abbrev ClosingIn0 : Past → Type 0
 ClosingIn0 p = p.now.phase ≡ 0 → IsClosing p
 
 none_taken : (s : Known) (p : Past) (k : ℕ) (content : List ℕ) → p.now.phase ≡ 0 → is_taken s p k content ≡ false
-none_taken s p k content is = ap (λ b. b && (not (p.now.heard k) && is_none (at_fault (member s k).address (wanted_len s p k) content))) awaits
-  where
-    awaits : is_awaited p k ≡ false
-    awaits = rw is refl
+none_taken s p k content is = let awaits : is_awaited p k ≡ false = rw is refl in
+    ap (λ b. b && (not (p.now.heard k) && is_none (at_fault (member s k).address (wanted_len s p k) content))) awaits
 
 none_sent : (p : Past) (addressed : Option ℕ) (k : ℕ) → p.now.phase ≡ 0 → is_sent_to p addressed k ≡ false
 none_sent p addressed k in_0 = rw in_0 refl
@@ -68,9 +66,6 @@ kept_at : (k : ℕ) (t : Turn) (turns : List Turn) → phase_before turns ≡ 0 
 kept_at k t [] e = refl
 kept_at k t (before ∷ turns) e = rw e refl
 
-below_limit : (p : Past) (k : ℕ) → p.now.phase ≡ 0 → age_of (p.calls k) ≡ None → is_at_limit p k ≡ false
-below_limit p k in_0 e = rw (in_0, e) refl
-
 stays_closing : (s : Known) (requests : ℕ → List Task) (h : List Call) → (past s requests h).now.phase ≡ 0 →
     fall_of s (past s requests h) ≡ None
 stays_closing s requests h in_0 = by (past s requests h) (closes s requests h in_0) in_0
@@ -78,7 +73,7 @@ stays_closing s requests h in_0 = by (past s requests h) (closes s requests h in
     by : (p : Past) → IsClosing p → p.now.phase ≡ 0 → fall_of s p ≡ None
     by p c in_0 = no_fall s p (kept_mst p.now p.turns c.before)
         (none_from (length s.drives) 0 (λ k. has_lost_at k (p.now ∷ p.turns)) (λ k low high. kept_at k p.now p.turns c.before))
-        (none_from (length s.drives) 0 (is_at_limit p) (λ k low high. below_limit p k in_0 (c.silent k)))
+        (none_from (length s.drives) 0 (is_at_limit p) (λ k low high. rw (in_0, c.silent k) refl))
 
 -- ROOM FOR WHAT IS TOLD. After a restart phase 0 is commanded, so nothing is reported.
 restarted_in_0 : (s : Known) (requests : ℕ → List Task) (h : List Call) → HasRestarted h → (past s requests h).now.phase ≡ 0
@@ -99,8 +94,7 @@ has_room : (s : Known) (requests : ℕ → List Task) (h : List Call) (reports :
     (length (with_reports (past s requests h).now.report (length s.drives) reports) + length s.drives ≤ 128)
 has_room s requests h reports few (inl none) =
     let l : length reports ≡ 0 = ap (λ xs. length xs) none in
-    let m = reports_length (past s requests h).now.report (length s.drives) reports in
-    (omega (arith, l, few), omega (arith, l, m, few))
+    (omega (arith, l, few), omega (arith, l, reports_length (past s requests h).now.report (length s.drives) reports, few))
 has_room s requests h reports few (inr (short, restarted)) =
     let quiet = (closes s requests h (restarted_in_0 s requests h restarted)).quiet in
     (omega (arith, short, few), rw (none_reported (past s requests h).now.report (length s.drives) reports quiet) (omega (arith, short, few)))
@@ -115,13 +109,6 @@ brings s p e v t a b d = rw (a, b, d, t.plans_is, t.plan_is, t.stop_is) refl
 
 in_phase : {n : ℕ} {v : CoreView} {s : Known} {p : Past} → IsIn n v s p → CoreStandsFor (record v { phase = n }) s p
 in_phase {n} {v} {s} {p} t = subst (λ k. CoreStandsFor (record v { phase = k }) s p) (t.stands.phase_is ∙ t.phase_is) t.stands
-
-told_on : (s : Known) (p : Past) (e : EventsView) → fall_of s p ≡ None → closing_told s p e ≡ events_told s p e
-told_on s p e none = rw none refl
-
-told_fallen : (s : Known) (p : Past) (e : EventsView) (cause : Fall) → fall_of s p ≡ Some cause →
-    record (closing_told s p e) { outcomes = with_broken s p (closing_told s p e).outcomes; fall = Some cause } ≡ events_told s p e
-told_fallen s p e cause falls = rw falls refl
 
 next_is : (s : Known) (p : Past) (n : ℕ) (done : Bool) → p.now.phase ≡ n → is_done_in n s p ≡ done →
     next_phase s p ≡ (if done then n + 1 else n)
@@ -152,7 +139,7 @@ module _ (s : Known) (jobs : List Job) (h : List Call) where
       let on : CoreStandsFor next s (goes_on to now) =
       subst (λ k. CoreStandsFor next s (goes_on k now)) (ap (λ v. v.phase) is) closed.0 in (
         record { stands = rw after on; known = t.known; phase_is = ap (λ q. q.now.phase) after },
-        λ may. closed.1 (has_room s (tasks_for s jobs) h e.outcomes t.known.few may).0 ∙ told_on s now e none,
+        λ may. closed.1 (has_room s (tasks_for s jobs) h e.outcomes t.known.few may).0 ∙ (rw none refl),
       )
 
   -- it went up by one, where all was done
@@ -187,5 +174,5 @@ module _ (s : Known) (jobs : List Job) (h : List Call) where
             let first = closed.1 room.0 in
             tells s (goes_on m.phase now) closed.0 (rw first room.1)
             ∙ (ap (λ (b : EventsView). record b { outcomes = with_broken s now b.outcomes; fall = Some cause }) first
-            ∙ told_fallen s now e cause some),
+            ∙ (rw some refl)),
       )

@@ -1,8 +1,8 @@
 -- What settling leaves, the phases, and outcomes that stay. Where phase 3 or 4 is commanded, the check for phase 3 has ended well at every
 -- drive, in this epoch, and where phase 4 is, that for phase 4.
-use Rattle.sercos_master.proofs.Words.{inl, inr, ◌⊎◌, ◌≡◌, ℕ, zero, suc, ◌+◌, ◌<◌, ◌≤◌, Bool, true, false, List, [], ◌∷◌, Option, Some, None, length, ap, subst, refl, sym, ◌∙◌, arith, if◌then◌else◌, is_none, nat_le, not, and_parts, cases_Bool, cases_eq, false≢true, nat_tests, status_of, word_at, Outcome, begun_by, outcome_at, Known, MemberView, Task, member, reads_count, given, ended_well, is_checked, is_ready, all_checked, all_ready, Past, Call, past, outcomes, after_at_of, after_taken, after_mdt, begins, begun, with_begin, is_sent_to, addressed_in, ready_to_send, settled, is_done, is_done_in, first_from, outcomes_in, with_outcome, behind_end}
+use Rattle.sercos_master.proofs.Words.{inl, inr, ◌⊎◌, ◌≡◌, ℕ, zero, suc, ◌+◌, ◌<◌, ◌≤◌, Bool, true, false, List, ◌∷◌, Option, Some, None, length, ap, subst, refl, sym, ◌∙◌, arith, if◌then◌else◌, is_none, nat_le, not, and_parts, cases_Bool, cases_eq, false≢true, nat_tests, status_of, word_at, Outcome, begun_by, outcome_at, Known, MemberView, Task, member, reads_count, given, ended_well, is_checked, is_ready, all_checked, all_ready, Past, Call, past, outcomes, after_at_of, after_taken, after_mdt, begins, begun, with_begin, is_sent_to, addressed_in, ready_to_send, settled, is_done, is_done_in, first_from, outcomes_in, with_outcome, behind_end}
 use Rattle.sercos_service_master.specs.Calls as channel
-use Rattle.sercos_seat.proofs.Channels.{Heard, heard}
+use Rattle.sercos_seat.proofs.Channels.{heard}
 use Rattle.sercos_seat.proofs.Seats.{before_end}
 use Rattle.sercos_master.proofs.Keeping.{at_keeps, channel_keeps, past_keeps, settled_keeps}
 
@@ -62,8 +62,7 @@ pub at_adds : (i : ℕ) (content : List ℕ) (p : Past) → Adds p (after_taken 
 at_adds i content p j = channel_keeps (λ calls. (o : Option Outcome) ×
     (outcomes_in (begun_by calls) ≡ with_outcome o (outcomes p j))) i j content p (None, refl) (λ same.
     let o = outcome_at (p.calls j) (status_of (word_at content 1)) (word_at content 3) in
-    let h : Heard (p.calls j) (status_of (word_at content 1)) (word_at content 3) o = heard (p.calls j) (status_of (word_at content 1)) (word_at content 3) _ refl in
-    (o, h.outcomes))
+    (o, (heard (p.calls j) (status_of (word_at content 1)) (word_at content 3) _ refl).outcomes))
 
 -- THE PHASE is 0 to 4.
 pub at_phase : (s : Known) (place : Option ℕ) (content : List ℕ) (p : Past) → (after_at_of s place content p).now.phase ≡ p.now.phase
@@ -100,18 +99,15 @@ module _ (test : List Outcome → Bool) (n : ℕ) (s : Known) (k : ℕ) where
       ((p : Past) → is_done_in n s p ≡ true → test (outcomes p k) ≡ true) →
       (requests : ℕ → List Task) (h : List Call) → nat_le (n + 1) (past s requests h).now.phase ≡ true → test (outcomes (past s requests h) k) ≡ true
   holds_above stays done requests = past_keeps (λ p. nat_le (n + 1) p.now.phase ≡ true → test (outcomes p k) ≡ true) s requests (record {
-    first = λ high. absurd (none_in_0 high);
+    first = λ high. absurd (grind (arith, nat_tests, high));
     mst = λ h whole before. before;
     taken = λ h i content inside is before high. let a = at_adds i content (past s requests h) k in rw a.1
         (stays (outcomes (past s requests h) k) a.0 (before high));
     mdt = λ h before high. subst (λ all. test all ≡ true) (sym (mdt_adds s (past s requests h) k)) (before (subst (λ i. nat_le (n + 1) i ≡ true) (leaves s (past s requests h)).phase high));
     on = λ h rises. goes (past s requests h) rises;
-    new = λ h cycle before high. absurd (none_in_0 high);
+    new = λ h cycle before high. absurd (grind (arith, nat_tests, high));
   })
     where
-      none_in_0 : nat_le (n + 1) 0 ≡ true → ⊥
-      none_in_0 e = grind (arith, nat_tests, e)
-
       goes : (p : Past) (rises : Bool) → is_done s p ≡ rises → (nat_le (n + 1) p.now.phase ≡ true → test (outcomes p k) ≡ true)
           → nat_le (n + 1) (if rises then p.now.phase + 1 else p.now.phase) ≡ true → test (outcomes p k) ≡ true
       goes p false e before high = before high
@@ -124,9 +120,7 @@ module _ (test : List Outcome → Bool) (n : ℕ) (s : Known) (k : ℕ) where
 stays_well : (i : ℕ) (all : List Outcome) (o : Option Outcome) → ended_well (given all i) ≡ true → ended_well (given (with_outcome o all) i) ≡ true
 stays_well i all None e = e
 stays_well i all (Some o) e = elim (cases_eq i (length all)) [
-  | inl here ↦
-      let none : given all i ≡ [] = behind_end all i (omega (arith, here)) in
-      absurd (false≢true (subst (λ b. ended_well b ≡ true) none e))
+  | inl here ↦ absurd (false≢true (subst (λ b. ended_well b ≡ true) (behind_end all i (omega (arith, here))) e))
   | inr other ↦ rw (before_end all o i other) e
 ]
 

@@ -1,7 +1,7 @@
 -- What was begun on a channel in an epoch followed its agenda: each task was the next one after the outcomes of those begun before,
 -- which had all ended, those of the start-up without error.
-use Rattle.sercos_master.proofs.Words.{◌≡◌, ◌⊎◌, inl, inr, ℕ, zero, suc, ◌+◌, ◌<◌, ◌≤◌, Bool, true, false, List, [], ◌∷◌, ◌++◌, length, refl, sym, ap, ◌∙◌, subst, arith, if◌then◌else◌, length-append, Option, Some, None, is_some, is_none, map, slice_get, option_or, cases_eq, status_of, word_at, Request, Outcome, Answer, is_whole, answer_words, result_of, outcome_of, next_step, PlanView, Begun, open_in, answers_it, answer_in, with_answer, Hear, begun_by, Stop, Known, Task, member, startup, agenda, reads, reads_count, writes, is_checked, asked_by, stop_of_task, with_outcome, outcomes_in, last_outcome, trouble_by, get_map, get_left, get_right, get_none, length_map, length_append, reads_length, ended_there, Call, Past, past, outcomes, all_checked, is_idle, after_taken, trouble, first_trouble, first_trouble_from, settled, with_task, with_begin, begun, ready_to_send, is_sent_to, addressed_in, after_mdt, begins, CoreView, IsIn, none-some, same_Some}
-use Rattle.sercos_telegram.specs.declared.words.Status.{Status}
+use Rattle.sercos_master.proofs.Keeping.{cases_Option}
+use Rattle.sercos_master.proofs.Words.{cases_Bool, ◌≡◌, ◌⊎◌, inl, inr, ℕ, zero, suc, ◌+◌, ◌<◌, ◌≤◌, Bool, true, false, List, [], ◌∷◌, ◌++◌, length, refl, sym, ap, ◌∙◌, subst, arith, if◌then◌else◌, length-append, Option, Some, None, is_some, is_none, map, slice_get, option_or, cases_eq, status_of, word_at, Request, Outcome, Answer, is_whole, answer_words, result_of, outcome_of, next_step, PlanView, Begun, open_in, answers_it, answer_in, with_answer, begun_by, Stop, Known, Task, member, startup, agenda, reads, reads_count, writes, is_checked, asked_by, stop_of_task, outcomes_in, last_outcome, trouble_by, get_map, get_left, get_right, get_none, length_map, length_append, reads_length, ended_there, Call, Past, past, outcomes, all_checked, is_idle, trouble, first_trouble, first_trouble_from, settled, with_task, with_begin, begun, ready_to_send, is_sent_to, addressed_in, after_mdt, begins, CoreView, IsIn, none-some, same_Some}
 use Rattle.sercos_step.specs.declared.request.Outcome.TheVariants as outcome
 use Rattle.sercos_step.proofs.Ends.{has_next}
 use Rattle.sercos_service_master.specs.Calls as channel
@@ -58,19 +58,6 @@ answered s k plan waiting a [] tasks all = all
 answered s k plan waiting a (b ∷ older) [] all = all
 answered s k plan waiting a (b ∷ older) (t ∷ tasks) all = (all.0, record { asks = all.1.asks; by_then = all.1.by_then; same = all.1.same; next = all.1.next; ended = all.1.ended; well = all.1.well })
 
-hears : (s : Known) (k : ℕ) (plan : Option PlanView) (waiting : List Task) (status : Status) (word : ℕ) (calls : List channel.Call) (tasks : List Task) →
-    AllFollow s k plan waiting (begun_by calls) tasks → AllFollow s k plan waiting (begun_by (Hear status word ∷ calls)) tasks
-hears s k plan waiting status word calls tasks all = by (answers_it (begun_by calls) status)
-  where
-    by : (b : Bool) → AllFollow s k plan waiting (if b then with_answer (answer_in status word) (begun_by calls) else begun_by calls) tasks
-    by true = answered s k plan waiting (answer_in status word) (begun_by calls) tasks all
-    by false = all
-
-taken_follows : (s : Known) (i : ℕ) (content : List ℕ) (p : Past) (k : ℕ) → Followed s p k → Followed s (after_taken i content p) k
-taken_follows s i content p k all = channel_keeps (λ calls. AllFollow s k p.plan (p.waiting k) (begun_by calls)
-    (p.tasks k)) i k content p all
-    (λ same. hears s k p.plan (p.waiting k) (status_of (word_at content 1)) (word_at content 3) (p.calls k) (p.tasks k) all)
-
 -- THE ANSWERS ARE LOOKED AT.
 pub settles : (s : Known) (p : Past) → Leaves (settled s p) p
 settles = leaves
@@ -100,20 +87,19 @@ never_idle has b older idle none = never_both (next_step b.request b.answers) (h
     (subst (λ (o : Option Outcome). is_none (if is_some o then None else next_step b.request b.answers) ≡ true) none idle)
 
 -- an idle channel's requests have all ended
-pub all_ended : HasNext → (s : Known) (k : ℕ) (plan : Option PlanView) (waiting : List Task) (begun : List Begun) (tasks : List Task) → AllFollow s k plan waiting begun tasks →
+pub all_ended : (s : Known) (k : ℕ) (plan : Option PlanView) (waiting : List Task) (begun : List Begun) (tasks : List Task) → AllFollow s k plan waiting begun tasks →
     is_none (open_in begun) ≡ true → length (outcomes_in begun) ≡ length begun
-all_ended has s k plan waiting [] tasks all idle = refl
-all_ended has s k plan waiting (b ∷ older) [] all idle = absurd all
-all_ended has s k plan waiting (b ∷ older) (t ∷ tasks) all idle = by (outcome_of b.request b.answers) refl
-  where
-    by : (o : Option Outcome) → outcome_of b.request b.answers ≡ o → length (with_outcome o (outcomes_in older)) ≡ suc (length older)
-    by (Some o) e = let l = length-append (outcomes_in older) (o ∷ []) in let f = all.1.ended in omega (arith, l, f)
-    by None e = absurd (never_idle has b older idle e)
+all_ended s k plan waiting [] tasks all idle = refl
+all_ended s k plan waiting (b ∷ older) [] all idle = absurd all
+all_ended s k plan waiting (b ∷ older) (t ∷ tasks) all idle = elim (cases_Option (outcome_of b.request b.answers)) [
+  | inl e ↦ absurd (never_idle has_next b older idle e)
+  | inr (o, e) ↦ rw e (omega (arith, length-append (outcomes_in older) (o ∷ []), all.1.ended))
+]
 
 -- an outcome of the start-up that brings no stop is complete
-ends_complete : (address : ℕ) (b : Begun) (older : List Begun) (t : Task) (tasks : List Task) → is_none (open_in (b ∷ older)) ≡ true → HasNext →
+ends_complete : (address : ℕ) (b : Begun) (older : List Begun) (t : Task) (tasks : List Task) → is_none (open_in (b ∷ older)) ≡ true →
     trouble_by address (t ∷ tasks) (outcome_of b.request b.answers) ≡ None → t.number ≡ None → (bytes : List ℕ) × (outcome_of b.request b.answers ≡ Some (outcome.Complete bytes))
-ends_complete address b older t tasks idle has quiet startup = by (outcome_of b.request b.answers) refl
+ends_complete address b older t tasks idle quiet startup = by (outcome_of b.request b.answers) refl
   where
     never_broken : (r : Request) (h : List Answer) → outcome_of r h ≡ Some outcome.Broken → ⊥
     never_broken r [] e = cc
@@ -133,18 +119,18 @@ ends_complete address b older t tasks idle has quiet startup = by (outcome_of b.
         some≢none : {A : Type 0} {x : A} → Some x ≡ None → ⊥
         some≢none e = cc
     by (Some outcome.Broken) e = absurd (never_broken b.request b.answers e)
-    by None e = absurd (never_idle has b older idle e)
+    by None e = absurd (never_idle has_next b older idle e)
 
-ended_well : HasNext → (s : Known) (p : Past) (k : ℕ) → Followed s p k → is_idle p k ≡ true → trouble s p k ≡ None → HasEndedWell (begun_by (p.calls k)) (p.tasks k)
-ended_well has s p k all idle quiet = by (begun_by (p.calls k)) (p.tasks k) idle quiet
+ended_well : (s : Known) (p : Past) (k : ℕ) → Followed s p k → is_idle p k ≡ true → trouble s p k ≡ None → HasEndedWell (begun_by (p.calls k)) (p.tasks k)
+ended_well s p k all idle quiet = by (begun_by (p.calls k)) (p.tasks k) idle quiet
   where
     by : (begun : List Begun) (tasks : List Task) → is_none (open_in begun) ≡ true → trouble_by (member s k).address tasks (last_outcome begun) ≡ None → HasEndedWell begun tasks
     by [] tasks idle quiet = tt
     by (b ∷ older) [] idle quiet = tt
-    by (b ∷ older) (t ∷ tasks) idle quiet = ends_complete (member s k).address b older t tasks idle has quiet
+    by (b ∷ older) (t ∷ tasks) idle quiet = ends_complete (member s k).address b older t tasks idle quiet
 
-begun_follows : HasNext → (s : Known) (p : Past) (k : ℕ) → (p.stop ≡ None → trouble s p k ≡ None) → Followed s p k → Followed s (begun s p) k
-begun_follows has s p k quiet all = by (begins s p k) refl
+begun_follows : (s : Known) (p : Past) (k : ℕ) → (p.stop ≡ None → trouble s p k ≡ None) → Followed s p k → Followed s (begun s p) k
+begun_follows s p k quiet all = by (begins s p k) refl
   where
     by : (o : Option Task) → begins s p k ≡ o → AllFollow s k p.plan (p.waiting k) (begun_by (with_begin o (p.calls k)))
         (with_task o (p.tasks k))
@@ -157,13 +143,13 @@ begun_follows has s p k quiet all = by (begins s p k) refl
             by_then = p.plan;
             same = inr refl;
             next = b.next;
-            ended = all_ended has s k p.plan (p.waiting k) (begun_by (p.calls k)) (p.tasks k) all b.idle;
-            well = ended_well has s p k all b.idle (quiet b.unstopped);
+            ended = all_ended s k p.plan (p.waiting k) (begun_by (p.calls k)) (p.tasks k) all b.idle;
+            well = ended_well s p k all b.idle (quiet b.unstopped);
           },
         )
 
-mdt_follows : HasNext → (s : Known) (p : Past) (k : ℕ) → k < length s.drives → Followed s p k → Followed s (after_mdt s p) k
-mdt_follows has s p k within all = by (is_sent_to (ready_to_send s p) (addressed_in s (ready_to_send s p)) k)
+mdt_follows : (s : Known) (p : Past) (k : ℕ) → k < length s.drives → Followed s p k → Followed s (after_mdt s p) k
+mdt_follows s p k within all = by (is_sent_to (ready_to_send s p) (addressed_in s (ready_to_send s p)) k)
   where
     quiet : (settled s p).stop ≡ None → trouble s (settled s p) k ≡ None
     quiet none =
@@ -171,20 +157,25 @@ mdt_follows has s p k within all = by (is_sent_to (ready_to_send s p) (addressed
         let before : trouble s p k ≡ None = none_troubled s p 0 (length s.drives) k (no_stop_before s p none) (omega arith) (omega (arith, z, within)) in
         rw ((leaves s p).calls, (leaves s p).tasks) before
 
-    ready : Followed s (ready_to_send s p) k
-    ready = begun_follows has s (settled s p) k quiet (settled_follows s p k all)
-
     by : (b : Bool) → AllFollow s k (ready_to_send s p).plan ((ready_to_send s p).waiting k) (begun_by (if b then channel.Send ∷ (ready_to_send s p).calls k else (ready_to_send s p).calls k)) ((ready_to_send s p).tasks k)
-    by true = ready
-    by false = ready
+    by true = begun_follows s (settled s p) k quiet (settled_follows s p k all)
+    by false = begun_follows s (settled s p) k quiet (settled_follows s p k all)
 
 -- AFTER ANY CALLS
-pub followed : HasNext → (s : Known) (requests : ℕ → List Task) (h : List Call) (k : ℕ) → k < length s.drives → Followed s (past s requests h) k
-followed has s requests h k within = past_keeps (λ p. Followed s p k) s requests (record {
+pub followed : (s : Known) (requests : ℕ → List Task) (h : List Call) (k : ℕ) → k < length s.drives → Followed s (past s requests h) k
+followed s requests h k within = past_keeps (λ p. Followed s p k) s requests (record {
   first = tt;
   mst = λ h whole all. all;
-  taken = λ h i content inside is. taken_follows s i content (past s requests h) k;
-  mdt = λ h. mdt_follows has s (past s requests h) k within;
+  taken = λ h i content inside is. λ all. channel_keeps
+      (λ calls. AllFollow s k (past s requests h).plan ((past s requests h).waiting k) (begun_by calls)
+      ((past s requests h).tasks k)) i k content (past s requests h) all
+      (λ same. elim (cases_Bool (answers_it (begun_by ((past s requests h).calls k)) (status_of (word_at content 1)))) [
+        | inl on ↦ rw on (answered s k (past s requests h).plan ((past s requests h).waiting k)
+            (answer_in (status_of (word_at content 1)) (word_at content 3))
+            (begun_by ((past s requests h).calls k)) ((past s requests h).tasks k) all)
+        | inr off ↦ rw off all
+      ]);
+  mdt = λ h. mdt_follows s (past s requests h) k within;
   on = λ h done is all. all;
   new = λ h cycle all. tt;
 }) h
@@ -217,29 +208,24 @@ found_at s k plan waiting (b ∷ one ∷ older) (t ∷ u ∷ tasks) j all less =
 
 pub not_longer : (begun : List Begun) → length (outcomes_in begun) ≤ length begun
 not_longer [] = omega arith
-not_longer (b ∷ older) = by (outcome_of b.request b.answers) (not_longer older)
-  where
-    by : (o : Option Outcome) → length (outcomes_in older) ≤ length older → length (with_outcome o (outcomes_in older)) ≤ suc (length older)
-    by None less = omega (arith, less)
-    by (Some o) less = let l = length-append (outcomes_in older) (o ∷ []) in omega (arith, l, less)
+not_longer (b ∷ older) = elim (cases_Option (outcome_of b.request b.answers)) [
+  | inl none ↦ rw none (omega (arith, not_longer older))
+  | inr (o, some) ↦ rw some (omega (arith, length-append (outcomes_in older) (o ∷ []), not_longer older))
+]
 
--- the task after the reads and i writes is a write, by a plan that there is
-startup_reads : (s : Known) (k : ℕ) → length (map (startup 2) (reads (member s k))) ≡ reads_count (member s k)
-startup_reads s k = length_map (startup 2) (reads (member s k)) ∙ reads_length (member s k)
-
-unplanned_at : (s : Known) (k i : ℕ) (waiting : List Task) (all : List Outcome) (t : Task) → length all ≡ reads_count (member s k) + i → slice_get (agenda s None waiting k all) (length all) ≡ Some t → ⊥
-unplanned_at s k i waiting all t long e =
-    let l = startup_reads s k in
+pub unplanned_at : (s : Known) (k : ℕ) (waiting : List Task) (all : List Outcome) (t : Task) → reads_count (member s k) ≤ length all →
+    slice_get (agenda s None waiting k all) (length all) ≡ Some t → ⊥
+unplanned_at s k waiting all t long e =
     let a = length_append (map (startup 2) (reads (member s k))) [] in
-    none-some _ (sym (get_none (map (startup 2) (reads (member s k)) ++ []) (length all) (omega (arith, l, a, long))) ∙ e)
+    none-some _ (sym (get_none (map (startup 2) (reads (member s k)) ++ []) (length all)
+    (omega (arith, (length_map (startup 2) (reads (member s k)) ∙ reads_length (member s k)), a, long))) ∙ e)
 
 write_at : (s : Known) (k i : ℕ) (plan : PlanView) (waiting : List Task) (all : List Outcome) (t : Task) → i < 11 → length all ≡ reads_count (member s k) + i →
     slice_get (agenda s (Some plan) waiting k all) (length all) ≡ Some t → (t.number ≡ None) × (slice_get (writes s plan k) i ≡ Some t.request)
 write_at s k i plan waiting all t below long e =
-    let l = startup_reads s k in
-    let first = get_right (map (startup 2) (reads (member s k))) _ (length all) i (omega (arith, l, long)) in
-    let w : length (map (startup 2) (writes s plan k)) ≡ 11 = length_map (startup 2) (writes s plan k) in
-    let second = get_left (map (startup 2) (writes s plan k)) _ i (omega (arith, w, below)) in
+    let first = get_right (map (startup 2) (reads (member s k))) _ (length all) i
+    (omega (arith, (length_map (startup 2) (reads (member s k)) ∙ reads_length (member s k)), long)) in
+    let second = get_left (map (startup 2) (writes s plan k)) _ i (omega (arith, length_map (startup 2) (writes s plan k), below)) in
     by (slice_get (writes s plan k) i) refl (sym (get_map (startup 2) (writes s plan k) i) ∙ (sym second ∙ (sym first ∙ e)))
   where
     by : (o : Option Request) → slice_get (writes s plan k) i ≡ o → Rattle.std.specs.Prelude.option_map (startup 2) (slice_get (writes s plan k) i) ≡ Some t → (t.number ≡ None) × (slice_get (writes s plan k) i ≡ Some t.request)
@@ -248,10 +234,10 @@ write_at s k i plan waiting all t below long e =
         let same : startup 2 r ≡ t = same_Some _ _ (sym (ap (Rattle.std.specs.Prelude.option_map (startup 2)) f) ∙ e) in
         (ap (λ x. x.number) (sym same), f ∙ ap (λ x. Some x.request) same)
 
-written_at : HasNext → (s : Known) (requests : ℕ → List Task) (h : List Call) (k i : ℕ) → k < length s.drives → i < 11 → is_checked (member s k) (outcomes (past s requests h) k) ≡ true →
+written_at : (s : Known) (requests : ℕ → List Task) (h : List Call) (k i : ℕ) → k < length s.drives → i < 11 → is_checked (member s k) (outcomes (past s requests h) k) ≡ true →
     (plan : PlanView) × ((past s requests h).plan ≡ Some plan) × IsWritten s k plan (begun_by ((past s requests h).calls k)) i
-written_at has s requests h k i within below checked =
-    let all = followed has s requests h k within in
+written_at s requests h k i within below checked =
+    let all = followed s requests h k within in
     let long : reads_count (member s k) + 11 < length (outcomes (past s requests h) k) = ended_there (outcomes (past s requests h) k) (reads_count (member s k) + 11) checked in
     let fewer = not_longer (begun_by ((past s requests h).calls k)) in
     made (found_at s k (past s requests h).plan ((past s requests h).waiting k) (begun_by ((past s requests h).calls k)) ((past s requests h).tasks k) (reads_count (member s k) + i) all (omega (arith, long, fewer, below)))
@@ -265,7 +251,7 @@ written_at has s requests h k i within below checked =
 
         by : (o : Option PlanView) → (o ≡ None) ⊎ (o ≡ (past s requests h).plan) → slice_get (agenda s o ((past s requests h).waiting k) k (outcomes_in f.older)) (length (outcomes_in f.older)) ≡ Some f.task →
             (plan : PlanView) × ((past s requests h).plan ≡ Some plan) × IsWritten s k plan (begun_by ((past s requests h).calls k)) i
-        by None same next = absurd (unplanned_at s k i ((past s requests h).waiting k) (outcomes_in f.older) f.task at next)
+        by None same next = absurd (unplanned_at s k ((past s requests h).waiting k) (outcomes_in f.older) f.task (omega (arith, at)) next)
         by (Some plan) (inl none) next = absurd (cc)
         by (Some plan) (inr same) next =
             let w = write_at s k i plan ((past s requests h).waiting k) (outcomes_in f.older) f.task below at next in
@@ -273,17 +259,17 @@ written_at has s requests h k i within below checked =
             (plan, sym same, record { newer = f.newer; one = f.one; older = f.older; split = f.split; place = f.place; asks = w.1 ∙ ap (λ r. Some r) (sym f.follows.asks); bytes = done.0; answered = done.1 })
 
 -- once each drive's check for phase 3 has ended well
-pub are_written : HasNext → (s : Known) (requests : ℕ → List Task) (h : List Call) → 1 ≤ length s.drives → all_checked s (past s requests h) ≡ true → AreWritten s (past s requests h)
-are_written has s requests h some all =
+pub are_written : (s : Known) (requests : ℕ → List Task) (h : List Call) → 1 ≤ length s.drives → all_checked s (past s requests h) ≡ true → AreWritten s (past s requests h)
+are_written s requests h some all =
     let first = at 0 0 (omega (arith, some)) (omega arith) in
     record {
       plan = first.0;
       plan_is = first.1;
-      written = λ k i within below. same_plan (first.1) (at k i within below);
+      written = λ k i within below. same_plan first.1 (at k i within below);
     }
   where
     at : (k i : ℕ) → k < length s.drives → i < 11 → (plan : PlanView) × ((past s requests h).plan ≡ Some plan) × IsWritten s k plan (begun_by ((past s requests h).calls k)) i
-    at k i within below = written_at has s requests h k i within below (each_passes (length s.drives) 0 (λ j. is_checked (member s j) (outcomes (past s requests h) j)) all k (omega arith) (omega (arith, within)))
+    at k i within below = written_at s requests h k i within below (each_passes (length s.drives) 0 (λ j. is_checked (member s j) (outcomes (past s requests h) j)) all k (omega arith) (omega (arith, within)))
 
     same_plan : {plan : PlanView} {k i : ℕ} → (past s requests h).plan ≡ Some plan → (other : PlanView) × ((past s requests h).plan ≡ Some other) × IsWritten s k other (begun_by ((past s requests h).calls k)) i → IsWritten s k plan (begun_by ((past s requests h).calls k)) i
     same_plan {plan} {k} {i} is (other, also, written) = subst (λ q. IsWritten s k q (begun_by ((past s requests h).calls k)) i) (same_Some _ _ (sym also ∙ is)) written
@@ -291,5 +277,5 @@ are_written has s requests h some all =
 -- the plan is kept then, also in the next phase
 pub holds_plan : {phase : ℕ} {v w : CoreView} (s : Known) (requests : ℕ → List Task) (h : List Call) → w.plan ≡ v.plan → IsIn phase v s (past s requests h) → all_checked s (past s requests h) ≡ true → HoldsPlan w s (past s requests h)
 holds_plan s requests h same stands all =
-    let written = are_written has_next s requests h stands.known.some all in
+    let written = are_written s requests h stands.known.some all in
     record { all = written; held = same ∙ (stands.stands.plan_is ∙ written.plan_is) }

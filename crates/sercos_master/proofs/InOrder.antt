@@ -1,10 +1,10 @@
 -- A request that begins is the first one that still waits.
-use Rattle.sercos_master.proofs.Words.{◌≡◌, ℕ, zero, suc, ◌+◌, ◌<◌, ◌≤◌, Bool, true, false, List, [], ◌∷◌, ◌++◌, length, refl, sym, ap, ◌∙◌, subst, arith, if◌then◌else◌, length-append, none-some, ◌==◌, nat_lt, Option, Some, None, is_some, map, drop, slice_get, false≢true, nat_tests, drop-drop, Job, Request, Outcome, outcome_of, PlanView, Begun, begun_by, Known, Task, member, startup, request_task, tasks_from, tasks_for, agenda, checking, reads, reads_count, writes, bytes_of, ended_well, is_ready, with_outcome, outcomes_in, of_phase, count_requests, get_none, length_map, length_append, reads_length, ready_long, ready_stays, next_request, none_4, Call, Past, past, outcomes, is_idle, next_task, begins, settled, still_waiting}
+use Rattle.sercos_master.proofs.Words.{inr, inl, cases_Bool, ◌≡◌, ℕ, zero, suc, ◌+◌, ◌<◌, ◌≤◌, Bool, true, false, List, [], ◌∷◌, ◌++◌, length, refl, sym, ap, ◌∙◌, subst, arith, if◌then◌else◌, length-append, none-some, ◌==◌, nat_lt, Option, Some, None, is_some, map, drop, slice_get, false≢true, nat_tests, drop-drop, Job, Request, Outcome, outcome_of, PlanView, Begun, begun_by, Known, Task, member, startup, request_task, tasks_from, tasks_for, agenda, checking, reads, reads_count, writes, bytes_of, ended_well, is_ready, with_outcome, outcomes_in, of_phase, count_requests, ready_long, ready_stays, next_request, none_4, Call, Past, past, outcomes, is_idle, next_task, begins, settled, still_waiting}
 use Rattle.sercos_step.specs.declared.request.Request.TheVariants as request
 use Rattle.sercos_seat.specs.Agenda.{idn}
 use Rattle.sercos_master.proofs.Keeping.{begins_next, past_keeps}
 use Rattle.sercos_master.proofs.Laws.{get_dropped, waiting_settled}
-use Rattle.sercos_master.proofs.Followed.{HasNext, AllFollow, Followed, Follows, followed, settled_follows, all_ended}
+use Rattle.sercos_master.proofs.Followed.{unplanned_at, AllFollow, Followed, Follows, followed, settled_follows, all_ended}
 use Rattle.sercos_master.proofs.Configured.{leaves}
 
 inside : {A : Type 0} {a b : A} → Some a ≡ Some b → a ≡ b
@@ -58,15 +58,14 @@ numbered_tell xs all i t e = let n = all i t e in rw (n.0, n.1) refl
 
 pub tasks_numbered : (address i : ℕ) (jobs : List Job) → AreNumbered (tasks_from address i jobs)
 tasks_numbered address i [] = λ j t e. absurd (none-some _ e)
-tasks_numbered address i (job ∷ jobs) = by (job.drive == address) (tasks_numbered address (i + 1) jobs)
+tasks_numbered address i (job ∷ jobs) = elim (cases_Bool (job.drive == address)) [
+  | inl on ↦ rw on (one_more (tasks_numbered address (i + 1) jobs))
+  | inr off ↦ rw off (tasks_numbered address (i + 1) jobs)
+]
   where
     one_more : AreNumbered (tasks_from address (i + 1) jobs) → AreNumbered (request_task i job.request ∷ tasks_from address (i + 1) jobs)
     one_more all zero t e = (ap (λ x. x.phase) (sym (inside e)), ap (λ x. is_some x.number) (sym (inside e)))
     one_more all (suc j) t e = all j t e
-
-    by : (b : Bool) → AreNumbered (tasks_from address (i + 1) jobs) → AreNumbered (if b then request_task i job.request ∷ tasks_from address (i + 1) jobs else tasks_from address (i + 1) jobs)
-    by false all = all
-    by true all = one_more all
 
 dropped_numbered : (n : ℕ) (xs : List Task) → AreNumbered xs → AreNumbered (drop n xs)
 dropped_numbered zero xs all = all
@@ -78,7 +77,13 @@ not_four : (t : Task) (b : Bool) → (if b then Some t else None) ≡ None → b
 not_four t true e = absurd (none-some _ (sym e))
 not_four t false e = refl
 
--- until both checks have ended well there are none
+-- until both checks have ended well there is none
+early_task : (s : Known) (k : ℕ) (plan : Option PlanView) (waiting : List Task) (all : List Outcome) (t : Task) → AreNumbered waiting →
+    is_ready (member s k) all ≡ false → slice_get (agenda s plan waiting k all) (length all) ≡ Some t → is_some t.number ≡ false
+early_task s k plan waiting all t numbered early next =
+    sym (tell_agenda s plan waiting k all (numbered_tell waiting numbered) (length all) t next)
+    ∙ not_four t (t.phase == 4) (ap (of_phase 4) (sym next) ∙ none_4 s plan waiting k all early (length all))
+
 none_yet : (s : Known) (k : ℕ) (plan : Option PlanView) (waiting : List Task) (begun : List Begun) (tasks : List Task) → AreNumbered waiting → AllFollow s k plan waiting begun tasks →
     is_ready (member s k) (outcomes_in begun) ≡ false → count_requests tasks ≡ 0
 none_yet s k plan waiting [] [] numbered all early = refl
@@ -86,20 +91,13 @@ none_yet s k plan waiting [] (t ∷ tasks) numbered all early = absurd all
 none_yet s k plan waiting (b ∷ older) [] numbered all early = refl
 none_yet s k plan waiting (b ∷ older) (t ∷ tasks) numbered all early = by (is_ready (member s k) (outcomes_in older)) refl (none_yet s k plan waiting older tasks numbered all.0)
   where
-    f : Follows s k plan waiting b t older tasks
-    f = all.1
-
     stays : (o : Option Outcome) → is_ready (member s k) (outcomes_in older) ≡ true → is_ready (member s k) (with_outcome o (outcomes_in older)) ≡ true
     stays None e = e
     stays (Some o) e = ready_stays (member s k) (outcomes_in older) o (ready_long (member s k) (outcomes_in older) e) ∙ e
 
     by : (ready : Bool) → is_ready (member s k) (outcomes_in older) ≡ ready → (is_ready (member s k) (outcomes_in older) ≡ false → count_requests tasks ≡ 0) → (if is_some t.number then count_requests tasks + 1 else count_requests tasks) ≡ 0
     by true e before = absurd (false≢true (sym early ∙ stays (outcome_of b.request b.answers) e))
-    by false e before =
-        let tells : (t.phase == 4) ≡ is_some t.number = tell_agenda s f.by_then waiting k (outcomes_in older) (numbered_tell waiting numbered) (length (outcomes_in older)) t f.next in
-        let other : of_phase 4 (Some t) ≡ None = ap (of_phase 4) (sym f.next) ∙ none_4 s f.by_then waiting k (outcomes_in older) e (length (outcomes_in older)) in
-        let four : (t.phase == 4) ≡ false = not_four t (t.phase == 4) other in
-        rw (sym tells ∙ four) (before e)
+    by false e before = rw (early_task s k all.1.by_then waiting (outcomes_in older) t numbered e all.1.next) (before e)
 
 -- then each task is the next request
 each_then : (s : Known) (k : ℕ) (plan : Option PlanView) (waiting : List Task) (begun : List Begun) (tasks : List Task) → AreNumbered waiting → AllFollow s k plan waiting begun tasks →
@@ -118,41 +116,26 @@ each_then s k plan waiting (b ∷ older) (t ∷ tasks) numbered all ended ready 
     one_more (Some o) long e early =
         let many = ready_long (member s k) (outcomes_in older ++ o ∷ []) e in
         let l = length-append (outcomes_in older) (o ∷ []) in
-        let same = f.ended in
-        by_place (nat_lt (reads_count (member s k) + 12) (length (outcomes_in older))) refl (omega (arith, many, l, same))
+        by_place (nat_lt (reads_count (member s k) + 12) (length (outcomes_in older))) refl (omega (arith, many, l, f.ended))
       where
         by_place : (b : Bool) → nat_lt (reads_count (member s k) + 12) (length (outcomes_in older)) ≡ b → reads_count (member s k) + 12 ≤ length older → length older ≡ reads_count (member s k) + 12
         by_place true g h =
-            let beyond : reads_count (member s k) + 12 < length (outcomes_in older) = grind (arith, nat_tests, g) in
-            absurd (false≢true (sym early ∙ (sym (ready_stays (member s k) (outcomes_in older) o beyond) ∙ e)))
+            absurd (false≢true (sym early ∙ (sym (ready_stays (member s k) (outcomes_in older) o (grind (arith, nat_tests, g))) ∙ e)))
         by_place false g h = let same = f.ended in let not_beyond : length (outcomes_in older) ≤ reads_count (member s k) + 12 = grind (arith, nat_tests, g) in omega (arith, same, not_beyond, h)
 
     by : (early : Bool) → is_ready (member s k) (outcomes_in older) ≡ early → (is_ready (member s k) (outcomes_in older) ≡ true → reads_count (member s k) + 13 + count_requests tasks ≡ length older) → reads_count (member s k) + 13 + (if is_some t.number then count_requests tasks + 1 else count_requests tasks) ≡ suc (length older)
     by true e rest = go f.by_then f.next
       where
-        before : reads_count (member s k) + 13 + count_requests tasks ≡ length older
-        before = rest e
-
         go : (o : Option PlanView) → slice_get (agenda s o waiting k (outcomes_in older)) (length (outcomes_in older)) ≡ Some t → reads_count (member s k) + 13 + (if is_some t.number then count_requests tasks + 1 else count_requests tasks) ≡ suc (length older)
-        go None next = absurd (unplanned (outcomes_in older) (ready_long (member s k) (outcomes_in older) e) next)
-          where
-            unplanned : (all : List Outcome) → reads_count (member s k) + 12 < length all → slice_get (map (startup 2) (reads (member s k)) ++ []) (length all) ≡ Some t → ⊥
-            unplanned all long next =
-                let l : length (map (startup 2) (reads (member s k))) ≡ reads_count (member s k) = length_map (startup 2) (reads (member s k)) ∙ reads_length (member s k) in
-                let a = length_append (map (startup 2) (reads (member s k))) [] in
-                none-some _ (sym (get_none (map (startup 2) (reads (member s k)) ++ []) (length all) (omega (arith, l, a, long))) ∙ next)
+        go None next = absurd (unplanned_at s k waiting (outcomes_in older) t (omega (arith, ready_long (member s k) (outcomes_in older) e)) next)
         go (Some p) next =
-            let at : length (outcomes_in older) ≡ reads_count (member s k) + 13 + count_requests tasks = f.ended ∙ sym before in
+            let at : length (outcomes_in older) ≡ reads_count (member s k) + 13 + count_requests tasks = f.ended ∙ sym (rest e) in
             let is : slice_get waiting (count_requests tasks) ≡ Some t = sym (next_request s p waiting k (outcomes_in older) (count_requests tasks) e at) ∙ next in
-            let has = numbered (count_requests tasks) t is in
-            rw has.1 (omega (arith, before))
+            rw (numbered (count_requests tasks) t is).1 (omega (arith, rest e))
     by false e rest =
         let at : length older ≡ reads_count (member s k) + 12 = one_more (outcome_of b.request b.answers) ended ready e in
-        let tells : (t.phase == 4) ≡ is_some t.number = tell_agenda s f.by_then waiting k (outcomes_in older) (numbered_tell waiting numbered) (length (outcomes_in older)) t f.next in
-        let other : of_phase 4 (Some t) ≡ None = ap (of_phase 4) (sym f.next) ∙ none_4 s f.by_then waiting k (outcomes_in older) e (length (outcomes_in older)) in
-        let four : (t.phase == 4) ≡ false = not_four t (t.phase == 4) other in
         let none : count_requests tasks ≡ 0 = none_yet s k plan waiting older tasks numbered all.0 e in
-        rw (sym tells ∙ four) (omega (arith, at, none))
+        rw (early_task s k f.by_then waiting (outcomes_in older) t numbered e f.next) (omega (arith, at, none))
 
 -- WHAT WAITS is what is left of the requests that the master was opened with.
 pub still_left : (s : Known) (requests : ℕ → List Task) (h : List Call) (k : ℕ) → (n : ℕ) × ((past s requests h).waiting k ≡ drop n (requests k))
@@ -167,23 +150,21 @@ still_left s requests h k = past_keeps (λ p. (n : ℕ) × (p.waiting k ≡ drop
       (before.0 + n, ap (drop n) before.1 ∙ drop-drop n before.0 (requests k));
 }) h
 
-pub first_waiting : HasNext → (s : Known) (jobs : List Job) (h : List Call) (k : ℕ) (t : Task) → k < length s.drives → begins s (settled s (past s (tasks_for s jobs) h)) k ≡ Some t → is_some t.number ≡ true →
+pub first_waiting : (s : Known) (jobs : List Job) (h : List Call) (k : ℕ) (t : Task) → k < length s.drives → begins s (settled s (past s (tasks_for s jobs) h)) k ≡ Some t → is_some t.number ≡ true →
     slice_get (still_waiting (past s (tasks_for s jobs) h) k) 0 ≡ Some t
-first_waiting has s jobs h k t within begin number =
+first_waiting s jobs h k t within begin number =
+    let p = past s (tasks_for s jobs) h in
     let b = begins_next s q k t begin in
     let keeps = leaves s p in
     let n = count_requests (p.tasks k) in
     let zero_is : n + 0 ≡ n = omega arith in
     (get_dropped n (p.waiting k) 0 ∙ ap (slice_get (p.waiting k)) zero_is) ∙ (sym (ap (λ w. slice_get (w k) (count_requests (p.tasks k))) (waiting_settled s p)) ∙ (sym (ap (λ ts. slice_get (q.waiting k) (count_requests (ts k))) keeps.tasks) ∙ one b.idle b.next))
   where
-    p : Past
-    p = past s (tasks_for s jobs) h
-
     q : Past
     q = settled s (past s (tasks_for s jobs) h)
 
     all : Followed s (settled s (past s (tasks_for s jobs) h)) k
-    all = settled_follows s (past s (tasks_for s jobs) h) k (followed has s (tasks_for s jobs) h k within)
+    all = settled_follows s (past s (tasks_for s jobs) h) k (followed s (tasks_for s jobs) h k within)
 
     numbered : AreNumbered ((settled s (past s (tasks_for s jobs) h)).waiting k)
     numbered =
@@ -194,25 +175,18 @@ first_waiting has s jobs h k t within begin number =
     one idle next = which (is_ready (member s k) (outcomes q k)) refl
       where
         ended : length (outcomes (settled s (past s (tasks_for s jobs) h)) k) ≡ length (begun_by ((settled s (past s (tasks_for s jobs) h)).calls k))
-        ended = all_ended has s k q.plan (q.waiting k) (begun_by (q.calls k)) (q.tasks k) all idle
+        ended = all_ended s k q.plan (q.waiting k) (begun_by (q.calls k)) (q.tasks k) all idle
 
         which : (b : Bool) → is_ready (member s k) (outcomes (settled s (past s (tasks_for s jobs) h)) k) ≡ b → slice_get ((settled s (past s (tasks_for s jobs) h)).waiting k) (count_requests ((settled s (past s (tasks_for s jobs) h)).tasks k)) ≡ Some t
-        which false early =
-            let tells : (t.phase == 4) ≡ is_some t.number = tell_agenda s q.plan (q.waiting k) k (outcomes q k) (numbered_tell (q.waiting k) numbered) (length (outcomes q k)) t next in
-            let other : of_phase 4 (Some t) ≡ None = ap (of_phase 4) (sym next) ∙ none_4 s q.plan (q.waiting k) k (outcomes q k) early (length (outcomes q k)) in
-            absurd (none-some _ (sym (ap (λ b. if b then Some t else None) (sym (tells ∙ number)) ∙ other)))
+        which false early = absurd (false≢true (sym (early_task s k q.plan (q.waiting k) (outcomes q k) t numbered early next) ∙ number))
         which true ready = go q.plan refl
           where
             count : reads_count (member s k) + 13 + count_requests ((settled s (past s (tasks_for s jobs) h)).tasks k) ≡ length (begun_by ((settled s (past s (tasks_for s jobs) h)).calls k))
             count = each_then s k q.plan (q.waiting k) (begun_by (q.calls k)) (q.tasks k) numbered all ended ready
 
             go : (o : Option PlanView) → (settled s (past s (tasks_for s jobs) h)).plan ≡ o → slice_get ((settled s (past s (tasks_for s jobs) h)).waiting k) (count_requests ((settled s (past s (tasks_for s jobs) h)).tasks k)) ≡ Some t
-            go None none =
-                let l : length (map (startup 2) (reads (member s k))) ≡ reads_count (member s k) = length_map (startup 2) (reads (member s k)) ∙ reads_length (member s k) in
-                let a = length_append (map (startup 2) (reads (member s k))) [] in
-                let long = ready_long (member s k) (outcomes q k) ready in
-                let at : slice_get (map (startup 2) (reads (member s k)) ++ []) (length (outcomes q k)) ≡ Some t = subst (λ o. slice_get (agenda s o (q.waiting k) k (outcomes q k)) (length (outcomes q k)) ≡ Some t) none next in
-                absurd (none-some _ (sym (get_none (map (startup 2) (reads (member s k)) ++ []) (length (outcomes q k)) (omega (arith, l, a, long))) ∙ at))
+            go None none = absurd (unplanned_at s k (q.waiting k) (outcomes q k) t (omega (arith, ready_long (member s k) (outcomes q k) ready))
+                (subst (λ o. slice_get (agenda s o (q.waiting k) k (outcomes q k)) (length (outcomes q k)) ≡ Some t) none next))
             go (Some plan) some =
                 let at : slice_get (agenda s (Some plan) (q.waiting k) k (outcomes q k)) (length (outcomes q k)) ≡ Some t = subst (λ o. slice_get (agenda s o (q.waiting k) k (outcomes q k)) (length (outcomes q k)) ≡ Some t) some next in
                 sym (next_request s plan (q.waiting k) k (outcomes q k) (count_requests (q.tasks k)) ready (ended ∙ sym count)) ∙ at

@@ -1,8 +1,13 @@
 -- What holds after any calls: each kind of call keeps it, and so do its parts.
-use Rattle.sercos_master.proofs.Words.{inl, inr, ◌≡◌, ℕ, zero, suc, ◌+◌, ◌<◌, ◌≤◌, Bool, true, false, List, [], ◌∷◌, Option, Some, None, Result, Ok, Err, length, refl, sym, ◌∙◌, ap, subst, arith, if◌then◌else◌, ◌==◌, ◌&&◌, nat_le, is_some, is_none, slice_index, option_or, and_parts, cases_eq, cond_both, eqb-true, false≢true, leb-true, or_cases, none-some, same_Some, status_of, word_at, Hear, record_bytes, PlanView, planned, Stop, wishes_given, last_long_stop, is_place, of_phase, Known, Task, member, Call, HearMst, HearAt, Mdt, End, Restart, Past, IsPlannedBy, past, outcomes, is_idle, first_from, is_mst, place_of, is_taken, hearing, after_taken, after_at_of, trouble, first_trouble, first_trouble_from, with_stop, is_plan_due, all_read, with_plan, planned_by, with_due_plan, settled, in_turn, has_turn, next_task, begins, fall_of, is_done, goes_on, new_epoch, still_waiting, after_mdt, after_end}
+use Rattle.sercos_master.proofs.Words.{cases_Bool, ◌⊎◌, inl, inr, ◌≡◌, ℕ, zero, suc, ◌+◌, ◌<◌, ◌≤◌, Bool, true, false, List, [], ◌∷◌, Option, Some, None, Result, Ok, Err, length, refl, sym, ◌∙◌, ap, subst, arith, if◌then◌else◌, ◌==◌, ◌&&◌, nat_le, is_some, is_none, slice_index, and_parts, cases_eq, cond_both, eqb-true, false≢true, leb-true, or_cases, none-some, same_Some, status_of, word_at, Hear, record_bytes, PlanView, planned, Stop, wishes_given, last_long_stop, is_place, of_phase, Known, Task, member, Call, HearMst, HearAt, Mdt, End, Restart, Past, IsPlannedBy, past, outcomes, is_idle, first_from, is_mst, place_of, is_taken, hearing, after_taken, after_at_of, trouble, first_trouble, first_trouble_from, with_stop, is_plan_due, all_read, with_plan, planned_by, with_due_plan, settled, in_turn, has_turn, next_task, begins, fall_of, is_done, goes_on, new_epoch, still_waiting, after_mdt, after_end}
 use Rattle.sercos_service_master.specs.Calls as channel
 use Rattle.sercos_plan.specs.Views.{ChainView}
 use Rattle.sercos_trace.specs.declared.events.Stop.TheVariants as stop
+
+-- an optional value is missing or there
+pub cases_Option : {A : Type 0} (o : Option A) → (o ≡ None) ⊎ ((x : A) × (o ≡ Some x))
+cases_Option None = inl refl
+cases_Option (Some x) = inr (x, refl)
 
 -- THE FIRST PLACE that passes a test is one of them, and those before it fail.
 pub record IsFirst (k n i : ℕ) (test : ℕ → Bool) : Type 0 where
@@ -13,31 +18,25 @@ pub record IsFirst (k n i : ℕ) (test : ℕ → Bool) : Type 0 where
 
 pub first_found : (k n i : ℕ) (test : ℕ → Bool) → first_from k n test ≡ Some i → IsFirst k n i test
 first_found k zero i test found = absurd (cc)
-first_found k (suc n) i test found = by (test k) refl found (first_found (k + 1) n i test)
-  where
-    by : (b : Bool) → test k ≡ b → (if b then Some k else first_from (k + 1) n test) ≡ Some i
-        → (first_from (k + 1) n test ≡ Some i → IsFirst (k + 1) n i test) → IsFirst k (suc n) i test
-    by true passes found next =
-        let same : k ≡ i = same_Some k i found in
-        record {
-          from = omega (arith, same);
-          below = omega (arith, same);
-          passes = subst (λ j. test j ≡ true) same passes;
-          before = λ j low high. absurd (omega (arith, same, low, high));
-        }
-    by false fails found next =
-        let more = next found in
-        let low = more.from in
-        let high = more.below in
-        record {
-          from = omega (arith, low);
-          below = omega (arith, high);
-          passes = more.passes;
-          before = λ j from less. elim (cases_eq j k) [
-            | inl same ↦ ap test same ∙ fails
-            | inr other ↦ more.before j (omega (arith, from, other)) less
-          ];
-        }
+first_found k (suc n) i test found = elim (cases_Bool (test k)) [
+  | inl passes ↦ let found = rw passes at found in let same : k ≡ i = same_Some k i found in
+      record {
+        from = omega (arith, same);
+        below = omega (arith, same);
+        passes = subst (λ j. test j ≡ true) same passes;
+        before = λ j low high. absurd (omega (arith, same, low, high));
+      }
+  | inr fails ↦ let found = rw fails at found in let more = first_found (k + 1) n i test found in
+      record {
+        from = omega (arith, more.from);
+        below = omega (arith, more.below);
+        passes = more.passes;
+        before = λ j from less. elim (cases_eq j k) [
+          | inl same ↦ ap test same ∙ fails
+          | inr other ↦ more.before j (omega (arith, from, other)) less
+        ];
+      }
+]
 
 -- AN AT changes nothing, or is taken.
 pub at_keeps : (P : Past → Type 0) (s : Known) (place : Option ℕ) (content : List ℕ) (p : Past) → P p
@@ -51,12 +50,7 @@ pub channel_keeps : (P : List channel.Call → Type 0) (i k : ℕ) (content : Li
     → (k ≡ i → P (Hear (status_of (word_at content 1)) (word_at content 3) ∷ p.calls k)) → P ((after_taken i content p).calls k)
 channel_keeps P i k content p before hears = cond_both (k == i) (hearing (p.now.phase == 1) i content p).calls (p.calls k) P
     (λ on. let same = eqb-true k i on in subst (λ (n : ℕ). P (hearing (p.now.phase == 1) n content p).calls) same
-    (one (hears same) (p.now.phase == 1))) (λ off. before)
-  where
-    one : P (Hear (status_of (word_at content 1)) (word_at content 3) ∷ p.calls k) → (identifies : Bool)
-        → P (hearing identifies k content p).calls
-    one heard true = before
-    one heard false = heard
+    (elim (cases_Bool (p.now.phase == 1)) [ inl on ↦ rw on before | inr off ↦ rw off (hears same) ])) (λ off. before)
 
 -- THE ANSWERS ARE LOOKED AT. What brings a stop: an outcome; reads that no plan fits; records that are too long for an MDT.
 pub data Brings (s : Known) (p : Past) (x : Stop) : Type 0 where
@@ -91,13 +85,10 @@ never_both (Some x) on off = cc
 pub trouble_found : (s : Known) (p : Past) (n k : ℕ) (x : Stop) → first_trouble_from s p k n ≡ Some x
     → (i : ℕ) × (i < k + n) × (trouble s p i ≡ Some x)
 trouble_found s p zero k x is = absurd (cc)
-trouble_found s p (suc n) k x is = by (trouble s p k) refl is (trouble_found s p n (k + 1) x)
-  where
-    by : (o : Option Stop) → trouble s p k ≡ o → option_or o (first_trouble_from s p (k + 1) n) ≡ Some x
-        → (first_trouble_from s p (k + 1) n ≡ Some x → (i : ℕ) × (i < (k + 1) + n) × (trouble s p i ≡ Some x))
-        → (i : ℕ) × (i < k + suc n) × (trouble s p i ≡ Some x)
-    by None none is more = let m = more is in let less = m.1 in (m.0, omega arith, m.2)
-    by (Some y) some is more = (k, omega arith, some ∙ is)
+trouble_found s p (suc n) k x is = elim (cases_Option (trouble s p k)) [
+  | inl none ↦ let m = trouble_found s p n (k + 1) x (rw none at is) in let less = m.1 in (m.0, omega arith, m.2)
+  | inr (y, some) ↦ (k, omega arith, some ∙ rw some at is)
+]
 
 -- nothing comes of the answers: there is a stop already, or no trouble, and a plan that would be due is there
 pub record Rests (s : Known) (p : Past) : Type 0 where
@@ -194,22 +185,13 @@ begins_next s p k t is = by (is_none p.stop && (is_idle p k && has_turn s p k)) 
     place None on = absurd (cc)
     place (Some i) on = ap (λ (n : ℕ). Some n) (sym (eqb-true k i on))
 
-    its_turn : has_turn s p k ≡ true → (2 ≤ p.now.phase) × (p.now.phase ≡ 2 → in_turn s p ≡ Some k)
-    its_turn turn = elim (or_cases (nat_le 3 p.now.phase) ((p.now.phase == 2) && is_place k (in_turn s p)) turn) [
-      | inl late ↦ let three = leb-true 3 p.now.phase late in (omega (arith, three), λ two. absurd (omega (arith, three, two)))
-      | inr same ↦
-          let both = and_parts (p.now.phase == 2) _ same in
-          let two = eqb-true p.now.phase 2 both.0 in (omega (arith, two), λ is. place (in_turn s p) both.1)
-    ]
-
     of : (o : Option Task) → of_phase p.now.phase o ≡ Some t → (o ≡ Some t) × (t.phase ≡ p.now.phase)
     of None got = absurd (cc)
-    of (Some u) got = which (u.phase == p.now.phase) refl got
-      where
-        which : (v : Bool) → (u.phase == p.now.phase) ≡ v → (if v then Some u else None) ≡ Some t
-            → (Some u ≡ Some t) × (t.phase ≡ p.now.phase)
-        which true on got = let same : u ≡ t = cc in (got, ap (λ (x : Task). x.phase) (sym same) ∙ eqb-true u.phase p.now.phase on)
-        which false off got = absurd (cc)
+    of (Some u) got = elim (cases_Bool (u.phase == p.now.phase)) [
+      | inl on ↦ let got = rw on at got in let same : u ≡ t = cc in
+          (got, ap (λ (x : Task). x.phase) (sym same) ∙ eqb-true u.phase p.now.phase on)
+      | inr off ↦ let got = rw off at got in absurd (cc)
+    ]
 
     by : (v : Bool) → (is_none p.stop && (is_idle p k && has_turn s p k)) ≡ v
         → (if v then of_phase p.now.phase (next_task s p k) else None) ≡ Some t
@@ -219,7 +201,13 @@ begins_next s p k t is = by (is_none p.stop && (is_idle p k && has_turn s p k)) 
         let free = and_parts (is_none p.stop) _ on in
         let ready = and_parts (is_idle p k) (has_turn s p k) free.1 in
         let so = of (next_task s p k) got in
-        let turn = its_turn ready.1 in
+        let turn : (2 ≤ p.now.phase) × (p.now.phase ≡ 2 → in_turn s p ≡ Some k) = elim
+        (or_cases (nat_le 3 p.now.phase) ((p.now.phase == 2) && is_place k (in_turn s p)) ready.1) [
+          | inl late ↦ let three = leb-true 3 p.now.phase late in (omega (arith, three), λ two. absurd (omega (arith, three, two)))
+          | inr same ↦
+              let both = and_parts (p.now.phase == 2) _ same in
+              let two = eqb-true p.now.phase 2 both.0 in (omega (arith, two), λ is. place (in_turn s p) both.1)
+        ] in
         record { unstopped = none_of p.stop free.0; idle = ready.0; late = turn.0; turn = turn.1; next = so.0; in_phase = so.1 }
 
 -- THE END OF A CYCLE is a fall, or the ring goes on, to the next phase if all is done.
@@ -228,11 +216,7 @@ going done p = goes_on (if done then p.now.phase + 1 else p.now.phase) p
 
 pub end_keeps : (P : Past → Type 0) (s : Known) (p : Past) → P (new_epoch (p.cycle + 1) (still_waiting p))
     → ((done : Bool) → is_done s p ≡ done → P (going done p)) → P (after_end s p)
-end_keeps P s p falls goes = by (is_some (fall_of s p)) (is_done s p) refl
-  where
-    by : (fell done : Bool) → is_done s p ≡ done → P (if fell then new_epoch (p.cycle + 1) (still_waiting p) else going done p)
-    by true done is = falls
-    by false done is = goes done is
+end_keeps P s p falls goes = elim (cases_Bool (is_some (fall_of s p))) [ inl on ↦ rw on falls | inr off ↦ rw off (goes (is_done s p) refl) ]
 
 -- what an MST leaves, whole or not
 abbrev pub came_back : Bool → Past → Past

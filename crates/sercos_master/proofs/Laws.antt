@@ -15,9 +15,6 @@ get_dropped zero xs i = ap (slice_get xs) (omega arith)
 get_dropped (suc n) [] i = refl
 get_dropped (suc n) (x ∷ xs) i = let e : suc n + i ≡ suc (n + i) = omega arith in rw e (get_dropped n xs i)
 
-dropped : (n : ℕ) (waiting : List Task) → AreWaiting waiting → AreWaiting (drop n waiting)
-dropped n waiting all i t e = all (n + i) t (sym (get_dropped n waiting i) ∙ e)
-
 abbrev phase_in : Option Task → ℕ
 phase_in None = 4
 phase_in (Some t) = t.phase
@@ -40,7 +37,8 @@ all_waiting s requests h all k = past_keeps (λ p. AreWaiting (p.waiting k)) s r
   taken = λ h i content inside is are. are;
   mdt = λ h are. subst (λ w. AreWaiting (w k)) (sym (waiting_settled s (past s requests h))) are;
   on = λ h done is are. are;
-  new = λ h cycle are. dropped (count_requests ((past s requests h).tasks k)) ((past s requests h).waiting k) are;
+  new = λ h cycle are. λ i t e. are ((count_requests ((past s requests h).tasks k)) + i) t
+      (sym (get_dropped (count_requests ((past s requests h).tasks k)) ((past s requests h).waiting k) i) ∙ e);
 }) h
 
 pub jobs_waiting : (s : Known) (jobs : List Job) (h : List Call) (k : ℕ) → AreWaiting ((past s (tasks_for s jobs) h).waiting k)

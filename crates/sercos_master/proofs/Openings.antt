@@ -1,43 +1,23 @@
 -- What a master stands for when it is opened.
-use Rattle.sercos_master.proofs.Words.{◌≡◌, ℕ, zero, suc, ◌+◌, ◌<◌, ◌≤◌, ◌==◌, List, [], ◌∷◌, ◌++◌, length, ap, refl, sym, ◌∙◌, arith, subst, inl, inr, ◌⊎◌, if◌then◌else◌, map, nat_lt, slice_index, slice_index_or, Some, None, false, Bool, true, All, position, set, length-set, cases_eq, eqb-true, eq-eqb, nat_tests, get_or-set_at, append_assoc, append-nil, get_or-set_other, get_or_append_left, get_or_push, length_push, nil_from_length, position-Some, Job, IsRequest, AreDistinct, DriveView, RingView, Known, IsKnown, MemberView, Task, HasLists, member, member_of, known_of, no_member, request_task, tasks_from, tasks_for, with_job, SeatView, SeatStandsFor, nothing_seen, first_from, new_epoch, SeatsStandFor, CoreView, CoreStandsFor, AreFresh, wishes_of, length_map}
+use Rattle.sercos_master.proofs.Words.{◌≡◌, ℕ, zero, suc, ◌+◌, ◌<◌, ◌≤◌, ◌==◌, List, [], ◌∷◌, ◌++◌, length, ap, refl, sym, ◌∙◌, arith, subst, inl, inr, if◌then◌else◌, map, nat_lt, slice_index, slice_index_or, Some, None, false, Bool, true, All, position, set, length-set, cases_eq, eqb-true, eq-eqb, nat_tests, get_or-set_at, append_assoc, append-nil, get_or-set_other, get_or_append_left, get_or_push, length_push, nil_from_length, position-Some, Job, IsRequest, AreDistinct, DriveView, RingView, Known, IsKnown, MemberView, Task, HasLists, member, member_of, known_of, no_member, request_task, tasks_from, tasks_for, with_job, SeatView, SeatStandsFor, nothing_seen, first_from, new_epoch, SeatsStandFor, CoreView, CoreStandsFor, AreFresh, wishes_of, length_map}
+use Rattle.std.proofs.lemmas.Bool.{cases_lt}
+use Rattle.std.proofs.lemmas.List.{get_or-map}
 use Rattle.std.proofs.lemmas.List.Elements.{All-map}
 use Rattle.sercos_block.specs.ValidRings.{IsRing}
 use Rattle.sercos_master.proofs.Places.{first_seat, place_same, other_place}
 
-get_mapped : (drives : List DriveView) (i : ℕ) (d : MemberView) (e : DriveView) → i < length drives → slice_index_or (map member_of drives) i d ≡ member_of (slice_index_or drives i e)
-get_mapped [] i d e h = absurd (omega (arith, h))
-get_mapped (x ∷ drives) zero d e h = refl
-get_mapped (x ∷ drives) (suc i) d e h = get_mapped drives i d e (omega (arith, h))
-
-get_first : (seats : List SeatView) (w : SeatView) (k : ℕ) (v : SeatView) → k < length seats → slice_index_or (seats ++ w ∷ []) k v ≡ slice_index_or seats k v
-get_first [] w k v h = absurd (omega (arith, h))
-get_first (x ∷ seats) w zero v h = refl
-get_first (x ∷ seats) w (suc k) v h = get_first seats w k v (omega (arith, h))
-
-get_last : (seats : List SeatView) (w : SeatView) (v : SeatView) → slice_index_or (seats ++ w ∷ []) (length seats) v ≡ w
-get_last [] w v = refl
-get_last (x ∷ seats) w v = get_last seats w v
-
-length_one : (seats : List SeatView) (w : SeatView) → length (seats ++ w ∷ []) ≡ length seats + 1
-length_one [] w = refl
-length_one (x ∷ seats) w = let e : length (seats ++ w ∷ []) ≡ length seats + 1 = length_one seats w in rw e (omega arith)
-
 pub count_more : (seats : List SeatView) (w : SeatView) (n : ℕ) → length seats ≡ n → length (seats ++ w ∷ []) ≡ n + 1
-count_more seats w n e = length_one seats w ∙ ap (λ m. m + 1) e
+count_more seats w n e = length_push seats w ∙ ap (λ m. m + 1) e
 
 pub fresh_more : (seats : List SeatView) (w : SeatView) (drives : List DriveView) (n : ℕ) (e : DriveView) → length seats ≡ n → n < length drives → AreFresh seats (map member_of drives) →
     ((d : MemberView) → d ≡ member_of (slice_index_or drives n e) → SeatStandsFor w d (nothing_seen [])) → AreFresh (seats ++ w ∷ []) (map member_of drives)
 fresh_more seats w drives n e count within all here k v d below = by (nat_lt k n) refl
   where
-    l : length (seats ++ w ∷ []) ≡ length seats + 1
-    l = length_one seats w
-
     by : (b : Bool) → nat_lt k n ≡ b → SeatStandsFor (slice_index_or (seats ++ w ∷ []) k v) (slice_index_or (map member_of drives) k d) (nothing_seen [])
-    by true f = let h : k < length seats = grind (arith, nat_tests, f, count) in rw (get_first seats w k v h) (all k v d h)
-    by false f =
-        let more = l in
-        let same : k ≡ length seats = grind (arith, nat_tests, f, count, below, more) in
-        rw (same, get_last seats w v) (here (slice_index_or (map member_of drives) (length seats) d) (rw count (get_mapped drives n d e within)))
+    by true f = let h : k < length seats = grind (arith, nat_tests, f, count) in rw (get_or_append_left seats (w ∷ []) v k h) (all k v d h)
+    by false f = let same : k ≡ length seats = grind (arith, nat_tests, f, count, below, length_push seats w) in
+        rw (same, get_or_push seats w v (length seats) refl)
+        (here (slice_index_or (map member_of drives) (length seats) d) (rw count (get_or-map member_of drives n e d within)))
 
 pub nothing_fresh : (members : List MemberView) → AreFresh [] members
 nothing_fresh members k v d h = absurd (omega (arith, h))
@@ -47,13 +27,12 @@ pub lists_more : (drives : List DriveView) (n : ℕ) (e : DriveView) → n < len
     ((k : ℕ) (d : MemberView) → k < n → HasLists (slice_index_or (map member_of drives) k d)) → HasLists (member_of (slice_index_or drives n e)) →
     (k : ℕ) (d : MemberView) → k < n + 1 → HasLists (slice_index_or (map member_of drives) k d)
 lists_more drives n e within all here k d below = elim (cases_eq k n) [
-  | inl is ↦ rw (is, get_mapped drives n d e within) here
+  | inl is ↦ rw (is, get_or-map member_of drives n e d within) here
   | inr other ↦ all k d (omega (arith, below, other))
 ]
 
 pub mapped_length : (drives : List DriveView) → length (map member_of drives) ≡ length drives
-mapped_length [] = refl
-mapped_length (d ∷ drives) = ap (λ n. suc n) (mapped_length drives)
+mapped_length drives = length_map member_of drives
 
 pub lists_all : (drives : List DriveView) (n : ℕ) → length drives ≤ n →
     ((k : ℕ) (d : MemberView) → k < n → HasLists (slice_index_or (map member_of drives) k d)) → All HasLists (map member_of drives)
@@ -104,17 +83,14 @@ dealt_next all seats0 jobs left job seats new done number a split number_is coun
         subst (λ j. IsRequest j.request) (get_or_append_left left (job ∷ []) d k below) (all k d (omega (arith, l, below)))
 
 pub last_asks : (jobs left : List Job) (job : Job) → All (λ j. IsRequest j.request) jobs → jobs ≡ left ++ job ∷ [] → IsRequest job.request
-last_asks jobs left job all split =
-    let l = length_push left job in
-    let m : length jobs ≡ length left + 1 = ap (λ xs. length xs) split ∙ l in
+last_asks jobs left job all split = let m : length jobs ≡ length left + 1 = ap (λ xs. length xs) split ∙ (length_push left job) in
     subst (λ j. IsRequest j.request) (ap (λ xs. slice_index_or xs (length left) job) split ∙ get_or_push left job job (length left) refl) (all (length left) job (omega (arith, m)))
 
 pub all_dealt : (all jobs : List Job) (seats1 seats : List SeatView) (done : ℕ) → AreDealt all seats1 jobs seats done → length all ≤ done →
     (s : Known) → AreDistinct (map (λ d. d.address) s.drives) → length seats1 ≡ length s.drives → SeatsStandFor seats1 s (λ k. nothing_seen []) →
     SeatsStandFor seats s (λ k. nothing_seen (tasks_for s all k))
 all_dealt all jobs seats1 seats done a over s apart same stands =
-    let h = a.left in
-    let none : jobs ≡ [] = nil_from_length jobs (omega (arith, h, over)) in
+    let none : jobs ≡ [] = nil_from_length jobs (omega (arith, a.left, over)) in
     let whole : a.more ≡ all = ap (λ xs. xs ++ a.more) (sym none) ∙ a.whole in
     let one : length jobs + 1 ≡ 1 = ap (λ xs. length xs + 1) none in
     subst (λ xs. SeatsStandFor seats s (λ k. nothing_seen (tasks_from (member s k).address 1 xs))) whole
@@ -122,27 +98,15 @@ all_dealt all jobs seats1 seats done a over s apart same stands =
 
 -- A request is for the one drive with its address.
 address_at : (s : Known) (i : ℕ) → i < length s.drives → slice_index (map (λ d. d.address) s.drives) i ≡ (member s i).address
-address_at s i within = mapped s.drives i within
-  where
-    mapped : (drives : List MemberView) (i : ℕ) → i < length drives → slice_index (map (λ d. d.address) drives) i ≡ (slice_index_or drives i no_member).address
-    mapped [] i h = absurd (omega (arith, h))
-    mapped (d ∷ drives) zero h = refl
-    mapped (d ∷ drives) (suc i) h = mapped drives i (omega (arith, h))
+address_at s i within = get_or-map (λ (d : MemberView). d.address) s.drives i no_member 0 within
 
 other_address : (s : Known) (i k : ℕ) → AreDistinct (map (λ d. d.address) s.drives) → i < length s.drives → k < length s.drives → (i ≡ k → ⊥) → ((member s k).address ≡ (member s i).address → ⊥)
 other_address s i k apart below within other same =
     let l = length_map (λ (d : MemberView). d.address) s.drives in
-    elim (less_either i k other) [
+    elim (cases_lt i k) [
       | inl less ↦ apart i k less (omega (arith, l, within)) (address_at s i below ∙ (sym same ∙ sym (address_at s k within)))
-      | inr more ↦ apart k i more (omega (arith, l, below)) (address_at s k within ∙ (same ∙ sym (address_at s i below)))
+      | inr most ↦ apart k i (omega (arith, most, other)) (omega (arith, l, below)) (address_at s k within ∙ (same ∙ sym (address_at s i below)))
     ]
-  where
-    less_either : (i k : ℕ) → (i ≡ k → ⊥) → (i < k) ⊎ (k < i)
-    less_either i k n = by (nat_lt i k) refl
-      where
-        by : (b : Bool) → nat_lt i k ≡ b → (i < k) ⊎ (k < i)
-        by true e = inl (grind (arith, nat_tests, e))
-        by false e = inr (grind (arith, nat_tests, e, n))
 
 pub given_one : (seats : List SeatView) (s : Known) (tasks : ℕ → List Task) (job : Job) (number place : ℕ) (w : SeatView) → AreDistinct (map (λ d. d.address) s.drives) → length seats ≡ length s.drives →
     position (λ v. v.member.address == job.drive) seats ≡ Some place → SeatsStandFor seats s (λ k. nothing_seen (tasks k)) →
@@ -154,9 +118,7 @@ given_one seats s tasks job number place w apart count found all here i v below 
     let seat = all place w is.0 in
     let address : (member s place).address ≡ job.drive = ap (λ d. d.address) (sym seat.member_is) ∙ eqb-true (slice_index_or seats place w).member.address job.drive is.1 in
     elim (cases_eq i place) [
-      | inl e ↦
-          let yes : (job.drive == (member s place).address) ≡ true = eq-eqb job.drive (member s place).address (sym address) in
-          rw (get_or-set_at seats place i w v e is.0, e, yes) here
+      | inl e ↦ rw (get_or-set_at seats place i w v e is.0, e, eq-eqb job.drive (member s place).address (sym address)) here
       | inr n ↦
           let no_one : (job.drive == (member s i).address) ≡ false = other_place job.drive (member s i).address (λ f. other_address s i place apart (omega (arith, inside, count)) (omega (arith, is.0, count)) n (address ∙ f)) in
           rw (get_or-set_other seats place i w v n, no_one) (all i v inside)
@@ -167,12 +129,9 @@ pub given_none : (seats : List SeatView) (s : Known) (tasks : ℕ → List Task)
     SeatsStandFor seats s (λ k. nothing_seen (with_job (member s k).address number job (tasks k)))
 given_none seats s tasks job number count none all i v below =
     let first = first_seat seats (λ v. v.member.address == job.drive) (λ k. (member s k).address == job.drive) (λ j w h. ap (λ d. d.address == job.drive) (all j w h).member_is) in
-    let other : (job.drive == (member s i).address) ≡ false = turned (member s i).address (none_from (length seats) 0 (λ k. (member s k).address == job.drive) (sym first ∙ none) i (omega arith) (omega (arith, below))) in
+    let other : (job.drive == (member s i).address) ≡ false = grind (arith, nat_tests, none_from (length seats) 0 (λ k. (member s k).address == job.drive) (sym first ∙ none) i (omega arith) (omega (arith, below))) in
     rw other (all i v below)
   where
-    turned : (a : ℕ) → (a == job.drive) ≡ false → (job.drive == a) ≡ false
-    turned a e = grind (arith, nat_tests, e)
-
     none_from : (n k : ℕ) (like : ℕ → Bool) → first_from k n like ≡ None → (j : ℕ) → k ≤ j → j < k + n → like j ≡ false
     none_from zero k like e j low high = absurd (omega (arith, low, high))
     none_from (suc n) k like e j low high = by (like k) refl e (λ rest other. none_from n (k + 1) like rest j (omega (arith, low, other)) (omega (arith, high)))

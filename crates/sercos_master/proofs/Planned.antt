@@ -1,15 +1,11 @@
 -- Where there is a plan, it is the plan of what was read in this epoch.
-use Rattle.sercos_master.proofs.Words.{◌≡◌, ℕ, suc, ◌+◌, ◌<◌, ◌≤◌, true, List, [], ◌∷◌, ◌++◌, length, take, drop, refl, sym, ap, ap₂, ◌∙◌, subst, arith, length-append, nat_le, Option, Some, None, Ok, slice_get, leb-true, le-leb, get_or_from_slice_get, slice_get_within, take-append-le, drop-append-le, length-drop, Outcome, record_bytes, PlanView, WishesView, Wish, planned, begun_by, Known, Task, MemberView, member, no_member, bytes_of, long_in, short_in, given, reads_count, is_read, words_given, at_attributes, mdt_attributes, times_given, wish_given, wishes_from, wishes_given, outcomes_in, with_outcome, Call, Past, IsPlanned, outcomes, after_taken, all_read, settled, ready_to_send, after_mdt, past}
-use Rattle.sercos_timing.specs.declared.wishes.Times.{Times}
+use Rattle.sercos_master.proofs.Words.{◌≡◌, ℕ, suc, ◌+◌, ◌<◌, ◌≤◌, true, List, [], ◌∷◌, ◌++◌, length, take, drop, refl, sym, ap, ap₂, ◌∙◌, subst, arith, length-append, nat_le, Option, Some, None, Ok, slice_get, leb-true, le-leb, get_or_from_slice_get, slice_get_within, take-append-le, drop-append-le, length-drop, Outcome, record_bytes, PlanView, WishesView, Wish, planned, begun_by, Known, Task, MemberView, member, no_member, bytes_of, long_in, given, reads_count, is_read, words_given, at_attributes, mdt_attributes, times_given, wish_given, wishes_from, wishes_given, outcomes_in, with_outcome, Call, Past, IsPlanned, outcomes, after_taken, all_read, settled, ready_to_send, after_mdt, past}
 use Rattle.sercos_seat.proofs.Seats.{before_end}
 use Rattle.sercos_master.proofs.Keeping.{came_back, going, past_keeps, settled_keeps, stopped}
 use Rattle.sercos_master.proofs.Configured.{leaves, all_pass, begun_adds, mdt_adds, each_passes}
 pub use Rattle.sercos_master.proofs.Configured.{Adds, at_adds}
 
 -- AN OUTCOME AFTER THE READS changes nothing of what they gave.
-given_before : (all : List Outcome) (o : Outcome) (i : ℕ) → i < length all → given (all ++ o ∷ []) i ≡ given all i
-given_before all o i less = before_end all o i (λ e. omega (arith, less, e))
-
 words_append : (xs ys : List Outcome) → words_given (xs ++ ys) ≡ words_given xs ++ words_given ys
 words_append [] ys = refl
 words_append (x ∷ xs) ys = ap (λ (l : List ℕ). long_in (bytes_of x) ∷ l) (words_append xs ys)
@@ -21,10 +17,9 @@ words_long (x ∷ xs) = ap (λ n. suc n) (words_long xs)
 pub part_before : (all : List Outcome) (o : Outcome) (m n : ℕ) → n + m ≤ length all → take n (drop m (words_given (all ++ o ∷ []))) ≡ take n (drop m (words_given all))
 part_before all o m n less =
     let long = words_long all in
-    let rest = length-drop m (words_given all) in
     ap (λ (l : List ℕ). take n (drop m l)) (words_append all (o ∷ []))
     ∙ (ap (take n) (drop-append-le m (words_given all) (words_given (o ∷ [])) (omega (arith, long, less)))
-    ∙ take-append-le n (drop m (words_given all)) (words_given (o ∷ [])) (omega (arith, long, rest, less)))
+    ∙ take-append-le n (drop m (words_given all)) (words_given (o ∷ [])) (omega (arith, long, length-drop m (words_given all), less)))
 
 pub wish_stays : (d : MemberView) (all : List Outcome) (o : Option Outcome) → is_read d all ≡ true → wish_given d (with_outcome o all) ≡ wish_given d all
 wish_stays d all None read = refl
@@ -35,13 +30,8 @@ wish_stays d all (Some o) read = wish (times_so all o many) (ats d all o many) (
 
     times_so : (all : List Outcome) (o : Outcome) → reads_count d ≤ length all → times_given (all ++ o ∷ []) ≡ times_given all
     times_so all o many =
-        six (given_before all o 0 (omega arith)) (given_before all o 1 (omega arith)) (given_before all o 2 (omega arith)) (given_before all o 3 (omega arith)) (given_before all o 4 (omega arith)) (given_before all o 5 (omega arith))
-      where
-        made : (a b c e f g : List ℕ) → Times
-        made a b c e f g = record { t1min = short_in a; tatmt = short_in b; t4min = short_in c; tatat = short_in e; tmtsy = short_in f; tmtsg = short_in g }
-
-        six : {a b c e f g a' b' c' e' f' g' : List ℕ} → a ≡ a' → b ≡ b' → c ≡ c' → e ≡ e' → f ≡ f' → g ≡ g' → made a b c e f g ≡ made a' b' c' e' f' g'
-        six p q r s u v = rw (p, q, r, s, u, v) refl
+        let same : (i : ℕ) → i < 6 → given (all ++ o ∷ []) i ≡ given all i = λ i less. before_end all o i (λ e. omega (arith, less, e, many)) in
+        rw (same 0 (omega arith), same 1 (omega arith), same 2 (omega arith), same 3 (omega arith), same 4 (omega arith), same 5 (omega arith)) refl
 
     ats : (d : MemberView) (all : List Outcome) (o : Outcome) → reads_count d ≤ length all → at_attributes d (all ++ o ∷ []) ≡ at_attributes d all
     ats d all o many = part_before all o 6 (length d.at) (omega arith)

@@ -1,17 +1,19 @@
 -- What the ring keeps tells what is looked back on, and what it begins.
-use Rattle.sercos_master.proofs.Words.{cases_Bool, cases_eq, false≢true, inl, inr, ◌≡◌, ℕ, zero, suc, ◌+◌, ◌<◌, ◌≤◌, ◌==◌, Bool, true, false, List, [], ◌∷◌, Option, Some, None, length, ap, subst, refl, sym, ◌∙◌, arith, if◌then◌else◌, ◌%◌, ◌^◌, is_some, is_none, min, unwrap_or, nat_le, nat_lt, slice_index_or, option_map, not, ◌&&◌, ◌||◌, position, option_or, set, length-set, nat_tests, EndCycle, cycles_open, age_of, PlanView, record_bytes, planned, Stop, Known, MemberView, Task, member, wishes_given, last_long_stop, is_read, is_checked, is_ready, reads_count, all_read, with_due_plan, planned_by, with_plan, Past, Turn, first_from, first_place, outcomes, is_idle, is_identified, in_turn, begins, is_done, is_at_limit, trouble, first_trouble, first_trouble_from, with_stop, new_epoch, still_waiting, after_end, next_phase, goes_on, whole_row, addressed_before, has_lost_mst, fall_of, count_addressed, next_task, with_task, with_begin, begun, has_lost_at, is_place, of_phase, Seen, SeatView, SeatStandsFor, forgotten, ended_in, cycles_kept, has_read, with_begun, begun_task, SeatsStandFor, CoreView, CoreStandsFor, seen_at, waited_with, waited_for, waited_row, has_missed, queue_same, and_left, and-false, eqb-true}
+use Rattle.sercos_master.proofs.Keeping.{cases_Option}
+use Rattle.sercos_master.proofs.Words.{cases_Bool, cases_eq, false≢true, inl, inr, ◌≡◌, ℕ, zero, suc, ◌+◌, ◌<◌, ◌≤◌, ◌==◌, Bool, true, false, List, [], ◌∷◌, Option, Some, None, length, ap, subst, refl, sym, ◌∙◌, arith, if◌then◌else◌, ◌%◌, ◌^◌, is_some, is_none, min, unwrap_or, nat_le, nat_lt, slice_index_or, option_map, not, ◌&&◌, ◌||◌, position, option_or, set, length-set, nat_tests, EndCycle, cycles_open, age_of, PlanView, record_bytes, planned, Stop, Known, MemberView, member, wishes_given, last_long_stop, is_read, is_checked, is_ready, reads_count, all_read, is_plan_due, with_due_plan, planned_by, with_plan, Past, Turn, first_from, first_place, outcomes, is_idle, is_identified, in_turn, begins, is_done, is_at_limit, trouble, first_trouble, first_trouble_from, with_stop, new_epoch, still_waiting, after_end, next_phase, goes_on, whole_row, addressed_before, has_lost_mst, fall_of, count_addressed, next_task, begun, has_lost_at, is_place, of_phase, Seen, SeatView, SeatStandsFor, forgotten, ended_in, cycles_kept, has_read, with_begun, begun_task, SeatsStandFor, CoreView, CoreStandsFor, seen_at, waited_with, waited_for, waited_row, has_missed, queue_same, and_left, and-false, eqb-true}
+use Rattle.std.proofs.lemmas.Bool.{and_right, cond-false}
 use Rattle.sercos_trace.specs.declared.events.Fall.TheVariants as fall
 use Rattle.sercos_master.proofs.Keeping.{first_found}
 pub use Rattle.sercos_master.proofs.Keeping.{none_of as no_stop}
-use Rattle.sercos_master.proofs.Places.{first_seat, one_seat, with_seats, same_place, other_place}
+use Rattle.sercos_master.proofs.Places.{core_of, first_seat, one_seat, with_seats, same_place, other_place}
+use Rattle.sercos_master.proofs.Told.{not_yet}
 use Rattle.sercos_master.proofs.Wishes.{none_is}
 
 read_same : (r done l : ℕ) → r ≤ 38 → done ≡ min l 100 → nat_le r done ≡ nat_le r l
-read_same r done l few is = by (nat_le r l) refl
-  where
-    by : (b : Bool) → nat_le r l ≡ b → nat_le r done ≡ nat_le r l
-    by true e = let f : nat_le r done ≡ true = grind (arith, nat_tests, e, is, few) in f ∙ sym e
-    by false e = let f : nat_le r done ≡ false = grind (arith, nat_tests, e, is, few) in f ∙ sym e
+read_same r done l few is = elim (cases_Bool (nat_le r l)) [
+  | inl e ↦ let f : nat_le r done ≡ true = grind (arith, nat_tests, e, is, few) in f ∙ sym e
+  | inr e ↦ let f : nat_le r done ≡ false = grind (arith, nat_tests, e, is, few) in f ∙ sym e
+]
 
 -- a test of each seat finds the place that the like test finds
 pub found : (v : CoreView) (s : Known) (p : Past) (test : SeatView → Bool) (like : ℕ → Bool) → CoreStandsFor v s p →
@@ -58,27 +60,19 @@ no_turn first second e = rw e refl
 -- in phase 2 only the drive whose turn it is begins a task
 begins_there : (s : Known) (p : Past) (k : ℕ) → p.now.phase ≡ 2 → p.stop ≡ None → in_turn s p ≡ Some k →
     begins s p k ≡ (if is_idle p k then of_phase 2 (next_task s p k) else None)
-begins_there s p k two no_stop e = by (is_idle p k) refl
-  where
-    by : (b : Bool) → is_idle p k ≡ b → begins s p k ≡ (if is_idle p k then of_phase 2 (next_task s p k) else None)
-    by true f = rw (no_stop, f, two, e, same_place k) refl
-    by false f = rw (no_stop, f) refl
+begins_there s p k two no_stop e = elim (cases_Bool (is_idle p k)) [
+  | inl f ↦ rw (no_stop, f, two, e, same_place k) refl
+  | inr f ↦ rw (no_stop, f) refl
+]
 
 begins_elsewhere : (s : Known) (p : Past) (k i : ℕ) → p.now.phase ≡ 2 → p.stop ≡ None → in_turn s p ≡ Some k → (i ≡ k → ⊥) → begins s p i ≡ None
-begins_elsewhere s p k i two no_stop e n = by (is_idle p i) refl
-  where
-    by : (b : Bool) → is_idle p i ≡ b → begins s p i ≡ None
-    by true f = rw (no_stop, f, two, e, other_place i k n) refl
-    by false f = rw (no_stop, f) refl
+begins_elsewhere s p k i two no_stop e n = elim (cases_Bool (is_idle p i)) [
+  | inl f ↦ rw (no_stop, f, two, e, other_place i k n) refl
+  | inr f ↦ rw (no_stop, f) refl
+]
 
 seen_begun : (s : Known) (p : Past) (k : ℕ) → seen_at (begun s p) k ≡ with_begun (begins s p k) (seen_at p k)
-seen_begun s p k = by (begins s p k)
-  where
-    by : (t : Option Task) →
-        (record { calls = with_begin t (p.calls k); tasks = with_task t (p.tasks k); heard = p.now.heard k; missed = has_missed k p.turns; identified = is_identified p k; report = p.now.report k; stopped = is_some p.stop; waiting = p.waiting k })
-        ≡ with_begun t (seen_at p k)
-    by None = refl
-    by (Some t) = refl
+seen_begun s p k = elim (cases_Option (begins s p k)) [ inl none ↦ rw none | inr (t, some) ↦ rw some ]
 
 pub begun_at : (v : CoreView) (s : Known) (p : Past) (k : ℕ) (w : SeatView) → CoreStandsFor v s p → k < length v.seats → p.now.phase ≡ 2 → p.stop ≡ None → in_turn s p ≡ Some k →
     SeatStandsFor w (member s k) (with_begun (if is_idle p k then of_phase 2 (next_task s p k) else None) (seen_at p k)) →
@@ -98,10 +92,6 @@ done_2 s p e = rw e refl
 pub done_3 : (s : Known) (p : Past) → p.now.phase ≡ 3 → is_done s p ≡ is_none (first_place s (λ k. not (is_ready (member s k) (outcomes p k))))
 done_3 s p e = rw e refl
 
--- a step is at its limit by the count that is kept
-limit_by_count : (phase count : ℕ) (addressed : Option ℕ) (k waited : ℕ) → (phase == 1) ≡ false → (if phase == 1 then (is_place k addressed && nat_le 64 waited) else nat_le 64 count) ≡ nat_le 64 count
-limit_by_count phase count addressed k waited e = rw e refl
-
 count_kept : (v : SeatView) (d : MemberView) (x : Seen) → SeatStandsFor v d x → cycles_kept v ≡ cycles_open x.calls
 count_kept v d x t = ap (λ a. unwrap_or a 0) t.channel_is.age_is ∙ capped (age_of x.calls)
   where
@@ -113,7 +103,7 @@ pub stuck : (v : CoreView) (s : Known) (p : Past) → CoreStandsFor v s p → (p
     position (λ seat. nat_le 64 (cycles_kept seat)) v.seats ≡ first_place s (is_at_limit p)
 stuck v s p c e = found v s p (λ seat. nat_le 64 (cycles_kept seat)) (is_at_limit p) c
     (λ i seat t. ap (nat_le 64) (count_kept seat (member s i) (seen_at p i) t)
-    ∙ sym (limit_by_count p.now.phase (cycles_open (p.calls i)) p.now.addressed i (count_addressed i p.turns) e))
+    ∙ sym (rw e refl))
 
 pub none_from : (n k : ℕ) (test : ℕ → Bool) → ((j : ℕ) → k ≤ j → j < k + n → test j ≡ false) → first_from k n test ≡ None
 none_from zero k test none = refl
@@ -163,13 +153,11 @@ waits_beyond s p i one to beyond = none_from (length s.drives) 0 (is_at_limit p)
 -- the count for a drive is the one that is kept, where it was the last one
 pub count_same : (turns : List Turn) (i : ℕ) → is_place i (addressed_before turns) ≡ true → min (count_addressed i turns) 64 ≡ waited_row turns
 count_same [] i e = absurd (false≢true e)
-count_same (t ∷ turns) i e = by t.addressed refl
-  where
-    by : (a : Option ℕ) → t.addressed ≡ a → min (count_addressed i (t ∷ turns)) 64 ≡ waited_for t.addressed (t ∷ turns)
-    by None f = let g : is_place i None ≡ true = subst (λ a. is_place i a ≡ true) f e in absurd (false≢true g)
-    by (Some k) f =
-        let g : i ≡ k = eqb-true i k (subst (λ a. is_place i a ≡ true) f e) in
-        ap (λ n. min (count_addressed n (t ∷ turns)) 64) g ∙ sym (ap (λ a. waited_for a (t ∷ turns)) f)
+count_same (t ∷ turns) i e = elim (cases_Option t.addressed) [
+  | inl f ↦ absurd (false≢true (subst (λ a. is_place i a ≡ true) f e))
+  | inr (k, f) ↦ ap (λ n. min (count_addressed n (t ∷ turns)) 64) (eqb-true i k (subst (λ a. is_place i a ≡ true) f e)) ∙
+      sym (ap (λ a. waited_for a (t ∷ turns)) f)
+]
 
 pub count_other : (turns : List Turn) (i : ℕ) → is_place i (addressed_before turns) ≡ false → count_addressed i turns ≡ 0
 count_other [] i e = refl
@@ -178,25 +166,21 @@ count_other (t ∷ turns) i e = rw (e, and-false (t.phase == 1)) refl
 pub waited_long : (v : CoreView) (s : Known) (p : Past) (i : ℕ) → CoreStandsFor v s p → p.now.phase ≡ 1 → v.addressed ≡ Some i → i < length v.seats → is_place i v.before ≡ true → 64 ≤ v.waited →
     first_place s (is_at_limit p) ≡ Some i
 waited_long v s p i c one to within last long =
-    let named : p.now.addressed ≡ Some i = sym c.addressed_is ∙ to in
     let count : v.waited ≡ min (count_addressed i p.turns) 64 = c.waited_is ∙ sym (count_same p.turns i (rw (← c.before_is) last)) in
     let e : nat_le 64 (min (count_addressed i p.turns) 64) ≡ true = grind (arith, nat_tests, count, long) in
-    waited s p i one named (rw (← c.seats_count) within) ∙ rw e refl
+    waited s p i one (sym c.addressed_is ∙ to) (rw (← c.seats_count) within) ∙ rw e refl
 
 pub waited_short : (v : CoreView) (s : Known) (p : Past) (i : ℕ) → CoreStandsFor v s p → p.now.phase ≡ 1 → v.addressed ≡ Some i → i < length v.seats → is_place i v.before ≡ true → v.waited < 64 →
     first_place s (is_at_limit p) ≡ None
 waited_short v s p i c one to within last short =
-    let named : p.now.addressed ≡ Some i = sym c.addressed_is ∙ to in
     let count : v.waited ≡ min (count_addressed i p.turns) 64 = c.waited_is ∙ sym (count_same p.turns i (rw (← c.before_is) last)) in
     let e : nat_le 64 (min (count_addressed i p.turns) 64) ≡ false = grind (arith, nat_tests, count, short) in
-    waited s p i one named (rw (← c.seats_count) within) ∙ rw e refl
+    waited s p i one (sym c.addressed_is ∙ to) (rw (← c.seats_count) within) ∙ rw e refl
 
 pub waited_new : (v : CoreView) (s : Known) (p : Past) (i : ℕ) → CoreStandsFor v s p → p.now.phase ≡ 1 → v.addressed ≡ Some i → i < length v.seats → is_place i v.before ≡ false →
     first_place s (is_at_limit p) ≡ None
 waited_new v s p i c one to within new =
-    let named : p.now.addressed ≡ Some i = sym c.addressed_is ∙ to in
-    let e : count_addressed i p.turns ≡ 0 = count_other p.turns i (rw (← c.before_is) new) in
-    waited s p i one named (rw (← c.seats_count) within) ∙ rw e refl
+    waited s p i one (sym c.addressed_is ∙ to) (rw (← c.seats_count) within) ∙ rw (count_other p.turns i (rw (← c.before_is) new)) refl
 
 -- the fall, by what was found
 pub fall_2 : (s : Known) (p : Past) (k : ℕ) → has_lost_mst (p.now ∷ p.turns) ≡ false → first_place s (λ i. has_lost_at i (p.now ∷ p.turns)) ≡ Some k →
@@ -238,13 +222,8 @@ waited_more p = by (p.now.phase == 1) p.now.addressed refl refl
     by false None e f = rw (e, f) refl
     by false (Some k) e f = rw (e, f, e) refl
     by true (Some k) e f = elim (cases_Bool (is_place k (addressed_before p.turns))) [
-      | inl same ↦
-          let g : min (count_addressed k p.turns) 64 ≡ waited_row p.turns = count_same p.turns k same in
-          let h : min (min (count_addressed k p.turns) 64 + 1) 64 ≡ min (count_addressed k p.turns + 1) 64 = omega arith in
-          rw (e, f, same, e, same_place k, ← g) h
-      | inr other ↦
-          let g : count_addressed k p.turns ≡ 0 = count_other p.turns k other in
-          rw (e, f, other, e, same_place k, g) refl
+      | inl same ↦ rw (e, f, same, e, same_place k, ← (count_same p.turns k same)) (omega arith)
+      | inr other ↦ rw (e, f, other, e, same_place k, count_other p.turns k other) refl
     ]
 
 pub went_on : (v : CoreView) (seats : List SeatView) (row waited : ℕ) (lost : Bool) (s : Known) (p : Past) (next : ℕ) → CoreStandsFor v s p →
@@ -263,28 +242,12 @@ pub went_on : (v : CoreView) (seats : List SeatView) (row waited : ℕ) (lost : 
       plans = false;
       stop = None;
     }) s (goes_on next p)
-went_on v seats row waited lost s p next c count all row_is lost_is waited_is = record {
-  rate_is = c.rate_is;
-  cycle_is = c.cycle_is;
-  control_is = c.control_is;
-  gap_is = c.gap_is;
-  order_is = c.order_is;
-  places_are = c.places_are;
-  seats_count = count ∙ c.seats_count;
-  seats = λ k seat below. rw seen_ended (subst (λ n. SeatStandsFor (slice_index_or seats k seat) (member s k) (ended_in n (seen_at p k))) c.phase_is (all k seat below));
-  count_is = rw c.count_is (omega arith);
-  phase_is = refl;
-  whole_is = refl;
-  row_is = rw (row_is, c.whole_is, c.row_is) (row_more p.now.whole p.turns p.now refl);
-  lost_is = rw (lost_is, c.phase_is, c.whole_is) refl;
-  addressed_is = refl;
-  before_is = c.addressed_is;
-  waited_is = rw (waited_is, c.phase_is, c.addressed_is, c.before_is, c.waited_is) (waited_more p);
-  plan_is = c.plan_is;
-  plans_is = refl;
-  stopped_is = c.stopped_is;
-  stop_is = refl;
-}
+went_on v seats row waited lost s p next c count all row_is lost_is waited_is = core_of c count
+    (λ k seat below. rw seen_ended
+    (subst (λ n. SeatStandsFor (slice_index_or seats k seat) (member s k) (ended_in n (seen_at p k))) c.phase_is (all k seat below)))
+    (rw c.count_is (omega arith)) refl refl (rw (row_is, c.whole_is, c.row_is) (row_more p.now.whole p.turns p.now refl))
+    (rw (lost_is, c.phase_is, c.whole_is) refl) refl c.addressed_is
+    (rw (waited_is, c.phase_is, c.addressed_is, c.before_is, c.waited_is) (waited_more p)) c.plan_is refl c.stopped_is refl
 
 -- the same for any change that each seat makes in its turn
 module _ (becomes : ℕ → Seen → Seen) where
@@ -293,12 +256,11 @@ module _ (becomes : ℕ → Seen → Seen) where
       SeatsStandFor seats s (λ k. if nat_lt k i then becomes k (seen k) else seen k) →
       SeatsStandFor (set seats i w) s (λ k. if nat_lt k (i + 1) then becomes k (seen k) else seen k)
   one_changed seats s seen i v w within is step all =
-      let not_yet : nat_lt i i ≡ false = grind (arith, nat_tests) in
       let now : nat_lt i (i + 1) ≡ true = grind (arith, nat_tests) in
-      let before : SeatStandsFor v (member s i) (seen i) = rw (is) (subst (λ b. SeatStandsFor (slice_index_or seats i v) (member s i) (if b then becomes i (seen i) else seen i)) not_yet (all i v within)) in
       one_seat seats s (λ k. if nat_lt k i then becomes k (seen k) else seen k) (λ k. if nat_lt k (i + 1) then becomes k (seen k) else seen k) i w within all
       (λ k other. rw (same_test i k other) refl)
-      (subst (λ b. SeatStandsFor w (member s i) (if b then becomes i (seen i) else seen i)) (sym now) (step before))
+      (subst (λ b. SeatStandsFor w (member s i) (if b then becomes i (seen i) else seen i)) (sym now)
+      (step (not_yet becomes seats s seen i v within is all)))
 
   pub all_changed : (seats : List SeatView) (s : Known) (seen : ℕ → Seen) (n : ℕ) → length seats ≤ n →
       SeatsStandFor seats s (λ k. if nat_lt k n then becomes k (seen k) else seen k) → SeatsStandFor seats s (λ k. becomes k (seen k))
@@ -328,28 +290,7 @@ pub epoch_begun : (v : CoreView) (seats : List SeatView) (s : Known) (p : Past) 
       stopped = false;
       stop = None;
     }) s (new_epoch p.cycle (still_waiting p))
-epoch_begun v seats s p c count all = record {
-  rate_is = c.rate_is;
-  cycle_is = c.cycle_is;
-  control_is = c.control_is;
-  gap_is = c.gap_is;
-  order_is = c.order_is;
-  places_are = c.places_are;
-  seats_count = count ∙ c.seats_count;
-  seats = λ k v below. all k v below;
-  count_is = c.count_is;
-  phase_is = refl;
-  whole_is = refl;
-  row_is = omega arith;
-  lost_is = refl;
-  addressed_is = refl;
-  before_is = refl;
-  waited_is = refl;
-  plan_is = refl;
-  plans_is = refl;
-  stopped_is = refl;
-  stop_is = refl;
-}
+epoch_begun v seats s p c count all = core_of c count all c.count_is refl refl (omega arith) refl refl refl refl refl refl refl refl
 
 pub ends_falling : (s : Known) (p : Past) → is_some (fall_of s p) ≡ true → after_end s p ≡ new_epoch (p.cycle + 1) (still_waiting p)
 ends_falling s p e = rw e refl
@@ -357,19 +298,12 @@ ends_falling s p e = rw e refl
 pub ends_going_on : (s : Known) (p : Past) → is_some (fall_of s p) ≡ false → after_end s p ≡ goes_on (next_phase s p) p
 ends_going_on s p e = rw e refl
 
--- in phases 3 and 4 each channel begins its next task
-begins_all : (s : Known) (p : Past) (k phase : ℕ) → p.now.phase ≡ phase → nat_le 3 phase ≡ true → p.stop ≡ None → begins s p k ≡ begun_task phase s p.plan (p.waiting k) k (seen_at p k)
-begins_all s p k phase is late no_stop = by (is_idle p k) refl
-  where
-    by : (b : Bool) → is_idle p k ≡ b → begins s p k ≡ begun_task phase s p.plan (p.waiting k) k (seen_at p k)
-    by true f = rw (no_stop, f, is, late) refl
-    by false f = rw (no_stop, f) refl
-
 pub begun_all : (v : CoreView) (seats : List SeatView) (s : Known) (p : Past) (phase : ℕ) → CoreStandsFor v s p → p.now.phase ≡ phase → nat_le 3 phase ≡ true → p.stop ≡ None → length seats ≡ length v.seats →
     SeatsStandFor seats s (λ k. with_begun (begun_task phase s p.plan (p.waiting k) k (seen_at p k)) (seen_at p k)) → CoreStandsFor (record v { seats = seats }) s (begun s p)
-begun_all v seats s p phase c is late no_stop count all = with_seats v seats v.addressed s p (begun s p) c (record { cycle_is = refl; turns_is = refl; phase_is = refl; whole_is = refl; plans_is = refl; plan_is = refl; stop_is = refl; told_is = refl }) c.addressed_is (count)
+begun_all v seats s p phase c is late no_stop count all = with_seats v seats v.addressed s p (begun s p) c (record { cycle_is = refl; turns_is = refl; phase_is = refl; whole_is = refl; plans_is = refl; plan_is = refl; stop_is = refl; told_is = refl }) c.addressed_is count
     (λ k seat below. subst (SeatStandsFor (slice_index_or seats k seat) (member s k))
-    (sym (seen_begun s p k ∙ ap (λ t. with_begun t (seen_at p k)) (begins_all s p k phase is late no_stop))) (all k seat below))
+    (sym (seen_begun s p k ∙ ap (λ t. with_begun t (seen_at p k))
+    (elim (cases_Bool (is_idle p k)) [ inl f ↦ rw (no_stop, f, is, late) refl | inr f ↦ rw (no_stop, f) refl ]))) (all k seat below))
 
 -- STOPS. The first stop in ring order is that of the first drive that has one.
 abbrev at_place : (ℕ → Option Stop) → Option ℕ → Option Stop
@@ -417,152 +351,67 @@ stopped_seat v w d x t is s = rw is (record {
   queue = (queue_same v.waiting d x (record x { stopped = true }) s.queue refl refl refl refl);
 })
 
+all_stopped : (v : CoreView) (s : Known) (p : Past) → CoreStandsFor v s p → SeatsStandFor v.seats s (λ i. record (seen_at p i) { stopped = true })
+all_stopped v s p c i seat below = let w = slice_index_or v.seats i seat in stopped_seat w w (member s i) (seen_at p i) w.trouble refl (c.seats i seat below)
+
 pub stop_found : (v : CoreView) (s : Known) (p : Past) (k : ℕ) (seat w : SeatView) → CoreStandsFor v s p → is_some p.stop ≡ false → k < length v.seats → position (λ seat. is_some seat.trouble) v.seats ≡ Some k →
     seat ≡ slice_index_or v.seats k seat → w ≡ record seat { trouble = None } →
     CoreStandsFor (record v { seats = set v.seats k w; stopped = true; stop = seat.trouble }) s (with_stop (first_trouble s p) p)
 stop_found v s p k seat w c none within there is taken =
     let e : first_place s (λ i. is_some (trouble s p i)) ≡ Some k = sym (troubled v s p c none) ∙ there in
     let here : SeatStandsFor seat (member s k) (seen_at p k) = rw is (c.seats k seat within) in
-    let stop_is : seat.trouble ≡ trouble s p k = here.trouble_is none in
-    let first : first_trouble s p ≡ trouble s p k = trouble_from s p (length s.drives) 0 ∙ ap (at_place (trouble s p)) e in
-    by (trouble s p k) refl e here stop_is first
+    by (trouble s p k) refl e here (here.trouble_is none) (trouble_from s p (length s.drives) 0 ∙ ap (at_place (trouble s p)) e)
   where
     by : (o : Option Stop) → trouble s p k ≡ o → first_place s (λ i. is_some (trouble s p i)) ≡ Some k → SeatStandsFor seat (member s k) (seen_at p k) → seat.trouble ≡ trouble s p k → first_trouble s p ≡ trouble s p k →
         CoreStandsFor (record v { seats = set v.seats k w; stopped = true; stop = seat.trouble }) s (with_stop (first_trouble s p) p)
-    by None e there here stop_is first = absurd (not_first (length s.drives) 0 e there)
-      where
-        not_first : (n i : ℕ) → trouble s p k ≡ None → first_from i n (λ j. is_some (trouble s p j)) ≡ Some k → ⊥
-        not_first n i e f = false≢true (ap is_some (sym e) ∙ passes n i f)
-          where
-            passes : (n i : ℕ) → first_from i n (λ j. is_some (trouble s p j)) ≡ Some k → is_some (trouble s p k) ≡ true
-            passes n i f = (first_found i n k (λ j. is_some (trouble s p j)) f).passes
-    by (Some x) e there here stop_is first =
-        rw (first, e, none) (record {
-          rate_is = c.rate_is;
-          cycle_is = c.cycle_is;
-          control_is = c.control_is;
-          gap_is = c.gap_is;
-          order_is = c.order_is;
-          places_are = c.places_are;
-          seats_count = length-set v.seats k w ∙ c.seats_count;
-          seats = one_seat_of (λ i n. refl);
-          count_is = c.count_is;
-          phase_is = c.phase_is;
-          whole_is = c.whole_is;
-          row_is = c.row_is;
-          lost_is = c.lost_is;
-          addressed_is = c.addressed_is;
-          before_is = c.before_is;
-          waited_is = c.waited_is;
-          plan_is = c.plan_is;
-          plans_is = c.plans_is;
-          stopped_is = refl;
-          stop_is = stop_is ∙ e;
-        })
-      where
-        one_seat_of : ((i : ℕ) → (i ≡ k → ⊥) → seen_at p i ≡ seen_at p i) → SeatsStandFor (set v.seats k w) s (λ i. record (seen_at p i) { stopped = true })
-        one_seat_of same = one_seat v.seats s (λ i. record (seen_at p i) { stopped = true }) (λ i. record (seen_at p i) { stopped = true }) k w within
-            (λ i seat below. stopped_seat (slice_index_or v.seats i seat) (slice_index_or v.seats i seat) (member s i) (seen_at p i) (slice_index_or v.seats i seat).trouble refl (c.seats i seat below))
-            (λ i n. refl)
-            (stopped_seat seat w (member s k) (seen_at p k) None taken here)
+    by None e there here stop_is first =
+        absurd (false≢true (ap is_some (sym e) ∙ (first_found 0 (length s.drives) k (λ j. is_some (trouble s p j)) there).passes))
+    by (Some x) e there here stop_is first = rw (first, e, none) (core_of c (length-set v.seats k w)
+        (one_seat v.seats s (λ i. record (seen_at p i) { stopped = true }) (λ i. record (seen_at p i) { stopped = true }) k w within
+        (all_stopped v s p c) (λ i n. refl) (stopped_seat seat w (member s k) (seen_at p k) None taken here))
+        c.count_is c.phase_is c.whole_is c.row_is c.lost_is c.addressed_is c.before_is c.waited_is c.plan_is c.plans_is refl (stop_is ∙ e))
 
 pub begins_late : (s : Known) (p : Past) (k : ℕ) → p.now.phase ≤ 1 → begins s p k ≡ None
 begins_late s p k low =
     let a : nat_le 3 p.now.phase ≡ false = grind (arith, nat_tests, low) in
     let b : (p.now.phase == 2) ≡ false = grind (arith, nat_tests, low) in
-    rw (a, b) (by (is_none p.stop) (is_idle p k))
-  where
-    by : (x y : Bool) → (if x && (y && false) then of_phase p.now.phase (next_task s p k) else None) ≡ None
-    by true true = refl
-    by true false = refl
-    by false y = refl
+    cond-false _ _ None (and_right (is_none p.stop) _ (and_right (is_idle p k) _ (rw (a, b) refl)))
 
 pub not_stopped : (v : CoreView) (s : Known) (p : Past) → CoreStandsFor v s p → v.stopped ≡ false → p.stop ≡ None
 not_stopped v s p c e = none_is p.stop (sym c.stopped_is ∙ e)
 
 -- A STOP AND A PLAN
 pub stops : (v : CoreView) (s : Known) (p : Past) (x : Stop) → CoreStandsFor v s p → p.stop ≡ None → CoreStandsFor (record v { stopped = true; stop = Some x }) s (with_stop (Some x) p)
-stops v s p x c none = rw none (record {
-  rate_is = c.rate_is;
-  cycle_is = c.cycle_is;
-  control_is = c.control_is;
-  gap_is = c.gap_is;
-  order_is = c.order_is;
-  places_are = c.places_are;
-  seats_count = c.seats_count;
-  seats = λ i seat below. stopped_seat (slice_index_or v.seats i seat) (slice_index_or v.seats i seat) (member s i) (seen_at p i) (slice_index_or v.seats i seat).trouble refl (c.seats i seat below);
-  count_is = c.count_is;
-  phase_is = c.phase_is;
-  whole_is = c.whole_is;
-  row_is = c.row_is;
-  lost_is = c.lost_is;
-  addressed_is = c.addressed_is;
-  before_is = c.before_is;
-  waited_is = c.waited_is;
-  plan_is = c.plan_is;
-  plans_is = c.plans_is;
-  stopped_is = refl;
-  stop_is = refl;
-})
+stops v s p x c none = rw none (core_of c refl (all_stopped v s p c)
+    c.count_is c.phase_is c.whole_is c.row_is c.lost_is c.addressed_is c.before_is c.waited_is c.plan_is c.plans_is refl refl)
 
 pub plans : (v : CoreView) (s : Known) (p : Past) (q : PlanView) → CoreStandsFor v s p → CoreStandsFor (record v { plan = Some q; plans = true }) s (record p { now = record p.now { plans = true }; plan = Some q })
-plans v s p q c = record {
-  rate_is = c.rate_is;
-  cycle_is = c.cycle_is;
-  control_is = c.control_is;
-  gap_is = c.gap_is;
-  order_is = c.order_is;
-  places_are = c.places_are;
-  seats_count = c.seats_count;
-  seats = λ i seat below. c.seats i seat below;
-  count_is = c.count_is;
-  phase_is = c.phase_is;
-  whole_is = c.whole_is;
-  row_is = c.row_is;
-  lost_is = c.lost_is;
-  addressed_is = c.addressed_is;
-  before_is = c.before_is;
-  waited_is = c.waited_is;
-  plan_is = refl;
-  plans_is = refl;
-  stopped_is = c.stopped_is;
-  stop_is = c.stop_is;
-}
+plans v s p q c = core_of c refl c.seats
+    c.count_is c.phase_is c.whole_is c.row_is c.lost_is c.addressed_is c.before_is c.waited_is refl refl c.stopped_is c.stop_is
 
 -- the plan, where it is due
-pub due_stopped : (s : Known) (p : Past) → is_some p.stop ≡ true → with_due_plan s p ≡ p
-due_stopped s p e = by (p.now.phase == 2) p.stop e
-  where
-    by : (a : Bool) (o : Option Stop) → is_some o ≡ true → (if a && (is_none o && (is_none p.plan && all_read s p)) then planned_by s p else p) ≡ p
-    by true None f = absurd (false≢true f)
-    by true (Some x) f = refl
-    by false o f = refl
-
 pub none_of_some : {A : Type 0} (o : Option A) → is_some o ≡ true → is_none o ≡ false
 none_of_some None e = absurd (false≢true e)
 none_of_some (Some x) e = refl
+
+pub due_stopped : (s : Known) (p : Past) → is_some p.stop ≡ true → with_due_plan s p ≡ p
+due_stopped s p e = cond-false (is_plan_due s p) (planned_by s p) p
+    (and_right (p.now.phase == 2) _ (ap (λ b. b && (is_none p.plan && all_read s p)) (none_of_some p.stop e)))
 
 none_of_none : {A : Type 0} (o : Option A) → is_some o ≡ false → is_none o ≡ true
 none_of_none None e = refl
 none_of_none (Some x) e = absurd (false≢true (sym e))
 
 pub due_unread : (v : CoreView) (s : Known) (p : Past) → CoreStandsFor v s p → is_some (position (λ seat. not (has_read seat)) v.seats) ≡ true → with_due_plan s p ≡ p
-due_unread v s p c e =
-    let f : all_read s p ≡ false = none_of_some (first_place s (λ k. not (is_read (member s k) (outcomes p k)))) (rw (unread v s p c) at e) in
-    by (p.now.phase == 2) (is_none p.stop) (is_none p.plan) f
-  where
-    by : (a b d : Bool) → all_read s p ≡ false → (if a && (b && (d && all_read s p)) then planned_by s p else p) ≡ p
-    by true true true f = rw f refl
-    by true true false f = refl
-    by true false d f = refl
-    by false b d f = refl
+due_unread v s p c e = cond-false (is_plan_due s p) (planned_by s p) p
+    (and_right (p.now.phase == 2) _ (and_right (is_none p.stop) _ (and_right (is_none p.plan) _
+    (none_of_some (first_place s (λ k. not (is_read (member s k) (outcomes p k)))) (rw (unread v s p c) at e)))))
 
 pub due : (v : CoreView) (s : Known) (p : Past) → CoreStandsFor v s p → (p.now.phase == 2) ≡ true → p.stop ≡ None → is_some p.plan ≡ false → is_some (position (λ seat. not (has_read seat)) v.seats) ≡ false →
     with_due_plan s p ≡ planned_by s p
 due v s p c two no_stop no_plan read =
-    let f : all_read s p ≡ true = none_of_none (first_place s (λ k. not (is_read (member s k) (outcomes p k)))) (rw (unread v s p c) at read) in
     let g : is_none p.plan ≡ true = none_of_none p.plan no_plan in
-    rw (two, no_stop, g, f) refl
+    rw (two, no_stop, g, none_of_none (first_place s (λ k. not (is_read (member s k) (outcomes p k)))) (rw (unread v s p c) at read)) refl
 
 pub planned_well : (s : Known) (p : Past) → nat_le (record_bytes (wishes_given s (outcomes p)).drives) 2047 ≡ true → planned_by s p ≡ with_plan (planned (wishes_given s (outcomes p))) p
 planned_well s p e = rw e refl

@@ -50,41 +50,20 @@ phases s requests drives x cycles = map (λ n. (run s requests drives x n).now.p
 abbrev mdt_in : Known → (ℕ → List Task) → List Drive → Script → ℕ → Option Sent
 mdt_in s requests drives x n = mdt_said s (before_end s drives x (run s requests drives x n))
 
--- Without faults: phase 1 in 10, phase 2 in 12, phase 3 in 95 after the last answer of phase 2 in 94, phase 4 in 100.
-starts_up : phases ring read_51 (drive ∷ []) quiet (9 ∷ 10 ∷ 11 ∷ 12 ∷ 94 ∷ 95 ∷ 99 ∷ 100 ∷ []) ≡ 0 ∷ 1 ∷ 1 ∷ 2 ∷ 2 ∷ 3 ∷ 3 ∷ 4 ∷ []
+-- Without faults: phase 1 in 10, phase 2 in 12, phase 3 in 95 after the last answer of phase 2 in 94, phase 4 in 100. The plan comes in
+-- 42, with the answer to the last read. The request's read ends in 105. An identification, the first step of phase 2, and the first of
+-- phase 3, with a command value of four bytes.
+starts_up : (phases ring read_51 (drive ∷ []) quiet (9 ∷ 10 ∷ 11 ∷ 12 ∷ 94 ∷ 95 ∷ 99 ∷ 100 ∷ []) ≡ 0 ∷ 1 ∷ 1 ∷ 2 ∷ 2 ∷ 3 ∷ 3 ∷ 4 ∷ [])
+    × (events ring read_51 (drive ∷ []) quiet 41 ≡ no_events)
+    × (events ring read_51 (drive ∷ []) quiet 42
+    ≡ record no_events { plan = Some (record { t1 = 10 ∷ []; t2 = 47; t3 = 98; t4 = 230; position = 1 ∷ []; mdt_len = 8 }) })
+    × (events ring read_51 (drive ∷ []) quiet 104 ≡ no_events)
+    × (events ring read_51 (drive ∷ []) quiet 105 ≡ record no_events { outcomes = (1, outcome.Complete (250 ∷ 255 ∷ 0 ∷ 0 ∷ [])) ∷ [] })
+    × (mdt_in ring read_51 (drive ∷ []) quiet 10 ≡ Some (record { start = 650; content = 1 ∷ 0 ∷ 0 ∷ 0 ∷ 0 ∷ [] }))
+    × (mdt_in ring read_51 (drive ∷ []) quiet 12 ≡ Some (record { start = 650; content = 1 ∷ 15 ∷ 0 ∷ 3 ∷ 0 ∷ [] }))
+    × (mdt_in ring read_51 (drive ∷ []) quiet 95 ≡ Some (record { start = 47; content = 255 ∷ 15 ∷ 0 ∷ 128 ∷ 0 ∷ 95 ∷ 0 ∷ 0 ∷ 0 ∷ [] }))
 unfolding Faults.mst_fault Faults.head_fault Spells.word_bytes Spells.word_at Spells.fields Words.status_of Rings.attribute_in Codes.attribute_fault Attributes.attribute_of ChainOf.chain_of LeastTimes.least_plan LeastTimes.least_t2 LeastTimes.least_t3
-starts_up = refl
-
--- The plan comes in 42, with the answer to the last read.
-no_plan_yet : (events ring read_51 (drive ∷ []) quiet 41) ≡ no_events
-unfolding Faults.mst_fault Faults.head_fault Spells.word_bytes Spells.word_at Spells.fields Words.status_of Rings.attribute_in Codes.attribute_fault Attributes.attribute_of ChainOf.chain_of LeastTimes.least_plan LeastTimes.least_t2 LeastTimes.least_t3
-no_plan_yet = refl
-
-plan_made : (events ring read_51 (drive ∷ []) quiet 42) ≡ record no_events { plan = Some (record { t1 = 10 ∷ []; t2 = 47; t3 = 98; t4 = 230; position = 1 ∷ []; mdt_len = 8 }) }
-unfolding Faults.mst_fault Faults.head_fault Spells.word_bytes Spells.word_at Spells.fields Words.status_of Rings.attribute_in Codes.attribute_fault Attributes.attribute_of ChainOf.chain_of LeastTimes.least_plan LeastTimes.least_t2 LeastTimes.least_t3
-plan_made = refl
-
--- The request's read ends in 105.
-not_read_yet : (events ring read_51 (drive ∷ []) quiet 104) ≡ no_events
-unfolding Faults.mst_fault Faults.head_fault Spells.word_bytes Spells.word_at Spells.fields Words.status_of Rings.attribute_in Codes.attribute_fault Attributes.attribute_of ChainOf.chain_of LeastTimes.least_plan LeastTimes.least_t2 LeastTimes.least_t3
-not_read_yet = refl
-
-read : (events ring read_51 (drive ∷ []) quiet 105) ≡ record no_events { outcomes = (1, outcome.Complete (250 ∷ 255 ∷ 0 ∷ 0 ∷ [])) ∷ [] }
-unfolding Faults.mst_fault Faults.head_fault Spells.word_bytes Spells.word_at Spells.fields Words.status_of Rings.attribute_in Codes.attribute_fault Attributes.attribute_of ChainOf.chain_of LeastTimes.least_plan LeastTimes.least_t2 LeastTimes.least_t3
-read = refl
-
--- An identification, the first step of phase 2, and the first of phase 3, with a command value of four bytes.
-mdt_10 : mdt_in ring read_51 (drive ∷ []) quiet 10 ≡ Some (record { start = 650; content = 1 ∷ 0 ∷ 0 ∷ 0 ∷ 0 ∷ [] })
-unfolding Faults.mst_fault Faults.head_fault Spells.word_bytes Spells.word_at Spells.fields Words.status_of Rings.attribute_in Codes.attribute_fault Attributes.attribute_of ChainOf.chain_of LeastTimes.least_plan LeastTimes.least_t2 LeastTimes.least_t3
-mdt_10 = refl
-
-mdt_12 : mdt_in ring read_51 (drive ∷ []) quiet 12 ≡ Some (record { start = 650; content = 1 ∷ 15 ∷ 0 ∷ 3 ∷ 0 ∷ [] })
-unfolding Faults.mst_fault Faults.head_fault Spells.word_bytes Spells.word_at Spells.fields Words.status_of Rings.attribute_in Codes.attribute_fault Attributes.attribute_of ChainOf.chain_of LeastTimes.least_plan LeastTimes.least_t2 LeastTimes.least_t3
-mdt_12 = refl
-
-mdt_95 : mdt_in ring read_51 (drive ∷ []) quiet 95 ≡ Some (record { start = 47; content = 255 ∷ 15 ∷ 0 ∷ 128 ∷ 0 ∷ 95 ∷ 0 ∷ 0 ∷ 0 ∷ [] })
-unfolding Faults.mst_fault Faults.head_fault Spells.word_bytes Spells.word_at Spells.fields Words.status_of Rings.attribute_in Codes.attribute_fault Attributes.attribute_of ChainOf.chain_of LeastTimes.least_plan LeastTimes.least_t2 LeastTimes.least_t3
-mdt_95 = refl
+starts_up = (refl, refl, refl, refl, refl, refl, refl, refl)
 
 -- ANOTHER NUMBER READ: T1min 30 in place of 10. The plan follows it.
 abbrev slower : Drive
@@ -102,46 +81,29 @@ abbrev pub losing_msts : ℕ → ℕ → Script
 losing_msts first last = record quiet { mst_lost = λ c. nat_le first c && nat_le c last }
 
 -- The step first sent in 12 is answered in 76, which is in time; with that AT lost too it is not.
-just_in_time : phases ring no_requests (drive ∷ []) (losing 13 75) (162 ∷ 163 ∷ []) ≡ 3 ∷ 4 ∷ []
+just_in_time : (phases ring no_requests (drive ∷ []) (losing 13 75) (162 ∷ 163 ∷ []) ≡ 3 ∷ 4 ∷ [])
+    × (events ring no_requests (drive ∷ []) (losing 13 76) 75 ≡ no_events)
+    × (events ring no_requests (drive ∷ []) (losing 13 76) 76 ≡ record no_events { fall = Some (fall.StepLimit 1) })
+    × (phases ring no_requests (drive ∷ []) (losing 13 76) (76 ∷ 77 ∷ 87 ∷ 89 ∷ 171 ∷ 172 ∷ 176 ∷ 177 ∷ [])
+    ≡ 2 ∷ 0 ∷ 1 ∷ 2 ∷ 2 ∷ 3 ∷ 3 ∷ 4 ∷ [])
 unfolding Faults.mst_fault Faults.head_fault Spells.word_bytes Spells.word_at Spells.fields Words.status_of Rings.attribute_in Codes.attribute_fault Attributes.attribute_of ChainOf.chain_of LeastTimes.least_plan LeastTimes.least_t2 LeastTimes.least_t3
-just_in_time = refl
-
-not_before_limit : (events ring no_requests (drive ∷ []) (losing 13 76) 75) ≡ no_events
-unfolding Faults.mst_fault Faults.head_fault Spells.word_bytes Spells.word_at Spells.fields Words.status_of Rings.attribute_in Codes.attribute_fault Attributes.attribute_of ChainOf.chain_of LeastTimes.least_plan LeastTimes.least_t2 LeastTimes.least_t3
-not_before_limit = refl
-
-at_limit : (events ring no_requests (drive ∷ []) (losing 13 76) 76) ≡ record no_events { fall = Some (fall.StepLimit 1) }
-unfolding Faults.mst_fault Faults.head_fault Spells.word_bytes Spells.word_at Spells.fields Words.status_of Rings.attribute_in Codes.attribute_fault Attributes.attribute_of ChainOf.chain_of LeastTimes.least_plan LeastTimes.least_t2 LeastTimes.least_t3
-at_limit = refl
-
-starts_again : phases ring no_requests (drive ∷ []) (losing 13 76) (76 ∷ 77 ∷ 87 ∷ 89 ∷ 171 ∷ 172 ∷ 176 ∷ 177 ∷ []) ≡ 2 ∷ 0 ∷ 1 ∷ 2 ∷ 2 ∷ 3 ∷ 3 ∷ 4 ∷ []
-unfolding Faults.mst_fault Faults.head_fault Spells.word_bytes Spells.word_at Spells.fields Words.status_of Rings.attribute_in Codes.attribute_fault Attributes.attribute_of ChainOf.chain_of LeastTimes.least_plan LeastTimes.least_t2 LeastTimes.least_t3
-starts_again = refl
+just_in_time = (refl, refl, refl, refl)
 
 abbrev pub holding_1 : List Drive
 holding_1 = (record drive { words = λ raw. if raw == 47 then 1 ∷ 0 ∷ [] else words raw }) ∷ []
 
--- Two ATs in a row are lost: the request at work is broken and isn't sent again; the next one runs after the restart.
-at_lost : events ring write_and_read holding_1 (losing 105 106) 106 ≡ record no_events { outcomes = (1, outcome.Broken) ∷ []; fall = Some (fall.AtLost 1) }
+-- Two ATs in a row are lost: the request at work is broken and isn't sent again; the next one runs after the restart. Two of the own MSTs
+-- in a row are lost.
+at_lost : (events ring write_and_read holding_1 (losing 105 106) 106
+    ≡ record no_events { outcomes = (1, outcome.Broken) ∷ []; fall = Some (fall.AtLost 1) })
+    × (phases ring write_and_read holding_1 (losing 105 106) (107 ∷ 116 ∷ 117 ∷ 118 ∷ 119 ∷ 201 ∷ 202 ∷ 206 ∷ 207 ∷ [])
+    ≡ 0 ∷ 0 ∷ 1 ∷ 1 ∷ 2 ∷ 2 ∷ 3 ∷ 3 ∷ 4 ∷ [])
+    × (events ring write_and_read holding_1 (losing 105 106) 212
+    ≡ record no_events { outcomes = (2, outcome.Complete (1 ∷ 0 ∷ 0 ∷ 0 ∷ [])) ∷ [] })
+    × (events ring no_requests (drive ∷ []) (losing_msts 120 121) 120 ≡ no_events)
+    × (events ring no_requests (drive ∷ []) (losing_msts 120 121) 121 ≡ record no_events { fall = Some fall.MstLost })
 unfolding Faults.mst_fault Faults.head_fault Spells.word_bytes Spells.word_at Spells.fields Words.status_of Rings.attribute_in Codes.attribute_fault Attributes.attribute_of ChainOf.chain_of LeastTimes.least_plan LeastTimes.least_t2 LeastTimes.least_t3
-at_lost = refl
-
-up_again : phases ring write_and_read holding_1 (losing 105 106) (107 ∷ 116 ∷ 117 ∷ 118 ∷ 119 ∷ 201 ∷ 202 ∷ 206 ∷ 207 ∷ []) ≡ 0 ∷ 0 ∷ 1 ∷ 1 ∷ 2 ∷ 2 ∷ 3 ∷ 3 ∷ 4 ∷ []
-unfolding Faults.mst_fault Faults.head_fault Spells.word_bytes Spells.word_at Spells.fields Words.status_of Rings.attribute_in Codes.attribute_fault Attributes.attribute_of ChainOf.chain_of LeastTimes.least_plan LeastTimes.least_t2 LeastTimes.least_t3
-up_again = refl
-
-second_request : events ring write_and_read holding_1 (losing 105 106) 212 ≡ record no_events { outcomes = (2, outcome.Complete (1 ∷ 0 ∷ 0 ∷ 0 ∷ [])) ∷ [] }
-unfolding Faults.mst_fault Faults.head_fault Spells.word_bytes Spells.word_at Spells.fields Words.status_of Rings.attribute_in Codes.attribute_fault Attributes.attribute_of ChainOf.chain_of LeastTimes.least_plan LeastTimes.least_t2 LeastTimes.least_t3
-second_request = refl
-
--- Two of the own MSTs in a row are lost.
-one_mst : events ring no_requests (drive ∷ []) (losing_msts 120 121) 120 ≡ no_events
-unfolding Faults.mst_fault Faults.head_fault Spells.word_bytes Spells.word_at Spells.fields Words.status_of Rings.attribute_in Codes.attribute_fault Attributes.attribute_of ChainOf.chain_of LeastTimes.least_plan LeastTimes.least_t2 LeastTimes.least_t3
-one_mst = refl
-
-mst_lost : events ring no_requests (drive ∷ []) (losing_msts 120 121) 121 ≡ record no_events { fall = Some fall.MstLost }
-unfolding Faults.mst_fault Faults.head_fault Spells.word_bytes Spells.word_at Spells.fields Words.status_of Rings.attribute_in Codes.attribute_fault Attributes.attribute_of ChainOf.chain_of LeastTimes.least_plan LeastTimes.least_t2 LeastTimes.least_t3
-mst_lost = refl
+at_lost = (refl, refl, refl, refl, refl)
 
 -- STOPS: a cycle time below the drive's least one; a data block outside its limits.
 abbrev refusing : Drive
@@ -150,50 +112,31 @@ refusing = record drive { refuses = λ raw. if raw == 2 then 0x7006 else 0 }
 abbrev pub invalid : Drive
 invalid = record drive { words = λ raw. if raw == 22 then 2 ∷ 128 ∷ 32778 ∷ [] else words raw; status = λ raw. if raw == 128 then 15 else 3 }
 
-cycle_refused : events ring no_requests (refusing ∷ []) quiet 50 ≡ record no_events { stop = Some (stop.Refused 1 (idn 2) (record { raw = 0x7006 })) }
+cycle_refused : (events ring no_requests (refusing ∷ []) quiet 50
+    ≡ record no_events { stop = Some (stop.Refused 1 (idn 2) (record { raw = 0x7006 })) })
+    × (phases ring no_requests (refusing ∷ []) quiet (50 ∷ 51 ∷ 299 ∷ []) ≡ 2 ∷ 2 ∷ 2 ∷ [])
+    × (events ring no_requests (invalid ∷ []) quiet 105
+    ≡ record no_events { stop = Some (stop.Check128 1 (record { items = idn 32778 ∷ [] })) })
+    × (phases ring no_requests (invalid ∷ []) quiet (104 ∷ 105 ∷ 299 ∷ []) ≡ 3 ∷ 3 ∷ 3 ∷ [])
+    × (events ring no_requests (invalid ∷ []) quiet 299 ≡ no_events)
 unfolding Faults.mst_fault Faults.head_fault Spells.word_bytes Spells.word_at Spells.fields Words.status_of Rings.attribute_in Codes.attribute_fault Attributes.attribute_of ChainOf.chain_of LeastTimes.least_plan LeastTimes.least_t2 LeastTimes.least_t3
-cycle_refused = refl
-
-stays_in_2 : phases ring no_requests (refusing ∷ []) quiet (50 ∷ 51 ∷ 299 ∷ []) ≡ 2 ∷ 2 ∷ 2 ∷ []
-unfolding Faults.mst_fault Faults.head_fault Spells.word_bytes Spells.word_at Spells.fields Words.status_of Rings.attribute_in Codes.attribute_fault Attributes.attribute_of ChainOf.chain_of LeastTimes.least_plan LeastTimes.least_t2 LeastTimes.least_t3
-stays_in_2 = refl
-
-check_fails : events ring no_requests (invalid ∷ []) quiet 105 ≡ record no_events { stop = Some (stop.Check128 1 (record { items = idn 32778 ∷ [] })) }
-unfolding Faults.mst_fault Faults.head_fault Spells.word_bytes Spells.word_at Spells.fields Words.status_of Rings.attribute_in Codes.attribute_fault Attributes.attribute_of ChainOf.chain_of LeastTimes.least_plan LeastTimes.least_t2 LeastTimes.least_t3
-check_fails = refl
-
-stays_in_3 : phases ring no_requests (invalid ∷ []) quiet (104 ∷ 105 ∷ 299 ∷ []) ≡ 3 ∷ 3 ∷ 3 ∷ []
-unfolding Faults.mst_fault Faults.head_fault Spells.word_bytes Spells.word_at Spells.fields Words.status_of Rings.attribute_in Codes.attribute_fault Attributes.attribute_of ChainOf.chain_of LeastTimes.least_plan LeastTimes.least_t2 LeastTimes.least_t3
-stays_in_3 = refl
-
-quiet_then : events ring no_requests (invalid ∷ []) quiet 299 ≡ no_events
-unfolding Faults.mst_fault Faults.head_fault Spells.word_bytes Spells.word_at Spells.fields Words.status_of Rings.attribute_in Codes.attribute_fault Attributes.attribute_of ChainOf.chain_of LeastTimes.least_plan LeastTimes.least_t2 LeastTimes.least_t3
-quiet_then = refl
+cycle_refused = (refl, refl, refl, refl, refl)
 
 -- THE MASTER RESTARTS.
 abbrev restarting : ℕ → Script
 restarting at = record quiet { restarts = λ c. c == at }
 
-restarts : events ring no_requests (drive ∷ []) (restarting 120) 120 ≡ record no_events { fall = Some fall.Restart }
-unfolding Faults.mst_fault Faults.head_fault Spells.word_bytes Spells.word_at Spells.fields Words.status_of Rings.attribute_in Codes.attribute_fault Attributes.attribute_of ChainOf.chain_of LeastTimes.least_plan LeastTimes.least_t2 LeastTimes.least_t3
-restarts = refl
-
 -- from 120 on phase 0 is commanded; 119 was of phase 4
-restarts_in_120 : (before_end ring (drive ∷ []) (restarting 120) (run ring no_requests (drive ∷ []) (restarting 120) 120)).now.phase ≡ 0
+restarts : (events ring no_requests (drive ∷ []) (restarting 120) 120 ≡ record no_events { fall = Some fall.Restart })
+    × ((before_end ring (drive ∷ []) (restarting 120) (run ring no_requests (drive ∷ []) (restarting 120) 120)).now.phase ≡ 0)
+    × (phases ring no_requests (drive ∷ []) (restarting 120) (119 ∷ 121 ∷ 129 ∷ 130 ∷ 131 ∷ 132 ∷ 214 ∷ 215 ∷ 219 ∷ 220 ∷ [])
+    ≡ 4 ∷ 0 ∷ 0 ∷ 1 ∷ 1 ∷ 2 ∷ 2 ∷ 3 ∷ 3 ∷ 4 ∷ [])
+    × (events ring write_and_read holding_1 (restarting 105) 105
+    ≡ record no_events { outcomes = (1, outcome.Broken) ∷ []; fall = Some fall.Restart })
+    × (events ring write_and_read holding_1 (restarting 105) 210
+    ≡ record no_events { outcomes = (2, outcome.Complete (1 ∷ 0 ∷ 0 ∷ 0 ∷ [])) ∷ [] })
 unfolding Faults.mst_fault Faults.head_fault Spells.word_bytes Spells.word_at Spells.fields Words.status_of Rings.attribute_in Codes.attribute_fault Attributes.attribute_of ChainOf.chain_of LeastTimes.least_plan LeastTimes.least_t2 LeastTimes.least_t3
-restarts_in_120 = refl
-
-after_restart : phases ring no_requests (drive ∷ []) (restarting 120) (119 ∷ 121 ∷ 129 ∷ 130 ∷ 131 ∷ 132 ∷ 214 ∷ 215 ∷ 219 ∷ 220 ∷ []) ≡ 4 ∷ 0 ∷ 0 ∷ 1 ∷ 1 ∷ 2 ∷ 2 ∷ 3 ∷ 3 ∷ 4 ∷ []
-unfolding Faults.mst_fault Faults.head_fault Spells.word_bytes Spells.word_at Spells.fields Words.status_of Rings.attribute_in Codes.attribute_fault Attributes.attribute_of ChainOf.chain_of LeastTimes.least_plan LeastTimes.least_t2 LeastTimes.least_t3
-after_restart = refl
-
-restart_breaks : events ring write_and_read holding_1 (restarting 105) 105 ≡ record no_events { outcomes = (1, outcome.Broken) ∷ []; fall = Some fall.Restart }
-unfolding Faults.mst_fault Faults.head_fault Spells.word_bytes Spells.word_at Spells.fields Words.status_of Rings.attribute_in Codes.attribute_fault Attributes.attribute_of ChainOf.chain_of LeastTimes.least_plan LeastTimes.least_t2 LeastTimes.least_t3
-restart_breaks = refl
-
-second_after_restart : events ring write_and_read holding_1 (restarting 105) 210 ≡ record no_events { outcomes = (2, outcome.Complete (1 ∷ 0 ∷ 0 ∷ 0 ∷ [])) ∷ [] }
-unfolding Faults.mst_fault Faults.head_fault Spells.word_bytes Spells.word_at Spells.fields Words.status_of Rings.attribute_in Codes.attribute_fault Attributes.attribute_of ChainOf.chain_of LeastTimes.least_plan LeastTimes.least_t2 LeastTimes.least_t3
-second_after_restart = refl
+restarts = (refl, refl, refl, refl, refl)
 
 -- TWO DRIVES of two slaves.
 abbrev pub two : Known
@@ -202,10 +145,8 @@ two = record ring { order = 0 ∷ 1 ∷ []; drives = (record { address = 1; slav
 abbrev pub both : List Drive
 both = drive ∷ (record drive { words = λ raw. if raw == 3 then 12 ∷ [] else words raw }) ∷ []
 
-plan_of_two : events two no_requests both quiet 73 ≡ record no_events { plan = Some (record { t1 = 10 ∷ 46 ∷ []; t2 = 83; t3 = 153; t4 = 230; position = 1 ∷ 9 ∷ []; mdt_len = 16 }) }
+plan_of_two : (events two no_requests both quiet 73
+    ≡ record no_events { plan = Some (record { t1 = 10 ∷ 46 ∷ []; t2 = 83; t3 = 153; t4 = 230; position = 1 ∷ 9 ∷ []; mdt_len = 16 }) })
+    × (phases two no_requests both quiet (10 ∷ 11 ∷ 12 ∷ 13 ∷ 177 ∷ 178 ∷ 182 ∷ 183 ∷ []) ≡ 1 ∷ 1 ∷ 1 ∷ 2 ∷ 2 ∷ 3 ∷ 3 ∷ 4 ∷ [])
 unfolding Faults.mst_fault Faults.head_fault Spells.word_bytes Spells.word_at Spells.fields Words.status_of Rings.attribute_in Codes.attribute_fault Attributes.attribute_of ChainOf.chain_of LeastTimes.least_plan LeastTimes.least_t2 LeastTimes.least_t3
-plan_of_two = refl
-
-two_start_up : phases two no_requests both quiet (10 ∷ 11 ∷ 12 ∷ 13 ∷ 177 ∷ 178 ∷ 182 ∷ 183 ∷ []) ≡ 1 ∷ 1 ∷ 1 ∷ 2 ∷ 2 ∷ 3 ∷ 3 ∷ 4 ∷ []
-unfolding Faults.mst_fault Faults.head_fault Spells.word_bytes Spells.word_at Spells.fields Words.status_of Rings.attribute_in Codes.attribute_fault Attributes.attribute_of ChainOf.chain_of LeastTimes.least_plan LeastTimes.least_t2 LeastTimes.least_t3
-two_start_up = refl
+plan_of_two = (refl, refl)

@@ -1,5 +1,6 @@
 -- What the ring sends, and what that leaves.
-use Rattle.sercos_master.proofs.Words.{◌≡◌, ℕ, zero, suc, ◌+◌, ◌/◌, ◌%◌, ◌^◌, ◌<◌, ◌≤◌, ◌==◌, Bool, true, false, List, [], ◌∷◌, ◌++◌, Option, Some, None, length, ap, refl, sym, ◌∙◌, arith, subst, if◌then◌else◌, not, nat_le, nat_lt, take, is_some, is_none, option_map, slice_index_or, IfSome, position, set, length-set, false≢true, nat_tests, all_drives, master_says, begun_by, PlanView, leb-true, take_all, record_bytes, Wish, Known, MemberView, member, len_or_none, mdt_attributes, record_len, wish_given, wishes_from, outcomes_seen, IsPlanned, Past, outcomes, first_place, is_idle, is_identified, addressed_in, is_sent_to, sent_to, Sent, sent_as, record_to, records_from, mdt_said, single, joint, idle, Seen, SeatView, SeatStandsFor, sent_in, record_seen, SeatsStandFor, CoreView, CoreStandsFor, seen_at, sent_now, Fits, records_upto, idle_same, length-append, append-nil, append_assoc, cond-true}
+use Rattle.sercos_master.proofs.Keeping.{cases_Option}
+use Rattle.sercos_master.proofs.Words.{inr, inl, cases_Bool, ◌≡◌, ℕ, zero, suc, ◌+◌, ◌/◌, ◌%◌, ◌^◌, ◌<◌, ◌≤◌, ◌==◌, true, false, List, [], ◌∷◌, ◌++◌, Option, Some, None, length, ap, refl, sym, ◌∙◌, arith, subst, if◌then◌else◌, not, nat_le, nat_lt, take, is_some, is_none, option_map, slice_index_or, IfSome, position, set, length-set, false≢true, nat_tests, all_drives, master_says, begun_by, PlanView, leb-true, take_all, record_bytes, Wish, Known, MemberView, member, len_or_none, mdt_attributes, record_len, wish_given, wishes_from, outcomes_seen, IsPlanned, Past, outcomes, first_place, is_idle, is_identified, addressed_in, is_sent_to, sent_to, Sent, sent_as, record_to, records_from, mdt_said, single, joint, idle, Seen, SeatView, SeatStandsFor, sent_in, record_seen, SeatsStandFor, CoreView, CoreStandsFor, seen_at, sent_now, Fits, records_upto, idle_same, length-append, append-nil, append_assoc, cond-true}
 use Rattle.std.proofs.lemmas.List.Sums.{sum_by-append}
 use Rattle.sercos_seat.proofs.Sends.{seen_length}
 use Rattle.sercos_seat.specs.Records.{record_said, value_said, values_said}
@@ -10,39 +11,24 @@ use Rattle.sercos_master.proofs.Wishes.{wishes_more}
 -- THE RECORDS ONE BEHIND THE OTHER
 upto_longer : (s : Known) (seen : ℕ → Seen) (count i n : ℕ) → i < n → length (records_upto s seen count i) + length (record_seen count (member s i) (seen i)) ≤ length (records_upto s seen count n)
 upto_longer s seen count i zero h = absurd (omega (arith, h))
-upto_longer s seen count i (suc n) h = by (nat_lt i n) refl (λ below. upto_longer s seen count i n below)
-  where
-    by : (b : Bool) → nat_lt i n ≡ b → (i < n → length (records_upto s seen count i) + length (record_seen count (member s i) (seen i)) ≤ length (records_upto s seen count n)) →
-        length (records_upto s seen count i) + length (record_seen count (member s i) (seen i)) ≤ length (records_upto s seen count n ++ record_seen count (member s n) (seen n))
-    by true e again =
-        let below : i < n = grind (arith, nat_tests, e) in
-        let rest = again below in
-        let l : length (records_upto s seen count n ++ record_seen count (member s n) (seen n)) ≡ length (records_upto s seen count n) + length (record_seen count (member s n) (seen n)) = length-append (records_upto s seen count n) (record_seen count (member s n) (seen n)) in
-        omega (arith, rest, l)
-    by false e again =
-        let same : i ≡ n = grind (arith, nat_tests, e, h) in
-        let l : length (records_upto s seen count n ++ record_seen count (member s n) (seen n)) ≡ length (records_upto s seen count n) + length (record_seen count (member s n) (seen n)) = length-append (records_upto s seen count n) (record_seen count (member s n) (seen n)) in
-        rw (same, l) (omega arith)
+upto_longer s seen count i (suc n) h =
+    let l = length-append (records_upto s seen count n) (record_seen count (member s n) (seen n)) in
+    elim (cases_Bool (nat_lt i n)) [
+      | inl e ↦ let rest = upto_longer s seen count i n (grind (arith, nat_tests, e)) in omega (arith, rest, l)
+      | inr e ↦ let same : i ≡ n = grind (arith, nat_tests, e, h) in rw (same, l) (omega arith)
+    ]
 
 pub fits_next : (s : Known) (seen : ℕ → Seen) (count i n : ℕ) (first out : List ℕ) → i < n → length (first ++ records_upto s seen count n) ≤ 2048 → out ≡ first ++ records_upto s seen count i →
     length out + length (record_seen count (member s i) (seen i)) ≤ 2048
 fits_next s seen count i n first out below fits is =
-    let a = length-append first (records_upto s seen count n) in
-    let b = length-append first (records_upto s seen count i) in
     let more = upto_longer s seen count i n below in
-    rw is (omega (arith, a, b, more, fits))
+    rw is (omega (arith, length-append first (records_upto s seen count n), length-append first (records_upto s seen count i), more, fits))
 
 pub out_next : (s : Known) (seen : ℕ → Seen) (count i : ℕ) (first out now : List ℕ) → out ≡ first ++ records_upto s seen count i → now ≡ out ++ record_seen count (member s i) (seen i) →
     now ≡ first ++ records_upto s seen count (i + 1)
 out_next s seen count i first out now is next =
     let e : i + 1 ≡ suc i = omega arith in
     rw (next, is, e) (append_assoc first (records_upto s seen count i) (record_seen count (member s i) (seen i)))
-
-pub not_yet_sent : (seats : List SeatView) (s : Known) (seen : ℕ → Seen) (i : ℕ) (v : SeatView) → i < length seats → v ≡ slice_index_or seats i v →
-    SeatsStandFor seats s (λ k. if nat_lt k i then sent_in (seen k) else seen k) → SeatStandsFor v (member s i) (seen i)
-not_yet_sent seats s seen i v within is all =
-    let not_yet : nat_lt i i ≡ false = grind (arith, nat_tests) in
-    rw (is) (subst (λ b. SeatStandsFor (slice_index_or seats i v) (member s i) (if b then sent_in (seen i) else seen i)) not_yet (all i v within))
 
 -- the cycle's number counts by its low bytes
 same_value : (cycle len : ℕ) → value_said (cycle % 2 ^ 32) len ≡ value_said cycle len
@@ -68,9 +54,6 @@ late_phase phase h = (grind (arith, nat_tests, h), (grind (arith, nat_tests, h),
 addressed_late : (s : Known) (p : Past) → 3 ≤ p.now.phase → addressed_in s p ≡ None
 addressed_late s p h = let l = late_phase p.now.phase h in rw (l.0, l.1.0) refl
 
-pub now_late : (s : Known) (p : Past) → 3 ≤ p.now.phase → sent_now s p ≡ sent_to None p
-now_late s p h = ap (λ a. sent_to a p) (addressed_late s p h)
-
 seen_sent : (p : Past) (k : ℕ) → 3 ≤ p.now.phase → seen_at (sent_to None p) k ≡ sent_in (seen_at p k)
 seen_sent p k h = let l = late_phase p.now.phase h in rw l.1.1 refl
 
@@ -79,10 +62,7 @@ record_sent s p k h = let l = late_phase p.now.phase h in rw l.1.1 refl
 
 from_upto : (s : Known) (p : Past) (k n : ℕ) → 3 ≤ p.now.phase →
     records_upto s (seen_at p) p.cycle k ++ records_from s (sent_to None p) k n ≡ records_upto s (seen_at p) p.cycle (k + n)
-from_upto s p k zero h = append-nil (records_upto s (seen_at p) p.cycle k) ∙ ap (records_upto s (seen_at p) p.cycle) zero_more
-  where
-    zero_more : k ≡ k + 0
-    zero_more = omega arith
+from_upto s p k zero h = let none : k ≡ k + 0 = omega arith in append-nil _ ∙ ap (records_upto s (seen_at p) p.cycle) none
 from_upto s p k (suc n) h =
     let e : k + 1 ≡ suc k = omega arith in
     let f : suc k + n ≡ k + suc n = omega arith in
@@ -92,13 +72,10 @@ from_upto s p k (suc n) h =
     ∙ (from_upto s p (suc k) n h ∙ ap (records_upto s (seen_at p) p.cycle) f)))
 
 pub records_all : (s : Known) (p : Past) → 3 ≤ p.now.phase → records_from s (sent_to None p) 0 (length s.drives) ≡ records_upto s (seen_at p) p.cycle (length s.drives)
-records_all s p h = from_upto s p 0 (length s.drives) h ∙ ap (records_upto s (seen_at p) p.cycle) none_more
-  where
-    none_more : 0 + length s.drives ≡ length s.drives
-    none_more = omega arith
+records_all s p h = from_upto s p 0 (length s.drives) h ∙ (let none : 0 + length s.drives ≡ length s.drives = omega arith in ap (records_upto s (seen_at p) p.cycle) none)
 
 pub said_late : (s : Known) (p : Past) → 3 ≤ p.now.phase → mdt_said s (sent_now s p) ≡ option_map (joint s (sent_to None p)) p.plan
-said_late s p h = let l = late_phase p.now.phase h in rw (now_late s p h, l.0, l.1.0, l.1.1) refl
+said_late s p h = let l = late_phase p.now.phase h in rw (ap (λ a. sent_to a p) (addressed_late s p h), l.0, l.1.0, l.1.1) refl
 
 pub content_planned : (s : Known) (p : Past) (out : List ℕ) → 3 ≤ p.now.phase → (is_some p.plan ≡ true → out ≡ all_drives ∷ records_upto s (seen_at p) p.cycle (length s.drives)) →
     IfSome (mdt_said s (sent_now s p)) (λ m. out ≡ m.content)
@@ -108,17 +85,17 @@ content_planned s p out h e = rw (said_late s p h) (by p.plan e)
     by None e = tt
     by (Some q) e = e refl ∙ ap (λ bytes. all_drives ∷ bytes) (sym (records_all s p h))
 
-pub sent_all : (v : CoreView) (seats : List SeatView) (s : Known) (p : Past) → CoreStandsFor v s p → 3 ≤ p.now.phase → length seats ≡ length v.seats → SeatsStandFor seats s (λ k. sent_in (seen_at p k)) →
-    CoreStandsFor (record v { seats = seats; addressed = None }) s (sent_now s p)
-sent_all v seats s p c h count all = rw (now_late s p h) (with_seats v seats None s p (sent_to None p) c (record { cycle_is = refl; turns_is = refl; phase_is = refl; whole_is = refl; plans_is = refl; plan_is = refl; stop_is = refl; told_is = refl }) refl count
-    (λ k seat below. subst (SeatStandsFor (slice_index_or seats k seat) (member s k)) (sym (seen_sent p k h)) (all k seat below)))
-
--- WHAT IS SENT TO ONE, OR TO NONE
--- the seats as they were, but for the one that is sent to in phase 2
+-- the seats that the sending leaves, and all else as it was
 sent_core : (v : CoreView) (seats : List SeatView) (s : Known) (p : Past) (to : Option ℕ) → CoreStandsFor v s p → length seats ≡ length v.seats → SeatsStandFor seats s (seen_at (sent_to to p)) →
     CoreStandsFor (record v { seats = seats; addressed = to }) s (sent_to to p)
 sent_core v seats s p to c count all = with_seats v seats to s p (sent_to to p) c (record { cycle_is = refl; turns_is = refl; phase_is = refl; whole_is = refl; plans_is = refl; plan_is = refl; stop_is = refl; told_is = refl }) refl count all
 
+pub sent_all : (v : CoreView) (seats : List SeatView) (s : Known) (p : Past) → CoreStandsFor v s p → 3 ≤ p.now.phase → length seats ≡ length v.seats → SeatsStandFor seats s (λ k. sent_in (seen_at p k)) →
+    CoreStandsFor (record v { seats = seats; addressed = None }) s (sent_now s p)
+sent_all v seats s p c h count all = rw (ap (λ a. sent_to a p) (addressed_late s p h)) (sent_core v seats s p None c count
+    (λ k seat below. subst (SeatStandsFor (slice_index_or seats k seat) (member s k)) (sym (seen_sent p k h)) (all k seat below)))
+
+-- WHAT IS SENT TO ONE, OR TO NONE
 seen_unsent : (p : Past) (to : Option ℕ) (k : ℕ) → is_sent_to p to k ≡ false → seen_at (sent_to to p) k ≡ seen_at p k
 seen_unsent p to k e = rw e refl
 
@@ -129,12 +106,9 @@ seen_there p to k e = rw e refl
 unsent : (v : CoreView) (s : Known) (p : Past) (to : Option ℕ) → CoreStandsFor v s p → ((k : ℕ) → is_sent_to p to k ≡ false) → CoreStandsFor (record v { addressed = to }) s (sent_to to p)
 unsent v s p to c none = sent_core v v.seats s p to c refl (λ k seat below. subst (SeatStandsFor (slice_index_or v.seats k seat) (member s k)) (sym (seen_unsent p to k (none k))) (c.seats k seat below))
 
-is_one : (phase : ℕ) → phase ≡ 1 → (phase == 1) ≡ true
-is_one phase e = rw e refl
-
 to_1 : (v : CoreView) (s : Known) (p : Past) → CoreStandsFor v s p → p.now.phase ≡ 1 → addressed_in s p ≡ position (λ seat. not seat.identified) v.seats
 to_1 v s p c e =
-    cond-true (p.now.phase == 1) (first_place s (λ k. not (is_identified p k))) (if p.now.phase == 2 then first_place s (λ k. not (is_idle p k)) else None) (is_one p.now.phase e)
+    cond-true (p.now.phase == 1) (first_place s (λ k. not (is_identified p k))) (if p.now.phase == 2 then first_place s (λ k. not (is_idle p k)) else None) (rw e refl)
     ∙ sym (unidentified v s p c)
 
 pub sent_1 : (v : CoreView) (s : Known) (p : Past) → CoreStandsFor v s p → p.now.phase ≡ 1 → CoreStandsFor (record v { addressed = position (λ seat. not seat.identified) v.seats }) s (sent_now s p)
@@ -144,11 +118,9 @@ sent_1 v s p c e = subst (λ to. CoreStandsFor (record v { addressed = position 
 pub said_1 : (v : CoreView) (s : Known) (p : Past) → CoreStandsFor v s p → p.now.phase ≡ 1 → mdt_said s (sent_now s p) ≡ option_map (single s idle) (position (λ seat. not seat.identified) v.seats)
 said_1 v s p c e = subst (λ to. mdt_said s (sent_to to p) ≡ option_map (single s idle) (position (λ seat. not seat.identified) v.seats)) (sym (to_1 v s p c e)) (rw e refl)
 
-pub working : (v : CoreView) (s : Known) (p : Past) → CoreStandsFor v s p → position (λ seat. not (is_none seat.channel.transfer)) v.seats ≡ first_place s (λ k. not (is_idle p k))
-working v s p c = found v s p (λ seat. not (is_none seat.channel.transfer)) (λ k. not (is_idle p k)) c (λ i seat t. ap not (idle_same seat (member s i) (seen_at p i) t))
-
 to_2 : (v : CoreView) (s : Known) (p : Past) (to : Option ℕ) → CoreStandsFor v s p → p.now.phase ≡ 2 → position (λ seat. not (is_none seat.channel.transfer)) v.seats ≡ to → addressed_in s p ≡ to
-to_2 v s p to c e f = rw e (sym (working v s p c) ∙ f)
+to_2 v s p to c e f = rw e (sym (found v s p (λ seat. not (is_none seat.channel.transfer)) (λ k. not (is_idle p k)) c
+    (λ i seat t. ap not (idle_same seat (member s i) (seen_at p i) t))) ∙ f)
 
 pub sent_none_2 : (v : CoreView) (s : Known) (p : Past) → CoreStandsFor v s p → p.now.phase ≡ 2 → position (λ seat. not (is_none seat.channel.transfer)) v.seats ≡ None → CoreStandsFor (record v { addressed = None }) s (sent_now s p)
 sent_none_2 v s p c e f = rw (to_2 v s p None c e f) (unsent v s p None c (λ k. rw e refl))
@@ -191,7 +163,6 @@ upto_length s p cycle zero h = none s.drives
     none (d ∷ drives) = refl
 upto_length s p cycle (suc n) h =
     let e : n + 1 ≡ suc n = omega arith in
-    let before : length (records_upto s (seen_at p) cycle n) ≡ record_bytes (wishes_from (take n s.drives) 0 (outcomes p)) = upto_length s p cycle n (omega (arith, h)) in
     let one : length (record_seen cycle (member s n) (seen_at p n)) ≡ record_len (member s n) (outcomes p n) = seen_length cycle (member s n) (seen_at p n) in
     let both = length-append (records_upto s (seen_at p) cycle n) (record_seen cycle (member s n) (seen_at p n)) in
     let more = wishes_more s.drives 0 n (outcomes p) (omega (arith, h)) in
@@ -199,18 +170,15 @@ upto_length s p cycle (suc n) h =
     sum_by-append (λ (w : Wish). w.record_len) (wishes_from (take n s.drives) 0 (outcomes p)) (wish_given (member s n) (outcomes p (0 + n)) ∷ []) in
     let z : 0 + n ≡ n = omega arith in
     let last : record_bytes (wish_given (member s n) (outcomes p (0 + n)) ∷ []) ≡ record_len (member s n) (outcomes p n) = rw z (omega arith) in
-    rw (← e) (omega (arith, before, one, both) ∙ (sym (rw last at sum) ∙ sym (ap record_bytes more)))
+    rw (← e) (omega (arith, upto_length s p cycle n (omega (arith, h)), one, both) ∙ (sym (rw last at sum) ∙ sym (ap record_bytes more)))
 
 pub fits_planned : (s : Known) (p : Past) → IsPlanned s p → is_some p.plan ≡ true → Fits s p
-fits_planned s p planned some = by p.plan refl some
-  where
-    by : (plan : Option PlanView) → p.plan ≡ plan → is_some plan ≡ true → Fits s p
-    by None e some = absurd (false≢true some)
-    by (Some plan) e some =
-        let fits : record_bytes (wishes_from s.drives 0 (outcomes p)) ≤ 2047 = leb-true (record_bytes (wishes_from s.drives 0 (outcomes p))) 2047 (planned plan e).fits in
-        let whole : take (length s.drives) s.drives ≡ s.drives = take_all (length s.drives) s.drives (omega arith) in
-        let long = upto_length s p p.cycle (length s.drives) (omega arith) ∙ ap (λ ds. record_bytes (wishes_from ds 0 (outcomes p))) whole in
-        omega (arith, fits, long)
+fits_planned s p planned some = elim (cases_Option p.plan) [
+  | inl e ↦ absurd (false≢true (rw e at some))
+  | inr (plan, e) ↦ let long = upto_length s p p.cycle (length s.drives) (omega arith) ∙
+      ap (λ ds. record_bytes (wishes_from ds 0 (outcomes p))) (take_all (length s.drives) s.drives (omega arith))
+      in omega (arith, leb-true (record_bytes (wishes_from s.drives 0 (outcomes p))) 2047 (planned plan e).fits, long)
+]
 
 -- a start and a content are what is said
 pub said_both : (start : Option ℕ) (content : List ℕ) (m : Option Sent) → start ≡ option_map (λ x. x.start) m → IfSome m (λ x. content ≡ x.content) → sent_as start content ≡ m

@@ -1,5 +1,5 @@
 -- What a seat tells of its drive's wish, and what the ring asks of its plan.
-use Rattle.sercos_master.proofs.Words.{◌≡◌, ℕ, zero, suc, ◌+◌, ◌<◌, ◌≤◌, Bool, true, false, List, [], ◌∷◌, ◌++◌, Option, Some, None, length, ap, refl, sym, ◌∙◌, arith, subst, if◌then◌else◌, min, nat_le, nat_lt, is_some, map, take, drop, slice_index_or, false≢true, nat_tests, Outcome, Wish, WishesView, no_wish, record_bytes, IsValid, AreDistinct, Stop, Known, IsKnown, MemberView, member, no_member, wishes_from, wishes_given, mdt_attributes, words_given, wish_given, last_long_from, long_stop, last_long, Seen, outcomes_seen, drop_at, drop_all, get_there, lens, take_all}
+use Rattle.sercos_master.proofs.Words.{inr, inl, cases_Bool, length_push, ◌≡◌, ℕ, zero, suc, ◌+◌, ◌<◌, ◌≤◌, Bool, true, false, List, [], ◌∷◌, ◌++◌, Option, Some, None, length, ap, refl, sym, ◌∙◌, arith, subst, if◌then◌else◌, min, nat_le, nat_lt, is_some, map, take, drop, slice_index_or, false≢true, nat_tests, Outcome, Wish, WishesView, no_wish, record_bytes, IsValid, AreDistinct, Stop, Known, IsKnown, MemberView, member, no_member, wishes_from, wishes_given, mdt_attributes, words_given, wish_given, last_long_from, long_stop, last_long, Seen, outcomes_seen, drop_at, drop_all, get_there, lens, take_all}
 
 -- THE WISHES OF THE RING
 pub wishes_length : (drives : List MemberView) (k : ℕ) (outs : ℕ → List Outcome) → length (wishes_from drives k outs) ≡ length drives
@@ -65,8 +65,7 @@ stop_passes zero k drives outs x e = let f : k + 0 ≡ k = omega arith in rw f a
 stop_passes (suc n) k [] outs x e = absurd (cc)
 stop_passes (suc n) k (d ∷ drives) outs x e =
     let f : k + suc n ≡ k + 1 + n = omega arith in
-    let g : last_long_from drives (k + 1) outs ≡ Some x = stop_passes n (k + 1) drives outs x (rw f at e) in
-    rw g refl
+    rw (stop_passes n (k + 1) drives outs x (rw f at e)) refl
 
 pub stop_there : (s : Known) (outs : ℕ → List Outcome) (n m : ℕ) (x : Stop) → n < length s.drives → m ≡ n + 1 → long_stop (member s n).address (last_long (member s n).mdt (mdt_attributes (member s n) (outs n))) ≡ Some x →
     last_long_from (drop m s.drives) m outs ≡ None → last_long_from s.drives 0 outs ≡ Some x
@@ -79,15 +78,11 @@ stop_none s outs n h = rw (drop_all n s.drives h) refl
 pub push_room : (wishes : List Wish) (n : ℕ) (w : Wish) → length wishes ≡ min n 64 → n < 64 → (if nat_lt (length wishes) 64 then wishes ++ w ∷ [] else wishes) ≡ wishes ++ w ∷ []
 push_room wishes n w e h = let f : nat_lt (length wishes) 64 ≡ true = grind (arith, nat_tests, e, h) in rw f refl
 
-length_one : (wishes : List Wish) (w : Wish) → length (wishes ++ w ∷ []) ≡ length wishes + 1
-length_one [] w = refl
-length_one (v ∷ wishes) w = let e : length (wishes ++ w ∷ []) ≡ length wishes + 1 = length_one wishes w in rw e (omega arith)
-
 pub push_count : (wishes : List Wish) (n : ℕ) (w : Wish) → length wishes ≡ min n 64 → length (if nat_lt (length wishes) 64 then wishes ++ w ∷ [] else wishes) ≡ min (n + 1) 64
 push_count wishes n w e = by (nat_lt (length wishes) 64) refl
   where
     by : (b : Bool) → nat_lt (length wishes) 64 ≡ b → length (if b then wishes ++ w ∷ [] else wishes) ≡ min (n + 1) 64
-    by true f = let l : length (wishes ++ w ∷ []) ≡ length wishes + 1 = length_one wishes w in let h : length wishes < 64 = grind (arith, nat_tests, f) in omega (arith, l, e, h)
+    by true f = let l : length (wishes ++ w ∷ []) ≡ length wishes + 1 = length_push wishes w in let h : length wishes < 64 = grind (arith, nat_tests, f) in omega (arith, l, e, h)
     by false f = let h : 64 ≤ length wishes = grind (arith, nat_tests, f) in omega (arith, e, h)
 
 pub none_is : {A : Type 0} (o : Option A) → is_some o ≡ false → o ≡ None
@@ -99,8 +94,7 @@ some_is None e f = absurd (false≢true e)
 some_is (Some x) e f = f x refl
 
 pub not_fitting : (s : Known) (outs : ℕ → List Outcome) → IsKnown s → (IsValid (wishes_given s outs) → ⊥) → nat_le (record_bytes (wishes_given s outs).drives) 2047 ≡ false
-not_fitting s outs k never = by (nat_le (record_bytes (wishes_given s outs).drives) 2047) refl
-  where
-    by : (b : Bool) → nat_le (record_bytes (wishes_given s outs).drives) 2047 ≡ b → b ≡ false
-    by true e = absurd (never (is_valid s outs k e))
-    by false e = refl
+not_fitting s outs k never = elim (cases_Bool (nat_le (record_bytes (wishes_given s outs).drives) 2047)) [
+  | inl e ↦ absurd (never (is_valid s outs k e))
+  | inr e ↦ rw e refl
+]

@@ -22,39 +22,25 @@ losing_all first last = record quiet {
   at_lost = λ c k. nat_le first c && nat_le c last;
 }
 
-mst_first : events ring no_requests (drive ∷ []) (losing_all 120 121) 121 ≡ record no_events { fall = Some fall.MstLost }
-unfolding Faults.mst_fault Faults.head_fault Spells.word_bytes Spells.word_at Spells.fields Words.status_of Rings.attribute_in Codes.attribute_fault Attributes.attribute_of ChainOf.chain_of LeastTimes.least_plan LeastTimes.least_t2 LeastTimes.least_t3
-mst_first = refl
-
 -- In 200 and 201 the ATs of both drives are lost: it falls for the first drive; and for the second one, if that one's alone are lost.
-first_drive : events two no_requests both (losing 200 201) 201 ≡ record no_events { fall = Some (fall.AtLost 1) }
+mst_first : (events ring no_requests (drive ∷ []) (losing_all 120 121) 121 ≡ record no_events { fall = Some fall.MstLost })
+    × (events two no_requests both (losing 200 201) 201 ≡ record no_events { fall = Some (fall.AtLost 1) })
+    × (events two no_requests both (record quiet { at_lost = λ c k. (k == 1) && (nat_le 200 c && nat_le c 201) }) 201
+    ≡ record no_events { fall = Some (fall.AtLost 2) })
 unfolding Faults.mst_fault Faults.head_fault Spells.word_bytes Spells.word_at Spells.fields Words.status_of Rings.attribute_in Codes.attribute_fault Attributes.attribute_of ChainOf.chain_of LeastTimes.least_plan LeastTimes.least_t2 LeastTimes.least_t3
-first_drive = refl
-
-second_drive : events two no_requests both (record quiet { at_lost = λ c k. (k == 1) && (nat_le 200 c && nat_le c 201) }) 201
-    ≡ record no_events { fall = Some (fall.AtLost 2) }
-unfolding Faults.mst_fault Faults.head_fault Spells.word_bytes Spells.word_at Spells.fields Words.status_of Rings.attribute_in Codes.attribute_fault Attributes.attribute_of ChainOf.chain_of LeastTimes.least_plan LeastTimes.least_t2 LeastTimes.least_t3
-second_drive = refl
+mst_first = (refl, refl, refl)
 
 -- TWO STOPS. In 188 both drives' lists of what is outside its limits have been read: the stop is that of the first drive, and no other
 -- is reported.
 abbrev both_invalid : List Drive
 both_invalid = invalid ∷ invalid ∷ []
 
-not_yet : events two no_requests both_invalid quiet 187 ≡ no_events
+not_yet : (events two no_requests both_invalid quiet 187 ≡ no_events)
+    × (events two no_requests both_invalid quiet 188
+    ≡ record no_events { stop = Some (stop.Check128 1 (record { items = idn 32778 ∷ [] })) })
+    × (events two no_requests both_invalid quiet 189 ≡ no_events)
 unfolding Faults.mst_fault Faults.head_fault Spells.word_bytes Spells.word_at Spells.fields Words.status_of Rings.attribute_in Codes.attribute_fault Attributes.attribute_of ChainOf.chain_of LeastTimes.least_plan LeastTimes.least_t2 LeastTimes.least_t3
-not_yet = refl
-
-first_stop : events two no_requests both_invalid quiet 188 ≡ record no_events {
-  stop = Some
-      (stop.Check128 1 (record { items = idn 32778 ∷ [] }));
-}
-unfolding Faults.mst_fault Faults.head_fault Spells.word_bytes Spells.word_at Spells.fields Words.status_of Rings.attribute_in Codes.attribute_fault Attributes.attribute_of ChainOf.chain_of LeastTimes.least_plan LeastTimes.least_t2 LeastTimes.least_t3
-first_stop = refl
-
-no_other : events two no_requests both_invalid quiet 189 ≡ no_events
-unfolding Faults.mst_fault Faults.head_fault Spells.word_bytes Spells.word_at Spells.fields Words.status_of Rings.attribute_in Codes.attribute_fault Attributes.attribute_of ChainOf.chain_of LeastTimes.least_plan LeastTimes.least_t2 LeastTimes.least_t3
-no_other = refl
+not_yet = (refl, refl, refl)
 
 -- TWO OUTCOMES. In 105 the write is complete, the read is begun, and the ring falls for its MSTs, which breaks the read.
 two_outcomes : events ring write_and_read holding_1 (losing_msts 104 105) 105
@@ -86,10 +72,7 @@ short_word = outcome.Complete (1 ∷ 0 ∷ 17 ∷ 0 ∷ [])
 abbrev damaged : ℕ → List Outcome
 damaged k = replicate 6 (outcome.Complete (10 ∷ 0 ∷ [])) ++ replicate 15 long_word ++ (if k == 30 then short_word else long_word) ∷ []
 
-too_long : record_bytes (wishes_given many damaged).drives ≡ 2106
+too_long : (record_bytes (wishes_given many damaged).drives ≡ 2106)
+    × (last_long_stop many.drives 0 damaged ≡ Some (stop.BadConfig 31 (idn 114) 0x00220001))
 unfolding Rings.attribute_in Codes.attribute_fault Attributes.attribute_of
-too_long = refl
-
-last_named : last_long_stop many.drives 0 damaged ≡ Some (stop.BadConfig 31 (idn 114) 0x00220001)
-unfolding Rings.attribute_in Codes.attribute_fault Attributes.attribute_of
-last_named = refl
+too_long = (refl, refl)

@@ -1,14 +1,12 @@
 -- What the two replies to the reads of a block's attribute are.
-use Rattle.sercos_law_channel.proofs.Words.{◌≡◌, ℕ, ◌+◌, ◌*◌, ◌^◌, ◌<◌, Bool, true, false, ◌&&◌, List, [], ◌∷◌, map, length, refl, ap, ap₂, sym, ◌∙◌, arith, cond, if◌then◌else◌, ◌==◌, Option, Some, None, option_map, unwrap_or, slice_index, w32, to_le_bytes, cond-false, Attribute, attribute_fault, attribute_word, attribute_of, Step, words_of, shape_of, shape_by, a_step, Block, find_block, read_fault, status_in, Processed, Entry, open_idn, run_before, selection, good, answer_by, copy, read_cause, reply_at, reply_of, AreAlike, without_data, element_of, element_words, in_order, eqb-true, and_right, opens, cond-true, write_cause_in}
-
--- the block that was found has the same attribute
-found_without_data : (v : Bool) (b : Block) (o p : Option Block) → option_map without_data o ≡ p → option_map without_data (cond v (Some b) o) ≡ cond v (Some (without_data b)) p
-found_without_data true b o p same = refl
-found_without_data false b o p same = same
+use Rattle.sercos_law_channel.proofs.Words.{inr, inl, cases_Bool, ◌≡◌, ℕ, ◌+◌, ◌*◌, ◌^◌, ◌<◌, Bool, true, false, ◌&&◌, List, [], ◌∷◌, map, length, refl, ap, ap₂, sym, ◌∙◌, arith, if◌then◌else◌, ◌==◌, Option, Some, None, option_map, unwrap_or, slice_index, w32, to_le_bytes, cond-false, Attribute, attribute_fault, attribute_word, attribute_of, Step, words_of, shape_of, shape_by, a_step, Block, find_block, read_fault, status_in, Processed, Entry, open_idn, run_before, selection, good, answer_by, copy, read_cause, reply_at, reply_of, AreAlike, without_data, element_of, element_words, in_order, eqb-true, and_right, opens, cond-true, write_cause_in}
 
 pub find-without_data : (raw : ℕ) (blocks : List Block) → option_map without_data (find_block raw blocks) ≡ find_block raw (map without_data blocks)
 find-without_data raw [] = refl
-find-without_data raw (b ∷ blocks) = found_without_data (b.idn.raw == raw) b (find_block raw blocks) (find_block raw (map without_data blocks)) (find-without_data raw blocks)
+find-without_data raw (b ∷ blocks) = elim (cases_Bool (b.idn.raw == raw)) [
+  | inl on ↦ rw on refl
+  | inr off ↦ rw off (find-without_data raw blocks)
+]
 
 pub find-alike : (raw : ℕ) (others blocks : List Block) (b : Block) → AreAlike others blocks → find_block raw blocks ≡ Some b → option_map without_data (find_block raw others) ≡ Some (without_data b)
 find-alike raw others blocks b alike found =
@@ -66,9 +64,8 @@ pub reply-data : (t : Processed) (log : List Entry) (raw : ℕ) → t.step.write
     reply_of t log ≡ answer_by (write_cause_in (find_block raw t.blocks) t.phase t.step.last (in_order (run_before t.step.write t.step.element log) (t.step.word ∷ []))) 0
 reply-data t log raw write seven opened =
     let e = eqb-true t.step.element 7 seven in
-    let not_one : (t.step.element == 1) ≡ false = ap (λ (n : ℕ). n == 1) e in
     let not_zero : (t.step.element == 0) ≡ false = ap (λ (n : ℕ). n == 0) e in
-    let shut : opens t.step ≡ false = and_right t.step.write (t.step.element == 1) not_one in
+    let shut : opens t.step ≡ false = and_right t.step.write (t.step.element == 1) (ap (λ (n : ℕ). n == 1) e) in
     cond-false (opens t.step) _ _ shut ∙ cond-false (t.step.element == 0) _ _ not_zero ∙ ap (λ (o : Option ℕ). reply_at o t (run_before t.step.write t.step.element log)) opened
     ∙ cond-true t.step.write _ _ write ∙ ap (λ (o : Option ℕ). answer_by o 0) (cond-true (t.step.element == 7) _ _ seven)
 
@@ -82,12 +79,8 @@ pub reply_high : (raw word : ℕ) (last : Bool) (t s : Processed) (all : List En
 reply_high raw word last t s all a is opened before read =
     reply-read raw 3 word last t all (s ∷ []) refl is opened before ∙ ap₂ (λ (o : Option ℕ) (words : List ℕ). answer_by o (slice_index words 1)) read.free read.words
 
--- the two words are the attribute's word
-two_words : (n : ℕ) → n < 2 ^ 32 → slice_index (words_of (to_le_bytes w32 n)) 0 + 65536 * slice_index (words_of (to_le_bytes w32 n)) 1 ≡ n
-two_words n small = omega arith
-
 pub shape-attribute : (a : Attribute) → attribute_word a < 2 ^ 32 → attribute_fault (attribute_word a) ≡ None → attribute_of (attribute_word a) ≡ a →
     shape_of 7 (slice_index (attribute_words a) 0 + 65536 * slice_index (attribute_words a) 1) ≡ shape_by a.length
 shape-attribute a small sound back =
     let said : shape_of 7 (attribute_word a) ≡ shape_by a.length = rw (sound, back) refl in
-    ap (shape_of 7) (two_words (attribute_word a) small) ∙ said
+    ap (shape_of 7) (omega arith) ∙ said

@@ -3,7 +3,8 @@ use Rattle.sercos_law_channel.proofs.Words.{◌≡◌, ℕ, suc, ◌-◌, ◌≤
 use Rattle.sercos_step.specs.declared.request.Request.TheVariants as request
 use Rattle.sercos_step.specs.declared.request.Outcome.TheVariants as outcome
 use Rattle.sercos_law_channel.proofs.Handshake.AttributeReplies.{reply-read}
-use Rattle.sercos_law_channel.proofs.Handshake.TransferSteps.{all-slice_get, newest_step, without_newest, length-replies_of, goes_on-outcome_of, complete_is}
+use Rattle.sercos_law_channel.proofs.Options.{all_at}
+use Rattle.sercos_law_channel.proofs.Handshake.TransferSteps.{newest_step, without_newest, length-replies_of, goes_on-outcome_of, complete_is}
 use Rattle.sercos_law_channel.proofs.Handshake.UnknownBlocks.{refuses_unknown}
 use Rattle.sercos_law_channel.proofs.Handshake.ElementReads.{status_small, small_word}
 use Rattle.sercos_law_channel.proofs.Handshake.CommandStages.{Poll, Reads, Cancels, Stage, AtOpening, AtSetting, AtPoll, next_poll, whole_cancels, stage_before}
@@ -54,7 +55,7 @@ module _ (idn : Idn) (blocks : List Block) (b : Block) (found : find_block idn.r
   pub command_last : (e : Entry) (entries log : List Entry) → IsTransfer (request.Command idn) blocks e entries log → e.processed.step.last ≡ true
   command_last e entries log is =
       let words = answer_words (replies_of entries) in
-      all-slice_get (λ (s : Step). s.last) (steps_of (request.Command idn) words) (length words) e.processed.step (polling_passes (λ (s : Step). s.last) (drop 2 words) refl refl) (newest_step (request.Command idn) blocks log e entries is)
+      all_at (λ (s : Step). s.last) (steps_of (request.Command idn) words) (length words) e.processed.step (polling_passes (λ (s : Step). s.last) (drop 2 words) refl refl) (newest_step (request.Command idn) blocks log e entries is)
 
   -- the entry before the cancel is a poll
   pub is_poll : (d o : Entry) (past log : List Entry) → 2 ≤ length (o ∷ past) → IsTransfer (request.Command idn) blocks d (o ∷ past) log → is_whole (request.Command idn) (answer_words (replies_of (o ∷ past)) ++ d.answer.word ∷ []) ≡ false →

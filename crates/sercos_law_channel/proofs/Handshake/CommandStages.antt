@@ -1,5 +1,5 @@
 -- How far a transfer that sets a procedure command has come, and what it adds to the writes.
-use Rattle.sercos_law_channel.proofs.Words.{◌≡◌, ℕ, suc, ◌<◌, Bool, true, false, not, ◌&&◌, List, [], ◌∷◌, ◌++◌, length, refl, ap, ap₂, sym, ◌∙◌, arith, if◌then◌else◌, length-append, cond_both, ◌==◌, nat_le, Option, Some, None, slice_get, nat_tests, Idn, Step, Answer, Request, a_step, opening, polling, steps_of, outcome_of, answer_words, is_whole, Block, find_block, Entry, open_idn, run_before, reply_of, Write, AreAlike, writes_of, replies_of, IsTransfer, is_complete, SetsAndCancels, setting, second_of, added_by_setting, cancelled_by, and-false, and_right, inl, inr, cases_Option}
+use Rattle.sercos_law_channel.proofs.Words.{cases_Bool, ◌≡◌, ℕ, suc, ◌<◌, Bool, true, false, not, ◌&&◌, List, [], ◌∷◌, ◌++◌, length, refl, ap, ap₂, sym, ◌∙◌, arith, if◌then◌else◌, length-append, cond_both, ◌==◌, Option, Some, slice_get, nat_tests, Idn, Step, Answer, Request, a_step, opening, polling, steps_of, outcome_of, answer_words, is_whole, Block, find_block, Entry, open_idn, run_before, reply_of, Write, AreAlike, writes_of, replies_of, IsTransfer, is_complete, SetsAndCancels, setting, second_of, added_by_setting, cancelled_by, and-false, and_right, inl, inr, cases_Option}
 use Rattle.sercos_idn.specs.declared.kinds.Length.TheVariants as len
 use Rattle.sercos_step.specs.declared.request.Request.TheVariants as request
 use Rattle.sercos_law_channel.proofs.Handshake.TransferSteps.{newest_step, without_newest, complete-outcome_of, goes_on-outcome_of, adds_none, effect_by}
@@ -25,11 +25,10 @@ poll_last status (v ∷ polled) s other next = absurd (cc)
 polls : (polled : List ℕ) (s : Step) → slice_get (polling polled) (length polled) ≡ Some s → Poll polled s
 polls [] s next = Reads (some_same (a_step false true 1 0) s next)
     (λ x. cond_both (x == 7) (a_step false true 1 0 ∷ []) (a_step true true 7 0 ∷ []) (λ v. suc (length v) ≡ 2) (λ on. refl) (λ off. refl))
-polls (status ∷ polled) s next = by (status == 7) refl next (polls polled s)
-  where
-    by : (v : Bool) → (status == 7) ≡ v → slice_get (if v then polling polled else a_step true true 7 0 ∷ []) (length polled) ≡ Some s → (slice_get (polling polled) (length polled) ≡ Some s → Poll polled s) → Poll (status ∷ polled) s
-    by true seven got again = poll_more status polled s seven (again got)
-    by false other got again = poll_last status polled s other got
+polls (status ∷ polled) s next = elim (cases_Bool (status == 7)) [
+  | inl seven ↦ poll_more status polled s seven (polls polled s (rw seven at next))
+  | inr other ↦ poll_last status polled s other (rw other at next)
+]
 
 -- After these entries, with these words answered: the next step is the opening, the setting, or one of those after it.
 pub data Stage (idn : Idn) (b : Block) (words : List ℕ) (entries all : List Entry) : Type 0 where
@@ -43,9 +42,6 @@ module _ (idn : Idn) (b : Block) where
   asked = request.Command idn
 
   -- the next step
-  next_opening : (words : List ℕ) (s : Step) → words ≡ [] → slice_get (steps_of asked words) (length words) ≡ Some s → s ≡ opening idn
-  next_opening words s is next = some_same (opening idn) s (rw is at next)
-
   pub next_setting : (words : List ℕ) (s : Step) (w : ℕ) → words ≡ w ∷ [] → slice_get (steps_of asked words) (length words) ≡ Some s → s ≡ a_step true true 7 3
   next_setting words s w is next = some_same (a_step true true 7 3) s (rw is at next)
 
@@ -56,18 +52,12 @@ module _ (idn : Idn) (b : Block) where
   whole_reads : (words : List ℕ) (w v : ℕ) (polled : List ℕ) (x : ℕ) → words ≡ w ∷ v ∷ polled → length (polling (polled ++ x ∷ [])) ≡ suc (suc (length polled)) → is_whole asked (words ++ x ∷ []) ≡ false
   whole_reads words w v polled x is long =
       let more = length-append polled (x ∷ []) in
-      rw is (by (length (polling (polled ++ x ∷ []))) (length (polled ++ x ∷ [])) (omega arith))
-    where
-      by : (n k : ℕ) → n ≡ suc k → nat_le (suc (suc n)) (suc (suc k)) ≡ false
-      by n k is = grind (arith, nat_tests)
+      rw is (grind (arith, nat_tests))
 
   pub whole_cancels : (words : List ℕ) (w v : ℕ) (polled : List ℕ) (x : ℕ) → words ≡ w ∷ v ∷ polled → length (polling (polled ++ x ∷ [])) ≡ suc (length polled) → is_whole asked (words ++ x ∷ []) ≡ true
   whole_cancels words w v polled x is long =
       let more = length-append polled (x ∷ []) in
-      rw is (by (length (polling (polled ++ x ∷ []))) (length (polled ++ x ∷ [])) (omega arith))
-    where
-      by : (n k : ℕ) → n ≡ k → nat_le (suc (suc n)) (suc (suc k)) ≡ true
-      by n k is = grind (arith, nat_tests)
+      rw is (grind (arith, nat_tests))
 
   module _ (blocks : List Block) (found : find_block idn.raw blocks ≡ Some b) where
     -- one entry more
@@ -84,7 +74,7 @@ module _ (idn : Idn) (b : Block) where
         e.answer ≡ reply_of e.processed all → AreAlike e.processed.blocks blocks → e.answer.error ≡ false → is_whole asked (words ++ e.answer.word ∷ []) ≡ false →
         Stage idn b (words ++ e.answer.word ∷ []) (e ∷ entries) (e ∷ all)
     grows words e entries all (AtOpening those is) next reply alike well goes_on =
-        let step = next_opening words e.processed.step is next in
+        let step = some_same (opening idn) e.processed.step (rw is at next) in
         AtSetting e e.answer.word (ap (λ (l : List Entry). e ∷ l) those) (ap (λ (ws : List ℕ). ws ++ e.answer.word ∷ []) is) (open_by (opening idn) e all step well) (run_starts (opening idn) true 7 e all step refl)
     grows words e entries all (AtSetting o w those is opened before) next reply alike well goes_on =
         let step = next_setting words e.processed.step w is next in
@@ -123,27 +113,22 @@ module _ (idn : Idn) (b : Block) where
             adds_value 3 e all (omega arith) step well opened before alike (set_allows idn.raw e.processed all blocks b step opened before alike found (ap (λ (a : Answer). a.error) (sym reply) ∙ well)).two
             ∙ ap (λ (v : Bool). (if v then [] else setting idn.raw 3 e ∷ []) ++ writes_of all) (sym well)
 
-    second_stays : (e : Entry) (entries : List Entry) (d o : Entry) (past : List Entry) → entries ≡ d ∷ o ∷ past → second_of entries ≡ second_of (e ∷ entries)
-    second_stays e entries d o past those = ap second_of those ∙ ap (λ (l : List Entry). second_of (e ∷ l)) (sym those)
-
     adds_poll : (words : List ℕ) (e : Entry) (all : List Entry) (w v : ℕ) (polled : List ℕ) → words ≡ w ∷ v ∷ polled → open_idn all ≡ Some idn.raw → run_before true 7 all ≡ [] → b.attribute.length ≡ len.Two → Poll polled e.processed.step →
         AreAlike e.processed.blocks blocks → writes_of (e ∷ all) ≡ cancelled_by idn.raw (not e.answer.error && is_whole asked (words ++ e.answer.word ∷ [])) e ++ writes_of all
     adds_poll words e all w v polled is opened before two (Reads step long) alike =
         adds_none e all (effect_by (a_step false true 1 0) e step) ∙ sym (not_cancelled e.answer.error (is_whole asked (words ++ e.answer.word ∷ [])) e (writes_of all) (whole_reads words w v polled e.answer.word is (long e.answer.word)))
-    adds_poll words e all w v polled is opened before two (Cancels step long) alike = by e.answer.error refl
-      where
-        by : (error : Bool) → e.answer.error ≡ error → writes_of (e ∷ all) ≡ cancelled_by idn.raw (not e.answer.error && is_whole asked (words ++ e.answer.word ∷ [])) e ++ writes_of all
-        by true off =
-            adds_none e all (effect_by (a_step true true 7 0) e step ∙ ap not off)
-            ∙ ap (λ (v : Bool). cancelled_by idn.raw (not v && is_whole asked (words ++ e.answer.word ∷ [])) e ++ writes_of all) (sym off)
-        by false well =
-            adds_value 0 e all (omega arith) step well opened before alike two
-            ∙ ap₂ (λ (v whole : Bool). cancelled_by idn.raw (not v && whole) e ++ writes_of all) (sym well) (sym (whole_cancels words w v polled e.answer.word is (long e.answer.word)))
+    adds_poll words e all w v polled is opened before two (Cancels step long) alike = elim (cases_Bool e.answer.error) [
+      | inl off ↦ adds_none e all (effect_by (a_step true true 7 0) e step ∙ ap not off) ∙
+          ap (λ (v : Bool). cancelled_by idn.raw (not v && is_whole asked (words ++ e.answer.word ∷ [])) e ++ writes_of all) (sym off)
+      | inr well ↦ adds_value 0 e all (omega arith) step well opened before alike two ∙ ap₂
+          (λ (v whole : Bool). cancelled_by idn.raw (not v && whole) e ++ writes_of all) (sym well)
+          (sym (whole_cancels words w v polled e.answer.word is (long e.answer.word)))
+    ]
 
     adds : (words : List ℕ) (e : Entry) (entries all : List Entry) (before : List Write) → Stage idn b words entries all → slice_get (steps_of asked words) (length words) ≡ Some e.processed.step →
         e.answer ≡ reply_of e.processed all → AreAlike e.processed.blocks blocks → writes_of all ≡ added_by_setting idn.raw (second_of entries) ++ before → AddsBy words e entries all before
     adds words e entries all before (AtOpening those is) next reply alike same =
-        adds_none e all (effect_by (opening idn) e (next_opening words e.processed.step is next))
+        adds_none e all (effect_by (opening idn) e (some_same (opening idn) e.processed.step (rw is at next)))
         ∙ same ∙ ap (λ (l : List Entry). added_by_setting idn.raw (second_of l) ++ before) those ∙ ap (λ (l : List Entry). added_by_setting idn.raw (second_of (e ∷ l)) ++ before) (sym those)
         ∙ sym (not_cancelled e.answer.error (is_whole asked (words ++ e.answer.word ∷ [])) e (added_by_setting idn.raw (second_of (e ∷ entries)) ++ before) (rw is refl))
     adds words e entries all before (AtSetting o w those is opened free) next reply alike same =
@@ -153,7 +138,8 @@ module _ (idn : Idn) (b : Block) where
     adds words e entries all before (AtPoll d o past w v polled those is opened free two) next reply alike same =
         adds_poll words e all w v polled is opened free two (next_poll words e.processed.step w v polled is next) alike
         ∙ ap (λ (l : List Write). cancelled_by idn.raw (not e.answer.error && is_whole asked (words ++ e.answer.word ∷ [])) e ++ l)
-        (same ∙ ap (λ (x : Option Entry). added_by_setting idn.raw x ++ before) (second_stays e entries d o past those))
+        (same ∙ ap (λ (x : Option Entry). added_by_setting idn.raw x ++ before)
+        (ap second_of those ∙ ap (λ (l : List Entry). second_of (e ∷ l)) (sym those)))
 
     -- the entries before the newest
     pub stage_before : (e : Entry) (entries log : List Entry) → IsTransfer asked blocks e entries log →
@@ -177,18 +163,14 @@ module _ (idn : Idn) (b : Block) where
         adds (answer_words (replies_of entries)) e entries (entries ++ log) (writes_of log) before.0 next is.replies.1 is.alike.1 before.1
         ∙ ap (λ (v : Bool). cancelled_by idn.raw v e ++ (added_by_setting idn.raw (second_of (e ∷ entries)) ++ writes_of log)) (sym (complete-outcome_of asked e.answer (replies_of entries)))
 
--- an opening alone is no setting, and completes nothing
-sets_nowhere : (idn : Idn) (blocks : List Block) (e : Entry) (entries log : List Entry) → find_block idn.raw blocks ≡ None → IsTransfer (request.Command idn) blocks e entries log →
-    writes_of ((e ∷ entries) ++ log) ≡ cancelled_by idn.raw (is_complete (outcome_of (request.Command idn) (replies_of (e ∷ entries)))) e ++ (added_by_setting idn.raw (second_of (e ∷ entries)) ++ writes_of log)
-sets_nowhere idn blocks e entries log none is =
-    let only = only_opening (request.Command idn) blocks e entries log none is in
-    let incomplete : is_complete (outcome_of (request.Command idn) (replies_of (e ∷ entries))) ≡ false =
-    ap (λ (l : List Entry). is_complete (outcome_of (request.Command idn) (replies_of (e ∷ l)))) only.0 ∙ complete-outcome_of (request.Command idn) e.answer [] ∙ and-false (not e.answer.error) in
-    writes_nowhere (request.Command idn) blocks e entries log none is
-    ∙ ap₂ (λ (v : Bool) (l : List Entry). cancelled_by idn.raw v e ++ (added_by_setting idn.raw (second_of (e ∷ l)) ++ writes_of log)) (sym incomplete) (sym only.0)
-
 pub sets_and_cancels : SetsAndCancels
 sets_and_cancels idn blocks e entries log is = elim (cases_Option (find_block idn.raw blocks)) [
-  | inl none ↦ sets_nowhere idn blocks e entries log none is
+  | inl none ↦ let only = only_opening (request.Command idn) blocks e entries log none is in
+      let incomplete : is_complete (outcome_of (request.Command idn) (replies_of (e ∷ entries))) ≡ false =
+      ap (λ (l : List Entry). is_complete (outcome_of (request.Command idn) (replies_of (e ∷ l)))) only.0
+      ∙ complete-outcome_of (request.Command idn) e.answer [] ∙ and-false (not e.answer.error) in
+      writes_nowhere (request.Command idn) blocks e entries log none is
+      ∙ ap₂ (λ (v : Bool) (l : List Entry). cancelled_by idn.raw v e ++ (added_by_setting idn.raw (second_of (e ∷ l)) ++ writes_of log))
+      (sym incomplete) (sym only.0)
   | inr (b, found) ↦ sets_found idn b blocks found e entries log is
 ]

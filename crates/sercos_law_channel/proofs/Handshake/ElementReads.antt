@@ -43,9 +43,6 @@ small_word n small = let low : n % 256 ≡ n = omega arith in let high : n / 256
 abbrev words_of_it : ℕ → ℕ → Processed → List ℕ
 words_of_it raw e t = words_at raw e t.cycle t.blocks t.commands
 
-no_status : (e : ℕ) → 2 ≤ e → (e == 1) ≡ false
-no_status e low = grind (arith, nat_tests)
-
 module _ (typed : (blocks : List Block) (raw : ℕ) (b : Block) → IsStore blocks → find_block raw blocks ≡ Some b → AreBytes b.value) where
   copied_read : (raw e : ℕ) (b c : Block) (t : Processed) → 1 ≤ e → e ≤ 7 → shape_of 7 (low_of b + 65536 * high_of b) ≡ shape_by b.attribute.length → find_block raw t.blocks ≡ Some c → without_data c ≡ without_data b →
       missing raw e t.blocks ≡ None → (2 ≤ e → IsStore t.blocks) → read_from (shape_read e b) (words_of_it raw e t) ≡ bytes_at raw e c t
@@ -53,21 +50,20 @@ module _ (typed : (blocks : List Block) (raw : ℕ) (b : Block) → IsStore bloc
   copied_read raw (suc zero) b c t low high said found alike there store = small_word (status_in t.commands raw t.cycle) (status_small t.commands.time t.cycle (setting_of t.commands.rate raw t.commands.calls))
   copied_read raw (suc (suc n)) b c t low high said found alike there store =
       let more : 2 ≤ suc (suc n) = omega arith in
-      let other = no_status (suc (suc n)) more in
+      let other : ((suc (suc n)) == 1) ≡ false = grind (arith, nat_tests) in
       let words : words_of_it raw (suc (suc n)) t ≡ element_words (suc (suc n)) t.cycle c = cond-false (suc (suc n) == 1) _ _ other ∙ ap (λ (o : Option Block). unwrap_or (option_map (element_words (suc (suc n)) t.cycle) o) []) found in
-      let bytes : bytes_at raw (suc (suc n)) c t ≡ element_in (suc (suc n)) t.cycle c = cond-false (suc (suc n) == 1) _ _ other in
       let fault : missing raw (suc (suc n)) t.blocks ≡ read_fault (Some c) (suc (suc n)) = cond-false (suc (suc n) == 1) _ _ other ∙ ap (λ (o : Option Block). read_fault o (suc (suc n))) found in
       let rules = SoundParts-is_sound c (found_sound raw t.blocks c (store more).sound found) in
       let some = none_of-then (is_none (element_of c (suc (suc n)))) (0x1000 * suc (suc n) + 1) (sym fault ∙ there) in
       ap (read_from (shape_read (suc (suc n)) b)) words
       ∙ found_read (suc (suc n)) t.cycle b c more high (said ∙ ap (λ (x : Block). shape_by x.attribute.length) (sym alike)) rules some
-      (λ seven. typed t.blocks raw c (store more) found) ∙ sym bytes
+      (λ seven. typed t.blocks raw c (store more) found) ∙ sym (cond-false (suc (suc n) == 1) _ _ other)
 
   pub reads_once_by : (idn : Idn) (e : ℕ) (bytes : List ℕ) (blocks : List Block) (b : Block) (s : Entry) (entries log : List Entry) → shape_of 7 (low_of b + 65536 * high_of b) ≡ shape_by b.attribute.length → 1 ≤ e → e ≤ 7 →
       find_block idn.raw blocks ≡ Some b → IsTransfer (request.Read idn e) blocks s entries log → outcome_of (request.Read idn e) (replies_of (s ∷ entries)) ≡ Some (outcome.Complete bytes) →
       (selection : Entry) × (entry_behind (steps_before e) (s ∷ entries) ≡ Some selection) × IsReadAt idn.raw e b bytes selection.processed
   reads_once_by idn e bytes blocks b s entries log said low high found is complete =
-      let given = given_by idn e b blocks found (some e low) bytes s entries log is complete in
+      let given = given_by idn e b blocks found (grind (arith, nat_tests)) bytes s entries log is complete in
       let stands = alike_there idn.raw given.entry.processed.blocks blocks b given.alike found in
       let there = ap (λ (n : ℕ). missing idn.raw n given.entry.processed.blocks) (sym given.element) ∙ given.there in
       let copied = ap (λ (n : ℕ). words_of_it idn.raw n given.entry.processed) given.element in (
@@ -83,6 +79,3 @@ module _ (typed : (blocks : List Block) (raw : ℕ) (b : Block) → IsStore bloc
           gives = λ store. given.gives ∙ ap (read_from (shape_read e b)) copied ∙ copied_read idn.raw e b stands.0 given.entry.processed low high said stands.1 stands.2 there store;
         },
       )
-    where
-      some : (n : ℕ) → 1 ≤ n → (n == 0) ≡ false
-      some n low = grind (arith, nat_tests)

@@ -60,16 +60,13 @@ unfolding AreBytes
 printable_bytes [] are = tt
 printable_bytes (byte ∷ text) are =
     let parts = and_parts (is_printable byte) (list_all is_printable text) are in
-    let high = (and_parts (nat_le 0x20 byte) (nat_le byte 0x7e) parts.0).1 in
-    (grind (arith, nat_tests, high), printable_bytes text parts.1)
+    (grind (arith, nat_tests, (and_parts (nat_le 0x20 byte) (nat_le byte 0x7e) parts.0).1), printable_bytes text parts.1)
 
 pub text_read : (most : ℕ) (o : Option (List ℕ)) → most ≤ 1024 → is_text most o ≡ true → read_from shape.List (list_words most (unwrap_or o [])) ≡ unwrap_or o []
 text_read most None small fits = list_read [] most (omega arith) (printable_bytes [] refl)
 text_read most (Some text) small fits =
-    let few = and_parts (nat_le 1 (length text)) _ fits in
-    let kept = and_parts (nat_le (length text) most) (list_all is_printable text) few.1 in
-    let le = leb-true (length text) most kept.0 in
-    list_read text most (omega (arith, le)) (printable_bytes text kept.1)
+    let kept = and_parts (nat_le (length text) most) (list_all is_printable text) (and_parts (nat_le 1 (length text)) _ fits).1 in
+    list_read text most (omega (arith, leb-true (length text) most kept.0)) (printable_bytes text kept.1)
 
 -- a number's own bytes, or those that it has grown to
 abbrev grown : Length → Bool → List ℕ → ℕ → List ℕ
@@ -87,8 +84,7 @@ are_grown len.List4 false value n no_list is are = absurd (cc)
 most_of : (n longest : ℕ) (v : Bool) → nat_le n longest ≡ true → (nat_le 1 longest && (nat_le longest 1024 && v)) ≡ true → n ≤ 1024
 most_of n longest v less fits =
     let kept = and_parts (nat_le longest 1024) v (and_parts (nat_le 1 longest) _ fits).1 in
-    let le = leb-true n longest less in
-    let most = leb-true longest 1024 kept.0 in omega (arith, le, most)
+    omega (arith, leb-true n longest less, leb-true longest 1024 kept.0)
 
 pub data_read : (l : Length) (still : Bool) (value : List ℕ) (n longest : ℕ) (v : Bool) → (if is_list l then nat_le (length value) longest else length value == item_len l) ≡ true →
     (if is_list l then nat_le 1 longest && (nat_le longest 1024 && v) else longest == 0) ≡ true → AreBytes value →

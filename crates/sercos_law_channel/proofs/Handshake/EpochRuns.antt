@@ -150,13 +150,6 @@ module _ (busy : ℕ) where
       by (Moves m is down up) = is ∙ zero
       by (Stays missed got_mst still is) = elim was [ inl z ↦ is ∙ z | inr off ↦ absurd (cc) ]
 
-  first_zero : (v : View) (past : List View) → v.phase ≡ 0 → ((standing (v ∷ past)).ended ≡ 0) ⊎ ((standing (v ∷ past)).got_mst ≡ false)
-  first_zero v past zero = elim (stands v (standing past)) [
-    | Down z ↦ inl (elim (ends v past) [ inl y ↦ y | inr e ↦ e ∙ z ])
-    | Moves m is down up ↦ inl (elim (ends v past) [ inl y ↦ y | inr e ↦ e ∙ is ∙ zero ])
-    | Stays missed got_mst still is ↦ inr missed
-  ]
-
   -- what it keeps at the end of a cycle commanded 1 or later
   same_after : (v : View) (past : List View) → IsRun busy (v ∷ past) → Joined past → 1 ≤ v.phase → ((standing (v ∷ past)).ended ≡ 0) ⊎ (since_reset (v ∷ past) ≡ records_in_views v past)
   same_after v past run j up = elim (cases_eq (standing (v ∷ past)).ended 0) [
@@ -172,7 +165,11 @@ module _ (busy : ℕ) where
       let two : 2 ≤ zero_run (v ∷ past) → (standing (v ∷ past)).ended ≡ 0 = λ le. zero_cycle v past (zero (omega arith)) (j.one_zero (run_parts (v.phase == 0) (zero_run past) 1 le).1) in
       let ten : v.rises ≡ true → v.phase ≡ 0 → (standing (v ∷ past)).ended ≡ 0 = λ r e. let le = run.1.ten r e in let row = whole_row-le (v ∷ past) in two (omega arith) in
       record {
-        one_zero = λ le. first_zero v past (zero le);
+        one_zero = λ le. elim (stands v (standing past)) [
+          | Down z ↦ inl (elim (ends v past) [ inl y ↦ y | inr e ↦ e ∙ z ])
+          | Moves m is down up ↦ inl (elim (ends v past) [ inl y ↦ y | inr e ↦ e ∙ is ∙ (zero le) ])
+          | Stays missed got_mst still is ↦ inr missed
+        ];
         two_zero = two;
         one = λ e. elim (command_one v.falls v.rises v.phase e) [
           | inl up ↦ let z = ten up.0 up.1 in omega arith
@@ -226,19 +223,18 @@ module _ (busy : ℕ) where
       of true None got is = absurd (cc)
       of false o got is = absurd (cc)
 
-  taken_of : (v : View) (past : List View) (taken : List Processed) → IfSome v.sent (λ s. s ≡ master_says (begun_in v past)) → InStepOver (begun_in v past) taken → InStepOver (begun_in v past) (with_record (processed_in v past) taken)
-  taken_of v past taken sent h = of_processed v past (λ o. InStepOver (begun_in v past) (with_record o taken)) h (λ s got came two.
-      let t : Processed = record_in v (length past) (stood_in v (standing past)) s in
-      subst (λ (l : List Entry). AreInStep (begun_in v past) l) (sym (log-taken t taken))
-      (takes (begun_in v past) (log_of taken) t (reply_of t (log_of taken)) h (said_of v past sent s got)))
-
   -- one cycle, before it falls
   in_step_by : (v : View) (past : List View) → IsRun busy (v ∷ past) → AreInStep (epoch_begun past) (epoch_log past) → AreInStep (begun_in v past) (log_in v past)
   in_step_by v past run earlier =
       let at_start = restarted v (epoch_begun past) (epoch_records past) earlier in
       let heard = heard_of v past run (joined past run.0) v.heard run.1.heard at_start in
       let begun = begun_of v.begins (with_heard v.heard (unless_restart v (epoch_begun past))) (unless_restart v (epoch_records past)) run.1.begins heard in
-      taken_of v past (unless_restart v (epoch_records past)) run.1.sent begun
+      (of_processed v past (λ o. InStepOver (begun_in v past) (with_record o (unless_restart v (epoch_records past)))) begun
+      (λ s got came two.
+      let t : Processed = record_in v (length past) (stood_in v (standing past)) s in
+      subst (λ (l : List Entry). AreInStep (begun_in v past) l) (sym (log-taken t (unless_restart v (epoch_records past))))
+      (takes (begun_in v past) (log_of (unless_restart v (epoch_records past))) t
+      (reply_of t (log_of (unless_restart v (epoch_records past)))) begun (said_of v past run.1.sent s got))))
 
   -- in every cycle, also where the drive has fallen
   pub in_step : (past : List View) → IsRun busy past → AreInStep (epoch_begun past) (epoch_log past)

@@ -1,5 +1,5 @@
 -- All transfers of a run are exact, through all epochs.
-use Rattle.sercos_law_channel.proofs.Words.{◌≡◌, ◌⊎◌, inl, inr, ℕ, ◌+◌, Bool, true, false, List, [], ◌∷◌, ◌++◌, length, refl, sym, ap, ◌∙◌, subst, arith, if◌then◌else◌, append_assoc, cond_both, Option, Some, None, IsSome, IfSome, is_some, beq, Status, Answer, Request, Block, CommandHistory, change_in, Shown, channel_says, shown_by, Processed, Entry, ahs, accepted, reply_of, answered, log_of, Write, AreAlike, writes_of, Begun, open_in, is_odd, answers_it, answer_in, with_answer, master_says, AreInStep, with_status, said_in, AreInTurn, AreParts, AreReplies, HaveBlocks, Heard, View, standing, stood_in, record_in, with_record, command, with_heard, with_begun, unless_restart, epoch_begun, begun_in, epoch_records, records_in_views, epoch_log, log_in, IsShown, IsRun, leaving, begun_ago, all_begun, all_writes, IsSound, AreSound, AreSmall, AreExact, RunsAreExact, cond-false}
+use Rattle.sercos_law_channel.proofs.Words.{◌≡◌, ◌⊎◌, inl, inr, ℕ, ◌+◌, Bool, true, false, List, [], ◌∷◌, ◌++◌, length, refl, sym, ap, ◌∙◌, subst, arith, if◌then◌else◌, append_assoc, cond_both, Option, Some, None, IsSome, IfSome, is_some, beq, Answer, Request, Block, CommandHistory, change_in, Shown, channel_says, shown_by, Processed, Entry, ahs, accepted, reply_of, answered, log_of, Write, AreAlike, writes_of, Begun, open_in, answers_it, answer_in, with_answer, master_says, AreInStep, said_in, AreInTurn, AreParts, AreReplies, HaveBlocks, Heard, View, standing, stood_in, record_in, with_record, command, with_heard, with_begun, unless_restart, epoch_begun, begun_in, epoch_records, records_in_views, epoch_log, log_in, IsShown, IsRun, leaving, begun_ago, all_begun, all_writes, IsSound, AreSound, AreSmall, AreExact, RunsAreExact, cond-false}
 use Rattle.sercos_law_channel.proofs.Handshake.HandshakeMoves.{ahs-shown, ahs-log, log-taken}
 use Rattle.sercos_law_channel.proofs.Handshake.LogParts.{heard_in_turn, fall_into_parts}
 use Rattle.sercos_law_channel.proofs.Handshake.PhaseMoves.{processed_phase, uncut, of_processed}
@@ -67,21 +67,17 @@ module _ (blocks : List Block) where
   answered_sound a [] sound = tt
   answered_sound a (b ∷ past) sound = sound
 
-  heard_sound : (status : Status) (word : ℕ) (begun : List Begun) → AreAllSound blocks begun → AreAllSound blocks (with_status status word begun)
-  heard_sound status word begun sound = cond_both (answers_it begun status) (with_answer (answer_in status word) begun) begun
-      (AreAllSound blocks) (λ on. answered_sound (answer_in status word) begun sound) (λ off. sound)
-
-  bit_shown : (busy cycle : ℕ) (showing : CommandHistory) (status : Status) (word : ℕ) (taken : List Processed) → shown_by status word ≡ channel_says busy cycle showing taken → status.ahs ≡ is_odd (log_of taken)
-  bit_shown busy cycle showing status word taken says = ap (λ (s : Shown). s.ahs) says ∙ ahs-shown busy cycle (ahs taken) (change_in showing cycle) (log_of taken) ∙ ahs-log taken
-
   heard_epoch : (phase busy cycle : ℕ) (showing : CommandHistory) (a : Heard) (begun : List Begun) (taken : List Processed) → AreInStep begun (log_of taken) →
       (begun ≡ []) ⊎ (shown_by a.status a.word ≡ channel_says busy cycle showing taken) → IsEpoch blocks phase begun taken → IsEpoch blocks phase (with_heard (Some a) begun) taken
   heard_epoch phase busy cycle showing a begun taken h (inl none) is = subst (λ (b : List Begun). IsEpoch blocks phase b taken) (sym (ap (with_heard (Some a)) none ∙ sym none)) is
   heard_epoch phase busy cycle showing a begun taken h (inr says) is = record {
     in_turn = heard_in_turn (is_some (open_in begun)) _ (answer_in a.status a.word) begun refl is.in_turn;
-    sound = heard_sound a.status a.word begun is.sound;
+    sound = cond_both (answers_it begun a.status) (with_answer (answer_in a.status a.word) begun) begun (AreAllSound blocks)
+        (λ on. answered_sound (answer_in a.status a.word) begun is.sound) (λ off. is.sound);
     alike = is.alike;
-    level = heard_level phase begun (log_of taken) a.status a.word h (bit_shown busy cycle showing a.status a.word taken says) is.level;
+    level = heard_level phase begun (log_of taken) a.status a.word h
+        (ap (λ (s : Shown). s.ahs) says ∙ ahs-shown busy cycle (ahs taken) (change_in showing cycle) (log_of taken) ∙ ahs-log taken)
+        is.level;
   }
 
   begun_epoch : (phase : ℕ) (o : Option Request) (begun : List Begun) (taken : List Processed) → AreInStep begun (log_of taken) → (IsSome o → open_in begun ≡ None) → IfSome o (λ r. IsSound blocks r) → IsEpoch blocks phase begun taken → IsEpoch blocks phase (with_begun o begun) taken
@@ -93,15 +89,12 @@ module _ (blocks : List Block) where
     level = begun_level phase begun (log_of taken) r h (shut refl) is.level;
   }
 
-  taken_alike : (t : Processed) (taken : List Processed) → AreAlike t.blocks blocks → HaveBlocks blocks (log_of taken) → HaveBlocks blocks (log_of (t ∷ taken))
-  taken_alike t taken alike have = cond_both (beq t.mhs (ahs taken)) (accepted taken) (t ∷ accepted taken)
-      (λ v. HaveBlocks blocks (answered v)) (λ on. have) (λ off. (have, alike))
-
   taken_epoch : (phase : ℕ) (t : Processed) (begun : List Begun) (taken : List Processed) → AreInStep begun (log_of taken) → said_in t ≡ master_says begun → t.phase ≡ phase → AreAlike t.blocks blocks → IsEpoch blocks phase begun taken → IsEpoch blocks phase begun (t ∷ taken)
   taken_epoch phase t begun taken h says at alike is = record {
     in_turn = is.in_turn;
     sound = is.sound;
-    alike = taken_alike t taken alike is.alike;
+    alike = cond_both (beq t.mhs (ahs taken)) (accepted taken) (t ∷ accepted taken) (λ v. HaveBlocks blocks (answered v)) (λ on. is.alike)
+        (λ off. (is.alike, alike));
     level = subst (IsLevel phase begun) (sym (log-taken t taken)) (taken_level phase begun (log_of taken) t (reply_of t (log_of taken)) h says at is.level);
   }
 
@@ -119,18 +112,16 @@ module _ (blocks : List Block) where
     in_cycle v past run sound is =
         let taken = unless_restart v (epoch_records past) in
         let begun = unless_restart v (epoch_begun past) in
-        let first : IsEpoch blocks v.phase begun taken =
-        uncut (IsEpoch blocks v.phase) v.master_restarts (epoch_begun past) (epoch_records past) (at_start v.phase)
-        (λ still. subst (λ (p : ℕ). IsEpoch blocks p (epoch_begun past) (epoch_records past))
-        (sym (run.1.commanded ∙ cond-false v.master_restarts 0 (command past) still)) is) in
         let h0 = restarted busy v (epoch_begun past) (epoch_records past) (in_step busy past run.0) in
         let h1 = heard_of busy v past run (joined busy past run.0) v.heard run.1.heard h0 in
-        let h2 = begun_of busy v.begins (with_heard v.heard begun) taken run.1.begins h1 in
-        let second : IsEpoch blocks v.phase (with_heard v.heard begun) taken = heard_any v.heard run.1.heard h0 first in
+        let second : IsEpoch blocks v.phase (with_heard v.heard begun) taken = heard_any v.heard run.1.heard h0
+        (uncut (IsEpoch blocks v.phase) v.master_restarts (epoch_begun past) (epoch_records past) (at_start v.phase)
+        (λ still. subst (λ (p : ℕ). IsEpoch blocks p (epoch_begun past) (epoch_records past))
+        (sym (run.1.commanded ∙ cond-false v.master_restarts 0 (command past) still)) is)) in
         let third : IsEpoch blocks v.phase (begun_in v past) taken = begun_epoch v.phase v.begins (with_heard v.heard begun) taken h1 run.1.begins sound.1.1 second in
         of_processed v past (λ o. IsEpoch blocks v.phase (begun_in v past) (with_record o taken)) third
-        (λ s got came up. taken_epoch v.phase (record_in v (length past) (stood_in v (standing past)) s) (begun_in v past) taken h2
-        (said_of busy v past run.1.sent s got)
+        (λ s got came up. taken_epoch v.phase (record_in v (length past) (stood_in v (standing past)) s) (begun_in v past) taken
+        (begun_of busy v.begins (with_heard v.heard begun) taken run.1.begins h1) (said_of busy v past run.1.sent s got)
         (processed_phase v past came (omega arith)) sound.1.0 third)
       where
         heard_any : (o : Option Heard) → IfSome o (λ a. IsShown busy a v past) → AreInStep (unless_restart v (epoch_begun past)) (log_of (unless_restart v (epoch_records past))) →

@@ -1,5 +1,5 @@
 -- What one transfer writes and reads, whether it is complete, refused, open or broken.
-use Rattle.sercos_law_channel.proofs.Words.{◌≡◌, ℕ, ◌≤◌, Bool, true, false, not, List, [], ◌∷◌, ◌++◌, map, drop, length, refl, sym, ap, ◌∙◌, subst, arith, if◌then◌else◌, ◌==◌, Option, Some, None, IfSome, cond-false, cond-true, eqb-true, AreBytes, Attribute, Code, Idn, Answer, Request, steps_before, outcome_of, answer_words, is_whole, result_of, AreAnswers, Block, is_protected, find_block, Entry, Write, writes_of, Begun, replies_of, IsRow, IsPart, Unsent, Unheard, AreReplies, HaveBlocks, IsTransfer, stored, is_complete, WritesOnce, AreProtected, setting, second_of, added_by_setting, cancelled_by, idn_of, ReadsOnce, entry_behind, IsReadAt, IsSound, AreSmall, Given, given_of, gives, written_to, given_by, HasBlock, AreWrites, Complete, Refused, Broken, AreInPhase, ReadsExactly, EndsExactly, IsExact, drop-length, inl, inr, cases_Bool, cases_Option}
+use Rattle.sercos_law_channel.proofs.Words.{◌≡◌, ℕ, ◌≤◌, Bool, true, false, not, List, [], ◌∷◌, ◌++◌, map, drop, length, refl, sym, ap, ◌∙◌, subst, arith, if◌then◌else◌, ◌==◌, Option, Some, None, cond-false, cond-true, eqb-true, AreBytes, Attribute, Code, Idn, Answer, Request, steps_before, outcome_of, answer_words, is_whole, result_of, AreAnswers, Block, is_protected, find_block, Entry, Write, writes_of, Begun, replies_of, IsRow, IsPart, Unsent, Unheard, AreReplies, HaveBlocks, IsTransfer, stored, is_complete, AreProtected, setting, second_of, added_by_setting, cancelled_by, idn_of, entry_behind, IsReadAt, IsSound, AreSmall, Given, given_of, gives, written_to, given_by, HasBlock, AreWrites, Complete, Refused, Broken, AreInPhase, ReadsExactly, EndsExactly, IsExact, drop-length, inl, inr, cases_Bool, cases_Option}
 use Rattle.sercos_step.specs.declared.request.Request.TheVariants as request
 use Rattle.sercos_step.specs.declared.request.Outcome.TheVariants as outcome
 use Rattle.sercos_law_channel.specs.Handshake.Parts.{Heard}
@@ -7,6 +7,7 @@ use Rattle.sercos_law_channel.proofs.Handshake.UnknownBlocks.{writes_nowhere}
 use Rattle.sercos_law_channel.proofs.Handshake.QuietSteps.{writes_nothing}
 use Rattle.sercos_law_channel.proofs.Handshake.CommandStages.{sets_and_cancels}
 use Rattle.sercos_law_channel.proofs.Handshake.CommandRefusals.{refused_adds_nothing}
+use Rattle.sercos_law_channel.proofs.Handshake.LogParts.{make_transfers}
 use Rattle.sercos_law_channel.proofs.Handshake.TransferSteps.{goes_on-outcome_of, complete_is}
 use Rattle.sercos_law_channel.proofs.Handshake.CommandEnds.{unknown_incomplete, ends_with_status, three_before}
 use Rattle.sercos_law_channel.proofs.Handshake.Once.{reads_once, writes_once}
@@ -92,7 +93,7 @@ module _ (blocks : List Block) (small : AreSmall blocks) where
 
   given_front : (idn : Idn) (o : Option Entry) → (later : ℕ) × (map given_of (added_by_setting idn.raw o) ≡ drop later (given_by blocks (request.Command idn)))
   given_front idn None = (2, refl)
-  given_front idn (Some x) = elim (cases_Bool x.answer.error) [ inl on ↦ rw on ((2, refl)) | inr off ↦ rw off ((1, refl)) ]
+  given_front idn (Some x) = elim (cases_Bool x.answer.error) [ inl on ↦ rw on (2, refl) | inr off ↦ rw off (1, refl) ]
 
   -- after two answers without error it is set
   is_set : (idn : Idn) (d : Entry) (entries : List Entry) → AreAnswers (request.Command idn) (replies_of (d ∷ entries)) → outcome_of (request.Command idn) (replies_of (d ∷ entries)) ≡ None → 1 ≤ length entries →
@@ -152,13 +153,12 @@ module _ (blocks : List Block) (small : AreSmall blocks) where
       of_data : (o : Option Block) → find_block idn.raw blocks ≡ o → e ≡ 7 → Wrote blocks (with (request.Write idn e bytes) answers) (s ∷ entries) log
       of_data (Some b) found seven = rw seven (written idn bytes b s entries log answers sound.1 found (rw seven at is) (rw seven at took))
       of_data None none seven = rw seven (adds_nothing (request.Write idn 7 bytes) s entries log answers (λ has. ap (written_to idn.raw bytes) none) (rw seven at is) (rw seven at took) (writes_nowhere (request.Write idn 7 bytes) blocks s entries log none (rw seven at is)))
-  wrote (request.Command idn) s entries log answers sound phase at is took = by (find_block idn.raw blocks) refl sound
-    where
-      by : (o : Option Block) → find_block idn.raw blocks ≡ o → IfSome o (λ b. b.attribute.command ≡ true) → Wrote blocks (with (request.Command idn) answers) (s ∷ entries) log
-      by None none command =
-          adds_nothing (request.Command idn) s entries log answers (λ has. let found = has.1 in absurd (cc)) is took
-          (writes_nowhere (request.Command idn) blocks s entries log none is)
-      by (Some b) found command = commanded idn b s entries log answers found command phase at is took
+  wrote (request.Command idn) s entries log answers sound phase at is took = elim (cases_Option (find_block idn.raw blocks)) [
+    | inl none ↦ let command = rw none at sound in adds_nothing (request.Command idn) s entries log answers (λ has. let found = has.1 in
+        absurd (cc)) is took
+        (writes_nowhere (request.Command idn) blocks s entries log none is)
+    | inr found ↦ let command = rw found.1 at sound in commanded idn found.0 s entries log answers found.1 command phase at is took
+  ]
 
   -- a complete read
   read_exactly : (r : Request) (s : Entry) (entries log : List Entry) (answers : List Answer) → IsSound blocks r → IsTransfer r blocks s entries log → Took r s entries answers → ReadsExactly blocks (with r answers) (s ∷ entries)
@@ -191,7 +191,7 @@ module _ (blocks : List Block) (small : AreSmall blocks) where
   of_row : (b : Begun) (e : Entry) (entries rest : List Entry) → IsSound blocks b.request → AreReplies (e ∷ entries) rest → HaveBlocks blocks (e ∷ entries) → IsSteady ((e ∷ entries) ++ rest) → IsRow b e entries → Took b.request e entries b.answers →
       IsPart b (e ∷ entries) → PartIs b (e ∷ entries) rest
   of_row b e entries rest sound replies alike steady row took part =
-      let is : IsTransfer b.request blocks e entries rest = record { steps = row.steps; in_turn = row.in_turn; goes_on = row.goes_on; replies = replies; alike = alike } in
+      let is = make_transfers b blocks e entries rest row replies alike in
       let at = in_one_phase b.request blocks e entries rest (named_so b.request sound) steady is in
       let w = wrote b.request e entries rest b.answers sound e.processed.phase at is took in record {
         own = w.own;
@@ -213,9 +213,8 @@ module _ (blocks : List Block) (small : AreSmall blocks) where
     };
   }
   part_is b part rest sound replies alike steady (Heard e entries those row answers) =
-      subst (λ (l : List Entry). PartIs b l rest) (sym those)
-      (of_row b e entries rest sound (subst (λ (l : List Entry). AreReplies l rest) those replies) (subst (HaveBlocks blocks) those alike) (subst (λ (l : List Entry). IsSteady (l ++ rest)) those steady) row (All answers) (Heard e entries refl row answers))
+      rw those (of_row b e entries rest sound (rw those at replies) (rw those at alike) (rw those at steady) row (All answers)
+      (Heard e entries refl row answers))
   part_is b part rest sound replies alike steady (Unheard e entries those row answers) =
-      subst (λ (l : List Entry). PartIs b l rest) (sym those)
-      (of_row b e entries rest sound (subst (λ (l : List Entry). AreReplies l rest) those replies) (subst (HaveBlocks blocks) those alike) (subst (λ (l : List Entry). IsSteady (l ++ rest)) those steady) row
+      rw those (of_row b e entries rest sound (rw those at replies) (rw those at alike) (rw those at steady) row
       (AllButOne answers (ap (outcome_of b.request) answers ∙ row.goes_on)) (Unheard e entries refl row answers))

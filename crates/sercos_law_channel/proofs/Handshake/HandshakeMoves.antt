@@ -1,5 +1,5 @@
 -- Each move of the two ends keeps them in step.
-use Rattle.sercos_law_channel.proofs.Words.{◌≡◌, ℕ, ◌-◌, Bool, true, false, not, List, [], ◌∷◌, ◌++◌, refl, sym, ap, ◌∙◌, if◌then◌else◌, nat_le, Option, Some, None, beq, Status, Step, Answer, Processed, Entry, ahs, accepted, reply_of, answered, log_of, Shown, shown, shown_by, Begun, Said, open_in, steps_in, answers_in, steps_begun, step_at, with_step, is_odd, mhs_in, answers_it, answer_in, with_answer, step_or_none, master_says, InStep, Idle, Sent, Kept, AreInStep, log_steps, replies_of, Hears, Begins, Takes, with_status, said_in, with_processed}
+use Rattle.sercos_law_channel.proofs.Words.{inr, inl, cases_Bool, ◌≡◌, ℕ, ◌-◌, Bool, true, false, not, List, [], ◌∷◌, ◌++◌, refl, sym, ap, ◌∙◌, if◌then◌else◌, nat_le, Option, Some, None, beq, Status, Step, Answer, Processed, Entry, ahs, accepted, reply_of, answered, log_of, Shown, shown, shown_by, Begun, Said, open_in, steps_in, answers_in, steps_begun, step_at, with_step, is_odd, mhs_in, answers_it, answer_in, with_answer, step_or_none, master_says, InStep, Idle, Sent, Kept, AreInStep, log_steps, replies_of, Hears, Begins, Takes, with_status, said_in, with_processed}
 
 pub beq-self : (b : Bool) → beq b b ≡ true
 beq-self true = refl
@@ -53,13 +53,12 @@ shown_so bit change e v =
     if v then (record { ahs = bit; busy = true; error = false; change = change; word = 0 })
     else (record { ahs = bit; busy = false; error = e.answer.error; change = change; word = e.answer.word })
 
-ahs-shown_so : (bit change : Bool) (e : Entry) (v : Bool) → (shown_so bit change e v).ahs ≡ bit
-ahs-shown_so bit change e true = refl
-ahs-shown_so bit change e false = refl
-
 pub ahs-shown : (busy cycle : ℕ) (bit change : Bool) (log : List Entry) → (shown busy cycle bit change log).ahs ≡ bit
 ahs-shown busy cycle bit change [] = refl
-ahs-shown busy cycle bit change (e ∷ log) = ahs-shown_so bit change e (nat_le (cycle - e.processed.cycle) busy)
+ahs-shown busy cycle bit change (e ∷ log) = elim (cases_Bool (nat_le (cycle - e.processed.cycle) busy)) [
+  | inl on ↦ rw on refl
+  | inr off ↦ rw off refl
+]
 
 -- a status with the other bit answers nothing, and where no step is open none does
 pub quiet_none : (begun : List Begun) (status : Status) → open_in begun ≡ None → answers_it begun status ≡ false

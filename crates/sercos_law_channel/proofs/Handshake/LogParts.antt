@@ -1,15 +1,14 @@
 -- The log of a drive falls into the parts of the requests.
-use Rattle.sercos_law_channel.proofs.Words.{◌≡◌, ℕ, suc, ◌≤◌, Bool, true, false, ◌&&◌, List, [], ◌∷◌, ◌++◌, length, take, drop, refl, ap, ap₂, sym, ◌∙◌, arith, if◌then◌else◌, length-append, take-append-drop, Option, Some, None, is_some, Step, Answer, Request, Outcome, outcome_of, next_step, AreAnswers, Processed, Entry, reply_of, answered, Begun, step_at, with_step, steps_begun, steps_in, answers_in, open_in, answer_in, with_answer, Begin, Send, Hear, EndCycle, begun_by, Idle, Sent, Kept, AreInStep, log_steps, replies_of, AreInTurn, ComeInTurn, IsRow, IsPart, Unsent, Unheard, FallIntoParts, HaveReplies}
+use Rattle.sercos_law_channel.proofs.Words.{inr, inl, cases_Option, ◌≡◌, ℕ, suc, ◌≤◌, Bool, true, false, ◌&&◌, List, [], ◌∷◌, ◌++◌, length, take, drop, refl, ap, ap₂, sym, ◌∙◌, arith, if◌then◌else◌, length-append, take-append-drop, Option, Some, None, is_some, Step, Answer, Request, outcome_of, AreAnswers, Processed, Entry, reply_of, answered, Begun, step_at, with_step, steps_begun, steps_in, answers_in, open_in, answer_in, with_answer, Begin, Send, Hear, EndCycle, begun_by, Idle, Sent, Kept, AreInStep, log_steps, replies_of, AreInTurn, ComeInTurn, IsRow, IsPart, Unsent, Unheard, FallIntoParts, HaveReplies, MakeTransfers}
 use Rattle.sercos_law_channel.specs.Handshake.Parts.{Heard}
 use Rattle.sercos_law_channel.proofs.Handshake.TransferSteps.{length-steps_of, length-replies_of, length-steps_begun}
 
 -- a step is open only where the transfer goes on
 pub goes_on_at : (r : Request) (h : List Answer) → is_some (step_at r h) ≡ true → outcome_of r h ≡ None
-goes_on_at r h some = by (outcome_of r h) some
-  where
-    by : (o : Option Outcome) → is_some (if is_some o then None else next_step r h) ≡ true → o ≡ None
-    by None some = refl
-    by (Some x) some = absurd (cc)
+goes_on_at r h some = elim (cases_Option (outcome_of r h)) [
+  | inl none ↦ rw none refl
+  | inr some_is ↦ let some = rw some_is.1 at some in absurd (cc)
+]
 
 -- one call more
 pub answered_in_turn : (a : Answer) (begun : List Begun) → is_some (open_in begun) ≡ true → AreInTurn begun → AreInTurn (with_answer a begun)
@@ -47,8 +46,7 @@ steps_split [] more log is = (refl, sym is)
 steps_split (s ∷ steps) more [] is = absurd (cc)
 steps_split (s ∷ steps) more (e ∷ log) is =
     let head : s ≡ e.processed.step = cc in
-    let tail : steps ++ more ≡ log_steps log = cc in
-    let split = steps_split steps more log tail in
+    let split = steps_split steps more log cc in
     (ap₂ (λ (x : Step) (l : List Step). x ∷ l) (sym head) split.0, split.1)
 
 answers_split : (answers more : List Answer) (log : List Entry) → answers ++ more ≡ replies_of log → (replies_of (take (length answers) log) ≡ answers) × (replies_of (drop (length answers) log) ≡ more)
@@ -56,8 +54,7 @@ answers_split [] more log is = (refl, sym is)
 answers_split (a ∷ answers) more [] is = absurd (cc)
 answers_split (a ∷ answers) more (e ∷ log) is =
     let head : a ≡ e.answer = cc in
-    let tail : answers ++ more ≡ replies_of log = cc in
-    let split = answers_split answers more log tail in
+    let split = answers_split answers more log cc in
     (ap₂ (λ (x : Answer) (l : List Answer). x ∷ l) (sym head) split.0, split.1)
 
 -- a front of the log has these steps and these answers, and what is after it the others
@@ -99,27 +96,12 @@ heard_part r a h (e ∷ entries) are s t =
       goes_on = ap (outcome_of r) rest ∙ are.1;
     }) (sym t)
 
--- one whose newest answer wasn't
-unheard_part : (r : Request) (a : Answer) (h : List Answer) (e : Entry) (part : List Entry) → AreAnswers r (a ∷ h) → step_at r (a ∷ h) ≡ Some e.processed.step → log_steps part ≡ steps_begun r h → replies_of part ≡ a ∷ h →
-    IsPart (begun_with r (a ∷ h)) (e ∷ part)
-unheard_part r a h e part are opened s t =
-    Unheard e part refl (record {
-      steps = ap (λ (l : List Step). e.processed.step ∷ l) s ∙ ap (λ (o : Option Step). with_step o (steps_begun r h)) (sym opened) ∙ ap (steps_begun r) (sym t);
-      in_turn = rw t are;
-      goes_on = ap (outcome_of r) t ∙ goes_on_at r (a ∷ h) (ap is_some opened);
-    }) (sym t)
-
 abbrev SplitsOff : Request → List Answer → List Begun → List Entry → Type 0
 SplitsOff r answers past log = (part : List Entry) × (rest : List Entry) × (log ≡ part ++ rest) × IsPart (begun_with r answers) part × AreInStep past rest
 
 module _ (r : Request) (past : List Begun) (shut : open_in past ≡ None) where
   off_unsent : (log : List Entry) → steps_in past ≡ log_steps log → answers_in past ≡ replies_of log → SplitsOff r [] past log
   off_unsent log s t = ([], log, refl, Unsent refl refl, Idle shut s t)
-
-  off_first : (log : List Entry) (e : Entry) (entries : List Entry) → log ≡ e ∷ entries → step_at r [] ≡ Some e.processed.step → steps_in past ≡ log_steps entries → answers_in past ≡ replies_of entries → SplitsOff r [] past log
-  off_first log e entries is opened s t =
-      let row : IsRow (begun_with r []) e [] = record { steps = ap (λ (o : Option Step). with_step o []) (sym opened); in_turn = tt; goes_on = refl } in
-      (e ∷ [], entries, is, Unheard e [] refl row refl, Idle shut s t)
 
   off_heard : (a : Answer) (h : List Answer) (log : List Entry) → AreAnswers r (a ∷ h) → length (steps_in past) ≤ length (answers_in past) → steps_begun r h ++ steps_in past ≡ log_steps log → (a ∷ h) ++ answers_in past ≡ replies_of log →
       SplitsOff r (a ∷ h) past log
@@ -139,7 +121,12 @@ module _ (r : Request) (past : List Begun) (shut : open_in past ≡ None) where
         e ∷ take (suc (length h)) entries,
         drop (suc (length h)) entries,
         those ∙ ap (λ (l : List Entry). e ∷ l) (sym (take-append-drop (suc (length h)) entries)),
-        unheard_part r a h e (take (suc (length h)) entries) are opened is.steps is.replies,
+        Unheard e (take (suc (length h)) entries) refl (record {
+          steps = ap (λ (l : List Step). e.processed.step ∷ l) is.steps
+              ∙ ap (λ (o : Option Step). with_step o (steps_begun r h)) (sym opened) ∙ ap (steps_begun r) (sym is.replies);
+          in_turn = rw is.replies are;
+          goes_on = ap (outcome_of r) is.replies ∙ goes_on_at r (a ∷ h) (ap is_some opened);
+        }) (sym is.replies),
         Idle shut (sym is.steps_behind) (sym is.replies_behind),
       )
 
@@ -149,7 +136,10 @@ module _ (r : Request) (past : List Begun) (shut : open_in past ≡ None) where
   splits_off [] log are few (Sent x opened s t) = let same : x ∷ steps_in past ≡ x ∷ log_steps log = rw opened at s in let tail : steps_in past ≡ log_steps log = cc in off_unsent log tail t
   splits_off [] log are few (Kept e entries opened is s t) =
       let same : e.processed.step ∷ steps_in past ≡ e.processed.step ∷ log_steps entries = ap (λ (o : Option Step). with_step o [] ++ steps_in past) (sym opened) ∙ s ∙ ap log_steps is in
-      let tail : steps_in past ≡ log_steps entries = cc in off_first log e entries is opened tail t
+      let tail : steps_in past ≡ log_steps entries = cc in
+      (let row : IsRow (begun_with r []) e [] = record
+      { steps = ap (λ (o : Option Step). with_step o []) (sym opened); in_turn = tt; goes_on = refl } in
+      (e ∷ [], entries, is, Unheard e [] refl row refl, Idle shut tail t))
   splits_off (a ∷ h) log are few (Idle none s t) = off_heard a h log are few (ap (λ (o : Option Step). with_step o (steps_begun r h) ++ steps_in past) (sym none) ∙ s) t
   splits_off (a ∷ h) log are few (Sent x opened s t) =
       let same : x ∷ (steps_begun r h ++ steps_in past) ≡ x ∷ log_steps log = ap (λ (o : Option Step). with_step o (steps_begun r h) ++ steps_in past) (sym opened) ∙ s in
@@ -175,10 +165,13 @@ pub have_replies : HaveReplies
 have_replies h [] rest is = tt
 have_replies [] (e ∷ part) rest is = absurd (cc)
 have_replies (t ∷ h) (e ∷ part) rest is =
-    let head : record { processed = t; answer = reply_of t (answered h) } ≡ e = cc in
     let tail : answered h ≡ part ++ rest = cc in
-    let own : e.answer ≡ reply_of e.processed (answered h) = replied t (answered h) e head in
-    (have_replies h part rest tail, own ∙ ap (reply_of e.processed) tail)
+    (have_replies h part rest tail, (replied t (answered h) e cc) ∙ ap (reply_of e.processed) tail)
   where
     replied : (s : Processed) (log : List Entry) (x : Entry) → record { processed = s; answer = reply_of s log } ≡ x → x.answer ≡ reply_of x.processed log
     replied s log x is = ap (λ (y : Entry). y.answer) (sym is) ∙ ap (λ (y : Entry). reply_of y.processed log) is
+
+-- and its row is a transfer
+pub make_transfers : MakeTransfers
+make_transfers b blocks e entries log row replies alike =
+    record { steps = row.steps; in_turn = row.in_turn; goes_on = row.goes_on; replies = replies; alike = alike }

@@ -1,5 +1,5 @@
 -- What a transfer writes or reads, by the shape that the words of its attribute say.
-use Rattle.sercos_law_channel.proofs.Words.{◌≡◌, ℕ, ◌+◌, ◌*◌, ◌^◌, ◌<◌, attribute_word-below, attribute_fault-attribute_word, attribute_of-attribute_word, Block, types, shape_by, shape_of, RunsAreExact, BeginsEmpty, MakeTransfers, ReadsOnce, WritesOnce, StaysWritten, OpensAlways, StaysInCost, RecoversInCost, RecoversSince, StartsInCost}
+use Rattle.sercos_law_channel.proofs.Words.{◌≡◌, ◌+◌, ◌*◌, ◌^◌, ◌<◌, attribute_word-below, attribute_fault-attribute_word, attribute_of-attribute_word, Block, types, shape_by, shape_of, ReadsOnce, WritesOnce}
 use Rattle.sercos_law_channel.proofs.Handshake.AttributeReplies.{shape-attribute}
 use Rattle.sercos_law_channel.proofs.Handshake.ElementReads.{reads_once_by}
 use Rattle.sercos_law_channel.proofs.Handshake.ReadStages.{high_of, low_of}

@@ -1,8 +1,9 @@
 -- The entries of a transfer are of one phase, since the master doesn't rise while a step is open.
-use Rattle.sercos_law_channel.proofs.Words.{◌≡◌, ◌⊎◌, inl, inr, ⊎_elim, ℕ, suc, ◌≤◌, Bool, true, false, not, ◌&&◌, List, [], ◌∷◌, ◌++◌, length, drop, refl, sym, ap, ◌∙◌, subst, arith, if◌then◌else◌, length-append, ◌==◌, Option, Some, None, is_some, slice_get, list_all, cond_both, not-true, nat_tests, beq, Status, Step, Answer, Request, shape_of, words_told, reading, writing, asks_attribute, steps_of, answer_words, next_step, Processed, Entry, opens, Begun, step_at, with_step, steps_in, open_in, is_odd, mhs_in, answers_it, answer_in, with_answer, step_or_none, master_says, Block, Idle, Sent, Kept, AreInStep, replies_of, log_steps, IsTransfer, with_status, said_in, with_processed, AreInPhase, cases_Bool}
+use Rattle.sercos_law_channel.proofs.Words.{◌≡◌, ◌⊎◌, inl, inr, ⊎_elim, ℕ, suc, ◌≤◌, Bool, true, false, not, ◌&&◌, List, [], ◌∷◌, ◌++◌, length, drop, refl, sym, ap, ◌∙◌, subst, arith, length-append, ◌==◌, Option, Some, None, is_some, slice_get, list_all, cond_both, not-true, nat_tests, beq, Status, Step, Answer, Request, shape_of, words_told, reading, writing, asks_attribute, steps_of, answer_words, next_step, Processed, Entry, opens, Begun, step_at, with_step, steps_in, open_in, is_odd, mhs_in, answers_it, answer_in, with_answer, step_or_none, master_says, Block, Idle, Sent, Kept, AreInStep, replies_of, log_steps, IsTransfer, with_status, said_in, with_processed, AreInPhase, cases_Bool}
 use Rattle.sercos_step.specs.declared.request.Request.TheVariants as request
 use Rattle.sercos_law_channel.proofs.Handshake.StepTests.{attribute_passes, reading_passes, run_passes, polling_passes}
-use Rattle.sercos_law_channel.proofs.Handshake.TransferSteps.{all-slice_get, newest_step, without_newest}
+use Rattle.sercos_law_channel.proofs.Options.{all_at}
+use Rattle.sercos_law_channel.proofs.Handshake.TransferSteps.{newest_step, without_newest}
 use Rattle.sercos_law_channel.proofs.Handshake.HandshakeMoves.{parity, quiet_bit, said_bit, said_step, beq-self, idle_all}
 use Rattle.sercos_law_channel.proofs.Handshake.UnknownBlocks.{first_step}
 
@@ -20,9 +21,6 @@ IsNamed (request.Read idn e) = Unit {0}
 IsNamed (request.Write idn e bytes) = 2 ≤ e
 IsNamed (request.Command idn) = Unit {0}
 
-not_one : (e : ℕ) → 2 ≤ e → not (true && (e == 1)) ≡ true
-not_one e two = grind (arith, nat_tests)
-
 rest_inner : (r : Request) (words : List ℕ) → IsNamed r → are_inner (drop 1 (steps_of r words)) ≡ true
 rest_inner (request.Read idn e) words named = cond_both (asks_attribute e) _ _ (λ l. are_inner l ≡ true)
     (λ on. attribute_passes is_inner (λ attribute after. reading (shape_of e attribute) e after) (drop 1 words) (λ last word. refl)
@@ -31,7 +29,7 @@ rest_inner (request.Read idn e) words named = cond_both (asks_attribute e) _ _ (
 rest_inner (request.Write idn e bytes) words named = cond_both (e == 7) _ _ (λ l. are_inner l ≡ true)
     (λ on. attribute_passes is_inner (λ attribute after. writing (shape_of 7 attribute) 7 bytes) (drop 1 words) (λ last word. refl)
     (λ word after. run_passes is_inner true 7 (words_told (shape_of 7 word) bytes) (λ last word. refl)))
-    (λ off. run_passes is_inner true e (words_told (shape_of e 0) bytes) (λ last word. not_one e named))
+    (λ off. run_passes is_inner true e (words_told (shape_of e 0) bytes) (λ last word. grind (arith, nat_tests)))
 rest_inner (request.Command idn) words named = polling_passes is_inner (drop 2 words) refl refl
 
 get_drop : {A : Type 0} (xs : List A) (k : ℕ) (x : A) → slice_get xs (suc k) ≡ Some x → slice_get (drop 1 xs) k ≡ Some x
@@ -44,7 +42,7 @@ later_step r a h s named next =
     let words = answer_words h ++ a.word ∷ [] in
     let long : length words ≡ suc (length (answer_words h)) = (let n = length-append (answer_words h) (a.word ∷ []) in omega (arith, n)) in
     let got : slice_get (steps_of r words) (suc (length (answer_words h))) ≡ Some s = ap (slice_get (steps_of r words)) (sym long) ∙ next in
-    not-true (opens s) (all-slice_get is_inner (drop 1 (steps_of r words)) (length (answer_words h)) s (rest_inner r words named) (get_drop (steps_of r words) (length (answer_words h)) s got))
+    not-true (opens s) (all_at is_inner (drop 1 (steps_of r words)) (length (answer_words h)) s (rest_inner r words named) (get_drop (steps_of r words) (length (answer_words h)) s got))
 
 -- A log whose steps come in the phase of the step before, but for openings.
 
@@ -113,14 +111,10 @@ taken_level phase begun log t answer h says at l = elim (cases_Bool (beq t.mhs (
     is_last (Kept e past opened is s a) off = let on : beq t.mhs (is_odd log) ≡ true = ap (λ (b : Bool). beq b (is_odd log)) (said_bit t begun says ∙ parity (steps_in begun) log s) ∙ beq-self (is_odd log) in absurd (cc)
 
     steady : beq t.mhs (is_odd log) ≡ false → opens t.step ≡ false → HeadIn t.phase log
-    steady off shut =
-        let last = is_last h off in
-        let head : HeadIn phase log = l.level last.0 (inl (fresh_or (is_fresh begun) refl)) in
-        subst (λ (p : ℕ). HeadIn p log) (sym at) head
-      where
-        fresh_or : (v : Bool) → is_fresh begun ≡ v → is_fresh begun ≡ false
-        fresh_or false is = is
-        fresh_or true is = let opened = fresh_opens begun t.step (is_last h off).1 is in absurd (cc)
+    steady off shut = subst (λ (p : ℕ). HeadIn p log) (sym at) (l.level (is_last h off).0 (inl (elim (cases_Bool (is_fresh begun)) [
+      | inl is ↦ let opened = fresh_opens begun t.step (is_last h off).1 is in absurd (cc)
+      | inr is ↦ is
+    ])))
 
 -- So the entries of a transfer are of one phase.
 pub in_one_phase : (r : Request) (blocks : List Block) (e : Entry) (entries log : List Entry) → IsNamed r → IsSteady ((e ∷ entries) ++ log) → IsTransfer r blocks e entries log → AreInPhase e.processed.phase (e ∷ entries)

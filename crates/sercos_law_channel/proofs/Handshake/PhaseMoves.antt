@@ -87,31 +87,23 @@ stands_as_commanded v past came = elim (stands v (standing past)) [
 pub processed_phase : (v : View) (past : List View) → v.mst_comes ≡ true → 1 ≤ stood_in v (standing past) → stood_in v (standing past) ≡ v.phase
 processed_phase v past came up = elim (stands_as_commanded v past came) [ inl z ↦ absurd (omega arith) | inr is ↦ is ]
 
-pub nothing_below : (v : View) (past : List View) → stood_in v (standing past) ≤ 1 → processed_in v past ≡ None
-nothing_below v past low = of_processed v past (λ o. o ≡ None) refl (λ s got came two. absurd (omega arith))
-
 -- what holds of nothing, and of two lists that nothing cuts off, holds of what is left of the two
 pub uncut : {A B : Type 0} (P : List A → List B → Type 0) (cuts : Bool) (xs : List A) (ys : List B) → P [] [] → (cuts ≡ false → P xs ys) →
     P (if cuts then [] else xs) (if cuts then [] else ys)
 uncut P true xs ys none some = none
 uncut P false xs ys none some = some refl
 
-pub kept_in_phase-other : (n : ℕ) (h : List Processed) → (n ≡ 0 → ⊥) → kept_in_phase n h ≡ h
-kept_in_phase-other n h nz = cond-false (n == 0) [] h (ne_eqb n 0 nz)
-
-pub kept_in_phase-zero : (n : ℕ) (h : List Processed) → n ≡ 0 → kept_in_phase n h ≡ []
-kept_in_phase-zero n h z = ap (λ (k : ℕ). kept_in_phase k h) z
-
 kept_in_phase-none : (n : ℕ) (h : List Processed) → h ≡ [] → kept_in_phase n h ≡ []
 kept_in_phase-none n h none = elim (chosen (n == 0) [] h) [ inl z ↦ z.1 | inr nz ↦ nz.1 ∙ none ]
 
 -- what a drive keeps at the MST where it isn't in 0 and doesn't restart
 pub kept_on : (v : View) (past : List View) → v.drive_restarts ≡ false → (stood_in v (standing past) ≡ 0 → ⊥) → kept_in v past ≡ since_reset past
-kept_on v past on nz = kept_in_phase-other (stood_in v (standing past)) (kept_unless v.drive_restarts (since_reset past)) nz ∙ cond-false v.drive_restarts [] (since_reset past) on
+kept_on v past on nz = cond-false ((stood_in v (standing past)) == 0) [] (kept_unless v.drive_restarts (since_reset past))
+    (ne_eqb (stood_in v (standing past)) 0 nz) ∙ cond-false v.drive_restarts [] (since_reset past) on
 
 kept_none : (v : View) (past : List View) → (v.drive_restarts ≡ false → (stood_in v (standing past) ≡ 0 → ⊥) → since_reset past ≡ []) → kept_in v past ≡ []
 kept_none v past none = elim (cases_eq (stood_in v (standing past)) 0) [
-  | inl z ↦ kept_in_phase-zero (stood_in v (standing past)) (kept_unless v.drive_restarts (since_reset past)) z
+  | inl z ↦ ap (λ (k : ℕ). kept_in_phase k (kept_unless v.drive_restarts (since_reset past))) z
   | inr nz ↦ elim (chosen v.drive_restarts [] (since_reset past)) [
     | inl r ↦ kept_in_phase-none (stood_in v (standing past)) (kept_unless v.drive_restarts (since_reset past)) r.1
     | inr on ↦ kept_in_phase-none (stood_in v (standing past)) (kept_unless v.drive_restarts (since_reset past)) (on.1 ∙ none on.0 nz)
@@ -130,9 +122,11 @@ kept_below_by v past earlier low = kept_none v past (λ on nz. earlier (by on nz
 pub reset_below : (past : List View) → (standing past).ended ≤ 1 → since_reset past ≡ []
 reset_below [] low = refl
 reset_below (v ∷ past) low = elim (ends v past) [
-  | inl z ↦ kept_in_phase-zero (standing (v ∷ past)).ended (with_record (processed_in v past) (kept_in v past)) z
+  | inl z ↦ ap (λ (k : ℕ). kept_in_phase k (with_record (processed_in v past) (kept_in v past))) z
   | inr same ↦ kept_in_phase-none (standing (v ∷ past)).ended (with_record (processed_in v past) (kept_in v past))
-      (ap (λ (o : Option Processed). with_record o (kept_in v past)) (nothing_below v past (omega arith)) ∙ kept_below_by v past (reset_below past) (omega arith))
+      (ap (λ (o : Option Processed). with_record o (kept_in v past))
+      (of_processed v past (λ o. o ≡ None) refl (λ s got came two. absurd (omega arith)))
+      ∙ kept_below_by v past (reset_below past) (omega arith))
 ]
 
 pub kept_below : (v : View) (past : List View) → stood_in v (standing past) ≤ 1 → kept_in v past ≡ []
@@ -140,4 +134,5 @@ kept_below v past low = kept_below_by v past (reset_below past) low
 
 -- what a drive keeps at the end where it isn't in 0
 pub reset_on : (v : View) (past : List View) → ((standing (v ∷ past)).ended ≡ 0 → ⊥) → since_reset (v ∷ past) ≡ with_record (processed_in v past) (kept_in v past)
-reset_on v past nz = kept_in_phase-other (standing (v ∷ past)).ended (with_record (processed_in v past) (kept_in v past)) nz
+reset_on v past nz = cond-false ((standing (v ∷ past)).ended == 0) [] (with_record (processed_in v past) (kept_in v past))
+    (ne_eqb (standing (v ∷ past)).ended 0 nz)

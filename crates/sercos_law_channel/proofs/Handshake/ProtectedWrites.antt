@@ -1,16 +1,15 @@
 -- Where a block is write protected, or fixed, no record adds a write to it.
-use Rattle.sercos_law_channel.proofs.Words.{◌≡◌, ℕ, Bool, true, false, not, ◌&&◌, List, [], ◌∷◌, length, refl, sym, ap, ◌∙◌, subst, arith, if◌then◌else◌, ◌==◌, Option, Some, None, IfSome, option_map, option_and_then, then_some, and_parts, cond-false, cond_both, not-true, beq, none_of-or, none_of-then, Answer, Block, is_fixed, is_protected, find_block, write_fault, data_fault, put_fault, Processed, Entry, ahs, open_idn, run_before, in_order, is_first_word, bytes_written, write_cause_in, reply_of, log_of, Write, AreAlike, AreThose, written_by, with_added, adds, added_on, those_moved, View, standing, stood_in, record_in, processed_in, with_record, kept_in_phase, kept_unless, since_reset, kept_in, write_of, all_writes, AreSound, newest_to, StaysProtected, StaysQuiet, StaysFixed, write_cause, no_cause, ne_eqb, allowed}
+use Rattle.sercos_law_channel.proofs.Words.{inr, inl, cases_Option, cases_Bool, ◌≡◌, ℕ, Bool, true, false, not, ◌&&◌, List, [], ◌∷◌, length, refl, sym, ap, ◌∙◌, subst, arith, if◌then◌else◌, ◌==◌, Option, Some, None, IfSome, option_map, option_and_then, then_some, and_parts, cond-false, cond_both, not-true, beq, none_of-or, none_of-then, Answer, Block, is_fixed, is_protected, find_block, write_fault, data_fault, put_fault, Processed, Entry, ahs, open_idn, run_before, in_order, is_first_word, write_cause_in, reply_of, log_of, Write, AreAlike, AreThose, written_by, with_added, adds, added_on, those_moved, View, standing, stood_in, record_in, processed_in, with_record, kept_in_phase, kept_unless, since_reset, kept_in, write_of, all_writes, AreSound, newest_to, StaysProtected, StaysQuiet, StaysFixed, write_cause, no_cause, ne_eqb, allowed}
 use Rattle.sercos_law_channel.proofs.Handshake.AttributeReplies.{alike_there, reply-data}
 use Rattle.sercos_law_channel.proofs.Handshake.PhaseMoves.{processed_phase, of_processed}
 
 -- a write is to the identifier number that is open
 written_raw : (t : Processed) (run : List Processed) (o : Option ℕ) (w : Write) → option_and_then (written_by t run) o ≡ Some w → o ≡ Some w.raw
 written_raw t run None w is = absurd (cc)
-written_raw t run (Some raw) w is = by (find_block raw t.blocks) is
-  where
-    by : (o : Option Block) → option_map (λ (b : Block). (let w : Write = record { cycle = t.cycle; raw = raw; bytes = bytes_written b (in_order run (t.step.word ∷ [])) } in w)) o ≡ Some w → Some raw ≡ Some w.raw
-    by None is = absurd (cc)
-    by (Some b) is = ap (λ (x : Option Write). option_map (λ (w : Write). w.raw) x) is
+written_raw t run (Some raw) w is = elim (cases_Option (find_block raw t.blocks)) [
+  | inl none ↦ let is = rw none at is in absurd (cc)
+  | inr some ↦ let is = rw some.1 at is in ap (λ (x : Option Write). option_map (λ (w : Write). w.raw) x) is
+]
 
 bare : (b : Block) (phase : ℕ) (last : Bool) (words : List ℕ) → write_cause b phase last words ≡ None → is_protected b.attribute phase ≡ false
 unfolding write_cause
@@ -25,8 +24,7 @@ adds_bare t log w blocks b is alike found = by (t.step.write && ((t.step.element
     by true on is =
         let parts = and_parts t.step.write _ on in
         let more = and_parts (t.step.element == 7) _ parts.1 in
-        let last = and_parts t.step.last _ more.1 in
-        let well = not-true (reply_of t log).error last.1 in
+        let well = not-true (reply_of t log).error (and_parts t.step.last _ more.1).1 in
         let opened = written_raw t (run_before true 7 log) (open_idn log) w is in
         let words = in_order (run_before t.step.write t.step.element log) (t.step.word ∷ []) in
         let none = no_cause (write_cause_in (find_block w.raw t.blocks) t.phase t.step.last words) 0 (ap (λ (a : Answer). a.error) (sym (reply-data t log w.raw parts.0 more.0 opened)) ∙ well) in
@@ -35,11 +33,10 @@ adds_bare t log w blocks b is alike found = by (t.step.write && ((t.step.element
         (sym (ap (λ (o : Option Block). write_cause_in o t.phase t.step.last words) there) ∙ none)
 
 pub added_bare : (t : Processed) (h : List Processed) (w : Write) (blocks : List Block) (b : Block) → added_on t h ≡ Some w → AreAlike t.blocks blocks → find_block w.raw blocks ≡ Some b → is_protected b.attribute t.phase ≡ false
-added_bare t h w blocks b is alike found = by (beq t.mhs (ahs h)) is
-  where
-    by : (v : Bool) → (if v then None else adds t (log_of h)) ≡ Some w → is_protected b.attribute t.phase ≡ false
-    by true is = absurd (cc)
-    by false is = adds_bare t (log_of h) w blocks b is alike found
+added_bare t h w blocks b is alike found = elim (cases_Bool (beq t.mhs (ahs h))) [
+  | inl on ↦ let is = rw on at is in absurd (cc)
+  | inr off ↦ let is = rw off at is in adds_bare t (log_of h) w blocks b is alike found
+]
 
 -- a write to another identifier number
 newest-other : (o : Option Write) (raw : ℕ) (writes : List Write) → ((w : Write) → o ≡ Some w → (w.raw == raw) ≡ false) → newest_to raw (with_added o writes) ≡ newest_to raw writes

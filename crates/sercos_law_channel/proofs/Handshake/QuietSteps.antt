@@ -1,7 +1,8 @@
 -- Steps that write no operation data add no write.
 use Rattle.sercos_law_channel.proofs.Words.{◌≡◌, ℕ, Bool, true, false, not, ◌&&◌, List, [], ◌∷◌, ◌++◌, length, drop, refl, ◌∙◌, if◌then◌else◌, ◌==◌, list_all, cond_both, Step, Request, shape_of, words_told, reading, asks_attribute, steps_of, answer_words, Entry, takes_effect, replies_of, WritesNothing, is_silent}
 use Rattle.sercos_step.specs.declared.request.Request.TheVariants as request
-use Rattle.sercos_law_channel.proofs.Handshake.TransferSteps.{all-slice_get, newest_step, without_newest, adds_none}
+use Rattle.sercos_law_channel.proofs.Options.{all_at}
+use Rattle.sercos_law_channel.proofs.Handshake.TransferSteps.{newest_step, without_newest, adds_none}
 use Rattle.sercos_law_channel.proofs.Handshake.StepTests.{attribute_passes, reading_passes, run_passes}
 
 abbrev is_quiet : Step → Bool
@@ -34,9 +35,9 @@ quiet_effect e quiet = by e.processed.step.write (e.processed.step.element == 7)
 pub writes_nothing : WritesNothing
 writes_nothing r blocks e [] log silent is =
     let steps = request_quiet r [] silent in
-    adds_none e log (quiet_effect e (all-slice_get is_quiet (steps_of r []) 0 e.processed.step steps (newest_step r blocks log e [] is)))
+    adds_none e log (quiet_effect e (all_at is_quiet (steps_of r []) 0 e.processed.step steps (newest_step r blocks log e [] is)))
 writes_nothing r blocks e (d ∷ entries) log silent is =
     let words = answer_words (replies_of (d ∷ entries)) in
     let steps = request_quiet r words silent in
-    adds_none e ((d ∷ entries) ++ log) (quiet_effect e (all-slice_get is_quiet (steps_of r words) (length words) e.processed.step steps (newest_step r blocks log e (d ∷ entries) is)))
+    adds_none e ((d ∷ entries) ++ log) (quiet_effect e (all_at is_quiet (steps_of r words) (length words) e.processed.step steps (newest_step r blocks log e (d ∷ entries) is)))
     ∙ writes_nothing r blocks d entries log silent (without_newest r blocks log e d entries is)

@@ -1,5 +1,5 @@
 -- The steps that read an element's words, and the words that they answer.
-use Rattle.sercos_law_channel.proofs.Words.{◌≡◌, ℕ, zero, suc, ◌+◌, ◌/◌, ◌≤◌, Bool, true, false, List, [], ◌∷◌, ◌++◌, length, drop, replicate, refl, ap, ap₂, sym, ◌∙◌, arith, length-append, nat_le, Some, slice_get, slice_index, min, nat_tests, Step, Shape, words_in, words_in_list, a_step, run, reading, length-run, slice_get_within, length-replicate, leb-true}
+use Rattle.sercos_law_channel.proofs.Words.{◌≡◌, ℕ, zero, suc, ◌≤◌, Bool, true, false, List, [], ◌∷◌, ◌++◌, length, drop, replicate, refl, ap, ap₂, sym, ◌∙◌, arith, length-append, nat_le, Some, slice_get, slice_index, nat_tests, Step, Shape, words_in, words_in_list, a_step, run, reading, length-run, slice_get_within, length-replicate, leb-true}
 use Rattle.sercos_step.specs.declared.shape.Shape.TheVariants as shape
 
 -- the first words of a list, filled up with zeros
@@ -23,9 +23,6 @@ row-all (word ∷ words) = ap (λ (l : List ℕ). word ∷ l) (row-all words)
 pub some_same : {A : Type 0} (x y : A) → Some x ≡ Some y → y ≡ x
 some_same x y is = cc
 
-more_than_one : (n : ℕ) → nat_le (suc (suc n)) 1 ≡ false
-more_than_one n = grind (arith, nat_tests)
-
 pub both_more : (n k : ℕ) → nat_le n k ≡ nat_le (suc n) (suc k)
 both_more n k = grind (arith, nat_tests)
 
@@ -34,7 +31,8 @@ run_zeros : (e n k : ℕ) (s : Step) → slice_get (run false e (replicate n 0))
 run_zeros e zero k s got = absurd (cc)
 run_zeros e (suc zero) zero s got = some_same (a_step false true e 0) s got
 run_zeros e (suc zero) (suc k) s got = absurd (cc)
-run_zeros e (suc (suc n)) zero s got = some_same (a_step false false e 0) s got ∙ ap (λ (v : Bool). a_step false v e 0) (sym (more_than_one n))
+run_zeros e (suc (suc n)) zero s got = some_same (a_step false false e 0) s got
+    ∙ ap (λ (v : Bool). a_step false v e 0) (sym (grind (arith, nat_tests)))
 run_zeros e (suc (suc n)) (suc k) s got = run_zeros e (suc n) k s got ∙ ap (λ (v : Bool). a_step false v e 0) (both_more (suc n) (suc k))
 
 length-run_zeros : (e n : ℕ) → length (run false e (replicate n 0)) ≡ n
@@ -47,10 +45,7 @@ next_zeros e n own s x got =
     run_zeros e n (length own) s got ∙ ap₂ (λ (m k : ℕ). a_step false (nat_le m k) e 0) (sym (length-run_zeros e n)) longer
 
 list_first : (e x : ℕ) → nat_le (length (run false e (replicate (words_in_list x) 0))) 1 ≡ false
-list_first e x = ap (λ (n : ℕ). nat_le n 1) (length-run_zeros e (words_in_list x)) ∙ by ((min x 1024 + 1) / 2)
-  where
-    by : (n : ℕ) → nat_le (2 + n) 1 ≡ false
-    by n = grind (arith, nat_tests)
+list_first e x = ap (λ (n : ℕ). nat_le n 1) (length-run_zeros e (words_in_list x)) ∙ (grind (arith, nat_tests))
 
 -- the next step of a read, which is marked as the last where the words are whole with its answer
 pub reading_next : (s : Shape) (e : ℕ) (own : List ℕ) (step : Step) (x : ℕ) → slice_get (reading s e own) (length own) ≡ Some step →
@@ -81,7 +76,4 @@ pub some_reading : (s : Shape) (e : ℕ) (own : List ℕ) → 1 ≤ length (read
 some_reading shape.One e own = omega arith
 some_reading shape.Two e own = omega arith
 some_reading shape.List e [] = omega arith
-some_reading shape.List e (actual ∷ own) = let long = length-run_zeros e (words_in_list actual) in by ((min actual 1024 + 1) / 2) (length (run false e (replicate (words_in_list actual) 0))) long
-  where
-    by : (n m : ℕ) → m ≡ 2 + n → 1 ≤ m
-    by n m is = omega arith
+some_reading shape.List e (actual ∷ own) = let long = length-run_zeros e (words_in_list actual) in (omega arith)

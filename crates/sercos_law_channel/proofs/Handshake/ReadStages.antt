@@ -1,5 +1,5 @@
 -- How far a read has come, and what it gives.
-use Rattle.sercos_law_channel.proofs.Words.{◌≡◌, ℕ, suc, ◌+◌, ◌*◌, ◌≤◌, Bool, true, false, List, [], ◌∷◌, ◌++◌, length, drop, refl, ap, ap₂, sym, ◌∙◌, arith, if◌then◌else◌, length-append, ◌==◌, nat_le, Option, Some, None, slice_get, slice_index, cond-true, cond-false, nat_tests, Idn, Step, Answer, Shape, Request, shape_of, words_in, bytes_read, a_step, opening, reading, attribute_then, asks_attribute, steps_of, steps_before, result_of, outcome_of, answer_words, is_whole, Block, find_block, Processed, Entry, open_idn, run_before, selection, answer_by, copy, read_cause, reply_of, AreAlike, replies_of, IsTransfer, entry_behind, length-answer_words, and-false, no_cause, eq-eqb, ne_eqb, and_from}
+use Rattle.sercos_law_channel.proofs.Words.{◌≡◌, ℕ, suc, ◌+◌, ◌*◌, Bool, true, false, List, [], ◌∷◌, ◌++◌, length, drop, refl, ap, ap₂, sym, ◌∙◌, arith, if◌then◌else◌, length-append, ◌==◌, nat_le, Option, Some, None, slice_get, slice_index, cond-true, cond-false, nat_tests, Idn, Step, Answer, Shape, Request, shape_of, words_in, bytes_read, a_step, opening, reading, attribute_then, asks_attribute, steps_of, steps_before, result_of, outcome_of, answer_words, is_whole, Block, find_block, Processed, Entry, open_idn, run_before, selection, answer_by, copy, read_cause, reply_of, AreAlike, replies_of, IsTransfer, entry_behind, length-answer_words, and-false, no_cause, eq-eqb, ne_eqb, and_from}
 use Rattle.sercos_step.specs.declared.request.Request.TheVariants as request
 use Rattle.sercos_step.specs.declared.request.Outcome.TheVariants as outcome
 use Rattle.sercos_law_channel.proofs.Handshake.TransferSteps.{newest_step, without_newest, goes_on-outcome_of, length-replies_of, complete_is}
@@ -40,24 +40,21 @@ record IsPlaced (idn : Idn) (e : ℕ) (b : Block) (asks : Bool) (words own : Lis
   result : result_by e asks words ≡ bytes_read (shape_asked e asks b) own
   count : length words ≡ before_by asks + length own
 
-three_more : (n k : ℕ) → nat_le (suc (suc (suc n))) (suc (suc (suc k))) ≡ nat_le n k
-three_more n k = grind (arith, nat_tests)
-
-placed_short : (idn : Idn) (e : ℕ) (b : Block) (w : ℕ) (own : List ℕ) → IsPlaced idn e b false (w ∷ own) own
-placed_short idn e b w own = record { next = refl; whole = sym (both_more (length (reading (shape_of e 0) e own)) (length own)); result = refl; count = omega arith }
-
-placed_long : (idn : Idn) (e : ℕ) (b : Block) (w : ℕ) (own : List ℕ) → IsPlaced idn e b true (w ∷ low_of b ∷ high_of b ∷ own) own
-placed_long idn e b w own = record {
+placed : (idn : Idn) (e : ℕ) (b : Block) (asks : Bool) (words own : List ℕ) → Behind b asks words own → IsPlaced idn e b asks words own
+placed idn e b false words own (Short off w is) = rw is
+    (record {
+      next = refl;
+      whole = sym (both_more (length (reading (shape_of e 0) e own)) (length own));
+      result = refl;
+      count = omega arith;
+    })
+placed idn e b true words own (Short off w is) = absurd (cc)
+placed idn e b true words own (Long on w is) = rw is (record {
   next = refl;
-  whole = three_more (length (reading (shape_of e (low_of b + 65536 * high_of b)) e own)) (length own);
+  whole = grind (arith, nat_tests);
   result = refl;
   count = omega arith;
-}
-
-placed : (idn : Idn) (e : ℕ) (b : Block) (asks : Bool) (words own : List ℕ) → Behind b asks words own → IsPlaced idn e b asks words own
-placed idn e b false words own (Short off w is) = rw is (placed_short idn e b w own)
-placed idn e b true words own (Short off w is) = absurd (cc)
-placed idn e b true words own (Long on w is) = rw is (placed_long idn e b w own)
+})
 placed idn e b false words own (Long on w is) = absurd (cc)
 
 module _ (idn : Idn) (e : ℕ) (b : Block) (blocks : List Block) (found : find_block idn.raw blocks ≡ Some b) (some : (e == 0) ≡ false) where
@@ -207,13 +204,9 @@ module _ (idn : Idn) (e : ℕ) (b : Block) (blocks : List Block) (found : find_b
         gives = more.result ∙ ap (bytes_read (shape_read e b)) (same ∙ ap (λ (n : ℕ). row n (copy idn.raw c.entry.processed)) many);
       }
 
-  -- the steps before the element's own complete nothing
-  too_many : (n k : ℕ) → suc k ≤ n → nat_le n k ≡ false
-  too_many n k more = grind (arith, nat_tests)
-
   open_one : (v : Bool) (x : ℕ) → nat_le (length (steps_by idn e v (x ∷ []))) 1 ≡ false
   open_one true x = refl
-  open_one false x = let many = some_reading (shape_of e 0) e [] in too_many (length (steps_by idn e false (x ∷ []))) 1 (omega arith)
+  open_one false x = let many = some_reading (shape_of e 0) e [] in (grind (arith, nat_tests))
 
   not_one : (words : List ℕ) (x : ℕ) → words ≡ [] → is_whole asked (words ++ x ∷ []) ≡ false
   not_one words x is = ap (λ (ws : List ℕ). is_whole asked (ws ++ x ∷ [])) is ∙ open_one (asks_attribute e) x
@@ -228,7 +221,7 @@ module _ (idn : Idn) (e : ℕ) (b : Block) (blocks : List Block) (found : find_b
   not_three words w v x asks is =
       let many = some_reading (shape_of e (v + 65536 * x)) e [] in
       ap (λ (ws : List ℕ). is_whole asked (ws ++ x ∷ [])) is ∙ whole_asked true (w ∷ v ∷ x ∷ []) asks
-      ∙ too_many (length (steps_by idn e true (w ∷ v ∷ x ∷ []))) 3 (omega arith)
+      ∙ (grind (arith, nat_tests))
 
   gives : (words : List ℕ) (entries log : List Entry) (s : Entry) → Stage words entries log → slice_get (steps_of asked words) (length words) ≡ Some s.processed.step → s.answer ≡ reply_of s.processed (entries ++ log) → AreAlike s.processed.blocks blocks →
       s.answer.error ≡ false → is_whole asked (words ++ s.answer.word ∷ []) ≡ true → IsGiven (result_of asked (words ++ s.answer.word ∷ [])) entries s

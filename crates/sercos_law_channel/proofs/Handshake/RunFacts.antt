@@ -1,5 +1,5 @@
 -- The laws on phases, and on each cycle.
-use Rattle.sercos_law_channel.proofs.Words.{◌≡◌, ◌⊎◌, inl, inr, ℕ, suc, ◌+◌, ◌≤◌, Bool, true, false, not, ◌&&◌, ◌||◌, List, [], ◌∷◌, length, refl, sym, ap, ap₂, ◌∙◌, subst, arith, if◌then◌else◌, nat_le, ◌==◌, max, Some, is_some, cases_eq, and_from, leb-true, le-leb, eq-eqb, ne_eqb, cond-true, cond-false, beq, Processed, Entry, ahs, reply_of, log_of, AreInStep, View, Standing, afresh, before_mst, moved, got_in, takes_in, standing, stood_in, record_in, kept_in, accepted_of, all_entries, begun_in, phase_commanded, StandsNoLater, StaysDown, ComesUp, KeepsUp, AreBefore, AcceptsInOrder, ProcessesInPhase, ComesToZero, Handshake, cond_both, cases_Bool}
+use Rattle.sercos_law_channel.proofs.Words.{◌≡◌, ◌⊎◌, inl, inr, ℕ, suc, ◌+◌, ◌≤◌, Bool, true, false, not, ◌&&◌, ◌||◌, List, [], ◌∷◌, length, refl, sym, ap, ap₂, ◌∙◌, subst, arith, if◌then◌else◌, nat_le, ◌==◌, max, is_some, cases_eq, and_from, leb-true, le-leb, eq-eqb, ne_eqb, cond-true, cond-false, beq, Processed, Entry, ahs, reply_of, log_of, AreInStep, View, Standing, afresh, before_mst, moved, got_in, takes_in, standing, stood_in, record_in, kept_in, accepted_of, all_entries, begun_in, phase_commanded, StandsNoLater, StaysDown, ComesUp, KeepsUp, AreBefore, AcceptsInOrder, ProcessesInPhase, ComesToZero, Handshake, cond_both, cases_Bool}
 use Rattle.sercos_law_channel.proofs.Handshake.PhaseMoves.{Stands, Down, Moves, Stays, stands, before, ends, Nothing, Record, processes, processed_phase, of_processed}
 use Rattle.sercos_law_channel.proofs.Handshake.EpochRuns.{commanded, joined, in_step_in, same_log}
 pub use Rattle.sercos_law_channel.proofs.Handshake.PhaseMoves.{stands_as_commanded}
@@ -124,11 +124,12 @@ accepts_in_order [] = tt
 accepts_in_order (v ∷ past) =
     of_processed v past (λ o. AreBefore (suc (length past)) (accepted_of o (kept_in v past) (all_entries past)))
     (before-weaker (length past) (suc (length past)) (all_entries past) (omega arith) (accepts_in_order past))
-    (λ s got came two. accepted_so (record_in v (length past) (stood_in v (standing past)) s) (kept_in v past) refl (accepts_in_order past))
-  where
-    accepted_so : (t : Processed) (h : List Processed) → t.cycle ≡ length past → AreBefore (length past) (all_entries past) → AreBefore (suc (length past)) (accepted_of (Some t) h (all_entries past))
-    accepted_so t h at are =
-        cond_both (beq t.mhs (ahs h)) (all_entries past) ((record { processed = t; answer = reply_of t (log_of h) }) ∷ all_entries past)
-        (AreBefore (suc (length past)))
-        (λ same. before-weaker (length past) (suc (length past)) (all_entries past) (omega arith) are)
-        (λ other. (omega arith, subst (λ (n : ℕ). AreBefore n (all_entries past)) (sym at) are))
+    (λ s got came two. cond_both (beq (record_in v (length past) (stood_in v (standing past)) s).mhs (ahs (kept_in v past)))
+    (all_entries past) ((record {
+      processed = (record_in v (length past) (stood_in v (standing past)) s);
+      answer = reply_of
+          (record_in v (length past) (stood_in v (standing past)) s) (log_of (kept_in v past));
+    }) ∷ all_entries past)
+    (AreBefore (suc (length past)))
+    (λ same. before-weaker (length past) (suc (length past)) (all_entries past) (omega arith) (accepts_in_order past))
+    (λ other. (omega arith, subst (λ (n : ℕ). AreBefore n (all_entries past)) (sym refl) (accepts_in_order past))))

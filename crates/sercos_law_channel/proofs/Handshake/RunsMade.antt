@@ -1,5 +1,5 @@
 -- There is a run for any choices.
-use Rattle.sercos_law_channel.proofs.Words.{◌≡◌, ℕ, ◌+◌, ◌≤◌, Bool, true, false, not, ◌&&◌, ◌||◌, List, [], ◌∷◌, refl, arith, if◌then◌else◌, nat_le, nat_lt, ◌==◌, Option, Some, None, IsSome, IfSome, is_none, and_parts, leb-true, ltb-true, Step, Request, Block, open_in, master_says, View, standing, stood_in, whole_row, IsShown, IsRun, IsSound, AreSound, Choice, silent_by, heard_at, begun_before, begun_at, has_ten, rises_at, view_by, run_by, AreSoundChoices, cond_both}
+use Rattle.sercos_law_channel.proofs.Words.{◌≡◌, ℕ, ◌+◌, ◌≤◌, Bool, true, false, not, ◌&&◌, ◌||◌, List, [], ◌∷◌, refl, arith, if◌then◌else◌, nat_le, nat_lt, ◌==◌, Option, Some, None, IsSome, IfSome, is_none, and_parts, leb-true, ltb-true, Step, Request, Block, open_in, master_says, standing, stood_in, whole_row, IsShown, IsRun, IsSound, AreSound, Choice, silent_by, begun_before, begun_at, has_ten, rises_at, view_by, run_by, AreSoundChoices, cond_both}
 
 shut_at : (o : Option Step) → is_none o ≡ true → o ≡ None
 shut_at None e = refl
@@ -10,15 +10,6 @@ allowed true o some = refl
 allowed false o some = absurd (cc)
 
 module _ (busy : ℕ) where
-  heard_shown : (c : Choice) (past : List View) → IfSome (heard_at busy c past) (λ a. IsShown busy a (view_by busy c past) past)
-  heard_shown c past = cond_both (c.mst_comes && (c.at_comes && nat_le 1 (stood_in (silent_by c past) (standing past)))) _ None
-      (λ o. IfSome o (λ a. IsShown busy a (view_by busy c past) past))
-      (λ on.
-      let parts = and_parts c.mst_comes _ on in
-      let more = and_parts c.at_comes _ parts.1 in
-      record { got_mst = parts.0; stands = leb-true 1 (stood_in (silent_by c past) (standing past)) more.1; says = refl })
-      (λ off. tt)
-
   ten_by : (p n : ℕ) (whole falls restarts : Bool) → (nat_le 1 p || ((whole && not falls) && nat_le 9 (if restarts then 0 else n))) ≡ true → p ≡ 0 → 10 ≤ (if whole && ((p == 0) && not falls) then (if restarts then 0 else n) + 1 else 0)
   ten_by p n whole falls restarts up zero = at whole falls (if restarts then 0 else n) (rw zero at up)
     where
@@ -38,7 +29,13 @@ module _ (busy : ℕ) where
         is_run choices,
         record {
           commanded = refl;
-          heard = heard_shown c past;
+          heard = cond_both (c.mst_comes && (c.at_comes && nat_le 1 (stood_in (silent_by c past) (standing past)))) _ None
+              (λ o. IfSome o (λ a. IsShown busy a (view_by busy c past) past))
+              (λ on.
+              let parts = and_parts c.mst_comes _ on in
+              let more = and_parts c.at_comes _ parts.1 in
+              record { got_mst = parts.0; stands = leb-true 1 (stood_in (silent_by c past) (standing past)) more.1; says = refl })
+              (λ off. tt);
           late = λ some. leb-true 2 (silent_by c past).phase (and_parts (nat_le 2 (silent_by c past).phase) _ (allowed _ c.wants some)).0;
           begins = λ some. shut_at (open_in (begun_before busy c past)) (and_parts (nat_le 2 (silent_by c past).phase) _ (allowed _ c.wants some)).1;
           sent =

@@ -1,5 +1,5 @@
 -- What a block holds is what was written to it last.
-use Rattle.sercos_law_channel.proofs.Words.{◌≡◌, ℕ, Bool, true, false, not, ◌&&◌, List, [], ◌∷◌, ◌++◌, map, drop, zero, suc, refl, sym, ap, ◌∙◌, subst, if◌then◌else◌, append_assoc, ◌==◌, Option, Some, None, option_map, unwrap_or, list_all, and_parts, cond-true, cond-false, eqb-true, eq-eqb, not-true, Idn, outcome_of, Block, find_block, with_value, with_data, list_bytes, unfit_for_phase_3, unfit_for_phase_4, is_command, is_set, CommandHistory, Entry, Write, with_added, command_value, blocks_with, Begun, stored, View, processed_in, kept_in, begun_ago, all_entries, write_of, all_writes, Given, given_of, gives, written_to, given_by, AreWrites, Complete, Refused, Broken, AreExact, RunsAreExact, newest_to, store_in, is_plain, HoldsNewest, GiveElsewhere, StaysWritten, ne_eqb}
+use Rattle.sercos_law_channel.proofs.Words.{inr, inl, cases_Bool, ◌≡◌, ℕ, Bool, true, false, not, ◌&&◌, List, [], ◌∷◌, ◌++◌, map, drop, zero, suc, refl, sym, ap, ◌∙◌, subst, if◌then◌else◌, append_assoc, ◌==◌, Option, Some, None, option_map, unwrap_or, list_all, and_parts, cond-true, cond-false, eqb-true, eq-eqb, not-true, Idn, outcome_of, Block, find_block, with_value, with_data, list_bytes, unfit_for_phase_3, unfit_for_phase_4, is_command, is_set, CommandHistory, Entry, Write, with_added, command_value, blocks_with, Begun, stored, View, processed_in, kept_in, begun_ago, all_entries, write_of, all_writes, Given, given_of, gives, written_to, given_by, AreWrites, Complete, Refused, Broken, AreExact, RunsAreExact, newest_to, store_in, is_plain, HoldsNewest, GiveElsewhere, StaysWritten, ne_eqb}
 use Rattle.sercos_step.specs.declared.request.Request.TheVariants as request
 use Rattle.sercos_step.specs.declared.request.Outcome.TheVariants as outcome
 use Rattle.sercos_command.specs.Calls.{with_check_list}
@@ -15,11 +15,10 @@ record HasValue (raw : ℕ) (x : List ℕ) (blocks : List Block) : Type 0 where
 
 found_named : (raw : ℕ) (blocks : List Block) (b : Block) → find_block raw blocks ≡ Some b → (b.idn.raw == raw) ≡ true
 found_named raw [] b found = absurd (cc)
-found_named raw (c ∷ blocks) b found = by (c.idn.raw == raw) refl found (found_named raw blocks b)
-  where
-    by : (v : Bool) → (c.idn.raw == raw) ≡ v → (if v then Some c else find_block raw blocks) ≡ Some b → (find_block raw blocks ≡ Some b → (b.idn.raw == raw) ≡ true) → (b.idn.raw == raw) ≡ true
-    by true on found more = let same : c ≡ b = cc in ap (λ (x : Block). x.idn.raw == raw) (sym same) ∙ on
-    by false off found more = more found
+found_named raw (c ∷ blocks) b found = elim (cases_Bool (c.idn.raw == raw)) [
+  | inl on ↦ let same : c ≡ b = cc in ap (λ (x : Block). x.idn.raw == raw) (sym same) ∙ on
+  | inr off ↦ let found = rw off at found in found_named raw blocks b found
+]
 
 find-with_data : (raw other : ℕ) (bytes : List ℕ) (blocks : List Block) → find_block raw (with_data other bytes blocks) ≡ option_map (with_value other bytes) (find_block raw blocks)
 find-with_data raw other bytes [] = refl
@@ -35,9 +34,6 @@ find-with_data raw other bytes (b ∷ blocks) = by (b.idn.raw == other) (b.idn.r
 has-with_data : (raw other : ℕ) (x bytes : List ℕ) (blocks : List Block) → HasValue raw x blocks → HasValue raw (if other == raw then bytes else x) (with_data other bytes blocks)
 has-with_data raw other x bytes blocks has = by (has.block.idn.raw == other) refl
   where
-    same : has.block.idn.raw ≡ raw
-    same = eqb-true has.block.idn.raw raw has.named
-
     by : (v : Bool) → (has.block.idn.raw == other) ≡ v → HasValue raw (if other == raw then bytes else x) (with_data other bytes blocks)
     by true at =
         let is : (other == raw) ≡ true = ap (λ (n : ℕ). n == raw) (sym (eqb-true has.block.idn.raw other at)) ∙ has.named in record {
@@ -52,7 +48,8 @@ has-with_data raw other x bytes blocks has = by (has.block.idn.raw == other) ref
       named = has.named;
       value =
           has.value ∙ sym (cond-false (other == raw) bytes x
-          (ne_eqb other raw (λ is. let on : (has.block.idn.raw == other) ≡ true = eq-eqb has.block.idn.raw other (same ∙ sym is) in cc)));
+          (ne_eqb other raw (λ is. let on : (has.block.idn.raw == other) ≡ true = eq-eqb has.block.idn.raw other
+          (eqb-true has.block.idn.raw raw has.named ∙ sym is) in cc)));
     }
 
 -- the lists of the checks are others
@@ -85,12 +82,10 @@ has-blocks_with raw b (Some w) c blocks writes plain has =
     joined true = refl
     joined false = refl
 
-    after : HasValue raw (if w.raw == raw then w.bytes else unwrap_or (newest_to raw writes) b) (with_data w.raw w.bytes blocks)
-    after = has-with_data raw w.raw (unwrap_or (newest_to raw writes) b) w.bytes blocks has
-
     by : (v : Bool) → HasValue raw (if w.raw == raw then w.bytes else unwrap_or (newest_to raw writes) b) (if v then with_check_list c w.raw (command_value w) (with_data w.raw w.bytes blocks) else with_data w.raw w.bytes blocks)
-    by true = has-with_check_list raw (if w.raw == raw then w.bytes else unwrap_or (newest_to raw writes) b) c w.raw (command_value w) (with_data w.raw w.bytes blocks) plain after
-    by false = after
+    by true = has-with_check_list raw (if w.raw == raw then w.bytes else unwrap_or (newest_to raw writes) b) c w.raw (command_value w)
+        (with_data w.raw w.bytes blocks) plain (has-with_data raw w.raw (unwrap_or (newest_to raw writes) b) w.bytes blocks has)
+    by false = has-with_data raw w.raw (unwrap_or (newest_to raw writes) b) w.bytes blocks has
 
 has_newest : (blocks : List Block) (past : List View) (raw : ℕ) (b : Block) → is_plain raw ≡ true → find_block raw blocks ≡ Some b → HasValue raw (unwrap_or (newest_to raw (all_writes past)) b.value) (store_in blocks past)
 has_newest blocks [] raw b plain found = record { block = b; found = found; named = found_named raw blocks b found; value = refl }
@@ -123,8 +118,7 @@ pub own_one : (raw : ℕ) (x : List ℕ) (own others : List Write) → map given
 own_one raw x [] others is = absurd (cc)
 own_one raw x (w ∷ own) others is =
     let same : given_of w ≡ gives raw x = cc in
-    let named : w.raw ≡ raw = ap (λ (g : Given). g.raw) same in
-    cond-true (w.raw == raw) _ _ (eq-eqb w.raw raw named) ∙ ap (λ (g : Given). Some g.bytes) same
+    cond-true (w.raw == raw) _ _ (eq-eqb w.raw raw (ap (λ (g : Given). g.raw) same)) ∙ ap (λ (g : Given). Some g.bytes) same
 
 module _ (blocks : List Block) (older : List Begun) (b : Begun) (idn : Idn) (bytes whole : List ℕ) (block : Block) (is : b.request ≡ request.Write idn 7 bytes) (complete : outcome_of b.request b.answers ≡ Some (outcome.Complete whole)) (found : find_block idn.raw blocks ≡ Some block) where
   own_newest : (own others : List Write) → AreWrites blocks b own → newest_to idn.raw (own ++ others) ≡ Some (stored block bytes)

@@ -1,5 +1,5 @@
 -- The steps of the entries of a transfer, one by one.
-use Rattle.sercos_law_channel.proofs.Words.{◌≡◌, ℕ, zero, suc, ◌≤◌, Bool, true, false, not, ◌&&◌, List, [], ◌∷◌, ◌++◌, length, refl, sym, ap, ◌∙◌, arith, if◌then◌else◌, ◌==◌, Option, Some, None, is_some, slice_get, list_all, and_parts, cond-false, Step, Answer, Request, outcome_of, next_step, answer_words, is_whole, result_of, step_at, with_step, steps_begun, Block, Entry, Write, with_added, writes_of, takes_effect, log_steps, replies_of, IsTransfer, is_complete}
+use Rattle.sercos_law_channel.proofs.Words.{inr, inl, cases_Bool, ◌≡◌, ℕ, suc, ◌≤◌, Bool, true, false, not, ◌&&◌, List, [], ◌∷◌, ◌++◌, length, refl, ap, arith, if◌then◌else◌, ◌==◌, Option, Some, None, is_some, cond-false, Step, Answer, Request, outcome_of, next_step, answer_words, is_whole, result_of, step_at, with_step, steps_begun, Block, Entry, Write, with_added, writes_of, takes_effect, log_steps, replies_of, IsTransfer, is_complete}
 use Rattle.sercos_step.specs.declared.request.Outcome.TheVariants as outcome
 
 pub length-steps_of : (entries : List Entry) → length (log_steps entries) ≡ length entries
@@ -9,12 +9,6 @@ length-steps_of (e ∷ entries) = ap suc (length-steps_of entries)
 pub length-replies_of : (entries : List Entry) → length (replies_of entries) ≡ length entries
 length-replies_of [] = refl
 length-replies_of (e ∷ entries) = ap suc (length-replies_of entries)
-
--- what holds of all steps holds of each
-pub all-slice_get : (p : Step → Bool) (steps : List Step) (k : ℕ) (s : Step) → list_all p steps ≡ true → slice_get steps k ≡ Some s → p s ≡ true
-all-slice_get p [] k s all got = absurd (cc)
-all-slice_get p (x ∷ steps) zero s all got = let same : x ≡ s = cc in ap p (sym same) ∙ (and_parts (p x) (list_all p steps) all).0
-all-slice_get p (x ∷ steps) (suc k) s all got = all-slice_get p steps k s (and_parts (p x) (list_all p steps) all).1 got
 
 length-with_step : (o : Option Step) (steps : List Step) → length (with_step o steps) ≤ suc (length steps)
 length-with_step None steps = omega arith
@@ -32,11 +26,10 @@ begun_last None s steps more is few = let long : suc (length steps) ≡ length m
 begun_last (Some x) s steps more is few = (cc, cc)
 
 next-step_at : (r : Request) (h : List Answer) (s : Step) → step_at r h ≡ Some s → next_step r h ≡ Some s
-next-step_at r h s at = next (is_some (outcome_of r h)) at
-  where
-    next : (v : Bool) → (if v then None else next_step r h) ≡ Some s → next_step r h ≡ Some s
-    next true at = absurd (cc)
-    next false at = at
+next-step_at r h s at = elim (cases_Bool (is_some (outcome_of r h))) [
+  | inl on ↦ let at = rw on at at in absurd (cc)
+  | inr off ↦ let at = rw off at at in at
+]
 
 module _ (r : Request) (blocks : List Block) (log : List Entry) where
   -- the newest step is the next one after the others

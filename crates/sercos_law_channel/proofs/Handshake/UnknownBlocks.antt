@@ -20,9 +20,8 @@ none_alike raw others blocks alike none =
 -- an opening is refused there
 pub refused_opening : (idn : Idn) (t : Processed) (all : List Entry) (blocks : List Block) → t.step ≡ opening idn → AreAlike t.blocks blocks → find_block idn.raw blocks ≡ None → reply_of t all ≡ refused 0x1001
 refused_opening idn t all blocks is alike none =
-    let opened : opens t.step ≡ true = ap opens is in
     let no_block : is_some (find_block t.step.word t.blocks) ≡ false = ap (λ (s : Step). is_some (find_block s.word t.blocks)) is ∙ none_alike idn.raw t.blocks blocks alike none in
-    cond-true (opens t.step) _ _ opened ∙ cond-false (is_some (find_block t.step.word t.blocks)) (good 0) (refused 0x1001) no_block
+    cond-true (opens t.step) _ _ (ap opens is) ∙ cond-false (is_some (find_block t.step.word t.blocks)) (good 0) (refused 0x1001) no_block
 
 -- such a transfer has one entry
 pub only_opening : (r : Request) (blocks : List Block) (e : Entry) (entries log : List Entry) → find_block (idn_of r).raw blocks ≡ None → IsTransfer r blocks e entries log → (entries ≡ []) × (e.processed.step ≡ opening (idn_of r))

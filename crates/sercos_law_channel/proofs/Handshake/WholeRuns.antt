@@ -1,5 +1,5 @@
 -- What the drive accepted and wrote in the whole run is what it did in the epochs, one after the other.
-use Rattle.sercos_law_channel.proofs.Words.{◌≡◌, ℕ, Bool, true, false, List, [], ◌∷◌, ◌++◌, refl, sym, ap, ◌∙◌, arith, if◌then◌else◌, Option, Some, None, beq, Processed, Entry, ahs, accepted, reply_of, answered, log_of, Write, with_added, writes_of, added_on, View, processed_in, with_record, kept_in, unless_restart, epoch_records, records_in_views, epoch_log, log_in, IsRun, accepted_of, all_entries, write_of, all_writes, leaving, grows, inl, inr, cases_Bool}
+use Rattle.sercos_law_channel.proofs.Words.{◌≡◌, ℕ, Bool, true, false, List, [], ◌∷◌, ◌++◌, refl, sym, ap, ◌∙◌, arith, if◌then◌else◌, Option, Some, None, beq, Processed, Entry, ahs, reply_of, answered, log_of, Write, with_added, writes_of, added_on, View, processed_in, with_record, kept_in, unless_restart, epoch_records, records_in_views, epoch_log, log_in, IsRun, accepted_of, all_entries, write_of, all_writes, leaving, grows, inl, inr, cases_Bool}
 use Rattle.sercos_law_channel.proofs.Handshake.PhaseMoves.{Nothing, Record, processes, processed_phase}
 use Rattle.sercos_law_channel.proofs.Handshake.EpochRuns.{joined, same_at}
 
@@ -21,10 +21,6 @@ abbrev pub writes_ago : List View → List Write
 writes_ago [] = []
 writes_ago (v ∷ past) = leaving v.falls (writes_of (log_in v past)) (leaving v.master_restarts (writes_of (epoch_log past)) (writes_ago past))
 
--- one record more, of a list that stays
-grown : (t : Processed) (h : List Processed) (ago : List Entry) → accepted_of (Some t) h (log_of h ++ ago) ≡ log_of (t ∷ h) ++ ago
-grown t h ago = elim (cases_Bool (beq t.mhs (ahs h))) [ inl on ↦ rw on | inr off ↦ rw off ]
-
 with_added-append : (o : Option Write) (writes ago : List Write) → with_added o (writes ++ ago) ≡ with_added o writes ++ ago
 with_added-append None writes ago = refl
 with_added-append (Some w) writes ago = refl
@@ -34,7 +30,8 @@ written t h = sym (grows t h)
 
 entries_more : (o : Option Processed) (kept h : List Processed) (ago : List Entry) → ((t : Processed) → o ≡ Some t → kept ≡ h) → accepted_of o kept (log_of h ++ ago) ≡ log_of (with_record o h) ++ ago
 entries_more None kept h ago same = refl
-entries_more (Some t) kept h ago same = ap (λ (k : List Processed). accepted_of (Some t) k (log_of h ++ ago)) (same t refl) ∙ grown t h ago
+entries_more (Some t) kept h ago same = ap (λ (k : List Processed). accepted_of (Some t) k (log_of h ++ ago)) (same t refl)
+    ∙ (elim (cases_Bool (beq t.mhs (ahs h))) [ inl on ↦ rw on | inr off ↦ rw off ])
 
 writes_more : (o : Option Processed) (kept h : List Processed) (ago : List Write) → ((t : Processed) → o ≡ Some t → kept ≡ h) → with_added (write_of o kept) (writes_of (log_of h) ++ ago) ≡ writes_of (log_of (with_record o h)) ++ ago
 writes_more None kept h ago same = refl

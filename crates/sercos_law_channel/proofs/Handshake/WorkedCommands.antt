@@ -1,5 +1,5 @@
 -- Transfers that are refused at the cancel, worked out from the definitions: so neither condition of the law can be left out.
-use Rattle.sercos_law_channel.proofs.Words.{◌≡◌, ℕ, ◌<◌, Bool, true, false, List, [], ◌∷◌, refl, arith, Option, Some, None, Attribute, Two, Request, Step, Answer, a_step, outcome_of, Block, CommandHistory, Entry, good, refused, writes_of, replies_of, IsTransfer, setting, bytes_written, write_cause}
+use Rattle.sercos_law_channel.proofs.Words.{◌≡◌, ℕ, Bool, true, false, List, [], ◌∷◌, refl, arith, Option, Some, None, Attribute, Two, Request, Step, Answer, a_step, outcome_of, Block, CommandHistory, Entry, good, refused, writes_of, replies_of, IsTransfer, setting, bytes_written, write_cause}
 use Rattle.sercos_idn.specs.declared.kinds.Form.TheVariants as forms
 use Rattle.sercos_step.specs.declared.request.Request.TheVariants as request
 use Rattle.sercos_step.specs.declared.request.Outcome.TheVariants as outcome
@@ -15,15 +15,9 @@ attribute command protected = record {
   protect2 = false;
   protect3 = protected;
   protect4 = protected;
-  decimals_in_range = in_range;
-  command_is_two = is_two command;
+  decimals_in_range = omega arith;
+  command_is_two = λ on. refl;
 }
-  where
-    in_range : 0 < 16
-    in_range = omega arith
-
-    is_two : (v : Bool) → v ≡ true → Two ≡ Two
-    is_two v on = refl
 
 abbrev pub block_of : Attribute → Option ℕ → List ℕ → Block
 block_of a min value = record { idn = record { raw = 1 }; attribute = a; name = None; unit = None; min = min; max = None; value = value; max_len = 0; fixed = false; step = 0; fails = false }
@@ -50,14 +44,12 @@ command = block_of (attribute true true) None (0 ∷ 0 ∷ [])
 
 transfer : IsTransfer asked (command ∷ []) (last 3 command 0x7005) (others command) []
 unfolding bytes_written write_cause
-transfer = record { steps = refl; in_turn = ((((tt, refl), refl), refl)); goes_on = refl; replies = ((((tt, refl), refl), refl), refl); alike = ((((tt, refl), refl), refl), refl) }
+transfer = record { steps = refl; in_turn = (((tt, refl), refl), refl); goes_on = refl; replies = ((((tt, refl), refl), refl), refl); alike = ((((tt, refl), refl), refl), refl) }
 
-is_refused : outcome_of asked (replies_of (last 3 command 0x7005 ∷ others command)) ≡ Some (outcome.Refused (record { raw = 0x7005 }))
-is_refused = refl
-
-stays_set : writes_of (last 3 command 0x7005 ∷ others command) ≡ setting 1 3 (entry 1 2 false command (a_step true true 7 3) (good 0)) ∷ []
+is_refused : (outcome_of asked (replies_of (last 3 command 0x7005 ∷ others command)) ≡ Some (outcome.Refused (record { raw = 0x7005 })))
+    × (writes_of (last 3 command 0x7005 ∷ others command) ≡ setting 1 3 (entry 1 2 false command (a_step true true 7 3) (good 0)) ∷ [])
 unfolding bytes_written
-stays_set = refl
+is_refused = (refl, refl)
 
 -- a number whose minimum is 1
 abbrev number : Block
@@ -65,11 +57,9 @@ number = block_of (attribute false true) (Some 1) (0 ∷ 0 ∷ [])
 
 number_transfer : IsTransfer asked (number ∷ []) (last 2 number 0x7006) (others number) []
 unfolding bytes_written write_cause
-number_transfer = record { steps = refl; in_turn = ((((tt, refl), refl), refl)); goes_on = refl; replies = ((((tt, refl), refl), refl), refl); alike = ((((tt, refl), refl), refl), refl) }
+number_transfer = record { steps = refl; in_turn = (((tt, refl), refl), refl); goes_on = refl; replies = ((((tt, refl), refl), refl), refl); alike = ((((tt, refl), refl), refl), refl) }
 
-number_refused : outcome_of asked (replies_of (last 2 number 0x7006 ∷ others number)) ≡ Some (outcome.Refused (record { raw = 0x7006 }))
-number_refused = refl
-
-number_stays : writes_of (last 2 number 0x7006 ∷ others number) ≡ setting 1 3 (entry 1 2 false number (a_step true true 7 3) (good 0)) ∷ []
+number_refused : (outcome_of asked (replies_of (last 2 number 0x7006 ∷ others number)) ≡ Some (outcome.Refused (record { raw = 0x7006 })))
+    × (writes_of (last 2 number 0x7006 ∷ others number) ≡ setting 1 3 (entry 1 2 false number (a_step true true 7 3) (good 0)) ∷ [])
 unfolding bytes_written
-number_stays = refl
+number_refused = (refl, refl)

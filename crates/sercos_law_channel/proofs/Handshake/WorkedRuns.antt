@@ -108,9 +108,8 @@ accepts = refl
 -- the premises of the laws on transfers hold of it
 transfer : IsTransfer (asked 5) at_first last others []
 unfolding attribute_fault attribute_of element_of element_words bytes_written write_cause
-transfer = record { steps = refl; in_turn = ((((tt, refl), refl), refl)); goes_on = refl; replies = ((((tt, refl), refl), refl), refl); alike = ((((tt, refl), refl), refl), refl) }
+transfer = record { steps = refl; in_turn = (((tt, refl), refl), refl); goes_on = refl; replies = ((((tt, refl), refl), refl), refl); alike = ((((tt, refl), refl), refl), refl) }
 
--- what the master hears and what it sends, while the first write is at work, and at the read
 abbrev ats : List View → List (Option (Bool × ℕ))
 ats [] = []
 ats (v ∷ past) = option_map (λ (a : Heard). (a.status.ahs, a.word)) v.heard ∷ ats past
@@ -122,40 +121,22 @@ mdts (v ∷ past) = v.sent ∷ mdts past
 abbrev said : Bool → Step → Option Said
 said mhs step = Some (record { mhs = mhs; step = step })
 
-heard_first : take 6 (ats (run_by 0 first)) ≡ Some (false, 0) ∷ Some (true, 0x6011) ∷ Some (false, 1) ∷ None ∷ Some (true, 0) ∷ None ∷ []
-unfolding element_words element_of attribute_fault attribute_of write_cause bytes_written
-heard_first = refl
-
-sent_first : take 6 (mdts (run_by 0 first)) ≡ None ∷ said false (a_step true true 7 0x105) ∷ said true (a_step false true 3 0) ∷ said false (a_step false false 3 0) ∷ said false (a_step false false 3 0) ∷ said true (a_step true true 1 1) ∷ []
-unfolding element_words element_of attribute_fault attribute_of write_cause bytes_written
-sent_first = refl
-
-heard_last : take 5 (ats (run_by 0 third)) ≡ Some (false, 0x109) ∷ Some (true, 0x6011) ∷ Some (false, 1) ∷ Some (true, 0) ∷ None ∷ []
+-- In turn: what the master hears and what it sends, while the first write is at work, and at the read; what was written, held and ended
+-- (what was broken wrote nothing, what came after it is written once, and the read gives it); and from cycle 35 on the phases that are
+-- commanded, and those of the drive.
+comes_so : (take 6 (ats (run_by 0 first)) ≡ Some (false, 0) ∷ Some (true, 0x6011) ∷ Some (false, 1) ∷ None ∷ Some (true, 0) ∷ None ∷ [])
+    × (take 6 (mdts (run_by 0 first))
+    ≡ None ∷ said false (a_step true true 7 0x105) ∷ said true (a_step false true 3 0) ∷ said false (a_step false false 3 0)
+    ∷ said false (a_step false false 3 0) ∷ said true (a_step true true 1 1) ∷ [])
+    × (take 5 (ats (run_by 0 third)) ≡ Some (false, 0x109) ∷ Some (true, 0x6011) ∷ Some (false, 1) ∷ Some (true, 0) ∷ None ∷ [])
+    × (take 5 (mdts (run_by 0 third))
+    ≡ None ∷ said false (a_step false true 7 0) ∷ said true (a_step false true 3 0) ∷ said false (a_step false false 3 0)
+    ∷ said true (a_step true true 1 1) ∷ [])
+    × (all_writes (run_by 0 third) ≡ wrote 34 9 ∷ wrote 15 5 ∷ [])
+    × (store_in at_first (run_by 0 third) ≡ at_last)
+    × (outcomes (all_begun (run_by 0 third))
+    ≡ Some (outcome.Complete (9 ∷ 1 ∷ [])) ∷ Some (outcome.Complete []) ∷ None ∷ Some (outcome.Complete []) ∷ [])
+    × (take 19 (phases (run_by 0 third)) ≡ 2 ∷ 2 ∷ 2 ∷ 2 ∷ 2 ∷ 1 ∷ replicate 10 0 ++ 2 ∷ 2 ∷ 2 ∷ [])
+    × (take 19 (stood (run_by 0 third)) ≡ 2 ∷ 2 ∷ 2 ∷ 2 ∷ 2 ∷ 1 ∷ replicate 10 0 ++ 0 ∷ 0 ∷ 2 ∷ [])
 unfolding element_words element_of attribute_fault attribute_of write_cause bytes_written data_in
-heard_last = refl
-
-sent_last : take 5 (mdts (run_by 0 third)) ≡ None ∷ said false (a_step false true 7 0) ∷ said true (a_step false true 3 0) ∷ said false (a_step false false 3 0) ∷ said true (a_step true true 1 1) ∷ []
-unfolding element_words element_of attribute_fault attribute_of write_cause bytes_written data_in
-sent_last = refl
-
--- what was broken wrote nothing, what came after it is written once, and the read gives it
-written : all_writes (run_by 0 third) ≡ wrote 34 9 ∷ wrote 15 5 ∷ []
-unfolding element_words element_of attribute_fault attribute_of write_cause bytes_written data_in
-written = refl
-
-holds : store_in at_first (run_by 0 third) ≡ at_last
-unfolding element_words element_of attribute_fault attribute_of write_cause bytes_written data_in
-holds = refl
-
-ended : outcomes (all_begun (run_by 0 third)) ≡ Some (outcome.Complete (9 ∷ 1 ∷ [])) ∷ Some (outcome.Complete []) ∷ None ∷ Some (outcome.Complete []) ∷ []
-unfolding element_words element_of attribute_fault attribute_of write_cause bytes_written data_in
-ended = refl
-
--- the phases that are commanded from cycle 35 on, and those of the drive
-commanded : take 19 (phases (run_by 0 third)) ≡ 2 ∷ 2 ∷ 2 ∷ 2 ∷ 2 ∷ 1 ∷ replicate 10 0 ++ 2 ∷ 2 ∷ 2 ∷ []
-unfolding element_words element_of attribute_fault attribute_of write_cause bytes_written data_in
-commanded = refl
-
-follows : take 19 (stood (run_by 0 third)) ≡ 2 ∷ 2 ∷ 2 ∷ 2 ∷ 2 ∷ 1 ∷ replicate 10 0 ++ 0 ∷ 0 ∷ 2 ∷ []
-unfolding element_words element_of attribute_fault attribute_of write_cause bytes_written data_in
-follows = refl
+comes_so = (refl, refl, refl, refl, refl, refl, refl, refl, refl)

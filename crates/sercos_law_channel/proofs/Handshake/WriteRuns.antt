@@ -62,9 +62,7 @@ pub last_word : (word : ℕ) (e : Entry) (all : List Entry) (taken : List Proces
     AreAlike e.processed.blocks blocks → find_block raw blocks ≡ Some b →
     writes_of (e ∷ all) ≡ (record { cycle = e.processed.cycle; raw = raw; bytes = bytes_written b words }) ∷ writes_of all
 last_word word e all taken raw blocks b words is well opened before ordered alike found =
-    let effect : takes_effect e ≡ true = effect_by (a_step true true 7 word) e is ∙ ap not well in
-    let same : in_order taken (e.processed.step.word ∷ []) ≡ words = ap (λ (s : Step). in_order taken (s.word ∷ [])) is ∙ ordered in
     ap (λ (o : Option Write). with_added o (writes_of all))
-    (cond-true (takes_effect e) _ None effect
+    (cond-true (takes_effect e) _ None (effect_by (a_step true true 7 word) e is ∙ ap not well)
     ∙ ap₂ (λ (l : List Processed) (o : Option ℕ). option_and_then (written_by e.processed l) o) before opened
-    ∙ written_found e.processed taken raw blocks b words alike found same)
+    ∙ written_found e.processed taken raw blocks b words alike found (ap (λ (s : Step). in_order taken (s.word ∷ [])) is ∙ ordered))

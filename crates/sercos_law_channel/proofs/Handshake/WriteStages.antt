@@ -1,5 +1,5 @@
 -- How far a write of operation data has come, and what it adds to the writes.
-use Rattle.sercos_law_channel.proofs.Words.{◌≡◌, ℕ, suc, ◌+◌, ◌*◌, ◌≤◌, Bool, true, false, not, ◌&&◌, List, [], ◌∷◌, ◌++◌, length, drop, refl, ap, ap₂, sym, ◌∙◌, arith, if◌then◌else◌, length-append, ◌==◌, nat_le, Some, slice_get, slice_index, nat_tests, AreBytes, Idn, Step, Answer, Shape, Request, words_of, at_least_one, words_told, shape_of, shape_by, a_step, opening, run, steps_of, outcome_of, answer_words, is_whole, Block, find_block, Processed, Entry, open_idn, run_before, in_order, reply_of, bytes_written, Write, AreAlike, writes_of, replies_of, IsTransfer, is_complete, stored, length-run, length-in_order, and_right, cond-true, cond-false, inl, inr, cases_Bool}
+use Rattle.sercos_law_channel.proofs.Words.{◌≡◌, ℕ, suc, ◌+◌, ◌*◌, Bool, true, false, not, ◌&&◌, List, [], ◌∷◌, ◌++◌, length, drop, refl, ap, ap₂, sym, ◌∙◌, arith, if◌then◌else◌, length-append, ◌==◌, nat_le, Some, slice_get, slice_index, nat_tests, AreBytes, Idn, Step, Answer, Shape, Request, words_of, at_least_one, words_told, shape_of, shape_by, a_step, opening, run, steps_of, outcome_of, answer_words, is_whole, Block, find_block, Processed, Entry, open_idn, run_before, in_order, reply_of, bytes_written, Write, AreAlike, writes_of, replies_of, IsTransfer, is_complete, stored, length-run, length-in_order, and_right, cond-true, cond-false, inl, inr, cases_Bool}
 use Rattle.sercos_step.specs.declared.shape.Shape.TheVariants as shape
 use Rattle.sercos_step.specs.declared.request.Request.TheVariants as request
 use Rattle.sercos_law_channel.proofs.Handshake.TransferSteps.{newest_step, without_newest, complete-outcome_of, goes_on-outcome_of, adds_none, effect_by}
@@ -75,10 +75,7 @@ module _ (idn : Idn) (bytes : List ℕ) (b : Block) (said : shape_of 7 (low_of b
   whole_three words w v x is =
       let some : suc (length (drop 1 (words_told (shape_of 7 (v + 65536 * x)) bytes))) ≡ length (words_told (shape_of 7 (v + 65536 * x)) bytes) = ap length (told_parts (shape_of 7 (v + 65536 * x)) bytes) in
       let same : length (run true 7 (words_told (shape_of 7 (v + 65536 * x)) bytes)) ≡ length (words_told (shape_of 7 (v + 65536 * x)) bytes) = length-run true 7 (words_told (shape_of 7 (v + 65536 * x)) bytes) in
-      rw is (more_than (length (run true 7 (words_told (shape_of 7 (v + 65536 * x)) bytes))) (omega arith))
-    where
-      more_than : (n : ℕ) → 1 ≤ n → nat_le (suc (suc (suc n))) 3 ≡ false
-      more_than n some = grind (arith, nat_tests)
+      rw is (grind (arith, nat_tests))
 
   whole_by : (w : ℕ) (more : List ℕ) (taken : List Processed) (word : ℕ) (rest : List ℕ) → length more ≡ suc (length taken) → in_order taken (word ∷ rest) ≡ told b bytes →
       is_whole asked (w ∷ low_of b ∷ high_of b ∷ more) ≡ is_nil rest
@@ -177,8 +174,7 @@ module _ (idn : Idn) (bytes : List ℕ) (b : Block) (said : shape_of 7 (low_of b
         writes_of ((e ∷ entries) ++ log) ≡ (if is_complete (outcome_of asked (replies_of (e ∷ entries))) then (record { cycle = e.processed.cycle; raw = idn.raw; bytes = stored b bytes }) ∷ writes_of log else writes_of log)
     writes_once_by e entries log are is =
         let before = stage_before e entries log is in
-        let next = newest_step asked blocks log e entries is in
-        adds (answer_words (replies_of entries)) e (entries ++ log) before.0 next is.alike.1
+        adds (answer_words (replies_of entries)) e (entries ++ log) before.0 (newest_step asked blocks log e entries is) is.alike.1
         ∙ same_choice _ _ _ _ _ _ (sym (complete-outcome_of asked e.answer (replies_of entries))) (bytes_written-told b bytes are) before.1
       where
         same_choice : (u v : Bool) (x y : List ℕ) (past writes : List Write) → u ≡ v → x ≡ y → past ≡ writes →

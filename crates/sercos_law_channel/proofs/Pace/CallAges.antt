@@ -1,5 +1,5 @@
 -- The calls of the master's channel in a run.
-use Rattle.sercos_law_channel.proofs.Words.{◌≡◌, ℕ, suc, ◌+◌, ◌≤◌, Bool, true, false, not, ◌&&◌, List, [], ◌∷◌, ◌++◌, length, refl, min, sym, ap, ◌∙◌, subst, arith, if◌then◌else◌, nat_le, ◌==◌, Option, Some, None, IsSome, IfSome, is_some, option_map, unwrap_or, cond-true, cond-false, and_from, le-leb, eq-eqb, ne_eqb, Step, Answer, Request, Begun, step_at, with_step, steps_begun, open_in, steps_in, answers_it, answer_in, with_answer, Call, EndCycle, begun_by, age_of, AreCalls, Heard, View, whole_row, with_heard, with_begun, unless_restart, epoch_begun, begun_in, IsShown, IsRun, AreWhole, BeginsEpoch, age_by, age_in, staying, StaysARun, calls_heard, calls_begun, calls_sent, calls_in, channel_calls, IsSent, AreSent, CallsBegin, age_if_open, AgesAreThose, AgesBeforeEnd, NoneLate, and_left, inl, inr, cases_Option}
+use Rattle.sercos_law_channel.proofs.Words.{cases_Bool, ◌≡◌, ℕ, suc, ◌+◌, ◌≤◌, Bool, true, false, not, ◌&&◌, List, [], ◌∷◌, ◌++◌, length, refl, min, sym, ap, ◌∙◌, subst, arith, if◌then◌else◌, nat_le, ◌==◌, Option, Some, None, IsSome, is_some, option_map, unwrap_or, cond-true, cond-false, and_from, le-leb, eq-eqb, ne_eqb, Step, Answer, Request, Begun, step_at, with_step, open_in, steps_in, answers_it, answer_in, with_answer, Call, EndCycle, begun_by, age_of, AreCalls, Heard, View, whole_row, with_heard, with_begun, unless_restart, epoch_begun, begun_in, IsRun, AreWhole, BeginsEpoch, age_by, age_in, staying, StaysARun, calls_heard, calls_begun, calls_sent, calls_in, channel_calls, IsSent, AreSent, CallsBegin, age_if_open, AgesAreThose, AgesBeforeEnd, NoneLate, and_left, inl, inr, cases_Option}
 use Rattle.sercos_law_channel.proofs.Pace.WholeCycles.{open_late, stays_clean, hears_throughout}
 use Rattle.sercos_law_channel.proofs.Pace.EpochBegins.{run_after, Early, early_in}
 use Rattle.sercos_law_channel.proofs.Pace.AgeRuns.{nothing_old, ages_in_time}
@@ -17,7 +17,10 @@ stays_a_run busy v past run = (
   run.0,
   record {
     commanded = run.1.commanded;
-    heard = shown v.heard run.1.heard;
+    heard = elim (cases_Option v.heard) [
+      | inl none ↦ rw none tt
+      | inr some ↦ let is = rw some.1 at run.1.heard in rw some.1 (record { got_mst = is.got_mst; stands = is.stands; says = is.says })
+    ];
     late = run.1.late;
     begins = run.1.begins;
     sent = run.1.sent;
@@ -26,35 +29,21 @@ stays_a_run busy v past run = (
     top = run.1.top;
   },
 )
-  where
-    shown : (o : Option Heard) → IfSome o (λ a. IsShown busy a v past) → IfSome o (λ a. IsShown busy a (staying v) past)
-    shown None is = tt
-    shown (Some a) is = record { got_mst = is.got_mst; stands = is.stands; says = is.says }
 
 -- The requests.
-heard_by : (o : Option Heard) (h : List Call) → begun_by (calls_heard o h) ≡ with_heard o (begun_by h)
-heard_by None h = refl
-heard_by (Some a) h = refl
+heard_so : (o : Option Heard) (h : List Call) → (AreCalls h → AreCalls (calls_heard o h))
+    × (begun_by (calls_heard o h) ≡ with_heard o (begun_by h))
+heard_so None h = (λ are. are, refl)
+heard_so (Some a) h = (λ are. are, refl)
 
-begun_so : (o : Option Request) (h : List Call) → begun_by (calls_begun o h) ≡ with_begun o (begun_by h)
-begun_so None h = refl
-begun_so (Some r) h = refl
+begun_so : (o : Option Request) (h : List Call) → (AreCalls h → (IsSome o → open_in (begun_by h) ≡ None) → AreCalls (calls_begun o h))
+    × (begun_by (calls_begun o h) ≡ with_begun o (begun_by h))
+begun_so None h = (λ are shut. are, refl)
+begun_so (Some r) h = (λ are shut. (are, shut refl), refl)
 
-sent_so : (sends : Bool) (h : List Call) → begun_by (calls_sent sends h) ≡ begun_by h
-sent_so true h = refl
-sent_so false h = refl
-
-allowed_heard : (o : Option Heard) (h : List Call) → AreCalls h → AreCalls (calls_heard o h)
-allowed_heard None h are = are
-allowed_heard (Some a) h are = are
-
-allowed_begun : (o : Option Request) (h : List Call) → AreCalls h → (IsSome o → open_in (begun_by h) ≡ None) → AreCalls (calls_begun o h)
-allowed_begun None h are shut = are
-allowed_begun (Some r) h are shut = (are, shut refl)
-
-allowed_sent : (sends : Bool) (h : List Call) → AreCalls h → AreCalls (calls_sent sends h)
-allowed_sent true h are = are
-allowed_sent false h are = are
+sent_so : (sends : Bool) (h : List Call) → (AreCalls h → AreCalls (calls_sent sends h)) × (begun_by (calls_sent sends h) ≡ begun_by h)
+sent_so true h = (λ are. are, refl)
+sent_so false h = (λ are. are, refl)
 
 -- the calls at the start of a cycle, if all before it are allowed
 calls_start : (v : View) (h : List Call) (begun : List Begun) → AreCalls h × (begun_by h ≡ begun) →
@@ -68,14 +57,14 @@ calls_begin busy (v ∷ past) run =
     let start = unless_restart v (channel_calls past) in
     let before = calls_start v (channel_calls past) (epoch_begun past) (calls_begin busy past run.0) in
     let heard : begun_by (calls_heard v.heard start) ≡ with_heard v.heard (unless_restart v (epoch_begun past)) =
-    heard_by v.heard start ∙ ap (with_heard v.heard) before.1 in
+    (heard_so v.heard start).1 ∙ ap (with_heard v.heard) before.1 in
     let all : begun_by (calls_in v (channel_calls past)) ≡ begun_in v past =
-    sent_so (nat_le 2 v.phase && is_some v.sent) (calls_begun v.begins (calls_heard v.heard start))
-    ∙ begun_so v.begins (calls_heard v.heard start) ∙ ap (with_begun v.begins) heard in
+    (sent_so (nat_le 2 v.phase && is_some v.sent) (calls_begun v.begins (calls_heard v.heard start))).1
+    ∙ (begun_so v.begins (calls_heard v.heard start)).1 ∙ ap (with_begun v.begins) heard in
     uncut (λ (calls : List Call) (b : List Begun). AreCalls calls × (begun_by calls ≡ b)) v.falls
     (EndCycle ∷ calls_in v (channel_calls past)) (begun_in v past) (tt, refl) (λ on. (
-      allowed_sent (nat_le 2 v.phase && is_some v.sent) (calls_begun v.begins (calls_heard v.heard start))
-          (allowed_begun v.begins (calls_heard v.heard start) (allowed_heard v.heard start before.0)
+      (sent_so (nat_le 2 v.phase && is_some v.sent) (calls_begun v.begins (calls_heard v.heard start))).0
+          ((begun_so v.begins (calls_heard v.heard start)).0 ((heard_so v.heard start).0 before.0)
           (λ some. ap open_in heard ∙ run.1.begins some)),
       all,
     ))
@@ -88,11 +77,10 @@ answered_steps a [] some = absurd (cc)
 answered_steps a (b ∷ past) some = elim (cases_Option (step_at b.request (a ∷ b.answers))) [ inl none ↦ rw none | inr (s, some) ↦ rw some ]
 
 begun_steps : (r : Request) (begun : List Begun) → is_some (open_in ((record { request = r; answers = [] }) ∷ begun)) ≡ true → length (steps_in ((record { request = r; answers = [] }) ∷ begun)) ≡ suc (length (steps_in begun))
-begun_steps r begun some = by (step_at r []) some
-  where
-    by : (o : Option Step) → is_some o ≡ true → length (with_step o [] ++ steps_in begun) ≡ suc (length (steps_in begun))
-    by None some = absurd (cc)
-    by (Some s) some = refl
+begun_steps r begun some = elim (cases_Option (step_at r [])) [
+  | inl none ↦ let some = rw none at some in absurd (cc)
+  | inr some_is ↦ rw some_is.1 refl
+]
 
 -- What became of the age and the number of steps since a start: nothing happened; or no age is counted any more, and the step that is
 -- open, if any, is one more.
@@ -102,44 +90,36 @@ data Comes (start begun : List Begun) (old age : Option ℕ) : Type 0 where
 
 heard_comes : (o : Option Heard) (h : List Call) → Comes (begun_by h) (begun_by (calls_heard o h)) (age_of h) (age_of (calls_heard o h))
 heard_comes None h = Same refl refl
-heard_comes (Some a) h = by (answers_it (begun_by h) a.status) refl
-  where
-    by : (v : Bool) → answers_it (begun_by h) a.status ≡ v → Comes (begun_by h) (if v then with_answer (answer_in a.status a.word) (begun_by h) else begun_by h) (age_of h) (if v then None else age_of h)
-    by true is =
-        let steps = answered_steps (answer_in a.status a.word) (begun_by h) (and_left (is_some (open_in (begun_by h))) _ is) in
-        Fresh refl (λ some. steps ∙ cond-true _ _ _ some) (λ none. steps ∙ cond-false _ _ _ none)
-    by false is = Same refl refl
+heard_comes (Some a) h = elim (cases_Bool (answers_it (begun_by h) a.status)) [
+  | inl is ↦ rw is (let steps = answered_steps (answer_in a.status a.word) (begun_by h) (and_left (is_some (open_in (begun_by h))) _ is)
+      in Fresh refl (λ some. steps ∙ cond-true _ _ _ some) (λ none. steps ∙ cond-false _ _ _ none))
+  | inr is ↦ rw is (Same refl refl)
+]
 
 begun_comes : (start : List Begun) (old : Option ℕ) (o : Option Request) (h : List Call) → (IsSome o → open_in (begun_by h) ≡ None) → Comes start (begun_by h) old (age_of h) → Comes start (begun_by (calls_begun o h)) old (age_of (calls_begun o h))
 begun_comes start old None h shut c = c
-begun_comes start old (Some r) h shut c = by c
+begun_comes start old (Some r) h shut c = Fresh refl (λ some. let one = begun_steps r (begun_by h) some in let two = count c in
+    omega (arith, one, two)) (λ off. shut_steps (step_at r []) off ∙ count c)
   where
-    none : is_some (open_in (begun_by h)) ≡ false
-    none = ap is_some (shut refl)
-
     count : Comes start (begun_by h) old (age_of h) → length (steps_in (begun_by h)) ≡ length (steps_in start)
     count (Same is age) = ap (λ (l : List Begun). length (steps_in l)) is
-    count (Fresh age more same) = same none
+    count (Fresh age more same) = same (ap is_some (shut refl))
 
     shut_steps : (o : Option Step) → is_some o ≡ false → length (with_step o [] ++ steps_in (begun_by h)) ≡ length (steps_in (begun_by h))
     shut_steps None off = refl
     shut_steps (Some s) off = absurd (cc)
 
-    by : Comes start (begun_by h) old (age_of h) → Comes start (begun_by (calls_begun (Some r) h)) old (age_of (calls_begun (Some r) h))
-    by c = Fresh refl (λ some. let one = begun_steps r (begun_by h) some in let two = count c in omega (arith, one, two)) (λ off. shut_steps (step_at r []) off ∙ count c)
-
 -- after the sending, and the end of the cycle
 ended : (start begun : List Begun) (age : ℕ) (found : Option ℕ) (sent : Bool) (h : List Call) → begun_by h ≡ begun → age_of h ≡ found → (is_some (open_in begun) ≡ true → sent ≡ true) → Comes start begun (age_if_open (is_some (open_in start)) age) found →
     option_map (λ (n : ℕ). n + 1) (age_of (calls_sent sent h)) ≡ age_if_open (is_some (open_in begun)) (age_by (is_some (open_in begun)) (length (steps_in begun) == length (steps_in start)) age)
-ended start begun age found false h is aged sends c = by (is_some (open_in begun)) refl sends
+ended start begun age found false h is aged sends c = elim (cases_Bool (is_some (open_in begun))) [
+  | inl on ↦ let sends = rw on at sends in rw on (let bad = sends refl in absurd (cc))
+  | inr off ↦ rw off (ap (option_map (λ (n : ℕ). n + 1)) (aged ∙ none_old off c))
+]
   where
     none_old : is_some (open_in begun) ≡ false → Comes start begun (age_if_open (is_some (open_in start)) age) found → found ≡ None
     none_old off (Same same old) = old ∙ ap (λ (b : Bool). age_if_open b age) (ap (λ (l : List Begun). is_some (open_in l)) (sym same) ∙ off)
     none_old off (Fresh new more few) = new
-
-    by : (v : Bool) → is_some (open_in begun) ≡ v → (v ≡ true → false ≡ true) → option_map (λ (n : ℕ). n + 1) (age_of h) ≡ age_if_open v (age_by v (length (steps_in begun) == length (steps_in start)) age)
-    by true on sends = let bad = sends refl in absurd (cc)
-    by false off sends = ap (option_map (λ (n : ℕ). n + 1)) (aged ∙ none_old off c)
 ended start begun age found true h is aged sends c =
     ap (λ (l : List Begun). option_map (λ (n : ℕ). n + 1) (if is_some (open_in l) then Some (unwrap_or (age_of h) 0) else None)) is
     ∙ by (is_some (open_in begun)) refl
@@ -150,8 +130,7 @@ ended start begun age found true h is aged sends c =
         let count : (length (steps_in begun) == length (steps_in start)) ≡ true = eq-eqb _ _ (ap (λ (l : List Begun). length (steps_in l)) same) in
         ap (λ (o : Option ℕ). unwrap_or o 0 + 1) was ∙ sym (cond-true (length (steps_in begun) == length (steps_in start)) (age + 1) 1 count)
     unwrapped (Fresh new more few) on =
-        let steps = more on in
-        let count : (length (steps_in begun) == length (steps_in start)) ≡ false = ne_eqb _ _ (λ same. omega (arith, same, steps)) in
+        let count : (length (steps_in begun) == length (steps_in start)) ≡ false = ne_eqb _ _ (λ same. omega (arith, same, more on)) in
         ap (λ (o : Option ℕ). unwrap_or o 0 + 1) (aged ∙ new) ∙ sym (cond-false (length (steps_in begun) == length (steps_in start)) (age + 1) 1 count)
 
     by : (v : Bool) → is_some (open_in begun) ≡ v → option_map (λ (n : ℕ). n + 1) (if v then Some (unwrap_or (age_of h) 0) else None) ≡ age_if_open v (age_by v (length (steps_in begun) == length (steps_in start)) age)
@@ -168,8 +147,8 @@ module _ (busy : ℕ) where
   cycle_age v past run sent before =
       let start = unless_restart v (channel_calls past) in
       let begun0 : begun_by start ≡ unless_restart v (epoch_begun past) = (calls_start v (channel_calls past) (epoch_begun past) (calls_begin busy past run.0)).1 in
-      let heard : begun_by (calls_heard v.heard start) ≡ with_heard v.heard (unless_restart v (epoch_begun past)) = heard_by v.heard start ∙ ap (with_heard v.heard) begun0 in
-      let both : begun_by (calls_begun v.begins (calls_heard v.heard start)) ≡ begun_in v past = begun_so v.begins (calls_heard v.heard start) ∙ ap (with_begun v.begins) heard in
+      let heard : begun_by (calls_heard v.heard start) ≡ with_heard v.heard (unless_restart v (epoch_begun past)) = (heard_so v.heard start).1 ∙ ap (with_heard v.heard) begun0 in
+      let both : begun_by (calls_begun v.begins (calls_heard v.heard start)) ≡ begun_in v past = (begun_so v.begins (calls_heard v.heard start)).1 ∙ ap (with_begun v.begins) heard in
       let comes = begun_comes (begun_by start) (age_of start) v.begins (calls_heard v.heard start) (λ some. ap open_in heard ∙ run.1.begins some) (heard_comes v.heard start) in
       let same : Comes (unless_restart v (epoch_begun past)) (begun_in v past) (age_if_open (is_some (open_in (unless_restart v (epoch_begun past)))) (age_in past)) (age_of (calls_begun v.begins (calls_heard v.heard start))) =
       subst (λ (o : Option ℕ). Comes (unless_restart v (epoch_begun past)) (begun_in v past) o (age_of (calls_begun v.begins (calls_heard v.heard start)))) (started v.master_restarts past before)

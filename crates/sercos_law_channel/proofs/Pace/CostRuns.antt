@@ -1,9 +1,9 @@
 -- What the requests of an epoch cost.
-use Rattle.sercos_law_channel.proofs.Words.{◌≡◌, ℕ, suc, ◌+◌, ◌*◌, ◌^◌, ◌<◌, ◌≤◌, Bool, true, false, List, [], ◌∷◌, ◌++◌, length, refl, sym, ap, ◌∙◌, subst, arith, if◌then◌else◌, length-append, Option, Some, None, is_some, beq, Request, Outcome, shape_of, shape_by, outcome_of, next_step, has_next, times_le, Block, find_block, status_in, Processed, Entry, accepted, reply_of, log_of, Write, writes_of, Begun, step_at, open_in, steps_in, answers_in, is_odd, AreInStep, Idle, Sent, Kept, log_steps, replies_of, AreInTurn, IsRow, IsPart, Unsent, Unheard, AreParts, AreReplies, HaveBlocks, IsTransfer, View, standing, stood_in, record_in, with_record, unless_restart, epoch_begun, epoch_records, records_in_views, epoch_log, log_in, IsRun, leaving, all_writes, AreSound, AreSmall, time_for, AreClean, open_since, IsInTime, RestsNow, WaitsNow, AreSpaced, newest_at, IsTimed, AreTimed, AreListed, read_steps, write_steps, cost_of, cost_in, cond_both, append-nil, inl, inr, cases_Option}
+use Rattle.sercos_law_channel.proofs.Words.{cases_Bool, ◌≡◌, ℕ, suc, ◌+◌, ◌*◌, ◌^◌, ◌<◌, ◌≤◌, Bool, true, false, List, [], ◌∷◌, ◌++◌, length, refl, sym, ap, ◌∙◌, subst, arith, if◌then◌else◌, length-append, Option, Some, None, is_some, beq, Request, Outcome, shape_of, shape_by, outcome_of, next_step, has_next, times_le, Block, find_block, status_in, Processed, Entry, accepted, reply_of, log_of, Write, writes_of, Begun, step_at, open_in, steps_in, answers_in, is_odd, AreInStep, Idle, Sent, Kept, log_steps, replies_of, AreInTurn, IsRow, IsPart, Unsent, Unheard, AreParts, AreReplies, HaveBlocks, IsTransfer, View, standing, stood_in, record_in, with_record, unless_restart, epoch_begun, epoch_records, records_in_views, epoch_log, log_in, IsRun, leaving, all_writes, AreSound, AreSmall, time_for, AreClean, open_since, IsInTime, RestsNow, WaitsNow, AreSpaced, newest_at, IsTimed, AreTimed, AreListed, read_steps, write_steps, cost_of, cost_in, cond_both, append-nil, inl, inr, cases_Option}
 use Rattle.sercos_step.specs.declared.request.Request.TheVariants as request
 use Rattle.sercos_law_channel.specs.Handshake.Parts.{Heard}
 use Rattle.sercos_law_channel.proofs.Handshake.HandshakeMoves.{log-taken}
-use Rattle.sercos_law_channel.proofs.Handshake.LogParts.{fall_into_parts}
+use Rattle.sercos_law_channel.proofs.Handshake.LogParts.{fall_into_parts, make_transfers}
 use Rattle.sercos_law_channel.proofs.Handshake.ReadStages.{low_of, high_of}
 use Rattle.sercos_law_channel.proofs.Handshake.TransferSteps.{length-replies_of}
 use Rattle.sercos_law_channel.proofs.Handshake.PhaseMoves.{of_processed}
@@ -34,7 +34,8 @@ split_listed : (longest : ℕ → ℕ) (part rest : List Entry) → LogListed lo
 split_listed longest [] rest listed = (tt, listed)
 split_listed longest (e ∷ part) rest listed = let older = split_listed longest part rest listed.0 in ((older.0, listed.1), older.1)
 
-module _ (said : (b : Block) → b.attribute.factor < 2 ^ 16 → shape_of 7 (low_of b + 65536 * high_of b) ≡ shape_by b.attribute.length) (busy time : ℕ) (longest : ℕ → ℕ) (blocks : List Block) (small : AreSmall blocks) where
+module _ (said : (b : Block) → b.attribute.factor < 2 ^ 16 → shape_of 7 (low_of b + 65536 * high_of b) ≡ shape_by b.attribute.length)
+    (busy time : ℕ) (longest : ℕ → ℕ) (blocks : List Block) (small : AreSmall blocks) where
   have_time : (raw : ℕ) (b : Block) (found : find_block raw blocks ≡ Some b) (ago : List Write) (part rest : List Entry) → LogTimed time ago (part ++ rest) → HaveTime (record { raw = raw }) blocks b found busy time rest ago part
   have_time raw b found ago [] rest timed = tt
   have_time raw b found ago (p ∷ part) rest timed = (have_time raw b found ago part rest timed.0, timed.1 raw)
@@ -61,14 +62,9 @@ module _ (said : (b : Block) → b.attribute.factor < 2 ^ 16 → shape_of 7 (low
       before (x ∷ xs) are = are.0
 
   part_row : (b : Begun) (ago : List Write) (e : Entry) (entries part rest : List Entry) → part ≡ e ∷ entries → IsRow b e entries → AreReplies part rest → HaveBlocks blocks part → AreSpaced busy part → LogTimed time ago (part ++ rest) → LogListed longest part → (busy + 1) * length part ≤ cost_of busy time longest blocks b.request
-  part_row b ago e entries part rest those row replies alike spaced timed listed =
-      let its_replies : AreReplies (e ∷ entries) rest = subst (λ (l : List Entry). AreReplies l rest) those replies in
-      let its_blocks : HaveBlocks blocks (e ∷ entries) = subst (HaveBlocks blocks) those alike in
-      let its_gaps : AreSpaced busy (e ∷ entries) = subst (AreSpaced busy) those spaced in
-      let its_times : LogTimed time ago ((e ∷ entries) ++ rest) = subst (λ (l : List Entry). LogTimed time ago (l ++ rest)) those timed in
-      let its_lists : LogListed longest (e ∷ entries) = subst (LogListed longest) those listed in
-      subst (λ (l : List Entry). (busy + 1) * length l ≤ cost_of busy time longest blocks b.request) (sym those)
-      (row_cost b.request ago e entries rest (record { steps = row.steps; in_turn = row.in_turn; goes_on = row.goes_on; replies = its_replies; alike = its_blocks }) its_gaps its_times.0 its_lists)
+  part_row b ago e entries part rest those row replies alike spaced timed listed = rw those (row_cost b.request ago e entries rest
+      (make_transfers b blocks e entries rest row (rw those at replies) (rw those at alike)) (rw those at spaced) (rw those at timed).0
+      (rw those at listed))
 
   nothing : (busy + 1) * 0 ≡ 0
   nothing = omega arith
@@ -89,6 +85,8 @@ module _ (said : (b : Block) → b.attribute.factor < 2 ^ 16 → shape_of 7 (low
 
   timed_cycle : (v : View) (past : List View) → IsRun busy (v ∷ past) → IsTimed time v past → LogTimed time (writes_ago past) (epoch_log past) → LogTimed time (leaving v.master_restarts (writes_of (epoch_log past)) (writes_ago past)) (log_in v past)
   timed_cycle v past run is timed =
+      let ago = leaving v.master_restarts (writes_of (epoch_log past)) (writes_ago past) in
+      let old = timed_start v.master_restarts past timed in
       of_processed v past (λ o. LogTimed time ago (log_of (with_record o (unless_restart v (epoch_records past))))) old (λ s got came two.
       let t : Processed = record_in v (length past) (stood_in v (standing past)) s in
       let log = log_of (unless_restart v (epoch_records past)) in
@@ -96,21 +94,13 @@ module _ (said : (b : Block) → b.attribute.factor < 2 ^ 16 → shape_of 7 (low
       subst (LogTimed time ago) (sym (log-taken t (unless_restart v (epoch_records past))))
       (cond_both (beq t.mhs (is_odd log)) log ((record { processed = t; answer = reply_of t log }) ∷ log) (LogTimed time ago) (λ same. old)
       (λ other. (old, λ raw seven. let w = is raw seven in (w.0, ap (newest_at raw) (sym same) ∙ w.1, w.2)))))
-    where
-      ago : List Write
-      ago = leaving v.master_restarts (writes_of (epoch_log past)) (writes_ago past)
-
-      old : LogTimed time ago (log_of (unless_restart v (epoch_records past)))
-      old = timed_start v.master_restarts past timed
 
   timed_in : (past : List View) → IsRun busy past → AreTimed time past → LogTimed time (writes_ago past) (epoch_log past)
   timed_in [] run are = tt
-  timed_in (v ∷ past) run are = by v.falls (timed_cycle v past run are.1 (timed_in past run.0 are.0))
-    where
-      by : (falls : Bool) → LogTimed time (leaving v.master_restarts (writes_of (epoch_log past)) (writes_ago past)) (log_in v past) →
-          LogTimed time (leaving falls (writes_of (log_in v past)) (leaving v.master_restarts (writes_of (epoch_log past)) (writes_ago past))) (log_of (if falls then [] else records_in_views v past))
-      by true timed = tt
-      by false timed = timed
+  timed_in (v ∷ past) run are = elim (cases_Bool v.falls) [
+    | inl on ↦ rw on tt
+    | inr off ↦ rw off (timed_cycle v past run are.1 (timed_in past run.0 are.0))
+  ]
 
   -- .. and the lists
   listed_in : (past : List View) → AreListed longest past → LogListed longest (epoch_log past)
@@ -141,21 +131,16 @@ module _ (said : (b : Block) → b.attribute.factor < 2 ^ 16 → shape_of 7 (low
 
   -- requests that have ended have as many steps as answers
   parts_answered : (old : List Begun) (log : List Entry) → AreParts old log → AreInTurn old → open_in old ≡ None → length log ≤ length (answers_in old)
-  parts_answered [] log none turn shut = let long = ap length none in omega (arith, long)
+  parts_answered [] log none turn shut = omega (arith, ap length none)
   parts_answered (b ∷ past) log (part, rest, those, of, others) turn shut =
-      let one = of_part of in
-      let more = parts_answered past rest others turn.0 turn.1.0 in
       let long : length log ≡ length part + length rest = ap length those ∙ length-append part rest in
-      let answers = length-append b.answers (answers_in past) in omega (arith, one, more, long, answers)
+      omega (arith, of_part of, parts_answered past rest others turn.0 turn.1.0, long, length-append b.answers (answers_in past))
     where
       open_still : (e : Entry) (entries : List Entry) → IsRow b e entries → b.answers ≡ replies_of entries → ⊥
       open_still e entries row answers =
           let on : outcome_of b.request b.answers ≡ None = ap (outcome_of b.request) answers ∙ row.goes_on in
-          let next = has_next b.request b.answers (ap is_some on) in
           let at : step_at b.request b.answers ≡ next_step b.request b.answers = ap (λ (o : Option Outcome). if is_some o then None else next_step b.request b.answers) on in
-          let none : next_step b.request b.answers ≡ None = sym at ∙ shut in
-          let off : is_some (next_step b.request b.answers) ≡ false = ap is_some none in
-          let bad : true ≡ false = sym next ∙ off in absurd (cc)
+          let bad : true ≡ false = sym (has_next b.request b.answers (ap is_some on)) ∙ (ap is_some (sym at ∙ shut)) in absurd (cc)
 
       of_part : IsPart b part → length part ≤ length b.answers
       of_part (Unsent none unheard) = let long = ap length none in omega (arith, long)
@@ -171,11 +156,10 @@ module _ (said : (b : Block) → b.attribute.factor < 2 ^ 16 → shape_of 7 (low
       let spaced_split = split_spaced busy part rest (subst (AreSpaced busy) those spaced) in
       let whole : LogTimed time ago (part ++ rest) = subst (LogTimed time ago) those timed in
       let lists = split_listed longest part rest (subst (LogListed longest) those listed) in
-      let one = part_cost b ago part rest replies_split.0 blocks_split.0 spaced_split.0 whole lists.0 of in
       let more = parts_since ago recent old rest others turn.0 shut replies_split.1 blocks_split.1 spaced_split.1 (split_timed time ago part rest whole) lists.1 in
       let long : length log ≡ length part + length rest = ap length those ∙ length-append part rest in
       let sum : (busy + 1) * length log ≡ (busy + 1) * length part + (busy + 1) * length rest = ap (λ (n : ℕ). (busy + 1) * n) long ∙ grind arith in
-      omega (arith, one, more, sum)
+      omega (arith, part_cost b ago part rest replies_split.0 blocks_split.0 spaced_split.0 whole lists.0 of, more, sum)
 
   opens_in_log : (cycles past : List View) → IsRun busy (cycles ++ past) → AreClean cycles past → open_since cycles past + (busy + 1) * length (answers_in (epoch_begun past)) ≤ (busy + 1) * length (epoch_log (cycles ++ past))
   opens_in_log [] past run clean = let le = times_le (busy + 1) (length (answers_in (epoch_begun past))) (length (epoch_log past)) (answers_few (epoch_begun past) (epoch_log past) (in_step busy past run)) in omega (arith, le)
@@ -213,15 +197,13 @@ module _ (said : (b : Block) → b.attribute.factor < 2 ^ 16 → shape_of 7 (low
   -- so all cost no more than all requests
   pub stays_in_cost : (past : List View) → IsRun busy past → AreSound blocks past → AreTimed time past → AreListed longest past → (busy + 1) * length (epoch_log past) ≤ cost_in (cost_of busy time longest blocks) (epoch_begun past)
   stays_in_cost past run sound timed listed =
-      let since : (busy + 1) * length (epoch_log past) ≤ cost_in (cost_of busy time longest blocks) (epoch_begun past) + (busy + 1) * 0 =
-      stays_in_cost_since past (epoch_begun past) [] run sound timed listed (sym (append-nil (epoch_begun past))) refl in omega
-      (arith, since, nothing)
+      omega
+      (arith, stays_in_cost_since past (epoch_begun past) [] run sound timed listed (sym (append-nil (epoch_begun past))) refl, nothing)
 
   pub opens_in_cost : (cycles past : List View) → IsRun busy (cycles ++ past) → AreSound blocks (cycles ++ past) → AreTimed time (cycles ++ past) → AreListed longest (cycles ++ past) → AreClean cycles past →
       open_since cycles past + (busy + 1) * length (answers_in (epoch_begun past)) ≤ cost_in (cost_of busy time longest blocks) (epoch_begun (cycles ++ past))
   opens_in_cost cycles past run sound timed listed clean =
-      let opens = opens_in_log cycles past run clean in
-      let cost = stays_in_cost (cycles ++ past) run sound timed listed in omega (arith, opens, cost)
+      omega (arith, opens_in_log cycles past run clean, stays_in_cost (cycles ++ past) run sound timed listed)
 
   -- the recent requests
   pub opens_since_cost : (cycles past : List View) (recent old : List Begun) → IsRun busy (cycles ++ past) → AreSound blocks (cycles ++ past) → AreTimed time (cycles ++ past) → AreListed longest (cycles ++ past) → AreClean cycles past →

@@ -1,5 +1,5 @@
 -- While phase 0 is commanded, nothing of an epoch was begun.
-use Rattle.sercos_law_channel.proofs.Words.{◌≡◌, inl, inr, ℕ, ◌+◌, ◌≤◌, Bool, true, false, List, [], ◌∷◌, ◌++◌, sym, ◌∙◌, arith, if◌then◌else◌, View, command, unless_restart, epoch_begun, begun_in, IsRun, BeginsEpoch}
+use Rattle.sercos_law_channel.proofs.Words.{◌≡◌, inl, inr, ℕ, ◌+◌, Bool, true, false, List, [], ◌∷◌, ◌++◌, sym, ◌∙◌, arith, if◌then◌else◌, View, command, unless_restart, epoch_begun, begun_in, IsRun, BeginsEpoch}
 use Rattle.sercos_law_channel.proofs.Handshake.EpochRuns.{commanded, start, start_begun, quiet}
 
 -- a cycle after which phase 0 is commanded, though the master doesn't fall at its end
@@ -22,17 +22,10 @@ module _ (busy : ℕ) where
   none_begun past run begins = let none : command past ≡ 0 = begins in (quiet busy past run (omega (arith, none))).0
 
   pub early_in : (v : View) (past : List View) → IsRun busy (v ∷ past) → BeginsEpoch (v ∷ past) → v.falls ≡ false → Early v past
-  early_in v past run begins on = record {
-    kept = none;
-    begun = start_begun busy v past run.1 low none;
-    before = λ goes_on. elim (commanded v past run.1.commanded) [ inl r ↦ absurd (let is = r.0 in cc) | inr c ↦ sym c.1 ∙ zero_is ];
-  }
-    where
-      zero_is : v.phase ≡ 0
-      zero_is = zero_now v.falls v.rises v.phase on begins
-
-      low : v.phase ≤ 1
-      low = omega (arith, zero_is)
-
-      none : unless_restart v (epoch_begun past) ≡ []
-      none = (start busy v past run low).0
+  early_in v past run begins on =
+      let zero_is = zero_now v.falls v.rises v.phase on begins in
+      record {
+        kept = (start busy v past run (omega (arith, zero_is))).0;
+        begun = start_begun busy v past run.1 (omega (arith, zero_is)) ((start busy v past run (omega (arith, zero_is))).0);
+        before = λ goes_on. elim (commanded v past run.1.commanded) [ inl r ↦ absurd (let is = r.0 in cc) | inr c ↦ sym c.1 ∙ zero_is ];
+      }

@@ -23,11 +23,10 @@ module _ (busy : ℕ) where
     | inl stays ↦ stayed stays then_
     | inr (x, grows, at) ↦
         let entry : x ≡ e = (let one : x ∷ epoch_log all ≡ e ∷ log = sym grows ∙ sym (log_on v all clean.stays) ∙ those in cc) in
-        let cycle = ap (λ (y : Entry). y.processed.cycle) entry in
         let more : length (epoch_log (v ∷ all)) ≡ suc (length (epoch_log all)) = ap length (log_on v all clean.stays ∙ grows) in
         let off : (length (steps_in (begun_in v all)) == length (steps_in (unless_restart v (epoch_begun all)))) ≡ false = ne_eqb _ _ (λ is. omega (arith, is, more, count_now, count_then)) in
         let age : age_in (v ∷ all) ≡ 1 = aged_open busy v all all clean some ∙ cond-false _ (age_in all + 1) 1 off in
-        omega (arith, cycle, at, age)
+        omega (arith, ap (λ (y : Entry). y.processed.cycle) entry, at, age)
   ]
     where
       count_now : length (steps_in (begun_in v all)) ≡ length (epoch_log (v ∷ all))
@@ -39,25 +38,22 @@ module _ (busy : ℕ) where
       stayed : log_in v all ≡ epoch_log all → IsOnTime busy all → age_in (v ∷ all) + e.processed.cycle ≡ length (v ∷ all)
       stayed stays (Waits f rest were opened steps earlier late sum) =
           let entry : f ≡ e = (let one : f ∷ rest ≡ e ∷ log = sym were ∙ sym stays ∙ sym (log_on v all clean.stays) ∙ those in cc) in
-          let cycle = ap (λ (y : Entry). y.processed.cycle) entry in
           let long : length (epoch_log (v ∷ all)) ≡ length (epoch_log all) = ap length (log_on v all clean.stays ∙ stays) in
           let on : (length (steps_in (begun_in v all)) == length (steps_in (unless_restart v (epoch_begun all)))) ≡ true = eq-eqb _ _ (count_now ∙ long ∙ sym count_then) in
           let age : age_in (v ∷ all) ≡ age_in all + 1 = aged_open busy v all all clean some ∙ cond-true _ (age_in all + 1) 1 on in
-          let was = old (ap is_some opened) f rest were (ap is_some opened) in omega (arith, cycle, age, was)
+          omega (arith, ap (λ (y : Entry). y.processed.cycle) entry, age, old (ap is_some opened) f rest were (ap is_some opened))
       stayed stays (Rests none is) = absurd (never now)
         where
           never : IsOnTime busy (v ∷ all) → ⊥
-          never (Rests off more) = let no : is_some (open_in (epoch_begun (v ∷ all))) ≡ false = ap is_some off in both_ways _ no some
+          never (Rests off more) = both_ways _ (ap is_some off) some
           never (Waits g rest were opened steps earlier late sum) =
               let here : epoch_log all ≡ g ∷ rest = sym stays ∙ sym (log_on v all clean.stays) ∙ were in
               let waiting : answers_in (epoch_begun (v ∷ all)) ≡ replies_of rest = one_waits (epoch_begun (v ∷ all)) (epoch_log (v ∷ all)) (in_step busy (v ∷ all) run) g rest were opened steps in
               let done : answers_in (epoch_begun all) ≡ g.answer ∷ replies_of rest = (idle_all (epoch_begun all) (epoch_log all) (in_step busy all run.0) none).1 ∙ ap replies_of here in
-              let time_now : time_for busy (answers_in (epoch_begun (v ∷ all))) ≡ time_for busy (replies_of rest) = ap (time_for busy) waiting in
-              let time_then : time_for busy (answers_in (epoch_begun all)) ≡ time_for busy (replies_of rest) + (busy + 1) = ap (time_for busy) done in
               let at : is_some (open_in (begun_in v all)) ≡ true = ap (λ (l : List Begun). is_some (open_in l)) (sym (begun_on v all clean.stays)) ∙ some in
               let spent : open_cycles (v ∷ all) ≡ open_cycles all + 1 =
               cond-false v.falls 0 _ clean.stays ∙ ap (λ (b : Bool). one_more b (if v.master_restarts then 0 else open_cycles all)) at ∙ ap (λ (n : ℕ). n + 1) (cond-false v.master_restarts 0 (open_cycles all) clean.goes_on) in
-              omega (arith, sum, is, time_now, time_then, spent, late)
+              omega (arith, sum, is, ap (time_for busy) waiting, ap (time_for busy) done, spent, late)
 
   olds : (cycles past : List View) → IsRun busy (cycles ++ past) → BeginsEpoch past → AreClean cycles past → AreUndisturbed past → IsOld (cycles ++ past)
   olds [] past run begins clean still = λ e log those some. let none : open_in (epoch_begun past) ≡ None = ap open_in (none_begun busy past run begins) in absurd (cc)

@@ -1,5 +1,5 @@
 -- One cycle in which nothing is lost: how the time at its end is related to the answers, if it is so related at its start.
-use Rattle.sercos_law_channel.proofs.Words.{◌≡◌, inl, inr, ℕ, ◌+◌, true, false, List, ◌∷◌, length, refl, sym, ap, subst, Option, Some, None, IfSome, is_some, cond-false, Step, Processed, reply_of, log_of, Begun, open_in, answers_it, AreInStep, Heard, View, standing, stood_in, record_in, processed_in, with_record, with_heard, unless_restart, epoch_begun, begun_in, epoch_records, log_in, IsShown, IsRun, IsUndisturbed}
+use Rattle.sercos_law_channel.proofs.Words.{cases_Option, ◌≡◌, inl, inr, ℕ, ◌+◌, true, List, ◌∷◌, length, refl, sym, ap, subst, Option, Some, None, IfSome, is_some, cond-false, Processed, reply_of, log_of, Begun, open_in, answers_it, AreInStep, Heard, View, standing, stood_in, record_in, processed_in, with_record, with_heard, unless_restart, epoch_begun, begun_in, epoch_records, log_in, IsShown, IsRun, IsUndisturbed}
 use Rattle.sercos_law_channel.proofs.Handshake.HandshakeMoves.{log-taken}
 use Rattle.sercos_law_channel.proofs.Handshake.PhaseMoves.{of_processed}
 use Rattle.sercos_law_channel.proofs.Handshake.EpochRuns.{joined, restarted, shown_of, heard_of, begun_of, said_of, in_step}
@@ -19,10 +19,9 @@ module _ (Fits : ℕ → ℕ → Type 0) (add : (a b n : ℕ) → Fits a b → F
   heard_so v past spent run None shown after hears (StartsBusy e log those opened all earlier soon sum) = let lost = hears
       (ap is_some opened) in absurd (cc)
   heard_so v past spent run (Some a) shown after hears (StartsFree none is) =
-      let off : answers_it (unless_restart v (epoch_begun past)) a.status ≡ false = quiet_none
-      (unless_restart v (epoch_begun past)) a.status none in
       subst (λ (l : List Begun). Works Fits busy (length past) spent l (log_of (unless_restart v (epoch_records past))))
-      (sym (cond-false (answers_it (unless_restart v (epoch_begun past)) a.status) _ _ off)) (Free none is)
+      (sym (cond-false (answers_it (unless_restart v (epoch_begun past)) a.status) _ _
+      (quiet_none (unless_restart v (epoch_begun past)) a.status none))) (Free none is)
   heard_so v past spent run (Some a) shown after hears
       (StartsNew s opened more is) = elim (shown_of busy v past run (joined busy past run.0) a shown) [
         | inl none ↦ let free : open_in (unless_restart v (epoch_begun past)) ≡ None = ap open_in none in absurd (cc)
@@ -46,16 +45,15 @@ module _ (Fits : ℕ → ℕ → Type 0) (add : (a b n : ℕ) → Fits a b → F
       (λ o. (is_some (open_in (begun_in v past)) ≡ true → is_some o ≡ true) →
       Ends Fits busy (length past) spent (begun_in v past) (log_of (with_record o (unless_restart v (epoch_records past)))))
       (λ takes. silent_works Fits busy (length past) spent (begun_in v past) (log_of (unless_restart v (epoch_records past)))
-      (none_open (open_in (begun_in v past)) takes) w)
+      (elim (cases_Option (open_in (begun_in v past))) [
+        | inl none ↦ rw none refl
+        | inr some ↦ let takes = rw some.1 at takes in rw some.1 (let lost = takes refl in absurd (cc))
+      ]) w)
       (λ s got came two takes.
       let t : Processed = record_in v (length past) (stood_in v (standing past)) s in
       subst (Ends Fits busy (length past) spent (begun_in v past)) (sym (log-taken t (unless_restart v (epoch_records past))))
       (taken_works Fits busy (length past) spent (begun_in v past) (log_of (unless_restart v (epoch_records past))) add t
       (reply_of t (log_of (unless_restart v (epoch_records past)))) (said_of busy v past run.1.sent s got) refl w)) takes
-    where
-      none_open : (o : Option Step) → (is_some o ≡ true → false ≡ true) → o ≡ None
-      none_open None takes = refl
-      none_open (Some s) takes = let lost = takes refl in absurd (cc)
 
   -- one cycle, before a fall
   pub in_cycle : (v : View) (past : List View) (spent : ℕ) → IsRun busy (v ∷ past) → IsUndisturbed v past
@@ -66,7 +64,6 @@ module _ (Fits : ℕ → ℕ → Type 0) (add : (a b n : ℕ) → Fits a b → F
       let h0 = restarted busy v (epoch_begun past) (epoch_records past) (in_step busy past run.0) in
       let h1 = heard_of busy v past run (joined busy past run.0) v.heard run.1.heard h0 in
       let h2 = begun_of busy v.begins (with_heard v.heard (unless_restart v (epoch_begun past))) taken run.1.begins h1 in
-      let first = heard_so v past spent run v.heard run.1.heard h1 whole.hears start in
       let second = begun_works Fits busy (length past) spent (with_heard v.heard (unless_restart v (epoch_begun past)))
-      (log_of taken) v.begins run.1.begins h1 h2 first in
+      (log_of taken) v.begins run.1.begins h1 h2 (heard_so v past spent run v.heard run.1.heard h1 whole.hears start) in
       recorded v past spent run whole.takes second

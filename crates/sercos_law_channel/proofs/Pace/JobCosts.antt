@@ -6,9 +6,7 @@ use Rattle.sercos_step.specs.declared.request.Request.TheVariants as request
 
 pub costs_requests : CostsRequests
 costs_requests cost [] = refl
-costs_requests cost (b ∷ begun) =
-    let more = costs_requests cost begun in
-    let first = sum_by-cons cost b.request (map request_of begun) in omega (arith, more, first)
+costs_requests cost (b ∷ begun) = omega (arith, costs_requests cost begun, sum_by-cons cost b.request (map request_of begun))
 
 pub list_shape : (l : Length) → is_list l ≡ true → shape_by l ≡ shape.List
 list_shape len.Two is = absurd (cc)
@@ -41,8 +39,7 @@ module _ (busy : ℕ) where
   pub word_write_costs : WordWriteCosts busy
   word_write_costs time longest blocks idn bytes (b, found, two) short =
       let one = length-at_least_one (words_of bytes) in
-      let words = length-words_of bytes in
-      write_by bytes (find_block idn.raw blocks) b shape.One 4 found (ap shape_by two) (omega (arith, one, words, short))
+      write_by bytes (find_block idn.raw blocks) b shape.One 4 found (ap shape_by two) (omega (arith, one, length-words_of bytes, short))
 
   pub list_write_costs : ListWriteCosts busy
   list_write_costs time longest blocks idn bytes k (b, found, list) short =
@@ -55,56 +52,46 @@ module _ (busy : ℕ) where
   pub reads_cost : ReadsCost busy
   reads_cost time longest blocks values idns are six =
       let parts = sum_by-append (cost_of busy time longest blocks) (map (λ (idn : Idn). request.Read idn 7) values) (map (λ (idn : Idn). request.Read idn 3) idns) in
-      let first = of_values values are in
-      let second = of_attributes idns in
-      let count : (busy + 1) * (4 * length values) ≡ (busy + 1) * 24 = ap (λ (n : ℕ). (busy + 1) * (4 * n)) six in
       let sum : (busy + 1) * (24 + 3 * length idns) ≡ (busy + 1) * 24 + (busy + 1) * (3 * length idns) = grind arith in
-      omega (arith, parts, first, second, count, sum)
+      omega (arith, parts, of_values values are, of_attributes idns, ap (λ (n : ℕ). (busy + 1) * (4 * n)) six, sum)
     where
       of_values : (values : List Idn) → AreWords blocks values → sum_by (cost_of busy time longest blocks) (map (λ (idn : Idn). request.Read idn 7) values) ≤ (busy + 1) * (4 * length values)
       of_values [] are = omega arith
       of_values (idn ∷ values) are =
-          let one = word_read_costs time longest blocks idn are.1 in
-          let more = of_values values are.0 in
           let first = sum_by-cons (cost_of busy time longest blocks) (request.Read idn 7) (map (λ (x : Idn). request.Read x 7) values) in
-          let next = suc_times 4 (length values) in omega (arith, one, more, first, next)
+          omega (arith, word_read_costs time longest blocks idn are.1, of_values values are.0, first, suc_times 4 (length values))
 
       of_attributes : (idns : List Idn) → sum_by (cost_of busy time longest blocks) (map (λ (idn : Idn). request.Read idn 3) idns) ≤ (busy + 1) * (3 * length idns)
       of_attributes [] = omega arith
       of_attributes (idn ∷ idns) =
-          let one = attribute_costs time longest blocks idn in
-          let more = of_attributes idns in
           let first = sum_by-cons (cost_of busy time longest blocks) (request.Read idn 3) (map (λ (x : Idn). request.Read x 3) idns) in
-          let next = suc_times 3 (length idns) in omega (arith, one, more, first, next)
+          omega (arith, attribute_costs time longest blocks idn, of_attributes idns, first, suc_times 3 (length idns))
 
   words_cost : (time : ℕ) (longest : ℕ → ℕ) (blocks : List Block) (rs : List Request) → AreWordWrites blocks rs → sum_by (cost_of busy time longest blocks) rs ≤ (busy + 1) * (4 * length rs)
   words_cost time longest blocks [] are = omega arith
   words_cost time longest blocks (r ∷ rs) are =
       let w = are.1 in
-      let cost : cost_of busy time longest blocks r ≡ cost_of busy time longest blocks (request.Write w.idn 7 w.bytes) = ap (cost_of busy time longest blocks) w.writes in
       let one = word_write_costs time longest blocks w.idn w.bytes w.word w.short in
       let more = words_cost time longest blocks rs are.0 in
       let first = sum_by-cons (cost_of busy time longest blocks) r rs in
-      let next = suc_times 4 (length rs) in omega (arith, cost, one, more, first, next)
+      omega (arith, ap (cost_of busy time longest blocks) w.writes, one, more, first, suc_times 4 (length rs))
 
   -- over any cost, of which only the parts matter
   sum_parts : (cost : Request → ℕ) (before after : List Request) (a b c : Request) → sum_by cost (before ++ a ∷ b ∷ (after ++ c ∷ [])) ≡ sum_by cost before + cost a + cost b + sum_by cost after + cost c
   sum_parts cost before after a b c =
-      let all = sum_by-append cost before (a ∷ b ∷ (after ++ c ∷ [])) in
       let first = sum_by-cons cost a (b ∷ (after ++ c ∷ [])) in
       let second = sum_by-cons cost b (after ++ c ∷ []) in
       let rest = sum_by-append cost after (c ∷ []) in
-      let last = sum_by-cons cost c [] in omega (arith, all, first, second, rest, last)
+      omega (arith, sum_by-append cost before (a ∷ b ∷ (after ++ c ∷ [])), first, second, rest, sum_by-cons cost c [])
 
   pub writes_cost : WritesCost busy
   writes_cost time longest blocks before after ats mdts at mdt k m command some others nine ats_list mdts_list short_at short_mdt =
       let parts = sum_parts (cost_of busy time longest blocks) before after (request.Write ats 7 at) (request.Write mdts 7 mdt) (request.Command command) in
-      let early = words_cost time longest blocks before some in
       let late = words_cost time longest blocks after others in
       let one = list_write_costs time longest blocks ats at k ats_list short_at in
       let two = list_write_costs time longest blocks mdts mdt m mdts_list short_mdt in
       let words : (busy + 1) * (4 * length before) + (busy + 1) * (4 * length after) ≡ (busy + 1) * (4 * 9) = sum_four (length before) (length after) ∙ ap (λ (n : ℕ). (busy + 1) * (4 * n)) nine in
-      let all = sums k m in omega (arith, parts, early, late, one, two, words, all)
+      omega (arith, parts, words_cost time longest blocks before some, late, one, two, words, sums k m)
     where
       sum_four : (x y : ℕ) → (busy + 1) * (4 * x) + (busy + 1) * (4 * y) ≡ (busy + 1) * (4 * (x + y))
       sum_four x y = grind arith

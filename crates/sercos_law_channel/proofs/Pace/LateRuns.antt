@@ -1,5 +1,5 @@
 -- In a stretch in which nothing is lost a channel is in time.
-use Rattle.sercos_law_channel.proofs.Words.{◌≡◌, ℕ, suc, ◌+◌, ◌*◌, ◌<◌, ◌≤◌, Bool, true, false, List, [], ◌∷◌, ◌++◌, length, refl, sym, ap, ◌∙◌, arith, if◌then◌else◌, Option, is_some, beq, Step, Processed, Entry, reply_of, log_of, Begun, open_in, steps_in, answers_in, is_odd, log_steps, View, with_record, epoch_begun, begun_in, epoch_records, records_in_views, epoch_log, log_in, IsRun, time_for, one_more, IsClean, open_since, spent_since, IsInTime, RestsNow, WaitsNow, ComesInTime, TakesTimeSince, cond_both, times_le, unless_restart}
+use Rattle.sercos_law_channel.proofs.Words.{inr, inl, cases_Bool, ◌≡◌, ℕ, suc, ◌+◌, ◌*◌, ◌<◌, ◌≤◌, Bool, true, false, List, [], ◌∷◌, ◌++◌, length, refl, sym, ap, ◌∙◌, arith, if◌then◌else◌, Option, is_some, beq, Step, Processed, Entry, reply_of, log_of, Begun, open_in, steps_in, answers_in, is_odd, log_steps, View, with_record, epoch_begun, begun_in, epoch_records, records_in_views, epoch_log, log_in, IsRun, time_for, one_more, IsClean, open_since, spent_since, IsInTime, RestsNow, WaitsNow, ComesInTime, TakesTimeSince, cond_both, times_le, unless_restart}
 use Rattle.sercos_law_channel.proofs.Handshake.HandshakeMoves.{log-taken}
 use Rattle.sercos_law_channel.proofs.Handshake.PhaseMoves.{of_processed}
 use Rattle.sercos_law_channel.proofs.Handshake.EpochRuns.{in_step, begun_on, log_on}
@@ -35,14 +35,10 @@ head_before n (t ∷ h) are e past those = by (beq t.mhs (is_odd (log_of h))) re
     by false is same before = let first : t ≡ e.processed = cc in let less = are.1 in let c = ap (λ (x : Processed). x.cycle) first in omega arith
 
 module _ (busy : ℕ) where
-  start_on : (r : Bool) (c spent : ℕ) (begun : List Begun) (taken : List Processed) → r ≡ false → Starts InTime busy c spent begun (log_of taken) → Starts InTime busy c spent (if r then [] else begun) (log_of (if r then [] else taken))
-  start_on true c spent begun taken on is = absurd (cc)
-  start_on false c spent begun taken on is = is
-
   -- one cycle
   in_one : (v : View) (past : List View) (spent : ℕ) → IsRun busy (v ∷ past) → IsClean v past → Starts InTime busy (length past) spent (epoch_begun past) (epoch_log past) → Ends InTime busy (length past) spent (begun_in v past) (log_in v past)
   in_one v past spent run clean before = in_cycle InTime (λ a b n less. omega (arith, less)) busy v past spent run clean.undisturbed
-      (start_on v.master_restarts (length past) spent (epoch_begun past) (epoch_records past) clean.goes_on before)
+      (elim (cases_Bool v.master_restarts) [ inl on ↦ let on = rw on at clean.goes_on in absurd (cc) | inr off ↦ rw off before ])
 
   after_cycle : (v : View) (cycles past : List View) → v.falls ≡ false → Ends InTime busy (length (cycles ++ past)) (spent_since busy cycles past) (begun_in v (cycles ++ past)) (log_in v (cycles ++ past)) → IsInTime busy (v ∷ cycles) past
   after_cycle v cycles past on is = by is

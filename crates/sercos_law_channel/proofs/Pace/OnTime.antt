@@ -1,5 +1,5 @@
 -- If nothing is lost, each answer comes busy time and one cycle after its step, and in time if nothing is lost from some cycle on.
-use Rattle.sercos_law_channel.proofs.Words.{◌≡◌, ℕ, ◌+◌, ◌-◌, ◌<◌, ◌≤◌, Bool, true, false, not, ◌&&◌, List, [], ◌∷◌, refl, sym, ap, ◌∙◌, subst, arith, if◌then◌else◌, nat_le, Option, Some, None, IsSome, is_some, and_right, both_ways, cond-true, cond-false, leb-true, nat_tests, beq, Status, Step, Answer, Request, CommandHistory, change_in, Processed, Entry, ahs, log_of, Shown, shown, channel_says, shown_by, Begun, open_in, steps_in, answers_in, is_odd, answers_it, answer_in, with_answer, master_says, step_or_none, AreInStep, Idle, Sent, Kept, log_steps, replies_of, with_status, said_in, with_processed, with_begun, time_for, and-false}
+use Rattle.sercos_law_channel.proofs.Words.{inr, inl, cases_Bool, ◌≡◌, ℕ, ◌+◌, ◌-◌, ◌<◌, ◌≤◌, Bool, true, false, not, ◌&&◌, List, [], ◌∷◌, refl, sym, ap, ◌∙◌, subst, arith, if◌then◌else◌, nat_le, Option, Some, None, IsSome, is_some, and_right, both_ways, cond-true, cond-false, leb-true, nat_tests, beq, Status, Step, Answer, Request, CommandHistory, change_in, Processed, Entry, ahs, log_of, Shown, shown, channel_says, shown_by, Begun, open_in, steps_in, answers_in, is_odd, answers_it, answer_in, with_answer, master_says, step_or_none, AreInStep, Idle, Sent, Kept, log_steps, replies_of, with_status, said_in, with_processed, with_begun, time_for, and-false}
 use Rattle.sercos_law_channel.proofs.Handshake.HandshakeMoves.{ahs-shown, quiet_bit, said_bit, said_step, parity, parity_sent, ahs-log, beq-self, beq-not_left, idle_all}
 use Rattle.sercos_law_channel.proofs.Handshake.OnePhase.{no_longer}
 
@@ -45,9 +45,6 @@ answered-answers a (b ∷ past) s opened = refl
 -- the master hears what the drive shows of an accepted step
 pub shown_busy : (busy c cycle : ℕ) → nat_le (c - cycle) busy ≡ true → c ≤ cycle + busy
 shown_busy busy c cycle is = let le = leb-true (c - cycle) busy is in omega arith
-
-shown_free : (busy c cycle : ℕ) → nat_le (c - cycle) busy ≡ false → cycle ≤ c → cycle + (busy + 1) ≤ c
-shown_free busy c cycle is before = grind (arith, nat_tests)
 
 -- a step that is open and accepted has no answer yet
 pub one_waits : (begun : List Begun) (log : List Entry) → AreInStep begun log → (e : Entry) (past : List Entry) → log ≡ e ∷ past
@@ -95,17 +92,16 @@ module _ (Fits : ℕ → ℕ → Type 0) (busy c spent : ℕ) (showing : Command
           (Busy e past those opened all (omega arith) (shown_busy busy c e.processed.cycle is) sum)
       by false is shows =
           let same : answer_in status word ≡ e.answer = ap (λ (s : Shown). (let a : Answer = record { error = s.error; word = s.word } in a)) shows in
-          let free : status.busy ≡ false = ap (λ (s : Shown). s.busy) shows in
           let odd = parity (steps_in begun) (log_of taken) all in
           let same_bit = beq-self (is_odd (log_of taken)) in
-          let takes : answers_it begun status ≡ true = rw (opened, bit, odd, free, same_bit) refl in
+          let takes : answers_it begun status ≡ true = rw (opened, bit, odd, ap (λ (s : Shown). s.busy) shows, same_bit) refl in
           let with_one : with_status status word begun ≡ with_answer e.answer begun = cond-true (answers_it begun status) _ _ takes ∙ ap (λ (a : Answer). with_answer a begun) same in
           let answers : answers_in (with_status status word begun) ≡ e.answer ∷ answers_in begun = ap answers_in with_one ∙ answered-answers e.answer begun e.processed.step opened in
           let whole : answers_in (with_status status word begun) ≡ replies_of (log_of taken) = answers
           ∙ ap (λ (l : List Answer). e.answer ∷ l) (one_waits begun (log_of taken) before e past those opened all) ∙ ap replies_of
           (sym those) in
           settled Fits busy c spent (with_status status word begun) (log_of taken) after whole
-          (subst (Fits spent) (ap (time_for busy) (sym answers)) (soon (shown_free busy c e.processed.cycle is (omega arith))))
+          (subst (Fits spent) (ap (time_for busy) (sym answers)) (soon (grind (arith, nat_tests))))
 
 module _ (begun : List Begun) (log : List Entry) where
   -- a record that was sent before is dropped
@@ -152,10 +148,8 @@ module _ (Fits : ℕ → ℕ → Type 0) (busy c spent : ℕ) (begun : List Begu
 -- a status that is an answer shows that the drive is no longer busy
 pub late_answer : (busy c : ℕ) (showing : CommandHistory) (status : Status) (word : ℕ) (begun : List Begun) (taken : List Processed) (e : Entry) (past : List Entry) → shown_by status word ≡ channel_says busy c showing taken → log_of taken ≡ e ∷ past →
     answers_it begun status ≡ true → e.processed.cycle < c → e.processed.cycle + (busy + 1) ≤ c
-late_answer busy c showing status word begun taken e past says those takes earlier = by (nat_le (c - e.processed.cycle) busy) refl (says ∙ ap (shown busy c (ahs taken) (change_in showing c)) those)
-  where
-    by : (v : Bool) → nat_le (c - e.processed.cycle) busy ≡ v →
-        shown_by status word ≡ (if v then record { ahs = ahs taken; busy = true; error = false; change = change_in showing c; word = 0 } else record { ahs = ahs taken; busy = false; error = e.answer.error; change = change_in showing c; word = e.answer.word }) →
-        e.processed.cycle + (busy + 1) ≤ c
-    by false is shows = shown_free busy c e.processed.cycle is (omega arith)
-    by true is shows = absurd (both_ways (answers_it begun status) (busy_quiet status begun (ap (λ (s : Shown). s.busy) shows)) takes)
+late_answer busy c showing status word begun taken e past says those takes earlier = elim (cases_Bool (nat_le (c - e.processed.cycle) busy)) [
+  | inl is ↦ let shows = rw is at (says ∙ ap (shown busy c (ahs taken) (change_in showing c)) those) in
+      absurd (both_ways (answers_it begun status) (busy_quiet status begun (ap (λ (s : Shown). s.busy) shows)) takes)
+  | inr is ↦ grind (arith, nat_tests)
+]

@@ -1,5 +1,5 @@
 -- In an epoch in which nothing is lost a channel is on time.
-use Rattle.sercos_law_channel.proofs.Words.{◌≡◌, inl, inr, ℕ, ◌+◌, ◌*◌, ◌≤◌, Bool, true, false, List, [], ◌∷◌, length, refl, sym, ap, ◌∙◌, subst, arith, if◌then◌else◌, Option, Some, None, IfSome, is_some, cond-true, cond-false, Step, Answer, Entry, log_of, Begun, open_in, steps_in, answers_in, answers_it, AreInStep, Idle, Sent, Kept, log_steps, Heard, View, unless_restart, epoch_begun, begun_in, epoch_records, epoch_log, log_in, IsShown, time_for, one_more, open_cycles, AreUndisturbed, IsOnTime, Rests, Waits, AreOnTime, AnswersOnTime, TakesTime, times_le, both_ways}
+use Rattle.sercos_law_channel.proofs.Words.{cases_Bool, ◌≡◌, inl, inr, ℕ, ◌+◌, ◌*◌, ◌≤◌, false, List, [], ◌∷◌, length, refl, sym, ap, ◌∙◌, subst, arith, if◌then◌else◌, Option, Some, None, IfSome, is_some, cond-true, cond-false, Step, Answer, Entry, log_of, Begun, open_in, steps_in, answers_in, answers_it, AreInStep, Idle, Sent, Kept, log_steps, Heard, View, unless_restart, epoch_begun, begun_in, epoch_records, epoch_log, log_in, IsShown, time_for, one_more, open_cycles, IsOnTime, Rests, Waits, AreOnTime, AnswersOnTime, TakesTime, times_le, both_ways}
 use Rattle.sercos_law_channel.proofs.Handshake.TransferSteps.{length-steps_of, length-replies_of}
 use Rattle.sercos_law_channel.proofs.Handshake.EpochRuns.{joined, shown_of, in_step, begun_on, log_on}
 use Rattle.sercos_law_channel.proofs.Handshake.HandshakeMoves.{quiet_none}
@@ -25,15 +25,14 @@ spent_before v past = if v.master_restarts then 0 else open_cycles past
 
 module _ (busy : ℕ) where
   starts : (v : View) (past : List View) → (v.master_restarts ≡ false → IsOnTime busy past) → Starts Exactly busy (length past) (spent_before v past) (unless_restart v (epoch_begun past)) (log_of (unless_restart v (epoch_records past)))
-  starts v past before = by v.master_restarts before
+  starts v past before = elim (cases_Bool v.master_restarts) [
+    | inl on ↦ rw on (StartsFree refl refl)
+    | inr off ↦ let before = rw off at before in rw off (going (before refl))
+  ]
     where
       going : IsOnTime busy past → Starts Exactly busy (length past) (open_cycles past) (epoch_begun past) (epoch_log past)
       going (Rests none is) = StartsFree none is
       going (Waits e log those opened all earlier late sum) = StartsBusy e log those opened all earlier (λ due. omega arith) sum
-
-      by : (r : Bool) → (r ≡ false → IsOnTime busy past) → Starts Exactly busy (length past) (if r then 0 else open_cycles past) (if r then [] else epoch_begun past) (log_of (if r then [] else epoch_records past))
-      by true before = StartsFree refl refl
-      by false before = going (before refl)
 
   after_cycle : (v : View) (past : List View) → v.falls ≡ false → Ends Exactly busy (length past) (spent_before v past) (begun_in v past) (log_in v past) → IsOnTime busy (v ∷ past)
   after_cycle v past on is = by is
@@ -51,44 +50,36 @@ module _ (busy : ℕ) where
 
   pub on_time : AreOnTime busy
   on_time [] run whole = Rests refl refl
-  on_time (v ∷ past) run whole = by v.falls refl (λ still. on_time past run.0 still)
-    where
-      by : (falls : Bool) → v.falls ≡ falls → (AreUndisturbed past → IsOnTime busy past) → IsOnTime busy (v ∷ past)
-      by true fell before =
-          let none = cond-true v.falls [] (begun_in v past) fell in
-          let spent = cond-true v.falls 0 (one_more (is_some (open_in (begun_in v past))) (spent_before v past)) fell in
-          Rests (ap open_in none) (spent ∙ ap (λ (l : List Begun). time_for busy (answers_in l)) (sym none))
-      by false on before = after_cycle v past on (in_cycle Exactly (λ a b n same. ap (λ (m : ℕ). m + n) same) busy v past
-          (spent_before v past) run (whole on).0 (starts v past (λ still. before ((whole on).1 still))))
+  on_time (v ∷ past) run whole = elim (cases_Bool v.falls) [
+    | inl fell ↦
+        let none = cond-true v.falls [] (begun_in v past) fell in
+        let spent = cond-true v.falls 0 (one_more (is_some (open_in (begun_in v past))) (spent_before v past)) fell in
+        Rests (ap open_in none) (spent ∙ ap (λ (l : List Begun). time_for busy (answers_in l)) (sym none))
+    | inr on ↦ after_cycle v past on (in_cycle Exactly (λ a b n same. ap (λ (m : ℕ). m + n) same) busy v past (spent_before v past)
+        run (whole on).0 (starts v past (λ still. on_time past run.0 ((whole on).1 still))))
+  ]
 
   -- and an answer comes when it is due
   pub answers_on_time : AnswersOnTime busy
   answers_on_time v past a run whole hears takes = by (on_time past run.0 whole)
     where
       still : v.master_restarts ≡ false
-      still = which v.master_restarts takes
-        where
-          which : (r : Bool) → answers_it (if r then [] else epoch_begun past) a.status ≡ true → r ≡ false
-          which true on = absurd (cc)
-          which false on = refl
+      still = elim (cases_Bool v.master_restarts) [ inl on ↦ let on = rw on at takes in absurd (cc) | inr off ↦ rw off refl ]
 
       begun : unless_restart v (epoch_begun past) ≡ epoch_begun past
       begun = cond-false v.master_restarts [] (epoch_begun past) still
 
-      taken : unless_restart v (epoch_records past) ≡ epoch_records past
-      taken = cond-false v.master_restarts [] (epoch_records past) still
-
-      shown : IsShown busy a v past
-      shown = subst (λ (o : Option Heard). IfSome o (λ x. IsShown busy x v past)) hears run.1.heard
-
       by : IsOnTime busy past → (e : Entry) × (log : List Entry) × (epoch_log past ≡ e ∷ log) × (length past ≡ e.processed.cycle + (busy + 1))
       by (Rests none is) = absurd (both_ways (answers_it (unless_restart v (epoch_begun past)) a.status) (quiet_none (unless_restart v (epoch_begun past)) a.status (ap open_in begun ∙ none)) takes)
-      by (Waits e log those opened all earlier late sum) = elim (shown_of busy v past run (joined busy past run.0) a shown) [
-        | inl none ↦ let free : open_in (epoch_begun past) ≡ None = ap open_in (sym begun) ∙ ap open_in none in absurd (cc)
-        | inr says ↦
-            let due = late_answer busy (length past) v.showing a.status a.word (unless_restart v (epoch_begun past)) (unless_restart v (epoch_records past)) e log says (ap log_of taken ∙ those) takes earlier in
-            (e, log, those, omega arith)
-      ]
+      by (Waits e log those opened all earlier late sum) = elim (shown_of busy v past run (joined busy past run.0) a
+          (subst (λ (o : Option Heard). IfSome o (λ x. IsShown busy x v past)) hears run.1.heard)) [
+            | inl none ↦ let free : open_in (epoch_begun past) ≡ None = ap open_in (sym begun) ∙ ap open_in none in absurd (cc)
+            | inr says ↦
+                let due = late_answer busy (length past) v.showing a.status a.word (unless_restart v (epoch_begun past))
+                (unless_restart v (epoch_records past)) e log says
+                (ap log_of (cond-false v.master_restarts [] (epoch_records past) still) ∙ those) takes earlier in
+                (e, log, those, omega arith)
+          ]
 
 pub time_of : (busy : ℕ) (answers : List Answer) → time_for busy answers ≡ (busy + 1) * length answers
 time_of busy [] = omega arith

@@ -1,5 +1,5 @@
 -- The steps that a drive accepts are busy time and one apart.
-use Rattle.sercos_law_channel.proofs.Words.{◌≡◌, inl, inr, ℕ, suc, ◌+◌, ◌<◌, ◌≤◌, Bool, true, false, List, [], ◌∷◌, length, refl, sym, ap, ◌∙◌, subst, arith, if◌then◌else◌, Option, Some, None, IfSome, beq, Answer, Request, Processed, Entry, reply_of, log_of, channel_says, shown_by, Begun, steps_in, answers_in, is_odd, answers_it, answer_in, with_answer, master_says, AreInStep, Idle, Sent, Kept, replies_of, said_in, with_processed, Heard, View, standing, stood_in, record_in, with_record, with_heard, with_begun, unless_restart, epoch_begun, begun_in, epoch_records, records_in_views, epoch_log, log_in, IsShown, IsRun, AreSpaced, SpacesSteps}
+use Rattle.sercos_law_channel.proofs.Words.{cases_Bool, ◌≡◌, inl, inr, ℕ, suc, ◌+◌, ◌<◌, ◌≤◌, Bool, true, false, List, [], ◌∷◌, length, refl, sym, ap, ◌∙◌, subst, arith, if◌then◌else◌, Option, Some, None, IfSome, beq, Answer, Request, Processed, Entry, reply_of, log_of, channel_says, shown_by, Begun, steps_in, answers_in, is_odd, answers_it, answer_in, with_answer, master_says, AreInStep, Idle, Sent, Kept, replies_of, said_in, with_processed, Heard, View, standing, stood_in, record_in, with_record, with_heard, with_begun, unless_restart, epoch_begun, begun_in, epoch_records, records_in_views, epoch_log, log_in, IsShown, IsRun, AreSpaced, SpacesSteps}
 use Rattle.sercos_law_channel.proofs.Handshake.HandshakeMoves.{said_bit, parity, log-taken, beq-self}
 use Rattle.sercos_law_channel.proofs.Handshake.PhaseMoves.{uncut, of_processed}
 use Rattle.sercos_law_channel.proofs.Handshake.EpochRuns.{joined, restarted, shown_of, heard_of, begun_of, said_of, in_step}
@@ -27,21 +27,19 @@ never_all begun log x (Kept e past opened those s a) all =
     let long : suc (suc (length (replies_of past))) ≡ length (replies_of past) = ap length shorter in absurd (omega arith)
 
 taken_spaced : (busy c : ℕ) (begun : List Begun) (log : List Entry) (t : Processed) (answer : Answer) → AreInStep begun log → said_in t ≡ master_says begun → t.cycle ≡ c → IsSpaced busy c begun log → IsSpaced busy c begun (with_processed t answer log)
-taken_spaced busy c begun log t answer h says at is = by (beq t.mhs (is_odd log)) refl
+taken_spaced busy c begun log t answer h says at is = elim (cases_Bool (beq t.mhs (is_odd log))) [
+  | inl same ↦ rw same is
+  | inr other ↦ rw other (let x : Entry = record { processed = t; answer = answer } in record {
+    spaced = with_one busy x log is.spaced (λ e past those. let d = is.due (answered h other) e past those in omega (arith, at));
+    due = λ all. absurd (never_all begun log x h all);
+  })
+]
   where
     answered : AreInStep begun log → beq t.mhs (is_odd log) ≡ false → answers_in begun ≡ replies_of log
     answered (Idle none s a) other = a
     answered (Sent step opened s a) other = a
     answered (Kept e past opened those s a) other =
         let same : beq t.mhs (is_odd log) ≡ true = ap (λ (b : Bool). beq b (is_odd log)) (said_bit t begun says ∙ parity (steps_in begun) log s) ∙ beq-self (is_odd log) in absurd (cc)
-
-    by : (v : Bool) → beq t.mhs (is_odd log) ≡ v → IsSpaced busy c begun (if v then log else (record { processed = t; answer = answer }) ∷ log)
-    by true same = is
-    by false other =
-        let x : Entry = record { processed = t; answer = answer } in record {
-          spaced = with_one busy x log is.spaced (λ e past those. let d = is.due (answered h other) e past those in omega (arith, at));
-          due = λ all. absurd (never_all begun log x h all);
-        }
 
 module _ (busy : ℕ) where
   heard_spaced : (v : View) (past : List View) → IsRun busy (v ∷ past) → (o : Option Heard) → IfSome o (λ a. IsShown busy a v past) → ((e : Entry) (log : List Entry) → log_of (unless_restart v (epoch_records past)) ≡ e ∷ log → e.processed.cycle < length past) →

@@ -1,5 +1,5 @@
 -- How many steps a transfer has, and how long one that sets a procedure command takes.
-use Rattle.sercos_law_channel.proofs.Words.{◌≡◌, ◌⊎◌, inl, inr, ℕ, zero, suc, ◌+◌, ◌*◌, ◌<◌, ◌≤◌, Bool, true, false, List, [], ◌∷◌, ◌++◌, length, drop, refl, sym, ap, ◌∙◌, subst, arith, if◌then◌else◌, ◌==◌, Option, Some, None, is_some, slice_index, option_map, unwrap_or, nat_tests, cases_eq, cond-true, cond-false, eq-eqb, Idn, Length, is_list, Step, Answer, Shape, Request, shape_of, shape_by, words_in, words_told, steps_of, answer_words, polls, count_of, length-drop_two, read_ends, length-answer_words, steps_most, get_below, polls_by, times_le, times_more, Block, find_block, status_in, Processed, Entry, copy, Write, writes_of, AreAlike, replies_of, IsTransfer, entry_behind, idn_of, setting, second_of, added_by_setting, AreSpaced, IsListed, newest_at, value_steps, read_steps, write_steps, element_words, ap₂}
+use Rattle.sercos_law_channel.proofs.Words.{cases_Bool, ◌≡◌, ◌⊎◌, inl, inr, ℕ, zero, suc, ◌+◌, ◌*◌, ◌<◌, ◌≤◌, true, false, List, [], ◌∷◌, ◌++◌, length, drop, refl, sym, ap, ◌∙◌, subst, arith, if◌then◌else◌, ◌==◌, Option, Some, None, is_some, slice_index, option_map, unwrap_or, nat_tests, cases_eq, cond-true, cond-false, eq-eqb, Idn, Length, is_list, Step, Answer, Shape, Request, shape_of, shape_by, words_in, words_told, steps_of, answer_words, polls, count_of, length-drop_two, read_ends, length-answer_words, steps_most, get_below, polls_by, times_le, times_more, Block, find_block, status_in, Processed, Entry, copy, Write, writes_of, AreAlike, replies_of, IsTransfer, entry_behind, idn_of, setting, second_of, added_by_setting, AreSpaced, IsListed, newest_at, value_steps, read_steps, write_steps, element_words, ap₂}
 use Rattle.sercos_idn.specs.declared.kinds.Length.TheVariants as len
 use Rattle.sercos_step.specs.declared.shape.Shape.TheVariants as shape
 use Rattle.sercos_step.specs.declared.request.Request.TheVariants as request
@@ -21,8 +21,7 @@ pub known_steps : (r : Request) (blocks : List Block) (e : Entry) (entries log :
 known_steps r blocks e entries log is =
     let words = answer_words (replies_of entries) in
     let below = get_below (steps_of r words) (length words) (ap is_some (newest_step r blocks log e entries is)) in
-    let most = steps_most r words in
-    let long = long_words entries in omega (arith, below, most, long)
+    omega (arith, below, steps_most r words, long_words entries)
 
 -- A block that the drive hasn't.
 pub unknown_one : (r : Request) (blocks : List Block) (e : Entry) (entries log : List Entry) → find_block (idn_of r).raw blocks ≡ None → IsTransfer r blocks e entries log → suc (length entries) ≤ 1
@@ -47,11 +46,10 @@ LogListed longest (e ∷ log) = LogListed longest log × IsListed longest e.proc
 
 behind_listed : (longest : ℕ → ℕ) (count : ℕ) (entries : List Entry) (p : Entry) → LogListed longest entries → entry_behind count entries ≡ Some p → IsListed longest p.processed.blocks
 behind_listed longest count [] p are is = absurd (cc)
-behind_listed longest count (e ∷ entries) p are is = by (length entries == count) is (behind_listed longest count entries p are.0)
-  where
-    by : (here : Bool) → (if here then Some e else entry_behind count entries) ≡ Some p → (entry_behind count entries ≡ Some p → IsListed longest p.processed.blocks) → IsListed longest p.processed.blocks
-    by true is more = let same : e ≡ p = cc in subst (λ (x : Entry). IsListed longest x.processed.blocks) same are.1
-    by false is more = more is
+behind_listed longest count (e ∷ entries) p are is = elim (cases_Bool (length entries == count)) [
+  | inl on ↦ let same : e ≡ p = cc in subst (λ (x : Entry). IsListed longest x.processed.blocks) same are.1
+  | inr off ↦ let is = rw off at is in behind_listed longest count entries p are.0 is
+]
 
 -- the first word of a list is its length
 list_shape : (l : Length) → shape_by l ≡ shape.List → is_list l ≡ true
@@ -95,16 +93,15 @@ module _ (idn : Idn) (blocks : List Block) (b : Block) (found : find_block idn.r
           let c = chosen e in
           let step = read.next_word idn 7 b blocks found refl (answer_words (replies_of entries)) own e.processed.step 0 (Long on w those) (newest_step (request.Read idn 7) blocks log e entries is) in
           let seven : c.entry.processed.step.element ≡ 7 = c.element (ap (λ (s : Step). s.element) step) in
-          let row_first = first_of_row (length taken) (copy idn.raw c.entry.processed) in
           let own_first : slice_index own 0 ≡ slice_index (row (length taken) (copy idn.raw c.entry.processed)) 0 = ap (λ (l : List ℕ). slice_index l 0) c.copied in
           let short : shape_by b.attribute.length ≡ shape.List → (slice_index own 0 ≤ 2 * longest idn.raw) ⊎ (512 ≤ longest idn.raw) = λ list.
           elim (first_copied longest idn.raw blocks b c.entry.processed found (c.alike is.alike.1) (list_shape b.attribute.length list) (behind_listed longest 3 (e ∷ entries) c.entry listed c.at) seven) [
-            | inl le ↦ inl (omega (arith, le, row_first, own_first))
+            | inl le ↦ inl (omega (arith, le, first_of_row (length taken) (copy idn.raw c.entry.processed), own_first))
             | inr le ↦ inr le
           ] in
           let count : count_of (request.Read idn 7) (answer_words (replies_of entries)) ≡ 3 + words_in (shape_by b.attribute.length) (slice_index own 0) =
           ap (count_of (request.Read idn 7)) those ∙ ap (λ (s : Shape). 3 + words_in s (slice_index own 0)) said in
-          let most = words_most (longest idn.raw) (shape_by b.attribute.length) (slice_index own 0) short in omega (arith, count, most)
+          omega (arith, count, words_most (longest idn.raw) (shape_by b.attribute.length) (slice_index own 0) short)
 
   data_written : (bytes : List ℕ) (e : Entry) (entries log : List Entry) → IsTransfer (request.Write idn 7 bytes) blocks e entries log → suc (length entries) ≤ 3 + length (words_told (shape_by b.attribute.length) bytes)
   data_written bytes e entries log is = by (write.stage_before idn bytes b said blocks found e entries log is).0 (known_steps (request.Write idn 7 bytes) blocks e entries log is)
@@ -117,8 +114,7 @@ module _ (idn : Idn) (blocks : List Block) (b : Block) (found : find_block idn.r
       by (write.AtLow w those opened before) known = few 1 (omega arith) (ap length those)
       by (write.AtHigh w t those opened before got) known = few 2 (omega arith) (ap length those)
       by (write.AtWord w more taken word rest those count opened before ordered) known =
-          let same : count_of (request.Write idn 7 bytes) (answer_words (replies_of entries)) ≡ 3 + length (words_told (shape_by b.attribute.length) bytes) =
-          ap (count_of (request.Write idn 7 bytes)) those ∙ ap (λ (s : Shape). 3 + length (words_told s bytes)) said in omega (arith, same)
+          omega (arith, ap (count_of (request.Write idn 7 bytes)) those ∙ ap (λ (s : Shape). 3 + length (words_told s bytes)) said)
 
   pub read_found : (longest : ℕ → ℕ) (e : ℕ) (x : Entry) (entries log : List Entry) → IsTransfer (request.Read idn e) blocks x entries log → LogListed longest (x ∷ entries) → suc (length entries) ≤ read_steps (longest idn.raw) e (Some b)
   read_found longest e x entries log is listed = elim (cases_eq e 3) [
@@ -131,8 +127,7 @@ module _ (idn : Idn) (blocks : List Block) (b : Block) (found : find_block idn.r
           let few = value_read longest x entries log (subst (λ (n : ℕ). IsTransfer (request.Read idn n) blocks x entries log) seven is) listed in omega (arith, same, few)
       | inr more ↦
           let same : read_steps (longest idn.raw) e (Some b) ≡ 517 = grind (arith, nat_tests) in
-          let few = read_ends idn e (replies_of (x ∷ entries)) (is.in_turn, is.goes_on) in
-          let long = length-replies_of (x ∷ entries) in omega (arith, same, few, long)
+          omega (arith, same, read_ends idn e (replies_of (x ∷ entries)) (is.in_turn, is.goes_on), length-replies_of (x ∷ entries))
     ]
   ]
 
@@ -164,9 +159,7 @@ spaced_second busy zero d x (o ∷ []) are is long = let same : d ≡ x = cc in 
 spaced_second busy (suc k) d x (o ∷ []) are is long = absurd (omega (arith, long))
 spaced_second busy zero d x (o ∷ p ∷ past) are is long = absurd (omega (arith, long))
 spaced_second busy (suc k) d x (o ∷ p ∷ past) are is long =
-    let before = spaced_second busy k o x (p ∷ past) are.0 is (omega (arith, long)) in
-    let gap = are.1 in
-    let more = times_suc k (busy + 1) in omega (arith, before, gap, more)
+    omega (arith, spaced_second busy k o x (p ∷ past) are.0 is (omega (arith, long)), are.1, times_suc k (busy + 1))
 
 drop_two : (words : List ℕ) (x : ℕ) → 2 ≤ length words → drop 2 (words ++ x ∷ []) ≡ drop 2 words ++ x ∷ []
 drop_two [] x le = absurd (omega arith)
@@ -231,19 +224,16 @@ module _ (idn : Idn) (blocks : List Block) (b : Block) (found : find_block idn.r
             let at = timed.1 (sym word ∙ here.1) in
             let same : Some at.0 ≡ Some x.0.processed.cycle = sym at.1 ∙ set_at d x.0 (o ∷ p ∷ past) was x.1 in
             let cycle : at.0 ≡ x.0.processed.cycle = cc in
-            let count = length-drop_two words two in
-            let first : length (o ∷ p ∷ past) ≡ (k + 1) + 1 = (let one = here.0 in omega (arith, one, count, long)) in
-            let since = spaced_second busy (k + 1) d x.0 (o ∷ p ∷ past) spaced x.1 first in
-            let late = at.2 in omega (arith, since, late, cycle)
+            let first : length (o ∷ p ∷ past) ≡ (k + 1) + 1 = (omega (arith, here.0, length-drop_two words two, long)) in
+            omega (arith, spaced_second busy (k + 1) d x.0 (o ∷ p ∷ past) spaced x.1 first, at.2, cycle)
       ]
 
   pub command_found : (e : Entry) (entries : List Entry) → IsTransfer asked blocks e entries log → AreSpaced busy entries → HaveTime entries → (busy + 1) * suc (length entries) ≤ time + 4 * (busy + 1)
   command_found e entries is spaced timed =
       let words = drop 2 (answer_words (replies_of entries)) in
-      let known = known_steps asked blocks e entries log is in
       let all = polls_by (busy + 1) time 0 words (omega arith) (statuses e entries is spaced timed) in
-      let le = times_le (busy + 1) (suc (length entries)) (3 + polls words) known in
-      let same = times_more (busy + 1) (polls words) in omega (arith, all, le, same)
+      let le = times_le (busy + 1) (suc (length entries)) (3 + polls words) (known_steps asked blocks e entries log is) in
+      omega (arith, all, le, times_more (busy + 1) (polls words))
 
 -- A command that the drive hasn't.
 pub command_unknown : (busy time n : ℕ) → n ≤ 1 → (busy + 1) * n ≤ time + 4 * (busy + 1)

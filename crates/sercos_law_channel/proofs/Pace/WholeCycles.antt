@@ -1,5 +1,5 @@
 -- Cycles in which every telegram comes.
-use Rattle.sercos_law_channel.proofs.Words.{◌≡◌, ◌⊎◌, inl, inr, ℕ, ◌+◌, ◌≤◌, true, ◌&&◌, List, [], ◌∷◌, ◌++◌, length, refl, sym, ap, ◌∙◌, arith, nat_le, Option, Some, None, IsSome, IfSome, is_some, cases_eq, and_from, le-leb, cond-true, cond-false, Request, Begun, Said, open_in, answers_in, Heard, View, got_in, standing, stood_in, record_in, processed_of, command, with_heard, with_begun, unless_restart, epoch_begun, begun_in, IsShown, IsRun, IsClean, AreClean, was_addressed, IsWhole, AreWhole, IsPassed, IsUp, AreUp, StandsThroughout, StaysClean, AreHeard, HearsThroughout, IsCleanOrDown, RecoversInTime, StaysDead}
+use Rattle.sercos_law_channel.proofs.Words.{cases_Option, ◌≡◌, ◌⊎◌, inl, inr, ℕ, ◌+◌, ◌≤◌, true, ◌&&◌, List, [], ◌∷◌, ◌++◌, length, refl, sym, ap, ◌∙◌, arith, nat_le, Option, Some, None, IsSome, is_some, cases_eq, and_from, le-leb, cond-true, cond-false, Request, Begun, Said, open_in, answers_in, Heard, View, got_in, standing, stood_in, record_in, processed_of, command, with_heard, with_begun, unless_restart, epoch_begun, begun_in, IsRun, IsClean, AreClean, was_addressed, IsWhole, AreWhole, IsPassed, IsUp, AreUp, StandsThroughout, StaysClean, AreHeard, HearsThroughout, IsCleanOrDown, RecoversInTime, StaysDead}
 use Rattle.sercos_law_channel.proofs.Handshake.PhaseMoves.{ends}
 use Rattle.sercos_law_channel.proofs.Handshake.EpochRuns.{commanded, start, start_begun, two_ways, unless_restart-on}
 use Rattle.sercos_law_channel.proofs.Handshake.RunFacts.{stands_as_commanded, stays_down, stood_by, ended_by, stands_down}
@@ -122,9 +122,6 @@ module _ (busy : ℕ) where
   low_up v [] past run whole low = (tt, λ two. absurd (omega arith))
   low_up v (u ∷ cycles) past run whole low = (low_up u cycles past run.0 whole.0 (low_before v u (cycles ++ past) run whole.1 whole.0.1 low), λ two. absurd (omega arith))
 
-  stood_up : (v : View) (past : List View) → IsWhole v past → ((standing (v ∷ past)).ended ≡ 0 → ⊥) → stood_in v (standing past) ≡ v.phase
-  stood_up v past whole up = elim (stands_as_commanded v past whole.mst) [ inl z ↦ absurd (up (elim (ends v past) [ inl y ↦ y | inr same ↦ same ∙ z ])) | inr is ↦ is ]
-
   up_or_down : (cycles past : List View) → IsRun busy (cycles ++ past) → AreWhole cycles past → ((standing (cycles ++ past)).ended ≡ 0) ⊎ StandsUp cycles past
   up_or_down [] past run whole = inr tt
   up_or_down (v ∷ cycles) past run whole = elim (two_ways v.phase) [
@@ -133,7 +130,11 @@ module _ (busy : ℕ) where
       | inl z ↦ inl z
       | inr nz ↦ elim (up_or_down cycles past run.0 whole.0) [
         | inl down ↦ absurd (nz (stays_down v (cycles ++ past) down two))
-        | inr up ↦ inr (up, λ late. stood_up v (cycles ++ past) whole.1 nz)
+        | inr up ↦ inr (
+          up,
+          λ late. elim (stands_as_commanded v (cycles ++ past) whole.1.mst)
+              [ inl z ↦ absurd (nz (elim (ends v (cycles ++ past)) [ inl y ↦ y | inr same ↦ same ∙ z ])) | inr is ↦ is ],
+        )
       ]
     ]
   ]
@@ -153,29 +154,21 @@ module _ (busy : ℕ) where
 
   pub stays_dead : StaysDead busy
   stays_dead v past run zero two = record {
-    stands = stood;
+    stands = stands_down v past zero two;
     ended = stays_down v past zero two;
     heard = none;
-    answers = with_none v.begins;
+    answers = elim (cases_Option v.begins) [ inl none ↦ rw none (ap answers_in unheard) | inr some ↦ rw some.1 (ap answers_in unheard) ];
     waits = λ some. still v.begins some run.1.begins;
   }
     where
-      stood : stood_in v (standing past) ≡ 0
-      stood = stands_down v past zero two
-
       none : v.heard ≡ None
-      none = by v.heard run.1.heard
-        where
-          by : (o : Option Heard) → IfSome o (λ a. IsShown busy a v past) → o ≡ None
-          by None shown = refl
-          by (Some a) shown = let up = shown.stands in absurd (omega (arith, stood))
+      none = elim (cases_Option v.heard) [
+        | inl off ↦ off
+        | inr (a, some) ↦ let up = (rw some at run.1.heard).stands in absurd (omega (arith, stands_down v past zero two))
+      ]
 
       unheard : with_heard v.heard (unless_restart v (epoch_begun past)) ≡ unless_restart v (epoch_begun past)
       unheard = ap (λ (o : Option Heard). with_heard o (unless_restart v (epoch_begun past))) none
-
-      with_none : (o : Option Request) → answers_in (with_begun o (with_heard v.heard (unless_restart v (epoch_begun past)))) ≡ answers_in (unless_restart v (epoch_begun past))
-      with_none None = ap answers_in unheard
-      with_none (Some r) = ap answers_in unheard
 
       still : (o : Option Request) → is_some (open_in (unless_restart v (epoch_begun past))) ≡ true → (IsSome o → open_in (with_heard v.heard (unless_restart v (epoch_begun past))) ≡ None) → with_begun o (with_heard v.heard (unless_restart v (epoch_begun past))) ≡ unless_restart v (epoch_begun past)
       still None some shut = unheard

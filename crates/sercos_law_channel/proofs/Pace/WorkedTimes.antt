@@ -39,9 +39,15 @@ heard_up : (b : Bool) (n : ℕ) → (b || (n == 0)) ≡ true → 1 ≤ n → b �
 heard_up true n is up = refl
 heard_up false n is up = let zero = eqb-true n 0 is in absurd (omega arith)
 
-whole_by : (v : View) (past : List View) → tests_whole v past ≡ true → IsWhole v past × (v.checked ≡ true)
-whole_by v past is =
-    let a = and_parts v.mst_comes _ is in
+abbrev all_whole : List View → List View → Bool
+all_whole [] past = true
+all_whole (v ∷ cycles) past = tests_whole v (cycles ++ past) && all_whole cycles past
+
+are_whole : (cycles past : List View) → all_whole cycles past ≡ true → AreWhole cycles past × ArePassed cycles past
+are_whole [] past is = (tt, tt)
+are_whole (v ∷ cycles) past is =
+    let parts = and_parts (tests_whole v (cycles ++ past)) (all_whole cycles past) is in
+    let one : IsWhole v (cycles ++ past) × (v.checked ≡ true) = let a = and_parts v.mst_comes _ parts.0 in
     let b = and_parts v.mdt_comes _ a.1 in
     let c = and_parts (not v.drive_restarts) _ b.1 in
     let d = and_parts (not v.master_restarts) _ c.1 in
@@ -56,21 +62,11 @@ whole_by v past is =
         sends = λ some. f.0;
         joint = λ late. f.0;
         mdt = λ sent up. b.0;
-        hears = λ some was up. heard_up (is_some v.heard) (stood_in v (standing past)) g.1 up;
-        listens = λ late up. heard_up (is_some v.heard) (stood_in v (standing past)) g.1 up;
+        hears = λ some was up. heard_up (is_some v.heard) (stood_in v (standing (cycles ++ past))) g.1 up;
+        listens = λ late up. heard_up (is_some v.heard) (stood_in v (standing (cycles ++ past))) g.1 up;
       },
       g.0,
-    )
-
-abbrev all_whole : List View → List View → Bool
-all_whole [] past = true
-all_whole (v ∷ cycles) past = tests_whole v (cycles ++ past) && all_whole cycles past
-
-are_whole : (cycles past : List View) → all_whole cycles past ≡ true → AreWhole cycles past × ArePassed cycles past
-are_whole [] past is = (tt, tt)
-are_whole (v ∷ cycles) past is =
-    let parts = and_parts (tests_whole v (cycles ++ past)) (all_whole cycles past) is in
-    let one = whole_by v (cycles ++ past) parts.0 in
+    ) in
     let more = are_whole cycles past parts.1 in ((more.0, one.0), (more.1, λ late up. one.1))
 
 -- At busy time 2, n cycles from the first of phase 2 on, which is cycle 11.
@@ -87,11 +83,10 @@ works_run = is_run 2 (replicate 13 wanting ++ start)
 
 works_sound : AreSound (block ∷ []) (working 13)
 unfolding AreBytes
-works_sound = is_sound 2 (block ∷ []) (replicate 13 wanting ++ start) (sound wanting 13 start (refl, sound_wish) (sound rising 11 [] (refl, tt) tt))
+works_sound =
+    let sound_wish : IsSound (block ∷ []) asked = (omega arith, (omega arith, (omega arith, tt))) in
+    is_sound 2 (block ∷ []) (replicate 13 wanting ++ start) (sound wanting 13 start (refl, sound_wish) (sound rising 11 [] (refl, tt) tt))
   where
-    sound_wish : IsSound (block ∷ []) asked
-    sound_wish = (omega arith, (omega arith, (omega arith, tt)))
-
     sound : (c : Choice) (n : ℕ) (more : List Choice) → AreAlike c.blocks (block ∷ []) × IfSome c.wants (λ r. IsSound (block ∷ []) r) → AreSoundChoices (block ∷ []) more → AreSoundChoices (block ∷ []) (replicate n c ++ more)
     sound c zero more is are = are
     sound c (suc n) more is are = (sound c n more is are, is)
@@ -125,33 +120,15 @@ works_listed = listed (working 13)
     listed (v ∷ past) = (listed past, λ raw b found list. inr (omega arith))
 
 -- Each answer takes three cycles: the fourth, which ends the first write, comes in cycle 23, in which the next one begins.
-opens : open_since (working 12) [] ≡ 12
+opens : (open_since (working 12) [] ≡ 12)
+    × (length (answers_in (epoch_begun (working 12))) ≡ 3)
+    × (age_in (working 12) ≡ 3)
+    × (cost_in (cost_of 2 3 (λ raw. 512) (block ∷ [])) (epoch_begun (working 12)) ≡ 12)
+    × (length (answers_in (epoch_begun (working 13))) ≡ 4)
+    × (age_in (working 13) ≡ 1)
+    × (cost_in (cost_of 2 3 (λ raw. 512) (block ∷ [])) (epoch_begun (working 13)) ≡ 24)
 unfolding element_words element_of attribute_fault attribute_of write_cause bytes_written
-opens = refl
-
-three : length (answers_in (epoch_begun (working 12))) ≡ 3
-unfolding element_words element_of attribute_fault attribute_of write_cause bytes_written
-three = refl
-
-oldest : age_in (working 12) ≡ 3
-unfolding element_words element_of attribute_fault attribute_of write_cause bytes_written
-oldest = refl
-
-costs : cost_in (cost_of 2 3 (λ raw. 512) (block ∷ [])) (epoch_begun (working 12)) ≡ 12
-unfolding element_words element_of attribute_fault attribute_of write_cause bytes_written
-costs = refl
-
-four : length (answers_in (epoch_begun (working 13))) ≡ 4
-unfolding element_words element_of attribute_fault attribute_of write_cause bytes_written
-four = refl
-
-youngest : age_in (working 13) ≡ 1
-unfolding element_words element_of attribute_fault attribute_of write_cause bytes_written
-youngest = refl
-
-begun_next : cost_in (cost_of 2 3 (λ raw. 512) (block ∷ [])) (epoch_begun (working 13)) ≡ 24
-unfolding element_words element_of attribute_fault attribute_of write_cause bytes_written
-begun_next = refl
+opens = (refl, refl, refl, refl, refl, refl, refl)
 
 -- The drive misses the MST of the cycles 15 and 16, and is in phase 0 from then on: no further answer is taken, and the step stays open.
 abbrev deaf : Choice
@@ -160,18 +137,12 @@ deaf = record usual { mst_comes = false }
 abbrev dead : ℕ → List View
 dead n = run_by 2 (replicate n wanting ++ deaf ∷ deaf ∷ replicate 4 wanting ++ start)
 
-down : (standing (dead 5)).ended ≡ 0
-unfolding element_words element_of attribute_fault attribute_of write_cause bytes_written
-down = refl
-
-no_more : length (answers_in (epoch_begun (dead 5))) ≡ 1
-unfolding element_words element_of attribute_fault attribute_of write_cause bytes_written
-no_more = refl
-
 -- it was begun in cycle 14, and is open still in cycle 21
-aging : age_in (dead 5) ≡ 8
+down : ((standing (dead 5)).ended ≡ 0)
+    × (length (answers_in (epoch_begun (dead 5))) ≡ 1)
+    × (age_in (dead 5) ≡ 8)
 unfolding element_words element_of attribute_fault attribute_of write_cause bytes_written
-aging = refl
+down = (refl, refl, refl)
 
 -- Only the MST of cycle 15 is missed, and no AT is sent in it. The open step was accepted in cycle 14, and has its answer in cycle 17.
 abbrev cut : ℕ → List View

@@ -1,7 +1,5 @@
 -- With each call of the master each channel goes by moves.
-use Rattle.sercos_law_run.proofs.Words.{◌≡◌, inl, inr, ℕ, ◌<◌, Bool, true, false, not, ◌&&◌, List, [], ◌∷◌, length, refl, sym, ap, ap₂, ◌∙◌, subst, arith, if◌then◌else◌, ◌==◌, Option, Some, None, is_none, slice_index, and_parts, eqb-true, not-true, cases_eq, status_of, word_at, at_fault, begun_by, Send, Begun, last_outcome, trouble_by, Known, Task, member, is_checked, is_ready, is_done_in, Call, HearMst, HearAt, End, Restart, Past, outcomes, is_awaited, wanted_len, after_taken, after_at, place_of, is_done, after_end, settled, with_begin, with_task, begun, sent_to, is_sent_to, addressed_in, ready_to_send, past, hearing, none_troubled, no_stop_before, settles, each_passes, at_keeps, begins_next, end_keeps, settled_keeps, same_place, CallsAreMoves, GoesByMoves, AreMoves, newest, Channel, channel_at, new_channel, IsNextTask, IsDoneWith, Steps, Stays, Identifies, Hears, Plans, Begins, Moves, Within, Ends, Falls, cases_Bool, cases_Option, other_place}
-use Rattle.sercos_service_master.specs.Calls as channel
-use Rattle.sercos_master.specs.Annals.{Mdt, begins}
+use Rattle.sercos_law_run.proofs.Words.{◌≡◌, inl, inr, ℕ, ◌<◌, Bool, true, false, not, ◌&&◌, List, [], ◌∷◌, length, refl, sym, ap, ap₂, ◌∙◌, subst, arith, if◌then◌else◌, ◌==◌, Option, Some, is_none, slice_index, and_parts, not-true, cases_eq, status_of, word_at, at_fault, begun_by, last_outcome, trouble_by, Known, Task, member, is_checked, is_ready, is_done_in, Call, HearMst, HearAt, End, Restart, Past, outcomes, is_awaited, wanted_len, after_taken, after_at, place_of, is_done, settled, begun, sent_to, is_sent_to, addressed_in, ready_to_send, past, hearing, none_troubled, no_stop_before, settles, each_passes, at_keeps, begins_next, end_keeps, settled_keeps, same_place, CallsAreMoves, GoesByMoves, AreMoves, newest, Channel, channel_at, new_channel, IsNextTask, IsDoneWith, Steps, Stays, Identifies, Hears, Plans, Begins, Moves, Within, Ends, Falls, cases_Bool, cases_Option, other_place, task_begun, MasterMdt, ChannelCall}
 use Rattle.sercos_law_run.proofs.Views.MasterSame.{done_below}
 
 module _ (s : Known) (k : ℕ) where
@@ -9,11 +7,11 @@ module _ (s : Known) (k : ℕ) where
   taken_moves : (i : ℕ) (content : List ℕ) (p : Past) → p.now.heard i ≡ false → Steps s k (channel_at p k) (channel_at (after_taken i content p) k)
   taken_moves i content p free = elim (cases_eq k i) [
     | inl same ↦ subst (λ (j : ℕ). Steps s k (channel_at p k) (channel_at (after_taken j content p) k)) same (here (subst (λ (j : ℕ). p.now.heard j ≡ false) (sym same) free))
-    | inr other ↦ Stays (away other)
+    | inr other ↦ Stays (ap put (other_place k i other))
   ]
     where
-      set : Bool → Channel
-      set on = record {
+      here : p.now.heard k ≡ false → Steps s k (channel_at p k) (channel_at (after_taken k content p) k)
+      here off = subst (λ (on : Bool). Steps s k (channel_at p k) (record {
         phase = p.now.phase;
         waiting = p.waiting k;
         plan = p.plan;
@@ -21,10 +19,7 @@ module _ (s : Known) (k : ℕ) where
         begun = begun_by (if on then (hearing (p.now.phase == 1) k content p).calls else p.calls k);
         heard = if on then true else p.now.heard k;
         report = if on then (hearing (p.now.phase == 1) k content p).report else p.now.report k;
-      }
-
-      here : p.now.heard k ≡ false → Steps s k (channel_at p k) (channel_at (after_taken k content p) k)
-      here off = subst (λ (on : Bool). Steps s k (channel_at p k) (set on)) (sym (same_place k)) (elim (cases_Bool (p.now.phase == 1)) [
+      })) (sym (same_place k)) (elim (cases_Bool (p.now.phase == 1)) [
         | inl on ↦ rw on (Identifies refl)
         | inr is ↦ rw is (Hears (status_of (word_at content 1)) (word_at content 3) off refl)
       ])
@@ -39,9 +34,6 @@ module _ (s : Known) (k : ℕ) where
         heard = if on then true else p.now.heard k;
         report = if on then (hearing (p.now.phase == 1) i content p).report else p.now.report k;
       }
-
-      away : (k ≡ i → ⊥) → channel_at (after_taken i content p) k ≡ channel_at p k
-      away other = ap put (other_place k i other)
 
   pub at_moves : (content : List ℕ) (p : Past) → Steps s k (channel_at p k) (channel_at (after_at s content p) k)
   at_moves content p = at_keeps (λ q. Steps s k (channel_at p k) (channel_at q k)) s (place_of s (slice_index content 0)) content p
@@ -58,9 +50,9 @@ module _ (s : Known) (k : ℕ) where
     -- what is begun, after the answers of the cycle are looked at
     pub begun_moves : (p : Past) → Steps s k (channel_at (settled s p) k) (channel_at (begun s (settled s p)) k)
     begun_moves p =
-        elim (cases_Option (begins s (settled s p) k)) [ inl is ↦ Stays (rw is refl) | inr (t, is) ↦ Begins t (next t is) (rw is refl) ]
+        elim (cases_Option (task_begun s (settled s p) k)) [ inl is ↦ Stays (rw is refl) | inr (t, is) ↦ Begins t (next t is) (rw is refl) ]
       where
-        next : (t : Task) → begins s (settled s p) k ≡ Some t → IsNextTask s k (channel_at (settled s p) k) t
+        next : (t : Task) → task_begun s (settled s p) k ≡ Some t → IsNextTask s k (channel_at (settled s p) k) t
         next t is =
             let b = begins_next s (settled s p) k t is in
             let none = none_troubled s p 0 (length s.drives) k (no_stop_before s p b.unstopped) (omega arith) (omega (arith, there)) in
@@ -69,7 +61,7 @@ module _ (s : Known) (k : ℕ) where
               idle = b.idle;
               next = b.next;
               in_phase = b.in_phase;
-              well = ap₂ (λ (l : List Task) (c : List channel.Call). trouble_by (member s k).address l (last_outcome (begun_by c))) (ap (λ (f : ℕ → List Task). f k) same.tasks) (ap (λ (f : ℕ → List channel.Call). f k) same.calls) ∙ none;
+              well = ap₂ (λ (l : List Task) (c : List ChannelCall). trouble_by (member s k).address l (last_outcome (begun_by c))) (ap (λ (f : ℕ → List Task). f k) same.tasks) (ap (λ (f : ℕ → List ChannelCall). f k) same.calls) ∙ none;
             }
 
     pub sent_same : (addressed : Option ℕ) (p : Past) → channel_at (sent_to addressed p) k ≡ channel_at p k
@@ -83,18 +75,22 @@ module _ (s : Known) (k : ℕ) where
       ready = λ three. each_passes (length s.drives) 0 (λ j. is_ready (member s j) (outcomes p j)) (subst (λ (n : ℕ). is_done_in n s p ≡ true) three done) k (omega arith) (omega (arith, there));
     }
 
-    pub end_moves : (p : Past) → Moves s k (channel_at p k) (channel_at (after_end s p) k)
-    end_moves p = end_keeps (λ q. Moves s k (channel_at p k) (channel_at q k)) s p (Falls refl)
-        (λ done is. Ends done (λ up. end_done p (is ∙ up)) refl)
-
     -- so each call is moves
     pub call_moves : (requests : ℕ → List Task) (call : Call) (h : List Call) → GoesByMoves s k (channel_at (past s requests h) k) (channel_at (past s requests (call ∷ h)) k)
     call_moves requests (HearMst content) h = ([], tt, refl)
     call_moves requests (HearAt content) h = (channel_at (past s requests (HearAt content ∷ h)) k ∷ [], (tt, Within (at_moves content (past s requests h))), refl)
-    call_moves requests Mdt h =
+    call_moves requests MasterMdt h =
         let p = past s requests h in
         (channel_at (begun s (settled s p)) k ∷ channel_at (settled s p) k ∷ [], ((tt, Within (settled_moves p)), Within (begun_moves p)), sent_same (addressed_in s (ready_to_send s p)) (ready_to_send s p))
-    call_moves requests End h = (channel_at (past s requests (End ∷ h)) k ∷ [], (tt, end_moves (past s requests h)), refl)
+    call_moves requests End h = (
+      channel_at (past s requests (End ∷ h)) k ∷ [],
+      (
+        tt,
+        end_keeps (λ q. Moves s k (channel_at (past s requests h) k) (channel_at q k)) s (past s requests h) (Falls refl)
+            (λ done is. Ends done (λ up. end_done (past s requests h) (is ∙ up)) refl),
+      ),
+      refl,
+    )
     call_moves requests Restart h = (channel_at (past s requests (Restart ∷ h)) k ∷ [], (tt, Falls refl), refl)
 
     -- what each move keeps holds after any calls

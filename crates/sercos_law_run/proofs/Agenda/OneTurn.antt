@@ -1,18 +1,15 @@
 -- In phase 2 at most one channel has an open transfer.
-use Rattle.sercos_law_run.proofs.Words.{◌≡◌, inl, inr, ℕ, zero, suc, ◌+◌, ◌<◌, ◌≤◌, Bool, true, false, not, ◌&&◌, List, [], ◌∷◌, length, refl, sym, ap, ap₂, ◌∙◌, subst, arith, if◌then◌else◌, ◌==◌, Option, Some, None, is_some, is_none, option_or, and_parts, both_ways, eq-eqb, cases_eq, same_Some, beq, Status, status_of, word_at, Step, Answer, Outcome, outcome_of, next_step, PlanView, Begun, open_in, mhs_in, answers_it, answer_in, with_answer, outcome_with, Send, begun_by, with_status, going_on, Known, Task, member, is_read, is_checked, with_outcome, outcomes_in, AreWaiting, all_waiting, mdt_adds, leaves, begins_next, going, past_keeps, Call, Past, first_from, outcomes, is_idle, after_taken, in_turn, with_begin, settled, begun, is_sent_to, addressed_in, ready_to_send, after_mdt, past, hearing, other_place, outcome_in, IsTask, OfReads, OfWrites, Checks3, Lists3, Checks4, Lists4, OfWaiting, AreBegunTasks, HasTurn, cases_Bool}
-use Rattle.sercos_service_master.specs.Calls as channel
-use Rattle.sercos_master.specs.Annals.{begins}
+use Rattle.sercos_law_run.proofs.Words.{◌≡◌, inl, inr, ℕ, zero, suc, ◌+◌, ◌<◌, ◌≤◌, Bool, true, false, not, ◌&&◌, List, [], ◌∷◌, length, refl, sym, ap, ap₂, ◌∙◌, subst, arith, if◌then◌else◌, ◌==◌, Option, Some, None, is_some, is_none, option_or, and_parts, both_ways, eq-eqb, cases_eq, same_Some, beq, Status, status_of, word_at, Answer, Outcome, outcome_of, next_step, PlanView, Begun, open_in, mhs_in, answers_it, answer_in, with_answer, outcome_with, begun_by, with_status, going_on, Known, Task, member, is_read, is_checked, with_outcome, outcomes_in, AreWaiting, all_waiting, mdt_adds, leaves, begins_next, going, past_keeps, Call, Past, first_from, outcomes, is_idle, after_taken, in_turn, with_begin, settled, begun, is_sent_to, addressed_in, ready_to_send, after_mdt, past, hearing, other_place, outcome_in, AreBegunTasks, HasTurn, cases_Bool, cases_Option, task_begun, ChannelCall}
 use Rattle.sercos_law_run.proofs.Agenda.TaskRuns.{begun_tasks}
 use Rattle.sercos_law_run.proofs.Views.MasterSame.{send_same}
 use Rattle.sercos_law_run.proofs.Agenda.AgendaTasks.{task_phase}
 
 -- A STATUS IS HEARD. Where no step is open, it changes nothing.
 pub idle_hears : (status : Status) (word : ℕ) (begun : List Begun) → is_none (open_in begun) ≡ true → with_status status word begun ≡ begun
-idle_hears status word begun idle = by (open_in begun) idle refl
-  where
-    by : (o : Option Step) → is_none o ≡ true → open_in begun ≡ o → with_status status word begun ≡ begun
-    by None idle is = ap (λ (v : Bool). if v && (beq status.ahs (mhs_in begun) && not status.busy) then with_answer (answer_in status word) begun else begun) (ap is_some is)
-    by (Some x) idle is = absurd (cc)
+idle_hears status word begun idle = elim (cases_Option (open_in begun)) [
+  | inl is ↦ ap (λ (v : Bool). if v && (beq status.ahs (mhs_in begun) && not status.busy) then with_answer (answer_in status word) begun else begun) (ap is_some is)
+  | inr (x, is) ↦ let idle = rw is at idle in absurd (cc)
+]
 
 -- otherwise it adds the outcome, if it brings one, and then no step is open any more
 pub record HearsSo (status : Status) (word : ℕ) (begun : List Begun) : Type 0 where
@@ -37,19 +34,16 @@ hears_so status word begun = record {
   closes = closes (answers_it begun status) refl;
 }
   where
-    on_open : answers_it begun status ≡ true → is_some (open_in begun) ≡ true
-    on_open on = (and_parts (is_some (open_in begun)) _ on).0
-
     adds : (v : Bool) → answers_it begun status ≡ v → outcomes_in (if v then with_answer (answer_in status word) begun else begun) ≡ with_outcome (if v then outcome_with (answer_in status word) begun else None) (outcomes_in begun)
-    adds true on = (answered_so (answer_in status word) begun (on_open on)).0
+    adds true on = (answered_so (answer_in status word) begun ((and_parts (is_some (open_in begun)) _ on).0)).0
     adds false off = refl
 
     open_so : (v : Bool) → answers_it begun status ≡ v → is_some (if v then outcome_with (answer_in status word) begun else None) ≡ true → is_some (open_in begun) ≡ true
-    open_so true on some = on_open on
+    open_so true on some = (and_parts (is_some (open_in begun)) _ on).0
     open_so false off some = absurd (cc)
 
     closes : (v : Bool) → answers_it begun status ≡ v → is_some (if v then outcome_with (answer_in status word) begun else None) ≡ true → is_none (open_in (if v then with_answer (answer_in status word) begun else begun)) ≡ true
-    closes true on some = (answered_so (answer_in status word) begun (on_open on)).1 some
+    closes true on some = (answered_so (answer_in status word) begun ((and_parts (is_some (open_in begun)) _ on).0)).1 some
     closes false off some = absurd (cc)
 
 -- The first of the places is the same where the outcomes are.
@@ -73,14 +67,13 @@ elsewhere_same i k content p other = ap (λ (v : Bool). begun_by (if v then (hea
     (other_place k i other)
 
 pub here_hears : (i : ℕ) (content : List ℕ) (p : Past) → AtHears p (after_taken i content p) i
-here_hears i content p = elim (cases_Bool (p.now.phase == 1)) [
-  | inl on ↦ SameAt (place ∙ ap (λ (v : Bool). begun_by (hearing v i content p).calls) on)
-  | inr off ↦ HeardAt (status_of (word_at content 1)) (word_at content 3)
-      (place ∙ ap (λ (v : Bool). begun_by (hearing v i content p).calls) off)
-]
-  where
-    place : begun_by ((after_taken i content p).calls i) ≡ begun_by (hearing (p.now.phase == 1) i content p).calls
-    place = ap (λ (v : Bool). begun_by (if v then (hearing (p.now.phase == 1) i content p).calls else p.calls i)) (eq-eqb i i refl)
+here_hears i content p =
+    let place = ap (λ (v : Bool). begun_by (if v then (hearing (p.now.phase == 1) i content p).calls else p.calls i)) (eq-eqb i i refl) in
+    elim (cases_Bool (p.now.phase == 1)) [
+      | inl on ↦ SameAt (place ∙ ap (λ (v : Bool). begun_by (hearing v i content p).calls) on)
+      | inr off ↦ HeardAt (status_of (word_at content 1)) (word_at content 3)
+          (place ∙ ap (λ (v : Bool). begun_by (hearing v i content p).calls) off)
+    ]
 
 module _ (s : Known) where
   abbrev pub AllHaveTurn : Past → Type 0
@@ -116,41 +109,33 @@ module _ (s : Known) where
               was true is on = absurd (both_ways (is_idle (after_taken i content p) i) on (ap (λ (l : List Begun). is_none (open_in l)) (here ∙ idle_hears status word (begun_by (p.calls i)) is) ∙ is))
 
           which : (o : Option Outcome) → outcome_in (begun_by (p.calls i)) status word ≡ o → in_turn s (after_taken i content p) ≡ Some k
-          which None none = turn_same s p (after_taken i content p) (λ j. each j) ∙ have k there two (before k opens)
-            where
-              each : (j : ℕ) → outcomes (after_taken i content p) j ≡ outcomes p j
-              each j = elim (cases_eq j i) [
-                | inl same ↦ subst (λ (m : ℕ). outcomes (after_taken i content p) m ≡ outcomes p m) (sym same) (ap outcomes_in here ∙ so.adds ∙ ap (λ (o : Option Outcome). with_outcome o (outcomes p i)) none)
-                | inr other ↦ ap outcomes_in (elsewhere_same i j content p other)
-              ]
+          which None none = turn_same s p (after_taken i content p) (λ j. elim (cases_eq j i) [
+            | inl same ↦ subst (λ (m : ℕ). outcomes (after_taken i content p) m ≡ outcomes p m) (sym same)
+                (ap outcomes_in here ∙ so.adds ∙ ap (λ (o : Option Outcome). with_outcome o (outcomes p i)) none)
+            | inr other ↦ ap outcomes_in (elsewhere_same i j content p other)
+          ]) ∙ have k there two (before k opens)
           which (Some o) some =
               let on : is_some (outcome_in (begun_by (p.calls i)) status word) ≡ true = ap is_some some in
-              let was = was_open (open_in (begun_by (p.calls i))) (so.was_open on) in
-              let mine = have i inside two was in
-              let its = have k there two (before k opens) in
-              let same : i ≡ k = same_Some i k (sym mine ∙ its) in
+              let same : i ≡ k = same_Some i k (sym (have i inside two
+              (elim (cases_Option (open_in (begun_by (p.calls i)))) [
+                | inl none ↦ let on = rw none at (so.was_open on) in
+                    absurd (cc)
+                | inr (x, some) ↦ rw some
+              ])) ∙ (have k there two (before k opens))) in
               let closed : is_idle (after_taken i content p) i ≡ true = ap (λ (l : List Begun). is_none (open_in l)) here ∙ so.closes on in
               absurd (both_ways (is_idle (after_taken i content p) k) opens (subst (λ (m : ℕ). is_idle (after_taken i content p) m ≡ true) same closed))
-            where
-              was_open : (x : Option Step) → is_some x ≡ true → is_none x ≡ false
-              was_open None on = absurd (cc)
-              was_open (Some x) on = refl
 
   -- the MDT
   mdt_turn : (p : Past) → AllHaveTurn p → AllHaveTurn (after_mdt s p)
-  mdt_turn p have k there two opens = by (begins s (settled s p) k) refl (ap (λ (l : List Begun). is_none (open_in l)) (sym (send_same (is_sent_to (ready_to_send s p) (addressed_in s (ready_to_send s p)) k) ((ready_to_send s p).calls k))) ∙ opens)
+  mdt_turn p have k there two opens = by (task_begun s (settled s p) k) refl (ap (λ (l : List Begun). is_none (open_in l)) (sym (send_same (is_sent_to (ready_to_send s p) (addressed_in s (ready_to_send s p)) k) ((ready_to_send s p).calls k))) ∙ opens)
     where
-      all : (settled s p).calls ≡ p.calls
-      all = (leaves s p).calls
-
-      phase : p.now.phase ≡ 2
-      phase = sym (leaves s p).phase ∙ two
-
       settled_turn : in_turn s (settled s p) ≡ in_turn s p
-      settled_turn = turn_same s p (settled s p) (λ j. ap (λ (calls : ℕ → List channel.Call). outcomes_in (begun_by (calls j))) (leaves s p).calls)
+      settled_turn = turn_same s p (settled s p) (λ j. ap (λ (calls : ℕ → List ChannelCall). outcomes_in (begun_by (calls j))) (leaves s p).calls)
 
-      by : (o : Option Task) → begins s (settled s p) k ≡ o → is_none (open_in (begun_by (with_begin o ((settled s p).calls k)))) ≡ false → in_turn s (after_mdt s p) ≡ Some k
-      by None none opens = turn_same s p (after_mdt s p) (λ j. mdt_adds s p j) ∙ have k there phase (ap (λ (calls : ℕ → List channel.Call). is_none (open_in (begun_by (calls k)))) (sym all) ∙ opens)
+      by : (o : Option Task) → task_begun s (settled s p) k ≡ o → is_none (open_in (begun_by (with_begin o ((settled s p).calls k)))) ≡ false → in_turn s (after_mdt s p) ≡ Some k
+      by None none opens =
+          turn_same s p (after_mdt s p) (λ j. mdt_adds s p j) ∙ have k there (sym (leaves s p).phase ∙ two)
+          (ap (λ (calls : ℕ → List ChannelCall). is_none (open_in (begun_by (calls k)))) (sym ((leaves s p).calls)) ∙ opens)
       by (Some t) some opens = turn_same s p (after_mdt s p) (λ j. mdt_adds s p j) ∙ sym settled_turn ∙
           (begins_next s (settled s p) k t some).turn two
 

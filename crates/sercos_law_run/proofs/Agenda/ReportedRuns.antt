@@ -1,6 +1,5 @@
 -- After any calls the requests that were reported, then those that are left, are the requests to the drive in their order.
-use Rattle.sercos_law_run.proofs.Words.{◌≡◌, ◌⊎◌, inl, inr, ℕ, zero, suc, ◌+◌, ◌<◌, ◌≤◌, Bool, true, false, List, [], ◌∷◌, drop, length, refl, sym, ap, ◌∙◌, subst, arith, if◌then◌else◌, Option, Some, None, is_some, is_none, option_map, slice_get, option_or, and_parts, cases_eq, Status, Step, Answer, Outcome, outcome_of, next_step, PlanView, Begun, open_in, answers_it, answer_in, with_answer, outcome_with, ready_long, ready_stays, broken_number, numbered, Report, report_of, number_in, count_requests, with_outcome, outcomes_in, Known, Task, member, reads_count, is_ready, not_longer, end_keeps, Restart, Call, HearMst, HearAt, End, Past, settled, begun, addressed_in, ready_to_send, fall_of, goes_on, next_phase, new_epoch, still_waiting, past, task_numbers, IsAtStart, RestartsAtStart, TellsInOrder, broken_in, AreNumbered, with_told, told_at_end, told, with_number, after_told, still_to_tell, Ends, Channel, channel_at, beginning, Steps, Stays, Identifies, Hears, Plans, Begins, Moves, Within, Falls, IsTask, OfReads, OfWrites, Checks3, Lists3, Checks4, Lists4, OfWaiting, AreBegunTasks, cases_Bool, has_next}
-use Rattle.sercos_master.specs.Annals.{Mdt}
+use Rattle.sercos_law_run.proofs.Words.{◌≡◌, ◌⊎◌, inl, inr, ℕ, zero, suc, ◌+◌, ◌<◌, ◌≤◌, Bool, true, false, List, [], ◌∷◌, drop, length, refl, sym, ap, ◌∙◌, subst, arith, if◌then◌else◌, Option, Some, None, is_some, is_none, option_map, slice_get, option_or, and_parts, cases_eq, Status, Step, Answer, Outcome, outcome_of, next_step, PlanView, Begun, open_in, answers_it, answer_in, with_answer, outcome_with, ready_long, ready_stays, broken_number, numbered, Report, report_of, number_in, count_requests, outcomes_in, Known, Task, member, reads_count, is_ready, not_longer, end_keeps, Restart, Call, HearMst, HearAt, End, settled, begun, addressed_in, ready_to_send, fall_of, still_waiting, past, task_numbers, IsAtStart, RestartsAtStart, TellsInOrder, broken_in, AreNumbered, with_told, told, with_number, after_told, still_to_tell, Ends, Channel, channel_at, beginning, Steps, Stays, Identifies, Hears, Plans, Begins, Moves, Within, Falls, IsTask, OfReads, OfWrites, Checks3, Lists3, Checks4, Lists4, OfWaiting, AreBegunTasks, cases_Bool, has_next, cases_Option, MasterMdt}
 use Rattle.sercos_law_run.specs.Agenda.Channels.{hearing}
 use Rattle.sercos_law_run.proofs.Agenda.AgendaTasks.{is_task, late_waits}
 use Rattle.sercos_law_run.proofs.Agenda.CallMoves.{at_moves, settled_moves, begun_moves, sent_same, always}
@@ -17,9 +16,6 @@ count_one : (o : Option ℕ) (n : ℕ) → is_some o ≡ true → (if is_some o 
 count_one None n on = absurd (cc)
 count_one (Some i) n on = refl
 
-count_none : (o : Option ℕ) (n : ℕ) → o ≡ None → (if is_some o then n + 1 else n) ≡ n
-count_none o n none = ap (λ (x : Option ℕ). if is_some x then n + 1 else n) none
-
 module _ (s : Known) (k : ℕ) (plan : Option PlanView) (waiting : List Task) (have : AreNumbered waiting) where
   early_count : (phase : ℕ) (begun : List Begun) (tasks : List Task) → AreBegunTasks s k plan waiting phase begun tasks → length begun ≤ reads_count (member s k) + 13 → count_requests tasks ≡ 0
   early_count phase [] [] are few = refl
@@ -27,12 +23,9 @@ module _ (s : Known) (k : ℕ) (plan : Option PlanView) (waiting : List Task) (h
   early_count phase (b ∷ older) [] are few = absurd are
   early_count phase (b ∷ older) (t ∷ tasks) are few =
       let ended = are.1.ended in
-      count_none t.number (count_requests tasks) (startup_until s k are.1.by_then waiting (outcomes_in older) t (omega arith) are.1.task)
+      (ap (λ (x : Option ℕ). if is_some x then (count_requests tasks) + 1 else (count_requests tasks))
+      (startup_until s k are.1.by_then waiting (outcomes_in older) t (omega arith) are.1.task))
       ∙ early_count phase older tasks are.0 (omega arith)
-
-  ready_more : (all : List Outcome) (o : Option Outcome) → reads_count (member s k) + 12 < length all → is_ready (member s k) (with_outcome o all) ≡ is_ready (member s k) all
-  ready_more all None many = refl
-  ready_more all (Some o) many = ready_stays (member s k) all o many
 
   -- how many requests were begun, if the check for phase 4 has ended well
   pub count_so : (phase : ℕ) (begun : List Begun) (tasks : List Task) → AreBegunTasks s k plan waiting phase begun tasks → is_ready (member s k) (outcomes_in begun) ≡ true → count_requests tasks + (reads_count (member s k) + 13) ≡ length begun
@@ -48,7 +41,10 @@ module _ (s : Known) (k : ℕ) (plan : Option PlanView) (waiting : List Task) (h
           let many = ready_long (member s k) (outcomes_in (b ∷ older)) ready in
           let few = not_longer (b ∷ older) in
           let ended = are.1.ended in
-          let before : is_ready (member s k) (outcomes_in older) ≡ true = sym (ready_more (outcomes_in older) (outcome_of b.request b.answers) (omega (arith, many, few, ended, other))) ∙ ready in
+          let before : is_ready (member s k) (outcomes_in older) ≡ true = sym (elim (cases_Option (outcome_of b.request b.answers)) [
+            | inl none ↦ rw none refl
+            | inr some ↦ rw some.1 (ready_stays (member s k) (outcomes_in older) some.0 (omega (arith, many, few, ended, other)))
+          ]) ∙ ready in
           let some : is_some t.number ≡ true = (let (j, got) = late_waits s k are.1.by_then waiting (outcomes_in older) t (omega arith)
           before are.1.task in have j t got) in
           let one = count_one t.number (count_requests tasks) some in
@@ -65,8 +61,7 @@ module _ (s : Known) (k : ℕ) (plan : Option PlanView) (waiting : List Task) (h
   begins_first phase begun tasks t are ended (Lists4 at failed same) = inl (ap (λ (x : Task). x.number) same)
   begins_first phase begun tasks t are ended (OfWaiting j at ready got) =
       let so = count_so phase begun tasks are ready in
-      let same : count_requests tasks ≡ j = omega arith in
-      inr (have j t got, ap (slice_get waiting) same ∙ got)
+      let same : count_requests tasks ≡ j = omega arith in inr (have j t got, ap (slice_get waiting) same ∙ got)
 
 module _ (s : Known) (k : ℕ) where
   pub record IsTelling (c : Channel) : Type 0 where
@@ -82,58 +77,51 @@ module _ (s : Known) (k : ℕ) where
   answer_tells : (n : Option ℕ) (a : Answer) (begun : List Begun) (rest : List (Option ℕ)) → is_some (open_in begun) ≡ true →
       with_number (report_of (outcome_with a begun) n) (with_number (if is_none (open_in (with_answer a begun)) then None else broken_number n) rest) ≡ with_number (if is_none (open_in begun) then None else broken_number n) rest
   answer_tells n a [] rest on = absurd (cc)
-  answer_tells n a (b ∷ older) rest on = by (outcome_of b.request (a ∷ b.answers)) refl
+  answer_tells n a (b ∷ older) rest on =
+      let open_now = some_then n (open_in (b ∷ older)) on in
+      elim (cases_Option (outcome_of b.request (a ∷ b.answers))) [
+        | inl none ↦ rw none (
+            ap (λ (x : Option Report). with_number x rest)
+            (some_then n (next_step b.request (a ∷ b.answers)) (has_next b.request (a ∷ b.answers) (ap is_some none)) ∙ sym open_now))
+        | inr (o, some) ↦ rw some (ends o n ∙ ap (λ (x : Option Report). with_number x rest) (sym open_now))
+      ]
     where
-      open_now : (if is_none (open_in (b ∷ older)) then None else broken_number n) ≡ broken_number n
-      open_now = some_then n (open_in (b ∷ older)) on
-
       ends : (o : Outcome) (m : Option ℕ) → with_number (option_map (numbered o) m) rest ≡ with_number (broken_number m) rest
       ends o None = refl
       ends o (Some i) = refl
 
-      by : (o : Option Outcome) → outcome_of b.request (a ∷ b.answers) ≡ o →
-          with_number (report_of o n) (with_number (if is_none (if is_some o then None else next_step b.request (a ∷ b.answers)) then None else broken_number n) rest) ≡ with_number (if is_none (open_in (b ∷ older)) then None else broken_number n) rest
-      by None none = ap (λ (x : Option Report). with_number x rest)
-          (some_then n (next_step b.request (a ∷ b.answers)) (has_next b.request (a ∷ b.answers) (ap is_some none)) ∙ sym open_now)
-      by (Some o) some = ends o n ∙ ap (λ (x : Option Report). with_number x rest) (sym open_now)
-
-  none_report : (o : Option Report) → option_or o None ≡ o
-  none_report None = refl
-  none_report (Some r) = refl
-
   hearing_tells : (status : Status) (word : ℕ) (c : Channel) → c.report ≡ None → still_to_tell (hearing status word c) ≡ still_to_tell c
   hearing_tells status word c none =
+      let after = with_number (broken_in (hearing status word c)) (task_numbers (drop (count_requests c.tasks) c.waiting)) in
       ap (λ (r : Option Report). with_number (option_or (report_of (if answers_it c.begun status then outcome_with (answer_in status word) c.begun else None) (number_in c.tasks)) r) after) none
       ∙ (elim (cases_Bool (answers_it c.begun status)) [
         | inl on ↦
             rw on (ap (λ (r : Option Report). with_number r
             (with_number (if is_none (open_in (with_answer (answer_in status word) c.begun)) then None else broken_number
             (number_in c.tasks)) (task_numbers (drop (count_requests c.tasks) c.waiting))))
-            (none_report (report_of (outcome_with (answer_in status word) c.begun) (number_in c.tasks)))
+            (elim (cases_Option (report_of (outcome_with (answer_in status word) c.begun) (number_in c.tasks))) [
+              | inl none ↦ rw none refl
+              | inr some ↦ rw some.1 refl
+            ])
             ∙ answer_tells (number_in c.tasks) (answer_in status word) c.begun (task_numbers (drop (count_requests c.tasks) c.waiting))
             (and_parts (is_some (open_in c.begun)) _ on).0)
         | inr off ↦ rw off
       ])
       ∙ sym (ap (λ (r : Option Report). with_number r (with_number (broken_in c) (task_numbers (drop (count_requests c.tasks) c.waiting))))
       none)
-    where
-      after : List (Option ℕ)
-      after = with_number (broken_in (hearing status word c)) (task_numbers (drop (count_requests c.tasks) c.waiting))
 
   begin_tells : (t : Task) (c : Channel) → is_none (open_in c.begun) ≡ true → (t.number ≡ None) ⊎ ((is_some t.number ≡ true) × (slice_get c.waiting (count_requests c.tasks) ≡ Some t)) → still_to_tell (beginning t c) ≡ still_to_tell c
-  begin_tells t c idle which = ap (with_number c.report) (open_first ∙ by which ∙ sym (ap (λ (v : Bool). with_number (if v then None else broken_number (number_in c.tasks)) (task_numbers (drop (count_requests c.tasks) c.waiting))) idle))
+  begin_tells t c idle which =
+      ap (with_number c.report) ((ap (λ (r : Option Report). with_number r (task_numbers (drop (count_requests (t ∷ c.tasks)) c.waiting)))
+      (some_then t.number (next_step t.request []) (has_next t.request [] refl))) ∙ (elim which [
+        | inl none ↦ ap (λ (o : Option ℕ). with_number (broken_number o) (task_numbers (drop (if is_some o then count_requests c.tasks + 1 else count_requests c.tasks) c.waiting))) none
+        | inr some ↦ some_number t.number (count_requests c.tasks) some.0 (drop_get c.waiting (count_requests c.tasks) t some.1)
+      ]) ∙ sym (ap (λ (v : Bool). with_number (if v then None else broken_number (number_in c.tasks))
+      (task_numbers (drop (count_requests c.tasks) c.waiting))) idle))
     where
-      open_first : with_number (broken_in (beginning t c)) (task_numbers (drop (count_requests (t ∷ c.tasks)) c.waiting)) ≡ with_number (broken_number t.number) (task_numbers (drop (count_requests (t ∷ c.tasks)) c.waiting))
-      open_first = ap (λ (r : Option Report). with_number r (task_numbers (drop (count_requests (t ∷ c.tasks)) c.waiting)))
-          (some_then t.number (next_step t.request []) (has_next t.request [] refl))
-
       some_number : (o : Option ℕ) (j : ℕ) → is_some o ≡ true → task_numbers (drop j c.waiting) ≡ o ∷ task_numbers (drop (suc j) c.waiting) → with_number (broken_number o) (task_numbers (drop (if is_some o then j + 1 else j) c.waiting)) ≡ task_numbers (drop j c.waiting)
       some_number None j on is = absurd (cc)
       some_number (Some i) j on is = let next : j + 1 ≡ suc j = omega arith in ap (λ (n : ℕ). Some i ∷ task_numbers (drop n c.waiting)) next ∙ sym is
-
-      by : (t.number ≡ None) ⊎ ((is_some t.number ≡ true) × (slice_get c.waiting (count_requests c.tasks) ≡ Some t)) → with_number (broken_number t.number) (task_numbers (drop (count_requests (t ∷ c.tasks)) c.waiting)) ≡ task_numbers (drop (count_requests c.tasks) c.waiting)
-      by (inl none) = ap (λ (o : Option ℕ). with_number (broken_number o) (task_numbers (drop (if is_some o then count_requests c.tasks + 1 else count_requests c.tasks) c.waiting))) none
-      by (inr some) = some_number t.number (count_requests c.tasks) some.0 (drop_get c.waiting (count_requests c.tasks) t some.1)
 
   -- within a cycle nothing is reported, and nothing gets lost
   step_tells : (c d : Channel) → Steps s k c d → IsTelling c → still_to_tell d ≡ still_to_tell c
@@ -174,7 +162,7 @@ module _ (s : Known) (k : ℕ) where
     at_tells : (content : List ℕ) (h : List Call) → still_to_tell (channel_at (past s requests (HearAt content ∷ h)) k) ≡ still_to_tell (channel_at (past s requests h) k)
     at_tells content h = step_tells (channel_at (past s requests h) k) (channel_at (past s requests (HearAt content ∷ h)) k) (at_moves s k content (past s requests h)) (telling h)
 
-    mdt_tells : (h : List Call) → still_to_tell (channel_at (past s requests (Mdt ∷ h)) k) ≡ still_to_tell (channel_at (past s requests h) k)
+    mdt_tells : (h : List Call) → still_to_tell (channel_at (past s requests (MasterMdt ∷ h)) k) ≡ still_to_tell (channel_at (past s requests h) k)
     mdt_tells h =
         let p = past s requests h in
         let c1 = channel_at p k in
@@ -193,36 +181,30 @@ module _ (s : Known) (k : ℕ) where
     fresh [] none = refl
     fresh (HearMst content ∷ h) none = fresh h none
     fresh (HearAt content ∷ h) none = absurd none
-    fresh (Mdt ∷ h) none = absurd none
+    fresh (MasterMdt ∷ h) none = absurd none
     fresh (End ∷ h) none = end_keeps (λ q. (channel_at q k).report ≡ None) s (past s requests h) refl (λ done is. refl)
     fresh (Restart ∷ h) none = refl
-
-    restart_tells : (h : List Call) → IsAtStart h → after_told (told s requests k (Restart ∷ h)) (still_to_tell (channel_at (past s requests (Restart ∷ h)) k)) ≡ after_told (told s requests k h) (still_to_tell (channel_at (past s requests h) k))
-    restart_tells h none =
-        let p = past s requests h in
-        with_both (broken_in (channel_at p k)) (told s requests k h) (task_numbers (still_waiting p k))
-        ∙ sym (ap (λ (r : Option Report). after_told (told s requests k h) (with_number r (with_number (broken_in (channel_at p k)) (task_numbers (still_waiting p k))))) (fresh h none))
-
-    end_tells : (h : List Call) → after_told (told s requests k (End ∷ h)) (still_to_tell (channel_at (past s requests (End ∷ h)) k)) ≡ after_told (told s requests k h) (still_to_tell (channel_at (past s requests h) k))
-    end_tells h = by (is_some (fall_of s (past s requests h)))
-      where
-        p : Past
-        p = past s requests h
-
-        by : (fell : Bool) → after_told (told_at_end fell (p.now.report k) (broken_in (channel_at p k)) (told s requests k h)) (still_to_tell (channel_at (if fell then new_epoch (p.cycle + 1) (still_waiting p) else goes_on (next_phase s p) p) k)) ≡
-            after_told (told s requests k h) (still_to_tell (channel_at p k))
-        by true =
-            with_both (broken_in (channel_at p k)) (with_told (channel_at p k).report (told s requests k h)) (task_numbers (still_waiting p k))
-            ∙ with_both (channel_at p k).report (told s requests k h) (with_number (broken_in (channel_at p k)) (task_numbers (still_waiting p k)))
-        by false = with_both (channel_at p k).report (told s requests k h) (with_number (broken_in (channel_at p k)) (task_numbers (still_waiting p k)))
 
     pub tells : (h : List Call) → RestartsAtStart h → after_told (told s requests k h) (still_to_tell (channel_at (past s requests h) k)) ≡ task_numbers (requests k)
     tells [] order = refl
     tells (HearMst content ∷ h) order = tells h order
     tells (HearAt content ∷ h) order = ap (after_told (told s requests k h)) (at_tells content h) ∙ tells h order
-    tells (Mdt ∷ h) order = ap (after_told (told s requests k h)) (mdt_tells h) ∙ tells h order
-    tells (End ∷ h) order = end_tells h ∙ tells h order
-    tells (Restart ∷ h) order = restart_tells h order.1 ∙ tells h order.0
+    tells (MasterMdt ∷ h) order = ap (after_told (told s requests k h)) (mdt_tells h) ∙ tells h order
+    tells (End ∷ h) order = let p = past s requests h in
+        elim (cases_Bool (is_some (fall_of s (past s requests h)))) [
+          | inl on ↦ rw on (
+              with_both (broken_in (channel_at p k)) (with_told (channel_at p k).report (told s requests k h))
+              (task_numbers (still_waiting p k))
+              ∙ with_both (channel_at p k).report (told s requests k h)
+              (with_number (broken_in (channel_at p k)) (task_numbers (still_waiting p k))))
+          | inr off ↦ rw off (with_both (channel_at p k).report (told s requests k h)
+              (with_number (broken_in (channel_at p k)) (task_numbers (still_waiting p k))))
+        ] ∙ tells h order
+    tells (Restart ∷ h) order = let p = past s requests h in
+        with_both (broken_in (channel_at p k)) (told s requests k h) (task_numbers (still_waiting p k))
+        ∙ sym (ap (λ (r : Option Report). after_told (told s requests k h)
+        (with_number r (with_number (broken_in (channel_at p k)) (task_numbers (still_waiting p k))))) (fresh h order.1))
+        ∙ tells h order.0
 
 pub tells_in_order : TellsInOrder
 tells_in_order s requests h k have there order = tells s k there requests have h order

@@ -1,5 +1,5 @@
 -- The requests to a drive: all are of phase 4 and have a number, and the numbers ascend.
-use Rattle.sercos_law_run.proofs.Words.{ℕ, zero, suc, ◌+◌, ◌≤◌, Bool, true, false, List, [], ◌∷◌, drop, refl, arith, if◌then◌else◌, ◌==◌, Job, Task, member, request_task, tasks_from, tasks_numbered, tasks_wait, AreNumbered, Ascend, AreRequests, cases_Bool, inl, inr, Known, Call, past, still_left, subst, sym}
+use Rattle.sercos_law_run.proofs.Words.{ℕ, zero, suc, ◌+◌, ◌≤◌, List, [], ◌∷◌, drop, refl, arith, ◌==◌, Job, Task, member, tasks_from, tasks_numbered, tasks_wait, AreNumbered, Ascend, AreRequests, cases_Bool, inl, inr, Known, Call, past, still_left, subst, sym}
 
 pub numbered_drop : (n : ℕ) (tasks : List Task) → AreNumbered tasks → AreNumbered (drop n tasks)
 numbered_drop zero tasks are = are
@@ -14,7 +14,7 @@ all_numbered s requests h have k =
 
 lower : (i j : ℕ) (tasks : List Task) → i ≤ j → Ascend j tasks → Ascend i tasks
 lower i j [] less up = tt
-lower i j (t ∷ tasks) less up = let high = up.2 in (up.0, up.1, omega (arith, less, high), up.3)
+lower i j (t ∷ tasks) less up = (up.0, up.1, omega (arith, less, up.2), up.3)
 
 pub ascend_from : (address i : ℕ) (jobs : List Job) → Ascend i (tasks_from address i jobs)
 ascend_from address i [] = tt

@@ -12,10 +12,7 @@ record IsRight (c : Channel) : Type 0 where
 
 -- the answer that ends it
 answer_right : (a : Answer) (begun : List Begun) (tasks : List Task) (r : Report) → option_or (report_of (outcome_with a begun) (number_in tasks)) None ≡ Some r → IsReportOf r (with_answer a begun) tasks
-answer_right a [] tasks r is = absurd (none (number_in tasks) is)
-  where
-    none : (n : Option ℕ) → option_or (report_of None n) None ≡ Some r → ⊥
-    none n is = cc
+answer_right a [] tasks r is = absurd (cc)
 answer_right a (b ∷ older) [] r is = absurd (elim (cases_Option (outcome_of b.request (a ∷ b.answers))) [
   | inl none ↦ let is = rw none at is in cc
   | inr (o, some) ↦ let is = rw some at is in cc

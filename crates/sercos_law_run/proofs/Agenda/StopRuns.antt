@@ -1,8 +1,6 @@
 -- After any calls a stop has its cause.
-use Rattle.sercos_law_run.proofs.Words.{◌≡◌, ℕ, suc, ◌+◌, ◌<◌, Bool, true, false, ◌&&◌, List, [], ◌∷◌, ◌++◌, length, refl, sym, ap, ◌∙◌, subst, arith, if◌then◌else◌, ap₂, nat_le, Option, Some, None, Err, is_some, is_none, option_map, slice_get, filter, last_or, get_or_from_slice_get, same_Some, slice_get_within, leb-true, status_of, word_at, Idn, Outcome, outcome_of, next_step, record_bytes, WishesView, ChainView, planned, Begun, open_in, begun_by, Stop, is_read, reads_count, stop_by, asked_by, wishes_given, mdt_attributes, RecordEntry, record_entries, entries_from, has_four_bytes, stop_of_entry, last_long_stop, no_member, Known, Task, MemberView, member, with_outcome, outcomes_in, last_outcome, trouble_by, of_phase, each_passes, Brings, OfTrouble, OfChain, OfRecords, channel_keeps, going, made, past_keeps, settled_keeps, stopped, Adds, part_before, asks_same, at_adds, Call, Past, outcomes, is_idle, trouble, after_taken, all_read, settled, has_turn, next_task, with_begin, with_task, is_sent_to, addressed_in, ready_to_send, after_mdt, past, AreTooLong, HasBegunTasks, cases_Option, inl, inr}
-use Rattle.sercos_trace.specs.declared.events.Stop.TheVariants as stop
+use Rattle.sercos_law_run.proofs.Words.{◌≡◌, ℕ, suc, ◌+◌, ◌<◌, Bool, true, ◌&&◌, List, [], ◌∷◌, ◌++◌, length, refl, sym, ap, ◌∙◌, subst, arith, if◌then◌else◌, ap₂, nat_le, Option, Some, None, Err, is_some, is_none, option_map, slice_get, filter, last_or, get_or_from_slice_get, same_Some, slice_get_within, leb-true, status_of, word_at, Idn, Outcome, outcome_of, next_step, record_bytes, WishesView, ChainView, planned, Begun, open_in, begun_by, Stop, is_read, reads_count, stop_by, asked_by, wishes_given, mdt_attributes, RecordEntry, record_entries, entries_from, has_four_bytes, stop_of_entry, last_long_stop, no_member, Known, Task, MemberView, member, with_outcome, outcomes_in, last_outcome, trouble_by, of_phase, each_passes, Brings, OfTrouble, OfChain, OfRecords, channel_keeps, going, made, past_keeps, settled_keeps, stopped, Adds, part_before, asks_same, at_adds, Call, Past, outcomes, is_idle, trouble, after_taken, all_read, settled, has_turn, next_task, with_begin, with_task, is_sent_to, addressed_in, ready_to_send, after_mdt, past, AreTooLong, HasBegunTasks, cases_Option, inl, inr, task_begun}
 use Rattle.sercos_master.proofs.Keeping.{came_back}
-use Rattle.sercos_master.specs.Annals.{begins}
 use Rattle.sercos_law_run.proofs.Agenda.ReadWell.{AllComplete, complete, stay_complete}
 use Rattle.sercos_law_run.proofs.Agenda.TaskRuns.{begun_tasks}
 use Rattle.sercos_law_run.proofs.Agenda.OneTurn.{idle_hears}
@@ -13,19 +11,15 @@ use Rattle.sercos_law_run.proofs.Views.MasterSame.{send_same}
 pub data StopsFor (s : Known) (p : Past) (x : Stop) : Type 0 where
   OfTask : (k : ℕ) → (b : Begun) → (older : List Begun) → (t : Task) → (tasks : List Task) → (o : Outcome) → k < length s.drives → begun_by (p.calls k) ≡ b ∷ older → p.tasks k ≡ t ∷ tasks → t.number ≡ None →
       outcome_of b.request b.answers ≡ Some o → stop_by (member s k).address (asked_by t.request) o ≡ Some x → StopsFor s p x
-  OfPlan : (chain : ChainView) → x ≡ stop.NoFit chain → AllComplete s p → all_read s p ≡ true → planned (wishes_given s (outcomes p)) ≡ Err chain → StopsFor s p x
-  OfLength : (address : ℕ) → (i : Idn) → (word : ℕ) → x ≡ stop.BadConfig address i word → AllComplete s p → AreTooLong s p x → StopsFor s p x
+  OfPlan : (chain : ChainView) → x ≡ Stop.NoFit chain → AllComplete s p → all_read s p ≡ true → planned (wishes_given s (outcomes p)) ≡ Err chain → StopsFor s p x
+  OfLength : (address : ℕ) → (i : Idn) → (word : ℕ) → x ≡ Stop.BadConfig address i word → AllComplete s p → AreTooLong s p x → StopsFor s p x
 
 abbrev pub StopHasCause : Known → Past → Type 0
 StopHasCause s p = (x : Stop) → p.stop ≡ Some x → StopsFor s p x
 
--- the newest request, where it has ended, leaves no open step
-pub ended_idle : (begun : List Begun) (b : Begun) (older : List Begun) (o : Outcome) → begun ≡ b ∷ older → outcome_of b.request b.answers ≡ Some o → is_none (open_in begun) ≡ true
-ended_idle begun b older o is ended = ap (λ (l : List Begun). is_none (open_in l)) is ∙ ap (λ (x : Option Outcome). is_none (if is_some x then None else next_step b.request b.answers)) ended
-
 -- records too long for an MDT are a bad configuration
 long_bad : (drives : List MemberView) (k : ℕ) (all : ℕ → List Outcome) (x : Stop) → last_long_stop drives k all ≡ Some x
-    → (address : ℕ) × (i : Idn) × (word : ℕ) × (x ≡ stop.BadConfig address i word)
+    → (address : ℕ) × (i : Idn) × (word : ℕ) × (x ≡ Stop.BadConfig address i word)
 long_bad drives k all x is = elim (cases_Option (last_or None (filter has_four_bytes (entries_from drives k all)))) [
   | inl none ↦ let is = rw none at is in absurd (cc)
   | inr (e, some) ↦ (e.address, e.idn, e.word, sym (same_Some (stop_of_entry e) x (rw some at is)))
@@ -34,7 +28,8 @@ long_bad drives k all x is = elim (cases_Option (last_or None (filter has_four_b
 -- what is the last value of four bytes stays, if outcomes come after the reads alone
 attributes_stay : (d : MemberView) (all : List Outcome) (o : Option Outcome) → is_read d all ≡ true → mdt_attributes d (with_outcome o all) ≡ mdt_attributes d all
 attributes_stay d all None read = refl
-attributes_stay d all (Some o) read = let many = leb-true (reads_count d) (length all) read in part_before all o (6 + length d.at) (length d.mdt) (omega (arith, many))
+attributes_stay d all (Some o) read =
+    part_before all o (6 + length d.at) (length d.mdt) (omega (arith, leb-true (reads_count d) (length all) read))
 
 entries_same : (drives : List MemberView) (k : ℕ) (f g : ℕ → List Outcome)
     → ((j : ℕ) (d : MemberView) → slice_get drives j ≡ Some d → mdt_attributes d (g (k + j)) ≡ mdt_attributes d (f (k + j)))
@@ -42,7 +37,7 @@ entries_same : (drives : List MemberView) (k : ℕ) (f g : ℕ → List Outcome)
 entries_same [] k f g same = refl
 entries_same (d ∷ drives) k f g same =
     ap₂ (λ (l : List ℕ) (entries : List RecordEntry). record_entries d.address d.mdt l ++ entries)
-    (let z : k + 0 ≡ k = omega arith in subst (λ (n : ℕ). mdt_attributes d (g n) ≡ mdt_attributes d (f n)) z (same 0 d refl))
+    (subst (λ (n : ℕ). mdt_attributes d (g n) ≡ mdt_attributes d (f n)) (omega arith) (same 0 d refl))
     (entries_same drives (k + 1) f g (λ j e got. let n : k + suc j ≡ (k + 1) + j = omega arith in subst
     (λ (m : ℕ). mdt_attributes e (g m) ≡ mdt_attributes e (f m)) n (same (suc j) e got)))
 
@@ -64,21 +59,19 @@ module _ (s : Known) where
   moved : (p q : Past) (x : Stop) → ((k : ℕ) → is_idle p k ≡ true → begun_by (q.calls k) ≡ begun_by (p.calls k)) → ((k : ℕ) → q.tasks k ≡ p.tasks k) → ((j : ℕ) → (o : Option Outcome) × (outcomes q j ≡ with_outcome o (outcomes p j))) →
       StopsFor s p x → StopsFor s q x
   moved p q x same tasks_same adds (OfTask k b older t tasks o there begun begun_tasks number ended is) =
-      OfTask k b older t tasks o there (same k (ended_idle (begun_by (p.calls k)) b older o begun ended) ∙ begun) (tasks_same k ∙ begun_tasks) number ended is
+      OfTask k b older t tasks o there (same k (ap (λ (l : List Begun). is_none (open_in l)) begun
+      ∙ ap (λ (x : Option Outcome). is_none (if is_some x then None else next_step b.request b.answers)) ended) ∙ begun)
+      (tasks_same k ∙ begun_tasks) number ended is
   moved p q x same tasks_same adds (OfPlan chain is whole all made) = let after = asks_same s p q adds all in OfPlan chain is (stay_complete s p q adds whole) after.0 (ap planned after.1 ∙ made)
   moved p q x same tasks_same adds (OfLength address i word is whole (all, long, last)) = let after = asks_same s p q adds all in OfLength address i word is (stay_complete s p q adds whole) (after.0, ap (λ (w : WishesView). nat_le (record_bytes w.drives) 2047) after.1 ∙ long, longs_after s p q adds all ∙ last)
 
-  has_moved : (p q : Past) → ((k : ℕ) → is_idle p k ≡ true → begun_by (q.calls k) ≡ begun_by (p.calls k)) → ((k : ℕ) → q.tasks k ≡ p.tasks k) → ((j : ℕ) → (o : Option Outcome) × (outcomes q j ≡ with_outcome o (outcomes p j))) → q.stop ≡ p.stop →
-      StopHasCause s p → StopHasCause s q
-  has_moved p q same tasks_same adds stop_same has x is = moved p q x same tasks_same adds (has x (sym stop_same ∙ is))
-
   -- an AT
   taken_has : (i : ℕ) (content : List ℕ) (p : Past) → StopHasCause s p → StopHasCause s (after_taken i content p)
-  taken_has i content p has = has_moved p (after_taken i content p) (λ k idle. kept k idle) (λ k. refl) (λ j. at_adds i content p j) refl has
-    where
-      kept : (k : ℕ) → is_idle p k ≡ true → begun_by ((after_taken i content p).calls k) ≡ begun_by (p.calls k)
-      kept k idle = channel_keeps (λ calls. begun_by calls ≡ begun_by (p.calls k)) i k content p refl
-          (λ same. idle_hears (status_of (word_at content 1)) (word_at content 3) (begun_by (p.calls k)) idle)
+  taken_has i content p has = λ x is. moved p (after_taken i content p) x
+      (λ k idle. channel_keeps (λ calls. begun_by calls ≡ begun_by (p.calls k)) i k content p refl
+      (λ same. idle_hears (status_of (word_at content 1)) (word_at content 3) (begun_by (p.calls k)) idle)) (λ k. refl)
+      (λ j. at_adds i content p j)
+      (has x (sym refl ∙ is))
 
   -- a stop that comes
   of_trouble : (p : Past) (k : ℕ) (x : Stop) → k < length s.drives → trouble s p k ≡ Some x → StopsFor s p x
@@ -100,7 +93,7 @@ module _ (s : Known) where
   settled_has p are has = settled_keeps (StopHasCause s) s p (λ rests. has)
       (λ y none brings x is. moved p (stopped y p) x (λ k idle. refl) (λ k. refl) (λ j. (None, refl))
       (subst (StopsFor s p) (same_Some y x is) (of_what y brings)))
-      (λ plan makes. has_moved p (made plan p) (λ k idle. refl) (λ k. refl) (λ j. (None, refl)) refl has)
+      (λ plan makes. λ x is. moved p (made plan p) x (λ k idle. refl) (λ k. refl) (λ j. (None, refl)) (has x (sym refl ∙ is)))
     where
       of_what : (x : Stop) → Brings s p x → StopsFor s p x
       of_what x (OfTrouble k there is) = of_trouble p k x there is
@@ -110,9 +103,11 @@ module _ (s : Known) where
 
   -- after a stop nothing begins
   mdt_has : (p : Past) → ((k : ℕ) → k < length s.drives → HasBegunTasks s p k) → StopHasCause s p → StopHasCause s (after_mdt s p)
-  mdt_has p are has x is = moved (settled s p) (after_mdt s p) x (λ k idle. begun_same k) (λ k. tasks_same k) (λ j. (None, ap outcomes_in (begun_same j))) (settled_has p are has x is)
+  mdt_has p are has x is = moved (settled s p) (after_mdt s p) x (λ k idle. begun_same k)
+      (λ k. ap (λ (t : Option Task). with_task t ((settled s p).tasks k)) (none k)) (λ j. (None, ap outcomes_in (begun_same j)))
+      (settled_has p are has x is)
     where
-      none : (k : ℕ) → begins s (settled s p) k ≡ None
+      none : (k : ℕ) → task_begun s (settled s p) k ≡ None
       none k = ap (λ (v : Bool). if v && (is_idle (settled s p) k && has_turn s (settled s p) k) then of_phase (settled s p).now.phase
           (next_task s (settled s p) k) else None) (ap is_none is)
 
@@ -121,16 +116,14 @@ module _ (s : Known) where
           send_same (is_sent_to (ready_to_send s p) (addressed_in s (ready_to_send s p)) k) ((ready_to_send s p).calls k)
           ∙ ap (λ (t : Option Task). begun_by (with_begin t ((settled s p).calls k))) (none k)
 
-      tasks_same : (k : ℕ) → (after_mdt s p).tasks k ≡ (settled s p).tasks k
-      tasks_same k = ap (λ (t : Option Task). with_task t ((settled s p).tasks k)) (none k)
-
   pub stop_has_cause : (requests : ℕ → List Task) (h : List Call) → StopHasCause s (past s requests h)
   stop_has_cause requests = past_keeps (StopHasCause s) s requests (record {
     first = λ x is. absurd (cc);
-    mst = λ h whole. has_moved (past s requests h) (came_back whole (past s requests h)) (λ k idle. refl) (λ k. refl)
-        (λ j. (None, refl)) refl;
+    mst = λ h whole. λ has x is. moved (past s requests h) (came_back whole (past s requests h)) x (λ k idle. refl) (λ k. refl)
+        (λ j. (None, refl)) (has x (sym refl ∙ is));
     taken = λ h k content inside is. taken_has k content (past s requests h);
     mdt = λ h. mdt_has (past s requests h) (λ k there. begun_tasks s k there requests h);
-    on = λ h done is. has_moved (past s requests h) (going done (past s requests h)) (λ k idle. refl) (λ k. refl) (λ j. (None, refl)) refl;
+    on = λ h done is. λ has x is. moved (past s requests h) (going done (past s requests h)) x (λ k idle. refl) (λ k. refl)
+        (λ j. (None, refl)) (has x (sym refl ∙ is));
     new = λ h cycle before x is. absurd (cc);
   })

@@ -1,8 +1,6 @@
 -- After any calls the tasks of a channel are those of the agenda, each begun where all before it had ended, those of the start-up
 -- without error.
-use Rattle.sercos_law_run.proofs.Words.{◌≡◌, ◌⊎◌, inl, inr, ℕ, suc, ◌+◌, ◌<◌, ◌≤◌, Bool, true, false, List, [], ◌∷◌, length, refl, sym, ap, ap₂, ◌∙◌, subst, arith, if◌then◌else◌, length-append, cond_both, Option, Some, None, is_some, is_none, Status, Answer, Outcome, outcome_of, next_step, PlanView, Begun, open_in, answers_it, answer_in, with_answer, IsRefused, ends_so, with_status, Known, Task, member, with_outcome, outcomes_in, last_outcome, trouble_by, Call, past, never_both, Ends, Channel, channel_at, Stays, Identifies, Hears, Plans, Begins, Moves, Within, Falls, HasEndedWell, AreBegunTasks, cases_Bool, has_next}
-use Rattle.sercos_step.specs.declared.request.Outcome.TheVariants as outcome
-use Rattle.sercos_law_channel.proofs.Theorems.{GoesOn, IsWhole, Ends as TransferEnds}
+use Rattle.sercos_law_run.proofs.Words.{◌≡◌, inl, inr, ℕ, suc, ◌+◌, ◌<◌, ◌≤◌, true, List, [], ◌∷◌, length, refl, sym, ap, ap₂, ◌∙◌, subst, arith, if◌then◌else◌, length-append, cond_both, Option, Some, None, is_some, is_none, Answer, Outcome, outcome_of, next_step, PlanView, Begun, open_in, answers_it, answer_in, with_answer, IsRefused, ends_so, Known, Task, member, with_outcome, outcomes_in, last_outcome, trouble_by, Call, past, never_both, Ends, Channel, channel_at, Stays, Identifies, Hears, Plans, Begins, Moves, Within, Falls, HasEndedWell, AreBegunTasks, cases_Bool, has_next, TransferEnds, TransferGoesOn, TransferWhole}
 use Rattle.sercos_law_run.proofs.Agenda.CallMoves.{always}
 use Rattle.sercos_law_run.proofs.Agenda.AgendaTasks.{is_task}
 
@@ -12,31 +10,20 @@ module _ (s : Known) (k : ℕ) where
   answered_tasks plan waiting phase a (b ∷ older) [] are = are
   answered_tasks plan waiting phase a (b ∷ older) (t ∷ tasks) are = (are.0, record { asks = are.1.asks; by_then = are.1.by_then; same = are.1.same; task = are.1.task; ended = are.1.ended; well = are.1.well; quiet = are.1.quiet; early = are.1.early })
 
-  heard_tasks : (plan : Option PlanView) (waiting : List Task) (phase : ℕ) (status : Status) (word : ℕ) (begun : List Begun) (tasks : List Task) → AreBegunTasks s k plan waiting phase begun tasks →
-      AreBegunTasks s k plan waiting phase (with_status status word begun) tasks
-  heard_tasks plan waiting phase status word begun tasks are = cond_both (answers_it begun status)
-      (with_answer (answer_in status word) begun) begun
-      (λ v. AreBegunTasks s k plan waiting phase v tasks)
-      (λ on. answered_tasks plan waiting phase (answer_in status word) begun tasks are) (λ off. are)
-
   -- a plan that comes, and a phase that goes up
   planned_tasks : (plan : PlanView) (waiting : List Task) (phase : ℕ) (begun : List Begun) (tasks : List Task) → AreBegunTasks s k None waiting phase begun tasks → AreBegunTasks s k (Some plan) waiting phase begun tasks
   planned_tasks plan waiting phase [] [] are = are
   planned_tasks plan waiting phase [] (t ∷ tasks) are = absurd are
   planned_tasks plan waiting phase (b ∷ older) [] are = absurd are
   planned_tasks plan waiting phase (b ∷ older) (t ∷ tasks) are =
-      (planned_tasks plan waiting phase older tasks are.0, record { asks = are.1.asks; by_then = are.1.by_then; same = inl (none are.1.same); task = are.1.task; ended = are.1.ended; well = are.1.well; quiet = are.1.quiet; early = are.1.early })
-    where
-      none : (are.1.by_then ≡ None) ⊎ (are.1.by_then ≡ None) → are.1.by_then ≡ None
-      none (inl e) = e
-      none (inr e) = e
+      (planned_tasks plan waiting phase older tasks are.0, record { asks = are.1.asks; by_then = are.1.by_then; same = inl (elim are.1.same [ inl e ↦ e | inr e ↦ e ]); task = are.1.task; ended = are.1.ended; well = are.1.well; quiet = are.1.quiet; early = are.1.early })
 
   later_tasks : (plan : Option PlanView) (waiting : List Task) (phase later : ℕ) → phase ≤ later → (begun : List Begun) (tasks : List Task) → AreBegunTasks s k plan waiting phase begun tasks → AreBegunTasks s k plan waiting later begun tasks
   later_tasks plan waiting phase later less [] [] are = are
   later_tasks plan waiting phase later less [] (t ∷ tasks) are = absurd are
   later_tasks plan waiting phase later less (b ∷ older) [] are = absurd are
   later_tasks plan waiting phase later less (b ∷ older) (t ∷ tasks) are =
-      (later_tasks plan waiting phase later less older tasks are.0, record { asks = are.1.asks; by_then = are.1.by_then; same = are.1.same; task = are.1.task; ended = are.1.ended; well = are.1.well; quiet = are.1.quiet; early = let e = are.1.early in omega (arith, e, less) })
+      (later_tasks plan waiting phase later less older tasks are.0, record { asks = are.1.asks; by_then = are.1.by_then; same = are.1.same; task = are.1.task; ended = are.1.ended; well = are.1.well; quiet = are.1.quiet; early = omega (arith, are.1.early, less) })
 
   -- where no step is open all have ended
   pub all_ended : (plan : Option PlanView) (waiting : List Task) (phase : ℕ) (begun : List Begun) (tasks : List Task) → AreBegunTasks s k plan waiting phase begun tasks → is_none (open_in begun) ≡ true → length (outcomes_in begun) ≡ length begun
@@ -54,9 +41,9 @@ module _ (s : Known) (k : ℕ) where
   ended_well_now address (b ∷ older) [] idle none = tt
   ended_well_now address (b ∷ older) (t ∷ tasks) idle none = λ number. by number (ends_so b.request b.answers)
     where
-      by : t.number ≡ None → TransferEnds b.request b.answers → (bytes : List ℕ) × (outcome_of b.request b.answers ≡ Some (outcome.Complete bytes))
-      by number (IsWhole bytes is) = (bytes, is)
-      by number (GoesOn on) =
+      by : t.number ≡ None → TransferEnds b.request b.answers → (bytes : List ℕ) × (outcome_of b.request b.answers ≡ Some (Outcome.Complete bytes))
+      by number (TransferWhole bytes is) = (bytes, is)
+      by number (TransferGoesOn on) =
           let open_so : is_none (next_step b.request b.answers) ≡ true = subst (λ (o : Option Outcome). is_none (if is_some o then None else next_step b.request b.answers) ≡ true) on idle in
           absurd (never_both (next_step b.request b.answers) (has_next b.request b.answers (ap is_some on)) open_so)
       by number (IsRefused code refused) =
@@ -68,7 +55,10 @@ module _ (s : Known) (k : ℕ) where
   pub tasks_step : (c d : Channel) → Moves s k c d → KeepsTasks c → KeepsTasks d
   tasks_step c d (Within (Stays is)) are = subst KeepsTasks (sym is) are
   tasks_step c d (Within (Identifies is)) are = subst KeepsTasks (sym is) are
-  tasks_step c d (Within (Hears status word free is)) are = subst KeepsTasks (sym is) (heard_tasks c.plan c.waiting c.phase status word c.begun c.tasks are)
+  tasks_step c d (Within (Hears status word free is)) are = subst KeepsTasks (sym is) (cond_both (answers_it c.begun status)
+      (with_answer (answer_in status word) c.begun) c.begun
+      (λ v. AreBegunTasks s k c.plan c.waiting c.phase v c.tasks)
+      (λ on. answered_tasks c.plan c.waiting c.phase (answer_in status word) c.begun c.tasks are) (λ off. are))
   tasks_step c d (Within (Plans plan none two is)) are = subst KeepsTasks (sym is) (planned_tasks plan c.waiting c.phase c.begun c.tasks (subst (λ (o : Option PlanView). AreBegunTasks s k o c.waiting c.phase c.begun c.tasks) none are))
   tasks_step c d (Within (Begins t next is)) are = subst KeepsTasks (sym is) (
     are,

@@ -1,5 +1,5 @@
 -- The events of a cycle have what was reported of each drive in it.
-use Rattle.sercos_law_run.proofs.Words.{◌≡◌, ◌⊎◌, inl, inr, ℕ, zero, suc, ◌<◌, Bool, true, false, List, [], ◌∷◌, length, subst, arith, if◌then◌else◌, nat_lt, Option, Some, None, is_some, cases_eq, Outcome, Report, fall_of, broken, with_report, with_reports, told_at_end, with_told, HasOutcome, HasReport, AreEquivalent, AreTold, AreToldAtRestart}
+use Rattle.sercos_law_run.proofs.Words.{◌≡◌, ◌⊎◌, inl, inr, ℕ, zero, suc, ◌<◌, Bool, true, false, List, [], ◌∷◌, length, subst, arith, if◌then◌else◌, nat_lt, Option, Some, None, is_some, cases_eq, Outcome, Report, fall_of, broken, with_report, with_reports, told_at_end, with_told, HasOutcome, HasReport, AreEquivalent, AreTold, AreToldAtRestart, cases_Bool}
 use Rattle.sercos_master.specs.Reports.{inserted}
 
 module _ (number : ℕ) (o : Outcome) where
@@ -7,27 +7,25 @@ module _ (number : ℕ) (o : Outcome) where
   inserted_to : (m : ℕ) (q : Outcome) (outcomes : List (ℕ × Outcome)) → HasOutcome (inserted m q outcomes) number o → HasOutcome outcomes number o ⊎ ((m ≡ number) × (q ≡ o))
   inserted_to m q [] (inl is) = inr is
   inserted_to m q [] (inr none) = absurd none
-  inserted_to m q (x ∷ outcomes) has = by (nat_lt m x.0) has (inserted_to m q outcomes)
-    where
-      by : (v : Bool) → HasOutcome (if v then (m, q) ∷ x ∷ outcomes else x ∷ inserted m q outcomes) number o → (HasOutcome (inserted m q outcomes) number o → HasOutcome outcomes number o ⊎ ((m ≡ number) × (q ≡ o))) →
-          HasOutcome (x ∷ outcomes) number o ⊎ ((m ≡ number) × (q ≡ o))
-      by true (inl is) more = inr is
-      by true (inr has) more = inl has
-      by false (inl is) more = inl (inl is)
-      by false (inr has) more = elim (more has) [ inl there ↦ inl (inr there) | inr is ↦ inr is ]
+  inserted_to m q (x ∷ outcomes) has = elim (cases_Bool (nat_lt m x.0)) [
+    | inl on ↦ elim (rw on at has) [ inl is ↦ inr is | inr has ↦ inl has ]
+    | inr off ↦ elim (rw off at has) [
+      | inl is ↦ inl (inl is)
+      | inr has ↦ elim (inserted_to m q outcomes has) [ inl there ↦ inl (inr there) | inr is ↦ inr is ]
+    ]
+  ]
 
   inserted_from : (m : ℕ) (q : Outcome) (outcomes : List (ℕ × Outcome)) → HasOutcome outcomes number o ⊎ ((m ≡ number) × (q ≡ o)) → HasOutcome (inserted m q outcomes) number o
   inserted_from m q [] (inl none) = absurd none
   inserted_from m q [] (inr is) = inl is
-  inserted_from m q (x ∷ outcomes) has = by (nat_lt m x.0) has (inserted_from m q outcomes)
-    where
-      by : (v : Bool) → HasOutcome (x ∷ outcomes) number o ⊎ ((m ≡ number) × (q ≡ o)) → (HasOutcome outcomes number o ⊎ ((m ≡ number) × (q ≡ o)) → HasOutcome (inserted m q outcomes) number o) →
-          HasOutcome (if v then (m, q) ∷ x ∷ outcomes else x ∷ inserted m q outcomes) number o
-      by true (inl has) more = inr has
-      by true (inr is) more = inl is
-      by false (inl (inl is)) more = inl is
-      by false (inl (inr has)) more = inr (more (inl has))
-      by false (inr is) more = inr (more (inr is))
+  inserted_from m q (x ∷ outcomes) has = elim (cases_Bool (nat_lt m x.0)) [
+    | inl on ↦ elim has [ inl has ↦ rw on (inr has) | inr is ↦ rw on (inl is) ]
+    | inr off ↦ elim has [
+      | inl (inl is) ↦ rw off (inl is)
+      | inl (inr has) ↦ rw off (inr (inserted_from m q outcomes (inl has)))
+      | inr is ↦ rw off (inr (inserted_from m q outcomes (inr is)))
+    ]
+  ]
 
   with_to : (r : Option Report) (outcomes : List (ℕ × Outcome)) → HasOutcome (with_report r outcomes) number o → HasOutcome outcomes number o ⊎ HasReport (with_told r []) number o
   with_to None outcomes has = inl has
@@ -48,7 +46,7 @@ module _ (number : ℕ) (o : Outcome) where
   all_to report zero outcomes has = inl has
   all_to report (suc n) outcomes has = elim (with_to (report n) (with_reports report n outcomes) has) [
     | inr here ↦ inr (n, omega arith, here)
-    | inl there ↦ elim (all_to report n outcomes there) [ inl before ↦ inl before | inr at ↦ inr (at.0, (let less = at.1 in omega (arith, less)), at.2) ]
+    | inl there ↦ elim (all_to report n outcomes there) [ inl before ↦ inl before | inr at ↦ inr (at.0, omega (arith, at.1), at.2) ]
   ]
 
   all_from : (report : ℕ → Option Report) (n : ℕ) (outcomes : List (ℕ × Outcome)) → HasOutcome outcomes number o ⊎ AtPlaces (λ k. with_told (report k) []) n → HasOutcome (with_reports report n outcomes) number o
@@ -78,14 +76,15 @@ module _ (number : ℕ) (o : Outcome) where
       AreEquivalent (HasOutcome (if falls then with_reports then_broken n (with_reports now n outcomes) else with_reports now n outcomes) number o)
       (HasOutcome outcomes number o ⊎ AtPlaces (λ k. told_at_end falls (now k) (then_broken k) []) n)
   ended false now then_broken n outcomes = (all_to now n outcomes, all_from now n outcomes)
-  ended true now then_broken n outcomes = (to, from)
+  ended true now then_broken n outcomes = (
+    (λ has. elim (all_to then_broken n (with_reports now n outcomes) has) [
+      | inr at ↦ inr (at.0, at.1, both_from (then_broken at.0) (now at.0) (inr at.2))
+      | inl before ↦ elim (all_to now n outcomes before)
+          [ inl there ↦ inl there | inr at ↦ inr (at.0, at.1, both_from (then_broken at.0) (now at.0) (inl at.2)) ]
+    ]),
+    from,
+  )
     where
-      to : HasOutcome (with_reports then_broken n (with_reports now n outcomes)) number o → HasOutcome outcomes number o ⊎ AtPlaces (λ k. with_told (then_broken k) (with_told (now k) [])) n
-      to has = elim (all_to then_broken n (with_reports now n outcomes) has) [
-        | inr at ↦ inr (at.0, at.1, both_from (then_broken at.0) (now at.0) (inr at.2))
-        | inl before ↦ elim (all_to now n outcomes before) [ inl there ↦ inl there | inr at ↦ inr (at.0, at.1, both_from (then_broken at.0) (now at.0) (inl at.2)) ]
-      ]
-
       from : HasOutcome outcomes number o ⊎ AtPlaces (λ k. with_told (then_broken k) (with_told (now k) [])) n → HasOutcome (with_reports then_broken n (with_reports now n outcomes)) number o
       from (inl has) = all_from then_broken n (with_reports now n outcomes) (inl (all_from now n outcomes (inl has)))
       from (inr (k, less, has)) = elim (both_to (then_broken k) (now k) has) [

@@ -24,7 +24,7 @@ split i (r ∷ reports) numbers up = by reports (split i reports (Some r.number 
   where
     by : (older : List Report) → StartsAfter older (Some r.number ∷ numbers) × Descend older → StartsAfter (r ∷ older) numbers × Descend (r ∷ older)
     by [] (first, down) = (first.1.1, tt)
-    by (q ∷ older) (first, down) = (first.1, ((let less = first.0 in omega (arith, less)), down))
+    by (q ∷ older) (first, down) = (first.1, (omega (arith, first.0), down))
 
 pub tells_once : TellsOnce
 tells_once s jobs h k there order =

@@ -1,17 +1,7 @@
 -- Calls that were worked out by hand, computed from the definitions: what the laws ask for is met.
-use Rattle.sercos_law_run.proofs.Words.{◌≡◌, ℕ, zero, suc, ◌/◌, ◌%◌, Bool, true, false, List, [], ◌∷◌, length, Option, Some, is_some, refl, mst_content, Idn, begun_by, Stop, Known, Task, request_task, idn, Call, HearMst, HearAt, End, Restart, past, in_turn, is_idle, channel_at, RestartsAtStart, still_to_tell, told}
-use Rattle.sercos_telegram.specs.Faults as Faults
-use Rattle.sercos_telegram.specs.Spells as Spells
-use Rattle.sercos_telegram.specs.Words as Words
-use Rattle.sercos_idn.specs.Codes as Codes
-use Rattle.sercos_idn.specs.Attributes as Attributes
-use Rattle.sercos_step.specs.declared.request.Request.TheVariants as request
-use Rattle.sercos_step.specs.declared.request.Outcome.TheVariants as outcome
-use Rattle.sercos_block.specs.Rings as Rings
+use Rattle.sercos_law_run.proofs.Words.{◌≡◌, ℕ, zero, suc, ◌/◌, ◌%◌, Bool, true, false, List, [], ◌∷◌, length, Option, Some, is_some, refl, mst_content, Idn, begun_by, Stop, Known, Task, request_task, idn, Call, HearMst, HearAt, End, Restart, past, in_turn, is_idle, channel_at, RestartsAtStart, still_to_tell, told, MasterMdt, Request, Outcome, head_fault, mst_fault, fields, word_at, word_bytes, status_of, attribute_fault, attribute_of, attribute_in}
 use Rattle.sercos_plan.specs.ChainOf as ChainOf
 use Rattle.sercos_plan.specs.LeastTimes as LeastTimes
-use Rattle.sercos_trace.specs.declared.events.Stop.TheVariants as stop
-use Rattle.sercos_master.specs.Annals.{Mdt}
 
 -- A ring of one drive with address 1, of 4 megabits and cycles of 250 microseconds; the AT carries these values.
 abbrev ring : List Idn → Known
@@ -22,10 +12,10 @@ no_requests k = []
 
 -- a cycle without an AT, and one with an AT; the calls before it come last
 abbrev silent : ℕ → List Call → List Call
-silent phase h = End ∷ Mdt ∷ HearMst (Some (mst_content phase)) ∷ h
+silent phase h = End ∷ MasterMdt ∷ HearMst (Some (mst_content phase)) ∷ h
 
 abbrev heard : ℕ → List ℕ → List Call → List Call
-heard phase at h = End ∷ Mdt ∷ HearAt at ∷ HearMst (Some (mst_content phase)) ∷ h
+heard phase at h = End ∷ MasterMdt ∷ HearAt at ∷ HearMst (Some (mst_content phase)) ∷ h
 
 abbrev silences : ℕ → List Call → List Call
 silences zero h = h
@@ -78,64 +68,37 @@ to_3 = silent 3 (in_2 (times 20 (eleven_writes (check 3 []))))
 abbrev to_4 : List Call
 to_4 = silent 4 (answers 3 1 (check 3 []) to_3)
 
--- PHASE 2. A transfer is open there, and the turn is the drive's.
-opens : is_idle (past (ring []) no_requests to_2) 0 ≡ false
-unfolding Faults.mst_fault Faults.head_fault Spells.word_bytes Spells.word_at Spells.fields Words.status_of Rings.attribute_in Codes.attribute_fault Attributes.attribute_of ChainOf.chain_of LeastTimes.least_plan LeastTimes.least_t2 LeastTimes.least_t3
-opens = refl
-
-turn : in_turn (ring []) (past (ring []) no_requests to_2) ≡ Some 0
-unfolding Faults.mst_fault Faults.head_fault Spells.word_bytes Spells.word_at Spells.fields Words.status_of Rings.attribute_in Codes.attribute_fault Attributes.attribute_of ChainOf.chain_of LeastTimes.least_plan LeastTimes.least_t2 LeastTimes.least_t3
-turn = refl
-
--- THE PLAN comes with the last of the reads.
-plan_made : is_some (past (ring []) no_requests (in_2 (times 20 []))).plan ≡ true
-unfolding Faults.mst_fault Faults.head_fault Spells.word_bytes Spells.word_at Spells.fields Words.status_of Rings.attribute_in Codes.attribute_fault Attributes.attribute_of ChainOf.chain_of LeastTimes.least_plan LeastTimes.least_t2 LeastTimes.least_t3
-plan_made = refl
-
--- THE CHECK FOR PHASE 3 is begun after the eleven writes: 18 requests are more than 6 reads and 11; and the phase rises after it.
-check_begun : length (begun_by ((past (ring []) no_requests (in_2 (times 20 (eleven_writes [])))).calls 0)) ≡ 18
-unfolding Faults.mst_fault Faults.head_fault Spells.word_bytes Spells.word_at Spells.fields Words.status_of Rings.attribute_in Codes.attribute_fault Attributes.attribute_of ChainOf.chain_of LeastTimes.least_plan LeastTimes.least_t2 LeastTimes.least_t3
-check_begun = refl
-
-rises_to_3 : (past (ring []) no_requests (in_2 (times 20 (eleven_writes (check 3 []))))).now.phase ≡ 3
-unfolding Faults.mst_fault Faults.head_fault Spells.word_bytes Spells.word_at Spells.fields Words.status_of Rings.attribute_in Codes.attribute_fault Attributes.attribute_of ChainOf.chain_of LeastTimes.least_plan LeastTimes.least_t2 LeastTimes.least_t3
-rises_to_3 = refl
-
-rises_to_4 : (past (ring []) no_requests to_4).now.phase ≡ 4
-unfolding Faults.mst_fault Faults.head_fault Spells.word_bytes Spells.word_at Spells.fields Words.status_of Rings.attribute_in Codes.attribute_fault Attributes.attribute_of ChainOf.chain_of LeastTimes.least_plan LeastTimes.least_t2 LeastTimes.least_t3
-rises_to_4 = refl
+-- In phase 2 a transfer is open, and the turn is the drive's. The plan comes with the last of the reads. The check for phase 3 is begun
+-- after the eleven writes, since 18 requests are more than 6 reads and 11; and the phase rises after it, and after the check for phase 4.
+starts_up : (is_idle (past (ring []) no_requests to_2) 0 ≡ false)
+    × (in_turn (ring []) (past (ring []) no_requests to_2) ≡ Some 0)
+    × (is_some (past (ring []) no_requests (in_2 (times 20 []))).plan ≡ true)
+    × (length (begun_by ((past (ring []) no_requests (in_2 (times 20 (eleven_writes [])))).calls 0)) ≡ 18)
+    × ((past (ring []) no_requests (in_2 (times 20 (eleven_writes (check 3 []))))).now.phase ≡ 3)
+    × ((past (ring []) no_requests to_4).now.phase ≡ 4)
+unfolding mst_fault head_fault word_bytes word_at fields status_of attribute_in attribute_fault attribute_of ChainOf.chain_of LeastTimes.least_plan LeastTimes.least_t2 LeastTimes.least_t3
+starts_up = (refl, refl, refl, refl, refl, refl)
 
 abbrev is_no_fit : Option Stop → Bool
-is_no_fit (Some (stop.NoFit chain)) = true
+is_no_fit (Some (Stop.NoFit chain)) = true
 is_no_fit _ = false
 
--- EACH STOP. No plan fits, where T4min is above the cycle.
-no_fit : is_no_fit (past (ring []) no_requests (in_2 (times 251 []))).stop ≡ true
-unfolding Faults.mst_fault Faults.head_fault Spells.word_bytes Spells.word_at Spells.fields Words.status_of Rings.attribute_in Codes.attribute_fault Attributes.attribute_of ChainOf.chain_of LeastTimes.least_plan LeastTimes.least_t2 LeastTimes.least_t3
-no_fit = refl
-
--- The first write is refused with code 7006 (hexadecimal).
-refused : (past (ring []) no_requests (heard 2 (at 4 28678) (answers 2 1 (0 ∷ 1 ∷ 24593 ∷ []) (in_2 (times 20 []))))).stop ≡ Some (stop.Refused 1 (idn 1) (record { raw = 28678 }))
-unfolding Faults.mst_fault Faults.head_fault Spells.word_bytes Spells.word_at Spells.fields Words.status_of Rings.attribute_in Codes.attribute_fault Attributes.attribute_of ChainOf.chain_of LeastTimes.least_plan LeastTimes.least_t2 LeastTimes.least_t3
-refused = refl
-
--- The attribute of a value of the AT is that of a list.
-bad_config : (past (ring (idn 51 ∷ [])) no_requests (in_2 (times 20 (0 ∷ 1 ∷ 24661 ∷ [])))).stop ≡ Some (stop.BadConfig 1 (idn 51) 1616183297)
-unfolding Faults.mst_fault Faults.head_fault Spells.word_bytes Spells.word_at Spells.fields Words.status_of Rings.attribute_in Codes.attribute_fault Attributes.attribute_of ChainOf.chain_of LeastTimes.least_plan LeastTimes.least_t2 LeastTimes.least_t3
-bad_config = refl
-
--- A check ends with data status 15, and then the list has one identifier number.
-check127 : (past (ring []) no_requests (in_2 (times 20 (eleven_writes (check 15 (read_list 32778 [])))))).stop ≡ Some (stop.Check127 1 (record { items = idn 32778 ∷ [] }))
-unfolding Faults.mst_fault Faults.head_fault Spells.word_bytes Spells.word_at Spells.fields Words.status_of Rings.attribute_in Codes.attribute_fault Attributes.attribute_of ChainOf.chain_of LeastTimes.least_plan LeastTimes.least_t2 LeastTimes.least_t3
-check127 = refl
-
-check128 : (past (ring []) no_requests (answers 3 1 (check 15 (read_list 32778 [])) to_3)).stop ≡ Some (stop.Check128 1 (record { items = idn 32778 ∷ [] }))
-unfolding Faults.mst_fault Faults.head_fault Spells.word_bytes Spells.word_at Spells.fields Words.status_of Rings.attribute_in Codes.attribute_fault Attributes.attribute_of ChainOf.chain_of LeastTimes.least_plan LeastTimes.least_t2 LeastTimes.least_t3
-check128 = refl
+-- EACH STOP. No plan fits, where T4min is above the cycle. The first write is refused with code 7006 (hexadecimal). The attribute of a
+-- value of the AT is that of a list. Each check ends with data status 15, and then its list has one identifier number.
+stops : (is_no_fit (past (ring []) no_requests (in_2 (times 251 []))).stop ≡ true)
+    × ((past (ring []) no_requests (heard 2 (at 4 28678) (answers 2 1 (0 ∷ 1 ∷ 24593 ∷ []) (in_2 (times 20 []))))).stop
+    ≡ Some (Stop.Refused 1 (idn 1) (record { raw = 28678 })))
+    × ((past (ring (idn 51 ∷ [])) no_requests (in_2 (times 20 (0 ∷ 1 ∷ 24661 ∷ [])))).stop ≡ Some (Stop.BadConfig 1 (idn 51) 1616183297))
+    × ((past (ring []) no_requests (in_2 (times 20 (eleven_writes (check 15 (read_list 32778 [])))))).stop
+    ≡ Some (Stop.Check127 1 (record { items = idn 32778 ∷ [] })))
+    × ((past (ring []) no_requests (answers 3 1 (check 15 (read_list 32778 [])) to_3)).stop
+    ≡ Some (Stop.Check128 1 (record { items = idn 32778 ∷ [] })))
+unfolding mst_fault head_fault word_bytes word_at fields status_of attribute_in attribute_fault attribute_of ChainOf.chain_of LeastTimes.least_plan LeastTimes.least_t2 LeastTimes.least_t3
+stops = (refl, refl, refl, refl, refl)
 
 -- REPORTS of three requests. The first is read whole; the second is at work where the master restarts; the third waits.
 abbrev three_reads : ℕ → List Task
-three_reads k = request_task 1 (request.Read (idn 51) 7) ∷ request_task 2 (request.Read (idn 40) 7) ∷ request_task 3 (request.Read (idn 51) 7) ∷ []
+three_reads k = request_task 1 (Request.Read (idn 51) 7) ∷ request_task 2 (Request.Read (idn 40) 7) ∷ request_task 3 (Request.Read (idn 51) 7) ∷ []
 
 abbrev restarted : List Call
 restarted = Restart ∷ answers 4 1 (read_word 250 []) to_4
@@ -143,10 +106,8 @@ restarted = Restart ∷ answers 4 1 (read_word 250 []) to_4
 at_start : RestartsAtStart restarted
 at_start = (tt, tt)
 
-two_told : told (ring []) three_reads 0 restarted ≡ (record { number = 2; outcome = outcome.Broken }) ∷ (record { number = 1; outcome = outcome.Complete (250 ∷ 0 ∷ []) }) ∷ []
-unfolding Faults.mst_fault Faults.head_fault Spells.word_bytes Spells.word_at Spells.fields Words.status_of Rings.attribute_in Codes.attribute_fault Attributes.attribute_of ChainOf.chain_of LeastTimes.least_plan LeastTimes.least_t2 LeastTimes.least_t3
-two_told = refl
-
-one_left : still_to_tell (channel_at (past (ring []) three_reads restarted) 0) ≡ Some 3 ∷ []
-unfolding Faults.mst_fault Faults.head_fault Spells.word_bytes Spells.word_at Spells.fields Words.status_of Rings.attribute_in Codes.attribute_fault Attributes.attribute_of ChainOf.chain_of LeastTimes.least_plan LeastTimes.least_t2 LeastTimes.least_t3
-one_left = refl
+two_told : (told (ring []) three_reads 0 restarted
+    ≡ (record { number = 2; outcome = Outcome.Broken }) ∷ (record { number = 1; outcome = Outcome.Complete (250 ∷ 0 ∷ []) }) ∷ [])
+    × (still_to_tell (channel_at (past (ring []) three_reads restarted) 0) ≡ Some 3 ∷ [])
+unfolding mst_fault head_fault word_bytes word_at fields status_of attribute_in attribute_fault attribute_of ChainOf.chain_of LeastTimes.least_plan LeastTimes.least_t2 LeastTimes.least_t3
+two_told = (refl, refl)

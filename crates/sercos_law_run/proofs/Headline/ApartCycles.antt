@@ -1,5 +1,5 @@
 -- In a cycle commanded 3 or 4 the telegrams are apart.
-use Rattle.sercos_law_run.proofs.Words.{◌≡◌, ◌⊎◌, inl, inr, ℕ, ◌+◌, ◌*◌, ◌<◌, ◌≤◌, Bool, true, false, List, [], ◌∷◌, ◌++◌, map, length, Option, Some, refl, sym, ◌∙◌, ap, ap₂, subst, arith, if◌then◌else◌, ◌==◌, nat_le, slice_index, pos, nat_tests, wire_bits, frame_of, all_drives, Job, WishesView, PlanView, record_bytes, Wish, wish_of, record_len, IsStore, store_of, DriveView, RingView, number_at, carried_len, phase_in, cycle_in, blocks_in, Said, values_in, SentView, CycleView, AtSlot, MdtSlot, IsSending, IsApart, Known, known_of, fields_length, IsStoreOf, start_up, Holds, held_by, AreSent, AllHold, Past, Sent, records_from, joint, mdt_said, Carry, Restarts, standing, stood_in, drive_at, given_mst, sent_mdt, ats_said, mst_next, ats_next, mdt_next, IsNext, at_start, behind_mdt, after_mst, view_of, views_of, IsSaid, IsSpelled, IsOpened, IsStored, takes_part, store_in_cycle, AreApartIn, stands_as_commanded, wishes_of, same_Some}
+use Rattle.sercos_law_run.proofs.Words.{◌≡◌, ◌⊎◌, inl, inr, ℕ, ◌+◌, ◌*◌, ◌<◌, ◌≤◌, Bool, true, false, List, ◌∷◌, ◌++◌, map, length, Option, Some, refl, sym, ◌∙◌, ap, ap₂, subst, arith, if◌then◌else◌, ◌==◌, nat_le, slice_index, pos, nat_tests, wire_bits, frame_of, all_drives, Job, WishesView, PlanView, record_bytes, Wish, IsStore, store_of, DriveView, RingView, number_at, carried_len, phase_in, cycle_in, blocks_in, Said, values_in, SentView, CycleView, AtSlot, MdtSlot, IsSending, IsApart, Known, known_of, fields_length, IsStoreOf, start_up, Holds, held_by, AreSent, AllHold, Past, Sent, records_from, joint, mdt_said, Carry, Restarts, standing, stood_in, drive_at, given_mst, sent_mdt, ats_said, mst_next, IsNext, at_start, behind_mdt, after_mst, view_of, views_of, IsSaid, IsSpelled, IsOpened, IsStored, takes_part, store_in_cycle, AreApartIn, stands_as_commanded, wishes_of, same_Some}
 use Rattle.sercos_telegram.specs.declared.layout.Kind.TheVariants as kinds
 use Rattle.sercos_law_run.proofs.Slots.Places.{length_records}
 use Rattle.sercos_law_run.proofs.Start.CheckPasses.{wish_is}
@@ -36,8 +36,7 @@ module _ (r : RingView) (jobs : List Job) (carry : Carry) (restarts : Restarts) 
   sender_phase k below s sending =
       let kept = kept_at_mst r jobs carry restarts opened first t j next clear spelled stored all k below in
       let comes : (view_of r jobs carry restarts k t j).mst_comes ≡ true = sym kept.got ∙ sending.got in
-      let up = sending.stands in
-      by (stands_as_commanded (view_of r jobs carry restarts k t j) (views_of r jobs carry restarts k j) comes) kept.ended up
+      by (stands_as_commanded (view_of r jobs carry restarts k t j) (views_of r jobs carry restarts k j) comes) kept.ended sending.stands
     where
       by : (stood_in (view_of r jobs carry restarts k t j) (standing (views_of r jobs carry restarts k j)) ≡ 0) ⊎ (stood_in (view_of r jobs carry restarts k t j) (standing (views_of r jobs carry restarts k j)) ≡ t.phase)
           → phase_in (after_mst r carry restarts t.sent j k) ≡ stood_in (view_of r jobs carry restarts k t j) (standing (views_of r jobs carry restarts k j)) → 1 ≤ phase_in (after_mst r carry restarts t.sent j k)
@@ -55,11 +54,9 @@ module _ (r : RingView) (jobs : List Job) (carry : Carry) (restarts : Restarts) 
   -- with the plan
   module _ (framed : AreFramed r jobs carry restarts t j) (late : 3 ≤ (at_start r jobs carry restarts j).now.phase) (plan : PlanView)
       (planned : IsPlannedIn r jobs carry restarts t j plan) where
-    late_mdt : 3 ≤ (behind_mdt r jobs carry restarts t.sent j).now.phase
-    late_mdt = subst (λ n. 3 ≤ n) (sym (phase_same r jobs carry restarts opened first t j next clear spelled stored all)) late
-
     said : mdt_said (known_of r) (behind_mdt r jobs carry restarts t.sent j) ≡ Some (joint (known_of r) (behind_mdt r jobs carry restarts t.sent j) plan)
-    said = joint_said (known_of r) (behind_mdt r jobs carry restarts t.sent j) plan late_mdt planned.now
+    said = joint_said (known_of r) (behind_mdt r jobs carry restarts t.sent j) plan
+        (subst (λ n. 3 ≤ n) (sym (phase_same r jobs carry restarts opened first t j next clear spelled stored all)) late) planned.now
 
     abbrev ats : List AtSlot
     ats = map (slot_of r.rate) placed
@@ -72,10 +69,6 @@ module _ (r : RingView) (jobs : List Job) (carry : Carry) (restarts : Restarts) 
 
     abbrev last : SentView
     last = record { kind = kinds.Mdt; start = pos (r.rate * plan.t2); bits = length (frame_of content); content = content }
-
-    sent_is : t.sent ≡ mst_next r jobs carry restarts j ∷ (ats_said r.rate (map (λ (x : Placed). x.says) placed) ++ last ∷ [])
-    sent_is = next.sent
-        ∙ ap₂ (λ (l : List Said) (m : Option Sent). mst_next r jobs carry restarts j ∷ (ats_said r.rate l ++ sent_mdt r.rate m)) (sym (placed_said (length r.drives) (drive_at r) r.rate (given_mst carry restarts t.sent j))) said
 
     holds : AllHold r plan (takes_part r carry restarts t j) (store_in_cycle r carry restarts t j)
     holds k d got takes =
@@ -92,8 +85,7 @@ module _ (r : RingView) (jobs : List Job) (carry : Carry) (restarts : Restarts) 
     long =
         let whole : length (records_from (known_of r) (behind_mdt r jobs carry restarts t.sent j) 0 (length (known_of r).drives)) ≡ record_bytes (wishes_of r).drives =
         ap (λ (l : List ℕ). length l) (sym (records_concat (known_of r) (behind_mdt r jobs carry restarts t.sent j) 0 (length (known_of r).drives))) ∙ length_records _ (wishes_of r).drives lengths in
-        let total = planned.of.least.fits.rule_12.1 in
-        omega (arith, whole, total)
+        omega (arith, whole, planned.of.least.fits.rule_12.1)
 
     -- an AT in its slot
     phase_of : (x : Placed) → IsPlaced (length r.drives) (drive_at r) r.rate (given_mst carry restarts t.sent j) x → nat_le 3 (phase_in (after_mst r carry restarts t.sent j x.place)) ≡ true
@@ -142,7 +134,10 @@ module _ (r : RingView) (jobs : List Job) (carry : Carry) (restarts : Restarts) 
     pub apart_with : (records : List (List ℕ)) × IsApart (wishes_of r) (held_by (takes_part r carry restarts t j) (store_in_cycle r carry restarts t j)) records t.sent
     apart_with = (
       records_of (known_of r) (behind_mdt r jobs carry restarts t.sent j) 0 (length (known_of r).drives),
-      subst (λ (l : List SentView). IsApart (wishes_of r) (held_by (takes_part r carry restarts t j) (store_in_cycle r carry restarts t j)) (records_of (known_of r) (behind_mdt r jobs carry restarts t.sent j) 0 (length (known_of r).drives)) l) (sym sent_is)
+      subst (λ (l : List SentView). IsApart (wishes_of r) (held_by (takes_part r carry restarts t j) (store_in_cycle r carry restarts t j))
+          (records_of (known_of r) (behind_mdt r jobs carry restarts t.sent j) 0 (length (known_of r).drives)) l) (sym (next.sent
+          ∙ ap₂ (λ (l : List Said) (m : Option Sent). mst_next r jobs carry restarts j ∷ (ats_said r.rate l ++ sent_mdt r.rate m))
+          (sym (placed_said (length r.drives) (drive_at r) r.rate (given_mst carry restarts t.sent j))) said))
           (ring_sends_apart r plan (takes_part r carry restarts t j) (store_in_cycle r carry restarts t j) ats mdt (mst_next r jobs carry restarts j) (ats_said r.rate (map (λ (x : Placed). x.says) placed)) last opened.valid planned.of.valid planned.of.least.fits
           holds sent sending),
     )

@@ -1,5 +1,5 @@
 -- In a cycle commanded 3 or 4 the telegrams are apart.
-use Rattle.sercos_law_run.proofs.Words.{◌≡◌, ◌⊎◌, inl, inr, ℕ, zero, suc, ◌*◌, ◌<◌, ◌≤◌, Bool, true, false, List, [], ◌∷◌, map, length, Option, Some, None, refl, ap, subst, arith, if◌then◌else◌, ◌-◌, nat_lt, slice_index, pos, ◌+ℤ◌, unwrap_or, All, AllPairs, nat_tests, All-nil, All-cons, AllPairs-cons, frame_of, fields, WishesView, wish, DriveView, DriveCall, Moment, phase_in, cycle_in, has_mst, has_taken, blocks_in, commands_in, records_in, Said, said, said_in, sends, shown_word, values_in, start_in, Shown, channel_says, AtSlot, IsSentBefore, AreAtsOf, start_before, ats_said}
+use Rattle.sercos_law_run.proofs.Words.{◌≡◌, ◌⊎◌, inl, inr, ℕ, zero, suc, ◌*◌, ◌<◌, ◌≤◌, true, false, List, [], ◌∷◌, map, length, Some, refl, ap, subst, arith, ◌-◌, nat_lt, slice_index, pos, ◌+ℤ◌, All, AllPairs, nat_tests, All-nil, All-cons, AllPairs-cons, frame_of, fields, WishesView, wish, DriveView, DriveCall, Moment, phase_in, cycle_in, has_mst, has_taken, blocks_in, commands_in, records_in, Said, said_in, shown_word, values_in, start_in, Shown, channel_says, AtSlot, IsSentBefore, AreAtsOf, start_before, ats_said}
 use Rattle.sercos_law_run.proofs.Headline.Placed.{Placed, IsPlaced, ArePlaced, ComesBefore, AreBehind, AreOrdered}
 use Rattle.sercos_law_run.proofs.Views.Coupled.{sends_so}
 use Rattle.sercos_law_run.proofs.Journal.StationLemmas.{says_that}

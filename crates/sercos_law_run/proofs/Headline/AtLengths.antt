@@ -1,5 +1,5 @@
 -- An AT is as long as the list in its drive's store says.
-use Rattle.sercos_law_run.proofs.Words.{◌≡◌, ℕ, ◌+◌, ◌*◌, ◌%◌, Bool, true, false, not, ◌&&◌, List, [], ◌∷◌, length, Option, Some, None, refl, ◌∙◌, ap, arith, if◌then◌else◌, length-append, cond_both, ◌==◌, nat_le, option_and_then, unwrap_or, sum_by, flat_map, to_le_bytes, nat_tests, flat_map-cons, sum_by-cons, Idn, Length, Two, Four, List1, List2, List4, is_list, item_len, Block, is_number, width_of, bits_in, number_end, bytes_for, number_len, IsStore, find_block, is_sound, is_len, SoundParts-is_sound, idns_at, bytes_in_cycle, values_in, found_sound, carried_len, data_in, value_in, cases_Option, inl, inr, not-true, and_parts}
+use Rattle.sercos_law_run.proofs.Words.{cases_Bool, ◌≡◌, ℕ, ◌+◌, ◌*◌, ◌%◌, Bool, true, false, not, List, [], ◌∷◌, length, refl, ◌∙◌, ap, arith, if◌then◌else◌, length-append, cond_both, ◌==◌, nat_le, unwrap_or, sum_by, flat_map, to_le_bytes, nat_tests, flat_map-cons, sum_by-cons, Idn, Length, Two, Four, List1, List2, List4, is_list, item_len, Block, is_number, width_of, bits_in, number_end, bytes_for, IsStore, find_block, is_len, SoundParts-is_sound, idns_at, values_in, found_sound, carried_len, data_in, value_in, cases_Option, inl, inr, not-true, and_parts}
 use Rattle.sercos_command.specs.Checks.{cyclic_len}
 
 number_length : (l : Length) (n : ℕ) → is_list l ≡ false → length (to_le_bytes (width_of l) n) ≡ item_len l
@@ -25,13 +25,12 @@ value_length : (cycle : ℕ) (blocks : List Block) (idn : Idn) → IsStore block
 unfolding value_in
 value_length cycle blocks idn store = elim (cases_Option (find_block idn.raw blocks)) [
   | inl is ↦ rw is
-  | inr (b, is) ↦ rw is (number b (found_sound idn.raw blocks b store.sound is) (is_number b.attribute) refl)
+  | inr (b, is) ↦ rw is (elim (cases_Bool (is_number b.attribute)) [
+    | inl on ↦ rw on (data_length cycle b (not-true (is_list b.attribute.length) (and_parts (not (is_list b.attribute.length)) _ on).0)
+        (SoundParts-is_sound b (found_sound idn.raw blocks b store.sound is)).len)
+    | inr off ↦ rw off refl
+  ])
 ]
-  where
-    number : (b : Block) → is_sound b ≡ true → (t : Bool) → is_number b.attribute ≡ t → length (unwrap_or (if t then Some (data_in cycle b) else None) []) ≡ unwrap_or (if t then Some (item_len b.attribute.length) else None) 0
-    number b sound true is = data_length cycle b (not-true (is_list b.attribute.length)
-        (and_parts (not (is_list b.attribute.length)) _ is).0) (SoundParts-is_sound b sound).len
-    number b sound false is = refl
 
 values_length : (cycle : ℕ) (blocks : List Block) (idns : List Idn) → IsStore blocks → length (flat_map (value_in cycle blocks) idns) ≡ sum_by (λ (idn : Idn). unwrap_or (cyclic_len blocks idn.raw) 0) idns
 values_length cycle blocks [] store = refl

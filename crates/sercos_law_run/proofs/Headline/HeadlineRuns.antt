@@ -1,5 +1,5 @@
 -- The headline, by induction over the cycles of a run.
-use Rattle.sercos_law_run.proofs.Words.{◌≡◌, ◌⊎◌, inl, inr, ℕ, ◌<◌, ◌≤◌, false, List, [], ◌∷◌, ◌++◌, length, Option, Some, None, refl, sym, ap, subst, arith, max, IfSome, All-nil, All-cons, wire_bits, frame_of, Job, Outcome, IsStore, store_of, DriveView, RingView, Processed, Entry, log_of, Begun, accepted_at, blocks_in, Said, SentView, EventsView, CycleView, known_of, tasks_for, Sent, mst_said, mdt_said, Carry, Restarts, Heard, View, standing, stood_in, IsShown, begun_in, AreInStep, phase_commanded, all_entries, drive_at, given_before, given_mst, master_calls, looks_back, no_events, restart_events, begins, sent_at, sent_mst, sent_mdt, ats_said, said_below, middle, IsNext, IsRun, IsClear, HasOutcome, behind_mdt, after_mst, view_of, views_of, IsSpelled, IsOpened, IsStored, HaveRealBits, phase_before, StandsNoLater, OnStores, IsExactAt, IsToldAt, AreReportedIn, AreInStepAt, KeepsAll, length-IsFrame, runs_exact, handshake, stands_no_later, is_planned}
+use Rattle.sercos_law_run.proofs.Words.{cases_Option, ◌≡◌, ◌⊎◌, inl, inr, ℕ, ◌<◌, ◌≤◌, false, List, [], ◌∷◌, ◌++◌, length, Option, Some, None, refl, sym, ap, subst, arith, max, All-nil, All-cons, wire_bits, frame_of, Job, Outcome, IsStore, store_of, DriveView, RingView, Processed, Entry, log_of, Begun, accepted_at, blocks_in, Said, SentView, EventsView, CycleView, known_of, tasks_for, Sent, mst_said, mdt_said, Carry, Restarts, View, standing, stood_in, begun_in, AreInStep, phase_commanded, all_entries, drive_at, given_before, given_mst, master_calls, looks_back, no_events, restart_events, begins, sent_at, sent_mst, sent_mdt, ats_said, said_below, middle, IsNext, IsRun, IsClear, HasOutcome, behind_mdt, after_mst, view_of, views_of, IsSpelled, IsOpened, IsStored, HaveRealBits, phase_before, OnStores, IsExactAt, AreReportedIn, KeepsAll, length-IsFrame, runs_exact, handshake, stands_no_later, is_planned}
 use Rattle.sercos_law_channel.specs.Handshake.Runs.{IsNext as IsNextView}
 use Rattle.sercos_law_run.proofs.Typed.Ats.{IsContent, at_content}
 use Rattle.sercos_law_run.proofs.Typed.Mdts.{mdt_whole}
@@ -25,14 +25,13 @@ on_stores d (e ∷ entries) are = (on_stores d entries are.0, are.1.0)
 abbrev without_mdt : View → View
 without_mdt v = record v { mdt_comes = false }
 
-shown_without : (busy : ℕ) (v : View) (past : List View) (o : Option Heard) → IfSome o (λ a. IsShown busy a v past) → IfSome o (λ a. IsShown busy a (without_mdt v) past)
-shown_without busy v past None is = is
-shown_without busy v past (Some a) is = record { got_mst = is.got_mst; stands = is.stands; says = is.says }
-
 next_without : (busy : ℕ) (v : View) (past : List View) → IsNextView busy v past → IsNextView busy (without_mdt v) past
 next_without busy v past next = record {
   commanded = next.commanded;
-  heard = shown_without busy v past v.heard next.heard;
+  heard = elim (cases_Option v.heard) [
+    | inl none ↦ let is = rw none at next.heard in rw none is
+    | inr some ↦ let is = rw some.1 at next.heard in rw some.1 (record { got_mst = is.got_mst; stands = is.stands; says = is.says })
+  ];
   late = next.late;
   begins = next.begins;
   sent = next.sent;
@@ -96,23 +95,34 @@ module _ (r : RingView) (jobs : List Job) (carry : Carry) (restarts : Restarts) 
     apart = apart_in r jobs carry restarts opened first_store t j next clear (spelled_in t j next) (stored_in t j) (all_stand j run before) (framed_in t j);
     real = subst (λ (l : List SentView). HaveRealBits l) (sym next.sent) (real_bits r.rate (mst_said (looks_back r jobs (begins r carry restarts j))) (said_below (length r.drives) (drive_at r) r.rate (given_mst carry restarts t.sent j))
         (mdt_said (known_of r) (behind_mdt r jobs carry restarts t.sent j)));
-    no_later = no_later_in;
+    no_later = λ k below. let kept = kept_at_mst r jobs carry restarts opened first_store t j next clear (spelled_in t j next)
+        (stored_in t j) (all_stand j run before) k below in
+        let bound = stands_no_later (view_of r jobs carry restarts k t j) (views_of r jobs carry restarts k j) in
+        subst (λ (n : ℕ). n ≤ max t.phase (phase_before j)) (sym kept.ended)
+        (subst (λ (n : ℕ). stood_in (view_of r jobs carry restarts k t j) (standing (views_of r jobs carry restarts k j)) ≤ max t.phase
+        n) (before_is r jobs carry restarts k j) bound);
     exact = exact_in;
-    told = told_in;
+    told = λ k below. let count = members_count r in
+        let inside : k < length (known_of r).drives = omega (arith, below, count) in
+        record {
+          in_order = told_in_order (known_of r) (tasks_for (known_of r) jobs) (master_calls r carry restarts (t ∷ j)) k
+              (are_requests (known_of r) jobs k).1 inside (restarts_so r carry restarts (t ∷ j));
+          once = told_once (known_of r) jobs (master_calls r carry restarts (t ∷ j)) k inside (restarts_so r carry restarts (t ∷ j));
+        };
     once = are_once r jobs carry restarts opened.valid t j (run, next);
     reported = reported_in;
     stops = stops_in r jobs carry restarts opened first_store t j next clear (spelled_in t j next) (stored_in t j) (all_stand j run before) at_end (well (t ∷ j) (run, next) (before, clear));
-    in_step = in_step_in;
+    in_step = λ k below two stands. let sees = (at_end k below).sees in
+        subst (λ (l : List Begun). AreInStep l (accepted_at (drive_at r k) r.rate (given_before carry restarts (t ∷ j) k)))
+        (sym (begun_then r jobs carry restarts opened first_store t j next clear (spelled_in t j next) (stored_in t j)
+        (all_stand j run before) k below))
+        (subst (λ (h : List Processed). AreInStep (begun_in (view_of r jobs carry restarts k t j) (views_of r jobs carry restarts k j))
+        (log_of h)) (sym sees.drive.records) (handshake (drive_at r k).busy (view_of r jobs carry restarts k t j)
+        (views_of r jobs carry restarts k j) sees.run two (subst (λ (n : ℕ). 2 ≤ n) sees.drive.ended stands)));
   }
     where
       at_end : AllStand r jobs carry restarts (t ∷ j)
       at_end = all_stand (t ∷ j) (run, next) (before, clear)
-
-      no_later_in : (k : ℕ) → k < length r.drives → StandsNoLater r carry restarts t j k
-      no_later_in k below =
-          let kept = kept_at_mst r jobs carry restarts opened first_store t j next clear (spelled_in t j next) (stored_in t j) (all_stand j run before) k below in
-          let bound = stands_no_later (view_of r jobs carry restarts k t j) (views_of r jobs carry restarts k j) in
-          subst (λ (n : ℕ). n ≤ max t.phase (phase_before j)) (sym kept.ended) (subst (λ (n : ℕ). stood_in (view_of r jobs carry restarts k t j) (standing (views_of r jobs carry restarts k j)) ≤ max t.phase n) (before_is r jobs carry restarts k j) bound)
 
       exact_in : (k : ℕ) → k < length r.drives → IsExactAt r jobs carry restarts t j k
       exact_in k below =
@@ -126,15 +136,6 @@ module _ (r : RingView) (jobs : List Job) (carry : Carry) (restarts : Restarts) 
             begun = sym stands.sees.master.begun_are;
             begun_now = sym (begun_then r jobs carry restarts opened first_store t j next clear (spelled_in t j next) (stored_in t j) (all_stand j run before) k below);
             stored = on_stores (drive_at r k) (all_entries (views_of r jobs carry restarts k (t ∷ j))) (entries_stored (drive_at r k) (views_of r jobs carry restarts k (t ∷ j)) stands.stored);
-          }
-
-      told_in : (k : ℕ) → k < length r.drives → IsToldAt r jobs carry restarts (t ∷ j) k
-      told_in k below =
-          let count = members_count r in
-          let inside : k < length (known_of r).drives = omega (arith, below, count) in
-          record {
-            in_order = told_in_order (known_of r) (tasks_for (known_of r) jobs) (master_calls r carry restarts (t ∷ j)) k (are_requests (known_of r) jobs k).1 inside (restarts_so r carry restarts (t ∷ j));
-            once = told_once (known_of r) jobs (master_calls r carry restarts (t ∷ j)) k inside (restarts_so r carry restarts (t ∷ j));
           }
 
       -- nothing stands in the events before a restart
@@ -157,11 +158,3 @@ module _ (r : RingView) (jobs : List Job) (carry : Carry) (restarts : Restarts) 
         tasks = λ k below. let count = members_count r in begins_tasks (known_of r) (tasks_for (known_of r) jobs) (middle r carry restarts t.sent j) k (omega (arith, below, count));
         right = λ k x below is. let count = members_count r in told_right (known_of r) (tasks_for (known_of r) jobs) (middle r carry restarts t.sent j) k x (omega (arith, below, count)) is;
       }
-
-      in_step_in : (k : ℕ) → k < length r.drives → AreInStepAt r jobs carry restarts t j k
-      in_step_in k below two stands =
-          let sees = (at_end k below).sees in
-          let joined = handshake (drive_at r k).busy (view_of r jobs carry restarts k t j) (views_of r jobs carry restarts k j) sees.run two (subst (λ (n : ℕ). 2 ≤ n) sees.drive.ended stands) in
-          subst (λ (l : List Begun). AreInStep l (accepted_at (drive_at r k) r.rate (given_before carry restarts (t ∷ j) k)))
-          (sym (begun_then r jobs carry restarts opened first_store t j next clear (spelled_in t j next) (stored_in t j) (all_stand j run before) k below))
-          (subst (λ (h : List Processed). AreInStep (begun_in (view_of r jobs carry restarts k t j) (views_of r jobs carry restarts k j)) (log_of h)) (sym sees.drive.records) joined)

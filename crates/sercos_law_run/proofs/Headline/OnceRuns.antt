@@ -1,6 +1,5 @@
 -- In the records of a run each request ends once.
-use Rattle.sercos_law_run.proofs.Words.{◌≡◌, ◌⊎◌, inl, inr, ℕ, zero, suc, ◌+◌, ◌<◌, ◌≤◌, Bool, true, false, List, [], ◌∷◌, length, Option, Some, None, refl, sym, ◌∙◌, ap, subst, arith, if◌then◌else◌, nat_lt, ◌==◌, is_some, slice_index, nat_tests, Job, Outcome, is_ring, RingView, Report, MemberView, Task, member, known_of, tasks_for, tasks_from, request_task, Call, Past, Restart, fall_of, broken, restart_told, with_report, with_reports, Carry, Restarts, EventsView, CycleView, heard, passage, mst_in, ats_in, IsNext, IsRun, at_calls, begin_calls, drive_at, looks_back, master_calls, middle, no_events, own_mst, restart_events, station_of, with_at, channel_at, HasOutcome, HasReport, Ascend, Descend, IsAtStart, RestartsAtStart, after_told, still_to_tell, task_numbers, told, told_at_end, with_told, AreOnce, HasEnded, NumbersAscend}
-use Rattle.sercos_telegram.specs.declared.layout.Kind.TheVariants as kinds
+use Rattle.sercos_law_run.proofs.Words.{cases_Bool, ◌≡◌, ◌⊎◌, inl, inr, ℕ, zero, suc, ◌+◌, ◌<◌, ◌≤◌, Bool, true, false, List, [], ◌∷◌, length, Option, Some, None, refl, sym, ◌∙◌, ap, subst, arith, if◌then◌else◌, nat_lt, ◌==◌, is_some, nat_tests, Job, Outcome, is_ring, RingView, Report, MemberView, Task, member, known_of, tasks_for, tasks_from, request_task, Call, Past, Restart, fall_of, broken, restart_told, with_report, with_reports, Carry, Restarts, EventsView, CycleView, mst_in, ats_in, IsNext, IsRun, begin_calls, drive_at, looks_back, master_calls, middle, no_events, own_mst, restart_events, channel_at, HasOutcome, HasReport, Ascend, Descend, IsAtStart, RestartsAtStart, after_told, still_to_tell, task_numbers, told, told_at_end, with_told, AreOnce, HasEnded, NumbersAscend}
 use Rattle.sercos_master.specs.Reports.{inserted}
 use Rattle.sercos_law_run.proofs.Agenda.Requests.{ascend_from}
 use Rattle.sercos_law_run.proofs.Agenda.ToldEvents.{all_to}
@@ -165,11 +164,10 @@ pub restarts_so : (r : RingView) (carry : Carry) (restarts : Restarts) (j : List
 restarts_so r carry restarts [] = tt
 restarts_so r carry restarts (t ∷ j) = ats_keep RestartsAtStart r carry (length j) (ats_in t.sent)
     (own_mst carry (length j) (mst_in t.sent) (begin_calls restarts (length j) (master_calls r carry restarts j)))
-    (by (restarts (length j) 0) (restarts_so r carry restarts j) (starts r carry restarts j)) (λ content g are. are)
-  where
-    by : (b : Bool) → RestartsAtStart (master_calls r carry restarts j) → IsAtStart (master_calls r carry restarts j) → RestartsAtStart (if b then Restart ∷ master_calls r carry restarts j else master_calls r carry restarts j)
-    by true are at = (are, at)
-    by false are at = are
+    (elim (cases_Bool (restarts (length j) 0)) [
+      | inl on ↦ rw on ((restarts_so r carry restarts j), (starts r carry restarts j))
+      | inr off ↦ rw off (restarts_so r carry restarts j)
+    ]) (λ content g are. are)
 
 module _ (r : RingView) (jobs : List Job) (carry : Carry) (restarts : Restarts) (valid : is_ring r ≡ true) where
   abbrev n : ℕ
@@ -194,9 +192,6 @@ module _ (r : RingView) (jobs : List Job) (carry : Carry) (restarts : Restarts) 
           subst (λ (l : List (Option ℕ)). HasNumber l m) (told_in_order (known_of r) (tasks_for (known_of r) jobs) h k (are_requests (known_of r) jobs k).1 below order)
           (number_of (reports_at h k) (still_to_tell (channel_at (looks_back r jobs h) k)) m o has)
 
-  reports_ats : (k cycle : ℕ) (ats : List (List ℕ)) (h : List Call) → reports_at h k ≡ reports_at (at_calls r carry cycle ats h) k
-  reports_ats k cycle ats h = ats_keep (λ g. reports_at h k ≡ reports_at g k) r carry cycle ats h refl (λ content g so. so)
-
   there_in : (t : CycleView) (j : List CycleView) → IsNext r jobs carry restarts t j → AreThere n (reports_at (master_calls r carry restarts j)) (reports_at (master_calls r carry restarts (t ∷ j))) t.events.outcomes
   there_in t j next =
       subst (λ (l : List (ℕ × Outcome)). AreThere n older (reports_at (master_calls r carry restarts (t ∷ j))) l) (sym (ap (λ (e : EventsView). e.outcomes) next.events))
@@ -220,7 +215,9 @@ module _ (r : RingView) (jobs : List Job) (carry : Carry) (restarts : Restarts) 
 
       in_middle : AreThere n older (reports_at (middle r carry restarts t.sent j)) (restart_events r jobs restarts (length j) h).outcomes
       in_middle = there_same n older (reports_at (begin_calls restarts (length j) h)) (reports_at (middle r carry restarts t.sent j)) (restart_events r jobs restarts (length j) h).outcomes
-          (λ k. reports_ats k (length j) (ats_in t.sent) (own_mst carry (length j) (mst_in t.sent) (begin_calls restarts (length j) h))) (at_begin (restarts (length j) 0))
+          (λ k. ats_keep (λ g. reports_at (own_mst carry (length j) (mst_in t.sent) (begin_calls restarts (length j) h)) k ≡ reports_at g k)
+          r carry (length j) (ats_in t.sent) (own_mst carry (length j) (mst_in t.sent) (begin_calls restarts (length j) h)) refl
+          (λ content g so. so)) (at_begin (restarts (length j) 0))
 
       at_end : (falls : Bool) → AreRight n (λ k. told_at_end falls (p.now.report k) (broken p k) (reports_at (middle r carry restarts t.sent j) k))
           → AreThere n older (λ k. told_at_end falls (p.now.report k) (broken p k) (reports_at (middle r carry restarts t.sent j) k))

@@ -1,5 +1,5 @@
 -- The ATs of a cycle in the order sent, each with the place of its drive.
-use Rattle.sercos_law_run.proofs.Words.{◌≡◌, ◌⊎◌, inl, inr, ℕ, zero, suc, ◌<◌, ◌≤◌, Bool, true, false, List, [], ◌∷◌, map, Option, Some, None, refl, ◌∙◌, ap, arith, if◌then◌else◌, nat_lt, cases_eq, nat_tests, DriveView, DriveCall, Said, drive_says, with_said, said_below, cases_Bool, cases_Option}
+use Rattle.sercos_law_run.proofs.Words.{◌≡◌, ◌⊎◌, inl, inr, ℕ, zero, suc, ◌<◌, ◌≤◌, Bool, true, false, List, [], ◌∷◌, map, Option, Some, None, refl, ◌∙◌, ap, arith, if◌then◌else◌, nat_lt, cases_eq, nat_tests, DriveView, DriveCall, Said, drive_says, said_below, cases_Bool, cases_Option}
 use Rattle.sercos_law_run.specs.Journal.Runs.{inserted}
 
 pub record Placed : Type 0 where

@@ -1,5 +1,5 @@
 -- In a run of a ring in which nothing is unseen the master stops with `NoFit` only if no plan fits, and never at what is configured.
-use Rattle.sercos_law_run.proofs.Words.{◌≡◌, ℕ, zero, suc, ◌<◌, ◌≤◌, Bool, true, false, ◌||◌, List, [], ◌∷◌, ◌++◌, map, length, Option, Some, None, Result, Err, refl, sym, ap, ◌∙◌, subst, arith, if◌then◌else◌, append_assoc, ◌==◌, nat_le, slice_get, is_some, is_none, OnErr, list_any, eq-eqb, false≢true, le-leb, get_or_from_slice_get, same_Some, slice_get_within, Idn, Request, Outcome, Job, outcome_of, record_bytes, IsValid, PlanView, WishesView, wishes_of, IsStore, store_of, DriveView, RingView, NoneFits, planned, ChainView, planned_none, Begun, begun_by, Stop, idn, declared_times, reads, reads_count, asked_by, stop_by, long_in, len_said, attribute_stop, wishes_given, with_outcome, outcomes_in, Task, MemberView, member, member_of, known_of, tasks_for, reads_length, IsAnswer, AreAnswers, Call, Past, outcomes, carried_clean, never_restarts, View, epoch_begun, all_entries, all_writes, all_begun, begun_ago, AreSound, AreExact, no_drive, drive_at, looks_back, AreNumbered, IsTask, OfReads, OfWrites, Checks3, Lists3, Checks4, Lists4, OfWaiting, AreBegunTasks, HasEndedAt, IsOpened, AreStored, types, runs_exact, cases_Bool, inl, inr}
+use Rattle.sercos_law_run.proofs.Words.{◌≡◌, ℕ, zero, suc, ◌<◌, ◌≤◌, Bool, true, false, ◌||◌, List, [], ◌∷◌, ◌++◌, map, length, Option, Some, None, Result, Err, refl, sym, ap, ◌∙◌, subst, arith, if◌then◌else◌, ◌==◌, nat_le, slice_get, is_some, is_none, OnErr, list_any, eq-eqb, false≢true, le-leb, get_or_from_slice_get, slice_get_within, Idn, Request, Outcome, Job, outcome_of, record_bytes, IsValid, PlanView, WishesView, wishes_of, IsStore, store_of, DriveView, RingView, NoneFits, planned, ChainView, planned_none, Begun, begun_by, Stop, idn, declared_times, reads, reads_count, asked_by, stop_by, long_in, len_said, attribute_stop, wishes_given, with_outcome, outcomes_in, Task, MemberView, member, member_of, known_of, tasks_for, reads_length, IsAnswer, AreAnswers, Call, Past, outcomes, carried_clean, never_restarts, View, epoch_begun, AreSound, no_drive, drive_at, looks_back, IsTask, OfReads, OfWrites, Checks3, Lists3, Checks4, Lists4, OfWaiting, AreBegunTasks, IsOpened, AreStored, types, cases_Bool, inl, inr}
 use Rattle.sercos_step.specs.declared.request.Request.TheVariants as request
 use Rattle.sercos_step.specs.declared.request.Outcome.TheVariants as outcome
 use Rattle.sercos_trace.specs.declared.events.Stop.TheVariants as stop
@@ -8,13 +8,13 @@ use Rattle.sercos_law_channel.specs.Handshake.Runs.{IsRun}
 use Rattle.sercos_law_run.proofs.Agenda.AgendaTasks.{IsIn, First, After, is_in, mapped}
 use Rattle.sercos_law_run.proofs.Agenda.ReadWell.{AllComplete, last_is}
 use Rattle.sercos_law_run.proofs.Agenda.Requests.{are_requests, all_numbered}
-use Rattle.sercos_law_run.proofs.Agenda.StopCauses.{element_asked, Says, says_so}
+use Rattle.sercos_law_run.proofs.Agenda.StopCauses.{element_asked, says_so}
 use Rattle.sercos_law_run.proofs.Agenda.StopRuns.{StopsFor, OfTask, OfPlan, OfLength, stop_has_cause}
 use Rattle.sercos_law_run.proofs.Agenda.WritesDone.{raw_of, IsDataWrite, DataWrite, all_data_writes}
 use Rattle.sercos_law_run.proofs.Views.Members.{member_is, in_ring, in_known}
-use Rattle.sercos_law_run.proofs.Held.AnsweredRuns.{is_read_request, as_read, read_of, read_answers, answered_by, entries_stored, answer_of as answer_so}
+use Rattle.sercos_law_run.proofs.Held.AnsweredRuns.{answered_by, answer_of as answer_so}
 use Rattle.sercos_law_run.proofs.Held.Runs.{drive_got, wishes_so}
-use Rattle.sercos_law_run.proofs.Cited.{begins_tasks, left_of, tasks_end}
+use Rattle.sercos_law_run.proofs.Cited.{begins_tasks}
 use Rattle.sercos_law_run.proofs.Start.AnswerLemmas.{no_attribute_stops, typed_have_factors}
 use Rattle.sercos_law_run.proofs.Start.WellLemmas.{ring_is_valid}
 
@@ -75,8 +75,7 @@ module _ (r : RingView) (jobs : List Job) (opened : IsOpened r jobs)
       each : (n : ℕ) (x : Request) → slice_get (reads (member (known_of r) k)) n ≡ Some x → (o : Outcome) × (slice_get (outcomes now k) n ≡ Some o) × IsAnswer (drive_at r k) x o
       each n x got =
           let less = slice_get_within (reads (member (known_of r) k)) n x got in
-          let long = reads_length (member (known_of r) k) in
-          let early : n < reads_count (member (known_of r) k) = omega (arith, less, long) in
+          let early : n < reads_count (member (known_of r) k) = omega (arith, less, reads_length (member (known_of r) k)) in
           let (bytes, complete) = whole k (in_known r k below) n early in
           (outcome.Complete bytes, complete, answer_of k n x bytes below early got complete)
 

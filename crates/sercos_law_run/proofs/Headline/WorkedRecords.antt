@@ -1,5 +1,5 @@
 -- A worked run in which each request ends once, and altered journals in which one doesn't, computed from the definitions.
-use Rattle.sercos_law_run.proofs.Words.{◌≡◌, inl, inr, ℕ, ◌+◌, ◌==◌, Bool, true, false, ◌||◌, List, [], ◌∷◌, ◌++◌, refl, sym, ◌∙◌, ap, subst, arith, flat_map, list_any, nat_le, not, ◌&&◌, and_parts, false≢true, nat_tests, Outcome, Lose, Fault, CycleView, run_of, HasOutcome, AreOnce, HasEnded, NumbersAscend, carried, restarts_at, acts, cases_Bool}
+use Rattle.sercos_law_run.proofs.Words.{◌≡◌, inl, inr, ℕ, ◌+◌, ◌==◌, Bool, true, false, List, [], ◌∷◌, ◌++◌, refl, sym, ◌∙◌, ap, subst, arith, flat_map, list_any, nat_le, not, ◌&&◌, and_parts, false≢true, nat_tests, Outcome, Lose, Fault, CycleView, run_of, HasOutcome, AreOnce, HasEnded, NumbersAscend, carried, restarts_at, acts, cases_Bool}
 use Rattle.sercos_telegram.specs.declared.layout.Kind.TheVariants as kinds
 use Rattle.sercos_step.specs.declared.request.Outcome.TheVariants as outcome
 use Rattle.sercos_law_run.proofs.Journal.Worked.{ring, fault, write, read}
@@ -46,14 +46,14 @@ out_of : (number : ℕ) (outcomes : List (ℕ × Outcome)) → list_any (λ x. x
 out_of number [] any = absurd (cc)
 out_of number (x ∷ outcomes) any = elim (cases_Bool (x.0 == number)) [
   | inl is ↦ let any = rw is at any in let rest = out_of number outcomes in (x.1, inl ((grind (arith, nat_tests, is)), refl))
-  | inr is ↦ let (o, has) = (out_of number outcomes) (rw is at any) in (o, inr has)
+  | inr is ↦ let (o, has) = out_of number outcomes (rw is at any) in (o, inr has)
 ]
 
 out_of_journal : (number : ℕ) (j : List CycleView) → list_any (ends_in number) j ≡ true → HasEnded number j
 out_of_journal number [] any = absurd (cc)
 out_of_journal number (t ∷ j) any = elim (cases_Bool (ends_in number t)) [
   | inl is ↦ inl (out_of number t.events.outcomes is)
-  | inr is ↦ inr ((out_of_journal number j) (rw is at any))
+  | inr is ↦ inr (out_of_journal number j (rw is at any))
 ]
 
 abbrev IsOnce : List CycleView → Type 0
@@ -87,8 +87,7 @@ new_so : (outcomes : List (ℕ × Outcome)) (j : List CycleView) → are_new out
 new_so [] j e number o none any = none
 new_so (x ∷ outcomes) j e number o (inl is) any =
     let first = (and_parts (not (list_any (ends_in x.0) j)) (are_new outcomes j) e).0 in
-    let here : list_any (ends_in x.0) j ≡ true = subst (λ m. list_any (ends_in m) j ≡ true) (sym is.0) any in
-    false≢true (sym (ap not here) ∙ first)
+    false≢true (sym (ap not (subst (λ m. list_any (ends_in m) j ≡ true) (sym is.0) any)) ∙ first)
 new_so (x ∷ outcomes) j e number o (inr has) any = new_so outcomes j (and_parts (not (list_any (ends_in x.0) j)) (are_new outcomes j) e).1 number o has any
 
 new_test : (outcomes : List (ℕ × Outcome)) (j : List CycleView) → ((number : ℕ) (o : Outcome) → HasOutcome outcomes number o → list_any (ends_in number) j ≡ true → ⊥) → are_new outcomes j ≡ true

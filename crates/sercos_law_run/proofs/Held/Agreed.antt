@@ -1,6 +1,5 @@
 -- A drive that holds the plan agrees with the MDT that the master lays.
-use Rattle.sercos_law_run.proofs.Words.{◌≡◌, ℕ, zero, suc, ◌+◌, ◌<◌, true, List, [], ◌∷◌, map, length, take, Option, Some, None, refl, sym, ap, ◌∙◌, subst, arith, cond, ◌==◌, ◌||◌, Bool, false, slice_index, slice_get, unwrap_or, is_some, concat, list_all, and_parts, slice_get_within, Request, WishesView, PlanView, IsValid, Fits, positions, record_bytes, wish, Wish, Block, is_ring, record_len, is_built_in, has_block, blocks_fault, find_block, store_of, DriveView, RingView, length_wishes, data_at, number_at, carried_len, Held, held_of, wishes_given, writes, Known, known_of, IsStoreOf, start_up, Holds, held_in, AreStoredWhole, Past, outcomes, records_from, stored, View, all_writes, store_in, is_plain, start_numbers, AreHeld, holds_newest, wishes_of, cases_Bool, inl, inr}
-use Rattle.sercos_step.specs.declared.request.Request.TheVariants as request
+use Rattle.sercos_law_run.proofs.Words.{◌≡◌, ℕ, zero, suc, ◌+◌, ◌<◌, true, List, [], ◌∷◌, map, length, take, Option, Some, None, refl, sym, ap, ◌∙◌, subst, arith, ◌==◌, slice_index, slice_get, unwrap_or, is_some, concat, slice_get_within, Request, WishesView, PlanView, IsValid, Fits, positions, record_bytes, Wish, Block, is_ring, record_len, is_built_in, has_block, blocks_fault, find_block, store_of, DriveView, RingView, length_wishes, data_at, number_at, carried_len, Held, held_of, wishes_given, writes, Known, known_of, IsStoreOf, start_up, Holds, held_in, AreStoredWhole, Past, outcomes, records_from, stored, View, all_writes, store_in, is_plain, start_numbers, AreHeld, holds_newest, wishes_of, cases_Bool, inl, inr, some_there}
 use Rattle.sercos_law_run.proofs.Slots.Places.{record_place_is, length_records}
 use Rattle.sercos_law_run.specs.Start.Held.{written_by}
 use Rattle.sercos_law_run.proofs.Start.PlanNumbers.{HasNumbers, has_numbers}
@@ -15,7 +14,6 @@ use Rattle.sercos_law_run.proofs.Start.HeldLemmas.{holds_plan, writes_start_up}
 use Rattle.sercos_law_run.proofs.Start.LaterLemmas.{stores_start_up_whole}
 use Rattle.sercos_law_run.proofs.Start.Lengths.{are_as_long}
 use Rattle.sercos_law_run.proofs.Agenda.AgendaTasks.{mapped}
-use Rattle.sercos_law_channel.proofs.Options.{some_there}
 pub use Rattle.sercos_law_channel.proofs.Options.{all_at}
 
 -- a place of the ring has a wish
@@ -43,14 +41,11 @@ agrees_so r p plan k d blocks valid fits below at rules stored_so holds same =
     let first : length (concat (take k (records_of s p 0 n))) ≡ length (records_from s p 0 k) = ap (λ (l : List ℕ). length l) before in
     let whole : length (records_from s p 0 n) ≡ record_bytes drives = ap (λ (l : List ℕ). length l) (sym (records_concat s p 0 n)) ∙ length_records (records_of s p 0 n) drives lengths in
     let numbers : HasNumbers (wishes_of r) plan k = has_numbers (wishes_of r) plan k valid fits (omega (arith, below, wide)) in
-    let ends = numbers.record_end in
-    let asked : (wish (wishes_of r) k).record_len ≡ record_len d = ap (λ (w : Wish). w.record_len) (wish_is r k d at) in
     let carried : carried_len blocks 24 ≡ record_len d = (are_as_long d blocks rules stored_so).1 holds.1.1.1.1.1.1.1.1.1.0 in
-    let total = fits.rule_12.1 in
     record {
       place = position ∙ there ∙ sym laid ∙ ap (λ (m : ℕ). 1 + m) first;
-      within = omega (arith, ends, asked, carried, position, mdt_len);
-      long = mdt_len ∙ total ∙ sym whole;
+      within = omega (arith, numbers.record_end, ap (λ (w : Wish). w.record_len) (wish_is r k d at), carried, position, mdt_len);
+      long = mdt_len ∙ fits.rule_12.1 ∙ sym whole;
     }
 
 -- WHAT A DRIVE HOLDS by its writes, its store holds.
@@ -58,7 +53,7 @@ agrees_so r p plan k d blocks valid fits below at rules stored_so holds same =
 has_some : (raw : ℕ) (blocks : List Block) → has_block raw blocks ≡ true → is_some (find_block raw blocks) ≡ true
 has_some raw [] has = cc
 has_some raw (b ∷ blocks) has =
-    elim (cases_Bool (b.idn.raw == raw)) [ inl on ↦ rw on | inr off ↦ rw off ((has_some raw blocks) (rw off at has)) ]
+    elim (cases_Bool (b.idn.raw == raw)) [ inl on ↦ rw on | inr off ↦ rw off (has_some raw blocks (rw off at has)) ]
 
 -- the data of each value, by its place
 pub holds_by : (blocks : List Block) (values : List (ℕ × List ℕ)) → ((i : ℕ) (v : ℕ × List ℕ) → slice_get values i ≡ Some v → data_at blocks v.0 ≡ v.1) → Holds blocks values
@@ -83,17 +78,14 @@ held_holds r plan k d views valid_ring valid fits at rules held =
     each : (i : ℕ) (v : ℕ × List ℕ) → slice_get (map written_by (writes (known_of r) plan k)) i ≡ Some v → data_at (store_in (store_of d) views) v.0 ≡ v.1
     each i v got =
         let (q, there, is) = mapped written_by (writes (known_of r) plan k) i v got in
-        let less = slice_get_within (writes (known_of r) plan k) i q there in
-        let (w, bytes, write, number) = writes_data (known_of r) plan k i less in
-        let one : q ≡ request.Write w 7 bytes = cc in
+        let (w, bytes, write, number) = writes_data (known_of r) plan k i (slice_get_within (writes (known_of r) plan k) i q there) in
+        let one : q ≡ Request.Write w 7 bytes = cc in
         let pair : v ≡ (w.raw, bytes) = is ∙ ap written_by one in
-        let (b, found) = some_there (find_block w.raw (store_of d)) (numbered i w.raw number) in
+        let (b, found) = some_there (find_block w.raw (store_of d))
+        (has_some w.raw (store_of d) (has_of w.raw d (store_of d) refl (all_at is_built_in start_numbers i w.raw refl number))) in
         let holding : data_at (store_in (store_of d) views) w.raw ≡ stored b bytes =
         holds_newest (store_of d) views w.raw b (all_at is_plain start_numbers i w.raw refl number) found
-        ∙ ap (λ (o : Option (List ℕ)). unwrap_or o b.value) (held_at (store_of d) (all_writes views) (writes (known_of r) plan k) i (request.Write w 7 bytes) held write b found) in
+        ∙ ap (λ (o : Option (List ℕ)). unwrap_or o b.value) (held_at (store_of d) (all_writes views) (writes (known_of r) plan k) i (Request.Write w 7 bytes) held write b found) in
         let kept : stored b bytes ≡ bytes = whole_at (store_of d) (start_up r.control r.cycle plan k d.at d.mdt) i (w.raw, bytes) (stores_start_up_whole d (store_of d) r.control r.cycle k plan rules refl)
         (ap (λ (l : List (ℕ × List ℕ)). slice_get l i) (sym same) ∙ got ∙ ap (λ (x : ℕ × List ℕ). Some x) pair) b found in
         subst (λ (x : ℕ × List ℕ). data_at (store_in (store_of d) views) x.0 ≡ x.1) (sym pair) (holding ∙ kept)
-      where
-        numbered : (i raw : ℕ) → slice_get start_numbers i ≡ Some raw → is_some (find_block raw (store_of d)) ≡ true
-        numbered i raw got = has_some raw (store_of d) (has_of raw d (store_of d) refl (all_at is_built_in start_numbers i raw refl got))

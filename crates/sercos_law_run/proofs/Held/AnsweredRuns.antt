@@ -1,14 +1,11 @@
 -- If there is a plan, a drive has answered the first reads as it has its elements.
-use Rattle.sercos_law_run.proofs.Words.{◌≡◌, ℕ, zero, suc, ◌<◌, Bool, true, false, not, List, [], ◌∷◌, ◌++◌, length, Option, Some, None, refl, sym, ap, ◌∙◌, subst, arith, if◌then◌else◌, append_assoc, ◌==◌, slice_get, option_map, unwrap_or, option_or, beq, same_Some, slice_get_within, Idn, is_list, Request, Outcome, outcome_of, steps_before, Job, PlanView, Block, blocks_fault, find_block, store_of, DriveView, RingView, Processed, Entry, ahs, reply_of, log_of, Write, Begun, begun_by, CycleView, idn, reads, reads_count, outcomes_in, Task, MemberView, member, known_of, tasks_for, reads_length, IsStoreOf, kept, IsAnswer, AreAnswers, Past, outcomes, Carry, Restarts, entry_behind, element_in, View, standing, stood_in, record_in, kept_in, accepted_of, all_entries, all_writes, all_begun, begun_ago, AreSound, AreSmall, AreExact, Processes, Nothing, Record, processes, drive_at, master_calls, looks_back, IsTask, OfReads, OfWrites, Checks3, Lists3, Checks4, Lists4, OfWaiting, HasEndedAt, views_of, IsStored, AreStored, runs_exact, element_of, built_in, data_in, cases_Bool, inl, inr, Call, epoch_begun}
-use Rattle.sercos_step.specs.declared.request.Request.TheVariants as request
-use Rattle.sercos_step.specs.declared.request.Outcome.TheVariants as outcome
+use Rattle.sercos_law_run.proofs.Words.{◌≡◌, ℕ, zero, suc, ◌<◌, false, not, List, [], ◌∷◌, ◌++◌, length, Option, Some, None, refl, sym, ap, ◌∙◌, subst, arith, append_assoc, ◌==◌, slice_get, option_map, unwrap_or, option_or, same_Some, slice_get_within, Idn, is_list, Request, Outcome, outcome_of, steps_before, Job, PlanView, Block, blocks_fault, find_block, store_of, DriveView, RingView, Processed, Entry, Write, Begun, begun_by, CycleView, idn, reads, reads_count, outcomes_in, Task, MemberView, member, known_of, tasks_for, reads_length, IsStoreOf, kept, IsAnswer, AreAnswers, outcomes, Carry, Restarts, entry_behind, element_in, View, all_entries, all_writes, all_begun, begun_ago, AreSound, AreSmall, AreExact, drive_at, master_calls, looks_back, OfReads, OfWrites, Checks3, Lists3, Checks4, Lists4, OfWaiting, views_of, IsStored, AreStored, runs_exact, element_of, built_in, data_in, cases_Bool, inl, inr, Call, epoch_begun, IsViewRun}
 use Rattle.sercos_law_run.proofs.Start.BlockFinds.{find_store_of, same_kept}
 use Rattle.sercos_law_run.proofs.Start.LimitLemmas.{kept_step}
 use Rattle.sercos_law_run.proofs.Agenda.AgendaTasks.{mapped}
 use Rattle.sercos_law_run.proofs.Views.ViewRuns.{Sees}
 use Rattle.sercos_law_run.proofs.Cited.{reads_well, tasks_end}
 use Rattle.sercos_law_run.proofs.Held.EntriesAre.{EntriesAre, ViewsAre, entries_are, entry_in, entry_is}
-use Rattle.sercos_law_channel.specs.Handshake.Runs.{IsRun}
 
 -- each accepted step was accepted on a store of the drive
 abbrev pub EntriesStored : DriveView → List Entry → Type 0
@@ -43,7 +40,7 @@ pub record IsReadOf (d : DriveView) (raw e : ℕ) (bytes : List ℕ) : Type 0 wh
   pub gives : bytes ≡ element_in e processed.cycle block
 
 -- a complete read among those that were begun
-pub read_of : (d : DriveView) (blocks : List Block) (older : List Begun) (b : Begun) (i : Idn) (e : ℕ) (bytes : List ℕ) → (e == 1) ≡ false → b.request ≡ request.Read i e → outcome_of b.request b.answers ≡ Some (outcome.Complete bytes)
+pub read_of : (d : DriveView) (blocks : List Block) (older : List Begun) (b : Begun) (i : Idn) (e : ℕ) (bytes : List ℕ) → (e == 1) ≡ false → b.request ≡ Request.Read i e → outcome_of b.request b.answers ≡ Some (Outcome.Complete bytes)
     → (newer : List Begun) (entries : List Entry) (writes : List Write) → AreExact blocks (newer ++ b ∷ older) entries writes → EntriesStored d entries → IsReadOf d i.raw e bytes
 read_of d blocks older b i e bytes other asks complete [] entries writes (part, rest, own, others, of_entries, of_writes, exact, behind) have =
     let (first, found_first, selection, there, read) = exact.reads i e bytes asks complete in
@@ -54,8 +51,8 @@ read_of d blocks older b i e bytes other asks complete (x ∷ newer) entries wri
 
 -- WHAT THE START-UP READS: a declared time, or an attribute
 pub data IsRead (r : Request) : Type 0 where
-  Time : (raw : ℕ) → ((d : DriveView) → option_map (λ (b : Block). b.step) (find_block raw (built_in d)) ≡ Some 0) → r ≡ request.Read (idn raw) 7 → IsRead r
-  Attribute : (i : Idn) → r ≡ request.Read i 3 → IsRead r
+  Time : (raw : ℕ) → ((d : DriveView) → option_map (λ (b : Block). b.step) (find_block raw (built_in d)) ≡ Some 0) → r ≡ Request.Read (idn raw) 7 → IsRead r
+  Attribute : (i : Idn) → r ≡ Request.Read i 3 → IsRead r
 
 pub is_read_request : (m : MemberView) (j : ℕ) (r : Request) → slice_get (reads m) j ≡ Some r → IsRead r
 unfolding built_in
@@ -65,7 +62,7 @@ is_read_request m (suc (suc zero)) r got = Time 5 (λ d. refl) (cc)
 is_read_request m (suc (suc (suc zero))) r got = Time 87 (λ d. refl) (cc)
 is_read_request m (suc (suc (suc (suc zero)))) r got = Time 88 (λ d. refl) (cc)
 is_read_request m (suc (suc (suc (suc (suc zero))))) r got = Time 90 (λ d. refl) (cc)
-is_read_request m (suc (suc (suc (suc (suc (suc j)))))) r got = let (i, there, is) = mapped (λ i. request.Read i 3) (m.at ++ m.mdt) j r got in Attribute i is
+is_read_request m (suc (suc (suc (suc (suc (suc j)))))) r got = let (i, there, is) = mapped (λ i. Request.Read i 3) (m.at ++ m.mdt) j r got in Attribute i is
 
 map_step : (o : Option Block) → option_map (λ (b : Block). b.step) (option_map kept o) ≡ option_map (λ (b : Block). b.step) o
 map_step None = refl
@@ -87,17 +84,17 @@ time_read : (cycle : ℕ) (b : Block) → b.step ≡ 0 → element_in 7 cycle b 
 unfolding data_in element_of
 time_read cycle b still = rw still (elim (cases_Bool (not (is_list b.attribute.length))) [ inl on ↦ rw on | inr off ↦ rw off ])
 
-pub read_answers : (d : DriveView) (r : Request) (i : Idn) (e : ℕ) (bytes : List ℕ) → blocks_fault [] d.blocks ≡ None → IsRead r → r ≡ request.Read i e → IsReadOf d i.raw e bytes → IsAnswer d (request.Read i e) (outcome.Complete bytes)
+pub read_answers : (d : DriveView) (r : Request) (i : Idn) (e : ℕ) (bytes : List ℕ) → blocks_fault [] d.blocks ≡ None → IsRead r → r ≡ Request.Read i e → IsReadOf d i.raw e bytes → IsAnswer d (Request.Read i e) (Outcome.Complete bytes)
 read_answers d r i e bytes rules (Time raw built is) asks read =
-    let same : request.Read i e ≡ request.Read (idn raw) 7 = sym asks ∙ is in
+    let same : Request.Read i e ≡ Request.Read (idn raw) 7 = sym asks ∙ is in
     let number : i.raw ≡ raw = cc in
     let element : e ≡ 7 = cc in
     let still = no_step d read.processed.blocks i.raw read.block rules read.stored_is.1 (rw number (built d)) read.found in
-    (read.processed.blocks, read.stored_is.1, ap (λ (l : List ℕ). outcome.Complete l) (read.gives ∙ rw (element, read.found) (time_read read.processed.cycle read.block still)))
+    (read.processed.blocks, read.stored_is.1, ap (λ (l : List ℕ). Outcome.Complete l) (read.gives ∙ rw (element, read.found) (time_read read.processed.cycle read.block still)))
 read_answers d r i e bytes rules (Attribute x is) asks read =
-    let same : request.Read i e ≡ request.Read x 3 = sym asks ∙ is in
+    let same : Request.Read i e ≡ Request.Read x 3 = sym asks ∙ is in
     let element : e ≡ 3 = cc in
-    (read.processed.blocks, read.stored_is.1, ap (λ (l : List ℕ). outcome.Complete l) (read.gives ∙ rw (element, read.found) refl))
+    (read.processed.blocks, read.stored_is.1, ap (λ (l : List ℕ). Outcome.Complete l) (read.gives ∙ rw (element, read.found) refl))
 
 -- each request has its answer
 pub answered_by : (d : DriveView) (requests : List Request) (all : List Outcome) → ((j : ℕ) (r : Request) → slice_get requests j ≡ Some r → (o : Outcome) × (slice_get all j ≡ Some o) × IsAnswer d r o) → AreAnswers d requests all
@@ -108,48 +105,44 @@ answered_by d (r ∷ requests) (o ∷ all) each =
     let same : x ≡ o = cc in
     (subst (λ (y : Outcome). IsAnswer d r y) same is, answered_by d requests all (λ j y there. each (suc j) y there))
 
-pub as_read : (r : Request) → IsRead r → (i : Idn) × (e : ℕ) × (r ≡ request.Read i e) × ((e == 1) ≡ false)
+pub as_read : (r : Request) → IsRead r → (i : Idn) × (e : ℕ) × (r ≡ Request.Read i e) × ((e == 1) ≡ false)
 as_read r (Time raw built is) = (idn raw, 7, is, refl)
 as_read r (Attribute i is) = (i, 3, is, refl)
 
 -- A COMPLETE READ of the start-up gave the drive's element, whatever calls the master looks back on.
 pub answer_of : (r : RingView) (jobs : List Job) (h : List Call) (k : ℕ) (views : List View) (blocks : List Block)
     → k < length (known_of r).drives
-    → AreSmall blocks → blocks_fault [] (drive_at r k).blocks ≡ None → IsRun (drive_at r k).busy views → AreSound blocks views
+    → AreSmall blocks → blocks_fault [] (drive_at r k).blocks ≡ None → IsViewRun (drive_at r k).busy views → AreSound blocks views
     → AreStored (drive_at r k) views
     → begun_by ((looks_back r jobs h).calls k) ≡ epoch_begun views → (n : ℕ) (x : Request) (bytes : List ℕ)
     → n < reads_count (member (known_of r) k)
-    → slice_get (reads (member (known_of r) k)) n ≡ Some x → slice_get (outcomes (looks_back r jobs h) k) n ≡ Some (outcome.Complete bytes)
-    → IsAnswer (drive_at r k) x (outcome.Complete bytes)
+    → slice_get (reads (member (known_of r) k)) n ≡ Some x → slice_get (outcomes (looks_back r jobs h) k) n ≡ Some (Outcome.Complete bytes)
+    → IsAnswer (drive_at r k) x (Outcome.Complete bytes)
 answer_of r jobs h k views blocks below small rules run sound stored begun_are n x bytes early got complete =
-    let at = tasks_end (known_of r) (tasks_for (known_of r) jobs) h k n (outcome.Complete bytes) below complete in by at at.is.task
-  where
-    by : (at : HasEndedAt (known_of r) k (looks_back r jobs h).plan ((looks_back r jobs h).waiting k) (looks_back r jobs h).now.phase
-        (begun_by ((looks_back r jobs h).calls k)) n (outcome.Complete bytes))
-        → IsTask (known_of r) k at.is.by_then ((looks_back r jobs h).waiting k) (outcomes_in at.older) at.task
-        → IsAnswer (drive_at r k) x (outcome.Complete bytes)
-    by at (OfReads y less found same) =
-        let place : length (outcomes_in at.older) ≡ n = at.is.ended ∙ at.place in
-        let one : y ≡ x = same_Some y x (sym found ∙ ap (slice_get (reads (member (known_of r) k))) place ∙ got) in
-        let is = is_read_request (member (known_of r) k) n x got in
-        let (i, e, is_read, other) = as_read x is in
-        let asks : at.one.request ≡ request.Read i e = at.is.asks ∙ ap (λ (t : Task). t.request) same ∙ one ∙ is_read in
-        let all : all_begun views ≡ at.newer ++ at.one ∷ (at.older ++ begun_ago views) =
-        ap (λ (l : List Begun). l ++ begun_ago views) (sym begun_are ∙ at.split)
-        ∙ append_assoc at.newer (at.one ∷ at.older) (begun_ago views) in
-        subst (λ (y : Request). IsAnswer (drive_at r k) y (outcome.Complete bytes)) (sym is_read)
-        (read_answers (drive_at r k) x i e bytes rules is is_read
-        (read_of (drive_at r k) blocks (at.older ++ begun_ago views) at.one i e bytes other asks at.ended at.newer (all_entries views)
-        (all_writes views)
-        (subst (λ (l : List Begun). AreExact blocks l (all_entries views) (all_writes views)) all
-        (runs_exact (drive_at r k).busy blocks views small run sound))
-        (entries_stored (drive_at r k) views stored)))
-    by at (OfWrites pl i y planned less at_i found same) = let a = at.is.ended in let b = at.place in absurd (omega (arith, a, b, at_i, early))
-    by at (Checks3 pl planned at_i same) = let a = at.is.ended in let b = at.place in absurd (omega (arith, a, b, at_i, early))
-    by at (Lists3 at_i failed same) = let a = at.is.ended in let b = at.place in absurd (omega (arith, a, b, at_i, early))
-    by at (Checks4 at_i checked same) = let a = at.is.ended in let b = at.place in absurd (omega (arith, a, b, at_i, early))
-    by at (Lists4 at_i failed same) = let a = at.is.ended in let b = at.place in absurd (omega (arith, a, b, at_i, early))
-    by at (OfWaiting i at_i ready found) = let a = at.is.ended in let b = at.place in absurd (omega (arith, a, b, at_i, early))
+    let at = tasks_end (known_of r) (tasks_for (known_of r) jobs) h k n (Outcome.Complete bytes) below complete in elim at.is.task [
+      | OfReads y less found same ↦
+          let place : length (outcomes_in at.older) ≡ n = at.is.ended ∙ at.place in
+          let one : y ≡ x = same_Some y x (sym found ∙ ap (slice_get (reads (member (known_of r) k))) place ∙ got) in
+          let is = is_read_request (member (known_of r) k) n x got in
+          let (i, e, is_read, other) = as_read x is in
+          let asks : at.one.request ≡ Request.Read i e = at.is.asks ∙ ap (λ (t : Task). t.request) same ∙ one ∙ is_read in
+          let all : all_begun views ≡ at.newer ++ at.one ∷ (at.older ++ begun_ago views) =
+          ap (λ (l : List Begun). l ++ begun_ago views) (sym begun_are ∙ at.split)
+          ∙ append_assoc at.newer (at.one ∷ at.older) (begun_ago views) in
+          subst (λ (y : Request). IsAnswer (drive_at r k) y (Outcome.Complete bytes)) (sym is_read)
+          (read_answers (drive_at r k) x i e bytes rules is is_read
+          (read_of (drive_at r k) blocks (at.older ++ begun_ago views) at.one i e bytes other asks at.ended at.newer (all_entries views)
+          (all_writes views)
+          (subst (λ (l : List Begun). AreExact blocks l (all_entries views) (all_writes views)) all
+          (runs_exact (drive_at r k).busy blocks views small run sound))
+          (entries_stored (drive_at r k) views stored)))
+      | OfWrites pl i y planned less at_i found same ↦ absurd (omega (arith, at.is.ended, at.place, at_i, early))
+      | Checks3 pl planned at_i same ↦ absurd (omega (arith, at.is.ended, at.place, at_i, early))
+      | Lists3 at_i failed same ↦ absurd (omega (arith, at.is.ended, at.place, at_i, early))
+      | Checks4 at_i checked same ↦ absurd (omega (arith, at.is.ended, at.place, at_i, early))
+      | Lists4 at_i failed same ↦ absurd (omega (arith, at.is.ended, at.place, at_i, early))
+      | OfWaiting i at_i ready found ↦ absurd (omega (arith, at.is.ended, at.place, at_i, early))
+    ]
 
 pub reads_answered : (r : RingView) (jobs : List Job) (carry : Carry) (restarts : Restarts) (k : ℕ) (j : List CycleView) (blocks : List Block) (plan : PlanView) → k < length (known_of r).drives
     → AreSmall blocks → blocks_fault [] (drive_at r k).blocks ≡ None → Sees r jobs carry restarts k j → AreSound blocks (views_of r jobs carry restarts k j) → AreStored (drive_at r k) (views_of r jobs carry restarts k j)
@@ -162,11 +155,9 @@ reads_answered r jobs carry restarts k j blocks plan below small rules sees soun
 
     each : (n : ℕ) (x : Request) → slice_get (reads (member (known_of r) k)) n ≡ Some x → (o : Outcome) × (slice_get (outcomes (looks_back r jobs (master_calls r carry restarts j)) k) n ≡ Some o) × IsAnswer (drive_at r k) x o
     each n x got =
-        let less = slice_get_within (reads m) n x got in
-        let long = reads_length m in
-        let early : n < reads_count m = omega (arith, less, long) in
+        let early : n < reads_count m = omega (arith, slice_get_within (reads m) n x got, (reads_length m)) in
         let (bytes, complete) = reads_well (known_of r) (tasks_for (known_of r) jobs) (master_calls r carry restarts j) plan has k below n early in (
-          outcome.Complete bytes,
+          Outcome.Complete bytes,
           complete,
           answer_of r jobs (master_calls r carry restarts j) k (views_of r jobs carry restarts k j) blocks
               below small rules

@@ -1,6 +1,5 @@
 -- What is so of the blocks and procedure commands of a drive in each cycle is so where each step was accepted.
-use Rattle.sercos_law_run.proofs.Words.{Bool, true, false, List, [], ◌∷◌, ◌++◌, length, Option, sym, subst, if◌then◌else◌, ℕ, CommandHistory, Processed, Entry, View, standing, stood_in, record_in, kept_in, accepted_of, all_entries, Processes, Nothing, Record, processes, entry_behind, same_Some, Some, None, ap, ◌≡◌, ◌==◌}
-use Rattle.sercos_service_master.specs.Begun.{Said}
+use Rattle.sercos_law_run.proofs.Words.{Bool, true, false, List, [], ◌∷◌, ◌++◌, length, Option, sym, subst, if◌then◌else◌, ℕ, CommandHistory, Processed, Entry, View, standing, stood_in, record_in, kept_in, accepted_of, all_entries, Processes, Nothing, Record, processes, entry_behind, same_Some, Some, ap, ◌≡◌, ◌==◌, StepSaid, cases_Bool, inl, inr}
 
 abbrev pub EntriesAre : (Processed → Type 0) → List Entry → Type 0
 EntriesAre such [] = Unit {0}
@@ -11,7 +10,7 @@ ViewsAre so [] = Unit {0}
 ViewsAre so (v ∷ past) = ViewsAre so past × so v
 
 pub entries_are : (such : Processed → Type 0) (so : View → Type 0)
-    → ((v : View) (cycle stood : ℕ) (s : Said) → so v → such (record_in v cycle stood s))
+    → ((v : View) (cycle stood : ℕ) (s : StepSaid) → so v → such (record_in v cycle stood s))
     → (past : List View) → ViewsAre so past → EntriesAre such (all_entries past)
 entries_are such so each [] are = tt
 entries_are such so each (v ∷ past) are = by (processes v past) (entries_are such so each past are.0)
@@ -41,11 +40,12 @@ pub record IsIn (e : Entry) (part : List Entry) : Type 0 where
 
 pub entry_in : (n : ℕ) (part : List Entry) (e : Entry) → entry_behind n part ≡ Some e → IsIn e part
 entry_in n [] e got = absurd (cc)
-entry_in n (x ∷ part) e got = by (length part == n) got (λ more. entry_in n part e more)
-  where
-    by : (v : Bool) → (if v then Some x else entry_behind n part) ≡ Some e → (entry_behind n part ≡ Some e → IsIn e part) → IsIn e (x ∷ part)
-    by true got more = record { front = []; rest = part; split = ap (λ (y : Entry). y ∷ part) (same_Some x e got) }
-    by false got more = let is = more got in record { front = x ∷ is.front; rest = is.rest; split = ap (λ (l : List Entry). x ∷ l) is.split }
+entry_in n (x ∷ part) e got = elim (cases_Bool (length part == n)) [
+  | inl on ↦ record { front = []; rest = part; split = ap (λ (y : Entry). y ∷ part) (same_Some x e (rw on at got)) }
+  | inr off ↦
+      let is = entry_in n part e (rw off at got) in
+      record { front = x ∷ is.front; rest = is.rest; split = ap (λ (l : List Entry). x ∷ l) is.split }
+]
 
 -- what the procedure commands say
 abbrev pub EntriesSay : (CommandHistory → Type 0) → List Entry → Type 0

@@ -1,30 +1,25 @@
 -- Within a cycle outcomes only come to those that are there.
-use Rattle.sercos_law_run.proofs.Words.{◌≡◌, ℕ, true, false, List, [], ◌∷◌, ◌++◌, Option, Some, None, refl, sym, ap, ◌∙◌, subst, is_some, and_parts, cond_both, Status, Request, Outcome, Answer, Step, outcome_of, DriveView, Begun, open_in, step_at, answers_it, answer_in, with_answer, outcomes_in, with_outcome, AreAnswers, with_status, Heard, with_heard, with_begun, inl, inr, cases_Option}
+use Rattle.sercos_law_run.proofs.Words.{◌≡◌, true, false, List, [], ◌∷◌, ◌++◌, Option, Some, None, refl, sym, ap, ◌∙◌, subst, is_some, and_parts, cond_both, Request, Outcome, Answer, outcome_of, DriveView, Begun, open_in, step_at, answers_it, answer_in, with_answer, outcomes_in, with_outcome, AreAnswers, Heard, with_heard, with_begun, inl, inr, cases_Option}
 
 -- one outcome more, or none
 abbrev pub Extends : List Outcome → List Outcome → Type 0
 Extends old new = (o : Option Outcome) × (new ≡ with_outcome o old)
 
-no_outcome : (b : Begun) → is_some (step_at b.request b.answers) ≡ true → outcome_of b.request b.answers ≡ None
-no_outcome b waits = elim (cases_Option (outcome_of b.request b.answers)) [
-  | inl is ↦ is
-  | inr (o, is) ↦ let closed : step_at b.request b.answers ≡ None = rw is refl in let f : false ≡ true = sym (ap (λ (x : Option Step). is_some x) closed) ∙ waits in absurd (cc)
-]
-
 answered_more : (a : Answer) (begun : List Begun) → is_some (open_in begun) ≡ true → Extends (outcomes_in begun) (outcomes_in (with_answer a begun))
 answered_more a [] waits = cc
 answered_more a (b ∷ older) waits =
-    let none : outcome_of b.request b.answers ≡ None = no_outcome b waits in
+    let none : outcome_of b.request b.answers ≡ None = elim (cases_Option (outcome_of b.request b.answers)) [
+      | inl is ↦ is
+      | inr (o, is) ↦ let closed : step_at b.request b.answers ≡ None = rw is refl in
+          let f : false ≡ true = sym (ap is_some closed) ∙ waits in absurd (cc)
+    ] in
     (outcome_of b.request (a ∷ b.answers), sym (ap (λ (o : Option Outcome). with_outcome (outcome_of b.request (a ∷ b.answers)) (with_outcome o (outcomes_in older))) none))
-
-status_more : (status : Status) (word : ℕ) (begun : List Begun) → Extends (outcomes_in begun) (outcomes_in (with_status status word begun))
-status_more status word begun = cond_both (answers_it begun status) (with_answer (answer_in status word) begun) begun
-    (λ v. Extends (outcomes_in begun) (outcomes_in v))
-    (λ is. answered_more (answer_in status word) begun (and_parts (is_some (open_in begun)) _ is).0) (λ is. (None, refl))
 
 pub heard_more : (o : Option Heard) (begun : List Begun) → Extends (outcomes_in begun) (outcomes_in (with_heard o begun))
 heard_more None begun = (None, refl)
-heard_more (Some a) begun = status_more a.status a.word begun
+heard_more (Some a) begun = cond_both (answers_it begun a.status) (with_answer (answer_in a.status a.word) begun) begun
+    (λ v. Extends (outcomes_in begun) (outcomes_in v))
+    (λ is. answered_more (answer_in a.status a.word) begun (and_parts (is_some (open_in begun)) _ is).0) (λ is. (None, refl))
 
 pub begun_same : (o : Option Request) (begun : List Begun) → outcomes_in (with_begun o begun) ≡ outcomes_in begun
 begun_same None begun = refl

@@ -1,6 +1,5 @@
 -- If phase 3 or 4 is commanded next, the newest writes of a drive are those of the plan.
-use Rattle.sercos_law_run.proofs.Words.{◌≡◌, inl, inr, ℕ, zero, suc, ◌+◌, ◌<◌, ◌≤◌, Bool, true, false, List, [], ◌∷◌, length, Some, refl, sym, ap, ◌∙◌, subst, arith, if◌then◌else◌, slice_get, cases_eq, nat_tests, same_Some, slice_get_within, Idn, Request, Job, PlanView, Block, is_protected, find_block, RingView, Write, begun_by, CycleView, writes, Known, known_of, tasks_for, AreWaiting, Past, configured, Carry, Restarts, View, command, all_writes, AreSound, AreSmall, drive_at, master_calls, looks_back, IsNext, start_numbers, IsConfigured, at_start, behind_mdt, view_of, views_of, AreHeld, AreProtected, HoldsThePlan, IsHeld, written_stays, stays_protected}
-use Rattle.sercos_step.specs.declared.request.Request.TheVariants as request
+use Rattle.sercos_law_run.proofs.Words.{◌≡◌, inl, inr, ℕ, zero, suc, ◌+◌, ◌<◌, ◌≤◌, Bool, true, false, List, [], ◌∷◌, length, Some, refl, sym, ap, ◌∙◌, subst, arith, if◌then◌else◌, slice_get, cases_eq, nat_tests, same_Some, slice_get_within, Idn, Request, Job, PlanView, Block, is_protected, find_block, RingView, Write, begun_by, CycleView, writes, Known, known_of, tasks_for, AreWaiting, configured, Carry, Restarts, View, command, all_writes, AreSound, AreSmall, drive_at, master_calls, looks_back, IsNext, start_numbers, IsConfigured, at_start, behind_mdt, view_of, views_of, AreHeld, AreProtected, HoldsThePlan, IsHeld, written_stays, stays_protected}
 use Rattle.sercos_law_run.proofs.Views.ViewRuns.{Sees, command_below}
 use Rattle.sercos_law_run.proofs.Held.PlanStays.{end_plan, plan_kept}
 use Rattle.sercos_law_run.proofs.Agenda.WritesDone.{writes_data}
@@ -21,21 +20,16 @@ protected_at blocks [] i raw are got b found = absurd (cc)
 protected_at blocks (n ∷ numbers) zero raw are got b found = let same : n ≡ raw = cc in are.0 b (ap (λ (x : ℕ). find_block x blocks) same ∙ found)
 protected_at blocks (n ∷ numbers) (suc i) raw are got b found = protected_at blocks numbers i raw are.1 got b found
 
--- a request of a plan's writes, as a write of operation data
-eleven : (s : Known) (plan : PlanView) (k : ℕ) → length (writes s plan k) ≡ 11
-eleven s plan k = refl
-
 each_write : (s : Known) (plan : PlanView) (k : ℕ) (blocks : List Block) (own : List Write) → ((i : ℕ) (w : Idn) (bytes : List ℕ)
-    → slice_get (writes s plan k) i ≡ Some (request.Write w 7 bytes) → slice_get start_numbers i ≡ Some w.raw
-    → IsHeld blocks own (request.Write w 7 bytes)) → AreHeld blocks own (writes s plan k)
+    → slice_get (writes s plan k) i ≡ Some (Request.Write w 7 bytes) → slice_get start_numbers i ≡ Some w.raw
+    → IsHeld blocks own (Request.Write w 7 bytes)) → AreHeld blocks own (writes s plan k)
 each_write s plan k blocks own each = held_by blocks own (writes s plan k) one
   where
     one : (i : ℕ) (r : Request) → slice_get (writes s plan k) i ≡ Some r → IsHeld blocks own r
     one i r got =
-        let less = slice_get_within (writes s plan k) i r got in
-        let long = eleven s plan k in
-        let (w, bytes, there, number) = writes_data s plan k i (omega (arith, less, long)) in
-        subst (λ (x : Request). IsHeld blocks own x) (same_Some (request.Write w 7 bytes) r (sym there ∙ got)) (each i w bytes there number)
+        let long : length (writes s plan k) ≡ 11 = refl in
+        let (w, bytes, there, number) = writes_data s plan k i (omega (arith, slice_get_within (writes s plan k) i r got, long)) in
+        subst (λ (x : Request). IsHeld blocks own x) (same_Some (Request.Write w 7 bytes) r (sym there ∙ got)) (each i w bytes there number)
 
 module _ (r : RingView) (jobs : List Job) (carry : Carry) (restarts : Restarts)
     (waits : (i : ℕ) → AreWaiting (tasks_for (known_of r) jobs i)) (k : ℕ) (below : k < length (known_of r).drives) (blocks : List Block)
@@ -57,7 +51,7 @@ module _ (r : RingView) (jobs : List Job) (carry : Carry) (restarts : Restarts)
   -- a cycle commanded 3 or 4
   cycle_held : (v : View) (past : List View) (plan : PlanView) → AreSound blocks (v ∷ past) → 3 ≤ v.phase → v.phase ≤ 4 → AreHeld blocks (all_writes past) (writes (known_of r) plan k) → AreHeld blocks (all_writes (v ∷ past)) (writes (known_of r) plan k)
   cycle_held v past plan sound low high held = each_write (known_of r) plan k blocks (all_writes (v ∷ past)) (λ i w bytes got number b found.
-      stays_protected blocks v past w.raw b found sound.1.0 (guard b (protected_at blocks start_numbers i w.raw guarded number b found)) ∙ held_at blocks (all_writes past) (writes (known_of r) plan k) i (request.Write w 7 bytes) held got b found)
+      stays_protected blocks v past w.raw b found sound.1.0 (guard b (protected_at blocks start_numbers i w.raw guarded number b found)) ∙ held_at blocks (all_writes past) (writes (known_of r) plan k) i (Request.Write w 7 bytes) held got b found)
     where
       guard : (b : Block) → (is_protected b.attribute 3 ≡ true) × (is_protected b.attribute 4 ≡ true) → is_protected b.attribute v.phase ≡ true
       guard b both = elim (cases_eq v.phase 3) [
@@ -77,12 +71,6 @@ module _ (r : RingView) (jobs : List Job) (carry : Carry) (restarts : Restarts)
       v : View
       v = view_of r jobs carry restarts k t j
 
-      p5 : Past
-      p5 = looks_back r jobs (master_calls r carry restarts (t ∷ j))
-
-      high : command (view_of r jobs carry restarts k t j ∷ views_of r jobs carry restarts k j) ≤ 4
-      high = command_below (drive_at r k).busy (views_of r jobs carry restarts k (t ∷ j)) sees.run
-
       stood : (falls rises : Bool) (n : ℕ) → 4 ≤ (if falls then 0 else (if rises then n + 1 else n)) → (if falls then 0 else (if rises then n + 1 else n)) ≤ 4 → (3 ≤ n) × (n ≤ 4)
       stood true rises n low most = absurd (omega (arith, low))
       stood false true n low most = (omega (arith, low), omega (arith, most))
@@ -95,12 +83,11 @@ module _ (r : RingView) (jobs : List Job) (carry : Carry) (restarts : Restarts)
       fourth : 4 ≤ (looks_back r jobs (master_calls r carry restarts (t ∷ j))).now.phase → (plan : PlanView) × ((looks_back r jobs (master_calls r carry restarts (t ∷ j))).plan ≡ Some plan)
           × AreHeld blocks (all_writes (views_of r jobs carry restarts k (t ∷ j))) (writes (known_of r) plan k)
       fourth four =
-          let now : p5.now.phase ≡ command (v ∷ views_of r jobs carry restarts k j) = sees.master.phase_is in
-          let (low, most) = stood v.falls v.rises v.phase (omega (arith, four, now)) high in
+          let (low, most) = stood v.falls v.rises v.phase (omega (arith, four, sees.master.phase_is))
+          (command_below (drive_at r k).busy (views_of r jobs carry restarts k (t ∷ j)) sees.run) in
           let commanded : v.phase ≡ (if v.master_restarts then 0 else command (views_of r jobs carry restarts k j)) = sees.run.1.commanded in
           let early : 3 ≤ command (views_of r jobs carry restarts k j) = kept v.master_restarts (command (views_of r jobs carry restarts k j)) (omega (arith, low, commanded)) in
-          let last : (looks_back r jobs (master_calls r carry restarts j)).now.phase ≡ command (views_of r jobs carry restarts k j) = before.master.phase_is in
-          let (plan, has, held) = holds (omega (arith, early, last)) in
+          let (plan, has, held) = holds (omega (arith, early, before.master.phase_is)) in
           let first : t.phase ≡ (at_start r jobs carry restarts j).now.phase = next.phase in (
             plan,
             end_plan (known_of r) (behind_mdt r jobs carry restarts t.sent j) (omega (arith, four)) ∙ plan_kept r jobs carry restarts t j plan (omega (arith, low, first)) has,

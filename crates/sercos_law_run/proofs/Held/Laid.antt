@@ -22,11 +22,10 @@ lengths_from : (s : Known) (p : Past) (k : ℕ) (drives : List MemberView) → (
 lengths_from s p k [] each = refl
 lengths_from s p k (d ∷ drives) each =
     let zero_more : k ≡ k + 0 = omega arith in
-    let here : member s k ≡ d = ap (member s) zero_more ∙ each 0 (omega arith) in
     let first : length (record_to s p k) ≡ record_len d (outcomes p k) = seen_length p.cycle (member s k) (seen_at p k)
-    ∙ ap (λ (m : MemberView). record_len m (outcomes p k)) here in
+    ∙ ap (λ (m : MemberView). record_len m (outcomes p k)) (ap (member s) zero_more ∙ each 0 (omega arith)) in
     ap₂ (λ (n : ℕ) (l : List ℕ). n ∷ l) first
     (lengths_from s p (k + 1) drives (λ i below. let e : k + 1 + i ≡ k + suc i = omega arith in ap (member s) e ∙ each (suc i) (omega (arith, below))))
 
 pub records_lengths : (s : Known) (p : Past) → map length (records_of s p 0 (length s.drives)) ≡ map (λ (w : Wish). w.record_len) (wishes_given s (outcomes p)).drives
-records_lengths s p = lengths_from s p 0 s.drives (λ i below. let e : 0 + i ≡ i = omega arith in ap (member s) e)
+records_lengths s p = lengths_from s p 0 s.drives (λ i below. ap (member s) (omega arith))

@@ -1,10 +1,8 @@
 -- A ring may be opened with requests that keep the rules of requests.
-use Rattle.sercos_law_run.proofs.Words.{◌≡◌, ℕ, drop, zero, suc, ◌+◌, ◌<◌, Bool, true, false, ◌&&◌, ◌||◌, List, [], ◌∷◌, length, Option, Some, None, refl, sym, ◌∙◌, ap, subst, arith, if◌then◌else◌, not-false, ◌==◌, slice_get, slice_index_or, IfSome, option_map, All, list_any, nat_tests, All-cons, Request, Job, IsJob, AreJobs, Block, DriveView, RingView, find_block, store_of, block_attribute, has_address, is_no_command, is_ring, Task, tasks_from, request_task, drive_at, no_drive, AreTyped, AreTypedJobs, IsTypedRequest, IsOpened, same_place, has_other_data, get_or_from_slice_get, slice_get_within, cases_Bool, inl, inr}
-use Rattle.sercos_step.specs.declared.request.Request.TheVariants as request
+use Rattle.sercos_law_run.proofs.Words.{◌≡◌, ℕ, drop, zero, suc, ◌+◌, ◌<◌, Bool, true, false, ◌&&◌, List, [], ◌∷◌, length, Option, Some, None, refl, sym, ◌∙◌, ap, subst, arith, if◌then◌else◌, not-false, ◌==◌, slice_get, slice_index_or, IfSome, option_map, All, list_any, nat_tests, All-cons, Request, Job, IsJob, AreJobs, Block, DriveView, RingView, find_block, store_of, block_attribute, has_address, is_no_command, is_ring, Task, tasks_from, request_task, drive_at, no_drive, AreTyped, AreTypedJobs, IsTypedRequest, IsOpened, same_place, has_other_data, get_or_from_slice_get, slice_get_within, cases_Bool, inl, inr}
 use Rattle.sercos_law_run.proofs.Start.BlockFinds.{attribute_store_of}
-use Rattle.sercos_law_run.proofs.Start.CheckPasses.{ring_drive}
 use Rattle.sercos_law_run.proofs.Views.Members.{member_is}
-use Rattle.sercos_law_run.proofs.Held.Runs.{drive_got}
+use Rattle.sercos_law_run.proofs.Held.Runs.{drive_rules}
 pub use Rattle.sercos_law_channel.specs.Handshake.WholeRun.{IsSound}
 
 -- Each task of a drive is a job to it.
@@ -51,20 +49,15 @@ unfolding has_other_data
 command_of r k raw valid below none =
     let d = drive_at r k in
     let here = no_other (λ e. (e.address == d.address) && is_no_command (block_attribute e.blocks raw)) r.drives k below none in
-    let mine : is_no_command (block_attribute d.blocks raw) ≡ false = both (d.address == d.address) (same_place d.address) here in
-    command_by (find_block raw (store_of d)) (ap is_no_command
-    (attribute_store_of raw d (ring_drive r k d valid (drive_got r k below)).blocks) ∙ mine)
-  where
-    both : (b : Bool) {c : Bool} → b ≡ true → (b && c) ≡ false → c ≡ false
-    both true e none = none
-    both false e none = absurd (cc)
+    let mine : is_no_command (block_attribute d.blocks raw) ≡ false = rw (same_place d.address) at here in
+    command_by (find_block raw (store_of d)) (ap is_no_command (attribute_store_of raw d (drive_rules r k valid below)) ∙ mine)
 
 sound : (r : RingView) (k : ℕ) (address : ℕ) (request : Request) → is_ring r ≡ true → k < length r.drives → address ≡ (drive_at r k).address
     → IsJob (λ address. has_address address r.drives) (λ address raw. has_other_data address raw r.drives) (record { drive = address; request = request }) → IsTypedRequest request
     → IsSound (store_of (drive_at r k)) request
-sound r k address (request.Read idn e) valid below same job typed = typed.1
-sound r k address (request.Write idn e bytes) valid below same job typed = (typed.1.0, typed.2)
-sound r k address (request.Command idn) valid below same job typed = command_of r k idn.raw valid below (subst (λ a. has_other_data a idn.raw r.drives ≡ false) same job.command)
+sound r k address (Request.Read idn e) valid below same job typed = typed.1
+sound r k address (Request.Write idn e bytes) valid below same job typed = (typed.1.0, typed.2)
+sound r k address (Request.Command idn) valid below same job typed = command_of r k idn.raw valid below (subst (λ a. has_other_data a idn.raw r.drives ≡ false) same job.command)
 
 -- what is so of all is so of the one at a place
 pub all_at : {X : Type 0} (P : X → Type 0) (xs : List X) (i : ℕ) (x : X) → All P xs → slice_get xs i ≡ Some x → P x

@@ -1,7 +1,5 @@
 -- Within a cycle of phases 3 and 4 the plan stays.
-use Rattle.sercos_law_run.proofs.Words.{◌≡◌, ◌⊎◌, inl, inr, ℕ, ◌+◌, ◌≤◌, Bool, true, false, List, [], ◌∷◌, length, Option, Some, None, refl, sym, ◌∙◌, ap, subst, arith, if◌then◌else◌, is_some, slice_index, Job, PlanView, RingView, Known, known_of, Past, Call, place_of, is_taken, after_taken, after_at_of, after_at, settled, after_mdt, fall_of, next_phase, goes_on, new_epoch, still_waiting, after_end, settles, CycleView, Carry, Restarts, heard, passage, mst_in, ats_in, station_of, with_at, at_calls, looks_back, master_calls, own_mst, begins, at_start, behind_ats, behind_mdt, cases_Bool}
-use Rattle.sercos_telegram.specs.declared.layout.Kind.TheVariants as kinds
-use Rattle.sercos_law_run.proofs.Views.MasterSame.{begun_cycle}
+use Rattle.sercos_law_run.proofs.Words.{◌≡◌, inl, inr, ℕ, ◌≤◌, List, length, Some, None, refl, sym, ◌∙◌, ap, subst, arith, is_some, Job, PlanView, RingView, Known, known_of, Past, Call, after_mdt, fall_of, after_end, settles, CycleView, Carry, Restarts, mst_in, ats_in, at_calls, looks_back, master_calls, own_mst, begins, at_start, behind_ats, behind_mdt, cases_Bool}
 use Rattle.sercos_law_run.proofs.Views.ViewRuns.{started}
 use Rattle.sercos_law_run.proofs.Undisturbed.Arriving.AfterAt.{after_at_so, ats_same}
 
@@ -18,12 +16,10 @@ end_plan s p later = elim (cases_Bool (is_some (fall_of s p))) [ inl on ↦ absu
 -- the plan of the end of the cycle before
 pub plan_kept : (r : RingView) (jobs : List Job) (carry : Carry) (restarts : Restarts) (t : CycleView) (j : List CycleView) (plan : PlanView) → 1 ≤ (at_start r jobs carry restarts j).now.phase
     → (looks_back r jobs (master_calls r carry restarts j)).plan ≡ Some plan → (behind_mdt r jobs carry restarts t.sent j).plan ≡ Some plan
-plan_kept r jobs carry restarts t j plan later has = mdt_plan (known_of r) (behind_ats r jobs carry restarts t.sent j) plan
-    (ats_plan r jobs carry (length j) (ats_in t.sent) (own_mst carry (length j) (mst_in t.sent) (begins r carry restarts j)) ∙ ap (λ (p : Past). p.plan) at_first ∙ by (restarts (length j) 0) (subst (λ (p : Past). 1 ≤ p.now.phase) at_first later))
-  where
-    at_first : at_start r jobs carry restarts j ≡ begun_cycle (restarts (length j) 0) (looks_back r jobs (master_calls r carry restarts j))
-    at_first = started r jobs (restarts (length j) 0) (master_calls r carry restarts j)
-
-    by : (b : Bool) → 1 ≤ (begun_cycle b (looks_back r jobs (master_calls r carry restarts j))).now.phase → (begun_cycle b (looks_back r jobs (master_calls r carry restarts j))).plan ≡ Some plan
-    by true some = absurd (omega (arith, some))
-    by false some = has
+plan_kept r jobs carry restarts t j plan later has =
+    let at_first = started r jobs (restarts (length j) 0) (master_calls r carry restarts j) in
+    mdt_plan (known_of r) (behind_ats r jobs carry restarts t.sent j) plan
+    (ats_plan r jobs carry (length j) (ats_in t.sent) (own_mst carry (length j) (mst_in t.sent) (begins r carry restarts j)) ∙ ap (λ (p : Past). p.plan) at_first ∙ (elim (cases_Bool (restarts (length j) 0)) [
+      | inl on ↦ let some = rw on at (subst (λ (p : Past). 1 ≤ p.now.phase) at_first later) in absurd (omega (arith, some))
+      | inr off ↦ rw off has
+    ]))

@@ -1,5 +1,5 @@
 -- The phase rises only where no step is open.
-use Rattle.sercos_law_run.proofs.Words.{◌≡◌, inl, inr, ℕ, ◌+◌, ◌<◌, ◌≤◌, true, List, [], ◌∷◌, length, Option, Some, None, refl, sym, ap, ◌∙◌, subst, arith, and_parts, cases_eq, false≢true, Outcome, outcome_of, Begun, open_in, step_at, begun_by, PlanView, given, ended_well, reads_count, is_checked, is_ready, outcomes_in, Known, Task, member, AreWaiting, ended_there, Past, outcomes, is_done, is_done_in, each_passes, IsTask, OfReads, OfWrites, Checks3, Lists3, Checks4, Lists4, OfWaiting, AreBegunTasks, cases_Option}
+use Rattle.sercos_law_run.proofs.Words.{◌≡◌, inl, inr, ℕ, ◌+◌, ◌<◌, ◌≤◌, true, List, [], ◌∷◌, length, Option, None, refl, subst, arith, and_parts, cases_eq, Outcome, outcome_of, Begun, open_in, begun_by, PlanView, given, ended_well, reads_count, is_checked, is_ready, outcomes_in, Known, Task, member, AreWaiting, ended_there, Past, outcomes, is_done, is_done_in, each_passes, IsTask, AreBegunTasks, cases_Option}
 use Rattle.sercos_law_run.proofs.Views.MasterSame.{done_below}
 use Rattle.sercos_law_run.proofs.Agenda.AgendaTasks.{late_waits, task_phase}
 
@@ -14,15 +14,14 @@ closed_task s k phase plan waiting outs t waits done early task =
     let (begins, later) = task_phase s k plan waiting outs t waits task in
     elim (cases_eq phase 2) [
       | inl two ↦
-          let three = later (ended_there outs (reads_count (member s k) + 11) (done.checked two)) (done.checked two) in
-          omega (arith, early, two, three)
+          omega (arith, early, two, later (ended_there outs (reads_count (member s k) + 11) (done.checked two)) (done.checked two))
       | inr other ↦ elim (cases_eq phase 3) [
         | inl three ↦
             let parts = and_parts (is_checked (member s k) outs) (ended_well (given outs (reads_count (member s k) + 12))) (done.ready three) in
             let many = ended_there outs (reads_count (member s k) + 12) parts.1 in
             let (j, got) = late_waits s k plan waiting outs t many (done.ready three) task in
-            let four = waits j t got in omega (arith, early, three, four)
-        | inr neither ↦ let low = done.below in omega (arith, other, neither, low, begins, early)
+            omega (arith, early, three, waits j t got)
+        | inr neither ↦ omega (arith, other, neither, done.below, begins, early)
       ]
     ]
 

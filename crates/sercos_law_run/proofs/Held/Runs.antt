@@ -1,8 +1,7 @@
 -- Through a run of a ring in which nothing is unseen: each drive and its channel are a run of views, the requests are sound, and in
 -- phases 3 and 4 each drive holds the plan.
-use Rattle.sercos_law_run.proofs.Words.{◌≡◌, ℕ, zero, suc, ◌+◌, ◌<◌, ◌≤◌, Bool, true, false, not, ◌&&◌, List, [], ◌∷◌, map, length, Option, Some, None, refl, sym, ◌∙◌, ap, ap₂, subst, arith, if◌then◌else◌, same_Some, slice_get, slice_index_or, IfSome, option_map, Attribute, Request, Outcome, Job, WishesView, PlanView, Block, is_fixed, is_protected, wishes_of, blocks_fault, IsStore, find_block, store_of, DriveView, RingView, AreAlike, without_data, open_in, begun_by, DriveCall, phase_in, blocks_in, annals, CycleView, reads, wishes_given, outcomes_in, MemberView, Task, member, member_of, known_of, tasks_for, IsKnown, IsStoreOf, is_given, kept, start_up, Holds, AreAnswers, HaveFactors, AreProtectedLater, Past, IsPlanned, outcomes, settled, is_done, tasks_wait, jobs_waiting, Carry, Restarts, standing, before_mst, kept_in, with_begun, begun_in, all_writes, IsSound, AreSound, AreSmall, store_in, ats_in, no_drive, drive_at, with_restart, given_before, master_calls, looks_back, middle, IsNext, HasBegunTasks, start_numbers, at_start, behind_mst, behind_ats, behind_mdt, heard_last, request_of, after_mst, view_of, views_of, IsSpelled, AreProtected, HoldsThePlan, IsStored, AreStored, IsOpened, IsRing-is_ring, types, is_planned, get_or_from_slice_get, slice_get-get_or, slice_get_within, cases_Bool, inl, inr}
+use Rattle.sercos_law_run.proofs.Words.{◌≡◌, ℕ, ◌+◌, ◌<◌, ◌≤◌, Bool, true, false, not, ◌&&◌, List, [], ◌∷◌, map, length, Option, Some, None, refl, sym, ◌∙◌, ap, ap₂, subst, arith, same_Some, slice_get, slice_index_or, IfSome, option_map, Attribute, Request, Outcome, Job, WishesView, PlanView, Block, is_fixed, wishes_of, blocks_fault, IsStore, store_of, DriveView, RingView, AreAlike, without_data, open_in, begun_by, DriveCall, phase_in, blocks_in, annals, CycleView, reads, wishes_given, outcomes_in, MemberView, Task, member, member_of, known_of, tasks_for, IsKnown, IsStoreOf, is_given, kept, start_up, Holds, AreAnswers, HaveFactors, AreProtectedLater, Past, IsPlanned, outcomes, settled, is_done, tasks_wait, jobs_waiting, Carry, Restarts, standing, before_mst, kept_in, with_begun, begun_in, all_writes, IsSound, AreSound, AreSmall, store_in, ats_in, no_drive, drive_at, with_restart, given_before, master_calls, looks_back, middle, IsNext, HasBegunTasks, start_numbers, at_start, behind_mst, behind_ats, behind_mdt, heard_last, request_of, after_mst, view_of, views_of, IsSpelled, AreProtected, HoldsThePlan, IsStored, AreStored, IsOpened, IsRing-is_ring, types, is_planned, get_or_from_slice_get, slice_get-get_or, slice_get_within, cases_Bool, inl, inr, task_begun, is_ring}
 use Rattle.sercos_law_run.proofs.Start.CheckPasses.{ring_drive}
-use Rattle.sercos_master.specs.Annals.{begins}
 use Rattle.sercos_law_run.proofs.Views.MasterSame.{AfterAts, ats_none, begun_cycle, begun_so, heard_so, same_started, turn_mdt}
 use Rattle.sercos_law_run.proofs.Views.Members.{AreHeardAs, member_is, in_known}
 use Rattle.sercos_law_run.proofs.Views.Coupled.{ats_heard}
@@ -45,6 +44,9 @@ all_first r jobs carry restarts k below = record { sees = sees_first r jobs carr
 pub drive_got : (r : RingView) (k : ℕ) → k < length r.drives → slice_get r.drives k ≡ Some (drive_at r k)
 drive_got r k below = slice_get-get_or r.drives k no_drive below
 
+pub drive_rules : (r : RingView) (k : ℕ) → is_ring r ≡ true → k < length r.drives → blocks_fault [] (drive_at r k).blocks ≡ None
+drive_rules r k valid below = (ring_drive r k (drive_at r k) valid (drive_got r k below)).blocks
+
 pub got_inside : (drives : List DriveView) (k : ℕ) (d : DriveView) → slice_get drives k ≡ Some d → (k < length drives) × (d ≡ slice_index_or drives k no_drive)
 got_inside drives k d got = (slice_get_within drives k d got, sym (get_or_from_slice_get drives k d no_drive got))
 
@@ -62,12 +64,12 @@ alike_so d blocks stored = sym (alike_kept blocks) ∙ ap (map without_data) sto
 -- the start-up's blocks are protected in phases 3 and 4
 guarded_so : (blocks : List Block) (values : List (ℕ × List ℕ)) → AreProtectedLater blocks values → AreProtected blocks (map (λ (v : ℕ × List ℕ). v.0) values)
 guarded_so blocks [] are = tt
-guarded_so blocks (v ∷ values) are = (λ b found. one are.0.0 b are.0.1 are.0.3 are.0.4 found, guarded_so blocks values are.1)
-  where
-    one : (a : Attribute) (b : Block) → option_map (λ (x : Block). x.attribute) (find_block v.0 blocks) ≡ Some a → a.protect3 ≡ true → a.protect4 ≡ true → find_block v.0 blocks ≡ Some b → (is_protected b.attribute 3 ≡ true) × (is_protected b.attribute 4 ≡ true)
-    one a b has three four found =
-        let same : b.attribute ≡ a = same_Some _ _ (sym (ap (option_map (λ (x : Block). x.attribute)) found) ∙ has) in
-        (ap (λ (c : Attribute). c.protect3) same ∙ three, ap (λ (c : Attribute). c.protect4) same ∙ four)
+guarded_so blocks (v ∷ values) are = (
+  λ b found. (let same : b.attribute ≡ are.0.0 = same_Some _ _
+      (sym (ap (option_map (λ (x : Block). x.attribute)) found) ∙ are.0.1) in
+      (ap (λ (c : Attribute). c.protect3) same ∙ are.0.3, ap (λ (c : Attribute). c.protect4) same ∙ are.0.4)),
+  guarded_so blocks values are.1,
+)
 
 -- the drive's blocks are those of the cycle before
 blocks_then : (d : DriveView) (rate : ℕ) (b : Bool) (h : List DriveCall) → blocks_in d (annals d rate (with_restart b h)) ≡ blocks_in d (annals d rate h)
@@ -103,7 +105,7 @@ module _ (r : RingView) (jobs : List Job) (carry : Carry) (restarts : Restarts) 
       → (k : ℕ) → k < length r.drives → AreAnswers (drive_at r k) (reads (member_of (drive_at r k))) (outcomes (looks_back r jobs (master_calls r carry restarts j)) k)
   answers_at j plan all has k below =
       let stands = all k below in
-      let rules = (ring_drive r k (drive_at r k) opened.valid (drive_got r k below)).blocks in
+      let rules = drive_rules r k opened.valid below in
       subst (λ (m : MemberView). AreAnswers (drive_at r k) (reads m) (outcomes (looks_back r jobs (master_calls r carry restarts j)) k)) (member_is r k)
       (reads_answered r jobs carry restarts k j (store_of (drive_at r k)) plan (in_known r k below) (small k below) rules stands.sees stands.sound stands.stored has)
 
@@ -141,36 +143,37 @@ module _ (r : RingView) (jobs : List Job) (carry : Carry) (restarts : Restarts) 
     extends k below =
         let (o, is) = heard_more (heard_last ((behind_ats r jobs carry restarts t.sent j).calls k)) (begun_by ((behind_mst r jobs carry restarts t.sent j).calls k)) in (
           o,
-          ap outcomes_in (begun_so (known_of r) (behind_ats r jobs carry restarts t.sent j) k) ∙ begun_same (request_of (begins (known_of r) (settled (known_of r) (behind_ats r jobs carry restarts t.sent j)) k)) (begun_by ((behind_ats r jobs carry restarts t.sent j).calls k))
+          ap outcomes_in (begun_so (known_of r) (behind_ats r jobs carry restarts t.sent j) k) ∙ begun_same (request_of (task_begun (known_of r) (settled (known_of r) (behind_ats r jobs carry restarts t.sent j)) k)) (begun_by ((behind_ats r jobs carry restarts t.sent j).calls k))
               ∙ ap outcomes_in (heard_so (known_of r) k (λ content. Unit {0}) (behind_mst r jobs carry restarts t.sent j) (behind_ats r jobs carry restarts t.sent j) (passed_by k) (unheard k below)) ∙ is,
         )
-
-    pub planned_in : (plan : PlanView) → 3 ≤ (at_start r jobs carry restarts j).now.phase → (looks_back r jobs (master_calls r carry restarts j)).plan ≡ Some plan → IsPlannedIn r jobs carry restarts t j plan
-    planned_in plan late has =
-        let p4 = behind_mdt r jobs carry restarts t.sent j in
-        let same_start = kept_on late in
-        let more : (k : ℕ) → k < length r.drives → Extends (outcomes (looks_back r jobs (master_calls r carry restarts j)) k) (outcomes p4 k) =
-        λ k below. subst (λ (p : Past). Extends (outcomes p k) (outcomes p4 k)) same_start (extends k below) in
-        let asked : wishes_given (known_of r) (outcomes p4) ≡ wishes_of r = wishes_so (outcomes p4) (λ k below.
-        answers_stay (drive_at r k) (reads (member_of (drive_at r k))) _ (outcomes p4 k) (more k below) (answers_at j plan all has k below)) in
-        let now : p4.plan ≡ Some plan = plan_kept r jobs carry restarts t j plan (omega (arith, late)) has in
-        record { before = has; now = now; asked = asked; of = plan_is p4 plan (is_planned (known_of r) (tasks_for (known_of r) jobs) (middle r carry restarts t.sent j)) now asked }
 
     -- what the drive's store is at the MDT's place
     pub store_is : (k : ℕ) → k < length r.drives → blocks_in (drive_at r k) (after_mst r carry restarts t.sent j k) ≡ store_in (store_of (drive_at r k)) (views_of r jobs carry restarts k j)
     store_is k below = blocks_then (drive_at r k) r.rate (restarts (length j) (k + 1)) (given_before carry restarts j k) ∙ (all k below).sees.drive.blocks
 
     pub rules : (k : ℕ) → k < length r.drives → blocks_fault [] (drive_at r k).blocks ≡ None
-    rules k below = (ring_drive r k (drive_at r k) opened.valid (drive_got r k below)).blocks
+    rules k below = drive_rules r k opened.valid below
 
     -- If phase 3 or 4 is commanded, there is a plan, which is that of the ring, and the store of each drive holds its values.
     pub holding : 3 ≤ (at_start r jobs carry restarts j).now.phase → (k : ℕ) → k < length r.drives → (plan : PlanView) × IsPlannedIn r jobs carry restarts t j plan
         × Holds (blocks_in (drive_at r k) (after_mst r carry restarts t.sent j k)) (start_up r.control r.cycle plan k (drive_at r k).at (drive_at r k).mdt)
     holding late k below =
-        let stands = all k below in
-        let early : 3 ≤ (looks_back r jobs (master_calls r carry restarts j)).now.phase = subst (λ (p : Past). 3 ≤ p.now.phase) (kept_on late) late in
-        let (plan, has, own) = stands.holds early in
-        let planned = planned_in plan late has in (
+        let (plan, has, own) = (all k below).holds (subst (λ (p : Past). 3 ≤ p.now.phase) (kept_on late) late) in
+        let planned : IsPlannedIn r jobs carry restarts t j plan = let p4 = behind_mdt r jobs carry restarts t.sent j in
+        let more : (k : ℕ) → k < length r.drives → Extends (outcomes (looks_back r jobs (master_calls r carry restarts j)) k)
+        (outcomes p4 k) =
+        λ k below. subst (λ (p : Past). Extends (outcomes p k) (outcomes p4 k)) (kept_on late) (extends k below) in
+        let asked : wishes_given (known_of r) (outcomes p4) ≡ wishes_of r = wishes_so (outcomes p4) (λ k below.
+        answers_stay (drive_at r k) (reads (member_of (drive_at r k))) _ (outcomes p4 k) (more k below)
+        (answers_at j plan all has k below)) in
+        let now : p4.plan ≡ Some plan = plan_kept r jobs carry restarts t j plan (omega (arith, late)) has in
+        record {
+          before = has;
+          now = now;
+          asked = asked;
+          of = plan_is p4 plan
+              (is_planned (known_of r) (tasks_for (known_of r) jobs) (middle r carry restarts t.sent j)) now asked;
+        } in (
           plan,
           planned,
           subst (λ (b : List Block). Holds b (start_up r.control r.cycle plan k (drive_at r k).at (drive_at r k).mdt)) (sym (store_is k below))
@@ -200,12 +203,11 @@ module _ (r : RingView) (jobs : List Job) (carry : Carry) (restarts : Restarts) 
         let (m, there) = got_behind (tasks_for (known_of r) jobs k) n i x (ap (λ (l : List Task). slice_get l i) (sym is) ∙ got) in
         opened.requests k m x below there
 
-    begins_sound : (k : ℕ) → k < length r.drives → IfSome (request_of (begins (known_of r) (settled (known_of r) (behind_ats r jobs carry restarts t.sent j)) k)) (λ q. IsSound (store_of (drive_at r k)) q)
-    begins_sound k below = by (request_of (begins (known_of r) (settled (known_of r) (behind_ats r jobs carry restarts t.sent j)) k)) (begun_so (known_of r) (behind_ats r jobs carry restarts t.sent j) k)
+    begins_sound : (k : ℕ) → k < length r.drives → IfSome (request_of (task_begun (known_of r) (settled (known_of r) (behind_ats r jobs carry restarts t.sent j)) k)) (λ q. IsSound (store_of (drive_at r k)) q)
+    begins_sound k below =
+        let p4 = behind_mdt r jobs carry restarts t.sent j in
+        by (request_of (task_begun (known_of r) (settled (known_of r) (behind_ats r jobs carry restarts t.sent j)) k)) (begun_so (known_of r) (behind_ats r jobs carry restarts t.sent j) k)
       where
-        p4 : Past
-        p4 = behind_mdt r jobs carry restarts t.sent j
-
         by : (o : Option Request) → begun_by ((behind_mdt r jobs carry restarts t.sent j).calls k) ≡ with_begun o (begun_by ((behind_ats r jobs carry restarts t.sent j).calls k)) → IfSome o (λ q. IsSound (store_of (drive_at r k)) q)
         by None is = tt
         by (Some q) is = newest_sound (known_of r) k (behind_mdt r jobs carry restarts t.sent j).now.phase

@@ -1,46 +1,44 @@
 -- Each request that the master begins is one that a transfer takes.
 use Rattle.sercos_law_run.proofs.Words.{◌≡◌, ℕ, zero, suc, List, [], ◌∷◌, drop, Option, Some, None, refl, sym, ap, ◌∙◌, subst, same_Some, slice_get, Idn, Request, Outcome, PlanView, Block, blocks_fault, store_of, DriveView, Begun, idn, Known, Task, member, IsSound, IsTask, OfReads, OfWrites, Checks3, Lists3, Checks4, Lists4, OfWaiting, AreBegunTasks, IsTypedRequest, attribute_of, built_in}
-use Rattle.sercos_step.specs.declared.request.Request.TheVariants as request
 use Rattle.sercos_law_run.proofs.Start.BlockFinds.{find_store_of}
-use Rattle.sercos_law_run.proofs.Held.AnsweredRuns.{IsRead, Time, Attribute, is_read_request}
+use Rattle.sercos_law_run.proofs.Held.AnsweredRuns.{Time, Attribute, is_read_request}
 use Rattle.sercos_law_run.proofs.Agenda.WritesDone.{writes_data}
 
 -- a typed request is sound, but for what it sets
-typed_sound : (blocks : List Block) (r : Request) → IsTypedRequest r → ((i : Idn) → r ≡ request.Command i → IsSound blocks (request.Command i)) → IsSound blocks r
-typed_sound blocks (request.Read i e) typed sets = typed.1
-typed_sound blocks (request.Write i e bytes) typed sets = (typed.1.0, typed.2)
-typed_sound blocks (request.Command i) typed sets = sets i refl
+typed_sound : (blocks : List Block) (r : Request) → IsTypedRequest r → ((i : Idn) → r ≡ Request.Command i → IsSound blocks (Request.Command i)) → IsSound blocks r
+typed_sound blocks (Request.Read i e) typed sets = typed.1
+typed_sound blocks (Request.Write i e bytes) typed sets = (typed.1.0, typed.2)
+typed_sound blocks (Request.Command i) typed sets = sets i refl
 
 -- the checks are procedure commands of each drive
-check_127 : (d : DriveView) → blocks_fault [] d.blocks ≡ None → IsSound (store_of d) (request.Command (idn 127))
+check_127 : (d : DriveView) → blocks_fault [] d.blocks ≡ None → IsSound (store_of d) (Request.Command (idn 127))
 unfolding built_in attribute_of
 check_127 d rules = rw (find_store_of 127 d rules) refl
 
-check_128 : (d : DriveView) → blocks_fault [] d.blocks ≡ None → IsSound (store_of d) (request.Command (idn 128))
+check_128 : (d : DriveView) → blocks_fault [] d.blocks ≡ None → IsSound (store_of d) (Request.Command (idn 128))
 unfolding built_in attribute_of
 check_128 d rules = rw (find_store_of 128 d rules) refl
 
 -- what a task sets
 sets_so : (s : Known) (k : ℕ) (by_then : Option PlanView) (waiting : List Task) (outs : List Outcome) (t : Task) (d : DriveView)
     → blocks_fault [] d.blocks ≡ None → ((j : ℕ) (x : Task) → slice_get waiting j ≡ Some x → IsSound (store_of d) x.request)
-    → IsTask s k by_then waiting outs t → (i : Idn) → t.request ≡ request.Command i → IsSound (store_of d) (request.Command i)
-sets_so s k by_then waiting outs t d rules waits (OfReads r less found is) i sets = by (is_read_request (member s k) _ r found)
-  where
-    by : IsRead r → IsSound (store_of d) (request.Command i)
-    by (Time raw built e) = let wrong : request.Read (idn raw) 7 ≡ request.Command i = sym e ∙ sym (ap (λ (x : Task). x.request) is) ∙ sets in absurd (cc)
-    by (Attribute x e) = let wrong : request.Read x 3 ≡ request.Command i = sym e ∙ sym (ap (λ (y : Task). y.request) is) ∙ sets in absurd (cc)
+    → IsTask s k by_then waiting outs t → (i : Idn) → t.request ≡ Request.Command i → IsSound (store_of d) (Request.Command i)
+sets_so s k by_then waiting outs t d rules waits (OfReads r less found is) i sets = elim (is_read_request (member s k) _ r found) [
+  | Time raw built e ↦ let wrong : Request.Read (idn raw) 7 ≡ Request.Command i = sym e ∙ sym (ap (λ (x : Task). x.request) is) ∙ sets in absurd (cc)
+  | Attribute x e ↦ let wrong : Request.Read x 3 ≡ Request.Command i = sym e ∙ sym (ap (λ (y : Task). y.request) is) ∙ sets in absurd (cc)
+]
 sets_so s k by_then waiting outs t d rules waits (OfWrites p n r planned less at found is) i sets =
     let (w, bytes, got, number) = writes_data s p k n less in
-    let wrong : request.Write w 7 bytes ≡ request.Command i = same_Some (request.Write w 7 bytes) r (sym got ∙ found) ∙ sym (ap (λ (x : Task). x.request) is) ∙ sets in
+    let wrong : Request.Write w 7 bytes ≡ Request.Command i = same_Some (Request.Write w 7 bytes) r (sym got ∙ found) ∙ sym (ap (λ (x : Task). x.request) is) ∙ sets in
     absurd (cc)
 sets_so s k by_then waiting outs t d rules waits (Checks3 p planned at is) i sets =
     subst (λ q. IsSound (store_of d) q) (sym (ap (λ (x : Task). x.request) is) ∙ sets) (check_127 d rules)
 sets_so s k by_then waiting outs t d rules waits (Lists3 at failed is) i sets =
-    let wrong : request.Read (idn 21) 7 ≡ request.Command i = sym (ap (λ (x : Task). x.request) is) ∙ sets in absurd (cc)
+    let wrong : Request.Read (idn 21) 7 ≡ Request.Command i = sym (ap (λ (x : Task). x.request) is) ∙ sets in absurd (cc)
 sets_so s k by_then waiting outs t d rules waits (Checks4 at checked is) i sets =
     subst (λ q. IsSound (store_of d) q) (sym (ap (λ (x : Task). x.request) is) ∙ sets) (check_128 d rules)
 sets_so s k by_then waiting outs t d rules waits (Lists4 at failed is) i sets =
-    let wrong : request.Read (idn 22) 7 ≡ request.Command i = sym (ap (λ (x : Task). x.request) is) ∙ sets in absurd (cc)
+    let wrong : Request.Read (idn 22) 7 ≡ Request.Command i = sym (ap (λ (x : Task). x.request) is) ∙ sets in absurd (cc)
 sets_so s k by_then waiting outs t d rules waits (OfWaiting j at ready found) i sets = subst (λ q. IsSound (store_of d) q) sets (waits j t found)
 
 -- the newest of the requests that were begun

@@ -1,6 +1,5 @@
 -- Whatever a drive is given, its blocks are its store, whatever was written to it.
-use Rattle.sercos_law_run.proofs.Words.{◌≡◌, ℕ, true, List, [], ◌∷◌, refl, Block, store_of, are_ascending, DriveView, added_on, DriveCall, Mst, Mdt, mdt_got, phase_in, records_in, blocks_in, blocks_after, commands_in, annals, IsStoreOf, allowed}
-use Rattle.sercos_drive.specs.Heard.{Restart}
+use Rattle.sercos_law_run.proofs.Words.{◌≡◌, ℕ, true, List, [], ◌∷◌, refl, Block, store_of, are_ascending, DriveView, added_on, DriveCall, Mst, Mdt, mdt_got, phase_in, records_in, blocks_in, blocks_after, commands_in, annals, IsStoreOf, allowed, DriveRestart}
 use Rattle.sercos_law_run.proofs.Cited.{handed_those}
 use Rattle.sercos_law_run.proofs.Held.Processed.{processed_keeps, taken_at}
 use Rattle.sercos_law_run.proofs.Start.LaterLemmas.{blocks_keep}
@@ -11,7 +10,7 @@ IsOf d blocks = IsStoreOf d blocks × (are_ascending blocks ≡ true)
 pub store_of_so : (d : DriveView) (rate : ℕ) (h : List DriveCall) → are_ascending (store_of d) ≡ true → IsOf d (blocks_in d (annals d rate h))
 store_of_so d rate [] ascending = (refl, ascending)
 store_of_so d rate (Mst cycle content ∷ h) ascending = store_of_so d rate h ascending
-store_of_so d rate (Restart ∷ h) ascending = store_of_so d rate h ascending
+store_of_so d rate (DriveRestart ∷ h) ascending = store_of_so d rate h ascending
 store_of_so d rate (Mdt content ∷ h) ascending =
     let past = annals d rate h in
     let before = store_of_so d rate h ascending in

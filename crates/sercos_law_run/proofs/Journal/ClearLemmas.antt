@@ -1,5 +1,5 @@
 -- Where no arrival is unseen, a station hears what was sent, or nothing.
-use Rattle.sercos_law_run.proofs.Words.{◌≡◌, inl, inr, ◌⊎◌, ℕ, zero, suc, ◌<◌, Bool, true, false, not, ◌&&◌, List, [], ◌∷◌, Option, Some, None, is_none, refl, sym, ◌∙◌, ap, arith, option_and_then, is_some, IfSome, reason_of, frame_of, Passage, arrival, heard, are_same, sum_below, Carry, IsQuiet, content_in, is_unseen, cases_Option}
+use Rattle.sercos_law_run.proofs.Words.{◌≡◌, inl, inr, ◌⊎◌, ℕ, zero, suc, ◌<◌, Bool, true, false, List, [], ◌∷◌, Option, Some, None, is_none, refl, sym, ◌∙◌, ap, arith, option_and_then, is_some, IfSome, reason_of, frame_of, Passage, arrival, heard, are_same, sum_below, Carry, IsQuiet, content_in, is_unseen, cases_Option, cases_Bool}
 
 pub same_bits : (xs ys : List Bool) → are_same xs ys ≡ true → xs ≡ ys
 same_bits [] [] same = refl
@@ -19,13 +19,11 @@ pub heard-clear : (carry : Carry) (p : Passage) (content : List ℕ) → content
 unfolding is_unseen
 heard-clear carry p content whole clear = elim (cases_Option (arrival carry p content)) [
   | inl none ↦ rw none (inl refl)
-  | inr (came, some) ↦ rw some (came_as came (are_same came (frame_of content)) refl (rw some at clear))
+  | inr (came, some) ↦ rw some (elim (cases_Bool (are_same came (frame_of content))) [
+    | inl is ↦ inr (rw (same_bits came (frame_of content) is) whole)
+    | inr is ↦ let clear = rw is at (rw some at clear) in inl (unread came _ refl clear)
+  ])
 ]
-  where
-    came_as : (came : List Bool) (same : Bool) → are_same came (frame_of content) ≡ same → (not same && is_none (reason_of came)) ≡ false
-        → (content_in came ≡ None) ⊎ (content_in came ≡ Some content)
-    came_as came true is clear = inr (rw (same_bits came (frame_of content) is) whole)
-    came_as came false is clear = inl (unread came _ refl clear)
 
 pub are_same-refl : (bits : List Bool) → are_same bits bits ≡ true
 are_same-refl [] = refl

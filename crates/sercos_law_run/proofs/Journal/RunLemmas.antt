@@ -90,4 +90,4 @@ made_run r jobs carry restarts (suc n) = (made_run r jobs carry restarts n, is-n
 
 pub length-run_of : (r : RingView) (jobs : List Job) (carry : Carry) (restarts : Restarts) (n : ℕ) → length (run_of r jobs carry restarts n) ≡ n
 length-run_of r jobs carry restarts zero = refl
-length-run_of r jobs carry restarts (suc n) = let before = length-run_of r jobs carry restarts n in omega (arith, before)
+length-run_of r jobs carry restarts (suc n) = omega (arith, length-run_of r jobs carry restarts n)

@@ -1,5 +1,5 @@
 -- The station of a drive is found by its address, since no two drives have one address.
-use Rattle.sercos_law_run.proofs.Words.{◌≡◌, ℕ, suc, zero, ◌+◌, ◌<◌, ◌≤◌, nat_le, Bool, true, false, ◌||◌, List, [], ◌∷◌, ◌++◌, length, Option, Some, None, refl, sym, ◌∙◌, ap, subst, arith, if◌then◌else◌, slice_index, slice_index_or, ◌==◌, unwrap_or, list_any, eq-eqb, leb-true, not-true, or_parts, list_any-append, DriveView, RingView, blocks_fault, DriveCall, annals, Said, drive_says, sends, no_drive, drive_at, station_from, station_of, none_of, and_left, and_right, has_address, has_blocks, is_drive, are_drives, has_drives, is_ring, said, cycle_in, phase_in, blocks_in, channel_says, commands_in, records_in, Moment, said_in, same_Some}
+use Rattle.sercos_law_run.proofs.Words.{◌≡◌, ℕ, suc, zero, ◌+◌, ◌<◌, ◌≤◌, nat_le, true, false, ◌||◌, List, [], ◌∷◌, ◌++◌, length, Some, None, refl, sym, ◌∙◌, ap, subst, arith, slice_index, slice_index_or, ◌==◌, list_any, eq-eqb, leb-true, not-true, or_parts, list_any-append, DriveView, RingView, blocks_fault, DriveCall, annals, Said, drive_says, sends, no_drive, drive_at, station_from, station_of, none_of, and_left, and_right, has_address, has_blocks, is_drive, are_drives, has_drives, is_ring, said, cycle_in, phase_in, blocks_in, channel_says, commands_in, records_in, Moment, said_in, same_Some, cases_Bool, inl, inr}
 
 shorter : (a : ℕ) (before : List DriveView) (d : DriveView) → has_address a (before ++ d ∷ []) ≡ false → (has_address a before ≡ false) × ((d.address == a) ≡ false)
 unfolding has_address
@@ -40,12 +40,10 @@ would_say d rate past = said d.address (cycle_in past) (phase_in past) (blocks_i
 
 pub says_that : (d : DriveView) (rate : ℕ) (past : List Moment) (s : Said) → said_in d rate past ≡ Some s
     → (sends past ≡ true) × (would_say d rate past ≡ s)
-says_that d rate past s is = by (sends past) refl is
-  where
-    by : (b : Bool) → sends past ≡ b → (if b then Some (would_say d rate past) else None) ≡ Some s
-        → (sends past ≡ true) × (would_say d rate past ≡ s)
-    by true on is = (on, same_Some (would_say d rate past) s is)
-    by false off is = absurd (cc)
+says_that d rate past s is = elim (cases_Bool (sends past)) [
+  | inl on ↦ let is = rw on at is in (on, same_Some (would_say d rate past) s is)
+  | inr off ↦ let is = rw off at is in absurd (cc)
+]
 
 -- an AT has its drive's address
 pub said_address : (d : DriveView) (rate : ℕ) (h : List DriveCall) (s : Said) → drive_says d rate h ≡ Some s → slice_index s.content 0 ≡ d.address
@@ -54,8 +52,7 @@ said_address d rate h s is = ap (λ (x : Said). slice_index x.content 0) (sym (s
 pub station_is : (r : RingView) (k : ℕ) (h : List DriveCall) (s : Said) → is_ring r ≡ true → k < length r.drives → drive_says (drive_at r k) r.rate h ≡ Some s
     → station_of r (slice_index s.content 0) ≡ k + 1
 station_is r k h s valid below says =
-    let found = station_found [] r.drives 1 k (drives_so r valid) below in
-    rw (said_address (drive_at r k) r.rate h s says, found) (omega arith)
+    rw (said_address (drive_at r k) r.rate h s says, (station_found [] r.drives 1 k (drives_so r valid) below)) (omega arith)
 
 -- each drive may follow those before it
 pub drive_so : (before drives : List DriveView) (k : ℕ) (x : DriveView) → are_drives before drives ≡ true → k < length drives

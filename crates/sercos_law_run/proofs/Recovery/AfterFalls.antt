@@ -7,7 +7,7 @@ use Rattle.sercos_law_run.proofs.Undisturbed.PhaseZero.{starts_at_fall, starts_a
 use Rattle.sercos_law_run.proofs.Undisturbed.ToldInTime.{reports_in_time}
 use Rattle.sercos_law_run.proofs.Recovery.DownSince.{calm_quiet}
 use Rattle.sercos_law_run.proofs.Recovery.EpochStops.{once_since, told_since}
-use Rattle.sercos_law_run.proofs.Recovery.StopCauses.{caused, right_in}
+use Rattle.sercos_law_run.proofs.Recovery.CausedStops.{caused, right_in}
 use Rattle.sercos_law_run.proofs.Recovery.Stretches.{rest_runs}
 use Rattle.sercos_law_run.proofs.Tolerance.Calm.{ends_start_up, rises_if_right}
 use Rattle.sercos_law_run.proofs.Undisturbed.Cited.{fits_in_three}

@@ -94,11 +94,10 @@ module _ (r : RingView) (jobs : List Job) (carry : Carry) (restarts : Restarts) 
       planned : (k : ℕ) → k < length r.drives → t.phase ≡ 3 → is_some (behind_mdt r jobs carry restarts t.sent (cycles ++ first ∷ before)).plan ≡ true
       planned k below is_three =
           let three : (at_start r jobs carry restarts (cycles ++ first ∷ before)).now.phase ≡ 3 = sym run.1.phase ∙ is_three in
-          let held = holding r jobs carry restarts opened (first_store r jobs carry restarts opened) t (cycles ++ first ∷ before) run.1
-          clear.1 (spelled_in r jobs carry restarts opened t (cycles ++ first ∷ before) run.1)
+          ap (λ (o : Option PlanView). is_some o) (holding r jobs carry restarts opened (first_store r jobs carry restarts opened) t
+          (cycles ++ first ∷ before) run.1 clear.1 (spelled_in r jobs carry restarts opened t (cycles ++ first ∷ before) run.1)
           (stored_in r jobs carry restarts opened t (cycles ++ first ∷ before))
-          (all_stand r jobs carry restarts opened (cycles ++ first ∷ before) run.0 clear.0) (omega (arith, three)) k below in
-          ap (λ (o : Option PlanView). is_some o) held.1.now
+          (all_stand r jobs carry restarts opened (cycles ++ first ∷ before) run.0 clear.0) (omega (arith, three)) k below).1.now
 
       two_few : t.phase ≡ 2 → (looks_back r jobs (master_calls r carry restarts (t ∷ (cycles ++ first ∷ before)))).stop ≡ None → length cycles ≤ sum_by section_two r.drives
       two_few two none = up_in_two r jobs carry restarts opened t cycles first before run clear stretch late two none up
@@ -131,10 +130,8 @@ module _ (r : RingView) (jobs : List Job) (carry : Carry) (restarts : Restarts) 
       where
         three : 2 < t.phase → t.phase ≡ 3
         three high =
-            let is = phase_is t cycles run clear stretch in
-            let next = phase_after t cycles run clear stretch in
             let least = no_less (is_done (known_of r) (behind_mdt r jobs carry restarts t.sent (cycles ++ first ∷ before))) (behind_mdt r jobs carry restarts t.sent (cycles ++ first ∷ before)).now.phase in
-            omega (arith, high, is, next, least, low)
+            omega (arith, high, phase_is t cycles run clear stretch, phase_after t cycles run clear stretch, least, low)
 
         none_now : (behind_mdt r jobs carry restarts t.sent (cycles ++ first ∷ before)).stop ≡ None
         none_now = sym (stop_after r jobs carry restarts t (cycles ++ first ∷ before) stretch.stays.1) ∙ none
@@ -147,11 +144,14 @@ module _ (r : RingView) (jobs : List Job) (carry : Carry) (restarts : Restarts) 
       -- the cycles of phase 3 and those before them
       both_few : (k : ℕ) → k < length r.drives → (n : ℕ) (j : List CycleView) → IsRun r jobs carry restarts j → IsClear j → IsCut k n j → n ≤ sum_by section_two r.drives + 1 + greatest command_cycles r.drives + tail
       both_few k below n j run clear f =
-          let lasting = lasts k below f.newer f.one f.older (subst (λ (l : List CycleView). IsRun r jobs carry restarts l) f.is run)
-          (subst (λ (l : List CycleView). IsClear l) f.is clear) f.stretch f.three f.up in
-          let few = f.few in
           let most = is_below_greatest command_cycles r.drives k (drive_at r k) (command_cycles (drive_at r k)) (drive_got r k below) (omega arith) in
-          omega (arith, lasting, few, most)
+          omega (
+            arith,
+            lasts k below f.newer f.one f.older (subst (λ (l : List CycleView). IsRun r jobs carry restarts l) f.is run)
+                (subst (λ (l : List CycleView). IsClear l) f.is clear) f.stretch f.three f.up,
+            f.few,
+            most,
+          )
 
       three_few : (t : CycleView) (cycles : List CycleView) → IsRun r jobs carry restarts (t ∷ (cycles ++ first ∷ before)) → IsClear (t ∷ (cycles ++ first ∷ before)) → IsStretch r jobs carry restarts (t ∷ cycles) first before → t.phase ≡ 3
           → (behind_mdt r jobs carry restarts t.sent (cycles ++ first ∷ before)).stop ≡ None → length cycles ≤ sum_by section_two r.drives + 1 + greatest command_cycles r.drives + tail
@@ -199,13 +199,12 @@ module _ (r : RingView) (jobs : List Job) (carry : Carry) (restarts : Restarts) 
           by (Some x) is = inr (ap (λ (o : Option Stop). is_some o) is)
           by None none =
               let bound = within_bound r in
-              let least = late_too t cycles run clear stretch in
               let most = phase_low (known_of r) (tasks_for (known_of r) jobs) (master_calls r carry restarts (cycles ++ first ∷ before)) in
               let same = phase_before t cycles run clear stretch in
               elim (cases_eq t.phase 2) [
                 | inl two ↦ let few = two_few t cycles run clear stretch two (stop_after r jobs carry restarts t (cycles ++ first ∷ before) stretch.stays.1 ∙ none) in absurd (omega (arith, few, bound, long))
                 | inr not_two ↦ elim (cases_eq t.phase 3) [
                   | inl three ↦ let few = three_few t cycles run clear stretch three none in absurd (omega (arith, few, bound, long))
-                  | inr not_three ↦ inl (omega (arith, least, most, same, not_two, not_three))
+                  | inr not_three ↦ inl (omega (arith, late_too t cycles run clear stretch, most, same, not_two, not_three))
                 ]
               ]

@@ -75,13 +75,6 @@ module _ (r : RingView) (jobs : List Job) (carry : Carry) (restarts : Restarts) 
         (is_dead t (cycles ++ rest) run clear two.1 k below (down_all cycles rest run.0 clear.0 two.0 k below down)).heard quiet.1
         ∙ outcomes_stay cycles rest run.0 clear.0 quiet.0 stays.0 two.0 k below down
 
-    -- the step at the end of the next cycle
-    opens_at : (t : CycleView) (cycles rest : List CycleView) → IsRun r jobs carry restarts (t ∷ (cycles ++ rest)) → IsClear (t ∷ (cycles ++ rest)) → NoneFalls r jobs carry restarts (t ∷ cycles) rest → (k : ℕ)
-        → is_some (open_in (begun_in (view_of r jobs carry restarts k t (cycles ++ rest)) (views_since r jobs carry restarts k cycles rest ++ views_of r jobs carry restarts k rest)))
-        ≡ is_some (open_in (epoch_begun (views_of r jobs carry restarts k (t ∷ (cycles ++ rest)))))
-    opens_at t cycles rest run clear stays k = ap (λ (l : List View). is_some (open_in (begun_in (view_of r jobs carry restarts k t (cycles ++ rest)) l))) (sym (views_split r jobs carry restarts k cycles rest))
-        ∙ ap (λ (l : List Begun). is_some (open_in l)) (sym (begun_end r jobs carry restarts opened t (cycles ++ rest) run clear stays.1 k))
-
     module _ where
       older : (t : CycleView) (cycles rest : List CycleView) → IsRun r jobs carry restarts (t ∷ (cycles ++ rest)) → IsClear (t ∷ (cycles ++ rest)) → NeverRestarts restarts (t ∷ cycles) rest → NoneFalls r jobs carry restarts (t ∷ cycles) rest
           → AreInTwo r jobs carry restarts (t ∷ cycles) rest → (k : ℕ) → k < length r.drives → IsDown r jobs carry restarts k rest → is_some (open_in (epoch_begun (views_of r jobs carry restarts k (cycles ++ rest)))) ≡ true
@@ -99,7 +92,11 @@ module _ (r : RingView) (jobs : List Job) (carry : Carry) (restarts : Restarts) 
       never_open [] rest run clear quiet stays two k below down off = refl
       never_open (t ∷ cycles) rest run clear quiet stays two k below down off =
           let off_before = false_from_ne_true (is_some (open_in (epoch_begun (views_of r jobs carry restarts k (cycles ++ rest))))) (λ opens. false≢true (sym off ∙ (older t cycles rest run clear quiet stays two k below down opens).1)) in
-          ap₂ one_more (opens_at t cycles rest run clear stays k ∙ off) (never_open cycles rest run.0 clear.0 quiet.0 stays.0 two.0 k below down off_before)
+          ap₂ one_more ((ap (λ (l : List View). is_some (open_in (begun_in (view_of r jobs carry restarts k t (cycles ++ rest)) l)))
+          (sym (views_split r jobs carry restarts k cycles rest))
+          ∙ ap (λ (l : List Begun). is_some (open_in l))
+          (sym (begun_end r jobs carry restarts opened t (cycles ++ rest) run clear stays.1 k))) ∙ off)
+          (never_open cycles rest run.0 clear.0 quiet.0 stays.0 two.0 k below down off_before)
 
       -- Else it was open in no more cycles than its age says.
       pub open_at_most : (cycles rest : List CycleView) → IsRun r jobs carry restarts (cycles ++ rest) → IsClear (cycles ++ rest) → NeverRestarts restarts cycles rest → NoneFalls r jobs carry restarts cycles rest
@@ -123,6 +120,5 @@ module _ (r : RingView) (jobs : List Job) (carry : Carry) (restarts : Restarts) 
           by false off was before few = let none = never_open (t ∷ cycles) rest run clear quiet stays two k below down off in omega (arith, none)
           by true on true before few = let more_old = (older t cycles rest run clear quiet stays two k below down before).0 in let most = one in omega (arith, more_old, few, most)
           by true on false before few =
-              let none = never_open cycles rest run.0 clear.0 quiet.0 stays.0 two.0 k below down before in
               let least = open_age (views_of r jobs carry restarts k (t ∷ (cycles ++ rest))) on in
-              let most = one in omega (arith, none, least, most)
+              let most = one in omega (arith, never_open cycles rest run.0 clear.0 quiet.0 stays.0 two.0 k below down before, least, most)

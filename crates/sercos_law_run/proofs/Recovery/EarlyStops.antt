@@ -52,16 +52,14 @@ module _ (r : RingView) (jobs : List Job) (carry : Carry) (restarts : Restarts) 
   some_late : (h : List Call) (x : Stop) → (looks_back r jobs h).stop ≡ Some x → (looks_back r jobs h).now.phase ≤ 1 → ⊥
   some_late h x is low = let none = early_in h low in let both : None ≡ Some x = sym none ∙ is in absurd (cc)
 
-  phase_then : (t : CycleView) (j : List CycleView) → IsNext r jobs carry restarts t j → (behind_mdt r jobs carry restarts t.sent j).now.phase ≡ (at_start r jobs carry restarts j).now.phase
-  phase_then t j next = phase_now r jobs carry restarts t j next ∙ next.phase
-
   -- in a cycle in which the master restarts there is none
   goes_on_with : (t : CycleView) (j : List CycleView) (x : Stop) → IsNext r jobs carry restarts t j → (behind_mdt r jobs carry restarts t.sent j).stop ≡ Some x → restarts (length j) 0 ≡ false
   goes_on_with t j x next is = elim (cases_Bool (restarts (length j) 0)) [
     | inl on ↦
         let start : (at_start r jobs carry restarts j).now.phase ≡ 0 = ap (λ (p : Past). p.now.phase) (started r jobs (restarts (length j) 0) (master_calls r carry restarts j))
         ∙ ap (λ (b : Bool). (begun_cycle b (looks_back r jobs (master_calls r carry restarts j))).now.phase) on in
-        let same = phase_then t j next in absurd (some_late (middle r carry restarts t.sent j) x is (omega (arith, start, same)))
+        let same : (behind_mdt r jobs carry restarts t.sent j).now.phase ≡ (at_start r jobs carry restarts j).now.phase = phase_now r jobs
+        carry restarts t j next ∙ next.phase in absurd (some_late (middle r carry restarts t.sent j) x is (omega (arith, start, same)))
     | inr off ↦ off
   ]
 
@@ -95,14 +93,14 @@ module _ (r : RingView) (jobs : List Job) (carry : Carry) (restarts : Restarts) 
   pub stands_at : (t : CycleView) (j : List CycleView) (x : Stop) → IsRun r jobs carry restarts (t ∷ j) → fall_of (known_of r) (behind_mdt r jobs carry restarts t.sent j) ≡ None → (behind_mdt r jobs carry restarts t.sent j).stop ≡ Some x
       → StandsAt x (t ∷ j)
   stands_at t [] x run stays is = (tells_none t [] run.1 stays (goes_on_with t [] x run.1 is), inl (fresh r jobs carry restarts t [] x run.1 first_none is))
-  stands_at t (u ∷ j) x run stays is =
-      (tells_none t (u ∷ j) run.1 stays on, by (at_start r jobs carry restarts (u ∷ j)).stop refl (λ none there. stands_at u j x run.0 none there))
+  stands_at t (u ∷ j) x run stays is = (
+    tells_none t (u ∷ j) run.1 stays (goes_on_with t (u ∷ j) x run.1 is),
+    by (at_start r jobs carry restarts (u ∷ j)).stop refl
+        (λ none there. stands_at u j x run.0 none there),
+  )
     where
-      on : restarts (length (u ∷ j)) 0 ≡ false
-      on = goes_on_with t (u ∷ j) x run.1 is
-
       same : at_start r jobs carry restarts (u ∷ j) ≡ looks_back r jobs (master_calls r carry restarts (u ∷ j))
-      same = same_start r jobs carry restarts (u ∷ j) on
+      same = same_start r jobs carry restarts (u ∷ j) (goes_on_with t (u ∷ j) x run.1 is)
 
       by : (o : Option Stop) → (at_start r jobs carry restarts (u ∷ j)).stop ≡ o
           → (fall_of (known_of r) (behind_mdt r jobs carry restarts u.sent j) ≡ None → (behind_mdt r jobs carry restarts u.sent j).stop ≡ Some x → StandsAt x (u ∷ j)) → (t.events.stop ≡ Some x) ⊎ StandsAt x (u ∷ j)

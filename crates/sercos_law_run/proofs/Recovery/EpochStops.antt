@@ -1,5 +1,5 @@
 -- As long as the ring doesn't fall, each stop of an epoch is told in a record of it; and if no master restarts, one is told at most.
-use Rattle.sercos_law_run.proofs.Words.{◌≡◌, ◌⊎◌, inl, inr, Bool, true, false, List, [], ◌∷◌, ◌++◌, length, Option, Some, None, sym, ap, ◌∙◌, if◌then◌else◌, none-some, is_some, option_or, Job, RingView, CycleView, EventsView, Stop, known_of, Past, stop_told, restart_told, Carry, Restarts, no_events, at_start, behind_ats, behind_mdt, begins, IsRun, ats_in, looks_back, master_calls, mst_in, own_mst, NoneFalls, StartsEpoch, HasTold}
+use Rattle.sercos_law_run.proofs.Words.{◌≡◌, ◌⊎◌, inl, inr, Bool, true, List, [], ◌∷◌, ◌++◌, length, Option, Some, None, sym, ap, ◌∙◌, if◌then◌else◌, none-some, is_some, option_or, Job, RingView, CycleView, EventsView, Stop, known_of, Past, restart_told, Carry, Restarts, no_events, behind_ats, behind_mdt, begins, IsRun, ats_in, looks_back, master_calls, mst_in, own_mst, NoneFalls, StartsEpoch, HasTold}
 use Rattle.sercos_law_run.proofs.Headline.WellRuns.{event_stop}
 use Rattle.sercos_law_run.proofs.Undisturbed.PhaseZero.{in_zero}
 use Rattle.sercos_law_run.proofs.Undisturbed.Stops.StopOnce.{at_stops, mdt_stops, none_new, same_start}
@@ -41,23 +41,20 @@ module _ (r : RingView) (jobs : List Job) (carry : Carry) (restarts : Restarts) 
   pub once_since : (t : CycleView) (cycles before : List CycleView) (x y : Stop) → IsRun r jobs carry restarts (t ∷ (cycles ++ before))
       → NeverRestarts restarts (t ∷ cycles) before → NoneFalls r jobs carry restarts cycles before → HasTold x cycles
       → t.events.stop ≡ Some y → ⊥
-  once_since t cycles before x y run on stays told more = none-some y (sym none ∙ more)
-    where
-      same : at_start r jobs carry restarts (cycles ++ before) ≡ looks_back r jobs (master_calls r carry restarts (cycles ++ before))
-      same = same_start r jobs carry restarts (cycles ++ before) on.1
-
-      some : is_some (behind_ats r jobs carry restarts t.sent (cycles ++ before)).stop ≡ true
-      some = ap (λ (o : Option Stop). is_some o) (ats_kept r jobs carry restarts t (cycles ++ before) ∙ ap (λ (p : Past). p.stop) same) ∙ stands cycles before x run.0 on.0 stays told
-
-      not_new : (behind_mdt r jobs carry restarts t.sent (cycles ++ before)).now.stops ≡ false
-      not_new = mdt_stops (known_of r) (behind_ats r jobs carry restarts t.sent (cycles ++ before)) some
-          ∙ ats_same (λ (p : Past). p.now.stops) at_stops r jobs carry (length (cycles ++ before)) (ats_in t.sent) (own_mst carry (length (cycles ++ before)) (mst_in t.sent) (begins r carry restarts (cycles ++ before)))
-          ∙ ap (λ (p : Past). p.now.stops) same ∙ none_new r jobs carry restarts (cycles ++ before)
-
-      says : stop_told (behind_mdt r jobs carry restarts t.sent (cycles ++ before)) ≡ None
-      says = ap (λ (b : Bool). if b then (behind_mdt r jobs carry restarts t.sent (cycles ++ before)).stop else None) not_new
-
-      none : t.events.stop ≡ None
-      none = ap (λ (e : EventsView). e.stop) run.1.events
-          ∙ ap (λ (o : Option Stop). option_or o (if restarts (length (cycles ++ before)) 0 then restart_told (known_of r) (looks_back r jobs (master_calls r carry restarts (cycles ++ before))) no_events else no_events).stop) says
-          ∙ ap (λ (b : Bool). (if b then restart_told (known_of r) (looks_back r jobs (master_calls r carry restarts (cycles ++ before))) no_events else no_events).stop) on.1
+  once_since t cycles before x y run on stays told more =
+      let same = same_start r jobs carry restarts (cycles ++ before) on.1 in
+      let says =
+      ap (λ (b : Bool). if b then (behind_mdt r jobs carry restarts t.sent (cycles ++ before)).stop else None)
+      (mdt_stops (known_of r) (behind_ats r jobs carry restarts t.sent (cycles ++ before))
+      (ap (λ (o : Option Stop). is_some o) (ats_kept r jobs carry restarts t (cycles ++ before) ∙ ap (λ (p : Past). p.stop) same)
+      ∙ stands cycles before x run.0 on.0 stays told)
+      ∙ ats_same (λ (p : Past). p.now.stops) at_stops r jobs carry (length (cycles ++ before)) (ats_in t.sent)
+      (own_mst carry (length (cycles ++ before)) (mst_in t.sent) (begins r carry restarts (cycles ++ before)))
+      ∙ ap (λ (p : Past). p.now.stops) same ∙ none_new r jobs carry restarts (cycles ++ before)) in
+      let none : t.events.stop ≡ None =
+      ap (λ (e : EventsView). e.stop) run.1.events
+      ∙ ap (λ (o : Option Stop). option_or o (if restarts (length (cycles ++ before)) 0 then restart_told (known_of r)
+      (looks_back r jobs (master_calls r carry restarts (cycles ++ before))) no_events else no_events).stop) says
+      ∙ ap (λ (b : Bool). (if b then restart_told (known_of r) (looks_back r jobs (master_calls r carry restarts (cycles ++ before)))
+      no_events else no_events).stop) on.1 in
+      none-some y (sym none ∙ more)

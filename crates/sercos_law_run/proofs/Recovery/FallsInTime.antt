@@ -1,135 +1,210 @@
--- Without a stop the ring falls in time if a drive is in phase 0, in whatever phases from 2 on.
-use Rattle.sercos_law_run.proofs.Words.{◌≡◌, inl, inr, ℕ, suc, ◌+◌, ◌<◌, ◌≤◌, false, List, [], ◌∷◌, ◌++◌, length, Option, None, sym, ap, ◌∙◌, arith, if◌then◌else◌, is_some, slice_index_or, cases_lt, false≢true, Job, DriveView, RingView, greatest, CycleView, Fall, known_of, Past, fall_of, is_done, Carry, Restarts, looks_back, master_calls, no_drive, IsClear, IsRun, at_start, behind_mdt, IsOpened, AreInTwo, GoesOnInTwo, IsSpared, IsDown, IsStretch, NoneFalls}
-use Rattle.sercos_law_run.proofs.Undisturbed.Arriving.Comes.{calm_in}
-use Rattle.sercos_law_run.proofs.Undisturbed.JobsBegun.{goes_in_two}
-use Rattle.sercos_law_run.proofs.Undisturbed.PhaseCounts.{end_kept}
-use Rattle.sercos_law_run.proofs.Undisturbed.Stops.StopStays.{none_before, stop_after}
-use Rattle.sercos_law_run.proofs.Undisturbed.Stops.StopOnce.{same_start}
-use Rattle.sercos_law_run.proofs.Undisturbed.NoFalls.{stays_at}
-use Rattle.sercos_law_run.proofs.Recovery.BeforeFall.{few_within}
-use Rattle.sercos_law_run.proofs.Recovery.DownSince.{NeverRestarts, calm_quiet, shorter}
-use Rattle.sercos_law_run.proofs.Recovery.LateDown.{falls_if_down, no_lower, phase_now}
-use Rattle.sercos_law_run.proofs.Recovery.Limits.{ages_to_limit}
-use Rattle.sercos_law_run.proofs.Recovery.Stretches.{ages_down_in, stays_down_in}
-use Rattle.sercos_law_run.proofs.Recovery.UpSections.{no_lower_on, no_lower_since}
-
--- the slowest drive is busy for at most 20 cycles
-pub greatest_low : (f : DriveView → ℕ) (most : ℕ) (drives : List DriveView) → ((k : ℕ) → k < length drives → f (slice_index_or drives k no_drive) ≤ most) → greatest f drives ≤ most
-greatest_low f most [] each = omega arith
-greatest_low f most (d ∷ drives) each =
-    let first = each 0 (omega arith) in
-    let rest = greatest_low f most drives (λ k low. each (suc k) (omega (arith, low))) in omega (arith, first, rest)
-
--- two cycles more
-widened : (r : RingView) (n m : ℕ) → IsSpared r 63 n → m ≤ n + 2 → IsSpared r 65 m
-widened r n m is more = let few = is.few in record { earlier = is.earlier; one = is.one; later = is.later; are = is.are; few = omega (arith, few, more) }
+-- In how many cycles the ring falls after an undisturbed one, if it does: with a drive in phase 0, or without.
+use Rattle.sercos_law_run.proofs.Words.{◌≡◌, inr, ℕ, suc, ◌+◌, ◌<◌, ◌≤◌, true, List, [], ◌∷◌, ◌++◌, length, None, refl, subst, arith, is_some, Job, RingView, CycleView, known_of, fall_of, Carry, Restarts, spared_cycles, IsClear, IsRun, behind_mdt, IsOpened, NoneFalls, AreUndisturbed, IsUndisturbed, IsSpared, IsDown, IsStretch, ◌⊎◌, inl, sym, ap, slowest, cases_eq, cases_lt, false≢true, Option, Fall, View, IsSparse, staying, drive_at, length-append, IsUp, view_of, views_of, ◌∙◌}
+use Rattle.sercos_law_run.proofs.Bounds.FallCycles.{spared_so}
+use Rattle.sercos_law_run.proofs.Undisturbed.GoingCycles.{AreAll, all_so}
+use Rattle.sercos_law_run.proofs.Recovery.LateDown.{no_lower}
+use Rattle.sercos_law_run.proofs.Recovery.Stretches.{rest_clear, rest_runs, stays_down_in, whole_at}
+use Rattle.sercos_law_run.proofs.Tolerance.Borne.{some_drive, IsHeld, aged_now, stays_now}
+use Rattle.sercos_law_run.proofs.Tolerance.Calm.{calm_is_sparse, calm_of, no_costs}
+use Rattle.sercos_law_run.proofs.Tolerance.Since.{soon_if_down, up_at}
+use Rattle.sercos_law_run.proofs.Recovery.DownSince.{calm_quiet}
+use Rattle.sercos_law_run.proofs.Recovery.EarlyPhases.{up_in_one}
+use Rattle.sercos_law_run.proofs.Recovery.FallsSoon.{busy_slowest}
+use Rattle.sercos_law_run.proofs.Recovery.InTwo.{down_on}
+use Rattle.sercos_law_run.proofs.Tolerance.Settles.{first_held, held_all, sparse_all}
+use Rattle.sercos_law_run.proofs.Tolerance.Standing.{zero_up}
+use Rattle.sercos_law_run.proofs.Tolerance.Steps.{IsYoung, older, young_at_last}
+use Rattle.sercos_law_run.proofs.Views.ViewRuns.{views_count}
 
 module _ (r : RingView) (jobs : List Job) (carry : Carry) (restarts : Restarts) (opened : IsOpened r jobs) where
-  -- the phase of the newest cycle, and a drive in phase 0
-  pub late_now : (t : CycleView) (cycles : List CycleView) (first : CycleView) (before : List CycleView) → IsRun r jobs carry restarts (t ∷ (cycles ++ first ∷ before)) → IsClear (t ∷ (cycles ++ first ∷ before))
-      → IsStretch r jobs carry restarts (t ∷ cycles) first before → 2 ≤ first.phase → (k : ℕ) → k < length r.drives → 2 ≤ t.phase
-  late_now t cycles first before run clear stretch late k below = let least = no_lower_since r jobs carry restarts opened t cycles first before run clear stretch k below in omega (arith, late, least)
+  -- a cycle is undisturbed, and the ring doesn't fall at its end
+  abbrev IsStill : CycleView → List CycleView → Type 0
+  IsStill t j = IsUndisturbed r carry restarts t j × (fall_of (known_of r) (behind_mdt r jobs carry restarts t.sent j) ≡ None)
 
-  -- a drive in phase 0 stays there, whatever is lost,
-  pub down_on : (cycles : List CycleView) (first : CycleView) (before : List CycleView) → IsRun r jobs carry restarts (cycles ++ first ∷ before)
-      → IsClear (cycles ++ first ∷ before) → fall_of (known_of r) (behind_mdt r jobs carry restarts first.sent before) ≡ None
-      → NoneFalls r jobs carry restarts cycles (first ∷ before) → NeverRestarts restarts cycles (first ∷ before) → 2 ≤ first.phase → (k : ℕ)
-      → k < length r.drives → IsDown r jobs carry restarts k (first ∷ before) → IsDown r jobs carry restarts k (cycles ++ first ∷ before)
-  down_on [] first before run clear first_stays stays quiet late k below down = down
-  down_on (t ∷ cycles) first before run clear first_stays stays quiet late k below down =
-      let least = no_lower_on r jobs carry restarts opened t cycles first before run clear first_stays stays.0 quiet k below in
-      (stays_down_in r jobs carry restarts opened t (cycles ++ first ∷ before) run clear k below
-      (down_on cycles first before run.0 clear.0 first_stays stays.0 quiet.0 late k below down) (omega (arith, least, late))).ended
+  each_still : (cycles rest : List CycleView) → AreUndisturbed r carry restarts cycles rest → NoneFalls r jobs carry restarts cycles rest
+      → AreAll IsStill cycles rest
+  each_still [] rest calm stays = tt
+  each_still (t ∷ cycles) rest calm stays = (each_still cycles rest calm.0 stays.0, (calm.1, stays.1))
 
-  pub down_late : (cycles : List CycleView) (first : CycleView) (before : List CycleView) → IsRun r jobs carry restarts (cycles ++ first ∷ before) → IsClear (cycles ++ first ∷ before) → IsStretch r jobs carry restarts cycles first before
-      → 2 ≤ first.phase → (k : ℕ) → k < length r.drives → IsDown r jobs carry restarts k (first ∷ before) → IsDown r jobs carry restarts k (cycles ++ first ∷ before)
-  down_late cycles first before run clear stretch =
-      down_on cycles first before run clear stretch.first_stays stretch.stays (calm_quiet r carry restarts cycles (first ∷ before) stretch.calm)
+  none_fall : (cycles rest : List CycleView) → AreAll IsStill cycles rest → NoneFalls r jobs carry restarts cycles rest
+  none_fall [] rest those = tt
+  none_fall (t ∷ cycles) rest those = (none_fall cycles rest those.0, those.1.1)
 
-  -- where the newest cycle is of phase 2 and has no stop, the master went on with phase 2 in those before it
-  module _ (u t : CycleView) (j : List CycleView) (run : IsRun r jobs carry restarts (u ∷ t ∷ j)) (clear : IsClear (u ∷ t ∷ j))
-      (stays : fall_of (known_of r) (behind_mdt r jobs carry restarts t.sent j) ≡ None) (on : restarts (length (t ∷ j)) 0 ≡ false) where
-    start : at_start r jobs carry restarts (t ∷ j) ≡ looks_back r jobs (master_calls r carry restarts (t ∷ j))
-    start = same_start r jobs carry restarts (t ∷ j) on
+  all_calm : (cycles rest : List CycleView) → AreAll IsStill cycles rest → AreUndisturbed r carry restarts cycles rest
+  all_calm cycles rest those = calm_of r carry restarts cycles rest
+      (all_so IsStill (IsUndisturbed r carry restarts) (λ t j so. so.0) cycles rest those)
 
-    pub stop_before : (behind_mdt r jobs carry restarts u.sent (t ∷ j)).stop ≡ None → (behind_mdt r jobs carry restarts t.sent j).stop ≡ None
-    stop_before none = sym (stop_after r jobs carry restarts t j stays) ∙ none_before r jobs carry restarts u (t ∷ j) start none
+  sparse_so : (t : CycleView) (j : List CycleView) → IsStill t j → IsSparse r carry restarts t j
+  sparse_so t j so = calm_is_sparse r carry restarts t j so.0
 
-    pub goes_on_in_two : u.phase ≡ 2 → t.phase ≡ 2 → (behind_mdt r jobs carry restarts u.sent (t ∷ j)).stop ≡ None → GoesOnInTwo r (behind_mdt r jobs carry restarts t.sent j)
-    goes_on_in_two u_two t_two none =
-        let p : Past = behind_mdt r jobs carry restarts t.sent j in
-        let phase : p.now.phase ≡ 2 = phase_now r jobs carry restarts t j run.0.1 ∙ t_two in
-        let next : (if is_done (known_of r) p then p.now.phase + 1 else p.now.phase) ≡ 2 = sym (run.1.phase ∙ ap (λ (q : Past). q.now.phase) start ∙ ap (λ (q : Past). q.now.phase) (end_kept (known_of r) p stays)) ∙ u_two in
-        goes_in_two r jobs carry restarts opened t j run.0 clear.0 t_two (stop_before none) (stays_at (is_done (known_of r) p) p.now.phase 2 phase next)
+  -- such cycles, cut after the oldest
+  record HasSecond (cycles rest : List CycleView) : Type 0 where
+    newer : List CycleView
+    second : CycleView
+    is : cycles ++ rest ≡ newer ++ second ∷ rest
+    long : length cycles ≡ suc (length newer)
+    those : AreAll IsStill newer (second ∷ rest)
+    still : IsStill second rest
 
-  quiet : (t : CycleView) (cycles : List CycleView) (first : CycleView) (before : List CycleView) → IsStretch r jobs carry restarts (t ∷ cycles) first before → restarts (length (cycles ++ first ∷ before)) 0 ≡ false
-  quiet t cycles first before stretch = (calm_in r carry restarts t (cycles ++ first ∷ before) stretch.calm.1).stays 0 (omega arith)
+  second_of : (t : CycleView) (cycles rest : List CycleView) → AreUndisturbed r carry restarts (t ∷ cycles) rest
+      → NoneFalls r jobs carry restarts (t ∷ cycles) rest → HasSecond (t ∷ cycles) rest
+  second_of t [] rest calm stays =
+      record { newer = []; second = t; is = refl; long = refl; those = tt; still = (calm.1, stays.1) }
+  second_of t (u ∷ cycles) rest calm stays =
+      let x = second_of u cycles rest calm.0 stays.0 in
+      record {
+        newer = t ∷ x.newer;
+        second = x.second;
+        is = ap (λ (l : List CycleView). t ∷ l) x.is;
+        long = ap suc x.long;
+        those = (x.those, subst (IsStill t) x.is (calm.1, stays.1));
+        still = x.still;
+      }
 
-  pub in_two_on : (u : CycleView) (cycles : List CycleView) (first : CycleView) (before : List CycleView)
-      → IsRun r jobs carry restarts (u ∷ (cycles ++ first ∷ before)) → IsClear (u ∷ (cycles ++ first ∷ before))
-      → fall_of (known_of r) (behind_mdt r jobs carry restarts first.sent before) ≡ None → NoneFalls r jobs carry restarts cycles (first ∷ before)
-      → NeverRestarts restarts (u ∷ cycles) (first ∷ before) → 2 ≤ first.phase → u.phase ≡ 2
-      → (behind_mdt r jobs carry restarts u.sent (cycles ++ first ∷ before)).stop ≡ None → (k : ℕ) → k < length r.drives
-      → AreInTwo r jobs carry restarts cycles (first ∷ before)
-  in_two_on u [] first before run clear first_stays stays on late two none k below = tt
-  in_two_on u (t ∷ cycles) first before run clear first_stays stays on late two none k below =
-      let least = no_lower_on r jobs carry restarts opened t cycles first before run.0 clear.0 first_stays stays.0 on.0 k below in
-      let most = no_lower r jobs carry restarts opened u t (cycles ++ first ∷ before) run clear stays.1 on.1 k below in
-      let t_two : t.phase ≡ 2 = omega (arith, least, most, two, late) in (
-        in_two_on t cycles first before run.0 clear.0 first_stays stays.0 on.0 late t_two
-            (stop_before u t (cycles ++ first ∷ before) run clear stays.1 on.1 none) k below,
-        goes_on_in_two u t (cycles ++ first ∷ before) run clear stays.1 on.1 two t_two none,
-      )
+  none_or_second : (cycles rest : List CycleView) → AreUndisturbed r carry restarts cycles rest
+      → NoneFalls r jobs carry restarts cycles rest → (length cycles ≡ 0) ⊎ HasSecond cycles rest
+  none_or_second [] rest calm stays = inl refl
+  none_or_second (t ∷ cycles) rest calm stays = inr (second_of t cycles rest calm stays)
 
-  pub are_in_two : (u : CycleView) (cycles : List CycleView) (first : CycleView) (before : List CycleView) → IsRun r jobs carry restarts (u ∷ (cycles ++ first ∷ before)) → IsClear (u ∷ (cycles ++ first ∷ before))
-      → IsStretch r jobs carry restarts (u ∷ cycles) first before → 2 ≤ first.phase → u.phase ≡ 2 → (behind_mdt r jobs carry restarts u.sent (cycles ++ first ∷ before)).stop ≡ None → (k : ℕ) → k < length r.drives
-      → AreInTwo r jobs carry restarts cycles (first ∷ before)
-  are_in_two u cycles first before run clear stretch = in_two_on u cycles first before run clear stretch.first_stays stretch.stays.0
-      (calm_quiet r carry restarts (u ∷ cycles) (first ∷ before) stretch.calm)
-
-  module _ (d : ℕ) (there : d < length r.drives) where
-    -- phase 2, up to a cycle without a fall
-    pub few_in_two : (u : CycleView) (cycles : List CycleView) (first : CycleView) (before : List CycleView) → IsRun r jobs carry restarts (u ∷ (cycles ++ first ∷ before)) → IsClear (u ∷ (cycles ++ first ∷ before))
-        → IsStretch r jobs carry restarts (u ∷ cycles) first before → 2 ≤ first.phase → u.phase ≤ 2 → (behind_mdt r jobs carry restarts u.sent (cycles ++ first ∷ before)).stop ≡ None → IsDown r jobs carry restarts d (first ∷ before)
-        → IsSpared r 63 (length cycles)
-    few_in_two u cycles first before run clear stretch late low none down =
-        let least = late_now u cycles first before run clear stretch late d there in
-        few_within r jobs carry restarts opened 63 cycles first before run.0 clear.0
-        (shorter r jobs carry restarts opened u cycles first before stretch) (are_in_two u cycles first before run clear stretch late (omega (arith, least, low)) none d there) d there down
-        (λ k below is_down opens.
-        let older = (ages_down_in r jobs carry restarts opened u (cycles ++ first ∷ before) run clear k below is_down
-        (late_now u cycles first before run clear stretch late k below) stretch.stays.1 (quiet u cycles first before stretch) opens).0 in
-        let limit = ages_to_limit r jobs carry restarts opened (u ∷ (cycles ++ first ∷ before)) run clear k below in omega (arith, older, limit))
-
-    pub none_spared : (first : CycleView) (before : List CycleView) → IsRun r jobs carry restarts (first ∷ before) → IsClear (first ∷ before) → IsStretch r jobs carry restarts [] first before → IsDown r jobs carry restarts d (first ∷ before)
-        → IsSpared r 64 0
-    none_spared first before run clear stretch down =
-        few_within r jobs carry restarts opened 64 [] first before run clear stretch tt d there down
-        (λ k below is_down opens. ages_to_limit r jobs carry restarts opened (first ∷ before) run clear k below)
-
-    one_more_spared : (m : ℕ) → IsSpared r 64 0 → m ≤ 1 → IsSpared r 65 m
-    one_more_spared m is few = record { earlier = is.earlier; one = is.one; later = is.later; are = is.are; few = omega (arith, few) }
-
-    -- THE FALL, in whatever phase
-    pub falls_in_time : (cycles : List CycleView) (first : CycleView) (before : List CycleView) → IsRun r jobs carry restarts (cycles ++ first ∷ before) → IsClear (cycles ++ first ∷ before) → IsStretch r jobs carry restarts cycles first before
-        → 2 ≤ first.phase → (looks_back r jobs (master_calls r carry restarts (cycles ++ first ∷ before))).stop ≡ None → IsDown r jobs carry restarts d (first ∷ before) → IsSpared r 65 (length cycles)
-    falls_in_time [] first before run clear stretch late none down = one_more_spared 0 (none_spared first before run clear stretch down) (omega arith)
-    falls_in_time (u ∷ []) first before run clear stretch late none down =
-        one_more_spared 1 (none_spared first before run.0 clear.0 (shorter r jobs carry restarts opened u [] first before stretch) down) (omega arith)
-    falls_in_time (u ∷ t ∷ cycles) first before run clear stretch late none down = elim (cases_lt 2 u.phase) [
-      | inr low ↦ widened r (suc (length cycles)) (suc (suc (length cycles))) (few_in_two u (t ∷ cycles) first before run clear stretch late (omega (arith, low)) u_none down) (omega arith)
-      | inl high ↦ elim (cases_lt 2 t.phase) [
-        | inr low ↦ widened r (length cycles) (suc (suc (length cycles))) (few_in_two t cycles first before run.0 clear.0 earlier late (omega (arith, low))
-            (stop_before u t (cycles ++ first ∷ before) run clear stretch.stays.0.1 (quiet u (t ∷ cycles) first before stretch) u_none) down) (omega arith)
-        | inl late_too ↦ absurd (false≢true (sym (ap (λ (o : Option Fall). is_some o) stretch.stays.1)
-            ∙ falls_if_down r jobs carry restarts opened u t (cycles ++ first ∷ before) run clear stretch.stays.0.1
-            (quiet u (t ∷ cycles) first before stretch) (omega (arith, late_too)) d there
-            (down_late cycles first before run.0.0 clear.0.0 (shorter r jobs carry restarts opened t cycles first before earlier) late d there down)))
+  -- a drive that isn't in phase 0 at their end is in the commanded phase in each
+  up_then : (newer : List CycleView) (w : CycleView) (j : List CycleView) → IsRun r jobs carry restarts (newer ++ w ∷ j)
+      → IsClear (newer ++ w ∷ j) → AreAll IsStill newer (w ∷ j) → IsStill w j → (k : ℕ) → k < length r.drives
+      → (IsDown r jobs carry restarts k (newer ++ w ∷ j) → ⊥)
+      → IsUp (view_of r jobs carry restarts k w j) (views_of r jobs carry restarts k j)
+  up_then newer w j run clear those still k below up =
+      let run_w = rest_runs r jobs carry restarts newer (w ∷ j) run in
+      let clear_w = rest_clear newer (w ∷ j) clear in
+      elim (cases_eq w.phase 0) [
+        | inl zero_is ↦ zero_up (view_of r jobs carry restarts k w j) (views_of r jobs carry restarts k j)
+            (whole_at r jobs carry restarts opened w j run_w clear_w still.0 still.1 k below).mst zero_is
+        | inr later ↦ up_at r jobs carry restarts opened w j run_w clear_w still.0 still.1 k below (λ down. elim (cases_eq w.phase 1) [
+          | inl one ↦ (let is = up_in_one r jobs carry restarts opened w j run_w clear_w still.0 one k below in omega (arith, is, down))
+          | inr other ↦ up (down_on r jobs carry restarts opened newer w j run clear still.1 (none_fall newer (w ∷ j) those)
+              (calm_quiet r carry restarts newer (w ∷ j) (all_calm newer (w ∷ j) those)) (omega (arith, later, other)) k below down)
+        ])
       ]
-    ]
-      where
-        earlier : IsStretch r jobs carry restarts (t ∷ cycles) first before
-        earlier = shorter r jobs carry restarts opened u (t ∷ cycles) first before stretch
 
-        u_none : (behind_mdt r jobs carry restarts u.sent (t ∷ (cycles ++ first ∷ before))).stop ≡ None
-        u_none = sym (stop_after r jobs carry restarts u (t ∷ (cycles ++ first ∷ before)) stretch.stays.1) ∙ none
+  module _ (f : CycleView) (cycles : List CycleView) (first : CycleView) (before : List CycleView)
+      (run : IsRun r jobs carry restarts (f ∷ (cycles ++ first ∷ before))) (clear : IsClear (f ∷ (cycles ++ first ∷ before)))
+      (stretch : IsStretch r jobs carry restarts cycles first before) (calm : IsUndisturbed r carry restarts f (cycles ++ first ∷ before))
+      (falls : is_some (fall_of (known_of r) (behind_mdt r jobs carry restarts f.sent (cycles ++ first ∷ before))) ≡ true) where
+    first_still : IsStill first before
+    first_still = (stretch.first_calm, stretch.first_stays)
+
+    -- FROM THE SECOND CYCLE ON, which comes after an undisturbed one
+    module _ (x : HasSecond cycles (first ∷ before)) where
+      run_is : IsRun r jobs carry restarts (f ∷ (x.newer ++ x.second ∷ first ∷ before))
+      run_is = subst (λ (l : List CycleView). IsRun r jobs carry restarts (f ∷ l)) x.is run
+
+      clear_is : IsClear (f ∷ (x.newer ++ x.second ∷ first ∷ before))
+      clear_is = subst (λ (l : List CycleView). IsClear (f ∷ l)) x.is clear
+
+      falls_is : is_some (fall_of (known_of r) (behind_mdt r jobs carry restarts f.sent (x.newer ++ x.second ∷ first ∷ before))) ≡ true
+      falls_is = subst (λ (l : List CycleView). is_some (fall_of (known_of r) (behind_mdt r jobs carry restarts f.sent l)) ≡ true) x.is
+          falls
+
+      run_two : IsRun r jobs carry restarts (x.second ∷ first ∷ before)
+      run_two = rest_runs r jobs carry restarts (f ∷ x.newer) (x.second ∷ first ∷ before) run_is
+
+      clear_two : IsClear (x.second ∷ first ∷ before)
+      clear_two = rest_clear (f ∷ x.newer) (x.second ∷ first ∷ before) clear_is
+
+      -- with a drive in phase 0
+      few_down : 2 ≤ first.phase → (d : ℕ) → d < length r.drives → IsDown r jobs carry restarts d (first ∷ before)
+          → length x.newer ≤ 64 + spared_cycles r
+      few_down late d there down =
+          let few = (soon_if_down r jobs carry restarts opened IsStill sparse_so x.second first before (record {
+            late = omega (arith, late, least);
+            calm = x.still.0;
+            stays_before = stretch.first_stays;
+            still_before = (sparse_so first before first_still).goes_on 0 (omega arith);
+            stays = x.still.1;
+            known = inr (
+              stretch.first_calm,
+              λ k below up. up_at r jobs carry restarts opened first before run_two.0 clear_two.0
+                  stretch.first_calm stretch.first_stays k below (λ is. up (down_then k below is)),
+            );
+          }) x.newer run_is.0 clear_is.0 x.those (none_fall x.newer (x.second ∷ first ∷ before) x.those) d there
+          (down_then d there down)).falls f run_is clear_is
+          (calm_is_sparse r carry restarts f _ (subst (IsUndisturbed r carry restarts f) x.is calm)) falls_is in
+          let free = no_costs r jobs carry restarts opened x.newer (x.second ∷ first ∷ before) run_is.0
+          (all_calm x.newer (x.second ∷ first ∷ before) x.those) in omega (arith, few, free)
+        where
+          least : first.phase ≤ x.second.phase
+          least = no_lower r jobs carry restarts opened x.second first before run_two clear_two stretch.first_stays
+              ((sparse_so x.second (first ∷ before) x.still).goes_on 0 (omega arith)) d there
+
+          down_then : (k : ℕ) → k < length r.drives → IsDown r jobs carry restarts k (first ∷ before)
+              → IsDown r jobs carry restarts k (x.second ∷ first ∷ before)
+          down_then k below is_down = (stays_down_in r jobs carry restarts opened x.second (first ∷ before) run_two clear_two k below
+              is_down
+              (omega (arith, late, least))).ended
+
+      -- with none: a step that was open in the first cycles has ended
+      few_up : ((k : ℕ) → k < length r.drives → IsDown r jobs carry restarts k (cycles ++ first ∷ before) → ⊥)
+          → length x.newer ≤ slowest r.drives
+      few_up up = elim (cases_lt (slowest r.drives) (length x.newer)) [
+        | inr few ↦ omega (arith, few)
+        | inl many ↦ absurd (false≢true (sym (ap (λ (o : Option Fall). is_some o) (by x.newer run_is clear_is x.those
+            (subst (IsUndisturbed r carry restarts f) x.is calm) (omega (arith, many)))) ∙ falls_is))
+      ]
+        where
+          all_still : AreAll IsStill cycles (first ∷ before)
+          all_still = each_still cycles (first ∷ before) stretch.calm stretch.stays
+
+          first_two : IsHeld r jobs carry restarts opened (λ k. k < length r.drives) (length (x.second ∷ first ∷ before)) x.second
+              (first ∷ before)
+          first_two = first_held r jobs carry restarts opened (λ k. k < length r.drives) (λ k below. below) x.second first before run_two
+              clear_two x.still.0 stretch.first_stays ((sparse_so first before first_still).goes_on 0 (omega arith)) x.still.1
+              (λ k below. up_then x.newer x.second (first ∷ before) run_is.0 clear_is.0 x.those x.still k below
+              (λ down. up k below (subst (IsDown r jobs carry restarts k) (sym x.is) down)))
+              (inr (stretch.first_calm, λ k below. up_then cycles first before run.0 clear.0 all_still first_still k below (up k below)))
+
+          by : (l : List CycleView) → IsRun r jobs carry restarts (f ∷ (l ++ x.second ∷ first ∷ before))
+              → IsClear (f ∷ (l ++ x.second ∷ first ∷ before)) → AreAll IsStill l (x.second ∷ first ∷ before)
+              → IsUndisturbed r carry restarts f (l ++ x.second ∷ first ∷ before) → slowest r.drives < length l
+              → fall_of (known_of r) (behind_mdt r jobs carry restarts f.sent (l ++ x.second ∷ first ∷ before)) ≡ None
+          by [] run clear those calm long = absurd (omega (arith, long))
+          by (u ∷ l) run clear those calm long = stays_now r jobs carry restarts opened (λ k. k < length r.drives) (λ k below. below)
+              (length (x.second ∷ first ∷ before)) f u (l ++ x.second ∷ first ∷ before) run clear held sparse (λ k below. below) young
+            where
+              held : IsHeld r jobs carry restarts opened (λ k. k < length r.drives) (length (x.second ∷ first ∷ before)) u
+                  (l ++ x.second ∷ first ∷ before)
+              held = held_all r jobs carry restarts opened (λ k. k < length r.drives) (λ k below. below)
+                  (length (x.second ∷ first ∷ before)) x.second (first ∷ before) first_two (u ∷ l) run.0 clear.0
+                  (sparse_all r carry restarts IsStill sparse_so (u ∷ l) (x.second ∷ first ∷ before) those)
+                  (none_fall (u ∷ l) (x.second ∷ first ∷ before) those)
+
+              sparse : IsSparse r carry restarts f (u ∷ (l ++ x.second ∷ first ∷ before))
+              sparse = calm_is_sparse r carry restarts f (u ∷ (l ++ x.second ∷ first ∷ before)) calm
+
+              young : (k : ℕ) → k < length r.drives → IsYoung (drive_at r k).busy 1 2
+                  (staying (view_of r jobs carry restarts k f (u ∷ (l ++ x.second ∷ first ∷ before)))
+                  ∷ views_of r jobs carry restarts k (u ∷ (l ++ x.second ∷ first ∷ before)))
+              young k below =
+                  let all : List View = staying (view_of r jobs carry restarts k f (u ∷ (l ++ x.second ∷ first ∷ before)))
+                  ∷ views_of r jobs carry restarts k (u ∷ (l ++ x.second ∷ first ∷ before)) in
+                  older 0 (drive_at r k).busy 0 0 1 2 all (omega arith) (omega arith)
+                  (young_at_last (length (x.second ∷ first ∷ before)) (drive_at r k).busy 0 0 all
+                  (let count = views_count r jobs carry restarts k (l ++ x.second ∷ first ∷ before) in
+                  let parts = length-append l (x.second ∷ first ∷ before) in omega (arith, count, busy_slowest r k below, parts, long))
+                  ((aged_now r jobs carry restarts opened (λ i. i < length r.drives) (λ i low. low)
+                  (length (x.second ∷ first ∷ before)) f u (l ++ x.second ∷ first ∷ before) run clear held sparse k below).calm calm
+                  (inr (tt, those.1.0))))
+
+    -- IN TIME, if a drive is in phase 0 after the first cycle, with a stop or without
+    pub falls_anyway : 2 ≤ first.phase → (d : ℕ) → d < length r.drives → IsDown r jobs carry restarts d (first ∷ before)
+        → IsSpared r 65 (length cycles)
+    falls_anyway late d there down = spared_so r 65 (length cycles) (some_drive r jobs carry restarts opened)
+        (elim (none_or_second cycles (first ∷ before) stretch.calm stretch.stays) [
+          | inl none ↦ omega (arith, none)
+          | inr x ↦ (let few = few_down x late d there down in let long = x.long in omega (arith, few, long))
+        ])
+
+    -- SOON OR NOT AT ALL, if none is at the end
+    pub falls_soon : ((k : ℕ) → k < length r.drives → IsDown r jobs carry restarts k (cycles ++ first ∷ before) → ⊥)
+        → length cycles ≤ slowest r.drives + 1
+    falls_soon up = elim (none_or_second cycles (first ∷ before) stretch.calm stretch.stays) [
+      | inl none ↦ omega (arith, none)
+      | inr x ↦ (let few = few_up x up in let long = x.long in omega (arith, few, long))
+    ]

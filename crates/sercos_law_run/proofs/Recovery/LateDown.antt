@@ -1,5 +1,5 @@
 -- A drive in phase 0 isn't heard, so the ring falls in phases 3 and 4.
-use Rattle.sercos_law_run.proofs.Words.{◌≡◌, ◌⊎◌, inl, inr, ℕ, ◌+◌, ◌<◌, ◌≤◌, Bool, true, false, List, [], ◌∷◌, ◌++◌, length, Option, Some, None, refl, sym, ap, ◌∙◌, arith, if◌then◌else◌, ◌==◌, nat_le, is_some, slice_index, option_or, false≢true, false_from_ne_true, nat_tests, Job, RingView, CycleView, Fall, Known, known_of, Call, Past, Turn, after_taken, fall_at, fall_of, first_place, goes_on, has_lost_at, has_lost_mst, is_at_limit, new_epoch, next_phase, still_waiting, hearing, Carry, Restarts, Heard, staying, IsDead, IsUp, heard, passage, ats_in, mst_in, at_calls, begins, drive_at, looks_back, master_calls, own_mst, station_of, with_at, IsClear, IsNext, IsRun, at_start, behind_ats, behind_mdt, behind_mst, heard_last, view_of, views_of, IsOpened, IsUndisturbed, IsDown, IsStretch, IsUpNow, cases_Bool}
+use Rattle.sercos_law_run.proofs.Words.{◌≡◌, ◌⊎◌, inl, inr, ℕ, ◌+◌, ◌<◌, ◌≤◌, Bool, true, false, List, [], ◌∷◌, ◌++◌, length, Option, Some, None, refl, sym, ap, ◌∙◌, arith, if◌then◌else◌, ◌==◌, nat_le, is_some, slice_index, option_or, false≢true, false_from_ne_true, nat_tests, Job, RingView, CycleView, Fall, Known, known_of, Call, Past, Turn, after_taken, fall_at, fall_of, first_place, has_lost_at, has_lost_mst, is_at_limit, hearing, Carry, Restarts, Heard, staying, IsUp, heard, passage, ats_in, mst_in, at_calls, begins, drive_at, looks_back, master_calls, own_mst, station_of, with_at, IsClear, IsNext, IsRun, at_start, behind_ats, behind_mdt, behind_mst, heard_last, view_of, views_of, IsOpened, IsUndisturbed, IsDown, IsStretch, IsUpNow}
 use Rattle.sercos_telegram.specs.declared.layout.Kind.TheVariants as kinds
 use Rattle.sercos_trace.specs.declared.events.Fall.TheVariants as fall
 use Rattle.sercos_law_run.proofs.Views.MasterSame.{begun_cycle, turn_mdt}
@@ -17,6 +17,7 @@ use Rattle.sercos_law_run.proofs.Undisturbed.PhaseCounts.{end_kept}
 use Rattle.sercos_law_run.proofs.Undisturbed.Arriving.WholeIn.{whole_in}
 use Rattle.sercos_law_run.proofs.Recovery.Stretches.{stays_down_in}
 use Rattle.sercos_law_run.proofs.Recovery.UpNext.{phase_next, up_next}
+use Rattle.sercos_law_run.proofs.Undisturbed.PhaseRuns.{fresh_at}
 
 -- WHAT IS HEARD of a drive is heard on its channel, but in phase 1.
 record IsHeardOn (k : ℕ) (p : Past) : Type 0 where
@@ -60,33 +61,25 @@ not_one n late = grind (arith, nat_tests, late)
 
 module _ (r : RingView) (jobs : List Job) (carry : Carry) (restarts : Restarts) where
   -- at the start of a cycle nothing is heard
-  end_quiet : (j : List CycleView) (k : ℕ) → (looks_back r jobs (master_calls r carry restarts j)).now.heard k ≡ false
-  end_quiet [] k = refl
-  end_quiet (t ∷ j) k = elim (cases_Bool (is_some (fall_of (known_of r) (behind_mdt r jobs carry restarts t.sent j)))) [
-    | inl on ↦ rw on
-    | inr off ↦ rw off
-  ]
-
   start_quiet : (j : List CycleView) (k : ℕ) → (at_start r jobs carry restarts j).now.heard k ≡ false
   start_quiet j k = ap (λ (p : Past). p.now.heard k) (started r jobs (restarts (length j) 0) (master_calls r carry restarts j)) ∙ by (restarts (length j) 0)
     where
       by : (b : Bool) → (begun_cycle b (looks_back r jobs (master_calls r carry restarts j))).now.heard k ≡ false
       by true = refl
-      by false = end_quiet j k
+      by false = fresh_at r jobs carry restarts k j
 
   -- a drive of which the channel hears nothing isn't heard
   unheard : (t : CycleView) (j : List CycleView) (k : ℕ) → IsNext r jobs carry restarts t j → 2 ≤ t.phase → (view_of r jobs carry restarts k t j).heard ≡ None → (behind_mdt r jobs carry restarts t.sent j).now.heard k ≡ false
-  unheard t j k next late none = ap (λ (f : ℕ → Bool). f k) (heard_mdt (known_of r) (behind_ats r jobs carry restarts t.sent j))
-      ∙ false_from_ne_true ((behind_ats r jobs carry restarts t.sent j).now.heard k) (λ is. false≢true (sym (ap (λ (o : Option Heard). is_some o) none) ∙ on.hears is))
-    where
-      first : IsHeardOn k (behind_mst r jobs carry restarts t.sent j)
-      first = record {
+  unheard t j k next late none =
+      let first : IsHeardOn k (behind_mst r jobs carry restarts t.sent j) =
+      record {
         not_one = ap (λ (n : ℕ). n == 1) (sym next.phase) ∙ not_one t.phase late;
         hears = λ is. absurd (false≢true (sym (start_quiet j k) ∙ is));
-      }
-
-      on : IsHeardOn k (behind_ats r jobs carry restarts t.sent j)
-      on = ats_hear r jobs carry (length j) k (ats_in t.sent) (own_mst carry (length j) (mst_in t.sent) (begins r carry restarts j)) first
+      } in
+      let on =
+      ats_hear r jobs carry (length j) k (ats_in t.sent) (own_mst carry (length j) (mst_in t.sent) (begins r carry restarts j)) first in
+      ap (λ (f : ℕ → Bool). f k) (heard_mdt (known_of r) (behind_ats r jobs carry restarts t.sent j))
+      ∙ false_from_ne_true ((behind_ats r jobs carry restarts t.sent j).now.heard k) (λ is. false≢true (sym (ap (λ (o : Option Heard). is_some o) none) ∙ on.hears is))
 
   pub phase_now : (t : CycleView) (j : List CycleView) → IsNext r jobs carry restarts t j → (behind_mdt r jobs carry restarts t.sent j).now.phase ≡ t.phase
   phase_now t j next = (turn_mdt (known_of r) (behind_ats r jobs carry restarts t.sent j)).phase_is ∙ (ats_leave r jobs carry restarts t j 0).phase_is ∙ sym next.phase
@@ -115,17 +108,13 @@ module _ (r : RingView) (jobs : List Job) (carry : Carry) (restarts : Restarts) 
       → fall_of (known_of r) (behind_mdt r jobs carry restarts u.sent j) ≡ None → restarts (length (u ∷ j)) 0 ≡ false → 3 ≤ u.phase
       → (k : ℕ) → k < length r.drives → IsDown r jobs carry restarts k j → Falls r jobs carry restarts t (u ∷ j)
   falls_if_down t u j run clear none stays late k below down =
+      let later : 2 ≤ t.phase = let least = no_lower t u j run clear none stays k below in omega (arith, late, least) in
+      let first = stays_down_in r jobs carry restarts opened u j run.0 clear.0 k below down (omega (arith, late)) in
       falls_so (known_of r) (behind_mdt r jobs carry restarts t.sent (u ∷ j)) k (let count = members_count r in omega (arith, below, count))
       (lost_so k (behind_mdt r jobs carry restarts t.sent (u ∷ j)).now (behind_mdt r jobs carry restarts u.sent j).now (behind_mdt r jobs carry restarts u.sent j).turns (behind_mdt r jobs carry restarts t.sent (u ∷ j)).turns
       (turns_now r jobs carry restarts t u j none stays) (let is = phase_now r jobs carry restarts u j run.0.1 in omega (arith, late, is))
       (unheard r jobs carry restarts t (u ∷ j) k run.1 later (stays_down_in r jobs carry restarts opened t (u ∷ j) run clear k below first.ended later).heard)
       (unheard r jobs carry restarts u j k run.0.1 (omega (arith, late)) first.heard))
-    where
-      later : 2 ≤ t.phase
-      later = let least = no_lower t u j run clear none stays k below in omega (arith, late, least)
-
-      first : IsDead (view_of r jobs carry restarts k u j) (views_of r jobs carry restarts k j)
-      first = stays_down_in r jobs carry restarts opened u j run.0 clear.0 k below down (omega (arith, late))
 
   -- ONE THAT IS UP stays so.
   pub stays_up_next : (t u : CycleView) (j : List CycleView) → IsRun r jobs carry restarts (t ∷ u ∷ j) → IsClear (t ∷ u ∷ j) → IsUndisturbed r carry restarts t (u ∷ j) → fall_of (known_of r) (behind_mdt r jobs carry restarts u.sent j) ≡ None

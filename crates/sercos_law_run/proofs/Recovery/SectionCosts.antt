@@ -27,10 +27,8 @@ module _ (cost : Request → ℕ) (s : Known) (k : ℕ) where
       → ((p : PlanView) → plan ≡ Some p → sum_by cost (writes s p k ++ request.Command (idn 127) ∷ []) ≤ most) → cost_in cost recent ≤ most
   writes_part None recent old most at long few within =
       let all = at_most (jobs_of s None k) (recent ++ old) at in
-      let reads_long = reads_length (member s k) in
-      let both = length-append recent old in no_cost recent most (omega (arith, all, reads_long, both, long))
+      let both = length-append recent old in no_cost recent most (omega (arith, all, reads_length (member s k), both, long))
   writes_part (Some p) recent old most at long few within =
-      let part = part_cost cost (jobs_of s (Some p) k) recent old at in
       let rest = rest_falls cost (jobs_of s (Some p) k) (length (recent ++ old)) (reads_count (member s k) + 12) few in
       let two = last_two cost s k p (reads_count (member s k) + 12) refl in
       let there = ap (sum_by cost) (behind cost s k p (length old) 0 (omega (arith, long))) in
@@ -38,8 +36,7 @@ module _ (cost : Request → ℕ) (s : Known) (k : ℕ) where
       sum_by-append cost (writes s p k ++ request.Command (idn 127) ∷ []) (request.Command (idn 128) ∷ request.Read (idn 22) 7 ∷ []) in
       let first = sum_by-cons cost (request.Command (idn 128)) (request.Read (idn 22) 7 ∷ []) in
       let second = sum_by-cons cost (request.Read (idn 22) 7) [] in
-      let most_is = within p refl in
-      omega (arith, part, rest, two, there, parts, first, second, most_is)
+      omega (arith, part_cost cost (jobs_of s (Some p) k) recent old at, rest, two, there, parts, first, second, within p refl)
 
 module _ (longest : ℕ → ℕ) (d : DriveView) (rules : blocks_fault [] d.blocks ≡ None) where
   -- So each of the two sections fits.
@@ -47,9 +44,8 @@ module _ (longest : ℕ → ℕ) (d : DriveView) (rules : blocks_fault [] d.bloc
       → AreAt (jobs_of s plan k) begun → length begun ≤ reads_count (member s k)
       → cost_in (cost_at longest d rules) begun ≤ section_cycles d
   reads_within costs s plan k begun is at few =
-      let sum = reads_part (cost_at longest d rules) s k plan begun at few in
       let first = reads_fit longest d rules costs (member s k) is in
-      let most = (are_sections d).0 in omega (arith, sum, first, most)
+      let most = (are_sections d).0 in omega (arith, reads_part (cost_at longest d rules) s k plan begun at few, first, most)
 
   pub writes_within : WritesCost d.busy → (s : Known) (plan : Option PlanView) (k : ℕ) (recent old : List Begun) → member s k ≡ member_of d
       → AreAt (jobs_of s plan k) (recent ++ old) → length old ≡ reads_count (member s k)

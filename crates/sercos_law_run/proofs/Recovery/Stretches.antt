@@ -1,13 +1,9 @@
 -- In undisturbed cycles in which the ring doesn't fall each cycle is whole for each drive, whatever was lost before them.
-use Rattle.sercos_law_run.proofs.Words.{◌≡◌, ◌⊎◌, inl, inr, ℕ, ◌+◌, ◌<◌, ◌≤◌, true, false, List, [], ◌∷◌, ◌++◌, length, Option, None, refl, sym, ap, ◌∙◌, subst, is_some, cases_eq, Job, store_of, RingView, Begun, answers_in, open_in, CycleView, Fall, known_of, fall_of, Carry, Restarts, epoch_begun, View, standing, AreSound, ends, age_in, AreListed, AreTimed, cost_in, cost_of, AreWhole, IsDead, IsUp, IsWhole, AreClean, open_since, drive_at, IsClear, IsRun, behind_mdt, view_of, views_of, IsOpened, NoneFalls, AreUndisturbed, IsUndisturbed, views_since, IsDown, IsStretch, IsUpNow, KeepsUp, rest_in_cost, rest_since, ages_where_dead, comes_timed, is_clean_or_down, stays_dead, IsViewRun}
+use Rattle.sercos_law_run.proofs.Words.{◌≡◌, ◌⊎◌, inl, inr, ℕ, ◌+◌, ◌<◌, ◌≤◌, true, false, List, [], ◌∷◌, ◌++◌, length, Option, None, ap, ◌∙◌, subst, is_some, cases_eq, Job, RingView, open_in, CycleView, Fall, known_of, fall_of, Carry, Restarts, epoch_begun, View, standing, ends, age_in, AreWhole, IsDead, IsUp, IsWhole, AreClean, drive_at, IsClear, IsRun, behind_mdt, view_of, views_of, IsOpened, NoneFalls, AreUndisturbed, IsUndisturbed, views_since, IsDown, IsStretch, IsUpNow, KeepsUp, ages_where_dead, is_clean_or_down, stays_dead}
 use Rattle.sercos_law_channel.proofs.Theorems.{stands_as_commanded}
-use Rattle.sercos_law_run.proofs.Held.Runs.{small}
-use Rattle.sercos_law_run.proofs.Headline.HeadlineRuns.{all_stand, first_store}
-use Rattle.sercos_law_run.proofs.Undisturbed.Checks.Carried.{are_carried}
-use Rattle.sercos_law_run.proofs.Undisturbed.Checks.CommandRuns.{first_commands}
+use Rattle.sercos_law_run.proofs.Headline.HeadlineRuns.{all_stand}
 use Rattle.sercos_law_run.proofs.Undisturbed.NeverFalls.{runs_split, whole_then}
 use Rattle.sercos_law_run.proofs.Undisturbed.Checks.PassedCycles.{views_split}
-use Rattle.sercos_law_run.proofs.Undisturbed.Checks.PassedRuns.{commands_so}
 use Rattle.sercos_law_run.proofs.Undisturbed.Arriving.WholeIn.{whole_in}
 
 -- a drive that isn't in phase 0 at the end of a whole cycle is in the commanded phase
@@ -43,61 +39,16 @@ module _ (r : RingView) (jobs : List Job) (carry : Carry) (restarts : Restarts) 
   module _ (cycles : List CycleView) (first : CycleView) (before : List CycleView)
       (run : IsRun r jobs carry restarts (cycles ++ first ∷ before)) (clear : IsClear (cycles ++ first ∷ before))
       (stretch : IsStretch r jobs carry restarts cycles first before) (k : ℕ) (below : k < length r.drives) where
-    split : views_of r jobs carry restarts k (cycles ++ first ∷ before) ≡ views_since r jobs carry restarts k cycles (first ∷ before) ++ views_of r jobs carry restarts k (first ∷ before)
-    split = views_split r jobs carry restarts k cycles (first ∷ before)
-
-    is_run : IsViewRun (drive_at r k).busy (views_since r jobs carry restarts k cycles (first ∷ before) ++ views_of r jobs carry restarts k (first ∷ before))
-    is_run = runs_split r jobs carry restarts opened cycles (first ∷ before) run clear k below
-
-    one : IsWhole (view_of r jobs carry restarts k first before) (views_of r jobs carry restarts k before)
-    one = whole_at first before (rest_runs r jobs carry restarts cycles (first ∷ before) run) (rest_clear cycles (first ∷ before) clear) stretch.first_calm stretch.first_stays k below
-
-    all : AreWhole (views_since r jobs carry restarts k cycles (first ∷ before)) (views_of r jobs carry restarts k (first ∷ before))
-    all = whole_all cycles (first ∷ before) run clear stretch.calm stretch.stays k below
-
-    down_so : (standing (views_since r jobs carry restarts k cycles (first ∷ before) ++ views_of r jobs carry restarts k (first ∷ before))).ended ≡ 0 → IsDown r jobs carry restarts k (cycles ++ first ∷ before)
-    down_so zero = ap (λ (l : List View). (standing l).ended) split ∙ zero
-
     pub clean_or_down : IsDown r jobs carry restarts k (cycles ++ first ∷ before) ⊎ AreClean (views_since r jobs carry restarts k cycles (first ∷ before)) (views_of r jobs carry restarts k (first ∷ before))
-    clean_or_down = elim (is_clean_or_down (drive_at r k).busy (views_since r jobs carry restarts k cycles (first ∷ before)) (view_of r jobs carry restarts k first before) (views_of r jobs carry restarts k before) is_run one all) [
-      | inl zero ↦ inl (down_so zero)
-      | inr so ↦ inr so
-    ]
-
-    sound : AreSound (store_of (drive_at r k)) (views_since r jobs carry restarts k cycles (first ∷ before) ++ views_of r jobs carry restarts k (first ∷ before))
-    sound = subst (λ (l : List View). AreSound (store_of (drive_at r k)) l) split (all_stand r jobs carry restarts opened (cycles ++ first ∷ before) run clear k below).sound
-
-    in_time : AreTimed (drive_at r k).command (views_since r jobs carry restarts k cycles (first ∷ before) ++ views_of r jobs carry restarts k (first ∷ before))
-    in_time = subst (λ (l : List View). AreTimed (drive_at r k).command l) split (comes_timed (drive_at r k).command (views_of r jobs carry restarts k (cycles ++ first ∷ before))
-        (are_carried (drive_at r k).command (first_commands r k) refl refl (views_of r jobs carry restarts k (cycles ++ first ∷ before)) (commands_so r jobs carry restarts opened (cycles ++ first ∷ before) run clear k below).follow))
-
-    -- WHAT ITS REQUESTS COST, and how old a step gets ..
-    pub costs_again : (longest : ℕ → ℕ) → AreListed longest (views_of r jobs carry restarts k (cycles ++ first ∷ before))
-        → IsDown r jobs carry restarts k (cycles ++ first ∷ before)
-        ⊎ ((open_since (views_since r jobs carry restarts k cycles (first ∷ before)) (views_of r jobs carry restarts k (first ∷ before))
-        ≤ cost_in (cost_of (drive_at r k).busy (drive_at r k).command longest (store_of (drive_at r k))) (epoch_begun (views_of r jobs carry restarts k (cycles ++ first ∷ before))))
-        × (age_in (views_of r jobs carry restarts k (cycles ++ first ∷ before)) ≤ age_in (views_of r jobs carry restarts k (first ∷ before)) + ((drive_at r k).busy + 1)))
-    costs_again longest listed =
-        subst (λ (l : List View). ((standing l).ended ≡ 0)
-        ⊎ ((open_since (views_since r jobs carry restarts k cycles (first ∷ before)) (views_of r jobs carry restarts k (first ∷ before))
-        ≤ cost_in (cost_of (drive_at r k).busy (drive_at r k).command longest (store_of (drive_at r k))) (epoch_begun l))
-        × (age_in l ≤ age_in (views_of r jobs carry restarts k (first ∷ before)) + ((drive_at r k).busy + 1)))) (sym split)
-        (rest_in_cost (drive_at r k).busy (drive_at r k).command longest (store_of (drive_at r k)) (views_since r jobs carry restarts k cycles (first ∷ before)) (view_of r jobs carry restarts k first before) (views_of r jobs carry restarts k before)
-        (small r jobs carry restarts opened (first_store r jobs carry restarts opened) k below) is_run sound (in_time) (subst (λ (l : List View). AreListed longest l) split listed) one all)
-
-    -- .. and what the recent ones cost.
-    pub costs_since : (longest : ℕ → ℕ) (recent old : List Begun) → AreListed longest (views_of r jobs carry restarts k (cycles ++ first ∷ before))
-        → epoch_begun (views_of r jobs carry restarts k (cycles ++ first ∷ before)) ≡ recent ++ old → open_in old ≡ None → length (answers_in old) ≤ length (answers_in (epoch_begun (views_of r jobs carry restarts k (first ∷ before))))
-        → IsDown r jobs carry restarts k (cycles ++ first ∷ before)
-        ⊎ (open_since (views_since r jobs carry restarts k cycles (first ∷ before)) (views_of r jobs carry restarts k (first ∷ before))
-        ≤ cost_in (cost_of (drive_at r k).busy (drive_at r k).command longest (store_of (drive_at r k))) recent)
-    costs_since longest recent old listed are none answered =
-        subst (λ (l : List View). ((standing l).ended ≡ 0)
-        ⊎ (open_since (views_since r jobs carry restarts k cycles (first ∷ before)) (views_of r jobs carry restarts k (first ∷ before))
-        ≤ cost_in (cost_of (drive_at r k).busy (drive_at r k).command longest (store_of (drive_at r k))) recent)) (sym split)
-        (rest_since (drive_at r k).busy (drive_at r k).command longest (store_of (drive_at r k)) (views_since r jobs carry restarts k cycles (first ∷ before)) (view_of r jobs carry restarts k first before) (views_of r jobs carry restarts k before) recent old
-        (small r jobs carry restarts opened (first_store r jobs carry restarts opened) k below) is_run sound (in_time) (subst (λ (l : List View). AreListed longest l) split listed) one all
-        (subst (λ (l : List View). epoch_begun l ≡ recent ++ old) split are) none answered)
+    clean_or_down = elim (is_clean_or_down (drive_at r k).busy (views_since r jobs carry restarts k cycles (first ∷ before))
+        (view_of r jobs carry restarts k first before) (views_of r jobs carry restarts k before)
+        (runs_split r jobs carry restarts opened cycles (first ∷ before) run clear k below)
+        (whole_at first before (rest_runs r jobs carry restarts cycles (first ∷ before) run) (rest_clear cycles (first ∷ before) clear)
+        stretch.first_calm stretch.first_stays k below)
+        (whole_all cycles (first ∷ before) run clear stretch.calm stretch.stays k below)) [
+          | inl zero ↦ inl (ap (λ (l : List View). (standing l).ended) (views_split r jobs carry restarts k cycles (first ∷ before)) ∙ zero)
+          | inr so ↦ inr so
+        ]
 
   -- in the newest cycle a drive that isn't in phase 0 at the end is in the commanded phase
   pub newest_up : (cycles : List CycleView) (first : CycleView) (before : List CycleView) → IsRun r jobs carry restarts (cycles ++ first ∷ before) → IsClear (cycles ++ first ∷ before) → IsStretch r jobs carry restarts cycles first before

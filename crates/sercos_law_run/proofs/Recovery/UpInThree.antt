@@ -1,30 +1,26 @@
 -- How long phase 3 lasts for a drive that isn't in phase 0.
-use Rattle.sercos_law_run.proofs.Words.{◌≡◌, inl, inr, ℕ, suc, ◌+◌, ◌*◌, ◌<◌, ◌≤◌, true, false, List, [], ◌∷◌, ◌++◌, length, Option, Some, None, refl, sym, ap, ◌∙◌, subst, arith, is_some, slice_get, list_any, cases_lt, false≢true, Job, Outcome, PlanView, blocks_fault, store_of, RingView, is_outside, command_cycles, slowest, Begun, answers_in, open_in, CycleView, is_checked, reads_count, outcomes_in, known_of, member, tasks_for, ended_there, Past, outcomes, Carry, Restarts, epoch_begun, View, AreListed, cost_in, cost_of, open_since, drive_at, looks_back, master_calls, middle, IsClear, IsRun, behind_mdt, views_of, IsOpened, jobs_of, AreAt, AreInThree, IsRight, views_since, IsDown, IsStretch, list_read_costs}
+use Rattle.sercos_law_run.proofs.Words.{◌≡◌, ℕ, suc, ◌+◌, ◌*◌, ◌<◌, ◌≤◌, true, List, [], ◌∷◌, ◌++◌, length, Option, Some, None, refl, sym, ap, ◌∙◌, subst, arith, is_some, slice_get, Job, Outcome, PlanView, blocks_fault, RingView, command_cycles, slowest, Begun, open_in, CycleView, is_checked, reads_count, known_of, member, tasks_for, ended_there, Past, outcomes, Carry, Restarts, epoch_begun, drive_at, looks_back, master_calls, middle, IsClear, IsRun, behind_mdt, views_of, IsOpened, jobs_of, AreAt, AreInThree, IsDown, IsStretch, list_read_costs}
 use Rattle.sercos_law_run.proofs.Start.CheckPasses.{ring_drive}
 use Rattle.sercos_law_run.proofs.Views.Members.{members_count}
 use Rattle.sercos_law_run.proofs.Held.Runs.{drive_got}
 use Rattle.sercos_law_run.proofs.Headline.HeadlineRuns.{first_store}
-use Rattle.sercos_law_run.proofs.Undisturbed.BehindRests.{Follow, follow_since}
 use Rattle.sercos_law_run.proofs.Undisturbed.Arriving.Comes.{calm_in}
-use Rattle.sercos_law_run.proofs.Undisturbed.JobsBegun.{begun_now, places_now, tasks_now}
-use Rattle.sercos_law_run.proofs.Undisturbed.JobsCost.{check_fits, list_fits}
+use Rattle.sercos_law_run.proofs.Undisturbed.JobsBegun.{places_now}
+use Rattle.sercos_law_run.proofs.Undisturbed.JobsCost.{list_fits}
 use Rattle.sercos_law_run.proofs.Undisturbed.NeverFalls.{busy_low}
-use Rattle.sercos_law_run.proofs.Undisturbed.Checks.PassedCycles.{views_split}
 use Rattle.sercos_law_run.proofs.Undisturbed.PhaseCounts.{end_kept}
-use Rattle.sercos_law_run.proofs.Undisturbed.PhaseThree.{begun_few}
-use Rattle.sercos_law_run.proofs.Undisturbed.PhaseTwo.{listed_all}
 use Rattle.sercos_law_run.proofs.Undisturbed.Reached.{all_checked_in}
 use Rattle.sercos_law_run.proofs.Undisturbed.Sections.{never_idle}
 use Rattle.sercos_law_run.proofs.Undisturbed.Stops.StopOnce.{same_start}
 use Rattle.sercos_law_run.proofs.Undisturbed.Checks.ShortLists.{few_blocks, lists_short, longest_list}
-use Rattle.sercos_law_run.proofs.Recovery.DownSince.{shorter, up_all}
+use Rattle.sercos_law_run.proofs.Recovery.DownSince.{shorter, up_all, calm_quiet}
 use Rattle.sercos_law_run.proofs.Recovery.FallsSoon.{busy_slowest}
 use Rattle.sercos_law_run.proofs.Recovery.LateDown.{phase_now}
-use Rattle.sercos_law_run.proofs.Recovery.Stretches.{costs_since, rest_clear, rest_runs, whole_all}
-use Rattle.sercos_law_run.proofs.Recovery.UpSections.{answers_more, ended_by}
+use Rattle.sercos_law_run.proofs.Recovery.Stretches.{rest_clear, rest_runs}
+use Rattle.sercos_law_run.proofs.Recovery.UpSections.{ended_by, goes_on_since, none_lost}
 use Rattle.sercos_law_run.proofs.Cited.{tasks_end}
-use Rattle.sercos_law_run.proofs.Undisturbed.Cited.{is_ready_if_ended}
 use Rattle.sercos_law_run.proofs.Agenda.WritesDone.{some_at}
+use Rattle.sercos_law_run.proofs.Tolerance.CostsSparse.{recent_if}
 
 some_plan_is : (o : Option PlanView) → is_some o ≡ true → (p : PlanView) × (o ≡ Some p)
 some_plan_is None some = cc
@@ -48,23 +44,12 @@ module _ (r : RingView) (jobs : List Job) (carry : Carry) (restarts : Restarts) 
       (stretch : IsStretch r jobs carry restarts (t ∷ cycles) first before)
       (three : AreInThree r jobs carry restarts k (t ∷ cycles) (first ∷ before)) (up : IsDown r jobs carry restarts k (first ∷ before) → ⊥)
     where
-      first_run : IsRun r jobs carry restarts (first ∷ before)
-      first_run = rest_runs r jobs carry restarts (t ∷ cycles) (first ∷ before) run
-
-      first_clear : IsClear (first ∷ before)
-      first_clear = rest_clear (t ∷ cycles) (first ∷ before) clear
-
       low : k < length (known_of r).drives
       low = let count = members_count r in omega (arith, count, below)
 
       got : (o : Outcome) × (slice_get (outcomes (behind_mdt r jobs carry restarts first.sent before) k) (reads_count (member (known_of r) k) + 11) ≡ Some o)
       got = some_at (outcomes (behind_mdt r jobs carry restarts first.sent before) k) (reads_count (member (known_of r) k) + 11)
           (ended_there (outcomes (behind_mdt r jobs carry restarts first.sent before) k) (reads_count (member (known_of r) k) + 11) (checked_first t cycles first before run stretch three))
-
-      cut : (newer old : List Begun) × (epoch_begun (views_of r jobs carry restarts k (first ∷ before)) ≡ newer ++ old) × (length old ≡ reads_count (member (known_of r) k) + 12) × (open_in old ≡ None)
-      cut = ended_by r jobs carry restarts opened first before first_run first_clear stretch.first_stays k below
-          (reads_count (member (known_of r) k) + 11) (reads_count (member (known_of r) k) + 12) got.0 (omega arith)
-          (tasks_end (known_of r) (tasks_for (known_of r) jobs) (middle r carry restarts first.sent before) k (reads_count (member (known_of r) k) + 11) got.0 low got.1)
 
       plan : (p : PlanView) × ((behind_mdt r jobs carry restarts t.sent (cycles ++ first ∷ before)).plan ≡ Some p)
       plan = some_plan_is (behind_mdt r jobs carry restarts t.sent (cycles ++ first ∷ before)).plan three.1.planned
@@ -78,75 +63,37 @@ module _ (r : RingView) (jobs : List Job) (carry : Carry) (restarts : Restarts) 
       places = subst (λ (o : Option PlanView). AreAt (jobs_of (known_of r) o k) (epoch_begun (views_of r jobs carry restarts k (t ∷ (cycles ++ first ∷ before))))) plan.1
           (places_now r jobs carry restarts opened t (cycles ++ first ∷ before) run clear stretch.stays.1 k below (let is = three.1.phase in omega (arith, is)))
 
-      counted : suc (length cycles) ≤ open_since (views_since r jobs carry restarts k (t ∷ cycles) (first ∷ before)) (views_of r jobs carry restarts k (first ∷ before))
-      counted = never_idle r jobs carry restarts opened k below (t ∷ cycles) (first ∷ before) run clear three
-
       rules : blocks_fault [] (drive_at r k).blocks ≡ None
       rules = (ring_drive r k (drive_at r k) opened.valid (drive_got r k below)).blocks
 
-      -- what the requests cost that were begun since, if a bound on what they cost is known from their places
-      costs_few : (longest : ℕ → ℕ) (most : ℕ) → AreListed longest (views_of r jobs carry restarts k (t ∷ (cycles ++ first ∷ before)))
-          → ((recent old : List Begun) → epoch_begun (views_of r jobs carry restarts k (t ∷ (cycles ++ first ∷ before))) ≡ recent ++ old
-          → length old ≡ reads_count (member (known_of r) k) + 12
-          → cost_in (cost_of (drive_at r k).busy (drive_at r k).command longest (store_of (drive_at r k))) recent ≤ most)
-          → suc (length cycles) ≤ most
-      costs_few longest most listed within = by cut
+      -- its check, and the read of its list
+      pub with_list : suc (length cycles) ≤ command_cycles (drive_at r k) + ((drive_at r k).busy + 1) * 42
+      with_list = by (ended_by r jobs carry restarts opened first before (rest_runs r jobs carry restarts (t ∷ cycles) (first ∷ before) run)
+          (rest_clear (t ∷ cycles) (first ∷ before) clear)
+          stretch.first_stays k below
+          (reads_count (member (known_of r) k) + 11) (reads_count (member (known_of r) k) + 12) got.0 (omega arith)
+          (tasks_end (known_of r) (tasks_for (known_of r) jobs) (middle r carry restarts first.sent before) k
+          (reads_count (member (known_of r) k) + 11) got.0 low got.1))
         where
           by : (newer old : List Begun) × (epoch_begun (views_of r jobs carry restarts k (first ∷ before)) ≡ newer ++ old)
-              × (length old ≡ reads_count (member (known_of r) k) + 12) × (open_in old ≡ None) → suc (length cycles) ≤ most
+              × (length old ≡ reads_count (member (known_of r) k) + 12) × (open_in old ≡ None)
+              → suc (length cycles) ≤ command_cycles (drive_at r k) + ((drive_at r k).busy + 1) * 42
           by (newer, old, is, long, rests) =
-              let split = views_split r jobs carry restarts k (t ∷ cycles) (first ∷ before) in
-              let recently : Follow old (epoch_begun (views_of r jobs carry restarts k (t ∷ (cycles ++ first ∷ before)))) = subst (λ (l : List View). Follow old (epoch_begun l)) (sym split)
-              (follow_since (views_since r jobs carry restarts k (t ∷ cycles) (first ∷ before)) (views_of r jobs carry restarts k (first ∷ before)) old
-              (whole_all r jobs carry restarts opened (t ∷ cycles) (first ∷ before) run clear stretch.calm stretch.stays k below) rests (newer, is)) in
-              elim (costs_since r jobs carry restarts opened (t ∷ cycles) first before run clear stretch k below longest recently.0 old listed
-              recently.1 rests
-              (subst (λ (l : List Begun). length (answers_in old) ≤ length (answers_in l)) (sym is) (answers_more newer old))) [
-                | inl is_down ↦ absurd (never_down is_down)
-                | inr few ↦ let cost = within recently.0 old recently.1 long in let all = counted in omega (arith, all, few, cost)
-              ]
-
-      places_of : (recent old : List Begun) → epoch_begun (views_of r jobs carry restarts k (t ∷ (cycles ++ first ∷ before))) ≡ recent ++ old
-          → AreAt (jobs_of (known_of r) (Some plan.0) k) (recent ++ old)
-      places_of recent old is = subst (λ (l : List Begun). AreAt (jobs_of (known_of r) (Some plan.0) k) l) is places
-
-      pub with_list : suc (length cycles) ≤ command_cycles (drive_at r k) + ((drive_at r k).busy + 1) * 42
-      with_list = costs_few longest_list (command_cycles (drive_at r k) + ((drive_at r k).busy + 1) * 42)
-          (lists_short r jobs carry restarts k rules (few_blocks r k opened.valid below)
-          (first_store r jobs carry restarts opened k below).ascending (t ∷ (cycles ++ first ∷ before)))
-          (λ recent old is long. list_fits longest_list (drive_at r k) rules (list_read_costs (drive_at r k).busy) (known_of r) plan.0 k recent old
-          (places_of recent old is) long)
-
-      -- Its check hasn't ended: if it had, it would have ended well.
-      few_begun : list_any is_outside (drive_at r k).blocks ≡ false
-          → length (epoch_begun (views_of r jobs carry restarts k (t ∷ (cycles ++ first ∷ before))))
-          ≤ reads_count (member (known_of r) k) + 13
-      few_begun inside = let most = begun_few (known_of r) k now.plan (now.waiting k) now.now.phase
-          (reads_count (member (known_of r) k) + 12) (epoch_begun (views_of r jobs carry restarts k (t ∷ (cycles ++ first ∷ before))))
-          (now.tasks k)
-          (tasks_now r jobs carry restarts opened t (cycles ++ first ∷ before) run clear stretch.stays.1 k below)
-          (subst (λ (l : List Begun). length (outcomes_in l) ≤ reads_count (member (known_of r) k) + 12)
-          (begun_now r jobs carry restarts opened t (cycles ++ first ∷ before) run clear stretch.stays.1 k below) few) in omega
-          (arith, most)
-        where
-          now : Past
-          now = behind_mdt r jobs carry restarts t.sent (cycles ++ first ∷ before)
-
-          few : length (outcomes (behind_mdt r jobs carry restarts t.sent (cycles ++ first ∷ before)) k)
-              ≤ reads_count (member (known_of r) k) + 12
-          few = elim (cases_lt (reads_count (member (known_of r) k) + 12)
-              (length (outcomes (behind_mdt r jobs carry restarts t.sent (cycles ++ first ∷ before)) k))) [
-                | inl ended ↦ absurd (false≢true (sym three.1.unready ∙ is_ready_if_ended r jobs carry restarts opened t (cycles ++ first ∷ before) run clear
-                    k below inside ended))
-                | inr less ↦ omega (arith, less)
-              ]
-
-      pub without_list : list_any is_outside (drive_at r k).blocks ≡ false → suc (length cycles)
-          ≤ command_cycles (drive_at r k)
-      without_list inside = costs_few (λ raw. 512) (command_cycles (drive_at r k)) (listed_all
-          (views_of r jobs carry restarts k (t ∷ (cycles ++ first ∷ before))))
-          (λ recent old is long. check_fits (λ raw. 512) (drive_at r k) rules (known_of r) plan.0 k recent old (places_of recent old is) long
-          (subst (λ (l : List Begun). length l ≤ reads_count (member (known_of r) k) + 13) is (few_begun inside)))
+              let (recent, since, few) = recent_if r jobs carry restarts opened (t ∷ cycles) (first ∷ before) run clear k longest_list below
+              (lists_short r jobs carry restarts k rules (few_blocks r k opened.valid below)
+              (first_store r jobs carry restarts opened k below).ascending (t ∷ (cycles ++ first ∷ before)))
+              (goes_on_since r jobs carry restarts opened k (t ∷ cycles) (first ∷ before) stretch.stays
+              (calm_quiet r carry restarts (t ∷ cycles) (first ∷ before) stretch.calm)) newer old is rests in
+              let none = none_lost r jobs carry restarts opened (t ∷ cycles) first before run clear stretch k below never_down in
+              let all = never_idle r jobs carry restarts opened k below (t ∷ cycles) (first ∷ before) run clear three in
+              omega (
+                arith,
+                all,
+                few,
+                none,
+                list_fits longest_list (drive_at r k) rules (list_read_costs (drive_at r k).busy) (known_of r)
+                    plan.0 k recent old (subst (AreAt (jobs_of (known_of r) (Some plan.0) k)) since places) long,
+              )
 
 -- Phase 3 lasts no longer than the check of a drive takes that isn't in phase 0, and a number of cycles more.
 abbrev pub LastsInThree : RingView → List Job → Carry → Restarts → ℕ → Type 0
@@ -156,17 +103,9 @@ LastsInThree r jobs carry restarts tail = (k : ℕ) → k < length r.drives → 
     → (IsDown r jobs carry restarts k (first ∷ before) → ⊥) → length cycles ≤ command_cycles (drive_at r k) + tail
 
 module _ (r : RingView) (jobs : List Job) (carry : Carry) (restarts : Restarts) (opened : IsOpened r jobs) where
-  -- these are 41 steps of the slowest drive, in which a check's list is read,
+  -- these are 41 steps of the slowest drive, in which a check's list is read
   pub lasts_with_list : LastsInThree r jobs carry restarts (41 * (slowest r.drives + 2))
   lasts_with_list k below [] first before run clear stretch three up = omega arith
   lasts_with_list k below (t ∷ cycles) first before run clear stretch three up =
       let lasts = with_list r jobs carry restarts opened k below t cycles first before run clear stretch three up in
-      let busy = busy_low r k opened.valid below in
-      let slow = busy_slowest r k below in omega (arith, lasts, busy, slow)
-
-  -- and none if the ring is right.
-  pub lasts_if_right : IsRight r → LastsInThree r jobs carry restarts 0
-  lasts_if_right right k below [] first before run clear stretch three up = omega arith
-  lasts_if_right right k below (t ∷ cycles) first before run clear stretch three up =
-      let lasts = without_list r jobs carry restarts opened k below t cycles first before run clear stretch three up
-      (right.1 k below) in omega (arith, lasts)
+      let slow = busy_slowest r k below in omega (arith, lasts, busy_low r k opened.valid below, slow)

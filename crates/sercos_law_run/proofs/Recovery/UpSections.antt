@@ -1,26 +1,22 @@
 -- In undisturbed cycles of phase 2 without a fall, while some drive is in phase 0, each drive that is up has one of its sections at most.
-use Rattle.sercos_law_run.proofs.Words.{◌≡◌, inl, inr, ℕ, suc, ◌+◌, ◌<◌, ◌≤◌, true, List, [], ◌∷◌, ◌++◌, length, Option, Some, None, sym, ap, ◌∙◌, subst, arith, length-append, if◌then◌else◌, is_some, slice_get, cases_eq, cases_lt, leb-true, Job, Outcome, Request, next_step, blocks_fault, store_of, RingView, section_cycles, Begun, answers_in, open_in, begun_by, PlanView, CycleView, Fall, is_checked, is_read, reads_count, outcomes_in, known_of, member, tasks_for, ended_there, Past, fall_of, outcomes, each_passes, not_longer, Carry, Restarts, epoch_begun, View, cost_in, cost_of, open_since, drive_at, middle, IsClear, IsRun, HasEndedAt, behind_mdt, views_of, IsOpened, jobs_of, AreAt, AreInTwo, NoneFalls, views_since, GoesOn, IsDown, IsStretch, reads_cost, writes_cost, is_planned}
+use Rattle.sercos_law_run.proofs.Words.{◌≡◌, inl, inr, ℕ, suc, ◌+◌, ◌<◌, ◌≤◌, true, List, [], ◌∷◌, ◌++◌, length, Option, Some, None, sym, ap, ◌∙◌, subst, arith, if◌then◌else◌, is_some, slice_get, cases_eq, cases_lt, leb-true, Job, Outcome, next_step, blocks_fault, RingView, section_cycles, Begun, open_in, begun_by, PlanView, CycleView, Fall, is_checked, is_read, reads_count, outcomes_in, known_of, member, tasks_for, ended_there, Past, fall_of, outcomes, each_passes, not_longer, Carry, Restarts, epoch_begun, open_since, drive_at, middle, IsClear, IsRun, HasEndedAt, behind_mdt, views_of, IsOpened, jobs_of, AreAt, AreInTwo, NoneFalls, views_since, GoesOn, IsDown, IsStretch, reads_cost, writes_cost, is_planned, lost_since}
 use Rattle.sercos_law_run.proofs.Start.CheckPasses.{ring_drive}
 use Rattle.sercos_law_run.proofs.Views.Members.{member_is, members_count, in_known}
 use Rattle.sercos_law_run.proofs.Held.Runs.{drive_got}
-use Rattle.sercos_law_run.proofs.Undisturbed.BehindRests.{Follow, follow_on}
 use Rattle.sercos_law_run.proofs.Undisturbed.InOrder.{in_order}
 use Rattle.sercos_law_run.proofs.Undisturbed.JobPlaces.{some_plan}
 use Rattle.sercos_law_run.proofs.Undisturbed.JobsBegun.{begun_now, few_now, places_now}
-use Rattle.sercos_law_run.proofs.Undisturbed.Checks.PassedCycles.{views_split}
-use Rattle.sercos_law_run.proofs.Undisturbed.PhaseTwo.{listed_all}
-use Rattle.sercos_law_run.proofs.Recovery.DownSince.{NeverRestarts, calm_quiet, in_two, not_down, outcomes_stay}
+use Rattle.sercos_law_run.proofs.Recovery.DownSince.{NeverRestarts, calm_quiet, in_two, outcomes_stay}
 use Rattle.sercos_law_run.proofs.Recovery.LateDown.{no_lower, phase_now}
 use Rattle.sercos_law_run.proofs.Recovery.ReadsInOrder.{reads_in_order}
 use Rattle.sercos_law_run.proofs.Recovery.SectionCosts.{reads_within, writes_within}
-use Rattle.sercos_law_run.proofs.Recovery.Stretches.{costs_again, costs_since, rest_clear, rest_runs}
+use Rattle.sercos_law_run.proofs.Recovery.Stretches.{rest_clear, rest_runs, clean_or_down}
 use Rattle.sercos_law_run.proofs.Agenda.Requests.{are_requests}
 use Rattle.sercos_law_run.proofs.Agenda.WritesDone.{some_at}
 use Rattle.sercos_law_run.proofs.Cited.{tasks_end}
-
-pub answers_more : (newer old : List Begun) → length (answers_in old) ≤ length (answers_in (newer ++ old))
-answers_more [] old = omega arith
-answers_more (b ∷ newer) old = let before = answers_more newer old in let long = length-append b.answers (answers_in (newer ++ old)) in omega (arith, before, long)
+use Rattle.sercos_law_run.proofs.Tolerance.Losses.{none_lost_since}
+use Rattle.sercos_law_run.proofs.Tolerance.CostsSparse.{opens_if, recent_if}
+use Rattle.sercos_law_run.proofs.Undisturbed.PhaseTwo.{listed_all}
 
 module _ (r : RingView) (jobs : List Job) (carry : Carry) (restarts : Restarts) (opened : IsOpened r jobs) where
   -- WHAT WAS BEGUN up to a request that has ended
@@ -57,9 +53,8 @@ module _ (r : RingView) (jobs : List Job) (carry : Carry) (restarts : Restarts) 
     all_read_if_checked : (k : ℕ) → k < length r.drives → is_checked (member (known_of r) k) (outcomes now k) ≡ true → (i : ℕ) → i < length r.drives → is_read (member (known_of r) i) (outcomes now i) ≡ true
     all_read_if_checked k below checked i there =
         let some = ended_there (outcomes now k) (reads_count (member (known_of r) k) + 11) checked in
-        let few = not_longer (begun_by (now.calls k)) in
         let same = ap (λ (l : List Begun). length l) (begun_now r jobs carry restarts opened t j run clear stays k below) in
-        all_read_if k below (omega (arith, some, few, same)) i there
+        all_read_if k below (omega (arith, some, not_longer (begun_by (now.calls k)), same)) i there
 
     -- and where a drive has been read, those before it have
     read_before : (k : ℕ) → k < length r.drives → is_read (member (known_of r) k) (outcomes now k) ≡ true → (i : ℕ) → i < k → is_read (member (known_of r) i) (outcomes now i) ≡ true
@@ -86,9 +81,8 @@ module _ (r : RingView) (jobs : List Job) (carry : Carry) (restarts : Restarts) 
   no_lower_on t [] first before run clear first_stays stays quiet k below =
       no_lower r jobs carry restarts opened t first before run clear first_stays quiet.1 k below
   no_lower_on t (u ∷ cycles) first before run clear first_stays stays quiet k below =
-      let earlier = no_lower_on u cycles first before run.0 clear.0 first_stays stays.0 quiet.0 k below in
       let next = no_lower r jobs carry restarts opened t u (cycles ++ first ∷ before) run clear stays.1 quiet.1 k below in
-      omega (arith, earlier, next)
+      omega (arith, no_lower_on u cycles first before run.0 clear.0 first_stays stays.0 quiet.0 k below, next)
 
   pub no_lower_since : (t : CycleView) (cycles : List CycleView) (first : CycleView) (before : List CycleView)
       → IsRun r jobs carry restarts (t ∷ (cycles ++ first ∷ before)) → IsClear (t ∷ (cycles ++ first ∷ before))
@@ -103,6 +97,18 @@ module _ (r : RingView) (jobs : List Job) (carry : Carry) (restarts : Restarts) 
   goes_on_since k [] before stays quiet = tt
   goes_on_since k (t ∷ cycles) before stays quiet =
       (goes_on_since k cycles before stays.0 quiet.0, ap (λ (o : Option Fall). is_some o) stays.1, quiet.1)
+
+  -- In undisturbed cycles nothing of the channel of a drive is lost that isn't in phase 0 at the end.
+  pub none_lost : (cycles : List CycleView) (first : CycleView) (before : List CycleView)
+      → IsRun r jobs carry restarts (cycles ++ first ∷ before) → IsClear (cycles ++ first ∷ before)
+      → IsStretch r jobs carry restarts cycles first before → (k : ℕ) → k < length r.drives
+      → (IsDown r jobs carry restarts k (cycles ++ first ∷ before) → ⊥)
+      → lost_since (views_since r jobs carry restarts k cycles (first ∷ before)) (views_of r jobs carry restarts k (first ∷ before)) ≡ 0
+  none_lost cycles first before run clear stretch k below up =
+      elim (clean_or_down r jobs carry restarts opened cycles first before run clear stretch k below) [
+        | inl down ↦ absurd (up down)
+        | inr clean ↦ none_lost_since _ _ clean
+      ]
 
   -- WITHOUT A FALL OR A RESTART, whatever is lost
   module _ (t : CycleView) (cycles : List CycleView) (first : CycleView) (before : List CycleView)
@@ -148,9 +154,6 @@ module _ (r : RingView) (jobs : List Job) (carry : Carry) (restarts : Restarts) 
       opens = open_since (views_since r jobs carry restarts k (t ∷ cycles) (first ∷ before))
           (views_of r jobs carry restarts k (first ∷ before))
 
-      abbrev cost : Request → ℕ
-      cost = cost_of (drive_at r k).busy (drive_at r k).command (λ raw. 512) (store_of (drive_at r k))
-
       -- if it had begun more than its reads, it was read in the first cycle
       read_if : reads_count (member (known_of r) k) < length begun → is_read (member (known_of r) k) (outcomes was k) ≡ true
       read_if some = elim (cases_lt k d) [
@@ -177,80 +180,33 @@ module _ (r : RingView) (jobs : List Job) (carry : Carry) (restarts : Restarts) 
       places = places_now r jobs carry restarts opened t (cycles ++ first ∷ before) run clear stays.1 k below
           (let low = newest_low in omega (arith, low))
 
-      going : GoesOn (views_since r jobs carry restarts k (t ∷ cycles) (first ∷ before))
-      going = goes_on_since k (t ∷ cycles) (first ∷ before) stays quiet
-
-      -- what its requests cost, where so many cycles are lost
-      module _ (lost : ℕ) (all_cost : opens ≤ cost_in cost begun + lost)
-          (recent_cost : (recent old : List Begun) → begun ≡ recent ++ old → open_in old ≡ None → length (answers_in old) ≤ length (answers_in (epoch_begun (views_of r jobs carry restarts k (first ∷ before)))) → opens ≤ cost_in cost recent + lost)
-        where
-          -- THE READS alone
-          reads_most : length begun ≤ reads_count (member (known_of r) k) → opens ≤ section_cycles (drive_at r k) + lost
-          reads_most few =
-              let most = reads_within (λ raw. 512) (drive_at r k) rules (reads_cost (drive_at r k).busy) (known_of r) newest.plan k begun
-              (member_is r k) places few in omega (arith, all_cost, most)
-
-          -- THE WRITES alone
-          writes_most : (newer old : List Begun) × (epoch_begun (views_of r jobs carry restarts k (first ∷ before)) ≡ newer ++ old)
-              × (length old ≡ reads_count (member (known_of r) k)) × (open_in old ≡ None) → opens ≤ section_cycles (drive_at r k) + lost
-          writes_most (newer, old, is, long, rests) =
-              let split = views_split r jobs carry restarts k (t ∷ cycles) (first ∷ before) in
-              let recently : Follow old begun = subst (λ (l : List View). Follow old (epoch_begun l)) (sym split)
-              (follow_on (views_since r jobs carry restarts k (t ∷ cycles) (first ∷ before))
-              (views_of r jobs carry restarts k (first ∷ before)) old going rests (newer, is)) in
-              let few = recent_cost recently.0 old recently.1 rests
-              (subst (λ (l : List Begun). length (answers_in old) ≤ length (answers_in l)) (sym is) (answers_more newer old)) in
-              let most = writes_within (λ raw. 512) (drive_at r k) rules (writes_cost (drive_at r k).busy) (known_of r) newest.plan k
-              recently.0 old (member_is r k) (subst (λ (l : List Begun). AreAt (jobs_of (known_of r) newest.plan k) l) recently.1 places) long
-              (subst (λ (l : List Begun). length l ≤ reads_count (member (known_of r) k) + 12) recently.1
-              (few_now r jobs carry restarts opened t (cycles ++ first ∷ before) run clear stays.1 k below newest_low)) in
-              omega (arith, few, most)
-
-          -- ONE SECTION at most
-          pub section_most : opens ≤ section_cycles (drive_at r k) + lost
-          section_most = elim (cases_lt (reads_count (member (known_of r) k)) (length begun)) [
-            | inl some ↦ writes_most (reads_ended first before first_run first_clear first_stays was_low k below (read_if some))
-            | inr few ↦ reads_most (omega (arith, few))
-          ]
-
-  -- IF NOTHING IS LOST
-  pub up_section : (cycles : List CycleView) (first : CycleView) (before : List CycleView)
-      → IsRun r jobs carry restarts (cycles ++ first ∷ before) → IsClear (cycles ++ first ∷ before)
-      → IsStretch r jobs carry restarts cycles first before → AreInTwo r jobs carry restarts cycles (first ∷ before) → (d : ℕ)
-      → d < length r.drives → IsDown r jobs carry restarts d (first ∷ before) → (k : ℕ) → k < length r.drives
-      → (IsDown r jobs carry restarts k (first ∷ before) → ⊥)
-      → open_since (views_since r jobs carry restarts k cycles (first ∷ before)) (views_of r jobs carry restarts k (first ∷ before))
-      ≤ section_cycles (drive_at r k)
-  up_section [] first before run clear stretch two d there down k below up = omega arith
-  up_section (t ∷ cycles) first before run clear stretch two d there down k below up =
-      let most = section_most t cycles first before run clear stretch.first_stays stretch.stays
-      (calm_quiet r carry restarts (t ∷ cycles) (first ∷ before) stretch.calm) two d there down k below up 0 all_cost recent_cost in
-      omega (arith, most)
-    where
-      all : List View
-      all = views_of r jobs carry restarts k (t ∷ (cycles ++ first ∷ before))
-
-      opens : ℕ
-      opens = open_since (views_since r jobs carry restarts k (t ∷ cycles) (first ∷ before))
+      abbrev lost : ℕ
+      lost = lost_since (views_since r jobs carry restarts k (t ∷ cycles) (first ∷ before))
           (views_of r jobs carry restarts k (first ∷ before))
 
-      never_down : IsDown r jobs carry restarts k (t ∷ (cycles ++ first ∷ before)) → ⊥
-      never_down = not_down r jobs carry restarts opened (t ∷ cycles) first before run clear stretch two k below up
+      -- THE WRITES alone
+      writes_most : (newer old : List Begun) × (epoch_begun (views_of r jobs carry restarts k (first ∷ before)) ≡ newer ++ old)
+          × (length old ≡ reads_count (member (known_of r) k)) × (open_in old ≡ None) → opens ≤ section_cycles (drive_at r k) + lost
+      writes_most (newer, old, is, long, rests) =
+          let (recent, since, few) = recent_if r jobs carry restarts opened (t ∷ cycles) (first ∷ before) run clear k (λ raw. 512) below
+          (listed_all (views_of r jobs carry restarts k (t ∷ (cycles ++ first ∷ before))))
+          (goes_on_since k (t ∷ cycles) (first ∷ before) stays quiet) newer old is rests in
+          omega (
+            arith,
+            few,
+            writes_within (λ raw. 512) (drive_at r k) rules (writes_cost (drive_at r k).busy) (known_of r) newest.plan k
+                recent old (member_is r k) (subst (AreAt (jobs_of (known_of r) newest.plan k)) since places) long
+                (subst (λ (l : List Begun). length l ≤ reads_count (member (known_of r) k) + 12) since
+                (few_now r jobs carry restarts opened t (cycles ++ first ∷ before) run clear stays.1 k below newest_low)),
+          )
 
-      all_cost : opens ≤ cost_in (cost_of (drive_at r k).busy (drive_at r k).command (λ raw. 512) (store_of (drive_at r k)))
-          (epoch_begun all) + 0
-      all_cost =
-          elim (costs_again r jobs carry restarts opened (t ∷ cycles) first before run clear stretch k below (λ raw. 512) (listed_all all)) [
-            | inl is_down ↦ absurd (never_down is_down)
-            | inr costs ↦ (let few = costs.0 in omega (arith, few))
-          ]
-
-      recent_cost : (recent old : List Begun) → epoch_begun all ≡ recent ++ old → open_in old ≡ None
-          → length (answers_in old) ≤ length (answers_in (epoch_begun (views_of r jobs carry restarts k (first ∷ before))))
-          → opens ≤ cost_in (cost_of (drive_at r k).busy (drive_at r k).command (λ raw. 512) (store_of (drive_at r k))) recent + 0
-      recent_cost recent old split rests answered =
-          elim (costs_since r jobs carry restarts opened (t ∷ cycles) first before run clear stretch k below (λ raw. 512) recent old
-          (listed_all all) split rests answered) [
-            | inl is_down ↦ absurd (never_down is_down)
-            | inr few ↦ omega (arith, few)
-          ]
+      -- ONE SECTION at most
+      pub section_most : opens ≤ section_cycles (drive_at r k) + lost
+      section_most = elim (cases_lt (reads_count (member (known_of r) k)) (length begun)) [
+        | inl some ↦ writes_most (reads_ended first before first_run first_clear first_stays was_low k below (read_if some))
+        | inr few ↦ let all_cost = opens_if r jobs carry restarts opened (t ∷ cycles) (first ∷ before) run clear k (λ raw. 512) below
+            (listed_all (views_of r jobs carry restarts k (t ∷ (cycles ++ first ∷ before))))
+            (goes_on_since k (t ∷ cycles) (first ∷ before) stays quiet) in
+            let most = reads_within (λ raw. 512) (drive_at r k) rules (reads_cost (drive_at r k).busy) (known_of r) newest.plan k begun
+            (member_is r k) places (omega (arith, few)) in omega (arith, all_cost, most)
+      ]

@@ -1,9 +1,5 @@
 -- In a run in which each check for phase 3 was set well, each complete one of an epoch gives 3.
-use Rattle.sercos_law_run.proofs.Words.{◌≡◌, ℕ, Bool, true, false, List, [], ◌∷◌, ◌++◌, refl, sym, ap, ap₂, ◌∙◌, subst, if◌then◌else◌, append_assoc, Option, Some, None, beq, Request, outcome_of, Block, is_command, Processed, Entry, ahs, accepted, answered, reply_of, log_of, Begun, replies_of, HaveBlocks, IsTransfer, IsRow, IsPart, Unsent, Unheard, AreParts, fall_into_parts, Processes, Nothing, Record, processes, in_step, HasReplies, answered_replies, IsEpoch, epoch, split_replies, split_blocks, View, processed_in, with_record, command, unless_restart, epoch_begun, epoch_records, epoch_log, AreSound, idn, HaveStores, are_well_set, AreSetWell, StandWell, SettingsFollow, SetCommand, find_set, set_in}
-use Rattle.sercos_step.specs.declared.request.Request.TheVariants as request
-use Rattle.sercos_step.specs.declared.request.Outcome.TheVariants as outcome
-use Rattle.sercos_law_channel.specs.Handshake.Parts.{Heard}
-use Rattle.sercos_law_channel.specs.Handshake.Runs.{IsRun}
+use Rattle.sercos_law_run.proofs.Words.{◌≡◌, ℕ, true, List, [], ◌∷◌, ◌++◌, refl, sym, ap, ap₂, ◌∙◌, subst, append_assoc, Some, None, Request, outcome_of, Block, is_command, Processed, Entry, accepted, Begun, HaveBlocks, IsTransfer, IsRow, IsPart, Unsent, Unheard, AreParts, fall_into_parts, in_step, HasReplies, answered_replies, epoch, split_replies, split_blocks, View, epoch_begun, epoch_records, epoch_log, AreSound, idn, HaveStores, are_well_set, StandWell, SettingsFollow, SetCommand, find_set, set_in, IsViewRun, HeardPart, Outcome}
 use Rattle.sercos_law_run.proofs.Settings.WellRuns.{found_well, stand_well}
 use Rattle.sercos_law_run.proofs.Settings.SetInEpoch.{set_at_entry}
 use Rattle.sercos_law_run.proofs.Settings.CheckGives3.{check_gives_3}
@@ -24,20 +20,17 @@ part_at (x ∷ newer) older b log (part, rest, those, is, others) =
     let more = part_at newer older b rest others in
     record { front = part ++ more.front; part = more.part; rest = more.rest; split = those ∙ ap (λ (l : List Entry). part ++ l) more.split ∙ sym (append_assoc part more.front (more.part ++ more.rest)); is = more.is }
 
--- where it has begun, and where one of its further records is
-split_at : (log : List Entry) (b : Begun) (at : IsPartAt log b) (e : Entry) (entries : List Entry) → at.part ≡ e ∷ entries → log ≡ at.front ++ ((e ∷ entries) ++ at.rest)
-split_at log b at e entries part = at.split ∙ ap (λ (l : List Entry). at.front ++ (l ++ at.rest)) part
-
 pub poll_at : (log : List Entry) (b : Begun) (at : IsPartAt log b) (e : Entry) (entries : List Entry) → at.part ≡ e ∷ entries → (poll : Entry) (before : List Entry) → entries ≡ poll ∷ before
     → log ≡ (at.front ++ e ∷ []) ++ poll ∷ (before ++ at.rest)
 poll_at log b at e entries part poll before behind =
-    split_at log b at e entries part ∙ ap (λ (l : List Entry). at.front ++ ((e ∷ l) ++ at.rest)) behind ∙ sym (append_assoc at.front (e ∷ []) (poll ∷ (before ++ at.rest)))
+    at.split ∙ ap (λ (l : List Entry). at.front ++ (l ++ at.rest)) part ∙ ap (λ (l : List Entry). at.front ++ ((e ∷ l) ++ at.rest)) behind
+    ∙ sym (append_assoc at.front (e ∷ []) (poll ∷ (before ++ at.rest)))
 
 -- it is a transfer
 pub transfer_at : (blocks : List Block) (log : List Entry) (b : Begun) (at : IsPartAt log b) (e : Entry) (entries : List Entry) → HasReplies log → HaveBlocks blocks log → at.part ≡ e ∷ entries → IsRow b e entries
     → IsTransfer b.request blocks e entries at.rest
 transfer_at blocks log b at e entries replied same part row =
-    let log_is = split_at log b at e entries part in
+    let log_is : log ≡ at.front ++ ((e ∷ entries) ++ at.rest) = at.split ∙ ap (λ (l : List Entry). at.front ++ (l ++ at.rest)) part in
     record {
       steps = row.steps;
       in_turn = row.in_turn;
@@ -58,34 +51,27 @@ epoch_well (v ∷ past) well =
 
 module _ (raw busy : ℕ) (blocks : List Block) where
   -- EACH COMPLETE COMMAND of the epoch gives 3, if it ends well wherever it is set.
-  pub checks_give : (past : List View) → IsRun busy past → AreSound blocks past → SettingsFollow past
+  pub checks_give : (past : List View) → IsViewRun busy past → AreSound blocks past → SettingsFollow past
       → ((newer : List Entry) (poll : Entry) (behind : List Entry) → epoch_log past ≡ newer ++ poll ∷ behind → (s : SetCommand) → find_set
       raw (set_in poll.processed.commands) ≡ Some s → s.well ≡ true)
       → HaveStores (λ blocks. is_command blocks raw ≡ true) past →
-      (newer older : List Begun) (b : Begun) (bytes : List ℕ) → epoch_begun past ≡ newer ++ b ∷ older → b.request ≡ request.Command
-      (idn raw) → outcome_of b.request b.answers ≡ Some (outcome.Complete bytes) → bytes ≡ 3 ∷ 0 ∷ []
-  checks_give past run sound follow well have newer older b bytes split asks complete = of_part at.part refl at.is
+      (newer older : List Begun) (b : Begun) (bytes : List ℕ) → epoch_begun past ≡ newer ++ b ∷ older → b.request ≡ Request.Command
+      (idn raw) → outcome_of b.request b.answers ≡ Some (Outcome.Complete bytes) → bytes ≡ 3 ∷ 0 ∷ []
+  checks_give past run sound follow well have newer older b bytes split asks complete = elim at.is [
+    | Unsent none answers ↦ let on : outcome_of b.request b.answers ≡ None = ap (outcome_of b.request) answers in absurd (cc)
+    | HeardPart e entries those row answers ↦ let transfer = transfer_at blocks (epoch_log past) b at e entries
+        (answered_replies (accepted (epoch_records past))) (epoch blocks busy past run sound).alike those row in
+        check_gives_3 raw blocks e entries at.rest bytes (subst (λ (r : Request). IsTransfer r blocks e entries at.rest) asks transfer)
+        (sym (ap₂ (λ (r : Request) (h : List _). outcome_of r h) asks answers) ∙ complete)
+        (λ poll before behind. well (at.front ++ e ∷ []) poll (before ++ at.rest)
+        (poll_at (epoch_log past) b at e entries those poll before behind))
+        (λ poll before behind newest. set_at_entry raw busy past (at.front ++ e ∷ []) poll (before ++ at.rest) (3 ∷ 0 ∷ []) run follow
+        have (poll_at (epoch_log past) b at e entries those poll before behind) newest refl)
+    | Unheard e entries those row answers ↦ let on : outcome_of b.request b.answers ≡ None = ap (outcome_of b.request) answers ∙ row.goes_on in absurd (cc)
+  ]
     where
-      is_epoch : IsEpoch blocks (command past) (epoch_begun past) (epoch_records past)
-      is_epoch = epoch blocks busy past run sound
-
       at : IsPartAt (epoch_log past) b
-      at = part_at newer older b (epoch_log past) (subst (λ (l : List Begun). AreParts l (epoch_log past)) split (fall_into_parts (epoch_begun past) (epoch_log past) is_epoch.in_turn (in_step busy past run)))
-
-      whole : (e : Entry) (entries : List Entry) → at.part ≡ e ∷ entries → IsRow b e entries → b.answers ≡ replies_of (e ∷ entries) → bytes ≡ 3 ∷ 0 ∷ []
-      whole e entries part row answers =
-          let transfer = transfer_at blocks (epoch_log past) b at e entries (answered_replies (accepted (epoch_records past))) is_epoch.alike part row in
-          check_gives_3 raw blocks e entries at.rest bytes (subst (λ (r : Request). IsTransfer r blocks e entries at.rest) asks transfer)
-          (sym (ap₂ (λ (r : Request) (h : List _). outcome_of r h) asks answers) ∙ complete)
-          (λ poll before behind. well (at.front ++ e ∷ []) poll (before ++ at.rest)
-          (poll_at (epoch_log past) b at e entries part poll before behind))
-          (λ poll before behind newest. set_at_entry raw busy past (at.front ++ e ∷ []) poll (before ++ at.rest) (3 ∷ 0 ∷ []) run follow
-          have (poll_at (epoch_log past) b at e entries part poll before behind) newest refl)
-
-      of_part : (part : List Entry) → at.part ≡ part → IsPart b at.part → bytes ≡ 3 ∷ 0 ∷ []
-      of_part part same (Unsent none answers) = let on : outcome_of b.request b.answers ≡ None = ap (outcome_of b.request) answers in absurd (cc)
-      of_part part same (Heard e entries those row answers) = whole e entries those row answers
-      of_part part same (Unheard e entries those row answers) = let on : outcome_of b.request b.answers ≡ None = ap (outcome_of b.request) answers ∙ row.goes_on in absurd (cc)
+      at = part_at newer older b (epoch_log past) (subst (λ (l : List Begun). AreParts l (epoch_log past)) split (fall_into_parts (epoch_begun past) (epoch_log past) (epoch blocks busy past run sound).in_turn (in_step busy past run)))
 
 -- so does each complete check for phase 3
 pub checks_give_3 : (busy : ℕ) → ChecksGive3 busy

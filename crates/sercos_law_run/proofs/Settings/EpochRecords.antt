@@ -1,19 +1,17 @@
 -- What each record of an epoch keeps is so of all its records; and an entry of their log is that of a record, with those before it.
-use Rattle.sercos_law_run.proofs.Words.{◌≡◌, ℕ, Bool, true, false, List, [], ◌∷◌, ◌++◌, length, refl, sym, ap, ◌∙◌, subst, if◌then◌else◌, beq, cond_both, Option, Some, Processed, Entry, ahs, accepted, answered, log_of, reply_of, with_record, View, epoch_records, unless_restart, processed_in, record_in, stood_in, standing, Processes, Nothing, Record, processes}
-use Rattle.sercos_service_master.specs.Begun.{Said}
+use Rattle.sercos_law_run.proofs.Words.{◌≡◌, Bool, true, false, List, [], ◌∷◌, ◌++◌, length, refl, sym, ap, ◌∙◌, subst, if◌then◌else◌, beq, cond_both, Option, Some, Processed, Entry, ahs, accepted, answered, log_of, reply_of, with_record, View, epoch_records, unless_restart, processed_in, record_in, stood_in, standing, Nothing, Record, processes}
 
 pub epoch_next : (P : List Processed → Type 0) (v : View) (past : List View) → P []
     → ((t : Processed) → processed_in v past ≡ Some t → t.blocks ≡ v.blocks → t.commands ≡ v.commands → P
     (unless_restart v (epoch_records past)) → P (t ∷ unless_restart v (epoch_records past)))
     → P (epoch_records past) → P (epoch_records (v ∷ past))
-epoch_next P v past none one all = cond_both v.falls [] _ P (λ on. none) (λ off. (elim (processes v past) [
-  | Nothing nothing ↦ subst (λ (o : Option Processed). P (with_record o (unless_restart v (epoch_records past)))) (sym nothing) kept
-  | Record s got came two some ↦ subst (λ (o : Option Processed). P (with_record o (unless_restart v (epoch_records past)))) (sym some)
-      (one (record_in v (length past) (stood_in v (standing past)) s) some refl refl kept)
-]))
-  where
-    kept : P (unless_restart v (epoch_records past))
-    kept = cond_both v.master_restarts [] (epoch_records past) P (λ on. none) (λ off. all)
+epoch_next P v past none one all =
+    let kept = cond_both v.master_restarts [] (epoch_records past) P (λ on. none) (λ off. all) in
+    cond_both v.falls [] _ P (λ on. none) (λ off. (elim (processes v past) [
+      | Nothing nothing ↦ subst (λ (o : Option Processed). P (with_record o (unless_restart v (epoch_records past)))) (sym nothing) kept
+      | Record s got came two some ↦ subst (λ (o : Option Processed). P (with_record o (unless_restart v (epoch_records past)))) (sym some)
+          (one (record_in v (length past) (stood_in v (standing past)) s) some refl refl kept)
+    ]))
 
 -- The property goes on to the records before each.
 pub at_entry : (P : List Processed → Type 0) → ((t : Processed) (h : List Processed) → P (t ∷ h) → P h)

@@ -1,25 +1,41 @@
 -- Which request the newest write of a log belongs to. In phase 2 only the check for phase 3 gives anything to S-0-0127.
-use Rattle.sercos_law_run.proofs.Words.{◌≡◌, ℕ, zero, suc, ◌+◌, ◌<◌, ◌≤◌, Bool, true, false, not, List, [], ◌∷◌, ◌++◌, map, drop, length, refl, sym, ap, ◌∙◌, subst, arith, if◌then◌else◌, ◌==◌, Option, Some, None, slice_get, list_all, and_parts, eq-eqb, not-true, false≢true, Idn, Request, PlanView, Block, Entry, Write, Begun, answers_it, answer_in, with_answer, Heard, with_heard, Given, given_of, given_by, AreWrites, Complete, Refused, Broken, AreExact, Known, Task, member, startup, idn, reads, reads_count, writes, outcomes_in, AreWaiting, IsTask, OfReads, OfWrites, Checks3, Lists3, Checks4, Lists4, OfWaiting, IsBegunTask, AreBegunTasks, start_numbers, cases_Bool, inl, inr, nat_lt, ltb-true, Outcome}
-use Rattle.sercos_step.specs.declared.request.Request.TheVariants as request
-use Rattle.sercos_law_run.proofs.Agenda.WritesDone.{raw_of, number_at, IsDataWrite, DataWrite, all_data_writes, write_away}
+use Rattle.sercos_law_run.proofs.Words.{◌≡◌, ℕ, zero, suc, ◌+◌, ◌<◌, ◌≤◌, Bool, true, false, not, List, [], ◌∷◌, ◌++◌, map, drop, length, refl, sym, ap, ◌∙◌, subst, arith, ◌==◌, Option, Some, None, slice_get, list_all, and_parts, eq-eqb, not-true, false≢true, Idn, Request, PlanView, Block, Entry, Write, Begun, answers_it, answer_in, with_answer, Heard, with_heard, Given, given_of, given_by, AreWrites, Complete, Refused, Broken, AreExact, Known, Task, member, idn, reads, reads_count, writes, outcomes_in, AreWaiting, IsTask, OfReads, OfWrites, Checks3, Lists3, Checks4, Lists4, OfWaiting, IsBegunTask, AreBegunTasks, start_numbers, cases_Bool, inl, inr, nat_lt, ltb-true, Outcome, map-append}
+use Rattle.sercos_law_run.proofs.Agenda.WritesDone.{raw_of, number_at, DataWrite, all_data_writes, write_away}
 use Rattle.sercos_law_run.proofs.Held.Agreed.{all_at}
+use Rattle.std.proofs.lemmas.List.Folds.{list_all-append}
 
 -- all of these go to other identifier numbers
 abbrev pub are_away : ℕ → List Given → Bool
 are_away raw given = list_all (λ (g : Given). not (g.raw == raw)) given
 
-pub drop_away : (raw n : ℕ) (given : List Given) → are_away raw given ≡ true → are_away raw (drop n given) ≡ true
-drop_away raw zero given all = all
-drop_away raw (suc n) [] all = refl
-drop_away raw (suc n) (g ∷ given) all = drop_away raw n given (and_parts (not (g.raw == raw)) _ all).1
+-- If all that requests give passes a test, so does all that they wrote.
+module _ (p : Given → Bool) (blocks : List Block) where
+  drop_all : (n : ℕ) (given : List Given) → list_all p given ≡ true → list_all p (drop n given) ≡ true
+  drop_all zero given all = all
+  drop_all (suc n) [] all = refl
+  drop_all (suc n) (g ∷ given) all = drop_all n given (and_parts (p g) _ all).1
 
-not_away : (w : Write) (own : List Write) → are_away w.raw (map given_of (w ∷ own)) ≡ true → ⊥
-not_away w own all = false≢true (sym (not-true (w.raw == w.raw) (and_parts (not (w.raw == w.raw)) _ all).0) ∙ eq-eqb w.raw w.raw refl)
+  own_all : (b : Begun) (own : List Write) → AreWrites blocks b own → list_all p (given_by blocks b.request) ≡ true
+      → list_all p (map given_of own) ≡ true
+  own_all b own (Complete bytes is has same) all = ap (list_all p) same ∙ all
+  own_all b own (Refused code is none) all = ap (λ (l : List Write). list_all p (map given_of l)) none
+  own_all b own (Broken later is same) all = ap (list_all p) same ∙ drop_all later (given_by blocks b.request) all
+
+  pub exact_all : (Give : List Begun → Type 0)
+      → ((b : Begun) (past : List Begun) → Give (b ∷ past) → Give past × (list_all p (given_by blocks b.request) ≡ true))
+      → (begun : List Begun) (entries : List Entry) (writes : List Write) → AreExact blocks begun entries writes → Give begun
+      → list_all p (map given_of writes) ≡ true
+  exact_all Give step [] entries writes exact give = ap (λ (l : List Write). list_all p (map given_of l)) exact.1
+  exact_all Give step (b ∷ past) entries writes (part, rest, own, others, of_entries, of_writes, is, behind) give =
+      let (more, here) = step b past give in
+      let joined = map-append given_of own others in
+      rw (of_writes, joined, list_all-append p (map given_of own) (map given_of others), own_all b own is.writes here)
+      (exact_all Give step past rest others behind more)
 
 gives_one : (blocks : List Block) (b : Begun) (w : Write) (own : List Write) → AreWrites blocks b (w ∷ own) → are_away w.raw (given_by blocks b.request) ≡ true → ⊥
-gives_one blocks b w own (Complete bytes is has same) all = not_away w own (ap (are_away w.raw) same ∙ all)
-gives_one blocks b w own (Refused code is none) all = cc
-gives_one blocks b w own (Broken later is same) all = not_away w own (ap (are_away w.raw) same ∙ drop_away w.raw later (given_by blocks b.request) all)
+gives_one blocks b w own writes all = false≢true (sym
+    (not-true (w.raw == w.raw) (and_parts (not (w.raw == w.raw)) _
+    (own_all (λ (g : Given). not (g.raw == w.raw)) blocks b (w ∷ own) writes all)).0) ∙ eq-eqb w.raw w.raw refl)
 
 -- one of these requests gives something to the identifier number
 pub record IsGiven (blocks : List Block) (begun : List Begun) (raw : ℕ) : Type 0 where
@@ -61,23 +77,23 @@ given_heard blocks (Some a) begun raw is =
 
 -- THE CHECK FOR PHASE 3. The first tasks are reads.
 abbrev pub is_reading : Request → Bool
-is_reading (request.Read i e) = true
-is_reading (request.Write i e bytes) = false
-is_reading (request.Command i) = false
+is_reading (Request.Read i e) = true
+is_reading (Request.Write i e bytes) = false
+is_reading (Request.Command i) = false
 
-pub attributes_read : (idns : List Idn) → list_all is_reading (map (λ i. request.Read i 3) idns) ≡ true
+pub attributes_read : (idns : List Idn) → list_all is_reading (map (λ i. Request.Read i 3) idns) ≡ true
 attributes_read [] = refl
 attributes_read (i ∷ idns) = attributes_read idns
 
 pub reading_away : (blocks : List Block) (raw : ℕ) (r : Request) → is_reading r ≡ true → are_away raw (given_by blocks r) ≡ true
-reading_away blocks raw (request.Read i e) is = refl
-reading_away blocks raw (request.Write i e bytes) is = absurd (cc)
-reading_away blocks raw (request.Command i) is = absurd (cc)
+reading_away blocks raw (Request.Read i e) is = refl
+reading_away blocks raw (Request.Write i e bytes) is = absurd (cc)
+reading_away blocks raw (Request.Command i) is = absurd (cc)
 
 -- WHERE A TASK GIVES to a number that isn't of the start-up's writes: nowhere, or it is a check, or it waits.
 pub data Gives (s : Known) (k raw : ℕ) (blocks : List Block) (outs : List Outcome) (t : Task) : Type 0 where
   Away : are_away raw (given_by blocks t.request) ≡ true → Gives s k raw blocks outs t
-  AtCheck3 : length outs ≡ reads_count (member s k) + 11 → t.request ≡ request.Command (idn 127) → Gives s k raw blocks outs t
+  AtCheck3 : length outs ≡ reads_count (member s k) + 11 → t.request ≡ Request.Command (idn 127) → Gives s k raw blocks outs t
   AtCheck4 : reads_count (member s k) + 12 ≤ length outs → 3 ≤ t.phase → Gives s k raw blocks outs t
 
 pub gives_so : (s : Known) (k raw : ℕ) (blocks : List Block) (plan : Option PlanView) (waiting : List Task) (outs : List Outcome) (t : Task)
@@ -93,10 +109,10 @@ gives_so s k raw blocks plan waiting outs t large waits (OfWrites p i r planned 
 gives_so s k raw blocks plan waiting outs t large waits (Checks3 p planned at same) = AtCheck3 at (ap (λ (x : Task). x.request) same)
 gives_so s k raw blocks plan waiting outs t large waits (Lists3 at failed same) = Away (rw same refl)
 gives_so s k raw blocks plan waiting outs t large waits (Checks4 at checked same) =
-    let e = ap (λ (x : Task). x.phase) same in AtCheck4 (omega (arith, at)) (omega (arith, e))
+    AtCheck4 (omega (arith, at)) (omega (arith, ap (λ (x : Task). x.phase) same))
 gives_so s k raw blocks plan waiting outs t large waits (Lists4 at failed same) = Away (rw same refl)
 gives_so s k raw blocks plan waiting outs t large waits (OfWaiting j at ready got) =
-    let e = waits j t got in AtCheck4 (omega (arith, at)) (omega (arith, e))
+    AtCheck4 (omega (arith, at)) (omega (arith, waits j t got))
 
 module _ (s : Known) (k : ℕ) (blocks : List Block) (plan : Option PlanView) (waiting : List Task) (phase : ℕ) (low : phase ≤ 2) (waits : AreWaiting waiting) where
   is_check : (b : Begun) (t : Task) (older : List Begun) (tasks : List Task) → IsBegunTask s k plan waiting phase b t older tasks → (are_away 127 (given_by blocks b.request) ≡ true → ⊥) → length older ≡ reads_count (member s k) + 11
@@ -104,14 +120,14 @@ module _ (s : Known) (k : ℕ) (blocks : List Block) (plan : Option PlanView) (w
       elim (gives_so s k 127 blocks begun.by_then waiting (outcomes_in older) t (omega arith) waits begun.task) [
         | Away all ↦ absurd (gives (ap (λ (x : Request). are_away 127 (given_by blocks x)) begun.asks ∙ all))
         | AtCheck3 at is ↦ sym begun.ended ∙ at
-        | AtCheck4 long late ↦ let early = begun.early in absurd (omega (arith, late, early, low))
+        | AtCheck4 long late ↦ absurd (omega (arith, late, begun.early, low))
       ]
 
   begun_by_split : (newer : List Begun) (one : Begun) (older : List Begun) (tasks : List Task) → AreBegunTasks s k plan waiting phase (newer ++ one ∷ older) tasks → (are_away 127 (given_by blocks one.request) ≡ true → ⊥) → reads_count (member s k) + 11 < length (newer ++ one ∷ older)
   begun_by_split [] one older [] are gives = absurd are
-  begun_by_split [] one older (t ∷ tasks) are gives = let at = is_check one t older tasks are.1 gives in omega (arith, at)
+  begun_by_split [] one older (t ∷ tasks) are gives = omega (arith, is_check one t older tasks are.1 gives)
   begun_by_split (x ∷ newer) one older [] are gives = absurd are
-  begun_by_split (x ∷ newer) one older (t ∷ tasks) are gives = let more = begun_by_split newer one older tasks are.0 gives in omega (arith, more)
+  begun_by_split (x ∷ newer) one older (t ∷ tasks) are gives = omega (arith, begun_by_split newer one older tasks are.0 gives)
 
   -- if a request gives something to S-0-0127, the check has been begun
   pub check_begun : (begun : List Begun) (tasks : List Task) → AreBegunTasks s k plan waiting phase begun tasks → IsGiven blocks begun 127 → reads_count (member s k) + 11 < length begun

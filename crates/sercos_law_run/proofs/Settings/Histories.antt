@@ -1,5 +1,5 @@
 -- The procedure commands of a drive: the data status of a command by what is set, what a write leaves of a setting, and what phase 0 does.
-use Rattle.sercos_law_run.proofs.Words.{◌≡◌, ℕ, Bool, true, false, List, [], ◌∷◌, ◌==◌, Option, Some, option_or, refl, sym, ap, ◌∙◌, inl, inr, if◌then◌else◌, eq-eqb, cases_Bool, cases_Option, find-append, with_data, Block, is_command, ends_well, SetCommand, status_by, Wrote, Reset, CommandHistory, with_call, status_in, find_set, without, set_in, find-settings, Write, command_value, commands_with, None, ◌⊎◌, is_some, has_ended}
+use Rattle.sercos_law_run.proofs.Words.{◌≡◌, ℕ, Bool, true, false, List, [], ◌∷◌, ◌==◌, Option, Some, refl, sym, ap, ◌∙◌, inl, inr, if◌then◌else◌, eq-eqb, cases_Bool, cases_Option, find-append, with_data, Block, is_command, ends_well, SetCommand, status_by, Wrote, Reset, CommandHistory, with_call, status_in, find_set, without, set_in, find-settings, Write, command_value, commands_with, None, ◌⊎◌, is_some, has_ended}
 
 pub status_set : (c : CommandHistory) (raw cycle : ℕ) → status_in c raw cycle ≡ status_by c.time (find_set raw (set_in c)) cycle
 status_set c raw cycle = ap (λ (o : Option SetCommand). status_by c.time o cycle) (sym (find-settings c.rate raw c.calls))
@@ -14,12 +14,11 @@ pub status_ends : (raw cycle : ℕ) (c : CommandHistory) → is_some (find_set r
     → (status_in c raw cycle ≡ 3) ⊎ (status_in c raw cycle ≡ 7)
 status_ends raw cycle c on well = rw (status_set c raw cycle) (elim (cases_Option (find_set raw (set_in c))) [
   | inl none ↦ let on = rw none at on in let well = rw none at well in absurd (cc)
-  | inr (s, some) ↦ rw some (ended_as (has_ended c.time cycle s) s.well ((rw some at well) s refl))
+  | inr (s, some) ↦ rw some (elim (cases_Bool (has_ended c.time cycle s)) [
+    | inl on ↦ rw on (inl (ap (status_as true) ((rw some at well) s refl)))
+    | inr off ↦ rw off (inr refl)
+  ])
 ])
-  where
-    ended_as : (ended well : Bool) → well ≡ true → (status_as ended well ≡ 3) ⊎ (status_as ended well ≡ 7)
-    ended_as true well is = inl (ap (status_as true) is)
-    ended_as false well is = inr refl
 
 -- A WRITE to another command leaves a setting as it was.
 pub set_elsewhere : (raw other value cycle : ℕ) (blocks : List Block) (c : CommandHistory) → (other == raw) ≡ false

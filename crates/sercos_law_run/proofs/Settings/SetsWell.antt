@@ -1,6 +1,5 @@
 -- In a ring whose plan fits, a check for phase 3 that is set in a cycle ends well.
-use Rattle.sercos_law_run.proofs.Words.{◌≡◌, ℕ, ◌+◌, ◌<◌, ◌≤◌, true, List, [], ◌∷◌, map, length, refl, sym, ap, ◌∙◌, subst, arith, ◌==◌, Some, None, slice_get, slice_get-get_or, length-map, Idn, Job, PlanView, IsValid, Fits, Block, find_block, with_data, put_fault, store_of, IsStore, is_ring, wishes_of, blocks_fault, DriveView, RingView, unfit_for_phase_3, ends_well, Begun, begun_by, CycleView, member, member_of, known_of, tasks_for, reads_count, writes, AreWaiting, all_waiting, Past, Carry, Restarts, IsStoreOf, Holds, start_up, NoneOf, IsProtectedLater, AreProtectedLater, AreStoredWhole, View, command, epoch_begun, AreSound, AreSmall, store_in, drive_at, master_calls, looks_back, AreBegunTasks, IsConfigured, IsWrittenLast, view_of, views_of, SetsWell, written_stays}
-use Rattle.sercos_step.specs.declared.request.Request.TheVariants as request
+use Rattle.sercos_law_run.proofs.Words.{◌≡◌, ℕ, ◌+◌, ◌<◌, ◌≤◌, true, List, [], ◌∷◌, map, length, refl, sym, ap, ◌∙◌, subst, arith, ◌==◌, Some, None, slice_get, slice_get-get_or, length-map, Idn, Job, PlanView, IsValid, Fits, Block, find_block, with_data, put_fault, store_of, IsStore, is_ring, wishes_of, blocks_fault, DriveView, RingView, Begun, begun_by, CycleView, member, member_of, known_of, tasks_for, reads_count, writes, AreWaiting, all_waiting, Past, Carry, Restarts, IsStoreOf, Holds, start_up, IsProtectedLater, AreProtectedLater, AreStoredWhole, View, command, epoch_begun, AreSound, AreSmall, store_in, drive_at, master_calls, looks_back, AreBegunTasks, IsConfigured, IsWrittenLast, view_of, views_of, SetsWell, written_stays, Request}
 use Rattle.sercos_law_run.specs.Start.Held.{written_by}
 use Rattle.sercos_law_run.proofs.Start.CheckPasses.{ring_drive}
 use Rattle.sercos_law_run.proofs.Views.ViewRuns.{Sees}
@@ -12,13 +11,6 @@ use Rattle.sercos_law_run.proofs.Start.CheckPasses.{plan_passes_check}
 use Rattle.sercos_law_run.proofs.Start.HeldLemmas.{writes_start_up}
 use Rattle.sercos_law_run.proofs.Start.KeptLemmas.{writes_keep}
 use Rattle.sercos_law_run.proofs.Start.LaterLemmas.{checks_are_protected, start_up_is_protected, stay_held, stores_start_up_whole}
-
--- no start-up value is that of S-0-0127
-none_127 : (control cycle : ℕ) (p : PlanView) (k : ℕ) (at mdt : List Idn) → NoneOf 127 (start_up control cycle p k at mdt)
-none_127 control cycle p k at mdt = (refl, (refl, (refl, (refl, (refl, (refl, (refl, (refl, (refl, (refl, (refl, tt)))))))))))
-
-ends_so : (rate : ℕ) (blocks : List Block) → unfit_for_phase_3 rate blocks ≡ [] → ends_well rate 127 blocks ≡ true
-ends_so rate blocks none = ap (λ (l : List Idn). length l == 0) none
 
 module _ (r : RingView) (jobs : List Job) (carry : Carry) (restarts : Restarts) (valid : is_ring r ≡ true) (wishes : IsValid (wishes_of r))
     (waits : (i : ℕ) → AreWaiting (tasks_for (known_of r) jobs i)) (k : ℕ) (below : k < length r.drives)
@@ -52,7 +44,7 @@ module _ (r : RingView) (jobs : List Job) (carry : Carry) (restarts : Restarts) 
   -- if the check has been begun, the store holds the start-up values
   holds_plan : command past ≡ 2 → reads_count (member (known_of r) k) + 11 < length (epoch_begun past) → (plan : PlanView) × (p.plan ≡ Some plan) × Holds v.blocks (start_up r.control r.cycle plan k d.at d.mdt)
   holds_plan two many =
-      let late : p.now.phase ≤ 3 = let e = sees.master.phase_is in omega (arith, e, two) in
+      let late : p.now.phase ≤ 3 = omega (arith, sees.master.phase_is, two) in
       let same : begun_by (p.calls k) ≡ epoch_begun past = sees.master.begun_are in
       let c : IsConfigured (known_of r) k (store_of d) p.plan (begun_by (p.calls k)) = configures_check (known_of r) (tasks_for (known_of r) jobs) (master_calls r carry restarts j) k (store_of d) waits place late
       (subst (λ (l : List Begun). reads_count (member (known_of r) k) + 11 < length l) (sym same) many) in
@@ -62,7 +54,7 @@ module _ (r : RingView) (jobs : List Job) (carry : Carry) (restarts : Restarts) 
       (subst (AreProtectedLater (store_of d)) (sym values) (start_up_is_protected d (store_of d) r.control r.cycle k c.plan rules refl))
       (subst (AreStoredWhole (store_of d)) (sym values) (stores_start_up_whole d (store_of d) r.control r.cycle k c.plan rules refl)) past
       sees.run sound.0
-      (subst (λ (l : List Begun). (i : ℕ) (idn : Idn) (bytes : List ℕ) → slice_get (writes (known_of r) c.plan k) i ≡ Some (request.Write idn 7 bytes) → IsWrittenLast (store_of d) l idn bytes) same c.each) in (
+      (subst (λ (l : List Begun). (i : ℕ) (idn : Idn) (bytes : List ℕ) → slice_get (writes (known_of r) c.plan k) i ≡ Some (Request.Write idn 7 bytes) → IsWrittenLast (store_of d) l idn bytes) same c.each) in (
         c.plan,
         c.plan_is,
         subst (λ (l : List (ℕ × List ℕ)). Holds v.blocks l) values (subst (λ (l : List Block). Holds l (map written_by (writes (known_of r) c.plan k))) (sym blocks_are) own),
@@ -75,10 +67,11 @@ module _ (r : RingView) (jobs : List Job) (carry : Carry) (restarts : Restarts) 
       let at = set_in d.busy (store_of d) small v past after.run sound w guard is in
       let tasks : AreBegunTasks (known_of r) k p.plan (p.waiting k) p.now.phase (epoch_begun past) (p.tasks k) = subst (λ (l : List Begun). AreBegunTasks (known_of r) k p.plan (p.waiting k) p.now.phase l (p.tasks k)) sees.master.begun_are
       (begins_tasks (known_of r) (tasks_for (known_of r) jobs) (master_calls r carry restarts j) k place) in
-      let low : p.now.phase ≤ 2 = let e = sees.master.phase_is in let two = at.two in omega (arith, e, two) in
+      let low : p.now.phase ≤ 2 = omega (arith, sees.master.phase_is, at.two) in
       let many = check_begun (known_of r) k (store_of d) p.plan (p.waiting k) p.now.phase low (all_waiting (known_of r) (tasks_for (known_of r) jobs) (master_calls r carry restarts j) waits k) (epoch_begun past) (p.tasks k) tasks
       (subst (IsGiven (store_of d) (epoch_begun past)) raw at.given) in
       let (plan, has, holds) = holds_plan at.two many in
       let kept : IsStoreOf d (with_data 127 w.bytes v.blocks) = (writes_keep d v.blocks 127 at.phase w.bytes store.ascending is_of).0 (ap (λ (n : ℕ). put_fault (find_block n v.blocks) at.phase w.bytes) (sym raw) ∙ at.none) in
-      let own : Holds (with_data 127 w.bytes v.blocks) (start_up r.control r.cycle plan k d.at d.mdt) = stay_held v.blocks 127 w.bytes (start_up r.control r.cycle plan k d.at d.mdt) (none_127 r.control r.cycle plan k d.at d.mdt) holds in
-      ends_so r.rate (with_data 127 w.bytes v.blocks) (plan_passes_check r plan k d (with_data 127 w.bytes v.blocks) valid wishes (fits plan has) there kept own)
+      (ap (λ (l : List Idn). length l == 0) (plan_passes_check r plan k d (with_data 127 w.bytes v.blocks) valid wishes (fits plan has)
+      there kept (stay_held v.blocks 127 w.bytes (start_up r.control r.cycle plan k d.at d.mdt)
+      (refl, (refl, (refl, (refl, (refl, (refl, (refl, (refl, (refl, (refl, (refl, tt))))))))))) holds)))

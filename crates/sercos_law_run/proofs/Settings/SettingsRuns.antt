@@ -1,11 +1,5 @@
 -- The settings at a drive's MST's place are what the cycle before left.
-use Rattle.sercos_law_run.proofs.Words.{◌≡◌, ◌⊎◌, inl, inr, ℕ, Bool, true, false, List, [], ◌∷◌, Option, Some, None, refl, ap, ◌∙◌, if◌then◌else◌, ◌==◌, nat_le, ◌&&◌, SetCommand, Reset, CommandHistory, with_call, set_in, Processed, commands_with, commands_after, reset_in, View, standing, stood_in, record_in, processed_of, processed_in, kept_in, write_of, commands_left, settings_left, SettingsFollow, commands_before, commands_ended, CommandsFollow, KeepsSettings, cases_Bool}
-use Rattle.sercos_service_master.specs.Begun.{Said}
-use Rattle.sercos_law_run.proofs.Settings.Histories.{reset_if}
-
--- in phase 0, and after a restart
-set_reset : (phase : ℕ) (c : CommandHistory) → set_in (reset_in phase c) ≡ (if phase == 0 then [] else set_in c)
-set_reset phase c = elim (cases_Bool (phase == 0)) [ inl on ↦ rw on | inr off ↦ rw off ]
+use Rattle.sercos_law_run.proofs.Words.{◌≡◌, ◌⊎◌, inl, inr, ℕ, Bool, true, false, List, [], ◌∷◌, Option, Some, None, refl, ap, ◌∙◌, if◌then◌else◌, ◌==◌, nat_le, ◌&&◌, SetCommand, Reset, CommandHistory, with_call, set_in, Processed, commands_with, commands_after, View, standing, stood_in, processed_of, processed_in, kept_in, write_of, settings_left, SettingsFollow, commands_ended, CommandsFollow, KeepsSettings, cases_Bool, StepSaid}
 
 set_restarted : (restarts : Bool) (c : CommandHistory) → set_in (if restarts then with_call Reset c else c) ≡ (if restarts then [] else set_in c)
 set_restarted true c = refl
@@ -14,20 +8,21 @@ set_restarted false c = refl
 -- The settings follow where the procedure commands do, if none is set before the first cycle.
 left_set : (c : CommandHistory) (all : List View) → set_in c ≡ [] → set_in (commands_ended c all) ≡ settings_left all
 left_set c [] none = none
-left_set c (v ∷ past) none = set_reset (standing (v ∷ past)).ended (commands_left v past)
+left_set c (v ∷ past) none = elim (cases_Bool ((standing (v ∷ past)).ended == 0)) [ inl on ↦ rw on | inr off ↦ rw off ]
 
 pub settings_follow : (c : CommandHistory) (all : List View) → set_in c ≡ [] → CommandsFollow c all → SettingsFollow all
 settings_follow c [] none follow = tt
 settings_follow c (v ∷ past) none follow = (
   settings_follow c past none follow.0,
-  ap (λ (x : CommandHistory). set_in x) follow.1 ∙ set_reset (stood_in v (standing past)) (commands_before c v past)
+  ap (λ (x : CommandHistory). set_in x) follow.1 ∙ (elim (cases_Bool ((stood_in v (standing past)) == 0))
+      [ inl on ↦ rw on | inr off ↦ rw off ])
       ∙ ap (λ (l : List SetCommand). if stood_in v (standing past) == 0 then [] else l)
       (set_restarted v.drive_restarts (commands_ended c past) ∙ ap (λ (l : List SetCommand). if v.drive_restarts then [] else l)
       (left_set c past none)),
 )
 
 -- a record that was processed was processed on the blocks and with the commands of the cycle
-pub commands_same : (v : View) (cycle stood : ℕ) (o : Option Said) (h : List Processed) → commands_after (processed_of v cycle stood o) h v.commands ≡ commands_with (write_of (processed_of v cycle stood o) h) v.blocks v.commands
+pub commands_same : (v : View) (cycle stood : ℕ) (o : Option StepSaid) (h : List Processed) → commands_after (processed_of v cycle stood o) h v.commands ≡ commands_with (write_of (processed_of v cycle stood o) h) v.blocks v.commands
 commands_same v cycle stood None h = refl
 commands_same v cycle stood (Some s) h = elim (cases_Bool (v.mst_comes && nat_le 2 stood)) [ inl on ↦ rw on | inr off ↦ rw off ]
 

@@ -1,18 +1,15 @@
 -- If each check for phase 3 was set well, each that is set ends well. The status that a complete one gives isn't that of a command
 -- that runs.
-use Rattle.sercos_law_run.proofs.Words.{◌≡◌, ◌⊎◌, inl, inr, ℕ, zero, suc, ◌-◌, ◌<◌, ◌≤◌, Bool, true, false, not, ◌&&◌, ◌||◌, List, [], ◌∷◌, ◌++◌, length, refl, sym, ap, ap₂, ◌∙◌, subst, arith, if◌then◌else◌, length-append, ◌==◌, Option, Some, None, is_some, slice_index, list_all, and_parts, cond_both, eqb-true, leb-true, nat_tests, Idn, Answer, bytes_in, a_step, polling, steps_of, result_of, is_whole, answer_words, outcome_of, Block, with_data, SetCommand, is_command, ends_well, has_ended, status_by, Wrote, Other, CommandHistory, with_call, status_in, find_set, without, with_set, set_in, Write, command_value, commands_with, View, processed_in, kept_in, write_of, is_well_set, are_well_set, AreSetWell, StandWell, cases_Bool}
-use Rattle.sercos_step.specs.declared.request.Request.TheVariants as request
-use Rattle.sercos_step.specs.declared.request.Outcome.TheVariants as outcome
-use Rattle.sercos_step.specs.Steps.{AreAnswers}
+use Rattle.sercos_law_run.proofs.Words.{◌≡◌, ◌⊎◌, inl, inr, ℕ, zero, suc, ◌-◌, ◌<◌, ◌≤◌, Bool, true, false, not, ◌&&◌, ◌||◌, List, [], ◌∷◌, ◌++◌, length, refl, sym, ap, ap₂, ◌∙◌, subst, arith, if◌then◌else◌, length-append, ◌==◌, Option, Some, None, is_some, slice_index, list_all, and_parts, cond_both, eqb-true, leb-true, nat_tests, Idn, Answer, bytes_in, a_step, polling, steps_of, result_of, is_whole, answer_words, outcome_of, Block, with_data, SetCommand, is_command, ends_well, Wrote, CommandHistory, with_call, find_set, without, with_set, set_in, Write, command_value, commands_with, View, processed_in, kept_in, write_of, is_well_set, are_well_set, AreSetWell, StandWell, cases_Bool, Request, Outcome, same_Some, AreStepAnswers}
 
 -- THE SETTINGS
 without_well : (raw : ℕ) (set : List SetCommand) → list_all is_well_set set ≡ true → list_all is_well_set (without raw set) ≡ true
 without_well raw [] all = refl
-without_well raw (s ∷ set) all = by (not (s.idn.raw == raw)) (without_well raw set (and_parts (is_well_set s) _ all).1)
-  where
-    by : (v : Bool) → list_all is_well_set (without raw set) ≡ true → list_all is_well_set (if v then s ∷ without raw set else without raw set) ≡ true
-    by true rest = ap₂ (λ (a b : Bool). a && b) (and_parts (is_well_set s) _ all).0 rest
-    by false rest = rest
+without_well raw (s ∷ set) all = elim (cases_Bool (not (s.idn.raw == raw))) [
+  | inl on ↦
+      rw on (ap₂ (λ (a b : Bool). a && b) (and_parts (is_well_set s) _ all).0 (without_well raw set (and_parts (is_well_set s) _ all).1))
+  | inr off ↦ rw off (without_well raw set (and_parts (is_well_set s) _ all).1)
+]
 
 append_well : (set : List SetCommand) (s : SetCommand) → list_all is_well_set set ≡ true → is_well_set s ≡ true → list_all is_well_set (set ++ s ∷ []) ≡ true
 append_well [] s all well = ap (λ (v : Bool). v && true) well
@@ -23,26 +20,23 @@ with_set_well s set all well = cond_both (is_some (find_set s.idn.raw set)) set 
     (λ v. list_all is_well_set v ≡ true) (λ on. all) (λ off. append_well set s all well)
 
 write_well : (raw value cycle : ℕ) (blocks : List Block) (c : CommandHistory) → are_well_set c ≡ true → (raw ≡ 127 → (value == 0) ≡ false → ends_well c.rate 127 blocks ≡ true) → are_well_set (with_call (Wrote raw value cycle blocks) c) ≡ true
-write_well raw value cycle blocks c all well = by (value == 0) refl
-  where
-    fresh : (value == 0) ≡ false → is_well_set (record { idn = record { raw = raw }; cycle = cycle; well = ends_well c.rate raw blocks }) ≡ true
-    fresh sets = which (raw == 127) refl
-      where
-        which : (v : Bool) → (raw == 127) ≡ v → (not v || ends_well c.rate raw blocks) ≡ true
-        which false off = refl
-        which true on = let is = eqb-true raw 127 on in ap (λ (n : ℕ). ends_well c.rate n blocks) is ∙ well is sets
-
-    by : (v : Bool) → (value == 0) ≡ v → list_all is_well_set (if v then without raw (set_in c) else with_set (record { idn = record { raw = raw }; cycle = cycle; well = ends_well c.rate raw blocks }) (set_in c)) ≡ true
-    by true on = without_well raw (set_in c) all
-    by false off = with_set_well (record { idn = record { raw = raw }; cycle = cycle; well = ends_well c.rate raw blocks }) (set_in c) all (fresh off)
+write_well raw value cycle blocks c all well = elim (cases_Bool (value == 0)) [
+  | inl on ↦ rw on (without_well raw (set_in c) all)
+  | inr off ↦ rw off (with_set_well (record { idn = record { raw = raw }; cycle = cycle; well = ends_well c.rate raw blocks }) (set_in c) all
+      (elim (cases_Bool (raw == 127)) [
+        | inl on ↦
+            ap₂ (λ (x y : Bool). not x || y) on
+            (ap (λ (n : ℕ). ends_well c.rate n blocks) (eqb-true raw 127 on) ∙ well (eqb-true raw 127 on) off)
+        | inr other ↦ ap (λ (x : Bool). not x || ends_well c.rate raw blocks) other
+      ]))
+]
 
 behind_well : (o : Option Write) (blocks : List Block) (c : CommandHistory) → are_well_set c ≡ true → ((w : Write) → o ≡ Some w → w.raw ≡ 127 → (command_value w == 0) ≡ false → ends_well c.rate 127 (with_data 127 w.bytes blocks) ≡ true) → are_well_set (commands_with o blocks c) ≡ true
 behind_well None blocks c all well = all
-behind_well (Some w) blocks c all well = by (is_command blocks w.raw)
-  where
-    by : (v : Bool) → are_well_set (with_call (if v then Wrote w.raw (command_value w) w.cycle (with_data w.raw w.bytes blocks) else Other w.cycle) c) ≡ true
-    by true = write_well w.raw (command_value w) w.cycle (with_data w.raw w.bytes blocks) c all (λ is sets. ap (λ (n : ℕ). ends_well c.rate 127 (with_data n w.bytes blocks)) is ∙ well w refl is sets)
-    by false = all
+behind_well (Some w) blocks c all well = elim (cases_Bool (is_command blocks w.raw)) [
+  | inl on ↦ rw on (write_well w.raw (command_value w) w.cycle (with_data w.raw w.bytes blocks) c all (λ is sets. ap (λ (n : ℕ). ends_well c.rate 127 (with_data n w.bytes blocks)) is ∙ well w refl is sets))
+  | inr off ↦ rw off all
+]
 
 pub stand_well : (views : List View) → AreSetWell views → StandWell views
 stand_well [] are = tt
@@ -59,14 +53,10 @@ stand_well (v ∷ u ∷ past) are =
 -- the setting that is found
 pub found_well : (set : List SetCommand) (s : SetCommand) → list_all is_well_set set ≡ true → find_set 127 set ≡ Some s → s.well ≡ true
 found_well [] s all found = absurd (cc)
-found_well (x ∷ set) s all found = by (x.idn.raw == 127) refl found (found_well set s parts.1)
-  where
-    parts : (is_well_set x ≡ true) × (list_all is_well_set set ≡ true)
-    parts = and_parts (is_well_set x) _ all
-
-    by : (v : Bool) → (x.idn.raw == 127) ≡ v → (if v then Some x else find_set 127 set) ≡ Some s → (find_set 127 set ≡ Some s → s.well ≡ true) → s.well ≡ true
-    by true on found more = let same : x ≡ s = cc in ap (λ (y : SetCommand). y.well) (sym same) ∙ (sym (ap (λ (v : Bool). not v || x.well) on) ∙ parts.0)
-    by false off found more = more found
+found_well (x ∷ set) s all found = let parts = and_parts (is_well_set x) _ all in elim (cases_Bool (x.idn.raw == 127)) [
+  | inl on ↦ ap (λ (y : SetCommand). y.well) (sym (same_Some x s (rw on at found))) ∙ sym (ap (λ (v : Bool). not v || x.well) on) ∙ parts.0
+  | inr off ↦ found_well set s parts.1 (rw off at found)
+]
 
 -- THE STATUS of a complete command isn't 7.
 last_word : ℕ → List ℕ → ℕ
@@ -96,29 +86,36 @@ get_last x (y ∷ words) c zero is = absurd (omega arith)
 get_last x (y ∷ words) c (suc n) is = get_last y words c n (omega arith)
 
 -- what it gives is not 7
-pub complete_status : (i : Idn) (a : Answer) (h : List Answer) (bytes : List ℕ) → AreAnswers (request.Command i) (a ∷ h) → outcome_of (request.Command i) (a ∷ h) ≡ Some (outcome.Complete bytes) →
+pub complete_status : (i : Idn) (a : Answer) (h : List Answer) (bytes : List ℕ) → AreStepAnswers (Request.Command i) (a ∷ h) → outcome_of (Request.Command i) (a ∷ h) ≡ Some (Outcome.Complete bytes) →
     (x : ℕ) × (bytes ≡ bytes_in (x ∷ [])) × (x ≡ 7 → ⊥)
-complete_status i a h bytes are complete = by_error a.error complete
+complete_status i a h bytes are complete = elim (cases_Bool a.error) [
+  | inl on ↦ let complete = rw on at complete in absurd (cc)
+  | inr off ↦
+      let done = rw off at complete in
+      elim (cases_Bool (is_whole (Request.Command i) (answer_words h ++ a.word ∷ []))) [
+        | inl whole ↦
+            let e = ends (answer_words h) refl (leb-true (length (steps_of (Request.Command i) (answer_words h ++ a.word ∷ []))) (length (answer_words h ++ a.word ∷ [])) whole) in
+            (e.0, sym (cc) ∙ e.1, e.2)
+        | inr whole ↦ let done = rw whole at done in absurd (cc)
+      ]
+]
   where
-    one : (x y : List ℕ) → Some (outcome.Complete x) ≡ Some (outcome.Complete y) → x ≡ y
-    one x y e = cc
-
-    goes_on : (words : List ℕ) → answer_words h ≡ words → (words ≡ []) ⊎ (length words < length (steps_of (request.Command i) words))
+    goes_on : (words : List ℕ) → answer_words h ≡ words → (words ≡ []) ⊎ (length words < length (steps_of (Request.Command i) words))
     goes_on words same = on h same are.1
       where
-        not_whole : (ws : List ℕ) (v : Bool) → is_whole (request.Command i) ws ≡ v → (if v then Some (outcome.Complete (result_of (request.Command i) ws)) else None) ≡ None → length ws < length (steps_of (request.Command i) ws)
+        not_whole : (ws : List ℕ) (v : Bool) → is_whole (Request.Command i) ws ≡ v → (if v then Some (Outcome.Complete (result_of (Request.Command i) ws)) else None) ≡ None → length ws < length (steps_of (Request.Command i) ws)
         not_whole ws true whole none = absurd (cc)
         not_whole ws false whole none = grind (arith, nat_tests, whole)
 
-        on : (g : List Answer) → answer_words g ≡ words → outcome_of (request.Command i) g ≡ None → (words ≡ []) ⊎ (length words < length (steps_of (request.Command i) words))
+        on : (g : List Answer) → answer_words g ≡ words → outcome_of (Request.Command i) g ≡ None → (words ≡ []) ⊎ (length words < length (steps_of (Request.Command i) words))
         on [] is none = inl (sym is)
-        on (b ∷ g) is none = inr (subst (λ (ws : List ℕ). length ws < length (steps_of (request.Command i) ws)) is
+        on (b ∷ g) is none = inr (subst (λ (ws : List ℕ). length ws < length (steps_of (Request.Command i) ws)) is
             (elim (cases_Bool b.error) [
               | inl bad ↦ let none = rw bad at none in absurd (cc)
-              | inr off ↦ not_whole (answer_words (b ∷ g)) (is_whole (request.Command i) (answer_words (b ∷ g))) refl (rw off at none)
+              | inr off ↦ not_whole (answer_words (b ∷ g)) (is_whole (Request.Command i) (answer_words (b ∷ g))) refl (rw off at none)
             ]))
 
-    ends : (words : List ℕ) → answer_words h ≡ words → length (steps_of (request.Command i) (words ++ a.word ∷ [])) ≤ length (words ++ a.word ∷ []) → (x : ℕ) × (result_of (request.Command i) (words ++ a.word ∷ []) ≡ bytes_in (x ∷ [])) × (x ≡ 7 → ⊥)
+    ends : (words : List ℕ) → answer_words h ≡ words → length (steps_of (Request.Command i) (words ++ a.word ∷ [])) ≤ length (words ++ a.word ∷ []) → (x : ℕ) × (result_of (Request.Command i) (words ++ a.word ∷ []) ≡ bytes_in (x ∷ [])) × (x ≡ 7 → ⊥)
     ends [] is whole = absurd (omega (arith, whole))
     ends (p ∷ []) is whole = absurd (omega (arith, whole))
     ends (p ∷ q ∷ []) is whole = absurd (elim (cases_Bool (a.word == 7)) [
@@ -128,7 +125,7 @@ complete_status i a h bytes are complete = by_error a.error complete
     ends (p ∷ q ∷ x ∷ words) is whole = (
       last_word x words,
       ap (λ (n : ℕ). bytes_in (n ∷ [])) at,
-      λ seven. polls_end x words a.word going
+      λ seven. polls_end x words a.word (elim (goes_on (p ∷ q ∷ x ∷ words) is) [ inl none ↦ absurd (cc) | inr less ↦ omega (arith, less) ])
           (let l = long in omega (arith, whole)) seven,
     )
       where
@@ -137,17 +134,3 @@ complete_status i a h bytes are complete = by_error a.error complete
 
         at : slice_index (p ∷ q ∷ x ∷ words ++ a.word ∷ []) (length (p ∷ q ∷ x ∷ words ++ a.word ∷ []) - 2) ≡ last_word x words
         at = let e : length (p ∷ q ∷ x ∷ words ++ a.word ∷ []) - 2 ≡ suc (suc (length words)) = let l = long in omega arith in ap (slice_index (p ∷ q ∷ x ∷ words ++ a.word ∷ [])) e ∙ get_last x words a.word (length words) refl
-
-        going : suc (length words) < length (polling (x ∷ words))
-        going = elim (goes_on (p ∷ q ∷ x ∷ words) is) [ inl none ↦ absurd (cc) | inr less ↦ omega (arith, less) ]
-
-    by_error : (v : Bool) → (if v then Some (outcome.Refused (record { raw = a.word })) else (if is_whole (request.Command i) (answer_words h ++ a.word ∷ []) then Some (outcome.Complete (result_of (request.Command i) (answer_words h ++ a.word ∷ []))) else None)) ≡ Some (outcome.Complete bytes) →
-        (x : ℕ) × (bytes ≡ bytes_in (x ∷ [])) × (x ≡ 7 → ⊥)
-    by_error true done = absurd (cc)
-    by_error false done = by_whole (is_whole (request.Command i) (answer_words h ++ a.word ∷ [])) refl done
-      where
-        by_whole : (v : Bool) → is_whole (request.Command i) (answer_words h ++ a.word ∷ []) ≡ v → (if v then Some (outcome.Complete (result_of (request.Command i) (answer_words h ++ a.word ∷ []))) else None) ≡ Some (outcome.Complete bytes) → (x : ℕ) × (bytes ≡ bytes_in (x ∷ [])) × (x ≡ 7 → ⊥)
-        by_whole false whole done = absurd (cc)
-        by_whole true whole done =
-            let e = ends (answer_words h) refl (leb-true (length (steps_of (request.Command i) (answer_words h ++ a.word ∷ []))) (length (answer_words h ++ a.word ∷ [])) whole) in
-            (e.0, sym (one (result_of (request.Command i) (answer_words h ++ a.word ∷ [])) bytes done) ∙ e.1, e.2)

@@ -7,8 +7,7 @@ sum_above : (a : ℕ) (ds : List Wish) → fold (λ (n : ℕ) (d : Wish). n + d.
 sum_above a [] = omega arith
 sum_above a (d ∷ ds) =
     let more = sum_above (a + d.record_len) ds in
-    let one = sum_above (0 + d.record_len) ds in
-    omega arith
+    let one = sum_above (0 + d.record_len) ds in omega arith
 
 pub record_first : (d : Wish) (ds : List Wish) → record_bytes (d ∷ ds) ≡ d.record_len + record_bytes ds
 record_first d ds = let one = sum_above (0 + d.record_len) ds in omega arith
@@ -23,8 +22,7 @@ place_within next [] k within = absurd (omega arith)
 place_within next (d ∷ ds) zero within = let one = record_first d ds in omega arith
 place_within next (d ∷ ds) (suc k) within =
     let there = place_within (next + d.record_len) ds k (omega arith) in
-    let one = record_first d ds in
-    omega arith
+    let one = record_first d ds in omega arith
 
 pub place_before : (next : ℕ) (ds : List Wish) (j k : ℕ) → j < k → k < length ds → slice_index (positions next ds) j + (slice_index_or ds j no_wish).record_len ≤ slice_index (positions next ds) k
 place_before next [] j k less within = absurd (omega arith)
@@ -52,8 +50,7 @@ record_place_is next (r ∷ records) (d ∷ ds) zero same within = omega arith
 record_place_is next (r ∷ records) (d ∷ ds) (suc k) same within =
     let (here, rest) = same_head _ _ _ _ same in
     let there = record_place_is (next + d.record_len) records ds k rest (omega arith) in
-    let both = length-append r (concat (take k records)) in
-    omega arith
+    let both = length-append r (concat (take k records)) in omega arith
 
 pub length_records : (records : List (List ℕ)) (ds : List Wish) → map length records ≡ map (λ (d : Wish). d.record_len) ds → length (concat records) ≡ record_bytes ds
 length_records [] [] same = refl
@@ -63,8 +60,7 @@ length_records (r ∷ records) (d ∷ ds) same =
     let (here, rest) = same_head _ _ _ _ same in
     let there = length_records records ds rest in
     let both = length-append r (concat records) in
-    let first = record_first d ds in
-    omega arith
+    let first = record_first d ds in omega arith
 
 pub length_record : (records : List (List ℕ)) (ds : List Wish) (k : ℕ) → map length records ≡ map (λ (d : Wish). d.record_len) ds → k < length ds
     → length (slice_index_or records k []) ≡ (slice_index_or ds k no_wish).record_len

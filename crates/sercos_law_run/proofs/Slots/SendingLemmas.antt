@@ -1,5 +1,5 @@
 -- The slots of a cycle are those of the telegrams that are sent in it.
-use Rattle.sercos_law_run.proofs.Words.{◌≡◌, ◌≢◌, ℕ, zero, suc, ◌+◌, ◌<◌, ◌==◌, List, [], ◌∷◌, ◌++◌, length, slice_index, slice_index_or, refl, sym, ◌∙◌, ap, subst, arith, All, filter, position_or_len, eq-eqb, ne_eqb, All-cons, All-nil, All-push, Kind, Wish, WishesView, no_wish, AreDistinct, addresses, IsValid, AtSlot, MdtSlot, SentView, is_mdt, bit_time, at_slot, mdt_slot, IsInCycleBy, IsInCycle, IsAtOf, AreAtsOf, SendsSlots}
+use Rattle.sercos_law_run.proofs.Words.{◌≡◌, ◌≢◌, ℕ, zero, suc, ◌<◌, ◌==◌, List, [], ◌∷◌, ◌++◌, length, slice_index, slice_index_or, refl, sym, ◌∙◌, ap, subst, arith, All, filter, position_or_len, eq-eqb, ne_eqb, All-cons, All-nil, All-push, Kind, Wish, WishesView, no_wish, AreDistinct, addresses, IsValid, AtSlot, SentView, is_mdt, bit_time, at_slot, mdt_slot, IsInCycleBy, IsInCycle, IsAtOf, AreAtsOf, SendsSlots}
 use Rattle.sercos_telegram.specs.declared.layout.Kind.TheVariants.{Mdt}
 use Rattle.sercos_telegram.specs.Kinds.{is_mst}
 use Rattle.sercos_law_run.specs.Slots.Sending.{place_of, ats_in}
@@ -22,16 +22,11 @@ place_by (d ∷ ds) (suc k) apart in' =
     let other : d.address ≢ (slice_index_or ds k no_wish).address =
     λ e. apart 0 (suc k) (omega arith) (omega arith) (e ∙ sym (address_at ds k (omega arith))) in
     let rest = place_by ds k (λ i j less below. apart (suc i) (suc j) (omega arith) (omega arith)) (omega arith) in
-    let next : 1 + k ≡ suc k = omega arith in
-    rw (ne_eqb d.address (slice_index_or ds k no_wish).address other, rest) next
+    rw (ne_eqb d.address (slice_index_or ds k no_wish).address other, rest) (omega arith)
 
 -- one AT
-slot_same : (a a' b b' c c' : ℕ) → a ≡ a' → b ≡ b' → c ≡ c' → ◌≡◌ {A = AtSlot} (record { drive = a; start = b; bits = c }) (record { drive = a'; start = b'; bits = c' })
-slot_same a a' b b' c c' ea eb ec = rw (ea, eb, ec) refl
-
 at_of : (w : WishesView) (s : SentView) (a : AtSlot) → IsValid w → IsAtOf w s a → at_slot w s ≡ a
-at_of w s a valid h =
-    slot_same _ _ _ _ _ _ (ap (place_of w) h.3 ∙ place_by w.drives a.drive valid.drives.apart h.4) (ap bit_time h.1) h.2
+at_of w s a valid h = rw (ap (place_of w) h.3 ∙ place_by w.drives a.drive valid.drives.apart h.4, ap bit_time h.1, h.2) refl
 
 -- what there is among the ATs and the MDT
 ats_of : (w : WishesView) (sent : List SentView) (ats : List AtSlot) (last : SentView) → IsValid w → AreAtsOf w sent ats → last.kind ≡ Mdt

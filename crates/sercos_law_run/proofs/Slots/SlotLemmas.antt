@@ -1,6 +1,5 @@
 -- The slots of a cycle are apart.
-use Rattle.sercos_law_run.proofs.Words.{◌≡◌, ℕ, suc, ◌+◌, ◌-◌, ◌*◌, ◌<◌, ◌≤◌, ◌⊎◌, inl, inr, max, Bool, true, false, List, map, length, take, drop, slice_index, slice_index_or, refl, sym, ap, ◌∙◌, arith, Option, Some, if◌then◌else◌, concat, length-map, mul-le-mul_left, Wish, WishesView, PlanView, times, sent, same_slave, at_bits, mdt_bits, bits_of, record_bytes, greatest_tmtsy, positions, Fits, IsValid, Among, among_greatest, AtSlot, MdtSlot, Held, mdt_content, slot_record, record_start, end_of, HasPause, HasRecovered, IsAtItsTime, IsServed, held_of, IsSentBefore, AreOnPlan, PlanKeepsApart, cases_Bool}
-use Rattle.sercos_plan.proofs.ListedLemmas.{listed}
+use Rattle.sercos_law_run.proofs.Words.{◌≡◌, ℕ, suc, ◌+◌, ◌-◌, ◌*◌, ◌<◌, ◌≤◌, ◌⊎◌, inl, inr, max, List, map, length, take, drop, slice_index, slice_index_or, refl, sym, ap, ◌∙◌, arith, Option, Some, concat, length-map, mul-le-mul_left, Wish, WishesView, PlanView, times, sent, same_slave, at_bits, mdt_bits, bits_of, greatest_tmtsy, positions, Fits, IsValid, Among, among_greatest, AtSlot, MdtSlot, Held, mdt_content, slot_record, record_start, HasPause, HasRecovered, IsAtItsTime, IsServed, held_of, IsSentBefore, AreOnPlan, PlanKeepsApart, cases_Bool, record_bytes, plan_listed}
 use Rattle.sercos_law_run.proofs.Slots.Spacing.{IsSpaced, AreSpaced, spaced, either_first, after_mst, before_mdt, kept_at}
 use Rattle.sercos_law_run.proofs.Slots.Places.{place_from, place_within, places_apart, record_place_is, length_records, length_record, record_there}
 
@@ -15,7 +14,7 @@ planned : (w : WishesView) (p : PlanView) (held : ℕ → Option Held) (s : AtSl
 planned w p held s valid holds within start bits = record {
   start = start.2 ∙ ap (λ (h : Held). w.rate * h.t1) (holds s.drive start.0 within start.1);
   bits = bits;
-  turn = listed w valid s.drive within;
+  turn = plan_listed w valid s.drive within;
 }
 
 -- an AT that is sent before another is spaced from it
@@ -30,37 +29,27 @@ in_turn w p s t sp hs ht before = elim (either_first w (bits_of w p.t1) (sent w)
     not_same same (inl less) =
         let e : bits_of w p.t1 s.drive ≡ bits_of w p.t1 t.drive = ap (bits_of w p.t1) same in
         let es = hs.start in
-        let et = ht.start in
-        apart _ _ _ _ es et e less
-      where
-        apart : (a b c d : ℕ) → a ≡ c → b ≡ d → c ≡ d → a < b → ⊥
-        apart a b c d e f g h = omega arith
+        let et = ht.start in omega arith
     not_same same (inr (e, less)) = omega arith
 
     not_late : (a b a' b' n j k : ℕ) → a ≡ a' → b ≡ b' → b' + n ≤ a' → (a < b) ⊎ ((a ≡ b) × (j < k)) → 0 < n → ⊥
     not_late a b a' b' n j k e f h (inl less) some = omega arith
     not_late a b a' b' n j k e f h (inr both) some = let same = both.0 in omega arith
 
+ends_by : (a n a' n' g x x' : ℕ) → a ≡ a' → n ≤ n' → x ≡ x' → a' + (n' + g) ≤ x' → (a + n) + g ≤ x
+ends_by a n a' n' g x x' e less f h = omega arith
+
 le_pause : (w : WishesView) (p : PlanView) (s t : AtSlot) → IsPlanned w p s → IsPlanned w p t → IsSpaced w (bits_of w p.t1) s.drive t.drive → HasPause w s t
 le_pause w p s t hs ht sp = elim (cases_Bool (same_slave w s.drive t.drive)) [
   | inl e ↦ rw e (none _ _ _ _ _ _ hs.start ht.start hs.bits sp.after)
-  | inr e ↦ rw e (some _ _ _ _ _ _ _ hs.start ht.start hs.bits (sp.gap e))
+  | inr e ↦ rw e (ends_by _ _ _ _ _ _ _ hs.start hs.bits ht.start (sp.gap e))
 ]
   where
     none : (a n b a' n' b' : ℕ) → a ≡ a' → b ≡ b' → n ≤ n' → a' + n' ≤ b' → (a + n) + 0 ≤ b
     none a n b a' n' b' e f less h = omega arith
 
-    some : (a n b a' n' b' g : ℕ) → a ≡ a' → b ≡ b' → n ≤ n' → a' + (n' + g) ≤ b' → (a + n) + g ≤ b
-    some a n b a' n' b' g e f less h = omega arith
-
 le_recovered : (w : WishesView) (p : PlanView) (s t : AtSlot) → IsPlanned w p s → IsPlanned w p t → IsSpaced w (bits_of w p.t1) s.drive t.drive → HasRecovered w s t
-le_recovered w p s t hs ht sp same = some _ _ _ _ _ _ _ hs.start ht.start hs.bits (sp.recovered same)
-  where
-    some : (a n b a' n' b' g : ℕ) → a ≡ a' → b ≡ b' → n ≤ n' → a' + (n' + g) ≤ b' → (a + n) + g ≤ b
-    some a n b a' n' b' g e f less h = omega arith
-
-le_mdt : (a n a' n' g x x' : ℕ) → a ≡ a' → n ≤ n' → x ≡ x' → a' + (n' + g) ≤ x' → (a + n) + g ≤ x
-le_mdt a n a' n' g x x' e less f h = omega arith
+le_recovered w p s t hs ht sp same = ends_by _ _ _ _ _ _ _ hs.start hs.bits ht.start (sp.recovered same)
 
 le_start : (x a a' : ℕ) → a ≡ a' → x ≤ a' → x ≤ a
 le_start x a a' e h = omega arith
@@ -79,7 +68,7 @@ served : (w : WishesView) (p : PlanView) (held : ℕ → Option Held) (ats : Lis
     → (k : ℕ) (h : Held) → k < length w.drives → held k ≡ Some h → IsServed w mdt k h
 served w p held ats mdt valid fits on k h within is =
     let same : h ≡ held_of p k = on.holds k h within is in
-    let turn = listed w valid k within in
+    let turn = plan_listed w valid k within in
     let seven : w.rate * p.t2 + (mdt_bits w + w.rate * (times w k).tmtsg) ≤ w.rate * p.t3 =
     kept_at _ (λ k. w.rate * p.t2 + (mdt_bits w + w.rate * (times w k).tmtsg)) (λ k. w.rate * p.t3) (sent w) (λ k before. refl) fits.rule_7 k turn in
     let ten : p.t4 + (times w k).t4min ≤ w.cycle = kept_at _ (λ k. p.t4 + (times w k).t4min) (λ k. w.cycle) (sent w) (λ k before. refl) fits.rule_10 k turn in
@@ -90,30 +79,21 @@ served w p held ats mdt valid fits on k h within is =
     let len : h.mdt_len ≡ record_bytes w.drives = ap (λ (g : Held). g.mdt_len) same ∙ fits.rule_12.1 in
     record {
       t2 = on.mdt_start ∙ ap (λ (g : Held). w.rate * g.t2) (sym same);
-      t3 = ends _ _ _ _ _ _ _ on.mdt_start on.mdt_bits (ap (λ (g : Held). w.rate * g.t3) same) seven;
+      t3 = ends_by _ _ _ _ _ _ _ on.mdt_start on.mdt_bits (ap (λ (g : Held). w.rate * g.t3) same) seven;
       t3_in_cycle = at_most _ _ _ (ap (λ (g : Held). g.t3) same) fits.rule_8;
       t4 = sum_at_most _ _ _ _ (ap (λ (g : Held). g.t4) same) ten;
       position = position ∙ sym (place k within);
-      there = there_at mdt k h.position _ (position ∙ sym (place k within)) (length_record mdt.records w.drives k on.records within) (enough _ _ (count mdt.records w.drives on.records) within);
-      mdt_len = one_more _ _ _ len (length_records mdt.records w.drives on.records);
+      there = there_at mdt k h.position _ (position ∙ sym (place k within)) (length_record mdt.records w.drives k on.records within) (omega (arith, count mdt.records w.drives on.records, within));
+      mdt_len = omega (arith, len, length_records mdt.records w.drives on.records);
       inside = (omega arith, omega arith);
       apart = λ j in' other. rw (position, place j in') (places_apart 1 w.drives j k in' within other);
     }
   where
-    ends : (a n a' n' g x x' : ℕ) → a ≡ a' → n ≤ n' → x ≡ x' → a' + (n' + g) ≤ x' → (a + n) + g ≤ x
-    ends a n a' n' g x x' e less f h = omega arith
-
     at_most : (a b c : ℕ) → a ≡ b → b ≤ c → a ≤ c
     at_most a b c e h = omega arith
 
     sum_at_most : (a b m c : ℕ) → a ≡ b → b + m ≤ c → a + m ≤ c
     sum_at_most a b m c e h = omega arith
-
-    enough : (a b : ℕ) → a ≡ b → k < b → k < a
-    enough a b e h = omega arith
-
-    one_more : (a b c : ℕ) → a ≡ b → c ≡ b → a + 1 ≡ suc c
-    one_more a b c e f = omega arith
 
 pub keeps_apart : PlanKeepsApart
 keeps_apart w p held ats mdt valid fits on =
@@ -132,19 +112,16 @@ keeps_apart w p held ats mdt valid fits on =
         gap_before,
       );
       pauses = λ i j d less in'. le_pause w p _ _ (ok i d (omega arith)) (ok j d in') (pair i j d less in');
-      before_mdt = λ i d in'. (let s = ok i d in' in le_mdt _ _ _ _ _ _ _ s.start s.bits on.mdt_start (before_mdt w (bits_of w p.t1) (sent w) (w.rate * p.t2) fits.rule_5 sp _ s.turn));
+      before_mdt = λ i d in'. (let s = ok i d in' in ends_by _ _ _ _ _ _ _ s.start s.bits on.mdt_start (before_mdt w (bits_of w p.t1) (sent w) (w.rate * p.t2) fits.rule_5 sp _ s.turn));
       recovered = λ i j d less in'. le_recovered w p _ _ (ok i d (omega arith)) (ok j d in') (pair i j d less in');
-      receive = λ i d in'. (let s = ok i d in' in le_mdt _ _ _ _ _ _ _ s.start s.bits on.mdt_start (kept_at _ (λ k. bits_of w p.t1 k + (at_bits w k + w.rate * (times w k).tatmt)) (λ k. w.rate * p.t2) (sent w) (λ k before. refl) fits.rule_6 _ s.turn));
+      receive = λ i d in'. (let s = ok i d in' in ends_by _ _ _ _ _ _ _ s.start s.bits on.mdt_start (kept_at _ (λ k. bits_of w p.t1 k + (at_bits w k + w.rate * (times w k).tatmt)) (λ k. w.rate * p.t2) (sent w) (λ k before. refl) fits.rule_6 _ s.turn));
       records = on.records;
       served = served w p held ats mdt valid fits on;
-      room = room_for _ _ _ _ _ _ _ _ on.mdt_start on.mdt_bits (mul-le-mul_left w.rate (left w.gap (greatest_tmtsy w))) fits.rule_9 (omega arith);
+      room = room_for _ _ _ _ _ _ _ _ on.mdt_start on.mdt_bits (mul-le-mul_left w.rate (omega arith)) fits.rule_9 (omega arith);
       room_of_each = λ k in'. room_for _ _ _ _ _ _ _ _ on.mdt_start on.mdt_bits
-          (mul-le-mul_left w.rate (right w.gap (greatest_tmtsy w) _ (among_greatest (λ k. (times w k).tmtsy) (sent w) k (listed w valid k in')))) fits.rule_9 (omega arith);
+          (mul-le-mul_left w.rate (right w.gap (greatest_tmtsy w) _ (among_greatest (λ k. (times w k).tmtsy) (sent w) k (plan_listed w valid k in')))) fits.rule_9 (omega arith);
     }
   where
-    left : (a b : ℕ) → a ≤ max a b
-    left a b = omega arith
-
     right : (a b c : ℕ) → c ≤ b → c ≤ max a b
     right a b c h = omega arith
 
@@ -155,8 +132,5 @@ keeps_apart w p held ats mdt valid fits on =
     gap_before : w.rate * w.gap ≤ mdt.start
     gap_before =
         let some = valid.drives.some in
-        let first = before_mdt w (bits_of w p.t1) (sent w) (w.rate * p.t2) fits.rule_5 (spaced w (bits_of w p.t1) (sent w) fits.rule_3 fits.rule_4) 0 (listed w valid 0 (omega arith)) in
-        late _ _ _ _ _ on.mdt_start first
-      where
-        late : (x a n g x' : ℕ) → x ≡ x' → a + (n + g) ≤ x' → g ≤ x
-        late x a n g x' e h = omega arith
+        let first = before_mdt w (bits_of w p.t1) (sent w) (w.rate * p.t2) fits.rule_5 (spaced w (bits_of w p.t1) (sent w) fits.rule_3 fits.rule_4) 0 (plan_listed w valid 0 (omega arith)) in
+        (omega arith)

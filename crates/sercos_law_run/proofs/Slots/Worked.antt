@@ -50,5 +50,4 @@ too_late : AreApart ring held (slot 1 185 112 ∷ []) mdt → ⊥
 too_late apart =
     let at : IsAtItsTime ring held (slot 1 185 112) = apart.at_times 0 (slot 0 0 0) (omega arith) in
     let same : held_of plan 1 ≡ at.0 = cc in
-    let start : 185 ≡ 4 * (held_of plan 1).t1 = at.2 ∙ ap (λ (h : Held). 4 * h.t1) (sym same) in
-    omega arith
+    let start : 185 ≡ 4 * (held_of plan 1).t1 = at.2 ∙ ap (λ (h : Held). 4 * h.t1) (sym same) in omega arith

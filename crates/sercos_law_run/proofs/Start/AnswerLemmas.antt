@@ -1,7 +1,5 @@
 -- From the answers of its drives the master asks of the plan what the ring asks.
-use Rattle.sercos_law_run.proofs.Words.{◌≡◌, ℕ, suc, ◌+◌, ◌<◌, ◌≤◌, ◌^◌, ◌==◌, nat_le, nat_lt, Bool, true, false, cond, List, [], ◌∷◌, ◌++◌, map, length, take, drop, Option, Some, None, IfSome, is_none, is_some, inl, inr, slice_get, option_map, option_and_then, unwrap_or, refl, sym, ◌∙◌, ap, append_assoc, arith, w16, w32, to_le_bytes, All, fold, find, list_all, list_any, option_or, and_parts, or_cases, eqb-true, leb-true, ltb-true, take-append_seam, drop-append_seam, length-map, map-append, list_any-append, All-nil, All-cons, All-tail, All-head, Attribute, Idn, attribute_word, attribute_word-below, attribute_fault-attribute_word, attribute_of-attribute_word, Outcome, Wish, Times, Block, BuiltIn, built_ins, blocks_fault, find_block, row_in, number_len, value_len, wish_of, DriveView, data_at, IsStoreOf, member_of, bytes_of, short_in, long_in, reads, words_given, len_said, len_or_none, wish_given, wishes_from, attribute_stop, element_read, IsAnswer, AreAnswers, HaveFactors, TypedHaveFactors, AsksAsRing, SaysLength, NoAttributeStops, attribute_fault, attribute_of, element_of, is_typed, attribute_in, built_in_attribute, own_attribute, block_attribute, listed_len, are_cyclic, are_times, wishes_of, cases_Bool}
-use Rattle.sercos_step.specs.declared.request.Request.TheVariants as request
-use Rattle.sercos_block.specs.Rings.{cyclic_len}
+use Rattle.sercos_law_run.proofs.Words.{◌≡◌, ℕ, suc, ◌+◌, ◌<◌, ◌^◌, ◌==◌, nat_lt, true, List, [], ◌∷◌, ◌++◌, map, length, take, drop, Option, Some, None, IfSome, is_none, is_some, inl, inr, slice_get, option_map, option_and_then, unwrap_or, refl, sym, ◌∙◌, ap, append_assoc, arith, w16, w32, to_le_bytes, All, fold, find, list_all, list_any, and_parts, or_cases, eqb-true, ltb-true, take-append_seam, drop-append_seam, length-map, map-append, list_any-append, All-nil, All-cons, All-tail, All-head, Attribute, Idn, attribute_word, attribute_word-below, attribute_fault-attribute_word, attribute_of-attribute_word, Outcome, Block, BuiltIn, built_ins, blocks_fault, find_block, row_in, number_len, value_len, wish_of, DriveView, data_at, IsStoreOf, member_of, bytes_of, short_in, long_in, reads, words_given, len_said, len_or_none, wish_given, wishes_from, attribute_stop, IsAnswer, AreAnswers, HaveFactors, TypedHaveFactors, AsksAsRing, SaysLength, NoAttributeStops, attribute_fault, attribute_of, element_of, is_typed, attribute_in, built_in_attribute, own_attribute, block_attribute, listed_len, are_cyclic, wishes_of, cases_Bool, cases_Option, Request, cyclic_len}
 use Rattle.sercos_law_run.proofs.Start.BlockFinds.{same_attribute}
 use Rattle.sercos_law_run.proofs.Start.Lengths.{declares_times}
 use Rattle.sercos_law_run.proofs.Start.CheckPasses.{ring_drive, KeepsRules}
@@ -14,9 +12,6 @@ third : (o : Option Block) → unwrap_or (option_and_then (λ b. element_of b 3)
 unfolding element_of
 third None = refl
 third (Some b) = refl
-
-attribute_read : (d : DriveView) (blocks : List Block) (raw : ℕ) → blocks_fault [] d.blocks ≡ None → IsStoreOf d blocks → element_read blocks raw 3 ≡ attribute_bytes d raw
-attribute_read d blocks raw none is = third (find_block raw blocks) ∙ ap (λ (o : Option Attribute). unwrap_or (option_map (λ (a : Attribute). to_le_bytes w32 (attribute_word a)) o) []) (same_attribute raw d blocks none is)
 
 seventh : (o : Option Block) → unwrap_or (option_and_then (λ b. element_of b 7) o) [] ≡ unwrap_or (option_map (λ (b : Block). b.value) o) []
 unfolding element_of
@@ -42,11 +37,10 @@ factor_of_own raw (b ∷ blocks) small =
 
 factor_small : (d : DriveView) (raw : ℕ) → HaveFactors d → IfSome (block_attribute d.blocks raw) (λ (a : Attribute). a.factor < 65536)
 unfolding block_attribute built_in_attribute own_attribute
-factor_small d raw small = either (option_and_then (λ (row : BuiltIn). attribute_in row.attribute) (row_in built_ins raw)) _ (factor_of_row (row_in built_ins raw)) (factor_of_own raw d.blocks small)
-  where
-    either : (o p : Option Attribute) → IfSome o (λ (a : Attribute). a.factor < 65536) → IfSome p (λ (a : Attribute). a.factor < 65536) → IfSome (option_or o p) (λ (a : Attribute). a.factor < 65536)
-    either None p here there = there
-    either (Some a) p here there = here
+factor_small d raw small = elim (cases_Option (option_and_then (λ (row : BuiltIn). attribute_in row.attribute) (row_in built_ins raw))) [
+  | inl none ↦ rw none (factor_of_own raw d.blocks small)
+  | inr (a, some) ↦ rw some (let here = rw some at (factor_of_row (row_in built_ins raw)) in here)
+]
 
 long_back : (n : ℕ) → n < 4294967296 → long_in (to_le_bytes w32 n) ≡ n
 long_back n small = omega arith
@@ -70,23 +64,22 @@ len_read : (d : DriveView) (raw : ℕ) → HaveFactors d → len_said (long_in (
 unfolding cyclic_len
 len_read d raw small = len_by (block_attribute d.blocks raw) (factor_small d raw small)
 
-short_back : (n : ℕ) → n < 65536 → short_in (to_le_bytes w16 n) ≡ n
-short_back n small = omega arith
-
 -- the bytes of an answer to a read of an attribute, and the number of one to a read of a time
-attribute_answer : (d : DriveView) (i : Idn) (o : Outcome) → blocks_fault [] d.blocks ≡ None → IsAnswer d (request.Read i 3) o → bytes_of o ≡ attribute_bytes d i.raw
-attribute_answer d i o none h = ap bytes_of h.2 ∙ attribute_read d h.0 i.raw none h.1
+attribute_answer : (d : DriveView) (i : Idn) (o : Outcome) → blocks_fault [] d.blocks ≡ None → IsAnswer d (Request.Read i 3) o → bytes_of o ≡ attribute_bytes d i.raw
+attribute_answer d i o none h = ap bytes_of h.2 ∙ (third (find_block i.raw h.0)
+    ∙ ap (λ (o : Option Attribute). unwrap_or (option_map (λ (a : Attribute). to_le_bytes w32 (attribute_word a)) o) [])
+    (same_attribute i.raw d h.0 none h.1))
 
-time_answer : (d : DriveView) (i : Idn) (n : ℕ) (o : Outcome) → ((blocks : List Block) → IsStoreOf d blocks → data_at blocks i.raw ≡ to_le_bytes w16 n) → n < 65536 → IsAnswer d (request.Read i 7) o → short_in (bytes_of o) ≡ n
+time_answer : (d : DriveView) (i : Idn) (n : ℕ) (o : Outcome) → ((blocks : List Block) → IsStoreOf d blocks → data_at blocks i.raw ≡ to_le_bytes w16 n) → n < 65536 → IsAnswer d (Request.Read i 7) o → short_in (bytes_of o) ≡ n
 time_answer d i n o declared small h =
-    ap (λ (x : Outcome). short_in (bytes_of x)) h.2 ∙ ap short_in (seventh (find_block i.raw h.0)) ∙ ap short_in (declared h.0 h.1) ∙ short_back n small
+    ap (λ (x : Outcome). short_in (bytes_of x)) h.2 ∙ ap short_in (seventh (find_block i.raw h.0)) ∙ ap short_in (declared h.0 h.1) ∙ (omega arith)
 
 -- the words of the attributes that were read, which come first
 record ReadWords (d : DriveView) (idns : List Idn) (outcomes : List Outcome) : Type 0 where
   rest : List ℕ
   are : words_given outcomes ≡ map (λ (i : Idn). long_in (attribute_bytes d i.raw)) idns ++ rest
 
-read_words : (d : DriveView) (idns : List Idn) (outcomes : List Outcome) → blocks_fault [] d.blocks ≡ None → AreAnswers d (map (λ (i : Idn). request.Read i 3) idns) outcomes → ReadWords d idns outcomes
+read_words : (d : DriveView) (idns : List Idn) (outcomes : List Outcome) → blocks_fault [] d.blocks ≡ None → AreAnswers d (map (λ (i : Idn). Request.Read i 3) idns) outcomes → ReadWords d idns outcomes
 read_words d [] outcomes none h = record { rest = words_given outcomes; are = refl }
 read_words d (i ∷ idns) [] none h = absurd h
 read_words d (i ∷ idns) (o ∷ outcomes) none h =
@@ -114,14 +107,6 @@ lens_same : (d : DriveView) → HaveFactors d → (a : ℕ) (idns : List Idn)
 lens_same d small a idns = sum_mapped len_or_none (λ i. long_in (attribute_bytes d i.raw)) (λ i. value_len d.blocks i.raw) (λ i. ap (λ (o : Option ℕ). unwrap_or o 0) (len_read d i.raw small)) a idns
 
 -- what the master asks of the plan for a drive
-made_times : (a a' b b' c c' d d' e e' f f' : ℕ) → a ≡ a' → b ≡ b' → c ≡ c' → d ≡ d' → e ≡ e' → f ≡ f'
-    → ◌≡◌ {A = Times} (record { t1min = a; tatmt = b; t4min = c; tatat = d; tmtsy = e; tmtsg = f }) (record { t1min = a'; tatmt = b'; t4min = c'; tatat = d'; tmtsy = e'; tmtsg = f' })
-made_times a a' b b' c c' d d' e e' f f' ea eb ec ed ee ef = rw (ea, eb, ec, ed, ee, ef) refl
-
-made_wish : (address slave : ℕ) (t t' : Times) (a a' m m' : ℕ) → t ≡ t' → a ≡ a' → m ≡ m'
-    → ◌≡◌ {A = Wish} (record { address = address; slave = slave; times = t; at_len = a; record_len = m }) (record { address = address; slave = slave; times = t'; at_len = a'; record_len = m' })
-made_wish address slave t t' a a' m m' et ea em = rw (et, ea, em) refl
-
 pub wish_by_answers : (d : DriveView) (outcomes : List Outcome) → KeepsRules d → HaveFactors d → AreAnswers d (reads (member_of d)) outcomes → wish_given (member_of d) outcomes ≡ wish_of d
 unfolding listed_len
 wish_by_answers d (a ∷ b ∷ c ∷ e ∷ f ∷ g ∷ outcomes) rules factors h =
@@ -131,19 +116,21 @@ wish_by_answers d (a ∷ b ∷ c ∷ e ∷ f ∷ g ∷ outcomes) rules factors h
     let all : words_given outcomes ≡ map said d.at ++ (map said d.mdt ++ words.rest) = words.are ∙ ap (λ xs. xs ++ words.rest) (map-append said d.at d.mdt) ∙ append_assoc (map said d.at) (map said d.mdt) words.rest in
     let at_words : take (length d.at) (words_given outcomes) ≡ map said d.at = rw all (take_mapped said d.at (map said d.mdt ++ words.rest)) in
     let mdt_words : take (length d.mdt) (drop (length d.at) (words_given outcomes)) ≡ map said d.mdt = rw (all, drop_mapped said d.at (map said d.mdt ++ words.rest)) (take_mapped said d.mdt words.rest) in
-    made_wish d.address d.slave _ _ _ _ _ _
-    (made_times _ _ _ _ _ _ _ _ _ _ _ _
-    (time_answer d _ d.times.t1min a (λ blocks is. (declares_times d blocks rules.blocks is).t1min) (omega (arith, small.t1min)) h.0)
-    (time_answer d _ d.times.tatmt b (λ blocks is. (declares_times d blocks rules.blocks is).tatmt) (omega (arith, small.tatmt)) h.1.0)
-    (time_answer d _ d.times.t4min c (λ blocks is. (declares_times d blocks rules.blocks is).t4min) (omega (arith, small.t4min)) h.1.1.0)
-    (time_answer d _ d.times.tatat e (λ blocks is. (declares_times d blocks rules.blocks is).tatat) (omega (arith, small.tatat)) h.1.1.1.0)
-    (time_answer d _ d.times.tmtsy f (λ blocks is. (declares_times d blocks rules.blocks is).tmtsy) (omega (arith, small.tmtsy))
-    h.1.1.1.1.0)
-    (time_answer d _ d.times.tmtsg g (λ blocks is. (declares_times d blocks rules.blocks is).tmtsg) (omega (arith, small.tmtsg))
-    h.1.1.1.1.1.0))
-    (ap (λ n. 4 + n) (ap (λ (xs : List ℕ). fold (λ (n : ℕ) (word : ℕ). n + len_or_none word) 0 xs) at_words ∙ lens_same d factors 0 d.at))
-    (ap (λ n. 4 + n) (ap (λ (xs : List ℕ). fold (λ (n : ℕ) (word : ℕ). n + len_or_none word) 0 (take (length d.mdt) xs)) (drop_six (length d.at) _ _ _ _ _ _ (words_given outcomes))
-    ∙ ap (λ (xs : List ℕ). fold (λ (n : ℕ) (word : ℕ). n + len_or_none word) 0 xs) mdt_words ∙ lens_same d factors 0 d.mdt))
+    rw (
+      time_answer d _ d.times.t1min a (λ blocks is. (declares_times d blocks rules.blocks is).t1min) (omega (arith, small.t1min)) h.0,
+      time_answer d _ d.times.tatmt b (λ blocks is. (declares_times d blocks rules.blocks is).tatmt) (omega (arith, small.tatmt)) h.1.0,
+      time_answer d _ d.times.t4min c (λ blocks is. (declares_times d blocks rules.blocks is).t4min) (omega (arith, small.t4min)) h.1.1.0,
+      time_answer d _ d.times.tatat e (λ blocks is. (declares_times d blocks rules.blocks is).tatat) (omega (arith, small.tatat)) h.1.1.1.0,
+      time_answer d _ d.times.tmtsy f (λ blocks is. (declares_times d blocks rules.blocks is).tmtsy)
+          (omega (arith, small.tmtsy)) h.1.1.1.1.0,
+      time_answer d _ d.times.tmtsg g (λ blocks is. (declares_times d blocks rules.blocks is).tmtsg)
+          (omega (arith, small.tmtsg)) h.1.1.1.1.1.0,
+      drop_six (length d.at) _ _ _ _ _ _ (words_given outcomes),
+      at_words,
+      mdt_words,
+      lens_same d factors 0 d.at,
+      lens_same d factors 0 d.mdt,
+    ) refl
 wish_by_answers d [] rules factors h = absurd h
 wish_by_answers d (a ∷ []) rules factors h = absurd h.1
 wish_by_answers d (a ∷ b ∷ []) rules factors h = absurd h.1.1
@@ -158,17 +145,14 @@ wishes_by : (drives : List DriveView) (k : ℕ) (outcomes : ℕ → List Outcome
 wishes_by [] k outcomes same = refl
 wishes_by (d ∷ drives) k outcomes same =
     let zero_more : k + 0 ≡ k = omega arith in
-    let here = same 0 d refl in
     let rest = wishes_by drives (k + 1) outcomes (λ i e at. (let next : k + suc i ≡ k + 1 + i = omega arith in rw next at (same (suc i) e at))) in
-    rw (rw zero_more at here, rest) refl
+    rw (rw zero_more at (same 0 d refl), rest) refl
 
 pub asks_as_ring : AsksAsRing
 unfolding wishes_of
 asks_as_ring r outcomes ok answered =
-    let same : wishes_from (map member_of r.drives) 0 outcomes ≡ map wish_of r.drives =
-    wishes_by r.drives 0 outcomes (λ i d at. (let same : 0 + i ≡ i = omega arith in
-    let h = answered i d at in rw same (wish_by_answers d (outcomes i) (ring_drive r i d ok at) h.0 h.1))) in
-    rw same refl
+    rw (wishes_by r.drives 0 outcomes (λ i d at. (let same : 0 + i ≡ i = omega arith in let h = answered i d at in
+    rw same (wish_by_answers d (outcomes i) (ring_drive r i d ok at) h.0 h.1)))) refl
 
 pub says_length : SaysLength
 says_length d i o none small h = ap (λ (bytes : List ℕ). len_said (long_in bytes)) (attribute_answer d i o none h) ∙ len_read d i.raw small

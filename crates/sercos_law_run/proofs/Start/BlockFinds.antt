@@ -1,14 +1,11 @@
 -- Which block of a drive's store is found by an identifier number, and with which attribute.
-use Rattle.sercos_law_run.proofs.Words.{◌≡◌, ℕ, ◌==◌, nat_lt, Bool, true, false, cond, not, ◌&&◌, ◌||◌, List, [], ◌∷◌, ◌++◌, map, length, Option, Some, None, is_none, option_map, option_and_then, refl, sym, ◌∙◌, ap, arith, list_all, option_or, and_parts, nat_tests, none_of-or, Block, BuiltIn, Field, BadBlock, DriveView, is_fixed, built_ins, is_built_in, built_in_block, has_block, block_fault, find_block, number_len, either_none, IsNew, IsNew-block_fault, is_given, kept, IsStoreOf, CarryAlike, attribute_fault, built_in, blocks_fault, with_own, store_of, attribute_in, row_in, built_in_attribute, own_attribute, block_attribute, cases_Bool, cases_Option, inl, inr}
-use Rattle.sercos_block.specs.Stores.{inserted}
-use Rattle.sercos_block.specs.Rings.{cyclic_len}
+use Rattle.sercos_law_run.proofs.Words.{◌≡◌, ℕ, ◌==◌, nat_lt, Bool, true, false, cond, not, ◌&&◌, ◌||◌, List, [], ◌∷◌, ◌++◌, map, length, Option, Some, None, is_none, option_map, option_and_then, refl, sym, ◌∙◌, ap, arith, list_all, option_or, and_parts, nat_tests, none_of-or, Block, BuiltIn, Field, BadBlock, DriveView, is_fixed, built_ins, is_built_in, built_in_block, has_block, block_fault, find_block, number_len, either_none, IsNew, IsNew-block_fault, is_given, kept, IsStoreOf, CarryAlike, attribute_fault, built_in, blocks_fault, with_own, store_of, attribute_in, row_in, built_in_attribute, own_attribute, block_attribute, cases_Bool, cases_Option, inl, inr, cyclic_len, inserted}
 
 -- if no block has the number, none is found
 nowhere : (raw : ℕ) (blocks : List Block) → has_block raw blocks ≡ false → find_block raw blocks ≡ None
 nowhere raw [] none = refl
 nowhere raw (b ∷ blocks) none =
-    let (here, rest) = either_none (b.idn.raw == raw) (has_block raw blocks) none in
-    rw here (nowhere raw blocks rest)
+    let (here, rest) = either_none (b.idn.raw == raw) (has_block raw blocks) none in rw here (nowhere raw blocks rest)
 
 -- what is found with one more block, whose number is new
 swap_found : (x y : Bool) (b c : Option Block) (o : Option Block) → (x ≡ true → y ≡ true → ⊥) → cond y c (cond x b o) ≡ cond x b (cond y c o)
@@ -21,12 +18,12 @@ unfolding inserted
 find_inserted raw b [] new = refl
 find_inserted raw b (c ∷ blocks) new =
     let (other, new') = either_none (c.idn.raw == b.idn.raw) (has_block b.idn.raw blocks) new in
-    by (nat_lt b.idn.raw c.idn.raw) other (find_inserted raw b blocks new')
-  where
-    by : (less : Bool) → (c.idn.raw == b.idn.raw) ≡ false → find_block raw (inserted b blocks) ≡ cond (b.idn.raw == raw) (Some b) (find_block raw blocks)
-        → find_block raw (cond less (b ∷ c ∷ blocks) (c ∷ inserted b blocks)) ≡ cond (b.idn.raw == raw) (Some b) (find_block raw (c ∷ blocks))
-    by true other e = refl
-    by false other e = rw e (swap_found (b.idn.raw == raw) (c.idn.raw == raw) (Some b) (Some c) (find_block raw blocks) (λ is_b is_c. absurd (grind (arith, nat_tests))))
+    elim (cases_Bool (nat_lt b.idn.raw c.idn.raw)) [
+      | inl on ↦ rw on
+      | inr off ↦
+          rw off (rw (find_inserted raw b blocks new') (swap_found (b.idn.raw == raw) (c.idn.raw == raw) (Some b) (Some c)
+          (find_block raw blocks) (λ is_b is_c. absurd (grind (arith, nat_tests)))))
+    ]
 
 -- a number that no block has stays so, if the block that is added has another
 none_inserted : (n : ℕ) (b : Block) (blocks : List Block) → (b.idn.raw == n) ≡ false → has_block n blocks ≡ false → has_block n (inserted b blocks) ≡ false
@@ -43,8 +40,7 @@ none_appended : (n : ℕ) (b : Block) (before : List Block) → has_block n (bef
 none_appended n b [] none = ((either_none (b.idn.raw == n) false none).0, refl)
 none_appended n b (c ∷ before) none =
     let (here, rest) = either_none (c.idn.raw == n) (has_block n (before ++ b ∷ [])) none in
-    let (other, free) = none_appended n b before rest in
-    (other, rw (here, free) refl)
+    let (other, free) = none_appended n b before rest in (other, rw (here, free) refl)
 
 -- With the drive's own blocks, the built-in ones are found first.
 found_by : (x : Bool) (b : Block) (o p : Option Block) → (x ≡ true → o ≡ None) → option_or (cond x (Some b) o) p ≡ option_or o (cond x (Some b) p)

@@ -62,10 +62,9 @@ early n m = elim (cases_Bool (n == 1 + m)) [
 
 over : (n m : ℕ) → n < 2 + m → m ≤ 16 → (((suc n == 1) && nat_lt 32 (2 * m)) || (not (n == 1 + m) && nat_le (2 + (2 * m + 1) / 2) (suc n))) ≡ false
 over n m less small =
-    let short : nat_lt 32 (2 * m) ≡ false = le-ltb 32 (2 * m) (omega arith) in
-    rw (short, and_right (suc n == 1) false refl) (elim (cases_Bool (n == 1 + m)) [
+    rw (le-ltb 32 (2 * m) (omega arith), and_right (suc n == 1) false refl) (elim (cases_Bool (n == 1 + m)) [
       | inl e ↦ rw e
-      | inr e ↦ rw e (let other = eqb-false n (1 + m) e in lt-leb (2 + (2 * m + 1) / 2) (suc n) (omega (arith, other)))
+      | inr e ↦ rw e (lt-leb (2 + (2 * m + 1) / 2) (suc n) (omega (arith, eqb-false n (1 + m) e)))
     ])
 
 even : (n m : ℕ) → (((suc n == 1) && not (2 * m % 2 == 0)) || false) ≡ false
@@ -83,13 +82,7 @@ pub list_has_no_cause : ListHasNoCause
 unfolding built_in write_cause bytes_written attribute_of
 list_has_no_cause d blocks raw m n words none is (inl at) small count less =
     let same : raw ≡ 16 = eqb-true raw 16 at in
-    rw (same, ← count) (cause_as d blocks 16 _ (length words == 1 + m) (2 * m ∷ words) none is refl ∙ list_free m words small (short count))
-  where
-    short : length words ≡ n → length words < 2 + m
-    short e = omega arith
+    rw (same, ← count) (cause_as d blocks 16 _ (length words == 1 + m) (2 * m ∷ words) none is refl ∙ list_free m words small (omega arith))
 list_has_no_cause d blocks raw m n words none is (inr at) small count less =
     let same : raw ≡ 24 = eqb-true raw 24 at in
-    rw (same, ← count) (cause_as d blocks 24 _ (length words == 1 + m) (2 * m ∷ words) none is refl ∙ list_free m words small (short count))
-  where
-    short : length words ≡ n → length words < 2 + m
-    short e = omega arith
+    rw (same, ← count) (cause_as d blocks 24 _ (length words == 1 + m) (2 * m ∷ words) none is refl ∙ list_free m words small (omega arith))

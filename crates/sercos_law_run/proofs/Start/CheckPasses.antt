@@ -1,5 +1,5 @@
 -- If a drive holds the start-up values of a plan that fits, its check for phase 3 finds nothing.
-use Rattle.sercos_law_run.proofs.Words.{◌≡◌, ℕ, zero, suc, ◌+◌, ◌-◌, ◌*◌, ◌<◌, ◌≤◌, ◌%◌, ◌==◌, nat_lt, nat_le, Bool, true, false, not, ◌||◌, List, [], ◌∷◌, ◌++◌, length, map, Option, Some, None, is_none, slice_get, slice_index, slice_index_or, refl, ◌∙◌, ap, subst, arith, and_parts, le-ltb, ne_eqb, or_from, leb-true, nat_tests, slice_get_within, wire_bits, Wish, Times, WishesView, PlanView, no_wish, wish, times, Fits, most_cycle, IsValid, is_address, Block, BadBlock, blocks_fault, DriveView, RingView, has_ring_numbers, has_drive_numbers, are_cyclic, has_address, is_order, record_len, wish_of, length_wishes, number_at, carried_len, listed_if, PlanPassesCheck, is_cycle, is_control, are_ring_numbers, are_times, are_drive_numbers, has_blocks, is_drive, are_drives, has_drives, is_ring, wishes_of, breaks_1, breaks_2, breaks_6, breaks_7, breaks_8, breaks_9, breaks_10, breaks_15, breaks_89, unfit_for_phase_3, IsRing-is_ring, get_or_from_slice_get, no_drive, none_of}
+use Rattle.sercos_law_run.proofs.Words.{◌≡◌, ℕ, zero, suc, ◌+◌, ◌*◌, ◌<◌, ◌≤◌, ◌%◌, ◌==◌, nat_le, Bool, true, false, not, ◌||◌, List, [], length, Some, None, slice_get, slice_index, slice_index_or, refl, ◌∙◌, ap, subst, arith, and_parts, le-ltb, ne_eqb, or_from, leb-true, slice_get_within, wire_bits, Wish, WishesView, PlanView, no_wish, wish, times, Fits, most_cycle, IsValid, blocks_fault, DriveView, RingView, has_ring_numbers, has_drive_numbers, are_cyclic, has_address, record_len, wish_of, length_wishes, listed_if, PlanPassesCheck, is_cycle, is_control, are_ring_numbers, has_blocks, is_drive, is_ring, wishes_of, breaks_1, breaks_2, breaks_6, breaks_7, breaks_8, breaks_9, breaks_10, breaks_15, breaks_89, unfit_for_phase_3, IsRing-is_ring, get_or_from_slice_get, no_drive, none_of}
 use Rattle.sercos_block.specs.Rings.{at_len}
 use Rattle.sercos_law_run.proofs.Start.Lengths.{number_is, are_as_long, list_fits, declares_times}
 use Rattle.sercos_law_run.proofs.Start.PlanNumbers.{HasNumbers, has_numbers}
@@ -39,8 +39,7 @@ ring_cycles r ok =
     let (_, n1) = and_parts _ _ numbers in
     let (cycle, n2) = and_parts (is_cycle r.cycle) _ n1 in
     let (control, n3) = and_parts (is_control r.cycle r.control) _ n2 in
-    let (most, _) = and_parts (nat_le r.control most_cycle) _ n3 in
-    (cycle, control, most)
+    let (most, _) = and_parts (nat_le r.control most_cycle) _ n3 in (cycle, control, most)
 
 pub wish_is : (r : RingView) (k : ℕ) (d : DriveView) → slice_get r.drives k ≡ Some d → wish (wishes_of r) k ≡ wish_of d
 unfolding wishes_of
@@ -74,7 +73,7 @@ fit_drive w p k d e n = record {
   t3 = n.t3;
   t3_end = n.t3_end;
   t4 = sum _ _ _ _ (ap (λ (x : Wish). x.times.t4min) e) n.t4;
-  receive = wait _ _ _ _ _ _ (ap (λ (x : Wish). wire_bits (x.at_len + 1)) e ∙ ap wire_bits (swapped (at_len d))) (ap (λ (x : Wish). w.rate * x.times.tatmt) e) n.receive;
+  receive = wait _ _ _ _ _ _ (ap (λ (x : Wish). wire_bits (x.at_len + 1)) e ∙ ap wire_bits (omega arith)) (ap (λ (x : Wish). w.rate * x.times.tatmt) e) n.receive;
   position = n.position;
   record_end = sum _ _ _ _ (ap (λ (x : Wish). x.record_len) e) n.record_end;
   record_some = high _ _ _ (ap (λ (x : Wish). x.record_len) e) n.record_some;
@@ -91,9 +90,6 @@ fit_drive w p k d e n = record {
     sum : (a b c x : ℕ) → a ≡ b → x + a ≤ c → x + b ≤ c
     sum a b c x e h = omega arith
 
-    swapped : (n : ℕ) → n + 1 ≡ 1 + n
-    swapped n = omega arith
-
     wait : (x a b m n c : ℕ) → a ≡ b → m ≡ n → x + a + m ≤ c → x + b + n ≤ c
     wait x a b m n c e f h = omega arith
 
@@ -109,9 +105,7 @@ keeps_1 cycle control some ok =
     or_from _ _ (ne_eqb cycle 0 (λ e. omega arith)) (or_from _ _ (ne_eqb control 0 (λ e. omega arith)) (rw whole refl))
 
 pub small_control : (control : ℕ) → nat_le control most_cycle ≡ true → control < 65536
-small_control control high =
-    let most : control ≤ 64000 = leb-true _ _ high in
-    omega arith
+small_control control high = let most : control ≤ 64000 = leb-true _ _ high in omega arith
 
 none_named : (a b c d e f g h i j k : Bool) → a ≡ false → b ≡ false → c ≡ false → d ≡ false → e ≡ false → f ≡ false → g ≡ false → h ≡ false → i ≡ false → j ≡ false → k ≡ false
     → listed_if 1 a (listed_if 2 b (listed_if 6 c (listed_if 7 d (listed_if 8 e (listed_if 9 f (listed_if 10 g (listed_if 15 h (listed_if 16 i (listed_if 24 j (listed_if 89 k [])))))))))) ≡ []
@@ -122,21 +116,8 @@ unfolding is_cycle
 cycle_some zero ok = cc
 cycle_some (suc n) ok = omega arith
 
-row_1 : (blocks : List Block) (control cycle : ℕ) → number_at blocks 1 ≡ control → number_at blocks 2 ≡ cycle → 1 ≤ cycle → is_control cycle control ≡ true → breaks_1 blocks ≡ false
-unfolding breaks_1
-row_1 blocks control cycle e f some ok = rw (e, f) (keeps_1 cycle control some ok)
-
-row_8 : (blocks : List Block) (t3 cycle : ℕ) → number_at blocks 8 ≡ t3 → number_at blocks 2 ≡ cycle → 1 ≤ t3 → t3 ≤ cycle → breaks_8 blocks ≡ false
-unfolding breaks_8
-row_8 blocks t3 cycle e f some h = rw (e, f) (or_from (t3 == 0) (nat_lt cycle t3) (ne_eqb t3 0 (λ z. omega arith)) (le-ltb cycle t3 h))
-
-row_9 : (blocks : List Block) (position len mdt : ℕ) → number_at blocks 9 ≡ position → carried_len blocks 24 ≡ len → number_at blocks 10 ≡ mdt → 1 ≤ position → position + len ≤ mdt + 1 → breaks_9 blocks ≡ false
-unfolding breaks_9
-row_9 blocks position len mdt e f g some h =
-    rw (e, f, g) (or_from (position == 0) (nat_lt mdt (position + len - 1)) (ne_eqb position 0 (λ z. omega arith)) (le-ltb mdt (position + len - 1) (omega arith)))
-
 pub plan_passes_check : PlanPassesCheck
-unfolding unfit_for_phase_3 breaks_2 breaks_6 breaks_7 breaks_10 breaks_15 breaks_89
+unfolding unfit_for_phase_3 breaks_1 breaks_2 breaks_6 breaks_7 breaks_8 breaks_9 breaks_10 breaks_15 breaks_89
 plan_passes_check r p k d blocks ok valid fits at is holds =
     let rules = ring_drive r k d ok at in
     let cycles = ring_cycles r ok in
@@ -153,38 +134,27 @@ plan_passes_check r p k d blocks ok valid fits at is holds =
     let l = n.record_some in
     let m = n.mdt_len in
     let q = n.position in
-    let h_1 = holds.0 in
-    let h_2 = holds.1.0 in
-    let h_6 = holds.1.1.0 in
-    let h_7 = holds.1.1.1.0 in
-    let h_8 = holds.1.1.1.1.0 in
-    let h_9 = holds.1.1.1.1.1.0 in
-    let h_10 = holds.1.1.1.1.1.1.0 in
-    let h_15 = holds.1.1.1.1.1.1.1.0 in
     let h_16 = holds.1.1.1.1.1.1.1.1.0 in
     let h_24 = holds.1.1.1.1.1.1.1.1.1.0 in
-    let h_89 = holds.1.1.1.1.1.1.1.1.1.1.0 in
-    let n_1 = number_is blocks 1 r.control h_1 (small_control r.control cycles.2) in
-    let n_2 = number_is blocks 2 r.cycle h_2 (omega arith) in
-    let n_6 = number_is blocks 6 (slice_index p.t1 k) h_6 (omega arith) in
-    let n_7 = number_is blocks 7 p.t4 h_7 (omega arith) in
-    let n_8 = number_is blocks 8 p.t3 h_8 (omega arith) in
-    let n_9 = number_is blocks 9 (slice_index p.position k) h_9 (omega arith) in
-    let n_10 = number_is blocks 10 p.mdt_len h_10 (omega arith) in
-    let n_15 = number_is blocks 15 7 h_15 (omega arith) in
-    let n_89 = number_is blocks 89 p.t2 h_89 (omega arith) in
+    let n_1 = number_is blocks 1 r.control holds.0 (small_control r.control cycles.2) in
+    let n_2 = number_is blocks 2 r.cycle holds.1.0 (omega arith) in
+    let n_6 = number_is blocks 6 (slice_index p.t1 k) holds.1.1.0 (omega arith) in
+    let n_7 = number_is blocks 7 p.t4 holds.1.1.1.0 (omega arith) in
+    let n_8 = number_is blocks 8 p.t3 holds.1.1.1.1.0 (omega arith) in
+    let n_9 = number_is blocks 9 (slice_index p.position k) holds.1.1.1.1.1.0 (omega arith) in
+    let n_10 = number_is blocks 10 p.mdt_len holds.1.1.1.1.1.1.0 (omega arith) in
+    let n_15 = number_is blocks 15 7 holds.1.1.1.1.1.1.1.0 (omega arith) in
+    let n_89 = number_is blocks 89 p.t2 holds.1.1.1.1.1.1.1.1.1.1.0 (omega arith) in
     let n_3 = number_is blocks 3 d.times.t1min declared.t1min (omega (arith, small.t1min)) in
-    let n_4 = number_is blocks 4 d.times.tatmt declared.tatmt (omega (arith, small.tatmt)) in
-    let n_5 = number_is blocks 5 d.times.t4min declared.t4min (omega (arith, small.t4min)) in
     none_named _ _ _ _ _ _ _ _ _ _ _
-    (row_1 blocks r.control r.cycle n_1 n_2 (cycle_some r.cycle cycles.0) cycles.1)
+    (rw (n_1, n_2) (keeps_1 r.cycle r.control (cycle_some r.cycle cycles.0) cycles.1))
     (rw (n_2, cycles.0) refl)
     (rw (n_6, n_3) (le-ltb _ _ n.t1))
-    (rw (n_7, n_5, n_2) (le-ltb _ _ n.t4))
-    (row_8 blocks _ _ n_8 n_2 n.t3 n.t3_end)
-    (row_9 blocks _ _ _ n_9 (long.1 h_24) n_10 n.position n.record_end)
+    (rw (n_7, number_is blocks 5 d.times.t4min declared.t4min (omega (arith, small.t4min)), n_2) (le-ltb _ _ n.t4))
+    (rw (n_8, n_2) (or_from _ _ (ne_eqb p.t3 0 (λ z. omega (arith, n.t3, z))) (le-ltb _ _ n.t3_end)))
+    (rw (n_9, long.1 h_24, n_10) (or_from _ _ (ne_eqb (slice_index p.position k) 0 (λ z. omega (arith, q, z))) (le-ltb _ _ (omega arith))))
     (rw n_10 (le-ltb p.mdt_len 4 (omega arith)))
     (rw n_15 refl)
     (list_fits d blocks 16 d.at rules.blocks is h_16 rules.at)
     (list_fits d blocks 24 d.mdt rules.blocks is h_24 rules.mdt)
-    (rw (n_89, n_6, long.0 h_16, n_4) (le-ltb _ _ n.receive))
+    (rw (n_89, n_6, long.0 h_16, number_is blocks 4 d.times.tatmt declared.tatmt (omega (arith, small.tatmt))) (le-ltb _ _ n.receive))

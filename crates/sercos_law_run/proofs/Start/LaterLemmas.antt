@@ -1,5 +1,6 @@
 -- Which start-up values a store holds while the master writes them, and after.
-use Rattle.sercos_law_run.proofs.Words.{◌≡◌, ℕ, zero, suc, ◌+◌, ◌*◌, ◌/◌, ◌%◌, ◌==◌, nat_lt, Bool, true, false, cond, not, ◌&&◌, List, [], ◌∷◌, ◌++◌, map, take, Option, Some, None, option_map, slice_get, slice_index, refl, sym, ◌∙◌, ap, arith, w16, to_le_bytes, list_all, if◌then◌else◌, eq-eqb, cond-true, list_any-append, list_any-IsPermutation, Idn, Attribute, is_list, words_of, bytes_in, at_least_one, PlanView, Block, is_built_in, has_block, blocks_fault, find_block, with_data, store_of, DriveView, store_of-permutes, data_at, unfit_for_phase_3, unfit_for_phase_4, list_bytes, is_command, is_set, CommandHistory, kept, IsStoreOf, Holds, start_up, command_value, blocks_with, BlocksKeep, NoneOf, StayHeld, HoldsNext, IsProtectedLater, StartUpIsProtected, ChecksAreProtected, StoresStartUpWhole, ListsStay, attribute_fault, attribute_of, built_in, attribute_in, row_in, built_in_attribute, block_attribute, are_ascending, with_check_list}
+use Rattle.sercos_law_run.proofs.Words.{◌≡◌, ℕ, zero, suc, ◌+◌, ◌*◌, ◌/◌, ◌%◌, ◌==◌, nat_lt, Bool, true, false, cond, not, ◌&&◌, List, [], ◌∷◌, ◌++◌, map, take, Option, Some, None, option_map, slice_get, slice_index, refl, sym, ◌∙◌, ap, arith, w16, to_le_bytes, list_all, if◌then◌else◌, eq-eqb, cond-true, list_any-append, list_any-IsPermutation, Idn, Attribute, is_list, words_of, bytes_in, at_least_one, PlanView, Block, is_built_in, has_block, blocks_fault, find_block, with_data, store_of, DriveView, store_of-permutes, data_at, unfit_for_phase_3, unfit_for_phase_4, list_bytes, is_command, is_set, CommandHistory, kept, IsStoreOf, Holds, start_up, command_value, blocks_with, BlocksKeep, NoneOf, StayHeld, HoldsNext, IsProtectedLater, StartUpIsProtected, ChecksAreProtected, StoresStartUpWhole, ListsStay, attribute_fault, attribute_of, built_in, attribute_in, row_in, built_in_attribute, block_attribute, are_ascending, with_check_list, cases_Bool, inl, inr}
+use Rattle.sercos_law_run.proofs.Start.Nested.{◌&◌}
 use Rattle.sercos_law_run.proofs.Start.BlockFinds.{kept_idn, same_attribute}
 use Rattle.sercos_law_run.proofs.Start.KeptLemmas.{stays, writes_hold, writes_keep}
 
@@ -67,37 +68,19 @@ protected d blocks raw a none is e two three four = (a, same_attribute raw d blo
 
 pub start_up_is_protected : StartUpIsProtected
 unfolding block_attribute built_in_attribute row_in attribute_in attribute_fault attribute_of
-start_up_is_protected d blocks control cycle k p none is = (
-  protected d blocks 1 _ none is refl refl refl refl,
-  (
-    protected d blocks 2 _ none is refl refl refl refl,
-    (
-      protected d blocks 6 _ none is refl refl refl refl,
-      (
-        protected d blocks 7 _ none is refl refl refl refl,
-        (
-          protected d blocks 8 _ none is refl refl refl refl,
-          (
-            protected d blocks 9 _ none is refl refl refl refl,
-            (
-              protected d blocks 10 _ none is refl refl refl refl,
-              (
-                protected d blocks 15 _ none is refl refl refl refl,
-                (
-                  protected d blocks 16 _ none is refl refl refl refl,
-                  (
-                    protected d blocks 24 _ none is refl refl refl refl,
-                    (protected d blocks 89 _ none is refl refl refl refl, tt),
-                  ),
-                ),
-              ),
-            ),
-          ),
-        ),
-      ),
-    ),
-  ),
-)
+start_up_is_protected d blocks control cycle k p none is =
+    protected d blocks 1 _ none is refl refl refl refl
+    & protected d blocks 2 _ none is refl refl refl refl
+    & protected d blocks 6 _ none is refl refl refl refl
+    & protected d blocks 7 _ none is refl refl refl refl
+    & protected d blocks 8 _ none is refl refl refl refl
+    & protected d blocks 9 _ none is refl refl refl refl
+    & protected d blocks 10 _ none is refl refl refl refl
+    & protected d blocks 15 _ none is refl refl refl refl
+    & protected d blocks 16 _ none is refl refl refl refl
+    & protected d blocks 24 _ none is refl refl refl refl
+    & protected d blocks 89 _ none is refl refl refl refl
+    & tt
 
 pub checks_are_protected : ChecksAreProtected
 unfolding block_attribute built_in_attribute row_in attribute_in attribute_fault attribute_of
@@ -118,73 +101,51 @@ attribute_is d blocks raw b a none is found e = attribute_found (find_block raw 
 word_back : (n : ℕ) → bytes_in (at_least_one (words_of (to_le_bytes w16 n))) ≡ to_le_bytes w16 n
 word_back n =
     let low : (n % 256 + 256 * (n / 256 % 256)) % 256 ≡ n % 256 = omega arith in
-    let high : (n % 256 + 256 * (n / 256 % 256)) / 256 ≡ n / 256 % 256 = omega arith in
-    rw (low, high) refl
-
-stored_by : (a c : Attribute) (whole bytes : List ℕ) → a ≡ c → (if is_list c.length then bytes else whole) ≡ bytes → (if is_list a.length then bytes else whole) ≡ bytes
-stored_by a c whole bytes e h = rw e h
+    let high : (n % 256 + 256 * (n / 256 % 256)) / 256 ≡ n / 256 % 256 = omega arith in rw (low, high) refl
 
 number_whole : (d : DriveView) (blocks : List Block) (raw n : ℕ) (a : Attribute) → blocks_fault [] d.blocks ≡ None → IsStoreOf d blocks → block_attribute d.blocks raw ≡ Some a → is_list a.length ≡ false
     → (b : Block) → find_block raw blocks ≡ Some b → (if is_list b.attribute.length then to_le_bytes w16 n else bytes_in (at_least_one (words_of (to_le_bytes w16 n)))) ≡ to_le_bytes w16 n
 number_whole d blocks raw n a none is e no_list b found =
-    stored_by b.attribute a (bytes_in (at_least_one (words_of (to_le_bytes w16 n)))) (to_le_bytes w16 n) (attribute_is d blocks raw b a none is found e) (by (is_list a.length))
-  where
-    by : (list : Bool) → cond list (to_le_bytes w16 n) (bytes_in (at_least_one (words_of (to_le_bytes w16 n)))) ≡ to_le_bytes w16 n
-    by true = refl
-    by false = word_back n
+    rw (attribute_is d blocks raw b a none is found e)
+    (elim (cases_Bool (is_list a.length)) [ inl on ↦ rw on | inr off ↦ rw off (word_back n) ])
 
 list_whole : (d : DriveView) (blocks : List Block) (raw : ℕ) (bytes : List ℕ) (a : Attribute) → blocks_fault [] d.blocks ≡ None → IsStoreOf d blocks → block_attribute d.blocks raw ≡ Some a → is_list a.length ≡ true
     → (b : Block) → find_block raw blocks ≡ Some b → (if is_list b.attribute.length then bytes else bytes_in (at_least_one (words_of bytes))) ≡ bytes
 list_whole d blocks raw bytes a none is e list b found =
-    stored_by b.attribute a (bytes_in (at_least_one (words_of bytes))) bytes (attribute_is d blocks raw b a none is found e) (cond-true _ _ _ list)
+    rw (attribute_is d blocks raw b a none is found e) (cond-true _ _ _ list)
 
 pub stores_start_up_whole : StoresStartUpWhole
 unfolding block_attribute built_in_attribute row_in attribute_in attribute_fault attribute_of
-stores_start_up_whole d blocks control cycle k p none is = (
-  number_whole d blocks 1 control _ none is refl refl,
-  (
-    number_whole d blocks 2 cycle _ none is refl refl,
-    (
-      number_whole d blocks 6 (slice_index p.t1 k) _ none is refl refl,
-      (
-        number_whole d blocks 7 p.t4 _ none is refl refl,
-        (
-          number_whole d blocks 8 p.t3 _ none is refl refl,
-          (
-            number_whole d blocks 9 (slice_index p.position k) _ none is refl refl,
-            (
-              number_whole d blocks 10 p.mdt_len _ none is refl refl,
-              (
-                number_whole d blocks 15 7 _ none is refl refl,
-                (
-                  list_whole d blocks 16 (list_bytes d.at) _ none is refl refl,
-                  (list_whole d blocks 24 (list_bytes d.mdt) _ none is refl refl, (number_whole d blocks 89 p.t2 _ none is refl refl, tt)),
-                ),
-              ),
-            ),
-          ),
-        ),
-      ),
-    ),
-  ),
-)
+stores_start_up_whole d blocks control cycle k p none is =
+    number_whole d blocks 1 control _ none is refl refl
+    & number_whole d blocks 2 cycle _ none is refl refl
+    & number_whole d blocks 6 (slice_index p.t1 k) _ none is refl refl
+    & number_whole d blocks 7 p.t4 _ none is refl refl
+    & number_whole d blocks 8 p.t3 _ none is refl refl
+    & number_whole d blocks 9 (slice_index p.position k) _ none is refl refl
+    & number_whole d blocks 10 p.mdt_len _ none is refl refl
+    & number_whole d blocks 15 7 _ none is refl refl
+    & list_whole d blocks 16 (list_bytes d.at) _ none is refl refl
+    & list_whole d blocks 24 (list_bytes d.mdt) _ none is refl refl
+    & number_whole d blocks 89 p.t2 _ none is refl refl
+    & tt
 
 -- a check leaves the store as it is, or writes its list
 pub after_check : (c : CommandHistory) (blocks : List Block) (raw value : ℕ) (P : List Block → Type 0) → P blocks → P (with_data 21 (list_bytes (unfit_for_phase_3 c.rate blocks)) blocks)
-    → P (with_data 22 (list_bytes (unfit_for_phase_4 blocks)) blocks) → P (with_check_list c raw value blocks)
+    → ((raw == 128) ≡ true → P (with_data 22 (list_bytes (unfit_for_phase_4 blocks)) blocks)) → P (with_check_list c raw value blocks)
 unfolding with_check_list
-after_check c blocks raw value P same first second = by (not (value == 0) && not (is_set raw c.calls)) (raw == 127) (raw == 128)
+after_check c blocks raw value P same first second = by (not (value == 0) && not (is_set raw c.calls)) (raw == 127) (raw == 128) refl
   where
-    by : (sets one two : Bool) → P (cond sets (cond one (with_data 21 (list_bytes (unfit_for_phase_3 c.rate blocks)) blocks) (cond two (with_data 22 (list_bytes (unfit_for_phase_4 blocks)) blocks) blocks)) blocks)
-    by false one two = same
-    by true true two = first
-    by true false true = second
-    by true false false = same
+    by : (sets one two : Bool) → (raw == 128) ≡ two → P (cond sets (cond one (with_data 21 (list_bytes (unfit_for_phase_3 c.rate blocks)) blocks) (cond two (with_data 22 (list_bytes (unfit_for_phase_4 blocks)) blocks) blocks)) blocks)
+    by false one two is = same
+    by true true two is = first
+    by true false true is = second is
+    by true false false is = same
 
 pub lists_stay : ListsStay
 lists_stay d c blocks raw value up = (
-  λ is. after_check c blocks raw value (λ after. IsStoreOf d after) is ((writes_keep d blocks 21 0 _ up is).1 refl) ((writes_keep d blocks 22 0 _ up is).1 refl),
-  λ values no_21 no_22 holds. after_check c blocks raw value (λ after. Holds after values) holds (stay_held blocks 21 _ values no_21 holds) (stay_held blocks 22 _ values no_22 holds),
+  λ is. after_check c blocks raw value (λ after. IsStoreOf d after) is ((writes_keep d blocks 21 0 _ up is).1 refl) (λ two. (writes_keep d blocks 22 0 _ up is).1 refl),
+  λ values no_21 no_22 holds. after_check c blocks raw value (λ after. Holds after values) holds (stay_held blocks 21 _ values no_21 holds) (λ two. stay_held blocks 22 _ values no_22 holds),
 )
 
 -- the blocks after a step
@@ -204,10 +165,9 @@ pub blocks_keep : BlocksKeep
 blocks_keep d blocks None c phase up is none = (is, up)
 blocks_keep d blocks (Some w) c phase up is none =
     let written = (writes_keep d blocks w.raw phase w.bytes up is).0 none in
-    let after = by (is_command blocks w.raw) written (still_ascending blocks (with_data w.raw w.bytes blocks) (written ∙ sym is) up) in
+    let ascends = still_ascending blocks (with_data w.raw w.bytes blocks) (written ∙ sym is) up in
+    let after : IsStoreOf d (blocks_with (Some w) c blocks) = elim (cases_Bool (is_command blocks w.raw)) [
+      | inl on ↦ rw on ((lists_stay d c (with_data w.raw w.bytes blocks) w.raw (command_value w) ascends).0 written)
+      | inr off ↦ rw off written
+    ] in
     (after, still_ascending blocks (blocks_with (Some w) c blocks) (after ∙ sym is) up)
-  where
-    by : (command : Bool) → IsStoreOf d (with_data w.raw w.bytes blocks) → are_ascending (with_data w.raw w.bytes blocks) ≡ true
-        → IsStoreOf d (cond command (with_check_list c w.raw (command_value w) (with_data w.raw w.bytes blocks)) (with_data w.raw w.bytes blocks))
-    by true written up = (lists_stay d c (with_data w.raw w.bytes blocks) w.raw (command_value w) up).0 written
-    by false written up = written

@@ -1,7 +1,6 @@
 -- Numbers and lists that a drive holds, and the lengths of what its telegrams carry.
-use Rattle.sercos_law_run.proofs.Words.{◌≡◌, ℕ, ◌+◌, ◌*◌, ◌<◌, ◌/◌, ◌%◌, Bool, true, false, cond, not, ◌&&◌, List, [], ◌∷◌, Option, Some, None, is_some, option_map, unwrap_or, refl, ◌∙◌, ap, arith, list_all, fold, w16, to_le_bytes, and_parts, and_from, Idn, Block, DriveView, is_fixed, blocks_fault, find_block, store_of, cyclic_len, data_at, list_bytes, is_given, kept, IsStoreOf, AreAsLong, built_in, listed_len, are_cyclic, idns_at, carried_len, breaks_list, cases_Bool, inl, inr}
+use Rattle.sercos_law_run.proofs.Words.{◌≡◌, ℕ, ◌+◌, ◌*◌, ◌<◌, ◌/◌, ◌%◌, true, false, not, ◌&&◌, List, [], ◌∷◌, Option, Some, None, is_some, option_map, unwrap_or, refl, ◌∙◌, ap, arith, list_all, fold, w16, to_le_bytes, and_parts, and_from, Idn, Block, DriveView, is_fixed, blocks_fault, find_block, store_of, cyclic_len, data_at, list_bytes, is_given, kept, IsStoreOf, AreAsLong, built_in, listed_len, are_cyclic, idns_at, carried_len, breaks_list, cases_Bool, inl, inr, number_at, idns_listed}
 use Rattle.sercos_command.specs.Checks as checks
-use Rattle.sercos_command.specs.Checks.{number_at, idns_in}
 use Rattle.sercos_law_run.proofs.Start.BlockFinds.{find_store_of, same_kept, carry_alike}
 use Rattle.sercos_law_run.proofs.Start.LimitLemmas.{or_first}
 
@@ -9,11 +8,9 @@ pub number_is : (blocks : List Block) (raw n : ℕ) → data_at blocks raw ≡ t
 unfolding number_at
 number_is blocks raw n e small = rw e (omega arith)
 
-pub idns_back : (idns : List Idn) → idns_in (list_bytes idns) ≡ idns
+pub idns_back : (idns : List Idn) → idns_listed (list_bytes idns) ≡ idns
 idns_back [] = refl
-idns_back (idn ∷ idns) =
-    let same : idn.raw % 256 + 256 * (idn.raw / 256) ≡ idn.raw = omega arith in
-    rw (same, idns_back idns) refl
+idns_back (idn ∷ idns) = let same : idn.raw % 256 + 256 * (idn.raw / 256) ≡ idn.raw = omega arith in rw (same, idns_back idns) refl
 
 idns_are : (blocks : List Block) (raw : ℕ) (idns : List Idn) → data_at blocks raw ≡ list_bytes idns → idns_at blocks raw ≡ idns
 unfolding idns_at
@@ -55,8 +52,7 @@ value_kept (Some b) c x xs e is = elim (cases_Bool (is_fixed b && not (is_given 
   | inl on ↦ let e = rw on at e in let same : b ≡ c = cc in ap (λ (b : Block). b.value) same ∙ is
   | inr off ↦ let e = rw off at e in
       let same : record b { value = [] } ≡ c = cc in
-      let empty : [] ≡ c.value = ap (λ (b : Block). b.value) same in
-      cc
+      let empty : [] ≡ c.value = ap (λ (b : Block). b.value) same in cc
 ]
 
 -- the times that the drive declares
@@ -72,8 +68,7 @@ time_kept : (d : DriveView) (blocks : List Block) (raw : ℕ) (c : Block) (n : �
     → find_block raw (built_in d) ≡ Some c → kept c ≡ c → c.value ≡ to_le_bytes w16 n → data_at blocks raw ≡ to_le_bytes w16 n
 time_kept d blocks raw c n none is there same value =
     let at : find_block raw (store_of d) ≡ Some c = find_store_of raw d none ∙ or_first _ _ c there in
-    let kept_at : option_map kept (find_block raw blocks) ≡ Some c = same_kept raw d blocks is ∙ ap (option_map kept) at ∙ ap Some same in
-    value_kept (find_block raw blocks) c _ _ kept_at value
+    value_kept (find_block raw blocks) c _ _ (same_kept raw d blocks is ∙ ap (option_map kept) at ∙ ap Some same) value
 
 pub declares_times : (d : DriveView) (blocks : List Block) → blocks_fault [] d.blocks ≡ None → IsStoreOf d blocks → DeclaresTimes d blocks
 unfolding built_in

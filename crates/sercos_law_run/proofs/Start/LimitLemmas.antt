@@ -1,5 +1,6 @@
 -- Which blocks can be outside their limits, and which of the start-up values can be refused.
 use Rattle.sercos_law_run.proofs.Words.{◌≡◌, ◌↔◌, ℕ, ◌+◌, ◌*◌, ◌/◌, ◌<◌, ◌≤◌, ◌%◌, ◌==◌, nat_lt, Bool, true, false, cond, not, ◌&&◌, ◌||◌, List, [], ◌∷◌, map, length, Option, Some, None, option_map, refl, sym, ◌∙◌, ap, arith, slice_index, then_some, w16, to_le_bytes, list_all, list_any, filter, option_or, and_parts, le-ltb, eq-eqb, eqb-true, or_from, nat_tests, Idn, Block, BuiltIn, Opening, CycleTime, built_ins, is_built_in, built_in_block, opening_limit, blocks_fault, find_block, put_fault, store_of, DriveView, data_at, is_outside, list_bytes, kept, IsStoreOf, RefusesCycle, TakesStartUp, is_own_outside, NamesOwn, PassesForPhase4, BuiltInIsSteady, attribute_of, built_in, data_fault, are_ascending, row_in, unfit_for_phase_4, data_in, cases_Bool, inl, inr}
+use Rattle.sercos_law_run.proofs.Start.Nested.{◌&◌}
 use Rattle.sercos_law_run.proofs.Start.BlockFinds.{find_store_of, find_built_in, kept_field, same_kept}
 use Rattle.sercos_law_run.proofs.Start.KeptLemmas.{refuse_alike}
 
@@ -40,40 +41,19 @@ takes_start_up d blocks control cycle k p none is at mdt =
     let at_short : nat_lt 32 (length (list_bytes d.at)) ≡ false = le-ltb 32 (length (list_bytes d.at)) (omega arith) in
     let mdt_short : nat_lt 32 (length (list_bytes d.mdt)) ≡ false = le-ltb 32 (length (list_bytes d.mdt)) (omega arith) in
     let at_whole : (length (list_bytes d.at) % 2 == 0) ≡ true = eq-eqb (length (list_bytes d.at) % 2) 0 (omega arith) in
-    let mdt_whole : (length (list_bytes d.mdt) % 2 == 0) ≡ true = eq-eqb (length (list_bytes d.mdt) % 2) 0 (omega arith) in (
-      λ other. number_taken d blocks 1 control _ none is refl refl,
-      (
-        λ other. absurd (cc),
-        (
-          λ other. number_taken d blocks 6 (slice_index p.t1 k) _ none is refl refl,
-          (
-            λ other. number_taken d blocks 7 p.t4 _ none is refl refl,
-            (
-              λ other. number_taken d blocks 8 p.t3 _ none is refl refl,
-              (
-                λ other. number_taken d blocks 9 (slice_index p.position k) _ none is refl refl,
-                (
-                  λ other. number_taken d blocks 10 p.mdt_len _ none is refl refl,
-                  (
-                    λ other. number_taken d blocks 15 7 _ none is refl refl,
-                    (
-                      λ other. refused_as d blocks 16 _ (list_bytes d.at) none is refl ∙ rw (at_short, at_whole) refl,
-                      (
-                        λ other. refused_as d blocks 24 _ (list_bytes d.mdt) none is refl ∙ rw (mdt_short, mdt_whole) refl,
-                        (
-                          λ other. number_taken d blocks 89 p.t2 _ none is refl refl,
-                          tt,
-                        ),
-                      ),
-                    ),
-                  ),
-                ),
-              ),
-            ),
-          ),
-        ),
-      ),
-    )
+    let mdt_whole : (length (list_bytes d.mdt) % 2 == 0) ≡ true = eq-eqb (length (list_bytes d.mdt) % 2) 0 (omega arith) in
+    (λ other. number_taken d blocks 1 control _ none is refl refl)
+    & (λ other. absurd (cc))
+    & (λ other. number_taken d blocks 6 (slice_index p.t1 k) _ none is refl refl)
+    & (λ other. number_taken d blocks 7 p.t4 _ none is refl refl)
+    & (λ other. number_taken d blocks 8 p.t3 _ none is refl refl)
+    & (λ other. number_taken d blocks 9 (slice_index p.position k) _ none is refl refl)
+    & (λ other. number_taken d blocks 10 p.mdt_len _ none is refl refl)
+    & (λ other. number_taken d blocks 15 7 _ none is refl refl)
+    & (λ other. refused_as d blocks 16 _ (list_bytes d.at) none is refl ∙ rw (at_short, at_whole) refl)
+    & (λ other. refused_as d blocks 24 _ (list_bytes d.mdt) none is refl ∙ rw (mdt_short, mdt_whole) refl)
+    & (λ other. number_taken d blocks 89 p.t2 _ none is refl refl)
+    & tt
 
 -- each block of a store is found by its number
 abbrev EachFound : List Block → List Block → Type 0
@@ -84,8 +64,7 @@ found_later : (c : Block) (all blocks : List Block) → list_all (λ b. nat_lt c
 found_later c all [] above found = tt
 found_later c all (b ∷ blocks) above found =
     let (here, rest) = and_parts (nat_lt c.idn.raw b.idn.raw) (list_all (λ b. nat_lt c.idn.raw b.idn.raw) blocks) above in
-    let other : (c.idn.raw == b.idn.raw) ≡ false = grind (arith, nat_tests) in
-    (rw other found.0, found_later c all blocks rest found.1)
+    let other : (c.idn.raw == b.idn.raw) ≡ false = grind (arith, nat_tests) in (rw other found.0, found_later c all blocks rest found.1)
 
 each_found : (blocks : List Block) → are_ascending blocks ≡ true → EachFound blocks blocks
 unfolding are_ascending
@@ -102,9 +81,6 @@ is_limited _ = false
 abbrev is_good : BuiltIn → Bool
 is_good row = (row.idn.raw == 2) || not (is_limited row.opening)
 
-all_good : list_all is_good built_ins ≡ true
-all_good = refl
-
 record RowFound (raw : ℕ) (rows : List BuiltIn) : Type 0 where
   row : BuiltIn
   is : row_in rows raw ≡ Some row
@@ -116,35 +92,20 @@ unfolding row_in
 row_found raw [] any good = cc
 row_found raw (row ∷ rows) any good =
     let (here, rest) = and_parts (is_good row) (list_all is_good rows) good in
-    by (row.idn.raw == raw) refl any here (λ more. row_found raw rows more rest)
-  where
-    by : (same : Bool) → (row.idn.raw == raw) ≡ same → (same || list_any (λ (row : BuiltIn). row.idn.raw == raw) rows) ≡ true → is_good row ≡ true
-        → (list_any (λ (row : BuiltIn). row.idn.raw == raw) rows ≡ true → RowFound raw rows) → RowFound raw (row ∷ rows)
-    by true e any here more = record { row = row; is = rw e refl; good = here; number = eqb-true row.idn.raw raw e }
-    by false e any here more = let found = more any in record { row = found.row; is = rw e found.is; good = found.good; number = found.number }
+    elim (cases_Bool (row.idn.raw == raw)) [
+      | inl e ↦ record { row = row; is = rw e refl; good = here; number = eqb-true row.idn.raw raw e }
+      | inr e ↦
+          let found = row_found raw rows (rw e at any) rest in
+          record { row = found.row; is = rw e found.is; good = found.good; number = found.number }
+    ]
 
 -- Whether a block is outside its limits depends on what no write changes, and on its operation data.
 outside_kept : (b : Block) → is_outside b ≡ is_outside (record (kept b) { value = b.value })
 outside_kept b = sym (kept_field (λ c. is_outside (record c { value = b.value })) (λ c. refl) b)
 
-kept_min : (b : Block) → (kept b).min ≡ b.min
-kept_min = kept_field (λ b. b.min) (λ b. refl)
-
-kept_max : (b : Block) → (kept b).max ≡ b.max
-kept_max = kept_field (λ b. b.max) (λ b. refl)
-
-no_limits : (b : Block) → b.min ≡ None → b.max ≡ None → is_outside b ≡ false
-no_limits b low high = rw (low, high) refl
-
 unlimited : (o : Opening) (limit : ℕ) → is_limited o ≡ false → opening_limit o limit ≡ None
 unlimited CycleTime limit none = cc
 unlimited o limit none = refl
-
--- A built-in block is within its limits, if the cycle time is.
-limits_none : (d : DriveView) (b : Block) (row : BuiltIn) → kept b ≡ kept (built_in_block d row) → is_limited row.opening ≡ false → is_outside b ≡ false
-limits_none d b row same none =
-    no_limits b (sym (kept_min b) ∙ ap (λ (c : Block). c.min) same ∙ kept_min (built_in_block d row) ∙ unlimited row.opening d.cycle_min none)
-    (sym (kept_max b) ∙ ap (λ (c : Block). c.max) same ∙ kept_max (built_in_block d row) ∙ unlimited row.opening d.cycle_max none)
 
 not_or : (x y : Bool) → (x || not y) ≡ true → x ≡ false → y ≡ false
 not_or true y h e = cc
@@ -167,7 +128,7 @@ option_same b (Some x) c e f = let here : kept b ≡ kept x = cc in let same : x
 built_in_inside : (d : DriveView) (blocks : List Block) (cycle : ℕ) (b : Block) → blocks_fault [] d.blocks ≡ None → IsStoreOf d blocks → find_block b.idn.raw blocks ≡ Some b
     → is_built_in b.idn.raw ≡ true → data_at blocks 2 ≡ to_le_bytes w16 cycle → cycle < 65536 → d.cycle_min ≤ cycle → cycle ≤ d.cycle_max → is_outside b ≡ false
 built_in_inside d blocks cycle b none is found built value small low high =
-    let row = row_found b.idn.raw built_ins built all_good in
+    let row = row_found b.idn.raw built_ins built (refl) in
     let there : find_block b.idn.raw (built_in d) ≡ Some (built_in_block d row.row) = find_built_in d b.idn.raw ∙ ap (option_map (built_in_block d)) row.is in
     let first : find_block b.idn.raw (store_of d) ≡ Some (built_in_block d row.row) = find_store_of b.idn.raw d none ∙ or_first _ _ _ there in
     let same : kept b ≡ kept (built_in_block d row.row) = option_same b _ _ (ap (option_map kept) (sym found) ∙ same_kept b.idn.raw d blocks is) first in
@@ -181,7 +142,14 @@ built_in_inside d blocks cycle b none is found built value small low high =
         let found' = rw raw at found in
         let value' : b.value ≡ to_le_bytes w16 cycle = rw found' at value in
         cycle_inside d b cycle (built_in_block d row) there' same value' small low high
-    by row false e good number there same = limits_none d b row same (not_or (row.idn.raw == 2) (is_limited row.opening) good e)
+    by row false e good number there same = let low = sym (kept_field (λ b. b.min) (λ b. refl) b) ∙ ap (λ (c : Block). c.min) same
+        ∙ (kept_field (λ b. b.min) (λ b. refl)) (built_in_block d row)
+        ∙ unlimited row.opening d.cycle_min (not_or (row.idn.raw == 2) (is_limited row.opening) good e) in
+        let high =
+        sym (kept_field (λ b. b.max) (λ b. refl) b) ∙ ap (λ (c : Block). c.max) same
+        ∙ (kept_field (λ b. b.max) (λ b. refl)) (built_in_block d row)
+        ∙ unlimited row.opening d.cycle_max (not_or (row.idn.raw == 2) (is_limited row.opening) good e) in
+        rw (low, high) refl
 
 own_by : (built outside : Bool) → (built ≡ true → outside ≡ false) → outside ≡ (not built && outside)
 own_by true outside none = none refl
@@ -193,8 +161,7 @@ outside_alike d blocks cycle none is value small low high [] found = refl
 outside_alike d blocks cycle none is value small low high (b ∷ some) found =
     let here : is_outside b ≡ is_own_outside b =
     own_by (is_built_in b.idn.raw) (is_outside b) (λ built. built_in_inside d blocks cycle b none is found.0 built value small low high) in
-    let rest = outside_alike d blocks cycle none is value small low high some found.1 in
-    both (is_outside b) (is_own_outside b) here rest
+    both (is_outside b) (is_own_outside b) here (outside_alike d blocks cycle none is value small low high some found.1)
   where
     both : (x y : Bool) → x ≡ y → filter is_outside some ≡ filter is_own_outside some → cond x (b ∷ filter is_outside some) (filter is_outside some) ≡ cond y (b ∷ filter is_own_outside some) (filter is_own_outside some)
     both x y e f = rw (e, f) refl
@@ -220,14 +187,11 @@ passes_for_phase_4 d blocks cycle store none is value small low high =
 pub kept_step : (b : Block) → (kept b).step ≡ b.step
 kept_step = kept_field (λ b. b.step) (λ b. refl)
 
-steady : (cycle : ℕ) (b : Block) → b.step ≡ 0 → data_in cycle b ≡ b.value
-unfolding data_in
-steady cycle b none = rw none refl
-
 pub built_in_is_steady : BuiltInIsSteady
+unfolding data_in
 built_in_is_steady d blocks raw cycle b none is built found =
-    let row = row_found raw built_ins built all_good in
+    let row = row_found raw built_ins built (refl) in
     let there : find_block raw (built_in d) ≡ Some (built_in_block d row.row) = find_built_in d raw ∙ ap (option_map (built_in_block d)) row.is in
     let first : find_block raw (store_of d) ≡ Some (built_in_block d row.row) = find_store_of raw d none ∙ or_first _ _ _ there in
     let same : kept b ≡ kept (built_in_block d row.row) = option_same b _ _ (ap (option_map kept) (sym found) ∙ same_kept raw d blocks is) first in
-    steady cycle b (sym (kept_step b) ∙ ap (λ (c : Block). c.step) same ∙ kept_step (built_in_block d row.row))
+    rw (sym (kept_step b) ∙ ap (λ (c : Block). c.step) same ∙ kept_step (built_in_block d row.row)) refl

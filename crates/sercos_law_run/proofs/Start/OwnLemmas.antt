@@ -1,14 +1,11 @@
 -- Which of a drive's own blocks are outside their limits, during the start-up.
-use Rattle.sercos_law_run.proofs.Words.{◌≡◌, ℕ, ◌==◌, Bool, true, false, cond, not, ◌&&◌, ◌||◌, List, [], ◌∷◌, ◌++◌, None, refl, sym, ◌∙◌, ap, list_any, filter, eqb-true, list_any-append, list_any-IsPermutation, Block, is_built_in, has_block, blocks_fault, with_data, store_of, DriveView, either_none, store_of-permutes, is_outside, is_command, CommandHistory, with_check_list, command_value, is_own_outside, OwnStay, OwnAtOpening, built_in, cases_Bool, inl, inr}
+use Rattle.sercos_law_run.proofs.Words.{◌≡◌, ℕ, ◌==◌, true, false, cond, ◌||◌, List, [], ◌∷◌, ◌++◌, None, refl, sym, ◌∙◌, ap, list_any, filter, eqb-true, list_any-append, list_any-IsPermutation, Block, is_built_in, has_block, blocks_fault, with_data, store_of, DriveView, either_none, store_of-permutes, is_outside, is_command, command_value, is_own_outside, OwnStay, OwnAtOpening, built_in, cases_Bool, inl, inr}
 use Rattle.sercos_law_run.proofs.Start.BlockFinds.{first_is_new}
 use Rattle.sercos_law_run.proofs.Start.LaterLemmas.{after_check}
 
 -- a built-in block isn't one of them
 no_own : (b : Block) (blocks : List Block) → is_built_in b.idn.raw ≡ true → filter is_own_outside (b ∷ blocks) ≡ filter is_own_outside blocks
 no_own b blocks built = elim (cases_Bool (is_built_in b.idn.raw)) [ inl on ↦ rw on | inr off ↦ rw off (let e = sym off ∙ built in cc) ]
-
-more_own : (b : Block) (xs ys : List Block) → filter is_own_outside xs ≡ filter is_own_outside ys → filter is_own_outside (b ∷ xs) ≡ filter is_own_outside (b ∷ ys)
-more_own b xs ys same = ap (λ (rest : List Block). cond (is_own_outside b) (b ∷ rest) rest) same
 
 pub leaves_own : (blocks : List Block) (raw : ℕ) (bytes : List ℕ) → is_built_in raw ≡ true → filter is_own_outside (with_data raw bytes blocks) ≡ filter is_own_outside blocks
 leaves_own [] raw bytes built = refl
@@ -17,16 +14,15 @@ leaves_own (b ∷ blocks) raw bytes built = elim (cases_Bool (b.idn.raw == raw))
       rw e (let here : is_built_in b.idn.raw ≡ true = ap is_built_in (eqb-true b.idn.raw raw e) ∙ built in
       no_own (record b { value = bytes }) (with_data raw bytes blocks) here ∙ (leaves_own blocks raw bytes built)
       ∙ sym (no_own b blocks here))
-  | inr e ↦ rw e (more_own b (with_data raw bytes blocks) blocks (leaves_own blocks raw bytes built))
+  | inr e ↦ rw e (ap (λ (rest : List Block). cond (is_own_outside b) (b ∷ rest) rest) (leaves_own blocks raw bytes built))
 ]
-
-lists_leave_own : (c : CommandHistory) (blocks : List Block) (raw value : ℕ) → filter is_own_outside (with_check_list c raw value blocks) ≡ filter is_own_outside blocks
-lists_leave_own c blocks raw value =
-    after_check c blocks raw value (λ after. filter is_own_outside after ≡ filter is_own_outside blocks) refl (leaves_own blocks 21 _ refl) (leaves_own blocks 22 _ refl)
 
 pub own_stay : OwnStay
 own_stay w c blocks built = elim (cases_Bool (is_command blocks w.raw)) [
-  | inl on ↦ rw on (lists_leave_own c (with_data w.raw w.bytes blocks) w.raw (command_value w) ∙ leaves_own blocks w.raw w.bytes built)
+  | inl on ↦ rw on (after_check c (with_data w.raw w.bytes blocks) w.raw (command_value w)
+      (λ after. filter is_own_outside after ≡ filter is_own_outside (with_data w.raw w.bytes blocks)) refl
+      (leaves_own (with_data w.raw w.bytes blocks) 21 _ refl) (λ two. leaves_own (with_data w.raw w.bytes blocks) 22 _ refl)
+      ∙ leaves_own blocks w.raw w.bytes built)
   | inr off ↦ rw off (leaves_own blocks w.raw w.bytes built)
 ]
 

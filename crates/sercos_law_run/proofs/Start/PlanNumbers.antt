@@ -1,6 +1,5 @@
 -- What the numbers of a plan that fits keep for one drive.
-use Rattle.sercos_law_run.proofs.Words.{◌≡◌, ℕ, zero, suc, ◌+◌, ◌*◌, ◌<◌, ◌≤◌, inl, inr, List, length, slice_index, refl, ap, arith, le_of_mul-le-mul_left, WishesView, PlanView, wish, times, sent, at_bits, mdt_bits, bits_of, positions, Fits, IsValid, rate_some}
-use Rattle.sercos_plan.proofs.ListedLemmas.{listed}
+use Rattle.sercos_law_run.proofs.Words.{◌≡◌, ℕ, zero, suc, ◌+◌, ◌*◌, ◌<◌, ◌≤◌, inl, inr, List, length, slice_index, refl, ap, arith, le_of_mul-le-mul_left, WishesView, PlanView, wish, times, sent, at_bits, mdt_bits, bits_of, positions, Fits, IsValid, rate_some, plan_listed}
 use Rattle.sercos_law_run.proofs.Slots.Spacing.{kept_at}
 use Rattle.sercos_law_run.proofs.Slots.Places.{place_from, place_within}
 
@@ -20,7 +19,7 @@ pub record HasNumbers (w : WishesView) (p : PlanView) (k : ℕ) : Type 0 where
 
 pub has_numbers : (w : WishesView) (p : PlanView) (k : ℕ) → IsValid w → Fits w p → k < length w.drives → HasNumbers w p k
 has_numbers w p k valid fits within =
-    let turn = listed w valid k within in
+    let turn = plan_listed w valid k within in
     let some = rate_some w valid in
     let one : w.rate * (times w k).t1min ≤ w.rate * slice_index p.t1 k = kept_at _ (λ k. w.rate * (times w k).t1min) (bits_of w p.t1) (sent w) (λ k before. refl) fits.rule_1 k turn in
     let six : bits_of w p.t1 k + (at_bits w k + w.rate * (times w k).tatmt) ≤ w.rate * p.t2 =
@@ -33,28 +32,21 @@ has_numbers w p k valid fits within =
     let last = place_within 1 w.drives k within in
     let len = fits.rule_12.1 in
     let most = valid.drives.mdt_len in
-    let is = valid.drives.wishes k within in
     record {
       t1 = le_of_mul-le-mul_left {k = w.rate} one some;
-      t1_t2 = le_of_mul-le-mul_left {k = w.rate} (left _ _ _ six) some;
-      t2_t3 = le_of_mul-le-mul_left {k = w.rate} (left _ _ _ seven) some;
+      t1_t2 = le_of_mul-le-mul_left {k = w.rate} (omega arith) some;
+      t2_t3 = le_of_mul-le-mul_left {k = w.rate} (omega arith) some;
       t3 = positive w.rate p.t3 _ _ _ seven (omega arith);
       t3_end = fits.rule_8;
       t4 = ten;
       receive = omega arith;
       position = omega arith;
       record_end = omega arith;
-      record_some = is.record_len.0;
+      record_some = (valid.drives.wishes k within).record_len.0;
       mdt_len = omega arith;
       cycle = elim valid.cycles.cycle [ inl e ↦ omega arith | inr h ↦ h.1 ];
     }
   where
-    left : (a b c : ℕ) → a + b ≤ c → a ≤ c
-    left a b c h = omega arith
-
-    times_zero : (r : ℕ) → r * 0 ≡ 0
-    times_zero r = omega arith
-
     positive : (r t a m g : ℕ) → a + (m + g) ≤ r * t → 0 < m → 1 ≤ t
-    positive r zero a m g h some = absurd (omega (arith, times_zero r))
+    positive r zero a m g h some = absurd (let none : r * 0 ≡ 0 = omega arith in omega (arith, none))
     positive r (suc t) a m g h some = omega arith

@@ -1,5 +1,5 @@
 -- The time slots of a ring whose drives hold one plan are apart.
-use Rattle.sercos_law_run.proofs.Words.{◌≡◌, ℕ, zero, suc, ◌+◌, ◌*◌, ◌<◌, ◌≤◌, Bool, true, false, cond, List, [], ◌∷◌, map, length, Some, None, slice_get, slice_index_or, refl, sym, ◌∙◌, ap, arith, cond-true, wire_bits, Wish, PlanView, at_bits, record_bytes, IsValid, Fits, Block, is_ring, record_len, wish_of, RingView, DriveView, number_at, carried_len, AtSlot, MdtSlot, Held, IsAtItsTime, held_of, AreOnPlan, held_in, held_by, AreSent, AllHold, RingKeepsApart, RingSendsApart, wishes_of, drive_at, no_drive, slice_get-get_or}
+use Rattle.sercos_law_run.proofs.Words.{◌≡◌, ℕ, ◌+◌, ◌*◌, ◌<◌, ◌≤◌, Bool, true, false, cond, List, [], ◌∷◌, map, length, Some, None, slice_index_or, refl, sym, ◌∙◌, ap, arith, cond-true, wire_bits, Wish, PlanView, at_bits, record_bytes, IsValid, Fits, Block, is_ring, record_len, wish_of, RingView, DriveView, number_at, carried_len, AtSlot, MdtSlot, Held, IsAtItsTime, held_of, AreOnPlan, held_in, held_by, AreSent, AllHold, RingKeepsApart, RingSendsApart, wishes_of, drive_at, no_drive, slice_get-get_or}
 use Rattle.sercos_law_run.proofs.Slots.SlotLemmas.{keeps_apart}
 use Rattle.sercos_law_run.proofs.Slots.SendingLemmas.{sends_slots}
 use Rattle.sercos_law_run.proofs.Start.Lengths.{are_as_long}
@@ -22,9 +22,6 @@ rate_is r = refl
 le_eq : (a b c : ℕ) → a ≤ b → b ≡ c → a ≤ c
 le_eq a b c h e = omega arith
 
-lt_eq : (a b c : ℕ) → a < b → b ≡ c → a < c
-lt_eq a b c h e = omega arith
-
 wire_same : (a b : ℕ) → a ≡ b → wire_bits (1 + a) ≡ wire_bits (b + 1)
 wire_same a b e = ap wire_bits (omega arith)
 
@@ -38,7 +35,7 @@ on_plan : (r : RingView) (p : PlanView) (takes_part : ℕ → Bool) (stores : �
 on_plan r p takes_part stores ats mdt ok valid fits hold sent =
     record {
       holds = λ k h in' e. holds k h in' e;
-      drives = λ i d in'. lt_eq _ _ _ (sent.senders i d in').0 (sym (wishes_count r));
+      drives = λ i d in'. omega (arith, (sent.senders i d in').0, wishes_count r);
       starts = λ i d in'. start (slice_index_or ats i d) (sent.senders i d in').1 (sent.starts i d in');
       bits = λ i d in'. bits (slice_index_or ats i d) (sent.senders i d in').0 (sent.senders i d in').1 (sent.bits i d in');
       in_order = sent.in_order;
@@ -50,7 +47,7 @@ on_plan r p takes_part stores ats mdt ok valid fits hold sent =
     holds : (k : ℕ) (h : Held) → k < length (wishes_of r).drives → held_by takes_part stores k ≡ Some h → h ≡ held_of p k
     holds k h in' e =
         let (up, same) = held_is (takes_part k) (held_in (stores k)) h e in
-        let at = slice_get-get_or r.drives k no_drive (lt_eq _ _ _ in' (wishes_count r)) in
+        let at = slice_get-get_or r.drives k no_drive (omega (arith, in', wishes_count r)) in
         sym same ∙ holds_plan r p k (drive_at r k) (stores k) valid fits at (hold k (drive_at r k) at up).1
 
     start : (s : AtSlot) → takes_part s.drive ≡ true → s.start ≡ r.rate * number_at (stores s.drive) 6 → IsAtItsTime (wishes_of r) (held_by takes_part stores) s
@@ -62,8 +59,7 @@ on_plan r p takes_part stores ats mdt ok valid fits hold sent =
         let there = hold s.drive (drive_at r s.drive) at up in
         let long = (are_as_long (drive_at r s.drive) (stores s.drive) (ring_drive r s.drive (drive_at r s.drive) ok at).blocks there.0).0
         there.1.1.1.1.1.1.1.1.1.0 in
-        let len = ap (λ (x : Wish). x.at_len) (wish_is r s.drive (drive_at r s.drive) at) in
-        le_eq _ _ _ less (wire_same _ _ (long ∙ sym len))
+        le_eq _ _ _ less (wire_same _ _ (long ∙ sym (ap (λ (x : Wish). x.at_len) (wish_is r s.drive (drive_at r s.drive) at))))
 
 pub ring_keeps_apart : RingKeepsApart
 ring_keeps_apart r p takes_part stores ats mdt ok valid fits hold sent =

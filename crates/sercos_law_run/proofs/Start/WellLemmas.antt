@@ -1,7 +1,5 @@
 -- A ring's wishes are valid, and how the checks end.
-use Rattle.sercos_law_run.proofs.Words.{◌≡◌, ℕ, suc, ◌+◌, ◌*◌, ◌<◌, ◌≤◌, ◌==◌, Bool, true, false, cond, List, [], ◌∷◌, map, take, length, Option, Some, None, slice_get, option_and_then, unwrap_or, refl, ap, arith, fold, filter, All, eqb-true, take_all, All-cons, All-nil, Idn, Attribute, Length, Two, Four, List1, List2, List4, item_len, Block, is_number, DriveView, HasLens, number_len, block_attribute, value_len, wish_of, IsValid-wishes_of, breaks_1, breaks_2, breaks_6, breaks_7, breaks_8, breaks_9, breaks_10, breaks_15, breaks_list, breaks_89, listed_if, list_bytes, is_outside, idns_in, RingIsValid, ChecksEndWell, StopsWithList, listed_len, unfit_for_phase_3, unfit_for_phase_4, ◌/◌, ◌%◌, cases_Bool, inl, inr}
-use Rattle.sercos_block.specs.Rings.{cyclic_len}
-use Rattle.sercos_trace.specs.declared.events.Stop.TheVariants as stop
+use Rattle.sercos_law_run.proofs.Words.{◌≡◌, ℕ, suc, ◌+◌, ◌*◌, ◌<◌, ◌≤◌, ◌==◌, Bool, true, false, List, [], ◌∷◌, map, take, length, Some, slice_get, refl, ap, arith, fold, All, eqb-true, take_all, All-cons, All-nil, Idn, Length, Two, Four, List1, List2, List4, item_len, Block, is_number, DriveView, HasLens, block_attribute, value_len, wish_of, IsValid-wishes_of, breaks_1, breaks_2, breaks_6, breaks_7, breaks_8, breaks_9, breaks_10, breaks_15, breaks_list, breaks_89, listed_if, list_bytes, is_outside, idns_in, RingIsValid, ChecksEndWell, StopsWithList, listed_len, unfit_for_phase_3, unfit_for_phase_4, ◌/◌, ◌%◌, cases_Bool, cases_Option, inl, inr, Stop, cyclic_len}
 use Rattle.sercos_law_run.proofs.Start.CheckPasses.{plan_passes_check, ring_drive, fit_in_ring}
 use Rattle.sercos_law_run.proofs.Start.LimitLemmas.{passes_for_phase_4}
 
@@ -12,21 +10,19 @@ item_small List1 = omega arith
 item_small List2 = omega arith
 item_small List4 = omega arith
 
-len_small : (o : Option Attribute) → unwrap_or (option_and_then number_len o) 0 ≤ 4
-len_small None = omega arith
-len_small (Some a) = elim (cases_Bool (is_number a)) [ inl on ↦ rw on (item_small a.length) | inr off ↦ rw off (omega arith) ]
-
 value_small : (blocks : List Block) (raw : ℕ) → value_len blocks raw ≤ 4
 unfolding cyclic_len
-value_small blocks raw = len_small (block_attribute blocks raw)
+value_small blocks raw = elim (cases_Option (block_attribute blocks raw)) [
+  | inl none ↦ rw none (omega arith)
+  | inr (a, some) ↦ rw some (elim (cases_Bool (is_number a)) [ inl on ↦ rw on (item_small a.length) | inr off ↦ rw off (omega arith) ])
+]
 
 sum_small : (f : Idn → ℕ) → ((i : Idn) → f i ≤ 4) → (a : ℕ) (idns : List Idn)
     → (a ≤ fold (λ (n : ℕ) (i : Idn). n + f i) a idns) × (fold (λ (n : ℕ) (i : Idn). n + f i) a idns ≤ a + 4 * length idns)
 sum_small f small a [] = (omega arith, omega arith)
 sum_small f small a (i ∷ idns) =
     let here = small i in
-    let (low, high) = sum_small f small (a + f i) idns in
-    (omega arith, omega arith)
+    let (low, high) = sum_small f small (a + f i) idns in (omega arith, omega arith)
 
 listed_bounds : (blocks : List Block) (idns : List Idn) → length idns ≤ 16 → (4 ≤ listed_len blocks idns) × (listed_len blocks idns ≤ 68)
 unfolding listed_len
@@ -51,12 +47,10 @@ none_long (x ∷ xs) e = let zero' : length (x ∷ xs) ≡ 0 = eqb-true (length 
 
 pub checks_end_well : ChecksEndWell
 checks_end_well r p k d blocks ok valid fits at store is holds =
-    let fit = fit_in_ring r p k d valid fits at in
-    let most = fit.cycle_end in
-    let small : r.cycle < 65536 = omega arith in
-    let rules = ring_drive r k d ok at in (
+    let most = (fit_in_ring r p k d valid fits at).cycle_end in
+    let small : r.cycle < 65536 = omega arith in (
       rw (plan_passes_check r p k d blocks ok valid fits at is holds) refl,
-      λ low high. let same = passes_for_phase_4 d blocks r.cycle store rules.blocks is holds.1.0 small low high in
+      λ low high. let same = passes_for_phase_4 d blocks r.cycle store (ring_drive r k d ok at).blocks is holds.1.0 small low high in
           ((λ e. same.0 (none_long (unfit_for_phase_4 blocks) e)), (λ none. rw (same.1 none) refl)),
     )
 
@@ -65,53 +59,34 @@ named_short : (raw n : ℕ) (broken : Bool) (rest : List Idn) → length rest �
 named_short raw n true rest short = omega arith
 named_short raw n false rest short = omega arith
 
-eleven_short : (a b c d e f g h i j k : Bool) → length (listed_if 1 a (listed_if 2 b (listed_if 6 c (listed_if 7 d (listed_if 8 e (listed_if 9 f (listed_if 10 g (listed_if 15 h (listed_if 16 i (listed_if 24 j (listed_if 89 k []))))))))))) ≤ 11
-eleven_short a b c d e f g h i j k =
-    let from_89 = named_short 89 0 k [] (omega arith) in
-    let from_24 = named_short 24 1 j _ from_89 in
-    let from_16 = named_short 16 2 i _ from_24 in
-    let from_15 = named_short 15 3 h _ from_16 in
-    let from_10 = named_short 10 4 g _ from_15 in
-    let from_9 = named_short 9 5 f _ from_10 in
-    let from_8 = named_short 8 6 e _ from_9 in
-    let from_7 = named_short 7 7 d _ from_8 in
-    let from_6 = named_short 6 8 c _ from_7 in
-    let from_2 = named_short 2 9 b _ from_6 in
-    named_short 1 10 a _ from_2
-
 unfit_short : (rate : ℕ) (blocks : List Block) → length (unfit_for_phase_3 rate blocks) ≤ 11
 unfolding unfit_for_phase_3
 unfit_short rate blocks =
-    eleven_short (breaks_1 blocks) (breaks_2 blocks) (breaks_6 blocks) (breaks_7 blocks) (breaks_8 blocks) (breaks_9 blocks) (breaks_10 blocks) (breaks_15 blocks) (breaks_list 16 blocks) (breaks_list 24 blocks) (breaks_89 rate blocks)
-
-outside_short : (p : Block → Bool) (blocks : List Block) → length (map (λ (b : Block). b.idn) (filter p blocks)) ≤ length blocks
-outside_short p [] = omega arith
-outside_short p (b ∷ blocks) = elim (cases_Bool (p b)) [
-  | inl on ↦ rw on (let h = outside_short p blocks in omega arith)
-  | inr off ↦ rw off (let h = outside_short p blocks in omega arith)
-]
+    let from_89 = named_short 89 0 (breaks_89 rate blocks) [] (omega arith) in
+    let from_16 = named_short 16 2 (breaks_list 16 blocks) _ (named_short 24 1 (breaks_list 24 blocks) _ from_89) in
+    let from_10 = named_short 10 4 (breaks_10 blocks) _ (named_short 15 3 (breaks_15 blocks) _ from_16) in
+    let from_8 = named_short 8 6 (breaks_8 blocks) _ (named_short 9 5 (breaks_9 blocks) _ from_10) in
+    let from_6 = named_short 6 8 (breaks_6 blocks) _ (named_short 7 7 (breaks_7 blocks) _ from_8) in
+    named_short 1 10 (breaks_1 blocks) _ (named_short 2 9 (breaks_2 blocks) _ from_6)
 
 unfit_4_short : (blocks : List Block) → length (unfit_for_phase_4 blocks) ≤ length blocks
 unfolding unfit_for_phase_4
-unfit_4_short blocks = outside_short is_outside blocks
+unfit_4_short [] = omega arith
+unfit_4_short (b ∷ blocks) = elim (cases_Bool (is_outside b)) [
+  | inl on ↦ rw on (let h = unfit_4_short blocks in omega arith)
+  | inr off ↦ rw off (let h = unfit_4_short blocks in omega arith)
+]
 
 pub read_back : (idns : List Idn) → idns_in (list_bytes idns) ≡ idns
 read_back [] = refl
-read_back (i ∷ idns) =
-    let same : i.raw % 256 + 256 * (i.raw / 256) ≡ i.raw = omega arith in
-    rw (same, read_back idns) refl
+read_back (i ∷ idns) = let same : i.raw % 256 + 256 * (i.raw / 256) ≡ i.raw = omega arith in rw (same, read_back idns) refl
 
 whole : (idns : List Idn) → length idns ≤ 64 → take 64 (idns_in (list_bytes idns)) ≡ idns
 whole idns short = rw (read_back idns) (take_all 64 idns short)
 
 pub stops_with_list : StopsWithList
 stops_with_list address rate blocks store = (
-  ap (λ (idns : List Idn). Some (stop.Check127 address (record { items = idns }))) (whole (unfit_for_phase_3 rate blocks) (at_most _ 11 (unfit_short rate blocks) (omega arith))),
-  ap (λ (idns : List Idn). Some (stop.Check128 address (record { items = idns }))) (whole (unfit_for_phase_4 blocks) (four store.few)),
+  ap (λ (idns : List Idn). Some (Stop.Check127 address (record { items = idns }))) (whole _ (omega (arith, unfit_short rate blocks))),
+  ap (λ (idns : List Idn). Some (Stop.Check128 address (record { items = idns })))
+      (whole _ (omega (arith, unfit_4_short blocks, store.few))),
 )
-  where
-    at_most : (a b : ℕ) → a ≤ b → b ≤ 64 → a ≤ 64
-    at_most a b h g = omega arith
-
-    four : length blocks ≤ 57 → length (unfit_for_phase_4 blocks) ≤ 64
-    four few = at_most _ (length blocks) (unfit_4_short blocks) (omega arith)

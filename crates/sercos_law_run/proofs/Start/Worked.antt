@@ -1,11 +1,6 @@
 -- A worked start-up: two drives, each with one block of its own, which is in both lists.
-use Rattle.sercos_law_run.proofs.Words.{◌≡◌, ℕ, zero, suc, ◌+◌, ◌*◌, ◌<◌, ◌≤◌, inl, true, false, List, [], ◌∷◌, ◌++◌, map, length, Some, None, slice_get, refl, subst, arith, All, All-cons, All-nil, wire_bits, Idn, Request, Outcome, PlanView, IsValid, Fits, fits_from, Block, with_data, DriveView, RingView, record_len, unfit_for_phase_3, member_of, known_of, idn, declared_times, reads, wishes_given, AtSlot, MdtSlot, AreApart, IsSentBefore, IsStoreOf, Holds, start_up, element_read, AreAnswers, HaveFactors, held_by, AreSent, AllHold, attribute_fault, attribute_of, is_rate, is_cycle, is_control, built_in, block_fault, blocks_fault, with_own, store_of, are_ring_numbers, are_times, are_drive_numbers, has_blocks, attribute_in, row_in, built_in_attribute, own_attribute, block_attribute, are_cyclic, has_address, is_drive, are_drives, is_turn, are_turns, is_order, mdt_len, listed_len, has_drives, is_ring, wishes_of, idns_at, carried_len}
-use Rattle.sercos_step.specs.declared.request.Request.TheVariants as request
-use Rattle.sercos_step.specs.declared.request.Outcome.TheVariants as outcome
+use Rattle.sercos_law_run.proofs.Words.{◌≡◌, ℕ, zero, suc, ◌+◌, ◌*◌, ◌<◌, ◌≤◌, inl, true, false, List, [], ◌∷◌, ◌++◌, map, length, Some, None, slice_get, refl, subst, arith, All, All-cons, All-nil, wire_bits, Idn, Request, Outcome, PlanView, IsValid, Fits, fits_from, Block, with_data, DriveView, RingView, record_len, unfit_for_phase_3, member_of, known_of, idn, declared_times, reads, wishes_given, AtSlot, MdtSlot, AreApart, IsSentBefore, IsStoreOf, Holds, start_up, element_read, AreAnswers, HaveFactors, held_by, AllHold, attribute_fault, attribute_of, is_rate, is_cycle, is_control, built_in, block_fault, blocks_fault, with_own, store_of, are_ring_numbers, are_times, are_drive_numbers, has_blocks, attribute_in, row_in, built_in_attribute, own_attribute, block_attribute, are_cyclic, has_address, is_drive, are_drives, is_turn, are_turns, is_order, mdt_len, listed_len, has_drives, is_ring, wishes_of, idns_at, carried_len, cyclic_len, number_at, inserted}
 use Rattle.sercos_timing.specs.FirstBroken.{first_broken, broken_by, broken_position}
-use Rattle.sercos_block.specs.Stores.{inserted}
-use Rattle.sercos_block.specs.Rings.{cyclic_len}
-use Rattle.sercos_command.specs.Checks.{number_at}
 use Rattle.sercos_law_run.proofs.Slots.Worked.{slot, each_two, pair_of_two}
 use Rattle.sercos_law_run.proofs.Start.CheckPasses.{plan_passes_check}
 use Rattle.sercos_law_run.proofs.Start.WellLemmas.{ring_is_valid}
@@ -69,11 +64,9 @@ each_drive P first second zero d e = let same : drive 1 10 ≡ d = cc in subst (
 each_drive P first second (suc zero) d e = let same : drive 2 12 ≡ d = cc in subst (P 1) same second
 each_drive P first second (suc (suc k)) d e = cc
 
-few : (k : ℕ) (d : DriveView) → slice_get ring.drives k ≡ Some d → (length d.at ≤ 16) × (length d.mdt ≤ 16)
-few = each_drive (λ k d. (length d.at ≤ 16) × (length d.mdt ≤ 16)) (omega arith, omega arith) (omega arith, omega arith)
-
 valid : IsValid (wishes_of ring)
-valid = ring_is_valid ring is_a_ring few
+valid = ring_is_valid ring is_a_ring (each_drive (λ k d. (length d.at ≤ 16) × (length d.mdt ≤ 16)) (omega arith, omega arith)
+    (omega arith, omega arith))
 
 no_break : first_broken (wishes_of ring) plan ≡ None
 unfolding wishes_of listed_len cyclic_len block_attribute built_in_attribute own_attribute row_in attribute_in attribute_fault attribute_of first_broken broken_by broken_position
@@ -86,29 +79,21 @@ counts = (refl, refl)
 fits : Fits (wishes_of ring) plan
 fits = fits_from (wishes_of ring) plan valid counts.0 counts.1 no_break
 
-same_first : IsStoreOf (drive 1 10) (stores 0)
+first_store : IsStoreOf (drive 1 10) (stores 0) × Holds (stores 0) (start_up 250 250 plan 0 (drive 1 10).at (drive 1 10).mdt)
 unfolding store_of with_own inserted built_in attribute_of
-same_first = refl
+first_store = (refl, (refl, (refl, (refl, (refl, (refl, (refl, (refl, (refl, (refl, (refl, (refl, tt))))))))))))
 
-same_second : IsStoreOf (drive 2 12) (stores 1)
+second_store : IsStoreOf (drive 2 12) (stores 1) × Holds (stores 1) (start_up 250 250 plan 1 (drive 2 12).at (drive 2 12).mdt)
 unfolding store_of with_own inserted built_in attribute_of
-same_second = refl
-
-holds_first : Holds (stores 0) (start_up 250 250 plan 0 (drive 1 10).at (drive 1 10).mdt)
-unfolding store_of with_own inserted built_in attribute_of
-holds_first = (refl, (refl, (refl, (refl, (refl, (refl, (refl, (refl, (refl, (refl, (refl, tt)))))))))))
-
-holds_second : Holds (stores 1) (start_up 250 250 plan 1 (drive 2 12).at (drive 2 12).mdt)
-unfolding store_of with_own inserted built_in attribute_of
-holds_second = (refl, (refl, (refl, (refl, (refl, (refl, (refl, (refl, (refl, (refl, (refl, tt)))))))))))
+second_store = (refl, (refl, (refl, (refl, (refl, (refl, (refl, (refl, (refl, (refl, (refl, (refl, tt))))))))))))
 
 -- the check for phase 3 finds nothing
 passes : unfit_for_phase_3 4 (stores 1) ≡ []
-passes = plan_passes_check ring plan 1 (drive 2 12) (stores 1) is_a_ring valid fits refl same_second holds_second
+passes = plan_passes_check ring plan 1 (drive 2 12) (stores 1) is_a_ring valid fits refl second_store.0 second_store.1
 
 -- both drives send, and the slots of the cycle are apart
 hold : AllHold ring plan (λ k. true) stores
-hold k d at up = each_drive (λ k d. IsStoreOf d (stores k) × Holds (stores k) (start_up 250 250 plan k d.at d.mdt)) (same_first, holds_first) (same_second, holds_second) k d at
+hold k d at up = each_drive (λ k d. IsStoreOf d (stores k) × Holds (stores k) (start_up 250 250 plan k d.at d.mdt)) first_store second_store k d at
 
 abbrev two_ats : List AtSlot
 two_ats = slot 0 40 110 ∷ slot 1 184 112 ∷ []
@@ -116,49 +101,37 @@ two_ats = slot 0 40 110 ∷ slot 1 184 112 ∷ []
 abbrev mdt : MdtSlot
 mdt = record { start = 332; bits = 190; records = (0 ∷ 1 ∷ 2 ∷ 3 ∷ 4 ∷ 5 ∷ 6 ∷ 7 ∷ []) ∷ (8 ∷ 9 ∷ 10 ∷ 11 ∷ 12 ∷ 13 ∷ 14 ∷ 15 ∷ []) ∷ [] }
 
-times : (number_at (stores 0) 6 ≡ 10) × (number_at (stores 1) 6 ≡ 46)
-unfolding number_at store_of with_own inserted built_in attribute_of
-times = (refl, refl)
-
-lengths : (carried_len (stores 0) 16 ≡ 8) × (carried_len (stores 1) 16 ≡ 8)
-unfolding carried_len idns_at store_of with_own inserted built_in attribute_of
-lengths = (refl, refl)
+numbers : (number_at (stores 0) 6 ≡ 10) × (number_at (stores 1) 6 ≡ 46) × (carried_len (stores 0) 16 ≡ 8) × (carried_len (stores 1) 16 ≡ 8)
+unfolding number_at carried_len idns_at store_of with_own inserted built_in attribute_of
+numbers = (refl, refl, refl, refl)
 
 records : map length mdt.records ≡ map record_len ring.drives
 unfolding listed_len cyclic_len block_attribute built_in_attribute own_attribute row_in attribute_in attribute_fault attribute_of
 records = refl
 
-sent : AreSent ring plan (λ k. true) stores two_ats mdt
-sent = record {
+apart : AreApart (wishes_of ring) (held_by (λ k. true) stores) two_ats mdt
+apart = ring_keeps_apart ring plan (λ k. true) stores two_ats mdt is_a_ring valid fits hold (record {
   senders = each_two (λ s. (s.drive < 2) × (true ≡ true)) _ _ (omega arith, refl) (omega arith, refl);
-  starts = each_two (λ s. s.start ≡ 4 * number_at (stores s.drive) 6) _ _ (at 40 10 _ times.0 refl) (at 184 46 _ times.1 refl);
-  bits = each_two (λ s. s.bits ≤ wire_bits (1 + carried_len (stores s.drive) 16)) _ _ (long 110 _ lengths.0 (omega arith)) (long 112 _ lengths.1 (omega arith));
+  starts = each_two (λ s. s.start ≡ 4 * number_at (stores s.drive) 6) _ _ (rw numbers.0 refl) (rw numbers.1 refl);
+  bits = each_two (λ s. s.bits ≤ wire_bits (1 + carried_len (stores s.drive) 16)) _ _ (rw numbers.2 (omega arith))
+      (rw numbers.3 (omega arith));
   in_order = pair_of_two IsSentBefore _ _ (inl (omega arith));
   mdt_start = refl;
   mdt_bits = omega arith;
   records = records;
-}
-  where
-    at : (start t1 n : ℕ) → n ≡ t1 → start ≡ 4 * t1 → start ≡ 4 * n
-    at start t1 n e h = rw e h
-
-    long : (bits n : ℕ) → n ≡ 8 → bits ≤ 121 → bits ≤ wire_bits (1 + n)
-    long bits n e h = rw e h
-
-apart : AreApart (wishes_of ring) (held_by (λ k. true) stores) two_ats mdt
-apart = ring_keeps_apart ring plan (λ k. true) stores two_ats mdt is_a_ring valid fits hold sent
+})
 
 -- each drive answers the master's first reads from its store at the opening; so the master asks of the plan what the ring asks
 abbrev answer : DriveView → Request → Outcome
-answer d (request.Read i e) = outcome.Complete (element_read (store_of d) i.raw e)
-answer d r = outcome.Broken
+answer d (Request.Read i e) = Outcome.Complete (element_read (store_of d) i.raw e)
+answer d r = Outcome.Broken
 
-attributes_answered : (d : DriveView) (idns : List Idn) → AreAnswers d (map (λ i. request.Read i 3) idns) (map (answer d) (map (λ i. request.Read i 3) idns))
+attributes_answered : (d : DriveView) (idns : List Idn) → AreAnswers d (map (λ i. Request.Read i 3) idns) (map (answer d) (map (λ i. Request.Read i 3) idns))
 attributes_answered d [] = tt
 attributes_answered d (i ∷ idns) = ((store_of d, refl, refl), attributes_answered d idns)
 
 all_answered : (d : DriveView) (raws : List ℕ) (idns : List Idn)
-    → AreAnswers d (map (λ raw. request.Read (idn raw) 7) raws ++ map (λ i. request.Read i 3) idns) (map (answer d) (map (λ raw. request.Read (idn raw) 7) raws ++ map (λ i. request.Read i 3) idns))
+    → AreAnswers d (map (λ raw. Request.Read (idn raw) 7) raws ++ map (λ i. Request.Read i 3) idns) (map (answer d) (map (λ raw. Request.Read (idn raw) 7) raws ++ map (λ i. Request.Read i 3) idns))
 all_answered d [] idns = attributes_answered d idns
 all_answered d (raw ∷ raws) idns = ((store_of d, refl, refl), all_answered d raws idns)
 

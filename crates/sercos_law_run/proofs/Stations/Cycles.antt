@@ -1,7 +1,6 @@
 -- What each drive of a ring keeps in a cycle.
 use Rattle.sercos_law_run.proofs.Words.{◌≡◌, ℕ, List, [], ◌∷◌, None, blocks_fault, store_of, IsStore, DriveView, DriveCall, drive_at, given_mst, given_mdt, KeepsAlways, ArePlain, AlwaysPlain, given_start}
-use Rattle.sercos_law_run.proofs.Start.CheckPasses.{ring_drive}
-use Rattle.sercos_law_run.proofs.Held.Runs.{drive_got}
+use Rattle.sercos_law_run.proofs.Held.Runs.{drive_rules}
 use Rattle.sercos_law_run.proofs.Stations.FitInThree.{fit_in_three}
 use Rattle.sercos_law_run.proofs.Stations.FitInFour.{fit_in_four}
 use Rattle.sercos_law_run.proofs.Stations.Times.{empty_keeps_times}
@@ -19,7 +18,7 @@ are_plain d rate (call ∷ h) none store = record {
 
 pub always_plain : KeepsAlways → AlwaysPlain
 always_plain always r jobs carry restarts t j opened k below =
-    let none = (ring_drive r k (drive_at r k) opened.valid (drive_got r k below)).blocks in
+    let none = drive_rules r k opened.valid below in
     let store = (always r carry restarts [] k opened.valid opened.typed below).store in (
       are_plain (drive_at r k) r.rate (given_start carry restarts j k) none store,
       are_plain (drive_at r k) r.rate (given_mst carry restarts t.sent j k) none store,

@@ -1,6 +1,5 @@
 -- In phase 4 no block of a drive has operation data outside its limits.
-use Rattle.sercos_law_run.proofs.Words.{◌≡◌, ℕ, ◌≤◌, ◌==◌, nat_lt, Bool, true, false, cond, not, ◌&&◌, ◌||◌, List, [], ◌∷◌, map, length, Option, Some, None, IfSome, refl, sym, ◌∙◌, ap, ap₂, subst, arith, if◌then◌else◌, option_map, list_all, filter, and_parts, false≢true, nat_tests, none_of-or, Attribute, Block, is_number, blocks_fault, find_block, with_data, write_fault, data_fault, put_fault, is_below, is_above, DriveView, with_data-nowhere, is_outside, is_passed-kept, may_rise, FitInFour, attribute_of, attribute_fault, attribute_in, row_in, built_in_attribute, block_attribute, are_ascending, unfit_for_phase_4, cases_Bool, cases_Option, inl, inr, or_from}
-use Rattle.sercos_drive.specs.Moments.{calls_in}
+use Rattle.sercos_law_run.proofs.Words.{◌≡◌, ℕ, ◌≤◌, ◌==◌, nat_lt, Bool, true, false, not, ◌||◌, List, [], ◌∷◌, length, Option, Some, None, IfSome, refl, sym, ◌∙◌, ap, ap₂, subst, arith, option_map, list_all, and_parts, false≢true, nat_tests, none_of-or, Attribute, Block, is_number, blocks_fault, find_block, with_data, write_fault, data_fault, put_fault, DriveView, with_data-nowhere, is_outside, is_passed-kept, may_rise, FitInFour, attribute_of, attribute_fault, attribute_in, row_in, built_in_attribute, block_attribute, are_ascending, unfit_for_phase_4, cases_Bool, inl, inr, command_calls, is_below, is_above}
 use Rattle.sercos_law_run.proofs.Undisturbed.Checks.OwnInside.{within}
 use Rattle.sercos_law_run.proofs.Start.BlockFinds.{same_attribute}
 use Rattle.sercos_law_run.proofs.Start.KeptLemmas.{above_none}
@@ -16,7 +15,7 @@ unfolding unfit_for_phase_4
 inside_so [] none = refl
 inside_so (b ∷ blocks) none = elim (cases_Bool (is_outside b)) [
   | inl on ↦ let more = inside_so blocks in absurd (grind (arith, nat_tests, (rw on at none)))
-  | inr off ↦ rw off ((inside_so blocks) (rw off at none))
+  | inr off ↦ rw off (inside_so blocks (rw off at none))
 ]
 
 none_so : (blocks : List Block) → AreInside blocks → unfit_for_phase_4 blocks ≡ []
@@ -24,7 +23,7 @@ unfolding unfit_for_phase_4
 none_so [] inside = refl
 none_so (b ∷ blocks) inside = elim (cases_Bool (is_outside b)) [
   | inl on ↦ absurd (false≢true (rw on at inside))
-  | inr off ↦ rw off ((none_so blocks) (rw off at inside))
+  | inr off ↦ rw off (none_so blocks (rw off at inside))
 ]
 
 -- a write that leaves the block inside its limits leaves all of them so
@@ -40,7 +39,7 @@ inside_written raw bytes (b ∷ blocks) up fine inside =
       | inl e ↦ rw e (let more = inside_written raw bytes blocks rest in
           let under : raw ≤ b.idn.raw = grind (arith, nat_tests, e) in
           rw (with_data-nowhere blocks raw bytes (above_none b.idn.raw raw blocks under above), (rw e at fine)) others)
-      | inr e ↦ rw e (rw here ((inside_written raw bytes blocks rest) (rw e at fine) others))
+      | inr e ↦ rw e (rw here (inside_written raw bytes blocks rest (rw e at fine) others))
     ])
 
 -- An accepted write is inside the limits.
@@ -81,7 +80,7 @@ module _ (d : DriveView) (rate : ℕ) (none : blocks_fault [] d.blocks ≡ None)
     command = λ blocks raw phase bytes is fine command inside. inside_written raw bytes blocks is.1 (accepted (find_block raw blocks) phase bytes fine) inside;
     later = λ blocks raw phase bytes is fine late below inside. inside_written raw bytes blocks is.1 (accepted (find_block raw blocks) phase bytes fine) inside;
     rise = λ cycle phase past high low has. let is : phase ≡ 4 = omega (arith, high, low) in sym
-        (is_passed-kept rate d.command 128 (calls_in past) cycle) ∙ subst (λ (p : ℕ). may_rise d rate cycle p past ≡ true) is has;
+        (is_passed-kept rate d.command 128 (command_calls past) cycle) ∙ subst (λ (p : ℕ). may_rise d rate cycle p past ≡ true) is has;
   }
 
 pub fit_in_four : FitInFour

@@ -1,6 +1,5 @@
 -- In phases 3 and 4 a drive's data record lies within its MDT.
-use Rattle.sercos_law_run.proofs.Words.{◌≡◌, true, List, refl, Block, number_at, carried_len, store_at, lies_within, AlwaysLies}
-use Rattle.sercos_drive.specs.Heard.{joint_in}
+use Rattle.sercos_law_run.proofs.Words.{◌≡◌, true, List, refl, Block, number_at, carried_len, store_at, lies_within, AlwaysLies, joint_in}
 use Rattle.sercos_law_run.proofs.Stations.FitInThree.{fit_in_three}
 use Rattle.sercos_law_run.proofs.Stations.Times.{empty_keeps_times}
 

@@ -26,7 +26,6 @@ empty_keeps_times rate blocks e =
     let multiple = not-false (n 1 % n 2 == 0) whole in
     let (no_8, inside) = either_none (n 8 == 0) (nat_lt (n 2) (n 8)) b8 in
     let (no_9, within) = either_none (n 9 == 0) (nat_lt (n 10) (n 9 + carried_len blocks 24 - 1)) b9 in
-    let seven = not-false (n 15 == 7) b15 in
     let place : nat_le 1 (n 9) ≡ true = grind (arith, nat_tests, no_9) in
     let ends : nat_le (n 9 + carried_len blocks 24) (n 10 + 1) ≡ true = grind (arith, nat_tests, no_9, within) in
     record {
@@ -38,6 +37,6 @@ empty_keeps_times rate blocks e =
       room = grind (arith, nat_tests, b10);
       cycle = not-false (is_cycle (n 2)) b2;
       control = (grind (arith, nat_tests, no_2), grind (arith, nat_tests, no_1), grind (arith, nat_tests, multiple));
-      kind = grind (arith, nat_tests, seven);
+      kind = grind (arith, nat_tests, not-false (n 15 == 7) b15);
       numbers = (not-false (list_all (is_cyclic blocks) (idns_at blocks 16)) b16, not-false (list_all (is_cyclic blocks) (idns_at blocks 24)) b24);
     }

@@ -55,16 +55,14 @@ module _ (r : RingView) (jobs : List Job) (carry : Carry) (restarts : Restarts) 
       | inr later ↦ (borne (u ∷ cycles) run clear sparse).near (omega (arith, later)) k below
       | inl at_zero ↦ inl (zero_again (view_of r jobs carry restarts k t (u ∷ (cycles ++ before)))
           (view_of r jobs carry restarts k u (cycles ++ before)) (views_of r jobs carry restarts k (cycles ++ before)) at_zero
-          (was_zero at_zero))
+          (elim (phase_after r jobs carry restarts opened t u (cycles ++ before) run clear
+          (all_borne r jobs carry restarts opened u cycles before run.0 clear.0 starts sparse.0).stays
+          (sparse.1.goes_on 0 (omega arith))
+          k below) [
+            | inl same ↦ same ∙ at_zero
+            | inr up ↦ absurd (omega (arith, up, at_zero))
+          ]))
     ]
-      where
-        was_zero : t.phase ≡ 0 → u.phase ≡ 0
-        was_zero at_zero = elim (phase_after r jobs carry restarts opened t u (cycles ++ before) run clear
-            (all_borne r jobs carry restarts opened u cycles before run.0 clear.0 starts sparse.0).stays (sparse.1.goes_on 0 (omega arith))
-            k below) [
-              | inl same ↦ same ∙ at_zero
-              | inr up ↦ absurd (omega (arith, up, at_zero))
-            ]
 
     ages_before : (cycles : List CycleView) → IsRun r jobs carry restarts (t ∷ (cycles ++ before)) → IsClear (t ∷ (cycles ++ before))
         → AreSparse r carry restarts (t ∷ cycles) before → (k : ℕ) → k < length r.drives
@@ -78,14 +76,13 @@ module _ (r : RingView) (jobs : List Job) (carry : Carry) (restarts : Restarts) 
         → AreSparse r carry restarts (t ∷ cycles) before → 3 ≤ t.phase → (k : ℕ) → k < length r.drives
         → age_in (views_of r jobs carry restarts k (cycles ++ before)) ≤ (drive_at r k).busy + 3
     late_before [] run clear sparse late k below = let none = none_old before run.0 clear.0 starts k below in omega (arith, none)
-    late_before (u ∷ cycles) run clear sparse late k below = elim (late_age r jobs carry restarts opened t u (cycles ++ before) run clear is
+    late_before (u ∷ cycles) run clear sparse late k below =
+        let is = all_borne r jobs carry restarts opened u cycles before run.0 clear.0 starts sparse.0 in
+        elim (late_age r jobs carry restarts opened t u (cycles ++ before) run clear is
         sparse.1 late k below) [
           | inl same ↦ late_age_of u (cycles ++ before) run.0 clear.0 is same.1 k below
           | inr none ↦ (let zero = closed_age (views_of r jobs carry restarts k (u ∷ (cycles ++ before))) none in omega (arith, zero))
         ]
-      where
-        is : Borne u (cycles ++ before)
-        is = all_borne r jobs carry restarts opened u cycles before run.0 clear.0 starts sparse.0
 
     -- phase 4 stays
     four_stays : (cycles : List CycleView) → IsRun r jobs carry restarts (t ∷ (cycles ++ before)) → IsClear (t ∷ (cycles ++ before))
@@ -95,12 +92,17 @@ module _ (r : RingView) (jobs : List Job) (carry : Carry) (restarts : Restarts) 
     four_stays (v ∷ cycles) run clear sparse u older is four =
         let same : v ≡ u = cc in
         let at : v.phase ≡ 4 = ap (λ (x : CycleView). x.phase) same ∙ four in
-        let least = no_lower r jobs carry restarts opened t v (cycles ++ before) run clear
-        (all_borne r jobs carry restarts opened v cycles before run.0 clear.0 starts sparse.0).stays (sparse.1.goes_on 0 (omega arith)) 0
-        (some_drive r jobs carry restarts opened) in
         let most = phase_low (known_of r) (tasks_for (known_of r) jobs) (master_calls r carry restarts (v ∷ (cycles ++ before))) in
         let phase = phase_is r jobs carry restarts opened t (v ∷ (cycles ++ before)) run
-        (borne (v ∷ cycles) run clear sparse) in omega (arith, at, least, most, phase)
+        (borne (v ∷ cycles) run clear sparse) in omega (
+          arith,
+          at,
+          no_lower r jobs carry restarts opened t v (cycles ++ before) run clear
+              (all_borne r jobs carry restarts opened v cycles before run.0 clear.0 starts sparse.0).stays (sparse.1.goes_on 0 (omega arith))
+              0 (some_drive r jobs carry restarts opened),
+          most,
+          phase,
+        )
 
   pub bears_sparse : (t : CycleView) (cycles before : List CycleView) → IsRun r jobs carry restarts (t ∷ (cycles ++ before))
       → IsClear (t ∷ (cycles ++ before)) → StartsEpoch r jobs carry restarts before

@@ -1,36 +1,24 @@
 -- From one cycle to the next: while disturbed cycles are sparse, the ring doesn't fall, each drive keeps near the commanded phase, and no
 -- step gets old.
-use Rattle.sercos_law_run.proofs.Words.{◌≡◌, ◌⊎◌, inl, inr, ℕ, ◌+◌, ◌<◌, ◌≤◌, Bool, true, false, not, ◌&&◌, List, [], ◌∷◌, ◌++◌, length, Option, None, refl, sym, ap, ◌∙◌, subst, arith, if◌then◌else◌, is_some, cases_Bool, cases_eq, cases_lt, cond-false, Job, RingView, IsRing-is_ring, open_in, age_of, cycles_open, CycleView, Fall, is_place, known_of, tasks_for, Past, Turn, count_addressed, fall_of, has_lost_at, has_lost_mst, is_done, Carry, Restarts, begun_in, epoch_begun, View, processed_in, standing, stood_in, age_in, calls_in, channel_calls, staying, IsPassed, IsUp, IsWhole, commanded, up_by, whole_row-le, drive_at, is_disturbed_in, looks_back, master_calls, middle, IsClear, IsDisturbed, IsRun, behind_ats, behind_mdt, view_of, views_of, IsOpened, StartsEpoch, IsUndisturbed, IsBehind, IsFirst, loses_step, AreCalm, AreSparse, IsSparse, begins_empty, comes_to_zero, ages_before_end, stays_a_run, IsViewRun}
-use Rattle.sercos_service_master.specs.Calls as channel
+use Rattle.sercos_law_run.proofs.Words.{◌≡◌, ◌⊎◌, inl, inr, ℕ, ◌+◌, ◌<◌, ◌≤◌, Bool, true, false, List, [], ◌∷◌, ◌++◌, length, Option, None, refl, sym, ap, ◌∙◌, subst, arith, if◌then◌else◌, is_some, cases_Bool, cases_eq, cases_lt, cond-false, Job, RingView, IsRing-is_ring, open_in, cycles_open, CycleView, Fall, is_place, known_of, tasks_for, Past, Turn, count_addressed, fall_of, has_lost_at, has_lost_mst, is_done, Carry, Restarts, begun_in, epoch_begun, View, processed_in, standing, stood_in, staying, IsPassed, IsUp, IsWhole, commanded, up_by, whole_row-le, drive_at, is_disturbed_in, looks_back, master_calls, middle, IsClear, IsDisturbed, IsRun, behind_ats, behind_mdt, view_of, views_of, IsOpened, StartsEpoch, IsUndisturbed, IsBehind, IsFirst, loses_step, AreCalm, AreSparse, IsSparse, begins_empty, comes_to_zero, stays_a_run, IsViewRun}
 use Rattle.sercos_law_run.proofs.Views.MasterSame.{begun_cycle}
 use Rattle.sercos_law_run.proofs.Views.Members.{in_ring}
 use Rattle.sercos_law_run.proofs.Views.ViewRuns.{started}
 use Rattle.sercos_law_run.proofs.Headline.HeadlineRuns.{all_stand}
-use Rattle.sercos_law_run.proofs.Undisturbed.ChannelsKept.{calls_now}
 use Rattle.sercos_law_run.proofs.Undisturbed.NeverFalls.{busy_low}
 use Rattle.sercos_law_run.proofs.Undisturbed.NoFalls.{IsNoLower, has_risen, heard_mdt, limit_so, none_falls}
 use Rattle.sercos_law_run.proofs.Undisturbed.Checks.PassedRuns.{passed_in}
-use Rattle.sercos_law_run.proofs.Undisturbed.Arriving.Sending.{sends_in}
 use Rattle.sercos_law_run.proofs.Undisturbed.Arriving.Small.{never_both}
 use Rattle.sercos_law_run.proofs.Undisturbed.StaysUp.{addressed_once, begun_none, heard_then, idle_then, whole_now}
 use Rattle.sercos_law_run.proofs.Undisturbed.Arriving.WholeIn.{whole_in}
 use Rattle.sercos_law_run.proofs.Recovery.LateDown.{phase_after, phase_now, turns_now}
-use Rattle.sercos_law_run.proofs.Recovery.Limits.{are_sent}
+use Rattle.sercos_law_run.proofs.Recovery.Limits.{not_old}
 use Rattle.sercos_law_run.proofs.Recovery.Stretches.{whole_at}
 use Rattle.sercos_law_run.proofs.Tolerance.FirstCycles.{never_first}
 use Rattle.sercos_law_run.proofs.Tolerance.Losses.{early_kept, none_lost_in}
-use Rattle.sercos_law_run.proofs.Tolerance.NoFallSo.{at_second, count_next, counted, mst_second}
+use Rattle.sercos_law_run.proofs.Tolerance.NoFallSo.{at_second, count_next, mst_second}
 use Rattle.sercos_law_run.proofs.Tolerance.Standing.{hears_whole, lost_so, stays_same, takes_whole, took_mdt, zero_up}
 use Rattle.sercos_law_run.proofs.Tolerance.Steps.{IsYoung, IsYoungSince, never_some, older, oldest, rested, young_both, young_lost, young_taken}
-
--- the phase rises if the one above is commanded next
-rises_so : (rises : Bool) (n : ℕ) → (if rises then n + 1 else n) ≡ n + 1 → rises ≡ true
-rises_so true n is = refl
-rises_so false n is = absurd (omega (arith, is))
-
-second_of : (a b : Bool) → (not a && b) ≡ true → b ≡ true
-second_of true b is = absurd (cc)
-second_of false b is = is
 
 -- A cycle is disturbed or not.
 pub calm_or_not : (r : RingView) (carry : Carry) (restarts : Restarts) (t : CycleView) (j : List CycleView)
@@ -102,10 +90,6 @@ module _ (r : RingView) (jobs : List Job) (carry : Carry) (restarts : Restarts) 
   pub is_run : (j : List CycleView) → IsRun r jobs carry restarts j → IsClear j → (k : ℕ) → k < length r.drives
       → IsViewRun (busy_of k) (views k j)
   is_run j run clear k below = (all_stand r jobs carry restarts opened j run clear k below).sees.run
-
-  run_on : (t : CycleView) (j : List CycleView) → IsRun r jobs carry restarts (t ∷ j) → IsClear (t ∷ j) → (k : ℕ) → k < length r.drives
-      → IsViewRun (busy_of k) (staying (view k t j) ∷ views k j)
-  run_on t j run clear k below = stays_a_run (busy_of k) (view k t j) (views k j) (is_run (t ∷ j) run clear k below)
 
   pub some_drive : 0 < length r.drives
   some_drive = let some = (IsRing-is_ring r opened.valid).some in omega (arith, some)
@@ -180,9 +164,6 @@ module _ (r : RingView) (jobs : List Job) (carry : Carry) (restarts : Restarts) 
     goes_now : restarts (length (u ∷ j)) 0 ≡ false
     goes_now = sparse.goes_on 0 (omega arith)
 
-    still : (k : ℕ) → k < length r.drives → restarts (length (u ∷ j)) (k + 1) ≡ false
-    still k below = sparse.goes_on (k + 1) (omega (arith, below))
-
     next : (k : ℕ) → k < length r.drives → (u.phase ≡ t.phase) ⊎ (u.phase + 1 ≡ t.phase)
     next k below = phase_after r jobs carry restarts opened t u j run clear is.stays goes_now k below
 
@@ -190,7 +171,7 @@ module _ (r : RingView) (jobs : List Job) (carry : Carry) (restarts : Restarts) 
     u_stays k = ap (λ (o : Option Fall). is_some o) is.stays
 
     passed : (k : ℕ) → k < length r.drives → IsPassed (view k t (u ∷ j)) (views k (u ∷ j))
-    passed k below = passed_in r jobs carry restarts opened t (u ∷ j) run clear k below (still k below)
+    passed k below = passed_in r jobs carry restarts opened t (u ∷ j) run clear k below (sparse.goes_on (k + 1) (omega (arith, below)))
 
     whole : IsUndisturbed r carry restarts t (u ∷ j) → (k : ℕ) → k < length r.drives
         → IsWhole (staying (view k t (u ∷ j))) (views k (u ∷ j))
@@ -210,8 +191,11 @@ module _ (r : RingView) (jobs : List Job) (carry : Carry) (restarts : Restarts) 
     rises : (k : ℕ) → k < length r.drives → u.phase + 1 ≡ t.phase → (view k u j).rises ≡ true
     rises k below up = elim (commanded (view k t (u ∷ j)) (views k (u ∷ j)) (is_run (t ∷ u ∷ j) run clear k below).1.commanded) [
       | inl c ↦ absurd (never_both (view k t (u ∷ j)).master_restarts c.0 goes_now)
-      | inr c ↦ rises_so (view k u j).rises u.phase (sym (cond-false (view k u j).falls 0
-          (if (view k u j).rises then u.phase + 1 else u.phase) (u_stays k)) ∙ sym c.1 ∙ sym up)
+      | inr c ↦ elim (cases_Bool (view k u j).rises) [
+        | inl on ↦ rw on refl
+        | inr off ↦ let is = rw off at (sym (cond-false (view k u j).falls 0 (if (view k u j).rises then u.phase + 1 else u.phase)
+            (u_stays k)) ∙ sym c.1 ∙ sym up) in rw off (absurd (omega (arith, is)))
+      ]
     ]
 
     pub rests_then : (k : ℕ) → k < length r.drives → u.phase + 1 ≡ t.phase → open_in (epoch_begun (views k (u ∷ j))) ≡ None
@@ -236,8 +220,10 @@ module _ (r : RingView) (jobs : List Job) (carry : Carry) (restarts : Restarts) 
         | inl at ↦ elim (next k (within k here)) [ inl same ↦ inl (at.1 ∙ same) | inr up ↦ inr (ap (λ (n : ℕ). n + 1) at.1 ∙ up) ]
         | inr behind ↦ elim (next k (within k here)) [
           | inl same ↦ inr (behind.ended ∙ same)
-          | inr up ↦ absurd (is.first k here behind.first (second_of (is_some (fall_of (known_of r) (now u j)))
-              (is_done (known_of r) (now u j)) (rises k (within k here) up)))
+          | inr up ↦ absurd (is.first k here behind.first (elim (cases_Bool (is_some (fall_of (known_of r) (now u j)))) [
+            | inl on ↦ let is = rw on at (rises k (within k here) up) in absurd (cc)
+            | inr off ↦ let is = rw off at (rises k (within k here) up) in is
+          ]))
         ]
       ]
     ]
@@ -249,25 +235,13 @@ module _ (r : RingView) (jobs : List Job) (carry : Carry) (restarts : Restarts) 
           (was_near (omega (arith, later)) k here)
     ]
 
-    near_now : 1 ≤ t.phase → (k : ℕ) → among k → IsUp (view k t (u ∷ j)) (views k (u ∷ j))
-        ⊎ IsBehind (view k t (u ∷ j)) (views k (u ∷ j))
-    near_now one k here = elim (calm_or_not r carry restarts t (u ∷ j)) [
-      | inr calm ↦ inl (up_now calm k here)
-      | inl disturbed ↦
-          let before = calm_before disturbed one in
-          let was = is.up before k here in
-          lost_so (view k t (u ∷ j)) (view k u j) (views k j) (still k (within k here)) (whole_before before k (within k here)).mst
-          (took_mdt (view k u j) (views k j) (whole_before before k (within k here)) was.0) was (next k (within k here))
-          (passed k (within k here))
-    ]
-
     -- THE STEPS
     module _ (k : ℕ) (here : among k) where
       abbrev all : List View
       all = staying (view k t (u ∷ j)) ∷ views k (u ∷ j)
 
       run_now : IsViewRun (busy_of k) all
-      run_now = run_on t (u ∷ j) run clear k (within k here)
+      run_now = stays_a_run (busy_of k) (view k t (u ∷ j)) (views k (u ∷ j)) (is_run (t ∷ (u ∷ j)) run clear k (within k here))
 
       takes : IsUndisturbed r carry restarts t (u ∷ j) → is_some (open_in (begun_in (staying (view k t (u ∷ j))) (views k (u ∷ j)))) ≡ true
           → is_some (processed_in (staying (view k t (u ∷ j))) (views k (u ∷ j))) ≡ true
@@ -309,45 +283,37 @@ module _ (r : RingView) (jobs : List Job) (carry : Carry) (restarts : Restarts) 
       lost_now two disturbed = young_lost (busy_of k) (staying (view k t (u ∷ j))) (views k (u ∷ j)) run_now refl goes_now since 0
           (before_lost_then disturbed two)
 
-      any_now : 2 ≤ t.phase → IsYoungSince since (busy_of k) 1 2 all
-      any_now two = elim (calm_or_not r carry restarts t (u ∷ j)) [
-        | inl disturbed ↦ older since (busy_of k) 1 1 1 2 all (omega arith) (omega arith) (lost_now two disturbed)
-        | inr calm ↦ elim (calm_or_not r carry restarts u j) [
-          | inl before ↦ older since (busy_of k) 0 2 1 2 all (omega arith) (omega arith)
-              (young_taken (busy_of k) (staying (view k t (u ∷ j))) (views k (u ∷ j)) run_now refl goes_now since 1
-              ((is.aged k here).lost before) (takes calm))
-          | inr before ↦ older since (busy_of k) 0 0 1 2 all (omega arith) (omega arith) (calm_now calm (inr (tt, before)))
-        ]
-      ]
-
-      aged_now : IsAged r carry restarts since (busy_of k) t (u ∷ j) all
+      pub aged_now : IsAged r carry restarts since (busy_of k) t (u ∷ j) all
       aged_now = elim (cases_lt t.phase 2) [
         | inl early ↦ rested_all r carry restarts since (busy_of k) t (u ∷ j) all
             (ap open_in (idle_so t (u ∷ j) run clear k (within k here) (omega (arith, early))))
-        | inr late ↦ record { any = any_now (omega (arith, late)); lost = lost_now (omega (arith, late)); calm = calm_now }
+        | inr late ↦ record {
+          any = elim (calm_or_not r carry restarts t (u ∷ j)) [
+            | inl disturbed ↦ older since (busy_of k) 1 1 1 2 all (omega arith) (omega arith) (lost_now (omega (arith, late)) disturbed)
+            | inr calm ↦ elim (calm_or_not r carry restarts u j) [
+              | inl before ↦ older since (busy_of k) 0 2 1 2 all (omega arith) (omega arith)
+                  (young_taken (busy_of k) (staying (view k t (u ∷ j))) (views k (u ∷ j)) run_now refl goes_now since 1
+                  ((is.aged k here).lost before) (takes calm))
+              | inr before ↦ older since (busy_of k) 0 0 1 2 all (omega arith) (omega arith) (calm_now calm (inr (tt, before)))
+            ]
+          ];
+          lost = lost_now (omega (arith, late));
+          calm = calm_now;
+        }
       ]
 
       few_open : IsYoung (busy_of k) 1 2 all → cycles_open ((now t (u ∷ j)).calls k) ≤ 63
       few_open young =
           let age = oldest (busy_of k) 1 2 all run_now (omega arith) young in
           let low = busy_low r k opened.valid (within k here) in
-          subst (λ (c : List channel.Call). cycles_open c ≤ 63) (calls_now r jobs carry restarts opened t (u ∷ j) run clear k
-          (within k here))
-          (counted (age_of (calls_in (view k t (u ∷ j)) (channel_calls (views k (u ∷ j)))))
-          (is_some (open_in (begun_in (view k t (u ∷ j)) (views k (u ∷ j))))) (age_in all) (busy_of k + 4) (omega (arith, age))
-          (omega (arith, low))
-          (ages_before_end (busy_of k) (view k t (u ∷ j)) (views k (u ∷ j)) (is_run (t ∷ u ∷ j) run clear k (within k here))
-          (are_sent r jobs carry restarts opened (u ∷ j) run.0 clear.0 k (within k here))
-          (λ opens. sends_in r jobs carry restarts opened t (u ∷ j) run clear k (within k here) opens)))
+          not_old r jobs carry restarts opened t (u ∷ j) run clear k (within k here) (omega (arith, age, low))
 
     -- THE IDENTIFICATIONS
     module _ (k : ℕ) (here : among k) where
-      turns_are : (now t (u ∷ j)).turns ≡ (now u j).now ∷ (now u j).turns
-      turns_are = turns_now r jobs carry restarts t u j is.stays goes_now
-
       more_asked : (c : ℕ) → ((now u j).now.phase ≡ 1 → is_place k (now u j).now.addressed ≡ true → count_addressed k (now u j).turns ≤ c)
           → count_addressed k (now t (u ∷ j)).turns ≤ c + 1
-      more_asked c few = subst (λ (l : List Turn). count_addressed k l ≤ c + 1) (sym turns_are)
+      more_asked c few = subst (λ (l : List Turn). count_addressed k l ≤ c + 1)
+          (sym (turns_now r jobs carry restarts t u j is.stays goes_now))
           (count_next k c (now u j).now (now u j).turns few)
 
       calm_asked : IsUndisturbed r carry restarts t (u ∷ j) → AreCalm r carry restarts 1 (u ∷ j) → (now t (u ∷ j)).now.phase ≡ 1
@@ -380,26 +346,15 @@ module _ (r : RingView) (jobs : List Job) (carry : Carry) (restarts : Restarts) 
     up_stood : (v : View) (past : List View) → IsUp v past → 3 ≤ v.phase → 1 ≤ stood_in v (standing past)
     up_stood v past up late = let same = up.0 in omega (arith, same, late)
 
-    heard_now : IsUndisturbed r carry restarts t (u ∷ j) → (k : ℕ) → among k → 3 ≤ t.phase → (now t (u ∷ j)).now.heard k ≡ true
-    heard_now calm k here late = ap (λ (f : ℕ → Bool). f k) (heard_mdt (known_of r) (behind_ats r jobs carry restarts t.sent (u ∷ j)))
-        ∙ heard_then r jobs carry restarts opened t (u ∷ j) run clear k (within k here)
-        ((whole calm k (within k here)).listens late (up_stood (view k t (u ∷ j)) (views k (u ∷ j)) (up_now calm k here) late))
-
-    heard_before : IsUndisturbed r carry restarts u j → (k : ℕ) → among k → 3 ≤ u.phase → (now u j).now.heard k ≡ true
-    heard_before calm k here late = ap (λ (f : ℕ → Bool). f k) (heard_mdt (known_of r) (behind_ats r jobs carry restarts u.sent j))
-        ∙ heard_then r jobs carry restarts opened u j run.0 clear.0 k (within k here)
-        ((whole_before calm k (within k here)).listens late (up_stood (view k u j) (views k j) (is.up calm k here) late))
-
     own_came : ((now t (u ∷ j)).now.whole ≡ true) ⊎ (((now u j).now.whole ≡ true) ⊎ ((now u j).now.phase ≡ 0))
     own_came = elim (calm_or_not r carry restarts t (u ∷ j)) [
       | inr calm ↦ inl (whole_now r jobs carry restarts opened t (u ∷ j) run.1 calm)
       | inl disturbed ↦ elim (cases_eq t.phase 0) [
         | inr later ↦ inr (inl (whole_now r jobs carry restarts opened u j run.0.1 (calm_before disturbed (omega (arith, later)))))
         | inl at_zero ↦ (
-            let risen : IsNoLower (now t (u ∷ j)).now.phase (now t (u ∷ j)).turns = has_risen (known_of r) (tasks_for (known_of r) jobs)
-            (middle r carry restarts t.sent (u ∷ j)) in
             let low : (now u j).now.phase ≤ (now t (u ∷ j)).now.phase = subst (IsNoLower (now t (u ∷ j)).now.phase)
-            (turns_now r jobs carry restarts t u j is.stays goes_now) risen in
+            (turns_now r jobs carry restarts t u j is.stays goes_now)
+            (has_risen (known_of r) (tasks_for (known_of r) jobs) (middle r carry restarts t.sent (u ∷ j))) in
             let same = phase_now r jobs carry restarts t (u ∷ j) run.1 in inr (inr (omega (arith, low, same, at_zero))))
       ]
     ]
@@ -407,8 +362,13 @@ module _ (r : RingView) (jobs : List Job) (carry : Carry) (restarts : Restarts) 
     ats_came : (k : ℕ) → among k → 3 ≤ (now u j).now.phase
         → ((now t (u ∷ j)).now.heard k ≡ true) ⊎ ((now u j).now.heard k ≡ true)
     ats_came k here late = elim (calm_or_not r carry restarts t (u ∷ j)) [
-      | inr calm ↦ inl (heard_now calm k here late_now)
-      | inl disturbed ↦ inr (heard_before (calm_before disturbed (omega (arith, late_now))) k here late_before)
+      | inr calm ↦ inl (ap (λ (f : ℕ → Bool). f k) (heard_mdt (known_of r) (behind_ats r jobs carry restarts t.sent (u ∷ j)))
+          ∙ heard_then r jobs carry restarts opened t (u ∷ j) run clear k (within k here)
+          ((whole calm k (within k here)).listens late_now (up_stood (view k t (u ∷ j)) (views k (u ∷ j)) (up_now calm k here) late_now)))
+      | inl disturbed ↦ inr (ap (λ (f : ℕ → Bool). f k) (heard_mdt (known_of r) (behind_ats r jobs carry restarts u.sent j))
+          ∙ heard_then r jobs carry restarts opened u j run.0 clear.0 k (within k here)
+          ((whole_before (calm_before disturbed (omega (arith, late_now))) k (within k here)).listens late_before
+          (up_stood (view k u j) (views k j) (is.up (calm_before disturbed (omega (arith, late_now))) k here) late_before)))
     ]
       where
         late_before : 3 ≤ u.phase
@@ -448,7 +408,16 @@ module _ (r : RingView) (jobs : List Job) (carry : Carry) (restarts : Restarts) 
       stays = stays;
       goes_on = goes_now;
       up = up_now;
-      near = near_now;
+      near = λ one k here. elim (calm_or_not r carry restarts t (u ∷ j)) [
+        | inr calm ↦ inl (up_now calm k here)
+        | inl disturbed ↦
+            let before = calm_before disturbed one in
+            let was = is.up before k here in
+            lost_so (view k t (u ∷ j)) (view k u j) (views k j) (sparse.goes_on (k + 1) (omega (arith, (within k here))))
+            (whole_before before k (within k here)).mst
+            (took_mdt (view k u j) (views k j) (whole_before before k (within k here)) was.0) was (next k (within k here))
+            (passed k (within k here))
+      ];
       first = λ k here first done. never_first r jobs carry restarts opened t u j run clear is.stays goes_now is.goes_on first done k
           (within k here);
       aged = λ k here. aged_after since t (u ∷ j) k stays (aged_now k here);

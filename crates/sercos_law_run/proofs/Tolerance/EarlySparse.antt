@@ -1,8 +1,7 @@
 -- How long phases 0 and 1 last while disturbed cycles are sparse.
-use Rattle.sercos_law_run.proofs.Words.{◌≡◌, ◌⊎◌, inl, inr, ℕ, zero, suc, ◌+◌, ◌<◌, ◌≤◌, Bool, true, false, not, ◌&&◌, ◌||◌, List, [], ◌∷◌, ◌++◌, length, Option, Some, None, refl, sym, ap, ◌∙◌, arith, if◌then◌else◌, ◌==◌, is_none, cases_eq, false≢true, not-true, Job, RingView, CycleView, known_of, Past, Turn, all_identified, first_place, has_identified, is_done, is_done_in, is_identified, whole_row, first_found, Carry, Restarts, is_disturbed_in, looks_back, master_calls, IsClear, IsDisturbed, IsRun, at_start, behind_ats, behind_mdt, behind_mst, IsOpened, came_back, IsUndisturbed, early_cost, early_costs, AreSparse, or_right}
-use Rattle.sercos_law_run.proofs.Views.MasterSame.{begun_cycle, turn_mdt}
+use Rattle.sercos_law_run.proofs.Words.{cases_Option, cases_Bool, ◌≡◌, ◌⊎◌, inl, inr, ℕ, zero, suc, ◌+◌, ◌<◌, ◌≤◌, Bool, true, false, not, ◌&&◌, List, [], ◌∷◌, ◌++◌, length, Some, None, refl, sym, ap, ◌∙◌, arith, if◌then◌else◌, ◌==◌, cases_eq, false≢true, not-true, Job, RingView, CycleView, known_of, Past, Turn, first_place, has_identified, is_done, is_done_in, is_identified, whole_row, first_found, Carry, Restarts, is_disturbed_in, looks_back, master_calls, IsClear, IsDisturbed, IsRun, at_start, behind_ats, behind_mdt, behind_mst, IsOpened, came_back, IsUndisturbed, early_cost, early_costs, AreSparse, or_right}
+use Rattle.sercos_law_run.proofs.Views.MasterSame.{turn_mdt}
 use Rattle.sercos_law_run.proofs.Views.Members.{members_count}
-use Rattle.sercos_law_run.proofs.Views.ViewRuns.{started}
 use Rattle.sercos_law_run.proofs.Undisturbed.ChannelsKept.{ats_leave}
 use Rattle.sercos_law_run.proofs.Undisturbed.Identified.{heard_next}
 use Rattle.sercos_law_run.proofs.Undisturbed.NoFalls.{heard_mdt}
@@ -11,6 +10,8 @@ use Rattle.sercos_law_run.proofs.Undisturbed.PhasesRise.{phase_after}
 use Rattle.sercos_law_run.proofs.Undisturbed.PhaseZero.{few_back, stays_zero}
 use Rattle.sercos_law_run.proofs.Undisturbed.StaysUp.{addressed_first, found_passes, phase_now, stands_so, turns_now}
 use Rattle.sercos_law_run.proofs.Tolerance.Borne.{IsBase, IsBorne, borne_on, calm_or_not}
+use Rattle.sercos_law_run.proofs.Undisturbed.Stops.StopOnce.{same_start}
+use Rattle.sercos_law_run.proofs.Undisturbed.Stops.StopStays.{none_before}
 
 -- COUNTS of places that pass a test
 abbrev pub one_if : Bool → ℕ
@@ -33,9 +34,8 @@ count_more : (n k : ℕ) (f g : ℕ → Bool) → ((i : ℕ) → f i ≡ true �
 count_more zero k f g more low off on = absurd (omega (arith, low))
 count_more (suc n) k f g more low off on = elim (cases_eq k n) [
   | inl same ↦ (
-      let rest = count_most n f g more in
       let none : one_if (f n) ≡ 0 = ap one_if (ap f (sym same) ∙ off) in
-      let one : one_if (g n) ≡ 1 = ap one_if (ap g (sym same) ∙ on) in omega (arith, rest, none, one))
+      let one : one_if (g n) ≡ 1 = ap one_if (ap g (sym same) ∙ on) in omega (arith, count_most n f g more, none, one))
   | inr other ↦ (let rest = count_more n k f g more (omega (arith, low, other)) off on in let last = no_less (f n) (g n) (more n) in
       omega (arith, rest, last))
 ]
@@ -43,10 +43,6 @@ count_more (suc n) k f g more low off on = elim (cases_eq k n) [
 pub count_all : (n : ℕ) → count n (λ k. true) ≡ n
 count_all zero = refl
 count_all (suc n) = let rest = count_all n in omega (arith, rest)
-
-some_first : (o : Option ℕ) → is_none o ≡ false → (k : ℕ) × (o ≡ Some k)
-some_first None off = absurd (false≢true (sym off))
-some_first (Some k) off = (k, refl)
 
 -- what tests of a phase choose
 abbrev pub cost_by : ℕ → Bool → Bool → ℕ
@@ -65,18 +61,11 @@ one_at_most false = omega arith
 pub zero_cost : (n : ℕ) (whole disturbed : Bool) → n ≡ 0 → cost_by n whole disturbed ≡ ten_unless whole
 zero_cost n whole disturbed is = ap (λ (m : ℕ). cost_by m whole disturbed) is
 
-pub one_cost : (n : ℕ) (whole disturbed : Bool) → n ≡ 1 → cost_by n whole disturbed ≡ two_if disturbed
-one_cost n whole disturbed is = ap (λ (m : ℕ). cost_by m whole disturbed) is
-
 -- one cycle of phase 0 more
 row_next : (whole : Bool) (len row costs : ℕ) → len ≤ row + costs → row ≤ 9
     → suc len ≤ (if whole then row + 1 else 0) + (costs + (if whole then 0 else 10))
 row_next true len row costs le few = omega (arith, le)
 row_next false len row costs le few = omega (arith, le, few)
-
-pub one_phase : (done : Bool) (n : ℕ) → (if done then n + 1 else n) ≡ 1 → ((done ≡ true) × (n ≡ 0)) ⊎ ((done ≡ false) × (n ≡ 1))
-one_phase true n is = inl (refl, omega (arith, is))
-one_phase false n is = inr (refl, is)
 
 module _ (r : RingView) (jobs : List Job) (carry : Carry) (restarts : Restarts) (opened : IsOpened r jobs) where
   abbrev back : List CycleView → Past
@@ -100,11 +89,13 @@ module _ (r : RingView) (jobs : List Job) (carry : Carry) (restarts : Restarts) 
   -- A CYCLE that is borne
   module _ (t : CycleView) (j : List CycleView) (run : IsRun r jobs carry restarts (t ∷ j)) (is : Borne t j) where
     pub start_is : at_start r jobs carry restarts j ≡ back j
-    start_is = started r jobs (restarts (length j) 0) (master_calls r carry restarts j)
-        ∙ ap (λ (b : Bool). begun_cycle b (back j)) is.goes_on
+    start_is = same_start r jobs carry restarts j is.goes_on
 
     pub phase_is : t.phase ≡ (back j).now.phase
     phase_is = run.1.phase ∙ ap (λ (p : Past). p.now.phase) start_is
+
+    pub none_earlier : (now t j).stop ≡ None → (back j).stop ≡ None
+    none_earlier none = none_before r jobs carry restarts t j start_is none
 
     turns_before : (now t j).turns ≡ (back j).turns
     turns_before = turns_now r jobs carry restarts opened t j ∙ ap (λ (p : Past). p.turns) start_is
@@ -115,6 +106,14 @@ module _ (r : RingView) (jobs : List Job) (carry : Carry) (restarts : Restarts) 
 
     pub phase_next : (back (t ∷ j)).now.phase ≡ (if is_done (known_of r) (now t j) then t.phase + 1 else t.phase)
     phase_next = phase_after r jobs carry restarts opened t j run is.stays
+
+    -- the phase after it rose with it, or it didn't
+    pub rose : (m : ℕ) → (back (t ∷ j)).now.phase ≡ suc m
+        → ((is_done (known_of r) (now t j) ≡ true) × (t.phase ≡ m)) ⊎ ((is_done (known_of r) (now t j) ≡ false) × (t.phase ≡ suc m))
+    rose m after = elim (cases_Bool (is_done (known_of r) (now t j))) [
+      | inl on ↦ let is = rw on at (sym phase_next ∙ after) in rw on (inl (refl, omega (arith, is)))
+      | inr off ↦ let is = rw off at (sym phase_next ∙ after) in rw off (inr (refl, is))
+    ]
 
     whole_is : (now t j).now.whole ≡ (behind_mst r jobs carry restarts t.sent j).now.whole
     whole_is = (turn_mdt (known_of r) (behind_ats r jobs carry restarts t.sent j)).whole_is
@@ -138,77 +137,62 @@ module _ (r : RingView) (jobs : List Job) (carry : Carry) (restarts : Restarts) 
       carry restarts cycles before
   zero_lasts [] before run clear starts sparse at_zero = omega arith
   zero_lasts (t ∷ cycles) before run clear starts sparse at_zero =
-      by (zero_lasts cycles before run.0 clear.0 starts sparse.0 (sym (phase_is t (cycles ++ before) run is) ∙ t_zero))
+      let is = borne_on r jobs carry restarts opened t cycles before run clear starts sparse in
+      let t_zero : t.phase ≡ 0 =
+      (stays_zero (is_done (known_of r) (now t (cycles ++ before))) t.phase (sym (phase_next t (cycles ++ before) run is) ∙ at_zero)).1 in
+      let few = few_back r jobs carry restarts (cycles ++ before) (sym (phase_is t (cycles ++ before) run is) ∙ t_zero) in
+      let cost = zero_cost t.phase (behind_mst r jobs carry restarts t.sent (cycles ++ before)).now.whole
+      (is_disturbed_in r carry restarts (length (cycles ++ before)) t.sent) t_zero in
+      let step = row_next (behind_mst r jobs carry restarts t.sent (cycles ++ before)).now.whole (length cycles)
+      (came_back r jobs carry restarts (cycles ++ before)) (early_costs r jobs carry restarts cycles before)
+      (zero_lasts cycles before run.0 clear.0 starts sparse.0 (sym (phase_is t (cycles ++ before) run is) ∙ t_zero)) few in
+      omega (arith, row_after t (cycles ++ before) run is, cost, step)
+
+  -- THE FIRST DRIVE that isn't identified after a cycle of phase 1 that isn't the last
+  record IsUnknown (t : CycleView) (j : List CycleView) : Type 0 where
+    place : ℕ
+    first : first_place (known_of r) (λ k. not (is_identified (now t j) k)) ≡ Some place
+    low : place < length (known_of r).drives
+    off : has_identified place (back (t ∷ j)).turns ≡ false
+
+  unknown : (t : CycleView) (j : List CycleView) → IsRun r jobs carry restarts (t ∷ j) → Borne t j → t.phase ≡ 1
+      → is_done (known_of r) (now t j) ≡ false → IsUnknown t j
+  unknown t j run is one unfinished = record {
+    place = first.0;
+    first = first.1;
+    low = let less = (first_found 0 (length (known_of r).drives) first.0 (λ k. not (is_identified (now t j) k)) first.1).below in
+        omega (arith, less);
+    off = ap (has_identified first.0) (turns_after t j run is ∙ ap (λ (l : List Turn). (now t j).now ∷ l) (sym (turns_before t j run is)))
+        ∙ not-true (is_identified (now t j) first.0) (found_passes 0 (length (known_of r).drives) first.0
+        (λ k. not (is_identified (now t j) k)) first.1);
+  }
     where
-      is : Borne t (cycles ++ before)
-      is = borne_on r jobs carry restarts opened t cycles before run clear starts sparse
-
-      t_zero : t.phase ≡ 0
-      t_zero = (stays_zero (is_done (known_of r) (now t (cycles ++ before))) t.phase (sym (phase_next t (cycles ++ before) run is) ∙ at_zero)).1
-
-      by : length cycles ≤ came_back r jobs carry restarts (cycles ++ before) + early_costs r jobs carry restarts cycles before
-          → suc (length cycles) ≤ came_back r jobs carry restarts (t ∷ (cycles ++ before)) + early_costs r jobs carry restarts (t ∷ cycles)
-          before
-      by le =
-          let few = few_back r jobs carry restarts (cycles ++ before) (sym (phase_is t (cycles ++ before) run is) ∙ t_zero) in
-          let row = row_after t (cycles ++ before) run is in
-          let cost = zero_cost t.phase (behind_mst r jobs carry restarts t.sent (cycles ++ before)).now.whole
-          (is_disturbed_in r carry restarts (length (cycles ++ before)) t.sent) t_zero in
-          let step = row_next (behind_mst r jobs carry restarts t.sent (cycles ++ before)).now.whole (length cycles)
-          (came_back r jobs carry restarts (cycles ++ before)) (early_costs r jobs carry restarts cycles before) le few in
-          omega (arith, row, cost, step)
+      first : (k : ℕ) × (first_place (known_of r) (λ k. not (is_identified (now t j) k)) ≡ Some k)
+      first = elim (cases_Option (first_place (known_of r) (λ k. not (is_identified (now t j) k)))) [
+        | inl none ↦ let off = rw none at (sym (ap (λ (n : ℕ). is_done_in n (known_of r) (now t j))
+            (phase_now r jobs carry restarts opened t j run.1 ∙ one)) ∙ unfinished) in rw none (absurd (false≢true (sym off)))
+        | inr some ↦ rw some.1 (some.0, refl)
+      ]
 
   -- A DRIVE MORE is identified, if two cycles of phase 1 in a row are undisturbed.
   pub one_more : (t u : CycleView) (j : List CycleView) → IsRun r jobs carry restarts (t ∷ u ∷ j) → IsClear (t ∷ u ∷ j) → Borne t (u ∷ j)
       → Borne u j → IsUndisturbed r carry restarts t (u ∷ j) → IsUndisturbed r carry restarts u j
       → t.phase ≡ 1 → u.phase ≡ 1 → is_done (known_of r) (now u j) ≡ false → known (back (u ∷ j)).turns + 1 ≤ known (back (t ∷ u ∷ j)).turns
   one_more t u j run clear is was calm calm_before one was_one unfinished =
-      count_more (length (known_of r).drives) first.0 (λ k. has_identified k (back (u ∷ j)).turns)
-      (λ k. has_identified k (back (t ∷ u ∷ j)).turns) stay low off on
+      let u_phase : (now u j).now.phase ≡ 1 = phase_now r jobs carry restarts opened u j run.0.1 ∙ was_one in
+      let x = unknown u j run.0 was was_one unfinished in
+      let inside : x.place < length r.drives = let all = members_count r in let less = x.low in omega (arith, all, less) in
+      count_more (length (known_of r).drives) x.place (λ k. has_identified k (back (u ∷ j)).turns)
+      (λ k. has_identified k (back (t ∷ u ∷ j)).turns) stay x.low x.off (ap (has_identified x.place) (turns_after t (u ∷ j) run is)
+      ∙ (rw (
+        (phase_now r jobs carry restarts opened t (u ∷ j) run.1 ∙ one),
+        (ap (λ (f : ℕ → Bool). f x.place) (heard_mdt (known_of r) (behind_ats r jobs carry restarts t.sent (u ∷ j)))
+            ∙ heard_next r jobs carry restarts opened t u j run calm calm_before x.place inside one u_phase
+            (addressed_first (known_of r) (behind_ats r jobs carry restarts u.sent j) u_phase ∙ x.first)
+            (stands_so r jobs carry restarts opened u j run.0 clear.0 calm_before (omega (arith, was_one)) x.place inside
+            ∙ was_one)),
+      ) refl))
     where
-      u_phase : (now u j).now.phase ≡ 1
-      u_phase = phase_now r jobs carry restarts opened u j run.0.1 ∙ was_one
-
-      t_phase : (now t (u ∷ j)).now.phase ≡ 1
-      t_phase = phase_now r jobs carry restarts opened t (u ∷ j) run.1 ∙ one
-
-      not_all : all_identified (known_of r) (now u j) ≡ false
-      not_all = sym (ap (λ (n : ℕ). is_done_in n (known_of r) (now u j)) u_phase) ∙ unfinished
-
-      first : (k : ℕ) × (first_place (known_of r) (λ k. not (is_identified (now u j) k)) ≡ Some k)
-      first = some_first (first_place (known_of r) (λ k. not (is_identified (now u j) k))) not_all
-
-      low : first.0 < length (known_of r).drives
-      low = let less = (first_found 0 (length (known_of r).drives) first.0 (λ k. not (is_identified (now u j) k)) first.1).below in
-          omega (arith, less)
-
-      inside : first.0 < length r.drives
-      inside = let all = members_count r in let less = low in omega (arith, all, less)
-
-      to : (now u j).now.addressed ≡ Some first.0
-      to = addressed_first (known_of r) (behind_ats r jobs carry restarts u.sent j) u_phase ∙ first.1
-
-      same_turns : (back (u ∷ j)).turns ≡ (now u j).now ∷ (now u j).turns
-      same_turns = turns_after u j run.0 was ∙ ap (λ (l : List Turn). (now u j).now ∷ l) (sym (turns_before u j run.0 was))
-
-      off : has_identified first.0 (back (u ∷ j)).turns ≡ false
-      off = ap (has_identified first.0) same_turns ∙ not-true (is_identified (now u j) first.0)
-          (found_passes 0 (length (known_of r).drives) first.0 (λ k. not (is_identified (now u j) k)) first.1)
-
-      hears : (now t (u ∷ j)).now.heard first.0 ≡ true
-      hears = ap (λ (f : ℕ → Bool). f first.0) (heard_mdt (known_of r) (behind_ats r jobs carry restarts t.sent (u ∷ j)))
-          ∙ heard_next r jobs carry restarts opened t u j run calm calm_before first.0 inside one u_phase to
-          (stands_so r jobs carry restarts opened u j run.0 clear.0 calm_before (omega (arith, was_one)) first.0 inside
-          ∙ was_one)
-
-      on : has_identified first.0 (back (t ∷ u ∷ j)).turns ≡ true
-      on = ap (has_identified first.0) (turns_after t (u ∷ j) run is)
-          ∙ found ((now t (u ∷ j)).now.phase) ((now t (u ∷ j)).now.heard first.0) (has_identified first.0 (back (u ∷ j)).turns) t_phase
-          hears
-        where
-          found : (n : ℕ) (heard rest : Bool) → n ≡ 1 → heard ≡ true → (((n == 1) && heard) || rest) ≡ true
-          found n heard rest n_is heard_is = rw (n_is, heard_is) refl
-
       stay : (k : ℕ) → has_identified k (back (u ∷ j)).turns ≡ true → has_identified k (back (t ∷ u ∷ j)).turns ≡ true
       stay k known_is = ap (has_identified k) (turns_after t (u ∷ j) run is)
           ∙ or_right (((now t (u ∷ j)).now.phase == 1) && (now t (u ∷ j)).now.heard k)
@@ -231,103 +215,67 @@ module _ (r : RingView) (jobs : List Job) (carry : Carry) (restarts : Restarts) 
   one_lasts t [] before run clear starts sparse one =
       let few = one_at_most (is_disturbed_in r carry restarts (length before) t.sent) in omega (arith, few)
   one_lasts t (u ∷ cycles) before run clear starts sparse one =
-      elim (one_phase (is_done (known_of r) (now u (cycles ++ before))) u.phase
-      (sym (phase_next u (cycles ++ before) run.0 was) ∙ sym (phase_is t (u ∷ (cycles ++ before)) run is) ∙ one)) [
-        | inl first ↦ by_first (risen u cycles before run.0 clear.0 starts sparse.0 first.1)
-        | inr later ↦ by_later later.0 later.1 (one_lasts u cycles before run.0 clear.0 starts sparse.0 later.1)
-      ]
-    where
-      was : Borne u (cycles ++ before)
-      was = borne_on r jobs carry restarts opened u cycles before run.0 clear.0 starts sparse.0
-
-      is : Borne t (u ∷ (cycles ++ before))
-      is = borne_on r jobs carry restarts opened t (u ∷ cycles) before run clear starts sparse
-
-      cost : early_cost r jobs carry restarts t (u ∷ (cycles ++ before)) ≡ two_if
-          (is_disturbed_in r carry restarts (length (u ∷ (cycles ++ before))) t.sent)
-      cost = one_cost t.phase (behind_mst r jobs carry restarts t.sent (u ∷ (cycles ++ before))).now.whole
-          (is_disturbed_in r carry restarts (length (u ∷ (cycles ++ before))) t.sent) one
-
-      lost_so : IsDisturbed r carry restarts t (u ∷ (cycles ++ before))
-          → (early_cost r jobs carry restarts t (u ∷ (cycles ++ before)) ≡ 2) × (spare t (u ∷ (cycles ++ before)) ≡ 1)
-      lost_so on = (cost ∙ ap two_if on, ap one_if on)
-
-      calm_so : IsUndisturbed r carry restarts t (u ∷ (cycles ++ before)) → spare t (u ∷ (cycles ++ before)) ≡ 0
-      calm_so off = ap one_if off
-
-      by_first : suc (length cycles) ≤ 10 + early_costs r jobs carry restarts (u ∷ cycles) before
-          → suc (suc (length cycles)) + spare t (u ∷ (cycles ++ before)) ≤ 11 + known (back (t ∷ u ∷ (cycles ++ before))).turns +
-          early_costs r jobs carry restarts (t ∷ u ∷ cycles) before
-      by_first le = elim (calm_or_not r carry restarts t (u ∷ (cycles ++ before))) [
-        | inl on ↦ (let (a, b) = lost_so on in omega (arith, a, b, le))
-        | inr off ↦ (let a = calm_so off in omega (arith, a, le))
-      ]
-
-      by_later : is_done (known_of r) (now u (cycles ++ before)) ≡ false → u.phase ≡ 1
-          → suc (length cycles) + spare u (cycles ++ before) ≤ 11 + known (back (u ∷ (cycles ++ before))).turns + early_costs r jobs carry
-          restarts (u ∷ cycles) before
-          → suc (suc (length cycles)) + spare t (u ∷ (cycles ++ before)) ≤ 11 + known (back (t ∷ u ∷ (cycles ++ before))).turns +
-          early_costs r jobs carry restarts (t ∷ u ∷ cycles) before
-      by_later unfinished was_one le = elim (calm_or_not r carry restarts t (u ∷ (cycles ++ before))) [
-        | inl on ↦ (let (a, b) = lost_so on in let grows = known_after t (u ∷ (cycles ++ before)) run is in omega (arith, a, b, le, grows))
-        | inr off ↦ elim (calm_or_not r carry restarts u (cycles ++ before)) [
-          | inl disturbed ↦ (
-              let a = calm_so off in
-              let b : spare u (cycles ++ before) ≡ 1 = ap one_if disturbed in
-              let grows = known_after t (u ∷ (cycles ++ before)) run is in omega (arith, a, b, le, grows))
-          | inr calm ↦ (
-              let a = calm_so off in
-              let grows = one_more t u (cycles ++ before) run clear is was off calm one was_one unfinished in omega (arith, a, le, grows))
+      let was = borne_on r jobs carry restarts opened u cycles before run.0 clear.0 starts sparse.0 in
+      let is = borne_on r jobs carry restarts opened t (u ∷ cycles) before run clear starts sparse in
+      elim (rose u (cycles ++ before) run.0 was 0 (sym (phase_is t (u ∷ (cycles ++ before)) run is) ∙ one)) [
+        | inl first ↦ elim (calm_or_not r carry restarts t (u ∷ (cycles ++ before))) [
+          | inl on ↦ (let (a, b) = lost_so on in omega (arith, a, b, (risen u cycles before run.0 clear.0 starts sparse.0 first.1)))
+          | inr off ↦ (let a = ap one_if off in omega (arith, a, (risen u cycles before run.0 clear.0 starts sparse.0 first.1)))
+        ]
+        | inr later ↦ elim (calm_or_not r carry restarts t (u ∷ (cycles ++ before))) [
+          | inl on ↦ (let (a, b) = lost_so on in let grows = known_after t (u ∷ (cycles ++ before)) run is in
+              omega (arith, a, b, (one_lasts u cycles before run.0 clear.0 starts sparse.0 later.1), grows))
+          | inr off ↦ elim (calm_or_not r carry restarts u (cycles ++ before)) [
+            | inl disturbed ↦ (
+                let grows = known_after t (u ∷ (cycles ++ before)) run is in
+                omega (arith, ap one_if off, ap one_if disturbed, (one_lasts u cycles before run.0 clear.0 starts sparse.0 later.1), grows))
+            | inr calm ↦ (
+                let a = ap one_if off in
+                let grows = one_more t u (cycles ++ before) run clear is was off calm one later.1 later.0 in
+                omega (arith, a, (one_lasts u cycles before run.0 clear.0 starts sparse.0 later.1), grows))
+          ]
         ]
       ]
+    where
+      lost_so : IsDisturbed r carry restarts t (u ∷ (cycles ++ before))
+          → (early_cost r jobs carry restarts t (u ∷ (cycles ++ before)) ≡ 2) × (spare t (u ∷ (cycles ++ before)) ≡ 1)
+      lost_so on = (
+        ap (λ (m : ℕ). cost_by m (behind_mst r jobs carry restarts t.sent (u ∷ (cycles ++ before))).now.whole
+            (is_disturbed_in r carry restarts (length (u ∷ (cycles ++ before))) t.sent)) one ∙ ap two_if on,
+        ap one_if on,
+      )
 
   -- not all drives are identified while phase 1 goes on
   pub known_few : (t : CycleView) (j : List CycleView) → IsRun r jobs carry restarts (t ∷ j) → Borne t j → t.phase ≡ 1
       → is_done (known_of r) (now t j) ≡ false → known (back (t ∷ j)).turns + 1 ≤ length r.drives
   known_few t j run is one unfinished =
-      let all = count_all (length (known_of r).drives) in
-      let members = members_count r in
-      let less = count_more (length (known_of r).drives) first.0 (λ k. has_identified k (back (t ∷ j)).turns) (λ k. true) (λ k on. refl) low
-      off refl in omega (arith, all, members, less)
-    where
-      t_phase : (now t j).now.phase ≡ 1
-      t_phase = phase_now r jobs carry restarts opened t j run.1 ∙ one
-
-      first : (k : ℕ) × (first_place (known_of r) (λ k. not (is_identified (now t j) k)) ≡ Some k)
-      first = some_first (first_place (known_of r) (λ k. not (is_identified (now t j) k)))
-          (sym (ap (λ (n : ℕ). is_done_in n (known_of r) (now t j)) t_phase) ∙ unfinished)
-
-      low : first.0 < length (known_of r).drives
-      low = let less = (first_found 0 (length (known_of r).drives) first.0 (λ k. not (is_identified (now t j) k)) first.1).below in
-          omega (arith, less)
-
-      off : has_identified first.0 (back (t ∷ j)).turns ≡ false
-      off = ap (has_identified first.0) (turns_after t j run is ∙ ap (λ (l : List Turn). (now t j).now ∷ l) (sym (turns_before t j run is)))
-          ∙ not-true (is_identified (now t j) first.0) (found_passes 0 (length (known_of r).drives) first.0
-          (λ k. not (is_identified (now t j) k)) first.1)
+      let x = unknown t j run is one unfinished in
+      omega (
+        arith,
+        count_all (length (known_of r).drives),
+        members_count r,
+        count_more (length (known_of r).drives) x.place
+            (λ k. has_identified k (back (t ∷ j)).turns) (λ k. true) (λ k on. refl) x.low x.off refl,
+      )
 
   -- BOTH PHASES
   pub early_sparse : (t : CycleView) (cycles before : List CycleView) → IsRun r jobs carry restarts (t ∷ (cycles ++ before))
       → IsClear (t ∷ (cycles ++ before)) → Base before → AreSparse r carry restarts (t ∷ cycles) before
       → t.phase ≤ 1 → length cycles ≤ 10 + length r.drives + early_costs r jobs carry restarts cycles before
   early_sparse t [] before run clear starts sparse low = omega arith
-  early_sparse t (u ∷ cycles) before run clear starts sparse low = elim (cases_eq t.phase 0) [
-    | inl at_zero ↦ (
-        let back_zero = sym (phase_is t (u ∷ (cycles ++ before)) run is) ∙ at_zero in
-        let few = few_back r jobs carry restarts (u ∷ (cycles ++ before)) back_zero in
-        let le = zero_lasts (u ∷ cycles) before run.0 clear.0 starts sparse.0 back_zero in omega (arith, few, le))
-    | inr later ↦ elim (one_phase (is_done (known_of r) (now u (cycles ++ before))) u.phase
-        (sym (phase_next u (cycles ++ before) run.0 was) ∙ sym (phase_is t (u ∷ (cycles ++ before)) run is)
-        ∙ (omega (arith, low, later)))) [
-          | inl first ↦ (let le = risen u cycles before run.0 clear.0 starts sparse.0 first.1 in omega (arith, le))
-          | inr on ↦ (
-              let le = one_lasts u cycles before run.0 clear.0 starts sparse.0 on.1 in
-              let few = known_few u (cycles ++ before) run.0 was on.1 on.0 in omega (arith, le, few))
-        ]
-  ]
-    where
-      was : Borne u (cycles ++ before)
-      was = borne_on r jobs carry restarts opened u cycles before run.0 clear.0 starts sparse.0
-
-      is : Borne t (u ∷ (cycles ++ before))
-      is = borne_on r jobs carry restarts opened t (u ∷ cycles) before run clear starts sparse
+  early_sparse t (u ∷ cycles) before run clear starts sparse low =
+      let was = borne_on r jobs carry restarts opened u cycles before run.0 clear.0 starts sparse.0 in
+      let is = borne_on r jobs carry restarts opened t (u ∷ cycles) before run clear starts sparse in
+      elim (cases_eq t.phase 0) [
+        | inl at_zero ↦ (
+            let back_zero = sym (phase_is t (u ∷ (cycles ++ before)) run is) ∙ at_zero in
+            let few = few_back r jobs carry restarts (u ∷ (cycles ++ before)) back_zero in
+            let le = zero_lasts (u ∷ cycles) before run.0 clear.0 starts sparse.0 back_zero in omega (arith, few, le))
+        | inr later ↦ elim (rose u (cycles ++ before) run.0 was 0 (sym (phase_is t (u ∷ (cycles ++ before)) run is)
+            ∙ (omega (arith, low, later)))) [
+              | inl first ↦ (let le = risen u cycles before run.0 clear.0 starts sparse.0 first.1 in omega (arith, le))
+              | inr on ↦ (
+                  let le = one_lasts u cycles before run.0 clear.0 starts sparse.0 on.1 in
+                  let few = known_few u (cycles ++ before) run.0 was on.1 on.0 in omega (arith, le, few))
+            ]
+      ]

@@ -1,66 +1,13 @@
 -- How long steps in a row take on a channel, if no two cycles in a row lose a record or an answer.
-use Rattle.sercos_law_run.proofs.Words.{◌≡◌, ◌⊎◌, inl, inr, ℕ, suc, ◌+◌, ◌*◌, ◌<◌, ◌≤◌, true, false, List, [], ◌∷◌, ◌++◌, length, Option, None, sym, ap, ◌∙◌, subst, arith, is_some, cases_lt, Request, Step, times_le, IsStore, Block, Entry, Begun, answers_in, open_in, steps_in, begun_in, epoch_begun, epoch_log, epoch_records, AreInStep, Idle, Kept, View, AreSmall, AreSound, AreListed, AreTimed, cost_of, in_step, length-replies_of, length-steps_of, stays_in_cost_since, head_before, taken_before, says_shape}
-use Rattle.sercos_law_channel.specs.Handshake.InStep.{Sent}
+use Rattle.sercos_law_run.proofs.Words.{◌≡◌, ◌⊎◌, inl, inr, ℕ, suc, ◌+◌, ◌*◌, ◌<◌, ◌≤◌, true, false, List, [], ◌∷◌, ◌++◌, length, None, sym, ap, ◌∙◌, subst, arith, is_some, cases_lt, Request, times_le, IsStore, Block, Entry, Begun, answers_in, open_in, steps_in, begun_in, epoch_begun, epoch_log, epoch_records, View, AreSmall, AreSound, AreListed, AreTimed, cost_of, in_step, stays_in_cost_since, head_before, taken_before, says_shape}
 use Rattle.sercos_law_channel.specs.Handshake.Runs.{IsRun}
 use Rattle.sercos_law_run.proofs.Undisturbed.OneRequest.{room, steps_few}
 use Rattle.sercos_law_run.proofs.Undisturbed.ToldInTime.{beyond}
 use Rattle.sercos_law_run.proofs.Undisturbed.Stops.LateSteps.{few_accepted}
-use Rattle.sercos_law_run.proofs.Tolerance.Steps.{IsYoung, answers_more, begun_is, grows, never_some, same_head}
+use Rattle.sercos_law_run.proofs.Tolerance.Steps.{IsYoung, begun_is, never_some}
 use Rattle.sercos_law_run.proofs.Recovery.Limits.{open_age}
 use Rattle.sercos_law_run.proofs.Bounds.BoundSums.{times_sum}
-
--- WHERE A STEP IS: none is open; one is, which the drive hasn't accepted; or one that it has accepted, and that has no answer.
-pub data StandsSo (begun : List Begun) (log : List Entry) : Type 0 where
-  Rests : open_in begun ≡ None → length (answers_in begun) ≡ length log → StandsSo begun log
-  New : is_some (open_in begun) ≡ true → length (steps_in begun) ≡ suc (length log) → length (answers_in begun) ≡ length log
-      → StandsSo begun log
-  Waits : (e : Entry) (rest : List Entry) → log ≡ e ∷ rest → is_some (open_in begun) ≡ true → length (steps_in begun) ≡ length log
-      → suc (length (answers_in begun)) ≡ length log → StandsSo begun log
-
-pub stands_so : (begun : List Begun) (log : List Entry) → AreInStep begun log → StandsSo begun log
-stands_so begun log (Idle none s a) = Rests none (ap length a ∙ length-replies_of log)
-stands_so begun log (Sent step opened s a) = New (ap (λ (o : Option Step). is_some o) opened)
-    (ap length s ∙ ap (λ (n : ℕ). suc n) (length-steps_of log)) (ap length a ∙ length-replies_of log)
-stands_so begun log (Kept e past opened those s a) = Waits e past those (ap (λ (o : Option Step). is_some o) opened)
-    (ap length s ∙ length-steps_of log) (ap (λ (n : ℕ). suc n) (ap length a ∙ length-replies_of past) ∙ sym (ap length those))
-
--- the answers are at most the accepted steps, and these at most those begun
-pub few_answers : (begun : List Begun) (log : List Entry) → StandsSo begun log → length (answers_in begun) ≤ length log
-few_answers begun log (Rests none a) = omega (arith, a)
-few_answers begun log (New on s a) = omega (arith, a)
-few_answers begun log (Waits e rest those on s a) = omega (arith, a)
-
--- A step that waits for its answer waited in the cycle before, or was accepted in this one.
-pub waits_from : (busy : ℕ) (v : View) (past : List View) → IsRun busy (v ∷ past) → v.falls ≡ false → v.master_restarts ≡ false
-    → (e : Entry) (rest : List Entry) → epoch_log (v ∷ past) ≡ e ∷ rest
-    → suc (length (answers_in (epoch_begun (v ∷ past)))) ≡ length (epoch_log (v ∷ past))
-    → ((length (epoch_log (v ∷ past)) ≡ length (epoch_log past)) × (epoch_log past ≡ e ∷ rest)
-    × (suc (length (answers_in (epoch_begun past))) ≡ length (epoch_log past)))
-    ⊎ ((length (epoch_log (v ∷ past)) ≡ suc (length (epoch_log past))) × (e.processed.cycle ≡ length past))
-waits_from busy v past run stays goes_on e rest those a = elim (grows busy v past run stays goes_on) [
-  | inl same ↦ inl (ap length same, sym same ∙ those, by same (stands_so (epoch_begun past) (epoch_log past) (in_step busy past run.0)))
-  | inr (x, more, cycle) ↦ inr (
-    ap length more,
-    same_head busy v past run stays goes_on e x rest (epoch_log past) (sym those ∙ more)
-        ∙ cycle,
-  )
-]
-  where
-    by : epoch_log (v ∷ past) ≡ epoch_log past → StandsSo (epoch_begun past) (epoch_log past)
-        → suc (length (answers_in (epoch_begun past))) ≡ length (epoch_log past)
-    by same (Rests none b) = let long = ap length same in let least = answers_more busy v past run stays goes_on in
-        absurd (omega (arith, a, b, long, least))
-    by same (New on s b) = let long = ap length same in let least = answers_more busy v past run stays goes_on in
-        absurd (omega (arith, a, b, long, least))
-    by same (Waits f older those_then on s b) = b
-
--- the log grows by one entry at most
-pub grows_one : (busy : ℕ) (v : View) (past : List View) → IsRun busy (v ∷ past) → v.falls ≡ false → v.master_restarts ≡ false
-    → length (epoch_log past) ≤ length (epoch_log (v ∷ past))
-grows_one busy v past run stays goes_on = elim (grows busy v past run stays goes_on) [
-  | inl same ↦ (let long = ap length same in omega (arith, long))
-  | inr (x, more, cycle) ↦ (let long = ap length more in omega (arith, long))
-]
+pub use Rattle.sercos_law_run.proofs.Tolerance.Steps.{Counts, NoneOpen, NotAnswered, NotTaken, counts, few_answers, grows_one, waits_from}
 
 module _ (busy : ℕ) where
   -- A CYCLE OF A ROW: the master neither falls nor restarts, a step is open at the end, and nothing is late; or something is, and nothing
@@ -89,12 +36,6 @@ module _ (busy : ℕ) where
   -- ONE CYCLE MORE
   module _ (spent base : ℕ) (v : View) (past : List View) (run : IsRun busy (v ∷ past)) (row : IsInARow v past)
       (is : IsPaced spent base past) where
-    then_ : StandsSo (epoch_begun past) (epoch_log past)
-    then_ = stands_so (epoch_begun past) (epoch_log past) (in_step busy past run.0)
-
-    now : StandsSo (epoch_begun (v ∷ past)) (epoch_log (v ∷ past))
-    now = stands_so (epoch_begun (v ∷ past)) (epoch_log (v ∷ past)) (in_step busy (v ∷ past) run)
-
     opens_now : is_some (open_in (epoch_begun (v ∷ past))) ≡ true
     opens_now = ap (λ (l : List Begun). is_some (open_in l)) (begun_is busy v past run row.stays row.goes_on) ∙ row.opens
 
@@ -106,47 +47,39 @@ module _ (busy : ℕ) where
         → suc spent ≤ base + (busy + 2) * length (epoch_log (v ∷ past)) + 1
     new_next steps = elim row.spared [
       | inl y ↦ (let young = y.new opens_now steps in let old = open_age (v ∷ past) opens_now in absurd (omega (arith, young, old)))
-      | inr both ↦ by both.1 then_
+      | inr both ↦ by both.1 (counts (epoch_begun past) (epoch_log past) (in_step busy past run.0))
     ]
       where
-        by : IsYoung busy 0 0 past → StandsSo (epoch_begun past) (epoch_log past)
+        by : IsYoung busy 0 0 past → Counts (epoch_begun past) (epoch_log past)
             → suc spent ≤ base + (busy + 2) * length (epoch_log (v ∷ past)) + 1
-        by y (Rests none a) = let before = is.rests none in let least = product in omega (arith, before, least)
-        by y (New on s a) = let young = y.new on s in let old = open_age past on in absurd (omega (arith, young, old))
-        by y (Waits e rest those on s a) =
+        by y (NoneOpen none s a) = let before = is.rests none in let least = product in omega (arith, before, least)
+        by y (NotTaken on s a) = let young = y.new on s in let old = open_age past on in absurd (omega (arith, young, old))
+        by y (NotAnswered e rest those on s a) =
             let late = (y.old e rest those on s).1 in
-            let before = is.waits e rest those a in
-            let least = product in omega (arith, late, before, least)
+            let least = product in omega (arith, late, is.waits e rest those a, least)
 
     waits_next : (e : Entry) (rest : List Entry) → epoch_log (v ∷ past) ≡ e ∷ rest
         → suc (length (answers_in (epoch_begun (v ∷ past)))) ≡ length (epoch_log (v ∷ past))
         → suc spent + e.processed.cycle + (busy + 2) ≤ base + (busy + 2) * length (epoch_log (v ∷ past)) + suc (length past) + 1
     waits_next e rest those a = elim (waits_from busy v past run row.stays row.goes_on e rest those a) [
       | inl (long, same, waited) ↦ (
-          let before = is.waits e rest same waited in
-          let product_is = ap (λ (n : ℕ). (busy + 2) * n) long in omega (arith, before, product_is))
+          let product_is = ap (λ (n : ℕ). (busy + 2) * n) long in omega (arith, is.waits e rest same waited, product_is))
       | inr (long, cycle) ↦ (
           let before = is.total in
-          let product_is = ap (λ (n : ℕ). (busy + 2) * n) long in
-          let up = more (length (epoch_log past)) in omega (arith, before, product_is, up, cycle))
-    ]
-
-    -- a step that waits was accepted no longer ago than this
-    not_late : (e : Entry) (rest : List Entry) → epoch_log (v ∷ past) ≡ e ∷ rest
-        → length (steps_in (epoch_begun (v ∷ past))) ≡ length (epoch_log (v ∷ past))
-        → suc (length past) ≤ e.processed.cycle + (busy + 1) + 1
-    not_late e rest those s = elim row.spared [
-      | inl y ↦ (let late = (y.old e rest those opens_now s).1 in omega (arith, late))
-      | inr both ↦ (let late = (both.0.old e rest those opens_now s).1 in omega (arith, late))
+          let up = more (length (epoch_log past)) in omega (arith, before, ap (λ (n : ℕ). (busy + 2) * n) long, up, cycle))
     ]
 
     total_next : suc spent ≤ base + (busy + 2) * length (epoch_log (v ∷ past)) + 1
-    total_next = by now
+    total_next = by (counts (epoch_begun (v ∷ past)) (epoch_log (v ∷ past)) (in_step busy (v ∷ past) run))
       where
-        by : StandsSo (epoch_begun (v ∷ past)) (epoch_log (v ∷ past)) → suc spent ≤ base + (busy + 2) * length (epoch_log (v ∷ past)) + 1
-        by (Rests none a) = absurd (never_some (open_in (epoch_begun (v ∷ past))) none opens_now)
-        by (New on s a) = new_next s
-        by (Waits e rest those on s a) = let waits = waits_next e rest those a in let late = not_late e rest those s in
+        by : Counts (epoch_begun (v ∷ past)) (epoch_log (v ∷ past)) → suc spent ≤ base + (busy + 2) * length (epoch_log (v ∷ past)) + 1
+        by (NoneOpen none s a) = absurd (never_some (open_in (epoch_begun (v ∷ past))) none opens_now)
+        by (NotTaken on s a) = new_next s
+        by (NotAnswered e rest those on s a) = let waits = waits_next e rest those a in
+            let late : suc (length past) ≤ e.processed.cycle + (busy + 1) + 1 = elim row.spared [
+              | inl y ↦ (let late = (y.old e rest those opens_now s).1 in omega (arith, late))
+              | inr both ↦ (let late = (both.0.old e rest those opens_now s).1 in omega (arith, late))
+            ] in
             omega (arith, waits, late)
 
     pub paced_next : IsPaced (suc spent) base (v ∷ past)
@@ -163,21 +96,18 @@ module _ (busy : ℕ) where
     rests = λ none. let le = all in omega (arith, le);
     waits = λ e rest those a.
         let less = head_before (length past) (epoch_records past) (taken_before past) e rest those in
-        let long = ap (λ (n : ℕ). (busy + 2) * n) (sym a) in
-        let up = more (length (answers_in (epoch_begun past))) in omega (arith, less, long, up);
+        let up = more (length (answers_in (epoch_begun past))) in omega (arith, less, ap (λ (n : ℕ). (busy + 2) * n) (sym a), up);
   }
     where
       all : (busy + 2) * length (answers_in (epoch_begun past)) ≤ (busy + 2) * length (epoch_log past)
       all = times_le (busy + 2) (length (answers_in (epoch_begun past))) (length (epoch_log past))
-          (few_answers (epoch_begun past) (epoch_log past) (stands_so (epoch_begun past) (epoch_log past) (in_step busy past run)))
+          (few_answers (epoch_begun past) (epoch_log past) (counts (epoch_begun past) (epoch_log past) (in_step busy past run)))
 
   are_paced : (cycles past : List View) → IsRun busy (cycles ++ past) → AreInARow cycles past
       → IsPaced (length cycles + (busy + 2) * length (answers_in (epoch_begun past))) 0 (cycles ++ past)
   are_paced [] past run row = at_first past run
   are_paced (v ∷ cycles) past run row =
-      let same : suc (length cycles + (busy + 2) * length (answers_in (epoch_begun past))) ≡ suc (length cycles) + (busy + 2) * length
-      (answers_in (epoch_begun past)) = omega arith in
-      subst (λ (n : ℕ). IsPaced n 0 (v ∷ (cycles ++ past))) same
+      subst (λ (n : ℕ). IsPaced n 0 (v ∷ (cycles ++ past))) (omega arith)
       (paced_next (length cycles + (busy + 2) * length (answers_in (epoch_begun past))) 0 v (cycles ++ past) run row.1
       (are_paced cycles past run.0 row.0))
 
@@ -203,11 +133,15 @@ row_lasts busy time blocks small store cycles past b old run sound timed listed 
     by_steps : length (steps_in (epoch_begun (cycles ++ past))) ≤ 518 + length (answers_in old) → length cycles < (busy + 2) * (520 + time)
     by_steps steps =
         let accepted = few_accepted (epoch_begun (cycles ++ past)) (epoch_log (cycles ++ past)) (in_step busy (cycles ++ past) run) in
-        let most = times_le (busy + 2) (length (epoch_log (cycles ++ past))) (518 + length (answers_in (epoch_begun past)))
-        (omega (arith, accepted, steps, few_old)) in
         let sum = times_sum (busy + 2) 518 (length (answers_in (epoch_begun past))) in
-        let all = room busy time in
-        let is = total in omega (arith, most, sum, all, is)
+        let is = total in omega (
+          arith,
+          times_le (busy + 2) (length (epoch_log (cycles ++ past)))
+              (518 + length (answers_in (epoch_begun past))) (omega (arith, accepted, steps, few_old)),
+          sum,
+          room busy time,
+          is,
+        )
 
     by_cost : cost_of busy time (λ raw. 512) blocks b.request + 0 ≡ time + 4 * (busy + 1) + 0 → length cycles < (busy + 2) * (520 + time)
     by_cost cost_is = elim (cases_lt (length (epoch_log (cycles ++ past))) (length (answers_in old))) [
@@ -221,10 +155,14 @@ row_lasts busy time blocks small store cycles past b old run sound timed listed 
       where
         by_more : (d : ℕ) × (length (epoch_log (cycles ++ past)) ≡ length (answers_in old) + d) → length cycles < (busy + 2) * (520 + time)
         by_more (d, is) =
-            let le = stays_in_cost_since says_shape busy time (λ raw. 512) blocks small (cycles ++ past)
-            (b ∷ []) old run sound timed listed split shut in
             let one = ap (λ (n : ℕ). (busy + 1) * n) is ∙ times_sum (busy + 1) (length (answers_in old)) d in
             let two = ap (λ (n : ℕ). (busy + 2) * n) is ∙ times_sum (busy + 2) (length (answers_in old)) d in
             let older = times_le (busy + 2) (length (answers_in old)) (length (answers_in (epoch_begun past))) few_old in
-            let fits = half busy d time (omega (arith, le, one, cost_is)) in
+            let fits = half busy d time (omega (
+              arith,
+              stays_in_cost_since says_shape busy time (λ raw. 512) blocks small (cycles ++ past)
+                  (b ∷ []) old run sound timed listed split shut,
+              one,
+              cost_is,
+            )) in
             let all = total in omega (arith, two, older, fits, all)

@@ -1,8 +1,7 @@
 -- How long a channel is at work in a stretch of which something is lost.
-use Rattle.sercos_law_run.proofs.Words.{◌≡◌, inl, inr, ℕ, suc, ◌+◌, ◌*◌, ◌≤◌, Bool, true, false, not, ◌&&◌, ◌||◌, List, [], ◌∷◌, ◌++◌, length, Option, refl, sym, ap, ◌∙◌, arith, is_some, cond-false, false≢true, Step, times_le, Entry, Begun, answers_in, open_in, steps_in, begun_in, epoch_begun, epoch_log, epoch_records, unless_restart, AreInStep, Idle, Kept, View, processed_in, open_since, one_more, in_step, length-replies_of, length-steps_of, start, start_begun, head_before, taken_before, GoesOn, TakesTimeAndLosses, loses_step, lost_since, cases_Bool}
-use Rattle.sercos_law_channel.specs.Handshake.InStep.{Sent}
+use Rattle.sercos_law_run.proofs.Words.{◌≡◌, inl, inr, ℕ, suc, ◌+◌, ◌*◌, ◌≤◌, Bool, true, false, not, ◌&&◌, ◌||◌, List, [], ◌∷◌, ◌++◌, length, Option, refl, sym, ap, ◌∙◌, arith, is_some, cond-false, false≢true, Step, times_le, Entry, Begun, answers_in, open_in, begun_in, epoch_begun, epoch_log, epoch_records, unless_restart, View, processed_in, open_since, one_more, in_step, start, start_begun, head_before, taken_before, GoesOn, TakesTimeAndLosses, loses_step, lost_since, cases_Bool, AreClean, ap₂}
 use Rattle.sercos_law_channel.specs.Handshake.Runs.{IsRun}
-use Rattle.sercos_law_run.proofs.Tolerance.Steps.{Counts, NoneOpen, NotAnswered, NotTaken, answers_more, begun_is, busy_still, counts, grows, none_new, same_head}
+use Rattle.sercos_law_run.proofs.Tolerance.Steps.{Counts, NoneOpen, NotAnswered, NotTaken, begun_is, busy_still, counts, grows, none_new, grows_one, waits_from}
 use Rattle.sercos_law_run.proofs.Undisturbed.Sections.{more_or_same}
 
 -- If nothing is lost, an open step is heard, and processed.
@@ -45,23 +44,20 @@ none_lost_in v past goes_on hears takes =
     (λ on. hears (ap (λ (l : List Begun). is_some (open_in l)) (sym (cond-false v.master_restarts [] (epoch_begun past) goes_on)) ∙ on))
     takes
 
--- in phases 0 and 1 no step is open
-closed : (begun : List Begun) → begun ≡ [] → is_some (open_in begun) ≡ true → ⊥
-closed begun none on = false≢true (sym (ap (λ (l : List Begun). is_some (open_in l)) none) ∙ on)
+-- in clean cycles nothing is
+pub none_lost_since : (cycles past : List View) → AreClean cycles past → lost_since cycles past ≡ 0
+none_lost_since [] past clean = refl
+none_lost_since (v ∷ cycles) past clean =
+    ap₂ one_more (kept_by (is_some (open_in (unless_restart v (epoch_begun (cycles ++ past))))) (is_some v.heard)
+    (is_some (open_in (begun_in v (cycles ++ past)))) (is_some (processed_in v (cycles ++ past))) clean.1.undisturbed.hears
+    clean.1.undisturbed.takes) (none_lost_since cycles past clean.0)
 
 pub early_kept : (busy : ℕ) (v : View) (past : List View) → IsRun busy (v ∷ past) → v.phase ≤ 1 → loses_step v past ≡ false
 early_kept busy v past run early =
     let none = (start busy v past run early).0 in
     kept_by (is_some (open_in (unless_restart v (epoch_begun past)))) (is_some v.heard) (is_some (open_in (begun_in v past)))
-    (is_some (processed_in v past)) (λ on. absurd (closed (unless_restart v (epoch_begun past)) none on))
-    (λ on. absurd (closed (begun_in v past) (start_begun busy v past run.1 early none) on))
-
--- A step that was accepted and has no answer is open.
-waits_open : (begun : List Begun) (log : List Entry) → AreInStep begun log → suc (length (answers_in begun)) ≡ length log
-    → (is_some (open_in begun) ≡ true) × (length (steps_in begun) ≡ length log)
-waits_open begun log (Idle none s a) waits = let count = ap length a ∙ length-replies_of log in absurd (omega (arith, waits, count))
-waits_open begun log (Sent step opened s a) waits = let count = ap length a ∙ length-replies_of log in absurd (omega (arith, waits, count))
-waits_open begun log (Kept e past opened those s a) waits = (ap (λ (o : Option Step). is_some o) opened, ap length s ∙ length-steps_of log)
+    (is_some (processed_in v past)) (λ on. absurd (false≢true (sym (ap (λ (l : List Begun). is_some (open_in l)) none) ∙ on)))
+    (λ on. absurd (false≢true (sym (ap (λ (l : List Begun). is_some (open_in l)) (start_begun busy v past run.1 early none)) ∙ on)))
 
 module _ (busy : ℕ) where
   more : (n : ℕ) → (busy + 1) * suc n ≡ (busy + 1) * n + (busy + 1)
@@ -86,8 +82,9 @@ module _ (busy : ℕ) where
       by : Counts (epoch_begun past) (epoch_log past) → (busy + 1) * length (answers_in (epoch_begun past)) ≤ (busy + 1) * length
           (epoch_log past)
       by (NoneOpen none s a) = times_le (busy + 1) (length (answers_in (epoch_begun past))) (length (epoch_log past)) (omega (arith, a))
-      by (NotTaken s a) = times_le (busy + 1) (length (answers_in (epoch_begun past))) (length (epoch_log past)) (omega (arith, a))
-      by (NotAnswered s a) = times_le (busy + 1) (length (answers_in (epoch_begun past))) (length (epoch_log past)) (omega (arith, a))
+      by (NotTaken opens s a) = times_le (busy + 1) (length (answers_in (epoch_begun past))) (length (epoch_log past)) (omega (arith, a))
+      by (NotAnswered head tail split opens s a) = times_le (busy + 1) (length (answers_in (epoch_begun past))) (length (epoch_log past))
+          (omega (arith, a))
 
   -- ONE CYCLE MORE
   module _ (v : View) (cycles past : List View) (run : IsRun busy (v ∷ (cycles ++ past))) (stays : v.falls ≡ false)
@@ -97,48 +94,29 @@ module _ (busy : ℕ) where
         (is_some (open_in (begun_in v (cycles ++ past)))) (is_some (processed_in v (cycles ++ past))) off
         (ap (λ (l : List Begun). is_some (open_in l)) (cond-false v.master_restarts [] (epoch_begun (cycles ++ past)) goes_on) ∙ some)
 
-    taken_by : loses_step v (cycles ++ past) ≡ false → is_some (open_in (begun_in v (cycles ++ past))) ≡ true
-        → is_some (processed_in v (cycles ++ past)) ≡ true
-    taken_by off some = taken_if (is_some (open_in (unless_restart v (epoch_begun (cycles ++ past))))) (is_some v.heard)
-        (is_some (open_in (begun_in v (cycles ++ past)))) (is_some (processed_in v (cycles ++ past))) off some
-
-    -- how the log grows
-    at_least : length (epoch_log (cycles ++ past)) ≤ length (epoch_log (v ∷ (cycles ++ past)))
-    at_least = elim (grows busy v (cycles ++ past) run stays goes_on) [
-      | inl same ↦ (let long = ap length same in omega (arith, long))
-      | inr (x, more_is, cycle) ↦ (let long = ap length more_is in omega (arith, long))
-    ]
-
-    waited : suc (length (answers_in (epoch_begun (v ∷ (cycles ++ past))))) ≡ length (epoch_log (v ∷ (cycles ++ past)))
-        → epoch_log (v ∷ (cycles ++ past)) ≡ epoch_log (cycles ++ past)
-        → length (answers_in (epoch_begun (v ∷ (cycles ++ past)))) ≡ length (answers_in (epoch_begun (cycles ++ past)))
-    waited waits same = by (counts (epoch_begun (cycles ++ past)) (epoch_log (cycles ++ past)) (in_step busy (cycles ++ past) run.0))
-      where
-        by : Counts (epoch_begun (cycles ++ past)) (epoch_log (cycles ++ past))
-            → length (answers_in (epoch_begun (v ∷ (cycles ++ past)))) ≡ length (answers_in (epoch_begun (cycles ++ past)))
-        by (NoneOpen none s a) = let long = ap length same in let least = answers_more busy v (cycles ++ past) run stays goes_on in
-            absurd (omega (arith, waits, a, long, least))
-        by (NotTaken s a) = let long = ap length same in let least = answers_more busy v (cycles ++ past) run stays goes_on in
-            absurd (omega (arith, waits, a, long, least))
-        by (NotAnswered s a) = let long = ap length same in omega (arith, waits, a, long)
-
     waits_next : (e : Entry) (log : List Entry) → epoch_log (v ∷ (cycles ++ past)) ≡ e ∷ log
         → suc (length (answers_in (epoch_begun (v ∷ (cycles ++ past))))) ≡ length (epoch_log (v ∷ (cycles ++ past)))
         → open_since (v ∷ cycles) past + (busy + 1) * length (answers_in (epoch_begun past)) + e.processed.cycle
         ≤ (busy + 1) * length (answers_in (epoch_begun (v ∷ (cycles ++ past)))) + length (v ∷ (cycles ++ past)) + lost_since (v ∷ cycles)
         past
-    waits_next e log those waits = elim (grows busy v (cycles ++ past) run stays goes_on) [
-      | inl same ↦ (
-          let before = is.waits e log (sym same ∙ those) (let count = waited waits same in let long = ap length same in
-          omega (arith, waits, count, long)) in
-          let count = ap (λ (n : ℕ). (busy + 1) * n) (waited waits same) in omega (arith, before, count, opens, least))
-      | inr (x, more_is, cycle) ↦ (
-          let at = same_head busy v (cycles ++ past) run stays goes_on e x log (epoch_log (cycles ++ past)) (sym those ∙ more_is) in
-          let long = ap length more_is in
-          let count : length (answers_in (epoch_begun (v ∷ (cycles ++ past)))) ≡ length
-          (epoch_log (cycles ++ past)) = omega (arith, waits, long) in
+    waits_next e log those waits = elim (waits_from busy v (cycles ++ past) run stays goes_on e log those waits) [
+      | inl (long, same, waited) ↦ (
+          let count : length (answers_in (epoch_begun (v ∷ (cycles ++ past)))) ≡ length (answers_in (epoch_begun (cycles ++ past))) =
+          omega (arith, waits, long, waited) in
           let product = ap (λ (n : ℕ). (busy + 1) * n) count in
-          let before = is.total in omega (arith, before, product, opens, least, at, cycle))
+          omega (arith, is.waits e log same waited, product, opens, more_or_same (loses_step v (cycles ++ past)) (lost_since cycles past)))
+      | inr (long, cycle) ↦ (
+          let count : length (answers_in (epoch_begun (v ∷ (cycles ++ past)))) ≡ length (epoch_log (cycles ++ past)) =
+          omega (arith, waits, long) in
+          let before = is.total in omega (
+            arith,
+            before,
+            ap (λ (n : ℕ). (busy + 1) * n) count,
+            opens,
+            more_or_same (loses_step v (cycles ++ past))
+                (lost_since cycles past),
+            cycle,
+          ))
     ]
       where
         opens : open_since (v ∷ cycles) past ≤ open_since cycles past + 1
@@ -147,18 +125,21 @@ module _ (busy : ℕ) where
           | inr off ↦ rw off (omega arith)
         ]
 
-        least : lost_since cycles past ≤ lost_since (v ∷ cycles) past
-        least = more_or_same (loses_step v (cycles ++ past)) (lost_since cycles past)
-
     total_next : open_since (v ∷ cycles) past + (busy + 1) * length (answers_in (epoch_begun past)) ≤ (busy + 1) * length
         (epoch_log (v ∷ (cycles ++ past))) + lost_since (v ∷ cycles) past
-    total_next = by (is_some (open_in (begun_in v (cycles ++ past)))) refl
+    total_next = elim (cases_Bool (is_some (open_in (begun_in v (cycles ++ past))))) [
+      | inl on ↦ which on (loses_step v (cycles ++ past)) refl
+          (counts (epoch_begun (v ∷ (cycles ++ past))) (epoch_log (v ∷ (cycles ++ past))) (in_step busy (v ∷ (cycles ++ past)) run))
+      | inr off ↦ let same = same_if (is_some (open_in (begun_in v (cycles ++ past)))) (open_since cycles past) off in
+          let up = product in omega (arith, same, more_or_same (loses_step v (cycles ++ past)) (lost_since cycles past), is.total, up)
+    ]
       where
         some_now : is_some (open_in (begun_in v (cycles ++ past))) ≡ true → is_some (open_in (epoch_begun (v ∷ (cycles ++ past)))) ≡ true
         some_now on = ap (λ (l : List Begun). is_some (open_in l)) (begun_is busy v (cycles ++ past) run stays goes_on) ∙ on
 
         product : (busy + 1) * length (epoch_log (cycles ++ past)) ≤ (busy + 1) * length (epoch_log (v ∷ (cycles ++ past)))
-        product = times_le (busy + 1) (length (epoch_log (cycles ++ past))) (length (epoch_log (v ∷ (cycles ++ past)))) at_least
+        product = times_le (busy + 1) (length (epoch_log (cycles ++ past))) (length (epoch_log (v ∷ (cycles ++ past))))
+            (grows_one busy v (cycles ++ past) run stays goes_on)
 
         -- one more lost makes up for one more open
         lost_one : loses_step v (cycles ++ past) ≡ true → open_since (v ∷ cycles) past ≡ open_since cycles past + 1
@@ -167,53 +148,32 @@ module _ (busy : ℕ) where
         lost_one on opened = let lost = more_if (loses_step v (cycles ++ past)) (lost_since cycles past) on in let before = is.total in
             let least = product in omega (arith, opened, lost, before, least)
 
-        -- a step that waits, in a cycle of which nothing is lost
-        on_time : loses_step v (cycles ++ past) ≡ false → open_since (v ∷ cycles) past ≡ open_since cycles past + 1
-            → (e : Entry) (log : List Entry) → epoch_log (v ∷ (cycles ++ past)) ≡ e ∷ log
-            → suc (length (answers_in (epoch_begun (v ∷ (cycles ++ past))))) ≡ length (epoch_log (v ∷ (cycles ++ past)))
-            → open_since (v ∷ cycles) past + (busy + 1) * length (answers_in (epoch_begun past)) ≤ (busy + 1) * length
-            (epoch_log (v ∷ (cycles ++ past))) + lost_since (v ∷ cycles) past
-        on_time off opened e log those waits = elim (grows busy v (cycles ++ past) run stays goes_on) [
-          | inr (x, more_is, cycle) ↦ (
-              let lost = same_if (loses_step v (cycles ++ past)) (lost_since cycles past) off in
-              let long = ap (λ (n : ℕ). (busy + 1) * n) (ap length more_is) in
-              let up = more (length (epoch_log (cycles ++ past))) in
-              let before = is.total in omega (arith, lost, long, up, before, opened))
-          | inl same ↦ (
-              let lost = same_if (loses_step v (cycles ++ past)) (lost_since cycles past) off in
-              let state = waits_open (epoch_begun (v ∷ (cycles ++ past))) (epoch_log (v ∷ (cycles ++ past)))
-              (in_step busy (v ∷ (cycles ++ past)) run) waits in
-              let late = busy_still busy v (cycles ++ past) run stays goes_on (heard_by off) e log those state.0 state.1 in
-              let sum = waits_next e log those waits in
-              let up = more (length (answers_in (epoch_begun (v ∷ (cycles ++ past))))) in
-              let long = ap (λ (n : ℕ). (busy + 1) * n) waits in omega (arith, lost, late, sum, up, long))
-        ]
-
-        which : is_some (open_in (begun_in v (cycles ++ past))) ≡ true → (b : Bool) → loses_step v (cycles ++ past) ≡ b → (log : List Entry)
-            → epoch_log (v ∷ (cycles ++ past)) ≡ log
+        which : is_some (open_in (begun_in v (cycles ++ past))) ≡ true → (b : Bool) → loses_step v (cycles ++ past) ≡ b
             → Counts (epoch_begun (v ∷ (cycles ++ past))) (epoch_log (v ∷ (cycles ++ past)))
             → open_since (v ∷ cycles) past + (busy + 1) * length (answers_in (epoch_begun past)) ≤ (busy + 1) * length
             (epoch_log (v ∷ (cycles ++ past))) + lost_since (v ∷ cycles) past
-        which on true lost log those state = lost_one lost (more_if (is_some (open_in (begun_in v (cycles ++ past))))
-            (open_since cycles past) on)
-        which on false off log those (NoneOpen none s a) = absurd (false≢true
-            (sym (ap (λ (o : Option Step). is_some o) none) ∙ some_now on))
-        which on false off log those (NotTaken s a) = absurd (none_new busy v (cycles ++ past) run stays goes_on (taken_by off)
-            (some_now on) s)
-        which on false off [] those (NotAnswered s a) = let none = ap length those in absurd (omega (arith, none, a))
-        which on false off (e ∷ log) those (NotAnswered s a) = on_time off
-            (more_if (is_some (open_in (begun_in v (cycles ++ past)))) (open_since cycles past) on) e log those a
-
-        by : (b : Bool) → is_some (open_in (begun_in v (cycles ++ past))) ≡ b
-            → open_since (v ∷ cycles) past + (busy + 1) * length (answers_in (epoch_begun past)) ≤ (busy + 1) * length
-            (epoch_log (v ∷ (cycles ++ past))) + lost_since (v ∷ cycles) past
-        by true on = which on (loses_step v (cycles ++ past)) refl (epoch_log (v ∷ (cycles ++ past))) refl
-            (counts (epoch_begun (v ∷ (cycles ++ past))) (epoch_log (v ∷ (cycles ++ past))) (in_step busy (v ∷ (cycles ++ past)) run))
-        by false off =
-            let same = same_if (is_some (open_in (begun_in v (cycles ++ past)))) (open_since cycles past) off in
-            let least = more_or_same (loses_step v (cycles ++ past)) (lost_since cycles past) in
-            let before = is.total in
-            let up = product in omega (arith, same, least, before, up)
+        which on true lost those = lost_one lost (more_if (is_some (open_in (begun_in v (cycles ++ past)))) (open_since cycles past) on)
+        which on false off (NoneOpen none s a) = absurd (false≢true (sym (ap (λ (o : Option Step). is_some o) none) ∙ some_now on))
+        which on false off (NotTaken opens s a) = absurd
+            (none_new busy v (cycles ++ past) run stays goes_on
+            (λ some. taken_if (is_some (open_in (unless_restart v (epoch_begun (cycles ++ past))))) (is_some v.heard)
+            (is_some (open_in (begun_in v (cycles ++ past)))) (is_some (processed_in v (cycles ++ past))) off some) (some_now on) s)
+        which on false off (NotAnswered e log those opens s a) = elim (grows busy v (cycles ++ past) run stays goes_on) [
+          | inr (x, more_is, cycle) ↦ (
+              let before = is.total in omega (
+                arith,
+                same_if (loses_step v (cycles ++ past)) (lost_since cycles past) off,
+                ap (λ (n : ℕ). (busy + 1) * n) (ap length more_is),
+                more (length (epoch_log (cycles ++ past))),
+                before,
+                (more_if (is_some (open_in (begun_in v (cycles ++ past)))) (open_since cycles past) on),
+              ))
+          | inl same ↦ (
+              let lost = same_if (loses_step v (cycles ++ past)) (lost_since cycles past) off in
+              let late = busy_still busy v (cycles ++ past) run stays goes_on (heard_by off) e log those opens s in
+              let up = more (length (answers_in (epoch_begun (v ∷ (cycles ++ past))))) in
+              let long = ap (λ (n : ℕ). (busy + 1) * n) a in omega (arith, lost, late, waits_next e log those a, up, long))
+        ]
 
     paced_next : IsPaced (v ∷ cycles) past
     paced_next = record { total = total_next; waits = waits_next }

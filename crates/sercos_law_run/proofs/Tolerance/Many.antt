@@ -1,15 +1,14 @@
 -- Phase 4 begins in time while disturbed cycles are sparse, however many they are, if the ring is right; else a stop is reported.
-use Rattle.sercos_law_run.proofs.Words.{◌≡◌, inl, ℕ, suc, ◌+◌, ◌*◌, ◌<◌, ◌≤◌, List, [], ◌∷◌, ◌++◌, length, None, refl, sym, ◌∙◌, subst, arith, sum_by, Job, times_le, store_of, DriveView, RingView, CycleView, reads_count, outcomes_in, known_of, member, is_done, Carry, Restarts, epoch_begun, epoch_log, listed, slowest, drive_at, looks_back, master_calls, IsClear, IsRun, behind_mdt, views_of, IsOpened, StartsEpoch, IsRight, IsUpOrStopped, own_costs, slow_bound, slow_startup_of, AreSparse, in_cost}
+use Rattle.sercos_law_run.proofs.Words.{◌≡◌, inl, ℕ, suc, ◌+◌, ◌*◌, ◌<◌, ◌≤◌, List, [], ◌∷◌, ◌++◌, length, None, refl, sym, ◌∙◌, subst, arith, sum_by, Job, times_le, store_of, DriveView, RingView, CycleView, known_of, is_done, Carry, Restarts, epoch_begun, epoch_log, listed, slowest, drive_at, looks_back, master_calls, IsClear, IsRun, behind_mdt, views_of, IsOpened, StartsEpoch, IsRight, IsUpOrStopped, own_costs, slow_bound, slow_startup_of, AreSparse, in_cost, AreListed, cost_in, cost_of, command_cycles}
 use Rattle.sercos_law_run.proofs.Start.CheckPasses.{ring_drive}
 use Rattle.sercos_law_run.proofs.Held.Runs.{drive_got, small}
 use Rattle.sercos_law_run.proofs.Headline.HeadlineRuns.{all_stand, first_store}
-use Rattle.sercos_law_run.proofs.Undisturbed.PhaseTwo.{listed_all, sum_within}
+use Rattle.sercos_law_run.proofs.Undisturbed.PhaseTwo.{listed_all, sum_within, section_two}
 use Rattle.sercos_law_run.proofs.Undisturbed.Checks.ShortLists.{few_blocks, longest_list, lists_short}
-use Rattle.sercos_law_run.proofs.Undisturbed.Stops.StopStays.{none_before}
 use Rattle.sercos_law_run.proofs.Undisturbed.Sections.{sum_most}
 use Rattle.sercos_law_run.proofs.Undisturbed.NoFalls.{was_low}
 use Rattle.sercos_law_run.proofs.Tolerance.Borne.{IsBorne, all_borne}
-use Rattle.sercos_law_run.proofs.Tolerance.EarlySparse.{phase_is, phase_next, start_is}
+use Rattle.sercos_law_run.proofs.Tolerance.EarlySparse.{phase_is, phase_next, none_earlier}
 use Rattle.sercos_law_run.proofs.Tolerance.Ends.{all_fit, end_at, right_ends, since_told}
 use Rattle.sercos_law_run.proofs.Tolerance.ManyEarly.{early_many}
 use Rattle.sercos_law_run.proofs.Tolerance.ManyThree.{at_rise, others_two, three_spent, two_cycles}
@@ -20,18 +19,9 @@ use Rattle.sercos_law_run.proofs.Tolerance.ThreeLasts.{check_fit, sum_split, wit
 use Rattle.sercos_law_run.proofs.Bounds.BoundSums.{is_below_greatest}
 
 -- NUMBERS: the cycles of phase 2, and of phase 3 with x steps more
-two_fits_in : (d : DriveView) → two_cycles d ≤ slow_startup_of d
-two_fits_in d = fits d.busy (length d.at + length d.mdt) d.command
-  where
-    fits : (busy l time : ℕ) → (busy + 3) * (74 + 4 * l + time) + 1 ≤ (busy + 3) * (82 + 4 * l + 2 * time)
-    fits busy l time = omega arith
-
 three_fits : (busy l time x extra : ℕ) → (busy + 2) * x ≤ extra + busy + 2
     → 74 + 4 * l + time + (busy + 2) * (78 + 4 * l + 2 * time + x) ≤ (busy + 3) * (82 + 4 * l + 2 * time) + extra
 three_fits busy l time x extra most = omega (arith, most)
-
-list_room : (busy most : ℕ) → busy ≤ most → (busy + 2) * 42 ≤ 41 * (most + 2) + busy + 2
-list_room busy most le = omega (arith, le)
 
 -- the steps of phases 2 and 3 to a drive, without the read of its list
 abbrev three_steps : DriveView → ℕ
@@ -59,62 +49,48 @@ module _ (r : RingView) (jobs : List Job) (carry : Carry) (restarts : Restarts) 
     where
       each : (k : ℕ) → k < length r.drives → weigh_at r jobs carry restarts (u ∷ (cycles ++ before)) k ≤ slow_startup_of (drive_at r k)
       each k below =
-          let steps = steps_in_two r jobs carry restarts opened u (cycles ++ before) e.run e.clear (borne u cycles before starts e) low k
-          below in
           let product = times_le ((drive_at r k).busy + 3)
-          (length (epoch_log (views_of r jobs carry restarts k (u ∷ (cycles ++ before))))) (two_steps (drive_at r k)) steps in
-          let fits = two_fits_in (drive_at r k) in omega (arith, product, fits)
+          (length (epoch_log (views_of r jobs carry restarts k (u ∷ (cycles ++ before))))) (two_steps (drive_at r k))
+          (steps_in_two r jobs carry restarts opened u (cycles ++ before) e.run e.clear (borne u cycles before starts e) low k below) in
+          let fits : two_cycles (drive_at r k) ≤ slow_startup_of (drive_at r k) = omega arith in omega (arith, product, fits)
 
   some_slow : length r.drives ≤ sum_by slow_startup_of r.drives
   some_slow =
-      let all = ones (length r.drives) in
-      let most = sum_within (λ k. 1) slow_startup_of r.drives (λ k low. some (drive_at r k)) in omega (arith, all, most)
-    where
-      some : (d : DriveView) → 1 ≤ slow_startup_of d
-      some d = let fits = two_fits_in d in omega (arith, fits)
+      omega (
+        arith,
+        ones (length r.drives),
+        sum_within (λ k. 1) slow_startup_of r.drives
+            (λ k low. let fits : two_cycles (drive_at r k) ≤ slow_startup_of (drive_at r k) = omega arith in omega (arith, fits)),
+      )
 
   -- one drive, and the others
   with_one : (k : ℕ) → k < length r.drives → others_two r jobs carry restarts opened k + slow_startup_of (drive_at r k) ≤ sum_by slow_startup_of r.drives
   with_one k below =
       let split = sum_split (length r.drives) k (λ j. slow_startup_of (drive_at r j)) below in
       let most = sum_most (length r.drives) (without k (λ j. two_cycles (drive_at r j))) (without k (λ j. slow_startup_of (drive_at r j)))
-      (λ j low. without_mono k j (λ i. two_cycles (drive_at r i)) (λ i. slow_startup_of (drive_at r i)) (two_fits_in (drive_at r j))) in
-      let all = sum_within (λ j. slow_startup_of (drive_at r j)) slow_startup_of r.drives (λ j low. omega arith) in
-      omega (arith, split, most, all)
+      (λ j low. without_mono k j (λ i. two_cycles (drive_at r i)) (λ i. slow_startup_of (drive_at r i)) (omega arith)) in
+      omega (arith, split, most, sum_within (λ j. slow_startup_of (drive_at r j)) slow_startup_of r.drives (λ j low. omega arith))
 
   -- THE STEPS ACCEPTED in phase 3, if the check for phase 4 hasn't ended; and in any case
   abbrev accepted : ℕ → List CycleView → ℕ
   accepted k j = length (epoch_log (views_of r jobs carry restarts k j))
 
-  few_accepted : (u : CycleView) (cycles before : List CycleView) → StartsEpoch r jobs carry restarts before → Epoch (u ∷ cycles) before
-      → u.phase ≡ 3 → (k : ℕ) → k < length r.drives
-      → length (outcomes_in (epoch_begun (views_of r jobs carry restarts k (u ∷ (cycles ++ before))))) ≤ reads_count
-      (member (known_of r) k) + 12
-      → accepted k (u ∷ (cycles ++ before)) ≤ three_steps (drive_at r k) + 0
-  few_accepted u cycles before starts e three_is k below few =
-      let stands = all_stand r jobs carry restarts opened (u ∷ (cycles ++ before)) e.run e.clear k below in
-      let cost = in_cost (drive_at r k).busy (drive_at r k).command (λ raw. 512) (store_of (drive_at r k))
-      (views_of r jobs carry restarts k (u ∷ (cycles ++ before)))
-      (small r jobs carry restarts opened (first_store r jobs carry restarts opened) k below) stands.sees.run
-      stands.sound (costs_in r jobs carry restarts opened (u ∷ (cycles ++ before)) e.run e.clear k below) (listed_all (views_of r jobs carry restarts k (u ∷ (cycles ++ before)))) in
-      let fits = check_fit r jobs carry restarts opened u (cycles ++ before) e.run e.clear (borne u cycles before starts e) three_is k below few in
-      let steps = few_steps (drive_at r k).busy (accepted k (u ∷ (cycles ++ before))) (78 + 4 * listed (drive_at r k))
-      (2 * (drive_at r k).command) (omega (arith, cost, fits)) in omega (arith, steps)
-
-  all_accepted : (u : CycleView) (cycles before : List CycleView) → StartsEpoch r jobs carry restarts before → Epoch (u ∷ cycles) before
-      → u.phase ≡ 3 → (k : ℕ) → k < length r.drives → accepted k (u ∷ (cycles ++ before)) ≤ three_steps (drive_at r k) + 42
-  all_accepted u cycles before starts e three_is k below =
-      let stands = all_stand r jobs carry restarts opened (u ∷ (cycles ++ before)) e.run e.clear k below in
-      let cost = in_cost (drive_at r k).busy (drive_at r k).command longest_list (store_of (drive_at r k))
-      (views_of r jobs carry restarts k (u ∷ (cycles ++ before)))
-      (small r jobs carry restarts opened (first_store r jobs carry restarts opened) k below) stands.sees.run
-      stands.sound (costs_in r jobs carry restarts opened (u ∷ (cycles ++ before)) e.run e.clear k below) (lists_short r jobs carry restarts k
-      (ring_drive r k (drive_at r k) opened.valid (drive_got r k below)).blocks (few_blocks r k opened.valid below)
-      (first_store r jobs carry restarts opened k below).ascending (u ∷ (cycles ++ before))) in
-      let fits = all_fit r jobs carry restarts opened u (cycles ++ before) e.run e.clear (borne u cycles before starts e) three_is k
-      below in
-      let steps = few_steps (drive_at r k).busy (accepted k (u ∷ (cycles ++ before))) (120 + 4 * listed (drive_at r k))
-      (2 * (drive_at r k).command) (omega (arith, cost, fits)) in omega (arith, steps)
+  all_accepted : (longest : ℕ → ℕ) (x : ℕ) (u : CycleView) (j : List CycleView) → IsRun r jobs carry restarts (u ∷ j) → IsClear (u ∷ j)
+      → (k : ℕ) → k < length r.drives → AreListed longest (views_of r jobs carry restarts k (u ∷ j))
+      → cost_in (cost_of (drive_at r k).busy (drive_at r k).command longest (store_of (drive_at r k)))
+      (epoch_begun (views_of r jobs carry restarts k (u ∷ j)))
+      ≤ section_two (drive_at r k) + command_cycles (drive_at r k) + ((drive_at r k).busy + 1) * x
+      → accepted k (u ∷ j) ≤ three_steps (drive_at r k) + x
+  all_accepted longest x u j run clear k below are fits =
+      let stands = all_stand r jobs carry restarts opened (u ∷ j) run clear k below in
+      let steps = few_steps (drive_at r k).busy (accepted k (u ∷ j)) (78 + 4 * listed (drive_at r k) + x) (2 * (drive_at r k).command)
+      (omega (
+        arith,
+        in_cost (drive_at r k).busy (drive_at r k).command longest (store_of (drive_at r k))
+            (views_of r jobs carry restarts k (u ∷ j)) (small r jobs carry restarts opened (first_store r jobs carry restarts opened) k below)
+            stands.sees.run stands.sound (costs_in r jobs carry restarts opened (u ∷ j) run clear k below) are,
+        fits,
+      )) in omega (arith, steps)
 
   -- NOT SO LATE, if a drive that isn't ready has at most x steps more in phase 3
   module _ (x extra : ℕ) (room : (k : ℕ) → k < length r.drives → ((drive_at r k).busy + 2) * x ≤ extra + (drive_at r k).busy + 2)
@@ -155,13 +131,9 @@ module _ (r : RingView) (jobs : List Job) (carry : Carry) (restarts : Restarts) 
             let u_low = was_low (is_done (known_of r) (behind_mdt r jobs carry restarts u.sent (rest ++ before))) u.phase 2
             (let same = sym (phase_next r jobs carry restarts opened u (rest ++ before) all.run.0 was)
             ∙ back_two in omega (arith, same)) in
-            let le = two_spent r jobs carry restarts
-            opened
-            u rest before all.run.0 all.clear.0 starts all.sparse.0 back_two (none_before r jobs carry restarts t (u ∷ (rest ++ before))
-            (start_is r jobs carry restarts opened t (u ∷ (rest ++ before)) all.run t_is)
-            stop_none) in
-            let weight = weight_fits u rest before starts (split (u ∷ rest) is) u_low in
-            let many = enough (u ∷ rest) is in omega (arith, le, weight, many)
+            let le = two_spent r jobs carry restarts opened u rest before all.run.0 all.clear.0 starts all.sparse.0 back_two
+            (none_earlier r jobs carry restarts opened t (u ∷ (rest ++ before)) all.run t_is stop_none) in
+            let many = enough (u ∷ rest) is in omega (arith, le, weight_fits u rest before starts (split (u ∷ rest) is) u_low, many)
 
     rise_long : (u : CycleView) (rest : List CycleView) → Epoch (u ∷ rest) before → u.phase ≡ 2
         → (behind_mdt r jobs carry restarts u.sent (rest ++ before)).stop ≡ None
@@ -196,35 +168,46 @@ module _ (r : RingView) (jobs : List Job) (carry : Carry) (restarts : Restarts) 
   pub rises_anyway : (t : CycleView) (cycles before : List CycleView) → IsRun r jobs carry restarts (t ∷ (cycles ++ before))
       → IsClear (t ∷ (cycles ++ before)) → StartsEpoch r jobs carry restarts before → AreSparse r carry restarts (t ∷ cycles) before
       → IsRight r → slow_bound r + own_costs r jobs carry restarts cycles before ≤ length cycles → t.phase ≡ 4
-  rises_anyway t cycles before run clear starts sparse right long = right_ends r jobs carry restarts opened t (cycles ++ before)
+  rises_anyway t cycles before run clear starts sparse right long =
+      let epoch : Epoch (t ∷ cycles) before = record { run = run; clear = clear; sparse = sparse } in
+      right_ends r jobs carry restarts opened t (cycles ++ before)
       (end_at r jobs carry restarts opened t (cycles ++ before) run clear
       (λ low none. never_so_late 0 0 (λ k below. omega arith) t cycles before starts epoch few (omega (arith, long)) (λ is_two. none)
       (not_yet r jobs carry restarts opened t cycles before run clear (inl starts) sparse (omega (arith, long)) low (λ is_three. none)))) right
     where
-      epoch : Epoch (t ∷ cycles) before
-      epoch = record { run = run; clear = clear; sparse = sparse }
-
       few : (u : CycleView) (rest : List CycleView) → Epoch (u ∷ rest) before → u.phase ≡ 3
           → (n : Unready u (rest ++ before)) → accepted n.place (u ∷ (rest ++ before)) ≤ three_steps (drive_at r n.place) + 0
-      few u rest all u_three n = few_accepted u rest before starts all u_three n.place n.there
-          (few_in r jobs carry restarts opened u (rest ++ before) all.run all.clear (borne u rest before starts all) right n)
+      few u rest all u_three n =
+          let fits = check_fit r jobs carry restarts opened u (rest ++ before) all.run all.clear (borne u rest before starts all) u_three
+          n.place n.there (few_in r jobs carry restarts opened u (rest ++ before) all.run all.clear (borne u rest before starts all) right
+          n) in
+          all_accepted (λ raw. 512) 0 u (rest ++ before) all.run all.clear n.place n.there
+          (listed_all (views_of r jobs carry restarts n.place (u ∷ (rest ++ before)))) (omega (arith, fits))
 
   -- THE END in any case
   pub ends_anyway : (t : CycleView) (cycles before : List CycleView) → IsRun r jobs carry restarts (t ∷ (cycles ++ before))
       → IsClear (t ∷ (cycles ++ before)) → StartsEpoch r jobs carry restarts before → AreSparse r carry restarts (t ∷ cycles) before
       → slow_bound r + 41 * (slowest r.drives + 2) + own_costs r jobs carry restarts cycles before ≤ length cycles
       → IsUpOrStopped r t cycles
-  ends_anyway t cycles before run clear starts sparse long = since_told r jobs carry restarts opened t cycles before run clear starts sparse
+  ends_anyway t cycles before run clear starts sparse long =
+      let epoch : Epoch (t ∷ cycles) before = record { run = run; clear = clear; sparse = sparse } in
+      since_told r jobs carry restarts opened t cycles before run clear starts sparse
       (end_at r jobs carry restarts opened t (cycles ++ before) run clear (λ low none. never_so_late 42 (41 * (slowest r.drives + 2)) room t cycles before starts epoch few long (λ is_two. none)
       (not_yet r jobs carry restarts opened t cycles before run clear (inl starts) sparse (omega (arith, long)) low (λ is_three. none))))
     where
-      epoch : Epoch (t ∷ cycles) before
-      epoch = record { run = run; clear = clear; sparse = sparse }
-
       room : (k : ℕ) → k < length r.drives → ((drive_at r k).busy + 2) * 42 ≤ 41 * (slowest r.drives + 2) + (drive_at r k).busy + 2
-      room k below = list_room (drive_at r k).busy (slowest r.drives) (is_below_greatest (λ d. d.busy) r.drives k (drive_at r k)
-          (drive_at r k).busy (drive_got r k below) (omega arith))
+      room k below = omega (
+        arith,
+        (is_below_greatest (λ d. d.busy) r.drives k (drive_at r k)
+            (drive_at r k).busy (drive_got r k below) (omega arith)),
+      )
 
       few : (u : CycleView) (rest : List CycleView) → Epoch (u ∷ rest) before → u.phase ≡ 3
           → (n : Unready u (rest ++ before)) → accepted n.place (u ∷ (rest ++ before)) ≤ three_steps (drive_at r n.place) + 42
-      few u rest all u_three n = all_accepted u rest before starts all u_three n.place n.there
+      few u rest all u_three n = all_accepted longest_list 42 u (rest ++ before) all.run all.clear n.place n.there
+          (lists_short r jobs carry restarts n.place
+          (ring_drive r n.place (drive_at r n.place) opened.valid (drive_got r n.place n.there)).blocks
+          (few_blocks r n.place opened.valid n.there) (first_store r jobs carry restarts opened n.place n.there).ascending
+          (u ∷ (rest ++ before)))
+          (all_fit r jobs carry restarts opened u (rest ++ before) all.run all.clear (borne u rest before starts all) u_three n.place
+          n.there)

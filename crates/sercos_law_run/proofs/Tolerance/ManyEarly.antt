@@ -2,15 +2,12 @@
 use Rattle.sercos_law_run.proofs.Words.{◌≡◌, inl, inr, ℕ, suc, ◌+◌, ◌*◌, ◌≤◌, Bool, true, false, List, [], ◌∷◌, ◌++◌, length, refl, sym, ap, ◌∙◌, arith, if◌then◌else◌, ◌==◌, cases_eq, Job, RingView, CycleView, known_of, Past, has_identified, is_done, Carry, Restarts, is_disturbed_in, looks_back, master_calls, IsClear, IsDisturbed, IsRun, behind_mdt, behind_mst, IsOpened, StartsEpoch, IsUndisturbed, early_costs, own_costs, AreCalm, AreSparse}
 use Rattle.sercos_law_run.proofs.Views.Members.{members_count}
 use Rattle.sercos_law_run.proofs.Tolerance.Borne.{IsBorne, all_borne, calm_or_not}
-use Rattle.sercos_law_run.proofs.Tolerance.EarlySparse.{count_all, count_most, known, known_after, one_more, one_phase, phase_is, phase_next, risen, ten_unless, zero_cost}
+use Rattle.sercos_law_run.proofs.Tolerance.EarlySparse.{count_all, count_most, known, known_after, one_more, rose, phase_is, phase_next, risen, zero_cost}
 use Rattle.sercos_law_run.proofs.Undisturbed.PhaseZero.{stays_zero}
 
 -- what a cycle costs by its phase
 abbrev own_by : ℕ → Bool → ℕ
 own_by n whole = if n == 0 then (if whole then 0 else 10) else 0
-
-own_zero : (n : ℕ) (whole : Bool) → n ≡ 0 → own_by n whole ≡ ten_unless whole
-own_zero n whole is = ap (λ (m : ℕ). own_by m whole) is
 
 module _ (r : RingView) (jobs : List Job) (carry : Carry) (restarts : Restarts) (opened : IsOpened r jobs) where
   abbrev back : List CycleView → Past
@@ -32,19 +29,21 @@ module _ (r : RingView) (jobs : List Job) (carry : Carry) (restarts : Restarts) 
   zero_costs t [] before run clear starts sparse t_zero =
       let a = zero_cost t.phase (behind_mst r jobs carry restarts t.sent before).now.whole
       (is_disturbed_in r carry restarts (length before) t.sent) t_zero in
-      let b = own_zero t.phase (behind_mst r jobs carry restarts t.sent before).now.whole t_zero in omega (arith, a, b)
+      let b = ap (λ (m : ℕ). own_by m (behind_mst r jobs carry restarts t.sent before).now.whole) t_zero in omega (arith, a, b)
   zero_costs t (u ∷ cycles) before run clear starts sparse t_zero =
       let is = all_borne r jobs carry restarts opened t (u ∷ cycles) before run clear starts sparse in
       let was = all_borne r jobs carry restarts opened u cycles before run.0 clear.0 starts sparse.0 in
-      let u_zero = (stays_zero (done_in u (cycles ++ before)) u.phase
-      (sym (phase_next r jobs carry restarts opened u (cycles ++ before) run.0 was)
-      ∙ sym (phase_is r jobs carry restarts opened t (u ∷ (cycles ++ before)) run is)
-      ∙ t_zero)).1 in
-      let rest = zero_costs u cycles before run.0 clear.0 starts sparse.0 u_zero in
       let a = zero_cost t.phase (behind_mst r jobs carry restarts t.sent (u ∷ (cycles ++ before))).now.whole
       (is_disturbed_in r carry restarts (length (u ∷ (cycles ++ before))) t.sent) t_zero in
-      let b = own_zero t.phase (behind_mst r jobs carry restarts t.sent (u ∷ (cycles ++ before))).now.whole t_zero in omega
-      (arith, rest, a, b)
+      let b = ap (λ (m : ℕ). own_by m (behind_mst r jobs carry restarts t.sent (u ∷ (cycles ++ before))).now.whole) t_zero in omega (
+        arith,
+        zero_costs u cycles before run.0 clear.0 starts sparse.0
+            ((stays_zero (done_in u (cycles ++ before)) u.phase
+            (sym (phase_next r jobs carry restarts opened u (cycles ++ before) run.0 was)
+            ∙ sym (phase_is r jobs carry restarts opened t (u ∷ (cycles ++ before)) run is) ∙ t_zero)).1),
+        a,
+        b,
+      )
 
   -- PHASE 1: three cycles for each drive that is identified, and up to two since a disturbed one
   record IsInOne (t : CycleView) (j : List CycleView) (len own identified : ℕ) : Type 0 where
@@ -61,9 +60,8 @@ module _ (r : RingView) (jobs : List Job) (carry : Carry) (restarts : Restarts) 
       let none : t.phase ≡ 0 = phase_is r jobs carry restarts opened t before run is ∙ starts in
       absurd (omega (arith, none, one))
   in_one t (u ∷ cycles) before run clear starts sparse one =
-      elim (one_phase (done_in u (cycles ++ before)) u.phase
-      (sym (phase_next r jobs carry restarts opened u (cycles ++ before) run.0 was)
-      ∙ sym (phase_is r jobs carry restarts opened t (u ∷ (cycles ++ before)) run is) ∙ one)) [
+      elim (rose r jobs carry restarts opened u (cycles ++ before) run.0 was 0
+      (sym (phase_is r jobs carry restarts opened t (u ∷ (cycles ++ before)) run is) ∙ one)) [
         | inl first ↦ by_first first.1
         | inr later ↦ by_later later.0 later.1 (in_one u cycles before run.0 clear.0 starts sparse.0 later.1)
       ]
@@ -94,7 +92,8 @@ module _ (r : RingView) (jobs : List Job) (carry : Carry) (restarts : Restarts) 
         any = elim (calm_or_not r carry restarts t (u ∷ (cycles ++ before))) [
           | inl disturbed ↦ (let le = lost_now disturbed in omega (arith, le))
           | inr calm ↦ elim (calm_or_not r carry restarts u (cycles ++ before)) [
-            | inl before_it ↦ (let le = earlier.lost before_it in let grows = more_found in omega (arith, le, grows))
+            | inl before_it ↦ (let le = earlier.lost before_it in
+                let grows = known_after r jobs carry restarts opened t (u ∷ (cycles ++ before)) run is in omega (arith, le, grows))
             | inr before_it ↦ (let le = calm_now calm before_it in omega (arith, le))
           ]
         ];
@@ -102,24 +101,20 @@ module _ (r : RingView) (jobs : List Job) (carry : Carry) (restarts : Restarts) 
         calm = λ calm before_it. calm_now calm before_it.1;
       }
         where
-          more_found : found (u ∷ (cycles ++ before)) ≤ found (t ∷ u ∷ (cycles ++ before))
-          more_found = known_after r jobs carry restarts opened t (u ∷ (cycles ++ before)) run is
-
           lost_now : IsDisturbed r carry restarts t (u ∷ (cycles ++ before))
               → suc (suc (length cycles)) ≤ 12 + own_costs r jobs carry restarts (t ∷ u ∷ cycles) before + 3 * found
               (t ∷ u ∷ (cycles ++ before))
           lost_now disturbed =
               let are = sparse.1.early disturbed (omega (arith, one)) (omega (arith, one)) in
               let le = earlier.calm are.1 are.0 in
-              let grows = more_found in omega (arith, le, grows)
+              let grows = known_after r jobs carry restarts opened t (u ∷ (cycles ++ before)) run is in omega (arith, le, grows)
 
           calm_now : IsUndisturbed r carry restarts t (u ∷ (cycles ++ before)) → IsUndisturbed r carry restarts u (cycles ++ before)
               → suc (suc (length cycles)) ≤ 11 + own_costs r jobs carry restarts (t ∷ u ∷ cycles) before + 3 * found
               (t ∷ u ∷ (cycles ++ before))
           calm_now calm before_it =
-              let le = earlier.any in
               let grows = one_more r jobs carry restarts opened t u (cycles ++ before) run clear is was calm before_it one was_one
-              unfinished in omega (arith, le, grows)
+              unfinished in omega (arith, earlier.any, grows)
 
   -- BOTH PHASES
   pub early_many : (t : CycleView) (cycles before : List CycleView) → IsRun r jobs carry restarts (t ∷ (cycles ++ before))
@@ -127,13 +122,17 @@ module _ (r : RingView) (jobs : List Job) (carry : Carry) (restarts : Restarts) 
       → t.phase ≤ 1 → suc (length cycles) ≤ 13 + 3 * length r.drives + own_costs r jobs carry restarts (t ∷ cycles) before
   early_many t cycles before run clear starts sparse low = elim (cases_eq t.phase 0) [
     | inl at_zero ↦ (
-        let le = risen r jobs carry restarts opened t cycles before run clear (inl starts) sparse at_zero
-        in
-        let same = zero_costs t cycles before run clear starts sparse at_zero in omega (arith, le, same))
+        let same = zero_costs t cycles before run clear starts sparse at_zero in
+        omega (arith, risen r jobs carry restarts opened t cycles before run clear (inl starts) sparse at_zero, same))
     | inr later ↦ (
         let le = (in_one t cycles before run clear starts sparse (omega (arith, low, later))).any in
-        let few = count_most (length (known_of r).drives) (λ k. has_identified k (back (t ∷ (cycles ++ before))).turns) (λ k. true)
-        (λ k on. refl) in
         let all = count_all (length (known_of r).drives) in
-        let members = members_count r in omega (arith, le, few, all, members))
+        let members = members_count r in omega (
+          arith,
+          le,
+          count_most (length (known_of r).drives)
+              (λ k. has_identified k (back (t ∷ (cycles ++ before))).turns) (λ k. true) (λ k on. refl),
+          all,
+          members,
+        ))
   ]

@@ -1,12 +1,11 @@
 -- How long phase 3 lasts while disturbed cycles are sparse, however many they are.
-use Rattle.sercos_law_run.proofs.Words.{◌≡◌, inl, inr, ℕ, suc, ◌+◌, ◌*◌, ◌<◌, ◌≤◌, List, [], ◌∷◌, ◌++◌, length, Option, None, sym, ap, ◌∙◌, arith, is_some, Job, times_le, DriveView, RingView, answers_in, open_in, CycleView, Fall, known_of, Past, is_done, Carry, Restarts, epoch_begun, epoch_log, View, in_step, sum_below, drive_at, looks_back, master_calls, IsClear, IsRun, behind_mdt, view_of, views_of, IsOpened, StartsEpoch, own_costs, AreSparse, IsViewRun}
+use Rattle.sercos_law_run.proofs.Words.{◌≡◌, inl, inr, ℕ, suc, ◌+◌, ◌*◌, ◌<◌, ◌≤◌, List, [], ◌∷◌, ◌++◌, length, Option, None, sym, ap, ◌∙◌, arith, is_some, Job, times_le, DriveView, RingView, answers_in, open_in, CycleView, Fall, Past, Carry, Restarts, epoch_begun, epoch_log, View, in_step, sum_below, drive_at, looks_back, master_calls, IsClear, IsRun, behind_mdt, view_of, views_of, IsOpened, StartsEpoch, own_costs, AreSparse, IsViewRun}
 use Rattle.sercos_law_run.proofs.Headline.HeadlineRuns.{all_stand}
-use Rattle.sercos_law_run.proofs.Undisturbed.PhaseThree.{comes_three}
-use Rattle.sercos_law_run.proofs.Undisturbed.Stops.StopStays.{none_before, stop_after}
+use Rattle.sercos_law_run.proofs.Undisturbed.Stops.StopStays.{stop_after}
 use Rattle.sercos_law_run.proofs.Undisturbed.Sections.{sum_most}
 use Rattle.sercos_law_run.proofs.Tolerance.Borne.{IsBorne, all_borne, rests, zero_is}
-use Rattle.sercos_law_run.proofs.Tolerance.EarlySparse.{phase_is, phase_next, start_is}
-use Rattle.sercos_law_run.proofs.Tolerance.InARow.{IsInARow, IsPaced, New, Rests, StandsSo, Waits, paced_next, stands_so}
+use Rattle.sercos_law_run.proofs.Tolerance.EarlySparse.{phase_is, rose, none_earlier}
+use Rattle.sercos_law_run.proofs.Tolerance.InARow.{IsPaced, NotTaken, NoneOpen, Counts, NotAnswered, paced_next, counts}
 use Rattle.sercos_law_run.proofs.Tolerance.ManyTwo.{steps_in_two, two_spent, two_steps, weigh_at, weight_at, weight_grows}
 use Rattle.sercos_law_run.proofs.Tolerance.Spared.{spared_in}
 use Rattle.sercos_law_run.proofs.Tolerance.Steps.{never_some}
@@ -33,13 +32,13 @@ at_rest : (busy spent base : ℕ) (all : List View) → IsViewRun busy all → o
 at_rest busy spent base all run none le = record {
   total = omega (arith, le);
   rests = λ off. le;
-  waits = λ e rest those a. absurd (by a (stands_so (epoch_begun all) (epoch_log all) (in_step busy all run)));
+  waits = λ e rest those a. absurd (by a (counts (epoch_begun all) (epoch_log all) (in_step busy all run)));
 }
   where
-    by : suc (length (answers_in (epoch_begun all))) ≡ length (epoch_log all) → StandsSo (epoch_begun all) (epoch_log all) → ⊥
-    by a (Rests off b) = omega (arith, a, b)
-    by a (New on s b) = never_some (open_in (epoch_begun all)) none on
-    by a (Waits f older those_then on s b) = never_some (open_in (epoch_begun all)) none on
+    by : suc (length (answers_in (epoch_begun all))) ≡ length (epoch_log all) → Counts (epoch_begun all) (epoch_log all) → ⊥
+    by a (NoneOpen off s b) = omega (arith, a, b)
+    by a (NotTaken on s b) = never_some (open_in (epoch_begun all)) none on
+    by a (NotAnswered f older those_then on s b) = never_some (open_in (epoch_begun all)) none on
 
 module _ (r : RingView) (jobs : List Job) (carry : Carry) (restarts : Restarts) (opened : IsOpened r jobs) where
   abbrev back : List CycleView → Past
@@ -66,13 +65,14 @@ module _ (r : RingView) (jobs : List Job) (carry : Carry) (restarts : Restarts) 
       let zero = zero_is r jobs carry restarts opened u before run clear starts (sparse.1.goes_on 0 (omega arith)) in absurd (omega (arith, zero, u_two))
   at_rise u (v ∷ cycles) before run clear starts sparse u_two none =
       let is = all_borne r jobs carry restarts opened u (v ∷ cycles) before run clear starts sparse in
-      let le = two_spent r jobs carry restarts opened v
-      cycles before run.0 clear.0 starts sparse.0
-      (sym (phase_is r jobs carry restarts opened u (v ∷ (cycles ++ before)) run is) ∙ u_two)
-      (none_before r jobs carry restarts u (v ∷ (cycles ++ before))
-      (start_is r jobs carry restarts opened u (v ∷ (cycles ++ before)) run is) none) in
       let grows = weight_grows r jobs carry restarts opened u (v ∷ (cycles ++ before)) run clear is in
-      omega (arith, le, grows)
+      omega (
+        arith,
+        two_spent r jobs carry restarts opened v cycles before run.0 clear.0 starts sparse.0
+            (sym (phase_is r jobs carry restarts opened u (v ∷ (cycles ++ before)) run is) ∙ u_two)
+            (none_earlier r jobs carry restarts opened u (v ∷ (cycles ++ before)) run is none),
+        grows,
+      )
 
   module _ (k : ℕ) (below : k < length r.drives) where
     -- at the end of phase 2, by the steps to one drive
@@ -82,15 +82,19 @@ module _ (r : RingView) (jobs : List Job) (carry : Carry) (restarts : Restarts) 
         → suc (length cycles) ≤ 16 + 2 * length r.drives + own_costs r jobs carry restarts (u ∷ cycles) before + others_two k + two_steps
         (drive_at r k) + ((drive_at r k).busy + 2) * length (epoch_log (views_of r jobs carry restarts k (u ∷ (cycles ++ before))))
     rise_base u cycles before run clear starts sparse u_two none =
-        let le = at_rise u cycles before run clear starts sparse u_two none in
         let split = sum_split (length r.drives) k (weigh_at r jobs carry restarts (u ∷ (cycles ++ before))) below in
-        let most = sum_most (length r.drives) (without k (weigh_at r jobs carry restarts (u ∷ (cycles ++ before))))
-        (without k (λ j. two_cycles (drive_at r j)))
-        (λ j low. without_mono k j (weigh_at r jobs carry restarts (u ∷ (cycles ++ before))) (λ i. two_cycles (drive_at r i))
-        (each j low)) in
-        let mine = steps_so k below in
         let parts = more_steps (drive_at r k).busy (length (epoch_log (views_of r jobs carry restarts k (u ∷ (cycles ++ before))))) in
-        omega (arith, le, split, most, mine, parts)
+        omega (
+          arith,
+          at_rise u cycles before run clear starts sparse u_two none,
+          split,
+          sum_most (length r.drives)
+              (without k (weigh_at r jobs carry restarts (u ∷ (cycles ++ before)))) (without k (λ j. two_cycles (drive_at r j)))
+              (λ j low. without_mono k j (weigh_at r jobs carry restarts (u ∷ (cycles ++ before))) (λ i. two_cycles (drive_at r i))
+              (each j low)),
+          steps_so k below,
+          parts,
+        )
       where
         steps_so : (j : ℕ) → j < length r.drives
             → length (epoch_log (views_of r jobs carry restarts j (u ∷ (cycles ++ before)))) ≤ two_steps (drive_at r j)
@@ -99,9 +103,8 @@ module _ (r : RingView) (jobs : List Job) (carry : Carry) (restarts : Restarts) 
 
         each : (j : ℕ) → j < length r.drives → weigh_at r jobs carry restarts (u ∷ (cycles ++ before)) j ≤ two_cycles (drive_at r j)
         each j low =
-            let steps = steps_so j low in
             let product = times_le ((drive_at r j).busy + 3) (length (epoch_log (views_of r jobs carry restarts j
-            (u ∷ (cycles ++ before))))) (two_steps (drive_at r j)) steps in omega (arith, product)
+            (u ∷ (cycles ++ before))))) (two_steps (drive_at r j)) (steps_so j low) in omega (arith, product)
 
     abbrev base : List CycleView → List CycleView → ℕ
     base cycles before = 16 + 2 * length r.drives + own_costs r jobs carry restarts cycles before + others_two k + two_steps (drive_at r k)
@@ -114,57 +117,36 @@ module _ (r : RingView) (jobs : List Job) (carry : Carry) (restarts : Restarts) 
         (t ∷ (cycles ++ before)))
     three_many t [] before run clear starts sparse t_three none unready =
         let zero = zero_is r jobs carry restarts opened t before run clear starts (sparse.1.goes_on 0 (omega arith)) in absurd (omega (arith, zero, t_three))
-    three_many t (u ∷ cycles) before run clear starts sparse t_three none unready = paced_next (drive_at r k).busy (suc (length cycles))
+    three_many t (u ∷ cycles) before run clear starts sparse t_three none unready =
+        let was = all_borne r jobs carry restarts opened u cycles before run.0 clear.0 starts sparse.0 in
+        let is = all_borne r jobs carry restarts opened t (u ∷ cycles) before run clear starts sparse in
+        let stop_none : (behind_mdt r jobs carry restarts t.sent (u ∷ (cycles ++ before))).stop ≡ None =
+        sym (stop_after r jobs carry restarts t (u ∷ (cycles ++ before)) is.stays) ∙ none in
+        let none_then = none_earlier r jobs carry restarts opened t (u ∷ (cycles ++ before)) run is stop_none in
+        paced_next (drive_at r k).busy (suc (length cycles))
         (base (t ∷ u ∷ cycles) before) (view_of r jobs carry restarts k t (u ∷ (cycles ++ before)))
         (views_of r jobs carry restarts k (u ∷ (cycles ++ before)))
-        (all_stand r jobs carry restarts opened (t ∷ u ∷ (cycles ++ before)) run clear k below).sees.run row
-        (elim (comes_three (is_done (known_of r) (behind_mdt r jobs carry restarts u.sent (cycles ++ before))) u.phase
-        (sym (phase_next r jobs carry restarts opened u (cycles ++ before) run.0 was)
-        ∙ back_three)) [
-          | inl rise ↦ first rise.1
+        (all_stand r jobs carry restarts opened (t ∷ u ∷ (cycles ++ before)) run clear k below).sees.run (record {
+          stays = ap (λ (o : Option Fall). is_some o) is.stays;
+          goes_on = is.goes_on;
+          opens = opens_in_three r jobs carry restarts opened t (u ∷ (cycles ++ before)) run clear is t_three stop_none k below unready;
+          spared = spared_in r jobs carry restarts opened t (u ∷ cycles) before run clear starts sparse (omega (arith, t_three)) k
+              below;
+        })
+        (elim (rose r jobs carry restarts opened u (cycles ++ before) run.0 was 2
+        (sym (phase_is r jobs carry restarts opened t (u ∷ (cycles ++ before)) run is) ∙ t_three)) [
+          | inl rise ↦ let le = rise_base u cycles before run.0 clear.0 starts sparse.0 rise.1
+              (sym (stop_after r jobs carry restarts u (cycles ++ before) was.stays) ∙ none_then) in
+              at_rest (drive_at r k).busy (suc (length cycles)) (base (t ∷ u ∷ cycles) before)
+              (views_of r jobs carry restarts k (u ∷ (cycles ++ before)))
+              (all_stand r jobs carry restarts opened (u ∷ (cycles ++ before)) run.0 clear.0 k below).sees.run
+              (rests r jobs carry restarts opened t u (cycles ++ before) run clear was sparse.1 k below
+              (omega (arith, rise.1, t_three))) (omega (arith, le))
           | inr later ↦ wider (drive_at r k).busy (suc (length cycles)) (base (u ∷ cycles) before) (base (t ∷ u ∷ cycles) before)
               (views_of r jobs carry restarts k (u ∷ (cycles ++ before))) (omega arith)
               (three_many u cycles before run.0 clear.0 starts sparse.0 later.1 none_then
               (unready_start r jobs carry restarts opened t (u ∷ (cycles ++ before)) is k unready run clear))
         ])
-      where
-        was : Borne u (cycles ++ before)
-        was = all_borne r jobs carry restarts opened u cycles before run.0 clear.0 starts sparse.0
-
-        is : Borne t (u ∷ (cycles ++ before))
-        is = all_borne r jobs carry restarts opened t (u ∷ cycles) before run clear starts sparse
-
-        back_three : (back (u ∷ (cycles ++ before))).now.phase ≡ 3
-        back_three = sym (phase_is r jobs carry restarts opened t (u ∷ (cycles ++ before)) run is)
-            ∙ t_three
-
-        stop_none : (behind_mdt r jobs carry restarts t.sent (u ∷ (cycles ++ before))).stop ≡ None
-        stop_none = sym (stop_after r jobs carry restarts t (u ∷ (cycles ++ before)) is.stays) ∙ none
-
-        none_then : (back (u ∷ (cycles ++ before))).stop ≡ None
-        none_then = none_before r jobs carry restarts t (u ∷ (cycles ++ before))
-            (start_is r jobs carry restarts opened t (u ∷ (cycles ++ before)) run is) stop_none
-
-        row : IsInARow (drive_at r k).busy (view_of r jobs carry restarts k t (u ∷ (cycles ++ before))) (views_of r jobs carry restarts k
-            (u ∷ (cycles ++ before)))
-        row = record {
-          stays = ap (λ (o : Option Fall). is_some o) is.stays;
-          goes_on = is.goes_on;
-          opens = opens_in_three r jobs carry restarts opened t (u ∷ (cycles ++ before)) run clear is t_three stop_none k below unready;
-          spared = spared_in r jobs carry restarts opened t (u ∷ cycles) before run clear starts sparse (omega (arith, t_three)) k below;
-        }
-
-        first : u.phase ≡ 2 → IsPaced (drive_at r k).busy (suc (length cycles)) (base (t ∷ u ∷ cycles) before)
-            (views_of r jobs carry restarts
-            k (u ∷ (cycles ++ before)))
-        first u_two =
-            let le = rise_base u cycles before run.0 clear.0 starts sparse.0 u_two
-            (sym (stop_after r jobs carry restarts u (cycles ++ before) was.stays) ∙ none_then) in
-            at_rest (drive_at r k).busy (suc (length cycles)) (base (t ∷ u ∷ cycles) before)
-            (views_of r jobs carry restarts k (u ∷ (cycles ++ before)))
-            (all_stand r jobs carry restarts opened (u ∷ (cycles ++ before)) run.0 clear.0 k below).sees.run
-            (rests r jobs carry restarts opened t u (cycles ++ before) run clear was sparse.1 k below
-            (omega (arith, u_two, t_three))) (omega (arith, le))
 
     pub three_spent : (t : CycleView) (cycles before : List CycleView) → IsRun r jobs carry restarts (t ∷ (cycles ++ before))
         → IsClear (t ∷ (cycles ++ before)) → StartsEpoch r jobs carry restarts before → AreSparse r carry restarts (t ∷ cycles) before

@@ -8,16 +8,16 @@ use Rattle.sercos_law_run.proofs.Undisturbed.Checks.PassedRuns.{commands_so}
 use Rattle.sercos_law_run.proofs.Undisturbed.PhaseTwo.{listed_all}
 use Rattle.sercos_law_run.proofs.Undisturbed.JobsBegun.{goes_in_two}
 use Rattle.sercos_law_run.proofs.Undisturbed.Sections.{opens_in_two, sum_most, sum_more}
-use Rattle.sercos_law_run.proofs.Undisturbed.Stops.StopStays.{none_before, stop_after}
+use Rattle.sercos_law_run.proofs.Undisturbed.Stops.StopStays.{stop_after}
 use Rattle.sercos_law_run.proofs.Recovery.Limits.{open_age}
 use Rattle.sercos_law_run.proofs.Recovery.Stretches.{whole_at}
 use Rattle.sercos_law_run.proofs.Tolerance.Borne.{IsBorne, all_borne, before_lost, calm_or_not, is_run}
-use Rattle.sercos_law_run.proofs.Tolerance.EarlySparse.{phase_is, phase_next, start_is}
-use Rattle.sercos_law_run.proofs.Tolerance.InARow.{New, Rests, StandsSo, Waits, grows_one, stands_so, waits_from}
+use Rattle.sercos_law_run.proofs.Tolerance.EarlySparse.{phase_is, rose, none_earlier}
+use Rattle.sercos_law_run.proofs.Tolerance.InARow.{NotTaken, NoneOpen, Counts, NotAnswered, grows_one, counts, waits_from}
 use Rattle.sercos_law_run.proofs.Tolerance.ManyEarly.{early_many}
 use Rattle.sercos_law_run.proofs.Tolerance.Standing.{takes_whole}
 use Rattle.sercos_law_run.proofs.Tolerance.Steps.{IsYoung, begun_is, never_some, none_new}
-use Rattle.sercos_law_run.proofs.Tolerance.TwoLasts.{each_fits, two_phase}
+use Rattle.sercos_law_run.proofs.Tolerance.TwoLasts.{each_fits}
 
 -- SUMS
 pub ones : (n : ℕ) → sum_below n (λ k. 1) ≡ n
@@ -66,8 +66,7 @@ module _ (r : RingView) (jobs : List Job) (carry : Carry) (restarts : Restarts) 
 
   pub some_weight : (j : List CycleView) → length r.drives ≤ weight j
   some_weight j =
-      let all = ones (length r.drives) in
-      let most = sum_most (length r.drives) (λ k. 1) (weigh j) (λ k low. omega arith) in omega (arith, all, most)
+      let most = sum_most (length r.drives) (λ k. 1) (weigh j) (λ k low. omega arith) in omega (arith, ones (length r.drives), most)
 
   -- one cycle more
   module _ (t : CycleView) (j : List CycleView) (run : IsRun r jobs carry restarts (t ∷ j)) (clear : IsClear (t ∷ j)) (is : Borne t j) where
@@ -78,8 +77,7 @@ module _ (r : RingView) (jobs : List Job) (carry : Carry) (restarts : Restarts) 
     each_grows k below =
         let least = grows_one (busy_of k) (view_of r jobs carry restarts k t j) (views k j) (is_run r jobs carry restarts opened (t ∷ j) run clear k below) (stays k)
         is.goes_on in
-        let product = times_le (busy_of k + 3) (length (epoch_log (views k j))) (length (epoch_log (views k (t ∷ j)))) least in
-        omega (arith, product)
+        omega (arith, times_le (busy_of k + 3) (length (epoch_log (views k j))) (length (epoch_log (views k (t ∷ j)))) least)
 
     pub weight_grows : weight j ≤ weight (t ∷ j)
     weight_grows = sum_most (length r.drives) (weigh j) (weigh (t ∷ j)) each_grows
@@ -117,12 +115,11 @@ module _ (r : RingView) (jobs : List Job) (carry : Carry) (restarts : Restarts) 
   at_first j spent base few = record {
     total = let some = some_weight j in omega (arith, few, some);
     waits = λ k below e rest those a.
-        let less = head_before (length (views k j)) (epoch_records (views k j)) (taken_before (views k j)) e rest those in
         let long = ap (λ (l : List Entry). length l) those in
         let product = times_le (busy_of k + 3) 1 (length (epoch_log (views k j))) (omega (arith, long)) in
         let all = ones (length r.drives) in
         let most = sum_more (length r.drives) k (busy_of k + 3) (λ i. 1) (weigh j) below (λ i low. omega arith) (omega (arith, product)) in
-        omega (arith, few, less, all, most);
+        omega (arith, few, head_before (length (views k j)) (epoch_records (views k j)) (taken_before (views k j)) e rest those, all, most);
   }
 
   wider : (j : List CycleView) (spent base more_base : ℕ) → base ≤ more_base → IsTwo j spent base → IsTwo j spent more_base
@@ -143,8 +140,7 @@ module _ (r : RingView) (jobs : List Job) (carry : Carry) (restarts : Restarts) 
     waits_next i i_low e rest those a = elim (waits_from (busy_of i) (view_of r jobs carry restarts i t (u ∷ j)) (views i (u ∷ j))
         (is_run r jobs carry restarts opened (t ∷ u ∷ j) run clear i i_low) (stays t (u ∷ j) run clear is i) is.goes_on e rest those a) [
           | inl (long, same, waited) ↦ (
-              let before = earlier.waits i i_low e rest same waited in
-              let grows = weight_grows t (u ∷ j) run clear is in omega (arith, before, grows))
+              let grows = weight_grows t (u ∷ j) run clear is in omega (arith, earlier.waits i i_low e rest same waited, grows))
           | inr (long, cycle) ↦ (
               let before = earlier.total in
               let grows = weight_more t (u ∷ j) run clear is i i_low long in omega (arith, before, grows, cycle))
@@ -152,33 +148,31 @@ module _ (r : RingView) (jobs : List Job) (carry : Carry) (restarts : Restarts) 
 
     -- a step that the drive hasn't accepted: nothing was late at the end of the cycle before
     new_next : IsDisturbed r carry restarts t (u ∷ j) → suc spent ≤ base + weight (t ∷ u ∷ j)
-    new_next disturbed = by (stands_so (epoch_begun (views d (u ∷ j))) (epoch_log (views d (u ∷ j)))
+    new_next disturbed = by (counts (epoch_begun (views d (u ∷ j))) (epoch_log (views d (u ∷ j)))
         (in_step (busy_of d) (views d (u ∷ j)) (is_run r jobs carry restarts opened (u ∷ j) run.0 clear.0 d d_low)))
       where
         young : IsYoung (busy_of d) 0 0 (views d (u ∷ j))
         young = before_lost r jobs carry restarts opened t u j run clear was sparse d d_low disturbed (omega (arith, t_two))
 
-        by : StandsSo (epoch_begun (views d (u ∷ j))) (epoch_log (views d (u ∷ j))) → suc spent ≤ base + weight (t ∷ u ∷ j)
-        by (Rests none a) = absurd (never_some (open_in (epoch_begun (views d (u ∷ j)))) none d_opens)
-        by (New on s a) = let few = young.new on s in let old = open_age (views d (u ∷ j)) on in absurd (omega (arith, few, old))
-        by (Waits e rest those on s a) =
+        by : Counts (epoch_begun (views d (u ∷ j))) (epoch_log (views d (u ∷ j))) → suc spent ≤ base + weight (t ∷ u ∷ j)
+        by (NoneOpen none s a) = absurd (never_some (open_in (epoch_begun (views d (u ∷ j)))) none d_opens)
+        by (NotTaken on s a) = let few = young.new on s in let old = open_age (views d (u ∷ j)) on in absurd (omega (arith, few, old))
+        by (NotAnswered e rest those on s a) =
             let late = (young.old e rest those on s).1 in
-            let before = earlier.waits d d_low e rest those a in
-            let grows = weight_grows t (u ∷ j) run clear is in omega (arith, late, before, grows)
+            let grows = weight_grows t (u ∷ j) run clear is in omega (arith, late, earlier.waits d d_low e rest those a, grows)
 
     total_next : suc spent ≤ base + weight (t ∷ u ∷ j) + 1
-    total_next = by (stands_so (epoch_begun (views k (t ∷ u ∷ j))) (epoch_log (views k (t ∷ u ∷ j)))
+    total_next = by (counts (epoch_begun (views k (t ∷ u ∷ j))) (epoch_log (views k (t ∷ u ∷ j)))
         (in_step (busy_of k) (views k (t ∷ u ∷ j)) (is_run r jobs carry restarts opened (t ∷ u ∷ j) run clear k below)))
       where
-        by : StandsSo (epoch_begun (views k (t ∷ u ∷ j))) (epoch_log (views k (t ∷ u ∷ j))) → suc spent ≤ base + weight (t ∷ u ∷ j) + 1
-        by (Rests none a) = absurd (never_some (open_in (epoch_begun (views k (t ∷ u ∷ j)))) none opens)
-        by (New on s a) = elim (calm_or_not r carry restarts t (u ∷ j)) [
+        by : Counts (epoch_begun (views k (t ∷ u ∷ j))) (epoch_log (views k (t ∷ u ∷ j))) → suc spent ≤ base + weight (t ∷ u ∷ j) + 1
+        by (NoneOpen none s a) = absurd (never_some (open_in (epoch_begun (views k (t ∷ u ∷ j)))) none opens)
+        by (NotTaken on s a) = elim (calm_or_not r carry restarts t (u ∷ j)) [
           | inl disturbed ↦ (let le = new_next disturbed in omega (arith, le))
           | inr calm ↦ absurd (new_lost t (u ∷ j) run clear is calm k below on s)
         ]
-        by (Waits e rest those on s a) =
-            let le = waits_next k below e rest those a in
-            let late = ((is.aged k below).any.old e rest those on s).1 in omega (arith, le, late)
+        by (NotAnswered e rest those on s a) =
+            let late = ((is.aged k below).any.old e rest those on s).1 in omega (arith, waits_next k below e rest those a, late)
 
     two_next : IsTwo (t ∷ u ∷ j) (suc spent) base
     two_next = record { total = total_next; waits = waits_next }
@@ -189,18 +183,15 @@ module _ (r : RingView) (jobs : List Job) (carry : Carry) (restarts : Restarts) 
       → (k : ℕ) × (k < length r.drives) × (is_some (open_in (epoch_begun (views k (t ∷ j)))) ≡ true)
   some_open t j run clear is t_two is_two none =
       let o = opens_in_two r jobs carry restarts opened t j run clear
-      (goes_in_two r jobs carry restarts opened t j run clear t_two stop_none unfinished) in
+      (goes_in_two r jobs carry restarts opened t j run clear t_two (sym (stop_after r jobs carry restarts t j is.stays) ∙ none)
+      unfinished) in
       (o.0, o.1, open_now t j run clear is o.0 o.1 o.2)
     where
-      stop_none : (behind_mdt r jobs carry restarts t.sent j).stop ≡ None
-      stop_none = sym (stop_after r jobs carry restarts t j is.stays) ∙ none
-
       unfinished : is_done (known_of r) (behind_mdt r jobs carry restarts t.sent j) ≡ false
-      unfinished = elim (two_phase (is_done (known_of r) (behind_mdt r jobs carry restarts t.sent j)) t.phase
-          (sym (phase_next r jobs carry restarts opened t j run is) ∙ is_two)) [
-            | inl first ↦ (let one = first.1 in absurd (omega (arith, one, t_two)))
-            | inr later ↦ later.0
-          ]
+      unfinished = elim (rose r jobs carry restarts opened t j run is 1 is_two) [
+        | inl first ↦ (let one = first.1 in absurd (omega (arith, one, t_two)))
+        | inr later ↦ later.0
+      ]
 
   two_many : (t : CycleView) (cycles before : List CycleView) → IsRun r jobs carry restarts (t ∷ (cycles ++ before))
       → IsClear (t ∷ (cycles ++ before)) → StartsEpoch r jobs carry restarts before → AreSparse r carry restarts (t ∷ cycles) before
@@ -212,43 +203,27 @@ module _ (r : RingView) (jobs : List Job) (carry : Carry) (restarts : Restarts) 
       let zero : t.phase ≡ 0 = phase_is r jobs carry restarts opened t before run is ∙ starts in
       absurd (omega (arith, zero, t_two))
   two_many t (u ∷ cycles) before run clear starts sparse is_two none t_two =
-      elim (two_phase (is_done (known_of r) (behind_mdt r jobs carry restarts u.sent (cycles ++ before))) u.phase
-      (sym (phase_next r jobs carry restarts opened u (cycles ++ before) run.0 was)
-      ∙ back_two)) [
+      let was = all_borne r jobs carry restarts opened u cycles before run.0 clear.0 starts sparse.0 in
+      let is = all_borne r jobs carry restarts opened t (u ∷ cycles) before run clear starts sparse in
+      let back_two : (back (u ∷ (cycles ++ before))).now.phase ≡ 2 =
+      sym (phase_is r jobs carry restarts opened t (u ∷ (cycles ++ before)) run is)
+      ∙ t_two in
+      let none_then =
+      none_earlier r jobs carry restarts opened t (u ∷ (cycles ++ before)) run is
+      (sym (stop_after r jobs carry restarts t (u ∷ (cycles ++ before)) is.stays) ∙ none) in
+      elim (rose r jobs carry restarts opened u (cycles ++ before) run.0 was 1 back_two) [
         | inl first ↦ (
-            let one = first.1 in
-            let le = early_many r jobs carry restarts opened u cycles before run.0 clear.0 starts sparse.0 (omega (arith, one)) in
+            let le = early_many r jobs carry restarts opened u cycles before run.0 clear.0 starts sparse.0 (omega (arith, first.1)) in
             at_first (t ∷ u ∷ (cycles ++ before)) (suc (length cycles))
             (13 + 2 * length r.drives + own_costs r jobs carry restarts (t ∷ u ∷ cycles) before) (omega (arith, le)))
-        | inr later ↦ by later.1 (two_many u cycles before run.0 clear.0 starts sparse.0 back_two none_then later.1)
+        | inr later ↦ let o = some_open u (cycles ++ before) run.0 clear.0 was later.1 back_two none_then in
+            let p = some_open t (u ∷ (cycles ++ before)) run clear is t_two is_two none in
+            two_next t u (cycles ++ before) run clear was is sparse.1 t_two o.0 o.1 o.2 p.0 p.1 p.2 (suc (length cycles))
+            (13 + 2 * length r.drives + own_costs r jobs carry restarts (t ∷ u ∷ cycles) before)
+            (wider (u ∷ (cycles ++ before)) (suc (length cycles)) (13 + 2 * length r.drives + own_costs r jobs carry restarts (u ∷ cycles)
+            before) (13 + 2 * length r.drives + own_costs r jobs carry restarts (t ∷ u ∷ cycles) before) (omega arith)
+            (two_many u cycles before run.0 clear.0 starts sparse.0 back_two none_then later.1))
       ]
-    where
-      was : Borne u (cycles ++ before)
-      was = all_borne r jobs carry restarts opened u cycles before run.0 clear.0 starts sparse.0
-
-      is : Borne t (u ∷ (cycles ++ before))
-      is = all_borne r jobs carry restarts opened t (u ∷ cycles) before run clear starts sparse
-
-      back_two : (back (u ∷ (cycles ++ before))).now.phase ≡ 2
-      back_two = sym (phase_is r jobs carry restarts opened t (u ∷ (cycles ++ before)) run is)
-          ∙ t_two
-
-      none_then : (back (u ∷ (cycles ++ before))).stop ≡ None
-      none_then = none_before r jobs carry restarts t (u ∷ (cycles ++ before))
-          (start_is r jobs carry restarts opened t (u ∷ (cycles ++ before)) run is)
-          (sym (stop_after r jobs carry restarts t (u ∷ (cycles ++ before)) is.stays) ∙ none)
-
-      by : u.phase ≡ 2 → IsTwo (u ∷ (cycles ++ before)) (suc (length cycles))
-          (13 + 2 * length r.drives + own_costs r jobs carry restarts (u ∷ cycles) before)
-          → IsTwo (t ∷ u ∷ (cycles ++ before)) (suc (suc (length cycles)))
-          (13 + 2 * length r.drives + own_costs r jobs carry restarts (t ∷ u ∷ cycles) before)
-      by u_two earlier =
-          let o = some_open u (cycles ++ before) run.0 clear.0 was u_two back_two none_then in
-          let p = some_open t (u ∷ (cycles ++ before)) run clear is t_two is_two none in
-          two_next t u (cycles ++ before) run clear was is sparse.1 t_two o.0 o.1 o.2 p.0 p.1 p.2 (suc (length cycles))
-          (13 + 2 * length r.drives + own_costs r jobs carry restarts (t ∷ u ∷ cycles) before)
-          (wider (u ∷ (cycles ++ before)) (suc (length cycles)) (13 + 2 * length r.drives + own_costs r jobs carry restarts (u ∷ cycles)
-          before) (13 + 2 * length r.drives + own_costs r jobs carry restarts (t ∷ u ∷ cycles) before) (omega arith) earlier)
 
   -- THE CYCLES of an epoch up to one after which phase 2 is commanded
   pub two_spent : (t : CycleView) (cycles before : List CycleView) → IsRun r jobs carry restarts (t ∷ (cycles ++ before))
@@ -257,11 +232,10 @@ module _ (r : RingView) (jobs : List Job) (carry : Carry) (restarts : Restarts) 
       → suc (length cycles) ≤ 13 + 2 * length r.drives + own_costs r jobs carry restarts (t ∷ cycles) before + weight
       (t ∷ (cycles ++ before)) + 1
   two_spent t cycles before run clear starts sparse is_two none =
-      elim (two_phase (is_done (known_of r) (behind_mdt r jobs carry restarts t.sent (cycles ++ before))) t.phase
-      (sym (phase_next r jobs carry restarts opened t (cycles ++ before) run (all_borne r jobs carry restarts opened t cycles before run clear starts sparse)) ∙ is_two)) [
+      elim (rose r jobs carry restarts opened t (cycles ++ before) run
+      (all_borne r jobs carry restarts opened t cycles before run clear starts sparse) 1 is_two) [
         | inl first ↦ (
-            let one = first.1 in
-            let le = early_many r jobs carry restarts opened t cycles before run clear starts sparse (omega (arith, one)) in
+            let le = early_many r jobs carry restarts opened t cycles before run clear starts sparse (omega (arith, first.1)) in
             let some = some_weight (t ∷ (cycles ++ before)) in omega (arith, le, some))
         | inr later ↦ (let le = (two_many t cycles before run clear starts sparse is_two none later.1).total in omega (arith, le))
       ]
@@ -277,10 +251,12 @@ module _ (r : RingView) (jobs : List Job) (carry : Carry) (restarts : Restarts) 
       → (k : ℕ) → k < length r.drives → length (epoch_log (views_of r jobs carry restarts k (t ∷ j))) ≤ two_steps (drive_at r k)
   steps_in_two t j run clear is low k below =
       let stands = all_stand r jobs carry restarts opened (t ∷ j) run clear k below in
-      let cost = in_cost (drive_at r k).busy (drive_at r k).command (λ raw. 512) (store_of (drive_at r k))
-      (views_of r jobs carry restarts k (t ∷ j))
-      (small r jobs carry restarts opened (first_store r jobs carry restarts opened) k below) stands.sees.run
-      stands.sound (costs_in (t ∷ j) run clear k below) (listed_all (views_of r jobs carry restarts k (t ∷ j))) in
       let fits = each_fits r jobs carry restarts opened t j run clear is.stays low k below in
       few_steps (drive_at r k).busy (length (epoch_log (views_of r jobs carry restarts k (t ∷ j)))) (74 + 4 * listed (drive_at r k))
-      (drive_at r k).command (omega (arith, cost, fits))
+      (drive_at r k).command (omega (
+        arith,
+        in_cost (drive_at r k).busy (drive_at r k).command (λ raw. 512) (store_of (drive_at r k))
+            (views_of r jobs carry restarts k (t ∷ j)) (small r jobs carry restarts opened (first_store r jobs carry restarts opened) k below)
+            stands.sees.run stands.sound (costs_in (t ∷ j) run clear k below) (listed_all (views_of r jobs carry restarts k (t ∷ j))),
+        fits,
+      ))

@@ -1,5 +1,5 @@
 -- Where none of the causes of a fall is there at the end of a cycle.
-use Rattle.sercos_law_run.proofs.Words.{◌≡◌, ◌⊎◌, inl, inr, ℕ, ◌+◌, ◌≤◌, Bool, true, false, not, ◌&&◌, List, ◌∷◌, Option, Some, None, refl, ap, ◌∙◌, min, arith, if◌then◌else◌, ◌==◌, nat_le, option_map, unwrap_or, nat_tests, is_place, Turn, count_addressed, has_lost_at, has_lost_mst, age_if_open}
+use Rattle.sercos_law_run.proofs.Words.{◌≡◌, ◌⊎◌, inl, inr, ℕ, ◌+◌, ◌≤◌, Bool, true, false, not, ◌&&◌, List, ◌∷◌, refl, ap, ◌∙◌, arith, if◌then◌else◌, ◌==◌, nat_le, nat_tests, is_place, Turn, count_addressed, has_lost_at, has_lost_mst}
 use Rattle.std.proofs.lemmas.Bool.{and_right}
 use Rattle.sercos_law_run.proofs.Undisturbed.NoFalls.{mst_kept}
 use Rattle.sercos_law_run.proofs.Undisturbed.Arriving.Phases.{late_so}
@@ -24,13 +24,6 @@ at_second k now before turns heard = by (nat_le 3 before.phase) refl
       | inr is ↦ ap (λ (b : Bool). nat_le 3 before.phase && (not (now.heard k) && not b)) is
           ∙ and_right (nat_le 3 before.phase) (not (now.heard k) && false) (and_right (not (now.heard k)) false refl)
     ]
-
--- what the channel has counted before the end of a cycle, by the age of the step at its end
-pub counted : (o : Option ℕ) (is_open : Bool) (age most : ℕ) → age ≤ most → most ≤ 63
-    → option_map (λ (n : ℕ). n + 1) o ≡ age_if_open is_open age → min (unwrap_or o 0) 64 ≤ 63
-counted None is_open age most le few is = omega arith
-counted (Some n) false age most le few is = absurd (cc)
-counted (Some n) true age most le few is = let same : n + 1 ≡ age = cc in omega (arith, same, le, few)
 
 -- in how many cycles in a row the drive was addressed
 pub count_next : (k c : ℕ) (before : Turn) (turns : List Turn) → (before.phase ≡ 1 → is_place k before.addressed ≡ true

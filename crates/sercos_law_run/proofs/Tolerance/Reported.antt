@@ -1,5 +1,5 @@
 -- The requests to a drive are reported in time while disturbed cycles are sparse.
-use Rattle.sercos_law_run.proofs.Words.{◌≡◌, ◌⊎◌, inl, inr, ℕ, zero, suc, ◌+◌, ◌*◌, ◌<◌, ◌≤◌, Bool, true, false, List, [], ◌∷◌, ◌++◌, length, Option, Some, refl, sym, ap, ◌∙◌, subst, arith, if◌then◌else◌, ◌==◌, is_some, slice_get, cases_Bool, cond-false, eqb-true, Job, store_of, RingView, CycleView, Fall, Task, Carry, Restarts, View, AreSound, AreAtWork, AreTimed, drive_at, looks_back, master_calls, IsClear, IsRun, view_of, views_of, IsOpened, StartsEpoch, HaveTold, left_after, request_cycles, waiting_after, views_since, cycles_commanded, AreSparse, comes_timed}
+use Rattle.sercos_law_run.proofs.Words.{◌≡◌, ◌⊎◌, inl, inr, ℕ, zero, suc, ◌+◌, ◌*◌, ◌<◌, ◌≤◌, List, [], ◌∷◌, ◌++◌, length, Option, Some, refl, sym, ap, ◌∙◌, subst, arith, ◌==◌, is_some, slice_get, cases_Bool, cond-false, eqb-true, Job, store_of, RingView, CycleView, Fall, Task, Carry, Restarts, View, AreSound, AreAtWork, AreTimed, drive_at, looks_back, master_calls, IsClear, IsRun, view_of, views_of, IsOpened, StartsEpoch, HaveTold, left_after, request_cycles, waiting_after, views_since, cycles_commanded, AreSparse, comes_timed}
 use Rattle.sercos_law_run.proofs.Held.Runs.{small}
 use Rattle.sercos_law_run.proofs.Headline.HeadlineRuns.{all_stand, first_store}
 use Rattle.sercos_law_run.proofs.Undisturbed.Checks.Carried.{are_carried}
@@ -19,11 +19,7 @@ use Rattle.sercos_law_run.proofs.Tolerance.InARow.{AreInARow, row_lasts}
 use Rattle.sercos_law_run.proofs.Tolerance.Spared.{spared_in}
 use Rattle.sercos_law_run.proofs.Tolerance.Steps.{IsYoung}
 
-fewer : (b : Bool) (n m : ℕ) → suc n < (if b then suc m else m) → n < m
-fewer true n m low = omega (arith, low)
-fewer false n m low = omega (arith, low)
-
-some_times : (i c : ℕ) → c ≤ suc i * c
+pub some_times : (i c : ℕ) → c ≤ suc i * c
 some_times i c = grind arith
 
 module _ (r : RingView) (jobs : List Job) (carry : Carry) (restarts : Restarts) (opened : IsOpened r jobs) where
@@ -46,20 +42,15 @@ module _ (r : RingView) (jobs : List Job) (carry : Carry) (restarts : Restarts) 
           ⊎ (IsYoung (drive_at r k).busy 1 1 (views_of r jobs carry restarts k (t ∷ j))
           × IsYoung (drive_at r k).busy 0 0 (views_of r jobs carry restarts k j))
 
-    spared_now : (t : CycleView) (cycles before : List CycleView) → IsRun r jobs carry restarts (t ∷ (cycles ++ before))
-        → IsClear (t ∷ (cycles ++ before)) → StartsEpoch r jobs carry restarts before → AreSparse r carry restarts (t ∷ cycles) before
-        → IsSpared t (cycles ++ before)
-    spared_now t cycles before run clear starts sparse = record {
-      goes_on = going_in t (cycles ++ before) run (all_borne r jobs carry restarts opened t cycles before run clear starts sparse);
-      spared = λ late. spared_in r jobs carry restarts opened t cycles before run clear starts sparse late k below;
-    }
-
     spared_all : (cycles before : List CycleView) → IsRun r jobs carry restarts (cycles ++ before) → IsClear (cycles ++ before)
         → StartsEpoch r jobs carry restarts before → AreSparse r carry restarts cycles before → AreAll IsSpared cycles before
     spared_all [] before run clear starts sparse = tt
     spared_all (t ∷ cycles) before run clear starts sparse = (
       spared_all cycles before run.0 clear.0 starts sparse.0,
-      spared_now t cycles before run clear starts sparse,
+      (record {
+        goes_on = going_in t (cycles ++ before) run (all_borne r jobs carry restarts opened t cycles before run clear starts sparse);
+        spared = λ late. spared_in r jobs carry restarts opened t cycles before run clear starts sparse late k below;
+      }),
     )
 
     goes_so : (t : CycleView) (j : List CycleView) → IsSpared t j → IsGoing r jobs carry restarts t j
@@ -97,29 +88,19 @@ module _ (r : RingView) (jobs : List Job) (carry : Carry) (restarts : Restarts) 
     lasts_sparse : LastsShort r jobs carry restarts k IsSpared
     lasts_sparse t newer one old b older run clear those one_is t_four four_then works_in begun shut answered =
         let count = length_since r jobs carry restarts k (t ∷ newer) (one ∷ old) in
-        let less = lasts in omega (arith, count, less)
-      where
-        split : views_of r jobs carry restarts k (t ∷ (newer ++ one ∷ old)) ≡ views_since r jobs carry restarts k (t ∷ newer) (one ∷ old) ++
-            views_of r jobs carry restarts k (one ∷ old)
-        split = views_split r jobs carry restarts k (t ∷ newer) (one ∷ old)
-
-        in_time : AreTimed (drive_at r k).command (views_of r jobs carry restarts k (t ∷ (newer ++ one ∷ old)))
-        in_time = comes_timed (drive_at r k).command (views_of r jobs carry restarts k (t ∷ (newer ++ one ∷ old)))
-            (are_carried (drive_at r k).command (first_commands r k) refl refl (views_of r jobs carry restarts k
-            (t ∷ (newer ++ one ∷ old)))
-            (commands_so r jobs carry restarts opened (t ∷ (newer ++ one ∷ old)) run clear k below).follow)
-
-        lasts : length (views_since r jobs carry restarts k (t ∷ newer) (one ∷ old)) < request_cycles r k
-        lasts = row_lasts (drive_at r k).busy (drive_at r k).command (store_of (drive_at r k))
-            (small r jobs carry restarts opened (first_store r jobs carry restarts opened) k below)
-            (first_store r jobs carry restarts opened k below)
-            (views_since r jobs carry restarts k (t ∷ newer) (one ∷ old)) (views_of r jobs carry restarts k (one ∷ old)) b older
-            (runs_split r jobs carry restarts opened (t ∷ newer) (one ∷ old) run clear k below)
-            (subst (λ (l : List View). AreSound (store_of (drive_at r k)) l) split
-            (all_stand r jobs carry restarts opened (t ∷ (newer ++ one ∷ old)) run clear k below).sound)
-            (subst (λ (l : List View). AreTimed (drive_at r k).command l) split in_time)
-            (listed_all (views_since r jobs carry restarts k (t ∷ newer) (one ∷ old) ++ views_of r jobs carry restarts k (one ∷ old)))
-            (in_a_row (t ∷ newer) (one ∷ old) run those four_then works_in) begun shut answered
+        let less = row_lasts (drive_at r k).busy (drive_at r k).command (store_of (drive_at r k))
+        (small r jobs carry restarts opened (first_store r jobs carry restarts opened) k below)
+        (first_store r jobs carry restarts opened k below) (views_since r jobs carry restarts k (t ∷ newer) (one ∷ old))
+        (views_of r jobs carry restarts k (one ∷ old)) b older
+        (runs_split r jobs carry restarts opened (t ∷ newer) (one ∷ old) run clear k below)
+        (subst (λ (l : List View). AreSound (store_of (drive_at r k)) l) (views_split r jobs carry restarts k (t ∷ newer) (one ∷ old))
+        (all_stand r jobs carry restarts opened (t ∷ (newer ++ one ∷ old)) run clear k below).sound)
+        (subst (λ (l : List View). AreTimed (drive_at r k).command l) (views_split r jobs carry restarts k (t ∷ newer) (one ∷ old))
+        (comes_timed (drive_at r k).command (views_of r jobs carry restarts k (t ∷ (newer ++ one ∷ old)))
+        (are_carried (drive_at r k).command (first_commands r k) refl refl (views_of r jobs carry restarts k (t ∷ (newer ++ one ∷ old)))
+        (commands_so r jobs carry restarts opened (t ∷ (newer ++ one ∷ old)) run clear k below).follow)))
+        (listed_all (views_since r jobs carry restarts k (t ∷ newer) (one ∷ old) ++ views_of r jobs carry restarts k (one ∷ old)))
+        (in_a_row (t ∷ newer) (one ∷ old) run those four_then works_in) begun shut answered in omega (arith, count, less)
 
     -- WHERE PHASE 4 IS COMMANDED in some of these cycles, it is in the newest, and after it.
     four_next : (t : CycleView) (j : List CycleView) → IsRun r jobs carry restarts (t ∷ j) → IsGoing r jobs carry restarts t j → t.phase ≡ 4
@@ -169,7 +150,10 @@ module _ (r : RingView) (jobs : List Job) (carry : Carry) (restarts : Restarts) 
       those_older = are.0;
     }
     four_split (t ∷ cycles) before (suc n) low run are =
-        let c = four_split cycles before n (fewer (t.phase == 4) n (cycles_commanded 4 cycles) low) run.0 are.0 in
+        let c = four_split cycles before n (elim (cases_Bool (t.phase == 4)) [
+          | inl on ↦ let low = rw on at low in omega (arith, low)
+          | inr off ↦ let low = rw off at low in omega (arith, low)
+        ]) run.0 are.0 in
         record {
           newer = t ∷ c.newer;
           one = c.one;
@@ -187,19 +171,17 @@ module _ (r : RingView) (jobs : List Job) (carry : Carry) (restarts : Restarts) 
       → IsClear (t ∷ (cycles ++ before)) → StartsEpoch r jobs carry restarts before → AreSparse r carry restarts (t ∷ cycles) before
       → (k i : ℕ) (x : Task) → k < length r.drives → slice_get (waiting_after r jobs carry restarts before k) i ≡ Some x
       → (i + 1) * request_cycles r k ≤ cycles_commanded 4 cycles → (number : ℕ) × (x.number ≡ Some number) × HaveTold (t ∷ cycles) number
-  reports_sparse t cycles before run clear starts sparse k i x below got long = told_if_few r jobs carry restarts opened k below
+  reports_sparse t cycles before run clear starts sparse k i x below got long =
+      let quiet = all_so (IsSpared k below) (IsQuiet restarts) (λ u j is. is.goes_on.quiet) (t ∷ cycles) before those in
+      told_if_few r jobs carry restarts opened k below
       (t ∷ cycles) before (told_along r jobs carry restarts opened k below (t ∷ cycles) before run clear quiet) starts i x got few
     where
       those : AreAll (IsSpared k below) (t ∷ cycles) before
       those = spared_all k below (t ∷ cycles) before run clear starts sparse
 
-      quiet : AreAll (IsQuiet restarts) (t ∷ cycles) before
-      quiet = all_so (IsSpared k below) (IsQuiet restarts) (λ u j is. is.goes_on.quiet) (t ∷ cycles) before those
-
       some : 1 ≤ suc i * request_cycles r k
       some =
-          let all = room (drive_at r k).busy (drive_at r k).command in
-          let least = some_times i (request_cycles r k) in omega (arith, all, least)
+          let least = some_times i (request_cycles r k) in omega (arith, room (drive_at r k).busy (drive_at r k).command, least)
 
       enough : suc i * request_cycles r k ≤ cycles_commanded 4 cycles
       enough = let same = one_more_time i (request_cycles r k) in omega (arith, same, long)
@@ -210,12 +192,6 @@ module _ (r : RingView) (jobs : List Job) (carry : Carry) (restarts : Restarts) 
       c : IsFour k below n.0 cycles before
       c = four_split k below cycles before n.0 (let is = n.1 in let all = enough in omega (arith, is, all)) run.0 those.0
 
-      run_cut : IsRun r jobs carry restarts (t ∷ (c.newer ++ c.one ∷ (c.older ++ before)))
-      run_cut = subst (λ (l : List CycleView). IsRun r jobs carry restarts (t ∷ l)) c.is run
-
-      clear_cut : IsClear (t ∷ (c.newer ++ c.one ∷ (c.older ++ before)))
-      clear_cut = subst (λ (l : List CycleView). IsClear (t ∷ l)) c.is clear
-
       four : t.phase ≡ 4
       four = phase_before r jobs carry restarts opened t (cycles ++ before) run those.1.goes_on
           ∙ four_after k below cycles before run.0 those.0 (let one = some in let all = enough in omega (arith, one, all))
@@ -224,7 +200,9 @@ module _ (r : RingView) (jobs : List Job) (carry : Carry) (restarts : Restarts) 
           → length (left_after r jobs carry restarts (t ∷ (cycles ++ before)) k) ≤ m
       few m most = subst (λ (l : List CycleView). length (left_after r jobs carry restarts (t ∷ l) k) ≤ m) (sym c.is)
           (left_waiting r jobs carry restarts opened k below (IsSpared k below) (goes_so k below)
-          (lasts_sparse k below) t c.newer c.one (c.older ++ before) run_cut clear_cut
+          (lasts_sparse k below) t c.newer c.one (c.older ++ before)
+          (subst (λ (l : List CycleView). IsRun r jobs carry restarts (t ∷ l)) c.is run)
+          (subst (λ (l : List CycleView). IsClear (t ∷ l)) c.is clear)
           (c.those, subst (λ (l : List CycleView). IsSpared k below t l) c.is those.1) c.one_is c.four four i
           (let is = n.1 in let count = c.long in omega (arith, is, count)) m
           (subst (λ (l : List Task). length l ≤ m + suc i) (sym (waits_along r jobs carry restarts c.older before

@@ -1,9 +1,10 @@
 -- After faults that aren't sparse: once each drive is in the commanded phase in an undisturbed cycle, and the ring hasn't fallen for as
 -- long as a step may take, it bears sparse faults from there on as from phase 0.
-use Rattle.sercos_law_run.proofs.Words.{◌≡◌, ◌⊎◌, inl, inr, ℕ, suc, ◌+◌, ◌<◌, ◌≤◌, true, false, List, [], ◌∷◌, ◌++◌, length, Option, None, refl, sym, ap, ◌∙◌, subst, arith, is_some, cases_lt, Job, RingView, open_in, CycleView, Fall, is_place, known_of, count_addressed, fall_of, Carry, Restarts, begun_in, epoch_begun, View, processed_in, staying, IsUp, IsWhole, drive_at, IsClear, IsDisturbed, IsRun, behind_mdt, view_of, views_of, IsOpened, NoneFalls, IsUndisturbed, start_cost, start_costs, AreCalm, AreSparse, IsSparse, stays_a_run, IsViewRun}
+use Rattle.sercos_law_run.proofs.Words.{◌≡◌, ◌⊎◌, inl, inr, ℕ, suc, ◌+◌, ◌<◌, ◌≤◌, true, false, List, [], ◌∷◌, ◌++◌, length, Option, None, refl, sym, ap, ◌∙◌, subst, arith, is_some, cases_lt, Job, RingView, open_in, CycleView, Fall, is_place, known_of, count_addressed, fall_of, Carry, Restarts, begun_in, epoch_begun, View, processed_in, staying, IsUp, drive_at, IsClear, IsDisturbed, IsRun, behind_mdt, view_of, views_of, IsOpened, NoneFalls, IsUndisturbed, start_cost, start_costs, AreCalm, AreSparse, IsSparse, stays_a_run, IsViewRun}
 use Rattle.sercos_law_run.proofs.Views.ViewRuns.{views_count}
 use Rattle.sercos_law_run.proofs.Headline.HeadlineRuns.{all_stand}
 use Rattle.sercos_law_run.proofs.Undisturbed.Arriving.Comes.{calm_in}
+use Rattle.sercos_law_run.proofs.Undisturbed.GoingCycles.{AreAll}
 use Rattle.sercos_law_run.proofs.Undisturbed.NeverFalls.{busy_low}
 use Rattle.sercos_law_run.proofs.Undisturbed.StaysUp.{addressed_once}
 use Rattle.sercos_law_run.proofs.Undisturbed.Arriving.WholeIn.{whole_in}
@@ -25,17 +26,19 @@ sparse_quiet r carry restarts [] before sparse = tt
 sparse_quiet r carry restarts (t ∷ cycles) before sparse =
     (sparse_quiet r carry restarts cycles before sparse.0, sparse.1.goes_on 0 (omega arith))
 
+-- cycles are sparse of which something holds that says so
+pub sparse_all : (r : RingView) (carry : Carry) (restarts : Restarts) (P : CycleView → List CycleView → Type 0)
+    → ((t : CycleView) (j : List CycleView) → P t j → IsSparse r carry restarts t j) → (cycles before : List CycleView)
+    → AreAll P cycles before → AreSparse r carry restarts cycles before
+sparse_all r carry restarts P so [] before those = tt
+sparse_all r carry restarts P so (t ∷ cycles) before those =
+    (sparse_all r carry restarts P so cycles before those.0, so t (cycles ++ before) those.1)
+
 -- of two undisturbed cycles the newest is
 pub newest_of : (r : RingView) (carry : Carry) (restarts : Restarts) (l : List CycleView) → AreCalm r carry restarts 2 l
     → AreCalm r carry restarts 1 l
 newest_of r carry restarts [] are = tt
 newest_of r carry restarts (u ∷ l) are = (tt, are.1)
-
--- the newest cycle, if it was disturbed, isn't undisturbed
-calm_then : (r : RingView) (carry : Carry) (restarts : Restarts) (l : List CycleView) (u : CycleView) (older : List CycleView)
-    → l ≡ u ∷ older → IsDisturbed r carry restarts u older → AreCalm r carry restarts 1 l → ⊥
-calm_then r carry restarts l u older is disturbed calm =
-    never_both _ disturbed (subst (λ (x : List CycleView). AreCalm r carry restarts 1 x) is calm).1
 
 module _ (r : RingView) (jobs : List Job) (carry : Carry) (restarts : Restarts) (opened : IsOpened r jobs) where
   abbrev view : ℕ → CycleView → List CycleView → View
@@ -66,23 +69,20 @@ module _ (r : RingView) (jobs : List Job) (carry : Carry) (restarts : Restarts) 
     goes_now : restarts (length (u ∷ j)) 0 ≡ false
     goes_now = (calm_in r carry restarts t (u ∷ j) calm).stays 0 (omega arith)
 
-    u_stays : (k : ℕ) → (view k u j).falls ≡ false
-    u_stays k = ap (λ (o : Option Fall). is_some o) stays_before
-
     module _ (k : ℕ) (here : among k) where
       run_first : IsViewRun (busy_of k) (staying (view k t (u ∷ j)) ∷ views k (u ∷ j))
       run_first = stays_a_run (busy_of k) (view k t (u ∷ j)) (views k (u ∷ j))
           (all_stand r jobs carry restarts opened (t ∷ u ∷ j) run clear k (within k here)).sees.run
 
-      whole_first : IsWhole (staying (view k t (u ∷ j))) (views k (u ∷ j))
-      whole_first = whole_in r jobs carry restarts opened t (u ∷ j) run clear calm k (within k here)
-
       takes_first : is_some (open_in (begun_in (staying (view k t (u ∷ j))) (views k (u ∷ j)))) ≡ true
           → is_some (processed_in (staying (view k t (u ∷ j))) (views k (u ∷ j))) ≡ true
-      takes_first = takes_whole (busy_of k) (staying (view k t (u ∷ j))) (views k (u ∷ j)) run_first whole_first (up k here)
+      takes_first = takes_whole (busy_of k) (staying (view k t (u ∷ j))) (views k (u ∷ j)) run_first
+          (whole_in r jobs carry restarts opened t (u ∷ j) run clear calm k (within k here)) (up k here)
 
       hears_first : is_some (open_in (epoch_begun (views k (u ∷ j)))) ≡ true → is_some (view k t (u ∷ j)).heard ≡ true
-      hears_first = hears_whole (busy_of k) (staying (view k t (u ∷ j))) (view k u j) (views k j) run_first (u_stays k) whole_first
+      hears_first = hears_whole (busy_of k) (staying (view k t (u ∷ j))) (view k u j) (views k j) run_first
+          (ap (λ (o : Option Fall). is_some o) stays_before)
+          (whole_in r jobs carry restarts opened t (u ∷ j) run clear calm k (within k here))
           (up k here) (phase_after r jobs carry restarts opened t u j run clear stays_before goes_now k (within k here))
           (elim known [
             | inl late ↦ inl late
@@ -172,13 +172,13 @@ module _ (r : RingView) (jobs : List Job) (carry : Carry) (restarts : Restarts) 
           omega (arith, low, count, long, few)) y
 
   -- So an undisturbed cycle comes from which on the ring bears sparse faults.
-  pub record IsSettled (since : ℕ) (cycles rest : List CycleView) : Type 0 where
+  pub record IsSettled (P : CycleView → List CycleView → Type 0) (since : ℕ) (cycles rest : List CycleView) : Type 0 where
     pub newer : List CycleView
     pub before : List CycleView
     pub is : cycles ++ rest ≡ newer ++ before
     pub stood : Stood before
     pub few : length before ≤ since + 24
-    pub sparse : AreSparse r carry restarts newer before
+    pub those : AreAll P newer before
     pub costs : start_costs r jobs carry restarts newer before ≤ start_costs r jobs carry restarts cycles rest
 
   -- or it is too early for it
@@ -191,52 +191,51 @@ module _ (r : RingView) (jobs : List Job) (carry : Carry) (restarts : Restarts) 
   early_few since j (Short few) = omega (arith, few)
   early_few since j (Last t older is disturbed long) = omega (arith, long)
 
-  module _ (f : CycleView) (b : List CycleView) (first : Held (λ k. k < length r.drives) (length (f ∷ b)) f b) (late : 1 ≤ f.phase)
+  module _ (P : CycleView → List CycleView → Type 0) (sparse_so : (t : CycleView) (j : List CycleView) → P t j
+      → IsSparse r carry restarts t j)
+      (f : CycleView) (b : List CycleView) (first : Held (λ k. k < length r.drives) (length (f ∷ b)) f b) (late : 1 ≤ f.phase)
       (some_drive : 0 < length r.drives) where
-    late_all : (t : CycleView) (cycles : List CycleView) → IsRun r jobs carry restarts (t ∷ (cycles ++ f ∷ b))
-        → IsClear (t ∷ (cycles ++ f ∷ b)) → AreSparse r carry restarts (t ∷ cycles) (f ∷ b)
-        → NoneFalls r jobs carry restarts (t ∷ cycles) (f ∷ b) → 1 ≤ t.phase
-    late_all t cycles run clear sparse stays =
-        let least = no_lower_on r jobs carry restarts opened t cycles f b run clear first.stays stays.0
-        (sparse_quiet r carry restarts (t ∷ cycles) (f ∷ b) sparse) 0 some_drive in omega (arith, least, late)
-
-    newer_by : (t : CycleView) (cycles : List CycleView) → IsSparse r carry restarts t (cycles ++ f ∷ b)
-        → IsSettled (length (f ∷ b)) cycles (f ∷ b) → IsSettled (length (f ∷ b)) (t ∷ cycles) (f ∷ b)
-    newer_by t cycles sparse x = record {
+    newer_by : (t : CycleView) (cycles : List CycleView) → P t (cycles ++ f ∷ b)
+        → IsSettled P (length (f ∷ b)) cycles (f ∷ b) → IsSettled P (length (f ∷ b)) (t ∷ cycles) (f ∷ b)
+    newer_by t cycles this x = record {
       newer = t ∷ x.newer;
       before = x.before;
       is = ap (λ (l : List CycleView). t ∷ l) x.is;
       stood = x.stood;
       few = x.few;
-      sparse = (x.sparse, subst (λ (l : List CycleView). IsSparse r carry restarts t l) x.is sparse);
+      those = (x.those, subst (P t) x.is this);
       costs = let same = ap (λ (l : List CycleView). start_cost r jobs carry restarts t l) x.is in let few = x.costs in
           omega (arith, same, few);
     }
 
     pub settles : (cycles : List CycleView) → IsRun r jobs carry restarts (cycles ++ f ∷ b) → IsClear (cycles ++ f ∷ b)
-        → AreSparse r carry restarts cycles (f ∷ b) → NoneFalls r jobs carry restarts cycles (f ∷ b)
-        → IsEarly (length (f ∷ b)) (cycles ++ f ∷ b) ⊎ IsSettled (length (f ∷ b)) cycles (f ∷ b)
-    settles [] run clear sparse stays = inl (Short (omega arith))
-    settles (t ∷ cycles) run clear sparse stays = by (settles cycles run.0 clear.0 sparse.0 stays.0)
+        → AreAll P cycles (f ∷ b) → NoneFalls r jobs carry restarts cycles (f ∷ b)
+        → IsEarly (length (f ∷ b)) (cycles ++ f ∷ b) ⊎ IsSettled P (length (f ∷ b)) cycles (f ∷ b)
+    settles [] run clear those stays = inl (Short (omega arith))
+    settles (t ∷ cycles) run clear those stays = by (settles cycles run.0 clear.0 those.0 stays.0)
       where
-        held : Held (λ k. k < length r.drives) (length (f ∷ b)) t (cycles ++ f ∷ b)
-        held = held_all (λ k. k < length r.drives) every (length (f ∷ b)) f b first (t ∷ cycles) run clear sparse stays
+        sparse : AreSparse r carry restarts (t ∷ cycles) (f ∷ b)
+        sparse = sparse_all r carry restarts P sparse_so (t ∷ cycles) (f ∷ b) those
 
         here : IsUndisturbed r carry restarts t (cycles ++ f ∷ b) → length (f ∷ b) + 23 ≤ length (t ∷ (cycles ++ f ∷ b))
-            → length (t ∷ (cycles ++ f ∷ b)) ≤ length (f ∷ b) + 24 → IsSettled (length (f ∷ b)) (t ∷ cycles) (f ∷ b)
+            → length (t ∷ (cycles ++ f ∷ b)) ≤ length (f ∷ b) + 24 → IsSettled P (length (f ∷ b)) (t ∷ cycles) (f ∷ b)
         here calm long few = record {
           newer = [];
           before = t ∷ (cycles ++ f ∷ b);
           is = refl;
-          stood = (young_in (length (f ∷ b)) t (cycles ++ f ∷ b) held long, calm);
+          stood = (
+            young_in (length (f ∷ b)) t (cycles ++ f ∷ b)
+                (held_all (λ k. k < length r.drives) every (length (f ∷ b)) f b first (t ∷ cycles) run clear sparse stays) long,
+            calm,
+          );
           few = few;
-          sparse = tt;
+          those = tt;
           costs = omega arith;
         }
 
-        by : IsEarly (length (f ∷ b)) (cycles ++ f ∷ b) ⊎ IsSettled (length (f ∷ b)) cycles (f ∷ b)
-            → IsEarly (length (f ∷ b)) (t ∷ (cycles ++ f ∷ b)) ⊎ IsSettled (length (f ∷ b)) (t ∷ cycles) (f ∷ b)
-        by (inr x) = inr (newer_by t cycles sparse.1 x)
+        by : IsEarly (length (f ∷ b)) (cycles ++ f ∷ b) ⊎ IsSettled P (length (f ∷ b)) cycles (f ∷ b)
+            → IsEarly (length (f ∷ b)) (t ∷ (cycles ++ f ∷ b)) ⊎ IsSettled P (length (f ∷ b)) (t ∷ cycles) (f ∷ b)
+        by (inr x) = inr (newer_by t cycles those.1 x)
         by (inl (Short few)) = elim (cases_lt (length (t ∷ (cycles ++ f ∷ b))) (length (f ∷ b) + 23)) [
           | inl less ↦ inl (Short (omega (arith, less)))
           | inr most ↦ elim (calm_or_not r carry restarts t (cycles ++ f ∷ b)) [
@@ -246,12 +245,13 @@ module _ (r : RingView) (jobs : List Job) (carry : Carry) (restarts : Restarts) 
         ]
         by (inl (Last u older is disturbed long)) = elim (calm_or_not r carry restarts t (cycles ++ f ∷ b)) [
           | inr calm ↦ inr (here calm (omega (arith, long)) (omega (arith, long)))
-          | inl too ↦ absurd (calm_then r carry restarts (cycles ++ f ∷ b) u older is disturbed (one_before too))
+          | inl too ↦ absurd (never_both _ disturbed (subst (λ (x : List CycleView). AreCalm r carry restarts 1 x) is (one_before too)).1)
         ]
           where
             one_before : IsDisturbed r carry restarts t (cycles ++ f ∷ b) → AreCalm r carry restarts 1 (cycles ++ f ∷ b)
             one_before too =
-                let least = late_all t cycles run clear sparse stays in
+                let least : 1 ≤ t.phase = let least = no_lower_on r jobs carry restarts opened t cycles f b run clear first.stays stays.0
+                (sparse_quiet r carry restarts (t ∷ cycles) (f ∷ b) sparse) 0 some_drive in omega (arith, least, late) in
                 elim (cases_lt t.phase 3) [
                   | inl low ↦ newest_of r carry restarts (cycles ++ f ∷ b) (sparse.1.early too least (omega (arith, low)))
                   | inr high ↦ sparse.1.late too (omega (arith, high))

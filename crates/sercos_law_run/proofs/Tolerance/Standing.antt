@@ -18,9 +18,8 @@ took_mdt v past whole up = elim (cases_Bool (nat_le 3 (stood_in v (standing past
     took : 3 ≤ stood_in v (standing past) → takes_in v (stood_in v (standing past)) ≡ true
     took three =
         let sent = whole.joint (omega (arith, up, three)) in
-        let got = got_some v (whole.mdt sent (omega (arith, three))) sent in
         and_from v.mst_comes _ whole.mst (and_from (nat_le 1 (stood_in v (standing past))) (is_some (got_in v))
-        (le-leb 1 (stood_in v (standing past)) (omega (arith, three))) got)
+        (le-leb 1 (stood_in v (standing past)) (omega (arith, three))) (got_some v (whole.mdt sent (omega (arith, three))) sent))
 
 -- while phase 0 is commanded, a drive that gets the MST is in it, and any drive is from the second such cycle on
 pub zero_up : (v : View) (past : List View) → v.mst_comes ≡ true → v.phase ≡ 0 → IsUp v past
@@ -30,9 +29,8 @@ zero_up v past comes zero =
 
 pub zero_again : (v u : View) (past : List View) → v.phase ≡ 0 → u.phase ≡ 0 → IsUp v (u ∷ past)
 zero_again v u past zero before =
-    let most : stood_in v (standing (u ∷ past)) ≤ max v.phase u.phase = stands_no_later v (u ∷ past) in
     let none : max v.phase u.phase ≡ 0 = ap₂ (λ (m n : ℕ). max m n) zero before in
-    let stood : stood_in v (standing (u ∷ past)) ≡ 0 = omega (arith, most, none) in
+    let stood : stood_in v (standing (u ∷ past)) ≡ 0 = omega (arith, stands_no_later v (u ∷ past), none) in
     (stood ∙ sym zero, elim (ends v (u ∷ past)) [ inl z ↦ z ∙ sym zero | inr same ↦ same ∙ stood ∙ sym zero ])
 
 -- A CYCLE OF WHICH ANYTHING MAY BE LOST, after a whole one at whose end the drive was in the commanded phase: it is in the commanded phase,
@@ -97,20 +95,15 @@ pub hears_whole : (busy : ℕ) (v u : View) (past : List View) → IsRun busy (v
     → (3 ≤ v.phase) ⊎ (IsWhole u past × IsUp u past) → is_some (open_in (epoch_begun (u ∷ past))) ≡ true → is_some v.heard ≡ true
 hears_whole busy v u past run stays whole up next (inl late) some = let same = up.0 in whole.listens late (omega (arith, late, same))
 hears_whole busy v u past run stays whole up next (inr (before, was)) some =
+    let at : is_some (open_in (begun_in u past)) ≡ true =
+    ap (λ (l : List Begun). is_some (open_in l)) (sym (cond-false u.falls [] (begun_in u past) stays)) ∙ some in
+    let two = open_late busy u past run.0 at in
+    let addressed : was_addressed (u ∷ past) ≡ true =
+    let sent = before.sends at in
+    and_from u.mst_comes (is_some (got_in u)) before.mst (got_some u (before.mdt sent (let same = was.0 in omega (arith, same, two)))
+    sent) in
     whole.hears some addressed (let same = up.0 in elim next [
       | inl is ↦ omega (arith, is, same, two)
       | inr more ↦
           omega (arith, more, same, two)
     ])
-  where
-    at : is_some (open_in (begun_in u past)) ≡ true
-    at = ap (λ (l : List Begun). is_some (open_in l)) (sym (cond-false u.falls [] (begun_in u past) stays)) ∙ some
-
-    two : 2 ≤ u.phase
-    two = open_late busy u past run.0 at
-
-    addressed : was_addressed (u ∷ past) ≡ true
-    addressed =
-        let sent = before.sends at in
-        and_from u.mst_comes (is_some (got_in u)) before.mst (got_some u (before.mdt sent (let same = was.0 in omega (arith, same, two)))
-        sent)

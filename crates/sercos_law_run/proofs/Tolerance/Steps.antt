@@ -1,5 +1,5 @@
 -- How old a step gets on a channel, if few cycles in a row lose its record or its answer.
-use Rattle.sercos_law_run.proofs.Words.{◌≡◌, ◌⊎◌, inl, inr, ℕ, suc, ◌+◌, ◌<◌, ◌≤◌, Bool, true, false, List, [], ◌∷◌, length, Option, Some, None, refl, sym, ap, ◌∙◌, arith, if◌then◌else◌, ◌==◌, IfSome, is_some, cond-false, cond-true, eqb-true, false≢true, Status, Request, Step, Entry, Processed, log_of, reply_of, Begun, answer_in, answers_in, answers_it, open_in, steps_in, with_answer, begun_in, epoch_begun, epoch_log, epoch_records, log_in, records_in_views, unless_restart, with_begun, with_heard, AreInStep, Idle, Kept, log_steps, with_processed, IsShown, Heard, View, processed_in, record_in, standing, stood_in, with_record, age_by, age_in, Nothing, Processes, Record, in_step, length-replies_of, length-steps_of, processes, said_of, begun_of, heard_of, joined, restarted, shown_of, log-taken, log_grows, BusyLate, FreeLate, NewLate, WorksLate, heard_late, head_before, taken_before, joins, cases_Option}
+use Rattle.sercos_law_run.proofs.Words.{cases_Option, cases_Bool, ◌≡◌, ◌⊎◌, inl, inr, ℕ, suc, ◌+◌, ◌<◌, ◌≤◌, Bool, true, false, List, [], ◌∷◌, length, Option, Some, None, refl, sym, ap, ◌∙◌, arith, if◌then◌else◌, ◌==◌, IfSome, is_some, cond-false, cond-true, eqb-true, false≢true, Status, Step, Entry, Processed, log_of, reply_of, Begun, answer_in, answers_in, answers_it, open_in, steps_in, with_answer, begun_in, epoch_begun, epoch_log, epoch_records, log_in, records_in_views, unless_restart, with_heard, AreInStep, Idle, Kept, log_steps, IsShown, Heard, View, processed_in, record_in, standing, stood_in, with_record, age_by, age_in, Nothing, Processes, Record, in_step, length-replies_of, length-steps_of, processes, said_of, begun_of, heard_of, joined, restarted, shown_of, log-taken, log_grows, BusyLate, FreeLate, NewLate, WorksLate, heard_late, head_before, taken_before, joins}
 use Rattle.sercos_law_channel.specs.Handshake.InStep.{Sent}
 use Rattle.sercos_law_channel.specs.Handshake.Runs.{IsRun}
 
@@ -7,15 +7,17 @@ use Rattle.sercos_law_channel.specs.Handshake.Runs.{IsRun}
 -- or one that it has accepted, and that has no answer.
 pub data Counts (begun : List Begun) (log : List Entry) : Type 0 where
   NoneOpen : open_in begun ≡ None → length (steps_in begun) ≡ length log → length (answers_in begun) ≡ length log → Counts begun log
-  NotTaken : length (steps_in begun) ≡ suc (length log) → length (answers_in begun) ≡ length log → Counts begun log
-  NotAnswered : length (steps_in begun) ≡ length log → suc (length (answers_in begun)) ≡ length log → Counts begun log
+  NotTaken : is_some (open_in begun) ≡ true → length (steps_in begun) ≡ suc (length log) → length (answers_in begun) ≡ length log
+      → Counts begun log
+  NotAnswered : (e : Entry) (rest : List Entry) → log ≡ e ∷ rest → is_some (open_in begun) ≡ true
+      → length (steps_in begun) ≡ length log → suc (length (answers_in begun)) ≡ length log → Counts begun log
 
 pub counts : (begun : List Begun) (log : List Entry) → AreInStep begun log → Counts begun log
 counts begun log (Idle none s a) = NoneOpen none (ap length s ∙ length-steps_of log) (ap length a ∙ length-replies_of log)
-counts begun log (Sent step opened s a) =
-    NotTaken (ap length s ∙ ap (λ (n : ℕ). suc n) (length-steps_of log)) (ap length a ∙ length-replies_of log)
-counts begun log (Kept e past opened those s a) =
-    NotAnswered (ap length s ∙ length-steps_of log) (ap (λ (n : ℕ). suc n) (ap length a ∙ length-replies_of past) ∙ sym (ap length those))
+counts begun log (Sent step opened s a) = NotTaken (ap (λ (o : Option Step). is_some o) opened)
+    (ap length s ∙ ap (λ (n : ℕ). suc n) (length-steps_of log)) (ap length a ∙ length-replies_of log)
+counts begun log (Kept e past opened those s a) = NotAnswered e past those (ap (λ (o : Option Step). is_some o) opened)
+    (ap length s ∙ length-steps_of log) (ap (λ (n : ℕ). suc n) (ap length a ∙ length-replies_of past) ∙ sym (ap length those))
 
 -- ANSWERS only come to those that are there.
 more_answers : (b : Bool) (status : Status) (word : ℕ) (begun : List Begun)
@@ -28,22 +30,15 @@ heard_more : (o : Option Heard) (begun : List Begun) → length (answers_in begu
 heard_more None begun = omega arith
 heard_more (Some a) begun = more_answers (answers_it begun a.status) a.status a.word begun
 
-begun_same : (o : Option Request) (begun : List Begun) → answers_in (with_begun o begun) ≡ answers_in begun
-begun_same None begun = refl
-begun_same (Some q) begun = refl
-
 -- if no step is open, its age is 0
 pub closed_age : (all : List View) → open_in (epoch_begun all) ≡ None → age_in all ≡ 0
 closed_age [] none = refl
-closed_age (v ∷ past) none = by v.falls none
-  where
-    by : (falls : Bool) → open_in (if falls then [] else begun_in v past) ≡ None
-        → (if falls then 0 else age_by (is_some (open_in (begun_in v past)))
-        (length (steps_in (begun_in v past)) == length (steps_in (unless_restart v (epoch_begun past)))) (age_in past)) ≡ 0
-    by true none = refl
-    by false none =
-        ap (λ (o : Option Step). age_by (is_some o) (length (steps_in (begun_in v past)) == length
-        (steps_in (unless_restart v (epoch_begun past)))) (age_in past)) none
+closed_age (v ∷ past) none = elim (cases_Bool v.falls) [
+  | inl on ↦ rw on refl
+  | inr off ↦ rw off (let none = rw off at none in ap
+      (λ (o : Option Step). age_by (is_some o) (length (steps_in (begun_in v past)) == length
+      (steps_in (unless_restart v (epoch_begun past)))) (age_in past)) none)
+]
 
 -- An open step that the drive hasn't accepted is at most `fresh` cycles old. One that it has accepted was begun at most a cycle before,
 -- unless it was accepted before the cycle `since`; and it is open for at most busy time and `late` cycles since it was accepted.
@@ -85,23 +80,14 @@ rested since busy all none = record {
 -- so it is no older than this
 pub oldest : (busy fresh late : ℕ) (all : List View) → IsRun busy all → fresh ≤ 1 → IsYoung busy fresh late all
     → age_in all ≤ busy + 2 + late
-oldest busy fresh late all run few y = elim (cases_Option (open_in (epoch_begun all))) [
-  | inl none ↦ let zero = closed_age all none in omega (arith, zero)
-  | inr (s, some) ↦ which (ap (λ (x : Option Step). is_some x) some) (counts (epoch_begun all) (epoch_log all) (in_step busy all run))
-]
+oldest busy fresh late all run few y = which (counts (epoch_begun all) (epoch_log all) (in_step busy all run))
   where
-    accepted : (log : List Entry) → epoch_log all ≡ log → is_some (open_in (epoch_begun all)) ≡ true
-        → length (steps_in (epoch_begun all)) ≡ length (epoch_log all)
-        → suc (length (answers_in (epoch_begun all))) ≡ length (epoch_log all) → age_in all ≤ busy + 2 + late
-    accepted [] those some steps answers = let none = ap length those in absurd (omega (arith, none, answers))
-    accepted (e ∷ log) those some steps answers =
-        let (a, b) = y.old e log those some steps in
-        elim a [ inl begun ↦ omega (arith, begun, b) | inr early ↦ absurd (omega (arith, early)) ]
-
-    which : is_some (open_in (epoch_begun all)) ≡ true → Counts (epoch_begun all) (epoch_log all) → age_in all ≤ busy + 2 + late
-    which some (NoneOpen none s a) = absurd (never_some (open_in (epoch_begun all)) none some)
-    which some (NotTaken s a) = let young = y.new some s in omega (arith, young, few)
-    which some (NotAnswered s a) = accepted (epoch_log all) refl some s a
+    which : Counts (epoch_begun all) (epoch_log all) → age_in all ≤ busy + 2 + late
+    which (NoneOpen none s a) = let zero = closed_age all none in omega (arith, zero)
+    which (NotTaken opens s a) = let young = y.new opens s in omega (arith, young, few)
+    which (NotAnswered e log those opens s a) =
+        let (when, until) = y.old e log those opens s in
+        elim when [ inl begun ↦ omega (arith, begun, until) | inr early ↦ absurd (omega (arith, early)) ]
 
 -- ONE CYCLE, without a fall or a restart of the master
 module _ (busy : ℕ) (v : View) (past : List View) (run : IsRun busy (v ∷ past)) (stays : v.falls ≡ false)
@@ -118,9 +104,6 @@ module _ (busy : ℕ) (v : View) (past : List View) (run : IsRun busy (v ∷ pas
   log_start : log_of (unless_restart v (epoch_records past)) ≡ epoch_log past
   log_start = ap log_of (cond-false v.master_restarts [] (epoch_records past) goes_on)
 
-  now : Counts (epoch_begun (v ∷ past)) (epoch_log (v ∷ past))
-  now = counts (epoch_begun (v ∷ past)) (epoch_log (v ∷ past)) (in_step busy (v ∷ past) run)
-
   then_ : Counts (epoch_begun past) (epoch_log past)
   then_ = counts (epoch_begun past) (epoch_log past) (in_step busy past run.0)
 
@@ -130,13 +113,12 @@ module _ (busy : ℕ) (v : View) (past : List View) (run : IsRun busy (v ∷ pas
   answers_are : length (answers_in (epoch_begun (v ∷ past))) ≡ length
       (answers_in (with_heard v.heard (unless_restart v (epoch_begun past))))
   answers_are = ap (λ (l : List Begun). length (answers_in l)) begun_is
-      ∙ ap length (begun_same v.begins (with_heard v.heard (unless_restart v (epoch_begun past))))
+      ∙ ap length (elim (cases_Option v.begins) [ inl none ↦ rw none refl | inr some ↦ rw some.1 refl ])
 
   pub answers_more : length (answers_in (epoch_begun past)) ≤ length (answers_in (epoch_begun (v ∷ past)))
   answers_more =
-      let more = heard_more v.heard (unless_restart v (epoch_begun past)) in
       let first = ap (λ (l : List Begun). length (answers_in l)) start_is in
-      let last = answers_are in omega (arith, more, first, last)
+      let last = answers_are in omega (arith, heard_more v.heard (unless_restart v (epoch_begun past)), first, last)
 
   -- the log stays, or has one entry more, of this cycle
   pub grows : (epoch_log (v ∷ past) ≡ epoch_log past) ⊎ ((x : Entry) × (epoch_log (v ∷ past) ≡ x ∷ epoch_log past)
@@ -147,24 +129,19 @@ module _ (busy : ℕ) (v : View) (past : List View) (run : IsRun busy (v ∷ pas
   aged : is_some (open_in (epoch_begun (v ∷ past))) ≡ true
       → ((length (steps_in (epoch_begun (v ∷ past))) ≡ length (steps_in (epoch_begun past))) × (age_in (v ∷ past) ≡ age_in past + 1))
       ⊎ (age_in (v ∷ past) ≡ 1)
-  aged some = by (length (steps_in (begun_in v past)) == length (steps_in (unless_restart v (epoch_begun past)))) refl
+  aged some = elim (cases_Bool (length (steps_in (begun_in v past)) == length (steps_in (unless_restart v (epoch_begun past))))) [
+    | inl is ↦ inl (
+      steps_are ∙ eqb-true _ _ is ∙ ap (λ (l : List Begun). length (steps_in l)) start_is,
+      age
+          ∙ cond-true _ (age_in past + 1) 1 is,
+    )
+    | inr is ↦ inr (age ∙ cond-false _ (age_in past + 1) 1 is)
+  ]
     where
-      at : is_some (open_in (begun_in v past)) ≡ true
-      at = ap (λ (l : List Begun). is_some (open_in l)) (sym begun_is) ∙ some
-
       age : age_in (v ∷ past) ≡ (if length (steps_in (begun_in v past)) == length (steps_in (unless_restart v (epoch_begun past))) then
           age_in past + 1 else 1)
-      age = cond-false v.falls 0 _ stays ∙ cond-true (is_some (open_in (begun_in v past))) _ 0 at
-
-      by : (same : Bool) → (length (steps_in (begun_in v past)) == length (steps_in (unless_restart v (epoch_begun past)))) ≡ same
-          → ((length (steps_in (epoch_begun (v ∷ past))) ≡ length (steps_in (epoch_begun past))) × (age_in (v ∷ past) ≡ age_in past + 1))
-          ⊎ (age_in (v ∷ past) ≡ 1)
-      by true is = inl (
-        steps_are ∙ eqb-true _ _ is ∙ ap (λ (l : List Begun). length (steps_in l)) start_is,
-        age
-            ∙ cond-true _ (age_in past + 1) 1 is,
-      )
-      by false is = inr (age ∙ cond-false _ (age_in past + 1) 1 is)
+      age = cond-false v.falls 0 _ stays ∙ cond-true (is_some (open_in (begun_in v past))) _ 0
+          (ap (λ (l : List Begun). is_some (open_in l)) (sym begun_is) ∙ some)
 
   pub soon : (e : Entry) (log : List Entry) → epoch_log (v ∷ past) ≡ e ∷ log → e.processed.cycle < length (v ∷ past)
   soon e log those = head_before (length (v ∷ past)) (epoch_records (v ∷ past)) (taken_before (v ∷ past)) e log those
@@ -192,82 +169,66 @@ module _ (busy : ℕ) (v : View) (past : List View) (run : IsRun busy (v ∷ pas
           ⊎ (e.processed.cycle < since)
       old same age stayed (NoneOpen none s a) = let zero = closed_age past none in let less = soon e log those in
           inl (omega (arith, age, zero, less))
-      old same age stayed (NotTaken s a) = let long = ap length stayed in absurd (omega (arith, same, steps, s, long))
-      old same age stayed (NotAnswered s a) = by (open_in (epoch_begun past)) refl
-        where
-          by : (o : Option Step) → open_in (epoch_begun past) ≡ o → (age_in (v ∷ past) + e.processed.cycle ≤ length (v ∷ past) + 1)
-              ⊎ (e.processed.cycle < since)
-          by None none = let zero = closed_age past none in let less = soon e log those in inl (omega (arith, age, zero, less))
-          by (Some z) opened = elim ((y.old e log (sym stayed ∙ those) (ap (λ (o : Option Step). is_some o) opened) s).0) [
-            | inl was ↦ inl (omega (arith, age, was))
-            | inr early ↦ inr early
-          ]
+      old same age stayed (NotTaken opens s a) = let long = ap length stayed in absurd (omega (arith, same, steps, s, long))
+      old same age stayed (NotAnswered head tail split opens s a) = elim (y.old e log (sym stayed ∙ those) opens s).0 [
+        | inl was ↦ inl (omega (arith, age, was))
+        | inr early ↦ inr early
+      ]
 
       new : length (steps_in (epoch_begun (v ∷ past))) ≡ length (steps_in (epoch_begun past)) → age_in (v ∷ past) ≡ age_in past + 1
           → (x : Entry) → epoch_log (v ∷ past) ≡ x ∷ epoch_log past → x.processed.cycle ≡ length past
           → Counts (epoch_begun past) (epoch_log past) → (age_in (v ∷ past) + e.processed.cycle ≤ length (v ∷ past) + 1)
           ⊎ (e.processed.cycle < since)
       new same age x is at (NoneOpen none s a) = let long = ap length is in absurd (omega (arith, same, steps, s, long))
-      new same age x is at (NotAnswered s a) = let long = ap length is in absurd (omega (arith, same, steps, s, long))
-      new same age x is at (NotTaken s a) = by (open_in (epoch_begun past)) refl
-        where
-          cycle : e.processed.cycle ≡ length past
-          cycle = same_head e x log (epoch_log past) (sym those ∙ is) ∙ at
-
-          by : (o : Option Step) → open_in (epoch_begun past) ≡ o → (age_in (v ∷ past) + e.processed.cycle ≤ length (v ∷ past) + 1)
-              ⊎ (e.processed.cycle < since)
-          by None none = let zero = closed_age past none in inl (omega (arith, age, zero, cycle))
-          by (Some z) opened = let young = y.new (ap (λ (o : Option Step). is_some o) opened) s in inl
-              (omega (arith, age, young, few, cycle))
+      new same age x is at (NotAnswered head tail split opens s a) = let long = ap length is in absurd (omega (arith, same, steps, s, long))
+      new same age x is at (NotTaken opens s a) =
+          let cycle : e.processed.cycle ≡ length past = same_head e x log (epoch_log past) (sym those ∙ is) ∙ at in
+          let young = y.new opens s in inl (omega (arith, age, young, few, cycle))
 
   -- and until when
   unanswered : (e : Entry) (log : List Entry) → epoch_log (v ∷ past) ≡ e ∷ log
       → length (steps_in (epoch_begun (v ∷ past))) ≡ length (epoch_log (v ∷ past)) → is_some (open_in (epoch_begun (v ∷ past))) ≡ true
       → suc (length (answers_in (epoch_begun (v ∷ past)))) ≡ length (epoch_log (v ∷ past))
-  unanswered e log those steps some = by now
+  unanswered e log those steps some = by (counts (epoch_begun (v ∷ past)) (epoch_log (v ∷ past)) (in_step busy (v ∷ past) run))
     where
       by : Counts (epoch_begun (v ∷ past)) (epoch_log (v ∷ past)) → suc (length (answers_in (epoch_begun (v ∷ past)))) ≡ length
           (epoch_log (v ∷ past))
       by (NoneOpen none s a) = absurd (never_some (open_in (epoch_begun (v ∷ past))) none some)
-      by (NotTaken s a) = absurd (omega (arith, s, steps))
-      by (NotAnswered s a) = a
+      by (NotTaken opens s a) = absurd (omega (arith, s, steps))
+      by (NotAnswered head tail split opens s a) = a
 
-  was_open : (e : Entry) (log : List Entry) → epoch_log (v ∷ past) ≡ e ∷ log
-      → length (steps_in (epoch_begun (v ∷ past))) ≡ length (epoch_log (v ∷ past)) → is_some (open_in (epoch_begun (v ∷ past))) ≡ true
-      → epoch_log (v ∷ past) ≡ epoch_log past → suc (length (answers_in (epoch_begun past))) ≡ length (epoch_log past)
-  was_open e log those steps some stayed = by then_
+  -- A step that waits for its answer waited in the cycle before, or was accepted in this one.
+  pub waits_from : (e : Entry) (rest : List Entry) → epoch_log (v ∷ past) ≡ e ∷ rest
+      → suc (length (answers_in (epoch_begun (v ∷ past)))) ≡ length (epoch_log (v ∷ past))
+      → ((length (epoch_log (v ∷ past)) ≡ length (epoch_log past)) × (epoch_log past ≡ e ∷ rest)
+      × (suc (length (answers_in (epoch_begun past))) ≡ length (epoch_log past)))
+      ⊎ ((length (epoch_log (v ∷ past)) ≡ suc (length (epoch_log past))) × (e.processed.cycle ≡ length past))
+  waits_from e rest those last = elim grows [
+    | inl same ↦ inl (ap length same, sym same ∙ those, by same then_)
+    | inr (x, is, cycle) ↦ inr (ap length is, same_head e x rest (epoch_log past) (sym those ∙ is) ∙ cycle)
+  ]
     where
-      last : suc (length (answers_in (epoch_begun (v ∷ past)))) ≡ length (epoch_log (v ∷ past))
-      last = unanswered e log those steps some
-
-      by : Counts (epoch_begun past) (epoch_log past) → suc (length (answers_in (epoch_begun past))) ≡ length (epoch_log past)
-      by (NoneOpen none s a) = let long = ap length stayed in let more = answers_more in absurd (omega (arith, last, a, long, more))
-      by (NotTaken s a) = let long = ap length stayed in let more = answers_more in absurd (omega (arith, last, a, long, more))
-      by (NotAnswered s a) = a
+      by : epoch_log (v ∷ past) ≡ epoch_log past → Counts (epoch_begun past) (epoch_log past)
+          → suc (length (answers_in (epoch_begun past))) ≡ length (epoch_log past)
+      by same (NoneOpen none s a) = let long = ap length same in let more = answers_more in absurd (omega (arith, last, a, long, more))
+      by same (NotTaken opens s a) = let long = ap length same in let more = answers_more in absurd (omega (arith, last, a, long, more))
+      by same (NotAnswered head tail split opens s a) = a
 
   open_late_by : (since fresh late : ℕ) → IsYoungSince since busy fresh late past → (e : Entry) (log : List Entry) → epoch_log (v ∷ past)
       ≡ e ∷ log
       → is_some (open_in (epoch_begun (v ∷ past))) ≡ true
       → length (steps_in (epoch_begun (v ∷ past))) ≡ length (epoch_log (v ∷ past))
       → length (v ∷ past) ≤ e.processed.cycle + (busy + 1) + (late + 1)
-  open_late_by since fresh late y e log those some steps = elim grows [
-    | inl stayed ↦ by (was_open e log those steps some stayed) then_ (open_in (epoch_begun past)) refl stayed
-    | inr (x, is, at) ↦ let cycle = same_head e x log (epoch_log past) (sym those ∙ is) in omega (arith, cycle, at)
+  open_late_by since fresh late y e log those some steps = elim (waits_from e log those (unanswered e log those steps some)) [
+    | inl (long, same, waited) ↦ by same waited then_
+    | inr (long, cycle) ↦ omega (arith, cycle)
   ]
     where
-      by : suc (length (answers_in (epoch_begun past))) ≡ length (epoch_log past) → Counts (epoch_begun past) (epoch_log past)
-          → (o : Option Step) → open_in (epoch_begun past) ≡ o → epoch_log (v ∷ past) ≡ epoch_log past
-          → length (v ∷ past) ≤ e.processed.cycle + (busy + 1) + (late + 1)
-      by open_then (NoneOpen none s a) o is stayed = absurd (omega (arith, open_then, a))
-      by open_then (NotTaken s a) o is stayed = absurd (omega (arith, open_then, a))
-      by open_then (NotAnswered s a) (Some z) is stayed = let was =
-          (y.old e log (sym stayed ∙ those) (ap (λ (o : Option Step). is_some o) is) s).1 in omega (arith, was)
-      by open_then (NotAnswered s a) None is stayed = absurd (kept (in_step busy past run.0))
-        where
-          kept : AreInStep (epoch_begun past) (epoch_log past) → ⊥
-          kept (Idle none steps answers) = let count = ap length answers ∙ length-replies_of (epoch_log past) in omega (arith, a, count)
-          kept (Sent step opened steps answers) = cc
-          kept (Kept f rest opened at steps answers) = cc
+      by : epoch_log past ≡ e ∷ log → suc (length (answers_in (epoch_begun past))) ≡ length (epoch_log past)
+          → Counts (epoch_begun past) (epoch_log past) → length (v ∷ past) ≤ e.processed.cycle + (busy + 1) + (late + 1)
+      by same waited (NoneOpen none s a) = absurd (omega (arith, waited, a))
+      by same waited (NotTaken opens s a) = absurd (omega (arith, waited, a))
+      by same waited (NotAnswered head tail split opens s a) = let was = (y.old e log same opens s).1 in omega (arith, was)
 
   -- WHAT IS HEARD
   started : AreInStep (unless_restart v (epoch_begun past)) (log_of (unless_restart v (epoch_records past)))
@@ -299,21 +260,17 @@ module _ (busy : ℕ) (v : View) (past : List View) (run : IsRun busy (v ∷ pas
     | inr (x, is, at) ↦ let cycle = same_head e x log (epoch_log past) (sym those ∙ is) in omega (arith, cycle, at)
   ]
     where
-      last : suc (length (answers_in (epoch_begun (v ∷ past)))) ≡ length (epoch_log (v ∷ past))
-      last = unanswered e log those steps some
-
-      long : length (log_of (unless_restart v (epoch_records past))) ≡ length (epoch_log past)
-      long = ap length log_start
-
       -- not all answers were taken
       not_all : epoch_log (v ∷ past) ≡ epoch_log past → length (answers_in (with_heard v.heard (unless_restart v (epoch_begun past)))) ≡
           length (log_of (unless_restart v (epoch_records past))) → ⊥
-      not_all stayed all = let same = ap length stayed in let is = answers_are in omega (arith, last, long, same, is, all)
+      not_all stayed all = let same = ap length stayed in let is = answers_are in
+          omega (arith, unanswered e log those steps some, ap length log_start, same, is, all)
 
       before_all : length (answers_in (unless_restart v (epoch_begun past))) ≡ length (log_of (unless_restart v (epoch_records past)))
           → epoch_log (v ∷ past) ≡ epoch_log past → ⊥
       before_all all stayed = let same = ap length stayed in let is = answers_are in
-          let more = heard_more v.heard (unless_restart v (epoch_begun past)) in omega (arith, last, long, same, is, all, more)
+          let more = heard_more v.heard (unless_restart v (epoch_begun past)) in
+          omega (arith, unanswered e log those steps some, ap length log_start, same, is, all, more)
 
       after_so : epoch_log (v ∷ past) ≡ epoch_log past → open_in (with_heard v.heard (unless_restart v (epoch_begun past))) ≡ None
           → AreInStep (with_heard v.heard (unless_restart v (epoch_begun past))) (log_of (unless_restart v (epoch_records past))) → ⊥
@@ -325,8 +282,8 @@ module _ (busy : ℕ) (v : View) (past : List View) (run : IsRun busy (v ∷ pas
           (length (log_of (unless_restart v (epoch_records past))))
           → Counts (with_heard v.heard (unless_restart v (epoch_begun past))) (log_of (unless_restart v (epoch_records past))) → ⊥
       new_so stayed more (NoneOpen none s a) = not_all stayed a
-      new_so stayed more (NotTaken s a) = not_all stayed a
-      new_so stayed more (NotAnswered s a) = omega (arith, more, s)
+      new_so stayed more (NotTaken opens s a) = not_all stayed a
+      new_so stayed more (NotAnswered head tail split opens s a) = omega (arith, more, s)
 
       which : epoch_log (v ∷ past) ≡ epoch_log past → WorksLate busy (length past) 0
           (with_heard v.heard (unless_restart v (epoch_begun past))) (log_of (unless_restart v (epoch_records past)))
@@ -354,11 +311,8 @@ module _ (busy : ℕ) (v : View) (past : List View) (run : IsRun busy (v ∷ pas
       → length (steps_in (epoch_begun (v ∷ past))) ≡ suc (length (epoch_log (v ∷ past))) → ⊥
   none_new takes some steps = by (processes v past)
     where
-      at : is_some (open_in (begun_in v past)) ≡ true
-      at = ap (λ (l : List Begun). is_some (open_in l)) (sym begun_is) ∙ some
-
       by : Processes v past → ⊥
-      by (Nothing none) = never_some (processed_in v past) none (takes at)
+      by (Nothing none) = never_some (processed_in v past) none (takes (ap (λ (l : List Begun). is_some (open_in l)) (sym begun_is) ∙ some))
       by (Record s got came two processed) = which (begun_of busy v.begins (with_heard v.heard (unless_restart v (epoch_begun past)))
           (unless_restart v (epoch_records past)) run.1.begins heard_then)
         where
@@ -367,10 +321,6 @@ module _ (busy : ℕ) (v : View) (past : List View) (run : IsRun busy (v ∷ pas
 
           t : Processed
           t = record_in v (length past) (stood_in v (standing past)) s
-
-          now_is : epoch_log (v ∷ past) ≡ with_processed t (reply_of t log) log
-          now_is = log_is ∙ ap (λ (o : Option Processed). log_of (with_record o (unless_restart v (epoch_records past)))) processed
-              ∙ log-taken t (unless_restart v (epoch_records past))
 
           least : length log ≤ length (epoch_log (v ∷ past))
           least = let start = ap length log_start in elim grows [
@@ -385,9 +335,16 @@ module _ (busy : ℕ) (v : View) (past : List View) (run : IsRun busy (v ∷ pas
               omega (arith, count, same, steps, least)
           which (Sent step opened e a) =
               let count = ap length e ∙ ap (λ (n : ℕ). suc n) (length-steps_of log) in
-              let same = steps_are in
-              let more = ap length (now_is ∙ joins busy (length past) 0 (begun_in v past) log t (reply_of t log) step
-              (said_of busy v past run.1.sent s got) e) in omega (arith, count, same, steps, more)
+              omega (
+                arith,
+                count,
+                steps_are,
+                steps,
+                ap length
+                    ((log_is ∙ ap (λ (o : Option Processed). log_of (with_record o (unless_restart v (epoch_records past)))) processed
+                    ∙ log-taken t (unless_restart v (epoch_records past)))
+                    ∙ joins busy (length past) 0 (begun_in v past) log t (reply_of t log) step (said_of busy v past run.1.sent s got) e),
+              )
 
   -- else it is a cycle old, if it wasn't there before.
   young_new : (since late : ℕ) → IsYoungSince since busy 0 late past → is_some (open_in (epoch_begun (v ∷ past))) ≡ true
@@ -395,25 +352,23 @@ module _ (busy : ℕ) (v : View) (past : List View) (run : IsRun busy (v ∷ pas
   young_new since late y some steps = elim (aged some) [
     | inr one ↦ omega (arith, one)
     | inl (same, age) ↦ elim grows [
-      | inl stayed ↦ (let long = ap length stayed in by same age long then_ (open_in (epoch_begun past)) refl)
+      | inl stayed ↦ (let long = ap length stayed in by same age long then_)
       | inr (x, is, cycle) ↦ (let long = ap length is in absurd (never same long then_))
     ]
   ]
     where
       by : length (steps_in (epoch_begun (v ∷ past))) ≡ length (steps_in (epoch_begun past)) → age_in (v ∷ past) ≡ age_in past + 1
           → length (epoch_log (v ∷ past)) ≡ length (epoch_log past)
-          → Counts (epoch_begun past) (epoch_log past) → (o : Option Step) → open_in (epoch_begun past) ≡ o → age_in (v ∷ past) ≤ 1
-      by same age long c None none = let zero = closed_age past none in omega (arith, age, zero)
-      by same age long (NoneOpen none s a) (Some z) opened = absurd (omega (arith, same, steps, long, s))
-      by same age long (NotTaken s a) (Some z) opened = let young = y.new (ap (λ (o : Option Step). is_some o) opened) s in
-          omega (arith, age, young)
-      by same age long (NotAnswered s a) (Some z) opened = absurd (omega (arith, same, steps, long, s))
+          → Counts (epoch_begun past) (epoch_log past) → age_in (v ∷ past) ≤ 1
+      by same age long (NoneOpen none s a) = absurd (omega (arith, same, steps, long, s))
+      by same age long (NotTaken opens s a) = let young = y.new opens s in omega (arith, age, young)
+      by same age long (NotAnswered head tail split opens s a) = absurd (omega (arith, same, steps, long, s))
 
       never : length (steps_in (epoch_begun (v ∷ past))) ≡ length (steps_in (epoch_begun past))
           → length (epoch_log (v ∷ past)) ≡ suc (length (epoch_log past)) → Counts (epoch_begun past) (epoch_log past) → ⊥
       never same long (NoneOpen none s a) = omega (arith, same, steps, long, s)
-      never same long (NotTaken s a) = omega (arith, same, steps, long, s)
-      never same long (NotAnswered s a) = omega (arith, same, steps, long, s)
+      never same long (NotTaken opens s a) = omega (arith, same, steps, long, s)
+      never same long (NotAnswered head tail split opens s a) = omega (arith, same, steps, long, s)
 
   -- AFTER A CYCLE that is heard and processed; that is processed; and any other.
   pub young_both : (since late : ℕ) → IsYoungSince since busy 1 late past → (is_some (open_in (begun_in v past)) ≡ true
@@ -452,3 +407,17 @@ module _ (busy : ℕ) (v : View) (past : List View) (run : IsRun busy (v ∷ pas
     new = λ some steps. absurd (none_new takes some steps);
     old = λ e log those some steps. (inr (soon e log those), busy_still hears e log those some steps);
   }
+
+-- the answers are at most the accepted steps, and these at most those begun
+pub few_answers : (begun : List Begun) (log : List Entry) → Counts begun log → length (answers_in begun) ≤ length log
+few_answers begun log (NoneOpen none s a) = omega (arith, a)
+few_answers begun log (NotTaken on s a) = omega (arith, a)
+few_answers begun log (NotAnswered e rest those on s a) = omega (arith, a)
+
+-- the log grows by one entry at most
+pub grows_one : (busy : ℕ) (v : View) (past : List View) → IsRun busy (v ∷ past) → v.falls ≡ false → v.master_restarts ≡ false
+    → length (epoch_log past) ≤ length (epoch_log (v ∷ past))
+grows_one busy v past run stays goes_on = elim (grows busy v past run stays goes_on) [
+  | inl same ↦ (let long = ap length same in omega (arith, long))
+  | inr (x, more, cycle) ↦ (let long = ap length more in omega (arith, long))
+]

@@ -1,5 +1,5 @@
 -- How long phase 2 lasts while disturbed cycles are sparse.
-use Rattle.sercos_law_run.proofs.Words.{◌≡◌, ◌⊎◌, inl, inr, ℕ, zero, suc, ◌+◌, ◌<◌, ◌≤◌, Bool, true, false, List, [], ◌∷◌, ◌++◌, length, None, refl, sym, ◌∙◌, subst, arith, if◌then◌else◌, sum_by, Job, store_of, RingView, CycleView, known_of, Past, fall_of, is_done, Carry, Restarts, epoch_begun, cost_in, cost_of, open_since, sum_below, drive_at, looks_back, master_calls, IsClear, IsRun, behind_mdt, views_of, IsOpened, views_since, early_costs, disturbances, AreSparse, reads_cost, writes_cost}
+use Rattle.sercos_law_run.proofs.Words.{◌≡◌, inl, inr, ℕ, zero, suc, ◌+◌, ◌<◌, ◌≤◌, List, [], ◌∷◌, ◌++◌, length, None, refl, sym, ◌∙◌, subst, arith, sum_by, Job, store_of, RingView, CycleView, known_of, Past, fall_of, is_done, Carry, Restarts, epoch_begun, cost_in, cost_of, open_since, sum_below, drive_at, looks_back, master_calls, IsClear, IsRun, behind_mdt, views_of, IsOpened, views_since, early_costs, disturbances, AreSparse, reads_cost, writes_cost}
 use Rattle.sercos_law_run.proofs.Start.CheckPasses.{ring_drive}
 use Rattle.sercos_law_run.proofs.Views.Members.{member_is}
 use Rattle.sercos_law_run.proofs.Held.Runs.{drive_got}
@@ -7,16 +7,12 @@ use Rattle.sercos_law_run.proofs.Undisturbed.JobsBegun.{few_now, places_now, goe
 use Rattle.sercos_law_run.proofs.Undisturbed.JobsCost.{two_fits}
 use Rattle.sercos_law_run.proofs.Undisturbed.PhaseTwo.{listed_all, section_two, sum_within}
 use Rattle.sercos_law_run.proofs.Undisturbed.Sections.{one_works}
-use Rattle.sercos_law_run.proofs.Undisturbed.Stops.StopStays.{none_before, stop_after}
+use Rattle.sercos_law_run.proofs.Undisturbed.Stops.StopStays.{stop_after}
 use Rattle.sercos_law_run.proofs.Undisturbed.NoFalls.{was_low}
 use Rattle.sercos_law_run.proofs.Recovery.LateDown.{phase_now}
 use Rattle.sercos_law_run.proofs.Tolerance.Borne.{IsBase, IsBorne, borne_on}
 use Rattle.sercos_law_run.proofs.Tolerance.CostsShared.{costs_shared}
-use Rattle.sercos_law_run.proofs.Tolerance.EarlySparse.{early_sparse, phase_is, phase_next, start_is}
-
-pub two_phase : (done : Bool) (n : ℕ) → (if done then n + 1 else n) ≡ 2 → ((done ≡ true) × (n ≡ 1)) ⊎ ((done ≡ false) × (n ≡ 2))
-two_phase true n is = inl (refl, omega (arith, is))
-two_phase false n is = inr (refl, is)
+use Rattle.sercos_law_run.proofs.Tolerance.EarlySparse.{early_sparse, phase_is, phase_next, rose, none_earlier}
 
 none_in : (n : ℕ) → sum_below n (λ k. 0) ≡ 0
 none_in zero = refl
@@ -46,30 +42,21 @@ module _ (r : RingView) (jobs : List Job) (carry : Carry) (restarts : Restarts) 
       → length cycles ≤ 11 + length r.drives + early_costs r jobs carry restarts cycles before + opens_in cycles before
   two_counts [] before run clear starts sparse is_two none = omega arith
   two_counts (t ∷ cycles) before run clear starts sparse is_two none =
-      elim (two_phase (is_done (known_of r) (now t (cycles ++ before))) t.phase
-      (sym (phase_next r jobs carry restarts opened t (cycles ++ before) run is) ∙ is_two)) [
+      let is = borne_on r jobs carry restarts opened t cycles before run clear starts sparse in
+      let stop_none : (behind_mdt r jobs carry restarts t.sent (cycles ++ before)).stop ≡ None =
+      sym (stop_after r jobs carry restarts t (cycles ++ before) is.stays) ∙ none in
+      elim (rose r jobs carry restarts opened t (cycles ++ before) run is 1 is_two) [
         | inl first ↦ (let le = early_sparse r jobs carry restarts opened t cycles before run clear starts sparse
             (let one = first.1 in omega (arith, one)) in omega (arith, le))
-        | inr later ↦ by later.0 later.1 (two_counts cycles before run.0 clear.0 starts sparse.0
-            (sym (phase_is r jobs carry restarts opened t (cycles ++ before) run is) ∙ later.1)
-            (none_before r jobs carry restarts t (cycles ++ before) (start_is r jobs carry restarts opened t (cycles ++ before) run
-            is) stop_none))
+        | inr later ↦ let goes_on = goes_in_two r jobs carry restarts opened t (cycles ++ before) run clear later.1 stop_none later.0 in
+            omega (
+              arith,
+              one_works r jobs carry restarts opened t cycles before run clear goes_on,
+              (two_counts cycles before run.0 clear.0 starts sparse.0
+                  (sym (phase_is r jobs carry restarts opened t (cycles ++ before) run is) ∙ later.1)
+                  (none_earlier r jobs carry restarts opened t (cycles ++ before) run is stop_none)),
+            )
       ]
-    where
-      is : Borne t (cycles ++ before)
-      is = borne_on r jobs carry restarts opened t cycles before run clear starts sparse
-
-      stop_none : (behind_mdt r jobs carry restarts t.sent (cycles ++ before)).stop ≡ None
-      stop_none = sym (stop_after r jobs carry restarts t (cycles ++ before) is.stays) ∙ none
-
-      by : is_done (known_of r) (behind_mdt r jobs carry restarts t.sent (cycles ++ before)) ≡ false → t.phase ≡ 2
-          → length cycles ≤ 11 + length r.drives + early_costs r jobs carry restarts cycles before + opens_in cycles before
-          → suc (length cycles) ≤ 11 + length r.drives + early_costs r jobs carry restarts (t ∷ cycles) before + opens_in (t ∷ cycles)
-          before
-      by unfinished t_two earlier =
-          let goes_on = goes_in_two r jobs carry restarts opened t (cycles ++ before) run clear t_two stop_none unfinished in
-          let works = one_works r jobs carry restarts opened t cycles before run clear goes_on in
-          omega (arith, works, earlier)
 
   pub low_before : (t : CycleView) (j : List CycleView) → IsRun r jobs carry restarts (t ∷ j) → Borne t j → (back (t ∷ j)).now.phase ≤ 2
       → t.phase ≤ 2
@@ -99,10 +86,13 @@ module _ (r : RingView) (jobs : List Job) (carry : Carry) (restarts : Restarts) 
       let t_low = low_before t (cycles ++ before) run is low in
       let shared = costs_shared r jobs carry restarts opened t cycles before run clear starts sparse t_low (λ raw. 512)
       (λ k below. listed_all (views_of r jobs carry restarts k (t ∷ (cycles ++ before)))) in
-      let sums = sum_within (λ k. cost_in (cost_of (drive_at r k).busy (drive_at r k).command (λ raw. 512) (store_of (drive_at r k)))
-      (epoch_begun (views_of r jobs carry restarts k (t ∷ (cycles ++ before))))) section_two r.drives
-      (each_fits t (cycles ++ before) run clear is.stays t_low) in
-      omega (arith, shared, sums)
+      omega (
+        arith,
+        shared,
+        sum_within (λ k. cost_in (cost_of (drive_at r k).busy (drive_at r k).command (λ raw. 512)
+            (store_of (drive_at r k))) (epoch_begun (views_of r jobs carry restarts k (t ∷ (cycles ++ before))))) section_two r.drives
+            (each_fits t (cycles ++ before) run clear is.stays t_low),
+      )
 
   -- HOW LONG PHASE 2 LASTS
   pub two_sparse : (t : CycleView) (cycles before : List CycleView) → IsRun r jobs carry restarts (t ∷ (cycles ++ before))
@@ -113,10 +103,7 @@ module _ (r : RingView) (jobs : List Job) (carry : Carry) (restarts : Restarts) 
       r carry restarts cycles before
   two_sparse t cycles before run clear starts sparse t_two none =
       let is = borne_on r jobs carry restarts opened t cycles before run clear starts sparse in
-      let phase = sym (phase_is r jobs carry restarts opened t (cycles ++ before) run is)
-      ∙ t_two in
-      let stop = none_before r jobs carry restarts t (cycles ++ before)
-      (start_is r jobs carry restarts opened t (cycles ++ before) run is) none in
-      let counted = two_counts cycles before run.0 clear.0 starts sparse.0 phase stop in
+      let phase = sym (phase_is r jobs carry restarts opened t (cycles ++ before) run is) ∙ t_two in
+      let stop = none_earlier r jobs carry restarts opened t (cycles ++ before) run is none in
       let fits = two_fit cycles before run.0 clear.0 starts sparse.0 (omega (arith, phase)) in
-      omega (arith, counted, fits)
+      omega (arith, two_counts cycles before run.0 clear.0 starts sparse.0 phase stop, fits)

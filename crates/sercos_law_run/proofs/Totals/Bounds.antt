@@ -1,6 +1,5 @@
 -- What is small in a cycle: the number of unseen arrivals, and the lists of its plan.
-use Rattle.sercos_law_run.proofs.Words.{◌≡◌, ℕ, zero, suc, ◌+◌, ◌≤◌, Bool, true, false, if◌then◌else◌, List, [], ◌∷◌, length, slice_index, Option, Some, None, IfSome, Result, Ok, Err, refl, sym, ap, subst, ◌∙◌, arith, cond_both, option_or, length-map, length-map-range_with_len, Job, WishesView, PlanView, Wish, positions, is_roomy, least_t1, sent, planned, chain_of, RingView, wish_of, SentView, EventsView, CycleView, Known, Task, known_of, member_of, tasks_for, wishes_given, Past, Call, past, outcomes, IsPlanned, plan_told, restart_told, Carry, Restarts, passage, sum_below, unseen_at, is_at, ats_in, mst_in, mdt_in, IsNext, unseen_ats, unseen_mst, unseen_mdt, station_of, looks_back, middle, restart_events, no_events, master_calls, wishes_length, least_plan, wishes_of}
-use Rattle.sercos_telegram.specs.declared.layout.Kind.TheVariants as kinds
+use Rattle.sercos_law_run.proofs.Words.{inr, inl, cases_Option, cases_Bool, ◌≡◌, ℕ, zero, suc, ◌+◌, ◌≤◌, Bool, true, false, if◌then◌else◌, List, [], ◌∷◌, length, slice_index, Option, Some, None, IfSome, Ok, Err, refl, sym, ap, subst, ◌∙◌, arith, cond_both, option_or, length-map, length-map-range_with_len, Job, WishesView, PlanView, Wish, positions, is_roomy, least_t1, sent, planned, chain_of, RingView, wish_of, SentView, EventsView, CycleView, Known, Task, known_of, member_of, tasks_for, wishes_given, Past, Call, past, outcomes, IsPlanned, plan_told, restart_told, Carry, Restarts, passage, sum_below, unseen_at, is_at, ats_in, mst_in, mdt_in, IsNext, unseen_ats, unseen_mst, unseen_mdt, station_of, looks_back, middle, restart_events, no_events, master_calls, wishes_length, least_plan, wishes_of, Kind}
 
 -- Unseen arrivals: one at most for each passage.
 at_most_one : (b : Bool) → (if b then 1 else 0) ≤ 1
@@ -17,15 +16,14 @@ mdt_one carry cycle (Some mdt) k = at_most_one _
 
 ats_few : (r : RingView) (carry : Carry) (cycle : ℕ) (ats : List (List ℕ)) → unseen_ats r carry cycle ats ≤ length ats
 ats_few r carry cycle [] = omega arith
-ats_few r carry cycle (at ∷ ats) = let one : unseen_at carry (passage cycle kinds.At (station_of r (slice_index at 0)) 0) at ≤ 1 = at_most_one _ in omega (arith, ats_few r carry cycle ats, one)
-
-if_few : (b : Bool) (x : List ℕ) (xs : List (List ℕ)) (n : ℕ) → length xs ≤ n → length (if b then x ∷ xs else xs) ≤ suc n
-if_few true x xs n few = omega (arith, few)
-if_few false x xs n few = omega (arith, few)
+ats_few r carry cycle (at ∷ ats) = let one : unseen_at carry (passage cycle Kind.At (station_of r (slice_index at 0)) 0) at ≤ 1 = at_most_one _ in omega (arith, ats_few r carry cycle ats, one)
 
 ats_in_few : (sent : List SentView) → length (ats_in sent) ≤ length sent
 ats_in_few [] = omega arith
-ats_in_few (s ∷ sent) = if_few (is_at s.kind) s.content (ats_in sent) (length sent) (ats_in_few sent)
+ats_in_few (s ∷ sent) = elim (cases_Bool (is_at s.kind)) [
+  | inl on ↦ rw on (omega (arith, (ats_in_few sent)))
+  | inr off ↦ rw off (omega (arith, (ats_in_few sent)))
+]
 
 pub unseen_few : (r : RingView) (jobs : List Job) (carry : Carry) (restarts : Restarts) (t : CycleView) (j : List CycleView)
     → IsNext r jobs carry restarts t j → length r.drives ≤ 64 → length t.sent ≤ 66 → t.unseen ≤ 195
@@ -33,7 +31,7 @@ unseen_few r jobs carry restarts t j next few sent =
     let n : ℕ = length r.drives in
     let cycle : ℕ = length j in
     let msts : sum_below n (unseen_mst carry cycle (mst_in t.sent)) ≤ n = sum_few n (unseen_mst carry cycle (mst_in t.sent)) (λ k. at_most_one _) in
-    let own : unseen_at carry (passage cycle kinds.Mst 0 0) (mst_in t.sent) ≤ 1 = at_most_one _ in
+    let own : unseen_at carry (passage cycle Kind.Mst 0 0) (mst_in t.sent) ≤ 1 = at_most_one _ in
     let ats : unseen_ats r carry cycle (ats_in t.sent) ≤ length (ats_in t.sent) = ats_few r carry cycle (ats_in t.sent) in
     let mdts : sum_below n (unseen_mdt carry cycle (mdt_in t.sent)) ≤ n = sum_few n (unseen_mdt carry cycle (mdt_in t.sent)) (mdt_one carry cycle (mdt_in t.sent)) in
     omega (arith, next.unseen, few, sent, msts, own, ats, mdts, ats_in_few t.sent)
@@ -50,40 +48,27 @@ least_counts : (w : WishesView) → Counts w (least_plan w)
 unfolding least_plan
 least_counts w = (length-map-range_with_len (least_t1 w (sent w)) 0 (length w.drives), positions_count 1 w.drives)
 
-same_ok : {T E : Type 0} (x y : T) (r : Result T E) → r ≡ Ok x → r ≡ Ok y → x ≡ y
-same_ok x y r e f = cc
-
 if_counts : {E : Type 0} (w : WishesView) (e : E) (b : Bool) (p : PlanView) → (if b then Ok (least_plan w) else Err e) ≡ Ok p → Counts w p
-if_counts w e true p is = subst (Counts w) (same_ok (least_plan w) p (Ok (least_plan w)) refl is) (least_counts w)
+if_counts w e true p is = let same : least_plan w ≡ p = cc in subst (Counts w) same (least_counts w)
 if_counts w e false p is = absurd (cc)
 
 -- what a plan has of a ring
 abbrev pub HasEach : RingView → Option PlanView → Type 0
 HasEach r plan = IfSome plan (λ p. (length p.t1 ≡ length r.drives) × (length p.position ≡ length r.drives))
 
-told_each : (r : RingView) (p : Past) (plan : Option PlanView) → IsPlanned (known_of r) p → p.plan ≡ plan → HasEach r plan
-told_each r p None planned is = tt
-told_each r p (Some plan) planned is =
-    let w : WishesView = wishes_given (known_of r) (outcomes p) in
-    let counts : Counts w plan = if_counts w (chain_of w) (is_roomy w) plan (planned plan is).planned_is in
-    let drives : length w.drives ≡ length r.drives = wishes_length (known_of r).drives 0 (outcomes p) ∙ length-map r.drives member_of in
-    both w plan drives counts
-  where
-    both : (w : WishesView) (plan : PlanView) → length w.drives ≡ length r.drives → Counts w plan → (length plan.t1 ≡ length r.drives) × (length plan.position ≡ length r.drives)
-    both w plan drives counts = (counts.0 ∙ drives, counts.1 ∙ drives)
-
 pub due_each : (r : RingView) (p : Past) (b : Bool) → IsPlanned (known_of r) p → HasEach r (if b then p.plan else None)
-due_each r p true planned = told_each r p p.plan planned refl
+due_each r p true planned = elim (cases_Option p.plan) [
+  | inl is ↦ rw is tt
+  | inr is ↦ rw is.1 (let w : WishesView = wishes_given (known_of r) (outcomes p) in
+      let counts : Counts w is.0 = if_counts w (chain_of w) (is_roomy w) is.0 (planned is.0 is.1).planned_is in
+      let drives : length w.drives ≡ length r.drives = wishes_length (known_of r).drives 0 (outcomes p) ∙ length-map r.drives member_of in
+      (counts.0 ∙ drives, counts.1 ∙ drives))
+]
 due_each r p false planned = tt
 
 pub or_each : (r : RingView) (plan other : Option PlanView) → HasEach r plan → other ≡ None → HasEach r (option_or plan other)
 or_each r None other each none = subst (HasEach r) (sym none) tt
 or_each r (Some plan) other each none = each
-
--- what a restart adds is no plan
-restart_plan : (r : RingView) (jobs : List Job) (restarts : Restarts) (cycle : ℕ) (h : List Call) → (restart_events r jobs restarts cycle h).plan ≡ None
-restart_plan r jobs restarts cycle h = cond_both (restarts cycle 0) (restart_told (known_of r) (looks_back r jobs h) no_events) no_events
-    (λ v. v.plan ≡ None) (λ on. refl) (λ off. refl)
 
 plan_each : (r : RingView) (jobs : List Job) (carry : Carry) (restarts : Restarts) (t : CycleView) (j : List CycleView)
     → ((s : Known) (requests : ℕ → List Task) (h : List Call) → IsPlanned s (past s requests h)) → IsNext r jobs carry restarts t j → HasEach r t.events.plan
@@ -91,7 +76,10 @@ plan_each r jobs carry restarts t j law next =
     let calls : List Call = middle r carry restarts t.sent j in
     let p : Past = looks_back r jobs calls in
     let e : EventsView = restart_events r jobs restarts (length j) (master_calls r carry restarts j) in
-    let each : HasEach r (option_or (plan_told p) e.plan) = or_each r (plan_told p) e.plan (due_each r p p.now.plans (law (known_of r) (tasks_for (known_of r) jobs) calls)) (restart_plan r jobs restarts (length j) (master_calls r carry restarts j)) in
+    let each : HasEach r (option_or (plan_told p) e.plan) = or_each r (plan_told p) e.plan
+    (due_each r p p.now.plans (law (known_of r) (tasks_for (known_of r) jobs) calls))
+    (cond_both (restarts (length j) 0) (restart_told (known_of r) (looks_back r jobs (master_calls r carry restarts j)) no_events)
+    no_events (λ v. v.plan ≡ None) (λ on. refl) (λ off. refl)) in
     subst (HasEach r) (sym (ap (λ v. v.plan) next.events)) each
 
 pub starts_of : (n : ℕ) (r : RingView) (plan : Option PlanView) → n ≡ length r.drives → HasEach r plan → IfSome plan (λ p. length p.t1 ≡ n)

@@ -16,21 +16,18 @@ none_few = record {
   unseen = omega arith;
 }
 
-few_next : (t : Totals) (m : CycleView) (k : ℕ) → AreFew t k → IsFew m → falls_in m ≤ 1 → AreFew (with_cycle t m) (k + 1)
-few_next t m k f g falls = record {
-  cycles = omega (arith, f.cycles);
-  complete = omega (arith, f.complete, g.complete);
-  refused = omega (arith, f.refused, g.refused);
-  broken = omega (arith, f.broken, g.broken);
-  falls = omega (arith, f.falls, falls);
-  unseen = omega (arith, f.unseen, g.unseen);
-}
-
 pub fell_once : (m : CycleView) → falls_in m ≤ 1
 fell_once m = cond_both (is_some m.events.fall) 1 0 (λ (v : ℕ). v ≤ 1) (λ on. omega arith) (λ off. omega arith)
 
 pub few_more : (t : Totals) (m : CycleView) (n : ℕ) → AreFew t n → IsFew m → AreFew (with_cycle t m) (n + 1)
-few_more t m n f g = few_next t m n f g (fell_once m)
+few_more t m n f g = record {
+  cycles = omega (arith, f.cycles);
+  complete = omega (arith, f.complete, g.complete);
+  refused = omega (arith, f.refused, g.refused);
+  broken = omega (arith, f.broken, g.broken);
+  falls = omega (arith, f.falls, (fell_once m));
+  unseen = omega (arith, f.unseen, g.unseen);
+}
 
 -- up to 50,000 cycles, there is room for a cycle more
 pub room_for : (t : Totals) (k : ℕ) → k < 50000 → AreFew t k → HasRoom t

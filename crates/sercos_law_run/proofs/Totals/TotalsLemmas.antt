@@ -1,5 +1,5 @@
 -- The totals of cycles and one more.
-use Rattle.sercos_law_run.proofs.Words.{◌≡◌, ℕ, ◌==◌, Bool, true, false, if◌then◌else◌, List, [], ◌∷◌, ◌++◌, Option, Some, None, option_map, refl, length-append, option_or, find, sum_by_push, fold-append, find-append, CycleView, ended_in, falls_in, is_refused, is_broken, with_cycle, totals_of, cases_Bool, inl, inr}
+use Rattle.sercos_law_run.proofs.Words.{◌≡◌, ℕ, ◌==◌, if◌then◌else◌, List, [], ◌∷◌, ◌++◌, Option, Some, None, option_map, refl, length-append, option_or, find, sum_by_push, fold-append, find-append, CycleView, ended_in, falls_in, is_refused, is_broken, with_cycle, totals_of, cases_Bool, inl, inr}
 use Rattle.sercos_law_run.specs.Totals.Totals.{is_complete}
 
 map_or : (found other : Option CycleView) → option_map (λ (t : CycleView). t.cycle) (option_or found other) ≡ option_or (option_map (λ (t : CycleView). t.cycle) found) (option_map (λ (t : CycleView). t.cycle) other)

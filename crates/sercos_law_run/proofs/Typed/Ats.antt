@@ -1,7 +1,6 @@
 -- The AT of a drive is whole: bytes, and no more than an AT has.
-use Rattle.sercos_law_run.proofs.Words.{inl, ◌≡◌, ℕ, suc, ◌+◌, ◌*◌, ◌%◌, ◌<◌, ◌≤◌, ◌==◌, nat_le, Bool, true, false, not, List, [], ◌∷◌, length, Option, Some, None, option_map, unwrap_or, refl, sym, subst, arith, if◌then◌else◌, length-append, option_and_then, flat_map, flat_map-cons, and_parts, cond_both, not-true, to_le_bytes, AreBytes-append, Idn, Length, Two, Four, List1, List2, List4, is_list, Block, width_of, bytes_for, bits_in, number_end, is_number, find_block, is_sound, IsStore, DriveView, found_sound, found-carried, types, data_at, Shown, channel_says, DriveCall, phase_in, cycle_in, records_in, blocks_in, commands_in, annals, Said, shown_word, bytes_in_cycle, values_in, sends, said, drive_says, fields_length, Keeps, two_bytes, AreBytes, word_bytes, fields, idns_at, data_in, value_in, cases_Option, inr, cases_Bool}
+use Rattle.sercos_law_run.proofs.Words.{inl, ◌≡◌, ℕ, suc, ◌+◌, ◌*◌, ◌%◌, ◌<◌, ◌≤◌, ◌==◌, nat_le, true, false, not, List, [], ◌∷◌, length, Option, Some, None, option_map, unwrap_or, refl, sym, subst, arith, length-append, flat_map, flat_map-cons, and_parts, cond_both, not-true, to_le_bytes, AreBytes-append, Idn, Length, Two, Four, List1, List2, List4, is_list, Block, width_of, bytes_for, bits_in, number_end, is_number, find_block, is_sound, IsStore, DriveView, found_sound, found-carried, types, data_at, Shown, DriveCall, phase_in, cycle_in, blocks_in, annals, Said, shown_word, bytes_in_cycle, values_in, said, drive_says, fields_length, Keeps, two_bytes, AreBytes, word_bytes, fields, idns_at, data_in, value_in, cases_Option, inr, cases_Bool, idns_listed}
 use Rattle.sercos_block.proofs.SoundLemmas.{value_len}
-use Rattle.sercos_command.specs.Checks.{idns_in}
 use Rattle.sercos_law_run.proofs.Typed.Replies.{data_bytes}
 use Rattle.sercos_law_run.proofs.Start.WellLemmas.{item_small}
 use Rattle.sercos_law_run.proofs.Journal.StationLemmas.{says_that}
@@ -44,7 +43,7 @@ unfolding data_in
 data_long cycle b single sound = cond_both (b.step == 0) b.value
     (bytes_for b.attribute ((bits_in b.attribute b.value + b.step * cycle) % number_end b.attribute.length))
     (λ v. length v ≤ 4)
-    (λ on. let same = value_len b single sound in let few = item_small b.attribute.length in omega (arith, same, few))
+    (λ on. omega (arith, value_len b single sound, item_small b.attribute.length))
     (λ off. number_long b.attribute.length _)
 
 block_value : (cycle : ℕ) (b : Block) → is_sound b ≡ true → AreBytes b.value → IsValue (unwrap_or (bytes_in_cycle cycle b) [])
@@ -70,16 +69,14 @@ all_values cycle blocks [] store = record { are = no_bytes; few = omega arith }
 all_values cycle blocks (idn ∷ idns) store =
     let one = value_so cycle blocks idn store in
     let rest = all_values cycle blocks idns store in
-    let a = one.few in
-    let b = rest.few in
     let both = length-append (value_in cycle blocks idn) (flat_map (value_in cycle blocks) idns) in
     subst (λ (bytes : List ℕ). AreValues bytes (suc (length idns))) (sym (flat_map-cons (value_in cycle blocks) idn idns))
-    (record { are = AreBytes-append (value_in cycle blocks idn) _ one.are rest.are; few = omega (arith, a, b, both) })
+    (record { are = AreBytes-append (value_in cycle blocks idn) _ one.are rest.are; few = omega (arith, one.few, rest.few, both) })
 
-pairs : (bytes : List ℕ) → 2 * length (idns_in bytes) ≤ length bytes
+pairs : (bytes : List ℕ) → 2 * length (idns_listed bytes) ≤ length bytes
 pairs [] = omega arith
 pairs (low ∷ []) = omega arith
-pairs (low ∷ high ∷ bytes) = let rest = pairs bytes in omega (arith, rest)
+pairs (low ∷ high ∷ bytes) = omega (arith, pairs bytes)
 
 listed_long : (blocks : List Block) (o : Option Block) → IsStore blocks → find_block 16 blocks ≡ o → length (unwrap_or (option_map (λ (b : Block). b.value) o) []) ≤ 32
 listed_long blocks None store is = omega arith
@@ -87,14 +84,15 @@ listed_long blocks (Some b) store is = found-carried 16 blocks b b.value store i
 
 values_so : (cycle phase : ℕ) (blocks : List Block) → IsStore blocks → AreValues (values_in cycle phase blocks) 16
 unfolding idns_at
-values_so cycle phase blocks store = by (nat_le 3 phase)
+values_so cycle phase blocks store = elim (cases_Bool (nat_le 3 phase)) [
+  | inl on ↦
+      rw on (let all = all_values cycle blocks (idns_at blocks 16) store in let few = all.few in
+      record { are = all.are; few = omega (arith, few, most) })
+  | inr off ↦ rw off (record { are = no_bytes; few = omega arith })
+]
   where
     most : length (idns_at blocks 16) ≤ 16
-    most = let few = listed_long blocks (find_block 16 blocks) store refl in let half = pairs (data_at blocks 16) in omega (arith, few, half)
-
-    by : (late : Bool) → AreValues (if late then flat_map (value_in cycle blocks) (idns_at blocks 16) else []) 16
-    by true = let all = all_values cycle blocks (idns_at blocks 16) store in let few = all.few in let m = most in record { are = all.are; few = omega (arith, few, m) }
-    by false = record { are = no_bytes; few = omega arith }
+    most = omega (arith, listed_long blocks (find_block 16 blocks) store refl, (pairs (data_at blocks 16)))
 
 said_content : (address cycle phase : ℕ) (blocks : List Block) (s : Shown) → address < 256 → IsStore blocks → IsContent (said address cycle phase blocks s).content
 said_content address cycle phase blocks s low store =

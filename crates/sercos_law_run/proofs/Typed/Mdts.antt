@@ -1,6 +1,5 @@
 -- MST and MDT are whole: bytes, and no more than a telegram has.
-use Rattle.sercos_law_run.proofs.Words.{◌≡◌, ℕ, zero, suc, ◌+◌, ◌<◌, ◌≤◌, ◌==◌, Bool, true, false, List, [], ◌∷◌, length, Option, Some, None, is_some, slice_index_or, refl, sym, ◌∙◌, ap, subst, arith, if◌then◌else◌, length-append, nat_le, option_map, All, All-head, All-tail, AreBytes-append, AreBytes-take, all_drives, mst_content, PlanView, Known, IsKnown, MemberView, member, no_member, len_or_none, mdt_attributes, word_said, value_said, values_said, fields_length, Past, IsPlanned, outcomes, seen_at, records_upto, Sent, said_to, record_to, records_from, idle, single, joint, mdt_said, fits_planned, AreBytes, cases_Bool, cases_Option, inl, inr}
-use Rattle.sercos_service_master.specs.Begun.{Said}
+use Rattle.sercos_law_run.proofs.Words.{◌≡◌, ℕ, zero, suc, ◌+◌, ◌<◌, ◌≤◌, ◌==◌, Bool, true, false, List, [], ◌∷◌, length, Option, Some, None, is_some, slice_index_or, sym, ◌∙◌, ap, subst, arith, if◌then◌else◌, length-append, nat_le, option_map, All, All-head, All-tail, AreBytes-append, AreBytes-take, all_drives, mst_content, PlanView, Known, IsKnown, MemberView, member, no_member, len_or_none, mdt_attributes, word_said, value_said, values_said, fields_length, Past, IsPlanned, outcomes, seen_at, records_upto, Sent, said_to, record_to, records_from, idle, single, joint, mdt_said, fits_planned, AreBytes, cases_Bool, cases_Option, inl, inr, StepSaid}
 pub use Rattle.sercos_master.proofs.Configured.{phase_low}
 use Rattle.sercos_law_run.proofs.Typed.Ats.{IsContent, fields_bytes, address_bytes}
 
@@ -27,21 +26,20 @@ records_bytes s p k (suc n) = AreBytes-append (record_to s p k) (records_from s 
 records_long : (s : Known) (p : Past) (k n : ℕ) → length (records_upto s (seen_at p) p.cycle k) + length (records_from s p k n) ≡ length (records_upto s (seen_at p) p.cycle (k + n))
 records_long s p k zero = let e : k + 0 ≡ k = omega arith in rw e (omega arith)
 records_long s p k (suc n) =
-    let one : length (records_from s p k (suc n)) ≡ length (record_to s p k) + length (records_from s p (k + 1) n) = length-append (record_to s p k) (records_from s p (k + 1) n) in
     let next : length (records_upto s (seen_at p) p.cycle (suc k)) ≡ length (records_upto s (seen_at p) p.cycle k) + length (record_to s p k) = length-append (records_upto s (seen_at p) p.cycle k) (record_to s p k) in
     let e : k + 1 ≡ suc k = omega arith in
     let f : k + 1 + n ≡ k + suc n = omega arith in
     let rest : length (records_upto s (seen_at p) p.cycle (suc k)) + length (records_from s p (k + 1) n) ≡ length (records_upto s (seen_at p) p.cycle (k + suc n)) =
     ap (λ (i : ℕ). length (records_upto s (seen_at p) p.cycle i) + length (records_from s p (k + 1) n)) (sym e) ∙ records_long s p (k + 1) n ∙ ap (λ (i : ℕ). length (records_upto s (seen_at p) p.cycle i)) f in
-    omega (arith, one, next, rest)
+    omega (arith, length-append (record_to s p k) (records_from s p (k + 1) n), next, rest)
 
 -- THE MDT
 member_low : (drives : List MemberView) (k : ℕ) → All (λ (d : MemberView). (1 ≤ d.address) × (d.address ≤ 254)) drives → (slice_index_or drives k no_member).address < 256
 member_low [] k all = omega arith
-member_low (d ∷ drives) zero all = let high = (All-head (λ (x : MemberView). (1 ≤ x.address) × (x.address ≤ 254)) d drives all).1 in omega (arith, high)
+member_low (d ∷ drives) zero all = omega (arith, (All-head (λ (x : MemberView). (1 ≤ x.address) × (x.address ≤ 254)) d drives all).1)
 member_low (d ∷ drives) (suc k) all = member_low drives k (All-tail (λ (x : MemberView). (1 ≤ x.address) × (x.address ≤ 254)) d drives all)
 
-single_whole : (s : Known) (said : Said) (k : ℕ) → IsKnown s → IsContent (single s said k).content
+single_whole : (s : Known) (said : StepSaid) (k : ℕ) → IsKnown s → IsContent (single s said k).content
 unfolding AreBytes
 single_whole s said k known =
     let long = fields_length (word_said said) said.step.word [] in
@@ -66,7 +64,7 @@ mdt_whole s p m known planned said = elim (cases_Bool (p.now.phase == 1)) [
     same_content : (x : Sent) → Some x ≡ Some m → IsContent x.content → IsContent m.content
     same_content x e is = let same : x ≡ m = cc in subst (λ (y : Sent). IsContent y.content) same is
 
-    to_one : (word : ℕ → Said) (o : Option ℕ) → option_map (λ i. single s (word i) i) o ≡ Some m → IsContent m.content
+    to_one : (word : ℕ → StepSaid) (o : Option ℕ) → option_map (λ i. single s (word i) i) o ≡ Some m → IsContent m.content
     to_one word None e = cc
     to_one word (Some i) e = same_content (single s (word i) i) e (single_whole s (word i) i known)
 

@@ -1,11 +1,10 @@
 -- The numbers of a plan are words, and so are the identifier numbers that telegrams carry.
-use Rattle.sercos_law_run.proofs.Words.{◌≡◌, ◌⊎◌, inl, inr, ℕ, zero, suc, ◌%◌, ◌<◌, ◌≤◌, ◌==◌, nat_lt, nat_le, Bool, true, false, not, ◌&&◌, List, [], ◌∷◌, ◌++◌, length, Option, Some, None, is_some, slice_index_or, refl, sym, subst, arith, if◌then◌else◌, slice_index, option_map, option_and_then, Ok, Err, option_or, list_all, find, leb-true, and_parts, false≢true, nat_tests, get_or_past, All-map, All-from_get_or, Idn, Attribute, Outcome, WishesView, PlanView, record_bytes, Fits, IsValid, is_rate, is_cycle, is_control, is_roomy, least_plan, planned, chain_of, roomy_test, is_of_least, least_fits, Block, BuiltIn, built_ins, has_address, has_drive_numbers, has_blocks, has_ring_numbers, attribute_in, number_len, is_typed, IsRing, DriveView, RingView, Known, MemberView, HasLists, IsKnown, member, member_of, known_of, wishes_given, known_of-IsRing, is_valid, no_drive, IsTyped, AreTyped, is_ring, are_ring_numbers, is_drive, are_drives, row_in, built_in_attribute, own_attribute, block_attribute, are_cyclic, cases_Bool}
-use Rattle.sercos_block.specs.Rings.{cyclic_len, is_cyclic}
+use Rattle.sercos_law_run.proofs.Words.{◌≡◌, ◌⊎◌, inl, inr, ℕ, zero, suc, ◌<◌, ◌≤◌, ◌==◌, nat_lt, nat_le, true, not, List, [], ◌∷◌, ◌++◌, length, Option, Some, None, is_some, slice_index_or, refl, sym, subst, arith, slice_index, option_map, option_and_then, Ok, option_or, list_all, find, leb-true, and_parts, false≢true, nat_tests, get_or_past, All-map, All-from_get_or, Idn, Attribute, Outcome, WishesView, PlanView, record_bytes, Fits, IsValid, is_rate, is_cycle, is_control, is_roomy, least_plan, planned, roomy_test, is_of_least, least_fits, Block, BuiltIn, built_ins, has_address, has_drive_numbers, has_blocks, has_ring_numbers, attribute_in, number_len, is_typed, IsRing, DriveView, RingView, Known, MemberView, HasLists, IsKnown, member, member_of, known_of, wishes_given, known_of-IsRing, is_valid, no_drive, IsTyped, AreTyped, is_ring, are_ring_numbers, is_drive, are_drives, row_in, built_in_attribute, own_attribute, block_attribute, are_cyclic, cases_Bool, AllByRecursion, cyclic_len}
+use Rattle.sercos_block.specs.Rings.{is_cyclic}
 use Rattle.sercos_law_run.proofs.Start.PlanNumbers.{has_numbers}
 use Rattle.sercos_law_run.proofs.Journal.StationLemmas.{drives_so}
 use Rattle.sercos_law_run.proofs.Views.Members.{member_is}
 use Rattle.sercos_law_run.proofs.Typed.StoreStays.{raw_typed}
-use Rattle.std.specs.List.{AllByRecursion}
 
 -- THE RING THAT THE MASTER KNOWS
 pub ring_known : ((r : RingView) → is_ring r ≡ true → IsRing r) → (r : RingView) → is_ring r ≡ true → AreTyped r → IsKnown (known_of r)
@@ -20,16 +19,14 @@ pub ring_timed : (r : RingView) → IsKnown (known_of r) → is_ring r ≡ true 
 unfolding is_ring are_ring_numbers
 ring_timed r known valid =
     let numbers : has_ring_numbers r ≡ true = (and_parts (has_ring_numbers r) _ valid).0 in
-    let after_rate = (and_parts (is_rate r.rate) _ numbers).1 in
-    let after_cycle = (and_parts (is_cycle r.cycle) _ after_rate).1 in
+    let after_cycle = (and_parts (is_cycle r.cycle) _ ((and_parts (is_rate r.rate) _ numbers).1)).1 in
     let after_control = (and_parts (is_control r.cycle r.control) _ after_cycle).1 in
-    let top : r.control ≤ 64000 = leb-true r.control 64000 (and_parts (nat_le r.control 64000) _ after_control).0 in
     record {
       cycle = (elim known.cycles.cycle [
         | inl e ↦ omega (arith, e)
-        | inr h ↦ let high = h.1 in omega (arith, high)
+        | inr h ↦ omega (arith, h.1)
       ]);
-      control = omega (arith, top);
+      control = omega (arith, leb-true r.control 64000 (and_parts (nat_le r.control 64000) _ after_control).0);
     }
 
 -- THE NUMBERS OF A PLAN, for one drive
@@ -45,28 +42,16 @@ fitting_words : (w : WishesView) (p : PlanView) (k : ℕ) → IsValid w → Fits
 fitting_words w p k valid fits = elim (cases_Bool (nat_lt k (length w.drives))) [
   | inl is ↦
       let n = has_numbers w p k valid fits (grind (arith, nat_tests, is)) in
-      let a = n.t1_t2 in
-      let b = n.t2_t3 in
-      let c = n.t3_end in
-      let d = n.cycle in
-      let e = n.record_end in
-      let f = n.mdt_len in
-      make (omega (arith, a, b, c, d)) (omega (arith, e, f))
+      make (omega (arith, n.t1_t2, n.t2_t3, n.t3_end, n.cycle)) (omega (arith, n.record_end, n.mdt_len))
   | inr is ↦
       let out : length w.drives ≤ k = grind (arith, nat_tests, is) in
-      let times = fits.times in
-      let places = fits.places in
-      let a : slice_index p.t1 k ≡ 0 = get_or_past p.t1 k 0 (omega (arith, out, times)) in
-      let b : slice_index p.position k ≡ 0 = get_or_past p.position k 0 (omega (arith, out, places)) in
-      make (omega (arith, a)) (omega (arith, b))
+      let b : slice_index p.position k ≡ 0 = get_or_past p.position k 0 (omega (arith, out, fits.places)) in
+      make (omega (arith, get_or_past p.t1 k 0 (omega (arith, out, fits.times)))) (omega (arith, b))
 ]
   where
-    some : 0 < length w.drives
-    some = valid.drives.some
-
     make : slice_index p.t1 k < 65536 → slice_index p.position k < 65536 → PlanWords p k
     make t1 position =
-        let n = has_numbers w p 0 valid fits some in
+        let n = has_numbers w p 0 valid fits valid.drives.some in
         let a = n.t2_t3 in
         let b = n.t3_end in
         let c = n.t4 in
@@ -75,11 +60,12 @@ fitting_words w p k valid fits = elim (cases_Bool (nat_lt k (length w.drives))) 
         record { t1 = t1; t2 = omega (arith, a, b, e); t3 = omega (arith, b, e); t4 = omega (arith, c, e); position = position; mdt_len = omega (arith, d) }
 
 planned_fits : (w : WishesView) (p : PlanView) → IsValid w → planned w ≡ Ok p → Fits w p
-planned_fits w p valid is = by (is_roomy w) refl is
-  where
-    by : (roomy : Bool) → is_roomy w ≡ roomy → (if roomy then Ok (least_plan w) else Err (chain_of w)) ≡ Ok p → Fits w p
-    by true roomy e = let same : least_plan w ≡ p = cc in subst (Fits w) same (least_fits w (least_plan w) valid (is_of_least w) (roomy_test w roomy))
-    by false roomy e = cc
+planned_fits w p valid is = elim (cases_Bool (is_roomy w)) [
+  | inl on ↦
+      let same : least_plan w ≡ p = (let is = rw on at is in cc) in
+      subst (Fits w) same (least_fits w (least_plan w) valid (is_of_least w) (roomy_test w on))
+  | inr off ↦ let is = rw off at is in cc
+]
 
 pub plan_words : (s : Known) (outs : ℕ → List Outcome) (p : PlanView) (k : ℕ) → IsKnown s → nat_le (record_bytes (wishes_given s outs).drives) 2047 ≡ true → planned (wishes_given s outs) ≡ Ok p → PlanWords p k
 plan_words s outs p k known fits is = let valid = is_valid s outs known fits in fitting_words (wishes_given s outs) p k valid (planned_fits (wishes_given s outs) p valid is)
@@ -92,13 +78,9 @@ both_some : (a b : Option Attribute) → is_some (option_or a b) ≡ true → (i
 both_some None b is = inr is
 both_some (Some x) b is = inl refl
 
-one_some : (o : Option Attribute) → is_some (option_and_then number_len o) ≡ true → is_some o ≡ true
-one_some None is = is
-one_some (Some x) is = refl
-
-row_some : (o : Option BuiltIn) → is_some (option_and_then (λ (row : BuiltIn). attribute_in row.attribute) o) ≡ true → is_some o ≡ true
-row_some None is = is
-row_some (Some x) is = refl
+some_first : {A B : Type 0} (f : A → Option B) (o : Option A) → is_some (option_and_then f o) ≡ true → is_some o ≡ true
+some_first f None is = is
+some_first f (Some x) is = refl
 
 block_some : (o : Option Block) → is_some (option_map (λ (b : Block). b.attribute) o) ≡ true → is_some o ≡ true
 block_some None is = is
@@ -107,27 +89,25 @@ block_some (Some x) is = refl
 row_low : (rows : List BuiltIn) (raw : ℕ) → list_all (λ (b : BuiltIn). nat_lt b.idn.raw 65536) rows ≡ true → is_some (row_in rows raw) ≡ true → raw < 65536
 unfolding row_in
 row_low [] raw low is = absurd (false≢true is)
-row_low (b ∷ rows) raw low is = let parts = and_parts (nat_lt b.idn.raw 65536) (list_all (λ (c : BuiltIn). nat_lt c.idn.raw 65536) rows) low in by (b.idn.raw == raw) refl parts.0 is (row_low rows raw parts.1)
-  where
-    by : (same : Bool) → (b.idn.raw == raw) ≡ same → nat_lt b.idn.raw 65536 ≡ true → is_some (if same then Some b else row_in rows raw) ≡ true → (is_some (row_in rows raw) ≡ true → raw < 65536) → raw < 65536
-    by true here low is rest = grind (arith, nat_tests, here, low)
-    by false here low is rest = rest is
+row_low (b ∷ rows) raw low is =
+    let parts = and_parts (nat_lt b.idn.raw 65536) (list_all (λ (c : BuiltIn). nat_lt c.idn.raw 65536) rows) low in
+    elim (cases_Bool (b.idn.raw == raw)) [
+      | inl here ↦ grind (arith, nat_tests, here, parts.0)
+      | inr here ↦ row_low rows raw parts.1 (rw here at is)
+    ]
 
 own_low : (blocks : List Block) (raw : ℕ) → list_all is_typed blocks ≡ true → is_some (find (λ (b : Block). b.idn.raw == raw) blocks) ≡ true → raw < 65536
 own_low [] raw typed is = absurd (false≢true is)
-own_low (b ∷ blocks) raw typed is = let parts = and_parts (is_typed b) (list_all is_typed blocks) typed in by (b.idn.raw == raw) refl (raw_typed b parts.0) is (own_low blocks raw parts.1)
-  where
-    by : (same : Bool) → (b.idn.raw == raw) ≡ same → b.idn.raw < 65536 → is_some (if same then Some b else find (λ (c : Block). c.idn.raw == raw) blocks) ≡ true → (is_some (find (λ (c : Block). c.idn.raw == raw) blocks) ≡ true → raw < 65536) → raw < 65536
-    by true here low is rest = grind (arith, nat_tests, here, low)
-    by false here low is rest = rest is
-
-built_ins_low : list_all (λ (b : BuiltIn). nat_lt b.idn.raw 65536) built_ins ≡ true
-built_ins_low = refl
+own_low (b ∷ blocks) raw typed is =
+    let parts = and_parts (is_typed b) (list_all is_typed blocks) typed in elim (cases_Bool (b.idn.raw == raw)) [
+      | inl here ↦ grind (arith, nat_tests, here, raw_typed b parts.0)
+      | inr here ↦ own_low blocks raw parts.1 (rw here at is)
+    ]
 
 cyclic_low : (blocks : List Block) (raw : ℕ) → list_all is_typed blocks ≡ true → is_cyclic blocks raw ≡ true → raw < 65536
 unfolding cyclic_len block_attribute built_in_attribute own_attribute
-cyclic_low blocks raw typed is = elim (both_some (built_in_attribute raw) (own_attribute blocks raw) (one_some _ is)) [
-  | inl first ↦ row_low built_ins raw built_ins_low (row_some (row_in built_ins raw) first)
+cyclic_low blocks raw typed is = elim (both_some (built_in_attribute raw) (own_attribute blocks raw) (some_first number_len _ is)) [
+  | inl first ↦ row_low built_ins raw refl (some_first (λ (row : BuiltIn). attribute_in row.attribute) (row_in built_ins raw) first)
   | inr second ↦ own_low blocks raw typed (block_some _ second)
 ]
 
@@ -146,10 +126,8 @@ pub record IsMember (d : MemberView) : Type 0 where
 one_member : (before : List DriveView) (d : DriveView) → is_drive before d ≡ true → IsTyped d → IsMember (member_of d)
 unfolding is_drive
 one_member before d is typed =
-    let after_address = (and_parts (not (has_address d.address before)) _ is).1 in
-    let after_numbers = (and_parts (has_drive_numbers d) _ after_address).1 in
-    let lists : (are_cyclic d.blocks d.at && are_cyclic d.blocks d.mdt) ≡ true = (and_parts (has_blocks d) _ after_numbers).1 in
-    let parts = and_parts (are_cyclic d.blocks d.at) (are_cyclic d.blocks d.mdt) lists in
+    let after_numbers = (and_parts (has_drive_numbers d) _ ((and_parts (not (has_address d.address before)) _ is).1)).1 in
+    let parts = and_parts (are_cyclic d.blocks d.at) (are_cyclic d.blocks d.mdt) ((and_parts (has_blocks d) _ after_numbers).1) in
     record { at = carried_low d.blocks d.at typed.blocks parts.0; mdt = carried_low d.blocks d.mdt typed.blocks parts.1; at_few = typed.at; mdt_few = typed.mdt }
 
 members : (before drives : List DriveView) (k : ℕ) → are_drives before drives ≡ true → ((i : ℕ) → i < length drives → IsTyped (slice_index_or drives i no_drive)) → IsMember (member_of (slice_index_or drives k no_drive))

@@ -1,5 +1,5 @@
 -- The records that a drive took: their elements and words fit, and their blocks are a store. So what they write are bytes.
-use Rattle.sercos_law_run.proofs.Words.{ℕ, zero, suc, ◌<◌, ◌==◌, Bool, true, false, not, ◌&&◌, List, [], ◌∷◌, drop, take, Option, Some, None, IfSome, option_map, if◌then◌else◌, cond_both, option_and_then, slice_index, beq, AreBytes, AreBytes-take, is_list, bytes_in, Block, find_block, Processed, Entry, ahs, accepted, open_idn, run_before, selection, in_order, reply_of, answered, log_of, Write, written_by, takes_effect, adds, added_on, IsRecord, AreRecords, bytes_written, cases_Bool, cases_Option, inl, inr}
+use Rattle.sercos_law_run.proofs.Words.{ℕ, zero, suc, ◌<◌, ◌==◌, Bool, true, not, ◌&&◌, List, [], ◌∷◌, drop, take, IfSome, cond_both, slice_index, beq, AreBytes, AreBytes-take, is_list, bytes_in, Block, find_block, Processed, Entry, ahs, accepted, open_idn, run_before, selection, in_order, reply_of, answered, log_of, takes_effect, added_on, IsRecord, AreRecords, bytes_written, cases_Bool, cases_Option, inl, inr}
 use Rattle.sercos_law_run.proofs.Typed.Words.{AreWords, bytes_of_words}
 
 abbrev pub AreEntries : List Entry → Type 0
@@ -15,16 +15,12 @@ pub answered_so : (h : List Processed) → AreRecords h → AreEntries (answered
 answered_so [] are = tt
 answered_so (t ∷ h) are = (are.0, answered_so h are.1)
 
-pub log_so : (h : List Processed) → AreRecords h → AreEntries (log_of h)
-log_so h are = answered_so (accepted h) (accepted_so h are)
-
 pub run_so : (write : Bool) (element : ℕ) (log : List Entry) → AreEntries log → AreRecords (run_before write element log)
 run_so write element [] are = tt
-run_so write element (e ∷ log) are = by (beq e.processed.step.write write && ((e.processed.step.element == element) && (not e.processed.step.last && not e.answer.error))) (run_so write element log are.1)
-  where
-    by : (goes_on : Bool) → AreRecords (run_before write element log) → AreRecords (if goes_on then e.processed ∷ run_before write element log else [])
-    by true rest = (are.0, rest)
-    by false rest = tt
+run_so write element (e ∷ log) are = elim (cases_Bool (beq e.processed.step.write write && ((e.processed.step.element == element) && (not e.processed.step.last && not e.answer.error)))) [
+  | inl on ↦ rw on (are.0, (run_so write element log are.1))
+  | inr off ↦ rw off tt
+]
 
 -- the selection of a run is one of it
 pub selection_so : (t : Processed) (run : List Processed) → IsRecord t → AreRecords run → IsRecord (selection t run)
@@ -51,17 +47,15 @@ bytes_so b words are = cond_both (is_list b.attribute.length) (take (slice_index
 pub added_bytes : (t : Processed) (h : List Processed) → t.step.word < 65536 → AreRecords h → IfSome (added_on t h) (λ w. AreBytes w.bytes)
 added_bytes t h fits are = elim (cases_Bool (beq t.mhs (ahs h))) [
   | inl on ↦ rw on tt
-  | inr off ↦ rw off (effect (takes_effect (record { processed = t; answer = reply_of t (log_of h) })))
-]
-  where
-    found : (raw : ℕ) (o : Option Block) → IfSome {T = Write} (option_map (λ (b : Block). record { cycle = t.cycle; raw = raw; bytes = bytes_written b (in_order (run_before true 7 (log_of h)) (t.step.word ∷ [])) }) o) (λ w. AreBytes w.bytes)
-    found raw None = tt
-    found raw (Some b) = bytes_so b _ (in_order_so (run_before true 7 (log_of h)) (t.step.word ∷ [])
-        (run_so true 7 (log_of h) (log_so h are)) (fits, tt))
-
-    effect : (b : Bool) → IfSome (if b then option_and_then (written_by t (run_before true 7 (log_of h))) (open_idn (log_of h)) else None) (λ w. AreBytes w.bytes)
-    effect true = elim (cases_Option (open_idn (log_of h))) [
+  | inr off ↦ rw off (elim (cases_Bool (takes_effect (record { processed = t; answer = reply_of t (log_of h) }))) [
+    | inl on ↦ rw on (elim (cases_Option (open_idn (log_of h))) [
       | inl none ↦ rw none tt
-      | inr (raw, some) ↦ rw some (found raw (find_block raw t.blocks))
-    ]
-    effect false = tt
+      | inr (raw, some) ↦ rw some (elim (cases_Option (find_block raw t.blocks)) [
+        | inl none ↦ rw none tt
+        | inr some ↦ rw some.1 (bytes_so some.0 _ (in_order_so (run_before true 7 (log_of h)) (t.step.word ∷ [])
+            (run_so true 7 (log_of h) (answered_so (accepted h) (accepted_so h are))) (fits, tt)))
+      ])
+    ])
+    | inr off ↦ rw off tt
+  ])
+]

@@ -1,5 +1,5 @@
 -- What a drive replies, and so what it shows, are words.
-use Rattle.sercos_law_run.proofs.Words.{sym, ◌≡◌, ℕ, ◌+◌, ◌*◌, ◌%◌, ◌<◌, ◌≤◌, ◌==◌, nat_le, Bool, true, false, ◌&&◌, ◌||◌, List, [], ◌∷◌, length, Option, Some, None, IfSome, is_none, is_some, option_map, unwrap_or, refl, arith, if◌then◌else◌, slice_index, ◌-◌, w32, to_le_bytes, then_some, option_or, list_all, and_parts, cond_both, nat_tests, attribute_word, Length, Two, Four, List1, List2, List4, Attribute, is_list, words_of, Block, width_of, bytes_for, bits_in, number_end, is_fixed, is_protected, is_text, is_printable, find_block, read_fault, is_below, is_above, IsStore, is_sound, SoundParts, SoundParts-is_sound, found_sound, max_len_bound, fits-is_len, types, SetCommand, has_ended, status_by, setting_of, CommandHistory, status_in, change_in, Processed, Entry, accepted, ahs, opens, open_idn, run_before, selection, in_order, good, refused, answer_by, list_words, copy, read_cause, write_cause_in, is_first_word, ends_early, is_over, is_uneven, is_no_command_value, bytes_written, reply_on, reply_at, reply_of, answered, Shown, shown, channel_says, IsRecord, AreRecords, two_bytes, four_bytes, printable_bytes, AreBytes, element_of, data_in, element_words, write_cause, cases_Bool, inl, inr}
+use Rattle.sercos_law_run.proofs.Words.{cases_Option, sym, ◌≡◌, ℕ, ◌+◌, ◌*◌, ◌%◌, ◌<◌, ◌≤◌, ◌==◌, nat_le, Bool, true, false, ◌&&◌, ◌||◌, List, [], ◌∷◌, length, Option, Some, None, IfSome, is_none, is_some, option_map, unwrap_or, refl, arith, if◌then◌else◌, ◌-◌, w32, to_le_bytes, then_some, option_or, list_all, and_parts, cond_both, nat_tests, attribute_word, Length, Two, Four, List1, List2, List4, Attribute, is_list, words_of, Block, width_of, bytes_for, bits_in, number_end, is_fixed, is_protected, is_text, is_printable, find_block, read_fault, is_below, is_above, IsStore, is_sound, SoundParts, SoundParts-is_sound, found_sound, max_len_bound, fits-is_len, types, SetCommand, has_ended, status_by, setting_of, CommandHistory, change_in, Processed, Entry, accepted, ahs, opens, open_idn, run_before, selection, in_order, good, refused, answer_by, list_words, copy, read_cause, write_cause_in, is_first_word, ends_early, is_over, is_uneven, is_no_command_value, bytes_written, reply_on, reply_at, reply_of, answered, Shown, shown, channel_says, IsRecord, AreRecords, two_bytes, four_bytes, printable_bytes, AreBytes, element_of, data_in, element_words, write_cause, cases_Bool, inl, inr, slice_index}
 use Rattle.sercos_law_run.proofs.Typed.Words.{AreWords, word_of, words_of_bytes}
 use Rattle.sercos_law_run.proofs.Typed.Records.{AreEntries, accepted_so, answered_so, run_so, selection_so}
 
@@ -28,10 +28,6 @@ write_code b phase last words =
     (first_code _ _ (code_if (is_uneven b words || is_no_command_value b last words) 0x7008 (omega arith))
     (first_code _ _ (code_if (last && is_below b (bytes_written b words) b.min) 0x7006 (omega arith)) (code_if (last && is_above b (bytes_written b words) b.max) 0x7007 (omega arith)))))))
 
-write_code_in : (o : Option Block) (phase : ℕ) (last : Bool) (words : List ℕ) → IsCode (write_cause_in o phase last words)
-write_code_in None phase last words = omega arith
-write_code_in (Some b) phase last words = write_code b phase last words
-
 -- READING
 list_so : (longest : ℕ) (bytes : List ℕ) → longest < 65536 → length bytes < 65536 → AreBytes bytes → AreWords (list_words longest bytes)
 list_so longest bytes top fits are = (fits, (top, words_of_bytes bytes are))
@@ -40,10 +36,8 @@ text_words : (most : ℕ) (text : Option (List ℕ)) → most < 65536 → is_tex
 unfolding AreBytes
 text_words most None low is = list_so most [] low (omega arith) tt
 text_words most (Some text) low is =
-    let rest = (and_parts (nat_le 1 (length text)) _ is).1 in
-    let parts = and_parts (nat_le (length text) most) (list_all is_printable text) rest in
-    let short = parts.0 in
-    list_so most text low (grind (arith, nat_tests, short, low)) (printable_bytes text parts.1)
+    let parts = and_parts (nat_le (length text) most) (list_all is_printable text) ((and_parts (nat_le 1 (length text)) _ is).1) in
+    list_so most text low (grind (arith, nat_tests, parts.0, low)) (printable_bytes text parts.1)
 
 number_bytes : (a : Attribute) (n : ℕ) → AreBytes (bytes_for a n)
 number_bytes a n = by a.length
@@ -92,8 +86,8 @@ element_so e cycle b sound most are = by (e == 2) (e == 3) (e == 4) (e == 5) (e 
     by false false true five six seven = text_words 12 b.unit (omega arith) parts.unit
     by false true true five six seven = list_so 12 _ (omega arith) (omega arith) (four_bytes (attribute_word b.attribute))
     by false three false five six true = elim (cases_Bool (is_list b.attribute.length)) [
-      | inl on ↦ rw on (let s = fits-is_len b (length b.value) sound parts.len in list_so b.max_len b.value (omega (arith, most))
-          (omega (arith, s)) are)
+      | inl on ↦ rw on (list_so b.max_len b.value (omega (arith, most))
+          (omega (arith, fits-is_len b (length b.value) sound parts.len)) are)
       | inr off ↦ rw off (words_of_bytes (data_in cycle b) (data_bytes cycle b are))
     ]
     by false true false five six false = words_of_bytes _ (four_bytes (attribute_word b.attribute))
@@ -107,12 +101,10 @@ found_so raw e cycle blocks (Some b) store is = element_so e cycle b (found_soun
 
 status_small : (time : ℕ) (o : Option SetCommand) (cycle : ℕ) → status_by time o cycle < 65536
 status_small time None cycle = omega arith
-status_small time (Some s) cycle = by (has_ended time cycle s) s.well
-  where
-    by : (ended well : Bool) → (if ended then (if well then 3 else 15) else 7) < 65536
-    by true true = omega arith
-    by true false = omega arith
-    by false well = omega arith
+status_small time (Some s) cycle = elim (cases_Bool (has_ended time cycle s)) [
+  | inl on ↦ elim (cases_Bool s.well) [ inl well ↦ rw (on, well) (omega arith) | inr off ↦ rw (on, off) (omega arith) ]
+  | inr off ↦ rw off (omega arith)
+]
 
 copy_so : (raw : ℕ) (t : Processed) → IsRecord t → AreWords (copy raw t)
 copy_so raw t is = elim (cases_Bool (t.step.element == 1)) [
@@ -133,8 +125,11 @@ reply_so : (raw : ℕ) (t : Processed) (run : List Processed) → IsRecord t →
 reply_so raw t run is are = by t.step.write
   where
     to_write : (seven : Bool) → IsCode (if seven then write_cause_in (find_block raw t.blocks) t.phase t.step.last (in_order run (t.step.word ∷ [])) else Some (0x1000 * t.step.element + 4))
-    to_write true = write_code_in (find_block raw t.blocks) t.phase t.step.last (in_order run (t.step.word ∷ []))
-    to_write false = let low = is.element in omega (arith, low)
+    to_write true = elim (cases_Option (find_block raw t.blocks)) [
+      | inl none ↦ rw none (omega arith)
+      | inr some ↦ rw some.1 (write_code some.0 t.phase t.step.last (in_order run (t.step.word ∷ [])))
+    ]
+    to_write false = omega (arith, is.element)
 
     by : (write : Bool) → (if write then answer_by (if t.step.element == 7 then write_cause_in (find_block raw t.blocks) t.phase t.step.last (in_order run (t.step.word ∷ [])) else Some (0x1000 * t.step.element + 4)) 0
         else answer_by (read_cause raw (selection t run)) (slice_index (copy raw (selection t run)) (length run))).word < 65536
@@ -157,13 +152,10 @@ reply_word t log is are = by (opens t.step) (is_some (find_block t.step.word t.b
     by false there false = on (open_idn log)
 
 -- WHAT IS SHOWN
-either : (b : Bool) (x y : Shown) → x.word < 65536 → y.word < 65536 → (if b then x else y).word < 65536
-either true x y low other = low
-either false x y low other = other
-
 pub shows_word : (busy cycle : ℕ) (commands : CommandHistory) (h : List Processed) → AreRecords h → (channel_says busy cycle commands h).word < 65536
 shows_word busy cycle commands h are = by (accepted h) (accepted_so h are)
   where
     by : (a : List Processed) → AreRecords a → (shown busy cycle (ahs h) (change_in commands cycle) (answered a)).word < 65536
     by [] are = omega arith
-    by (t ∷ a) are = either (nat_le (cycle - t.cycle) busy) _ _ (omega arith) (reply_word t (answered a) are.0 (answered_so a are.1))
+    by (t ∷ a) are = cond_both (nat_le (cycle - t.cycle) busy) _ _ (λ (s : Shown). s.word < 65536) (λ on. omega arith)
+        (λ off. reply_word t (answered a) are.0 (answered_so a are.1))

@@ -1,9 +1,6 @@
 -- The steps of a typed request fit into a record.
-use Rattle.sercos_law_run.proofs.Words.{ℕ, zero, suc, ◌+◌, ◌*◌, ◌<◌, ◌==◌, Bool, true, false, List, [], ◌∷◌, length, replicate, drop, None, arith, if◌then◌else◌, cond_both, slice_get, is_some, AreBytes, Step, Shape, Request, words_of, words_told, at_least_one, shape_of, words_in_list, a_step, run, reading, writing, attribute_then, asks_attribute, polling, steps_of, outcome_of, next_step, answer_words, Begun, step_or_none, master_says, IsSayable, IsTypedRequest, cases_Bool, inl, inr}
-use Rattle.sercos_step.specs.declared.shape.Shape.TheVariants as shape
-use Rattle.sercos_step.specs.declared.request.Request.TheVariants as request
+use Rattle.sercos_law_run.proofs.Words.{ℕ, zero, suc, ◌+◌, ◌*◌, ◌<◌, ◌==◌, Bool, true, false, List, [], ◌∷◌, length, replicate, drop, None, arith, cond_both, slice_get, is_some, AreBytes, Step, Shape, Request, words_of, words_told, at_least_one, shape_of, words_in_list, run, reading, writing, attribute_then, asks_attribute, polling, steps_of, outcome_of, next_step, answer_words, Begun, step_or_none, master_says, IsSayable, IsTypedRequest, cases_Bool, inl, inr, AllByRecursion, if◌then◌else◌}
 use Rattle.sercos_law_run.proofs.Typed.Words.{AreWords, words_of_bytes}
-use Rattle.std.specs.List.{AllByRecursion}
 
 -- the element and the word of a step fit into a record
 abbrev pub IsStep : Step → Type 0
@@ -27,19 +24,19 @@ zeros zero = tt
 zeros (suc n) = (omega arith, zeros n)
 
 reading_steps : (s : Shape) (e : ℕ) (words : List ℕ) → e < 8 → AreSteps (reading s e words)
-reading_steps shape.One e words low = run_steps false e (0 ∷ []) low (omega arith, tt)
-reading_steps shape.Two e words low = run_steps false e (0 ∷ 0 ∷ []) low (omega arith, (omega arith, tt))
-reading_steps shape.List e [] low = ((low, omega arith), tt)
-reading_steps shape.List e (actual ∷ words) low = run_steps false e (replicate (words_in_list actual) 0) low (zeros (words_in_list actual))
+reading_steps Shape.One e words low = run_steps false e (0 ∷ []) low (omega arith, tt)
+reading_steps Shape.Two e words low = run_steps false e (0 ∷ 0 ∷ []) low (omega arith, (omega arith, tt))
+reading_steps Shape.List e [] low = ((low, omega arith), tt)
+reading_steps Shape.List e (actual ∷ words) low = run_steps false e (replicate (words_in_list actual) 0) low (zeros (words_in_list actual))
 
 one_or_more : (words : List ℕ) → AreWords words → AreWords (at_least_one words)
 one_or_more [] are = (omega arith, tt)
 one_or_more (word ∷ words) are = are
 
 told : (s : Shape) (bytes : List ℕ) → AreBytes bytes → length bytes < 65536 → AreWords (words_told s bytes)
-told shape.One bytes are fits = one_or_more (words_of bytes) (words_of_bytes bytes are)
-told shape.Two bytes are fits = one_or_more (words_of bytes) (words_of_bytes bytes are)
-told shape.List bytes are fits = (fits, (omega arith, words_of_bytes bytes are))
+told Shape.One bytes are fits = one_or_more (words_of bytes) (words_of_bytes bytes are)
+told Shape.Two bytes are fits = one_or_more (words_of bytes) (words_of_bytes bytes are)
+told Shape.List bytes are fits = (fits, (omega arith, words_of_bytes bytes are))
 
 writing_steps : (s : Shape) (e : ℕ) (bytes : List ℕ) → e < 8 → AreBytes bytes → length bytes < 65536 → AreSteps (writing s e bytes)
 writing_steps s e bytes low are fits = run_steps true e (words_told s bytes) low (told s bytes are fits)
@@ -60,23 +57,20 @@ polls (status ∷ words) = (
 )
 
 all_steps : (r : Request) (words : List ℕ) → IsTypedRequest r → AreSteps (steps_of r words)
-all_steps (request.Read idn e) words typed = ((omega arith, typed.0), by (asks_attribute e))
+all_steps (Request.Read idn e) words typed =
+    let low : e < 8 = omega (arith, typed.1.1) in (
+      (omega arith, typed.0),
+      elim (cases_Bool (asks_attribute e)) [
+        | inl on ↦ rw on (attribute_steps (λ attribute after. reading (shape_of e attribute) e after) (drop 1 words) (λ attribute after. reading_steps (shape_of e attribute) e after low))
+        | inr off ↦ rw off (reading_steps (shape_of e 0) e (drop 1 words) low)
+      ],
+    )
+all_steps (Request.Write idn e bytes) words typed = ((omega arith, typed.0), by (e == 7))
   where
-    low : e < 8
-    low = let most = typed.1.1 in omega (arith, most)
-
-    by : (asks : Bool) → AreSteps (if asks then attribute_then (λ attribute after. reading (shape_of e attribute) e after) (drop 1 words) else reading (shape_of e 0) e (drop 1 words))
-    by true = attribute_steps (λ attribute after. reading (shape_of e attribute) e after) (drop 1 words) (λ attribute after. reading_steps (shape_of e attribute) e after low)
-    by false = reading_steps (shape_of e 0) e (drop 1 words) low
-all_steps (request.Write idn e bytes) words typed = ((omega arith, typed.0), by (e == 7))
-  where
-    low : e < 8
-    low = let most = typed.1.1 in omega (arith, most)
-
     by : (asks : Bool) → AreSteps (if asks then attribute_then (λ attribute after. writing (shape_of 7 attribute) 7 bytes) (drop 1 words) else writing (shape_of e 0) e bytes)
     by true = attribute_steps (λ attribute after. writing (shape_of 7 attribute) 7 bytes) (drop 1 words) (λ attribute after. writing_steps (shape_of 7 attribute) 7 bytes (omega arith) typed.2 typed.3)
-    by false = writing_steps (shape_of e 0) e bytes low typed.2 typed.3
-all_steps (request.Command idn) words typed = ((omega arith, typed), ((omega arith, omega arith), polls (drop 2 words)))
+    by false = writing_steps (shape_of e 0) e bytes (omega (arith, typed.1.1)) typed.2 typed.3
+all_steps (Request.Command idn) words typed = ((omega arith, typed), ((omega arith, omega arith), polls (drop 2 words)))
 
 -- each request that was begun is typed
 abbrev pub AreBegun : List Begun → Type 0

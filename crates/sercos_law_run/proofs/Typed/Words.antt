@@ -31,5 +31,4 @@ pub read_word : (content : List ℕ) (place : ℕ) → AreBytes content → word
 unfolding word_at
 read_word content place are =
     let a : slice_index content place < 256 = AreBytes-get_or content place are in
-    let b : slice_index content (place + 1) < 256 = AreBytes-get_or content (place + 1) are in
-    omega (arith, a, b)
+    let b : slice_index content (place + 1) < 256 = AreBytes-get_or content (place + 1) are in omega (arith, a, b)

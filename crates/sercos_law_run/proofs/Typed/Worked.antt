@@ -1,7 +1,5 @@
 -- A typed ring with typed jobs: what the law asks can be met.
-use Rattle.sercos_law_run.proofs.Words.{◌≡◌, zero, suc, true, false, List, [], ◌∷◌, None, refl, arith, All-from_recursion, Job, Block, DriveView, RingView, IsTypedRequest, AreTyped, AreTypedJobs, AreBytes, attribute_fault, attribute_of, is_rate, is_cycle, is_control, blocks_fault, block_fault, is_ring, are_ring_numbers, has_drives, are_drives, is_drive, has_address, are_drive_numbers, are_times, has_blocks, are_cyclic, block_attribute, built_in_attribute, row_in, own_attribute, attribute_in, mdt_len, listed_len, is_order, are_turns, is_turn, is_typed}
-use Rattle.sercos_step.specs.declared.request.Request.TheVariants as request
-use Rattle.sercos_block.specs.Rings.{cyclic_len}
+use Rattle.sercos_law_run.proofs.Words.{◌≡◌, zero, suc, true, false, List, [], ◌∷◌, None, refl, arith, All-from_recursion, Job, Block, DriveView, RingView, IsTypedRequest, AreTyped, AreTypedJobs, AreBytes, attribute_fault, attribute_of, is_rate, is_cycle, is_control, blocks_fault, block_fault, is_ring, are_ring_numbers, has_drives, are_drives, is_drive, has_address, are_drive_numbers, are_times, has_blocks, are_cyclic, block_attribute, built_in_attribute, row_in, own_attribute, attribute_in, mdt_len, listed_len, is_order, are_turns, is_turn, is_typed, Request, cyclic_len}
 
 -- one drive, whose telegrams carry its one number
 abbrev speed : Block
@@ -47,13 +45,13 @@ are_typed (suc k) below = absurd (omega (arith, below))
 
 -- a write of the number, and a read of its attribute
 abbrev jobs : List Job
-jobs = (record { drive = 1; request = request.Write (record { raw = 40 }) 7 (3 ∷ 0 ∷ []) }) ∷ (record { drive = 1; request = request.Read (record { raw = 40 }) 3 }) ∷ []
+jobs = (record { drive = 1; request = Request.Write (record { raw = 40 }) 7 (3 ∷ 0 ∷ []) }) ∷ (record { drive = 1; request = Request.Read (record { raw = 40 }) 3 }) ∷ []
 
-write_typed : IsTypedRequest (request.Write (record { raw = 40 }) 7 (3 ∷ 0 ∷ []))
+write_typed : IsTypedRequest (Request.Write (record { raw = 40 }) 7 (3 ∷ 0 ∷ []))
 unfolding AreBytes
 write_typed = (omega arith, (omega arith, omega arith), (omega arith, (omega arith, tt)), omega arith)
 
-read_typed : IsTypedRequest (request.Read (record { raw = 40 }) 3)
+read_typed : IsTypedRequest (Request.Read (record { raw = 40 }) 3)
 read_typed = (omega arith, (omega arith, omega arith))
 
 jobs_typed : AreTypedJobs jobs

@@ -1,5 +1,5 @@
 -- In an undisturbed epoch answers come in time, and no request is broken.
-use Rattle.sercos_law_run.proofs.Words.{◌≡◌, ◌⊎◌, inl, inr, ℕ, ◌+◌, ◌<◌, ◌≤◌, Bool, true, false, if◌then◌else◌, List, [], ◌∷◌, ◌++◌, length, Option, Some, None, refl, ap, ◌∙◌, subst, arith, or_parts, is_some, Job, Code, Request, Outcome, Answer, answer_words, is_whole, outcome_of, RingView, Begun, answers_it, begun_by, CycleView, EventsView, Fall, Known, Task, known_of, Report, Past, Call, fall_of, broken, events_told, Carry, Restarts, Heard, View, epoch_begun, AreClean, nothing_old, age_in, drive_at, no_events, master_calls, restart_events, IsRun, IsClear, IsReportOf, with_told, told_at_end, HasOutcome, HasReport, behind_mdt, view_of, views_of, IsOpened, KeepsAll, AreUndisturbed, IsUndisturbed, StartsEpoch, views_since, TellsNoFall, ages_in_time, answers_at_age, stays_clean}
+use Rattle.sercos_law_run.proofs.Words.{◌≡◌, ◌⊎◌, inl, inr, ℕ, ◌+◌, ◌<◌, ◌≤◌, Bool, true, false, if◌then◌else◌, List, [], ◌∷◌, ◌++◌, length, Option, Some, None, refl, ap, ◌∙◌, subst, arith, or_parts, is_some, Job, Request, Outcome, Answer, answer_words, is_whole, outcome_of, RingView, Begun, answers_it, begun_by, CycleView, EventsView, Fall, Known, Task, known_of, Report, Past, fall_of, broken, events_told, Carry, Restarts, Heard, View, epoch_begun, AreClean, nothing_old, age_in, drive_at, no_events, master_calls, restart_events, IsRun, IsClear, IsReportOf, with_told, told_at_end, HasOutcome, HasReport, behind_mdt, view_of, views_of, IsOpened, KeepsAll, AreUndisturbed, IsUndisturbed, StartsEpoch, views_since, TellsNoFall, ages_in_time, answers_at_age, stays_clean}
 use Rattle.sercos_step.specs.declared.request.Outcome.TheVariants as outcome
 use Rattle.sercos_law_run.proofs.Views.Members.{members_count}
 use Rattle.sercos_law_run.proofs.Headline.HeadlineRuns.{keeps_all}
@@ -7,24 +7,16 @@ use Rattle.sercos_law_run.proofs.Undisturbed.Checks.PassedCycles.{views_split}
 use Rattle.sercos_law_run.proofs.Undisturbed.NeverFalls.{begins_so, runs_split, never_falls}
 use Rattle.sercos_law_run.proofs.Undisturbed.Arriving.Comes.{none_below}
 
-young_so : (age same first most : ℕ) → age ≡ same → same ≤ first + most → first ≡ 0 → age ≤ most
-young_so age same first most is young none = omega (arith, is, young, none)
-
 -- no answers end a request as broken
 unbroken_by : (error whole : Bool) (refused complete : Outcome) → (refused ≡ outcome.Broken → ⊥) → (complete ≡ outcome.Broken → ⊥) → (if error then Some refused else (if whole then Some complete else None)) ≡ Some outcome.Broken → ⊥
 unbroken_by true whole refused complete no_refused no_complete is = let same : refused ≡ outcome.Broken = cc in no_refused same
 unbroken_by false true refused complete no_refused no_complete is = let same : complete ≡ outcome.Broken = cc in no_complete same
 unbroken_by false false refused complete no_refused no_complete is = cc
 
-never_refused : (c : Code) → outcome.Refused c ≡ outcome.Broken → ⊥
-never_refused c same = cc
-
-never_complete : (bytes : List ℕ) → outcome.Complete bytes ≡ outcome.Broken → ⊥
-never_complete bytes same = cc
-
 pub outcome_unbroken : (q : Request) (answers : List Answer) → outcome_of q answers ≡ Some outcome.Broken → ⊥
 outcome_unbroken q [] is = cc
-outcome_unbroken q (a ∷ answers) is = unbroken_by a.error (is_whole q (answer_words answers ++ a.word ∷ [])) _ _ (never_refused _) (never_complete _) is
+outcome_unbroken q (a ∷ answers) is = unbroken_by a.error (is_whole q (answer_words answers ++ a.word ∷ [])) _ _ (λ same. cc)
+    (λ same. cc) is
 
 not_broken : (x : Report) (begun : List Begun) (tasks : List Task) → x.outcome ≡ outcome.Broken → IsReportOf x begun tasks → ⊥
 not_broken x (b ∷ older) (t ∷ tasks) is (inl same) = outcome_unbroken b.request b.answers (same.1 ∙ ap (λ (o : Outcome). Some o) is)
@@ -34,9 +26,6 @@ not_broken x (b ∷ older) [] is report = report
 
 no_fall_told : (s : Known) (p : Past) (e : EventsView) → fall_of s p ≡ None → e.fall ≡ None → (events_told s p e).fall ≡ None
 no_fall_told s p e none before = rw (none, before) refl
-
-quiet_so : (r : RingView) (jobs : List Job) (restarts : Restarts) (cycle : ℕ) (h : List Call) → restarts cycle 0 ≡ false → restart_events r jobs restarts cycle h ≡ no_events
-quiet_so r jobs restarts cycle h stays = rw stays refl
 
 -- A CYCLE IN WHICH THE MASTER DOESN'T RESTART and at whose end the ring doesn't fall: its record has no fall, and no outcome of a broken
 -- request.
@@ -48,7 +37,7 @@ module _ (r : RingView) (jobs : List Job) (carry : Carry) (restarts : Restarts) 
   }
     where
       quiet : restart_events r jobs restarts (length j) (master_calls r carry restarts j) ≡ no_events
-      quiet = quiet_so r jobs restarts (length j) (master_calls r carry restarts j) goes_on
+      quiet = rw goes_on refl
 
       keeps : KeepsAll r jobs carry restarts t j
       keeps = keeps_all r jobs carry restarts opened t j run clear
@@ -89,7 +78,7 @@ module _ (r : RingView) (jobs : List Job) (carry : Carry) (restarts : Restarts) 
       let none = nothing_old (drive_at r k).busy (views_of r jobs carry restarts k before) begins.0 begins.1 in
       let young = ages_in_time (drive_at r k).busy (view_of r jobs carry restarts k t (cycles ++ before)) (views_since r jobs carry restarts k cycles before) (views_of r jobs carry restarts k before)
       (runs_split r jobs carry restarts opened (t ∷ cycles) before run clear k below) (clean_so (t ∷ cycles) before run clear starts calm k below) in
-      young_so _ _ _ _ (ap (λ (l : List View). age_in l) (views_split r jobs carry restarts k (t ∷ cycles) before)) young none
+      (omega (arith, (ap (λ (l : List View). age_in l) (views_split r jobs carry restarts k (t ∷ cycles) before)), young, none))
 
   -- .. and an answer comes exactly then.
   pub answers_undisturbed : (t : CycleView) (cycles before : List CycleView) → IsRun r jobs carry restarts (t ∷ (cycles ++ before))

@@ -1,5 +1,5 @@
 -- Behind requests that have ended whatever comes is begun after them.
-use Rattle.sercos_law_run.proofs.Words.{◌≡◌, Bool, true, false, if◌then◌else◌, List, [], ◌∷◌, ◌++◌, Option, Some, None, refl, sym, ap, subst, is_none, Request, Step, Begun, open_in, answers_it, answer_in, with_answer, Heard, View, with_heard, with_begun, epoch_begun, begun_in, AreWhole, GoesOn, inl, inr, cases_Bool}
+use Rattle.sercos_law_run.proofs.Words.{◌≡◌, Bool, true, false, if◌then◌else◌, List, [], ◌∷◌, ◌++◌, Option, Some, None, refl, sym, ap, subst, is_none, Request, Step, Begun, open_in, answers_it, answer_in, Heard, View, with_heard, with_begun, epoch_begun, begun_in, GoesOn, inl, inr, cases_Bool}
 use Rattle.sercos_law_run.proofs.Agenda.OneTurn.{idle_hears}
 
 -- these requests were begun first, and the recent ones after them
@@ -10,8 +10,8 @@ heard_behind : (o : Option Heard) (recent old : List Begun) → open_in old ≡ 
 heard_behind None recent old rests = (recent, refl)
 heard_behind (Some a) [] old rests = ([], idle_hears a.status a.word old (ap (λ (x : Option Step). is_none x) rests))
 heard_behind (Some a) (b ∷ recent) old rests = elim (cases_Bool (answers_it (b ∷ (recent ++ old)) a.status)) [
-  | inl on ↦ rw on ((record b { answers = answer_in a.status a.word ∷ b.answers } ∷ recent, refl))
-  | inr off ↦ rw off ((b ∷ recent, refl))
+  | inl on ↦ rw on (record b { answers = answer_in a.status a.word ∷ b.answers } ∷ recent, refl)
+  | inr off ↦ rw off (b ∷ recent, refl)
 ]
 
 begun_behind : (o : Option Request) (old now : List Begun) → Follow old now → Follow old (with_begun o now)
@@ -30,17 +30,7 @@ follow_in v past old stays rests (recent, is) = by v.master_restarts stays
 pub follow_on : (cycles past : List View) (old : List Begun) → GoesOn cycles → open_in old ≡ None → Follow old (epoch_begun past)
     → Follow old (epoch_begun (cycles ++ past))
 follow_on [] past old goes rests is = is
-follow_on (v ∷ cycles) past old goes rests is = by v.falls goes.1 (follow_in v (cycles ++ past) old goes.2 rests
-    (follow_on cycles past old goes.0 rests is))
-  where
-    by : (b : Bool) → b ≡ false → Follow old (begun_in v (cycles ++ past)) → Follow old (if b then [] else begun_in v (cycles ++ past))
-    by true on follow = absurd (cc)
-    by false off follow = follow
-
-whole_goes_on : (cycles past : List View) → AreWhole cycles past → GoesOn cycles
-whole_goes_on [] past whole = tt
-whole_goes_on (v ∷ cycles) past whole = (whole_goes_on cycles past whole.0, whole.1.stays, whole.1.master)
-
-pub follow_since : (cycles past : List View) (old : List Begun) → AreWhole cycles past → open_in old ≡ None
-    → Follow old (epoch_begun past) → Follow old (epoch_begun (cycles ++ past))
-follow_since cycles past old whole rests is = follow_on cycles past old (whole_goes_on cycles past whole) rests is
+follow_on (v ∷ cycles) past old goes rests is = elim (cases_Bool v.falls) [
+  | inl on ↦ let on = rw on at goes.1 in absurd (cc)
+  | inr off ↦ rw off (follow_in v (cycles ++ past) old goes.2 rests (follow_on cycles past old goes.0 rests is))
+]

@@ -1,5 +1,5 @@
 -- The calls of a master's channel are those that the views of its cycles give.
-use Rattle.sercos_law_run.proofs.Words.{◌≡◌, ℕ, ◌+◌, ◌<◌, ◌≤◌, ◌||◌, Bool, true, false, ◌&&◌, List, [], ◌∷◌, length, Option, Some, None, refl, sym, ◌∙◌, ap, ap₂, subst, arith, if◌then◌else◌, ◌==◌, nat_le, is_some, nat_tests, Job, RingView, master_says, Send, EndCycle, begun_by, PlanView, is_place, Known, Task, known_of, Past, settled, with_begin, is_sent_to, addressed_in, ready_to_send, after_mdt, fall_of, new_epoch, still_waiting, goes_on, next_phase, leaves, CycleView, Carry, Restarts, unless_restart, calls_heard, calls_begun, calls_sent, calls_in, channel_calls, ats_in, master_calls, looks_back, IsRun, IsClear, at_start, behind_mst, behind_ats, behind_mdt, heard_last, is_told, told_to, request_of, view_of, views_of, IsOpened, inl, inr, cases_Bool}
+use Rattle.sercos_law_run.proofs.Words.{◌≡◌, ℕ, ◌<◌, ◌≤◌, ◌||◌, Bool, true, false, ◌&&◌, List, [], ◌∷◌, length, Option, Some, None, refl, sym, ◌∙◌, ap, ap₂, subst, arith, if◌then◌else◌, ◌==◌, nat_le, is_some, nat_tests, Job, RingView, Send, EndCycle, PlanView, is_place, Known, Task, known_of, Past, settled, with_begin, addressed_in, ready_to_send, after_mdt, fall_of, leaves, CycleView, Carry, Restarts, unless_restart, calls_heard, calls_begun, calls_sent, calls_in, channel_calls, ats_in, master_calls, looks_back, IsRun, IsClear, at_start, behind_mst, behind_ats, behind_mdt, heard_last, is_told, told_to, request_of, view_of, views_of, IsOpened, inl, inr, cases_Bool}
 use Rattle.sercos_service_master.specs.Calls as channel
 use Rattle.sercos_master.specs.Annals.{begins}
 use Rattle.sercos_law_run.proofs.Views.MasterSame.{begun_cycle, HasHeard, Nothing, One, AfterAts, ats_none, turn_mdt, same_started}
@@ -19,36 +19,28 @@ begun_calls : (o : Option Task) (c : List channel.Call) → calls_begun (request
 begun_calls None c = refl
 begun_calls (Some t) c = refl
 
--- The drive is told of a record in the cycles of phases 2 to 4 in which its channel sends one. There is a plan in phases 3 and 4.
-some_told : (p : Past) (k : ℕ) → is_some (told_to p k) ≡ is_told p k
-some_told p k = elim (cases_Bool (is_told p k)) [ inl on ↦ rw on | inr off ↦ rw off ]
-
 sends_same : (n : ℕ) (plan to : Bool) → (3 ≤ n → plan ≡ true) → (nat_le 2 n && ((nat_le 3 n && plan) || to)) ≡ (nat_le 3 n || ((n == 2) && to))
 sends_same n plan to planned = by (nat_le 3 n) (n == 2) refl refl
   where
     by : (three two : Bool) → nat_le 3 n ≡ three → (n == 2) ≡ two → (nat_le 2 n && ((three && plan) || to)) ≡ (three || (two && to))
     by true two is other =
         let a : nat_le 2 n ≡ true = grind (arith, nat_tests, is) in
-        let b : plan ≡ true = planned (grind (arith, nat_tests, is)) in
-        rw (a, b) refl
+        rw (a, planned (grind (arith, nat_tests, is))) refl
     by false true is other = let a : nat_le 2 n ≡ true = grind (arith, nat_tests, other) in rw a refl
     by false false is other = let a : nat_le 2 n ≡ false = grind (arith, nat_tests, is, other) in rw a refl
 
 -- what is begun and sent when the MDT goes
 mdt_calls : (s : Known) (p : Past) (k phase : ℕ) → phase ≡ p.now.phase → (3 ≤ phase → is_some (after_mdt s p).plan ≡ true)
     → calls_sent (nat_le 2 phase && is_some (told_to (after_mdt s p) k)) (calls_begun (request_of (begins s (settled s p) k)) (p.calls k)) ≡ (after_mdt s p).calls k
-mdt_calls s p k phase is planned = ap₂ (λ (b : Bool) (c : List channel.Call). if b then Send ∷ c else c) sends begins_so
-  where
-    same : (after_mdt s p).now.phase ≡ phase
-    same = (turn_mdt s p).phase_is ∙ sym is
-
-    sends : (nat_le 2 phase && is_some (told_to (after_mdt s p) k)) ≡ is_sent_to (ready_to_send s p) (addressed_in s (ready_to_send s p)) k
-    sends = ap (λ (b : Bool). nat_le 2 phase && b) (some_told (after_mdt s p) k)
-        ∙ subst (λ (n : ℕ). (nat_le 2 phase && ((nat_le 3 n && is_some (after_mdt s p).plan) || is_place k (addressed_in s (ready_to_send s p)))) ≡ (nat_le 3 n || ((n == 2) && is_place k (addressed_in s (ready_to_send s p)))))
-        (sym same) (sends_same phase (is_some (after_mdt s p).plan) (is_place k (addressed_in s (ready_to_send s p))) planned)
-
-    begins_so : calls_begun (request_of (begins s (settled s p) k)) (p.calls k) ≡ (ready_to_send s p).calls k
-    begins_so = begun_calls (begins s (settled s p) k) (p.calls k) ∙ ap (λ (c : ℕ → List channel.Call). with_begin (begins s (settled s p) k) (c k)) (sym (leaves s p).calls)
+mdt_calls s p k phase is planned =
+    let same : (after_mdt s p).now.phase ≡ phase = (turn_mdt s p).phase_is ∙ sym is in
+    ap₂ (λ (b : Bool) (c : List channel.Call). if b then Send ∷ c else c)
+    (ap (λ (b : Bool). nat_le 2 phase && b) (elim (cases_Bool (is_told (after_mdt s p) k)) [ inl on ↦ rw on | inr off ↦ rw off ])
+    ∙ subst (λ (n : ℕ). (nat_le 2 phase && ((nat_le 3 n && is_some (after_mdt s p).plan) || is_place k
+    (addressed_in s (ready_to_send s p)))) ≡ (nat_le 3 n || ((n == 2) && is_place k (addressed_in s (ready_to_send s p)))))
+    (sym same) (sends_same phase (is_some (after_mdt s p).plan) (is_place k (addressed_in s (ready_to_send s p))) planned))
+    (begun_calls (begins s (settled s p) k) (p.calls k)
+    ∙ ap (λ (c : ℕ → List channel.Call). with_begin (begins s (settled s p) k) (c k)) (sym (leaves s p).calls))
 
 -- what any ATs leave
 any_heard : (r : RingView) (carry : Carry) (cycle : ℕ) (ats : List (List ℕ)) → AreHeardAs (λ content. Unit {0}) r carry cycle ats
@@ -71,29 +63,21 @@ module _ (r : RingView) (jobs : List Job) (carry : Carry) (restarts : Restarts) 
       → channel_calls (views_of r jobs carry restarts k j) ≡ (looks_back r jobs (master_calls r carry restarts j)).calls k
       → calls_in (view_of r jobs carry restarts k t j) (channel_calls (views_of r jobs carry restarts k j)) ≡ (behind_mdt r jobs carry restarts t.sent j).calls k
   calls_then t j (run, next) (before, clear) k below same =
+      let passed = ats_leave r jobs carry restarts t j k in
+      let phase_is : t.phase ≡ (behind_ats r jobs carry restarts t.sent j).now.phase = next.phase ∙ sym passed.phase_is in
       ap (λ (c : List channel.Call). calls_sent (nat_le 2 t.phase && is_some (told_to (behind_mdt r jobs carry restarts t.sent j) k)) (calls_begun (request_of (begins (known_of r) (settled (known_of r) (behind_ats r jobs carry restarts t.sent j)) k)) c))
-      heard_so ∙ mdt_calls (known_of r) (behind_ats r jobs carry restarts t.sent j) k t.phase phase_is planned
+      (ap (calls_heard (heard_last ((behind_ats r jobs carry restarts t.sent j).calls k))) kept
+      ∙ heard_calls (known_of r) k (λ content. Unit {0}) ((at_start r jobs carry restarts j).calls k)
+      (behind_ats r jobs carry restarts t.sent j) passed.has (unheard_first j run before k below))
+      ∙ mdt_calls (known_of r) (behind_ats r jobs carry restarts t.sent j) k t.phase phase_is planned
     where
-      first_is : at_start r jobs carry restarts j ≡ begun_cycle (restarts (length j) 0) (looks_back r jobs (master_calls r carry restarts j))
-      first_is = started r jobs (restarts (length j) 0) (master_calls r carry restarts j)
-
-      passed : AfterAts (known_of r) k (λ content. Unit {0}) (behind_mst r jobs carry restarts t.sent j) (behind_ats r jobs carry restarts t.sent j)
-      passed = ats_leave r jobs carry restarts t j k
-
       kept : unless_restart (view_of r jobs carry restarts k t j) (channel_calls (views_of r jobs carry restarts k j)) ≡ (at_start r jobs carry restarts j).calls k
-      kept = by (restarts (length j) 0) ∙ sym (ap (λ (p : Past). p.calls k) first_is)
+      kept = by (restarts (length j) 0) ∙ sym (ap (λ (p : Past). p.calls k)
+          (started r jobs (restarts (length j) 0) (master_calls r carry restarts j)))
         where
           by : (b : Bool) → (if b then [] else channel_calls (views_of r jobs carry restarts k j)) ≡ (begun_cycle b (looks_back r jobs (master_calls r carry restarts j))).calls k
           by true = refl
           by false = same
-
-      heard_so : calls_heard (heard_last ((behind_ats r jobs carry restarts t.sent j).calls k)) (unless_restart (view_of r jobs carry restarts k t j) (channel_calls (views_of r jobs carry restarts k j)))
-          ≡ (behind_ats r jobs carry restarts t.sent j).calls k
-      heard_so = ap (calls_heard (heard_last ((behind_ats r jobs carry restarts t.sent j).calls k))) kept
-          ∙ heard_calls (known_of r) k (λ content. Unit {0}) ((at_start r jobs carry restarts j).calls k) (behind_ats r jobs carry restarts t.sent j) passed.has (unheard_first j run before k below)
-
-      phase_is : t.phase ≡ (behind_ats r jobs carry restarts t.sent j).now.phase
-      phase_is = next.phase ∙ sym passed.phase_is
 
       planned : 3 ≤ t.phase → is_some (behind_mdt r jobs carry restarts t.sent j).plan ≡ true
       planned late =
@@ -106,14 +90,12 @@ module _ (r : RingView) (jobs : List Job) (carry : Carry) (restarts : Restarts) 
   pub calls_are : (j : List CycleView) → IsRun r jobs carry restarts j → IsClear j → (k : ℕ) → k < length r.drives
       → channel_calls (views_of r jobs carry restarts k j) ≡ (looks_back r jobs (master_calls r carry restarts j)).calls k
   calls_are [] run clear k below = refl
-  calls_are (t ∷ j) (run, next) (before, clear) k below = by (is_some (fall_of (known_of r) (behind_mdt r jobs carry restarts t.sent j))) (calls_then t j (run, next) (before, clear) k below (calls_are j run before k below))
-    where
-      by : (falls : Bool) → calls_in (view_of r jobs carry restarts k t j) (channel_calls (views_of r jobs carry restarts k j)) ≡ (behind_mdt r jobs carry restarts t.sent j).calls k
-          → (if falls then [] else EndCycle ∷ calls_in (view_of r jobs carry restarts k t j) (channel_calls (views_of r jobs carry restarts k j)))
-          ≡ (if falls then new_epoch ((behind_mdt r jobs carry restarts t.sent j).cycle + 1) (still_waiting (behind_mdt r jobs carry restarts t.sent j))
-          else goes_on (next_phase (known_of r) (behind_mdt r jobs carry restarts t.sent j)) (behind_mdt r jobs carry restarts t.sent j)).calls k
-      by true same = refl
-      by false same = ap (λ (c : List channel.Call). EndCycle ∷ c) same
+  calls_are (t ∷ j) (run, next) (before, clear) k below = elim
+      (cases_Bool (is_some (fall_of (known_of r) (behind_mdt r jobs carry restarts t.sent j)))) [
+        | inl on ↦ rw on refl
+        | inr off ↦ rw off (ap (λ (c : List channel.Call). EndCycle ∷ c)
+            (calls_then t j (run, next) (before, clear) k below (calls_are j run before k below)))
+      ]
 
   -- .. and up to the end of a cycle these
   pub calls_now : (t : CycleView) (j : List CycleView) → IsRun r jobs carry restarts (t ∷ j) → IsClear (t ∷ j) → (k : ℕ) → k < length r.drives

@@ -1,5 +1,5 @@
 -- In phases 3 and 4 the cycle time lies within the limits of each drive, and a plan fits what the ring asks.
-use Rattle.sercos_law_run.proofs.Words.{◌≡◌, ◌⊎◌, inl, inr, ℕ, ◌+◌, ◌*◌, ◌/◌, ◌%◌, ◌<◌, ◌≤◌, Bool, true, false, List, [], ◌∷◌, length, Option, Some, None, refl, sym, ap, ◌∙◌, subst, arith, if◌then◌else◌, same_Some, nat_lt, unwrap_or, option_map, then_some, w16, to_le_bytes, option_or, nat_tests, Job, bytes_in, begun_by, idn, is_checked, known_of, member, tasks_for, Past, outcomes, stored, newest_to, all_writes, IsConfigured, IsWrittenLast, IsWithin, PlanView, is_fixed, is_protected, built_in_block, row, CycleTime, blocks_fault, find_block, store_of, write_fault, put_fault, DriveView, RingView, Block, data_at, annals, blocks_in, CycleView, Carry, Restarts, IsStoreOf, Holds, start_up, drive_at, given_mst, given_before, middle, IsRun, IsClear, at_start, after_mst, behind_mdt, view_of, views_of, IsOpened, IsFit, written_stays, holds_newest, attribute_of, built_in, data_fault}
+use Rattle.sercos_law_run.proofs.Words.{◌≡◌, ◌⊎◌, inl, inr, ℕ, ◌+◌, ◌*◌, ◌/◌, ◌%◌, ◌<◌, ◌≤◌, Bool, true, false, List, [], ◌∷◌, length, Option, Some, None, refl, sym, ap, ◌∙◌, subst, arith, if◌then◌else◌, same_Some, nat_lt, unwrap_or, option_map, then_some, w16, to_le_bytes, option_or, nat_tests, Job, bytes_in, begun_by, idn, is_checked, known_of, member, tasks_for, outcomes, stored, IsConfigured, IsWithin, PlanView, is_fixed, is_protected, built_in_block, row, CycleTime, blocks_fault, find_block, store_of, write_fault, put_fault, DriveView, RingView, Block, data_at, annals, blocks_in, CycleView, Carry, Restarts, IsStoreOf, Holds, start_up, drive_at, given_mst, given_before, middle, IsRun, IsClear, after_mst, behind_mdt, view_of, views_of, IsOpened, IsFit, written_stays, holds_newest, attribute_of, built_in, data_fault}
 use Rattle.sercos_law_run.proofs.Held.StoreOf.{store_of_so}
 use Rattle.sercos_law_run.proofs.Undisturbed.JobsBegun.{begun_then}
 use Rattle.sercos_law_run.proofs.Settings.NoCheck127.{next_still, stays}
@@ -7,7 +7,7 @@ use Rattle.sercos_law_run.proofs.Start.BlockFinds.{find_store_of}
 use Rattle.sercos_law_run.proofs.Start.LimitLemmas.{refuses_cycle}
 use Rattle.sercos_law_run.proofs.Start.CheckPasses.{ring_drive}
 use Rattle.sercos_law_run.proofs.Views.Members.{members_count}
-use Rattle.sercos_law_run.proofs.Held.Runs.{Stands, IsPlannedIn, drive_got, holding, s_known, small}
+use Rattle.sercos_law_run.proofs.Held.Runs.{IsPlannedIn, drive_got, holding, s_known, small}
 use Rattle.sercos_law_run.proofs.Headline.HeadlineRuns.{all_stand, first_store, spelled_in, stored_in}
 use Rattle.sercos_law_run.proofs.Undisturbed.Checks.BlockStays.{IsAt, Stays, stays_at}
 use Rattle.sercos_law_run.proofs.Undisturbed.Arriving.Small.{first_is}
@@ -53,16 +53,13 @@ within_limits false false true high is = absurd (cc)
 within_limits false false false true is = absurd (cc)
 within_limits fixed protected false false is = (refl, refl)
 
-none_held : (n : ℕ) → [] ≡ to_le_bytes w16 n → ⊥
-none_held n e = cc
-
 -- a store that holds the cycle time
 held_within : (d : DriveView) (blocks : List Block) (cycle : ℕ) → blocks_fault [] d.blocks ≡ None → IsStoreOf d blocks → 1 ≤ cycle → cycle < 65536 → IsAt 2 IsWritable blocks → data_at blocks 2 ≡ to_le_bytes w16 cycle
     → (nat_lt cycle d.cycle_min ≡ false) × (nat_lt d.cycle_max cycle ≡ false)
 held_within d blocks cycle rules stored some small is holds = by (find_block 2 blocks) refl
   where
     by : (o : Option Block) → find_block 2 blocks ≡ o → (nat_lt cycle d.cycle_min ≡ false) × (nat_lt d.cycle_max cycle ≡ false)
-    by None none = absurd (none_held cycle (sym (ap (λ (x : Option Block). unwrap_or (option_map (λ (b : Block). b.value) x) []) none) ∙ holds))
+    by None none = absurd (cc)
     by (Some b) found = which (is b found)
       where
         value : b.value ≡ to_le_bytes w16 cycle
@@ -101,13 +98,10 @@ module _ (r : RingView) (jobs : List Job) (carry : Carry) (restarts : Restarts) 
     high = λ k below. let is = (within k below).1 in grind (arith, nat_tests, is);
   }
     where
-      three : 3 ≤ (at_start r jobs carry restarts j).now.phase
-      three = subst (λ (n : ℕ). 3 ≤ n) next.phase late
-
       held : (k : ℕ) → k < length r.drives → (plan : PlanView) × IsPlannedIn r jobs carry restarts t j plan × Holds (blocks_in (drive_at r k) (after_mst r carry restarts t.sent j k)) (start_up r.control r.cycle plan k (drive_at r k).at (drive_at r k).mdt)
       held k below = holding r jobs carry restarts opened (first_store r jobs carry restarts opened) t j next clear
           (spelled_in r jobs carry restarts opened t j next) (stored_in r jobs carry restarts opened t j)
-          (all_stand r jobs carry restarts opened j run before) three k below
+          (all_stand r jobs carry restarts opened j run before) (subst (λ (n : ℕ). 3 ≤ n) next.phase late) k below
 
       some_drive : 0 < length r.drives
       some_drive = let count = members_count r in let some = (s_known r jobs carry restarts opened (first_store r jobs carry restarts opened)).some in omega (arith, count, some)
@@ -134,43 +128,32 @@ module _ (r : RingView) (jobs : List Job) (carry : Carry) (restarts : Restarts) 
   -- A DRIVE WHOSE CHECK FOR PHASE 3 has ended well has taken the cycle time.
   pub checked_within : (t : CycleView) (j : List CycleView) → IsRun r jobs carry restarts (t ∷ j) → IsClear (t ∷ j) → (behind_mdt r jobs carry restarts t.sent j).now.phase ≤ 3
       → (k : ℕ) → k < length r.drives → is_checked (member (known_of r) k) (outcomes (behind_mdt r jobs carry restarts t.sent j) k) ≡ true → IsWithin (drive_at r k) r.cycle
-  checked_within t j run clear low k below well = let is = limits in ((let a = is.0 in grind (arith, nat_tests, a)), (let b = is.1 in grind (arith, nat_tests, b)))
-    where
-      p : Past
-      p = behind_mdt r jobs carry restarts t.sent j
-
-      rules : blocks_fault [] (drive_at r k).blocks ≡ None
-      rules = (ring_drive r k (drive_at r k) opened.valid (drive_got r k below)).blocks
-
-      stands : Stands r jobs carry restarts (t ∷ j) k
-      stands = all_stand r jobs carry restarts opened (t ∷ j) run clear k below
-
-      configured : IsConfigured (known_of r) k (store_of (drive_at r k)) p.plan (begun_by (p.calls k))
-      configured = let count = members_count r in configures_rise (known_of r) (tasks_for (known_of r) jobs) (middle r carry restarts t.sent j) k (store_of (drive_at r k)) (λ i. (are_requests (known_of r) jobs i).0) (omega (arith, count, below)) low well
-
-      last : IsWrittenLast (store_of (drive_at r k)) (begun_by (p.calls k)) (idn 2) (bytes_in (r.cycle ∷ []))
-      last = configured.each 1 (idn 2) (bytes_in (r.cycle ∷ [])) refl
-
-      block : Block
-      block = built_in_block (drive_at r k) (row 2 0x60110001 false CycleTime)
-
-      found : find_block 2 (store_of (drive_at r k)) ≡ Some block
-      found = found_cycle (drive_at r k) rules
-
-      newest : newest_to 2 (all_writes (views_of r jobs carry restarts k (t ∷ j))) ≡ Some (stored block (bytes_in (r.cycle ∷ [])))
-      newest = written_stays (drive_at r k).busy (store_of (drive_at r k)) (stays (view_of r jobs carry restarts k t j) ∷ views_of r jobs carry restarts k j) last.newer last.older last.one (idn 2) (bytes_in (r.cycle ∷ [])) last.whole block
-          (small r jobs carry restarts opened (first_store r jobs carry restarts opened) k below) (stands.sees.run.0, next_still (drive_at r k).busy (view_of r jobs carry restarts k t j) (views_of r jobs carry restarts k j) stands.sees.run.1) stands.sound
-          (sym (begun_then r jobs carry restarts opened t j run clear k below) ∙ last.split) last.asks last.complete found last.away
-
-      cycle_small : (1 ≤ r.cycle) × (r.cycle < 65536)
-      cycle_small = cycle_some r.cycle (s_known r jobs carry restarts opened (first_store r jobs carry restarts opened)).cycles.cycle
-
-      holds : data_at (blocks_in (drive_at r k) (annals (drive_at r k) r.rate (given_before carry restarts (t ∷ j) k))) 2 ≡ to_le_bytes w16 r.cycle
-      holds =
-          ap (λ (l : List Block). data_at l 2) stands.sees.drive.blocks ∙ holds_newest (store_of (drive_at r k)) (views_of r jobs carry restarts k (t ∷ j)) 2 block refl found
-          ∙ ap (λ (o : Option (List ℕ)). unwrap_or o block.value) newest ∙ stored_cycle (drive_at r k) r.cycle cycle_small.1
-
-      limits : (nat_lt r.cycle (drive_at r k).cycle_min ≡ false) × (nat_lt (drive_at r k).cycle_max r.cycle ≡ false)
-      limits = held_within (drive_at r k) (blocks_in (drive_at r k) (annals (drive_at r k) r.rate (given_before carry restarts (t ∷ j) k))) r.cycle rules
-          (store_of_so (drive_at r k) r.rate (given_before carry restarts (t ∷ j) k) (first_store r jobs carry restarts opened k below).ascending).0 cycle_small.0 cycle_small.1
-          (stays_at (drive_at r k) 2 IsWritable (writable_stays (drive_at r k) rules) r.rate (given_before carry restarts (t ∷ j) k) (first_store r jobs carry restarts opened k below).ascending) holds
+  checked_within t j run clear low k below well =
+      let p = behind_mdt r jobs carry restarts t.sent j in
+      let rules : blocks_fault [] (drive_at r k).blocks ≡ None =
+      (ring_drive r k (drive_at r k) opened.valid (drive_got r k below)).blocks in
+      let stands = all_stand r jobs carry restarts opened (t ∷ j) run clear k below in
+      let configured : IsConfigured (known_of r) k (store_of (drive_at r k)) p.plan (begun_by (p.calls k)) =
+      let count = members_count r in configures_rise (known_of r) (tasks_for (known_of r) jobs) (middle r carry restarts t.sent j) k
+      (store_of (drive_at r k)) (λ i. (are_requests (known_of r) jobs i).0) (omega (arith, count, below)) low well in
+      let last = configured.each 1 (idn 2) (bytes_in (r.cycle ∷ [])) refl in
+      let block = built_in_block (drive_at r k) (row 2 0x60110001 false CycleTime) in
+      let found = found_cycle (drive_at r k) rules in
+      let cycle_small = cycle_some r.cycle (s_known r jobs carry restarts opened (first_store r jobs carry restarts opened)).cycles.cycle in
+      let is = held_within (drive_at r k) (blocks_in (drive_at r k) (annals (drive_at r k) r.rate (given_before carry restarts (t ∷ j) k)))
+      r.cycle rules (store_of_so (drive_at r k) r.rate (given_before carry restarts (t ∷ j) k)
+      (first_store r jobs carry restarts opened k below).ascending).0 cycle_small.0 cycle_small.1
+      (stays_at (drive_at r k) 2 IsWritable (writable_stays (drive_at r k) rules) r.rate (given_before carry restarts (t ∷ j) k)
+      (first_store r jobs carry restarts opened k below).ascending)
+      (ap (λ (l : List Block). data_at l 2) stands.sees.drive.blocks
+      ∙ holds_newest (store_of (drive_at r k)) (views_of r jobs carry restarts k (t ∷ j)) 2 block refl found
+      ∙ ap (λ (o : Option (List ℕ)). unwrap_or o block.value)
+      (written_stays (drive_at r k).busy (store_of (drive_at r k))
+      (stays (view_of r jobs carry restarts k t j) ∷ views_of r jobs carry restarts k j) last.newer last.older last.one (idn 2)
+      (bytes_in (r.cycle ∷ [])) last.whole block (small r jobs carry restarts opened (first_store r jobs carry restarts opened) k below) (
+        stands.sees.run.0,
+        next_still (drive_at r k).busy (view_of r jobs carry restarts k t j) (views_of r jobs carry restarts k j)
+            stands.sees.run.1,
+      ) stands.sound (sym (begun_then r jobs carry restarts opened t j run clear k below) ∙ last.split) last.asks
+      last.complete found last.away) ∙ stored_cycle (drive_at r k) r.cycle cycle_small.1) in
+      ((let a = is.0 in grind (arith, nat_tests, a)), (let b = is.1 in grind (arith, nat_tests, b)))

@@ -1,13 +1,13 @@
 -- In phase 4 the requests to a drive end one after the other, each within the cycles that this profile gives a request, if none lasts
 -- longer; and in undisturbed cycles none does.
-use Rattle.sercos_law_run.proofs.Words.{◌≡◌, inl, inr, ℕ, zero, suc, ◌+◌, ◌*◌, ◌<◌, ◌≤◌, false, List, [], ◌∷◌, ◌++◌, length, Option, Some, None, refl, sym, ap, ◌∙◌, subst, arith, if◌then◌else◌, length-append, is_none, is_some, cases_lt, false≢true, Job, Outcome, next_step, outcome_of, PlanView, store_of, RingView, Begun, open_in, answers_in, CycleView, Fall, reads_count, outcomes_in, with_outcome, Known, Task, known_of, member, outcomes, is_idle, not_longer, Carry, Restarts, epoch_begun, View, standing, AreSound, AreAtWork, AreTimed, RecoversInTime, open_since, drive_at, master_calls, looks_back, IsRun, IsClear, AreBegunTasks, behind_mdt, view_of, views_of, IsOpened, request_cycles, GoesOn, views_since, always_opens, rest_since, comes_timed, times_suc, cases_Option}
+use Rattle.sercos_law_run.proofs.Words.{◌≡◌, inl, inr, ℕ, zero, suc, ◌+◌, ◌*◌, ◌<◌, ◌≤◌, false, List, [], ◌∷◌, ◌++◌, length, Option, Some, None, refl, sym, ap, ◌∙◌, subst, arith, if◌then◌else◌, length-append, is_none, is_some, cases_lt, false≢true, Job, Outcome, next_step, outcome_of, PlanView, store_of, RingView, Begun, open_in, answers_in, CycleView, Fall, reads_count, outcomes_in, with_outcome, Known, Task, known_of, member, outcomes, is_idle, not_longer, Carry, Restarts, epoch_begun, View, standing, AreSound, AreAtWork, AreTimed, RecoversInTime, drive_at, master_calls, looks_back, IsRun, IsClear, AreBegunTasks, behind_mdt, view_of, views_of, IsOpened, request_cycles, GoesOn, views_since, always_opens, rest_since, comes_timed, times_suc, cases_Option}
 use Rattle.sercos_law_run.proofs.Held.Runs.{small}
 use Rattle.sercos_law_run.proofs.Headline.HeadlineRuns.{all_stand, first_store}
 use Rattle.sercos_law_run.proofs.Undisturbed.BehindRests.{Follow, follow_on}
 use Rattle.sercos_law_run.proofs.Undisturbed.Checks.Carried.{are_carried}
 use Rattle.sercos_law_run.proofs.Undisturbed.Checks.CommandRuns.{first_commands}
 use Rattle.sercos_law_run.proofs.Undisturbed.EpochCycles.{IsOn, wholes}
-use Rattle.sercos_law_run.proofs.Undisturbed.GoingCycles.{AreAll, AreGoing, IsGoing, IsSplit, all_so, four_along, more_along, none_since, outcomes_kept, phase_before, run_rest, split_before, waits_along, waits_now}
+use Rattle.sercos_law_run.proofs.Undisturbed.GoingCycles.{AreAll, AreGoing, IsGoing, all_so, four_along, more_along, none_since, outcomes_kept, phase_before, run_rest, split_before, waits_along, waits_now}
 use Rattle.sercos_law_run.proofs.Undisturbed.InFour.{busy_now, at_work}
 use Rattle.sercos_law_run.proofs.Undisturbed.JobsBegun.{begun_now, tasks_now}
 use Rattle.sercos_law_run.proofs.Undisturbed.NeverFalls.{runs_split}
@@ -31,9 +31,7 @@ rest_shut : (older : List Begun) → length (outcomes_in older) ≡ length older
 rest_shut [] ended = refl
 rest_shut (c ∷ older) ended = elim (cases_Option (outcome_of c.request c.answers)) [
   | inl is ↦
-      let few = not_longer older in
-      let all : length (with_outcome (outcome_of c.request c.answers) (outcomes_in older)) ≡ length (outcomes_in older) = ap (λ (x : Option Outcome). length (with_outcome x (outcomes_in older))) is in
-      absurd (omega (arith, few, all, ended))
+      absurd (omega (arith, not_longer older, ap (λ (x : Option Outcome). length (with_outcome x (outcomes_in older))) is, ended))
   | inr (o, is) ↦ ap (λ (x : Option Outcome). if is_some x then None else next_step c.request c.answers) is
 ]
 
@@ -51,8 +49,7 @@ same_older : (recent old : List Begun) (b : Begun) (older : List Begun) → rece
 same_older [] old b older is long = let all = ap (λ (l : List Begun). length l) is in absurd (omega (arith, all, long))
 same_older (c ∷ []) old b older is long = (first_is c b old older is).1
 same_older (c ∷ d ∷ recent) old b older is long =
-    let all = ap (λ (l : List Begun). length l) is in
-    let parts = length-append recent old in absurd (omega (arith, all, parts, long))
+    let parts = length-append recent old in absurd (omega (arith, ap (λ (l : List Begun). length l) is, parts, long))
 
 pub length_since : (r : RingView) (jobs : List Job) (carry : Carry) (restarts : Restarts) (k : ℕ) (cycles rest : List CycleView)
     → length (views_since r jobs carry restarts k cycles rest) ≡ length cycles
@@ -97,9 +94,6 @@ module _ (r : RingView) (jobs : List Job) (carry : Carry) (restarts : Restarts) 
     (below : k < length r.drives) (P : CycleView → List CycleView → Type 0)
     (going : (t : CycleView) (j : List CycleView) → P t j → IsGoing r jobs carry restarts t j)
     (lasts : LastsShort r jobs carry restarts k P) where
-  goings : (cycles rest : List CycleView) → AreAll P cycles rest → AreGoing r jobs carry restarts cycles rest
-  goings cycles rest are = all_so P (IsGoing r jobs carry restarts) going cycles rest are
-
   -- what is open is alone
   alone_in : (t : CycleView) (j : List CycleView) → IsRun r jobs carry restarts (t ∷ j) → IsClear (t ∷ j)
       → IsGoing r jobs carry restarts t j → is_idle (behind_mdt r jobs carry restarts t.sent j) k ≡ false
@@ -121,21 +115,13 @@ module _ (r : RingView) (jobs : List Job) (carry : Carry) (restarts : Restarts) 
       (few : length (outcomes (behind_mdt r jobs carry restarts t.sent (newer ++ one ∷ old)) k) ≤ reads_count (member (known_of r) k) + (13 + i))
     where
       on : AreGoing r jobs carry restarts (t ∷ newer) (one ∷ old)
-      on = goings (t ∷ newer) (one ∷ old) all
+      on = all_so P (IsGoing r jobs carry restarts) going (t ∷ newer) (one ∷ old) all
 
       first : IsGoing r jobs carry restarts one old
       first = going one old one_is
 
       rest_run : IsRun r jobs carry restarts (one ∷ old) × IsClear (one ∷ old)
       rest_run = run_rest r jobs carry restarts (t ∷ newer) (one ∷ old) run clear
-
-      -- at the ends of cycles
-      none_end : (looks_back r jobs (master_calls r carry restarts (t ∷ (newer ++ one ∷ old)))).stop ≡ None
-      none_end = stop_after r jobs carry restarts t (newer ++ one ∷ old) on.1.stays ∙ none
-
-      few_end : length (outcomes (looks_back r jobs (master_calls r carry restarts (t ∷ (newer ++ one ∷ old)))) k) ≤ reads_count (member (known_of r) k) + (13 + i)
-      few_end = subst (λ (l : List Outcome). length l ≤ reads_count (member (known_of r) k) + (13 + i)) (sym
-          (outcomes_kept r jobs carry restarts opened t (newer ++ one ∷ old) on.1 k)) few
 
       four_then : (looks_back r jobs (master_calls r carry restarts (one ∷ old))).now.phase ≡ 4
       four_then = four_along r jobs carry restarts opened (one ∷ []) old rest_run.0 (tt, first) (sym (phase_before r jobs carry restarts opened one old rest_run.0 first) ∙ one_four)
@@ -146,27 +132,25 @@ module _ (r : RingView) (jobs : List Job) (carry : Carry) (restarts : Restarts) 
       -- the first cycle
       grown : length (outcomes (behind_mdt r jobs carry restarts one.sent old) k) ≤ length (outcomes (behind_mdt r jobs carry restarts t.sent (newer ++ one ∷ old)) k)
       grown =
-          let along = more_along r jobs carry restarts opened (t ∷ newer) (one ∷ old) run clear on k below in
           let before = ap (λ (l : List Outcome). length l) (outcomes_kept r jobs carry restarts opened one old first k) in
           let after = ap (λ (l : List Outcome). length l) (outcomes_kept r jobs carry restarts opened t (newer ++ one ∷ old) on.1 k) in
-          omega (arith, along, before, after)
+          omega (arith, more_along r jobs carry restarts opened (t ∷ newer) (one ∷ old) run clear on k below, before, after)
 
       busy_first : is_idle (behind_mdt r jobs carry restarts one.sent old) k ≡ false
       busy_first = busy_now r jobs carry restarts opened k below one old rest_run.0 rest_run.1 first one_four i (subst (λ (l : List Task). i < length l) (sym (waits_now r jobs carry restarts one old first k)) low)
           (sym (stop_after r jobs carry restarts one old first.stays) ∙ none_since r jobs carry restarts (t ∷ newer)
-          (one ∷ old) on none_end) (let grows = grown in omega (arith, grows, few))
+          (one ∷ old) on (stop_after r jobs carry restarts t (newer ++ one ∷ old) on.1.stays ∙ none)) (let grows = grown in
+          omega (arith, grows, few))
 
       alone_first : IsAlone (length (outcomes (behind_mdt r jobs carry restarts one.sent old) k)) (epoch_begun (views_of r jobs carry restarts k (one ∷ old)))
       alone_first = alone_in one old rest_run.0 rest_run.1 first busy_first
 
-      -- the last cycle
-      busy_last : is_idle (behind_mdt r jobs carry restarts t.sent (newer ++ one ∷ old)) k ≡ false
-      busy_last = busy_now r jobs carry restarts opened k below t (newer ++ one ∷ old) run clear on.1 t_four i
-          (subst (λ (l : List Task). i < length l) (sym (waits_now r jobs carry restarts t (newer ++ one ∷ old) on.1 k ∙ waits_along r jobs carry restarts newer (one ∷ old) on.0 k)) low_then)
-          none few
-
       alone_last : IsAlone (length (outcomes (behind_mdt r jobs carry restarts t.sent (newer ++ one ∷ old)) k)) (epoch_begun (views_of r jobs carry restarts k (t ∷ (newer ++ one ∷ old))))
-      alone_last = alone_in t (newer ++ one ∷ old) run clear on.1 busy_last
+      alone_last = alone_in t (newer ++ one ∷ old) run clear on.1
+          (busy_now r jobs carry restarts opened k below t (newer ++ one ∷ old) run clear on.1 t_four i
+          (subst (λ (l : List Task). i < length l) (sym (waits_now r jobs carry restarts t (newer ++ one ∷ old) on.1 k
+          ∙ waits_along r jobs carry restarts newer (one ∷ old) on.0 k)) low_then)
+          none few)
 
       -- the views
       split : views_of r jobs carry restarts k (t ∷ (newer ++ one ∷ old)) ≡ views_since r jobs carry restarts k (t ∷ newer) (one ∷ old) ++ views_of r jobs carry restarts k (one ∷ old)
@@ -193,17 +177,19 @@ module _ (r : RingView) (jobs : List Job) (carry : Carry) (restarts : Restarts) 
 
       pub never_so_long : length (t ∷ newer) ≡ request_cycles r k → ⊥
       never_so_long long =
-          let less = lasts t newer one old alone_last.one alone_first.older run clear all one_is t_four four_then
-          (at_work r jobs carry restarts opened k below i (t ∷ newer) (one ∷ old) run clear on four_then low_then none_end few_end)
-          begun_last alone_first.shut answered in
-          omega (arith, less, long)
+          omega (
+            arith,
+            lasts t newer one old alone_last.one alone_first.older run clear all one_is t_four four_then
+                (at_work r jobs carry restarts opened k below i (t ∷ newer) (one ∷ old) run clear on four_then low_then
+                (stop_after r jobs carry restarts t (newer ++ one ∷ old) on.1.stays ∙ none)
+                (subst (λ (l : List Outcome). length l ≤ reads_count (member (known_of r) k) + (13 + i))
+                (sym (outcomes_kept r jobs carry restarts opened t (newer ++ one ∷ old) on.1 k)) few)) begun_last alone_first.shut answered,
+            long,
+          )
 
   -- SO THE REQUESTS END IN TIME, from a cycle of phase 4 on: of those that waited when the epoch began, the first m have ended in it.
   module _ (one : CycleView) (old : List CycleView) (one_is : P one old) (one_four : one.phase ≡ 4) (m : ℕ)
       (at_one : reads_count (member (known_of r) k) + (13 + m) ≤ length (outcomes (behind_mdt r jobs carry restarts one.sent old) k)) where
-    first_one : IsGoing r jobs carry restarts one old
-    first_one = going one old one_is
-
     -- in each cycle that is so late, i more
     abbrev pub HaveEnded : ℕ → Type 0
     HaveEnded i = (t : CycleView) (cycles : List CycleView) → IsRun r jobs carry restarts (t ∷ (cycles ++ one ∷ old))
@@ -213,14 +199,12 @@ module _ (r : RingView) (jobs : List Job) (carry : Carry) (restarts : Restarts) 
         → reads_count (member (known_of r) k) + (13 + x) ≤ length (outcomes (behind_mdt r jobs carry restarts t.sent
         (cycles ++ one ∷ old)) k)
 
-    four_after : IsRun r jobs carry restarts (one ∷ old) → (looks_back r jobs (master_calls r carry restarts (one ∷ old))).now.phase ≡ 4
-    four_after run = four_along r jobs carry restarts opened (one ∷ []) old run (tt, first_one)
-        (sym (phase_before r jobs carry restarts opened one old run first_one) ∙ one_four)
-
     four_in : (t : CycleView) (cycles : List CycleView) → IsRun r jobs carry restarts (t ∷ (cycles ++ one ∷ old))
         → IsRun r jobs carry restarts (one ∷ old) → AreGoing r jobs carry restarts (t ∷ cycles) (one ∷ old) → t.phase ≡ 4
     four_in t cycles run rest on = phase_before r jobs carry restarts opened t (cycles ++ one ∷ old) run on.1
-        ∙ four_along r jobs carry restarts opened cycles (one ∷ old) run.0 on.0 (four_after rest)
+        ∙ four_along r jobs carry restarts opened cycles (one ∷ old) run.0 on.0
+        (four_along r jobs carry restarts opened (one ∷ []) old rest (tt, going one old one_is)
+        (sym (phase_before r jobs carry restarts opened one old rest (going one old one_is)) ∙ one_four))
 
     one_more : (i : ℕ) → HaveEnded i → HaveEnded (suc i)
     one_more i earlier t cycles run clear all long x few low = elim (cases_lt x (suc (m + i))) [
@@ -229,7 +213,12 @@ module _ (r : RingView) (jobs : List Job) (carry : Carry) (restarts : Restarts) 
       | inr most ↦ elim (cases_lt (length (outcomes (behind_mdt r jobs carry restarts t.sent (cycles ++ one ∷ old)) k)) (reads_count
           (member (known_of r) k) + (13 + x))) [
             | inl less ↦ absurd (elim (cases_lt (length cycles) (request_cycles r k)) [
-              | inl short ↦ at_first (omega (arith, less, few)) (omega (arith, low, most)) short
+              | inl short ↦ let times = times_suc i (request_cycles r k) in
+                  let none = zero_times i (request_cycles r k) (omega (arith, short)) (omega (arith, times, long, short)) in
+                  never_so_long (m + i) t cycles one old run clear all one_is one_four t_four
+                  (never_stops_in_four r jobs carry restarts t (cycles ++ one ∷ old) opened run clear t_four) (omega (arith, low, most))
+                  (let ended = at_one in omega
+                  (arith, ended, none)) (omega (arith, less, few)) (omega (arith, times, long, short))
               | inr enough ↦ never (omega (arith, less, few)) (omega (arith, low, most)) enough
             ])
             | inr enough ↦ enough
@@ -239,23 +228,8 @@ module _ (r : RingView) (jobs : List Job) (carry : Carry) (restarts : Restarts) 
         old_run : IsRun r jobs carry restarts (one ∷ old) × IsClear (one ∷ old)
         old_run = run_rest r jobs carry restarts (t ∷ cycles) (one ∷ old) run clear
 
-        on : AreGoing r jobs carry restarts (t ∷ cycles) (one ∷ old)
-        on = goings (t ∷ cycles) (one ∷ old) all
-
         t_four : t.phase ≡ 4
-        t_four = four_in t cycles run old_run.0 on
-
-        -- one request after the first cycle
-        at_first : length (outcomes (behind_mdt r jobs carry restarts t.sent (cycles ++ one ∷ old)) k)
-            ≤ reads_count (member (known_of r) k) + (13 + (m + i)) → m + i < length ((looks_back r jobs
-            (master_calls r carry restarts old)).waiting k)
-            → length cycles < request_cycles r k → ⊥
-        at_first few_ended waits short =
-            let times = times_suc i (request_cycles r k) in
-            let none = zero_times i (request_cycles r k) (omega (arith, short)) (omega (arith, times, long, short)) in
-            never_so_long (m + i) t cycles one old run clear all one_is one_four t_four
-            (never_stops_in_four r jobs carry restarts t (cycles ++ one ∷ old) opened run clear t_four) waits (let ended = at_one in omega
-            (arith, ended, none)) few_ended (omega (arith, times, long, short))
+        t_four = four_in t cycles run old_run.0 (all_so P (IsGoing r jobs carry restarts) going (t ∷ cycles) (one ∷ old) all)
 
         -- and after a later one
         never : length (outcomes (behind_mdt r jobs carry restarts t.sent (cycles ++ one ∷ old)) k)
@@ -263,44 +237,30 @@ module _ (r : RingView) (jobs : List Job) (carry : Carry) (restarts : Restarts) 
             (master_calls r carry restarts old)).waiting k)
             → request_cycles r k ≤ length cycles → ⊥
         never few_ended waits enough =
-            never_so_long (m + i) t c.newer c.one (c.older ++ one ∷ old) run_cut clear_cut all_cut c.those_older.1
+            let some = some_cycles (request_cycles r k) (let all = room (drive_at r k).busy (drive_at r k).command in omega (arith, all)) in
+            let c = split_before P cycles (one ∷ old) some.0 (let is = some.1 in omega (arith, is, enough)) all.0 in
+            let on_older = all_so P (IsGoing r jobs carry restarts) going (c.one ∷ c.older) (one ∷ old) c.those_older in
+            let run_cut = subst (λ (l : List CycleView). IsRun r jobs carry restarts (t ∷ l)) c.is run in
+            let clear_cut = subst (λ (l : List CycleView). IsClear (t ∷ l)) c.is clear in
+            let cut_run = run_rest r jobs carry restarts (t ∷ c.newer) (c.one ∷ (c.older ++ one ∷ old)) run_cut clear_cut in
+            never_so_long (m + i) t c.newer c.one (c.older ++ one ∷ old) run_cut clear_cut
+            ((c.those, subst (λ (l : List CycleView). P t l) c.is all.1)) c.those_older.1
             (four_in c.one c.older cut_run.0 old_run.0 on_older) t_four (never_stops_in_four r jobs carry restarts t (c.newer ++ c.one ∷
             (c.older ++ one ∷ old)) opened run_cut clear_cut t_four)
             (subst (λ (l : List Task). m + i < length l) (sym (waits_along r jobs carry restarts c.older (one ∷ old) on_older.0 k
-            ∙ waits_along r jobs carry restarts (one ∷ []) old (tt, first_one) k)) waits)
+            ∙ waits_along r jobs carry restarts (one ∷ []) old (tt, going one old one_is) k)) waits)
             (earlier c.one c.older cut_run.0 cut_run.1 c.those_older (let is = some.1 in let times = times_suc i
             (request_cycles r k) in let rest = c.rest in omega (arith, is, times, rest, long)) (m + i) (omega arith) (omega
             (arith, waits)))
             (subst (λ (l : List CycleView). length (outcomes (behind_mdt r jobs carry restarts t.sent l) k)
             ≤ reads_count (member (known_of r) k) + (13 + (m + i))) c.is few_ended) (let is = some.1 in let count = c.long in omega
             (arith, is, count))
-          where
-            some : (n : ℕ) × (request_cycles r k ≡ suc n)
-            some = some_cycles (request_cycles r k) (let all = room (drive_at r k).busy (drive_at r k).command in omega (arith, all))
-
-            c : IsSplit P some.0 cycles (one ∷ old)
-            c = split_before P cycles (one ∷ old) some.0 (let is = some.1 in omega (arith, is, enough)) all.0
-
-            on_older : AreGoing r jobs carry restarts (c.one ∷ c.older) (one ∷ old)
-            on_older = goings (c.one ∷ c.older) (one ∷ old) c.those_older
-
-            run_cut : IsRun r jobs carry restarts (t ∷ (c.newer ++ c.one ∷ (c.older ++ one ∷ old)))
-            run_cut = subst (λ (l : List CycleView). IsRun r jobs carry restarts (t ∷ l)) c.is run
-
-            clear_cut : IsClear (t ∷ (c.newer ++ c.one ∷ (c.older ++ one ∷ old)))
-            clear_cut = subst (λ (l : List CycleView). IsClear (t ∷ l)) c.is clear
-
-            all_cut : AreAll P (t ∷ c.newer) (c.one ∷ (c.older ++ one ∷ old))
-            all_cut = (c.those, subst (λ (l : List CycleView). P t l) c.is all.1)
-
-            cut_run : IsRun r jobs carry restarts (c.one ∷ (c.older ++ one ∷ old)) × IsClear (c.one ∷ (c.older ++ one ∷ old))
-            cut_run = run_rest r jobs carry restarts (t ∷ c.newer) (c.one ∷ (c.older ++ one ∷ old)) run_cut clear_cut
 
     pub have_ended : (i : ℕ) → HaveEnded i
     have_ended zero = λ t cycles run clear all long x few low.
-        let on = goings (t ∷ cycles) (one ∷ old) all in
+        let on = all_so P (IsGoing r jobs carry restarts) going (t ∷ cycles) (one ∷ old) all in
         let along = more_along r jobs carry restarts opened (t ∷ cycles) (one ∷ old) run clear on k below in
-        let before = ap (λ (l : List Outcome). length l) (outcomes_kept r jobs carry restarts opened one old first_one k) in
+        let before = ap (λ (l : List Outcome). length l) (outcomes_kept r jobs carry restarts opened one old (going one old one_is) k) in
         let after = ap (λ (l : List Outcome). length l) (outcomes_kept r jobs carry restarts opened t (cycles ++ one ∷ old) on.1 k) in
         let ended = at_one in omega (arith, along, before, after, ended, few)
     have_ended (suc i) = one_more i (have_ended i)
@@ -312,32 +272,23 @@ pub lasts_undisturbed : (recovers :
 lasts_undisturbed recovers r jobs carry restarts opened k below t newer one old b older run clear on
     first t_four four_then works begun_last shut answered =
     let all = always_opens (views_since r jobs carry restarts k (t ∷ newer) (one ∷ old)) (views_of r jobs carry restarts k (one ∷ old)) works in
-    let count = length_since r jobs carry restarts k (t ∷ newer) (one ∷ old) in
-    let less = lasts in omega (arith, all, count, less)
+    let less = one_lasts (drive_at r k).busy (drive_at r k).command (store_of (drive_at r k))
+    (small r jobs carry restarts opened (first_store r jobs carry restarts opened) k below)
+    (first_store r jobs carry restarts opened k below) (recovers (drive_at r k).busy) (rest_since (drive_at r k).busy)
+    (views_since r jobs carry restarts k (t ∷ newer) (one ∷ old)) (view_of r jobs carry restarts k one old)
+    (views_of r jobs carry restarts k old) b older (runs_split r jobs carry restarts opened (t ∷ newer) (one ∷ old) run clear k below)
+    (subst (λ (l : List View). AreSound (store_of (drive_at r k)) l) (views_split r jobs carry restarts k (t ∷ newer) (one ∷ old))
+    (all_stand r jobs carry restarts opened (t ∷ (newer ++ one ∷ old)) run clear k below).sound)
+    (subst (λ (l : List View). AreTimed (drive_at r k).command l) (views_split r jobs carry restarts k (t ∷ newer) (one ∷ old))
+    (comes_timed (drive_at r k).command (views_of r jobs carry restarts k (t ∷ (newer ++ one ∷ old)))
+    (are_carried (drive_at r k).command (first_commands r k) refl refl (views_of r jobs carry restarts k (t ∷ (newer ++ one ∷ old)))
+    (commands_so r jobs carry restarts opened (t ∷ (newer ++ one ∷ old)) run clear k below).follow)))
+    (listed_all (views_since r jobs carry restarts k (t ∷ newer) (one ∷ old) ++ views_of r jobs carry restarts k (one ∷ old)))
+    (first.whole k below) (wholes r jobs carry restarts (t ∷ newer) (one ∷ old) on k below) stands begun_last shut answered in
+    omega (arith, all, length_since r jobs carry restarts k (t ∷ newer) (one ∷ old), less)
   where
-    split_views : views_of r jobs carry restarts k (t ∷ (newer ++ one ∷ old)) ≡ views_since r jobs carry restarts k (t ∷ newer)
-        (one ∷ old) ++ views_of r jobs carry restarts k (one ∷ old)
-    split_views = views_split r jobs carry restarts k (t ∷ newer) (one ∷ old)
-
-    in_time : AreTimed (drive_at r k).command (views_of r jobs carry restarts k (t ∷ (newer ++ one ∷ old)))
-    in_time = comes_timed (drive_at r k).command (views_of r jobs carry restarts k (t ∷ (newer ++ one ∷ old)))
-        (are_carried (drive_at r k).command (first_commands r k) refl refl (views_of r jobs carry restarts k (t ∷ (newer ++ one ∷ old)))
-        (commands_so r jobs carry restarts opened (t ∷ (newer ++ one ∷ old)) run clear k below).follow)
-
     stands : (standing (views_since r jobs carry restarts k (t ∷ newer) (one ∷ old) ++ views_of r jobs carry restarts k
         (one ∷ old))).ended ≡ 0 → ⊥
-    stands down = let both : 4 ≡ 0 = sym t_four ∙ sym (on.1.up k below) ∙ ap (λ (l : List View). (standing l).ended) split_views
+    stands down = let both : 4 ≡ 0 = sym t_four ∙ sym (on.1.up k below)
+        ∙ ap (λ (l : List View). (standing l).ended) (views_split r jobs carry restarts k (t ∷ newer) (one ∷ old))
         ∙ down in omega (arith, both)
-
-    lasts : open_since (views_since r jobs carry restarts k (t ∷ newer) (one ∷ old)) (views_of r jobs carry restarts k
-        (one ∷ old)) < request_cycles r k
-    lasts = one_lasts (drive_at r k).busy (drive_at r k).command (store_of (drive_at r k)) (small r jobs carry restarts opened
-        (first_store r jobs carry restarts opened) k below) (first_store r jobs carry restarts opened k below)
-        (recovers (drive_at r k).busy) (rest_since (drive_at r k).busy) (views_since r jobs carry restarts k (t ∷ newer) (one ∷ old))
-        (view_of r jobs carry restarts k one old) (views_of r jobs carry restarts k old) b older
-        (runs_split r jobs carry restarts opened (t ∷ newer) (one ∷ old) run clear k below)
-        (subst (λ (l : List View). AreSound (store_of (drive_at r k)) l) split_views (all_stand r jobs carry restarts opened
-        (t ∷ (newer ++ one ∷ old)) run clear k below).sound)
-        (subst (λ (l : List View). AreTimed (drive_at r k).command l) split_views in_time) (listed_all
-        (views_since r jobs carry restarts k (t ∷ newer) (one ∷ old) ++ views_of r jobs carry restarts k (one ∷ old)))
-        (first.whole k below) (wholes r jobs carry restarts (t ∷ newer) (one ∷ old) on k below) stands begun_last shut answered

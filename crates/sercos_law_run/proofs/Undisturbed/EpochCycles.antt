@@ -1,7 +1,7 @@
 -- The cycles of an undisturbed epoch, one by one.
 pub use Rattle.sercos_law_run.proofs.Undisturbed.GoingCycles.{longer, run_rest, stays_four}
-use Rattle.sercos_law_run.proofs.Undisturbed.GoingCycles.{AreAll, AreGoing, IsGoing, all_so, none_since, outcomes_grow, outcomes_kept}
-use Rattle.sercos_law_run.proofs.Words.{◌≡◌, ℕ, zero, suc, ◌+◌, ◌<◌, false, List, [], ◌∷◌, ◌++◌, length, None, refl, sym, ap, subst, arith, Job, RingView, CycleView, known_of, outcomes, fall_of, Carry, Restarts, View, standing, IsWhole, AreWhole, master_calls, looks_back, IsRun, IsClear, at_start, behind_mdt, view_of, views_of, IsOpened, AreUndisturbed, IsUndisturbed, StartsEpoch, StaysUp, views_since}
+use Rattle.sercos_law_run.proofs.Undisturbed.GoingCycles.{AreAll, AreGoing, IsGoing, all_so, outcomes_grow, outcomes_kept}
+use Rattle.sercos_law_run.proofs.Words.{◌≡◌, ℕ, zero, suc, ◌+◌, ◌<◌, false, List, [], ◌∷◌, ◌++◌, length, None, refl, sym, ap, subst, arith, Job, RingView, CycleView, known_of, outcomes, fall_of, Carry, Restarts, View, standing, IsWhole, AreWhole, master_calls, looks_back, IsRun, IsClear, at_start, behind_mdt, view_of, views_of, IsOpened, AreUndisturbed, IsUndisturbed, StartsEpoch, views_since}
 use Rattle.sercos_law_run.proofs.Held.Extended.{Extends}
 use Rattle.sercos_law_run.proofs.Undisturbed.Arriving.Comes.{calm_in}
 use Rattle.sercos_law_run.proofs.Undisturbed.Identified.{starts_so}
@@ -52,14 +52,13 @@ cut r jobs carry restarts [] before n low on calm = absurd (omega (arith, low))
 cut r jobs carry restarts (t ∷ cycles) before zero low on calm = record { newer = []; one = t; older = cycles; is = refl; long = refl; rest = omega arith; on = tt; on_older = on; calm = calm; calm_newer = tt }
 cut r jobs carry restarts (t ∷ cycles) before (suc n) low on calm =
     let c = cut r jobs carry restarts cycles before n (omega (arith, low)) on.0 calm.0 in
-    let counted = c.rest in
     record {
       newer = t ∷ c.newer;
       one = c.one;
       older = c.older;
       is = ap (λ (l : List CycleView). t ∷ l) c.is;
       long = ap suc c.long;
-      rest = omega (arith, counted);
+      rest = omega (arith, c.rest);
       on = (c.on, subst (λ (l : List CycleView). IsOn r jobs carry restarts t l) c.is on.1);
       on_older = c.on_older;
       calm = c.calm;
@@ -74,12 +73,6 @@ wholes r jobs carry restarts (t ∷ cycles) rest are k below = (
   wholes r jobs carry restarts cycles rest are.0 k below,
   subst (λ (l : List View). IsWhole (view_of r jobs carry restarts k t (cycles ++ rest)) l) (views_split r jobs carry restarts k cycles rest) (are.1.whole k below),
 )
-
--- what goes on from one to the next
-pub none_along : (r : RingView) (jobs : List Job) (carry : Carry) (restarts : Restarts) (cycles rest : List CycleView) → AreOn r jobs carry restarts cycles rest → (looks_back r jobs (master_calls r carry restarts (cycles ++ rest))).stop ≡ None
-    → (looks_back r jobs (master_calls r carry restarts rest)).stop ≡ None
-none_along r jobs carry restarts cycles rest are none = none_since r jobs carry restarts cycles rest
-    (goings r jobs carry restarts cycles rest are) none
 
 module _ (r : RingView) (jobs : List Job) (carry : Carry) (restarts : Restarts) (opened : IsOpened r jobs) where
   pub outcomes_extend : (t : CycleView) (j : List CycleView) → IsRun r jobs carry restarts (t ∷ j) → IsClear (t ∷ j)
@@ -96,17 +89,16 @@ module _ (r : RingView) (jobs : List Job) (carry : Carry) (restarts : Restarts) 
   -- THE CYCLES OF AN UNDISTURBED EPOCH are such.
   pub on_in : (t : CycleView) (cycles before : List CycleView) → IsRun r jobs carry restarts (t ∷ (cycles ++ before)) → IsClear (t ∷ (cycles ++ before)) → StartsEpoch r jobs carry restarts before → AreUndisturbed r carry restarts (t ∷ cycles) before
       → IsOn r jobs carry restarts t (cycles ++ before)
-  on_in t cycles before run clear starts calm = record {
-    now = phase_now r jobs carry restarts opened t (cycles ++ before) run.1;
-    stays = all.stays.1;
-    quiet = (calm_in r carry restarts t (cycles ++ before) calm.1).stays 0 (omega arith);
-    starts = starts_so r jobs carry restarts opened t (cycles ++ before) run.1 (calm_in r carry restarts t (cycles ++ before) calm.1);
-    whole = λ k below. subst (λ (l : List View). IsWhole (view_of r jobs carry restarts k t (cycles ++ before)) l) (sym (views_split r jobs carry restarts k cycles before)) (all.whole k below).1;
-    up = λ k below. subst (λ (l : List View). (standing (view_of r jobs carry restarts k t (cycles ++ before) ∷ l)).ended ≡ t.phase) (sym (views_split r jobs carry restarts k cycles before)) (all.stands k below).1.1;
-  }
-    where
-      all : StaysUp r jobs carry restarts (t ∷ cycles) before
-      all = stays_throughout r jobs carry restarts opened (t ∷ cycles) before run clear starts calm
+  on_in t cycles before run clear starts calm =
+      let all = stays_throughout r jobs carry restarts opened (t ∷ cycles) before run clear starts calm in
+      record {
+        now = phase_now r jobs carry restarts opened t (cycles ++ before) run.1;
+        stays = all.stays.1;
+        quiet = (calm_in r carry restarts t (cycles ++ before) calm.1).stays 0 (omega arith);
+        starts = starts_so r jobs carry restarts opened t (cycles ++ before) run.1 (calm_in r carry restarts t (cycles ++ before) calm.1);
+        whole = λ k below. subst (λ (l : List View). IsWhole (view_of r jobs carry restarts k t (cycles ++ before)) l) (sym (views_split r jobs carry restarts k cycles before)) (all.whole k below).1;
+        up = λ k below. subst (λ (l : List View). (standing (view_of r jobs carry restarts k t (cycles ++ before) ∷ l)).ended ≡ t.phase) (sym (views_split r jobs carry restarts k cycles before)) (all.stands k below).1.1;
+      }
 
   pub are_on : (cycles before : List CycleView) → IsRun r jobs carry restarts (cycles ++ before) → IsClear (cycles ++ before) → StartsEpoch r jobs carry restarts before → AreUndisturbed r carry restarts cycles before → AreOn r jobs carry restarts cycles before
   are_on [] before run clear starts calm = tt

@@ -1,6 +1,6 @@
 -- Cycles at whose ends the ring doesn't fall, and in which the master doesn't restart; and what goes on from one to the next: outcomes and
 -- a stop stay, and so do the requests that wait.
-use Rattle.sercos_law_run.proofs.Words.{◌≡◌, ℕ, zero, suc, ◌+◌, ◌<◌, ◌≤◌, Bool, true, false, if◌then◌else◌, List, [], ◌∷◌, ◌++◌, length, Option, Some, None, refl, sym, ap, ◌∙◌, subst, arith, length-append, slice_index, Job, Outcome, RingView, Begun, begun_by, CycleView, reads_count, is_ready, outcomes_in, with_outcome, MemberView, Task, known_of, member, tasks_for, ready_stays, Past, Call, outcomes, fall_of, is_done, place_of, waiting_at, waiting_settled, Carry, Restarts, with_heard, with_begun, epoch_begun, View, mst_in, ats_in, at_calls, own_mst, begins, master_calls, looks_back, IsRun, IsClear, at_start, behind_ats, behind_mdt, view_of, views_of, IsOpened}
+use Rattle.sercos_law_run.proofs.Words.{inr, inl, cases_Bool, ◌≡◌, ℕ, zero, suc, ◌+◌, ◌<◌, ◌≤◌, Bool, true, false, if◌then◌else◌, List, [], ◌∷◌, ◌++◌, length, Option, Some, None, refl, sym, ap, ◌∙◌, subst, arith, length-append, slice_index, Job, Outcome, RingView, Begun, CycleView, reads_count, is_ready, outcomes_in, with_outcome, MemberView, Task, known_of, member, tasks_for, ready_stays, Past, outcomes, fall_of, is_done, place_of, waiting_at, waiting_settled, Carry, Restarts, with_heard, with_begun, epoch_begun, View, mst_in, ats_in, own_mst, begins, master_calls, looks_back, IsRun, IsClear, at_start, behind_ats, behind_mdt, view_of, views_of, IsOpened}
 use Rattle.sercos_law_run.proofs.Typed.Mdts.{phase_low}
 use Rattle.sercos_law_run.proofs.Held.Extended.{Extends, heard_more, begun_same}
 use Rattle.sercos_law_run.proofs.Headline.HeadlineRuns.{all_stand}
@@ -58,14 +58,13 @@ split_before P (t ∷ cycles) before zero low are = record {
 }
 split_before P (t ∷ cycles) before (suc n) low are =
     let c = split_before P cycles before n (omega (arith, low)) are.0 in
-    let counted = c.rest in
     record {
       newer = t ∷ c.newer;
       one = c.one;
       older = c.older;
       is = ap (λ (l : List CycleView). t ∷ l) c.is;
       long = ap suc c.long;
-      rest = omega (arith, counted);
+      rest = omega (arith, c.rest);
       those = (c.those, subst (λ (l : List CycleView). P t l) c.is are.1);
       those_older = c.those_older;
     }
@@ -85,23 +84,15 @@ none_since r jobs carry restarts (t ∷ cycles) rest are none =
     (stop_after r jobs carry restarts t (cycles ++ rest) are.1.stays) ∙ none))
 
 -- WHAT WAITS
-ats_waiting : (r : RingView) (jobs : List Job) (carry : Carry) (cycle : ℕ) (ats : List (List ℕ)) (h : List Call)
-    → (looks_back r jobs (at_calls r carry cycle ats h)).waiting ≡ (looks_back r jobs h).waiting
-ats_waiting r jobs = ats_same (λ (p : Past). p.waiting) (λ s content p. waiting_at s (place_of s (slice_index content 0)) content p) r jobs
-
 pub waits_now : (r : RingView) (jobs : List Job) (carry : Carry) (restarts : Restarts) (t : CycleView) (j : List CycleView)
     → IsGoing r jobs carry restarts t j → (k : ℕ)
     → (behind_mdt r jobs carry restarts t.sent j).waiting k ≡ (looks_back r jobs (master_calls r carry restarts j)).waiting k
 waits_now r jobs carry restarts t j on k = ap (λ (w : ℕ → List Task). w k) (waiting_settled (known_of r)
-    (behind_ats r jobs carry restarts t.sent j) ∙ ats_waiting r jobs carry (length j) (ats_in t.sent) (own_mst carry (length j)
+    (behind_ats r jobs carry restarts t.sent j) ∙ ats_same (λ (p : Past). p.waiting)
+    (λ s content p. waiting_at s (place_of s (slice_index content 0)) content p) r jobs carry (length j) (ats_in t.sent)
+    (own_mst carry (length j)
     (mst_in t.sent) (begins r carry restarts j)))
     ∙ ap (λ (p : Past). p.waiting k) on.starts
-
-pub waits_after : (r : RingView) (jobs : List Job) (carry : Carry) (restarts : Restarts) (t : CycleView) (j : List CycleView)
-    → IsGoing r jobs carry restarts t j → (k : ℕ)
-    → (looks_back r jobs (master_calls r carry restarts (t ∷ j))).waiting k ≡ (behind_mdt r jobs carry restarts t.sent j).waiting k
-waits_after r jobs carry restarts t j on k = ap (λ (p : Past). p.waiting k) (end_kept (known_of r)
-    (behind_mdt r jobs carry restarts t.sent j) on.stays)
 
 pub waits_along : (r : RingView) (jobs : List Job) (carry : Carry) (restarts : Restarts) (cycles rest : List CycleView)
     → AreGoing r jobs carry restarts cycles rest → (k : ℕ)
@@ -109,7 +100,8 @@ pub waits_along : (r : RingView) (jobs : List Job) (carry : Carry) (restarts : R
     (master_calls r carry restarts rest)).waiting k
 waits_along r jobs carry restarts [] rest are k = refl
 waits_along r jobs carry restarts (t ∷ cycles) rest are k =
-    waits_after r jobs carry restarts t (cycles ++ rest) are.1 k ∙ waits_now r jobs carry restarts t (cycles ++ rest) are.1 k
+    ap (λ (p : Past). p.waiting k) (end_kept (known_of r) (behind_mdt r jobs carry restarts t.sent (cycles ++ rest)) are.1.stays)
+    ∙ waits_now r jobs carry restarts t (cycles ++ rest) are.1 k
     ∙ waits_along r jobs carry restarts cycles rest are.0 k
 
 -- OUTCOMES only come to those that are there.
@@ -146,31 +138,22 @@ module _ (r : RingView) (jobs : List Job) (carry : Carry) (restarts : Restarts) 
   pub outcomes_grow : (t : CycleView) (j : List CycleView) → IsRun r jobs carry restarts (t ∷ j) → IsClear (t ∷ j)
       → IsGoing r jobs carry restarts t j → (k : ℕ) → k < length r.drives → Extends (outcomes (back j) k) (outcomes (now_in t j) k)
   outcomes_grow t j run clear on k below = (
-    more_is.0,
-    ap outcomes_in now_are ∙ begun_same v.begins (with_heard v.heard (epoch_begun
-        (views_of r jobs carry restarts k j))) ∙ more_is.1 ∙ ap (λ (l : List Begun). with_outcome more_is.0 (outcomes_in l)) (sym before_are),
+    (heard_more v.heard (epoch_begun (views_of r jobs carry restarts k j))).0,
+    ap outcomes_in (begun_now r jobs carry restarts opened t j run clear on.stays k below
+        ∙ begun_end r jobs carry restarts opened t j run clear on.stays k
+        ∙ ap (λ (l : List Begun). with_begun v.begins (with_heard v.heard l)) (elim (cases_Bool v.master_restarts) [
+          | inl on_is ↦ let on = rw on_is at on.quiet in absurd (cc)
+          | inr off ↦ rw off refl
+        ]))
+        ∙ begun_same v.begins (with_heard v.heard (epoch_begun
+        (views_of r jobs carry restarts k j))) ∙ (heard_more v.heard (epoch_begun (views_of r jobs carry restarts k j))).1
+        ∙ ap (λ (l : List Begun). with_outcome (heard_more v.heard (epoch_begun (views_of r jobs carry restarts k j))).0
+        (outcomes_in l))
+        (sym ((all_stand r jobs carry restarts opened j run.0 clear.0 k below).sees.master.begun_are)),
   )
     where
       v : View
       v = view_of r jobs carry restarts k t j
-
-      before_are : begun_by ((back j).calls k) ≡ epoch_begun (views_of r jobs carry restarts k j)
-      before_are = (all_stand r jobs carry restarts opened j run.0 clear.0 k below).sees.master.begun_are
-
-      unrestarted : (b : Bool) → b ≡ false → (if b then [] else epoch_begun (views_of r jobs carry restarts k j)) ≡ epoch_begun
-          (views_of r jobs carry restarts k j)
-      unrestarted true on = absurd (cc)
-      unrestarted false off = refl
-
-      now_are : begun_by ((now_in t j).calls k) ≡ with_begun v.begins (with_heard v.heard (epoch_begun
-          (views_of r jobs carry restarts k j)))
-      now_are = begun_now r jobs carry restarts opened t j run clear on.stays k below
-          ∙ begun_end r jobs carry restarts opened t j run clear on.stays k
-          ∙ ap (λ (l : List Begun). with_begun v.begins (with_heard v.heard l)) (unrestarted v.master_restarts on.quiet)
-
-      more_is : Extends (outcomes_in (epoch_begun (views_of r jobs carry restarts k j))) (outcomes_in (with_heard v.heard (epoch_begun
-          (views_of r jobs carry restarts k j))))
-      more_is = heard_more v.heard (epoch_begun (views_of r jobs carry restarts k j))
 
   pub outcomes_kept : (t : CycleView) (j : List CycleView) → IsGoing r jobs carry restarts t j → (k : ℕ)
       → outcomes (back (t ∷ j)) k ≡ outcomes (now_in t j) k
@@ -186,9 +169,8 @@ module _ (r : RingView) (jobs : List Job) (carry : Carry) (restarts : Restarts) 
       → length (outcomes (back rest) k) ≤ length (outcomes (back (cycles ++ rest)) k)
   more_along [] rest run clear are k below = omega arith
   more_along (t ∷ cycles) rest run clear are k below =
-      let earlier = more_along cycles rest run.0 clear.0 are.0 k below in
       let next = longer_so _ _ (extend_next t (cycles ++ rest) run clear are.1 k below) in
-      omega (arith, earlier, next)
+      omega (arith, more_along cycles rest run.0 clear.0 are.0 k below, next)
 
   pub badly_along : (cycles rest : List CycleView) → IsRun r jobs carry restarts (cycles ++ rest) → IsClear (cycles ++ rest)
       → AreGoing r jobs carry restarts cycles rest → (k : ℕ) → k < length r.drives

@@ -1,5 +1,5 @@
 -- In phase 1 a drive that is addressed in an undisturbed cycle is heard in the next.
-use Rattle.sercos_law_run.proofs.Words.{◌≡◌, inl, inr, ℕ, ◌+◌, ◌<◌, ◌≤◌, Bool, true, false, List, [], ◌∷◌, length, Option, Some, None, refl, sym, ◌∙◌, ap, subst, arith, if◌then◌else◌, ◌==◌, nat_le, is_some, is_none, slice_index, nat_tests, mst_content, at_fault, Job, RingView, Mst, mst_got, mdt_got, phase_in, has_mst, blocks_in, annals, CycleView, record_said, Known, MemberView, known_of, tasks_for, Past, place_of, addressed_before, is_awaited, is_mst, fall_of, next_phase, goes_on, new_epoch, still_waiting, after_end, idle, single, mdt_said, same_place, Carry, Restarts, heard, passage, mst_in, ats_in, mdt_in, drive_at, station_of, with_restart, mdt_heard, disturbs_mdt, given_before, given_mst, master_calls, begins, own_mst, content_of, contents, said_below, looks_back, IsNext, IsRun, at_start, behind_mst, behind_ats, behind_mdt, after_mst, phase_got, IsSpelled, IsOpened, IsUndisturbed}
+use Rattle.sercos_law_run.proofs.Words.{cases_Bool, ◌≡◌, inl, inr, ℕ, ◌+◌, ◌<◌, ◌≤◌, Bool, true, false, List, [], ◌∷◌, length, Option, Some, None, refl, sym, ◌∙◌, ap, subst, arith, ◌==◌, nat_le, is_some, is_none, slice_index, nat_tests, mst_content, at_fault, Job, RingView, Mst, mst_got, mdt_got, phase_in, has_mst, blocks_in, annals, CycleView, record_said, Known, MemberView, known_of, tasks_for, Past, place_of, addressed_before, is_mst, fall_of, next_phase, goes_on, after_end, idle, single, mdt_said, same_place, Carry, Restarts, heard, passage, mst_in, ats_in, mdt_in, drive_at, station_of, with_restart, mdt_heard, disturbs_mdt, given_before, given_mst, master_calls, begins, own_mst, content_of, contents, said_below, looks_back, IsNext, IsRun, at_start, behind_mst, behind_ats, behind_mdt, after_mst, phase_got, IsSpelled, IsOpened, IsUndisturbed}
 use Rattle.sercos_telegram.specs.declared.layout.Kind.TheVariants as kinds
 use Rattle.sercos_law_run.proofs.Journal.RunLemmas.{ats_in-said, mdt_in-said}
 use Rattle.sercos_law_run.proofs.Views.MasterSame.{begun_cycle, ats_none}
@@ -20,18 +20,12 @@ use Rattle.sercos_law_run.proofs.Undisturbed.Arriving.Arrivals.{heard_sent}
 single_said : (s : Known) (p : Past) (k : ℕ) → p.now.phase ≡ 1 → p.now.addressed ≡ Some k → mdt_said s p ≡ Some (single s idle k)
 single_said s p k one to = let is : (p.now.phase == 1) ≡ true = grind (arith, nat_tests, one) in rw (is, to) refl
 
--- an AT that is awaited in phase 1
-awaits_to : (q : Past) (k : ℕ) → q.now.phase ≡ 1 → addressed_before q.turns ≡ Some k → is_awaited q k ≡ true
-awaits_to q k one to = rw (one, to, same_place k) refl
-
 -- the master goes on from a cycle at whose end it doesn't fall
 end_on : (s : Known) (p : Past) → 1 ≤ (after_end s p).now.phase → after_end s p ≡ goes_on (next_phase s p) p
-end_on s p later = by (is_some (fall_of s p)) later
-  where
-    by : (falls : Bool) → 1 ≤ (if falls then new_epoch (p.cycle + 1) (still_waiting p) else goes_on (next_phase s p) p).now.phase
-        → (if falls then new_epoch (p.cycle + 1) (still_waiting p) else goes_on (next_phase s p) p) ≡ goes_on (next_phase s p) p
-    by true later = absurd (omega (arith, later))
-    by false later = refl
+end_on s p later = elim (cases_Bool (is_some (fall_of s p))) [
+  | inl on ↦ let later = rw on at later in absurd (omega (arith, later))
+  | inr off ↦ rw off refl
+]
 
 module _ (r : RingView) (jobs : List Job) (carry : Carry) (restarts : Restarts) (opened : IsOpened r jobs) where
   -- A CYCLE that is calm
@@ -65,13 +59,12 @@ module _ (r : RingView) (jobs : List Job) (carry : Carry) (restarts : Restarts) 
       -- the MDT to one drive comes to it
       pub mdt_comes : (k : ℕ) → k < length r.drives → (behind_mdt r jobs carry restarts t.sent j).now.phase ≡ 1 → (behind_mdt r jobs carry restarts t.sent j).now.addressed ≡ Some k
           → mdt_heard carry (length j) (k + 1) (mdt_in t.sent) ≡ Some ((drive_at r k).address ∷ record_said idle [])
-      mdt_comes k below one to = by (mdt_in t.sent) is (calm.mdt k below)
+      mdt_comes k below one to = by (mdt_in t.sent) (ap mdt_in next.sent
+          ∙ mdt_in-said r.rate (said_below (length r.drives) (drive_at r) r.rate (given_mst carry restarts t.sent j)) _
+          ∙ ap content_of said) (calm.mdt k below)
         where
           said : mdt_said (known_of r) (behind_mdt r jobs carry restarts t.sent j) ≡ Some (single (known_of r) idle k)
           said = single_said (known_of r) (behind_mdt r jobs carry restarts t.sent j) k one to
-
-          is : mdt_in t.sent ≡ Some (single (known_of r) idle k).content
-          is = ap mdt_in next.sent ∙ mdt_in-said r.rate (said_below (length r.drives) (drive_at r) r.rate (given_mst carry restarts t.sent j)) _ ∙ ap content_of said
 
           mine : (single (known_of r) idle k).content ≡ (drive_at r k).address ∷ record_said idle []
           mine = ap (λ (m : MemberView). m.address ∷ record_said idle []) (member_is r k)
@@ -88,9 +81,6 @@ module _ (r : RingView) (jobs : List Job) (carry : Carry) (restarts : Restarts) 
     calm : IsCalm r carry restarts (length (before ∷ j)) t.sent
     calm = calm_in r carry restarts t (before ∷ j) now_calm
 
-    calm_then : IsCalm r carry restarts (length j) before.sent
-    calm_then = calm_in r carry restarts before j then_calm
-
     -- the cycle before ended without a fall, if a phase above 0 is commanded
     pub goes_so : 1 ≤ t.phase → at_start r jobs carry restarts (before ∷ j) ≡ goes_on (next_phase (known_of r) (behind_mdt r jobs carry restarts before.sent j)) (behind_mdt r jobs carry restarts before.sent j)
     goes_so later =
@@ -106,16 +96,13 @@ module _ (r : RingView) (jobs : List Job) (carry : Carry) (restarts : Restarts) 
         p : Past
         p = behind_mst r jobs carry restarts t.sent (before ∷ j)
 
-        phase_one : (behind_mst r jobs carry restarts t.sent (before ∷ j)).now.phase ≡ 1
-        phase_one = sym run.1.phase ∙ one
-
         -- the drive
         got : has_mst (annals (drive_at r k) r.rate (given_mst carry restarts before.sent j k)) ≡ true
-        got = ap (λ (o : Option ℕ). is_some o) (phase_comes before j run.0.1 calm_then k below)
+        got = ap (λ (o : Option ℕ). is_some o) (phase_comes before j run.0.1 (calm_in r carry restarts before j then_calm) k below)
 
         told : is_some (mdt_got (drive_at r k).address (phase_in (after_mst r carry restarts before.sent j k)) (blocks_in (drive_at r k) (after_mst r carry restarts before.sent j k)) (mdt_heard carry (length j) (k + 1) (mdt_in before.sent))) ≡ true
         told = subst (λ (o : Option (List ℕ)). is_some (mdt_got (drive_at r k).address (phase_in (after_mst r carry restarts before.sent j k)) (blocks_in (drive_at r k) (after_mst r carry restarts before.sent j k)) o) ≡ true)
-            (sym (mdt_comes before j run.0.1 calm_then k below was_one to))
+            (sym (mdt_comes before j run.0.1 (calm_in r carry restarts before j then_calm) k below was_one to))
             (some_got _ idle (single_clear idle (drive_at r k).address (phase_in (after_mst r carry restarts before.sent j k)) (blocks_in (drive_at r k) (after_mst r carry restarts before.sent j k)) (omega (arith, stands)) (omega arith) (omega arith)))
 
         says : SaysOne (drive_at r k) r.rate (annals (drive_at r k) r.rate (given_mst carry restarts t.sent (before ∷ j) k))
@@ -139,9 +126,12 @@ module _ (r : RingView) (jobs : List Job) (carry : Carry) (restarts : Restarts) 
 
         wanted : IsWanted (known_of r) (behind_mst r jobs carry restarts t.sent (before ∷ j)) k says.says.content
         wanted = record {
-          early = ap (λ (n : ℕ). nat_le 3 n) phase_one;
-          awaited = awaits_to (behind_mst r jobs carry restarts t.sent (before ∷ j)) k phase_one
-              (ap (λ (x : Past). addressed_before x.turns) (goes_so (omega (arith, one))) ∙ to);
+          early = ap (λ (n : ℕ). nat_le 3 n) (sym run.1.phase ∙ one);
+          awaited = rw (
+            (sym run.1.phase ∙ one),
+            (ap (λ (x : Past). addressed_before x.turns) (goes_so (omega (arith, one))) ∙ to),
+            same_place k,
+          ) refl;
           placed = ap (place_of (known_of r)) says.head ∙ place_found r k opened.valid below;
           reads = subst (λ (a : ℕ). is_none (at_fault a 4 says.says.content) ≡ true) (ap (λ (m : MemberView). m.address) (sym (member_is r k))) says.reads;
         }

@@ -1,6 +1,6 @@
 -- In an undisturbed epoch in which phase 4 comes it is commanded from the bound of a start-up on; and in phase 4, disturbed or not, a step
 -- to a drive is open in each cycle until the first i + 1 of its requests have ended.
-use Rattle.sercos_law_run.proofs.Words.{◌≡◌, ◌⊎◌, inl, inr, ℕ, zero, suc, ◌+◌, ◌<◌, ◌≤◌, Bool, true, false, List, [], ◌∷◌, ◌++◌, drop, length, Option, None, refl, sym, ap, ◌∙◌, subst, arith, is_none, is_some, false≢true, Job, Outcome, PlanView, startup_bound, RingView, Begun, open_in, begun_by, CycleView, Stop, reads_count, is_ready, count_requests, Task, known_of, member, tasks_for, Past, outcomes, is_idle, still_left, Carry, Restarts, begun_in, View, AreAtWork, mst_in, ats_in, at_calls, own_mst, begin_calls, master_calls, looks_back, middle, IsRun, IsClear, AreNumbered, AreBegunTasks, at_start, behind_mdt, view_of, views_of, IsOpened, StartsEpoch, HasBadCheck, AreUndisturbed, views_since, cases_Bool}
+use Rattle.sercos_law_run.proofs.Words.{◌≡◌, ◌⊎◌, inl, inr, ℕ, zero, suc, ◌+◌, ◌<◌, ◌≤◌, true, false, List, [], ◌∷◌, ◌++◌, drop, length, Option, None, sym, ap, ◌∙◌, subst, arith, is_none, is_some, false≢true, Job, Outcome, PlanView, startup_bound, RingView, Begun, open_in, begun_by, CycleView, Stop, reads_count, is_ready, count_requests, Task, known_of, member, tasks_for, Past, outcomes, is_idle, still_left, Carry, Restarts, begun_in, View, AreAtWork, mst_in, ats_in, at_calls, own_mst, begin_calls, master_calls, looks_back, middle, IsRun, IsClear, AreNumbered, AreBegunTasks, at_start, behind_mdt, view_of, views_of, IsOpened, StartsEpoch, HasBadCheck, AreUndisturbed, views_since, cases_Bool}
 use Rattle.sercos_law_run.proofs.Agenda.ReportedRuns.{count_so}
 use Rattle.sercos_law_run.proofs.Agenda.TaskRuns.{all_ended}
 use Rattle.sercos_law_run.proofs.Held.Extended.{Extends}
@@ -34,25 +34,16 @@ module _ (r : RingView) (jobs : List Job) (carry : Carry) (restarts : Restarts) 
   rest_run : IsRun r jobs carry restarts (one ∷ (older ++ before)) × IsClear (one ∷ (older ++ before))
   rest_run = run_rest r jobs carry restarts (t ∷ newer) (one ∷ (older ++ before)) run clear
 
-  none_at : t.phase ≡ 4 → (looks_back r jobs (master_calls r carry restarts (t ∷ (newer ++ one ∷ (older ++ before))))).stop ≡ None
-  none_at four = stop_after r jobs carry restarts t (newer ++ one ∷ (older ++ before)) on.1.stays ∙ never_stops_in_four r jobs carry restarts t (newer ++ one ∷ (older ++ before)) opened run clear four
-
-  none_then : t.phase ≡ 4 → (behind_mdt r jobs carry restarts one.sent (older ++ before)).stop ≡ None
-  none_then four = sym (stop_after r jobs carry restarts one (older ++ before) first.stays)
-      ∙ none_since r jobs carry restarts (t ∷ newer) (one ∷ (older ++ before)) on (none_at four)
-
   never_bad : t.phase ≡ 4 → HasBadCheck r (looks_back r jobs (master_calls r carry restarts (older ++ before))) → ⊥
   never_bad four failed = never_both (is_ready (member (known_of r) failed.place) (outcomes (looks_back r jobs (master_calls r carry restarts (t ∷ (newer ++ one ∷ (older ++ before))))) failed.place)) ready badly.1
     where
-      next : HasEndedBadly (member (known_of r) failed.place) (outcomes (looks_back r jobs (master_calls r carry restarts (one ∷ (older ++ before)))) failed.place)
-      next = badly_more (member (known_of r) failed.place) _ _
+      badly : HasEndedBadly (member (known_of r) failed.place) (outcomes (looks_back r jobs (master_calls r carry restarts (t ∷ (newer ++ one ∷ (older ++ before))))) failed.place)
+      badly = badly_along r jobs carry restarts opened (t ∷ newer) (one ∷ (older ++ before)) run clear on failed.place failed.there
+          (badly_more (member (known_of r) failed.place) _ _
           (subst (λ (l : List Outcome). Extends (outcomes (looks_back r jobs (master_calls r carry restarts
           (older ++ before))) failed.place) l) (sym (outcomes_kept r jobs carry restarts opened one (older ++ before) first failed.place))
           (outcomes_grow r jobs carry restarts opened one (older ++ before) rest_run.0 rest_run.1 first failed.place
-          failed.there)) (failed.ended, failed.badly)
-
-      badly : HasEndedBadly (member (known_of r) failed.place) (outcomes (looks_back r jobs (master_calls r carry restarts (t ∷ (newer ++ one ∷ (older ++ before))))) failed.place)
-      badly = badly_along r jobs carry restarts opened (t ∷ newer) (one ∷ (older ++ before)) run clear on failed.place failed.there next
+          failed.there)) (failed.ended, failed.badly))
 
       ready : is_ready (member (known_of r) failed.place) (outcomes (looks_back r jobs (master_calls r carry restarts (t ∷ (newer ++ one ∷ (older ++ before))))) failed.place) ≡ true
       ready = ap (is_ready (member (known_of r) failed.place)) (outcomes_kept r jobs carry restarts opened t
@@ -64,7 +55,11 @@ module _ (r : RingView) (jobs : List Job) (carry : Carry) (restarts : Restarts) 
     where
       by : (one.phase ≡ 4) ⊎ ((is_some (behind_mdt r jobs carry restarts one.sent (older ++ before)).stop ≡ true) ⊎ HasBadCheck r (looks_back r jobs (master_calls r carry restarts (older ++ before)))) → one.phase ≡ 4
       by (inl is) = is
-      by (inr (inl stopped)) = absurd (false≢true (sym (ap (λ (o : Option Stop). is_some o) (none_then four)) ∙ stopped))
+      by (inr (inl stopped)) = absurd (false≢true (sym
+          (ap (λ (o : Option Stop). is_some o) (sym (stop_after r jobs carry restarts one (older ++ before) first.stays)
+          ∙ none_since r jobs carry restarts (t ∷ newer) (one ∷ (older ++ before)) on
+          (stop_after r jobs carry restarts t (newer ++ one ∷ (older ++ before)) on.1.stays
+          ∙ never_stops_in_four r jobs carry restarts t (newer ++ one ∷ (older ++ before)) opened run clear four))) ∙ stopped))
       by (inr (inr failed)) = absurd (never_bad four failed)
 
 module _ (r : RingView) (jobs : List Job) (carry : Carry) (restarts : Restarts) (opened : IsOpened r jobs) (k : ℕ)
@@ -81,10 +76,9 @@ module _ (r : RingView) (jobs : List Job) (carry : Carry) (restarts : Restarts) 
     planned : is_some (behind_mdt r jobs carry restarts t.sent j).plan ≡ true
     planned =
         let late : (at_start r jobs carry restarts j).now.phase ≡ 4 = sym run.1.phase ∙ four in
-        let held = holding r jobs carry restarts opened (first_store r jobs carry restarts opened) t j run.1 clear.1
-        (spelled_in r jobs carry restarts opened t j run.1) (stored_in r jobs carry restarts opened t j)
-        (all_stand r jobs carry restarts opened j run.0 clear.0) (omega (arith, late)) k below in
-        ap (λ (o : Option PlanView). is_some o) held.1.now
+        ap (λ (o : Option PlanView). is_some o) (holding r jobs carry restarts opened (first_store r jobs carry restarts opened) t j run.1
+        clear.1 (spelled_in r jobs carry restarts opened t j run.1) (stored_in r jobs carry restarts opened t j)
+        (all_stand r jobs carry restarts opened j run.0 clear.0) (omega (arith, late)) k below).1.now
 
     pub numbered : AreNumbered ((behind_mdt r jobs carry restarts t.sent j).waiting k)
     numbered =
@@ -110,8 +104,7 @@ module _ (r : RingView) (jobs : List Job) (carry : Carry) (restarts : Restarts) 
           (λ n. (are_requests (known_of r) jobs n).0) (λ n. (are_requests (known_of r) jobs n).1) (in_known r k below) four_now none planned is in
           let all = dropped_all ((behind_mdt r jobs carry restarts t.sent j).waiting k) (count_requests ((behind_mdt r jobs carry restarts t.sent j).tasks k)) empty in
           let ended = all_ended (known_of r) k (now_in t j).plan ((now_in t j).waiting k) (now_in t j).now.phase (begun_by ((now_in t j).calls k)) ((now_in t j).tasks k) begun_tasks is in
-          let count = counted in
-          absurd (omega (arith, all, ended, count, low, few))
+          absurd (omega (arith, all, ended, counted, low, few))
       | inr is ↦ is
     ]
 
@@ -121,22 +114,19 @@ module _ (r : RingView) (jobs : List Job) (carry : Carry) (restarts : Restarts) 
       → i < length ((looks_back r jobs (master_calls r carry restarts rest)).waiting k) → (looks_back r jobs (master_calls r carry restarts (cycles ++ rest))).stop ≡ None
       → length (outcomes (looks_back r jobs (master_calls r carry restarts (cycles ++ rest))) k) ≤ reads_count (member (known_of r) k) + (13 + i) → AreAtWork (views_since r jobs carry restarts k cycles rest) (views_of r jobs carry restarts k rest)
   at_work i [] rest run clear on four low none few = tt
-  at_work i (t ∷ cycles) rest run clear on four low none few = (
-    at_work i cycles rest run.0 clear.0 on.0 four low (none_before r jobs carry restarts t (cycles ++ rest) on.1.starts stop_now)
-        (let grows = longer_so _ _ (outcomes_grow r jobs carry restarts opened t (cycles ++ rest) run clear on.1 k below) in let now = few_now in omega (arith, grows, now)),
-    subst (λ (l : List View). is_some (open_in (begun_in (view_of r jobs carry restarts k t (cycles ++ rest)) l)) ≡ true) (views_split r jobs carry restarts k cycles rest)
-        (some_open _ (ap (λ (l : List Begun). is_none (open_in l)) ((keeps_all r jobs carry restarts opened t (cycles ++ rest) run clear).exact k below).begun_now ∙ works_now)),
-  )
-    where
-      stop_now : (behind_mdt r jobs carry restarts t.sent (cycles ++ rest)).stop ≡ None
-      stop_now = sym (stop_after r jobs carry restarts t (cycles ++ rest) on.1.stays) ∙ none
-
-      few_now : length (outcomes (behind_mdt r jobs carry restarts t.sent (cycles ++ rest)) k) ≤ reads_count (member (known_of r) k) + (13 + i)
-      few_now = subst (λ (l : List Outcome). length l ≤ reads_count (member (known_of r) k) + (13 + i))
-          (outcomes_kept r jobs carry restarts opened t (cycles ++ rest) on.1 k) few
-
-      low_now : i < length ((behind_mdt r jobs carry restarts t.sent (cycles ++ rest)).waiting k)
-      low_now = subst (λ (l : List Task). i < length l) (sym (waits_now r jobs carry restarts t (cycles ++ rest) on.1 k ∙ waits_along r jobs carry restarts cycles rest on.0 k)) low
-
-      works_now : is_idle (behind_mdt r jobs carry restarts t.sent (cycles ++ rest)) k ≡ false
-      works_now = busy_now t (cycles ++ rest) run clear on.1 (phase_before r jobs carry restarts opened t (cycles ++ rest) run on.1 ∙ four_along r jobs carry restarts opened cycles rest run.0 on.0 four) i low_now stop_now few_now
+  at_work i (t ∷ cycles) rest run clear on four low none few =
+      let stop_now : (behind_mdt r jobs carry restarts t.sent (cycles ++ rest)).stop ≡ None =
+      sym (stop_after r jobs carry restarts t (cycles ++ rest) on.1.stays) ∙ none in
+      let few_now =
+      subst (λ (l : List Outcome). length l ≤ reads_count (member (known_of r) k) + (13 + i))
+      (outcomes_kept r jobs carry restarts opened t (cycles ++ rest) on.1 k) few in
+      let works_now =
+      busy_now t (cycles ++ rest) run clear on.1 (phase_before r jobs carry restarts opened t (cycles ++ rest) run on.1
+      ∙ four_along r jobs carry restarts opened cycles rest run.0 on.0 four) i
+      (subst (λ (l : List Task). i < length l) (sym (waits_now r jobs carry restarts t (cycles ++ rest) on.1 k
+      ∙ waits_along r jobs carry restarts cycles rest on.0 k)) low) stop_now few_now in (
+        at_work i cycles rest run.0 clear.0 on.0 four low (none_before r jobs carry restarts t (cycles ++ rest) on.1.starts stop_now)
+            (let grows = longer_so _ _ (outcomes_grow r jobs carry restarts opened t (cycles ++ rest) run clear on.1 k below) in let now = few_now in omega (arith, grows, now)),
+        subst (λ (l : List View). is_some (open_in (begun_in (view_of r jobs carry restarts k t (cycles ++ rest)) l)) ≡ true) (views_split r jobs carry restarts k cycles rest)
+            (some_open _ (ap (λ (l : List Begun). is_none (open_in l)) ((keeps_all r jobs carry restarts opened t (cycles ++ rest) run clear).exact k below).begun_now ∙ works_now)),
+      )

@@ -20,11 +20,6 @@ same_count status word begun = by (answers_it begun status) begun
     by true (b ∷ l) = refl
     by false l = refl
 
--- an AT leaves the number of requests of each channel
-pub at_leaves_count : (i : ℕ) (content : List ℕ) (p : Past) (k : ℕ) → length (begun_by ((after_taken i content p).calls k)) ≡ length (begun_by (p.calls k))
-at_leaves_count i content p k = channel_keeps (λ calls. length (begun_by calls) ≡ length (begun_by (p.calls k))) i k content p refl
-    (λ same. same_count (status_of (word_at content 1)) (word_at content 3) (begun_by (p.calls k)))
-
 -- up to phase 2 a request begins only where its drive has its turn
 pub begins_in_turn : (s : Known) (p : Past) (k : ℕ) (t : Task) → p.now.phase ≤ 2 → begins s p k ≡ Some t → in_turn s p ≡ Some k
 begins_in_turn s p k t low some = let next = begins_next s p k t some in let late = next.late in next.turn (omega (arith, low, late))
@@ -55,7 +50,10 @@ module _ (s : Known) (requests : ℕ → List Task) (early : ℕ → Type 0) (co
   pub taken_first : (i : ℕ) (content : List ℕ) (p : Past) → AreFirst p → AreFirst (after_taken i content p)
   taken_first i content p have two k there more j low =
       let adds = at_adds i content p j in
-      ap (test (member s j)) adds.1 ∙ stays (member s j) (outcomes p j) adds.0 (have two k there (let same = at_leaves_count i content p k in omega (arith, more, same)) j low)
+      ap (test (member s j)) adds.1 ∙ stays (member s j) (outcomes p j) adds.0
+      (have two k there (let same = channel_keeps (λ calls. length (begun_by calls) ≡ length (begun_by (p.calls k))) i k content p refl
+      (λ same. same_count (status_of (word_at content 1)) (word_at content 3) (begun_by (p.calls k))) in
+      omega (arith, more, same)) j low)
 
   -- an MDT, if it is so where a request begins
   pub mdt_first : (h : List Call) → (early (past s requests h).now.phase → (k : ℕ) → k < length s.drives → (t : Task) → begins s (settled s (past s requests h)) k ≡ Some t
@@ -64,19 +62,16 @@ module _ (s : Known) (requests : ℕ → List Task) (early : ℕ → Type 0) (co
       → AreFirst (past s requests h) → AreFirst (past s requests (Mdt ∷ h))
   mdt_first h begun have two k there more j low =
       ap (test (member s j)) (mdt_adds s (past s requests h) j) ∙ elim (cases_lt (count k) (length (begun_by ((past s requests h).calls k)))) [
-        | inl had ↦ have before k there had j low
+        | inl had ↦ have (subst early (turn_mdt s (past s requests h)).phase_is two) k there had j low
         | inr few ↦ fresh (begins s (settled s (past s requests h)) k) refl (omega (arith, few))
       ]
     where
-      before : early (past s requests h).now.phase
-      before = subst early (turn_mdt s (past s requests h)).phase_is two
-
       fresh : (o : Option Task) → begins s (settled s (past s requests h)) k ≡ o → length (begun_by ((past s requests h).calls k)) ≤ count k → test (member s j) (outcomes (past s requests h) j) ≡ true
       fresh None none few =
           let same = ap (λ (l : List Begun). length l) (begun_so s (past s requests h) k ∙ ap (λ (o : Option Task). with_begun (request_of o) (begun_by ((past s requests h).calls k))) none) in
           absurd (omega (arith, few, more, same))
       fresh (Some t) some few = ap (λ (calls : ℕ → List channel.Call). test (member s j) (outcomes_in (begun_by (calls j)))) (sym (leaves s (past s requests h)).calls)
-          ∙ begun before k there t some few more j low
+          ∙ begun (subst early (turn_mdt s (past s requests h)).phase_is two) k there t some few more j low
 
 module _ (s : Known) (requests : ℕ → List Task) (waits : (j : ℕ) → AreWaiting (requests j)) where
   abbrev AreInOrder : Past → Type 0
@@ -86,7 +81,9 @@ module _ (s : Known) (requests : ℕ → List Task) (waits : (j : ℕ) → AreWa
   order_begun : (h : List Call) → (past s requests h).now.phase ≡ 2 → (k : ℕ) → k < length s.drives → (t : Task) → begins s (settled s (past s requests h)) k ≡ Some t
       → length (begun_by ((past s requests h).calls k)) ≤ reads_count (member s k) → reads_count (member s k) < length (begun_by ((past s requests (Mdt ∷ h)).calls k))
       → (j : ℕ) → j < k → is_checked (member s j) (outcomes (settled s (past s requests h)) j) ≡ true
-  order_begun h before k there t some few more j low = turn_after s (settled s (past s requests h)) k turn read j low
+  order_begun h before k there t some few more j low = turn_after s (settled s (past s requests h)) k turn
+      (ap (λ (calls : ℕ → List channel.Call). is_read (member s k) (outcomes_in (begun_by (calls k)))) (leaves s (past s requests h)).calls
+      ∙ le-leb (reads_count (member s k)) (length (outcomes (past s requests h) k)) many) j low
     where
       ended : (b : Begun) (older : List Begun) (ts : List Task) → AreBegunTasks s k (past s requests (Mdt ∷ h)).plan ((past s requests (Mdt ∷ h)).waiting k) (past s requests (Mdt ∷ h)).now.phase (b ∷ older) ts → length (outcomes_in older) ≡ length older
       ended b older [] are = absurd are
@@ -101,9 +98,6 @@ module _ (s : Known) (requests : ℕ → List Task) (waits : (j : ℕ) → AreWa
 
       many : reads_count (member s k) ≤ length (outcomes (past s requests h) k)
       many = let long = ap (λ (l : List Begun). length l) begun_is in let same = all_ended in omega (arith, long, same, more)
-
-      read : is_read (member s k) (outcomes (settled s (past s requests h)) k) ≡ true
-      read = ap (λ (calls : ℕ → List channel.Call). is_read (member s k) (outcomes_in (begun_by (calls k)))) (leaves s (past s requests h)).calls ∙ le-leb (reads_count (member s k)) (length (outcomes (past s requests h) k)) many
 
       turn : in_turn s (settled s (past s requests h)) ≡ Some k
       turn = begins_in_turn s (settled s (past s requests h)) k t (let same = (leaves s (past s requests h)).phase in omega (arith, same, before)) some

@@ -1,5 +1,5 @@
 -- The cycles of phases 2 and 3 fit into the bound of a start-up; and what an undisturbed one comes to stays.
-use Rattle.sercos_law_run.proofs.Words.{◌≡◌, ℕ, ◌+◌, ◌*◌, ◌≤◌, true, List, [], ◌∷◌, ◌++◌, length, Option, None, refl, ap, ◌∙◌, subst, arith, is_some, sum_by, sum_by-cons, Job, startup_bound, DriveView, RingView, CycleView, Stop, known_of, tasks_for, fall_of, is_done, Carry, Restarts, read_cycles, write_cycles, command_cycles, greatest, master_calls, looks_back, IsRun, IsClear, behind_mdt, IsOpened, AreUndisturbed, StartsEpoch}
+use Rattle.sercos_law_run.proofs.Words.{◌≡◌, ℕ, ◌+◌, ◌*◌, ◌≤◌, true, List, [], ◌∷◌, ◌++◌, length, Option, None, refl, ap, ◌∙◌, subst, arith, is_some, sum_by, sum_by-cons, Job, startup_bound, DriveView, RingView, CycleView, Stop, known_of, tasks_for, fall_of, is_done, Carry, Restarts, read_cycles, write_cycles, command_cycles, greatest, master_calls, IsRun, IsClear, behind_mdt, IsOpened, AreUndisturbed, StartsEpoch}
 use Rattle.sercos_law_run.proofs.Undisturbed.Arriving.Comes.{calm_in}
 use Rattle.sercos_law_run.proofs.Undisturbed.EpochCycles.{stays_four}
 use Rattle.sercos_law_run.proofs.Undisturbed.Identified.{starts_so}
@@ -32,13 +32,17 @@ module _ (r : RingView) (jobs : List Job) (carry : Carry) (restarts : Restarts) 
   pub stays_at_end : (t u : CycleView) (cycles before : List CycleView) → IsRun r jobs carry restarts (t ∷ u ∷ (cycles ++ before)) → IsClear (t ∷ u ∷ (cycles ++ before)) → StartsEpoch r jobs carry restarts before → AreUndisturbed r carry restarts (t ∷ u ∷ cycles) before
       → (u.phase ≡ 4 → t.phase ≡ 4)
       × (is_some (behind_mdt r jobs carry restarts u.sent (cycles ++ before)).stop ≡ true → (behind_mdt r jobs carry restarts t.sent (u ∷ (cycles ++ before))).stop ≡ (behind_mdt r jobs carry restarts u.sent (cycles ++ before)).stop)
-  stays_at_end t u cycles before run clear starts calm = (four, stop_stays_so)
+  stays_at_end t u cycles before run clear starts calm = (
+    four,
+    (λ stopped. stop_kept r jobs carry restarts t (u ∷ (cycles ++ before))
+        (starts_so r jobs carry restarts opened t (u ∷ (cycles ++ before)) run.1
+        (calm_in r carry restarts t (u ∷ (cycles ++ before)) calm.1))
+        (ap (λ (o : Option Stop). is_some o) (stop_after r jobs carry restarts u (cycles ++ before) stays) ∙ stopped)
+        ∙ stop_after r jobs carry restarts u (cycles ++ before) stays),
+  )
     where
       stays : fall_of (known_of r) (behind_mdt r jobs carry restarts u.sent (cycles ++ before)) ≡ None
       stays = (never_falls r jobs carry restarts opened (u ∷ cycles) before run.0 clear.0 starts calm.0).stays.1
-
-      same : (looks_back r jobs (master_calls r carry restarts (u ∷ (cycles ++ before)))).stop ≡ (behind_mdt r jobs carry restarts u.sent (cycles ++ before)).stop
-      same = stop_after r jobs carry restarts u (cycles ++ before) stays
 
       four : u.phase ≡ 4 → t.phase ≡ 4
       four is =
@@ -46,7 +50,3 @@ module _ (r : RingView) (jobs : List Job) (carry : Carry) (restarts : Restarts) 
           let after = phase_after r jobs carry restarts opened u (cycles ++ before) run.0 stays in
           next_phase_is r jobs carry restarts opened t (u ∷ (cycles ++ before)) run calm.1 ∙ after
           ∙ stays_four (is_done (known_of r) (behind_mdt r jobs carry restarts u.sent (cycles ++ before))) u.phase is (subst (λ (n : ℕ). n ≤ 4) after low)
-
-      stop_stays_so : is_some (behind_mdt r jobs carry restarts u.sent (cycles ++ before)).stop ≡ true → (behind_mdt r jobs carry restarts t.sent (u ∷ (cycles ++ before))).stop ≡ (behind_mdt r jobs carry restarts u.sent (cycles ++ before)).stop
-      stop_stays_so stopped = stop_kept r jobs carry restarts t (u ∷ (cycles ++ before)) (starts_so r jobs carry restarts opened t (u ∷ (cycles ++ before)) run.1
-          (calm_in r carry restarts t (u ∷ (cycles ++ before)) calm.1)) (ap (λ (o : Option Stop). is_some o) same ∙ stopped) ∙ same

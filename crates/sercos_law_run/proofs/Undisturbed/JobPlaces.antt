@@ -24,9 +24,6 @@ module _ (s : Known) (k : ℕ) where
   pub later : (p : PlanView) (n i : ℕ) → n ≡ reads_count (member s k) + i → slice_get (jobs_of s (Some p) k) n ≡ slice_get (writes s p k ++ request.Command (idn 127) ∷ request.Command (idn 128) ∷ request.Read (idn 22) 7 ∷ []) i
   later p n i at = let long = reads_length (member s k) in get_right (reads (member s k)) (writes s p k ++ request.Command (idn 127) ∷ request.Command (idn 128) ∷ request.Read (idn 22) 7 ∷ []) n i (omega (arith, at, long))
 
-  pub is_check : (p : PlanView) (n : ℕ) → n ≡ reads_count (member s k) + 11 → slice_get (jobs_of s (Some p) k) n ≡ Some (request.Command (idn 127))
-  is_check p n at = later p n 11 at
-
   -- without a plan there are the reads alone
   none_later : (n i : ℕ) → n ≡ reads_count (member s k) + i → n ≤ length (jobs_of s None k) → 1 ≤ i → ⊥
   none_later n i at few some = let long = reads_length (member s k) in omega (arith, at, few, some, long)
@@ -79,27 +76,19 @@ module _ (s : Known) (k : ℕ) where
   checked_before plan waiting phase (c ∷ older) [] are well at gives long = absurd are
   checked_before None waiting phase (c ∷ older) (u ∷ tasks) are well at gives long = let most = at_most (jobs_of s None k) (c ∷ older) at in absurd (none_later (length (c ∷ older)) 12 long most (omega arith))
   checked_before (Some p) waiting phase (c ∷ older) (u ∷ tasks) are well at gives long =
-      ap (λ (x : Option Outcome). ended_well (given (with_outcome x (outcomes_in older)) (reads_count (member s k) + 11))) complete
+      ap (λ (x : Option Outcome). ended_well (given (with_outcome x (outcomes_in older)) (reads_count (member s k) + 11))) whole.1
       ∙ ap (λ (x : Option Outcome). ended_well (unwrap_or (option_map bytes_of x) [])) (last_is (outcomes_in older) (outcome.Complete bytes) (reads_count (member s k) + 11) (sym ended))
-      ∙ ap ended_well (gives [] older c bytes refl asks complete)
+      ∙ ap ended_well (gives [] older c bytes refl (same_Some c.request (request.Command (idn 127))
+      (sym at.1 ∙ later p (length older) 11 (omega (arith, long)))) whole.1)
     where
-      eleven : length older ≡ reads_count (member s k) + 11
-      eleven = omega (arith, long)
-
       ended : length (outcomes_in older) ≡ reads_count (member s k) + 11
-      ended = are.1.ended ∙ eleven
+      ended = are.1.ended ∙ (omega (arith, long))
 
       whole : (bytes : List ℕ) × (outcome_of c.request c.answers ≡ Some (outcome.Complete bytes))
       whole = well (unnumbered are.1.by_then waiting (outcomes_in older) u (let e = ended in omega (arith, e)) are.1.task)
 
       bytes : List ℕ
       bytes = whole.0
-
-      complete : outcome_of c.request c.answers ≡ Some (outcome.Complete bytes)
-      complete = whole.1
-
-      asks : c.request ≡ request.Command (idn 127)
-      asks = same_Some c.request (request.Command (idn 127)) (sym at.1 ∙ is_check p (length older) eleven)
 
   -- SO EACH REQUEST THAT WAS BEGUN has its place.
   pub begun_at : (plan : Option PlanView) (waiting : List Task) (phase : ℕ) (begun : List Begun) (tasks : List Task) → AreWaiting waiting → phase ≤ 3 → AreBegunTasks s k plan waiting phase begun tasks → Give3 begun → AreAt (jobs_of s plan k) begun
@@ -126,10 +115,8 @@ module _ (s : Known) (k : ℕ) where
   few_in_two plan waiting phase [] tasks wait low are gives = omega arith
   few_in_two plan waiting phase (b ∷ older) [] wait low are gives = absurd are
   few_in_two plan waiting phase (b ∷ older) (t ∷ tasks) wait low are gives =
+      let at = begun_at plan waiting phase older tasks wait (omega (arith, low)) are.0 (older_gives b older gives) in
       let early = are.1.early in
       let ended = are.1.ended in
       let less = early_task are.1.by_then waiting (outcomes_in older) t wait (omega (arith, early, low)) (λ long. checked_before plan waiting phase older tasks are.0 are.1.well at (older_gives b older gives) (sym ended ∙ long)) are.1.task in
       omega (arith, less, ended)
-    where
-      at : AreAt (jobs_of s plan k) older
-      at = begun_at plan waiting phase older tasks wait (omega (arith, low)) are.0 (older_gives b older gives)

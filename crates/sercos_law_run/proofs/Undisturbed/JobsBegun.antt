@@ -1,6 +1,6 @@
 -- In each cycle up to phase 3 the requests that were begun have the places of a start-up's; and if all reads have ended and there is no
 -- stop, the master has made the plan.
-use Rattle.sercos_law_run.proofs.Words.{◌≡◌, ℕ, ◌+◌, ◌<◌, ◌≤◌, true, false, List, [], ◌∷◌, ◌++◌, length, Option, Some, None, sym, ap, ◌∙◌, subst, arith, append_assoc, if◌then◌else◌, ◌==◌, nat_le, is_some, slice_get, le-leb, slice_get_within, same_Some, Idn, Job, Request, Outcome, record_bytes, IsValid, WishesView, wishes_of, store_of, DriveView, RingView, Begun, begun_by, CycleView, Fall, reads, reads_count, wishes_given, MemberView, known_of, member, member_of, tasks_for, reads_length, Past, outcomes, all_read, fall_of, jobs_waiting, mdt_adds, no_stop_before, Carry, Restarts, epoch_begun, begun_in, View, all_begun, begun_ago, all_entries, all_writes, AreExact, IsAnswer, AreAnswers, mst_in, ats_in, drive_at, at_calls, own_mst, begin_calls, master_calls, middle, IsRun, IsClear, AreBegunTasks, HasEndedAt, behind_ats, behind_mdt, view_of, views_of, IsOpened, jobs_of, AreAt, runs_exact, is_done, is_done_in, GoesOnInTwo}
+use Rattle.sercos_law_run.proofs.Words.{◌≡◌, ℕ, ◌+◌, ◌<◌, ◌≤◌, true, false, List, [], ◌∷◌, ◌++◌, length, Option, Some, None, sym, ap, ◌∙◌, subst, arith, append_assoc, if◌then◌else◌, nat_le, is_some, slice_get, le-leb, slice_get_within, same_Some, Job, Request, Outcome, record_bytes, WishesView, wishes_of, store_of, DriveView, RingView, Begun, begun_by, CycleView, Fall, reads, reads_count, wishes_given, MemberView, known_of, member, member_of, tasks_for, reads_length, Past, outcomes, all_read, fall_of, jobs_waiting, mdt_adds, no_stop_before, Carry, Restarts, epoch_begun, begun_in, View, begun_ago, all_entries, all_writes, AreExact, IsAnswer, AreAnswers, mst_in, ats_in, drive_at, at_calls, own_mst, begin_calls, master_calls, middle, IsRun, IsClear, AreBegunTasks, behind_ats, behind_mdt, view_of, views_of, IsOpened, jobs_of, AreAt, runs_exact, is_done, is_done_in, GoesOnInTwo}
 use Rattle.sercos_step.specs.declared.request.Request.TheVariants as request
 use Rattle.sercos_step.specs.declared.request.Outcome.TheVariants as outcome
 use Rattle.sercos_law_run.proofs.Start.CheckPasses.{ring_drive}
@@ -8,7 +8,7 @@ use Rattle.sercos_law_run.proofs.Agenda.ReadWell.{complete}
 use Rattle.sercos_law_run.proofs.Views.Members.{member_is, in_known}
 use Rattle.sercos_law_run.proofs.Settings.CheckRuns.{checks_give_3}
 use Rattle.sercos_law_run.proofs.Settings.WellSets.{well_first}
-use Rattle.sercos_law_run.proofs.Held.AnsweredRuns.{IsRead, is_read_request, as_read, read_of, read_answers, answered_by, entries_stored}
+use Rattle.sercos_law_run.proofs.Held.AnsweredRuns.{is_read_request, as_read, read_of, read_answers, answered_by, entries_stored}
 use Rattle.sercos_law_run.proofs.Held.Runs.{drive_got, got_inside, small, wishes_so}
 use Rattle.sercos_law_run.proofs.Headline.HeadlineRuns.{all_stand, first_store, keeps_all, spelled_in, stored_in}
 use Rattle.sercos_law_run.proofs.Headline.WellRuns.{AllWell, all_well}
@@ -88,59 +88,48 @@ module _ (r : RingView) (jobs : List Job) (carry : Carry) (restarts : Restarts) 
     answers_now low whole k below = subst (λ (m : MemberView). AreAnswers (drive_at r k) (reads m) (outcomes now k)) (member_is r k) (answered_by (drive_at r k) (reads (member (known_of r) k)) (outcomes now k) each)
       where
         each : (n : ℕ) (x : Request) → slice_get (reads (member (known_of r) k)) n ≡ Some x → (o : Outcome) × (slice_get (outcomes (behind_mdt r jobs carry restarts t.sent j) k) n ≡ Some o) × IsAnswer (drive_at r k) x o
-        each n x got = (outcome.Complete bytes, complete_is, subst (λ (y : Request). IsAnswer (drive_at r k) y (outcome.Complete bytes)) (sym of.2) answer)
-          where
-            early : n < reads_count (member (known_of r) k)
-            early = let less = slice_get_within (reads (member (known_of r) k)) n x got in let long = reads_length (member (known_of r) k) in omega (arith, less, long)
-
-            bytes : List ℕ
-            bytes = (whole k (in_known r k below) n early).0
-
-            complete_is : slice_get (outcomes (behind_mdt r jobs carry restarts t.sent j) k) n ≡ Some (outcome.Complete bytes)
-            complete_is = (whole k (in_known r k below) n early).1
-
-            at : HasEndedAt (known_of r) k now.plan (now.waiting k) now.now.phase (begun_by (now.calls k)) n (outcome.Complete bytes)
-            at = tasks_end (known_of r) (tasks_for (known_of r) jobs) (middle r carry restarts t.sent j) k n (outcome.Complete bytes) (in_known r k below) complete_is
-
-            views : List View
-            views = stays (view_of r jobs carry restarts k t j) ∷ views_of r jobs carry restarts k j
-
-            split : begun_in (view_of r jobs carry restarts k t j) (views_of r jobs carry restarts k j) ≡ at.newer ++ at.one ∷ at.older
-            split = sym (begun_then k below) ∙ at.split
-
-            asked_is : at.one.request ≡ x
-            asked_is = same_Some at.one.request x (sym (place_of (jobs_of (known_of r) now.plan k) at.newer at.older at.one (subst (AreAt (jobs_of (known_of r) now.plan k)) split (places_then k below low)))
-                ∙ ap (slice_get (jobs_of (known_of r) now.plan k)) at.place ∙ reading (known_of r) k now.plan n early ∙ got)
-
-            is : IsRead x
-            is = is_read_request (member (known_of r) k) n x got
-
-            of : (i : Idn) × (e : ℕ) × (x ≡ request.Read i e) × ((e == 1) ≡ false)
-            of = as_read x is
-
-            all : all_begun views ≡ at.newer ++ at.one ∷ (at.older ++ begun_ago views)
-            all = ap (λ (l : List Begun). l ++ begun_ago views) split ∙ append_assoc at.newer (at.one ∷ at.older) (begun_ago views)
-
-            answer : IsAnswer (drive_at r k) (request.Read of.0 of.1) (outcome.Complete bytes)
-            answer =
-                let stands = all_stand r jobs carry restarts opened (t ∷ j) run clear k below in
-                let rules = (ring_drive r k (drive_at r k) opened.valid (drive_got r k below)).blocks in
-                read_answers (drive_at r k) x of.0 of.1 bytes rules is of.2
-                (read_of (drive_at r k) (store_of (drive_at r k)) (at.older ++ begun_ago views) at.one of.0 of.1 bytes of.3 (asked_is ∙ of.2) at.ended at.newer
-                (all_entries views) (all_writes views)
-                (subst (λ (l : List Begun). AreExact (store_of (drive_at r k)) l (all_entries views) (all_writes views)) all
-                (runs_exact (drive_at r k).busy (store_of (drive_at r k)) views (small r jobs carry restarts opened (first_store r jobs carry restarts opened) k below) (stands.sees.run.0, next_still (drive_at r k).busy (view_of r jobs carry restarts k t j) (views_of r jobs carry restarts k j) stands.sees.run.1) stands.sound))
-                (entries_stored (drive_at r k) views stands.stored))
+        each n x got =
+            let early : n < reads_count (member (known_of r) k) =
+            let less = slice_get_within (reads (member (known_of r) k)) n x got in let long = reads_length (member (known_of r) k) in
+            omega (arith, less, long) in
+            let bytes : List ℕ = (whole k (in_known r k below) n early).0 in
+            let at =
+            tasks_end (known_of r) (tasks_for (known_of r) jobs) (middle r carry restarts t.sent j) k n (outcome.Complete bytes)
+            (in_known r k below) ((whole k (in_known r k below) n early).1) in
+            let views : List View = stays (view_of r jobs carry restarts k t j) ∷ views_of r jobs carry restarts k j in
+            let split : begun_in (view_of r jobs carry restarts k t j) (views_of r jobs carry restarts k j) ≡ at.newer ++ at.one ∷
+            at.older = sym (begun_then k below) ∙ at.split in
+            let is = is_read_request (member (known_of r) k) n x got in
+            let of = as_read x is in
+            let answer : IsAnswer (drive_at r k) (request.Read of.0 of.1) (outcome.Complete bytes) =
+            let stands = all_stand r jobs carry restarts opened (t ∷ j) run clear k below in
+            let rules = (ring_drive r k (drive_at r k) opened.valid (drive_got r k below)).blocks in
+            read_answers (drive_at r k) x of.0 of.1 bytes rules is of.2
+            (read_of (drive_at r k) (store_of (drive_at r k)) (at.older ++ begun_ago views) at.one of.0 of.1 bytes of.3
+            ((same_Some at.one.request x (sym (place_of (jobs_of (known_of r) now.plan k) at.newer at.older at.one
+            (subst (AreAt (jobs_of (known_of r) now.plan k)) split (places_then k below low)))
+            ∙ ap (slice_get (jobs_of (known_of r) now.plan k)) at.place ∙ reading (known_of r) k now.plan n early ∙ got)) ∙ of.2)
+            at.ended at.newer
+            (all_entries views) (all_writes views)
+            (subst (λ (l : List Begun). AreExact (store_of (drive_at r k)) l (all_entries views) (all_writes views))
+            (ap (λ (l : List Begun). l ++ begun_ago views) split ∙ append_assoc at.newer (at.one ∷ at.older) (begun_ago views))
+            (runs_exact (drive_at r k).busy (store_of (drive_at r k)) views
+            (small r jobs carry restarts opened (first_store r jobs carry restarts opened) k below) (
+              stands.sees.run.0,
+              next_still (drive_at r k).busy (view_of r jobs carry restarts k t j)
+                  (views_of r jobs carry restarts k j) stands.sees.run.1,
+            ) stands.sound))
+            (entries_stored (drive_at r k) views stands.stored)) in (
+              outcome.Complete bytes,
+              ((whole k (in_known r k below) n early).1),
+              subst
+                  (λ (y : Request). IsAnswer (drive_at r k) y (outcome.Complete bytes)) (sym of.2) answer,
+            )
 
     pub asked_now : now.now.phase ≤ 3 → AreComplete → wishes_given (known_of r) (outcomes now) ≡ wishes_of r
     asked_now low whole = wishes_so r jobs carry restarts opened (first_store r jobs carry restarts opened) (outcomes now) (answers_now low whole)
 
     -- THE PLAN
-    wishes_valid : IsValid (wishes_of r)
-    wishes_valid = ring_is_valid r opened.valid (λ k d got.
-        let there = got_inside r.drives k d got in
-        subst (λ (x : DriveView). (length x.at ≤ 16) × (length x.mdt ≤ 16)) (sym there.1) ((opened.typed k there.0).at, (opened.typed k there.0).mdt))
-
     pub complete_now : now.stop ≡ None → all_read (known_of r) now ≡ true → AreComplete
     complete_now none read k there n early =
         let q = behind_ats r jobs carry restarts t.sent j in
@@ -149,12 +138,6 @@ module _ (r : RingView) (jobs : List Job) (carry : Carry) (restarts : Restarts) 
         (sym (read_same (known_of r) now q adds) ∙ read) (no_stop_before (known_of r) q none) k there n early in
         (looked.0, ap (λ (l : List Outcome). slice_get l n) (adds k) ∙ looked.1)
 
-    pub planned_now : now.now.phase ≡ 2 → now.stop ≡ None → all_read (known_of r) now ≡ true → is_some now.plan ≡ true
-    planned_now two none read =
-        let asks = asked_now (omega (arith, two)) (complete_now none read) in
-        let most : record_bytes (wishes_of r).drives ≤ 2047 = wishes_valid.drives.mdt_len in
-        plan_made (known_of r) (behind_ats r jobs carry restarts t.sent j) two none read (ap (λ (w : WishesView). nat_le (record_bytes w.drives) 2047) asks ∙ le-leb (record_bytes (wishes_of r).drives) 2047 most)
-
     -- without a stop the master goes on with phase 2, as long as that isn't done
     pub goes_in_two : t.phase ≡ 2 → now.stop ≡ None → is_done (known_of r) now ≡ false → GoesOnInTwo r now
     goes_in_two two none unfinished =
@@ -162,6 +145,13 @@ module _ (r : RingView) (jobs : List Job) (carry : Carry) (restarts : Restarts) 
         record {
           phase = phase;
           goes_on = none;
-          planned = planned_now phase none;
+          planned = λ read. let asks = asked_now (omega (arith, phase)) (complete_now none read) in
+              let most : record_bytes (wishes_of r).drives ≤ 2047 = (ring_is_valid r opened.valid (λ k d got.
+              let there = got_inside r.drives k d got in
+              subst (λ (x : DriveView). (length x.at ≤ 16) × (length x.mdt ≤ 16)) (sym there.1)
+              ((opened.typed k there.0).at, (opened.typed k there.0).mdt))).drives.mdt_len in
+              plan_made (known_of r) (behind_ats r jobs carry restarts t.sent j) phase none read
+              (ap (λ (w : WishesView). nat_le (record_bytes w.drives) 2047) asks
+              ∙ le-leb (record_bytes (wishes_of r).drives) 2047 most);
           unchecked = sym (ap (λ (n : ℕ). is_done_in n (known_of r) now) phase) ∙ unfinished;
         }

@@ -20,14 +20,12 @@ module _ (cost : Request → ℕ) where
   pub part_cost : (all : List Request) (recent old : List Begun) → AreAt all (recent ++ old) → cost_in cost recent + sum_by cost (drop (length (recent ++ old)) all) ≡ sum_by cost (drop (length old) all)
   part_cost all [] old are = omega arith
   part_cost all (b ∷ recent) old (before, here) =
-      let more = part_cost all recent old before in
-      let next = rest_at all (length (recent ++ old)) b.request here in omega (arith, more, next)
+      let next = rest_at all (length (recent ++ old)) b.request here in omega (arith, part_cost all recent old before, next)
 
   pub whole_cost : (all : List Request) (begun : List Begun) → AreAt all begun → cost_in cost begun + sum_by cost (drop (length begun) all) ≡ sum_by cost all
   whole_cost all [] are = omega arith
   whole_cost all (b ∷ older) (before, here) =
-      let more = whole_cost all older before in
-      let next = rest_at all (length older) b.request here in omega (arith, more, next)
+      let next = rest_at all (length older) b.request here in omega (arith, whole_cost all older before, next)
 
   pub rest_falls : (all : List Request) (m n : ℕ) → m ≤ n → sum_by cost (drop n all) ≤ sum_by cost (drop m all)
   rest_falls all zero n le = let both = sum_by-take-drop cost all n in omega (arith, both)
@@ -46,17 +44,11 @@ module _ (cost : Request → ℕ) where
         let second = sum_by-cons cost (request.Read (idn 22) 7) [] in
         let there = ap (sum_by cost) (behind p n 12 at) in omega (arith, first, second, there)
 
-    last_one : (p : PlanView) (n : ℕ) → n ≡ reads_count (member s k) + 13 → sum_by cost (drop n (jobs_of s (Some p) k)) ≡ cost (request.Read (idn 22) 7)
-    last_one p n at =
-        let second = sum_by-cons cost (request.Read (idn 22) 7) [] in
-        let there = ap (sum_by cost) (behind p n 13 at) in omega (arith, second, there)
-
     -- THE REQUESTS OF PHASE 2
     pub two_cost : (plan : Option PlanView) (begun : List Begun) (most : ℕ) → AreAt (jobs_of s plan k) begun → length begun ≤ reads_count (member s k) + 12
         → ((p : PlanView) → plan ≡ Some p → sum_by cost (writes s p k ++ request.Command (idn 127) ∷ []) ≤ most) → cost_in cost begun ≤ sum_by cost (reads (member s k)) + most
     two_cost None begun most at few within = let whole = whole_cost (reads (member s k)) begun at in omega (arith, whole)
     two_cost (Some p) begun most at few within =
-        let whole = whole_cost (jobs_of s (Some p) k) begun at in
         let rest = rest_falls (jobs_of s (Some p) k) (length begun) (reads_count (member s k) + 12) few in
         let two = last_two p (reads_count (member s k) + 12) refl in
         let parts = sum_by-append cost (reads (member s k)) (writes s p k ++ request.Command (idn 127) ∷ request.Command (idn 128) ∷ request.Read (idn 22) 7 ∷ []) in
@@ -64,23 +56,22 @@ module _ (cost : Request → ℕ) where
         sum_by-append cost (writes s p k ++ request.Command (idn 127) ∷ []) (request.Command (idn 128) ∷ request.Read (idn 22) 7 ∷ []) in
         let first = sum_by-cons cost (request.Command (idn 128)) (request.Read (idn 22) 7 ∷ []) in
         let second = sum_by-cons cost (request.Read (idn 22) 7) [] in
-        let most_is = within p refl in
-        omega (arith, whole, rest, two, parts, tail, first, second, most_is)
+        omega (arith, whole_cost (jobs_of s (Some p) k) begun at, rest, two, parts, tail, first, second, within p refl)
 
     -- THOSE OF PHASE 3
     pub three_cost : (p : PlanView) (recent old : List Begun) → AreAt (jobs_of s (Some p) k) (recent ++ old) → length old ≡ reads_count (member s k) + 12
         → cost_in cost recent ≤ cost (request.Command (idn 128)) + cost (request.Read (idn 22) 7)
     three_cost p recent old at long =
-        let part = part_cost (jobs_of s (Some p) k) recent old at in
-        let two = last_two p (length old) long in omega (arith, part, two)
+        let two = last_two p (length old) long in omega (arith, part_cost (jobs_of s (Some p) k) recent old at, two)
 
     pub check_cost : (p : PlanView) (recent old : List Begun) → AreAt (jobs_of s (Some p) k) (recent ++ old) → length old ≡ reads_count (member s k) + 12 → length (recent ++ old) ≤ reads_count (member s k) + 13
         → cost_in cost recent ≤ cost (request.Command (idn 128))
     check_cost p recent old at long few =
-        let part = part_cost (jobs_of s (Some p) k) recent old at in
-        let two = last_two p (length old) long in
         let rest = rest_falls (jobs_of s (Some p) k) (length (recent ++ old)) (reads_count (member s k) + 13) few in
-        let one = last_one p (reads_count (member s k) + 13) refl in omega (arith, part, two, rest, one)
+        let one : sum_by cost (drop (reads_count (member s k) + 13) (jobs_of s (Some p) k)) ≡ cost (request.Read (idn 22) 7) = let second =
+        sum_by-cons cost (request.Read (idn 22) 7) [] in
+        let there = ap (sum_by cost) (behind p (reads_count (member s k) + 13) 13 refl) in omega (arith, second, there) in
+        omega (arith, part_cost (jobs_of s (Some p) k) recent old at, last_two p (length old) long, rest, one)
 
 -- THE BLOCKS that a start-up reads and writes
 word_of : (d : DriveView) (raw : ℕ) (b : Block) → blocks_fault [] d.blocks ≡ None → find_block raw (built_in d) ≡ Some b → b.attribute.length ≡ len.Two → IsWord (store_of d) (idn raw)

@@ -89,12 +89,11 @@ module _ (r : RingView) (jobs : List Job) (carry : Carry) (restarts : Restarts) 
   pub stays_throughout : (cycles before : List CycleView) → IsRun r jobs carry restarts (cycles ++ before) → IsClear (cycles ++ before)
       → StartsEpoch r jobs carry restarts before → AreUndisturbed r carry restarts cycles before
       → StaysUp r jobs carry restarts cycles before
-  stays_throughout cycles before run clear starts calm = record {
-    stays = all.stays;
-    whole = all.whole;
-    stands = λ k below. stands_throughout (drive_at r k).busy (views_since r jobs carry restarts k cycles before) (views_of r jobs carry restarts k before) (runs_split r jobs carry restarts opened cycles before run clear k below) (begins_so r jobs carry restarts opened cycles before run clear starts k below).1 (all.whole k below) (all.passed k below);
-    heard = λ k below. hears_throughout (drive_at r k).busy (views_since r jobs carry restarts k cycles before) (views_of r jobs carry restarts k before) (runs_split r jobs carry restarts opened cycles before run clear k below) (begins_so r jobs carry restarts opened cycles before run clear starts k below).1 (all.whole k below) (all.passed k below);
-  }
-    where
-      all : AllWhole r jobs carry restarts cycles before
-      all = never_falls cycles before run clear starts calm
+  stays_throughout cycles before run clear starts calm =
+      let all = never_falls cycles before run clear starts calm in
+      record {
+        stays = all.stays;
+        whole = all.whole;
+        stands = λ k below. stands_throughout (drive_at r k).busy (views_since r jobs carry restarts k cycles before) (views_of r jobs carry restarts k before) (runs_split r jobs carry restarts opened cycles before run clear k below) (begins_so r jobs carry restarts opened cycles before run clear starts k below).1 (all.whole k below) (all.passed k below);
+        heard = λ k below. hears_throughout (drive_at r k).busy (views_since r jobs carry restarts k cycles before) (views_of r jobs carry restarts k before) (runs_split r jobs carry restarts opened cycles before run clear k below) (begins_so r jobs carry restarts opened cycles before run clear starts k below).1 (all.whole k below) (all.passed k below);
+      }

@@ -16,9 +16,6 @@ IsNoLower phase (t ∷ turns) = t.phase ≤ phase
 abbrev pub HasRisen : Past → Type 0
 HasRisen p = IsNoLower p.now.phase p.turns
 
-no_lower : (phase now : ℕ) (turns before : List Turn) → now ≡ phase → turns ≡ before → IsNoLower phase before → IsNoLower now turns
-no_lower phase now turns before is are risen = rw (is, are) risen
-
 pub no_less : (done : Bool) (n : ℕ) → n ≤ (if done then n + 1 else n)
 no_less true n = omega arith
 no_less false n = omega arith
@@ -36,8 +33,7 @@ has_risen s requests = past_keeps HasRisen s requests (record {
   first = tt;
   mst = λ h whole risen. risen;
   taken = λ h k content inside is risen. risen;
-  mdt = λ h risen. let p = past s requests h in let l = leaves s p in no_lower p.now.phase (after_mdt s p).now.phase
-      (after_mdt s p).turns p.turns l.phase l.turns risen;
+  mdt = λ h risen. let p = past s requests h in let l = leaves s p in (rw (l.phase, l.turns) risen);
   on = λ h done is risen. no_less done (past s requests h).now.phase;
   new = λ h cycle risen. tt;
 })
@@ -71,14 +67,11 @@ pub limit_so : (p : Past) (k : ℕ) → (p.now.phase ≡ 1 → is_place k p.now.
     → ((p.now.phase ≡ 1 → ⊥) → cycles_open (p.calls k) ≤ 63) → is_at_limit p k ≡ false
 limit_so p k identifies answers = elim (cases_Bool (p.now.phase == 1)) [
   | inl one ↦ rw one (addressed (grind (arith, nat_tests, one)) (is_place k p.now.addressed) refl)
-  | inr other ↦ rw other (short (cycles_open (p.calls k)) (answers (not_one other)))
+  | inr other ↦ rw other (grind (arith, nat_tests, (answers (not_one other))))
 ]
   where
-    short : (n : ℕ) → n ≤ 63 → nat_le 64 n ≡ false
-    short n few = grind (arith, nat_tests, few)
-
     addressed : p.now.phase ≡ 1 → (b : Bool) → is_place k p.now.addressed ≡ b → (b && nat_le 64 (count_addressed k p.turns)) ≡ false
-    addressed one true here = short (count_addressed k p.turns) (identifies one here)
+    addressed one true here = grind (arith, nat_tests, (identifies one here))
     addressed one false here = refl
 
     not_one : (p.now.phase == 1) ≡ false → p.now.phase ≡ 1 → ⊥

@@ -1,5 +1,5 @@
 -- How many cycles one request takes: those in which its steps are open are fewer than this profile gives a request.
-use Rattle.sercos_law_run.proofs.Words.{◌≡◌, ◌⊎◌, inl, inr, ℕ, ◌+◌, ◌*◌, ◌<◌, ◌≤◌, List, [], ◌∷◌, ◌++◌, length, None, refl, ap, ◌∙◌, subst, arith, length-append, cases_lt, Idn, Request, Answer, read_ends, write_ends, times_le, IsStore, Block, Entry, accepted, Begun, open_in, steps_begun, steps_in, answers_in, command, epoch_begun, epoch_records, epoch_log, AreInStep, AreInTurn, IsRow, IsPart, Unsent, Unheard, AreParts, AreReplies, HaveBlocks, IsTransfer, View, standing, IsSound, AreSound, AreSmall, in_step, IsEpoch, epoch, split_replies, split_blocks, fall_into_parts, length-replies_of, length-steps_begun, HasReplies, answered_replies, AreTimed, AreListed, cost_of, cost_in, IsWhole, AreWhole, RecoversInTime, RecoversSince, open_since, few_steps, IsViewRun}
+use Rattle.sercos_law_run.proofs.Words.{◌≡◌, ◌⊎◌, inl, inr, ℕ, ◌+◌, ◌*◌, ◌<◌, ◌≤◌, List, [], ◌∷◌, ◌++◌, length, None, refl, ap, ◌∙◌, subst, arith, length-append, cases_lt, Idn, Request, Answer, read_ends, write_ends, times_le, IsStore, Block, Entry, accepted, Begun, open_in, steps_begun, steps_in, answers_in, command, epoch_begun, epoch_records, epoch_log, AreInStep, IsRow, IsPart, Unsent, Unheard, AreParts, AreReplies, HaveBlocks, IsTransfer, View, standing, IsSound, AreSound, AreSmall, in_step, IsEpoch, epoch, split_replies, split_blocks, fall_into_parts, length-replies_of, length-steps_begun, HasReplies, answered_replies, AreTimed, AreListed, cost_of, cost_in, IsWhole, AreWhole, RecoversInTime, RecoversSince, open_since, few_steps, IsViewRun}
 use Rattle.sercos_step.specs.declared.request.Request.TheVariants as request
 use Rattle.sercos_step.specs.Steps.{AreAnswers}
 use Rattle.sercos_law_channel.specs.Handshake.Parts.{Heard}
@@ -10,12 +10,6 @@ use Rattle.sercos_law_run.proofs.Bounds.BoundSums.{times_sum}
 pub room : (busy time : ℕ) → (busy + 2) * (520 + time) ≡ 520 * busy + 1040 + busy * time + 2 * time
 room busy time = grind arith
 
-few_fit : (busy time n : ℕ) → n ≤ 518 → (busy + 1) * n < (busy + 2) * (520 + time)
-few_fit busy time n few = let most = times_le (busy + 1) n 518 few in let all = room busy time in omega (arith, most, all)
-
-command_fits : (busy time : ℕ) → time + 4 * (busy + 1) + 0 < (busy + 2) * (520 + time)
-command_fits busy time = let all = room busy time in omega (arith, all)
-
 -- STEPS: requests that have ended have no more steps than answers
 module _ (busy time : ℕ) (blocks : List Block) (small : AreSmall blocks) (store : IsStore blocks) where
   -- A LONG WRITE has few answers.
@@ -24,21 +18,13 @@ module _ (busy time : ℕ) (blocks : List Block) (small : AreSmall blocks) (stor
     is_epoch : IsEpoch blocks (command all) (b ∷ old) (epoch_records all)
     is_epoch = subst (λ (l : List Begun). IsEpoch blocks (command all) l (epoch_records all)) split (epoch blocks busy all run sound)
 
-    turn_now : AreInTurn (b ∷ old)
-    turn_now = is_epoch.in_turn
-
-    parts_now : AreParts (b ∷ old) (epoch_log all)
-    parts_now = fall_into_parts (b ∷ old) (epoch_log all) turn_now (subst (λ (l : List Begun). AreInStep l (epoch_log all)) split (in_step busy all run))
-
     long_write : (idn : Idn) (e : ℕ) (bytes : List ℕ) → b.request ≡ request.Write idn e bytes → 2 ≤ e → 1024 < length bytes → length b.answers ≤ 5
-    long_write idn e bytes asks low long = by parts_now
+    long_write idn e bytes asks low long = by (fall_into_parts (b ∷ old) (epoch_log all) is_epoch.in_turn
+        (subst (λ (l : List Begun). AreInStep l (epoch_log all)) split (in_step busy all run)))
       where
         by : AreParts (b ∷ old) (epoch_log all) → length b.answers ≤ 5
         by (part, rest, those, of, others) = which of
           where
-            replies : AreReplies part rest
-            replies = (split_replies part rest (subst HasReplies those (answered_replies (accepted (epoch_records all))))).0
-
             alike : HaveBlocks blocks part
             alike = (split_blocks blocks part rest (subst (HaveBlocks blocks) those is_epoch.alike)).0
 
@@ -47,33 +33,27 @@ module _ (busy time : ℕ) (blocks : List Block) (small : AreSmall blocks) (stor
               steps = row.steps;
               in_turn = row.in_turn;
               goes_on = row.goes_on;
-              replies = subst (λ (l : List Entry). AreReplies l rest) is replies;
+              replies = subst (λ (l : List Entry). AreReplies l rest) is
+                  ((split_replies part rest (subst HasReplies those (answered_replies (accepted (epoch_records all))))).0);
               alike = subst (HaveBlocks blocks) is alike;
             }))
 
             which : IsPart b part → length b.answers ≤ 5
             which (Unsent none unheard) = let empty = ap (λ (l : List Answer). length l) unheard in omega (arith, empty)
             which (Heard x entries is row answers) =
-                let most = few x entries is row in
                 let same = ap (λ (l : List Answer). length l) answers in
-                let count = length-replies_of (x ∷ entries) in omega (arith, most, same, count)
+                let count = length-replies_of (x ∷ entries) in omega (arith, few x entries is row, same, count)
             which (Unheard x entries is row answers) =
-                let most = few x entries is row in
                 let same = ap (λ (l : List Answer). length l) answers in
-                let count = length-replies_of entries in omega (arith, most, same, count)
+                let count = length-replies_of entries in omega (arith, few x entries is row, same, count)
 
     -- any write
     write_few : (idn : Idn) (e : ℕ) (bytes : List ℕ) → b.request ≡ request.Write idn e bytes → length b.answers ≤ 517
     write_few idn e bytes asks = elim (cases_lt 1024 (length bytes)) [
-      | inl long ↦ let most = long_write idn e bytes asks sound_so.0 long in omega (arith, most)
-      | inr short ↦ write_ends idn e bytes b.answers (omega (arith, short)) (subst (λ (r : Request). AreAnswers r b.answers) asks turn_now.1.1)
+      | inl long ↦ let most = long_write idn e bytes asks (subst (IsSound blocks) asks is_epoch.sound.1).0 long in omega (arith, most)
+      | inr short ↦ write_ends idn e bytes b.answers (omega (arith, short))
+          (subst (λ (r : Request). AreAnswers r b.answers) asks is_epoch.in_turn.1.1)
     ]
-      where
-        sound_so : IsSound blocks (request.Write idn e bytes)
-        sound_so = subst (IsSound blocks) asks is_epoch.sound.1
-
-    read_few : (idn : Idn) (e : ℕ) → b.request ≡ request.Read idn e → length b.answers ≤ 517
-    read_few idn e asks = read_ends idn e b.answers (subst (λ (r : Request). AreAnswers r b.answers) asks turn_now.1.1)
 
     -- The steps that were begun are at most 518 more than the answers to the older requests, if these have ended; or it is a command.
     pub steps_few : open_in old ≡ None → (length (steps_in (epoch_begun all)) ≤ 518 + length (answers_in old)) ⊎ ((idn : Idn)
@@ -82,15 +62,14 @@ module _ (busy time : ℕ) (blocks : List Block) (small : AreSmall blocks) (stor
       where
         few : length b.answers ≤ 517 → length (steps_in (epoch_begun all)) ≤ 518 + length (answers_in old)
         few answers =
-            let most = length-steps_begun b.request b.answers in
-            let older = few_steps old turn_now.0 shut in
             let long : length (steps_in (epoch_begun all)) ≡ length (steps_begun b.request b.answers) + length (steps_in old) =
             ap (λ (l : List Begun). length (steps_in l)) split ∙ length-append (steps_begun b.request b.answers) (steps_in old) in
-            omega (arith, most, answers, older, long)
+            omega (arith, length-steps_begun b.request b.answers, answers, few_steps old is_epoch.in_turn.0 shut, long)
 
         by : (r : Request) → b.request ≡ r → (length (steps_in (epoch_begun all)) ≤ 518 + length (answers_in old)) ⊎ ((idn : Idn)
             × (b.request ≡ request.Command idn))
-        by (request.Read idn e) asks = inl (few (read_few idn e asks))
+        by (request.Read idn e) asks = inl (few (read_ends idn e b.answers
+            (subst (λ (r : Request). AreAnswers r b.answers) asks is_epoch.in_turn.1.1)))
         by (request.Write idn e bytes) asks = inl (few (write_few idn e bytes asks))
         by (request.Command idn) asks = inr (idn, asks)
 
@@ -115,15 +94,14 @@ module _ (busy time : ℕ) (blocks : List Block) (small : AreSmall blocks) (stor
       by_steps steps (inr le) =
           let most = times_le (busy + 1) (length (steps_in (epoch_begun (cycles ++ first ∷ past)))) (518 + length (answers_in
           (epoch_begun (first ∷ past)))) (omega (arith, steps, few)) in
-          let sum = times_sum (busy + 1) 518 (length (answers_in (epoch_begun (first ∷ past)))) in
-          let fits = few_fit busy time 518 (omega arith) in
-          omega (arith, le, most, sum, fits)
+          let fits : (busy + 1) * 518 < (busy + 2) * (520 + time) = let most = times_le (busy + 1) 518 518 (omega arith) in
+          let all = room busy time in omega (arith, most, all) in
+          omega (arith, le, most, times_sum (busy + 1) 518 (length (answers_in (epoch_begun (first ∷ past)))), fits)
 
       which : (idn : Idn) → b.request ≡ request.Command idn → ((standing (cycles ++ first ∷ past)).ended ≡ 0)
           ⊎ (open_since cycles (first ∷ past) ≤ cost_in (cost_of busy time (λ raw. 512) blocks) (b ∷ []))
           → open_since cycles (first ∷ past) < (busy + 2) * (520 + time)
       which idn asks (inl down) = absurd (stands down)
       which idn asks (inr le) =
-          let cost = ap (λ (r : Request). cost_of busy time (λ raw. 512) blocks r + 0) asks in
-          let fits = command_fits busy time in
-          omega (arith, le, cost, fits)
+          let fits : time + 4 * (busy + 1) + 0 < (busy + 2) * (520 + time) = let all = room busy time in omega (arith, all) in
+          omega (arith, le, ap (λ (r : Request). cost_of busy time (λ raw. 512) blocks r + 0) asks, fits)

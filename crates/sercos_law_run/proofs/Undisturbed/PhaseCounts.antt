@@ -25,14 +25,11 @@ pub end_kept : (s : Known) (p : Past) → fall_of s p ≡ None → after_end s p
 end_kept s p none = ap (λ o. if is_some o then new_epoch (p.cycle + 1) (still_waiting p) else goes_on (next_phase s p) p) none
 
 -- PHASE 0
-row_more : (t : Turn) (turns : List Turn) (n : ℕ) → t.whole ≡ true → whole_row turns ≡ n → whole_row (t ∷ turns) ≡ suc n
-row_more t turns n whole row = rw whole (omega (arith, row))
-
 pub none_identified : (phase : ℕ) (hears before : Bool) → phase ≡ 0 → before ≡ false → (((phase == 1) && hears) || before) ≡ false
 none_identified phase hears before none off = rw (none, off) refl
 
 closed_now : (s : Known) (p : Past) (n : ℕ) → p.now.phase ≡ 0 → p.now.whole ≡ true → whole_row p.turns ≡ n → is_done s p ≡ nat_le 10 (suc n)
-closed_now s p n zero_is whole row = ap (λ (i : ℕ). is_done_in i s p) zero_is ∙ ap (λ (i : ℕ). nat_le 10 i) (row_more p.now p.turns n whole row)
+closed_now s p n zero_is whole row = ap (λ (i : ℕ). is_done_in i s p) zero_is ∙ ap (λ (i : ℕ). nat_le 10 i) (rw whole (omega (arith, row)))
 
 -- what is looked back on when the MDT of a cycle of phase 0 is sent
 pub record IsZero (n : ℕ) (p : Past) : Type 0 where
@@ -46,7 +43,7 @@ pub zero_next : (s : Known) (p : Past) (n : ℕ) → IsZero n p → fall_of s p 
 zero_next s p n is none few = subst (λ (q : Past). Waits (suc n) q) (sym (end_kept s p none)) (record {
   phase_is = let early : nat_le 10 (suc n) ≡ false = grind (arith, nat_tests, few) in
       ap (λ (b : Bool). if b then p.now.phase + 1 else p.now.phase) (closed_now s p n is.phase_is is.whole is.row ∙ early) ∙ is.phase_is;
-  row = row_more p.now p.turns n is.whole is.row;
+  row = rw is.whole (omega (arith, is.row));
   fresh = λ k. none_identified p.now.phase (p.now.heard k) (has_identified k p.turns) is.phase_is (is.fresh k);
   silent = is.addressed;
 })
@@ -100,15 +97,12 @@ done_now s p o one first = ap (λ (i : ℕ). is_done_in i s p) one ∙ ap (λ (x
 pub one_next : (s : Known) (p : Past) (m : ℕ) → IsOne m p → m < length s.drives → p.now.addressed ≡ Some m → fall_of s p ≡ None → Identifies (suc m) (after_end s p)
 one_next s p m is less to none = subst (λ (q : Past). Identifies (suc m) q) (sym (end_kept s p none)) (record {
   phase_is = ap (λ (b : Bool). if b then p.now.phase + 1 else p.now.phase) (done_now s p (Some m) is.phase_is (first_unknown (length s.drives) m p is less)) ∙ is.phase_is;
-  identified = λ k. let same : nat_lt k m ≡ nat_lt (k + 1) (suc m) = shift k m in identified_now m p is k ∙ same;
+  identified = λ k. let same : nat_lt k m ≡ nat_lt (k + 1) (suc m) = elim (cases_Bool (nat_lt k m)) [
+    | inl less ↦ let yes : nat_lt (k + 1) (suc m) ≡ true = grind (arith, nat_tests, less) in less ∙ sym yes
+    | inr not_less ↦ let no : nat_lt (k + 1) (suc m) ≡ false = grind (arith, nat_tests, not_less) in not_less ∙ sym no
+  ] in identified_now m p is k ∙ same;
   last = (is.phase_is, to);
 })
-  where
-    shift : (k m : ℕ) → nat_lt k m ≡ nat_lt (k + 1) (suc m)
-    shift k m = elim (cases_Bool (nat_lt k m)) [
-      | inl less ↦ let yes : nat_lt (k + 1) (suc m) ≡ true = grind (arith, nat_tests, less) in less ∙ sym yes
-      | inr not_less ↦ let no : nat_lt (k + 1) (suc m) ≡ false = grind (arith, nat_tests, not_less) in not_less ∙ sym no
-    ]
 
 pub one_done : (s : Known) (p : Past) (m : ℕ) → IsOne m p → m ≡ length s.drives → fall_of s p ≡ None → (after_end s p).now.phase ≡ 2
 one_done s p m is all none = subst (λ (q : Past). q.now.phase ≡ 2) (sym (end_kept s p none))

@@ -1,5 +1,5 @@
 -- How long phases 0 and 1 last in an undisturbed epoch.
-use Rattle.sercos_law_run.proofs.Words.{◌≡◌, ℕ, zero, suc, ◌+◌, ◌<◌, ◌≤◌, Bool, true, false, not, List, [], ◌∷◌, ◌++◌, length, Some, None, refl, sym, ◌∙◌, ap, subst, arith, ◌==◌, is_some, cond_both, false≢true, nat_tests, Job, RingView, CycleView, is_place, Known, known_of, Past, Turn, first_place, addressed_before, is_awaited, has_identified, is_identified, whole_row, fall_of, next_phase, goes_on, new_epoch, still_waiting, after_end, Carry, Restarts, mst_in, ats_in, master_calls, begins, own_mst, looks_back, IsRun, IsClear, at_start, behind_mst, behind_ats, behind_mdt, IsOpened, IsUndisturbed, AreUndisturbed, StartsEpoch, came_back}
+use Rattle.sercos_law_run.proofs.Words.{◌≡◌, ℕ, zero, suc, ◌+◌, ◌<◌, ◌≤◌, Bool, true, false, List, [], ◌∷◌, ◌++◌, length, None, refl, sym, ◌∙◌, ap, subst, arith, ◌==◌, is_some, cond_both, false≢true, nat_tests, Job, RingView, CycleView, is_place, Known, known_of, Past, Turn, addressed_before, has_identified, whole_row, fall_of, next_phase, goes_on, new_epoch, still_waiting, after_end, Carry, Restarts, mst_in, ats_in, master_calls, begins, own_mst, looks_back, IsRun, IsClear, at_start, behind_mst, behind_ats, behind_mdt, IsOpened, IsUndisturbed, AreUndisturbed, StartsEpoch, came_back}
 use Rattle.sercos_law_run.proofs.Views.MasterSame.{ats_none}
 use Rattle.sercos_law_run.proofs.Views.Members.{members_count}
 use Rattle.sercos_law_run.proofs.Undisturbed.NeverFalls.{never_falls}
@@ -10,10 +10,6 @@ use Rattle.sercos_law_run.proofs.Undisturbed.NoFalls.{heard_mdt}
 use Rattle.sercos_law_run.proofs.Undisturbed.StaysUp.{addressed_first, phase_now, turns_now, whole_now, stands_so}
 use Rattle.sercos_law_run.proofs.Undisturbed.PhaseZero.{none_addressed, few_back, zero_waits}
 use Rattle.sercos_law_run.proofs.Undisturbed.PhaseCounts.{Waits, Identifies, LastTo, IsZero, IsOne, zero_next, tenth_next, first_unknown, one_next, one_done}
-
--- whose AT is awaited in phase 1: that of the drive addressed in the cycle before
-awaits_one : (p : Past) (k : ℕ) → p.now.phase ≡ 1 → is_awaited p k ≡ is_place k (addressed_before p.turns)
-awaits_one p k one = rw one refl
 
 awaits_last : (m k : ℕ) (turns : List Turn) → LastTo m turns → (k + 1 == m) ≡ false → is_place k (addressed_before turns) ≡ false
 awaits_last zero k turns last other = ap (is_place k) last
@@ -31,9 +27,6 @@ fresh_at r jobs carry restarts k (t ∷ j) = fresh_end (known_of r) k (behind_md
 
 never_before : (k : ℕ) → (k + 1 == 0) ≡ true → ⊥
 never_before k is = let no : (k + 1 == 0) ≡ false = grind (arith, nat_tests) in false≢true (sym no ∙ is)
-
-place_before : (i k : ℕ) → (k + 1 == suc i) ≡ true → i ≡ k
-place_before i k is = grind (arith, nat_tests, is)
 
 -- the newest of these cycles is undisturbed
 abbrev pub NewestUndisturbed : RingView → Carry → Restarts → List CycleView → Type 0
@@ -81,24 +74,18 @@ module _ (r : RingView) (jobs : List Job) (carry : Carry) (restarts : Restarts) 
     start_is : at_start r jobs carry restarts j ≡ looks_back r jobs (master_calls r carry restarts j)
     start_is = starts_so r jobs carry restarts opened t j run.1 (calm_in r carry restarts t j calm)
 
-    -- no other drive is heard
-    others : (k : ℕ) → (k + 1 == m) ≡ false → (behind_ats r jobs carry restarts t.sent j).now.heard k ≡ false
-    others k other = unheard_ats r jobs carry (length j) k (behind_mst r jobs carry restarts t.sent j) (ats_in t.sent) (own_mst carry (length j) (mst_in t.sent) (begins r carry restarts j))
-        (ats_none (known_of r) k (λ content. Unit {0}) (behind_mst r jobs carry restarts t.sent j)) unwanted fresh
-      where
-        unwanted : is_awaited (behind_mst r jobs carry restarts t.sent j) k ≡ false
-        unwanted = awaits_one (behind_mst r jobs carry restarts t.sent j) k (ap (λ (p : Past). p.now.phase) start_is ∙ now.phase_is)
-            ∙ ap (λ (p : Past). is_place k (addressed_before p.turns)) start_is ∙ awaits_last m k (looks_back r jobs (master_calls r carry restarts j)).turns now.last other
-
-        fresh : (behind_mst r jobs carry restarts t.sent j).now.heard k ≡ false
-        fresh = ap (λ (p : Past). p.now.heard k) start_is ∙ fresh_at r jobs carry restarts k j
-
     heard_so : (k : ℕ) → (behind_mdt r jobs carry restarts t.sent j).now.heard k ≡ (k + 1 == m)
     heard_so k = ap (λ (f : ℕ → Bool). f k) (heard_mdt (known_of r) (behind_ats r jobs carry restarts t.sent j)) ∙ by (k + 1 == m) refl
       where
         by : (b : Bool) → (k + 1 == m) ≡ b → (behind_ats r jobs carry restarts t.sent j).now.heard k ≡ (k + 1 == m)
         by true is = hears k is ∙ sym is
-        by false is = others k is ∙ sym is
+        by false is = unheard_ats r jobs carry (length j) k (behind_mst r jobs carry restarts t.sent j) (ats_in t.sent)
+            (own_mst carry (length j) (mst_in t.sent) (begins r carry restarts j))
+            (ats_none (known_of r) k (λ content. Unit {0}) (behind_mst r jobs carry restarts t.sent j))
+            (rw (ap (λ (p : Past). p.now.phase) start_is ∙ now.phase_is) refl
+            ∙ ap (λ (p : Past). is_place k (addressed_before p.turns)) start_is
+            ∙ awaits_last m k (looks_back r jobs (master_calls r carry restarts j)).turns now.last is)
+            (ap (λ (p : Past). p.now.heard k) start_is ∙ fresh_at r jobs carry restarts k j) ∙ sym is
 
     in_one : IsOne m (behind_mdt r jobs carry restarts t.sent j)
     in_one = record {
@@ -109,14 +96,10 @@ module _ (r : RingView) (jobs : List Job) (carry : Carry) (restarts : Restarts) 
       hears = heard_so;
     }
 
-    to_first : (behind_mdt r jobs carry restarts t.sent j).now.addressed ≡ first_place (known_of r) (λ k. not (is_identified (behind_mdt r jobs carry restarts t.sent j) k))
-    to_first = addressed_first (known_of r) (behind_ats r jobs carry restarts t.sent j) one_is
-
-    addressed_so : m < length (known_of r).drives → (behind_mdt r jobs carry restarts t.sent j).now.addressed ≡ Some m
-    addressed_so less = to_first ∙ first_unknown (length (known_of r).drives) m (behind_mdt r jobs carry restarts t.sent j) in_one less
-
     one_step : m < length (known_of r).drives → Identifies (suc m) (looks_back r jobs (master_calls r carry restarts (t ∷ j)))
-    one_step less = one_next (known_of r) (behind_mdt r jobs carry restarts t.sent j) m in_one less (addressed_so less) stays
+    one_step less = one_next (known_of r) (behind_mdt r jobs carry restarts t.sent j) m in_one less
+        (addressed_first (known_of r) (behind_ats r jobs carry restarts t.sent j) one_is
+        ∙ first_unknown (length (known_of r).drives) m (behind_mdt r jobs carry restarts t.sent j) in_one less) stays
 
     last_step : m ≡ length (known_of r).drives → (looks_back r jobs (master_calls r carry restarts (t ∷ j))).now.phase ≡ 2
     last_step all = one_done (known_of r) (behind_mdt r jobs carry restarts t.sent j) m in_one all stays
@@ -127,24 +110,15 @@ module _ (r : RingView) (jobs : List Job) (carry : Carry) (restarts : Restarts) 
   hears_in t j run clear calm before zero now most k is = absurd (never_before k is)
   hears_in t [] run clear calm before (suc i) now most k is = absurd now.last
   hears_in t (c ∷ j) run clear calm before (suc i) now most k is =
-      subst (λ (n : ℕ). (behind_ats r jobs carry restarts t.sent (c ∷ j)).now.heard n ≡ true) same
+      let one : t.phase ≡ 1 = next_phase_is t (c ∷ j) run calm ∙ now.phase_is in
+      let last =
+      subst (λ (p : Past). LastTo (suc i) p.turns)
+      (sym (starts_so r jobs carry restarts opened t (c ∷ j) run.1 (calm_in r carry restarts t (c ∷ j) calm))
+      ∙ goes_so r jobs carry restarts opened t c j run calm before (omega (arith, one))) now.last in
+      let first : c.phase ≡ 1 = sym (phase_now r jobs carry restarts opened c j run.0.1) ∙ last.0 in
+      subst (λ (n : ℕ). (behind_ats r jobs carry restarts t.sent (c ∷ j)).now.heard n ≡ true) (grind (arith, nat_tests, is))
       (heard_next r jobs carry restarts opened t c j run calm before i (omega (arith, most)) one last.0 last.1
       (stands_so r jobs carry restarts opened c j run.0 clear.0 before (omega (arith, first)) i (omega (arith, most)) ∙ first))
-    where
-      same : i ≡ k
-      same = place_before i k is
-
-      one : t.phase ≡ 1
-      one = next_phase_is t (c ∷ j) run calm ∙ now.phase_is
-
-      went : looks_back r jobs (master_calls r carry restarts (c ∷ j)) ≡ goes_on (next_phase (known_of r) (behind_mdt r jobs carry restarts c.sent j)) (behind_mdt r jobs carry restarts c.sent j)
-      went = sym (starts_so r jobs carry restarts opened t (c ∷ j) run.1 (calm_in r carry restarts t (c ∷ j) calm)) ∙ goes_so r jobs carry restarts opened t c j run calm before (omega (arith, one))
-
-      last : ((behind_mdt r jobs carry restarts c.sent j).now.phase ≡ 1) × ((behind_mdt r jobs carry restarts c.sent j).now.addressed ≡ Some i)
-      last = subst (λ (p : Past). LastTo (suc i) p.turns) went now.last
-
-      first : c.phase ≡ 1
-      first = sym (phase_now r jobs carry restarts opened c j run.0.1) ∙ last.0
 
   -- the ring doesn't fall
   stays_in : (t : CycleView) (cycles before : List CycleView) → IsRun r jobs carry restarts (t ∷ (cycles ++ before)) → IsClear (t ∷ (cycles ++ before)) → StartsEpoch r jobs carry restarts before
@@ -162,8 +136,7 @@ module _ (r : RingView) (jobs : List Job) (carry : Carry) (restarts : Restarts) 
       let none : back_before before ≡ 0 + back_before before = omega arith in
       subst (λ (n : ℕ). Waits n (looks_back r jobs (master_calls r carry restarts before))) none (zero_waits r jobs carry restarts before starts)
   waits_in (t ∷ cycles) before run clear starts calm few =
-      let more : suc (length cycles + back_before before) ≡ length (t ∷ cycles) + back_before before = omega arith in
-      subst (λ (n : ℕ). Waits n (looks_back r jobs (master_calls r carry restarts (t ∷ (cycles ++ before))))) more
+      subst (λ (n : ℕ). Waits n (looks_back r jobs (master_calls r carry restarts (t ∷ (cycles ++ before))))) (omega arith)
       (zero_step t (cycles ++ before) run clear calm.1 (stays_in t cycles before run clear starts calm) (length cycles + back_before before) (waits_in cycles before run.0 clear.0 starts calm.0 (omega (arith, few))) (omega (arith, few)))
 
   newest_calm : (cycles before : List CycleView) → AreUndisturbed r carry restarts cycles before → 1 ≤ length cycles → NewestUndisturbed r carry restarts (cycles ++ before)

@@ -1,5 +1,5 @@
 -- What phase 3 asks of the check for phase 4, and how it is come to.
-use Rattle.sercos_law_run.proofs.Words.{◌≡◌, ◌⊎◌, inl, inr, ℕ, suc, ◌+◌, ◌≤◌, Bool, true, false, List, [], ◌∷◌, length, Option, refl, sym, ap, ◌∙◌, arith, if◌then◌else◌, false≢true, Outcome, outcome_of, PlanView, Begun, is_ready, outcomes_in, Known, MemberView, Task, AreBegunTasks, stays_ready, cases_Bool}
+use Rattle.sercos_law_run.proofs.Words.{◌≡◌, inl, inr, ℕ, suc, ◌≤◌, false, List, [], ◌∷◌, length, Option, sym, ap, ◌∙◌, arith, false≢true, Outcome, outcome_of, PlanView, Begun, is_ready, outcomes_in, Known, MemberView, Task, AreBegunTasks, stays_ready, cases_Bool}
 use Rattle.sercos_law_run.proofs.Held.Extended.{Extends}
 use Rattle.sercos_law_run.proofs.Undisturbed.EpochCycles.{longer}
 
@@ -9,11 +9,6 @@ unready_before m old new (o, is) unready = elim (cases_Bool (is_ready m old)) [
   | inl on ↦ absurd (false≢true (sym unready ∙ ap (is_ready m) is ∙ stays_ready m old o on))
   | inr off ↦ off
 ]
-
--- where the phase comes to 3, or stays there
-pub comes_three : (done : Bool) (n : ℕ) → (if done then n + 1 else n) ≡ 3 → ((done ≡ true) × (n ≡ 2)) ⊎ ((done ≡ false) × (n ≡ 3))
-comes_three true n is = inl (refl, omega (arith, is))
-comes_three false n is = inr (refl, is)
 
 -- all but the newest request have ended
 pub begun_few : (s : Known) (k : ℕ) (plan : Option PlanView) (waiting : List Task) (phase n : ℕ) (begun : List Begun) (tasks : List Task) → AreBegunTasks s k plan waiting phase begun tasks → length (outcomes_in begun) ≤ n → length begun ≤ suc n

@@ -9,10 +9,8 @@ shifted (suc n) f = let more = shifted n f in omega (arith, more)
 pub sum_within : (f : ℕ → ℕ) (bound : DriveView → ℕ) (drives : List DriveView) → ((k : ℕ) → k < length drives → f k ≤ bound (slice_index_or drives k no_drive)) → sum_below (length drives) f ≤ sum_by bound drives
 sum_within f bound [] within = omega arith
 sum_within f bound (d ∷ drives) within =
-    let first = within 0 (omega arith) in
     let more = sum_within (λ i. f (suc i)) bound drives (λ k low. within (suc k) (omega (arith, low))) in
-    let parts = shifted (length drives) f in
-    let sum = sum_by-cons bound d drives in omega (arith, first, more, parts, sum)
+    let sum = sum_by-cons bound d drives in omega (arith, within 0 (omega arith), more, shifted (length drives) f, sum)
 
 -- no list has more than 512 words
 pub listed_all : (views : List View) → AreListed (λ raw. 512) views

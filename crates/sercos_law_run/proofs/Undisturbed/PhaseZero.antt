@@ -1,5 +1,5 @@
 -- While phase 0 is commanded, at most nine MSTs in a row came back, no drive is identified, nothing was begun, and there is no stop.
-use Rattle.sercos_law_run.proofs.Words.{◌≡◌, ℕ, zero, suc, ◌+◌, ◌<◌, ◌≤◌, ◌||◌, Bool, true, false, not, ◌&&◌, List, [], ◌∷◌, length, Option, None, refl, sym, ◌∙◌, ap, subst, arith, if◌then◌else◌, ◌==◌, nat_le, is_none, is_some, false≢true, nat_tests, Job, RingView, CycleView, Stop, is_place, last_outcome, of_phase, trouble_by, Known, Task, known_of, member, begun_by, Past, Turn, Restart, first_place, first_trouble, first_trouble_from, trouble, with_stop, with_due_plan, planned_by, all_read, settled, in_turn, is_idle, next_task, with_task, addressed_before, addressed_in, ready_to_send, has_identified, is_identified, whole_row, is_done, is_done_in, next_phase, goes_on, new_epoch, still_waiting, fall_of, after_at, after_mdt, Carry, Restarts, mst_in, ats_in, own_mst, master_calls, looks_back, at_start, behind_ats, behind_mdt, StartsEpoch, came_back, StartsAtFall, StartsAtOpening, StartsAtRestart, inl, inr, cases_Bool}
+use Rattle.sercos_law_run.proofs.Words.{◌≡◌, ℕ, zero, suc, ◌+◌, ◌<◌, ◌≤◌, ◌||◌, Bool, true, false, ◌&&◌, List, [], ◌∷◌, length, Option, None, refl, sym, ◌∙◌, ap, subst, arith, if◌then◌else◌, ◌==◌, nat_le, is_none, is_some, false≢true, nat_tests, Job, RingView, CycleView, Stop, is_place, last_outcome, of_phase, trouble_by, Known, Task, known_of, member, begun_by, Past, Turn, Restart, first_trouble, first_trouble_from, trouble, with_stop, with_due_plan, planned_by, all_read, settled, in_turn, is_idle, next_task, with_task, addressed_before, has_identified, whole_row, is_done, is_done_in, next_phase, goes_on, new_epoch, still_waiting, fall_of, after_mdt, Carry, Restarts, mst_in, ats_in, own_mst, master_calls, looks_back, at_start, behind_ats, behind_mdt, StartsEpoch, came_back, StartsAtFall, StartsAtOpening, StartsAtRestart, inl, inr, cases_Bool}
 use Rattle.sercos_master.specs.Annals.{begins}
 use Rattle.sercos_law_run.specs.Journal.Runs.{begins as begins_cycle}
 use Rattle.sercos_law_run.proofs.Views.MasterSame.{turn_mdt}
@@ -18,15 +18,8 @@ pub record IsInZero (p : Past) : Type 0 where
 new_zero : (cycle : ℕ) (waiting : ℕ → List Task) → IsInZero (new_epoch cycle waiting)
 new_zero cycle waiting = record { few = omega arith; fresh = λ k. refl; silent = refl; tasks = λ k. refl; stop = refl }
 
--- no drive is addressed in phase 0
-none_at_zero : (s : Known) (q : Past) → q.now.phase ≡ 0 → addressed_in s q ≡ None
-none_at_zero s q zero_is = by (q.now.phase == 1) (q.now.phase == 2) (ap (λ (n : ℕ). n == 1) zero_is) (ap (λ (n : ℕ). n == 2) zero_is)
-  where
-    by : (one two : Bool) → one ≡ false → two ≡ false → (if one then first_place s (λ k. not (is_identified q k)) else (if two then first_place s (λ k. not (is_idle q k)) else None)) ≡ None
-    by one two a b = rw (a, b) refl
-
 pub none_addressed : (s : Known) (p : Past) → (after_mdt s p).now.phase ≡ 0 → (after_mdt s p).now.addressed ≡ None
-none_addressed s p zero_is = none_at_zero s (ready_to_send s p) zero_is
+none_addressed s p zero_is = rw ((ap (λ (n : ℕ). n == 1) zero_is), (ap (λ (n : ℕ). n == 2) zero_is)) refl
 
 -- THE MDT changes nothing: where nothing was begun there is no trouble, no plan is due, and no request is begun.
 pub none_first : (s : Known) (p : Past) (k n : ℕ) → ((i : ℕ) → i < k + n → trouble s p i ≡ None) → first_trouble_from s p k n ≡ None
@@ -51,29 +44,10 @@ begins_zero s p k zero_is = by (is_none p.stop) (is_idle p k) (nat_le 3 p.now.ph
     by true false late two a b = refl
     by false idle late two a b = refl
 
-tasks_zero : (s : Known) (p : Past) (k : ℕ) → p.now.phase ≡ 0 → ((i : ℕ) → p.tasks i ≡ []) → (after_mdt s p).tasks k ≡ []
-tasks_zero s p k zero_is none =
-    ap (λ (q : Past). with_task (begins s q k) (q.tasks k)) (settled_zero s p zero_is none) ∙ ap (λ (o : Option Task). with_task o (p.tasks k)) (begins_zero s p k zero_is) ∙ none k
-
-stop_zero : (s : Known) (p : Past) → p.now.phase ≡ 0 → ((i : ℕ) → p.tasks i ≡ []) → p.stop ≡ None → (after_mdt s p).stop ≡ None
-stop_zero s p zero_is none before = ap (λ (q : Past). q.stop) (settled_zero s p zero_is none) ∙ before
-
--- an AT begins nothing
-at_tasks : (k : ℕ) (s : Known) (content : List ℕ) (p : Past) → (after_at s content p).tasks k ≡ p.tasks k
-at_tasks k s content p = after_at_so (λ q. q.tasks k ≡ p.tasks k) s content p refl (λ i. refl)
-
 -- the end of a cycle
 pub stays_zero : (done : Bool) (n : ℕ) → (if done then n + 1 else n) ≡ 0 → (done ≡ false) × (n ≡ 0)
 stays_zero true n is = absurd (omega (arith, is))
 stays_zero false n is = (refl, is)
-
-row_few : (s : Known) (p : Past) → p.now.phase ≡ 0 → is_done s p ≡ false → whole_row (p.now ∷ p.turns) ≤ 9
-row_few s p zero_is off =
-    let few : nat_le 10 (whole_row (p.now ∷ p.turns)) ≡ false = sym (ap (λ (n : ℕ). is_done_in n s p) zero_is) ∙ off in
-    few_of (whole_row (p.now ∷ p.turns)) few
-  where
-    few_of : (n : ℕ) → nat_le 10 n ≡ false → n ≤ 9
-    few_of n is = grind (arith, nat_tests, is)
 
 module _ (r : RingView) (jobs : List Job) (carry : Carry) (restarts : Restarts) where
   abbrev back : List CycleView → Past
@@ -102,18 +76,22 @@ module _ (r : RingView) (jobs : List Job) (carry : Carry) (restarts : Restarts) 
     after_ats = sym (turn_mdt (known_of r) (behind_ats r jobs carry restarts t.sent j)).phase_is ∙ zero_is
 
     ats_tasks : (k : ℕ) → (behind_ats r jobs carry restarts t.sent j).tasks k ≡ []
-    ats_tasks k = ats_same (λ (p : Past). p.tasks k) (at_tasks k) r jobs carry (length j) (ats_in t.sent) (own_mst carry (length j) (mst_in t.sent) (begins_cycle r carry restarts j)) ∙ start.tasks k
-
-    none_there : (behind_ats r jobs carry restarts t.sent j).stop ≡ None
-    none_there = ats_stop r jobs carry (length j) (ats_in t.sent) (own_mst carry (length j) (mst_in t.sent) (begins_cycle r carry restarts j)) ∙ start.stop
+    ats_tasks k = ats_same (λ (p : Past). p.tasks k) (λ s content p. after_at_so (λ q. q.tasks k ≡ p.tasks k) s content p refl (λ i. refl))
+        r jobs carry (length j) (ats_in t.sent) (own_mst carry (length j) (mst_in t.sent) (begins_cycle r carry restarts j)) ∙ start.tasks k
 
     goes_zero : is_done (known_of r) (now_in t j) ≡ false → IsInZero (goes_on (next_phase (known_of r) (now_in t j)) (now_in t j))
     goes_zero off = record {
-      few = row_few (known_of r) (now_in t j) zero_is off;
+      few = let few : nat_le 10 (whole_row ((now_in t j).now ∷ (now_in t j).turns)) ≡ false = sym
+          (ap (λ (n : ℕ). is_done_in n (known_of r) (now_in t j)) zero_is) ∙ off in (grind (arith, nat_tests, few));
       fresh = λ k. none_identified (now_in t j).now.phase ((now_in t j).now.heard k) (has_identified k (now_in t j).turns) zero_is (ap (has_identified k) (turns_at_end t j) ∙ start.fresh k);
       silent = none_addressed (known_of r) (behind_ats r jobs carry restarts t.sent j) zero_is;
-      tasks = λ k. tasks_zero (known_of r) (behind_ats r jobs carry restarts t.sent j) k after_ats ats_tasks;
-      stop = stop_zero (known_of r) (behind_ats r jobs carry restarts t.sent j) after_ats ats_tasks none_there;
+      tasks = λ k. ap (λ (q : Past). with_task (begins (known_of r) q k) (q.tasks k))
+          (settled_zero (known_of r) (behind_ats r jobs carry restarts t.sent j) after_ats ats_tasks)
+          ∙ ap (λ (o : Option Task). with_task o ((behind_ats r jobs carry restarts t.sent j).tasks k))
+          (begins_zero (known_of r) (behind_ats r jobs carry restarts t.sent j) k after_ats) ∙ ats_tasks k;
+      stop = ap (λ (q : Past). q.stop) (settled_zero (known_of r) (behind_ats r jobs carry restarts t.sent j) after_ats ats_tasks)
+          ∙ (ats_stop r jobs carry (length j) (ats_in t.sent) (own_mst carry (length j) (mst_in t.sent) (begins_cycle r carry restarts j))
+          ∙ start.stop);
     }
 
   end_zero : (t : CycleView) (j : List CycleView) → ((back j).now.phase ≡ 0 → IsInZero (back j)) → (back (t ∷ j)).now.phase ≡ 0 → IsInZero (back (t ∷ j))
@@ -139,45 +117,32 @@ module _ (r : RingView) (jobs : List Job) (carry : Carry) (restarts : Restarts) 
 
   -- WHERE AN EPOCH BEGINS
   begins_new : (t : CycleView) (j : List CycleView) → restarts (length j) 0 ≡ true → ((at_start r jobs carry restarts j).now.phase ≡ 0) × ((at_start r jobs carry restarts j).turns ≡ [])
-  begins_new t j on = by (restarts (length j) 0) on
-    where
-      by : (b : Bool) → b ≡ true → ((looks_back r jobs (if b then Restart ∷ master_calls r carry restarts j else master_calls r carry restarts j)).now.phase ≡ 0)
-          × ((looks_back r jobs (if b then Restart ∷ master_calls r carry restarts j else master_calls r carry restarts j)).turns ≡ [])
-      by true on = (refl, refl)
-      by false off = absurd (false≢true off)
-
-  one_at_most : (whole : Bool) → (if whole then 0 + 1 else 0) ≤ 1
-  one_at_most true = omega arith
-  one_at_most false = omega arith
+  begins_new t j on = elim (cases_Bool (restarts (length j) 0)) [
+    | inl on_is ↦ rw on_is (refl, refl)
+    | inr off ↦ let off = rw off at on in absurd (false≢true off)
+  ]
 
   pub starts_anew : (t : CycleView) (j : List CycleView) → restarts (length j) 0 ≡ true → StartsEpoch r jobs carry restarts (t ∷ j) × (came_back r jobs carry restarts (t ∷ j) ≤ 1)
   starts_anew t j on = elim (cases_Bool (is_some (fall_of (known_of r) (now_in t j)))) [
-    | inl on ↦ rw on ((refl, omega arith))
-    | inr off ↦ rw off ((ap (λ (done : Bool). if done then (now_in t j).now.phase + 1 else (now_in t j).now.phase) not_done ∙ phase, one))
+    | inl on ↦ rw on (refl, omega arith)
+    | inr off ↦ rw off (ap (λ (done : Bool). if done then (now_in t j).now.phase + 1 else (now_in t j).now.phase) not_done ∙ phase, one)
   ]
     where
-      new : ((at_start r jobs carry restarts j).now.phase ≡ 0) × ((at_start r jobs carry restarts j).turns ≡ [])
-      new = begins_new t j on
-
       phase : (now_in t j).now.phase ≡ 0
-      phase = phase_at_end t j ∙ new.0
+      phase = phase_at_end t j ∙ (begins_new t j on).0
 
       one : whole_row ((now_in t j).now ∷ (now_in t j).turns) ≤ 1
-      one = subst (λ (l : List Turn). whole_row ((now_in t j).now ∷ l) ≤ 1) (sym (turns_at_end t j ∙ new.1)) (one_at_most (now_in t j).now.whole)
-
-      low : (n : ℕ) → n ≤ 1 → nat_le 10 n ≡ false
-      low n few = grind (arith, nat_tests, few)
+      one = subst (λ (l : List Turn). whole_row ((now_in t j).now ∷ l) ≤ 1) (sym (turns_at_end t j ∙ (begins_new t j on).1))
+          (elim (cases_Bool (now_in t j).now.whole) [ inl on ↦ rw on (omega arith) | inr off ↦ rw off (omega arith) ])
 
       not_done : is_done (known_of r) (now_in t j) ≡ false
-      not_done = ap (λ (n : ℕ). is_done_in n (known_of r) (now_in t j)) phase ∙ low (whole_row ((now_in t j).now ∷ (now_in t j).turns)) one
+      not_done = ap (λ (n : ℕ). is_done_in n (known_of r) (now_in t j)) phase ∙ (grind (arith, nat_tests, one))
 
   pub starts_fallen : (t : CycleView) (j : List CycleView) → is_some (fall_of (known_of r) (now_in t j)) ≡ true → StartsEpoch r jobs carry restarts (t ∷ j) × (came_back r jobs carry restarts (t ∷ j) ≡ 0)
-  starts_fallen t j falls = by (is_some (fall_of (known_of r) (now_in t j))) falls
-    where
-      by : (on : Bool) → on ≡ true → ((if on then new_epoch ((now_in t j).cycle + 1) (still_waiting (now_in t j)) else goes_on (next_phase (known_of r) (now_in t j)) (now_in t j)).now.phase ≡ 0)
-          × (whole_row (if on then new_epoch ((now_in t j).cycle + 1) (still_waiting (now_in t j)) else goes_on (next_phase (known_of r) (now_in t j)) (now_in t j)).turns ≡ 0)
-      by true on = (refl, refl)
-      by false off = absurd (false≢true off)
+  starts_fallen t j falls = elim (cases_Bool (is_some (fall_of (known_of r) (now_in t j)))) [
+    | inl on ↦ rw on (refl, refl)
+    | inr off ↦ let off = rw off at falls in absurd (false≢true off)
+  ]
 
 pub starts_at_opening : StartsAtOpening
 starts_at_opening r jobs carry restarts = (refl, refl)

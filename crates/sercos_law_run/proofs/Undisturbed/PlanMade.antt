@@ -7,9 +7,6 @@ wishes_same : (drives : List MemberView) (k : ℕ) (f g : ℕ → List Outcome) 
 wishes_same [] k f g same = refl
 wishes_same (d ∷ drives) k f g same = ap₂ (λ (w : Wish) (l : List Wish). w ∷ l) (ap (wish_given d) (same k)) (wishes_same drives (k + 1) f g same)
 
-pub given_same : (s : Known) (p q : Past) → ((j : ℕ) → outcomes p j ≡ outcomes q j) → wishes_given s (outcomes p) ≡ wishes_given s (outcomes q)
-given_same s p q same = ap (λ (drives : List Wish). record { rate = s.rate; cycle = s.cycle; control = s.control; gap = s.gap; order = s.order; drives = drives }) (wishes_same s.drives 0 (outcomes p) (outcomes q) same)
-
 pub read_same : (s : Known) (p q : Past) → ((j : ℕ) → outcomes p j ≡ outcomes q j) → all_read s p ≡ all_read s q
 read_same s p q same =
     ap (λ (o : Option ℕ). is_none o) (from_same (length s.drives) 0 (λ k. not (is_read (member s k) (outcomes p k))) (λ k. not (is_read (member s k) (outcomes q k))) (λ j. ap (λ (l : List Outcome). not (is_read (member s j) l)) (same j)))
@@ -18,7 +15,16 @@ pub plan_made : (s : Known) (q : Past) → (after_mdt s q).now.phase ≡ 2 → (
     → nat_le (record_bytes (wishes_given s (outcomes (after_mdt s q))).drives) 2047 ≡ true → is_some (after_mdt s q).plan ≡ true
 plan_made s q two none read fits = settled_keeps (λ p. p.stop ≡ None → is_some p.plan ≡ true) s q
     (λ rests free. rests.has_plan free (sym (leaves s q).phase ∙ two) (read_same s q (after_mdt s q) same ∙ read)
-    (ap (λ (w : WishesView). nat_le (record_bytes w.drives) 2047) (given_same s q (after_mdt s q) same) ∙ fits))
+    (ap (λ (w : WishesView). nat_le (record_bytes w.drives) 2047)
+    (ap (λ (drives : List Wish). record {
+      rate = s.rate;
+      cycle = s.cycle;
+      control = s.control;
+      gap = s.gap;
+      order = s.order;
+      drives =
+          drives;
+    }) (wishes_same s.drives 0 (outcomes q) (outcomes (after_mdt s q)) same)) ∙ fits))
     (λ x free brings stopped. absurd (none-some x (sym stopped))) (λ plan makes free. refl) none
   where
     same : (k : ℕ) → outcomes q k ≡ outcomes (after_mdt s q) k

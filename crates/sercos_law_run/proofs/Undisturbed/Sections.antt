@@ -11,8 +11,7 @@ use Rattle.sercos_law_run.proofs.Cited.{work_in_three, work_in_two}
 pub sum_most : (n : ℕ) (f g : ℕ → ℕ) → ((k : ℕ) → k < n → f k ≤ g k) → sum_below n f ≤ sum_below n g
 sum_most zero f g most = omega arith
 sum_most (suc n) f g most =
-    let rest = sum_most n f g (λ k low. most k (omega (arith, low))) in
-    let last = most n (omega arith) in omega (arith, rest, last)
+    let last = most n (omega arith) in omega (arith, sum_most n f g (λ k low. most k (omega (arith, low))), last)
 
 -- one of the numbers is larger by d
 pub sum_more : (n k d : ℕ) (f g : ℕ → ℕ) → k < n → ((j : ℕ) → j < n → f j ≤ g j) → f k + d ≤ g k → sum_below n f + d ≤ sum_below n g
@@ -51,43 +50,34 @@ module _ (r : RingView) (jobs : List Job) (carry : Carry) (restarts : Restarts) 
       → GoesOnInTwo r (behind_mdt r jobs carry restarts t.sent j)
       → (k : ℕ) × (k < length r.drives) × (is_some (open_in (begun_in (view_of r jobs carry restarts k t j)
       (views_of r jobs carry restarts k j))) ≡ true)
-  opens_in_two t j run clear goes = (
-    at_work.0,
-    low,
-    some_open _ (ap (λ (l : List Begun). is_none (open_in l)) ((keeps_all r jobs carry restarts opened t j run clear).exact
-        at_work.0 low).begun_now ∙ at_work.2),
-  )
-    where
-      at_work : (k : ℕ) × (k < length (known_of r).drives) × (is_idle (behind_mdt r jobs carry restarts t.sent j) k ≡ false)
-      at_work = work_in_two (known_of r) (tasks_for (known_of r) jobs) (at_calls r carry (length j) (ats_in t.sent) (own_mst carry (length j)
-          (mst_in t.sent) (begin_calls restarts (length j) (master_calls r carry restarts j))))
-          (λ k. (are_requests (known_of r) jobs k).0) (s_known r jobs carry restarts opened (first_store r jobs carry restarts opened)).lists goes.phase goes.goes_on goes.planned goes.unchecked
-
-      low : at_work.0 < length r.drives
-      low = let count = members_count r in let inside = at_work.1 in omega (arith, count, inside)
+  opens_in_two t j run clear goes =
+      let at_work =
+      work_in_two (known_of r) (tasks_for (known_of r) jobs) (at_calls r carry (length j) (ats_in t.sent) (own_mst carry (length j)
+      (mst_in t.sent) (begin_calls restarts (length j) (master_calls r carry restarts j))))
+      (λ k. (are_requests (known_of r) jobs k).0) (s_known r jobs carry restarts opened
+      (first_store r jobs carry restarts opened)).lists goes.phase goes.goes_on goes.planned goes.unchecked in
+      let low : at_work.0 < length r.drives = let count = members_count r in let inside = at_work.1 in omega (arith, count, inside) in (
+        at_work.0,
+        low,
+        some_open _ (ap (λ (l : List Begun). is_none (open_in l)) ((keeps_all r jobs carry restarts opened t j run clear).exact
+            at_work.0 low).begun_now ∙ at_work.2),
+      )
 
   pub one_works : (t : CycleView) (cycles before : List CycleView) → IsRun r jobs carry restarts (t ∷ (cycles ++ before))
       → IsClear (t ∷ (cycles ++ before)) → GoesOnInTwo r (behind_mdt r jobs carry restarts t.sent (cycles ++ before))
       → sum_below (length r.drives) (was cycles before) + 1 ≤ sum_below (length r.drives) (was (t ∷ cycles) before)
   one_works t cycles before run clear goes =
+      let at_work = opens_in_two t (cycles ++ before) run clear goes in
       sum_more (length r.drives) at_work.0 1 (was cycles before) (λ k. one_more (opens t cycles before k) (was cycles before k)) at_work.1
       (λ k low. more_or_same (opens t cycles before k) (was cycles before k)) (one_more_is (opens t cycles before at_work.0)
-      (was cycles before at_work.0) is_open)
-    where
-      at_work : (k : ℕ) × (k < length r.drives) × (is_some (open_in (begun_in (view_of r jobs carry restarts k t (cycles ++ before))
-          (views_of r jobs carry restarts k (cycles ++ before)))) ≡ true)
-      at_work = opens_in_two t (cycles ++ before) run clear goes
-
-      is_open : opens t cycles before at_work.0 ≡ true
-      is_open = subst (λ (l : List View). is_some (open_in (begun_in (view_of r jobs carry restarts at_work.0 t
-          (cycles ++ before)) l)) ≡ true) (views_split r jobs carry restarts at_work.0 cycles before) at_work.2
+      (was cycles before at_work.0) (subst (λ (l : List View). is_some (open_in (begun_in (view_of r jobs carry restarts at_work.0 t
+      (cycles ++ before)) l)) ≡ true) (views_split r jobs carry restarts at_work.0 cycles before) at_work.2))
 
   pub none_idle : (cycles before : List CycleView) → IsRun r jobs carry restarts (cycles ++ before) → IsClear (cycles ++ before) → AreInTwo r jobs carry restarts cycles before
       → length cycles ≤ sum_below (length r.drives) (λ k. open_since (views_since r jobs carry restarts k cycles before) (views_of r jobs carry restarts k before))
   none_idle [] before run clear goes = omega arith
   none_idle (t ∷ cycles) before run clear goes =
-      let earlier = none_idle cycles before run.0 clear.0 goes.0 in
-      let grows = one_works t cycles before run clear goes.1 in omega (arith, earlier, grows)
+      let grows = one_works t cycles before run clear goes.1 in omega (arith, none_idle cycles before run.0 clear.0 goes.0, grows)
 
 module _ (r : RingView) (jobs : List Job) (carry : Carry) (restarts : Restarts) (opened : IsOpened r jobs) (k : ℕ)
     (below : k < length r.drives) where
@@ -95,7 +85,9 @@ module _ (r : RingView) (jobs : List Job) (carry : Carry) (restarts : Restarts) 
   pub never_idle : (cycles before : List CycleView) → IsRun r jobs carry restarts (cycles ++ before) → IsClear (cycles ++ before) → AreInThree r jobs carry restarts k cycles before
       → length cycles ≤ open_since (views_since r jobs carry restarts k cycles before) (views_of r jobs carry restarts k before)
   never_idle [] before run clear goes = omega arith
-  never_idle (t ∷ cycles) before run clear goes = grown (never_idle cycles before run.0 clear.0 goes.0)
+  never_idle (t ∷ cycles) before run clear goes = let grows = one_more_is _
+      (open_since (views_since r jobs carry restarts k cycles before) (views_of r jobs carry restarts k before)) is_open in
+      omega (arith, (never_idle cycles before run.0 clear.0 goes.0), grows)
     where
       at_work : is_idle (behind_mdt r jobs carry restarts t.sent (cycles ++ before)) k ≡ false
       at_work = let count = members_count r in
@@ -105,8 +97,3 @@ module _ (r : RingView) (jobs : List Job) (carry : Carry) (restarts : Restarts) 
       is_open : is_some (open_in (begun_in (view_of r jobs carry restarts k t (cycles ++ before)) (views_since r jobs carry restarts k cycles before ++ views_of r jobs carry restarts k before))) ≡ true
       is_open = subst (λ (l : List View). is_some (open_in (begun_in (view_of r jobs carry restarts k t (cycles ++ before)) l)) ≡ true) (views_split r jobs carry restarts k cycles before)
           (some_open _ (ap (λ (l : List Begun). is_none (open_in l)) ((keeps_all r jobs carry restarts opened t (cycles ++ before) run clear).exact k below).begun_now ∙ at_work))
-
-      grown : length cycles ≤ open_since (views_since r jobs carry restarts k cycles before) (views_of r jobs carry restarts k before)
-          → suc (length cycles) ≤ one_more (is_some (open_in (begun_in (view_of r jobs carry restarts k t (cycles ++ before)) (views_since r jobs carry restarts k cycles before ++ views_of r jobs carry restarts k before))))
-          (open_since (views_since r jobs carry restarts k cycles before) (views_of r jobs carry restarts k before))
-      grown before_it = let grows = one_more_is _ (open_since (views_since r jobs carry restarts k cycles before) (views_of r jobs carry restarts k before)) is_open in omega (arith, before_it, grows)

@@ -1,6 +1,6 @@
 -- In an undisturbed epoch the ring doesn't fall at the end of a cycle, if no step is open too long and each drive is heard in phases 3
 -- and 4.
-use Rattle.sercos_law_run.proofs.Words.{◌≡◌, ℕ, ◌+◌, ◌<◌, ◌≤◌, ◌||◌, Bool, true, false, not, ◌&&◌, List, [], ◌∷◌, ◌++◌, length, Option, Some, None, refl, sym, ◌∙◌, ap, subst, arith, if◌then◌else◌, ◌==◌, nat_le, is_some, option_map, unwrap_or, min, false≢true, eqb-true, leb-true, nat_tests, Job, Request, Answer, RingView, Begun, open_in, answers_it, answer_in, with_answer, Begin, Send, Hear, EndCycle, begun_by, age_of, cycles_open, phase_in, CycleView, is_place, Known, known_of, tasks_for, first_found, Past, Turn, first_from, first_place, has_identified, is_identified, count_addressed, is_idle, addressed_in, ready_to_send, after_mdt, fall_of, Carry, Restarts, Heard, View, command, with_heard, with_begun, unless_restart, epoch_begun, begun_in, BeginsEmpty, calls_in, channel_calls, drive_at, master_calls, middle, looks_back, IsNext, IsRun, IsClear, at_start, behind_ats, behind_mdt, after_mst, heard_last, view_of, views_of, IsOpened, IsUndisturbed, AreUndisturbed, StartsEpoch, begins_empty, comes_up, heard_none, IsViewRun}
+use Rattle.sercos_law_run.proofs.Words.{inr, inl, cases_Bool, ◌≡◌, ℕ, ◌+◌, ◌<◌, ◌≤◌, ◌||◌, Bool, true, false, not, ◌&&◌, List, [], ◌∷◌, ◌++◌, length, Option, Some, None, refl, sym, ◌∙◌, ap, subst, arith, if◌then◌else◌, ◌==◌, nat_le, is_some, option_map, unwrap_or, min, false≢true, eqb-true, leb-true, nat_tests, Job, Request, Answer, RingView, Begun, open_in, answers_it, answer_in, with_answer, Begin, Send, Hear, EndCycle, begun_by, age_of, cycles_open, phase_in, CycleView, is_place, Known, known_of, tasks_for, first_found, Past, Turn, first_from, first_place, has_identified, is_identified, count_addressed, is_idle, ready_to_send, after_mdt, fall_of, Carry, Restarts, Heard, View, with_heard, with_begun, unless_restart, epoch_begun, begun_in, BeginsEmpty, calls_in, channel_calls, drive_at, master_calls, middle, looks_back, IsNext, IsRun, IsClear, at_start, behind_ats, behind_mdt, after_mst, heard_last, view_of, views_of, IsOpened, IsUndisturbed, AreUndisturbed, StartsEpoch, begins_empty, comes_up, heard_none, IsViewRun}
 use Rattle.sercos_service_master.specs.Calls.{Call}
 use Rattle.sercos_law_run.proofs.Views.MasterSame.{HasHeard, Nothing, One, turn_mdt}
 use Rattle.sercos_law_run.proofs.Views.Members.{in_ring}
@@ -38,28 +38,22 @@ no_age (EndCycle ∷ c) none = ap (λ (o : Option ℕ). option_map (λ age. age 
 
 pub begun_none : (busy : ℕ) → BeginsEmpty busy → (v : View) (past : List View) → IsViewRun busy (v ∷ past) → v.phase ≤ 1 → begun_in v past ≡ []
 begun_none busy empty v past (run, next) early =
+    let none = no_request v.begins (λ some. let two = next.late some in omega (arith, two, early)) in
+    let ended : unless_restart v (epoch_begun past) ≡ [] =
+    elim (cases_Bool v.master_restarts) [
+      | inl on ↦ rw on refl
+      | inr off ↦ let low = rw off at (subst (λ (n : ℕ). n ≤ 1) next.commanded early) in rw off ((empty past run low).0)
+    ] in
     ap (λ (l : List Begun). with_begun v.begins (with_heard v.heard l)) ended ∙ ap (λ (l : List Begun). with_begun v.begins l) (heard_none v.heard) ∙ ap (λ (o : Option Request). with_begun o []) none
-  where
-    none : v.begins ≡ None
-    none = no_request v.begins (λ some. let two = next.late some in omega (arith, two, early))
-
-    ended : unless_restart v (epoch_begun past) ≡ []
-    ended = by v.master_restarts (subst (λ (n : ℕ). n ≤ 1) next.commanded early)
-      where
-        by : (b : Bool) → (if b then 0 else command past) ≤ 1 → (if b then [] else epoch_begun past) ≡ []
-        by true low = refl
-        by false low = (empty past run low).0
 
 -- THE DRIVE THAT IS ADDRESSED in phase 1 isn't identified.
 pub found_passes : (k n i : ℕ) (test : ℕ → Bool) → first_from k n test ≡ Some i → test i ≡ true
 found_passes k n i test found = (first_found k n i test found).passes
 
-first_of : (s : Known) (q : Past) → q.now.phase ≡ 1 → addressed_in s q ≡ first_place s (λ k. not (is_identified q k))
-first_of s q one = let is : (q.now.phase == 1) ≡ true = grind (arith, nat_tests, one) in
-    ap (λ (b : Bool). if b then first_place s (λ k. not (is_identified q k)) else (if q.now.phase == 2 then first_place s (λ k. not (is_idle q k)) else None)) is
-
 pub addressed_first : (s : Known) (p : Past) → (after_mdt s p).now.phase ≡ 1 → (after_mdt s p).now.addressed ≡ first_place s (λ k. not (is_identified (after_mdt s p) k))
-addressed_first s p one = first_of s (ready_to_send s p) one
+addressed_first s p one = let is : ((ready_to_send s p).now.phase == 1) ≡ true = grind (arith, nat_tests, one) in
+    ap (λ (b : Bool). if b then first_place s (λ k. not (is_identified (ready_to_send s p) k)) else
+    (if (ready_to_send s p).now.phase == 2 then first_place s (λ k. not (is_idle (ready_to_send s p) k)) else None)) is
 
 not_heard : (phase : ℕ) (hears before : Bool) → phase ≡ 1 → not (((phase == 1) && hears) || before) ≡ true → hears ≡ false
 not_heard phase true before one off = let is : (phase == 1) ≡ true = grind (arith, nat_tests, one) in absurd (false≢true (rw is at off))
@@ -70,10 +64,6 @@ unheard_addressed s p k one to =
     let found : first_place s (λ i. not (is_identified (after_mdt s p) i)) ≡ Some k = sym (addressed_first s p one) ∙ place_so k (after_mdt s p).now.addressed to in
     sym (ap (λ (f : ℕ → Bool). f k) (heard_mdt s p))
     ∙ not_heard (after_mdt s p).now.phase ((after_mdt s p).now.heard k) (has_identified k (after_mdt s p).turns) one (found_passes 0 (length s.drives) k (λ i. not (is_identified (after_mdt s p) i)) found)
-
--- what tests say of a phase
-early_of : (n : ℕ) → nat_le 2 n ≡ false → n ≤ 1
-early_of n is = grind (arith, nat_tests, is)
 
 module _ (r : RingView) (jobs : List Job) (carry : Carry) (restarts : Restarts) (opened : IsOpened r jobs) where
   -- what a cycle's ATs and its MDT leave of the turn
@@ -120,18 +110,15 @@ module _ (r : RingView) (jobs : List Job) (carry : Carry) (restarts : Restarts) 
       ap (λ (l : List Turn). count_addressed k l) (turns_now t (before ∷ j) ∙ ap (λ (x : Past). x.turns) (goes_so r jobs carry restarts opened t before j run now_calm then_calm (omega (arith, one))))
       ∙ by ((behind_mdt r jobs carry restarts before.sent j).now.phase == 1) (is_place k (behind_mdt r jobs carry restarts before.sent j).now.addressed) refl refl
     where
-      unheard : (behind_ats r jobs carry restarts t.sent (before ∷ j)).now.heard k ≡ false
-      unheard = unheard_addressed (known_of r) (behind_ats r jobs carry restarts t.sent (before ∷ j)) k (phase_now t (before ∷ j) run.1 ∙ one) to
-
       by : (was here : Bool) → ((behind_mdt r jobs carry restarts before.sent j).now.phase == 1) ≡ was → is_place k (behind_mdt r jobs carry restarts before.sent j).now.addressed ≡ here
           → (if was && here then count_addressed k (behind_mdt r jobs carry restarts before.sent j).turns + 1 else 0) ≡ 0
       by true true was here =
           let was_one : (behind_mdt r jobs carry restarts before.sent j).now.phase ≡ 1 = eqb-true (behind_mdt r jobs carry restarts before.sent j).now.phase 1 was in
           let first : before.phase ≡ 1 = sym (phase_now before j run.0.1) ∙ was_one in
-          let heard = heard_next r jobs carry restarts opened t before j run now_calm then_calm k below one was_one
-          (place_so k (behind_mdt r jobs carry restarts before.sent j).now.addressed here)
-          (stands_so before j run.0 clear.0 then_calm (omega (arith, first)) k below ∙ first) in
-          absurd (false≢true (sym unheard ∙ heard))
+          absurd (false≢true (sym (unheard_addressed (known_of r) (behind_ats r jobs carry restarts t.sent (before ∷ j)) k
+          (phase_now t (before ∷ j) run.1 ∙ one) to) ∙ (heard_next r jobs carry restarts opened t before j run now_calm then_calm k below
+          one was_one (place_so k (behind_mdt r jobs carry restarts before.sent j).now.addressed here)
+          (stands_so before j run.0 clear.0 then_calm (omega (arith, first)) k below ∙ first))))
       by true false was here = refl
       by false here was is = refl
 
@@ -152,7 +139,8 @@ module _ (r : RingView) (jobs : List Job) (carry : Carry) (restarts : Restarts) 
     where
       short : (k : ℕ) → k < length r.drives → (late : Bool) → nat_le 2 t.phase ≡ late → cycles_open ((behind_mdt r jobs carry restarts t.sent (cycles ++ before)).calls k) ≤ 63
       short k below true late = subst (λ (c : List Call). cycles_open c ≤ 63) (calls_now r jobs carry restarts opened t (cycles ++ before) run clear k below) (answers (leb-true 2 t.phase late) k below)
-      short k below false late = let none = idle_then t (cycles ++ before) run clear (early_of t.phase late) k below in omega (arith, none)
+      short k below false late = let none = idle_then t (cycles ++ before) run clear (grind (arith, nat_tests, late)) k below in
+          omega (arith, none)
 
       once : (cs : List CycleView) → IsRun r jobs carry restarts (t ∷ (cs ++ before)) → IsClear (t ∷ (cs ++ before)) → AreUndisturbed r carry restarts cs before → IsUndisturbed r carry restarts t (cs ++ before) → t.phase ≡ 1
           → (k : ℕ) → k < length r.drives → is_place k (behind_mdt r jobs carry restarts t.sent (cs ++ before)).now.addressed ≡ true → count_addressed k (behind_mdt r jobs carry restarts t.sent (cs ++ before)).turns ≡ 0

@@ -1,5 +1,5 @@
 -- Each request that ends is told in the record of its cycle. So in an undisturbed epoch the requests to a drive are reported in time.
-use Rattle.sercos_law_run.proofs.Words.{◌≡◌, inl, inr, ℕ, zero, suc, ◌+◌, ◌*◌, ◌<◌, ◌≤◌, Bool, true, false, if◌then◌else◌, List, [], ◌∷◌, ◌++◌, drop, length, Option, Some, None, refl, sym, ap, ◌∙◌, subst, arith, length-append, append_assoc, is_none, is_some, option_map, slice_get, slice_index, cases_lt, false≢true, slice_get_within, Job, Outcome, next_step, outcome_of, PlanView, startup_bound, RingView, Begun, open_in, begun_by, CycleView, reads_count, is_ready, Report, broken_number, count_requests, number_in, outcomes_in, with_outcome, Known, Task, known_of, member, tasks_for, get_left, get_map, ready_long, Past, Call, Restart, outcomes, is_idle, fall_of, goes_on, next_phase, new_epoch, still_waiting, broken, Carry, Restarts, heard, passage, mst_in, ats_in, drive_at, station_of, with_at, at_calls, own_mst, begins, master_calls, looks_back, middle, IsRun, IsClear, Channel, channel_at, HasOutcome, HasReport, AreNumbered, told, told_at_end, with_number, after_told, still_to_tell, task_numbers, IsTask, OfReads, OfWrites, Checks3, Lists3, Checks4, Lists4, OfWaiting, AreBegunTasks, behind_mdt, IsOpened, StartsEpoch, HaveTold, left_after, request_cycles, waiting_after, AreUndisturbed, recovers_in_time, times_suc, cases_Bool}
+use Rattle.sercos_law_run.proofs.Words.{◌≡◌, inl, inr, ℕ, zero, suc, ◌+◌, ◌*◌, ◌<◌, ◌≤◌, Bool, true, false, if◌then◌else◌, List, [], ◌∷◌, ◌++◌, drop, length, Option, Some, None, refl, sym, ap, ◌∙◌, subst, arith, length-append, append_assoc, is_none, is_some, option_map, slice_get, slice_index, cases_lt, false≢true, slice_get_within, Job, Outcome, next_step, outcome_of, PlanView, startup_bound, RingView, Begun, open_in, begun_by, CycleView, reads_count, is_ready, Report, broken_number, count_requests, number_in, outcomes_in, with_outcome, Known, Task, known_of, member, tasks_for, get_left, get_map, ready_long, Past, Call, Restart, outcomes, is_idle, fall_of, broken, Carry, Restarts, heard, passage, mst_in, ats_in, drive_at, station_of, with_at, at_calls, own_mst, begins, master_calls, looks_back, middle, IsRun, IsClear, channel_at, HasReport, AreNumbered, told, told_at_end, with_number, after_told, still_to_tell, task_numbers, IsTask, OfReads, OfWrites, Checks3, Lists3, Checks4, Lists4, OfWaiting, AreBegunTasks, behind_mdt, IsOpened, StartsEpoch, HaveTold, left_after, request_cycles, waiting_after, AreUndisturbed, recovers_in_time, times_suc, cases_Bool}
 use Rattle.sercos_telegram.specs.declared.layout.Kind.TheVariants as kinds
 use Rattle.sercos_law_run.proofs.Agenda.TaskRuns.{all_ended}
 use Rattle.sercos_law_run.proofs.Headline.HeadlineRuns.{keeps_all}
@@ -83,9 +83,6 @@ none_of s k plan waiting phase [] tasks none are = refl
 none_of s k plan waiting phase (b ∷ older) [] none are = absurd are
 none_of s k plan waiting phase (b ∷ older) (t ∷ tasks) none are = absurd (cc)
 
-all_left : (c : Channel) → c.report ≡ None → open_in c.begun ≡ None → c.tasks ≡ [] → still_to_tell c ≡ task_numbers c.waiting
-all_left c quiet idle none = rw (quiet, idle, none) refl
-
 -- The request at work after the start-up is one of those that wait, so it has a number.
 newest_waits : (s : Known) (k : ℕ) (plan : Option PlanView) (waiting : List Task) → AreNumbered waiting → (phase : ℕ) (begun : List Begun) (tasks : List Task) → AreBegunTasks s k plan waiting phase begun tasks → is_none (open_in begun) ≡ false → is_ready (member s k) (outcomes_in begun) ≡ true
     → reads_count (member s k) + 13 ≤ length (outcomes_in begun) → (length begun ≡ suc (length (outcomes_in begun))) × ((j : ℕ) × (length (outcomes_in begun) ≡ reads_count (member s k) + (13 + j)) × (j < length waiting)) × (is_some (number_in tasks) ≡ true)
@@ -159,10 +156,6 @@ module _ (r : RingView) (jobs : List Job) (carry : Carry) (restarts : Restarts) 
   left_next t j quiet = same_after (told_by j) _ _
       (sym (after_end (falls_in t j) ((now_in t j).now.report k) (broken (now_in t j) k) (told_by j) (left (t ∷ j))) ∙ ap (λ (l : List Report). after_told l (left (t ∷ j))) (sym (told_next t j quiet)) ∙ in_order (t ∷ j) ∙ sym (in_order j))
 
-  told_in : (t : CycleView) (j : List CycleView) → IsRun r jobs carry restarts (t ∷ j) → IsClear (t ∷ j) → (x : Report) → HasReport (told_at_end (falls_in t j) ((now_in t j).now.report k) (broken (now_in t j) k) []) x.number x.outcome
-      → HasOutcome t.events.outcomes x.number x.outcome
-  told_in t j run clear x has = ((keeps_all r jobs carry restarts opened t j run clear).reported.events x.number x.outcome).1 (inr (k, in_known r k below, has))
-
   -- in phase 0 of an epoch all that wait are left
   none_reported : (before : List CycleView) → (looks_back r jobs (master_calls r carry restarts before)).now.report k ≡ None
   none_reported [] = refl
@@ -177,7 +170,7 @@ module _ (r : RingView) (jobs : List Job) (carry : Carry) (restarts : Restarts) 
       let begun : begun_by ((looks_back r jobs (master_calls r carry restarts before)).calls k) ≡ [] =
       none_of (known_of r) k _ _ _ (begun_by ((looks_back r jobs (master_calls r carry restarts before)).calls k)) ((looks_back r jobs (master_calls r carry restarts before)).tasks k) tasks
       (begins_tasks (known_of r) (tasks_for (known_of r) jobs) (master_calls r carry restarts before) k (in_known r k below)) in
-      all_left (channel_at (looks_back r jobs (master_calls r carry restarts before)) k) (none_reported before) (ap open_in begun) tasks
+      (rw ((none_reported before), (ap open_in begun), tasks) refl)
 
   -- THE REQUESTS THAT WERE LEFT: those that were told in these cycles, and then those that are left still; regardless of falls, if the
   -- master doesn't restart.
@@ -195,7 +188,12 @@ module _ (r : RingView) (jobs : List Job) (carry : Carry) (restarts : Restarts) 
       record {
         numbers = earlier.numbers ++ now;
         all = told_both (t ∷ cycles) earlier.numbers now (told_later t cycles earlier.numbers earlier.all)
-            (all_told (t ∷ cycles) (falls_in t (cycles ++ before)) ((now_in t (cycles ++ before)).now.report k) (broken (now_in t (cycles ++ before)) k) (λ x has. inl (x.outcome, told_in t (cycles ++ before) run clear x has)));
+            (all_told (t ∷ cycles) (falls_in t (cycles ++ before)) ((now_in t (cycles ++ before)).now.report k)
+            (broken (now_in t (cycles ++ before)) k) (λ x has. inl (
+              x.outcome,
+              (((keeps_all r jobs carry restarts opened t (cycles ++ before) run clear).reported.events x.number x.outcome).1
+                  (inr (k, in_known r k below, has))),
+            )));
         is = append_assoc earlier.numbers now (left (t ∷ (cycles ++ before)))
             ∙ ap (λ (l : List (Option ℕ)). earlier.numbers ++ l) (left_next t (cycles ++ before) quiet.1) ∙ earlier.is;
       }
@@ -204,35 +202,32 @@ module _ (r : RingView) (jobs : List Job) (carry : Carry) (restarts : Restarts) 
       → AreUndisturbed r carry restarts cycles before → IsTold cycles before
   told_since cycles before run clear calm = told_along cycles before run clear (quiet_since r carry restarts cycles before calm)
 
-  -- A REQUEST IS REPORTED if it isn't left.
+  -- A REQUEST IS REPORTED if it was left and isn't any more,
+  pub told_if_left : (cycles before : List CycleView) → IsTold cycles before → (i : ℕ) (x : Option ℕ)
+      → slice_get (left before) i ≡ Some x
+      → ((n : ℕ) → length (left before) ≤ n + suc i → length (left (cycles ++ before)) ≤ n)
+      → (number : ℕ) × (x ≡ Some number) × HaveTold cycles number
+  told_if_left cycles before is_told i x got few =
+      let rest = beyond (suc i) (length (left before)) (let low = slice_get_within (left before) i x got in omega (arith, low)) in
+      let early : i < length is_told.numbers =
+      let all = ap (λ (l : List (Option ℕ)). length l) is_told.is in
+      let parts = length-append is_told.numbers (left (cycles ++ before)) in
+      let count = rest.1 in
+      let least = few rest.0 (omega (arith, count)) in omega (arith, least, count, all, parts) in
+      told_there cycles is_told.numbers i x is_told.all (sym (get_left is_told.numbers (left (cycles ++ before)) i early)
+      ∙ ap (λ (l : List (Option ℕ)). slice_get l i) is_told.is ∙ got)
+
+  -- or if it waited when the epoch began.
   pub told_if_few : (cycles before : List CycleView) → IsTold cycles before → StartsEpoch r jobs carry restarts before
       → (i : ℕ) (x : Task) → slice_get (waiting_after r jobs carry restarts before k) i ≡ Some x
       → ((n : ℕ) → length (waiting_after r jobs carry restarts before k) ≤ n + suc i → length (left (cycles ++ before)) ≤ n)
       → (number : ℕ) × (x.number ≡ Some number) × HaveTold cycles number
-  told_if_few cycles before is_told starts i x got few =
-      told_there cycles is_told.numbers i x.number is_told.all (sym (get_left is_told.numbers (left (cycles ++ before)) i early)
-      ∙ ap (λ (l : List (Option ℕ)). slice_get l i) is ∙ there)
-    where
-      low : i < length (waiting_after r jobs carry restarts before k)
-      low = slice_get_within (waiting_after r jobs carry restarts before k) i x got
-
-      rest : (n : ℕ) × (length (waiting_after r jobs carry restarts before k) ≡ suc i + n)
-      rest = beyond (suc i) (length (waiting_after r jobs carry restarts before k)) (omega (arith, low))
-
-      is : is_told.numbers ++ left (cycles ++ before) ≡ task_numbers (waiting_after r jobs carry restarts before k)
-      is = is_told.is ∙ left_first before starts
-
-      there : slice_get (task_numbers (waiting_after r jobs carry restarts before k)) i ≡ Some x.number
-      there = get_map (λ (y : Task). y.number) (waiting_after r jobs carry restarts before k) i
-          ∙ ap (option_map (λ (y : Task). y.number)) got
-
-      early : i < length is_told.numbers
-      early =
-          let all = ap (λ (l : List (Option ℕ)). length l) is in
-          let parts = length-append is_told.numbers (left (cycles ++ before)) in
-          let numbers = numbers_long (waiting_after r jobs carry restarts before k) in
-          let count = rest.1 in
-          let least = few rest.0 (omega (arith, count)) in omega (arith, least, count, all, parts, numbers)
+  told_if_few cycles before is_told starts i x got few = told_if_left cycles before is_told i x.number
+      (ap (λ (l : List (Option ℕ)). slice_get l i) (left_first before starts)
+      ∙ get_map (λ (y : Task). y.number) (waiting_after r jobs carry restarts before k) i
+      ∙ ap (option_map (λ (y : Task). y.number)) got)
+      (λ n most. few n (let same = ap length (left_first before starts) in
+      let numbers = numbers_long (waiting_after r jobs carry restarts before k) in omega (arith, same, numbers, most)))
 
   -- HOW MANY ARE LEFT after a cycle of phase 4
   module _ (t : CycleView) (j : List CycleView) (run : IsRun r jobs carry restarts (t ∷ j)) (clear : IsClear (t ∷ j))
@@ -260,18 +255,16 @@ module _ (r : RingView) (jobs : List Job) (carry : Carry) (restarts : Restarts) 
         by true is =
             let same = all_ended (known_of r) k now.plan (now.waiting k) now.now.phase (begun_by (now.calls k)) (now.tasks k) begun_tasks is in
             let count = counted r jobs carry restarts opened k below t j run clear on four in
-            let rest = dropped (now.waiting k) n (count_requests (now.tasks k)) (omega (arith, same, count, ended)) low in
             let long = numbers_long (drop (count_requests (now.tasks k)) (now.waiting k)) in
-            omega (arith, rest, long)
+            omega (arith, dropped (now.waiting k) n (count_requests (now.tasks k)) (omega (arith, same, count, ended)) low, long)
         by false is =
             let newest = newest_waits (known_of r) k now.plan (now.waiting k) waits_numbered now.now.phase (begun_by (now.calls k)) (now.tasks k) begun_tasks is
             (ready_now r jobs carry restarts opened k below t j run clear on four) (omega (arith, ended)) in
             let one = newest.0 in let at = newest.1.1 in let there = newest.1.2 in
             let count = counted r jobs carry restarts opened k below t j run clear on four in
             let rest = dropped (now.waiting k) (suc n) (count_requests (now.tasks k)) (omega (arith, one, at, count, ended)) (omega (arith, at, there, ended)) in
-            let long = numbers_long (drop (count_requests (now.tasks k)) (now.waiting k)) in
             let most = with_few (broken_number (number_in (now.tasks k))) (task_numbers (drop (count_requests (now.tasks k)) (now.waiting k))) in
-            omega (arith, rest, long, most)
+            omega (arith, rest, numbers_long (drop (count_requests (now.tasks k)) (now.waiting k)), most)
 
     pub ended_now : reads_count (member (known_of r) k) + 13 ≤ length (outcomes now k)
     ended_now = let many = ready_long (member (known_of r) k) (outcomes now k) (ready_now r jobs carry restarts opened k below t j run clear on four) in omega (arith, many)
@@ -286,26 +279,20 @@ module _ (r : RingView) (jobs : List Job) (carry : Carry) (restarts : Restarts) 
 
     many_left : length (now.waiting k) + (reads_count (member (known_of r) k) + 13)
         ≤ length (with_number (if is_idle now k then None else broken_number (number_in (now.tasks k))) (task_numbers (drop (count_requests (now.tasks k)) (now.waiting k)))) + length (outcomes now k)
-    many_left = by (is_idle (behind_mdt r jobs carry restarts t.sent j) k) refl
-      where
-        by : (idle : Bool) → is_idle (behind_mdt r jobs carry restarts t.sent j) k ≡ idle
-            → length (now.waiting k) + (reads_count (member (known_of r) k) + 13)
-            ≤ length (with_number (if idle then None else broken_number (number_in (now.tasks k))) (task_numbers (drop (count_requests (now.tasks k)) (now.waiting k)))) + length (outcomes now k)
-        by true is =
-            let same = all_ended (known_of r) k now.plan (now.waiting k) now.now.phase (begun_by (now.calls k)) (now.tasks k) begun_tasks is in
-            let count = counted r jobs carry restarts opened k below t j run clear on four in
-            let rest = kept_most (count_requests (now.tasks k)) (now.waiting k) in
-            let long = numbers_long (drop (count_requests (now.tasks k)) (now.waiting k)) in
-            omega (arith, same, count, rest, long)
-        by false is =
-            let newest = newest_waits (known_of r) k now.plan (now.waiting k) waits_numbered now.now.phase (begun_by (now.calls k)) (now.tasks k) begun_tasks is
-            (ready_now r jobs carry restarts opened k below t j run clear on four) ended_now in
-            let one = newest.0 in
-            let count = counted r jobs carry restarts opened k below t j run clear on four in
-            let rest = kept_most (count_requests (now.tasks k)) (now.waiting k) in
-            let long = numbers_long (drop (count_requests (now.tasks k)) (now.waiting k)) in
-            let all = with_one (number_in (now.tasks k)) (task_numbers (drop (count_requests (now.tasks k)) (now.waiting k))) newest.2 in
-            omega (arith, one, count, rest, long, all)
+    many_left = elim (cases_Bool (is_idle (behind_mdt r jobs carry restarts t.sent j) k)) [
+      | inl is ↦ rw is (let same = all_ended (known_of r) k now.plan (now.waiting k) now.now.phase (begun_by (now.calls k)) (now.tasks k)
+          begun_tasks is in
+          let rest = kept_most (count_requests (now.tasks k)) (now.waiting k) in
+          let long = numbers_long (drop (count_requests (now.tasks k)) (now.waiting k)) in
+          omega (arith, same, counted r jobs carry restarts opened k below t j run clear on four, rest, long))
+      | inr is ↦ rw is (let newest = newest_waits (known_of r) k now.plan (now.waiting k) waits_numbered now.now.phase
+          (begun_by (now.calls k)) (now.tasks k) begun_tasks is
+          (ready_now r jobs carry restarts opened k below t j run clear on four) ended_now in
+          let count = counted r jobs carry restarts opened k below t j run clear on four in
+          let long = numbers_long (drop (count_requests (now.tasks k)) (now.waiting k)) in
+          let all = with_one (number_in (now.tasks k)) (task_numbers (drop (count_requests (now.tasks k)) (now.waiting k))) newest.2 in
+          omega (arith, newest.0, count, kept_most (count_requests (now.tasks k)) (now.waiting k), long, all))
+    ]
 
     pub left_many : length (now.waiting k) + (reads_count (member (known_of r) k) + 13) ≤ length (left (t ∷ j)) + length (outcomes now k)
     left_many = subst (λ (p : Past). length (now.waiting k) + (reads_count (member (known_of r) k) + 13) ≤ length (still_to_tell (channel_at p k)) + length (outcomes now k)) (sym (end_kept (known_of r) now on.stays)) many_left
@@ -334,20 +321,17 @@ module _ (r : RingView) (jobs : List Job) (carry : Carry) (restarts : Restarts) 
   abbrev waits : ℕ
   waits = length ((looks_back r jobs (master_calls r carry restarts old)).waiting k)
 
-  waits_one : length ((behind_mdt r jobs carry restarts one.sent old).waiting k) ≡ length ((looks_back r jobs (master_calls r carry restarts old)).waiting k)
-  waits_one = ap (λ (l : List Task). length l) (waits_now r jobs carry restarts one old first k)
-
-  waits_t : length ((behind_mdt r jobs carry restarts t.sent (cycles ++ one ∷ old)).waiting k) ≡ length ((looks_back r jobs (master_calls r carry restarts old)).waiting k)
-  waits_t = ap (λ (l : List Task). length l) (waits_now r jobs carry restarts t (cycles ++ one ∷ old) on.1 k ∙ waits_along r jobs carry restarts cycles (one ∷ old) on.0 k ∙ waits_along r jobs carry restarts (one ∷ []) old (tt, first) k)
-
   many : waits ≤ length (left_after r jobs carry restarts (one ∷ old) k) + m.0
-  many = let least = left_many r jobs carry restarts opened k below one old rest_run.0 rest_run.1 first one_four in let same = waits_one in let is = m.1 in omega (arith, least, same, is)
+  many = let least = left_many r jobs carry restarts opened k below one old rest_run.0 rest_run.1 first one_four in
+      let same = ap (λ (l : List Task). length l) (waits_now r jobs carry restarts one old first k) in let is = m.1 in
+      omega (arith, least, same, is)
 
   few : (x : ℕ) → x ≤ m.0 + suc i → x ≤ waits → length (left_after r jobs carry restarts (t ∷ (cycles ++ one ∷ old)) k) + x ≤ waits
   few x most low =
       let ended = have_ended r jobs carry restarts opened k below P goes lasts one old one_is one_four m.0
       (let is = m.1 in omega (arith, is)) (suc i) t cycles run clear those long x most low in
-      let same = waits_t in
+      let same = ap (λ (l : List Task). length l) (waits_now r jobs carry restarts t (cycles ++ one ∷ old) on.1 k
+      ∙ waits_along r jobs carry restarts cycles (one ∷ old) on.0 k ∙ waits_along r jobs carry restarts (one ∷ []) old (tt, first) k) in
       let left_is = left_few r jobs carry restarts opened k below t (cycles ++ one ∷ old) run clear on.1 four x ended (omega (arith, same, low)) in
       omega (arith, left_is, same)
 
@@ -403,17 +387,13 @@ module _ (r : RingView) (jobs : List Job) (carry : Carry) (restarts : Restarts) 
     c : IsCut r jobs carry restarts later.0 cycles before
     c = cut r jobs carry restarts cycles before later.0 (let is = later.1 in omega (arith, is)) on_epoch.0 calm.0
 
-    run_cut : IsRun r jobs carry restarts (t ∷ (c.newer ++ c.one ∷ (c.older ++ before)))
-    run_cut = subst (λ (l : List CycleView). IsRun r jobs carry restarts (t ∷ l)) c.is run
-
-    clear_cut : IsClear (t ∷ (c.newer ++ c.one ∷ (c.older ++ before)))
-    clear_cut = subst (λ (l : List CycleView). IsClear (t ∷ l)) c.is clear
-
     on_cut : AreOn r jobs carry restarts (t ∷ c.newer) (c.one ∷ (c.older ++ before))
     on_cut = (c.on, subst (λ (l : List CycleView). IsOn r jobs carry restarts t l) c.is on_epoch.1)
 
     one_four : c.one.phase ≡ 4
-    one_four = four_since r jobs carry restarts opened t c.newer c.one c.older before run_cut clear_cut
+    one_four = four_since r jobs carry restarts opened t c.newer c.one c.older before
+        (subst (λ (l : List CycleView). IsRun r jobs carry restarts (t ∷ l)) c.is run)
+        (subst (λ (l : List CycleView). IsClear (t ∷ l)) c.is clear)
         (goings r jobs carry restarts (t ∷ c.newer) (c.one ∷ (c.older ++ before)) on_cut)
         (going r jobs carry restarts c.one (c.older ++ before) c.on_older.1) starts c.calm
         (let is = later.1 in let rest = c.rest in omega (arith, is, rest)) four
@@ -423,7 +403,8 @@ module _ (r : RingView) (jobs : List Job) (carry : Carry) (restarts : Restarts) 
         (left_waiting r jobs carry restarts opened k below (IsOn r jobs carry restarts)
         (going r jobs carry restarts)
         (lasts_undisturbed recovers_in_time r jobs carry restarts opened k below) t c.newer c.one
-        (c.older ++ before) run_cut clear_cut on_cut c.on_older.1 one_four four i
+        (c.older ++ before) (subst (λ (l : List CycleView). IsRun r jobs carry restarts (t ∷ l)) c.is run)
+        (subst (λ (l : List CycleView). IsClear (t ∷ l)) c.is clear) on_cut c.on_older.1 one_four four i
         (let is = later.1 in let count = c.long in omega (arith, is, count, long)) n
         (subst (λ (l : List Task). length l ≤ n + suc i) (sym (waits_along r jobs carry restarts c.older before
         (goings r jobs carry restarts c.older before c.on_older.0) k)) enough))

@@ -11,7 +11,7 @@ never_disturbed r carry restarts (t ∷ j) calm = (never_disturbed r carry resta
 
 pub starts_up : StartsUndisturbed
 starts_up r jobs carry restarts t j opened run calm = record {
-  clear = clear;
+  clear = subst (λ (l : List CycleView). IsClear (t ∷ l)) (append-nil j) clear_long;
   tells = s.tells;
   rises = s.rises;
   right = s.right;
@@ -25,17 +25,11 @@ starts_up r jobs carry restarts t j opened run calm = record {
   reports = s.reports;
 }
   where
-    since : AreUndisturbed r carry restarts (t ∷ j) []
-    since = never_disturbed r carry restarts (t ∷ j) calm
-
     long : IsRun r jobs carry restarts (t ∷ (j ++ []))
     long = subst (λ (l : List CycleView). IsRun r jobs carry restarts (t ∷ l)) (sym (append-nil j)) run
 
     clear_long : IsClear (t ∷ (j ++ []))
-    clear_long = stays_clear r jobs carry restarts (t ∷ j) [] long tt since
-
-    clear : IsClear (t ∷ j)
-    clear = subst (λ (l : List CycleView). IsClear (t ∷ l)) (append-nil j) clear_long
+    clear_long = stays_clear r jobs carry restarts (t ∷ j) [] long tt (never_disturbed r carry restarts (t ∷ j) calm)
 
     s : StartsAgain r jobs carry restarts t j []
-    s = starts_again r jobs carry restarts opened t j [] long clear_long refl since
+    s = starts_again r jobs carry restarts opened t j [] long clear_long refl (never_disturbed r carry restarts (t ∷ j) calm)

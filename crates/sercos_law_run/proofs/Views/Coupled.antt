@@ -1,5 +1,5 @@
 -- What the master hears of a drive's AT is what the drive said.
-use Rattle.sercos_law_run.proofs.Words.{◌≡◌, ℕ, ◌<◌, ◌≤◌, Bool, true, false, ◌&&◌, ◌||◌, List, [], ◌∷◌, length, Option, Some, None, refl, sym, ◌∙◌, ap, subst, arith, if◌then◌else◌, nat_le, slice_index, IfSome, unwrap_or, nat_tests, status_of, word_at, Job, DriveView, RingView, is_ring, shown_by, channel_says, DriveCall, Moment, phase_in, cycle_in, has_mst, has_taken, records_in, blocks_in, commands_in, annals, Said, said, said_in, sends, values_in, Known, known_of, Past, Call, place_of, Carry, Heard, heard, passage, drive_at, station_of, with_at, at_calls, looks_back, heard_last, IsSaid}
+use Rattle.sercos_law_run.proofs.Words.{◌≡◌, ℕ, ◌<◌, ◌≤◌, Bool, true, false, ◌&&◌, ◌||◌, List, [], ◌∷◌, length, Option, Some, None, refl, sym, ◌∙◌, ap, subst, arith, nat_le, slice_index, IfSome, nat_tests, status_of, word_at, Job, DriveView, RingView, is_ring, shown_by, channel_says, DriveCall, Moment, phase_in, cycle_in, has_mst, has_taken, records_in, blocks_in, commands_in, annals, Said, said_in, values_in, Known, known_of, Past, Call, place_of, Carry, Heard, heard, passage, drive_at, station_of, with_at, at_calls, looks_back, heard_last, IsSaid}
 use Rattle.sercos_telegram.specs.declared.layout.Kind.TheVariants as kinds
 use Rattle.sercos_service_master.specs.Calls as channel
 use Rattle.sercos_law_run.proofs.Views.MasterSame.{HasHeard, Nothing, One, AfterAts, ats_next}
@@ -50,6 +50,5 @@ pub speaks : (r : RingView) (k : ℕ) (h : ℕ → List DriveCall) (content : Li
 speaks r k h content valid small is found =
     let (speaking, address) = spoken (drive_at r is.place) r.rate (annals (drive_at r is.place) r.rate (h is.place)) is.says is.said (small is.place is.inside) in
     let there : place_of (known_of r) (drive_at r is.place).address ≡ Some k = ap (place_of (known_of r)) (sym address ∙ ap (λ (c : List ℕ). slice_index c 0) (sym is.content_is)) ∙ found in
-    let same : is.place ≡ k = place_is r is.place k valid is.inside there in
-    subst (λ i. Speaks (drive_at r i) r.rate (annals (drive_at r i) r.rate (h i)) content) same
+    subst (λ i. Speaks (drive_at r i) r.rate (annals (drive_at r i) r.rate (h i)) content) (place_is r is.place k valid is.inside there)
     (subst (λ c. Speaks (drive_at r is.place) r.rate (annals (drive_at r is.place) r.rate (h is.place)) c) (sym is.content_is) speaking)

@@ -1,5 +1,5 @@
 -- What a drive keeps of its calls is what the views of its cycles give.
-use Rattle.sercos_law_run.proofs.Words.{◌≡◌, ℕ, ◌+◌, Bool, true, false, ◌&&◌, ◌||◌, List, [], ◌∷◌, Option, Some, None, refl, sym, ◌∙◌, ap, ap₂, if◌then◌else◌, ◌==◌, nat_le, is_some, option_map, Block, DriveView, store_of, Processed, Write, with_added, added_on, blocks_with, said_by, Told, DriveCall, mst_got, Moment, AtMst, phase_in, cycle_in, has_mst, has_missed, records_in, writes_in, blocks_in, blocks_after, write_in, commands_in, annals, may_rise, stands_in, takes, ends_in, mdt_moment, View, Standing, afresh, moved, stood_from, got_in, takes_in, standing_after, record_in, processed_of, with_record, kept_in_phase, kept_unless, write_of, with_restart, or_self_left, cases_Bool, inl, inr}
+use Rattle.sercos_law_run.proofs.Words.{◌≡◌, ℕ, ◌+◌, Bool, true, false, ◌&&◌, List, [], ◌∷◌, Option, Some, None, refl, sym, ◌∙◌, ap, ap₂, if◌then◌else◌, ◌==◌, nat_le, is_some, option_map, Block, DriveView, store_of, Processed, Write, with_added, added_on, blocks_with, said_by, Told, DriveCall, mst_got, Moment, AtMst, phase_in, cycle_in, has_mst, has_missed, records_in, writes_in, blocks_in, blocks_after, write_in, commands_in, annals, may_rise, stands_in, takes, ends_in, mdt_moment, View, Standing, afresh, moved, stood_from, got_in, takes_in, standing_after, record_in, processed_of, with_record, kept_in_phase, kept_unless, write_of, with_restart, or_self_left, cases_Bool, inl, inr}
 use Rattle.sercos_service_master.specs.Begun.{Said}
 use Rattle.sercos_drive.specs.Moments.{with_record as with_record_in}
 use Rattle.sercos_drive.specs.Annals.{processed_in}
@@ -28,15 +28,13 @@ same_restarted d rate true calls f h w b s = record { ended = refl; got = refl; 
 same_restarted d rate false calls f h w b s = s
 
 -- AT THE MST'S PLACE
-passed_twice : (d : DriveView) (rate cycle phase : ℕ) (past : List Moment) → (nat_le phase 2 || may_rise d rate cycle phase past) ≡ may_rise d rate cycle phase past
-passed_twice d rate cycle phase past = or_self_left (nat_le phase 2) _
-
 stood_same : (d : DriveView) (rate cycle : ℕ) (past : List Moment) (phase : ℕ) (comes checked : Bool) (f : Standing) → phase_in past ≡ f.ended → has_mst past ≡ f.got_mst
     → checked ≡ may_rise d rate cycle phase past
     → stands_in d rate cycle (if comes then Some phase else None) past ≡ (if comes then moved checked phase f.ended else (if f.got_mst then f.ended else 0))
 stood_same d rate cycle past phase false checked f ended got passed = rw (ended, got) refl
 stood_same d rate cycle past phase true checked f ended got passed =
-    rw (passed, passed_twice d rate cycle phase past) (ap (λ (q : ℕ). if phase == q then phase else (if (phase == q + 1) && may_rise d rate cycle phase past then phase else 0)) ended)
+    rw (passed, or_self_left (nat_le phase 2) _) (ap
+    (λ (q : ℕ). if phase == q then phase else (if (phase == q + 1) && may_rise d rate cycle phase past then phase else 0)) ended)
 
 some_got : (comes : Bool) (phase : ℕ) → is_some (if comes then Some phase else None) ≡ comes
 some_got true phase = refl

@@ -1,6 +1,5 @@
 -- What the master keeps of a channel is what the views of its cycles give.
-use Rattle.sercos_law_run.proofs.Words.{◌≡◌, inl, inr, ℕ, ◌+◌, ◌<◌, ◌≤◌, Bool, true, false, not, ◌&&◌, List, [], ◌∷◌, Option, Some, None, refl, sym, ◌∙◌, ap, ap₂, subst, arith, if◌then◌else◌, ◌==◌, is_some, is_none, IsSome, IfSome, slice_index, and_parts, cases_eq, false≢true, leb-true, not-true, nat_tests, status_of, word_at, Request, Begun, open_in, master_says, Hear, Send, begun_by, Report, Known, Task, Past, place_of, is_taken, after_taken, after_at_of, after_at, with_begin, settled, is_sent_to, addressed_in, ready_to_send, after_mdt, fall_of, is_done, is_done_in, next_phase, goes_on, new_epoch, still_waiting, after_end, after_restart, is_awaited, leaves, begins_next, none_of, same_place, Heard, View, command, command_in, with_heard, with_begun, unless_restart, epoch_begun, begun_in, IsShown, heard_last, told_to, is_told, request_of, at_keeps, cases_Bool}
-use Rattle.sercos_service_master.specs.Begun.{Said}
+use Rattle.sercos_law_run.proofs.Words.{◌≡◌, inl, inr, ℕ, ◌+◌, ◌<◌, ◌≤◌, Bool, true, false, not, ◌&&◌, List, [], ◌∷◌, Option, Some, None, refl, sym, ◌∙◌, ap, ap₂, subst, arith, if◌then◌else◌, ◌==◌, is_some, is_none, IsSome, IfSome, slice_index, and_parts, cases_eq, false≢true, leb-true, not-true, nat_tests, status_of, word_at, Request, Begun, open_in, master_says, Hear, Send, begun_by, Report, Known, Task, Past, place_of, is_taken, after_taken, after_at, with_begin, settled, is_sent_to, addressed_in, ready_to_send, after_mdt, fall_of, is_done, is_done_in, next_phase, goes_on, new_epoch, still_waiting, after_end, after_restart, is_awaited, leaves, begins_next, none_of, same_place, Heard, View, command, command_in, with_heard, with_begun, unless_restart, epoch_begun, IsShown, heard_last, told_to, is_told, request_of, at_keeps, cases_Bool}
 use Rattle.sercos_service_master.specs.Calls as channel
 use Rattle.sercos_master.specs.Annals.{with_at, begins}
 use Rattle.sercos_master.specs.Annals as master
@@ -50,7 +49,18 @@ not_taken false b heard is taken = false≢true taken
 
 pub ats_next : (s : Known) (k : ℕ) (such : List ℕ → Type 0) (p q : Past) (content : List ℕ) → such content → AfterAts s k such p q → AfterAts s k such p (after_at s content q)
 ats_next s k such p q content is a = at_keeps (λ x. AfterAts s k such p x) s (place_of s (slice_index content 0)) content q a
-    (λ i found taken. record { has = by i found taken; phase_is = a.phase_is; whole_is = a.whole_is; turns_are = a.turns_are })
+    (λ i found taken. record {
+      has = elim (cases_eq k i) [
+        | inl same ↦ subst (λ n. HasHeard s k such (p.calls k) (after_taken n content q)) same
+            (here (found ∙ ap (λ (n : ℕ). Some n) (sym same)) (ap (λ (n : ℕ). is_taken s q n content) same ∙ taken) a.has
+            (q.now.phase == 1))
+        | inr other ↦ elsewhere i (grind (arith, nat_tests, other)) (master.hearing (q.now.phase == 1) i content q).calls
+            (master.hearing (q.now.phase == 1) i content q).report a.has
+      ];
+      phase_is = a.phase_is;
+      whole_is = a.whole_is;
+      turns_are = a.turns_are;
+    })
   where
     here : place_of s (slice_index content 0) ≡ Some k → is_taken s q k content ≡ true → HasHeard s k such (p.calls k) q → (identifies : Bool)
         → HasHeard s k such (p.calls k) (record q {
@@ -69,15 +79,6 @@ ats_next s k such p q content is a = at_keeps (λ x. AfterAts s k such p x) s (p
         → HasHeard s k such (p.calls k) (record q { now = record q.now { heard = with_at i true q.now.heard; report = with_at i report q.now.report }; calls = with_at i calls q.calls })
     elsewhere i other calls report (Nothing same) = Nothing (rw other same)
     elsewhere i other calls report (One content such_is there said heard) = One content such_is there (rw other said) (rw other heard)
-
-    by : (i : ℕ) → place_of s (slice_index content 0) ≡ Some i → is_taken s q i content ≡ true
-        → HasHeard s k such (p.calls k) (after_taken i content q)
-    by i found taken = elim (cases_eq k i) [
-      | inl same ↦ subst (λ n. HasHeard s k such (p.calls k) (after_taken n content q)) same
-          (here (found ∙ ap (λ (n : ℕ). Some n) (sym same)) (ap (λ (n : ℕ). is_taken s q n content) same ∙ taken) a.has (q.now.phase == 1))
-      | inr other ↦ elsewhere i (grind (arith, nat_tests, other)) (master.hearing (q.now.phase == 1) i content q).calls
-          (master.hearing (q.now.phase == 1) i content q).report a.has
-    ]
 
 -- what the channel has begun after the ATs
 pub heard_so : (s : Known) (k : ℕ) (such : List ℕ → Type 0) (p q : Past) → AfterAts s k such p q → heard_last (p.calls k) ≡ None
@@ -176,9 +177,6 @@ row_next v p row whole zero stands turns = rw (whole, zero, stands, turns) (elim
 pub done_below : (n : ℕ) (s : Known) (p : Past) → is_done_in n s p ≡ true → n < 4
 done_below n s p done = grind (arith, nat_tests, done)
 
-closed : (n : ℕ) (s : Known) (p : Past) → n ≡ 0 → is_done_in n s p ≡ true → 10 ≤ master.whole_row (p.now ∷ p.turns)
-closed n s p zero done = leb-true 10 (master.whole_row (p.now ∷ p.turns)) (rw zero at done)
-
 -- The cycle follows these, as far as the master is concerned.
 pub next_led : (s : Known) (k : ℕ) (such : List ℕ → Type 0) (busy : ℕ) (v : View) (past : List View) (p1 p2 p3 p4 : Past)
     → IsSame p1 k (command_in v past) (if v.master_restarts then 0 else whole_row past) (unless_restart v (epoch_begun past)) → IsLed s k such v p1 p2 p3 p4
@@ -188,30 +186,22 @@ next_led s k such busy v past p1 p2 p3 p4 same led shown rests =
     record {
       commanded = led.phase ∙ same.phase_is;
       heard = shown;
-      late = λ some. subst (λ n. 2 ≤ n) b.phase_behind (may some).late;
-      begins = λ some. ap open_in (sym b.heard_are) ∙ (may some).idle;
-      sent = told v.sent led.sent b.begun_are;
-      ten = λ up zero. subst (λ n. 10 ≤ n) (row_next v p4 _ b.whole_is zero (led.falls ∙ not-true _ (both up).0)
-          (ap master.whole_row b.turns_are ∙ same.row_is (sym led.phase ∙ zero))) (closed p4.now.phase s p4 (b.phase_is ∙ zero) (done up));
+      late = λ some. subst (λ n. 2 ≤ n) b.phase_behind (may_begin s p3 k (subst (λ o. IsSome o) led.begins some)).late;
+      begins = λ some. ap open_in (sym b.heard_are) ∙ (may_begin s p3 k (subst (λ o. IsSome o) led.begins some)).idle;
+      sent = elim (cases_Bool (is_told p4 k)) [
+        | inl on ↦ let e = rw on at led.sent in rw e (ap master_says b.begun_are)
+        | inr off ↦ let e = rw off at led.sent in rw e tt
+      ];
+      ten = λ up zero. subst (λ n. 10 ≤ n) (row_next v p4 _ b.whole_is zero
+          (led.falls ∙ not-true _ (and_parts (not (is_some (fall_of s p4))) (is_done s p4) (sym led.rises ∙ up)).0)
+          (ap master.whole_row b.turns_are ∙ same.row_is (sym led.phase ∙ zero)))
+          (leb-true 10 (master.whole_row (p4.now ∷ p4.turns)) (rw (b.phase_is ∙ zero) at (done up)));
       rests = λ up. ap open_in (sym b.begun_are) ∙ rests (done up);
       top = λ up. subst (λ n. n < 4) b.phase_is (done_below p4.now.phase s p4 (done up));
     }
   where
-    may : IsSome v.begins → MayBegin p3 k
-    may some = may_begin s p3 k (subst (λ o. IsSome o) led.begins some)
-
-    both : v.rises ≡ true → (not (is_some (fall_of s p4)) ≡ true) × (is_done s p4 ≡ true)
-    both up = and_parts (not (is_some (fall_of s p4))) (is_done s p4) (sym led.rises ∙ up)
-
     done : v.rises ≡ true → is_done s p4 ≡ true
-    done up = (both up).1
-
-    told : (o : Option Said) → o ≡ told_to p4 k → begun_by (p4.calls k) ≡ begun_in v past → IfSome o (λ x. x ≡ master_says (begun_in v past))
-    told o is all = by (is_told p4 k) o is
-      where
-        by : (t : Bool) (x : Option Said) → x ≡ (if t then Some (master_says (begun_by (p4.calls k))) else None) → IfSome x (λ y. y ≡ master_says (begun_in v past))
-        by true x e = rw e (ap master_says all)
-        by false x e = rw e tt
+    done up = (and_parts (not (is_some (fall_of s p4))) (is_done s p4) (sym led.rises ∙ up)).1
 
 -- .. and at its end the master stands as the views say.
 never_row : (a b : Bool) (n : ℕ) → 0 ≡ (if a && (b && not true) then n else 0)

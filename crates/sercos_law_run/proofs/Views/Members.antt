@@ -1,8 +1,7 @@
 -- The drives of a ring by their places and addresses, and whose AT a content is.
-use Rattle.sercos_law_run.proofs.Words.{◌≡◌, ◌⊎◌, inl, inr, ℕ, zero, suc, ◌+◌, ◌<◌, Bool, true, false, List, [], ◌∷◌, length, Option, Some, None, refl, sym, ◌∙◌, ap, subst, arith, if◌then◌else◌, map, nat_lt, slice_index, slice_index_or, nat_tests, DriveView, RingView, is_ring, DriveCall, Said, drive_says, MemberView, member, member_of, no_member, known_of, first_found, mapped_length, place_of, Passage, Carry, heard, passage, unseen_at, no_drive, drive_at, station_of, with_said, said_below, contents, unseen_ats, IsSaid}
+use Rattle.sercos_law_run.proofs.Words.{◌≡◌, ◌⊎◌, inl, inr, ℕ, zero, suc, ◌+◌, ◌<◌, Bool, true, false, List, [], ◌∷◌, length, Some, None, refl, sym, ◌∙◌, ap, subst, arith, if◌then◌else◌, map, slice_index, slice_index_or, nat_tests, DriveView, RingView, is_ring, DriveCall, Said, MemberView, member, member_of, no_member, known_of, first_found, mapped_length, place_of, Passage, Carry, heard, passage, unseen_at, no_drive, drive_at, station_of, said_below, contents, unseen_ats, IsSaid}
 use Rattle.sercos_telegram.specs.declared.layout.Kind.TheVariants as kinds
 use Rattle.sercos_master.proofs.Keeping.{IsFirst}
-use Rattle.sercos_law_run.specs.Journal.Runs.{inserted}
 use Rattle.sercos_law_run.proofs.Journal.ClearLemmas.{heard-clear}
 use Rattle.sercos_law_run.proofs.Journal.StationLemmas.{station_found, drives_so}
 use Rattle.sercos_law_run.specs.Views.Spelled.{IsWhole}
@@ -31,17 +30,14 @@ pub same_drive : (r : RingView) (i k : ℕ) → is_ring r ≡ true → i < lengt
 same_drive r i k valid low high same =
     let a = station_found [] r.drives 1 i (drives_so r valid) low in
     let b = station_found [] r.drives 1 k (drives_so r valid) high in
-    let c : station_of r (drive_at r i).address ≡ station_of r (drive_at r k).address = ap (station_of r) same in
-    omega (arith, a, b, c)
+    omega (arith, a, b, ap (station_of r) same)
 
 -- the master finds the drive at whose place an address is
 pub place_is : (r : RingView) (i k : ℕ) → is_ring r ≡ true → i < length r.drives → place_of (known_of r) (drive_at r i).address ≡ Some k → i ≡ k
 place_is r i k valid low found =
     let first : IsFirst 0 (length (known_of r).drives) k _ = first_found 0 (length (known_of r).drives) k _ found in
-    let high = first.below in
-    let count = members_count r in
     let same : (member (known_of r) k).address ≡ (drive_at r i).address = (let p = first.passes in grind (arith, nat_tests, p)) in
-    same_drive r i k valid low (omega (arith, high, count)) (sym same ∙ ap (λ (m : MemberView). m.address) (member_is r k))
+    same_drive r i k valid low (omega (arith, first.below, members_count r)) (sym same ∙ ap (λ (m : MemberView). m.address) (member_is r k))
 
 -- THE ATS of a cycle, each of them what one of the drives says
 abbrev pub AreSaid : ℕ → (ℕ → DriveView) → ℕ → (ℕ → List DriveCall) → List Said → Type 0

@@ -1,9 +1,8 @@
 -- What a drive gets of the MDT is what the master tells it, or nothing.
-use Rattle.sercos_law_run.proofs.Words.{◌≡◌, inl, inr, ℕ, zero, suc, ◌+◌, ◌<◌, ◌≤◌, Bool, true, false, not, ◌&&◌, List, [], ◌∷◌, ◌++◌, length, Option, Some, None, refl, sym, ◌∙◌, ap, subst, arith, if◌then◌else◌, append_assoc, ◌==◌, nat_le, nat_lt, slice_index, slice_index_or, is_some, is_none, option_map, then_some, option_or, cases_eq, and_parts, nat_tests, all_drives, joint_fault, Block, DriveView, RingView, is_address, is_ring, number_at, carried_len, master_says, begun_by, PlanView, Told, mdt_got, lies_within, mdt_attributes, record_said, values_said, Known, MemberView, member, known_of, Past, outcomes, Sent, said_to, record_to, records_from, idle, single, joint, mdt_said, no_drive, drive_at, told_to, IsSayable, head_fault, is_drive, are_drives, are_drive_numbers, single_in, IsRing-is_ring, get_or_past, cases_Bool}
+use Rattle.sercos_law_run.proofs.Words.{◌≡◌, inl, inr, ℕ, zero, suc, ◌+◌, ◌<◌, ◌≤◌, Bool, true, false, not, ◌&&◌, List, [], ◌∷◌, ◌++◌, length, Option, Some, None, refl, sym, ◌∙◌, ap, subst, arith, if◌then◌else◌, append_assoc, ◌==◌, nat_le, nat_lt, slice_index, is_some, is_none, option_map, then_some, option_or, cases_eq, nat_tests, all_drives, joint_fault, Block, DriveView, RingView, is_ring, number_at, carried_len, master_says, begun_by, PlanView, Told, mdt_got, lies_within, mdt_attributes, record_said, values_said, Known, MemberView, member, known_of, Past, outcomes, Sent, said_to, record_to, records_from, idle, single, joint, mdt_said, no_drive, drive_at, told_to, IsSayable, head_fault, single_in, IsRing-is_ring, get_or_past, cases_Bool}
 use Rattle.std.proofs.lemmas.Bool.{and_right}
 use Rattle.sercos_service_master.specs.Begun.{Said}
 use Rattle.sercos_drive.specs.Heard.{joint_in}
-use Rattle.sercos_law_run.proofs.Journal.StationLemmas.{drives_so}
 use Rattle.sercos_law_run.proofs.Views.Codecs.{single_clear, single_other, joint_clear}
 use Rattle.sercos_law_run.proofs.Views.DriveSame.{said_to as said_by_told}
 use Rattle.sercos_law_run.proofs.Views.Members.{member_is, members_count, same_drive}
@@ -48,13 +47,10 @@ single_got r k i said phase blocks valid below low small = elim (cases_eq k i) [
       rw (there, elsewhere (nat_le phase 2) refl (λ same. other same)) refl
 ]
   where
-    bounds : (1 ≤ (drive_at r k).address) × ((drive_at r k).address ≤ 254)
-    bounds = address_of r k valid below
-
     own : (early : Bool) → nat_le phase 2 ≡ early → option_map said_by_told (mdt_got (drive_at r k).address phase blocks (Some ((drive_at r k).address ∷ record_said said []))) ≡ (if true && early then Some said else None)
     own true early = single_clear said (drive_at r k).address phase blocks (grind (arith, nat_tests, early)) low small
     own false late =
-        let high = bounds.1 in
+        let high = (address_of r k valid below).1 in
         let off : ((drive_at r k).address == all_drives) ≡ false = grind (arith, nat_tests, high) in
         ap (option_map said_by_told) (single_late said (drive_at r k).address (drive_at r k).address phase blocks (grind (arith, nat_tests, late)) off)
 
@@ -65,7 +61,7 @@ single_got r k i said phase blocks valid below low small = elim (cases_eq k i) [
       | inr is ↦
           let none : (member (known_of r) i).address ≡ 0 = ap (λ (m : MemberView). m.address) (member_is r i)
           ∙ ap (λ (d : DriveView). d.address) (get_or_past r.drives i no_drive (grind (arith, nat_tests, is))) in
-          let low = bounds.0 in
+          let low = (address_of r k valid below).0 in
           absurd (omega (arith, none, same, low))
     ]
 
@@ -140,7 +136,11 @@ single_told r p k i said phase blocks valid below (low, small) early to same = b
 pub mdt_told : (r : RingView) (p : Past) (k phase : ℕ) (blocks : List Block) (m : Sent) → is_ring r ≡ true → k < length r.drives → mdt_said (known_of r) p ≡ Some m
     → (p.now.phase ≡ 1 → master_says (begun_by (p.calls k)) ≡ idle) → ((i : ℕ) → IsSayable (said_to p i)) → ((plan : PlanView) → 3 ≤ p.now.phase → 3 ≤ phase → p.plan ≡ Some plan → Agrees (known_of r) p k blocks)
     → GotTold (mdt_got (drive_at r k).address phase blocks (Some m.content)) (told_to p k)
-mdt_told r p k phase blocks m valid below said quiet small agrees = first (p.now.phase == 1) refl said
+mdt_told r p k phase blocks m valid below said quiet small agrees = elim (cases_Bool (p.now.phase == 1)) [
+  | inl one ↦ let is = rw one at said in to_one (λ i. idle) (λ i. (omega arith, omega arith))
+      (λ same. sym (quiet (grind (arith, nat_tests, one)))) (grind (arith, nat_tests, one)) p.now.addressed refl is
+  | inr one ↦ let is = rw one at said in second (p.now.phase == 2) refl is
+]
   where
     s : Known
     s = known_of r
@@ -176,8 +176,3 @@ mdt_told r p k phase blocks m valid below said quiet small agrees = first (p.now
       | inl late ↦ to_all late p.plan refl (rw late at is)
       | inr late ↦ let is = rw late at is in cc
     ]
-
-    first : (b : Bool) → (p.now.phase == 1) ≡ b → (if b then option_map (single s idle) p.now.addressed else (if p.now.phase == 2 then option_map (λ i. single s (said_to p i) i) p.now.addressed
-        else (if nat_le 3 p.now.phase then option_map (joint s p) p.plan else None))) ≡ Some m → GotTold (mdt_got (drive_at r k).address phase blocks (Some m.content)) (told_to p k)
-    first true one is = to_one (λ i. idle) (λ i. (omega arith, omega arith)) (λ same. sym (quiet (grind (arith, nat_tests, one)))) (grind (arith, nat_tests, one)) p.now.addressed refl is
-    first false one is = second (p.now.phase == 2) refl is

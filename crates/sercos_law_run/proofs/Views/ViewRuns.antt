@@ -1,5 +1,5 @@
 -- In a run of a ring in which nothing is unseen, each drive with its channel makes a run of views.
-use Rattle.sercos_law_run.proofs.Words.{◌≡◌, ◌⊎◌, inl, inr, ℕ, zero, suc, ◌+◌, ◌<◌, ◌≤◌, Bool, true, false, List, [], ◌∷◌, length, Option, Some, None, refl, sym, ◌∙◌, ap, ap₂, subst, arith, if◌then◌else◌, slice_index, is_some, IsSome, IfSome, cases_eq, status_of, word_at, mst_content, Request, Job, RingView, is_ring, store_of, Processed, channel_says, Begun, open_in, master_says, begun_by, PlanView, mst_got, mdt_got, phase_in, blocks_in, commands_in, annals, CycleView, known_of, Past, Call, is_done, past, Sent, idle, mdt_said, Carry, Restarts, Heard, View, standing, kept_in, since_reset, command, command_in, with_heard, with_begun, unless_restart, epoch_begun, IsShown, all_writes, store_in, heard, passage, sum_below, unseen_at, mst_in, ats_in, mdt_in, drive_at, given_before, given_mst, master_calls, mdt_heard, content_of, contents, said_below, unseen_mst, unseen_mdt, unseen_ats, looks_back, at_start, behind_mst, behind_ats, behind_mdt, heard_last, told_to, after_mst, view_of, views_of, IsSaid, IsSpelled, begins_empty, heard_none, cases_Bool}
+use Rattle.sercos_law_run.proofs.Words.{◌≡◌, ◌⊎◌, inl, inr, ℕ, zero, suc, ◌+◌, ◌<◌, ◌≤◌, Bool, true, false, List, [], ◌∷◌, length, Option, Some, None, refl, sym, ◌∙◌, ap, ap₂, subst, arith, if◌then◌else◌, slice_index, is_some, IsSome, IfSome, cases_eq, status_of, word_at, Request, Job, RingView, is_ring, store_of, Processed, channel_says, Begun, open_in, master_says, begun_by, PlanView, mst_got, mdt_got, phase_in, blocks_in, commands_in, annals, CycleView, known_of, Past, Call, is_done, past, Sent, idle, mdt_said, Carry, Restarts, View, standing, kept_in, since_reset, command, command_in, with_heard, with_begun, unless_restart, epoch_begun, IsShown, all_writes, store_in, heard, passage, sum_below, unseen_at, mst_in, ats_in, mdt_in, drive_at, given_before, given_mst, master_calls, mdt_heard, content_of, contents, said_below, unseen_mst, unseen_mdt, unseen_ats, looks_back, at_start, behind_mst, behind_ats, behind_mdt, heard_last, told_to, after_mst, view_of, views_of, IsSaid, IsSpelled, begins_empty, heard_none, cases_Bool}
 use Rattle.sercos_telegram.specs.declared.layout.Kind.TheVariants as kinds
 use Rattle.sercos_master.specs.Annals as master
 use Rattle.sercos_law_channel.specs.Handshake.Views.{before_mst as standing_before}
@@ -77,20 +77,12 @@ module _ (r : RingView) (jobs : List Job) (carry : Carry) (restarts : Restarts) 
       + sum_below (length r.drives) (unseen_mdt carry (length j) (mdt_in t.sent)) ≡ 0
   counts = sym next.unseen ∙ clear
 
-  -- the telegrams that were sent
-  mst_is : mst_in t.sent ≡ mst_content (at_start r jobs carry restarts j).now.phase
-  mst_is = ap mst_in next.sent
-
   ats_are : ats_in t.sent ≡ contents (said_below (length r.drives) (drive_at r) r.rate (given_mst carry restarts t.sent j))
   ats_are = ap ats_in next.sent ∙ ats_in-said r.rate _ (mdt_said (known_of r) (behind_mdt r jobs carry restarts t.sent j))
 
-  mdt_is : mdt_in t.sent ≡ content_of (mdt_said (known_of r) (behind_mdt r jobs carry restarts t.sent j))
-  mdt_is = ap mdt_in next.sent ∙ mdt_in-said r.rate (said_below (length r.drives) (drive_at r) r.rate (given_mst carry restarts t.sent j)) _
-
   heard_so : AreHeardAs (IsSaid (length r.drives) (drive_at r) r.rate (given_mst carry restarts t.sent j)) r carry (length j) (ats_in t.sent)
   heard_so =
-      let c = counts in
-      let none : unseen_ats r carry (length j) (ats_in t.sent) ≡ 0 = omega (arith, c) in
+      let none : unseen_ats r carry (length j) (ats_in t.sent) ≡ 0 = omega (arith, counts) in
       subst (λ (l : List (List ℕ)). AreHeardAs (IsSaid (length r.drives) (drive_at r) r.rate (given_mst carry restarts t.sent j)) r carry (length j) l) (sym ats_are)
       (heard_as r carry (length j) (length r.drives) (drive_at r) r.rate (given_mst carry restarts t.sent j) (said_below (length r.drives) (drive_at r) r.rate (given_mst carry restarts t.sent j)) spelled.ats
       (all_said (length r.drives) (drive_at r) r.rate (given_mst carry restarts t.sent j)) (ap (unseen_ats r carry (length j)) (sym ats_are) ∙ none))
@@ -127,10 +119,6 @@ module _ (r : RingView) (jobs : List Job) (carry : Carry) (restarts : Restarts) 
           (unless_restart (view_of r jobs carry restarts k t j) (epoch_begun (views_of r jobs carry restarts k j)))
       behind = is_behind (known_of r) k _ _ _ _ _ _ _ _ _ same led
 
-      -- the phase that is commanded
-      phase_low : (at_start r jobs carry restarts j).now.phase ≤ 4
-      phase_low = subst (λ n. n ≤ 4) (sym same.phase_is) (command_in_below (view_of r jobs carry restarts k t j) (views_of r jobs carry restarts k j) (command_below (drive_at r k).busy (views_of r jobs carry restarts k j) sees.run))
-
       -- at the MST's place
       got : mst_got (heard carry (passage (length j) kinds.Mst 0 (k + 1)) (mst_in t.sent))
           ≡ (if is_some (mst_got (heard carry (passage (length j) kinds.Mst 0 (k + 1)) (mst_in t.sent))) then Some t.phase else None)
@@ -138,8 +126,11 @@ module _ (r : RingView) (jobs : List Job) (carry : Carry) (restarts : Restarts) 
           let c = counts in
           let none : unseen_at carry (passage (length j) kinds.Mst 0 (k + 1)) (mst_in t.sent) ≡ 0 = none_below (length r.drives) (unseen_mst carry (length j) (mst_in t.sent)) (omega (arith, c)) k below in
           got_form _ _ (at_start r jobs carry restarts j).now.phase t.phase
-          (mst_clear (at_start r jobs carry restarts j).now.phase _ phase_low
-          (subst (λ (l : List ℕ). (heard carry (passage (length j) kinds.Mst 0 (k + 1)) (mst_in t.sent) ≡ None) ⊎ (heard carry (passage (length j) kinds.Mst 0 (k + 1)) (mst_in t.sent) ≡ Some l)) mst_is
+          (mst_clear (at_start r jobs carry restarts j).now.phase _
+          (subst (λ n. n ≤ 4) (sym same.phase_is) (command_in_below (view_of r jobs carry restarts k t j)
+          (views_of r jobs carry restarts k j) (command_below (drive_at r k).busy (views_of r jobs carry restarts k j) sees.run)))
+          (subst (λ (l : List ℕ). (heard carry (passage (length j) kinds.Mst 0 (k + 1)) (mst_in t.sent) ≡ None) ⊎
+          (heard carry (passage (length j) kinds.Mst 0 (k + 1)) (mst_in t.sent) ≡ Some l)) (ap mst_in next.sent)
           (heard_whole carry _ (mst_in t.sent) spelled.mst none)))
           next.phase
 
@@ -167,22 +158,19 @@ module _ (r : RingView) (jobs : List Job) (carry : Carry) (restarts : Restarts) 
 
       -- at the MDT's place
       quiet : (behind_mdt r jobs carry restarts t.sent j).now.phase ≡ 1 → master_says (begun_by ((behind_mdt r jobs carry restarts t.sent j).calls k)) ≡ idle
-      quiet one = ap master_says (behind.begun_are ∙ ap₂ (λ (o : Option Request) (l : List Begun). with_begun o l) none (ap (with_heard heard_then) ended ∙ heard_none heard_then))
+      quiet one = ap master_says (behind.begun_are ∙ ap₂ (λ (o : Option Request) (l : List Begun). with_begun o l) none
+          (ap (with_heard v.heard) ended ∙ heard_none v.heard))
         where
           v : View
           v = view_of r jobs carry restarts k t j
 
-          heard_then : Option Heard
-          heard_then = v.heard
-
-          phase_one : v.phase ≡ 1
-          phase_one = sym behind.phase_is ∙ one
-
           none : v.begins ≡ None
-          none = no_request v.begins (λ some. let two = (next_led (known_of r) k _ (drive_at r k).busy v (views_of r jobs carry restarts k j) _ _ _ _ same led shown_so rests).late some in omega (arith, two, phase_one))
+          none = no_request v.begins (λ some. let two = (next_led (known_of r) k _ (drive_at r k).busy v
+              (views_of r jobs carry restarts k j) _ _ _ _ same led shown_so rests).late some in
+              omega (arith, two, (sym behind.phase_is ∙ one)))
 
           ended : unless_restart v (epoch_begun (views_of r jobs carry restarts k j)) ≡ []
-          ended = by v.master_restarts (sym same.phase_is ∙ sym next.phase ∙ phase_one)
+          ended = by v.master_restarts (sym same.phase_is ∙ sym next.phase ∙ (sym behind.phase_is ∙ one))
             where
               by : (b : Bool) → (if b then 0 else command (views_of r jobs carry restarts k j)) ≡ 1 → (if b then [] else epoch_begun (views_of r jobs carry restarts k j)) ≡ []
               by true is = refl
@@ -190,7 +178,9 @@ module _ (r : RingView) (jobs : List Job) (carry : Carry) (restarts : Restarts) 
 
       pub told_so : GotTold (mdt_got (drive_at r k).address (phase_in (after_mst r carry restarts t.sent j k)) (blocks_in (drive_at r k) (after_mst r carry restarts t.sent j k)) (mdt_heard carry (length j) (k + 1) (mdt_in t.sent)))
           (told_to (behind_mdt r jobs carry restarts t.sent j) k)
-      told_so = by (mdt_said (known_of r) (behind_mdt r jobs carry restarts t.sent j)) refl mdt_is
+      told_so = by (mdt_said (known_of r) (behind_mdt r jobs carry restarts t.sent j)) refl
+          (ap mdt_in next.sent ∙ mdt_in-said r.rate (said_below (length r.drives) (drive_at r) r.rate (given_mst carry restarts t.sent j))
+          _)
         where
           c : sum_below (length r.drives) (unseen_mdt carry (length j) (mdt_in t.sent)) ≡ 0
           c = let all = counts in omega (arith, all)

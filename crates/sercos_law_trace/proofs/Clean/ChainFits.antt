@@ -1,5 +1,5 @@
 -- The numbers of a chain that shows that no plan fits are small.
-use Rattle.sercos_law_trace.proofs.Words.{◌≡◌, ◌⊎◌, inl, inr, ℕ, zero, suc, ◌+◌, ◌*◌, ◌≤◌, ◌==◌, nat_le, Bool, true, false, List, [], ◌∷◌, ◌++◌, length, max, Option, Some, None, option_map, unwrap_or, slice_index_or, subst, arith, if◌then◌else◌, sum_by-cons, Wish, wish, no_wish, times, sent, neighbor, previous, at_bits, record_bytes, mdt_bits, asked_1, asked_2, asked_3, asked_5, asked_6, asked_7, sum_9, bound_9, greatest, greatest_tmtsy, WishesView, round_up, needed, least_t1, least_bits, greatest_t4min, last_place, is_tight, link_of, back_of, first_tight, starts, bits_of_starts, trail_by_master, greatest_of, first_with, first_greatest, mst_chain, cycle_chain, capture_chain, Link, ChainView, length_first, chain_of, mul-le-mul_left, sym}
+use Rattle.sercos_law_trace.proofs.Words.{cases_Bool, ◌≡◌, ◌⊎◌, inl, inr, ℕ, zero, suc, ◌+◌, ◌*◌, ◌≤◌, ◌==◌, nat_le, Bool, true, false, List, [], ◌∷◌, ◌++◌, length, max, Option, Some, None, option_map, unwrap_or, slice_index_or, subst, arith, if◌then◌else◌, sum_by-cons, Wish, wish, no_wish, times, sent, neighbor, previous, at_bits, record_bytes, mdt_bits, asked_1, asked_2, asked_3, asked_5, asked_6, asked_7, sum_9, bound_9, greatest, greatest_tmtsy, WishesView, round_up, needed, least_t1, least_bits, greatest_t4min, last_place, is_tight, link_of, back_of, first_tight, starts, bits_of_starts, trail_by_master, greatest_of, first_with, first_greatest, mst_chain, cycle_chain, capture_chain, Link, ChainView, length_first, chain_of, mul-le-mul_left, sym}
 use Rattle.sercos_plan.specs.LeastTimes.{least_t2, least_t3}
 use Rattle.sercos_plan.specs.ChainOf.{trail_at, trail, trail_t2, trail_t3}
 use Rattle.sercos_law_trace.proofs.Clean.SeenLemmas.{Each}
@@ -34,11 +34,7 @@ wish_small (d ∷ ds) (suc k) are = wish_small ds k are.1
 
 record_small : (ds : List Wish) → Each IsSmallWish ds → record_bytes ds ≤ 68 * length ds
 record_small [] are = omega arith
-record_small (d ∷ ds) are =
-    let first = sum_by-cons (λ (x : Wish). x.record_len) d ds in
-    let rest = record_small ds are.1 in
-    let here = are.0.record_len in
-    omega (arith, first, rest, here)
+record_small (d ∷ ds) are = omega (arith, sum_by-cons (λ (x : Wish). x.record_len) d ds, record_small ds are.1, are.0.record_len)
 
 -- what holds at each rate
 pub by_rate : (P : ℕ → Type 0) (rate : ℕ) → IsRate rate → P 2 → P 4 → P 8 → P 16 → P rate
@@ -99,29 +95,26 @@ module _ (w : WishesView) (small : AreSmallWishes w) where
 
   -- STARTS
   needed_low : (t : ℕ → ℕ) (n k m : ℕ) (before : List ℕ) → ((j : ℕ) → t j ≤ 66300 * n) → m ≡ 66300 * n + 66300 → needed w (λ i. w.rate * t i) k before ≤ w.rate * m
-  needed_low t n k m before low is =
-      max_low _ _ (w.rate * m) (mul-le-mul_left w.rate (let a = (of k).t1min in omega (arith, a, is)))
+  needed_low t n k m before low is = max_low _ _ (w.rate * m) (mul-le-mul_left w.rate (omega (arith, (of k).t1min, is)))
       (max_low _ _ (w.rate * m) (second before)
       (max_low _ _ (w.rate * m) (some_low (neighbor w k before) (λ j. w.rate * t j + (at_bits w j + w.rate * w.gap)) (w.rate * m)
       (λ j. ends_low w.rate (t j) (at_bits w j) w.gap m small.rate
-      (let a = small.gap in let b = low j in let c = at_bits_low j in omega (arith, a, b, c, is))))
+      (omega (arith, small.gap, low j, at_bits_low j, is))))
       (some_low (previous w k before) (λ j. w.rate * t j + (at_bits w j + w.rate * (times w k).tatat)) (w.rate * m)
       (λ j. ends_low w.rate (t j) (at_bits w j) (times w k).tatat m small.rate
-      (let a = (of k).tatat in let b = low j in let c = at_bits_low j in omega (arith, a, b, c, is))))))
+      (omega (arith, (of k).tatat, low j, at_bits_low j, is))))))
     where
       second : (before : List ℕ) → unwrap_or (asked_2 w (λ i. w.rate * t i) k before) 0 ≤ w.rate * m
-      second [] = mul-le-mul_left w.rate (let a = small.gap in omega (arith, a, is))
+      second [] = mul-le-mul_left w.rate (omega (arith, small.gap, is))
       second (j ∷ before) = omega arith
 
   least_low : (ats : List ℕ) (j : ℕ) → least_t1 w ats j ≤ 66300 * length ats
   least_low [] j = omega arith
-  least_low (k ∷ before) j = by (j == k) (rounded_low w.rate (needed w (λ i. w.rate * least_t1 w before i) k before) (66300 * suc (length before)) small.rate
-      (needed_low (least_t1 w before) (length before) k (66300 * suc (length before)) before (least_low before) (omega arith))) (least_low before j)
-    where
-      by : (b : Bool) → round_up w.rate (needed w (λ i. w.rate * least_t1 w before i) k before) ≤ 66300 * suc (length before) → least_t1 w before j ≤ 66300 * length before
-          → (if b then round_up w.rate (needed w (λ i. w.rate * least_t1 w before i) k before) else least_t1 w before j) ≤ 66300 * suc (length before)
-      by true here rest = here
-      by false here rest = omega (arith, rest)
+  least_low (k ∷ before) j = elim (cases_Bool (j == k)) [
+    | inl on ↦ rw on (rounded_low w.rate (needed w (λ i. w.rate * least_t1 w before i) k before) (66300 * suc (length before)) small.rate
+        (needed_low (least_t1 w before) (length before) k (66300 * suc (length before)) before (least_low before) (omega arith)))
+    | inr off ↦ rw off (omega (arith, least_low before j))
+  ]
 
   start_low : (j : ℕ) → least_t1 w (sent w) j ≤ 66300 * 64
   start_low j = let low = least_low (sent w) j in let long = length_first w.order (length w.order) in let few = small.order in omega (arith, low, long, few)
@@ -174,11 +167,10 @@ module _ (w : WishesView) (small : AreSmallWishes w) where
   trail_small : (t : ℕ → ℕ) (ats : List ℕ) → ((j : ℕ) → t j ≤ 66300 * 64) → (j : ℕ) → Each IsSmallLink (trail w t ats j)
   unfolding trail
   trail_small t [] low j = tt
-  trail_small t (k ∷ before) low j = by (j == k) (trail_at_small t k before (trail w t before) low (trail_small t before low)) (trail_small t before low j)
-    where
-      by : (b : Bool) → Each IsSmallLink (trail_at w t k before (trail w t before)) → Each IsSmallLink (trail w t before j) → Each IsSmallLink (if b then trail_at w t k before (trail w t before) else trail w t before j)
-      by true here rest = here
-      by false here rest = rest
+  trail_small t (k ∷ before) low j = elim (cases_Bool (j == k)) [
+    | inl on ↦ rw on (trail_at_small t k before (trail w t before) low (trail_small t before low))
+    | inr off ↦ rw off (trail_small t before low j)
+  ]
 
   by_master : (o : Option ℕ) → Each IsSmallLink (trail_by_master w o)
   by_master None = tt
@@ -194,11 +186,10 @@ module _ (w : WishesView) (small : AreSmallWishes w) where
 
   with_low : (f : Wish → ℕ) (value : ℕ) (ds : List Wish) → Each IsSmallWish ds → first_with f value ds ≤ 255
   with_low f value [] are = omega arith
-  with_low f value (d ∷ ds) are = by (f d == value) (with_low f value ds are.1)
-    where
-      by : (b : Bool) → first_with f value ds ≤ 255 → (if b then d.address else first_with f value ds) ≤ 255
-      by true rest = are.0.address
-      by false rest = rest
+  with_low f value (d ∷ ds) are = elim (cases_Bool (f d == value)) [
+    | inl on ↦ rw on are.0.address
+    | inr off ↦ rw off (with_low f value ds are.1)
+  ]
 
   greatest_drive_low : (f : Wish → ℕ) → first_greatest f w.drives ≤ 255
   greatest_drive_low f = with_low f (greatest_of f w.drives) w.drives small.drives
@@ -211,35 +202,29 @@ module _ (w : WishesView) (small : AreSmallWishes w) where
   cycle_bound : w.rate * w.cycle ≤ 4294967295
   cycle_bound = bits_fit w.rate w.cycle small.rate (let a = small.cycle in omega (arith, a))
 
-  switch_low : greatest_tmtsy w ≤ 65535
-  switch_low = greatest_low (λ k. (times w k).tmtsy) (sent w) 65535 (λ k. (of k).tmtsy)
-
   mst_small : IsSmallChain (mst_chain w)
   mst_small = record {
     links = t2_trail;
     rule = omega arith;
-    drive = by (nat_le (greatest_tmtsy w) w.gap);
-    sum = let here = ends_low w.rate (least_t2 w) (mdt_bits w) (max w.gap (greatest_tmtsy w)) (66300 * 67) small.rate
-        (let a = max_low w.gap (greatest_tmtsy w) 65535 (let g = small.gap in omega
-        (arith, g)) switch_low in let b = t2_low in let c = mdt_bits_low in omega (arith, a, b, c)) in
-        let fits = bits_fit w.rate (66300 * 67) small.rate (omega arith) in omega (arith, here, fits);
-    bound = let a = cycle_bound in omega (arith, a);
-  }
-    where
-      by : (b : Bool) → (if b then 0 else first_greatest (λ (d : Wish). d.times.tmtsy) w.drives) ≤ 255
-      by true = omega arith
-      by false = greatest_drive_low (λ (d : Wish). d.times.tmtsy)
-
-  cycle_small : IsSmallChain (cycle_chain w)
-  cycle_small = record { links = t3_trail; rule = omega arith; drive = greatest_drive_low (λ (d : Wish). d.times.tmtsg); sum = bits_fit w.rate (least_t3 w) small.rate t3_low; bound = cycle_bound }
-
-  capture_small : IsSmallChain (capture_chain w)
-  capture_small = record {
-    links = tt;
-    rule = omega arith;
-    drive = greatest_drive_low (λ (d : Wish). d.times.t4min);
-    sum = bits_fit w.rate (greatest_t4min w) small.rate (let a = greatest_low (λ k. (times w k).t4min) (sent w) 65535 (λ k. (of k).t4min) in omega (arith, a));
-    bound = cycle_bound;
+    drive = elim (cases_Bool (nat_le (greatest_tmtsy w) w.gap)) [
+      | inl on ↦ rw on (omega arith)
+      | inr off ↦ rw off (greatest_drive_low (λ (d : Wish). d.times.tmtsy))
+    ];
+    sum =
+        omega (
+          arith,
+          ends_low w.rate (least_t2 w) (mdt_bits w) (max w.gap (greatest_tmtsy w)) (66300 * 67) small.rate
+              (omega (
+                arith,
+                max_low w.gap (greatest_tmtsy w) 65535 (omega (arith, small.gap))
+                    (greatest_low (λ k. (times w k).tmtsy) (sent w) 65535 (λ k. (of k).tmtsy)),
+                t2_low,
+                mdt_bits_low,
+              )),
+          bits_fit w.rate
+              (66300 * 67) small.rate (omega arith),
+        );
+    bound = omega (arith, cycle_bound);
   }
 
   pub chain_small : IsSmallChain (chain_of w)
@@ -247,6 +232,20 @@ module _ (w : WishesView) (small : AreSmallWishes w) where
   chain_small = by (nat_le (sum_9 w (w.rate * least_t2 w) (greatest_tmtsy w)) (bound_9 w)) (nat_le (least_t3 w) w.cycle)
     where
       by : (a b : Bool) → IsSmallChain (if a then (if b then capture_chain w else cycle_chain w) else mst_chain w)
-      by true true = capture_small
-      by true false = cycle_small
+      by true true = record {
+        links = tt;
+        rule = omega arith;
+        drive = greatest_drive_low (λ (d : Wish). d.times.t4min);
+        sum = bits_fit w.rate (greatest_t4min w) small.rate
+            (let a = greatest_low (λ k. (times w k).t4min) (sent w) 65535 (λ k. (of k).t4min) in omega (arith, a));
+        bound = cycle_bound;
+      }
+      by true false = record {
+        links = t3_trail;
+        rule = omega arith;
+        drive = greatest_drive_low (λ (d : Wish). d.times.tmtsg);
+        sum =
+            bits_fit w.rate (least_t3 w) small.rate t3_low;
+        bound = cycle_bound;
+      }
       by false b = mst_small

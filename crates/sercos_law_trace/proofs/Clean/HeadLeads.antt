@@ -1,5 +1,5 @@
 -- The head of a trace passes a check of captures, and spells the wishes.
-use Rattle.sercos_law_trace.proofs.Words.{◌≡◌, ℕ, suc, ◌-◌, ◌<◌, ◌≤◌, ◌==◌, false, List, [], ◌∷◌, ◌++◌, length, map, refl, sym, ◌∙◌, ap, subst, arith, append_assoc, append-nil, All, flat_map, nat_tests, All-head, All-tail, Wish, wish, IsValid, AreDistinct, AreBelow, addresses, WishesView, Address, number, Line, line_of, ReadsBack, drive_values, drive_text, address_at, ring_text, order_text, header_text, awaited_after, drives_left, drive_or_order, places, wishes_by, TellsFollowing, told, place_by, AreItems, IsItem, tail_text, IsTail, addresses_in, field_of, AreOf, IsOf, part_left, numbers_in, template_of, tail_for, line_by, length_map}
+use Rattle.sercos_law_trace.proofs.Words.{◌≡◌, ℕ, suc, ◌<◌, ◌≤◌, ◌==◌, false, List, [], ◌∷◌, ◌++◌, length, map, refl, sym, ◌∙◌, ap, subst, arith, append_assoc, append-nil, All, flat_map, nat_tests, All-head, All-tail, Wish, wish, IsValid, AreDistinct, AreBelow, addresses, number, WishesView, Address, Line, line_of, ReadsBack, drive_values, drive_text, address_at, ring_text, order_text, header_text, awaited_after, drives_left, drive_or_order, places, wishes_by, TellsFollowing, told, place_by, AreItems, IsItem, tail_text, IsTail, addresses_in, field_of, AreOf, IsOf, part_left, numbers_in, template_of, tail_for, line_by, length_map}
 use Rattle.sercos_text.specs.Templates.{IsPart}
 use Rattle.sercos_trace.specs.declared.kind.LineKind.TheVariants as kind
 use Rattle.sercos_trace.specs.declared.reading.Line.TheVariants as line
@@ -27,10 +27,6 @@ pub record FitsHead (w : WishesView) : Type 0 where
   pub gap : w.gap ≤ 65535
   pub drives : All FitsDrive w.drives
 
-version_fits : AreOf (template_of kind.Version) []
-unfolding template_of AreOf IsPart IsOf field_of part_left
-version_fits = (tt, (tt, (tt, (tt, (tt, (tt, (tt, (tt, tt))))))))
-
 ring_fits : (a b c d e : ℕ) → a ≤ 255 → b ≤ 65535 → c ≤ 65535 → d ≤ 65535 → e ≤ 255 → AreOf (template_of kind.Ring) (number a ∷ number b ∷ number c ∷ number d ∷ number e ∷ [])
 unfolding template_of AreOf IsPart IsOf field_of part_left
 ring_fits a b c d e pa pb pc pd pe = (tt, (tt, (tt, (tt, (tt, (pa, (tt, (pb, (tt, (pc, (tt, (pd, (tt, (pe, tt))))))))))))))
@@ -38,10 +34,6 @@ ring_fits a b c d e pa pb pc pd pe = (tt, (tt, (tt, (tt, (tt, (pa, (tt, (pb, (tt
 drive_fits : (d : Wish) → FitsDrive d → AreOf (template_of kind.Drive) (drive_values d)
 unfolding template_of AreOf IsPart IsOf field_of part_left
 drive_fits d is = (tt, (tt, (tt, (tt, (tt, (tt, (is.address, (tt, (is.slave, (tt, (is.t1min, (tt, (is.tatmt, (tt, (is.t4min, (tt, (is.tatat, (tt, (is.tmtsy, (tt, (is.tmtsg, (tt, (is.at_len, (tt, (is.record_len, tt)))))))))))))))))))))))))
-
-order_fits : AreOf (template_of kind.Order) []
-unfolding template_of AreOf IsPart IsOf field_of part_left
-order_fits = (tt, (tt, (tt, (tt, (tt, tt)))))
 
 -- the places of the addresses
 places_back : (w : WishesView) (order : List ℕ) → AreDistinct (addresses w.drives) → AreBelow order (length w.drives) → places w.drives (map (address_at w) order) ≡ order
@@ -60,12 +52,10 @@ order_tail : (w : WishesView) → IsValid w → IsTail (tail_for kind.Order) (ma
 unfolding tail_for IsTail
 order_tail w valid =
     let long = length_map (address_at w) w.order in
-    let count = valid.order.count in
-    let some = valid.drives.some in
-    let few = valid.drives.few in (
+    let count = valid.order.count in (
       addresses_fit w w.order (λ k low. (valid.drives.wishes k low).address.1) valid.order.within,
-      omega (arith, long, count, some),
-      omega (arith, long, count, few),
+      omega (arith, long, count, valid.drives.some),
+      omega (arith, long, count, valid.drives.few),
     )
 
 -- WITHIN THE HEAD: the wishes of these drives have come, and the others are still to come.
@@ -78,16 +68,14 @@ record InHead (w : WishesView) (done rest : List Wish) (lines : List Line) : Typ
 a_drive : (n : ℕ) → drive_or_order (suc n) ≡ awaited.Drive
 a_drive n = let other : (suc n == 0) ≡ false = grind (arith, nat_tests) in rw other refl
 
-one_less : (n m : ℕ) → n ≡ suc m → n - 1 ≡ m
-one_less n m is = omega (arith, is)
-
 module _ (tells : TellsFollowing) (law : ReadsBack) (w : WishesView) where
   abbrev IsFirst : List Line → Type 0
   IsFirst lines = lines ≡ line.Version ∷ []
 
   version_leads : Leads (line_of kind.Version []) (λ lines. lines ≡ []) IsFirst
-  unfolding line_by tail_for tail_text IsTail
-  version_leads lines is = subst (λ (l : List Line). Goes (line_of kind.Version []) IsFirst l) (sym is) (of_passes tells law IsFirst kind.Version [] line.Version [] version_fits refl refl refl (refl, tt) refl refl)
+  unfolding line_by tail_for tail_text IsTail template_of AreOf IsPart IsOf field_of part_left
+  version_leads lines is = subst (λ (l : List Line). Goes (line_of kind.Version []) IsFirst l) (sym is) (of_passes tells law IsFirst kind.Version [] line.Version []
+      (tt, (tt, (tt, (tt, (tt, (tt, (tt, (tt, tt)))))))) refl refl refl (refl, tt) refl refl)
 
   ring_leads : FitsHead w → length w.drives ≤ 255 → Leads (ring_text w) IsFirst (InHead w [] w.drives)
   unfolding line_by tail_for tail_text IsTail numbers_in
@@ -100,8 +88,8 @@ module _ (tells : TellsFollowing) (law : ReadsBack) (w : WishesView) where
   drive_leads d done rest fits lines is =
       of_passes tells law (InHead w (done ++ d ∷ []) rest) kind.Drive (drive_values d) (line.Drive d) lines (drive_fits d fits) refl refl refl (is.awaits ∙ a_drive (length rest), tt) refl
       (record {
-        awaits = ap drive_or_order (one_less (drives_left lines) (length rest) is.left);
-        left = one_less (drives_left lines) (length rest) is.left;
+        awaits = ap drive_or_order (omega (arith, is.left));
+        left = omega (arith, is.left);
         wishes = ap (λ (v : WishesView). record v { drives = v.drives ++ d ∷ [] }) is.wishes;
         telegrams = is.telegrams;
       })
@@ -116,15 +104,14 @@ module _ (tells : TellsFollowing) (law : ReadsBack) (w : WishesView) where
   with_order : (lines : List Line) → IsValid w → InHead w w.drives [] lines → wishes_by (line.Order (record { items = map (address_at w) w.order }) ∷ lines) ≡ w
   with_order lines valid is =
       ap (λ (v : WishesView). record v { order = places v.drives (map (address_at w) w.order) }) is.wishes
-      ∙ ap (λ (l : List ℕ). ordered l) (places_back w w.order valid.drives.apart valid.order.within)
-    where
-      ordered : List ℕ → WishesView
-      ordered l = record { rate = w.rate; cycle = w.cycle; control = w.control; gap = w.gap; order = l; drives = w.drives }
+      ∙ ap (λ (l : List ℕ). record { rate = w.rate; cycle = w.cycle; control = w.control; gap = w.gap; order = l; drives = w.drives })
+      (places_back w w.order valid.drives.apart valid.order.within)
 
   order_leads : IsValid w → Leads (order_text w) (InHead w w.drives []) (Stands w [])
-  unfolding line_by tail_for addresses_in
+  unfolding line_by tail_for addresses_in template_of AreOf IsPart IsOf field_of part_left
   order_leads valid lines is =
-      with_passes tells law (Stands w []) kind.Order [] (map (address_at w) w.order) (line.Order (record { items = map (address_at w) w.order })) lines order_fits (order_tail w valid) refl
+      with_passes tells law (Stands w []) kind.Order [] (map (address_at w) w.order) (line.Order (record { items = map (address_at w) w.order })) lines
+      (tt, (tt, (tt, (tt, (tt, tt))))) (order_tail w valid) refl
       (is.awaits, subst IsValid (sym (with_order lines valid is)) valid) refl
       (record { awaits = refl; wishes = with_order lines valid is; telegrams = is.telegrams })
 

@@ -1,5 +1,5 @@
 -- The telegrams of phases 3 and 4 keep the rules.
-use Rattle.sercos_law_trace.proofs.Words.{◌≡◌, ℕ, ℤ, pos, ◌+◌, ◌*◌, ◌≤◌, ◌+ℤ◌, ◌==◌, nat_lt, nat_le, Bool, true, false, cond, if◌then◌else◌, List, [], ◌∷◌, length, max, Some, None, is_none, option_map, refl, ◌∙◌, ap, arith, slice_index, list_all, find, le_z, and_from, eq-eqb, le-leb, nat_tests, frame_of, joint_fault, record_bytes, bound_9, greatest_tmtsy, WishesView, Said, Sent, Command, is_drive, wish_for, mark_of, is_at_of, is_after_gap, is_after_mark, is_after_transition, start_before, sent_at, sent_mst, ends_at_0, cond-false, or_left, not_from_false}
+use Rattle.sercos_law_trace.proofs.Words.{inr, inl, cases_Bool, ◌≡◌, ℕ, ℤ, pos, ◌+◌, ◌*◌, ◌≤◌, ◌+ℤ◌, ◌==◌, nat_lt, nat_le, true, false, if◌then◌else◌, List, [], ◌∷◌, length, max, Some, None, is_none, option_map, refl, ◌∙◌, ap, arith, slice_index, list_all, find, le_z, and_from, eq-eqb, le-leb, nat_tests, frame_of, joint_fault, record_bytes, bound_9, greatest_tmtsy, WishesView, Said, Sent, Command, is_drive, wish_for, mark_of, is_at_of, is_after_gap, is_after_mark, is_after_transition, start_before, sent_at, sent_mst, ends_at_0, cond-false, or_left, not_from_false}
 use Rattle.sercos_law_trace.proofs.Clean.RuleLemmas.{none_broken, broken_by, seen_of, mdt_at, AreRuled, newest_by}
 use Rattle.sercos_law_trace.proofs.Clean.SeenLemmas.{Each, EachAfter, each_map, not_asked, asked, no_mdt_seen, HasOther, none_from, later_start, IsFramed, frame_kept, fresh, order}
 
@@ -42,21 +42,13 @@ pub record IsLateMdt (w : WishesView) (rate : ℕ) (m : Sent) : Type 0 where
 abbrev pub AreBefore : WishesView → ℕ → List Said → List Said → Type 0
 AreBefore w rate done ats = EachAfter (λ (x y : Said). IsBefore w rate y x) done ats
 
-record IsLate (phase : ℕ) : Type 0 where
-  some : nat_lt 0 phase ≡ true
-  not_early : nat_lt phase 3 ≡ false
-  late : nat_le 3 phase ≡ true
-
-is_late : (phase : ℕ) → 3 ≤ phase → IsLate phase
-is_late phase late = record { some = grind (arith, nat_tests, late); not_early = grind (arith, nat_tests, late); late = grind (arith, nat_tests, late) }
-
 -- after the MST is the gap
 after_mst : (n gap start : ℕ) → gap ≤ start → le_z ((start_before n +ℤ pos n) +ℤ pos gap) (pos start) ≡ true
 after_mst n gap start low = ap (λ (z : ℤ). le_z (z +ℤ pos gap) (pos start)) (ends_at_0 n) ∙ le-leb (0 + gap) start (omega (arith, low))
 
 module _ (w : WishesView) (rate : ℕ) (c : Command) (mst : List ℕ) (late : 3 ≤ c.phase) where
-  tests : IsLate c.phase
-  tests = is_late c.phase late
+  not_early : nat_lt c.phase 3 ≡ false
+  not_early = grind (arith, nat_tests, late)
 
   gap_kept : (done : List Said) (s : Said) → w.rate * w.gap ≤ rate * s.start → Each (IsBefore w rate s) done → is_after_gap w (newest_by w (seen_of rate (sent_mst mst) done)) (sent_at rate s.start s.content) ≡ true
   gap_kept [] s first are = after_mst (length (frame_of mst)) (w.rate * w.gap) (rate * s.start) first
@@ -65,13 +57,11 @@ module _ (w : WishesView) (rate : ℕ) (c : Command) (mst : List ℕ) (late : 3 
   mark_kept : (done : List Said) (s : Said) → Each (IsBefore w rate s) done
       → is_after_mark (option_map mark_of (find (is_at_of w (slave_by w s)) (seen_of rate (sent_mst mst) done))) (w.rate * (wish_for w (slice_index s.content 0)).times.tatat) (pos (rate * s.start)) ≡ true
   mark_kept [] s are = refl
-  mark_kept (x ∷ done) s are = by (slave_by w x == slave_by w s) refl (mark_kept done s are.1)
-    where
-      by : (b : Bool) → (slave_by w x == slave_by w s) ≡ b
-          → is_after_mark (option_map mark_of (find (is_at_of w (slave_by w s)) (seen_of rate (sent_mst mst) done))) (w.rate * (wish_for w (slice_index s.content 0)).times.tatat) (pos (rate * s.start)) ≡ true
-          → is_after_mark (option_map mark_of (cond b (Some (sent_at rate x.start x.content)) (find (is_at_of w (slave_by w s)) (seen_of rate (sent_mst mst) done)))) (w.rate * (wish_for w (slice_index s.content 0)).times.tatat) (pos (rate * s.start)) ≡ true
-      by true own rest = le-leb (end_at rate x + w.rate * (wish_for w (slice_index s.content 0)).times.tatat) (rate * s.start) (are.0.recovered own)
-      by false other rest = rest
+  mark_kept (x ∷ done) s are = elim (cases_Bool (slave_by w x == slave_by w s)) [
+    | inl own ↦ rw own (le-leb (end_at rate x + w.rate * (wish_for w (slice_index s.content 0)).times.tatat) (rate * s.start)
+        (are.0.recovered own))
+    | inr other ↦ rw other (mark_kept done s are.1)
+  ]
 
   at_ruled : (done : List Said) (s : Said) → IsLateAt w rate s → Each (IsBefore w rate s) done → broken_by w (Some c) (seen_of rate (sent_mst mst) done) c.cycle (sent_at rate s.start s.content) ≡ None
   at_ruled done s is are =
@@ -80,9 +70,10 @@ module _ (w : WishesView) (rate : ℕ) (c : Command) (mst : List ℕ) (late : 3 
       none_broken _ _ _ _ _ _ _ _ _
       (and_from _ _ (order _ _ later (no_mdt_seen rate mst done) c.cycle) (fresh (nat_lt 0 (length s.content)) _ (none_from rate (slice_index s.content 0) mst done others)))
       (frame_kept s.content is.framed)
-      (and_from _ _ tests.some (cond-false _ _ _ tests.not_early ∙ and_from _ _ (eq-eqb (length s.content) ((wish_for w (slice_index s.content 0)).at_len + 1) is.long) is.drive))
+      (and_from _ _ (grind (arith, nat_tests, late)) (cond-false _ _ _ not_early
+      ∙ and_from _ _ (eq-eqb (length s.content) ((wish_for w (slice_index s.content 0)).at_len + 1) is.long) is.drive))
       refl
-      (cond-false _ _ _ tests.not_early ∙ (le-leb (w.rate * (wish_for w (slice_index s.content 0)).times.t1min) (rate * s.start) is.ready))
+      (cond-false _ _ _ not_early ∙ (le-leb (w.rate * (wish_for w (slice_index s.content 0)).times.t1min) (rate * s.start) is.ready))
       (asked _ _ (gap_kept done s is.after_mst are))
       (asked _ _ (mark_kept done s are))
       (not_asked (nat_le 3 c.phase) _)
@@ -97,23 +88,21 @@ module _ (w : WishesView) (rate : ℕ) (c : Command) (mst : List ℕ) (late : 3 
   transition_kept (x ∷ done) start are =
       and_from _ _ (le-leb (end_at rate x + w.rate * (wish_for w (slice_index x.content 0)).times.tatmt) start are.0.receive) (transition_kept done start are.1)
 
-  mdt_ruled : (done : List Said) (m : Sent) → IsLateMdt w rate m → Each (IsBeforeMdt w rate (rate * m.start)) done → broken_by w (Some c) (seen_of rate (sent_mst mst) done) c.cycle (mdt_at rate m) ≡ None
-  mdt_ruled done m is are =
-      let later = later_start w rate (rate * m.start) mst done (each_map (IsBeforeMdt w rate (rate * m.start)) (λ (x : Said). rate * x.start ≤ rate * m.start) (λ x before. let g = before.gap in omega (arith, g)) done are) in
+  rest_ruled : (ats done : List Said) (m : Sent) → Each (IsLateAt w rate) ats → AreBefore w rate done ats → IsLateMdt w rate m → Each (IsBeforeMdt w rate (rate * m.start)) done → Each (IsBeforeMdt w rate (rate * m.start)) ats
+      → AreRuled w rate c (sent_mst mst) done ats (Some m)
+  rest_ruled [] done m are before is early rest = let later = later_start w rate (rate * m.start) mst done
+      (each_map (IsBeforeMdt w rate (rate * m.start)) (λ (x : Said). rate * x.start ≤ rate * m.start) (λ x before. let g = before.gap in
+      omega (arith, g)) done early) in
       none_broken _ _ _ _ _ _ _ _ _
       (order _ _ later (no_mdt_seen rate mst done) c.cycle)
       (frame_kept m.content is.framed)
-      (and_from _ _ tests.some (cond-false _ _ _ tests.not_early ∙ is.layout))
+      (and_from _ _ (grind (arith, nat_tests, late)) (cond-false _ _ _ not_early ∙ is.layout))
       refl
-      (or_left _ _ (not_from_false _ tests.not_early))
-      (asked _ _ (mdt_gap done m is.after_mst are))
+      (or_left _ _ (not_from_false _ not_early))
+      (asked _ _ (mdt_gap done m is.after_mst early))
       (not_asked (nat_le 3 c.phase) _)
-      (asked _ _ (transition_kept done (rate * m.start) are))
+      (asked _ _ (transition_kept done (rate * m.start) early))
       (asked _ _ (le-leb (rate * m.start + length (frame_of m.content) + w.rate * max w.gap (greatest_tmtsy w)) (bound_9 w) is.room))
-
-  rest_ruled : (ats done : List Said) (m : Sent) → Each (IsLateAt w rate) ats → AreBefore w rate done ats → IsLateMdt w rate m → Each (IsBeforeMdt w rate (rate * m.start)) done → Each (IsBeforeMdt w rate (rate * m.start)) ats
-      → AreRuled w rate c (sent_mst mst) done ats (Some m)
-  rest_ruled [] done m are before is early rest = mdt_ruled done m is early
   rest_ruled (s ∷ ats) done m are before is early rest = (at_ruled done s are.0 before.0, rest_ruled ats (s ∷ done) m are.1 before.1 is (rest.0, early) rest.1)
 
   pub late_ruled : (ats : List Said) (m : Sent) → Each (IsLateAt w rate) ats → AreBefore w rate [] ats → IsLateMdt w rate m → Each (IsBeforeMdt w rate (rate * m.start)) ats → AreRuled w rate c (sent_mst mst) [] ats (Some m)

@@ -1,5 +1,5 @@
 -- The lines of a trace that are no telegrams pass a check of captures.
-use Rattle.sercos_law_trace.proofs.Words.{◌≡◌, ℕ, ℤ, zero, suc, ◌<◌, ◌≤◌, Bool, true, false, List, [], ◌∷◌, ◌++◌, length, take, drop, reverse, Option, Some, None, refl, sym, ◌∙◌, ap, ap₂, subst, arith, if◌then◌else◌, All, flat_map, beq, flat_map-append, reverse_onto, All-head, All-tail, All-take, All-drop, Kind, Outcome, WishesView, PlanView, Link, ChainView, Value, number, signed, bytes, LineKind, Line, Move, Totals, Stop, Fall, line_of, line_with, SentView, EventsView, CycleView, ReadsBack, sent_kind, sent_text, move_text, ended_text, outcome_text, plan_line, slot_text, slots_text, link_text, bound_text, chain_text, events_text, moves_text, cycle_text, end_text, Told, broken_rule, awaited_after, wishes_by, has_head, TellsFollowing, told, FitsLine, FitLines, told_after, told_in, KeepRules, FitsMove, FitsEnded, FitsSlot, FitsPlan, FitsLink, FitsChain, FitsStop, FitsFall, FitsEvents, FitsCycle, FitTotals, tail_text, IsTail, field_of, AreOf, IsOf, part_left, numbers_in, signed_by, bytes_by, template_of, tail_for, line_by, plan_text, stop_text, fall_text}
+use Rattle.sercos_law_trace.proofs.Words.{◌≡◌, ℕ, ℤ, zero, suc, ◌<◌, ◌≤◌, Bool, true, false, List, [], ◌∷◌, ◌++◌, length, take, drop, reverse, Option, Some, None, refl, sym, ◌∙◌, ap, ap₂, subst, arith, if◌then◌else◌, All, flat_map, beq, flat_map-append, reverse_onto, All-head, All-tail, All-take, All-drop, Kind, Outcome, WishesView, PlanView, ChainView, Value, number, signed, bytes, LineKind, Line, Move, Totals, Stop, Fall, line_of, line_with, SentView, EventsView, CycleView, ReadsBack, sent_kind, sent_text, move_text, ended_text, outcome_text, plan_line, slot_text, slots_text, link_text, bound_text, chain_text, events_text, moves_text, cycle_text, end_text, Told, broken_rule, awaited_after, wishes_by, has_head, TellsFollowing, told, FitsLine, FitLines, told_after, told_in, KeepRules, FitsMove, FitsEnded, FitsSlot, FitsPlan, FitsLink, FitsChain, FitsStop, FitsFall, FitsEvents, FitsCycle, FitTotals, tail_text, IsTail, field_of, AreOf, IsOf, part_left, numbers_in, signed_by, bytes_by, template_of, tail_for, line_by, plan_text, stop_text, fall_text}
 use Rattle.sercos_telegram.specs.declared.layout.Kind.TheVariants as telegram
 use Rattle.sercos_step.specs.declared.request.Outcome.TheVariants as outcome
 use Rattle.sercos_text.specs.Templates.{IsPart}
@@ -35,15 +35,12 @@ module _ (tells : TellsFollowing) (law : ReadsBack) where
     both : (a b : List ℕ) → Stays a → Stays b → Stays (a ++ b)
     both a b one two = leads_both a b (Stands w before) (Stands w before) (Stands w before) one two
 
-    move_stays : (cycle : ℕ) (m : Move) → FitsMove cycle m → Stays (move_text cycle m)
-    unfolding line_by tail_for tail_text IsTail
-    move_stays cycle m are = other_of w before kind.Phase _ are refl refl refl
-
     moves_stay : (cycle : ℕ) (late : Bool) (moves : List Move) → All (FitsMove cycle) moves → Stays (moves_text cycle late moves)
+    unfolding line_by tail_for tail_text IsTail
     moves_stay cycle late moves all = leads_all (λ (m : Move). if beq m.late late then move_text cycle m else []) (FitsMove cycle) (Stands w before) (λ m are. by m are (beq m.late late)) moves all
       where
         by : (m : Move) → FitsMove cycle m → (b : Bool) → Stays (if b then move_text cycle m else [])
-        by m are true = move_stays cycle m are
+        by m are true = other_of w before kind.Phase _ are refl refl refl
         by m are false = leads_none (Stands w before)
 
     ended_stays : (cycle i : ℕ) (o : Outcome) → FitsEnded cycle i o → Stays (ended_text cycle i o)
@@ -52,32 +49,24 @@ module _ (tells : TellsFollowing) (law : ReadsBack) where
     ended_stays cycle i (outcome.Refused code) are = other_of w before kind.Refused _ are refl refl refl
     ended_stays cycle i outcome.Broken are = other_of w before kind.Broken _ are refl refl refl
 
-    slot_stays : (cycle : ℕ) (p : PlanView) (k : ℕ) → FitsSlot cycle w p k → Stays (slot_text cycle w p k)
-    unfolding line_by tail_for tail_text IsTail
-    slot_stays cycle p k are = other_of w before kind.Slot _ are refl refl refl
-
     slots_stay : (cycle : ℕ) (p : PlanView) (n : ℕ) → n ≤ length w.drives → ((k : ℕ) → k < length w.drives → FitsSlot cycle w p k) → Stays (slots_text cycle w p n)
-    slots_stay cycle p zero low each = leads_none (Stands w before)
-    slots_stay cycle p (suc n) low each = both (slots_text cycle w p n) (slot_text cycle w p n) (slots_stay cycle p n (omega (arith, low)) each) (slot_stays cycle p n (each n (omega (arith, low))))
-
-    plan_line_stays : (cycle : ℕ) (p : PlanView) → AreOf (template_of kind.Plan) (number cycle ∷ number p.t2 ∷ number p.t3 ∷ number p.t4 ∷ number p.mdt_len ∷ []) → Stays (plan_line cycle p)
     unfolding line_by tail_for tail_text IsTail
-    plan_line_stays cycle p are = other_of w before kind.Plan _ are refl refl refl
+    slots_stay cycle p zero low each = leads_none (Stands w before)
+    slots_stay cycle p (suc n) low each =
+        both (slots_text cycle w p n) (slot_text cycle w p n) (slots_stay cycle p n (omega (arith, low)) each)
+        (other_of w before kind.Slot _ (each n (omega (arith, low))) refl refl refl)
 
     plan_stays : (cycle : ℕ) (p : Option PlanView) → FitsPlan cycle w p → Stays (plan_text cycle w p)
-    unfolding plan_text
+    unfolding plan_text line_by tail_for tail_text IsTail
     plan_stays cycle None are = leads_none (Stands w before)
-    plan_stays cycle (Some p) are = both (plan_line cycle p) (slots_text cycle w p (length w.drives)) (plan_line_stays cycle p are.0) (slots_stay cycle p (length w.drives) (omega arith) are.1)
-
-    link_stays : (cycle : ℕ) (l : Link) → FitsLink cycle l → Stays (link_text cycle l)
-    unfolding line_by tail_for tail_text IsTail
-    link_stays cycle l are = other_of w before kind.RuleAt _ are refl refl refl
+    plan_stays cycle (Some p) are = both (plan_line cycle p) (slots_text cycle w p (length w.drives)) (other_of w before kind.Plan _ are.0 refl refl refl) (slots_stay cycle p (length w.drives) (omega arith) are.1)
 
     chain_stays : (cycle : ℕ) (c : ChainView) → FitsChain cycle c → Stays (chain_text cycle c)
     unfolding line_by tail_for tail_text IsTail
     chain_stays cycle c are =
         both (line_of kind.NoFit (number cycle ∷ [])) (flat_map (link_text cycle) c.links ++ bound_text cycle c) (other_of w before kind.NoFit _ are.0 refl refl refl)
-        (both (flat_map (link_text cycle) c.links) (bound_text cycle c) (leads_all (link_text cycle) (FitsLink cycle) (Stands w before) (link_stays cycle) c.links are.1) (other_of w before kind.RuleSum _ are.2 refl refl refl))
+        (both (flat_map (link_text cycle) c.links) (bound_text cycle c) (leads_all (link_text cycle) (FitsLink cycle) (Stands w before)
+        (λ l is. other_of w before kind.RuleAt _ is refl refl refl) c.links are.1) (other_of w before kind.RuleSum _ are.2 refl refl refl))
 
     stop_stays : (cycle : ℕ) (o : Option Stop) → FitsStop cycle o → Stays (stop_text cycle o)
     unfolding stop_text line_by tail_for tail_text IsTail

@@ -1,26 +1,27 @@
 -- The outcomes that a cycle reports fit the fields of their lines.
-use Rattle.sercos_law_trace.proofs.Words.{◌≡◌, inl, inr, ℕ, zero, suc, ◌+◌, ◌-◌, ◌<◌, ◌≤◌, ◌==◌, nat_lt, Bool, true, false, List, [], ◌∷◌, ◌++◌, length, drop, min, Option, Some, None, is_some, is_none, refl, sym, ◌∙◌, ap, subst, arith, if◌then◌else◌, cond_both, slice_index, slice_get, option_and_then, All, All-nil, All-cons, All-head, All-tail, length-take, length-drop, AreBytes-take, AreBytes-bytes_of, reason_of, content_of, plain, Job, Request, Outcome, Shape, Answer, CountsAnswers, count_of, answer_words, outcome_of, is_whole, result_of, steps_before, attribute_read, AreAnswers, bytes_in, bytes_read, shape_of, words_in, length-answer_words, PlanView, RingView, Begun, open_in, answers_it, answer_in, with_answer, Begin, Send, Hear, EndCycle, begun_by, EventsView, CycleView, Report, number_in, broken_number, Known, Task, known_of, tasks_from, tasks_for, request_task, member, Call, HearMst, HearAt, Mdt, End, Restart, Past, past, after_taken, settled, with_begin, ready_to_send, is_sent_to, addressed_in, after_mdt, fall_of, is_idle, inserted, with_report, with_reports, broken, with_broken, outcomes_told, restart_told, settles, at_keeps, channel_keeps, end_keeps, Passage, Carry, Restarts, IsReportOf, IsTask, OfReads, OfWrites, Checks3, Lists3, Checks4, Lists4, OfWaiting, AreBegunTasks, HasBegunTasks, arrival, heard, passage, ats_in, station_of, with_at, at_calls, begin_calls, master_calls, middle, looks_back, no_events, IsNext, AreWords, word_of, words_append, bytes_of_words, read_word, words_drop, FitsEnded, begins_tasks, left_of, told_right, goes_on_at, and_left, length-bytes_in, AreBytes, field_of, AreOf, IsOf, part_left, template_of, same_Some, cases_Bool}
+use Rattle.sercos_law_trace.proofs.Words.{cases_Option, none-some, ◌≡◌, inl, inr, ℕ, zero, suc, ◌+◌, ◌-◌, ◌<◌, ◌≤◌, nat_lt, Bool, true, false, List, [], ◌∷◌, length, drop, min, Option, Some, None, is_some, is_none, refl, sym, ◌∙◌, ap, subst, arith, if◌then◌else◌, cond_both, slice_index, slice_get, All, All-nil, All-cons, All-head, All-tail, length-take, length-drop, AreBytes-take, AreBytes-bytes_of, reason_of, content_of, plain, Job, Request, Outcome, Shape, Answer, count_of, answer_words, outcome_of, is_whole, result_of, steps_before, attribute_read, AreAnswers, bytes_in, bytes_read, shape_of, words_in, length-answer_words, PlanView, RingView, Begun, open_in, answers_it, answer_in, with_answer, Begin, Send, Hear, EndCycle, begun_by, EventsView, CycleView, Report, number_in, broken_number, Known, Task, known_of, tasks_for, member, Call, HearMst, HearAt, Mdt, End, Restart, Past, past, settled, with_begin, ready_to_send, is_sent_to, addressed_in, after_mdt, fall_of, is_idle, inserted, with_report, with_reports, broken, with_broken, outcomes_told, restart_told, settles, at_keeps, channel_keeps, end_keeps, Passage, Carry, Restarts, IsReportOf, IsTask, AreBegunTasks, HasBegunTasks, arrival, heard, passage, ats_in, station_of, with_at, at_calls, begin_calls, master_calls, middle, looks_back, no_events, IsNext, AreWords, word_of, words_append, bytes_of_words, read_word, words_drop, FitsEnded, begins_tasks, told_right, goes_on_at, and_left, length-bytes_in, AreBytes, field_of, AreOf, IsOf, part_left, template_of, same_Some, cases_Bool, slice_get_within}
 use Rattle.sercos_telegram.specs.declared.layout.Kind.TheVariants as kinds
 use Rattle.sercos_step.specs.declared.request.Request.TheVariants as request
 use Rattle.sercos_step.specs.declared.request.Outcome.TheVariants as outcome
 use Rattle.sercos_step.specs.declared.shape.Shape.TheVariants as shape
 use Rattle.sercos_service_master.specs.Calls as channel
 use Rattle.sercos_text.specs.Templates.{IsPart}
+use Rattle.sercos_step.proofs.AnswerCounts.{counts_answers}
+use Rattle.sercos_law_trace.proofs.Told.ToldLemmas.{has_waited, in_all, request_of}
 use Rattle.sercos_master.specs.Annals.{place_of, begins}
 use Rattle.sercos_law_run.specs.Journal.Arrivals.{content_in}
 
 -- WHAT THE MASTER HEARS are bytes, whatever the links make of what is sent.
 heard_bytes : (carry : Carry) (p : Passage) (content got : List ℕ) → heard carry p content ≡ Some got → AreBytes got
 unfolding content_in
-heard_bytes carry p content got is = by (arrival carry p content) is
+heard_bytes carry p content got is = elim (cases_Option (arrival carry p content)) [
+  | inl none ↦ cc
+  | inr some ↦ let e = rw some.1 at is in one some.0 (is_none (reason_of some.0)) e
+]
   where
     one : (bits : List Bool) (b : Bool) → (if b then Some (content_of (plain bits)) else None) ≡ Some got → AreBytes got
     one bits true e = let same : content_of (plain bits) ≡ got = cc in subst AreBytes same (AreBytes-bytes_of _)
     one bits false e = cc
-
-    by : (o : Option (List Bool)) → option_and_then (λ bits. if is_none (reason_of bits) then Some (content_of (plain bits)) else None) o ≡ Some got → AreBytes got
-    by None e = cc
-    by (Some bits) e = one bits (is_none (reason_of bits)) e
 
 abbrev pub AreHeard : List Call → Type 0
 AreHeard [] = Unit {0}
@@ -57,9 +58,6 @@ AreTold (Send ∷ calls) = AreTold calls
 AreTold (Hear status word ∷ calls) = (word < 65536) × AreTold calls
 AreTold (EndCycle ∷ calls) = AreTold calls
 
-taken_told : (i : ℕ) (content : List ℕ) (p : Past) (k : ℕ) → AreBytes content → ((k : ℕ) → AreTold (p.calls k)) → AreTold ((after_taken i content p).calls k)
-taken_told i content p k bytes are = channel_keeps AreTold i k content p (are k) (λ same. (read_word content 3 bytes, are k))
-
 mdt_told : (s : Known) (p : Past) → ((k : ℕ) → AreTold (p.calls k)) → (k : ℕ) → AreTold ((after_mdt s p).calls k)
 mdt_told s p are k = elim (cases_Bool (is_sent_to (ready_to_send s p) (addressed_in s (ready_to_send s p)) k)) [
   | inl on ↦ rw on (begun (begins s (settled s p) k))
@@ -79,7 +77,7 @@ all_told s requests (HearMst content ∷ h) are k = all_told s requests h are k
 all_told s requests (HearAt content ∷ h) are k =
     let before = all_told s requests h are.1 in
     at_keeps (λ p. AreTold (p.calls k)) s (place_of s (slice_index content 0)) content (past s requests h) (before k)
-    (λ i place is. taken_told i content (past s requests h) k are.0 before)
+    (λ i place is. channel_keeps AreTold i k content (past s requests h) (before k) (λ same. (read_word content 3 are.0, before k)))
 all_told s requests (Mdt ∷ h) are k = mdt_told s (past s requests h) (all_told s requests h are) k
 all_told s requests (End ∷ h) are k = end_keeps (λ p. AreTold (p.calls k)) s (past s requests h) tt (λ done is. all_told s requests h are k)
 all_told s requests (Restart ∷ h) are k = tt
@@ -129,9 +127,6 @@ list_fits (actual ∷ longest ∷ words) are =
 result_fits : (q : Request) (words : List ℕ) → AreWords words → length words ≡ count_of q words → AreBytes (result_of q words) × (length (result_of q words) ≤ 1024)
 result_fits (request.Read idn e) words are count = by (shape_of e (attribute_read e words)) count
   where
-    n : ℕ
-    n = steps_before e
-
     by : (s : Shape) → length words ≡ steps_before e + words_in s (slice_index words (steps_before e)) → AreBytes (bytes_read s (drop (steps_before e) words)) × (length (bytes_read s (drop (steps_before e) words)) ≤ 1024)
     by shape.One count = let long = length-drop (steps_before e) words in let all = length-bytes_in (drop (steps_before e) words) in (bytes_of_words (drop (steps_before e) words) (words_drop (steps_before e) words are), omega (arith, long, all, count))
     by shape.Two count = let long = length-drop (steps_before e) words in let all = length-bytes_in (drop (steps_before e) words) in (bytes_of_words (drop (steps_before e) words) (words_drop (steps_before e) words are), omega (arith, long, all, count))
@@ -139,84 +134,37 @@ result_fits (request.Read idn e) words are count = by (shape_of e (attribute_rea
 result_fits (request.Write idn e bytes) words are count = no_bytes
 result_fits (request.Command idn) words are count = (bytes_of_words (slice_index words (length words - 2) ∷ []) (word_of words (length words - 2) are, tt), omega arith)
 
-complete_is : (q : Request) (answers : List Answer) (bytes : List ℕ) → outcome_of q answers ≡ Some (outcome.Complete bytes) → bytes ≡ result_of q (answer_words answers)
-complete_is q [] bytes is = cc
-complete_is q (a ∷ answers) bytes is = by a.error (is_whole q (answer_words answers ++ a.word ∷ [])) is
+pub outcome_fits : (q : Request) (answers : List Answer) (o : Outcome) → AreAnswers q answers → AreWordsOf answers → outcome_of q answers ≡ Some o → IsSpelt o
+outcome_fits q [] o going are is = cc
+outcome_fits q (a ∷ answers) o going are is = by a.error (is_whole q (answer_words (a ∷ answers))) refl
   where
-    by : (error whole : Bool) → (if error then Some (outcome.Refused (record { raw = a.word })) else (if whole then Some (outcome.Complete (result_of q (answer_words answers ++ a.word ∷ []))) else None)) ≡ Some (outcome.Complete bytes)
-        → bytes ≡ result_of q (answer_words answers ++ a.word ∷ [])
-    by true whole e = cc
-    by false true e = cc
-    by false false e = cc
-
-refused_is : (q : Request) (answers : List Answer) (o : Outcome) → AreWordsOf answers → outcome_of q answers ≡ Some o → ((bytes : List ℕ) → o ≡ outcome.Complete bytes → IsSpelt o) → IsSpelt o
-refused_is q [] o are is complete = cc
-refused_is q (a ∷ answers) o are is complete = by a.error (is_whole q (answer_words answers ++ a.word ∷ [])) is
-  where
-    by : (error whole : Bool) → (if error then Some (outcome.Refused (record { raw = a.word })) else (if whole then Some (outcome.Complete (result_of q (answer_words answers ++ a.word ∷ []))) else None)) ≡ Some o → IsSpelt o
-    by true whole e = let same : outcome.Refused (record { raw = a.word }) ≡ o = cc in subst IsSpelt same are.0
-    by false true e = let same : o ≡ outcome.Complete (result_of q (answer_words answers ++ a.word ∷ [])) = cc in complete _ same
-    by false false e = cc
-
-pub outcome_fits : CountsAnswers → (q : Request) (answers : List Answer) (o : Outcome) → AreAnswers q answers → AreWordsOf answers → outcome_of q answers ≡ Some o → IsSpelt o
-outcome_fits counts q answers o going are is = refused_is q answers o are is (λ bytes complete. by bytes complete)
-  where
-    by : (bytes : List ℕ) → o ≡ outcome.Complete bytes → IsSpelt o
-    by bytes complete =
-        let whole : outcome_of q answers ≡ Some (outcome.Complete bytes) = is ∙ ap Some complete in
-        let count = counts q answers bytes going whole in
-        let long = length-answer_words answers in
-        let fits = result_fits q (answer_words answers) (all_words answers are) (long ∙ count) in
-        subst IsSpelt (sym complete) (subst (λ (l : List ℕ). AreBytes l × (length l ≤ 1024)) (sym (complete_is q answers bytes whole)) fits)
+    by : (error whole : Bool) → outcome_of q (a ∷ answers) ≡ (if error then Some (outcome.Refused (record { raw = a.word }))
+        else (if whole then Some (outcome.Complete (result_of q (answer_words (a ∷ answers)))) else None)) → IsSpelt o
+    by true whole so = subst IsSpelt (same_Some _ o (sym so ∙ is)) are.0
+    by false true so = subst IsSpelt (same_Some _ o (sym so ∙ is)) (result_fits q (answer_words (a ∷ answers)) (all_words (a ∷ answers) are)
+        (length-answer_words (a ∷ answers) ∙ counts_answers q (a ∷ answers) _ going so))
+    by false false so = absurd (none-some o (sym so ∙ is))
 
 -- THE NUMBERS of requests
 abbrev AreLow : List Task → Type 0
-AreLow [] = Unit {0}
-AreLow (t ∷ tasks) = ((n : ℕ) → t.number ≡ Some n → n ≤ 65535) × AreLow tasks
-
-jobs_low : (address i : ℕ) (jobs : List Job) → i + length jobs ≤ 65536 → AreLow (tasks_from address i jobs)
-jobs_low address i [] few = tt
-jobs_low address i (job ∷ jobs) few = by (job.drive == address) (jobs_low address (i + 1) jobs (omega (arith, few)))
-  where
-    by : (b : Bool) → AreLow (tasks_from address (i + 1) jobs) → AreLow (if b then request_task i job.request ∷ tasks_from address (i + 1) jobs else tasks_from address (i + 1) jobs)
-    by true rest = (λ n is. let same = same_Some i n is in omega (arith, same, few), rest)
-    by false rest = rest
-
-drop_low : (n : ℕ) (tasks : List Task) → AreLow tasks → AreLow (drop n tasks)
-drop_low zero tasks are = are
-drop_low (suc n) [] are = tt
-drop_low (suc n) (t ∷ tasks) are = drop_low n tasks are.1
-
-get_low : (tasks : List Task) (i : ℕ) (t : Task) → AreLow tasks → slice_get tasks i ≡ Some t → (n : ℕ) → t.number ≡ Some n → n ≤ 65535
-get_low [] i t are got n is = cc
-get_low (x ∷ tasks) zero t are got n is = let same : x ≡ t = cc in are.0 n (ap (λ (y : Task). y.number) same ∙ is)
-get_low (x ∷ tasks) (suc i) t are got n is = get_low tasks i t are.1 got n is
+AreLow waiting = (i : ℕ) (t : Task) → slice_get waiting i ≡ Some t → (n : ℕ) → t.number ≡ Some n → n ≤ 65535
 
 -- a task of the start-up has none
-no_number : (t u : Task) → t ≡ u → u.number ≡ None → (n : ℕ) → t.number ≡ Some n → n ≤ 65535
-no_number t u same none n is = let e : None ≡ Some n = sym none ∙ sym (ap (λ (x : Task). x.number) same) ∙ is in cc
-
 task_low : (s : Known) (k : ℕ) (plan : Option PlanView) (waiting : List Task) (outs : List Outcome) (t : Task) → IsTask s k plan waiting outs t → AreLow waiting → (n : ℕ) → t.number ≡ Some n → n ≤ 65535
-task_low s k plan waiting outs t (OfReads q a b same) are n is = no_number t _ same refl n is
-task_low s k plan waiting outs t (OfWrites p i q a b c d same) are n is = no_number t _ same refl n is
-task_low s k plan waiting outs t (Checks3 p a b same) are n is = no_number t _ same refl n is
-task_low s k plan waiting outs t (Lists3 a b same) are n is = no_number t _ same refl n is
-task_low s k plan waiting outs t (Checks4 a b same) are n is = no_number t _ same refl n is
-task_low s k plan waiting outs t (Lists4 a b same) are n is = no_number t _ same refl n is
-task_low s k plan waiting outs t (OfWaiting i a b got) are n is = get_low waiting i t are got n is
+task_low s k plan waiting outs t task are n is = let w = has_waited s k plan waiting outs t n task is in are w.place t w.got n is
 
 -- A REPORT
 abbrev pub Fits : ℕ → Outcome → Type 0
 Fits number o = (number ≤ 65535) × IsSpelt o
 
-report_fits : CountsAnswers → (s : Known) (k : ℕ) (plan : Option PlanView) (waiting : List Task) (phase : ℕ) (begun : List Begun) (tasks : List Task) (x : Report) → AreBegunTasks s k plan waiting phase begun tasks → AreLow waiting → AreGoing begun
+report_fits : (s : Known) (k : ℕ) (plan : Option PlanView) (waiting : List Task) (phase : ℕ) (begun : List Begun) (tasks : List Task) (x : Report) → AreBegunTasks s k plan waiting phase begun tasks → AreLow waiting → AreGoing begun
     → IsReportOf x begun tasks → Fits x.number x.outcome
-report_fits counts s k plan waiting phase [] [] x are low going is = absurd is
-report_fits counts s k plan waiting phase [] (t ∷ tasks) x are low going is = absurd is
-report_fits counts s k plan waiting phase (b ∷ older) [] x are low going is = absurd is
-report_fits counts s k plan waiting phase (b ∷ older) (t ∷ tasks) x are low going (inl (number, ended)) =
-    (task_low s k are.1.by_then waiting _ t are.1.task low x.number number, outcome_fits counts b.request b.answers x.outcome going.0.0 going.0.1 ended)
-report_fits counts s k plan waiting phase (b ∷ older) (t ∷ tasks) x are low going (inr rest) = report_fits counts s k plan waiting phase older tasks x are.0 low going.1 rest
+report_fits s k plan waiting phase [] [] x are low going is = absurd is
+report_fits s k plan waiting phase [] (t ∷ tasks) x are low going is = absurd is
+report_fits s k plan waiting phase (b ∷ older) [] x are low going is = absurd is
+report_fits s k plan waiting phase (b ∷ older) (t ∷ tasks) x are low going (inl (number, ended)) =
+    (task_low s k are.1.by_then waiting _ t are.1.task low x.number number, outcome_fits b.request b.answers x.outcome going.0.0 going.0.1 ended)
+report_fits s k plan waiting phase (b ∷ older) (t ∷ tasks) x are low going (inr rest) = report_fits s k plan waiting phase older tasks x are.0 low going.1 rest
 
 open_low : (s : Known) (k : ℕ) (plan : Option PlanView) (waiting : List Task) (phase : ℕ) (begun : List Begun) (tasks : List Task) → AreBegunTasks s k plan waiting phase begun tasks → AreLow waiting → (n : ℕ) → number_in tasks ≡ Some n → n ≤ 65535
 open_low s k plan waiting phase [] [] are low n is = cc
@@ -244,13 +192,16 @@ reports_all P report (suc n) reports each are = by (report n) refl (reports_all 
 abbrev pub FitsPair : ℕ × Outcome → Type 0
 FitsPair x = Fits x.0 x.1
 
-module _ (counts : CountsAnswers) (r : RingView) (jobs : List Job) (few : length jobs ≤ 65535) where
+module _ (r : RingView) (jobs : List Job) (few : length jobs ≤ 65535) where
   module _ (h : List Call) (heard_all : AreHeard h) where
     abbrev p : Past
     p = looks_back r jobs h
 
     waits_low : (k : ℕ) → AreLow (p.waiting k)
-    waits_low k = let (n, is) = left_of (known_of r) jobs h k in subst AreLow (sym is) (drop_low n (tasks_for (known_of r) jobs k) (jobs_low (member (known_of r) k).address 1 jobs (omega (arith, few))))
+    waits_low k i t got n is =
+        let (c, all) = in_all (known_of r) jobs h k in
+        let asked = request_of (member (known_of r) k).address 1 jobs (c + i) t n (all i t got) is in
+        omega (arith, few, asked.at, slice_get_within jobs asked.place asked.job asked.there)
 
     going : (k : ℕ) → AreGoing (begun_by (p.calls k))
     going k = all_going (p.calls k) (all_told (known_of r) (tasks_for (known_of r) jobs) h heard_all k)
@@ -259,20 +210,19 @@ module _ (counts : CountsAnswers) (r : RingView) (jobs : List Job) (few : length
     tasks_so k below = begins_tasks (known_of r) (tasks_for (known_of r) jobs) h k below
 
     told_fits : (k : ℕ) (x : Report) → k < length (known_of r).drives → p.now.report k ≡ Some x → FitsPair (x.number, x.outcome)
-    told_fits k x below is = report_fits counts (known_of r) k p.plan (p.waiting k) p.now.phase (begun_by (p.calls k)) (p.tasks k) x (tasks_so k below) (waits_low k) (going k) (told_right (known_of r) (tasks_for (known_of r) jobs) h k x below is)
+    told_fits k x below is = report_fits (known_of r) k p.plan (p.waiting k) p.now.phase (begun_by (p.calls k)) (p.tasks k) x (tasks_so k below) (waits_low k) (going k) (told_right (known_of r) (tasks_for (known_of r) jobs) h k x below is)
 
     broken_fits : (k : ℕ) (x : Report) → k < length (known_of r).drives → broken p k ≡ Some x → FitsPair (x.number, x.outcome)
-    broken_fits k x below is = by (is_idle p k) is
+    broken_fits k x below is = elim (cases_Bool (is_idle p k)) [
+      | inl on ↦ cc
+      | inr off ↦ let e = rw off at is in of (number_in (p.tasks k)) refl e
+    ]
       where
         of : (o : Option ℕ) → number_in (p.tasks k) ≡ o → broken_number o ≡ Some x → FitsPair (x.number, x.outcome)
         of None has e = cc
         of (Some n) has e =
             let same : (record { number = n; outcome = outcome.Broken }) ≡ x = same_Some _ x e in
             subst (λ (y : Report). FitsPair (y.number, y.outcome)) same (open_low (known_of r) k p.plan (p.waiting k) p.now.phase (begun_by (p.calls k)) (p.tasks k) (tasks_so k below) (waits_low k) n has, tt)
-
-        by : (b : Bool) → (if b then None else broken_number (number_in (p.tasks k))) ≡ Some x → FitsPair (x.number, x.outcome)
-        by true e = cc
-        by false e = of (number_in (p.tasks k)) refl e
 
     with_broken_fits : (reports : List (ℕ × Outcome)) → All FitsPair reports → All FitsPair (with_broken (known_of r) p reports)
     with_broken_fits reports are = reports_all FitsPair (broken p) (length (known_of r).drives) reports broken_fits are

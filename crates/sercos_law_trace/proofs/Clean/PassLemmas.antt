@@ -1,5 +1,5 @@
 -- Parts of a text that a check of captures passes.
-use Rattle.sercos_law_trace.proofs.Words.{◌≡◌, ℕ, pos, ◌+◌, List, [], ◌∷◌, ◌++◌, length, Option, Some, None, is_none, refl, sym, ◌∙◌, ap, append_assoc, append-nil, if◌then◌else◌, All, flat_map, All-head, All-tail, tail_text, IsTail, addresses_in, Value, AreOf, line_fault, line_text, numbers_in, signed_by, bytes_by, LineKind, Line, template_of, tail_for, all_kinds, line_of, line_with, line_by, line_as, line_in, ReadsBack, CanFollow, TellsFollowing, rule_broken, read_as, column_of, read_good, column-none, or-none, NoFeed, NoFeed-append, lines_of-line, line_no_feed, tail_no_feed, template_no_feed, later, kinds_fault, first_kind, grammar_fault, capture_fault, first_violation}
+use Rattle.sercos_law_trace.proofs.Words.{inr, inl, cases_Option, ◌≡◌, ℕ, pos, ◌+◌, List, [], ◌∷◌, ◌++◌, length, Option, Some, None, refl, sym, ◌∙◌, ap, append_assoc, append-nil, All, flat_map, All-head, All-tail, tail_text, IsTail, addresses_in, Value, AreOf, line_fault, line_text, numbers_in, signed_by, bytes_by, LineKind, Line, template_of, tail_for, all_kinds, line_of, line_with, line_by, line_as, line_in, ReadsBack, CanFollow, TellsFollowing, rule_broken, read_as, column_of, read_good, column-none, or-none, NoFeed, NoFeed-append, lines_of-line, line_no_feed, tail_no_feed, template_no_feed, later, kinds_fault, first_kind, grammar_fault, capture_fault, first_violation}
 use Rattle.std.specs.Option.{option_map}
 use Rattle.sercos_answer.specs.Lines as answer
 
@@ -35,11 +35,10 @@ leads_all f P I each (x ∷ xs) all = leads_both (f x) (flat_map f xs) I I I (ea
 found_none : (kinds : List LineKind) (text : List ℕ) (k : LineKind) → first_kind kinds text ≡ Some k → kinds_fault kinds text ≡ None
 unfolding first_kind kinds_fault later
 found_none [] text k found = cc
-found_none (one ∷ kinds) text k found = by (line_fault (tail_for one) (template_of one) text) found (λ rest. found_none kinds text k rest)
-  where
-    by : (o : Option ℕ) → (if is_none o then Some one else first_kind kinds text) ≡ Some k → (first_kind kinds text ≡ Some k → kinds_fault kinds text ≡ None) → later o (kinds_fault kinds text) ≡ None
-    by None found rest = refl
-    by (Some place) found rest = ap (later (Some place)) (rest found)
+found_none (one ∷ kinds) text k found = elim (cases_Option (line_fault (tail_for one) (template_of one) text)) [
+  | inl none ↦ rw none
+  | inr (place, some) ↦ rw some (ap (later (Some place)) (found_none kinds text k (rw some at found)))
+]
 
 grammar_none : (text : List ℕ) (l : Line) → line_in text ≡ Some l → grammar_fault text ≡ None
 unfolding grammar_fault

@@ -1,5 +1,5 @@
 -- The telegrams of one cycle keep the rules, if each does after those before it in the cycle.
-use Rattle.sercos_law_trace.proofs.Words.{◌≡◌, ℕ, ℤ, pos, ◌*◌, nat_lt, Bool, true, not, ◌&&◌, ◌||◌, List, [], ◌∷◌, ◌++◌, length, Option, Some, None, option_map, refl, ◌∙◌, ap, ap₂, slice_index, list_all, list_any, find, frame_of, Kind, WishesView, SentView, Said, Sent, Command, Note, Told, is_mdt, is_mst, command_before, phase_of, in_cycle, newest_of, wish_for, slave_of, mark_of, note_of, is_at_from, is_at_of, is_next_cycle, goes_on, keeps_frame, layout_of, is_next_phase, start_of, is_cyclic, is_cyclic_at, is_cyclic_mdt, is_after_gap, is_after_mark, is_after_transition, has_room, first_broken, broken_rule, sent_at, sent_mst, sent_mdt, ats_said, told_after, KeepRules}
+use Rattle.sercos_law_trace.proofs.Words.{◌≡◌, ℕ, ℤ, pos, ◌*◌, nat_lt, Bool, true, false, not, ◌&&◌, ◌||◌, List, [], ◌∷◌, ◌++◌, length, Option, Some, None, option_map, refl, ◌∙◌, ap, slice_index, list_all, list_any, find, frame_of, Kind, WishesView, SentView, Said, Sent, Command, Note, Told, is_mdt, is_mst, command_before, phase_of, in_cycle, newest_of, wish_for, slave_of, mark_of, note_of, is_at_from, is_at_of, is_next_cycle, goes_on, keeps_frame, layout_of, is_next_phase, start_of, is_cyclic, is_cyclic_at, is_cyclic_mdt, is_after_gap, is_after_mark, is_after_transition, has_room, first_broken, broken_rule, sent_at, sent_mst, sent_mdt, ats_said, told_after, KeepRules}
 use Rattle.sercos_telegram.specs.declared.layout.Kind.TheVariants as kinds
 use Rattle.sercos_check.specs.Seen.{address_of}
 
@@ -51,7 +51,12 @@ broken_by w command seen cycle s = first_broken
     ∷ end_by w command s
     ∷ [])
 
--- none is broken, if each is kept
+-- none is broken, if each is kept, those of the cyclic telegrams also because none is sent
+pub none_early : {a b c d e late : Bool} (f g h i w x y z : Bool) → a ≡ true → b ≡ true → c ≡ true → d ≡ true → e ≡ true → late ≡ false
+    → first_broken (a ∷ b ∷ c ∷ d ∷ e ∷ (not (late && w) || f) ∷ (not (late && x) || g) ∷ (not (late && y) || h)
+    ∷ (not (late && z) || i) ∷ []) ≡ None
+none_early f g h i w x y z ka kb kc kd ke none = rw (ka, kb, kc, kd, ke, none) refl
+
 pub none_broken : (a b c d e f g h i : Bool) → a ≡ true → b ≡ true → c ≡ true → d ≡ true → e ≡ true → f ≡ true → g ≡ true → h ≡ true → i ≡ true
     → first_broken (a ∷ b ∷ c ∷ d ∷ e ∷ f ∷ g ∷ h ∷ i ∷ []) ≡ None
 none_broken a b c d e f g h i ka kb kc kd ke kf kg kh ki = rw (ka, kb, kc, kd, ke, kf, kg, kh, ki) refl
@@ -61,13 +66,9 @@ pub rule_so : (w : WishesView) (before : List Told) (cycle : ℕ) (k : Kind) (st
     command_before before ≡ command → in_cycle before ≡ seen →
     (let s : SentView = record { kind = k; start = start; bits = bits; content = content } in
     broken_rule w before (record { cycle = cycle; sent = s }) ≡ broken_by w command seen cycle s)
-rule_so w before cycle kinds.Mst start bits content command seen is are =
-    ap₂ (λ (o : Option Command) (l : List SentView). broken_by w o l cycle
-    (record { kind = kinds.Mst; start = start; bits = bits; content = content })) is are
-rule_so w before cycle kinds.At start bits content command seen is are =
-    ap₂ (λ (o : Option Command) (l : List SentView). broken_by w o l cycle (record { kind = kinds.At; start = start; bits = bits; content = content })) is are
-rule_so w before cycle kinds.Mdt start bits content command seen is are =
-    ap₂ (λ (o : Option Command) (l : List SentView). broken_by w o l cycle (record { kind = kinds.Mdt; start = start; bits = bits; content = content })) is are
+rule_so w before cycle kinds.Mst start bits content command seen is are = rw (is, are) refl
+rule_so w before cycle kinds.At start bits content command seen is are = rw (is, are) refl
+rule_so w before cycle kinds.Mdt start bits content command seen is are = rw (is, are) refl
 
 -- what was seen after some ATs, the newest first
 abbrev pub seen_of : ℕ → SentView → List Said → List SentView

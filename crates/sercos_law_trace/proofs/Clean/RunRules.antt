@@ -1,7 +1,5 @@
 -- The telegrams of a run keep the rules, by induction over its cycles.
-use Rattle.sercos_law_trace.proofs.Words.{◌≡◌, inl, inr, ℕ, zero, suc, ◌+◌, ◌<◌, ◌≤◌, ◌==◌, nat_le, Bool, true, false, ◌||◌, if◌then◌else◌, List, [], ◌∷◌, ◌++◌, length, Option, Some, None, is_some, refl, sym, ◌∙◌, ap, subst, arith, slice_index, eq-eqb, nat_tests, mst_content, IsValid, IsCycle, WishesView, PlanView, Wish, Job, at_len, RingView, carried_len, Moment, phase_in, cycle_in, blocks_in, Said, drive_says, values_in, SentView, CycleView, Known, known_of, tasks_for, fields_length, held_by, Holds, start_up, Past, ready_to_send, fall_of, is_done, after_end, new_epoch, next_phase, still_waiting, Sent, mdt_said, Carry, Restarts, IsApart, Command, command_before, is_drive, wish_for, is_next_cycle, is_next_phase, drive_at, given_mst, master_calls, begins, middle, looks_back, said_below, ats_said, sent_mst, sent_mdt, IsNext, IsRun, IsClear, at_start, behind_ats, behind_mdt, after_mst, Sends, sender_phase, sent_by, same_drive, members_count, address_of, IsContent, at_content, phase_low, mdt_whole, AllStand, IsPlannedIn, s_known, phase_same, holding, rules, carried_length, first_store, stored_in, spelled_in, all_stand, keeps_all, IsOpened, takes_part, store_in_cycle, told_after, told_in, KeepRules, RunsKeepRules, are_as_long, keeps_within, is_planned, rate_is, wishes_of, or_right, or_left, or-true, cases_Bool}
-use Rattle.sercos_master.specs.Annals.{goes_on}
-use Rattle.sercos_master.specs.Annals as master
+use Rattle.sercos_law_trace.proofs.Words.{◌≡◌, inl, inr, ℕ, zero, suc, ◌+◌, ◌<◌, ◌≤◌, ◌==◌, nat_le, Bool, true, false, ◌||◌, if◌then◌else◌, List, [], ◌∷◌, ◌++◌, length, Option, Some, None, is_some, refl, sym, ◌∙◌, ap, subst, arith, slice_index, eq-eqb, nat_tests, mst_content, IsValid, IsCycle, WishesView, PlanView, Wish, Job, at_len, RingView, carried_len, Moment, phase_in, cycle_in, blocks_in, Said, drive_says, values_in, SentView, CycleView, Known, known_of, tasks_for, fields_length, held_by, Holds, start_up, Past, ready_to_send, fall_of, is_done, after_end, Sent, mdt_said, Carry, Restarts, IsApart, Command, command_before, is_drive, wish_for, is_next_cycle, is_next_phase, drive_at, given_mst, master_calls, begins, middle, looks_back, said_below, ats_said, sent_mst, sent_mdt, IsNext, IsRun, IsClear, at_start, behind_ats, behind_mdt, after_mst, Sends, sender_phase, sent_by, same_drive, members_count, address_of, IsContent, at_content, phase_low, mdt_whole, AllStand, IsPlannedIn, s_known, phase_same, holding, rules, carried_length, first_store, stored_in, spelled_in, all_stand, keeps_all, IsOpened, takes_part, store_in_cycle, told_after, told_in, KeepRules, RunsKeepRules, are_as_long, keeps_within, is_planned, rate_is, wishes_of, or_right, or_left, or-true, cases_Bool}
 use Rattle.sercos_law_trace.proofs.Clean.RuleLemmas.{AreRuled, command_at, cycle_kept}
 use Rattle.sercos_law_trace.proofs.Clean.SeenLemmas.{Each, EachPair, each_map, each_both, all_after, IsFramed}
 use Rattle.sercos_law_trace.proofs.Clean.SaidLemmas.{each_said, IsOther, pairs_said, drive_there, wish_is_for}
@@ -13,9 +11,6 @@ use Rattle.sercos_law_trace.proofs.Clean.SenderLemmas.{own_address, early_said, 
 
 framed : (content : List ℕ) → IsContent content → IsFramed content
 framed content is = record { some = is.some; most = is.most }
-
-late_so : (p q : ℕ) → p ≡ q → 3 ≤ q → nat_le 3 p ≡ true
-late_so p q same late = grind (arith, nat_tests, same, late)
 
 pub cycle_low : (cycle : ℕ) → IsCycle cycle → cycle ≤ 64000
 cycle_low cycle (inl is) = omega (arith, is)
@@ -38,10 +33,6 @@ rises_so false false cycle phase = or_left (phase == phase) ((phase == phase + 1
 restarted_so : (restarts : Bool) (c : Command) (phase : ℕ) → is_next_phase (Some c) phase ≡ true → is_next_phase (Some c) (if restarts then 0 else phase) ≡ true
 restarted_so true c phase is = or_right (0 == c.phase) ((0 == c.phase + 1) || true) (or-true (0 == c.phase + 1))
 restarted_so false c phase is = is
-
-started_phase : (r : RingView) (jobs : List Job) (carry : Carry) (restarts : Restarts) (j : List CycleView)
-    → (at_start r jobs carry restarts j).now.phase ≡ (if restarts (length j) 0 then 0 else (looks_back r jobs (master_calls r carry restarts j)).now.phase)
-started_phase r jobs carry restarts j = elim (cases_Bool (restarts (length j) 0)) [ inl on ↦ rw on | inr off ↦ rw off ]
 
 ended_phase : (s : Known) (p : Past) → (after_end s p).now.phase ≡ (if is_some (fall_of s p) then 0 else (if is_done s p then p.now.phase + 1 else p.now.phase))
 ended_phase s p = elim (cases_Bool (is_some (fall_of s p))) [ inl on ↦ rw on | inr off ↦ rw off ]
@@ -93,13 +84,6 @@ module _ (r : RingView) (jobs : List Job) (carry : Carry) (restarts : Restarts) 
     mdt_phase : (behind_mdt r jobs carry restarts t.sent j).now.phase ≡ t.phase
     mdt_phase = phase_same r jobs carry restarts opened (first_store r jobs carry restarts opened) t j next clear.1 (spelled_in r jobs carry restarts opened t j next) (stored_in r jobs carry restarts opened t j) all ∙ sym next.phase
 
-    -- PHASE 0
-    zero_ruled : t.phase ≡ 0 → AreRuled (wishes_of r) r.rate (command_at t.cycle (mst_content phase)) (sent_mst (mst_content phase)) [] ats mdt
-    zero_ruled zero_is = nothing_ruled (wishes_of r) r.rate (command_at t.cycle (mst_content phase)) (sent_mst (mst_content phase)) ats mdt
-        (each_said (λ (s : Said). ⊥) (length r.drives) (drive_at r) r.rate (given_mst carry restarts t.sent j) (λ k below s says.
-        let sending = sends_at k s says in let same = phase_of k below s sending in let up = sending.stands in absurd (omega (arith, same, up, zero_is))))
-        (none_in_zero (known_of r) (behind_mdt r jobs carry restarts t.sent j) (mdt_phase ∙ zero_is))
-
     -- PHASES 1 AND 2
     early_mdt_in : 1 ≤ t.phase → t.phase < 3 → IsEarlyIf (wishes_of r) mdt
     early_mdt_in some low = early_mdt_said r (behind_mdt r jobs carry restarts t.sent j) (subst (λ (n : ℕ). n < 3) (sym mdt_phase) low) (subst (λ (n : ℕ). 1 ≤ n) (sym mdt_phase) some)
@@ -131,8 +115,7 @@ module _ (r : RingView) (jobs : List Job) (carry : Carry) (restarts : Restarts) 
       long_at k below s sending =
           let past : List Moment = after_mst r carry restarts t.sent j k in
           let stored = stored_in r jobs carry restarts opened t j k below in
-          let phase_is = phase_of k below s sending in
-          let up : nat_le 3 (phase_in past) ≡ true = late_so (phase_in past) t.phase phase_is late in
+          let up : nat_le 3 (phase_in past) ≡ true = grind (arith, nat_tests, phase_of k below s sending, late) in
           let carried = carried_length (cycle_in past) (phase_in past) (blocks_in (drive_at r k) past) stored.0 up in
           let fields_long = fields_length sending.word sending.info (values_in (cycle_in past) (phase_in past) (blocks_in (drive_at r k) past)) in
           let block_rules = rules r jobs carry restarts opened (first_store r jobs carry restarts opened) t j next clear.1 (spelled_in r jobs carry restarts opened t j next) (stored_in r jobs carry restarts opened t j) all k below in
@@ -174,7 +157,11 @@ module _ (r : RingView) (jobs : List Job) (carry : Carry) (restarts : Restarts) 
     ruled = by t.phase refl
       where
         by : (n : ℕ) → t.phase ≡ n → AreRuled (wishes_of r) r.rate (command_at t.cycle (mst_content phase)) (sent_mst (mst_content phase)) [] ats mdt
-        by zero is = zero_ruled is
+        by zero is = nothing_ruled (wishes_of r) r.rate (command_at t.cycle (mst_content phase)) (sent_mst (mst_content phase)) ats mdt
+            (each_said (λ (s : Said). ⊥) (length r.drives) (drive_at r) r.rate (given_mst carry restarts t.sent j) (λ k below s says.
+            let sending = sends_at k s says in let same = phase_of k below s sending in let up = sending.stands in
+            absurd (omega (arith, same, up, is))))
+            (none_in_zero (known_of r) (behind_mdt r jobs carry restarts t.sent j) (mdt_phase ∙ is))
         by (suc zero) is = early (omega (arith, is)) (omega (arith, is))
         by (suc (suc zero)) is = early (omega (arith, is)) (omega (arith, is))
         by (suc (suc (suc n))) is = late_ruled_in (omega (arith, is))
@@ -187,7 +174,9 @@ module _ (r : RingView) (jobs : List Job) (carry : Carry) (restarts : Restarts) 
   next_command t [] run clear = (refl, refl)
   next_command t (u ∷ j) run clear = (
     (let this = run.1.cycle in let last = run.0.1.cycle in eq-eqb t.cycle (u.cycle + 1) (omega (arith, this, last))),
-    ap (is_next_phase (newest (u ∷ j))) (started_phase r jobs carry restarts (u ∷ j)) ∙ restarted_so (restarts (length (u ∷ j)) 0) (record { cycle = u.cycle; phase = u.phase }) (looks_back r jobs (master_calls r carry restarts (u ∷ j))).now.phase
+    ap (is_next_phase (newest (u ∷ j))) (elim (cases_Bool (restarts (length (u ∷ j)) 0)) [ inl on ↦ rw on | inr off ↦ rw off ])
+        ∙ restarted_so (restarts (length (u ∷ j)) 0) (record { cycle = u.cycle; phase = u.phase })
+        (looks_back r jobs (master_calls r carry restarts (u ∷ j))).now.phase
         (ap (is_next_phase (newest (u ∷ j))) (ended_phase (known_of r) (behind_mdt r jobs carry restarts u.sent j) ∙ ap (λ (n : ℕ). if is_some (fall_of (known_of r) (behind_mdt r jobs carry restarts u.sent j)) then 0 else (if is_done (known_of r) (behind_mdt r jobs carry restarts u.sent j) then n + 1 else n)) (mdt_phase u j run.0 clear.0))
         ∙ rises_so (is_some (fall_of (known_of r) (behind_mdt r jobs carry restarts u.sent j))) (is_done (known_of r) (behind_mdt r jobs carry restarts u.sent j)) u.cycle u.phase),
   )

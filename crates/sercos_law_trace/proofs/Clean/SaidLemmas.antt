@@ -1,16 +1,15 @@
 -- The ATs that the drives of a ring say, and the wishes of these drives.
-use Rattle.sercos_law_trace.proofs.Words.{◌≡◌, ℕ, zero, suc, ◌+◌, ◌<◌, ◌==◌, nat_lt, Bool, true, false, cond, ◌||◌, if◌then◌else◌, List, [], ◌∷◌, length, map, Option, Some, None, unwrap_or, slice_index_or, refl, sym, ◌∙◌, ap, arith, slice_index, list_any, find, position_or_len, eq-eqb, ne_eqb, nat_tests, Wish, wish, no_wish, WishesView, is_ring, wish_of, DriveView, RingView, DriveCall, Said, drive_says, place_of, is_drive, wish_for, no_drive, drive_at, with_said, said_below, same_drive, wishes_of, or-true}
+use Rattle.sercos_law_trace.proofs.Words.{inr, inl, cases_Bool, ◌≡◌, ℕ, zero, suc, ◌+◌, ◌<◌, ◌==◌, nat_lt, Bool, true, false, cond, ◌||◌, List, [], ◌∷◌, length, map, Option, Some, None, unwrap_or, slice_index_or, refl, sym, ◌∙◌, ap, arith, slice_index, list_any, find, position_or_len, eq-eqb, ne_eqb, nat_tests, Wish, wish, no_wish, WishesView, is_ring, wish_of, DriveView, RingView, DriveCall, Said, drive_says, place_of, is_drive, wish_for, no_drive, drive_at, with_said, said_below, same_drive, wishes_of, or-true}
 use Rattle.sercos_law_run.specs.Journal.Runs.{inserted}
 use Rattle.sercos_law_trace.proofs.Clean.SeenLemmas.{Each, EachPair, HasOther, each_map}
 
 -- EACH AT of a cycle is what a drive says.
 pub each_inserted : (P : Said → Type 0) (s : Said) (others : List Said) → P s → Each P others → Each P (inserted s others)
 each_inserted P s [] one are = (one, tt)
-each_inserted P s (x ∷ others) one are = by (nat_lt s.start x.start) (each_inserted P s others one are.1)
-  where
-    by : (b : Bool) → Each P (inserted s others) → Each P (if b then s ∷ x ∷ others else x ∷ inserted s others)
-    by true rest = (one, are)
-    by false rest = (are.0, rest)
+each_inserted P s (x ∷ others) one are = elim (cases_Bool (nat_lt s.start x.start)) [
+  | inl on ↦ rw on (one, are)
+  | inr off ↦ rw off (are.0, each_inserted P s others one are.1)
+]
 
 pub each_said : (P : Said → Type 0) (n : ℕ) (d : ℕ → DriveView) (rate : ℕ) (h : ℕ → List DriveCall) → ((k : ℕ) → k < n → (s : Said) → drive_says (d k) rate (h k) ≡ Some s → P s) → Each P (said_below n d rate h)
 each_said P zero d rate h each = tt
@@ -29,11 +28,10 @@ turned x y other = let e : (slice_index x.content 0 == slice_index y.content 0) 
 
 pairs_inserted : (s : Said) (others : List Said) → Each (IsOther s) others → EachPair IsOther others → EachPair IsOther (inserted s others)
 pairs_inserted s [] first are = (tt, tt)
-pairs_inserted s (x ∷ others) first are = by (nat_lt s.start x.start) (pairs_inserted s others first.1 are.1)
-  where
-    by : (b : Bool) → EachPair IsOther (inserted s others) → EachPair IsOther (if b then s ∷ x ∷ others else x ∷ inserted s others)
-    by true rest = (first, are)
-    by false rest = (each_inserted (IsOther x) s others (turned s x first.0) are.0, rest)
+pairs_inserted s (x ∷ others) first are = elim (cases_Bool (nat_lt s.start x.start)) [
+  | inl on ↦ rw on (first, are)
+  | inr off ↦ rw off (each_inserted (IsOther x) s others (turned s x first.0) are.0, pairs_inserted s others first.1 are.1)
+]
 
 -- that of a drive at a place below n
 abbrev IsFrom : ℕ → (ℕ → DriveView) → Said → Type 0
@@ -69,12 +67,11 @@ wish_found w address = by w.drives
   where
     by : (drives : List Wish) → slice_index_or drives (position_or_len (λ (d : Wish). d.address == address) drives) no_wish ≡ unwrap_or (find (λ (d : Wish). d.address == address) drives) no_wish
     by [] = refl
-    by (d ∷ drives) = which (d.address == address) refl (by drives)
-      where
-        which : (b : Bool) → (d.address == address) ≡ b → slice_index_or drives (position_or_len (λ (x : Wish). x.address == address) drives) no_wish ≡ unwrap_or (find (λ (x : Wish). x.address == address) drives) no_wish
-            → slice_index_or (d ∷ drives) (position_or_len (λ (x : Wish). x.address == address) (d ∷ drives)) no_wish ≡ unwrap_or (find (λ (x : Wish). x.address == address) (d ∷ drives)) no_wish
-        which true is rest = rw is refl
-        which false is rest = let next : 1 + position_or_len (λ (x : Wish). x.address == address) drives ≡ suc (position_or_len (λ (x : Wish). x.address == address) drives) = omega arith in rw (is, next) rest
+    by (d ∷ drives) = elim (cases_Bool (d.address == address)) [
+      | inl is ↦ rw is refl
+      | inr is ↦ let next : 1 + position_or_len (λ (x : Wish). x.address == address) drives ≡ suc
+          (position_or_len (λ (x : Wish). x.address == address) drives) = omega arith in rw (is, next) (by drives)
+    ]
 
 -- the drive at a place is the first with its address
 first_with : (drives : List DriveView) (k : ℕ) → k < length drives → ((i : ℕ) → i < k → ((slice_index_or drives i no_drive).address == (slice_index_or drives k no_drive).address) ≡ false)

@@ -97,8 +97,7 @@ pub record IsFramed (content : List ℕ) : Type 0 where
   pub most : length content ≤ 2048
 
 pub frame_kept : (content : List ℕ) → IsFramed content → (nat_lt 0 (length content) && (nat_le (length content) 2048 && (length (frame_of content) == length (frame_of content)))) ≡ true
-frame_kept content is =
-    let some : nat_lt 0 (length content) ≡ true = let a = is.some in grind (arith, nat_tests, a) in
+frame_kept content is = let some : nat_lt 0 (length content) ≡ true = grind (arith, nat_tests, is.some) in
     rw (some, le-leb (length content) 2048 is.most, eq-eqb (length (frame_of content)) (length (frame_of content)) refl) refl
 
 pub same_start : (a b : ℕ) → a ≡ b → int_eq (pos a) (pos b) ≡ true

@@ -1,5 +1,5 @@
 -- What drives and master send in each phase.
-use Rattle.sercos_law_trace.proofs.Words.{◌≡◌, ℕ, ◌+◌, ◌<◌, ◌≤◌, ◌==◌, nat_le, Bool, true, false, not, if◌then◌else◌, List, [], ◌∷◌, length, Option, Some, None, option_map, refl, ◌∙◌, ap, arith, slice_index, nat_tests, fields, wishes_of, DriveView, RingView, Moment, phase_in, cycle_in, blocks_in, Said, said, values_in, Known, MemberView, known_of, fields_length, word_said, Past, first_place, is_idle, is_identified, addressed_in, said_to, idle, single, joint, mdt_said, drive_at, first_found, Sends, member_is, is_drive, inl, inr, cases_Bool}
+use Rattle.sercos_law_trace.proofs.Words.{◌≡◌, ℕ, ◌<◌, ◌≤◌, ◌==◌, nat_le, false, List, [], ◌∷◌, length, Option, Some, None, option_map, refl, ◌∙◌, ap, arith, slice_index, nat_tests, fields, wishes_of, DriveView, RingView, Moment, phase_in, cycle_in, blocks_in, Said, said, values_in, Known, MemberView, known_of, fields_length, word_said, Past, addressed_in, said_to, idle, single, mdt_said, drive_at, first_found, Sends, member_is, is_drive, inl, inr, cases_Bool, none-some}
 use Rattle.sercos_service_master.specs.Begun.{Said as Told}
 use Rattle.sercos_law_trace.proofs.Clean.SaidLemmas.{drive_there}
 use Rattle.sercos_law_trace.proofs.Clean.EarlyRules.{IsEarlyAt, IsEarlyMdt, IsEarlyIf}
@@ -21,18 +21,13 @@ early_said r k past s below is low =
 
 -- WHAT THE MASTER SENDS in phases 1 and 2: an MDT to a drive of the ring
 pub addressed_inside : (s : Known) (p : Past) (i : ℕ) → addressed_in s p ≡ Some i → i < length s.drives
-addressed_inside s p i is = first (p.now.phase == 1) is
-  where
-    zero_less : (n : ℕ) → i < 0 + n → i < n
-    zero_less n low = omega (arith, low)
-
-    second : (b : Bool) → (if b then first_place s (λ k. not (is_idle p k)) else None) ≡ Some i → i < length s.drives
-    second true is = zero_less (length s.drives) (first_found 0 (length s.drives) i _ is).below
-    second false is = cc
-
-    first : (b : Bool) → (if b then first_place s (λ k. not (is_identified p k)) else (if p.now.phase == 2 then first_place s (λ k. not (is_idle p k)) else None)) ≡ Some i → i < length s.drives
-    first true is = zero_less (length s.drives) (first_found 0 (length s.drives) i _ is).below
-    first false is = second (p.now.phase == 2) is
+addressed_inside s p i is = elim (cases_Bool (p.now.phase == 1)) [
+  | inl one ↦ let found = (first_found 0 (length s.drives) i _ (rw one at is)).below in omega (arith, found)
+  | inr other ↦ elim (cases_Bool (p.now.phase == 2)) [
+    | inl two ↦ let found = (first_found 0 (length s.drives) i _ (rw (other, two) at is)).below in omega (arith, found)
+    | inr none ↦ absurd (none-some i (rw (other, none) at is))
+  ]
+]
 
 single_early : (r : RingView) (said : Told) (k : ℕ) → k < length r.drives → IsEarlyMdt (wishes_of r) (single (known_of r) said k)
 single_early r said k below =
@@ -50,13 +45,11 @@ early_if r word (Some i) inside = single_early r (word i) i (inside i refl)
 pub early_mdt_said : (r : RingView) (p : Past) → p.now.phase < 3 → 1 ≤ p.now.phase → ((i : ℕ) → p.now.addressed ≡ Some i → i < length r.drives) → IsEarlyIf (wishes_of r) (mdt_said (known_of r) p)
 early_mdt_said r p low some inside = elim (cases_Bool (p.now.phase == 1)) [
   | inl is ↦ rw is (early_if r (λ i. idle) p.now.addressed inside)
-  | inr is ↦ rw is (second (p.now.phase == 2) is refl)
+  | inr not_one ↦ elim (cases_Bool (p.now.phase == 2)) [
+    | inl is ↦ rw (not_one, is) (early_if r (said_to p) p.now.addressed inside)
+    | inr is ↦ absurd (grind (arith, nat_tests, low, some, not_one, is))
+  ]
 ]
-  where
-    second : (b : Bool) → (p.now.phase == 1) ≡ false → (p.now.phase == 2) ≡ b
-        → IsEarlyIf (wishes_of r) (if b then option_map (λ i. single (known_of r) (said_to p i) i) p.now.addressed else (if nat_le 3 p.now.phase then option_map (joint (known_of r) p) p.plan else None))
-    second true not_one is = early_if r (said_to p) p.now.addressed inside
-    second false not_one is = absurd (let no : ⊥ = grind (arith, nat_tests, low, some, not_one, is) in no)
 
 pub none_in_zero : (s : Known) (p : Past) → p.now.phase ≡ 0 → mdt_said s p ≡ None
 none_in_zero s p is = rw is refl

@@ -69,11 +69,7 @@ joint_so content n long address = rw (eq-eqb (length content) (1 + n) long, eq-e
 module _ (w : WishesView) (rate : ℕ) (held : ℕ → Option Held) (records : List (List ℕ)) (mst : List ℕ) (ats : List Said) where
   module _ (m : Sent) (apart : IsApart w held records (sent_mst mst ∷ ats_said rate ats ++ sent_mdt rate (Some m))) (valid : IsValid w) where
     mdt_is : apart.mdt ≡ mdt_at rate m
-    mdt_is = let same : mdt_at rate m ∷ [] ≡ apart.mdt ∷ [] = sym (mdts_are rate mst ats (Some m)) ∙ apart.one_mdt in ap (λ (l : List SentView). first l) (sym same)
-      where
-        first : List SentView → SentView
-        first [] = apart.mdt
-        first (s ∷ l) = s
+    mdt_is = let same : mdt_at rate m ∷ [] ≡ apart.mdt ∷ [] = sym (mdts_are rate mst ats (Some m)) ∙ apart.one_mdt in cc
 
     abbrev last : MdtSlot
     last = mdt_slot records (mdt_at rate m)
@@ -113,12 +109,9 @@ module _ (w : WishesView) (rate : ℕ) (held : ℕ → Option Held) (records : L
       room = let all = within in omega (arith, all);
     }
       where
-        with_gap : Fits w.gap
-        with_gap = slots.room
-
         within : Fits (max w.gap (greatest_tmtsy w))
-        within = both_max Fits w.gap (greatest_tmtsy w) with_gap (greatest_so Fits (λ k. (times w k).tmtsy) w.order (length w.order) (length w.drives) valid.order.within (omega arith)
-            (let g : Fits w.gap = with_gap in omega (arith, g)) slots.room_of_each)
+        within = both_max Fits w.gap (greatest_tmtsy w) slots.room (greatest_so Fits (λ k. (times w k).tmtsy) w.order (length w.order) (length w.drives) valid.order.within (omega arith)
+            (let g : Fits w.gap = slots.room in omega (arith, g)) slots.room_of_each)
 
 -- an MDT is sent
 pub sends_one : (w : WishesView) (rate : ℕ) (held : ℕ → Option Held) (records : List (List ℕ)) (mst : List ℕ) (ats : List Said) (o : Option Sent) → IsApart w held records (sent_mst mst ∷ ats_said rate ats ++ sent_mdt rate o) → (m : Sent) × (o ≡ Some m)

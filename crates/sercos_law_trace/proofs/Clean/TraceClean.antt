@@ -45,7 +45,7 @@ abbrev oldest : List Line → Option ℕ
 oldest [] = None
 oldest (l ∷ before) = option_or (oldest before) (mst_cycle l)
 
-or_nothing : (o : Option ℕ) → option_or o None ≡ o
+pub or_nothing : {A : Type 0} (o : Option A) → option_or o None ≡ o
 or_nothing None = refl
 or_nothing (Some x) = refl
 
@@ -105,8 +105,7 @@ slave_low before (d ∷ drives) zero are below =
     let one = (and_parts (is_drive before d) (are_drives (before ++ d ∷ []) drives) are).0 in
     let numbers = (and_parts (has_drive_numbers d) _ (and_parts (not (has_address d.address before)) _ one).1).0 in
     let slave = (and_parts (is_address d.slave) _ (and_parts (is_address d.address) _ numbers).1).0 in
-    let low = (and_parts (nat_le 1 d.slave) (nat_le d.slave 254) slave).1 in
-    grind (arith, nat_tests, low)
+    grind (arith, nat_tests, (and_parts (nat_le 1 d.slave) (nat_le d.slave 254) slave).1)
 slave_low before (d ∷ drives) (suc k) are below = slave_low (before ++ d ∷ []) drives k (and_parts (is_drive before d) (are_drives (before ++ d ∷ []) drives) are).1 (omega (arith, below))
 
 all_wishes : (drives : List DriveView) → ((k : ℕ) → k < length drives → FitsDrive (wish_of (slice_index_or drives k no_drive))) → All FitsDrive (map wish_of drives)
@@ -127,19 +126,17 @@ module _ (r : RingView) (jobs : List Job) (opened : IsOpened r jobs) where
       let times : AreWithinLimits (drive_at r k).times = (IsRing-is_ring r opened.valid).times k no_drive below in
       let count = wishes_count r in
       let is : IsWish (wish_of (drive_at r k)) = subst IsWish (wish_is r k (drive_at r k) (drive_got r k below)) (valid.drives.wishes k (omega (arith, below, count))) in
-      let a = times.t1min in let b = times.tatmt in let c = times.t4min in let d = times.tatat in let e = times.tmtsy in let f = times.tmtsg in
-      let g = is.at_len.1 in let h = is.record_len.1 in
       record {
         address = omega (arith, address);
         slave = omega (arith, slave);
-        t1min = omega (arith, a);
-        tatmt = omega (arith, b);
-        t4min = omega (arith, c);
-        tatat = omega (arith, d);
-        tmtsy = omega (arith, e);
-        tmtsg = omega (arith, f);
-        at_len = omega (arith, g);
-        record_len = omega (arith, h);
+        t1min = omega (arith, times.t1min);
+        tatmt = omega (arith, times.tatmt);
+        t4min = omega (arith, times.t4min);
+        tatat = omega (arith, times.tatat);
+        tmtsy = omega (arith, times.tmtsy);
+        tmtsg = omega (arith, times.tmtsg);
+        at_len = omega (arith, is.at_len.1);
+        record_len = omega (arith, is.record_len.1);
       }
 
   head_fits : FitsHead (wishes_of r)
@@ -148,12 +145,11 @@ module _ (r : RingView) (jobs : List Job) (opened : IsOpened r jobs) where
       let cycle = cycle_low r.cycle valid.cycles.cycle in
       let known = s_known r jobs (λ p bits. None) (λ cycle station. false) opened (first_store r jobs (λ p bits. None) (λ cycle station. false) opened) in
       let control = (ring_timed r known opened.valid).control in
-      let gap = valid.cycles.gap in
       record {
         rate = by_rate (λ rate. rate ≤ 255) r.rate valid.cycles.rate (omega arith) (omega arith) (omega arith) (omega arith);
         cycle = omega (arith, cycle);
         control = omega (arith, control);
-        gap = omega (arith, gap);
+        gap = omega (arith, valid.cycles.gap);
         drives = all_wishes r.drives wish_fits;
       }
 

@@ -57,28 +57,18 @@ abbrev text : List ℕ → List ℕ
 text start =
     codes "sercos 1\nring 4 250 250 5 1\ndrive 1 1 10 6 20 5 10 20 8 8\norder 1\nm 0 -49 49 ff00\nm 1 -49 49 ff00\nm 2 -49 49 ff00\nm 3 -49 49 ff00\nm 4 -49 49 ff00\nm 5 -49 49 ff00\nm 6 -49 49 ff00\nm 7 -49 49 ff00\nm 8 -49 49 ff00\nm 9 -49 49 ff00\nm 10 -49 49 ff01\np 10 1 1\nd 10 2600 72 0100000000\nm 11 -49 49 ff01\na 11 " ++ start ++ codes " 72 0100000000\nend 12 phase 1 complete 0 refused 0 broken 0 falls 0 unseen 0\n"
 
-run_text : trace run ≡ text (codes "1200")
+texts : (trace run ≡ text (codes "1200")) × (trace altered ≡ text (codes "1199"))
 unfolding carried restarts_at acts Bits.bits_of Bits.low_bits Bits.is_odd Bits.number_of Bits.bytes_of CheckSequence.fcs_of CheckSequence.divided CheckSequence.added CheckSequence.sum_of Arrivals.content_in Arrivals.is_unseen Reason.begins_with_six Reason.is_five Reason.ends_in_five Reason.six_place Reason.unstuffed Reason.given Reason.unclosed Reason.unreadable Reason.reason_of Stuffed.stuffed Stuffed.frame_of Faults.mst_fault Faults.head_fault Spells.word_bytes Spells.word_at Spells.fields Words.control_of Words.status_of Codes.attribute_fault Attributes.attribute_of Blocks.element_of BuiltIns.built_in Rings.attribute_in Valid.is_cycle Stores.inserted Stores.with_own Stores.store_of Heard.mst_in Heard.single_in Heard.joint_in Says.value_in totals_of plan_text stop_text fall_text template_of tail_for line_text part_text part_left field_of value_text hex_text item_text list_text tail_text idents_text digits encode_with Rings.wishes_of Rings.listed_len Rings.cyclic_len Rings.block_attribute Rings.own_attribute Rings.built_in_attribute Rings.row_in idn_text four_digits
-run_text = refl
+texts = (refl, refl)
 
-altered_text : trace altered ≡ text (codes "1199")
-unfolding carried restarts_at acts Bits.bits_of Bits.low_bits Bits.is_odd Bits.number_of Bits.bytes_of CheckSequence.fcs_of CheckSequence.divided CheckSequence.added CheckSequence.sum_of Arrivals.content_in Arrivals.is_unseen Reason.begins_with_six Reason.is_five Reason.ends_in_five Reason.six_place Reason.unstuffed Reason.given Reason.unclosed Reason.unreadable Reason.reason_of Stuffed.stuffed Stuffed.frame_of Faults.mst_fault Faults.head_fault Spells.word_bytes Spells.word_at Spells.fields Words.control_of Words.status_of Codes.attribute_fault Attributes.attribute_of Blocks.element_of BuiltIns.built_in Rings.attribute_in Valid.is_cycle Stores.inserted Stores.with_own Stores.store_of Heard.mst_in Heard.single_in Heard.joint_in Says.value_in totals_of plan_text stop_text fall_text template_of tail_for line_text part_text part_left field_of value_text hex_text item_text list_text tail_text idents_text digits encode_with Rings.wishes_of Rings.listed_len Rings.cyclic_len Rings.block_attribute Rings.own_attribute Rings.built_in_attribute Rings.row_in idn_text four_digits
-altered_text = refl
-
-verdict : verdict_of (text (codes "1200")) ≡ Clean (length (lines_of (text (codes "1200"))))
-unfolding verdict_of verdict_by lines_of capture_fault first_violation column_of grammar_fault shape_fault read_as can_follow kinds_fault first_kind later line_fault part_fault part_len field_fault field_len byte_fault end_fault tail_fault line_by values_of part_values field_value items_of tail_of numbers_in signed_by bytes_by late_start first_cycle late number_fault negative_fault signed_fault signed_len signed_of pairs_fault hex_fault hex_len pairs_of hex_of digits_fault digit_of low_pairs all_hex item_fault item_len item_of kept_of listed_fault list_fault list_len list_of list_end_fault addresses_in telegram_kind is_template template_of tail_for field_of digits decode_pairs is_valid Valid.is_rate Valid.is_cycle Valid.is_control Bits.bits_of Bits.low_bits Bits.is_odd Bits.number_of CheckSequence.fcs_of CheckSequence.divided CheckSequence.added CheckSequence.sum_of Stuffed.stuffed Stuffed.frame_of Faults.mst_fault Faults.head_fault
-verdict = refl
-
-starts : late_start (text (codes "1200")) ≡ None
+verdicts : (verdict_of (text (codes "1200")) ≡ Clean (length (lines_of (text (codes "1200")))))
+    × (late_start (text (codes "1200")) ≡ None)
+    × (verdict_of (text (codes "1199")) ≡ Violation 19 5)
 unfolding verdict_of verdict_by lines_of capture_fault first_violation column_of grammar_fault shape_fault read_as can_follow kinds_fault first_kind later line_fault part_fault part_len field_fault field_len byte_fault end_fault tail_fault line_by values_of part_values field_value items_of tail_of numbers_in signed_by bytes_by late_start first_cycle late number_fault negative_fault signed_fault signed_len signed_of pairs_fault hex_fault hex_len pairs_of hex_of digits_fault digit_of low_pairs all_hex item_fault item_len item_of kept_of listed_fault list_fault list_len list_of list_end_fault addresses_in telegram_kind is_template template_of tail_for field_of digits decode_pairs is_valid Valid.is_rate Valid.is_cycle Valid.is_control Bits.bits_of Bits.low_bits Bits.is_odd Bits.number_of CheckSequence.fcs_of CheckSequence.divided CheckSequence.added CheckSequence.sum_of Stuffed.stuffed Stuffed.frame_of Faults.mst_fault Faults.head_fault kind_cycle mst_cycle
-starts = refl
+verdicts = (refl, refl, refl)
 
 is_clean : IsCleanTrace (wishes_of ring) run (totals_of (reverse run))
-is_clean = record { clean = subst (λ t. verdict_of t ≡ Clean (length (lines_of t))) (sym run_text) verdict; starts = subst (λ t. late_start t ≡ None) (sym run_text) starts }
-
-altered_verdict : verdict_of (text (codes "1199")) ≡ Violation 19 5
-unfolding verdict_of verdict_by lines_of capture_fault first_violation column_of grammar_fault shape_fault read_as can_follow kinds_fault first_kind later line_fault part_fault part_len field_fault field_len byte_fault end_fault tail_fault line_by values_of part_values field_value items_of tail_of numbers_in signed_by bytes_by late_start first_cycle late number_fault negative_fault signed_fault signed_len signed_of pairs_fault hex_fault hex_len pairs_of hex_of digits_fault digit_of low_pairs all_hex item_fault item_len item_of kept_of listed_fault list_fault list_len list_of list_end_fault addresses_in telegram_kind is_template template_of tail_for field_of digits decode_pairs is_valid Valid.is_rate Valid.is_cycle Valid.is_control Bits.bits_of Bits.low_bits Bits.is_odd Bits.number_of CheckSequence.fcs_of CheckSequence.divided CheckSequence.added CheckSequence.sum_of Stuffed.stuffed Stuffed.frame_of Faults.mst_fault Faults.head_fault
-altered_verdict = refl
+is_clean = record { clean = subst (λ t. verdict_of t ≡ Clean (length (lines_of t))) (sym texts.0) verdicts.0; starts = subst (λ t. late_start t ≡ None) (sym texts.0) verdicts.1 }
 
 -- nothing is unseen in the altered journal, so the definition asks for a clean trace
 altered_is_clear : IsClear altered
@@ -86,4 +76,4 @@ unfolding carried restarts_at acts Bits.bits_of Bits.low_bits Bits.is_odd Bits.n
 altered_is_clear = ((((((((((((tt, refl), refl), refl), refl), refl), refl), refl), refl), refl), refl), refl), refl)
 
 is_rejected : IsCleanIfClear ring altered → ⊥
-is_rejected is = let clean = sym altered_verdict ∙ subst (λ t. verdict_of t ≡ Clean (length (lines_of t))) altered_text (is altered_is_clear).clean in absurd (cc)
+is_rejected is = let clean = sym verdicts.2 ∙ subst (λ t. verdict_of t ≡ Clean (length (lines_of t))) texts.1 (is altered_is_clear).clean in absurd (cc)

@@ -20,21 +20,16 @@ task_at : (address number n : ℕ) (jobs : List Job) (job : Job) → slice_get j
 task_at address number n [] job there to = absurd (none-some _ there)
 task_at address number zero (x ∷ jobs) job there to =
     let same : x ≡ job = cc in
-    let drive : x.drive ≡ address = ap (λ (y : Job). y.drive) same ∙ to in
-    let test : (x.drive == address) ≡ true = grind (arith, nat_tests, drive) in
-    let here : number ≡ number + zero = omega arith in
+    let test : (x.drive == address) ≡ true = grind (arith, nat_tests, ap (λ (y : Job). y.drive) same ∙ to) in
     record {
       place = 0;
       task = request_task number x.request;
       there = subst (λ (b : Bool). slice_get (if b then request_task number x.request ∷ tasks_from address (number + 1) jobs else tasks_from address (number + 1) jobs) 0 ≡ Some (request_task number x.request)) (sym test) refl;
-      is = ap Some here;
+      is = ap Some (omega arith);
       few = subst (λ (b : Bool). 0 < length (if b then x ∷ are_to address jobs else are_to address jobs)) (sym test) (omega arith);
     }
 task_at address number (suc n) (x ∷ jobs) job there to = by (x.drive == address) refl (task_at address (number + 1) n jobs job there to)
   where
-    next : number + 1 + n ≡ number + suc n
-    next = omega arith
-
     by : (b : Bool) → (x.drive == address) ≡ b → IsTaskOf address (number + 1) jobs n → IsTaskOf address number (x ∷ jobs) (suc n)
     by true test rest =
         let few = rest.few in
@@ -42,14 +37,14 @@ task_at address number (suc n) (x ∷ jobs) job there to = by (x.drive == addres
           place = suc rest.place;
           task = rest.task;
           there = subst (λ (b : Bool). slice_get (if b then request_task number x.request ∷ tasks_from address (number + 1) jobs else tasks_from address (number + 1) jobs) (suc rest.place) ≡ Some rest.task) (sym test) rest.there;
-          is = rest.is ∙ ap Some next;
+          is = rest.is ∙ ap Some (omega arith);
           few = subst (λ (b : Bool). suc rest.place < length (if b then x ∷ are_to address jobs else are_to address jobs)) (sym test) (omega (arith, few));
         }
     by false test rest = record {
       place = rest.place;
       task = rest.task;
       there = subst (λ (b : Bool). slice_get (if b then request_task number x.request ∷ tasks_from address (number + 1) jobs else tasks_from address (number + 1) jobs) rest.place ≡ Some rest.task) (sym test) rest.there;
-      is = rest.is ∙ ap Some next;
+      is = rest.is ∙ ap Some (omega arith);
       few = subst (λ (b : Bool). rest.place < length (if b then x ∷ are_to address jobs else are_to address jobs)) (sym test) rest.few;
     }
 

@@ -1,5 +1,5 @@
 -- The steps that a drive accepted in a run, and the transfers that they are parts of.
-use Rattle.sercos_law_trace.proofs.Words.{◌≡◌, ◌⊎◌, inl, inr, ℕ, ◌==◌, Bool, true, false, if◌then◌else◌, List, [], ◌∷◌, ◌++◌, length, Option, Some, None, refl, sym, ap, subst, ◌∙◌, append_assoc, cond_both, nat_le, ◌&&◌, beq, Job, Block, IsStore, RingView, Processed, Entry, ahs, reply_of, log_of, Write, Begun, store_at, Carry, Restarts, CycleView, View, processed_of, processed_in, kept_in, stood_in, standing, got_in, begun_in, epoch_begun, all_begun, all_entries, accepted_of, leaving, begun_ago, AreExact, IsExact, AreParts, entry_behind, OnStores, drive_at, given_mst, view_of, views_of, views_count}
+use Rattle.sercos_law_trace.proofs.Words.{cases_Bool, ◌≡◌, ◌⊎◌, inl, inr, ℕ, ◌==◌, Bool, true, false, if◌then◌else◌, List, [], ◌∷◌, ◌++◌, length, Option, Some, None, refl, sym, ap, subst, ◌∙◌, append_assoc, cond_both, nat_le, ◌&&◌, beq, Job, Block, IsStore, RingView, Processed, Entry, ahs, reply_of, log_of, Write, Begun, store_at, Carry, Restarts, CycleView, View, processed_of, processed_in, kept_in, stood_in, standing, got_in, begun_in, epoch_begun, all_begun, all_entries, accepted_of, leaving, begun_ago, AreExact, IsExact, AreParts, entry_behind, OnStores, drive_at, given_mst, view_of, views_of, views_count}
 use Rattle.sercos_service_master.specs.Begun.{Said}
 
 -- this step is among those that a drive accepted
@@ -24,11 +24,10 @@ on_store e (x ∷ entries) stores (inr has) = on_store e entries stores.0 has
 
 pub behind_in : (count : ℕ) (e : Entry) (entries : List Entry) → entry_behind count entries ≡ Some e → HasAccepted e entries
 behind_in count e [] is = absurd (cc)
-behind_in count e (x ∷ entries) is = by (length entries == count) is (behind_in count e entries)
-  where
-    by : (b : Bool) → (if b then Some x else entry_behind count entries) ≡ Some e → (entry_behind count entries ≡ Some e → HasAccepted e entries) → HasAccepted e (x ∷ entries)
-    by true is rest = let same : x ≡ e = cc in inl same
-    by false is rest = inr (rest is)
+behind_in count e (x ∷ entries) is = elim (cases_Bool (length entries == count)) [
+  | inl on ↦ let same : x ≡ e = cc in inl same
+  | inr off ↦ let is = rw off at is in inr (behind_in count e entries is)
+]
 
 -- A request that was begun in a cycle is among all that were begun.
 pub both_begun : (falls : Bool) (begun ago : List Begun) → (if falls then [] else begun) ++ leaving falls begun ago ≡ begun ++ ago

@@ -1,9 +1,10 @@
 -- In phase 4 nothing is written to a block that is write protected in phase 4: so no request that is begun in phase 4 ends as a complete
 -- write to it.
-use Rattle.sercos_law_trace.proofs.Words.{◌≡◌, ℕ, ◌+◌, ◌≤◌, ◌==◌, Bool, true, false, List, [], ◌∷◌, ◌++◌, length, map, Option, Some, None, refl, sym, ap, ◌∙◌, subst, arith, if◌then◌else◌, length-append, none-some, is_some, and_parts, nat_tests, Idn, Request, Outcome, Answer, outcome_of, Block, is_protected, find_block, Processed, Entry, log_of, Write, with_added, writes_of, added_on, Begun, open_in, answers_it, answer_in, with_answer, Given, given_of, written_to, given_by, AreWrites, Complete, Refused, Broken, AreExact, Heard, View, standing, stood_in, record_in, with_record, processed_in, command, with_heard, with_begun, epoch_begun, begun_in, epoch_records, epoch_log, log_in, records_in_views, AreSound, AreSmall, cycle_exact, Processes, Nothing, Record, processes, processed_phase, added_bare, written, command_below, ne_eqb}
+use Rattle.sercos_law_trace.proofs.Words.{◌≡◌, ℕ, ◌+◌, ◌≤◌, ◌==◌, Bool, true, false, List, [], ◌∷◌, ◌++◌, length, map, Option, Some, None, refl, sym, ap, ◌∙◌, subst, arith, if◌then◌else◌, length-append, none-some, is_some, and_parts, Idn, Request, Outcome, Answer, outcome_of, Block, is_protected, find_block, Processed, Entry, log_of, Write, with_added, writes_of, added_on, Begun, open_in, answers_it, answer_in, with_answer, Given, given_of, written_to, given_by, AreWrites, Complete, Refused, Broken, AreExact, Heard, View, standing, stood_in, record_in, with_record, processed_in, command, with_heard, with_begun, epoch_begun, begun_in, epoch_records, epoch_log, log_in, records_in_views, AreSound, AreSmall, cycle_exact, Processes, Nothing, Record, processes, processed_phase, added_bare, written, command_below, ne_eqb, cases_Option, inl, inr, eq-eqb}
 use Rattle.sercos_step.specs.declared.request.Request.TheVariants as request
 use Rattle.sercos_step.specs.declared.request.Outcome.TheVariants as outcome
 use Rattle.sercos_law_channel.specs.Handshake.Runs.{IsRun}
+use Rattle.sercos_law_channel.proofs.Handshake.EpochRuns.{commanded}
 
 -- COUNTS. How many of these are to a number
 abbrev pub count_given : ℕ → List Given → ℕ
@@ -36,33 +37,30 @@ complete_append : (raw : ℕ) (blocks : List Block) (xs ys : List Begun) → cou
 complete_append raw blocks [] ys = omega arith
 complete_append raw blocks (x ∷ xs) ys = let more = complete_append raw blocks xs ys in omega (arith, more)
 
--- A transfer has written at least what it has given, and exactly that if it has ended.
-own_least : (raw : ℕ) (blocks : List Block) (b : Begun) (own : List Write) → AreWrites blocks b own → count_given raw (given_if (outcome_of b.request b.answers) (given_by blocks b.request)) ≤ count_writes raw own
-own_least raw blocks b own (Complete bytes complete has is) =
-    let all = ap (λ (o : Option Outcome). count_given raw (given_if o (given_by blocks b.request))) complete in
-    let same = ap (count_given raw) is in omega (arith, all, same)
-own_least raw blocks b own (Refused code refused none) = let nothing = ap (λ (o : Option Outcome). count_given raw (given_if o (given_by blocks b.request))) refused in omega (arith, nothing)
-own_least raw blocks b own (Broken later on is) = let nothing = ap (λ (o : Option Outcome). count_given raw (given_if o (given_by blocks b.request))) on in omega (arith, nothing)
-
+-- A transfer that has ended has written what it has given, and any has written at least that.
 own_same : (raw : ℕ) (blocks : List Block) (b : Begun) (own : List Write) (o : Outcome) → outcome_of b.request b.answers ≡ Some o → AreWrites blocks b own
     → count_writes raw own ≡ count_given raw (given_if (outcome_of b.request b.answers) (given_by blocks b.request))
 own_same raw blocks b own o ended (Complete bytes complete has is) = ap (count_given raw) is ∙ sym (ap (λ (x : Option Outcome). count_given raw (given_if x (given_by blocks b.request))) complete)
 own_same raw blocks b own o ended (Refused code refused none) = ap (count_writes raw) none ∙ sym (ap (λ (x : Option Outcome). count_given raw (given_if x (given_by blocks b.request))) refused)
 own_same raw blocks b own o ended (Broken later on is) = absurd (none-some _ (sym on ∙ ended))
 
+own_least : (raw : ℕ) (blocks : List Block) (b : Begun) (own : List Write) → AreWrites blocks b own → count_given raw (given_if (outcome_of b.request b.answers) (given_by blocks b.request)) ≤ count_writes raw own
+own_least raw blocks b own writes = elim (cases_Option (outcome_of b.request b.answers)) [
+  | inl on ↦ rw on (omega arith)
+  | inr (o, ended) ↦ let same = own_same raw blocks b own o ended writes in omega (arith, same)
+]
+
 exact_least : (raw : ℕ) (blocks : List Block) (begun : List Begun) (entries : List Entry) (writes : List Write) → AreExact blocks begun entries writes → count_complete raw blocks begun ≤ count_writes raw writes
 exact_least raw blocks [] entries writes exact = omega arith
 exact_least raw blocks (b ∷ begun) entries writes (part, rest, own, others, of_entries, of_writes, exact, behind) =
     let parts = ap (count_writes raw) of_writes ∙ count_append raw own others in
-    let first = own_least raw blocks b own exact.writes in
-    let more = exact_least raw blocks begun rest others behind in omega (arith, parts, first, more)
+    omega (arith, parts, own_least raw blocks b own exact.writes, exact_least raw blocks begun rest others behind)
 
 exact_same : (raw : ℕ) (blocks : List Block) (begun : List Begun) (entries : List Entry) (writes : List Write) → HaveEnded begun → AreExact blocks begun entries writes → count_writes raw writes ≡ count_complete raw blocks begun
 exact_same raw blocks [] entries writes ended exact = ap (count_writes raw) exact.1
 exact_same raw blocks (b ∷ begun) entries writes ended (part, rest, own, others, of_entries, of_writes, exact, behind) =
     let parts = ap (count_writes raw) of_writes ∙ count_append raw own others in
-    let first = own_same raw blocks b own ended.1.0 ended.1.1 exact.writes in
-    let more = exact_same raw blocks begun rest others ended.0 behind in omega (arith, parts, first, more)
+    omega (arith, parts, own_same raw blocks b own ended.1.0 ended.1.1 exact.writes, exact_same raw blocks begun rest others ended.0 behind)
 
 -- WHAT IS KEPT while phase 4 is commanded. The requests of the epoch begin with those of the phases before, at most `few`, none of which is
 -- open any more. What was written to the number in the epoch is no more than what these have given.
@@ -120,15 +118,11 @@ behind (x ∷ newer) start [] older one same short = let rest : newer ++ start �
 behind (x ∷ newer) start (y ∷ xs) older one same short = let rest : newer ++ start ≡ xs ++ one ∷ older = cc in behind newer start xs older one rest short
 
 -- Phase 4 is the last.
-below_most : (busy : ℕ) (v : View) (past : List View) → IsRun busy (v ∷ past) → command past ≤ 4 → v.phase ≤ 4
-below_most busy v past run low = by v.master_restarts run.1.commanded
-  where
-    by : (b : Bool) → v.phase ≡ (if b then 0 else command past) → v.phase ≤ 4
-    by true is = omega (arith, is)
-    by false is = omega (arith, is, low)
-
 pub phase_most : (busy : ℕ) (v : View) (past : List View) → IsRun busy (v ∷ past) → v.phase ≤ 4
-phase_most busy v past run = below_most busy v past run (command_below busy past run.0)
+phase_most busy v past run = elim (commanded v past run.1.commanded) [
+  | inl zero ↦ omega (arith, zero.1)
+  | inr on ↦ let low = command_below busy past run.0 in omega (arith, on.1, low)
+]
 
 module _ (busy few : ℕ) (blocks : List Block) (small : AreSmall blocks) (idn : Idn) (b : Block) (found : find_block idn.raw blocks ≡ Some b) (guard : is_protected b.attribute 4 ≡ true) where
   -- a record of phase 4
@@ -136,23 +130,21 @@ module _ (busy few : ℕ) (blocks : List Block) (small : AreSmall blocks) (idn :
   taken_guarded v past sound four h = by (processes v past)
     where
       by : Processes v past → count_writes idn.raw (writes_of (log_of (with_record (processed_in v past) h))) ≤ count_writes idn.raw (writes_of (log_of h))
-      by (Nothing none) = let same = ap (λ (o : Option Processed). count_writes idn.raw (writes_of (log_of (with_record o h)))) none in omega (arith, same)
+      by (Nothing none) = omega (arith, ap (λ (o : Option Processed). count_writes idn.raw (writes_of (log_of (with_record o h)))) none)
       by (Record s got came two some) =
           let t : Processed = record_in v (length past) (stood_in v (standing past)) s in
-          let phase : t.phase ≡ 4 = processed_phase v past came (omega (arith, two)) ∙ four in
-          let bare = λ (w : Write) (is : added_on t h ≡ Some w). other w is phase in
+          let bare = λ (w : Write) (is : added_on t h ≡ Some w). (ne_eqb w.raw idn.raw (λ at.
+          let off = added_bare (record_in v (length past) (stood_in v (standing past)) s) h w blocks b is sound.1.0
+          (ap (λ (n : ℕ). find_block n blocks) at ∙ found) in
+          let on : is_protected b.attribute (stood_in v (standing past)) ≡ true = ap (is_protected b.attribute)
+          (processed_phase v past came (omega (arith, two)) ∙ four) ∙ guard in cc)) in
           let same = ap (λ (o : Option Processed). count_writes idn.raw (writes_of (log_of (with_record o h)))) some ∙ sym (ap (count_writes idn.raw) (written t h)) ∙ added_elsewhere idn.raw (added_on t h) (writes_of (log_of h)) bare in
           omega (arith, same)
-        where
-          other : (w : Write) → added_on (record_in v (length past) (stood_in v (standing past)) s) h ≡ Some w → stood_in v (standing past) ≡ 4 → (w.raw == idn.raw) ≡ false
-          other w is phase = ne_eqb w.raw idn.raw (λ at.
-              let off = added_bare (record_in v (length past) (stood_in v (standing past)) s) h w blocks b is sound.1.0 (ap (λ (n : ℕ). find_block n blocks) at ∙ found) in
-              let on : is_protected b.attribute (stood_in v (standing past)) ≡ true = ap (is_protected b.attribute) phase ∙ guard in cc)
 
   -- a cycle of phase 4
   in_four : (v : View) (past : List View) → IsRun busy (v ∷ past) → AreSound blocks (v ∷ past) → v.phase ≡ 4 → (command past ≡ 4 → IsGuarded few idn.raw blocks (epoch_begun past) (writes_of (epoch_log past)))
       → IsGuarded few idn.raw blocks (begun_in v past) (writes_of (log_in v past))
-  in_four v past run sound four before = by v.master_restarts (run.1.commanded)
+  in_four v past run sound four before = by v.master_restarts run.1.commanded
     where
       by : (b : Bool) → v.phase ≡ (if b then 0 else command past) → IsGuarded few idn.raw blocks (with_begun v.begins (with_heard v.heard (if b then [] else epoch_begun past))) (writes_of (log_of (with_record (processed_in v past) (if b then [] else epoch_records past))))
       by true is = absurd (omega (arith, is, four))
@@ -187,17 +179,11 @@ module _ (busy few : ℕ) (blocks : List Block) (small : AreSmall blocks) (idn :
   never_complete v past run sound fews four newer older one bytes whole split late asks complete =
       let is = in_four v past run sound four (guarded past run.0 sound.0 fews) in
       let least = exact_least idn.raw blocks (begun_in v past) (log_in v past) (writes_of (log_in v past)) (cycle_exact blocks busy small v past run sound) in
-      let short = is.short in
-      let counted = is.counted in
-      let middle = behind is.newer is.start newer older one (sym is.split ∙ split) (omega (arith, short, late)) in
+      let middle = behind is.newer is.start newer older one (sym is.split ∙ split) (omega (arith, is.short, late)) in
       let all = ap (count_complete idn.raw blocks) split ∙ complete_append idn.raw blocks newer (one ∷ older) in
       let rest = ap (count_complete idn.raw blocks) middle.1 ∙ complete_append idn.raw blocks middle.0 is.start in
-      let this = one_given in
-      omega (arith, least, counted, all, rest, this)
+      omega (arith, least, is.counted, all, rest, one_given)
     where
-      same : (idn.raw == idn.raw) ≡ true
-      same = grind (arith, nat_tests)
-
       one_given : count_given idn.raw (given_if (outcome_of one.request one.answers) (given_by blocks one.request)) ≡ 1
       one_given = ap (λ (o : Option Outcome). count_given idn.raw (given_if o (given_by blocks one.request))) complete ∙ ap (λ (q : Request). count_given idn.raw (given_by blocks q)) asks
-          ∙ ap (λ (o : Option Block). count_given idn.raw (written_to idn.raw bytes o)) found ∙ ap {B = ℕ} (λ (x : Bool). (if x then 1 else 0) + 0) same
+          ∙ ap (λ (o : Option Block). count_given idn.raw (written_to idn.raw bytes o)) found ∙ ap {B = ℕ} (λ (x : Bool). (if x then 1 else 0) + 0) (eq-eqb idn.raw idn.raw refl)

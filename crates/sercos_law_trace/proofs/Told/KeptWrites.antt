@@ -1,5 +1,5 @@
 -- A complete write of operation data is kept, if no later request writes to its block: the start-up doesn't write it either.
-use Rattle.sercos_law_trace.proofs.Words.{◌≡◌, ◌⊎◌, inl, inr, ℕ, zero, suc, ◌+◌, ◌<◌, ◌==◌, Bool, true, false, not, ◌||◌, if◌then◌else◌, List, [], ◌∷◌, ◌++◌, length, Option, Some, None, refl, sym, ap, subst, ◌∙◌, arith, none-some, same_Some, IfSome, option_map, nat_lt, drop, map, is_some, unwrap_or, slice_get, slice_index, list_all, list_any, cond-true, nat_tests, Idn, Request, Job, Outcome, PlanView, Block, find_block, store_of, RingView, data_at, AreAlike, without_data, flipped, find-alike, is_fixed, blocks_in, annals, Begun, begun_by, CycleView, Carry, Restarts, Known, MemberView, Task, known_of, tasks_for, member, declared_times, reads, writes, count_requests, outcomes_in, Call, HearMst, HearAt, Mdt, End, Restart, Past, past, settled, still_waiting, with_task, channel_at, IsTask, OfReads, OfWrites, Checks3, Lists3, Checks4, Lists4, OfWaiting, AreBegunTasks, AreNumbered, IsWrittenLast, numbered_drop, member_is, members_count, stored, all_begun, all_writes, Given, written_to, newest_to, is_plain, GiveElsewhere, heard, passage, mst_in, ats_in, IsRun, IsClear, drive_at, looks_back, middle, master_calls, own_mst, at_calls, with_at, station_of, given_before, behind_ats, behind_mdt, view_of, views_of, IsOpened, KeepsAll, writes_to, IsLastTo, WritesAreKept, get_dropped, writes_data, rest_runs, rest_clear, or_parts, left_of, all_stand, alike_so, store_of_so, first_store, keeps_all, calls_are_moves, first_waiting, has_next, are_requests, holds_newest, stays_fixed}
+use Rattle.sercos_law_trace.proofs.Words.{cases_Bool, ◌≡◌, ◌⊎◌, inl, inr, ℕ, zero, suc, ◌+◌, ◌<◌, ◌==◌, Bool, true, false, not, if◌then◌else◌, List, [], ◌∷◌, ◌++◌, length, Option, Some, None, refl, sym, ap, subst, ◌∙◌, arith, none-some, same_Some, IfSome, option_map, map, unwrap_or, slice_get, slice_index, list_all, list_any, cond-true, nat_tests, Idn, Request, Job, Outcome, PlanView, Block, find_block, store_of, RingView, data_at, AreAlike, without_data, flipped, find-alike, is_fixed, blocks_in, annals, Begun, begun_by, CycleView, Carry, Restarts, Known, MemberView, Task, known_of, tasks_for, member, declared_times, reads, writes, count_requests, outcomes_in, Call, HearMst, HearAt, Mdt, End, Restart, Past, settled, with_task, channel_at, IsTask, OfReads, OfWrites, Checks3, Lists3, Checks4, Lists4, OfWaiting, AreBegunTasks, AreNumbered, IsWrittenLast, all_numbered, member_is, members_count, stored, all_begun, all_writes, Given, written_to, newest_to, GiveElsewhere, heard, passage, mst_in, ats_in, IsRun, IsClear, drive_at, looks_back, middle, master_calls, own_mst, at_calls, with_at, station_of, given_before, behind_ats, behind_mdt, view_of, views_of, IsOpened, KeepsAll, writes_to, IsLastTo, WritesAreKept, get_dropped, writes_data, rest_runs, rest_clear, or_parts, all_stand, alike_so, store_of_so, first_store, keeps_all, calls_are_moves, first_waiting, are_requests, holds_newest, stays_fixed}
 use Rattle.sercos_step.specs.declared.request.Request.TheVariants as request
 use Rattle.sercos_step.specs.declared.request.Outcome.TheVariants as outcome
 use Rattle.sercos_service_drive.specs.Replies.{data_in}
@@ -8,13 +8,13 @@ use Rattle.sercos_master.specs.Annals.{begins}
 use Rattle.sercos_telegram.specs.declared.layout.Kind.TheVariants as kinds
 use Rattle.sercos_law_run.specs.Journal.Runs.{begins as begin_of}
 use Rattle.sercos_law_run.specs.Views.RingViews.{request_of as request_in}
-use Rattle.sercos_law_trace.proofs.Told.ToldLemmas.{told_cut, HasReported, IsRequestOf, request_of}
-use Rattle.sercos_law_trace.proofs.Told.ReadLemmas.{reported_at, begun_as}
+use Rattle.sercos_law_trace.proofs.Told.ToldLemmas.{told_cut, in_all, request_of}
+use Rattle.sercos_law_trace.proofs.Told.ReadLemmas.{IsBegunAs, reported_at, begun_as}
 use Rattle.sercos_law_trace.proofs.Told.StartNumbers.{all_start, is_start}
 use Rattle.sercos_law_trace.proofs.Told.StartBlocks.{not_start}
 use Rattle.sercos_law_trace.proofs.Told.LastWrites.{Elsewhere, newest_last, last_next, last_now}
 use Rattle.sercos_law_trace.proofs.Told.KnownBlocks.{known_block}
-use Rattle.sercos_law_trace.proofs.Told.LaterTasks.{IsAbove, AreAbove, AreLater, HasEnded, later_above, still, above_call, has_ended, ended_count}
+use Rattle.sercos_law_trace.proofs.Told.LaterTasks.{IsAbove, AreAbove, AreLater, later_above, still, above_call, ended_count}
 
 -- A request that doesn't write to a block gives nothing to its number.
 pub gives_elsewhere : (raw : ℕ) (blocks : List Block) (q : Request) → writes_to raw q ≡ false → Elsewhere raw blocks q
@@ -56,9 +56,8 @@ startup_elsewhere : (s : Known) (k : ℕ) (by_then : Option PlanView) (waiting :
 startup_elsewhere s k by_then waiting outs t raw none (OfReads r less found is) = inl (ap (λ (x : Task). writes_to raw x.request) is ∙ reads_elsewhere raw (member s k) _ r found)
 startup_elsewhere s k by_then waiting outs t raw none (OfWrites p n r planned less at found is) =
     let (w, bytes, got, number) = writes_data s p k n less in
-    let same : r ≡ request.Write w 7 bytes = same_Some r (request.Write w 7 bytes) (sym found ∙ got) in
-    inl (ap (λ (x : Task). writes_to raw x.request) is ∙ ap (writes_to raw) same ∙ any_not raw all_start
-    (suc (suc (suc (suc n)))) w.raw none number)
+    inl (ap (λ (x : Task). writes_to raw x.request) is ∙ ap (writes_to raw) (same_Some r (request.Write w 7 bytes) (sym found ∙ got)) ∙
+    any_not raw all_start (suc (suc (suc (suc n)))) w.raw none number)
 startup_elsewhere s k by_then waiting outs t raw none (Checks3 p planned at is) = inl (ap (λ (x : Task). writes_to raw x.request) is ∙ any_not raw all_start 2 127 none refl)
 startup_elsewhere s k by_then waiting outs t raw none (Lists3 at failed is) = inl (ap (λ (x : Task). writes_to raw x.request) is)
 startup_elsewhere s k by_then waiting outs t raw none (Checks4 at checked is) = inl (ap (λ (x : Task). writes_to raw x.request) is ∙ any_not raw all_start 3 128 none refl)
@@ -83,19 +82,18 @@ module _ (r : RingView) (jobs : List Job) (carry : Carry) (restarts : Restarts) 
   blocks : List Block
   blocks = store_of (drive_at r k)
 
+  numbered : (h : List Call) → AreNumbered ((looks_back r jobs h).waiting k)
+  numbered h = all_numbered (known_of r) (tasks_for (known_of r) jobs) h (λ i. (are_requests (known_of r) jobs i).1) k
+
   -- a request after the one at place n
-  above_elsewhere : (m : ℕ) (t : Task) → slice_get (tasks_for (known_of r) jobs k) m ≡ Some t → IsAbove (n + 1) t → Elsewhere raw (store_of (drive_at r k)) t.request
-  above_elsewhere m t got above =
-      let of = request_of (member (known_of r) k).address 1 jobs m t above.number got above.is in
+  waiting_elsewhere : (h : List Call) (i : ℕ) (t : Task) → slice_get ((looks_back r jobs h).waiting k) i ≡ Some t → IsAbove (n + 1) t → Elsewhere raw (store_of (drive_at r k)) t.request
+  waiting_elsewhere h i t got above =
+      let (c, all) = in_all (known_of r) jobs h k in
+      let of = request_of (member (known_of r) k).address 1 jobs (c + i) t above.number (all i t got) above.is in
       let at = of.at in
       let high = above.above in
       let drive : of.job.drive ≡ (drive_at r k).address = of.drive ∙ ap (λ (x : MemberView). x.address) (member_is r k) in
       gives_elsewhere raw (store_of (drive_at r k)) t.request (ap (writes_to raw) of.same ∙ last of.place of.job (omega (arith, at, high)) of.there drive)
-
-  waiting_elsewhere : (h : List Call) (i : ℕ) (t : Task) → slice_get ((looks_back r jobs h).waiting k) i ≡ Some t → IsAbove (n + 1) t → Elsewhere raw (store_of (drive_at r k)) t.request
-  waiting_elsewhere h i t got above =
-      let of = left_of (known_of r) jobs h k in
-      above_elsewhere (of.0 + i) t (sym (get_dropped of.0 (tasks_for (known_of r) jobs k) i) ∙ sym (ap (λ w. slice_get w i) of.1) ∙ got) above
 
   -- WHAT STILL WAITS, call by call
   abbrev Waits : List Call → Type 0
@@ -137,12 +135,8 @@ module _ (r : RingView) (jobs : List Job) (carry : Carry) (restarts : Restarts) 
         where
           which : (writes_to raw u.request ≡ false) ⊎ ((i : ℕ) × (slice_get ((behind_mdt r jobs carry restarts t.sent j).waiting k) i ≡ Some u)) → Elsewhere raw (store_of (drive_at r k)) u.request
           which (inl away) = gives_elsewhere raw (store_of (drive_at r k)) u.request away
-          which (inr (i, got)) =
-              let of = left_of (known_of r) jobs (middle r carry restarts t.sent j) k in
-              let there : slice_get (tasks_for (known_of r) jobs k) (of.0 + i) ≡ Some u = sym (get_dropped of.0 (tasks_for (known_of r) jobs k) i) ∙ sym (ap (λ w. slice_get w i) of.1) ∙ got in
-              let numbered : is_some u.number ≡ true = (are_requests (known_of r) jobs k).1 (of.0 + i) u there in
-              let head = first_waiting has_next (known_of r) jobs (to_ats t j) k u inside is numbered in
-              above_elsewhere (of.0 + i) u there (waits_to_ats t j are 0 u head)
+          which (inr (i, got)) = waiting_elsewhere (middle r carry restarts t.sent j) i u got (waits_to_ats t j are 0 u
+              (first_waiting (known_of r) jobs (to_ats t j) k u inside is (numbered (middle r carry restarts t.sent j) i u got)))
 
       by : (o : Option Task) → begins (known_of r) (settled (known_of r) (behind_ats r jobs carry restarts t.sent j)) k ≡ o → IfSome (request_in o) (Elsewhere raw (store_of (drive_at r k)))
       by None is = tt
@@ -166,19 +160,20 @@ module _ (r : RingView) (jobs : List Job) (carry : Carry) (restarts : Restarts) 
     kept_later (t ∷ later) j run clear kept = kept_next t (later ++ j) (keeps_all r jobs carry restarts opened t (later ++ j) run clear) (kept_later later j run.0 clear.0 kept)
 
     -- WHERE IT IS TOLD
-    kept_told : (t : CycleView) (j : List CycleView) (job : Job) (whole : List ℕ) → KeepsAll r jobs carry restarts t j → slice_get jobs n ≡ Some job → job.request ≡ request.Write idn 7 bytes
-        → HasReported ((behind_mdt r jobs carry restarts t.sent j).now.report k) (n + 1) (outcome.Complete whole) → Kept (t ∷ j)
-    kept_told t j job whole keeps there writes has = record {
+    kept_told : (t : CycleView) (j : List CycleView) (whole : List ℕ) → KeepsAll r jobs carry restarts t j
+        → (asked : IsBegunAs r jobs carry restarts t j k n (outcome.Complete whole)) → asked.job.request ≡ request.Write idn 7 bytes
+        → Kept (t ∷ j)
+    kept_told t j whole keeps asked writes = record {
       written = last_now (store_of (drive_at r k)) idn bytes (view_of r jobs carry restarts k t j) (views_of r jobs carry restarts k j) (record {
-        newer = ended.so.newer;
-        one = ended.so.one;
-        older = ended.so.older;
-        split = (keeps.exact k below).begun_now ∙ ended.so.split;
-        asks = ended.so.asks ∙ asked.same ∙ ap (λ (x : Job). x.request) same ∙ writes;
+        newer = asked.ends.newer;
+        one = asked.ends.one;
+        older = asked.ends.older;
+        split = (keeps.exact k below).begun_now ∙ asked.ends.split;
+        asks = asked.same ∙ writes;
         whole = whole;
-        complete = ended.so.ended ∙ ap Some has.outcome;
+        complete = asked.ended;
         away =
-            subst (λ (m : ℕ). GiveElsewhere m (store_of (drive_at r k)) ended.so.newer) (sym named) (later_away ended.so.newer ended.later);
+            subst (λ (m : ℕ). GiveElsewhere m (store_of (drive_at r k)) asked.ends.newer) (sym named) (later_away asked.ends.newer asked.ends.later);
       });
       waits = waits_call End (middle r carry restarts t.sent j) still_above;
     }
@@ -186,58 +181,33 @@ module _ (r : RingView) (jobs : List Job) (carry : Carry) (restarts : Restarts) 
         p : Past
         p = behind_mdt r jobs carry restarts t.sent j
 
-        ended : HasEnded (known_of r) k ((behind_mdt r jobs carry restarts t.sent j).waiting k) (begun_by ((behind_mdt r jobs carry restarts t.sent j).calls k)) ((behind_mdt r jobs carry restarts t.sent j).tasks k) has.report
-        ended = has_ended (known_of r) k p.plan (p.waiting k) p.now.phase (begun_by (p.calls k)) (p.tasks k) has.report (keeps.reported.right k has.report below has.is) (keeps.reported.tasks k below)
-
-        left : (c : ℕ) × ((behind_mdt r jobs carry restarts t.sent j).waiting k ≡ drop c (tasks_for (known_of r) jobs k))
-        left = left_of (known_of r) jobs (middle r carry restarts t.sent j) k
-
-        in_all : (i : ℕ) (u : Task) → slice_get ((behind_mdt r jobs carry restarts t.sent j).waiting k) i ≡ Some u → slice_get (tasks_for (known_of r) jobs k) (left.0 + i) ≡ Some u
-        in_all i u got = sym (get_dropped left.0 (tasks_for (known_of r) jobs k) i) ∙ sym (ap (λ w. slice_get w i) left.1) ∙ got
-
-        number : ended.so.task.number ≡ Some (n + 1)
-        number = ended.so.number ∙ ap Some has.number
-
-        asked : IsRequestOf (member (known_of r) k).address 1 jobs ended.so.task (n + 1)
-        asked = request_of (member (known_of r) k).address 1 jobs (left.0 + ended.place) ended.so.task (n + 1) (in_all ended.place ended.so.task ended.got) number
-
-        same : asked.job ≡ job
-        same =
-            let at = asked.at in
-            let place : asked.place ≡ n = omega (arith, at) in
-            same_Some asked.job job (sym asked.there ∙ ap (slice_get jobs) place ∙ there)
-
         -- a request that waited after it
-        after : (i : ℕ) (u : Task) → ended.place < i → slice_get ((behind_mdt r jobs carry restarts t.sent j).waiting k) i ≡ Some u → IsAbove (n + 1) u
+        after : (i : ℕ) (u : Task) → asked.ends.place < i → slice_get ((behind_mdt r jobs carry restarts t.sent j).waiting k) i ≡ Some u → IsAbove (n + 1) u
         after i u less got =
-            later_above 1 (tasks_for (known_of r) jobs k) (left.0 + ended.place) (left.0 + i) (n + 1) ended.so.task u (are_requests (known_of r) jobs k).2 (in_all ended.place ended.so.task ended.got) (in_all i u got) (omega (arith, less)) number
+            let (c, all) = in_all (known_of r) jobs (middle r carry restarts t.sent j) k in
+            later_above 1 (tasks_for (known_of r) jobs k) (c + asked.ends.place) (c + i) (n + 1) asked.ends.task u
+            (are_requests (known_of r) jobs k).2 (all asked.ends.place asked.ends.task asked.ends.got) (all i u got) (omega (arith, less))
+            asked.number
 
-        later_away : (newer : List Begun) → AreLater ((behind_mdt r jobs carry restarts t.sent j).waiting k) ended.place newer → GiveElsewhere raw (store_of (drive_at r k)) newer
+        later_away : (newer : List Begun) → AreLater ((behind_mdt r jobs carry restarts t.sent j).waiting k) asked.ends.place newer → GiveElsewhere raw (store_of (drive_at r k)) newer
         later_away [] are = tt
         later_away (b ∷ newer) (are, (i, u, less, got, asks)) =
             (later_away newer are, subst (λ (q : Request). Elsewhere raw (store_of (drive_at r k)) q) (sym asks) (waiting_elsewhere (middle r carry restarts t.sent j) i u got (after i u less got)))
 
-        count : ended.place < count_requests ((behind_mdt r jobs carry restarts t.sent j).tasks k)
-        count = ended_count (known_of r) k p.plan (p.waiting k) p.now.phase
-            (subst AreNumbered (sym left.1) (numbered_drop left.0 (tasks_for (known_of r) jobs k) (are_requests (known_of r) jobs k).1))
-            (begun_by (p.calls k)) (p.tasks k) has.report (keeps.reported.tasks k below) ended
-
         still_above : Waits (middle r carry restarts t.sent j)
         still_above i u got =
-            let less = count in
+            let less = ended_count (known_of r) k p.plan (p.waiting k) p.now.phase
+            (numbered (middle r carry restarts t.sent j)) (begun_by (p.calls k)) (p.tasks k) asked.report (keeps.reported.tasks k below)
+            asked.ends in
             after (count_requests (p.tasks k) + i) u (omega (arith, less)) (sym (get_dropped (count_requests (p.tasks k)) (p.waiting k) i) ∙ got)
 
 -- AT THE END
-plain_so : (raw : ℕ) → is_start raw ≡ false → is_plain raw ≡ true
-plain_so raw none = rw (flipped 21 raw (any_not raw all_start 0 21 none refl), flipped 22 raw (any_not raw all_start 1 22 none refl)) refl
-
 -- a block that may be written doesn't change by itself
 still_block : (b : Block) → is_fixed b ≡ false → (b.step == 0) ≡ true
-still_block b free = by b.fixed free
-  where
-    by : (f : Bool) → (f || nat_lt 0 b.step) ≡ false → (b.step == 0) ≡ true
-    by true free = absurd (cc)
-    by false free = grind (arith, nat_tests, free)
+still_block b free = elim (cases_Bool b.fixed) [
+  | inl on ↦ let free = rw on at free in absurd (cc)
+  | inr off ↦ let free = rw off at free in grind (arith, nat_tests, free)
+]
 
 data_still : (cycle : ℕ) (c : Block) → (c.step == 0) ≡ true → data_in cycle c ≡ c.value
 unfolding data_in
@@ -253,8 +223,7 @@ has_block raw now blocks b x alike found free holds = by (find_block raw now) re
     by None is same value = absurd (cc)
     by (Some c) is same value =
         let one : without_data c ≡ without_data b = cc in
-        let rests : (c.step == 0) ≡ true = ap (λ (y : Block). y.step == 0) one ∙ still_block b free in
-        (c, is, λ cycle. data_still cycle c rests ∙ value)
+        (c, is, λ cycle. data_still cycle c (ap (λ (y : Block). y.step == 0) one ∙ still_block b free) ∙ value)
 
 module _ (r : RingView) (jobs : List Job) (carry : Carry) (restarts : Restarts) (opened : IsOpened r jobs) (k : ℕ)
     (below : k < length r.drives) (idn : Idn) (bytes : List ℕ) (none : is_start idn.raw ≡ false) where
@@ -268,7 +237,9 @@ module _ (r : RingView) (jobs : List Job) (carry : Carry) (restarts : Restarts) 
       (drive_at r k)) b (stored b bytes) (alike_so (drive_at r k) _ (store_of_so (drive_at r k) r.rate (given_before carry restarts
       (t ∷ j) k) (first_store r jobs carry restarts opened k below).ascending).0) found (free (is_fixed b) refl written)
       (ap (λ (l : List Block). data_at l idn.raw) (all_stand r jobs carry restarts opened (t ∷ j) run clear k below).sees.drive.blocks
-      ∙ holds_newest (store_of (drive_at r k)) (views_of r jobs carry restarts k (t ∷ j)) idn.raw b (plain_so idn.raw none) found
+      ∙ holds_newest (store_of (drive_at r k)) (views_of r jobs carry restarts k (t ∷ j)) idn.raw b
+      (rw (flipped 21 idn.raw (any_not idn.raw all_start 0 21 none refl), flipped 22 idn.raw (any_not idn.raw all_start 1 22 none refl))
+      refl) found
       ∙ ap (λ (o : Option (List ℕ)). unwrap_or o b.value) written)
     where
       free : (fixed : Bool) → is_fixed b ≡ fixed → newest_to idn.raw (all_writes (views_of r jobs carry restarts k (t ∷ j))) ≡ Some (stored b bytes) → is_fixed b ≡ false
@@ -291,12 +262,13 @@ writes_kept r jobs carry restarts run n job idn bytes whole opened is_run clear 
     let place = reported_at r jobs carry restarts at.one at.before (n + 1) whole keeps.reported at.told in
     let asked = begun_as r jobs carry restarts at.one at.before place.place n (outcome.Complete whole) keeps.reported place.below place.reported in
     let same : asked.job ≡ job = same_Some asked.job job (sym asked.there ∙ there) in
-    let (b, found) = known_block r jobs carry restarts at.one at.before place.place n idn 7 bytes whole (keeps.exact place.place place.below)
-    asked (ap (λ (x : Job). x.request) same ∙ writes) in
+    let asks : asked.job.request ≡ request.Write idn 7 bytes = ap (λ (x : Job). x.request) same ∙ writes in
+    let (b, found) = known_block r jobs carry restarts at.one at.before place.place n idn 7 bytes whole
+    (keeps.exact place.place place.below) asked asks in
     let drive : job.drive ≡ (drive_at r place.place).address = sym (ap (λ (x : Job). x.drive) same) ∙ asked.drive in
     let last_so = subst (λ (a : ℕ). IsLastTo jobs n a idn.raw) drive last in
-    let none = not_start r jobs carry restarts opened place.place place.below at.one at.before run_then clear_then n job idn bytes whole b there writes place.reported found in
-    let now = kept_told r jobs carry restarts opened place.place n place.below idn.raw last_so none idn bytes refl at.one at.before job whole keeps there writes place.reported in
+    let none = not_start r jobs carry restarts opened place.place place.below at.one at.before run_then clear_then n idn bytes whole b asked asks found in
+    let now = kept_told r jobs carry restarts opened place.place n place.below idn.raw last_so none idn bytes refl at.one at.before whole keeps asked asks in
     let later = kept_later r jobs carry restarts opened place.place n place.below idn.raw last_so none idn bytes refl at.later (at.one ∷ at.before) run_so clear_so now in
     let (c, holds, written) = in_store_of r jobs carry restarts opened place.place place.below idn bytes none run (some_in run at.later at.one at.before at.cut) is_run clear
     (subst (λ (l : List CycleView). IsWrittenLast (store_of (drive_at r place.place)) (all_begun (views_of r jobs carry restarts place.place l)) idn bytes) (sym at.cut) later.written) b found in record {

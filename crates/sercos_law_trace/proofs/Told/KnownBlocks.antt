@@ -19,8 +19,9 @@ pub known_block : (r : RingView) (jobs : List Job) (carry : Carry) (restarts : R
     → IsExactAt r jobs carry restarts t j k → (asked : IsBegunAs r jobs carry restarts t j k n (outcome.Complete whole))
     → asked.job.request ≡ request.Write idn element bytes → (b : Block) × (find_block idn.raw (store_of (drive_at r k)) ≡ Some b)
 known_block r jobs carry restarts t j k n idn element bytes whole exact asked writes =
-    let among = begun_among (view_of r jobs carry restarts k t j) (views_of r jobs carry restarts k j) asked.newer asked.older asked.one (exact.begun_now ∙ asked.split) in
-    let one = one_exact (store_of (drive_at r k)) asked.newer among.older asked.one (all_entries (views_of r jobs carry restarts k (t ∷ j))) (all_writes (views_of r jobs carry restarts k (t ∷ j)))
+    let among = begun_among (view_of r jobs carry restarts k t j) (views_of r jobs carry restarts k j) asked.ends.newer asked.ends.older
+    asked.ends.one (exact.begun_now ∙ asked.ends.split) in
+    let one = one_exact (store_of (drive_at r k)) asked.ends.newer among.older asked.ends.one (all_entries (views_of r jobs carry restarts k (t ∷ j))) (all_writes (views_of r jobs carry restarts k (t ∷ j)))
     (subst (λ all. AreExact (store_of (drive_at r k)) all (all_entries (views_of r jobs carry restarts k (t ∷ j))) (all_writes (views_of r jobs carry restarts k (t ∷ j)))) among.split exact.exact) in
     subst (HasBlock (store_of (drive_at r k))) (asked.same ∙ writes)
-    (block_of (store_of (drive_at r k)) asked.one one.own whole one.exact.writes asked.ended)
+    (block_of (store_of (drive_at r k)) asked.ends.one one.own whole one.exact.writes asked.ended)

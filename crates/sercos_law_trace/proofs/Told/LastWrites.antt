@@ -1,5 +1,5 @@
 -- The last write to a block, from cycle to cycle and through all epochs.
-use Rattle.sercos_law_trace.proofs.Words.{◌≡◌, ℕ, Bool, true, false, not, List, [], ◌∷◌, ◌++◌, Option, Some, None, refl, sym, ap, ◌∙◌, subst, if◌then◌else◌, append_assoc, ◌==◌, is_some, IfSome, list_all, and_parts, cond_both, Idn, Request, Outcome, Answer, outcome_of, Block, find_block, Entry, Write, Begun, open_in, step_at, answers_it, answer_in, with_answer, stored, Heard, View, with_heard, with_begun, unless_restart, epoch_begun, begun_in, leaving, begun_ago, all_begun, Given, given_by, AreExact, newest_to, GiveElsewhere, IsWrittenLast}
+use Rattle.sercos_law_trace.proofs.Words.{inr, inl, cases_Bool, ◌≡◌, ℕ, true, false, not, List, [], ◌∷◌, ◌++◌, Option, Some, None, refl, sym, ap, ◌∙◌, subst, append_assoc, ◌==◌, is_some, IfSome, list_all, and_parts, cond_both, Idn, Request, Outcome, Answer, outcome_of, Block, find_block, Entry, Write, Begun, open_in, step_at, answers_it, answer_in, with_answer, stored, Heard, View, with_heard, with_begun, unless_restart, epoch_begun, begun_in, leaving, begun_ago, all_begun, Given, given_by, AreExact, newest_to, GiveElsewhere, IsWrittenLast}
 use Rattle.sercos_step.specs.declared.request.Request.TheVariants as request
 use Rattle.sercos_step.specs.declared.request.Outcome.TheVariants as outcome
 use Rattle.sercos_law_channel.proofs.Theorems.{newest_of}
@@ -69,11 +69,10 @@ module _ (blocks : List Block) (idn : Idn) (bytes : List ℕ) where
   last_next v past away last =
       let ago : List Begun = leaving v.master_restarts (epoch_begun past) (begun_ago past) in
       subst (λ (l : List Begun). IsWrittenLast blocks l idn bytes) (sym (both_begun v.falls (begun_in v past) ago))
-      (last_begun v.begins (with_heard v.heard (unless_restart v (epoch_begun past))) ago away (by v.master_restarts))
-    where
-      by : (b : Bool) → Last (with_heard v.heard (if b then [] else epoch_begun past) ++ leaving b (epoch_begun past) (begun_ago past))
-      by true = last_heard v.heard [] (epoch_begun past ++ begun_ago past) last
-      by false = last_heard v.heard (epoch_begun past) (begun_ago past) last
+      (last_begun v.begins (with_heard v.heard (unless_restart v (epoch_begun past))) ago away (elim (cases_Bool v.master_restarts) [
+        | inl on ↦ rw on (last_heard v.heard [] (epoch_begun past ++ begun_ago past) last)
+        | inr off ↦ rw off (last_heard v.heard (epoch_begun past) (begun_ago past) last)
+      ]))
 
   -- the cycle in which it is told
   pub last_now : (v : View) (past : List View) → IsWrittenLast blocks (begun_in v past) idn bytes → IsWrittenLast blocks (all_begun (v ∷ past)) idn bytes

@@ -1,9 +1,8 @@
 -- No request of the document ends as a complete write to a block that the start-up writes.
-use Rattle.sercos_law_trace.proofs.Words.{◌≡◌, inl, inr, ℕ, ◌+◌, ◌<◌, ◌≤◌, Bool, true, false, not, List, [], ◌∷◌, length, Some, refl, sym, ap, ◌∙◌, subst, arith, is_some, slice_get, and_parts, cases_lt, Idn, Job, Block, find_block, store_of, RingView, Begun, begun_by, reads_count, known_of, member, tasks_for, Past, fall_of, is_done, get_dropped, jobs_waiting, Carry, Restarts, CycleView, begun_in, ring_drive, members_count, drive_got, IsRun, IsClear, drive_at, middle, behind_mdt, view_of, views_of, IsOpened, KeepsAll, same_Some, left_of, all_stand, small, first_store, phase_same, spelled_in, stored_in, keeps_all}
+use Rattle.sercos_law_trace.proofs.Words.{◌≡◌, inl, inr, ℕ, ◌+◌, ◌<◌, ◌≤◌, Bool, true, false, not, List, [], ◌∷◌, length, Some, refl, sym, ◌∙◌, subst, arith, is_some, and_parts, cases_lt, Idn, Job, Block, find_block, store_of, RingView, Begun, begun_by, reads_count, known_of, member, Past, fall_of, is_done, jobs_waiting, Carry, Restarts, CycleView, begun_in, ring_drive, members_count, drive_got, IsRun, IsClear, drive_at, middle, behind_mdt, view_of, views_of, IsOpened, KeepsAll, all_stand, small, first_store, phase_same, spelled_in, stored_in, keeps_all}
 use Rattle.sercos_step.specs.declared.request.Request.TheVariants as request
 use Rattle.sercos_step.specs.declared.request.Outcome.TheVariants as outcome
-use Rattle.sercos_law_trace.proofs.Told.ToldLemmas.{HasReported, IsRequestOf, request_of}
-use Rattle.sercos_law_trace.proofs.Told.LaterTasks.{HasEnded, has_ended}
+use Rattle.sercos_law_trace.proofs.Told.ReadLemmas.{IsBegunAs}
 use Rattle.sercos_law_trace.proofs.Told.GuardedWrites.{AreFewAtRise, HaveEnded, phase_most, never_complete}
 use Rattle.sercos_law_trace.proofs.Told.FewTasks.{few_tasks, few_at_end}
 use Rattle.sercos_law_trace.proofs.Told.StartNumbers.{is_start, start_guarded}
@@ -25,34 +24,21 @@ module _ (r : RingView) (jobs : List Job) (carry : Carry) (restarts : Restarts) 
   fews (t ∷ j) run clear = (fews j run.0 clear.0, few_now t j (keeps_all r jobs carry restarts opened t j run clear))
 
   -- A WRITE THAT IS TOLD as complete
-  module _ (t : CycleView) (j : List CycleView) (run : IsRun r jobs carry restarts (t ∷ j)) (clear : IsClear (t ∷ j)) (n : ℕ) (job : Job) (idn : Idn) (bytes whole : List ℕ) (b : Block) (there : slice_get jobs n ≡ Some job) (asks : job.request ≡ request.Write idn 7 bytes)
-      (has : HasReported ((behind_mdt r jobs carry restarts t.sent j).now.report k) (n + 1) (outcome.Complete whole)) (found : find_block idn.raw (store_of (drive_at r k)) ≡ Some b) where
+  module _ (t : CycleView) (j : List CycleView) (run : IsRun r jobs carry restarts (t ∷ j)) (clear : IsClear (t ∷ j)) (n : ℕ) (idn : Idn)
+      (bytes whole : List ℕ) (b : Block) (asked : IsBegunAs r jobs carry restarts t j k n (outcome.Complete whole))
+      (asks : asked.job.request ≡ request.Write idn 7 bytes) (found : find_block idn.raw (store_of (drive_at r k)) ≡ Some b) where
     keeps : KeepsAll r jobs carry restarts t j
     keeps = keeps_all r jobs carry restarts opened t j run clear
 
     abbrev now : Past
     now = behind_mdt r jobs carry restarts t.sent j
 
-    ended : HasEnded (known_of r) k ((behind_mdt r jobs carry restarts t.sent j).waiting k) (begun_by ((behind_mdt r jobs carry restarts t.sent j).calls k)) ((behind_mdt r jobs carry restarts t.sent j).tasks k) has.report
-    ended = has_ended (known_of r) k now.plan (now.waiting k) now.now.phase (begun_by (now.calls k)) (now.tasks k) has.report (keeps.reported.right k has.report below has.is) (keeps.reported.tasks k below)
-
-    asked : IsRequestOf (member (known_of r) k).address 1 jobs ended.so.task (n + 1)
-    asked =
-        let of = left_of (known_of r) jobs (middle r carry restarts t.sent j) k in
-        request_of (member (known_of r) k).address 1 jobs (of.0 + ended.place) ended.so.task (n + 1) (sym (get_dropped of.0 (tasks_for (known_of r) jobs k) ended.place) ∙ sym (ap (λ w. slice_get w ended.place) of.1) ∙ ended.got) (ended.so.number ∙ ap Some has.number)
-
-    same : asked.job ≡ job
-    same =
-        let at = asked.at in
-        let place : asked.place ≡ n = omega (arith, at) in
-        same_Some asked.job job (sym asked.there ∙ ap (slice_get jobs) place ∙ there)
-
     -- phase 4 is commanded
     four : t.phase ≡ 4
     four = elim (cases_lt (behind_mdt r jobs carry restarts t.sent j).now.phase 4) [
       | inl low ↦
-          let few = few_tasks (known_of r) k now.plan (now.waiting k) now.now.phase (begun_by (now.calls k)) (now.tasks k) (jobs_waiting (known_of r) jobs (middle r carry restarts t.sent j) k) (omega (arith, low)) (keeps.reported.tasks k below) (λ three. ended.ready) in
-          let long = ended.long in absurd (omega (arith, few, long))
+          let few = few_tasks (known_of r) k now.plan (now.waiting k) now.now.phase (begun_by (now.calls k)) (now.tasks k) (jobs_waiting (known_of r) jobs (middle r carry restarts t.sent j) k) (omega (arith, low)) (keeps.reported.tasks k below) (λ three. asked.ends.ready) in
+          let long = asked.ends.long in absurd (omega (arith, few, long))
       | inr high ↦
           let is = phase_same r jobs carry restarts opened (first_store r jobs carry restarts opened) t j run.1 clear.1
           (spelled_in r jobs carry restarts opened t j run.1)
@@ -70,4 +56,5 @@ module _ (r : RingView) (jobs : List Job) (carry : Carry) (restarts : Restarts) 
             (start_guarded (drive_at r k) (ring_drive r k (drive_at r k) opened.valid (drive_got r k below)).blocks idn.raw b is found)
             (view_of r jobs carry restarts k t j) (views_of r jobs carry restarts k j) (all_stand r jobs carry restarts opened
             (t ∷ j) run clear k below).sees.run (all_stand r jobs carry restarts opened (t ∷ j) run clear k below).sound
-            (fews j run.0 clear.0) four ended.so.newer ended.so.older ended.so.one bytes whole ((keeps.exact k below).begun_now ∙ ended.so.split) ended.late (ended.so.asks ∙ asked.same ∙ ap (λ (x : Job). x.request) same ∙ asks) (ended.so.ended ∙ ap Some has.outcome))
+            (fews j run.0 clear.0) four asked.ends.newer asked.ends.older asked.ends.one bytes whole
+            ((keeps.exact k below).begun_now ∙ asked.ends.split) asked.ends.late (asked.same ∙ asks) asked.ended)

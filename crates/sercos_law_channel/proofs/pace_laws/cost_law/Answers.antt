@@ -9,8 +9,7 @@ pub returns : goal.returns
 returns c = record {
   spaced = spaces_steps;
   in_cost = in_cost;
-  opens = λ busy time longest blocks cycles past small run sound timed listed clean.
-      opens_in_cost says_shape busy time longest blocks small cycles past run sound timed listed clean;
+  opens = λ busy time longest blocks cycles past small. opens_in_cost says_shape busy time longest blocks small cycles past;
   starts = start_in_cost;
   recovers = rest_in_cost;
   timed = comes_timed;

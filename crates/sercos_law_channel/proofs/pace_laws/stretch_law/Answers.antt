@@ -8,7 +8,7 @@ returns c = record {
   in_time = comes_in_time;
   since = takes_time_since;
   ages = ages_in_time;
-  always = opens_always 0;
+  always = opens_always;
   keeps = keeps_time;
   answers = answers_at_age;
 }

@@ -1,7 +1,6 @@
 -- To which drive an MDT is, and that the drive gets of it what it is told.
-use Rattle.sercos_law_run.proofs.Words.{◌≡◌, inl, inr, ℕ, zero, suc, ◌+◌, ◌<◌, ◌≤◌, Bool, true, false, not, ◌&&◌, ◌||◌, List, [], ◌∷◌, length, Option, Some, None, refl, sym, ◌∙◌, ap, arith, if◌then◌else◌, ◌==◌, nat_le, is_some, is_none, option_map, and_from, cases_eq, cond-false, cond-true, eqb-true, false≢true, not-true, nat_tests, PlanView, Block, is_ring, RingView, open_in, master_says, Send, begun_by, Told, mdt_got, is_place, record_said, Known, MemberView, member, known_of, Past, first_from, first_place, place_of, is_idle, is_identified, in_turn, ready_to_send, is_sent_to, addressed_in, after_mdt, Sent, idle, said_to, single, joint, mdt_said, HasTurn, drive_at, is_told, told_to, IsSayable, Begun, cases_Bool}
+use Rattle.sercos_law_run.proofs.Words.{◌≡◌, inl, inr, ℕ, zero, suc, ◌+◌, ◌<◌, ◌≤◌, Bool, true, false, not, ◌&&◌, ◌||◌, List, [], ◌∷◌, length, Option, Some, None, refl, sym, ◌∙◌, ap, arith, if◌then◌else◌, ◌==◌, nat_le, is_some, is_none, option_map, and_from, cases_eq, cond-false, cond-true, eqb-true, false≢true, not-true, nat_tests, PlanView, Block, is_ring, RingView, open_in, master_says, begun_by, Told, mdt_got, is_place, record_said, Known, MemberView, member, known_of, Past, first_from, first_place, place_of, is_idle, is_identified, in_turn, ready_to_send, is_sent_to, addressed_in, after_mdt, Sent, idle, said_to, single, joint, mdt_said, HasTurn, drive_at, is_told, told_to, IsSayable, Begun, cases_Bool}
 use Rattle.sercos_service_master.specs.Begun.{Said}
-use Rattle.sercos_service_master.specs.Calls as channel
 use Rattle.sercos_law_run.proofs.Views.DriveSame.{said_to as said_by_told}
 use Rattle.sercos_law_run.proofs.Views.Members.{member_is, members_count, place_is}
 use Rattle.sercos_law_run.proofs.Views.Codecs.{single_clear}
@@ -29,10 +28,7 @@ place_found r k valid below =
     let same : ((drive_at r k).address == (drive_at r k).address) ≡ true = grind (arith, nat_tests) in
     let mine : ((member (known_of r) k).address == (drive_at r k).address) ≡ true = ap (λ (m : MemberView). m.address == (drive_at r k).address) (member_is r k) ∙ same in
     let one = finds 0 (length (known_of r).drives) k (λ i. (member (known_of r) i).address == (drive_at r k).address) (omega arith) (omega (arith, below, count)) mine in
-    by one.place one.found
-  where
-    by : (m : ℕ) → place_of (known_of r) (drive_at r k).address ≡ Some m → place_of (known_of r) (drive_at r k).address ≡ Some k
-    by m found = found ∙ ap (λ (i : ℕ). Some i) (sym (place_is r k m valid below found))
+    (one.found ∙ ap (λ (i : ℕ). Some i) (sym (place_is r k one.place valid below one.found)))
 
 pub place_so : (k : ℕ) (o : Option ℕ) → is_place k o ≡ true → o ≡ Some k
 place_so k None is = cc
@@ -46,20 +42,16 @@ idle_same : (s : Known) (p : Past) (k : ℕ) → is_idle (after_mdt s p) k ≡ i
 idle_same s p k = ap (λ (l : List Begun). is_none (open_in l))
     (send_same (is_sent_to (ready_to_send s p) (addressed_in s (ready_to_send s p)) k) ((ready_to_send s p).calls k))
 
-addressed_two : (s : Known) (p : Past) → p.now.phase ≡ 2 → addressed_in s p ≡ first_place s (λ k. not (is_idle p k))
-addressed_two s p two =
-    ap (λ (n : ℕ). if n == 1 then first_place s (λ k. not (is_identified p k)) else (if n == 2 then first_place s (λ k. not (is_idle p k)) else None)) two
-
 -- The MDT is to the drive whose step is open, since no other channel has one.
 pub addressed_open : (s : Known) (p : Past) (k : ℕ) → k < length s.drives → ((i : ℕ) → i < length s.drives → HasTurn s (after_mdt s p) i) → (after_mdt s p).now.phase ≡ 2 → is_idle (after_mdt s p) k ≡ false → (after_mdt s p).now.addressed ≡ Some k
 addressed_open s p k below turns two opens =
     let q = ready_to_send s p in
     let one = finds 0 (length s.drives) k (λ i. not (is_idle q i)) (omega arith) (omega (arith, below)) (ap (λ (b : Bool). not b) (sym (idle_same s p k) ∙ opens)) in
-    let high = one.below in
     let other : is_idle (after_mdt s p) one.place ≡ false = idle_same s p one.place ∙ not-true (is_idle q one.place) one.passes in
     let here : in_turn s (after_mdt s p) ≡ Some k = turns k below two opens in
-    let there : in_turn s (after_mdt s p) ≡ Some one.place = turns one.place (omega (arith, high)) two other in
-    addressed_two s q two ∙ one.found ∙ sym there ∙ here
+    let there : in_turn s (after_mdt s p) ≡ Some one.place = turns one.place (omega (arith, one.below)) two other in
+    (ap (λ (n : ℕ). if n == 1 then first_place s (λ k. not (is_identified q k)) else
+    (if n == 2 then first_place s (λ k. not (is_idle q k)) else None)) two) ∙ one.found ∙ sym there ∙ here
 
 -- WHAT IS TOLD. In phases 3 and 4 each drive is told something, in phases 1 and 2 the one to which the MDT is.
 pub told_if : (p : Past) (k : ℕ) → is_told p k ≡ true → is_some (told_to p k) ≡ true
@@ -102,12 +94,11 @@ told_got r p k blocks valid below some told small planned = elim (cases_Bool (na
   | inl is ↦
       let late : 3 ≤ p.now.phase = grind (arith, nat_tests, is) in
       let (plan, has, agrees) = planned late in
-      let count = members_count r in
       record {
         sent = joint s p plan;
         said = joint_said s p plan late has;
         got = some_got (mdt_got (drive_at r k).address p.now.phase blocks (Some (joint s p plan).content)) (said_to p k)
-            (joint_got s p k (drive_at r k).address p.now.phase blocks (omega (arith, below, count)) late (small k) agrees);
+            (joint_got s p k (drive_at r k).address p.now.phase blocks (omega (arith, below, members_count r)) late (small k) agrees);
       }
   | inr is ↦
       let early : p.now.phase ≤ 2 = grind (arith, nat_tests, is) in

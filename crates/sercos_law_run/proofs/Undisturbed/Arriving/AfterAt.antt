@@ -1,5 +1,5 @@
 -- What is so before an AT, and after each AT that is taken, is so after any AT; and what each AT keeps, all ATs of a cycle keep.
-use Rattle.sercos_law_run.proofs.Words.{◌≡◌, ℕ, List, [], ◌∷◌, Option, Some, None, refl, ◌∙◌, slice_index, Job, RingView, Known, Past, Call, HearAt, known_of, after_taken, after_at, place_of, at_keeps, Carry, heard, passage, station_of, with_at, at_calls, looks_back}
+use Rattle.sercos_law_run.proofs.Words.{inr, inl, cases_Option, ◌≡◌, ℕ, List, [], ◌∷◌, refl, ◌∙◌, slice_index, Job, RingView, Known, Past, Call, HearAt, known_of, after_taken, after_at, place_of, at_keeps, Carry, heard, passage, station_of, at_calls, looks_back}
 use Rattle.sercos_telegram.specs.declared.layout.Kind.TheVariants as kinds
 
 pub after_at_so : (such : Past → Type 0) (s : Known) (content : List ℕ) (p : Past) → such p → ((k : ℕ) → such (after_taken k content p)) → such (after_at s content p)
@@ -10,11 +10,10 @@ pub ats_keep : (such : List Call → Type 0) (r : RingView) (carry : Carry) (cyc
     → ((content : List ℕ) (g : List Call) → such g → such (HearAt content ∷ g)) → such (at_calls r carry cycle ats h)
 ats_keep such r carry cycle [] h now each = now
 ats_keep such r carry cycle (at ∷ ats) h now each = ats_keep such r carry cycle ats _
-    (by (heard carry (passage cycle kinds.At (station_of r (slice_index at 0)) 0) at)) each
-  where
-    by : (o : Option (List ℕ)) → such (with_at o h)
-    by None = now
-    by (Some content) = each content h now
+    (elim (cases_Option (heard carry (passage cycle kinds.At (station_of r (slice_index at 0)) 0) at)) [
+      | inl none ↦ rw none now
+      | inr some ↦ rw some.1 (each some.0 h now)
+    ]) each
 
 -- what no AT changes is the same after all of them
 pub ats_same : {A : Type 0} (f : Past → A) → ((s : Known) (content : List ℕ) (p : Past) → f (after_at s content p) ≡ f p) → (r : RingView) (jobs : List Job) (carry : Carry) (cycle : ℕ) (ats : List (List ℕ)) (h : List Call)

@@ -1,5 +1,5 @@
 -- Which ATs of a cycle the master takes in phases 0 to 2.
-use Rattle.sercos_law_run.proofs.Words.{◌≡◌, ◌⊎◌, inl, inr, ℕ, Bool, true, false, not, ◌&&◌, List, [], ◌∷◌, Option, Some, None, refl, sym, ◌∙◌, ap, ap₂, subst, arith, if◌then◌else◌, ◌==◌, nat_le, is_none, slice_index, cases_eq, false≢true, and_parts, nat_tests, at_fault, Job, RingView, at_len, is_place, Known, member, known_of, Past, Turn, Call, outcomes, addressed_before, place_of, is_awaited, wanted_len, is_taken, after_taken, after_at_of, after_at, same_place, Carry, heard, passage, station_of, with_at, at_calls, looks_back, at_keeps, cases_Bool}
+use Rattle.sercos_law_run.proofs.Words.{cases_Option, ◌≡◌, ◌⊎◌, inl, inr, ℕ, Bool, true, false, not, ◌&&◌, List, [], ◌∷◌, Option, Some, None, refl, sym, ◌∙◌, ap, ap₂, subst, arith, if◌then◌else◌, ◌==◌, nat_le, is_none, slice_index, cases_eq, false≢true, and_parts, nat_tests, at_fault, Job, RingView, at_len, is_place, Known, member, known_of, Past, Turn, Call, outcomes, addressed_before, place_of, is_awaited, wanted_len, is_taken, after_taken, after_at_of, after_at, same_place, Carry, heard, passage, station_of, with_at, at_calls, looks_back, at_keeps, cases_Bool}
 use Rattle.sercos_telegram.specs.declared.layout.Kind.TheVariants as kinds
 use Rattle.sercos_law_run.proofs.Views.MasterSame.{AfterAts, ats_next}
 use Rattle.sercos_law_run.proofs.Undisturbed.Arriving.Taken.{IsAmong}
@@ -26,9 +26,6 @@ pub record IsWanted (s : Known) (p : Past) (k : ℕ) (content : List ℕ) : Type
   pub placed : place_of s (slice_index content 0) ≡ Some k
   pub reads : is_none (at_fault (member s k).address 4 content) ≡ true
 
-all_three : (a b c : Bool) → a ≡ true → b ≡ false → c ≡ true → (a && (not b && c)) ≡ true
-all_three a b c one two three = rw (one, two, three) refl
-
 takes_at : (s : Known) (p : Past) (k : ℕ) (content : List ℕ) → IsWanted s p k content → (after_at s content p).now.heard k ≡ true
 takes_at s p k content is = elim (cases_Bool (p.now.heard k)) [
   | inl hears ↦ keeps_at s k content p hears
@@ -36,12 +33,14 @@ takes_at s p k content is = elim (cases_Bool (p.now.heard k)) [
       (subst (λ (b : Bool). (if b then after_taken k content p else p).now.heard k ≡ true) (sym (taken free)) now)
 ]
   where
-    wanted : wanted_len s p k ≡ 4
-    wanted = ap (λ (b : Bool). if b then at_len (member s k) (outcomes p k) else 4) is.early
-
     taken : p.now.heard k ≡ false → is_taken s p k content ≡ true
-    taken free = all_three (is_awaited p k) (p.now.heard k) (is_none (at_fault (member s k).address (wanted_len s p k) content)) is.awaited free
-        (subst (λ (n : ℕ). is_none (at_fault (member s k).address n content) ≡ true) (sym wanted) is.reads)
+    taken free = rw (
+      is.awaited,
+      free,
+      (subst (λ (n : ℕ). is_none (at_fault (member s k).address n content) ≡ true)
+          (sym (ap (λ (b : Bool). if b then at_len (member s k) (outcomes p k) else 4) is.early)) is.reads),
+    )
+        refl
 
     now : (after_taken k content p).now.heard k ≡ true
     now = rw (same_place k) refl
@@ -55,18 +54,6 @@ module _ (r : RingView) (jobs : List Job) (carry : Carry) (cycle k : ℕ) (p : P
   passed_next None h a = a
   passed_next (Some content) h a = ats_next (known_of r) k (λ c. Unit {0}) p (looks_back r jobs h) content tt a
 
-  keeps_next : (o : Option (List ℕ)) (h : List Call) → (looks_back r jobs h).now.heard k ≡ true → (looks_back r jobs (with_at o h)).now.heard k ≡ true
-  keeps_next None h hears = hears
-  keeps_next (Some content) h hears = keeps_at (known_of r) k content (looks_back r jobs h) hears
-
-  wanted_still : (at : List ℕ) (h : List Call) → AfterAts (known_of r) k (λ content. Unit {0}) p (looks_back r jobs h) → IsWanted (known_of r) p k at → IsWanted (known_of r) (looks_back r jobs h) k at
-  wanted_still at h a is = record {
-    early = ap (λ (n : ℕ). nat_le 3 n) a.phase_is ∙ is.early;
-    awaited = awaited_same p (looks_back r jobs h) k a.phase_is a.turns_are ∙ is.awaited;
-    placed = is.placed;
-    reads = is.reads;
-  }
-
   pub takes_ats : (at : List ℕ) (ats : List (List ℕ)) (h : List Call) → AfterAts (known_of r) k (λ content. Unit {0}) p (looks_back r jobs h) → IsWanted (known_of r) p k at
       → heard carry (passage cycle kinds.At (station_of r (slice_index at 0)) 0) at ≡ Some at
       → IsAmong at ats ⊎ ((looks_back r jobs h).now.heard k ≡ true) → (looks_back r jobs (at_calls r carry cycle ats h)).now.heard k ≡ true
@@ -76,13 +63,22 @@ module _ (r : RingView) (jobs : List Job) (carry : Carry) (cycle k : ℕ) (p : P
       takes_ats at others (with_at (heard carry (passage cycle kinds.At (station_of r (slice_index x 0)) 0) x) h) (passed_next (heard carry (passage cycle kinds.At (station_of r (slice_index x 0)) 0) x) h a) is came (step among)
     where
       now : (looks_back r jobs (with_at (heard carry (passage cycle kinds.At (station_of r (slice_index at 0)) 0) at) h)).now.heard k ≡ true
-      now = subst (λ (o : Option (List ℕ)). (looks_back r jobs (with_at o h)).now.heard k ≡ true) (sym came) (takes_at (known_of r) (looks_back r jobs h) k at (wanted_still at h a is))
+      now = subst (λ (o : Option (List ℕ)). (looks_back r jobs (with_at o h)).now.heard k ≡ true) (sym came)
+          (takes_at (known_of r) (looks_back r jobs h) k at (record {
+            early = ap (λ (n : ℕ). nat_le 3 n) a.phase_is ∙ is.early;
+            awaited = awaited_same p (looks_back r jobs h) k a.phase_is a.turns_are ∙ is.awaited;
+            placed = is.placed;
+            reads = is.reads;
+          }))
 
       step : ((x ≡ at) ⊎ IsAmong at others) ⊎ ((looks_back r jobs h).now.heard k ≡ true)
           → IsAmong at others ⊎ ((looks_back r jobs (with_at (heard carry (passage cycle kinds.At (station_of r (slice_index x 0)) 0) x) h)).now.heard k ≡ true)
       step (inl (inl same)) = inr (subst (λ (c : List ℕ). (looks_back r jobs (with_at (heard carry (passage cycle kinds.At (station_of r (slice_index c 0)) 0) c) h)).now.heard k ≡ true) (sym same) now)
       step (inl (inr later)) = inl later
-      step (inr hears) = inr (keeps_next (heard carry (passage cycle kinds.At (station_of r (slice_index x 0)) 0) x) h hears)
+      step (inr hears) = inr (elim (cases_Option (heard carry (passage cycle kinds.At (station_of r (slice_index x 0)) 0) x)) [
+        | inl none ↦ rw none hears
+        | inr some ↦ rw some.1 (keeps_at (known_of r) k some.0 (looks_back r jobs h) hears)
+      ])
 
   -- .. and no drive is heard whose AT isn't awaited.
   pub unheard_ats : (ats : List (List ℕ)) (h : List Call) → AfterAts (known_of r) k (λ content. Unit {0}) p (looks_back r jobs h) → is_awaited p k ≡ false → (looks_back r jobs h).now.heard k ≡ false

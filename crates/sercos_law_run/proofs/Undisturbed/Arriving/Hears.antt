@@ -52,9 +52,6 @@ module _ (r : RingView) (jobs : List Job) (carry : Carry) (restarts : Restarts) 
     came : ((view_of r jobs carry restarts k u j).mst_comes ≡ true) × (is_some (got_in (view_of r jobs carry restarts k u j)) ≡ true)
     came = and_parts (view_of r jobs carry restarts k u j).mst_comes (is_some (got_in (view_of r jobs carry restarts k u j))) addressed
 
-    got : ((view_of r jobs carry restarts k u j).mdt_comes ≡ true) × (is_some (view_of r jobs carry restarts k u j).sent ≡ true)
-    got = got_parts (view_of r jobs carry restarts k u j) came.1
-
     -- the drive was in phase 1 or 2 then
     was_up : t.phase ≤ 2 → 1 ≤ stood_in (view_of r jobs carry restarts k u j) (standing (views_of r jobs carry restarts k j))
     was_up early = elim (cases_eq (standing (views_of r jobs carry restarts k (u ∷ j))).ended 0) [
@@ -75,7 +72,8 @@ module _ (r : RingView) (jobs : List Job) (carry : Carry) (restarts : Restarts) 
         let some : nat_le 1 (phase_in (after_mst r carry restarts u.sent j k)) ≡ true = is_up _ (subst (λ (n : ℕ). 1 ≤ n) (sym (stood_is r jobs carry restarts opened u j run.0 clear.0 k below)) (was_up early)) in
         ap (λ (b : Bool). has_taken (annals (drive_at r k) r.rate (with_restart b (given_before carry restarts (u ∷ j) k)))) (drive_in r jobs carry restarts opened t (u ∷ j) run clear undisturbed k below)
         ∙ and_from (has_mst (after_mst r carry restarts u.sent j k)) _ (mst_is r jobs carry restarts opened u j run.0 clear.0 k below ∙ came.0)
-        (and_from (nat_le 1 (phase_in (after_mst r carry restarts u.sent j k))) _ some got.0)
+        (and_from (nat_le 1 (phase_in (after_mst r carry restarts u.sent j k))) _ some
+        (got_parts (view_of r jobs carry restarts k u j) came.1).0)
 
     -- and the master awaits its AT
     before_is : addressed_before (behind_mst r jobs carry restarts t.sent (u ∷ j)).turns ≡ (behind_mdt r jobs carry restarts u.sent j).now.addressed
@@ -93,7 +91,8 @@ module _ (r : RingView) (jobs : List Job) (carry : Carry) (restarts : Restarts) 
         ap (λ (b : Bool). if b then true else (nat_le 1 (behind_mst r jobs carry restarts t.sent (u ∷ j)).now.phase && is_place k (addressed_before (behind_mst r jobs carry restarts t.sent (u ∷ j)).turns))) three
         ∙ and_from (nat_le 1 (behind_mst r jobs carry restarts t.sent (u ∷ j)).now.phase) _ one
         (ap (is_place k) before_is ∙ place_some k (behind_mdt r jobs carry restarts u.sent j).now.addressed
-        (told_early (behind_mdt r jobs carry restarts u.sent j) k at_mdt (told_then (behind_mdt r jobs carry restarts u.sent j) k got.1)))
+        (told_early (behind_mdt r jobs carry restarts u.sent j) k at_mdt
+        (told_then (behind_mdt r jobs carry restarts u.sent j) k (got_parts (view_of r jobs carry restarts k u j) came.1).1)))
 
     -- so the master hears it
     pub hears_early : t.phase ≤ 2 → is_some (view_of r jobs carry restarts k t (u ∷ j)).heard ≡ true

@@ -1,5 +1,5 @@
 -- In an undisturbed cycle MST and MDT come to each drive.
-use Rattle.sercos_law_run.proofs.Words.{◌≡◌, ◌⊎◌, inl, inr, ℕ, ◌+◌, ◌<◌, ◌≤◌, Bool, true, false, List, ◌∷◌, length, Option, Some, None, refl, sym, ◌∙◌, ap, ap₂, subst, is_some, cond-false, mst_content, Job, PlanView, RingView, mst_got, mdt_got, phase_in, blocks_in, CycleView, known_of, mdt_said, Carry, Restarts, standing, stood_in, command, passage, mst_in, mdt_in, drive_at, given_mst, master_calls, looks_back, mdt_heard, said_below, content_of, disturbs_mdt, IsRun, IsClear, at_start, behind_mdt, told_to, gets_record, after_mst, view_of, views_of, IsOpened, IsUndisturbed, stands_as_commanded, arith}
+use Rattle.sercos_law_run.proofs.Words.{◌≡◌, inl, inr, ℕ, ◌+◌, ◌<◌, ◌≤◌, Bool, true, false, List, ◌∷◌, length, Option, Some, None, refl, sym, ◌∙◌, ap, ap₂, subst, is_some, cond-false, mst_content, Job, PlanView, RingView, mst_got, mdt_got, phase_in, blocks_in, CycleView, known_of, mdt_said, Carry, Restarts, standing, stood_in, command, passage, mst_in, mdt_in, drive_at, given_mst, master_calls, looks_back, mdt_heard, said_below, content_of, disturbs_mdt, IsRun, IsClear, at_start, behind_mdt, told_to, gets_record, after_mst, view_of, views_of, IsOpened, IsUndisturbed, stands_as_commanded, arith}
 use Rattle.sercos_telegram.specs.declared.layout.Kind.TheVariants as kinds
 use Rattle.sercos_law_run.proofs.Journal.RunLemmas.{mdt_in-said}
 use Rattle.sercos_law_run.proofs.Views.MasterSame.{begun_cycle}
@@ -38,13 +38,13 @@ module _ (r : RingView) (jobs : List Job) (carry : Carry) (restarts : Restarts) 
     start_is = started r jobs (restarts (length j) 0) (master_calls r carry restarts j) ∙ ap (λ (b : Bool). begun_cycle b (looks_back r jobs (master_calls r carry restarts j))) master_in
 
     pub commanded_in : (k : ℕ) → k < length r.drives → t.phase ≡ command (views_of r jobs carry restarts k j)
-    commanded_in k below = ((all_stand r jobs carry restarts opened) (t ∷ j) run clear k below).sees.run.1.commanded ∙ cond-false (restarts (length j) 0) 0 (command (views_of r jobs carry restarts k j)) master_in
+    commanded_in k below = (all_stand r jobs carry restarts opened (t ∷ j) run clear k below).sees.run.1.commanded ∙ cond-false (restarts (length j) 0) 0 (command (views_of r jobs carry restarts k j)) master_in
 
     -- the MST
     pub mst_came : (k : ℕ) → k < length r.drives → (view_of r jobs carry restarts k t j).mst_comes ≡ true
     mst_came k below =
         let sent : mst_in t.sent ≡ mst_content (at_start r jobs carry restarts j).now.phase = ap mst_in run.1.sent in
-        let low : (at_start r jobs carry restarts j).now.phase ≤ 4 = subst (λ (n : ℕ). n ≤ 4) (sym (commanded_in k below) ∙ run.1.phase) (command_below (drive_at r k).busy (views_of r jobs carry restarts k j) ((all r jobs carry restarts opened t j run clear) k below).sees.run) in
+        let low : (at_start r jobs carry restarts j).now.phase ≤ 4 = subst (λ (n : ℕ). n ≤ 4) (sym (commanded_in k below) ∙ run.1.phase) (command_below (drive_at r k).busy (views_of r jobs carry restarts k j) (all r jobs carry restarts opened t j run clear k below).sees.run) in
         ap (λ (o : Option ℕ). is_some o)
         (ap mst_got (heard_sent carry (passage (length j) kinds.Mst 0 (k + 1)) (mst_in t.sent) (spelled r jobs carry restarts opened t j run clear).mst (still.mst k below) ∙ ap (λ (c : List ℕ). Some c) sent)
         ∙ mst_clear (at_start r jobs carry restarts j).now.phase (Some (mst_content (at_start r jobs carry restarts j).now.phase)) low (inr refl))
@@ -74,5 +74,5 @@ module _ (r : RingView) (jobs : List Job) (carry : Carry) (restarts : Restarts) 
         planned : 3 ≤ (behind_mdt r jobs carry restarts t.sent j).now.phase → phase_in (after_mst r carry restarts t.sent j k) ≡ (behind_mdt r jobs carry restarts t.sent j).now.phase
             → (plan : PlanView) × ((behind_mdt r jobs carry restarts t.sent j).plan ≡ Some plan) × Agrees (known_of r) (behind_mdt r jobs carry restarts t.sent j) k (blocks_in (drive_at r k) (after_mst r carry restarts t.sent j k))
         planned late same =
-            let (plan, of_ring, holds) = holding r jobs carry restarts opened (first_store r jobs carry restarts opened) t j run.1 clear.1 (spelled r jobs carry restarts opened t j run clear) (stored r jobs carry restarts opened t j run clear) (all r jobs carry restarts opened t j run clear) ((started_late r jobs carry restarts opened t j run clear) (subst (λ (n : ℕ). 3 ≤ n) (phase_then r jobs carry restarts opened t j run clear) late)) k below in
+            let (plan, of_ring, holds) = holding r jobs carry restarts opened (first_store r jobs carry restarts opened) t j run.1 clear.1 (spelled r jobs carry restarts opened t j run clear) (stored r jobs carry restarts opened t j run clear) (all r jobs carry restarts opened t j run clear) (started_late r jobs carry restarts opened t j run clear (subst (λ (n : ℕ). 3 ≤ n) (phase_then r jobs carry restarts opened t j run clear) late)) k below in
             (plan, of_ring.now, agrees r jobs carry restarts opened (first_store r jobs carry restarts opened) t j run.1 clear.1 (spelled r jobs carry restarts opened t j run clear) (stored r jobs carry restarts opened t j run clear) (all r jobs carry restarts opened t j run clear) k below plan late (subst (λ (n : ℕ). 3 ≤ n) (sym same) late) of_ring.now)

@@ -1,5 +1,5 @@
 -- Phases, by the test whether they are 3 or 4.
-use Rattle.sercos_law_run.proofs.Words.{◌≡◌, ℕ, ◌+◌, ◌<◌, ◌≤◌, Bool, true, false, arith, if◌then◌else◌, nat_le, leb-true, le-leb, nat_tests}
+use Rattle.sercos_law_run.proofs.Words.{◌≡◌, ℕ, ◌+◌, ◌≤◌, Bool, true, false, arith, if◌then◌else◌, nat_le, leb-true, le-leb, nat_tests}
 
 pub late_so : (n : ℕ) → nat_le 3 n ≡ true → 3 ≤ n
 late_so n is = leb-true 3 n is

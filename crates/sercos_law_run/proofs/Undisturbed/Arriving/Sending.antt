@@ -1,5 +1,5 @@
 -- What the master sends in a cycle of a clear run.
-use Rattle.sercos_law_run.proofs.Words.{◌≡◌, ℕ, ◌<◌, ◌≤◌, Bool, true, false, List, ◌∷◌, length, refl, sym, ◌∙◌, ap, subst, nat_le, is_some, Job, RingView, Begun, open_in, begun_by, phase_in, has_mst, blocks_in, CycleView, member, known_of, tasks_for, is_idle, tasks_wait, Carry, Restarts, standing, stood_in, begun_in, drive_at, middle, IsRun, IsClear, HasTurn, at_start, behind_ats, behind_mdt, told_to, after_mst, view_of, views_of, IsSpelled, IsOpened, IsStored, open_late, none_of_some, arith}
+use Rattle.sercos_law_run.proofs.Words.{◌≡◌, ℕ, ◌<◌, ◌≤◌, Bool, true, false, List, ◌∷◌, length, refl, sym, ◌∙◌, ap, subst, nat_le, is_some, Job, RingView, Begun, open_in, begun_by, phase_in, has_mst, blocks_in, CycleView, member, known_of, tasks_for, tasks_wait, Carry, Restarts, standing, stood_in, begun_in, drive_at, middle, IsRun, IsClear, HasTurn, at_start, behind_ats, behind_mdt, told_to, after_mst, view_of, views_of, IsSpelled, IsOpened, IsStored, open_late, none_of_some, arith}
 use Rattle.sercos_law_run.proofs.Views.Members.{members_count}
 use Rattle.sercos_law_run.proofs.Held.Runs.{AllStand, phase_same, holding, kept_at_mst, begun_then}
 use Rattle.sercos_law_run.proofs.Headline.HeadlineRuns.{first_store, stored_in, spelled_in, all_stand}
@@ -45,16 +45,14 @@ module _ (r : RingView) (jobs : List Job) (carry : Carry) (restarts : Restarts) 
         turns : (i : ℕ) → i < length (known_of r).drives → HasTurn (known_of r) (behind_mdt r jobs carry restarts t.sent j) i
         turns i low = work_in_turn (known_of r) (tasks_for (known_of r) jobs) (middle r carry restarts t.sent j) i (λ q. tasks_wait (member (known_of r) q).address 1 jobs) low
 
-        begun_are : begun_by ((behind_mdt r jobs carry restarts t.sent j).calls k) ≡ begun_in (view_of r jobs carry restarts k t j) (views_of r jobs carry restarts k j)
-        begun_are = begun_then r jobs carry restarts opened (first_store r jobs carry restarts opened) t j run.1 clear.1 spelled stored all k below
-
-        not_idle : is_idle (behind_mdt r jobs carry restarts t.sent j) k ≡ false
-        not_idle = none_of_some (open_in (begun_by ((behind_mdt r jobs carry restarts t.sent j).calls k))) (ap (λ (l : List Begun). is_some (open_in l)) begun_are ∙ opens)
-
         by : (late : Bool) → nat_le 3 t.phase ≡ late → 2 ≤ t.phase → is_some (told_to (behind_mdt r jobs carry restarts t.sent j) k) ≡ true
         by true is two = joint_in k below (late_so t.phase is)
         by false is two =
             told_if (behind_mdt r jobs carry restarts t.sent j) k (told_one (behind_mdt r jobs carry restarts t.sent j) k
             (addressed_open (known_of r) (behind_ats r jobs carry restarts t.sent j) k
             (subst (λ (n : ℕ). k < n) (sym (members_count r)) below) turns
-            (phase_then ∙ (let early = early_so t.phase is in omega (arith, early, two))) not_idle))
+            (phase_then ∙ (let early = early_so t.phase is in omega (arith, early, two)))
+            (none_of_some (open_in (begun_by ((behind_mdt r jobs carry restarts t.sent j).calls k)))
+            (ap (λ (l : List Begun). is_some (open_in l))
+            (begun_then r jobs carry restarts opened (first_store r jobs carry restarts opened) t j run.1 clear.1 spelled stored all k
+            below) ∙ opens))))

@@ -36,12 +36,10 @@ module _ (r : RingView) (jobs : List Job) (carry : Carry) (restarts : Restarts) 
   clear_in : (t : CycleView) (j : List CycleView) → IsNext r jobs carry restarts t j → IsUndisturbed r carry restarts t j → t.unseen ≡ 0
   clear_in t j next undisturbed =
       let calm : IsCalm r carry restarts (length j) t.sent = calm_in r carry restarts t j undisturbed in
-      let all = next.unseen in
       let msts = sum_none (length r.drives) (unseen_mst carry (length j) (mst_in t.sent)) (λ k low. none_at carry (passage (length j) kinds.Mst 0 (k + 1)) (mst_in t.sent) (calm.mst k low)) in
-      let own = none_at carry (passage (length j) kinds.Mst 0 0) (mst_in t.sent) calm.own in
       let ats = none_ats carry r (length j) (ats_in t.sent) calm.ats in
       let mdts = sum_none (length r.drives) (unseen_mdt carry (length j) (mdt_in t.sent)) (λ k low. none_mdt carry (length j) (mdt_in t.sent) k (calm.mdt k low)) in
-      omega (arith, all, msts, own, ats, mdts)
+      omega (arith, next.unseen, msts, none_at carry (passage (length j) kinds.Mst 0 0) (mst_in t.sent) calm.own, ats, mdts)
 
   pub stays_clear : (cycles before : List CycleView) → IsRun r jobs carry restarts (cycles ++ before) → IsClear before → AreUndisturbed r carry restarts cycles before → IsClear (cycles ++ before)
   stays_clear [] before run clear calm = clear

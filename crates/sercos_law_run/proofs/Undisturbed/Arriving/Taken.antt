@@ -33,16 +33,6 @@ takes_it k p q content w = record {
     by : (identifies : Bool) → identifies ≡ false → is_some (heard_last (if k == k then (hearing identifies k content q).calls else q.calls k)) ≡ true
     by identifies is = rw (same_place k, is) refl
 
--- what is heard of another drive, or isn't taken, changes nothing
-took_stays : (s : Known) (k : ℕ) (p q : Past) (content : List ℕ) → Took k p q → Took k p (after_at s content q)
-took_stays s k p q content a = at_keeps (λ x. Took k p x) s (place_of s (slice_index content 0)) content q a
-    (λ i found is. elim (cases_eq k i) [
-      | inl same ↦ absurd (not_taken (is_awaited q k) _ (q.now.heard k) a.taken (ap (λ (n : ℕ). is_taken s q n content) same ∙ is))
-      | inr other ↦
-          let off : (k == i) ≡ false = grind (arith, nat_tests, other) in
-          record { taken = rw off a.taken; phase_is = a.phase_is; last = λ two. rw off (a.last two) }
-    ])
-
 waits_or_took : (s : Known) (k : ℕ) (p q : Past) (content : List ℕ) → Waits k p q → Waits k p (after_at s content q) ⊎ Took k p (after_at s content q)
 waits_or_took s k p q content w = after_at_so (λ x. Waits k p x ⊎ Took k p x) s content q (inl w) (λ i. elim (cases_eq k i) [
   | inl same ↦ inr (subst (λ (n : ℕ). Took k p (after_taken n content q)) same (takes_it k p q content w))
@@ -51,28 +41,19 @@ waits_or_took s k p q content w = after_at_so (λ x. Waits k p x ⊎ Took k p x)
       inl (record { unheard = rw off w.unheard; calls_are = rw off w.calls_are; phase_is = w.phase_is; turns_are = w.turns_are })
 ])
 
--- the drive's own, if it is awaited and has no fault
-takes_own : (s : Known) (k : ℕ) (p q : Past) (content : List ℕ) → place_of s (slice_index content 0) ≡ Some k → is_awaited p k ≡ true → at_fault (member s k).address (wanted_len s p k) content ≡ None → Waits k p q
-    → Took k p (after_at s content q)
-takes_own s k p q content found awaited sound w =
-    subst (λ (o : Option ℕ). Took k p (after_at_of s o content q)) (sym found)
-    (subst (λ (b : Bool). Took k p (if b then after_taken k content q else q)) (sym taken) (takes_it k p q content w))
-  where
-    awaits : is_awaited q k ≡ true
-    awaits = ap₂ (λ (n : ℕ) (l : List Turn). if nat_le 3 n then true else (nat_le 1 n && is_place k (addressed_before l))) w.phase_is w.turns_are ∙ awaited
-
-    wanted : wanted_len s q k ≡ wanted_len s p k
-    wanted = ap₂ (λ (n : ℕ) (c : List channel.Call). if nat_le 3 n then at_len (member s k) (outcomes_in (begun_by c)) else 4) w.phase_is w.calls_are
-
-    taken : is_taken s q k content ≡ true
-    taken = and_from (is_awaited q k) _ awaits
-        (and_from (not (q.now.heard k)) _ (ap (λ (b : Bool). not b) w.unheard) (ap (λ (n : ℕ). is_none (at_fault (member s k).address n content)) wanted ∙ ap is_none sound))
-
 -- ALL ATS OF A CYCLE
 pub stays_taken : (r : RingView) (jobs : List Job) (carry : Carry) (cycle k : ℕ) (p : Past) (ats : List (List ℕ)) (h : List Call) → Took k p (looks_back r jobs h) → Took k p (looks_back r jobs (at_calls r carry cycle ats h))
 stays_taken r jobs carry cycle k p ats h a =
     ats_keep (λ g. Took k p (looks_back r jobs g)) r carry cycle ats h a
-    (λ content g so. took_stays (known_of r) k p (looks_back r jobs g) content so)
+    (λ content g so. at_keeps (λ x. Took k p x) (known_of r) (place_of (known_of r) (slice_index content 0)) content (looks_back r jobs g)
+    so
+    (λ i found is. elim (cases_eq k i) [
+      | inl same ↦ absurd (not_taken (is_awaited (looks_back r jobs g) k) _ ((looks_back r jobs g).now.heard k) so.taken
+          (ap (λ (n : ℕ). is_taken (known_of r) (looks_back r jobs g) n content) same ∙ is))
+      | inr other ↦
+          let off : (k == i) ≡ false = grind (arith, nat_tests, other) in
+          record { taken = rw off so.taken; phase_is = so.phase_is; last = λ two. rw off (so.last two) }
+    ]))
 
 abbrev pub IsAmong : List ℕ → List (List ℕ) → Type 0
 IsAmong content [] = ⊥
@@ -83,7 +64,16 @@ pub own_taken : (r : RingView) (jobs : List Job) (carry : Carry) (cycle k : ℕ)
 own_taken r jobs carry cycle k p content [] h found awaited sound among all w = absurd among
 own_taken r jobs carry cycle k p content (at ∷ ats) h found awaited sound (inl same) (came, all) w =
     stays_taken r jobs carry cycle k p ats (with_at (heard carry (passage cycle kinds.At (station_of r (slice_index at 0)) 0) at) h)
-    (subst (λ (o : Option (List ℕ)). Took k p (looks_back r jobs (with_at o h))) (sym (came ∙ ap (λ (c : List ℕ). Some c) same)) (takes_own (known_of r) k p (looks_back r jobs h) content found awaited sound w))
+    (subst (λ (o : Option (List ℕ)). Took k p (looks_back r jobs (with_at o h))) (sym (came ∙ ap (λ (c : List ℕ). Some c) same))
+    (subst (λ (o : Option ℕ). Took k p (after_at_of (known_of r) o content (looks_back r jobs h))) (sym found)
+    (subst (λ (b : Bool). Took k p (if b then after_taken k content (looks_back r jobs h) else (looks_back r jobs h)))
+    (sym (and_from (is_awaited (looks_back r jobs h) k) _ (ap₂ (λ (n : ℕ) (l : List Turn). if nat_le 3 n then true else
+    (nat_le 1 n && is_place k (addressed_before l))) w.phase_is w.turns_are ∙ awaited)
+    (and_from (not ((looks_back r jobs h).now.heard k)) _ (ap (λ (b : Bool). not b) w.unheard)
+    (ap (λ (n : ℕ). is_none (at_fault (member (known_of r) k).address n content))
+    (ap₂ (λ (n : ℕ) (c : List channel.Call). if nat_le 3 n then at_len (member (known_of r) k) (outcomes_in (begun_by c)) else 4)
+    w.phase_is
+    w.calls_are) ∙ ap is_none sound)))) (takes_it k p (looks_back r jobs h) content w))))
 own_taken r jobs carry cycle k p content (at ∷ ats) h found awaited sound (inr later) (came, all) w =
     let heard_is = heard carry (passage cycle kinds.At (station_of r (slice_index at 0)) 0) at in
     elim (waits_or_took (known_of r) k p (looks_back r jobs h) at w) [

@@ -1,5 +1,5 @@
 -- An undisturbed cycle is whole for each drive.
-use Rattle.sercos_law_run.proofs.Words.{◌≡◌, ℕ, ◌<◌, ◌≤◌, Bool, true, false, List, [], ◌∷◌, length, refl, nat_le, is_some, Job, RingView, open_in, CycleView, Carry, Restarts, standing, stood_in, epoch_begun, IsRun, IsClear, view_of, views_of, IsOpened, was_addressed, IsWhole, staying, IsUndisturbed, cases_Bool, inl, inr}
+use Rattle.sercos_law_run.proofs.Words.{◌≡◌, ℕ, ◌<◌, ◌≤◌, true, List, [], ◌∷◌, length, refl, nat_le, is_some, Job, RingView, open_in, CycleView, Carry, Restarts, standing, stood_in, epoch_begun, IsRun, IsClear, view_of, views_of, IsOpened, was_addressed, IsWhole, staying, IsUndisturbed, cases_Bool, inl, inr}
 use Rattle.sercos_law_run.proofs.Undisturbed.Arriving.Phases.{late_so, early_so}
 use Rattle.sercos_law_run.proofs.Undisturbed.Arriving.Sending.{joint_in, sends_in}
 use Rattle.sercos_law_run.proofs.Undisturbed.Arriving.MdtComes.{drive_in, master_in, mst_came, mdt_came}

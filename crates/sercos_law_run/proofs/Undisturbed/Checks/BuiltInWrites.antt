@@ -1,8 +1,7 @@
 -- As long as phase 4 was never commanded, built-in blocks alone were written.
-use Rattle.sercos_law_run.proofs.Words.{◌≡◌, ℕ, zero, suc, ◌<◌, ◌≤◌, Bool, true, false, List, [], ◌∷◌, ◌++◌, length, map, drop, Option, Some, None, refl, sym, ap, ◌∙◌, subst, arith, if◌then◌else◌, same_Some, ◌==◌, slice_get, Job, Request, Outcome, PlanView, is_built_in, find_block, store_of, RingView, Block, Entry, Write, Begun, answers_it, answer_in, with_answer, begun_by, CycleView, writes, Known, Task, known_of, member, tasks_for, AreWaiting, Past, jobs_waiting, Carry, Restarts, with_heard, with_begun, epoch_begun, begun_in, Given, given_of, given_by, written_to, AreWrites, Complete, Refused, Broken, AreExact, Heard, View, all_begun, begun_ago, all_entries, all_writes, drive_at, middle, IsRun, IsClear, IsTask, OfReads, OfWrites, Checks3, Lists3, Checks4, Lists4, OfWaiting, AreBegunTasks, start_numbers, behind_mdt, view_of, views_of, IsOpened, runs_exact, cases_Bool, inl, inr}
-use Rattle.sercos_step.specs.declared.request.Request.TheVariants as request
+use Rattle.sercos_law_run.proofs.Words.{◌≡◌, ℕ, ◌<◌, ◌≤◌, Bool, true, false, List, [], ◌∷◌, ◌++◌, length, Option, Some, None, refl, sym, ap, ◌∙◌, arith, if◌then◌else◌, same_Some, ◌==◌, Job, Request, Outcome, PlanView, is_built_in, find_block, store_of, RingView, Block, Begun, answers_it, answer_in, with_answer, begun_by, CycleView, Known, Task, known_of, member, tasks_for, AreWaiting, Past, jobs_waiting, Carry, Restarts, with_heard, with_begun, epoch_begun, begun_in, Given, given_by, Heard, View, all_begun, begun_ago, all_entries, all_writes, drive_at, middle, IsRun, IsClear, IsTask, OfReads, OfWrites, Checks3, Lists3, Checks4, Lists4, OfWaiting, AreBegunTasks, start_numbers, behind_mdt, view_of, views_of, IsOpened, runs_exact, cases_Bool, inl, inr, cases_Option, list_all}
 use Rattle.sercos_law_run.proofs.Views.Members.{members_count}
-use Rattle.sercos_law_run.proofs.Held.AnsweredRuns.{IsRead, Time, Attribute, is_read_request}
+use Rattle.sercos_law_run.proofs.Held.AnsweredRuns.{Time, Attribute, is_read_request}
 use Rattle.sercos_law_run.proofs.Held.Runs.{small}
 use Rattle.sercos_law_run.proofs.Headline.HeadlineRuns.{all_stand, first_store, keeps_all}
 use Rattle.sercos_law_run.proofs.Undisturbed.StaysUp.{phase_now}
@@ -11,12 +10,13 @@ use Rattle.sercos_law_run.proofs.Agenda.WritesDone.{writes_data}
 use Rattle.sercos_law_run.proofs.Cited.{begins_tasks}
 use Rattle.sercos_law_run.proofs.Undisturbed.Arriving.Small.{first_is}
 use Rattle.sercos_law_run.proofs.Held.Agreed.{all_at}
+use Rattle.sercos_law_run.proofs.Settings.Givers.{exact_all}
 
 -- A REQUEST names a built-in block, if it writes at all.
 abbrev pub is_built : Request → Bool
-is_built (request.Read i e) = true
-is_built (request.Write i e bytes) = is_built_in i.raw
-is_built (request.Command i) = is_built_in i.raw
+is_built (Request.Read i e) = true
+is_built (Request.Write i e bytes) = is_built_in i.raw
+is_built (Request.Command i) = is_built_in i.raw
 
 abbrev pub AreBuilt : List Begun → Type 0
 AreBuilt [] = Unit {0}
@@ -27,60 +27,29 @@ built_append [] ys first second = second
 built_append (b ∷ xs) ys first second = (built_append xs ys first.0 second, first.1)
 
 -- what it gives
-abbrev AreGiven : List Given → Type 0
-AreGiven [] = Unit {0}
-AreGiven (g ∷ given) = AreGiven given × (is_built_in g.raw ≡ true)
-
-given_drop : (n : ℕ) (given : List Given) → AreGiven given → AreGiven (drop n given)
-given_drop zero given are = are
-given_drop (suc n) [] are = tt
-given_drop (suc n) (g ∷ given) are = given_drop n given are.0
-
-given_built : (blocks : List Block) (r : Request) → is_built r ≡ true → AreGiven (given_by blocks r)
-given_built blocks (request.Read i e) built = tt
-given_built blocks (request.Write i e bytes) built = by (e == 7) (find_block i.raw blocks)
-  where
-    by : (is : Bool) (o : Option Block) → AreGiven (if is then written_to i.raw bytes o else [])
-    by true None = tt
-    by true (Some b) = (tt, built)
-    by false o = tt
-given_built blocks (request.Command i) built = ((tt, built), built)
-
-own_given : (own : List Write) (given : List Given) → map given_of own ≡ given → AreGiven given → AreBuiltIn own
-own_given [] given same are = tt
-own_given (w ∷ own) [] same are = absurd (cc)
-own_given (w ∷ own) (g ∷ given) same are = (own_given own given (first_is _ _ _ _ same).1 are.0, ap (λ (x : Given). is_built_in x.raw) (first_is _ _ _ _ same).0 ∙ are.1)
-
-own_built : (blocks : List Block) (b : Begun) (own : List Write) → is_built b.request ≡ true → AreWrites blocks b own → AreBuiltIn own
-own_built blocks b own built (Complete bytes complete has same) = own_given own (given_by blocks b.request) same (given_built blocks b.request built)
-own_built blocks b own built (Refused code refused none) = subst AreBuiltIn (sym none) tt
-own_built blocks b own built (Broken later broken same) = own_given own (drop later (given_by blocks b.request)) same (given_drop later (given_by blocks b.request) (given_built blocks b.request built))
-
-writes_append : (xs ys : List Write) → AreBuiltIn xs → AreBuiltIn ys → AreBuiltIn (xs ++ ys)
-writes_append [] ys first second = second
-writes_append (w ∷ xs) ys first second = (writes_append xs ys first.0 second, first.1)
-
-pub exact_built : (blocks : List Block) (begun : List Begun) (entries : List Entry) (writes : List Write) → AreExact blocks begun entries writes → AreBuilt begun → AreBuiltIn writes
-exact_built blocks [] entries writes exact built = subst AreBuiltIn (sym exact.1) tt
-exact_built blocks (b ∷ begun) entries writes (part, rest, own, others, of_entries, of_writes, is, behind) built =
-    subst AreBuiltIn (sym of_writes) (writes_append own others (own_built blocks b own built.1 is.writes) (exact_built blocks begun rest others behind built.0))
+given_built : (blocks : List Block) (r : Request) → is_built r ≡ true
+    → list_all (λ (g : Given). is_built_in g.raw) (given_by blocks r) ≡ true
+given_built blocks (Request.Read i e) built = refl
+given_built blocks (Request.Write i e bytes) built = elim (cases_Bool (e == 7)) [
+  | inl on ↦ elim (cases_Option (find_block i.raw blocks)) [ inl none ↦ rw (on, none) | inr (b, some) ↦ rw (on, some, built) ]
+  | inr off ↦ rw off
+]
+given_built blocks (Request.Command i) built = rw built
 
 -- WHAT A TASK OF THE START-UP NAMES
 task_built : (s : Known) (k : ℕ) (by_then : Option PlanView) (waiting : List Task) (outs : List Outcome) (t : Task) → AreWaiting waiting → t.phase ≤ 3 → IsTask s k by_then waiting outs t → is_built t.request ≡ true
-task_built s k by_then waiting outs t wait early (OfReads r less got is) = ap (λ (x : Task). is_built x.request) is ∙ by (is_read_request (member s k) (length outs) r got)
-  where
-    by : IsRead r → is_built r ≡ true
-    by (Time raw built same) = ap is_built same
-    by (Attribute i same) = ap is_built same
+task_built s k by_then waiting outs t wait early (OfReads r less got is) =
+    ap (λ (x : Task). is_built x.request) is ∙ elim (is_read_request (member s k) (length outs) r got)
+    [ Time raw built same ↦ ap is_built same | Attribute i same ↦ ap is_built same ]
 task_built s k by_then waiting outs t wait early (OfWrites p i r has less at got is) =
     let (named, bytes, there, number) = writes_data s p k i less in
-    ap (λ (x : Task). is_built x.request) is ∙ ap is_built (same_Some r (request.Write named 7 bytes) (sym got ∙ there))
+    ap (λ (x : Task). is_built x.request) is ∙ ap is_built (same_Some r (Request.Write named 7 bytes) (sym got ∙ there))
     ∙ all_at is_built_in start_numbers i named.raw refl number
 task_built s k by_then waiting outs t wait early (Checks3 p has at is) = ap (λ (x : Task). is_built x.request) is
 task_built s k by_then waiting outs t wait early (Lists3 at failed is) = ap (λ (x : Task). is_built x.request) is
 task_built s k by_then waiting outs t wait early (Checks4 at well is) = ap (λ (x : Task). is_built x.request) is
 task_built s k by_then waiting outs t wait early (Lists4 at failed is) = ap (λ (x : Task). is_built x.request) is
-task_built s k by_then waiting outs t wait early (OfWaiting j at ready got) = let late = wait j t got in absurd (omega (arith, late, early))
+task_built s k by_then waiting outs t wait early (OfWaiting j at ready got) = absurd (omega (arith, wait j t got, early))
 
 -- THE CHANNEL
 heard_built : (o : Option Heard) (begun : List Begun) → AreBuilt begun → AreBuilt (with_heard o begun)
@@ -103,11 +72,8 @@ NeverFour (t ∷ j) = NeverFour j × (t.phase ≤ 3)
 
 module _ (r : RingView) (jobs : List Job) (carry : Carry) (restarts : Restarts) (opened : IsOpened r jobs) (k : ℕ)
     (below : k < length r.drives) where
-  inside : k < length (known_of r).drives
-  inside = let count = members_count r in omega (arith, count, below)
-
   begins_built : (t : CycleView) (j : List CycleView) → IsRun r jobs carry restarts (t ∷ j) → IsClear (t ∷ j) → (behind_mdt r jobs carry restarts t.sent j).now.phase ≤ 3 → (q : Request) → (view_of r jobs carry restarts k t j).begins ≡ Some q → is_built q ≡ true
-  begins_built t j run clear early q begins = by (begun_by (p.calls k)) (p.tasks k) refl (begins_tasks (known_of r) (tasks_for (known_of r) jobs) (middle r carry restarts t.sent j) k inside)
+  begins_built t j run clear early q begins = by (begun_by (p.calls k)) (p.tasks k) refl (begins_tasks (known_of r) (tasks_for (known_of r) jobs) (middle r carry restarts t.sent j) k (omega (arith, members_count r, below)))
     where
       p : Past
       p = behind_mdt r jobs carry restarts t.sent j
@@ -126,43 +92,27 @@ module _ (r : RingView) (jobs : List Job) (carry : Carry) (restarts : Restarts) 
       by (b ∷ older) (u ∷ tasks) same are =
           let head : b ∷ older ≡ with_begun (Some q) (with_heard v.heard (if v.master_restarts then [] else epoch_begun (views_of r jobs carry restarts k j))) =
           sym same ∙ now_is ∙ ap (λ (o : Option Request). with_begun o (with_heard v.heard (if v.master_restarts then [] else epoch_begun (views_of r jobs carry restarts k j)))) begins in
-          let asks : b.request ≡ q = ap (λ (x : Begun). x.request) (first_is _ _ _ _ head).0 in
-          ap is_built (sym asks ∙ are.1.asks)
-          ∙ task_built (known_of r) k are.1.by_then (p.waiting k) _ u (jobs_waiting (known_of r) jobs (middle r carry restarts t.sent j) k) (let low = are.1.early in omega (arith, low, early)) are.1.task
+          ap is_built (sym (ap (λ (x : Begun). x.request) (first_is _ _ _ _ head).0) ∙ are.1.asks)
+          ∙ task_built (known_of r) k are.1.by_then (p.waiting k) _ u (jobs_waiting (known_of r) jobs (middle r carry restarts t.sent j) k) (omega (arith, are.1.early, early)) are.1.task
 
   -- all that was begun, in this epoch and before
   abbrev BothBuilt : List CycleView → Type 0
   BothBuilt j = AreBuilt (epoch_begun (views_of r jobs carry restarts k j)) × AreBuilt (begun_ago (views_of r jobs carry restarts k j))
 
   built_next : (t : CycleView) (j : List CycleView) → IsRun r jobs carry restarts (t ∷ j) → IsClear (t ∷ j) → t.phase ≤ 3 → BothBuilt j → BothBuilt (t ∷ j)
-  built_next t j run clear low before = (
-    (elim (cases_Bool v.falls) [
-      | inl on ↦ rw on tt
-      | inr off ↦ rw off now
-    ]),
-    left v.falls v.master_restarts,
-  )
-    where
-      v : View
-      v = view_of r jobs carry restarts k t j
-
-      restarted : (b : Bool) → AreBuilt (if b then [] else epoch_begun (views_of r jobs carry restarts k j))
-      restarted true = tt
-      restarted false = before.0
-
-      now : AreBuilt (begun_in (view_of r jobs carry restarts k t j) (views_of r jobs carry restarts k j))
-      now = begun_built v.begins (with_heard v.heard (if v.master_restarts then [] else epoch_begun (views_of r jobs carry restarts k j)))
-          (begins_built t j run clear (let now = phase_now r jobs carry restarts opened t j run.1 in omega (arith, now, low)))
-          (heard_built v.heard (if v.master_restarts then [] else epoch_begun (views_of r jobs carry restarts k j)) (restarted v.master_restarts))
-
-      restarts_left : (c : Bool) → AreBuilt (if c then epoch_begun (views_of r jobs carry restarts k j) ++ begun_ago (views_of r jobs carry restarts k j) else begun_ago (views_of r jobs carry restarts k j))
-      restarts_left true = built_append (epoch_begun (views_of r jobs carry restarts k j)) (begun_ago (views_of r jobs carry restarts k j)) before.0 before.1
-      restarts_left false = before.1
-
-      left : (b c : Bool) → AreBuilt (if b then begun_in (view_of r jobs carry restarts k t j) (views_of r jobs carry restarts k j) ++ (if c then epoch_begun (views_of r jobs carry restarts k j) ++ begun_ago (views_of r jobs carry restarts k j) else begun_ago (views_of r jobs carry restarts k j))
-          else (if c then epoch_begun (views_of r jobs carry restarts k j) ++ begun_ago (views_of r jobs carry restarts k j) else begun_ago (views_of r jobs carry restarts k j)))
-      left true c = built_append (begun_in (view_of r jobs carry restarts k t j) (views_of r jobs carry restarts k j)) (if c then epoch_begun (views_of r jobs carry restarts k j) ++ begun_ago (views_of r jobs carry restarts k j) else begun_ago (views_of r jobs carry restarts k j)) now (restarts_left c)
-      left false c = restarts_left c
+  built_next t j run clear low before =
+      let v = view_of r jobs carry restarts k t j in
+      let past = views_of r jobs carry restarts k j in
+      let now = begun_built v.begins (with_heard v.heard (if v.master_restarts then [] else epoch_begun past))
+      (begins_built t j run clear (omega (arith, phase_now r jobs carry restarts opened t j run.1, low)))
+      (heard_built v.heard (if v.master_restarts then [] else epoch_begun past)
+      (elim (cases_Bool v.master_restarts) [ inl on ↦ rw on tt | inr off ↦ rw off before.0 ])) in
+      let ago : AreBuilt (if v.master_restarts then epoch_begun past ++ begun_ago past else begun_ago past) = let both = built_append
+      (epoch_begun past) (begun_ago past) before.0 before.1 in elim (cases_Bool v.master_restarts)
+      [ inl on ↦ rw on both | inr off ↦ rw off before.1 ] in (
+        (elim (cases_Bool v.falls) [ inl on ↦ rw on tt | inr off ↦ rw off now ]),
+        (elim (cases_Bool v.falls) [ inl on ↦ rw on (built_append (begun_in v past) _ now ago) | inr off ↦ rw off ago ]),
+      )
 
   built_so : (j : List CycleView) → IsRun r jobs carry restarts j → IsClear j → NeverFour j → BothBuilt j
   built_so [] run clear never = (tt, tt)
@@ -172,6 +122,8 @@ module _ (r : RingView) (jobs : List Job) (carry : Carry) (restarts : Restarts) 
   writes_built j run clear never =
       let stands = all_stand r jobs carry restarts opened j run clear k below in
       let built = built_so j run clear never in
-      exact_built (store_of (drive_at r k)) (all_begun (views_of r jobs carry restarts k j)) (all_entries (views_of r jobs carry restarts k j)) (all_writes (views_of r jobs carry restarts k j))
+      exact_all (λ (g : Given). is_built_in g.raw) (store_of (drive_at r k)) AreBuilt
+      (λ b past are. (are.0, given_built (store_of (drive_at r k)) b.request are.1))
+      (all_begun (views_of r jobs carry restarts k j)) (all_entries (views_of r jobs carry restarts k j)) (all_writes (views_of r jobs carry restarts k j))
       (runs_exact (drive_at r k).busy (store_of (drive_at r k)) (views_of r jobs carry restarts k j) (small r jobs carry restarts opened (first_store r jobs carry restarts opened) k below) stands.sees.run stands.sound)
       (built_append (epoch_begun (views_of r jobs carry restarts k j)) (begun_ago (views_of r jobs carry restarts k j)) built.0 built.1)

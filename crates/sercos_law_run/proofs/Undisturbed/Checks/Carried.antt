@@ -1,5 +1,5 @@
 -- A procedure command that is set when an MDT comes was set at the end of the cycle before, and runs for the drive's time.
-use Rattle.sercos_law_run.proofs.Words.{◌≡◌, ℕ, Bool, true, false, List, [], ◌∷◌, Option, Some, None, refl, ap, ◌∙◌, subst, if◌then◌else◌, ◌==◌, SetCommand, Reset, CommandHistory, with_call, find_set, set_in, View, standing, stood_in, set_after, AreCarried, commands_left, commands_ended, commands_before, CommandsFollow}
+use Rattle.sercos_law_run.proofs.Words.{◌≡◌, ℕ, Bool, true, false, List, [], ◌∷◌, Some, None, refl, ap, ◌∙◌, subst, if◌then◌else◌, ◌==◌, SetCommand, Reset, CommandHistory, with_call, find_set, set_in, View, standing, stood_in, set_after, AreCarried, commands_left, commands_ended, commands_before, CommandsFollow}
 use Rattle.sercos_law_run.proofs.Settings.Histories.{reset_if}
 
 -- a restart doesn't change how long a command runs, and it, as phase 0, sets nothing

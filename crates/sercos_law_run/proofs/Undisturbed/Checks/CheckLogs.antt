@@ -1,14 +1,9 @@
 -- In a log that ends with a complete check, whose status was 3, the check counts as passed. Each list has its newest item first.
-use Rattle.sercos_law_run.proofs.Words.{◌≡◌, ℕ, ◌+◌, ◌≤◌, Bool, true, false, not, List, [], ◌∷◌, ◌++◌, map, refl, sym, ap, ◌∙◌, subst, arith, if◌then◌else◌, ◌==◌, nat_le, Option, Some, None, is_some, and_parts, cond_both, eq-eqb, leb-true, not-true, Block, with_data, SetCommand, is_command, ends_well, status_by, Wrote, Other, CommandHistory, with_call, status_in, find_set, without, with_set, set_in, Entry, Write, added_by, with_added, writes_of, command_value, commands_with, Given, given_of, gives, sets_to, LogLeaves}
+use Rattle.sercos_law_run.proofs.Words.{◌≡◌, ℕ, ◌+◌, ◌≤◌, Bool, true, false, not, List, [], ◌∷◌, map, refl, sym, ap, ◌∙◌, subst, arith, if◌then◌else◌, ◌==◌, nat_le, Option, Some, None, and_parts, leb-true, not-true, Block, with_data, SetCommand, is_command, ends_well, status_by, Wrote, Other, CommandHistory, with_call, status_in, find_set, set_in, Entry, Write, added_by, with_added, writes_of, commands_with, Given, given_of, gives, sets_to, LogLeaves, cases_Option, inl, inr}
 use Rattle.sercos_law_run.proofs.Settings.Givers.{are_away}
 use Rattle.sercos_law_run.proofs.Settings.Histories.{status_as, status_set, set_beside, set_cancelled, set_new}
 use Rattle.sercos_law_run.proofs.Undisturbed.Checks.LogLeaves.{added_cycle, read_adds_none}
 use Rattle.sercos_law_run.proofs.Undisturbed.Arriving.Small.{first_is}
-
--- a command that is cancelled has the status 0
-cancelled_status : (raw at n : ℕ) (blocks : List Block) (c : CommandHistory) → status_in (with_call (Wrote raw 0 at blocks) c) raw n ≡ 0
-cancelled_status raw at n blocks c = status_set (with_call (Wrote raw 0 at blocks) c) raw n
-    ∙ ap (λ (o : Option SetCommand). status_by c.time o n) (set_cancelled raw 0 at blocks c refl)
 
 -- If a command is set where it wasn't, and its status is 3 then, it ends well and has ended.
 set_status : (raw at n : ℕ) (blocks : List Block) (c : CommandHistory) → find_set raw (set_in c) ≡ None → status_in (with_call (Wrote raw 3 at blocks) c) raw n ≡ 3 → (ends_well c.rate raw blocks ≡ true) × (at + c.time ≤ n)
@@ -19,9 +14,8 @@ set_status raw at n blocks c none three =
   where
     by : (well ended : Bool) → ends_well c.rate raw blocks ≡ well → nat_le (at + c.time) n ≡ ended → status_as ended well ≡ 3 → (ends_well c.rate raw blocks ≡ true) × (at + c.time ≤ n)
     by true true w e is = (w, leb-true (at + c.time) n e)
+    by well false w e is = absurd (omega (arith, is))
     by false true w e is = absurd (omega (arith, is))
-    by true false w e is = absurd (omega (arith, is))
-    by false false w e is = absurd (omega (arith, is))
 
 -- THE LOG. At each entry the number is that of a procedure command of the drive.
 abbrev pub AreCommandsIn : ℕ → List Entry → Type 0
@@ -35,13 +29,14 @@ NoneTo raw writes = are_away raw (map given_of writes) ≡ true
 -- so it isn't set
 none_set : (raw : ℕ) (log : List Entry) (c : CommandHistory) → LogLeaves log c → NoneTo raw (writes_of log) → find_set raw (set_in c) ≡ None
 none_set raw [] c leaves none = ap (find_set raw) leaves
-none_set raw (e ∷ log) c leaves none = ap (λ (x : CommandHistory). find_set raw (set_in x)) leaves.1 ∙ by (added_by e log) none (λ n. none_set raw log e.processed.commands leaves.0 n)
-  where
-    by : (o : Option Write) → NoneTo raw (with_added o (writes_of log)) → (NoneTo raw (writes_of log) → find_set raw (set_in e.processed.commands) ≡ None) → find_set raw (set_in (commands_with o e.processed.blocks e.processed.commands)) ≡ None
-    by None none more = more none
-    by (Some w) none more =
-        let parts = and_parts (not (w.raw == raw)) (are_away raw (map given_of (writes_of log))) none in
-        set_beside raw w e.processed.blocks e.processed.commands (not-true (w.raw == raw) parts.0) ∙ more parts.1
+none_set raw (e ∷ log) c leaves none =
+    ap (λ (x : CommandHistory). find_set raw (set_in x)) leaves.1 ∙ elim (cases_Option (added_by e log)) [
+      | inl is ↦ rw is (none_set raw log e.processed.commands leaves.0 (rw is at none))
+      | inr (w, is) ↦
+          let parts = and_parts (not (w.raw == raw)) (are_away raw (map given_of (writes_of log))) (rw is at none) in
+          rw is (set_beside raw w e.processed.blocks e.processed.commands (not-true (w.raw == raw) parts.0) ∙ none_set raw log
+          e.processed.commands leaves.0 parts.1)
+    ]
 
 -- What the newest write of a log found, and what it left: the entries after it added nothing.
 record IsNewest (raw : ℕ) (w : Write) (writes : List Write) (c : CommandHistory) : Type 0 where
@@ -55,19 +50,22 @@ record IsNewest (raw : ℕ) (w : Write) (writes : List Write) (c : CommandHistor
 
 newest_write : (raw : ℕ) (w : Write) (writes : List Write) (log : List Entry) (c : CommandHistory) → LogLeaves log c → AreCommandsIn raw log → writes_of log ≡ w ∷ writes → IsNewest raw w writes c
 newest_write raw w writes [] c leaves commands is = absurd (cc)
-newest_write raw w writes (e ∷ log) c leaves commands is = by (added_by e log) leaves.1 is (λ more. newest_write raw w writes log e.processed.commands leaves.0 commands.0 more)
-  where
-    by : (o : Option Write) → c ≡ commands_with o e.processed.blocks e.processed.commands → with_added o (writes_of log) ≡ w ∷ writes → (writes_of log ≡ w ∷ writes → IsNewest raw w writes e.processed.commands) → IsNewest raw w writes c
-    by None left is more = subst (λ (x : CommandHistory). IsNewest raw w writes x) (sym left) (more is)
-    by (Some x) left is more = record {
-      blocks = e.processed.blocks;
-      commands = e.processed.commands;
-      log = log;
-      is = left ∙ ap (λ (y : Write). commands_with (Some y) e.processed.blocks e.processed.commands) (first_is x w (writes_of log) writes is).0;
-      command = commands.1;
-      leaves = leaves.0;
-      rest = (first_is x w (writes_of log) writes is).1;
-    }
+newest_write raw w writes (e ∷ log) c leaves commands is = elim (cases_Option (added_by e log)) [
+  | inl none ↦
+      subst (IsNewest raw w writes) (sym (rw none at leaves.1))
+      (newest_write raw w writes log e.processed.commands leaves.0 commands.0 (rw none at is))
+  | inr (x, some) ↦
+      let same = first_is x w (writes_of log) writes (rw some at is) in
+      record {
+        blocks = e.processed.blocks;
+        commands = e.processed.commands;
+        log = log;
+        is = (rw some at leaves.1) ∙ ap (λ (y : Write). commands_with (Some y) e.processed.blocks e.processed.commands) same.0;
+        command = commands.1;
+        leaves = leaves.0;
+        rest = same.1;
+      }
+]
 
 -- a write of these two bytes to the number, in its cycle
 sets_so : (raw value : ℕ) (w : Write) → given_of w ≡ gives raw (value ∷ 0 ∷ []) → w ≡ sets_to raw value w.cycle
@@ -76,9 +74,6 @@ sets_so raw value w is = ap (λ (g : Given). (let x : Write = record { cycle = w
 -- what they leave, where the number is that of a procedure command
 set_left : (raw at : ℕ) (blocks : List Block) (c : CommandHistory) → is_command blocks raw ≡ true → commands_with (Some (sets_to raw 3 at)) blocks c ≡ with_call (Wrote raw 3 at (with_data raw (3 ∷ 0 ∷ []) blocks)) c
 set_left raw at blocks c is = ap (λ (v : Bool). with_call (if v then Wrote raw 3 at (with_data raw (3 ∷ 0 ∷ []) blocks) else Other at) c) is
-
-cancel_left : (raw at : ℕ) (blocks : List Block) (c : CommandHistory) → is_command blocks raw ≡ true → commands_with (Some (sets_to raw 0 at)) blocks c ≡ with_call (Wrote raw 0 at (with_data raw (0 ∷ 0 ∷ []) blocks)) c
-cancel_left raw at blocks c is = ap (λ (v : Bool). with_call (if v then Wrote raw 0 at (with_data raw (0 ∷ 0 ∷ []) blocks) else Other at) c) is
 
 -- how a check comes to count as passed when it is set, and that its cancel leaves it so
 abbrev pub PassesIfSet : ℕ → (CommandHistory → Option ℕ) → Type 0
@@ -106,21 +101,24 @@ module _ (raw : ℕ) (passed : CommandHistory → Option ℕ) (sets : PassesIfSe
 
   -- the check was set last, where nothing was written to it before, and its status is 3
   set_counts : (at n : ℕ) (writes : List Write) (log : List Entry) (c : CommandHistory) → LogLeaves log c → AreCommandsIn raw log → writes_of log ≡ sets_to raw 3 at ∷ writes → NoneTo raw writes → status_in c raw n ≡ 3 → CountsBy passed c n
-  set_counts at n writes log c leaves commands is none three = by (newest_write raw (sets_to raw 3 at) writes log c leaves commands is)
-    where
-      by : IsNewest raw (sets_to raw 3 at) writes c → CountsBy passed c n
-      by newest =
-          let unset = none_set raw newest.log newest.commands newest.leaves (subst (NoneTo raw) (sym newest.rest) none) in
-          let well = set_status raw at n (with_data raw (3 ∷ 0 ∷ []) newest.blocks) newest.commands unset (ap (λ (x : CommandHistory). status_in x raw n) (sym (newest.is ∙ set_left raw at newest.blocks newest.commands newest.command)) ∙ three) in
-          counts_same passed c (commands_with (Some (sets_to raw 3 at)) newest.blocks newest.commands) n newest.is
-          (counts_later passed (commands_with (Some (sets_to raw 3 at)) newest.blocks newest.commands) (at + newest.commands.time) n well.1 (sets newest.commands newest.blocks at newest.command unset well.0))
+  set_counts at n writes log c leaves commands is none three =
+      let newest = newest_write raw (sets_to raw 3 at) writes log c leaves commands is in
+      let unset = none_set raw newest.log newest.commands newest.leaves (subst (NoneTo raw) (sym newest.rest) none) in
+      let well = set_status raw at n (with_data raw (3 ∷ 0 ∷ []) newest.blocks) newest.commands unset (ap (λ (x : CommandHistory). status_in x raw n) (sym (newest.is ∙ set_left raw at newest.blocks newest.commands newest.command)) ∙ three) in
+      counts_same passed c (commands_with (Some (sets_to raw 3 at)) newest.blocks newest.commands) n newest.is
+      (counts_later passed (commands_with (Some (sets_to raw 3 at)) newest.blocks newest.commands) (at + newest.commands.time) n well.1 (sets newest.commands newest.blocks at newest.command unset well.0))
 
   -- it wasn't cancelled last
   not_cancelled : (at n : ℕ) (writes : List Write) (log : List Entry) (c : CommandHistory) → LogLeaves log c → AreCommandsIn raw log → writes_of log ≡ sets_to raw 0 at ∷ writes → status_in c raw n ≡ 3 → ⊥
   not_cancelled at n writes log c leaves commands is three =
       let newest = newest_write raw (sets_to raw 0 at) writes log c leaves commands is in
-      let zero_is = cancelled_status raw at n (with_data raw (0 ∷ 0 ∷ []) newest.blocks) newest.commands in
-      let same : 0 ≡ 3 = sym zero_is ∙ (ap (λ (x : CommandHistory). status_in x raw n) (sym (newest.is ∙ cancel_left raw at newest.blocks newest.commands newest.command)) ∙ three) in
+      let zero_is : status_in (with_call (Wrote raw 0 at (with_data raw (0 ∷ 0 ∷ []) newest.blocks)) newest.commands) raw n ≡ 0 = status_set
+      (with_call (Wrote raw 0 at (with_data raw (0 ∷ 0 ∷ []) newest.blocks)) newest.commands) raw n
+      ∙ ap (λ (o : Option SetCommand). status_by newest.commands.time o n)
+      (set_cancelled raw 0 at (with_data raw (0 ∷ 0 ∷ []) newest.blocks) newest.commands refl) in
+      let same : 0 ≡ 3 = sym zero_is ∙ (ap (λ (x : CommandHistory). status_in x raw n)
+      (sym (newest.is ∙ ap (λ (v : Bool). with_call (if v then Wrote raw 0 at (with_data raw (0 ∷ 0 ∷ []) newest.blocks) else Other at)
+      newest.commands) newest.command)) ∙ three) in
       absurd (omega (arith, same))
 
   -- A LOG WITH A COMPLETE CHECK, whose last two entries are the cancel and the poll before it
@@ -129,14 +127,8 @@ module _ (raw : ℕ) (passed : CommandHistory → Option ℕ) (sets : PassesIfSe
       → poll.processed.step.write ≡ false → status_in poll.processed.commands raw poll.processed.cycle ≡ 3 → poll.processed.cycle ≤ cancel.processed.cycle → CountsBy passed c cancel.processed.cycle
   log_counts cancel poll log c last set writes leaves commands are last_is set_is none reads three later = by (added_by cancel (poll ∷ log)) refl leaves.1 are
     where
-      quiet : added_by poll log ≡ None
-      quiet = read_adds_none poll log reads
-
-      same : cancel.processed.commands ≡ poll.processed.commands
-      same = leaves.0.1 ∙ ap (λ (o : Option Write). commands_with o poll.processed.blocks poll.processed.commands) quiet
-
       before : writes_of (poll ∷ log) ≡ writes_of log
-      before = ap (λ (o : Option Write). with_added o (writes_of log)) quiet
+      before = ap (λ (o : Option Write). with_added o (writes_of log)) (read_adds_none poll log reads)
 
       by : (o : Option Write) → added_by cancel (poll ∷ log) ≡ o → c ≡ commands_with o cancel.processed.blocks cancel.processed.commands → with_added o (writes_of (poll ∷ log)) ≡ last ∷ set ∷ writes → CountsBy passed c cancel.processed.cycle
       by None adds left are =
@@ -149,4 +141,7 @@ module _ (raw : ℕ) (passed : CommandHistory → Option ℕ) (sets : PassesIfSe
           let cancels : x ≡ sets_to raw 0 cancel.processed.cycle = first ∙ sets_so raw 0 last last_is ∙ ap (sets_to raw 0) cycle in
           counts_same passed c (commands_with (Some (sets_to raw 0 cancel.processed.cycle)) cancel.processed.blocks cancel.processed.commands) cancel.processed.cycle
           (left ∙ ap (λ (w : Write). commands_with (Some w) cancel.processed.blocks cancel.processed.commands) cancels)
-          (cancel_counts cancel.processed.commands cancel.processed.blocks poll.processed.cycle cancel.processed.cycle commands.1 later (counts_same passed cancel.processed.commands poll.processed.commands poll.processed.cycle same at))
+          (cancel_counts cancel.processed.commands cancel.processed.blocks poll.processed.cycle cancel.processed.cycle commands.1 later
+          (counts_same passed cancel.processed.commands poll.processed.commands poll.processed.cycle
+          (leaves.0.1 ∙ ap (λ (o : Option Write). commands_with o poll.processed.blocks poll.processed.commands)
+          (read_adds_none poll log reads)) at))

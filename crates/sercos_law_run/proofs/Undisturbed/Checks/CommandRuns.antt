@@ -1,6 +1,5 @@
 -- In a run of a ring in which nothing is unseen, the procedure commands at a drive's MST's place are what the cycle before left.
-use Rattle.sercos_law_run.proofs.Words.{◌≡◌, ℕ, ◌<◌, ◌≤◌, ◌+◌, Bool, true, false, List, [], ◌∷◌, length, Option, Some, None, refl, sym, ap, ap₂, ◌∙◌, if◌then◌else◌, Job, PlanView, DriveView, RingView, is_ring, Reset, CommandHistory, with_call, Processed, open_in, begun_by, Told, DriveCall, mdt_got, Moment, phase_in, blocks_in, commands_in, commands_after, reset_in, annals, CycleView, known_of, is_done, Carry, Restarts, View, standing, stood_in, got_in, processed_of, processed_in, kept_in, mdt_in, drive_at, with_restart, mdt_heard, given_before, behind_mdt, after_mst, view_of, views_of, IsSpelled, commands_left, commands_ended, CommandsFollow}
-use Rattle.sercos_drive.specs.Annals.{processed_in as processed_at}
+use Rattle.sercos_law_run.proofs.Words.{inr, inl, cases_Bool, ◌≡◌, ℕ, ◌<◌, ◌≤◌, ◌+◌, true, List, [], ◌∷◌, length, Option, Some, None, refl, sym, ap, ap₂, ◌∙◌, if◌then◌else◌, Job, PlanView, DriveView, RingView, is_ring, Reset, CommandHistory, with_call, Processed, open_in, begun_by, Told, mdt_got, Moment, phase_in, blocks_in, commands_in, commands_after, reset_in, annals, CycleView, known_of, is_done, Carry, Restarts, View, standing, stood_in, got_in, processed_of, processed_in, kept_in, mdt_in, drive_at, mdt_heard, given_before, behind_mdt, after_mst, view_of, views_of, IsSpelled, commands_ended, CommandsFollow, processed_at}
 use Rattle.sercos_law_run.specs.Journal.Runs.{IsNext as IsNextCycle}
 use Rattle.sercos_law_run.proofs.Views.DriveSame.{processed_same}
 use Rattle.sercos_law_run.proofs.Views.Received.{Agrees, got_or_none}
@@ -18,12 +17,6 @@ commands_at r carry restarts k j = commands_in (drive_at r k) r.rate (annals (dr
 pub record AreCommandsSo (r : RingView) (jobs : List Job) (carry : Carry) (restarts : Restarts) (k : ℕ) (j : List CycleView) : Type 0 where
   pub follow : CommandsFollow (first_commands r k) (views_of r jobs carry restarts k j)
   pub behind : commands_at r carry restarts k j ≡ commands_ended (first_commands r k) (views_of r jobs carry restarts k j)
-
--- after a restart
-pub commands_restarted : (d : DriveView) (rate : ℕ) (restarts : Bool) (calls : List DriveCall) (c : CommandHistory) → commands_in d rate (annals d rate calls) ≡ c
-    → commands_in d rate (annals d rate (with_restart restarts calls)) ≡ (if restarts then with_call Reset c else c)
-commands_restarted d rate true calls c is = ap (with_call Reset) is
-commands_restarted d rate false calls c is = is
 
 module _ (r : RingView) (jobs : List Job) (carry : Carry) (restarts : Restarts) (valid : is_ring r ≡ true) (t : CycleView)
     (j : List CycleView) (next : IsNextCycle r jobs carry restarts t j) (clear : t.unseen ≡ 0)
@@ -48,7 +41,10 @@ module _ (r : RingView) (jobs : List Job) (carry : Carry) (restarts : Restarts) 
   at_beat =
       let here = at_mst r jobs carry restarts valid t j next clear spelled k below sees agrees rests in
       ap₂ (λ (n : ℕ) (c : CommandHistory). reset_in n c) here.ended
-      (commands_restarted d r.rate (restarts (length j) (k + 1)) (given_before carry restarts j k) (commands_ended (first_commands r k) past) before.behind)
+      (elim (cases_Bool (restarts (length j) (k + 1))) [
+        | inl on ↦ rw on (ap (with_call Reset) before.behind)
+        | inr off ↦ rw off before.behind
+      ])
 
   -- at the MDT's place
   abbrev told : Option Told
@@ -61,14 +57,14 @@ module _ (r : RingView) (jobs : List Job) (carry : Carry) (restarts : Restarts) 
       processed_same d r.rate (length past) behind told v (stood_in v (standing past)) (sym cycle) here.ended here.got refl refl
       ∙ ap (processed_of v (length past) (stood_in v (standing past))) (got_or_none _ _ (told_so r jobs carry restarts valid t j next clear spelled k below sees agrees rests))
 
-  at_end : commands_at r carry restarts k (t ∷ j) ≡ reset_in (standing (v ∷ past)).ended (commands_left v past)
-  at_end =
-      let here = at_mst r jobs carry restarts valid t j next clear spelled k below sees agrees rests in
-      let after = sees_next r jobs carry restarts valid t j next clear spelled k below sees agrees rests in
-      ap₂ (λ (n : ℕ) (c : CommandHistory). reset_in n c) after.drive.ended
-      (ap₂ (λ (o : Option Processed) (h : List Processed). commands_after o h v.commands) processed_so here.records
-      ∙ commands_same v (length past) (stood_in v (standing past)) (got_in v) (kept_in v past))
-
   -- THE COMMANDS through one cycle more
   pub commands_next : AreCommandsSo r jobs carry restarts k (t ∷ j)
-  commands_next = record { follow = (before.follow, at_beat); behind = at_end }
+  commands_next = record {
+    follow = (before.follow, at_beat);
+    behind = let here = at_mst r jobs carry restarts valid t j next clear spelled
+        k below sees agrees rests in
+        let after = sees_next r jobs carry restarts valid t j next clear spelled k below sees agrees rests in
+        ap₂ (λ (n : ℕ) (c : CommandHistory). reset_in n c) after.drive.ended
+        (ap₂ (λ (o : Option Processed) (h : List Processed). commands_after o h v.commands) processed_so here.records
+        ∙ commands_same v (length past) (stood_in v (standing past)) (got_in v) (kept_in v past));
+  }

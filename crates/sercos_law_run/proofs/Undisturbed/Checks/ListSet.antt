@@ -1,8 +1,9 @@
 -- A setting of the check for phase 4 writes its list into block 22, and nothing else changes that block.
-use Rattle.sercos_law_run.proofs.Words.{◌≡◌, ℕ, Bool, true, false, not, ◌&&◌, List, [], ◌∷◌, Option, Some, None, refl, sym, ap, ap₂, ◌∙◌, subst, arith, if◌then◌else◌, ◌==◌, is_none, cond, eqb-true, same_Some, none-some, find_block, with_data, Block, unfit_for_phase_3, unfit_for_phase_4, list_bytes, is_command, ends_well, Wrote, Other, is_set, CommandHistory, with_call, find_set, without, with_set, set_in, SetCommand, is_none-settings, Write, command_value, blocks_with, commands_with, with_check_list, cases_Bool, cases_Option, inl, inr}
+use Rattle.sercos_law_run.proofs.Words.{◌≡◌, ℕ, Bool, true, false, not, ◌&&◌, List, [], ◌∷◌, Option, Some, None, refl, sym, ap, ap₂, ◌∙◌, subst, arith, if◌then◌else◌, ◌==◌, is_none, eqb-true, same_Some, none-some, with_data, Block, unfit_for_phase_3, unfit_for_phase_4, list_bytes, is_command, Wrote, CommandHistory, with_call, find_set, set_in, SetCommand, is_none-settings, Write, command_value, blocks_with, commands_with, with_check_list, cases_Bool, cases_Option, inl, inr}
 use Rattle.sercos_law_run.proofs.Undisturbed.Checks.BlockStays.{IsAt, written_at}
 use Rattle.sercos_law_run.proofs.Settings.Histories.{set_beside, set_cancelled}
 use Rattle.sercos_law_run.proofs.Undisturbed.Checks.OwnSet.{Say}
+use Rattle.sercos_law_run.proofs.Start.LaterLemmas.{after_check}
 
 -- block 22 has these bytes
 abbrev pub HasList : List ℕ → List Block → Type 0
@@ -16,42 +17,32 @@ pub record IsFair (bytes : List ℕ) (w : Write) (blocks : List Block) : Type 0 
 -- after a write the block has what was written
 now_at : (raw : ℕ) (bytes : List ℕ) (blocks : List Block) → IsAt raw (λ b. b.value ≡ bytes) (with_data raw bytes blocks)
 now_at raw bytes [] c found = absurd (cc)
-now_at raw bytes (b ∷ blocks) c found = by (b.idn.raw == raw) refl found (λ rest. now_at raw bytes blocks c rest)
-  where
-    by : (x : Bool) → (b.idn.raw == raw) ≡ x → find_block raw ((if x then record b { value = bytes } else b) ∷ with_data raw bytes blocks) ≡ Some c → (find_block raw (with_data raw bytes blocks) ≡ Some c → c.value ≡ bytes) → c.value ≡ bytes
-    by true is found rest =
-        ap (λ (x : Block). x.value) (sym (same_Some (record b { value = bytes }) c (sym (ap (λ (v : Bool). cond v (Some (record b { value = bytes })) (find_block raw (with_data raw bytes blocks))) is) ∙ found)))
-    by false is found rest = rest (sym (ap (λ (v : Bool). cond v (Some b) (find_block raw (with_data raw bytes blocks))) is) ∙ found)
+now_at raw bytes (b ∷ blocks) c found = elim (cases_Bool (b.idn.raw == raw)) [
+  | inl is ↦ ap (λ (x : Block). x.value) (sym (same_Some (record b { value = bytes }) c (rw (is, is) at found)))
+  | inr is ↦ now_at raw bytes blocks c (rw (is, is) at found)
+]
 
 -- WHAT A WRITE LEAVES of it
-listed : (bytes : List ℕ) (c : CommandHistory) (raw value : ℕ) (blocks : List Block) → (raw ≡ 128 → list_bytes (unfit_for_phase_4 blocks) ≡ bytes) → HasList bytes blocks → HasList bytes (with_check_list c raw value blocks)
-unfolding with_check_list
-listed bytes c raw value blocks lists is = by (not (value == 0) && not (is_set raw c.calls)) (raw == 127) (raw == 128) refl
-  where
-    by : (x y z : Bool) → (raw == 128) ≡ z → HasList bytes (if x then (if y then with_data 21 (list_bytes (unfit_for_phase_3 c.rate blocks)) blocks else (if z then with_data 22 (list_bytes (unfit_for_phase_4 blocks)) blocks else blocks)) else blocks)
-    by false y z at = is
-    by true true z at = written_at 22 21 (list_bytes (unfit_for_phase_3 c.rate blocks)) (λ b. b.value ≡ bytes) blocks (λ same b found. absurd (omega (arith, same))) is
-    by true false true at = written_at 22 22 (list_bytes (unfit_for_phase_4 blocks)) (λ b. b.value ≡ bytes) blocks (λ same b found. lists (eqb-true raw 128 at)) is
-    by true false false at = is
-
 pub list_left : (bytes : List ℕ) (o : Option Write) (c : CommandHistory) (blocks : List Block) → ((w : Write) → o ≡ Some w → IsFair bytes w blocks) → HasList bytes blocks → HasList bytes (blocks_with o c blocks)
 list_left bytes None c blocks fair is = is
-list_left bytes (Some w) c blocks fair is = elim (cases_Bool (is_command blocks w.raw)) [
-  | inl on ↦ rw on (listed bytes c w.raw (command_value w) (with_data w.raw w.bytes blocks) (fair w refl).lists written)
-  | inr off ↦ rw off written
-]
-  where
-    written : HasList bytes (with_data w.raw w.bytes blocks)
-    written = written_at 22 w.raw w.bytes (λ b. b.value ≡ bytes) blocks (λ same b found. absurd ((fair w refl).other same)) is
+list_left bytes (Some w) c blocks fair is =
+    let written = written_at 22 w.raw w.bytes (λ b. b.value ≡ bytes) blocks (λ same b found. absurd ((fair w refl).other same)) is in
+    elim (cases_Bool (is_command blocks w.raw)) [
+      | inl on ↦ rw on (after_check c (with_data w.raw w.bytes blocks) w.raw (command_value w) (HasList bytes) written
+          (written_at 22 21 (list_bytes (unfit_for_phase_3 c.rate (with_data w.raw w.bytes blocks))) (λ b. b.value ≡ bytes)
+          (with_data w.raw w.bytes blocks) (λ same b found. absurd (omega (arith, same))) written)
+          (λ two. written_at 22 22 (list_bytes (unfit_for_phase_4 (with_data w.raw w.bytes blocks))) (λ b. b.value ≡ bytes)
+          (with_data w.raw w.bytes blocks) (λ same b found. (fair w refl).lists (eqb-true w.raw 128 two)) written))
+      | inr off ↦ rw off written
+    ]
 
 -- A SETTING where the check wasn't set, and a cancel
 list_set : (bytes : List ℕ) (c : CommandHistory) (value : ℕ) (blocks : List Block) → (value == 0) ≡ false → find_set 128 (set_in c) ≡ None → list_bytes (unfit_for_phase_4 blocks) ≡ bytes → HasList bytes (with_check_list c 128 value blocks)
 unfolding with_check_list
 list_set bytes c value blocks some none lists =
+    let on = ap₂ (λ (x y : Bool). not x && y) some (sym (is_none-settings c.rate 128 c.calls) ∙ ap (λ (o : Option SetCommand). is_none o)
+    none) in
     subst (λ (x : Bool). HasList bytes (if x then with_data 22 (list_bytes (unfit_for_phase_4 blocks)) blocks else blocks)) (sym on) (λ b found. now_at 22 (list_bytes (unfit_for_phase_4 blocks)) blocks b found ∙ lists)
-  where
-    on : (not (value == 0) && not (is_set 128 c.calls)) ≡ true
-    on = ap₂ (λ (x y : Bool). not x && y) some (sym (is_none-settings c.rate 128 c.calls) ∙ ap (λ (o : Option SetCommand). is_none o) none)
 
 -- SO IF THE CHECK IS SET, block 22 has its list.
 pub set_lists : (bytes : List ℕ) (o : Option Write) (c : CommandHistory) (blocks : List Block) → is_command blocks 128 ≡ true → ((w : Write) → o ≡ Some w → IsFair bytes w blocks) → Say (λ s. HasList bytes blocks) c

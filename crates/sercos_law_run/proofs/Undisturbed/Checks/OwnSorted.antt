@@ -1,7 +1,6 @@
 -- The own blocks of a drive in its store are those of its description, ascending by identifier number; and the master takes the list of those
 -- that are outside from its bytes.
-use Rattle.sercos_law_run.proofs.Words.{◌≡◌, ℕ, Bool, true, false, not, ◌&&◌, List, [], ◌∷◌, ◌++◌, None, refl, sym, ap, ◌∙◌, arith, ◌≤◌, nat_le, nat_lt, cond, length, map, take, filter, list_all, and_from, and_parts, nat_tests, take_all, length-filter_both, is_built_in, blocks_fault, has_block, DriveView, Block, all_inserted, either_none, is_outside, list_bytes, idns_in, length_map, is_own_outside, built_in, with_own, store_of, cases_Bool, inl, inr}
-use Rattle.sercos_block.specs.Stores.{inserted}
+use Rattle.sercos_law_run.proofs.Words.{◌≡◌, ℕ, Bool, true, not, ◌&&◌, List, [], ◌∷◌, ◌++◌, None, refl, sym, ap, ◌∙◌, arith, ◌≤◌, nat_le, nat_lt, cond, length, map, take, filter, list_all, and_from, and_parts, nat_tests, take_all, length-filter_both, is_built_in, blocks_fault, has_block, DriveView, Block, all_inserted, either_none, is_outside, list_bytes, idns_in, length_map, is_own_outside, built_in, with_own, store_of, cases_Bool, inl, inr, inserted}
 use Rattle.sercos_law_run.proofs.Start.BlockFinds.{first_is_new}
 use Rattle.sercos_law_run.proofs.Start.WellLemmas.{read_back}
 
@@ -17,35 +16,28 @@ all_above : (p : Block → Bool) (low high : ℕ) (blocks : List Block) → nat_
 all_above p low high [] less all = refl
 all_above p low high (c ∷ blocks) less all =
     let parts = and_parts (nat_le high c.idn.raw) (list_all (λ (d : Block). nat_le high d.idn.raw) blocks) all in
-    let first = parts.0 in
-    by (p c) (let is : nat_lt low c.idn.raw ≡ true = grind (arith, nat_tests, less, first) in is) (all_above p low high blocks less parts.1)
-  where
-    by : (x : Bool) → nat_lt low c.idn.raw ≡ true → list_all (λ (d : Block). nat_lt low d.idn.raw) (filter p blocks) ≡ true → list_all (λ (d : Block). nat_lt low d.idn.raw) (cond x (c ∷ filter p blocks) (filter p blocks)) ≡ true
-    by true here rest = and_from (nat_lt low c.idn.raw) (list_all (λ (d : Block). nat_lt low d.idn.raw) (filter p blocks)) here rest
-    by false here rest = rest
+    let here : nat_lt low c.idn.raw ≡ true = grind (arith, nat_tests, less, parts.0) in
+    let rest = all_above p low high blocks less parts.1 in elim (cases_Bool (p c)) [ inl on ↦ rw (on, here) rest | inr off ↦ rw off rest ]
 
 all_more : (low high : ℕ) (blocks : List Block) → nat_lt low high ≡ true → list_all (λ (c : Block). nat_le high c.idn.raw) blocks ≡ true → list_all (λ (c : Block). nat_le low c.idn.raw) blocks ≡ true
 all_more low high [] less all = refl
 all_more low high (c ∷ blocks) less all =
     let parts = and_parts (nat_le high c.idn.raw) (list_all (λ (d : Block). nat_le high d.idn.raw) blocks) all in
-    let first = parts.0 in
-    and_from (nat_le low c.idn.raw) (list_all (λ (d : Block). nat_le low d.idn.raw) blocks) (let is : nat_le low c.idn.raw ≡ true = grind (arith, nat_tests, less, first) in is) (all_more low high blocks less parts.1)
+    let here : nat_le low c.idn.raw ≡ true = grind (arith, nat_tests, less, parts.0) in rw here (all_more low high blocks less parts.1)
 
 ordered_inserted : (b : Block) (blocks : List Block) → are_ordered blocks ≡ true → are_ordered (inserted b blocks) ≡ true
 unfolding inserted
 ordered_inserted b [] ordered = refl
-ordered_inserted b (c ∷ blocks) ordered = by (nat_lt b.idn.raw c.idn.raw) refl (ordered_inserted b blocks parts.1)
-  where
-    parts : (list_all (λ (d : Block). nat_le c.idn.raw d.idn.raw) blocks ≡ true) × (are_ordered blocks ≡ true)
-    parts = and_parts (list_all (λ (d : Block). nat_le c.idn.raw d.idn.raw) blocks) (are_ordered blocks) ordered
-
-    by : (x : Bool) → nat_lt b.idn.raw c.idn.raw ≡ x → are_ordered (inserted b blocks) ≡ true → are_ordered (cond x (b ∷ c ∷ blocks) (c ∷ inserted b blocks)) ≡ true
-    by true less more =
-        and_from (list_all (λ (d : Block). nat_le b.idn.raw d.idn.raw) (c ∷ blocks)) (are_ordered (c ∷ blocks))
-        (and_from (nat_le b.idn.raw c.idn.raw) (list_all (λ (d : Block). nat_le b.idn.raw d.idn.raw) blocks) (let is : nat_le b.idn.raw c.idn.raw ≡ true = grind (arith, nat_tests, less) in is) (all_more b.idn.raw c.idn.raw blocks less parts.0)) ordered
-    by false less more =
-        and_from (list_all (λ (d : Block). nat_le c.idn.raw d.idn.raw) (inserted b blocks)) (are_ordered (inserted b blocks))
-        (all_inserted (λ (d : Block). nat_le c.idn.raw d.idn.raw) b blocks (let is : nat_le c.idn.raw b.idn.raw ≡ true = grind (arith, nat_tests, less) in is) parts.0) more
+ordered_inserted b (c ∷ blocks) ordered =
+    let parts = and_parts (list_all (λ (d : Block). nat_le c.idn.raw d.idn.raw) blocks) (are_ordered blocks) ordered in
+    elim (cases_Bool (nat_lt b.idn.raw c.idn.raw)) [
+      | inl less ↦
+          let here : nat_le b.idn.raw c.idn.raw ≡ true = grind (arith, nat_tests, less) in
+          rw (less, here, all_more b.idn.raw c.idn.raw blocks less parts.0) ordered
+      | inr less ↦
+          let here : nat_le c.idn.raw b.idn.raw ≡ true = grind (arith, nat_tests, less) in
+          rw (less, all_inserted (λ (d : Block). nat_le c.idn.raw d.idn.raw) b blocks here parts.0) (ordered_inserted b blocks parts.1)
+    ]
 
 -- A block that is less than all comes first.
 inserted_first : (b : Block) (blocks : List Block) → list_all (λ (c : Block). nat_lt b.idn.raw c.idn.raw) blocks ≡ true → inserted b blocks ≡ b ∷ blocks
@@ -57,30 +49,18 @@ inserted_first b (c ∷ blocks) all =
 filter_inserted : (p : Block → Bool) (b : Block) (blocks : List Block) → are_ordered blocks ≡ true → p b ≡ true → filter p (inserted b blocks) ≡ inserted b (filter p blocks)
 unfolding inserted
 filter_inserted p b [] ordered is = ap (λ (v : Bool). cond v (b ∷ []) []) is
-filter_inserted p b (c ∷ blocks) ordered is = by (nat_lt b.idn.raw c.idn.raw) (p c) refl refl (filter_inserted p b blocks parts.1 is)
-  where
-    parts : (list_all (λ (d : Block). nat_le c.idn.raw d.idn.raw) blocks ≡ true) × (are_ordered blocks ≡ true)
-    parts = and_parts (list_all (λ (d : Block). nat_le c.idn.raw d.idn.raw) blocks) (are_ordered blocks) ordered
-
-    first : filter p (b ∷ c ∷ blocks) ≡ b ∷ filter p (c ∷ blocks)
-    first = ap (λ (v : Bool). cond v (b ∷ filter p (c ∷ blocks)) (filter p (c ∷ blocks))) is
-
-    by : (x y : Bool) → nat_lt b.idn.raw c.idn.raw ≡ x → p c ≡ y → filter p (inserted b blocks) ≡ inserted b (filter p blocks) → filter p (cond x (b ∷ c ∷ blocks) (c ∷ inserted b blocks)) ≡ inserted b (cond (p c) (c ∷ filter p blocks) (filter p blocks))
-    by true true less own more =
-        first ∙ ap (λ (v : Bool). b ∷ cond v (c ∷ filter p blocks) (filter p blocks)) own
-        ∙ sym (ap (λ (v : Bool). cond v (b ∷ c ∷ filter p blocks) (c ∷ inserted b (filter p blocks))) less)
-        ∙ sym (ap (λ (v : Bool). inserted b (cond v (c ∷ filter p blocks) (filter p blocks))) own)
-    by true false less own more =
-        first ∙ ap (λ (v : Bool). b ∷ cond v (c ∷ filter p blocks) (filter p blocks)) own
-        ∙ sym (inserted_first b (filter p blocks) (all_above p b.idn.raw c.idn.raw blocks less parts.0))
-        ∙ sym (ap (λ (v : Bool). inserted b (cond v (c ∷ filter p blocks) (filter p blocks))) own)
-    by false true less own more =
-        ap (λ (v : Bool). cond v (c ∷ filter p (inserted b blocks)) (filter p (inserted b blocks))) own ∙ ap (λ (l : List Block). c ∷ l) more
-        ∙ sym (ap (λ (v : Bool). cond v (b ∷ c ∷ filter p blocks) (c ∷ inserted b (filter p blocks))) less)
-        ∙ sym (ap (λ (v : Bool). inserted b (cond v (c ∷ filter p blocks) (filter p blocks))) own)
-    by false false less own more =
-        ap (λ (v : Bool). cond v (c ∷ filter p (inserted b blocks)) (filter p (inserted b blocks))) own ∙ more
-        ∙ sym (ap (λ (v : Bool). inserted b (cond v (c ∷ filter p blocks) (filter p blocks))) own)
+filter_inserted p b (c ∷ blocks) ordered is =
+    let parts = and_parts (list_all (λ (d : Block). nat_le c.idn.raw d.idn.raw) blocks) (are_ordered blocks) ordered in
+    elim (cases_Bool (nat_lt b.idn.raw c.idn.raw)) [
+      | inl less ↦ elim (cases_Bool (p c)) [
+        | inl own ↦ rw (less, is, own, less)
+        | inr own ↦ rw (less, is, own) (sym (inserted_first b (filter p blocks) (all_above p b.idn.raw c.idn.raw blocks less parts.0)))
+      ]
+      | inr less ↦ elim (cases_Bool (p c)) [
+        | inl own ↦ rw (less, own, less, filter_inserted p b blocks parts.1 is)
+        | inr own ↦ rw (less, own) (filter_inserted p b blocks parts.1 is)
+      ]
+    ]
 
 filter_with_own : (p : Block → Bool) (own blocks : List Block) → are_ordered blocks ≡ true → list_all p own ≡ true → filter p (with_own blocks own) ≡ with_own (filter p blocks) own
 unfolding with_own
@@ -121,11 +101,8 @@ own_sorted d rules =
 pub list_back : (d : DriveView) → blocks_fault [] d.blocks ≡ None → length (store_of d) ≤ 64
     → take 64 (idns_in (list_bytes (map (λ (b : Block). b.idn) (filter is_own_outside (store_of d))))) ≡ map (λ (b : Block). b.idn) (filter is_outside (with_own [] d.blocks))
 list_back d rules few =
+    let listed = length_map (λ (b : Block). b.idn) (filter is_own_outside (store_of d)) in
+    let parts = length-filter_both is_own_outside (λ (b : Block). not (is_own_outside b)) (λ b. refl) (store_of d) in
     ap (take 64) (read_back (map (λ (b : Block). b.idn) (filter is_own_outside (store_of d))))
-    ∙ take_all 64 (map (λ (b : Block). b.idn) (filter is_own_outside (store_of d))) short
+    ∙ take_all 64 (map (λ (b : Block). b.idn) (filter is_own_outside (store_of d))) (omega (arith, listed, parts, few))
     ∙ ap (map (λ (b : Block). b.idn)) (own_sorted d rules)
-  where
-    short : length (map (λ (b : Block). b.idn) (filter is_own_outside (store_of d))) ≤ 64
-    short =
-        let listed = length_map (λ (b : Block). b.idn) (filter is_own_outside (store_of d)) in
-        let parts = length-filter_both is_own_outside (λ (b : Block). not (is_own_outside b)) (λ b. refl) (store_of d) in omega (arith, listed, parts, few)

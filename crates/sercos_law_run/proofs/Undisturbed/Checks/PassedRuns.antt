@@ -1,54 +1,45 @@
 -- Where the master commands the next phase, a drive's check counts as passed: in every run in which nothing was unseen, if the drive doesn't
 -- restart in this very cycle.
-use Rattle.sercos_law_run.proofs.Words.{◌≡◌, inl, inr, ℕ, suc, ◌+◌, ◌<◌, ◌≤◌, Bool, true, false, not, List, [], ◌∷◌, length, Option, None, refl, sym, ap, ◌∙◌, subst, arith, if◌then◌else◌, is_some, cases_eq, and_parts, cond-false, ne_eqb, Job, blocks_fault, store_of, RingView, is_command, Reset, CommandHistory, with_call, first_passed_in, Processed, commands_with, Begun, annals, may_rise, reset_in, CycleView, member, known_of, tasks_for, is_checked, is_ready, outcomes_in, Past, outcomes, fall_of, is_done, is_done_in, each_passes, jobs_waiting, Carry, Restarts, View, standing, stood_in, processed_in, kept_in, command, begun_in, write_of, Stands, Down, stands, ends, Processes, Nothing, Record, processes, commanded, passes_by_setting, passes_last, stays_passed, stays_passed_last, drive_at, with_restart, given_before, middle, IsRun, IsClear, AreBegunTasks, behind_mdt, view_of, views_of, IsOpened, IsPassed, commands_ended, commands_before, CommandsFollow, is_passed}
-use Rattle.sercos_law_run.proofs.Start.CheckPasses.{ring_drive}
-use Rattle.sercos_law_channel.specs.Handshake.Runs.{IsNext as IsNextView}
+use Rattle.sercos_law_run.proofs.Words.{◌≡◌, inl, inr, ℕ, suc, ◌+◌, ◌<◌, ◌≤◌, Bool, true, false, not, List, [], ◌∷◌, length, Option, refl, sym, ap, ◌∙◌, subst, arith, if◌then◌else◌, is_some, cases_eq, and_parts, cond-false, ne_eqb, Job, store_of, RingView, is_command, Reset, CommandHistory, with_call, first_passed_in, Processed, commands_with, Begun, annals, may_rise, reset_in, CycleView, member, known_of, is_checked, is_ready, outcomes_in, Past, outcomes, fall_of, is_done, is_done_in, each_passes, jobs_waiting, Carry, Restarts, View, standing, stood_in, processed_in, kept_in, command, begun_in, write_of, Down, stands, ends, Nothing, Record, processes, commanded, passes_by_setting, passes_last, stays_passed, stays_passed_last, drive_at, with_restart, given_before, middle, IsRun, IsClear, behind_mdt, view_of, views_of, IsOpened, IsPassed, commands_ended, commands_before, CommandsFollow, is_passed, IsNextView, command_calls}
 use Rattle.sercos_law_channel.proofs.Theorems.{Moves, Stays}
 use Rattle.sercos_law_run.proofs.Views.Members.{members_count}
 use Rattle.sercos_law_run.proofs.Views.ViewRuns.{command_below, views_count}
-use Rattle.sercos_law_run.proofs.Held.Runs.{drive_got, small, phase_same, begun_then}
+use Rattle.sercos_law_run.proofs.Held.Runs.{small, drive_rules}
 use Rattle.sercos_law_run.proofs.Settings.Histories.{reset_if}
 use Rattle.sercos_law_run.proofs.Settings.WellSets.{is_command_127}
-use Rattle.sercos_law_run.proofs.Headline.HeadlineRuns.{first_store, stored_in, spelled_in, all_stand}
+use Rattle.sercos_law_run.proofs.Headline.HeadlineRuns.{first_store, all_stand}
 use Rattle.sercos_law_run.proofs.Undisturbed.Checks.CheckLogs.{PassesIfSet, StaysIfCancelled, CountsBy}
 use Rattle.sercos_law_run.proofs.Undisturbed.Checks.CheckTasks.{IsCheckNewest, check_127, check_128}
 use Rattle.sercos_law_run.proofs.Undisturbed.Checks.CheckedViews.{check_counts}
 use Rattle.sercos_law_run.proofs.Undisturbed.Checks.CommandCalls.{keeps_before, check_passed}
 use Rattle.sercos_law_run.proofs.Undisturbed.Checks.CommandRuns.{first_commands, AreCommandsSo}
-use Rattle.sercos_law_run.proofs.Undisturbed.JobsBegun.{wells}
+use Rattle.sercos_law_run.proofs.Undisturbed.JobsBegun.{begun_then, tasks_then, wells}
+use Rattle.sercos_law_run.proofs.Undisturbed.StaysUp.{phase_now}
 use Rattle.sercos_law_run.proofs.Undisturbed.Checks.WellGiven.{is_command_128}
-use Rattle.sercos_law_run.proofs.Cited.{begins_tasks}
-use Rattle.sercos_drive.specs.Moments.{calls_in}
 
 -- A drive that is a phase below the commanded one at the end of a cycle, and was so before, got no MST in it: so all stays.
 stays_below : (passed : CommandHistory → Option ℕ) (busy n : ℕ) (c : CommandHistory) (v : View) (past : List View) → IsNextView busy v past → CommandsFollow c (v ∷ past) → 1 ≤ n → v.phase ≡ n + 1 → (standing (v ∷ past)).ended ≡ n
     → (command past ≡ n + 1 → (standing past).ended ≡ n → CountsBy passed (commands_ended c past) (length past)) → CountsBy passed (commands_ended c (v ∷ past)) (suc (length past))
-stays_below passed busy n c v past next follow some phase ended before = by stood (stands v (standing past))
+stays_below passed busy n c v past next follow some phase ended before =
+    let stood : stood_in v (standing past) ≡ n = elim (ends v past)
+    [ inl zero_is ↦ absurd (omega (arith, zero_is, ended, some)) | inr same ↦ sym same ∙ ended ] in
+    let same_phase : command past ≡ n + 1 = elim (commanded v past next.commanded)
+    [ inl r ↦ absurd (omega (arith, r.1, phase)) | inr on ↦ sym on.1 ∙ phase ] in
+    elim (stands v (standing past)) [
+      | Down zero_is ↦ absurd (omega (arith, zero_is, stood, some))
+      | Moves came is low high ↦ absurd (omega (arith, is, stood, phase))
+      | Stays missed got still is ↦
+          let earlier = before same_phase (sym is ∙ stood) in
+          let unchanged : commands_ended c (v ∷ past) ≡ v.commands =
+          kept (standing (v ∷ past)).ended (commands_with (write_of (processed_in v past) (kept_in v past)) v.blocks v.commands) ended
+          ∙ ap (λ (o : Option Processed). commands_with (write_of o (kept_in v past)) v.blocks v.commands)
+          (elim (processes v past) [ Nothing none ↦ none | Record s got came two is ↦ absurd (cc) ]) in
+          let follows : v.commands ≡ commands_ended c past = follow.1 ∙ kept (stood_in v (standing past)) (commands_before c v past) stood ∙ cond-false v.drive_restarts (with_call Reset (commands_ended c past)) (commands_ended c past) still in
+          (earlier.0, ap passed (unchanged ∙ follows) ∙ earlier.1, omega (arith, earlier.2))
+    ]
   where
-    stood : stood_in v (standing past) ≡ n
-    stood = elim (ends v past) [ inl zero_is ↦ absurd (omega (arith, zero_is, ended, some)) | inr same ↦ sym same ∙ ended ]
-
-    same_phase : command past ≡ n + 1
-    same_phase = elim (commanded v past next.commanded) [ inl r ↦ let zero_is = r.1 in absurd (omega (arith, zero_is, phase)) | inr on ↦ sym on.1 ∙ phase ]
-
     kept : (m : ℕ) (x : CommandHistory) → m ≡ n → reset_in m x ≡ x
     kept m x is = ap (λ (zero : Bool). reset_if zero x) (ne_eqb m 0 (λ e. omega (arith, e, is, some)))
-
-    nothing : v.mst_comes ≡ false → Processes v past → processed_in v past ≡ None
-    nothing missed (Nothing none) = none
-    nothing missed (Record s got came two is) = absurd (cc)
-
-    by : stood_in v (standing past) ≡ n → Stands v (standing past) → CountsBy passed (commands_ended c (v ∷ past)) (suc (length past))
-    by at (Down zero_is) = absurd (omega (arith, zero_is, at, some))
-    by at (Moves came is low high) = absurd (omega (arith, is, at, phase))
-    by at (Stays missed got still is) =
-        let earlier = before same_phase (sym is ∙ at) in
-        let unchanged : commands_ended c (v ∷ past) ≡ v.commands =
-        kept (standing (v ∷ past)).ended (commands_with (write_of (processed_in v past) (kept_in v past)) v.blocks v.commands) ended
-        ∙ ap (λ (o : Option Processed). commands_with (write_of o (kept_in v past)) v.blocks v.commands) (nothing missed (processes v past)) in
-        let follows : v.commands ≡ commands_ended c past = follow.1 ∙ kept (stood_in v (standing past)) (commands_before c v past) at ∙ cond-false v.drive_restarts (with_call Reset (commands_ended c past)) (commands_ended c past) still in
-        let le = earlier.2 in
-        (earlier.0, ap passed (unchanged ∙ follows) ∙ earlier.1, omega (arith, le))
 
 module _ (r : RingView) (jobs : List Job) (carry : Carry) (restarts : Restarts) (opened : IsOpened r jobs) where
   -- the procedure commands of each drive
@@ -63,48 +54,34 @@ module _ (r : RingView) (jobs : List Job) (carry : Carry) (restarts : Restarts) 
     abbrev p : Past
     p = behind_mdt r jobs carry restarts t.sent j
 
-    inside : k < length (known_of r).drives
-    inside = let count = members_count r in omega (arith, below, count)
-
     phase_is : p.now.phase ≡ v.phase
-    phase_is =
-        phase_same r jobs carry restarts opened (first_store r jobs carry restarts opened) t j run.1 clear.1
-        (spelled_in r jobs carry restarts opened t j run.1) (stored_in r jobs carry restarts opened t j)
-        (all_stand r jobs carry restarts opened j run.0 clear.0)
-        ∙ sym run.1.phase
+    phase_is = phase_now r jobs carry restarts opened t j run.1
 
-    tasks_are : AreBegunTasks (known_of r) k p.plan (p.waiting k) p.now.phase (begun_in v (views_of r jobs carry restarts k j)) (p.tasks k)
-    tasks_are = subst (λ (l : List Begun). AreBegunTasks (known_of r) k p.plan (p.waiting k) p.now.phase l (p.tasks k))
-        (begun_then r jobs carry restarts opened (first_store r jobs carry restarts opened) t j run.1 clear.1
-        (spelled_in r jobs carry restarts opened t j run.1) (stored_in r jobs carry restarts opened t j)
-        (all_stand r jobs carry restarts opened j run.0 clear.0) k below)
-        (begins_tasks (known_of r) (tasks_for (known_of r) jobs) (middle r carry restarts t.sent j) k inside)
-
-    outcomes_are : outcomes p k ≡ outcomes_in (begun_in v (views_of r jobs carry restarts k j))
-    outcomes_are = ap outcomes_in
-        (begun_then r jobs carry restarts opened (first_store r jobs carry restarts opened) t j run.1 clear.1
-        (spelled_in r jobs carry restarts opened t j run.1) (stored_in r jobs carry restarts opened t j)
-        (all_stand r jobs carry restarts opened j run.0 clear.0) k below)
-
-    done : v.rises ≡ true → is_done (known_of r) p ≡ true
-    done up = (and_parts (not (is_some (fall_of (known_of r) p))) (is_done (known_of r) p) up).1
+    done : v.rises ≡ true → (n : ℕ) → v.phase ≡ n → is_done_in n (known_of r) p ≡ true
+    done up n at = sym (ap (λ (m : ℕ). is_done_in m (known_of r) p) (phase_is ∙ at))
+        ∙ (and_parts (not (is_some (fall_of (known_of r) p))) (is_done (known_of r) p) up).1
 
     -- at a rise the newest request is the check
     rises_127 : v.rises ≡ true → v.phase ≡ 2 → IsCheckNewest (store_of (drive_at r k)) 127 (begun_in v (views_of r jobs carry restarts k j))
-    rises_127 up two =
-        let at : p.now.phase ≡ 2 = phase_is ∙ two in
-        let all = sym (ap (λ (n : ℕ). is_done_in n (known_of r) p) at) ∙ done up in
-        let checked = each_passes (length (known_of r).drives) 0 (λ i. is_checked (member (known_of r) i) (outcomes p i)) all k (omega arith) (let low = inside in omega (arith, low)) in
-        check_127 (known_of r) k (store_of (drive_at r k)) p.plan (p.waiting k) p.now.phase (jobs_waiting (known_of r) jobs (middle r carry restarts t.sent j) k) (omega (arith, at)) (begun_in v (views_of r jobs carry restarts k j)) (p.tasks k) tasks_are
-        (ap (λ (l : List _). is_checked (member (known_of r) k) l) (sym outcomes_are) ∙ checked)
+    rises_127 up at =
+        check_127 (known_of r) k (store_of (drive_at r k)) p.plan (p.waiting k) p.now.phase
+        (jobs_waiting (known_of r) jobs (middle r carry restarts t.sent j) k) (omega (arith, phase_is, at))
+        (begun_in v (views_of r jobs carry restarts k j)) (p.tasks k) (tasks_then r jobs carry restarts opened t j run clear k below)
+        (ap (λ (l : List Begun). is_checked (member (known_of r) k) (outcomes_in l))
+        (sym (begun_then r jobs carry restarts opened t j run clear k below))
+        ∙ each_passes (length (known_of r).drives) 0 (λ i. is_checked (member (known_of r) i) (outcomes p i)) (done up 2 at) k (omega arith)
+        (omega (arith, below, members_count r)))
 
-    rises_128 : v.rises ≡ true → v.phase ≡ 3 → IsCheckNewest (store_of (drive_at r k)) 128 (begun_in v (views_of r jobs carry restarts k j))
-    rises_128 up three =
-        let at : p.now.phase ≡ 3 = phase_is ∙ three in
-        let all = sym (ap (λ (n : ℕ). is_done_in n (known_of r) p) at) ∙ done up in
-        let ready = each_passes (length (known_of r).drives) 0 (λ i. is_ready (member (known_of r) i) (outcomes p i)) all k (omega arith) (let low = inside in omega (arith, low)) in
-        check_128 (known_of r) k (store_of (drive_at r k)) p.plan (p.waiting k) p.now.phase (jobs_waiting (known_of r) jobs (middle r carry restarts t.sent j) k) (omega (arith, at)) (begun_in v (views_of r jobs carry restarts k j)) (p.tasks k) tasks_are
-        (ap (λ (l : List _). is_ready (member (known_of r) k) l) (sym outcomes_are) ∙ ready)
+    pub rises_128 : v.rises ≡ true → v.phase ≡ 3
+        → IsCheckNewest (store_of (drive_at r k)) 128 (begun_in v (views_of r jobs carry restarts k j))
+    rises_128 up at =
+        check_128 (known_of r) k (store_of (drive_at r k)) p.plan (p.waiting k) p.now.phase
+        (jobs_waiting (known_of r) jobs (middle r carry restarts t.sent j) k) (omega (arith, phase_is, at))
+        (begun_in v (views_of r jobs carry restarts k j)) (p.tasks k) (tasks_then r jobs carry restarts opened t j run clear k below)
+        (ap (λ (l : List Begun). is_ready (member (known_of r) k) (outcomes_in l))
+        (sym (begun_then r jobs carry restarts opened t j run clear k below))
+        ∙ each_passes (length (known_of r).drives) 0 (λ i. is_ready (member (known_of r) i) (outcomes p i)) (done up 3 at) k (omega arith)
+        (omega (arith, below, members_count r)))
 
     -- so it counts as passed at the end of this cycle, if the drive is up
     counts_so : (raw n : ℕ) (passed : CommandHistory → Option ℕ) → PassesIfSet raw passed → StaysIfCancelled raw passed → is_command (store_of (drive_at r k)) raw ≡ true → 1 ≤ n → v.phase ≡ n → v.falls ≡ false
@@ -115,8 +92,7 @@ module _ (r : RingView) (jobs : List Job) (carry : Carry) (restarts : Restarts) 
         let counts = check_counts raw passed sets stays (drive_at r k).busy (store_of (drive_at r k)) (small r jobs carry restarts opened (first_store r jobs carry restarts opened) k below) command
         (first_commands r k) refl v (views_of r jobs carry restarts k j) now.sees.run now.sound (commands_so (t ∷ j) run clear k below).follow (omega (arith, phase, some)) on (λ zero_is. omega (arith, zero_is, ended, some))
         newest.one newest.older newest.bytes newest.split newest.asks newest.complete newest.well newest.away in
-        let le = counts.2 in
-        (counts.0, counts.1, omega (arith, le))
+        (counts.0, counts.1, omega (arith, counts.2))
 
   -- WHILE THE DRIVE IS A PHASE BELOW the one that is commanded next, its check counts as passed.
   module _ (raw n : ℕ) (some : 1 ≤ n) (passed : CommandHistory → Option ℕ) (sets : PassesIfSet raw passed)
@@ -140,38 +116,31 @@ module _ (r : RingView) (jobs : List Job) (carry : Carry) (restarts : Restarts) 
               stays_below passed (drive_at r k).busy n (first_commands r k) (view_of r jobs carry restarts k t j) (views_of r jobs carry restarts k j) (all_stand r jobs carry restarts opened (t ∷ j) run clear k below).sees.run.1
               (commands_so (t ∷ j) run clear k below).follow some is ended before
 
-  rules : (k : ℕ) → k < length r.drives → blocks_fault [] (drive_at r k).blocks ≡ None
-  rules k below = (ring_drive r k (drive_at r k) opened.valid (drive_got r k below)).blocks
-
-  pub counts_for_3 : (j : List CycleView) → IsRun r jobs carry restarts j → IsClear j → (k : ℕ) → k < length r.drives → command (views_of r jobs carry restarts k j) ≡ 3 → (standing (views_of r jobs carry restarts k j)).ended ≡ 2
-      → CountsBy (first_passed_in 127) (commands_ended (first_commands r k) (views_of r jobs carry restarts k j)) (length (views_of r jobs carry restarts k j))
-  counts_for_3 = counts_below 127 2 (omega arith) (first_passed_in 127) passes_by_setting stays_passed (λ k below. is_command_127 (drive_at r k) (store_of (drive_at r k)) (rules k below) refl) rises_127
-
-  pub counts_for_4 : (j : List CycleView) → IsRun r jobs carry restarts j → IsClear j → (k : ℕ) → k < length r.drives → command (views_of r jobs carry restarts k j) ≡ 4 → (standing (views_of r jobs carry restarts k j)).ended ≡ 3
-      → CountsBy (first_passed_in 128) (commands_ended (first_commands r k) (views_of r jobs carry restarts k j)) (length (views_of r jobs carry restarts k j))
-  counts_for_4 = counts_below 128 3 (omega arith) (first_passed_in 128) passes_last stays_passed_last (λ k below. is_command_128 (drive_at r k) (store_of (drive_at r k)) (rules k below) refl) rises_128
-
   -- PASSED. A restart in this cycle would undo the check.
   pub passed_in : (t : CycleView) (j : List CycleView) → IsRun r jobs carry restarts (t ∷ j) → IsClear (t ∷ j) → (k : ℕ) → k < length r.drives → restarts (length j) (k + 1) ≡ false
       → IsPassed (view_of r jobs carry restarts k t j) (views_of r jobs carry restarts k j)
   passed_in t j run clear k below still late up = elim (cases_eq t.phase 3) [
     | inl three ↦ unrestarted ∙ at 3 three ∙ passed 127
-        (counts_for_3 j run.0 clear.0 k below (sym (going 3 three (omega arith)) ∙ three) (let lower = up in omega (arith, lower, three)))
+        ((counts_below 127 2 (omega arith) (first_passed_in 127) passes_by_setting stays_passed
+        (λ k below. is_command_127 (drive_at r k) (store_of (drive_at r k)) (drive_rules r k opened.valid below) refl) rises_127) j
+        run.0 clear.0 k below (sym (going 3 three (omega arith)) ∙ three) (omega (arith, up, three)))
     | inr other ↦
-        let four : t.phase ≡ 4 = let most = high in omega (arith, late, other, most) in
-        unrestarted ∙ at 4 four ∙ passed 128 (counts_for_4 j run.0 clear.0 k below (sym (going 4 four (omega arith)) ∙ four)
-        (let lower = up in omega (arith, lower, four)))
+        let four : t.phase ≡ 4 = omega (arith, late, other, high) in
+        unrestarted ∙ at 4 four ∙ passed 128 ((counts_below 128 3 (omega arith) (first_passed_in 128) passes_last stays_passed_last
+        (λ k below. is_command_128 (drive_at r k) (store_of (drive_at r k)) (drive_rules r k opened.valid below) refl) rises_128) j
+        run.0 clear.0 k below (sym (going 4 four (omega arith)) ∙ four)
+        (omega (arith, up, four)))
   ]
     where
       sees_run : IsNextView (drive_at r k).busy (view_of r jobs carry restarts k t j) (views_of r jobs carry restarts k j)
       sees_run = (all_stand r jobs carry restarts opened (t ∷ j) run clear k below).sees.run.1
 
       going : (n : ℕ) → t.phase ≡ n → 1 ≤ n → t.phase ≡ command (views_of r jobs carry restarts k j)
-      going n is some = elim (commanded (view_of r jobs carry restarts k t j) (views_of r jobs carry restarts k j) sees_run.commanded) [ inl down ↦ let zero_is = down.1 in absurd (omega (arith, zero_is, is, some)) | inr on ↦ on.1 ]
+      going n is some = elim (commanded (view_of r jobs carry restarts k t j) (views_of r jobs carry restarts k j) sees_run.commanded) [ inl down ↦ absurd (omega (arith, down.1, is, some)) | inr on ↦ on.1 ]
 
       high : t.phase ≤ 4
       high = elim (commanded (view_of r jobs carry restarts k t j) (views_of r jobs carry restarts k j) sees_run.commanded) [
-        | inl down ↦ let zero_is = down.1 in omega (arith, zero_is)
+        | inl down ↦ omega (arith, down.1)
         | inr on ↦ subst (λ (n : ℕ). n ≤ 4) (sym on.1) (command_below (drive_at r k).busy (views_of r jobs carry restarts k j) (all_stand r jobs carry restarts opened (t ∷ j) run clear k below).sees.run.0)
       ]
 
@@ -181,13 +150,11 @@ module _ (r : RingView) (jobs : List Job) (carry : Carry) (restarts : Restarts) 
       at : (n : ℕ) → t.phase ≡ n → may_rise (drive_at r k) r.rate (length j) t.phase (annals (drive_at r k) r.rate (given_before carry restarts j k)) ≡ may_rise (drive_at r k) r.rate (length j) n (annals (drive_at r k) r.rate (given_before carry restarts j k))
       at n is = ap (λ (m : ℕ). may_rise (drive_at r k) r.rate (length j) m (annals (drive_at r k) r.rate (given_before carry restarts j k))) is
 
-      same : length (views_of r jobs carry restarts k j) ≡ length j
-      same = views_count r jobs carry restarts k j
-
       passed : (raw : ℕ) → CountsBy (first_passed_in raw) (commands_ended (first_commands r k) (views_of r jobs carry restarts k j))
           (length (views_of r jobs carry restarts k j))
-          → is_passed r.rate (drive_at r k).command raw (calls_in (annals (drive_at r k) r.rate (given_before carry restarts j k)))
+          → is_passed r.rate (drive_at r k).command raw (command_calls (annals (drive_at r k) r.rate (given_before carry restarts j k)))
           (length j) ≡ true
       passed raw (first, is, le) = check_passed raw (drive_at r k) r.rate (length j) first
           (annals (drive_at r k) r.rate (given_before carry restarts j k)) (keeps_before r carry restarts k j)
-          (ap (first_passed_in raw) (commands_so j run.0 clear.0 k below).behind ∙ is) (let long = same in omega (arith, le, long))
+          (ap (first_passed_in raw) (commands_so j run.0 clear.0 k below).behind ∙ is)
+          (omega (arith, le, views_count r jobs carry restarts k j))

@@ -1,11 +1,9 @@
 -- The list of a check for phase 4 names at most 37 blocks: a drive's own ones, of which there are 36, and the cycle time.
-use Rattle.sercos_law_run.proofs.Words.{◌≡◌, inl, inr, ℕ, zero, suc, ◌+◌, ◌<◌, ◌≤◌, Bool, true, false, ◌||◌, List, [], ◌∷◌, ◌++◌, length, map, Option, Some, None, refl, sym, ap, ◌∙◌, subst, arith, if◌then◌else◌, ◌==◌, nat_lt, nat_le, is_some, slice_index_or, cond, cases_eq, false≢true, and_parts, leb-true, nat_tests, none-some, Job, built_in_block, row, Empty, is_ring, blocks_fault, find_block, is_below, is_above, put_fault, are_ascending, DriveView, RingView, Block, is_outside, list_bytes, blocks_in, annals, CycleView, Carry, Restarts, IsStoreOf, kept, AreListed, no_drive, drive_at, given_mst, views_of, built_in, is_drive, are_drives, has_blocks, with_own, store_of, unfit_for_phase_4, length_map, cases_Bool}
-use Rattle.std.proofs.Common.{filter}
-use Rattle.sercos_block.specs.Stores.{inserted}
+use Rattle.sercos_law_run.proofs.Words.{◌≡◌, inl, inr, ℕ, zero, suc, ◌+◌, ◌<◌, ◌≤◌, Bool, true, ◌||◌, List, [], ◌∷◌, ◌++◌, length, map, Option, Some, None, refl, sym, ap, ◌∙◌, subst, arith, if◌then◌else◌, ◌==◌, nat_lt, nat_le, is_some, slice_index_or, cases_eq, false≢true, and_parts, leb-true, none-some, Job, is_ring, blocks_fault, find_block, is_below, is_above, put_fault, are_ascending, DriveView, RingView, Block, is_outside, list_bytes, blocks_in, annals, CycleView, Carry, Restarts, IsStoreOf, kept, AreListed, no_drive, drive_at, given_mst, views_of, built_in, is_drive, are_drives, has_blocks, with_own, store_of, unfit_for_phase_4, length_map, cases_Bool, same_Some, ne_eqb, filter, inserted}
 use Rattle.sercos_law_run.proofs.Start.BlockFinds.{find_store_of, kept_field}
 use Rattle.sercos_law_run.proofs.Start.KeptLemmas.{refuse_alike}
 use Rattle.sercos_law_run.proofs.Journal.StationLemmas.{drives_so}
-use Rattle.sercos_law_run.proofs.Undisturbed.Checks.BlockStays.{IsAt, Stays, stays_at}
+use Rattle.sercos_law_run.proofs.Undisturbed.Checks.BlockStays.{IsAt, stays_at}
 use Rattle.sercos_law_run.proofs.Start.LimitLemmas.{length_list}
 
 -- THE BLOCKS WITH LIMITS
@@ -25,24 +23,16 @@ outside_limited b = by b.min b.max
 
 fewer : (p q : Block → Bool) → ((b : Block) → p b ≡ true → q b ≡ true) → (blocks : List Block) → length (filter p blocks) ≤ length (filter q blocks)
 fewer p q then_q [] = omega arith
-fewer p q then_q (b ∷ blocks) = by (p b) (q b) (then_q b) (fewer p q then_q blocks)
-  where
-    by : (x y : Bool) → (x ≡ true → y ≡ true) → length (filter p blocks) ≤ length (filter q blocks) → length (cond x (b ∷ filter p blocks) (filter p blocks)) ≤ length (cond y (b ∷ filter q blocks) (filter q blocks))
-    by true true both more = omega (arith, more)
-    by true false both more = absurd (false≢true (both refl))
-    by false true both more = omega (arith, more)
-    by false false both more = more
+fewer p q then_q (b ∷ blocks) = let more = fewer p q then_q blocks in elim (cases_Bool (p b)) [
+  | inl on ↦ rw (on, then_q b on) (omega (arith, more))
+  | inr off ↦ elim (cases_Bool (q b)) [ inl on ↦ rw (off, on) (omega (arith, more)) | inr none ↦ rw (off, none) more ]
+]
 
 -- no write changes the limits
 limited_kept : (blocks : List Block) → limited (map kept blocks) ≡ limited blocks
 limited_kept [] = refl
-limited_kept (b ∷ blocks) = by (is_limited (kept b)) (is_limited b) (kept_field is_limited (λ c. refl) b) (limited_kept blocks)
-  where
-    by : (x y : Bool) → x ≡ y → limited (map kept blocks) ≡ limited blocks → length (cond x (kept b ∷ filter is_limited (map kept blocks)) (filter is_limited (map kept blocks))) ≡ length (cond y (b ∷ filter is_limited blocks) (filter is_limited blocks))
-    by true true same more = omega (arith, more)
-    by true false same more = absurd (false≢true (sym same))
-    by false true same more = absurd (false≢true same)
-    by false false same more = more
+limited_kept (b ∷ blocks) = rw (kept_field is_limited (λ c. refl) b)
+    (elim (cases_Bool (is_limited b)) [ inl on ↦ rw on (omega (arith, limited_kept blocks)) | inr off ↦ rw off (limited_kept blocks) ])
 
 -- of the built-in blocks the cycle time alone has them
 one_limited : (d : DriveView) → limited (built_in d) ≡ 1
@@ -52,60 +42,43 @@ one_limited d = refl
 limited_inserted : (b : Block) (blocks : List Block) → limited (inserted b blocks) ≤ suc (limited blocks)
 unfolding inserted
 limited_inserted b [] = elim (cases_Bool (is_limited b)) [ inl on ↦ rw on (omega arith) | inr off ↦ rw off (omega arith) ]
-limited_inserted b (c ∷ blocks) = by (nat_lt b.idn.raw c.idn.raw) (limited_inserted b blocks)
-  where
-    first : (x y : Bool) → length (cond x (b ∷ cond y (c ∷ filter is_limited blocks) (filter is_limited blocks)) (cond y (c ∷ filter is_limited blocks) (filter is_limited blocks))) ≤ suc (length (cond y (c ∷ filter is_limited blocks) (filter is_limited blocks)))
-    first true y = omega arith
-    first false y = omega arith
-
-    by : (less : Bool) → limited (inserted b blocks) ≤ suc (limited blocks) → limited (if less then b ∷ c ∷ blocks else c ∷ inserted b blocks) ≤ suc (limited (c ∷ blocks))
-    by true more = first (is_limited b) (is_limited c)
-    by false more = elim (cases_Bool (is_limited c)) [ inl on ↦ rw on (omega (arith, more)) | inr off ↦ rw off more ]
+limited_inserted b (c ∷ blocks) = let rest = limited_inserted b blocks in elim (cases_Bool (nat_lt b.idn.raw c.idn.raw)) [
+  | inl less ↦ rw less (elim (cases_Bool (is_limited b)) [ inl on ↦ rw on (omega arith) | inr off ↦ rw off (omega arith) ])
+  | inr more ↦ rw more (elim (cases_Bool (is_limited c)) [ inl on ↦ rw on (omega (arith, rest)) | inr off ↦ rw off rest ])
+]
 
 limited_own : (blocks own : List Block) → limited (with_own blocks own) ≤ limited blocks + length own
 unfolding with_own
 limited_own blocks [] = omega arith
-limited_own blocks (b ∷ own) = let more = limited_own (inserted b blocks) own in let one = limited_inserted b blocks in omega (arith, more, one)
+limited_own blocks (b ∷ own) = omega (arith, limited_own (inserted b blocks) own, (limited_inserted b blocks))
 
 limited_store : (d : DriveView) → limited (store_of d) ≤ suc (length d.blocks)
 unfolding store_of
-limited_store d = let own = limited_own (built_in d) d.blocks in let one = one_limited d in omega (arith, own, one)
+limited_store d = omega (arith, limited_own (built_in d) d.blocks, (one_limited d))
 
 few_outside : (d : DriveView) (blocks : List Block) → IsStoreOf d blocks → length (filter is_outside blocks) ≤ suc (length d.blocks)
 few_outside d blocks stored =
-    let some = fewer is_outside is_limited outside_limited blocks in
     let same = sym (limited_kept blocks) ∙ ap limited stored ∙ limited_kept (store_of d) in
-    let most = limited_store d in omega (arith, some, same, most)
+    omega (arith, fewer is_outside is_limited outside_limited blocks, same, limited_store d)
 
 short_outside : (d : DriveView) (blocks : List Block) → length d.blocks ≤ 36 → IsStoreOf d blocks → length (list_bytes (unfit_for_phase_4 blocks)) ≤ 74
 unfolding unfit_for_phase_4
 short_outside d blocks few stored =
     let long = length_list (map (λ (b : Block). b.idn) (filter is_outside blocks)) in
-    let many = length_map (λ (b : Block). b.idn) (filter is_outside blocks) in
-    let most = few_outside d blocks stored in omega (arith, long, many, most, few)
+    omega (arith, long, length_map (λ (b : Block). b.idn) (filter is_outside blocks), (few_outside d blocks stored), few)
 
 -- THE LIST of the check: the block is fixed, so no write to it is accepted
 pub fixed_22 : (d : DriveView) (blocks : List Block) (phase : ℕ) (bytes : List ℕ) → blocks_fault [] d.blocks ≡ None → IsStoreOf d blocks → put_fault (find_block 22 blocks) phase bytes ≡ None → ⊥
 unfolding built_in
 fixed_22 d blocks phase bytes rules stored none =
     let refused : put_fault (find_block 22 (store_of d)) phase bytes ≡ Some 0x7004 = rw (find_store_of 22 d rules) refl in
-    let both : None ≡ Some 0x7004 = sym none ∙ refuse_alike d blocks stored 22 phase bytes ∙ refused in none-some (0x7004) both
+    none-some (0x7004) (sym none ∙ refuse_alike d blocks stored 22 phase bytes ∙ refused)
 
 -- at opening it is empty
 first_22 : (d : DriveView) → blocks_fault [] d.blocks ≡ None → IsAt 22 (λ (b : Block). length b.value ≤ 74) (store_of d)
 unfolding built_in
-first_22 d rules c found = subst (λ (b : Block). length b.value ≤ 74) (is_it (sym (find_store_of 22 d rules) ∙ found)) (omega arith)
-  where
-    is_it : Some (built_in_block d (row 22 0x70550001 true (Empty 128))) ≡ Some c → built_in_block d (row 22 0x70550001 true (Empty 128)) ≡ c
-    is_it e = cc
-
-short_stays : (d : DriveView) → blocks_fault [] d.blocks ≡ None → length d.blocks ≤ 36 → Stays d 22 (λ (b : Block). length b.value ≤ 74)
-short_stays d rules few = record {
-  first = first_22 d rules;
-  write = λ blocks phase bytes stored allowed b found. absurd (fixed_22 d blocks phase bytes rules stored allowed);
-  list_3 = λ rate blocks stored same b found. absurd (omega (arith, same));
-  list_4 = λ blocks stored same b found. short_outside d blocks few stored;
-}
+first_22 d rules c found =
+    subst (λ (b : Block). length b.value ≤ 74) (same_Some _ c (sym (find_store_of 22 d rules) ∙ found)) (omega arith)
 
 -- no drive has more than 36 blocks of its own
 few_in : (before drives : List DriveView) (k : ℕ) → are_drives before drives ≡ true → k < length drives → nat_le (length (slice_index_or drives k no_drive).blocks) 36 ≡ true
@@ -129,9 +102,23 @@ lists_short r jobs carry restarts k rules few ascending (t ∷ j) = (
   lists_short r jobs carry restarts k rules few ascending j,
   λ raw b found list. elim (cases_eq raw 22) [
     | inl same ↦
-        let most : longest_list raw ≡ 37 = ap longest_list same in
-        let short = stays_at (drive_at r k) 22 (λ (c : Block). length c.value ≤ 74) (short_stays (drive_at r k) rules few) r.rate (given_mst carry restarts t.sent j k) ascending b (subst (λ (n : ℕ). find_block n (blocks_in (drive_at r k) (annals (drive_at r k) r.rate (given_mst carry restarts t.sent j k))) ≡ Some b) same found) in
-        inl (omega (arith, most, short))
-    | inr other ↦ let off : (raw == 22) ≡ false = grind (arith, nat_tests, other) in let most : longest_list raw ≡ 512 = ap (λ (x : Bool). if x then 37 else 512) off in inr (omega (arith, most))
+        inl (omega (
+          arith,
+          ap longest_list same,
+          stays_at (drive_at r k) 22 (λ (c : Block). length c.value ≤ 74)
+              (record {
+                first = first_22 (drive_at r k) rules;
+                write = λ blocks phase bytes stored allowed b found. absurd
+                    (fixed_22 (drive_at r k) blocks phase bytes rules stored allowed);
+                list_3 = λ rate blocks stored same b found. absurd
+                    (omega (arith, same));
+                list_4 = λ blocks stored same b found. short_outside (drive_at r k) blocks few stored;
+              }) r.rate
+              (given_mst carry restarts t.sent j k) ascending b
+              (subst (λ (n : ℕ). find_block n (blocks_in (drive_at r k) (annals (drive_at r k) r.rate (given_mst carry restarts t.sent j k)))
+              ≡ Some b) same found),
+        ))
+    | inr other ↦
+        let most : longest_list raw ≡ 512 = ap (λ (x : Bool). if x then 37 else 512) (ne_eqb raw 22 other) in inr (omega (arith, most))
   ],
 )

@@ -1,19 +1,14 @@
 -- If no own block of a drive was outside its limits at opening, each complete check for phase 4 gives 3.
-use Rattle.sercos_law_run.proofs.Words.{◌≡◌, ◌⊎◌, inl, inr, ℕ, ◌<◌, Bool, true, false, List, [], ◌∷◌, ◌++◌, length, Option, Some, None, refl, sym, ap, ap₂, ◌∙◌, subst, if◌then◌else◌, append_assoc, is_some, option_map, unwrap_or, list_any, false≢true, Job, Request, outcome_of, blocks_fault, find_block, with_data, store_of, DriveView, RingView, Block, is_outside, is_command, ends_well, has_ended, status_by, Wrote, Other, CommandHistory, with_call, find_set, set_in, SetCommand, Entry, accepted, Write, commands_with, command_value, without_data, writes_of, Begun, CycleView, idn, Carry, Restarts, IsStoreOf, GivesStatus, begun_in, command, epoch_begun, epoch_records, epoch_log, replies_of, IsRow, IsPart, Unsent, Unheard, AreParts, IsTransfer, newest_to, View, processed_in, kept_in, AreSound, all_entries, write_of, find-alike, in_step, IsEpoch, epoch, fall_into_parts, answered_replies, entries_ago, entries_in_epochs, drive_at, IsRun, IsClear, SettingsFollow, commands_left, HaveStores, view_of, views_of, IsOpened, AreStored, ends_with_status, attribute_of, IsViewRun, none-some}
-use Rattle.sercos_step.specs.declared.request.Request.TheVariants as request
-use Rattle.sercos_step.specs.declared.request.Outcome.TheVariants as outcome
-use Rattle.sercos_law_run.proofs.Start.CheckPasses.{ring_drive}
-use Rattle.sercos_law_channel.specs.Handshake.Parts.{Heard}
+use Rattle.sercos_law_run.proofs.Words.{◌≡◌, inl, inr, ℕ, ◌<◌, Bool, true, false, List, [], ◌∷◌, ◌++◌, length, Option, Some, None, refl, sym, ap, ◌∙◌, subst, append_assoc, option_map, unwrap_or, list_any, Job, Request, outcome_of, blocks_fault, find_block, with_data, store_of, DriveView, RingView, Block, is_outside, is_command, ends_well, CommandHistory, find_set, SetCommand, Entry, Write, commands_with, command_value, without_data, Begun, CycleView, idn, Carry, Restarts, IsStoreOf, begun_in, View, processed_in, kept_in, write_of, find-alike, entries_ago, entries_in_epochs, drive_at, IsRun, IsClear, commands_left, HaveStores, view_of, views_of, IsOpened, AreStored, attribute_of, IsViewRun, none-some, cases_Bool, Outcome}
 use Rattle.sercos_law_run.proofs.Settings.CheckRuns.{checks_give}
 use Rattle.sercos_law_run.proofs.Settings.SettingsRuns.{keeps_settings}
-use Rattle.sercos_law_run.proofs.Held.Runs.{Stands, alike_so, drive_got}
+use Rattle.sercos_law_run.proofs.Held.Runs.{alike_so, drive_rules}
 use Rattle.sercos_law_run.proofs.Headline.HeadlineRuns.{all_stand}
 use Rattle.sercos_law_run.proofs.Held.EntriesAre.{EntriesSay, ViewsSay, entries_say, entry_is}
 use Rattle.sercos_law_run.proofs.Undisturbed.JobsBegun.{wells}
 use Rattle.sercos_law_run.proofs.Undisturbed.Checks.OwnSet.{Say, say_written}
 use Rattle.sercos_law_run.proofs.Undisturbed.Stops.RefusedCauses.{check_4, found_4}
 use Rattle.sercos_law_run.proofs.Undisturbed.Checks.SetsFour.{sets_well}
-use Rattle.sercos_law_run.proofs.Undisturbed.Arriving.Small.{first_is}
 use Rattle.sercos_law_run.proofs.Settings.NoCheck127.{next_still, stays}
 
 abbrev pub IsWell : SetCommand → Type 0
@@ -23,7 +18,7 @@ IsWell s = s.well ≡ true
 command_so : (d : DriveView) (o : Option Block) → option_map without_data o ≡ Some (without_data (check_4 d)) → (b : Option Block) → o ≡ b → (c : Block) × (b ≡ Some c) × (c.attribute.command ≡ true)
 unfolding attribute_of
 command_so d o alike None is = let both : None ≡ Some (without_data (check_4 d)) = sym (ap (option_map without_data) is) ∙ alike in absurd (cc)
-command_so d o alike (Some c) is = let same : Some (without_data c) ≡ Some (without_data (check_4 d)) = sym (ap (option_map without_data) is) ∙ alike in (c, refl, ap (λ (x : Option Block). attribute_bit x) same)
+command_so d o alike (Some c) is = (c, refl, ap (λ (x : Option Block). attribute_bit x) (sym (ap (option_map without_data) is) ∙ alike))
   where
     attribute_bit : Option Block → Bool
     attribute_bit None = false
@@ -41,11 +36,10 @@ have_commands d (v ∷ past) rules are = (have_commands d past rules are.0, is_c
 -- WHAT A WRITE LEAVES
 write_says : (o : Option Write) (blocks : List Block) (c : CommandHistory) → ((w : Write) → o ≡ Some w → w.raw ≡ 128 → ends_well c.rate 128 (with_data 128 w.bytes blocks) ≡ true) → Say IsWell c → Say IsWell (commands_with o blocks c)
 write_says None blocks c sets say = say
-write_says (Some w) blocks c sets say = by (is_command blocks w.raw)
-  where
-    by : (x : Bool) → Say IsWell (with_call (if x then Wrote w.raw (command_value w) w.cycle (with_data w.raw w.bytes blocks) else Other w.cycle) c)
-    by true = say_written IsWell w.raw (command_value w) w.cycle (with_data w.raw w.bytes blocks) c (λ number. ap (λ (n : ℕ). ends_well c.rate n (with_data n w.bytes blocks)) number ∙ sets w refl number) say
-    by false = say
+write_says (Some w) blocks c sets say = elim (cases_Bool (is_command blocks w.raw)) [
+  | inl on ↦ rw on (say_written IsWell w.raw (command_value w) w.cycle (with_data w.raw w.bytes blocks) c (λ number. ap (λ (n : ℕ). ends_well c.rate n (with_data n w.bytes blocks)) number ∙ sets w refl number) say)
+  | inr off ↦ rw off say
+]
 
 -- WHAT A CHECK THAT IS SET SAYS in each cycle, if what a cycle leaves says it
 module _ (r : RingView) (jobs : List Job) (carry : Carry) (restarts : Restarts) (opened : IsOpened r jobs) (k : ℕ)
@@ -81,9 +75,17 @@ module _ (r : RingView) (jobs : List Job) (carry : Carry) (restarts : Restarts) 
   )
 
   pub check_gives_3 : (t : CycleView) (j : List CycleView) → IsRun r jobs carry restarts (t ∷ j) → IsClear (t ∷ j) → (newer older : List Begun) (b : Begun) (bytes : List ℕ)
-      → begun_in (view_of r jobs carry restarts k t j) (views_of r jobs carry restarts k j) ≡ newer ++ b ∷ older → b.request ≡ request.Command (idn 128)
-      → outcome_of b.request b.answers ≡ Some (outcome.Complete bytes) → bytes ≡ 3 ∷ 0 ∷ []
-  check_gives_3 t j run clear = checks_give 128 (drive_at r k).busy (store_of (drive_at r k)) past on stands.sound
+      → begun_in (view_of r jobs carry restarts k t j) (views_of r jobs carry restarts k j) ≡ newer ++ b ∷ older → b.request ≡ Request.Command (idn 128)
+      → outcome_of b.request b.answers ≡ Some (Outcome.Complete bytes) → bytes ≡ 3 ∷ 0 ∷ []
+  check_gives_3 t j run clear =
+      let past : List View = stays (view_of r jobs carry restarts k t j) ∷ views_of r jobs carry restarts k j in
+      let stands = all_stand r jobs carry restarts opened (t ∷ j) run clear k below in
+      let on : IsViewRun (drive_at r k).busy past = (
+        stands.sees.run.0,
+        next_still (drive_at r k).busy (view_of r jobs carry restarts k t j) (views_of r jobs carry restarts k j)
+            stands.sees.run.1,
+      ) in
+      checks_give 128 (drive_at r k).busy (store_of (drive_at r k)) past on stands.sound
       (wells r jobs carry restarts opened (t ∷ j) run clear k below).follow
       (λ newer poll behind is. entry_is (λ x. Say IsWell x.commands) newer poll (behind ++ entries_ago past)
       (subst (EntriesSay (Say IsWell))
@@ -91,17 +93,4 @@ module _ (r : RingView) (jobs : List Job) (carry : Carry) (restarts : Restarts) 
       ∙ append_assoc newer (poll ∷ behind) (entries_ago past))
       (entries_say (Say IsWell) past (views_say (t ∷ j) run clear))))
       (have_commands (drive_at r k) (views_of r jobs carry restarts k (t ∷ j))
-      (ring_drive r k (drive_at r k) opened.valid (drive_got r k below)).blocks stands.stored)
-    where
-      past : List View
-      past = stays (view_of r jobs carry restarts k t j) ∷ views_of r jobs carry restarts k j
-
-      stands : Stands r jobs carry restarts (t ∷ j) k
-      stands = all_stand r jobs carry restarts opened (t ∷ j) run clear k below
-
-      on : IsViewRun (drive_at r k).busy past
-      on = (
-        stands.sees.run.0,
-        next_still (drive_at r k).busy (view_of r jobs carry restarts k t j) (views_of r jobs carry restarts k j)
-            stands.sees.run.1,
-      )
+      (drive_rules r k opened.valid below) stands.stored)

@@ -1,6 +1,5 @@
 -- The newest step of a request that is begun in phase 3 or later was accepted in such a phase.
-use Rattle.sercos_law_run.proofs.Words.{◌≡◌, inl, inr, ℕ, ◌+◌, ◌<◌, ◌≤◌, Bool, true, false, List, [], ◌∷◌, length, Option, Some, None, refl, sym, ap, ◌∙◌, subst, arith, if◌then◌else◌, length-append, none-some, is_some, cases_lt, beq, Job, Request, Idn, Answer, Step, RingView, Processed, Entry, ahs, accepted, answered, log_of, Begun, steps_begun, steps_in, step_at, with_step, answers_it, answer_in, with_answer, CycleView, Fall, reads_count, known_of, member, fall_of, Carry, Restarts, epoch_begun, begun_in, epoch_records, records_in_views, epoch_log, log_in, unless_restart, with_heard, with_begun, AreInStep, Idle, Kept, Heard, View, with_record, processed_in, IsRun, IsClear, behind_mdt, view_of, views_of, IsOpened, drive_at, length-steps_of, processes_in_phase, cases_Option}
-use Rattle.sercos_step.specs.declared.request.Request.TheVariants as request
+use Rattle.sercos_law_run.proofs.Words.{cases_Bool, ◌≡◌, inl, inr, ℕ, ◌+◌, ◌<◌, ◌≤◌, Bool, true, false, List, [], ◌∷◌, length, Option, Some, None, sym, ap, ◌∙◌, subst, arith, if◌then◌else◌, length-append, none-some, cases_lt, beq, Job, Request, Idn, Answer, Step, RingView, Processed, Entry, ahs, accepted, answered, log_of, Begun, steps_begun, steps_in, step_at, answers_it, answer_in, with_answer, CycleView, reads_count, known_of, member, fall_of, Carry, Restarts, epoch_begun, begun_in, epoch_records, epoch_log, log_in, unless_restart, with_heard, with_begun, AreInStep, Idle, Kept, Heard, View, processed_in, IsRun, IsClear, behind_mdt, view_of, views_of, IsOpened, drive_at, length-steps_of, processes_in_phase, cases_Option}
 use Rattle.sercos_law_channel.specs.Handshake.InStep.{Sent}
 use Rattle.sercos_law_run.proofs.Headline.HeadlineRuns.{all_stand}
 use Rattle.sercos_law_run.proofs.Undisturbed.StaysUp.{phase_now}
@@ -22,7 +21,7 @@ heard_steps (Some a) begun = by (answers_it begun a.status) begun
     by true (b ∷ older) =
         let few = more_steps b.request (answer_in a.status a.word) b.answers in
         let here = length-append (steps_begun b.request b.answers) (steps_in older) in
-        let there = length-append (steps_begun b.request (answer_in a.status a.word ∷ b.answers)) (steps_in older) in omega (arith, few, here, there)
+        omega (arith, few, here, length-append (steps_begun b.request (answer_in a.status a.word ∷ b.answers)) (steps_in older))
 
 -- the request that goes on has the same ones before it
 record HasHead (begun older : List Begun) : Type 0 where
@@ -40,23 +39,21 @@ heard_head (Some a) begun one older is = by (answers_it begun a.status) begun is
 
 -- the drive has accepted no more steps than were begun
 pub few_accepted : (begun : List Begun) (log : List Entry) → AreInStep begun log → length log ≤ length (steps_in begun)
-few_accepted begun log (Idle none steps answers) = let same = ap (λ (l : List Step). length l) steps in let all = length-steps_of log in omega (arith, same, all)
-few_accepted begun log (Sent s some steps answers) = let same = ap (λ (l : List Step). length l) steps in let all = length-steps_of log in omega (arith, same, all)
-few_accepted begun log (Kept e before some is steps answers) = let same = ap (λ (l : List Step). length l) steps in let all = length-steps_of log in omega (arith, same, all)
+few_accepted begun log (Idle none steps answers) = omega (arith, ap (λ (l : List Step). length l) steps, (length-steps_of log))
+few_accepted begun log (Sent s some steps answers) = omega (arith, ap (λ (l : List Step). length l) steps, (length-steps_of log))
+few_accepted begun log (Kept e before some is steps answers) = omega (arith, ap (λ (l : List Step). length l) steps, (length-steps_of log))
 
 -- a request for a procedure command has a first step
-pub first_step : (i : Idn) (h : List Answer) → 1 ≤ length (steps_begun (request.Command i) h)
+pub first_step : (i : Idn) (h : List Answer) → 1 ≤ length (steps_begun (Request.Command i) h)
 first_step i [] = omega arith
-first_step i (a ∷ h) = let some = first_step i h in let more = more_steps (request.Command i) a h in omega (arith, some, more)
+first_step i (a ∷ h) = omega (arith, first_step i h, more_steps (Request.Command i) a h)
 
 -- where no step is open, all were accepted, so those of the older requests are fewer
 pub older_fewer : (one : Begun) (older : List Begun) (log rest : List Entry) (e : Entry) → AreInStep (one ∷ older) log → step_at one.request one.answers ≡ None → 1 ≤ length (steps_begun one.request one.answers) → log ≡ e ∷ rest
     → length (steps_in older) ≤ length rest
 older_fewer one older log rest e (Idle none steps answers) ended some is =
-    let same = ap (λ (l : List Step). length l) steps in
     let parts = length-append (steps_begun one.request one.answers) (steps_in older) in
-    let all = length-steps_of log in
-    let long = ap (λ (l : List Entry). length l) is in omega (arith, same, parts, all, long, some)
+    omega (arith, ap (λ (l : List Step). length l) steps, parts, (length-steps_of log), (ap (λ (l : List Entry). length l) is), some)
 older_fewer one older log rest e (Sent s open_is steps answers) ended some is = absurd (none-some s (sym ended ∙ open_is))
 older_fewer one older log rest e (Kept x before open_is split steps answers) ended some is = absurd (none-some x.processed.step (sym ended ∙ open_is))
 
@@ -67,37 +64,36 @@ IsLate n phase begun log = (one : Begun) (older : List Begun) (e : Entry) (rest 
 
 cycle_late : (n phase : ℕ) (v : View) (past : List View) → AreInStep (epoch_begun past) (epoch_log past) → (n < length (begun_in v past)
     → phase ≤ v.phase) → IsLate n phase (epoch_begun past) (epoch_log past) → IsLate n phase (begun_in v past) (log_in v past)
-cycle_late n phase v past in_step is_late late one older e rest begun many log steps = by (processed_in v past) refl log
+cycle_late n phase v past in_step is_late late one older e rest begun many log steps = elim (cases_Option (processed_in v past)) [
+  | inl none ↦ let same = rw none at log in dropped same
+  | inr some ↦ let same = rw some.1 at log in elim (cases_Bool (beq some.0.mhs (ahs (unless_restart v (epoch_records past))))) [
+    | inl again ↦ dropped (rw again at same)
+    | inr new ↦
+        let first = first_is _ e (answered (accepted (unless_restart v (epoch_records past)))) rest (rw new at same) in
+        subst (λ (x : Processed). phase ≤ x.phase) (ap (λ (x : Entry). x.processed) first.0)
+        (omega (
+          arith,
+          is_late (omega (arith, ap (λ (l : List Begun). length l) begun, many)),
+          (processes_in_phase v past some.0 some.1).0,
+        ))
+  ]
+]
   where
-    high : phase ≤ v.phase
-    high = is_late (let long = ap (λ (l : List Begun). length l) begun in omega (arith, long, many))
-
     -- nothing was accepted in this cycle
-    kept : (restarts : Bool) → log_of (if restarts then [] else epoch_records past) ≡ e ∷ rest → with_begun v.begins (with_heard v.heard (if restarts then [] else epoch_begun past)) ≡ one ∷ older → phase ≤ e.processed.phase
-    kept true same split = absurd (nothing_there e rest same)
-    kept false same split = which v.begins split
-      where
-        which : (o : Option Request) → with_begun o (with_heard v.heard (epoch_begun past)) ≡ one ∷ older → phase ≤ e.processed.phase
-        which None is = let head = heard_head v.heard (epoch_begun past) one older is in late head.first older e rest head.split many same steps
-        which (Some r) is =
-            let behind = ap (λ (l : List Begun). length (steps_in l)) (first_is _ one (with_heard v.heard (epoch_begun past)) older is).1 in
-            let few = few_accepted (epoch_begun past) (epoch_log past) in_step in
-            let more = heard_steps v.heard (epoch_begun past) in
-            let long = ap (λ (l : List Entry). length l) same in absurd (omega (arith, behind, few, more, long, steps))
+    kept : log_of (epoch_records past) ≡ e ∷ rest → (o : Option Request)
+        → with_begun o (with_heard v.heard (epoch_begun past)) ≡ one ∷ older → phase ≤ e.processed.phase
+    kept same None is =
+        let head = heard_head v.heard (epoch_begun past) one older is in late head.first older e rest head.split many same steps
+    kept same (Some r) is =
+        let behind = ap (λ (l : List Begun). length (steps_in l)) (first_is _ one (with_heard v.heard (epoch_begun past)) older is).1 in
+        let few = few_accepted (epoch_begun past) (epoch_log past) in_step in
+        absurd (omega (arith, behind, few, heard_steps v.heard (epoch_begun past), ap (λ (l : List Entry). length l) same, steps))
 
     dropped : log_of (unless_restart v (epoch_records past)) ≡ e ∷ rest → phase ≤ e.processed.phase
-    dropped same = kept v.master_restarts same begun
-
-    by : (o : Option Processed) → processed_in v past ≡ o → log_of (with_record o (unless_restart v (epoch_records past))) ≡ e ∷ rest → phase ≤ e.processed.phase
-    by None none same = dropped same
-    by (Some t) some same = which (beq t.mhs (ahs (unless_restart v (epoch_records past)))) same
-      where
-        which : (again : Bool) → answered (if again then accepted (unless_restart v (epoch_records past)) else t ∷ accepted (unless_restart v (epoch_records past))) ≡ e ∷ rest → phase ≤ e.processed.phase
-        which true is = dropped is
-        which false is =
-            let this : t ≡ e.processed = ap (λ (x : Entry). x.processed) (first_is _ e (answered (accepted (unless_restart v (epoch_records past)))) rest is).0 in
-            let now = (processes_in_phase v past t some).0 in
-            subst (λ (x : Processed). phase ≤ x.phase) this (let is_high = high in omega (arith, is_high, now))
+    dropped same = elim (cases_Bool v.master_restarts) [
+      | inl on ↦ absurd (nothing_there e rest (rw on at same))
+      | inr off ↦ kept (rw off at same) v.begins (rw off at begun)
+    ]
 
 module _ (r : RingView) (jobs : List Job) (carry : Carry) (restarts : Restarts) (opened : IsOpened r jobs) (k : ℕ)
     (below : k < length r.drives) where

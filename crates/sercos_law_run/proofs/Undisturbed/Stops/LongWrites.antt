@@ -1,8 +1,5 @@
 -- A write of more than 1,024 bytes ends early: no block has room for them, and a drive refuses the word that says so.
-use Rattle.sercos_law_run.proofs.Words.{◌≡◌, inl, inr, ℕ, suc, ◌+◌, ◌*◌, ◌/◌, ◌<◌, ◌≤◌, Bool, true, false, ◌&&◌, ◌||◌, List, [], ◌∷◌, ◌++◌, length, Option, Some, None, refl, sym, ap, ap₂, ◌∙◌, subst, arith, if◌then◌else◌, ◌==◌, nat_le, nat_lt, option_map, slice_get, then_some, cases_eq, cond-true, cond-false, eqb-true, false≢true, nat_tests, same_Some, none_of-or, none_of-then, is_list, item_len, Attribute, Idn, Length, Request, Answer, Step, run, writing, steps_of, answer_words, words_of, at_least_one, words_told, shape_of, shape_by, length-words_of, length-at_least_one, is_fixed, is_protected, IsStore, find_block, Block, max_len_bound, Processed, Entry, open_idn, run_before, in_order, answer_by, is_first_word, ends_early, is_over, write_cause_in, reply_at, reply_of, without_data, replies_of, IsTransfer, AreSmall, find-alike, goes_on-outcome_of, newest_step, without_newest, only_opening, low_of, high_of, is_nil, long_words, length-in_order, says_shape, write_cause, cases_Bool}
-use Rattle.sercos_idn.specs.declared.kinds.Length.TheVariants as len
-use Rattle.sercos_step.specs.declared.request.Request.TheVariants as request
-use Rattle.sercos_law_channel.proofs.Theorems.{told}
+use Rattle.sercos_law_run.proofs.Words.{◌≡◌, inl, inr, ℕ, suc, ◌+◌, ◌*◌, ◌/◌, ◌<◌, ◌≤◌, Bool, true, false, ◌&&◌, ◌||◌, List, [], ◌∷◌, ◌++◌, length, Option, Some, None, refl, sym, ap, ap₂, ◌∙◌, subst, arith, if◌then◌else◌, ◌==◌, nat_le, nat_lt, option_map, slice_get, then_some, cases_eq, cond-true, cond-false, eqb-true, false≢true, nat_tests, same_Some, none_of-or, none_of-then, is_list, item_len, Attribute, Idn, Length, Request, Answer, Step, run, writing, answer_words, words_of, at_least_one, words_told, shape_of, shape_by, length-words_of, length-at_least_one, is_fixed, is_protected, IsStore, find_block, Block, max_len_bound, Processed, Entry, open_idn, run_before, in_order, answer_by, is_first_word, ends_early, is_over, write_cause_in, reply_of, without_data, replies_of, IsTransfer, AreSmall, find-alike, goes_on-outcome_of, newest_step, without_newest, only_opening, low_of, high_of, is_nil, long_words, length-in_order, says_shape, write_cause, cases_Bool, cases_Option, told_of}
 use Rattle.sercos_law_channel.proofs.Handshake.WriteStages as write
 use Rattle.sercos_law_run.proofs.Undisturbed.Stops.RefusedSteps.{reply_word}
 use Rattle.sercos_law_run.proofs.Undisturbed.Arriving.Small.{first_is, never_both}
@@ -18,8 +15,7 @@ not_over c phase last words none =
     let first = none_of-or (then_some (is_first_word words && is_fixed c) 0x7004) _ none in
     let second = none_of-or (then_some (is_protected c.attribute phase) 0x7005) _ first.1 in
     let third = none_of-or (then_some (ends_early c last words) 0x7002) _ second.1 in
-    let fourth = none_of-or (then_some (is_over c last words) 0x7003) _ third.1 in
-    none_of-then (is_over c last words) 0x7003 fourth.0
+    none_of-then (is_over c last words) 0x7003 (none_of-or (then_some (is_over c last words) 0x7003) _ third.1).0
 
 over_list : (c : Block) (word : ℕ) → is_list c.attribute.length ≡ true → c.max_len < word → is_over c false (word ∷ []) ≡ true
 over_list c word list high = let above : nat_lt c.max_len word ≡ true = grind (arith, nat_tests, high) in rw (list, above) refl
@@ -28,35 +24,35 @@ over_value : (c : Block) (a d : ℕ) → is_list c.attribute.length ≡ false �
 over_value c a d off = by c.attribute.length off
   where
     by : (l : Length) → is_list l ≡ false → ((is_list l && (is_first_word (a ∷ d ∷ []) && nat_lt c.max_len a)) || (true && nat_le (if is_list l then 2 + (a + 1) / 2 else item_len l / 2) 2)) ≡ true
-    by len.Two off = refl
-    by len.Four off = refl
-    by len.List1 off = absurd (false≢true (sym off))
-    by len.List2 off = absurd (false≢true (sym off))
-    by len.List4 off = absurd (false≢true (sym off))
+    by Length.Two off = refl
+    by Length.Four off = refl
+    by Length.List1 off = absurd (false≢true (sym off))
+    by Length.List2 off = absurd (false≢true (sym off))
+    by Length.List4 off = absurd (false≢true (sym off))
 
 -- THE WORDS of n bytes
 told_list : (l : Length) (bytes : List ℕ) → is_list l ≡ true → words_told (shape_by l) bytes ≡ length bytes ∷ 0 ∷ words_of bytes
-told_list len.Two bytes list = absurd (false≢true list)
-told_list len.Four bytes list = absurd (false≢true list)
-told_list len.List1 bytes list = refl
-told_list len.List2 bytes list = refl
-told_list len.List4 bytes list = refl
+told_list Length.Two bytes list = absurd (false≢true list)
+told_list Length.Four bytes list = absurd (false≢true list)
+told_list Length.List1 bytes list = refl
+told_list Length.List2 bytes list = refl
+told_list Length.List4 bytes list = refl
 
 many_told : (l : Length) (bytes : List ℕ) → 1024 < length bytes → 3 ≤ length (words_told (shape_by l) bytes)
 many_told l bytes long = by l
   where
     many : 512 ≤ length (words_of bytes)
-    many = let half = length-words_of bytes in omega (arith, half, long)
+    many = omega (arith, length-words_of bytes, long)
 
     value : 3 ≤ length (at_least_one (words_of bytes))
-    value = let all = length-at_least_one (words_of bytes) in let some = many in omega (arith, all, some)
+    value = omega (arith, length-at_least_one (words_of bytes), many)
 
     by : (l : Length) → 3 ≤ length (words_told (shape_by l) bytes)
-    by len.Two = value
-    by len.Four = value
-    by len.List1 = let some = many in omega (arith, some)
-    by len.List2 = let some = many in omega (arith, some)
-    by len.List4 = let some = many in omega (arith, some)
+    by Length.Two = value
+    by Length.Four = value
+    by Length.List1 = omega (arith, many)
+    by Length.List2 = omega (arith, many)
+    by Length.List4 = omega (arith, many)
 
 not_nil : (rest : List ℕ) → 1 ≤ length rest → is_nil rest ≡ false
 not_nil [] some = absurd (omega (arith, some))
@@ -77,52 +73,40 @@ module _ (idn : Idn) (bytes : List ℕ) (long : 1024 < length bytes) (b : Block)
     (said : shape_of 7 (low_of b + 65536 * high_of b) ≡ shape_by b.attribute.length) (blocks : List Block)
     (found : find_block idn.raw blocks ≡ Some b) (store : IsStore blocks) where
   abbrev asked : Request
-  asked = request.Write idn 7 bytes
+  asked = Request.Write idn 7 bytes
 
   -- a block like this one, to which these words and more can't be written
   abbrev IsNever : ℕ → Type 0
-  IsNever m = (c : Block) (taken : List Processed) (word : ℕ) (rest : List ℕ) → c.attribute ≡ b.attribute → c.max_len ≡ b.max_len → length taken ≡ m → in_order taken (word ∷ rest) ≡ told b bytes →
+  IsNever m = (c : Block) (taken : List Processed) (word : ℕ) (rest : List ℕ) → c.attribute ≡ b.attribute → c.max_len ≡ b.max_len → length taken ≡ m → in_order taken (word ∷ rest) ≡ told_of b bytes →
       is_over c false (in_order taken (word ∷ [])) ≡ false → ⊥
 
   never_word : (m : ℕ) → m ≤ 1 → IsNever m → (d : Entry) (past log : List Entry) → IsTransfer asked blocks d past log → d.answer.error ≡ false → (w : ℕ) (more : List ℕ) (taken : List Processed) (word : ℕ) (rest : List ℕ)
-      → answer_words (replies_of past) ≡ w ∷ low_of b ∷ high_of b ∷ more → length more ≡ length taken → open_idn (past ++ log) ≡ Some idn.raw → run_before true 7 (past ++ log) ≡ taken → in_order taken (word ∷ rest) ≡ told b bytes → length taken ≡ m → ⊥
+      → answer_words (replies_of past) ≡ w ∷ low_of b ∷ high_of b ∷ more → length more ≡ length taken → open_idn (past ++ log) ≡ Some idn.raw → run_before true 7 (past ++ log) ≡ taken → in_order taken (word ∷ rest) ≡ told_of b bytes → length taken ≡ m → ⊥
   never_word m low never d past log is good w more taken word rest those count opened before ordered at =
+      let known = ap (λ (l : List ℕ). length l) (sym ordered) ∙ length-in_order taken (word ∷ rest) in
+      let there = is_there (find_block idn.raw d.processed.blocks) b (find-alike idn.raw d.processed.blocks blocks b is.alike.1 found) in
+      let none = no_cause _ 0 d.answer (is.replies.1 ∙ reply_word idn.raw word (is_nil rest) d.processed (past ++ log) taken
+      (write.next_word idn bytes b said (answer_words (replies_of past)) d.processed.step w more taken word rest those count ordered
+      (newest_step asked blocks log d past is)) opened before) good in
+      let free = ap₂ (λ (o : Option Block) (last : Bool). write_cause_in o d.processed.phase last (in_order taken (word ∷ [])))
+      (sym there.is) (sym (not_nil rest (omega (arith, known, many_told b.attribute.length bytes long, at, low)))) ∙ none in
       never there.block taken word rest there.attribute there.max_len at ordered (not_over there.block d.processed.phase false (in_order taken (word ∷ [])) free)
-    where
-      goes : is_nil rest ≡ false
-      goes =
-          let known : length (told b bytes) ≡ length taken + suc (length rest) = ap (λ (l : List ℕ). length l) (sym ordered) ∙ length-in_order taken (word ∷ rest) in
-          let many = many_told b.attribute.length bytes long in
-          not_nil rest (omega (arith, known, many, at, low))
-
-      there : IsThere (find_block idn.raw d.processed.blocks) b
-      there = is_there (find_block idn.raw d.processed.blocks) b (find-alike idn.raw d.processed.blocks blocks b is.alike.1 found)
-
-      none : write_cause_in (find_block idn.raw d.processed.blocks) d.processed.phase (is_nil rest) (in_order taken (word ∷ [])) ≡ None
-      none = no_cause _ 0 d.answer (is.replies.1 ∙ reply_word idn.raw word (is_nil rest) d.processed (past ++ log) taken
-          (write.next_word idn bytes b said (answer_words (replies_of past)) d.processed.step w more taken word rest those count ordered
-          (newest_step asked blocks log d past is)) opened before) good
-
-      free : write_cause there.block d.processed.phase false (in_order taken (word ∷ [])) ≡ None
-      free = ap₂ (λ (o : Option Block) (last : Bool). write_cause_in o d.processed.phase last (in_order taken (word ∷ []))) (sym there.is) (sym goes) ∙ none
 
   few : (m : ℕ) → m ≤ 1 → IsNever m → (e : Entry) (entries log : List Entry) → IsTransfer asked blocks e entries log → length entries ≤ 3 + m
   few m low never e [] log is = omega arith
   few m low never e (d ∷ past) log is = by (few m low never d past log (without_newest asked blocks log e d past is)) (write.stage_before idn bytes b said blocks found d past log (without_newest asked blocks log e d past is)).0
     where
       early : (n : ℕ) → n ≤ 2 → length (answer_words (replies_of past)) ≡ n → suc (length past) ≤ 3 + m
-      early n le at = let same = long_words past in omega (arith, same, at, le)
+      early n le at = omega (arith, long_words past, at, le)
 
       by : length past ≤ 3 + m → write.Stage idn bytes b (answer_words (replies_of past)) (past ++ log) → suc (length past) ≤ 3 + m
       by before (write.AtOpening those) = early 0 (omega arith) (ap (λ (l : List ℕ). length l) those)
       by before (write.AtLow w those opened ran) = early 1 (omega arith) (ap (λ (l : List ℕ). length l) those)
       by before (write.AtHigh w t those opened ran got) = early 2 (omega arith) (ap (λ (l : List ℕ). length l) those)
       by before (write.AtWord w more taken word rest those count opened ran ordered) =
-          let same = long_words past in
-          let all = ap (λ (l : List ℕ). length l) those in
           elim (cases_eq (length taken) m) [
             | inl at ↦ absurd (never_word m low never d past log (without_newest asked blocks log e d past is) (goes_on-outcome_of asked d.answer (replies_of past) is.goes_on).0 w more taken word rest those count opened ran ordered at)
-            | inr other ↦ omega (arith, same, all, count, before, other)
+            | inr other ↦ omega (arith, long_words past, ap (λ (l : List ℕ). length l) those, count, before, other)
           ]
 
   list_never : is_list b.attribute.length ≡ true → IsNever 0
@@ -156,43 +140,34 @@ first_run e (w ∷ v ∷ words) s got = let same = same_Some _ s got in (ap (λ 
 
 other_refused : (t : Processed) (all : List Entry) → t.step.write ≡ true → (t.step.element == 1) ≡ false → (t.step.element == 0) ≡ false → (t.step.element == 7) ≡ false → (reply_of t all).error ≡ true
 other_refused t all writes not_one not_zero not_seven =
-    ap (λ (a : Answer). a.error) (cond-false (t.step.write && (t.step.element == 1)) _ _ (ap₂ (λ (x y : Bool). x && y) writes not_one) ∙ cond-false (t.step.element == 0) _ _ not_zero) ∙ by (open_idn all) (run_before t.step.write t.step.element all)
-  where
-    by : (o : Option ℕ) (ran : List Processed) → (reply_at o t ran).error ≡ true
-    by None ran = refl
-    by (Some raw) ran = ap (λ (a : Answer). a.error) (cond-true t.step.write _ _ writes ∙ ap (λ (o : Option ℕ). answer_by o 0) (cond-false (t.step.element == 7) _ _ not_seven))
+    ap (λ (a : Answer). a.error) (cond-false (t.step.write && (t.step.element == 1)) _ _ (ap₂ (λ (x y : Bool). x && y) writes not_one) ∙ cond-false (t.step.element == 0) _ _ not_zero) ∙ elim (cases_Option (open_idn all)) [
+      | inl none ↦ rw none
+      | inr (raw, some) ↦ rw some (ap (λ (a : Answer). a.error) (cond-true t.step.write _ _ writes ∙ ap (λ (o : Option ℕ). answer_by o 0) (cond-false (t.step.element == 7) _ _ not_seven)))
+    ]
 
-other_few : (idn : Idn) (e : ℕ) (bytes : List ℕ) (blocks : List Block) → 2 ≤ e → (e == 7) ≡ false → (x : Entry) (entries log : List Entry) → IsTransfer (request.Write idn e bytes) blocks x entries log → length entries ≤ 1
+other_few : (idn : Idn) (e : ℕ) (bytes : List ℕ) (blocks : List Block) → 2 ≤ e → (e == 7) ≡ false → (x : Entry) (entries log : List Entry) → IsTransfer (Request.Write idn e bytes) blocks x entries log → length entries ≤ 1
 other_few idn e bytes blocks low off x [] log is = omega arith
 other_few idn e bytes blocks low off x (d ∷ []) log is = omega arith
-other_few idn e bytes blocks low off x (d ∷ o ∷ past) log is = absurd (by (other_few idn e bytes blocks low off d (o ∷ past) log (without_newest (request.Write idn e bytes) blocks log x d (o ∷ past) is)))
-  where
-    was : IsTransfer (request.Write idn e bytes) blocks d (o ∷ past) log
-    was = without_newest (request.Write idn e bytes) blocks log x d (o ∷ past) is
-
-    good : d.answer.error ≡ false
-    good = (goes_on-outcome_of (request.Write idn e bytes) d.answer (replies_of (o ∷ past)) is.goes_on).0
-
-    by : length (o ∷ past) ≤ 1 → ⊥
-    by few =
-        let same = long_words (o ∷ past) in
-        let first = first_run e (words_told (shape_of e 0) bytes) d.processed.step
-        (second_of _ (e == 7) _ (writing (shape_of e 0) e bytes) (length (answer_words (replies_of (o ∷ past)))) d.processed.step (omega (arith, same, few)) off (newest_step (request.Write idn e bytes) blocks log d (o ∷ past) was)) in
-        let named = first.1 in
-        let not_one : (d.processed.step.element == 1) ≡ false = grind (arith, nat_tests, named, low) in
-        let not_zero : (d.processed.step.element == 0) ≡ false = grind (arith, nat_tests, named, low) in
-        let not_seven : (d.processed.step.element == 7) ≡ false = ap (λ (n : ℕ). n == 7) named ∙ off in
-        never_both d.answer.error (ap (λ (a : Answer). a.error) was.replies.1 ∙ other_refused d.processed ((o ∷ past) ++ log) first.0 not_one not_zero not_seven) good
+other_few idn e bytes blocks low off x (d ∷ o ∷ past) log is =
+    let was = without_newest (Request.Write idn e bytes) blocks log x d (o ∷ past) is in
+    let few = other_few idn e bytes blocks low off d (o ∷ past) log was in
+    let first = first_run e (words_told (shape_of e 0) bytes) d.processed.step
+    (second_of _ (e == 7) _ (writing (shape_of e 0) e bytes) (length (answer_words (replies_of (o ∷ past)))) d.processed.step
+    (omega (arith, long_words (o ∷ past), few)) off (newest_step (Request.Write idn e bytes) blocks log d (o ∷ past) was)) in
+    let named = first.1 in
+    absurd (never_both d.answer.error (ap (λ (a : Answer). a.error) was.replies.1 ∙ other_refused d.processed ((o ∷ past) ++ log) first.0
+    (grind (arith, nat_tests, named, low)) (grind (arith, nat_tests, named, low)) (ap (λ (n : ℕ). n == 7) named ∙ off))
+    (goes_on-outcome_of (Request.Write idn e bytes) d.answer (replies_of (o ∷ past)) is.goes_on).0)
 
 -- SO A LONG WRITE has few steps.
 pub ends_soon : (blocks : List Block) → AreSmall blocks → IsStore blocks → (idn : Idn) (e : ℕ) (bytes : List ℕ) → 2 ≤ e
-    → 1024 < length bytes → (x : Entry) (entries log : List Entry) → IsTransfer (request.Write idn e bytes) blocks x entries log
+    → 1024 < length bytes → (x : Entry) (entries log : List Entry) → IsTransfer (Request.Write idn e bytes) blocks x entries log
     → length entries ≤ 4
 ends_soon blocks small store idn e bytes low long x entries log is = by (find_block idn.raw blocks) refl
   where
     by : (o : Option Block) → find_block idn.raw blocks ≡ o → length entries ≤ 4
-    by None none = let empty = ap (λ (l : List Entry). length l) (only_opening (request.Write idn e bytes) blocks x entries log none is).0 in omega (arith, empty)
+    by None none = omega (arith, ap (λ (l : List Entry). length l) (only_opening (Request.Write idn e bytes) blocks x entries log none is).0)
     by (Some b) found = elim (cases_Bool (e == 7)) [
-      | inl seven ↦ data_few idn bytes long b (says_shape b (small idn.raw b found)) blocks found store x entries log (subst (λ (n : ℕ). IsTransfer (request.Write idn n bytes) blocks x entries log) (eqb-true e 7 seven) is)
-      | inr other ↦ let most = other_few idn e bytes blocks low other x entries log is in omega (arith, most)
+      | inl seven ↦ data_few idn bytes long b (says_shape b (small idn.raw b found)) blocks found store x entries log (subst (λ (n : ℕ). IsTransfer (Request.Write idn n bytes) blocks x entries log) (eqb-true e 7 seven) is)
+      | inr other ↦ omega (arith, other_few idn e bytes blocks low other x entries log is)
     ]

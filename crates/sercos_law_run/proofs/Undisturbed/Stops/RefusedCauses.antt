@@ -1,9 +1,7 @@
 -- Of what the start-up writes, sets and reads, a drive can refuse the cycle time alone, and it refuses that by its limits.
-use Rattle.sercos_law_run.proofs.Words.{◌≡◌, ◌⊎◌, inl, inr, ℕ, suc, ◌+◌, ◌*◌, ◌/◌, ◌%◌, ◌<◌, ◌≤◌, Bool, true, false, List, [], ◌∷◌, ◌++◌, length, map, Some, None, refl, sym, ap, ap₂, ◌∙◌, arith, if◌then◌else◌, length-append, ◌==◌, nat_lt, nat_tests, same_Some, none-some, is_list, Idn, Length, bytes_in, words_of, shape_by, words_told, built_in_block, row, blocks_fault, find_block, store_of, DriveView, Block, Empty, Zero, Processed, Entry, in_order, write_cause_in, length-bytes_in, idn, length_map, is_start_number, IsStoreOf, Allows, is_nil, list_shape, length-in_order, in_order-append, attribute_of, built_in, bytes_written, write_cause}
-use Rattle.sercos_idn.specs.declared.kinds.Length.TheVariants as len
+use Rattle.sercos_law_run.proofs.Words.{◌≡◌, ◌⊎◌, inl, inr, ℕ, ◌+◌, ◌*◌, ◌/◌, ◌%◌, ◌<◌, ◌≤◌, Bool, true, false, List, [], ◌∷◌, ◌++◌, length, map, Some, None, refl, sym, ap, ap₂, ◌∙◌, arith, if◌then◌else◌, length-append, ◌==◌, nat_lt, nat_tests, same_Some, none-some, is_list, Idn, Length, bytes_in, words_of, shape_by, words_told, built_in_block, row, blocks_fault, find_block, store_of, DriveView, Block, Empty, Zero, Processed, Entry, in_order, write_cause_in, length-bytes_in, idn, length_map, is_start_number, IsStoreOf, Allows, is_nil, list_shape, length-in_order, in_order-append, attribute_of, built_in, bytes_written, write_cause, told_of}
 use Rattle.sercos_law_run.proofs.Start.BlockFinds.{find_store_of}
 use Rattle.sercos_law_run.proofs.Start.CauseLemmas.{causes_alike, cycle_cause, number_has_no_cause, list_has_no_cause}
-use Rattle.sercos_law_channel.proofs.Theorems.{told}
 use Rattle.sercos_law_run.proofs.Undisturbed.Stops.RefusedSteps.{IsCaused}
 use Rattle.sercos_law_run.proofs.Undisturbed.Arriving.Small.{first_is}
 use Rattle.sercos_service_drive.proofs.WordLemmas.{words_of-bytes_in}
@@ -13,8 +11,7 @@ use Rattle.sercos_service_drive.proofs.WordLemmas.{words_of-bytes_in}
 one_word : (before : List Processed) (word v : ℕ) (rest : List ℕ) → in_order before (word ∷ rest) ≡ v ∷ [] → (rest ≡ []) × (in_order before (word ∷ []) ≡ v ∷ [])
 one_word before word v [] same = (refl, same)
 one_word before word v (x ∷ rest) same =
-    let long = length-in_order before (word ∷ x ∷ rest) in
-    let one = ap (λ (l : List ℕ). length l) same in absurd (omega (arith, long, one))
+    absurd (omega (arith, length-in_order before (word ∷ x ∷ rest), (ap (λ (l : List ℕ). length l) same)))
 
 -- the first word of several
 record StartsSo (x : ℕ) (l : List ℕ) : Type 0 where
@@ -30,27 +27,25 @@ abbrev word_of : ℕ → ℕ
 word_of value = value % 256 + 256 * (value / 256)
 
 module _ (d : DriveView) (rules : blocks_fault [] d.blocks ≡ None) (e : Entry) (stored : IsStoreOf d e.processed.blocks) where
-  number_cause : (raw value : ℕ) (b : Block) → e.processed.phase ≡ 2 → b.attribute.length ≡ len.Two → IsCaused (idn raw) (bytes_in (value ∷ [])) b e → write_cause_in (find_block raw e.processed.blocks) 2 true (word_of value ∷ []) ≡ Some e.answer.word
+  number_cause : (raw value : ℕ) (b : Block) → e.processed.phase ≡ 2 → b.attribute.length ≡ Length.Two → IsCaused (idn raw) (bytes_in (value ∷ [])) b e → write_cause_in (find_block raw e.processed.blocks) 2 true (word_of value ∷ []) ≡ Some e.answer.word
   number_cause raw value b two one c =
-      let told_is : told b (bytes_in (value ∷ [])) ≡ word_of value ∷ [] = ap (λ (l : Length). words_told (shape_by l) (bytes_in (value ∷ []))) one in
+      let told_is : told_of b (bytes_in (value ∷ [])) ≡ word_of value ∷ [] = ap (λ (l : Length). words_told (shape_by l) (bytes_in (value ∷ []))) one in
       let w = one_word c.before c.word (word_of value) c.rest (c.words ∙ told_is) in
       ap (λ (p : ℕ). write_cause_in (find_block raw e.processed.blocks) p true (word_of value ∷ [])) (sym two)
       ∙ ap₂ (λ (l : Bool) (ws : List ℕ). write_cause_in (find_block raw e.processed.blocks) e.processed.phase l ws) (sym (ap is_nil w.0)) (sym w.1) ∙ c.cause
 
-  pub number_free : (raw value : ℕ) (b : Block) → e.processed.phase ≡ 2 → b.attribute.length ≡ len.Two → is_start_number raw ≡ true → IsCaused (idn raw) (bytes_in (value ∷ [])) b e → ⊥
+  pub number_free : (raw value : ℕ) (b : Block) → e.processed.phase ≡ 2 → b.attribute.length ≡ Length.Two → is_start_number raw ≡ true → IsCaused (idn raw) (bytes_in (value ∷ [])) b e → ⊥
   number_free raw value b two one start c =
       none-some e.answer.word (sym (number_has_no_cause d e.processed.blocks raw (word_of value) rules stored start) ∙ number_cause raw value b two one c)
 
   -- THE CYCLE TIME
-  pub cycle_refused : (cycle : ℕ) (b : Block) → cycle < 65536 → e.processed.phase ≡ 2 → b.attribute.length ≡ len.Two → IsCaused (idn 2) (bytes_in (cycle ∷ [])) b e
+  pub cycle_refused : (cycle : ℕ) (b : Block) → cycle < 65536 → e.processed.phase ≡ 2 → b.attribute.length ≡ Length.Two → IsCaused (idn 2) (bytes_in (cycle ∷ [])) b e
       → ((cycle < d.cycle_min) × (e.answer.word ≡ 0x7006)) ⊎ ((d.cycle_max < cycle) × (e.answer.word ≡ 0x7007))
   cycle_refused cycle b small two one c =
+      let back : cycle ≡ word_of cycle = omega arith in
       by (nat_lt cycle d.cycle_min) (nat_lt d.cycle_max cycle) refl refl
       (sym (cycle_cause d e.processed.blocks cycle rules stored small) ∙ ap (λ (w : ℕ). write_cause_in (find_block 2 e.processed.blocks) 2 true (w ∷ [])) back ∙ number_cause 2 cycle b two one c)
     where
-      back : cycle ≡ word_of cycle
-      back = omega arith
-
       by : (low high : Bool) → nat_lt cycle d.cycle_min ≡ low → nat_lt d.cycle_max cycle ≡ high → (if low then Some 0x7006 else (if high then Some 0x7007 else None)) ≡ Some e.answer.word
           → ((cycle < d.cycle_min) × (e.answer.word ≡ 0x7006)) ⊎ ((d.cycle_max < cycle) × (e.answer.word ≡ 0x7007))
       by true high is other same = inl (grind (arith, nat_tests, is), sym (same_Some 0x7006 e.answer.word same))
@@ -60,41 +55,28 @@ module _ (d : DriveView) (rules : blocks_fault [] d.blocks ≡ None) (e : Entry)
   -- A LIST
   pub list_free : (raw : ℕ) (idns : List Idn) (b : Block) → e.processed.phase ≡ 2 → is_list b.attribute.length ≡ true → ((raw == 16) ≡ true) ⊎ ((raw == 24) ≡ true) → length idns ≤ 16 → IsCaused (idn raw) (bytes_in (map (λ i. i.raw) idns)) b e → ⊥
   list_free raw idns b two list which few c =
+      let bytes = bytes_in (map (λ (i : Idn). i.raw) idns) in
+      let many = length_map (λ (i : Idn). i.raw) idns in
+      let long : length bytes ≡ 2 * length idns = omega (arith, length-bytes_in (map (λ (i : Idn). i.raw) idns), many) in
+      let joined = sym (in_order-append c.before (c.word ∷ []) c.rest) ∙ c.words ∙ ap (λ s. words_told s bytes)
+      (list_shape b.attribute.length list) in
+      let first = starts_so (length bytes) (in_order c.before (c.word ∷ [])) c.rest (0 ∷ words_of bytes)
+      (omega (arith, length-in_order c.before (c.word ∷ []))) joined in
+      let all = ap (λ (l : List ℕ). length l) joined in
+      let parts = length-append (in_order c.before (c.word ∷ [])) c.rest in
+      let words = ap (λ (l : List ℕ). length l) (words_of-bytes_in (map (λ (i : Idn). i.raw) idns)) in
+      let one = ap (λ (l : List ℕ). length l) first.is in
+      let count : length first.others + length c.rest ≡ 1 + length idns = omega (arith, all, parts, one, words, many) in
+      let same_cause = ap (λ (p : ℕ). write_cause_in (find_block raw e.processed.blocks) p (length first.others == 1 + length idns)
+      (2 * length idns ∷ first.others)) (sym two) ∙ ap₂ (λ (l : Bool) (ws : List ℕ). write_cause_in (find_block raw e.processed.blocks)
+      e.processed.phase l ws) (sym (last c.rest (length first.others) (length idns) count))
+      (ap (λ (n : ℕ). n ∷ first.others) (sym long) ∙ sym first.is) ∙ c.cause in
       none-some e.answer.word (sym (list_has_no_cause d e.processed.blocks raw (length idns) (length first.others) first.others rules stored
-      which few refl (let sum = count in omega (arith, sum))) ∙ same_cause)
+      which few refl (omega (arith, count))) ∙ same_cause)
     where
-      bytes : List ℕ
-      bytes = bytes_in (map (λ (i : Idn). i.raw) idns)
-
-      long : length bytes ≡ 2 * length idns
-      long = let l = length-bytes_in (map (λ (i : Idn). i.raw) idns) in let m = length_map (λ (i : Idn). i.raw) idns in omega (arith, l, m)
-
-      joined : in_order c.before (c.word ∷ []) ++ c.rest ≡ length bytes ∷ 0 ∷ words_of bytes
-      joined = sym (in_order-append c.before (c.word ∷ []) c.rest) ∙ c.words
-          ∙ ap (λ s. words_told s bytes) (list_shape b.attribute.length list)
-
-      first : StartsSo (length bytes) (in_order c.before (c.word ∷ []))
-      first = starts_so (length bytes) (in_order c.before (c.word ∷ [])) c.rest (0 ∷ words_of bytes) (let l = length-in_order c.before (c.word ∷ []) in omega (arith, l)) joined
-
-      count : length first.others + length c.rest ≡ 1 + length idns
-      count =
-          let all = ap (λ (l : List ℕ). length l) joined in
-          let parts = length-append (in_order c.before (c.word ∷ [])) c.rest in
-          let head = ap (λ (l : List ℕ). length l) first.is in
-          let words = ap (λ (l : List ℕ). length l) (words_of-bytes_in (map (λ (i : Idn). i.raw) idns)) in
-          let m = length_map (λ (i : Idn). i.raw) idns in
-          omega (arith, all, parts, head, words, m)
-
       last : (rest : List ℕ) (n m : ℕ) → n + length rest ≡ 1 + m → is_nil rest ≡ (n == 1 + m)
       last [] n m is = let same : (n == 1 + m) ≡ true = grind (arith, nat_tests, is) in sym same
       last (x ∷ rest) n m is = let other : (n == 1 + m) ≡ false = grind (arith, nat_tests, is) in sym other
-
-      same_cause : write_cause_in (find_block raw e.processed.blocks) 2 (length first.others == 1 + length idns) (2 * length idns ∷ first.others) ≡ Some e.answer.word
-      same_cause =
-          ap (λ (p : ℕ). write_cause_in (find_block raw e.processed.blocks) p (length first.others == 1 + length idns) (2 * length idns ∷ first.others)) (sym two)
-          ∙ ap₂ (λ (l : Bool) (ws : List ℕ). write_cause_in (find_block raw e.processed.blocks) e.processed.phase l ws) (sym (last c.rest (length first.others) (length idns) count))
-          (ap (λ (n : ℕ). n ∷ first.others) (sym long) ∙ sym first.is)
-          ∙ c.cause
 
   -- THE CHECKS
   pub check_free_3 : write_cause_in (find_block 127 e.processed.blocks) 2 true (3 ∷ []) ≡ None

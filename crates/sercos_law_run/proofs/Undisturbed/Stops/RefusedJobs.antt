@@ -1,10 +1,9 @@
 -- Of the requests of phase 2 a drive can refuse the write of the cycle time alone.
-use Rattle.sercos_law_run.proofs.Words.{◌≡◌, ◌⊎◌, inl, inr, ℕ, zero, suc, ◌+◌, ◌<◌, ◌≤◌, true, false, List, [], ◌∷◌, ◌++◌, ◌-◌, length, map, Option, Some, None, refl, sym, ap, ◌∙◌, subst, arith, ◌==◌, is_some, option_map, option_and_then, slice_get, slice_index, option_or, and_parts, cases_lt, false≢true, same_Some, Code, Idn, Request, bytes_in, PlanView, built_in_block, row, cyclic_len, number_len, blocks_fault, find_block, store_of, DriveView, Block, Zero, CycleTime, Empty, idn, declared_times, reads, reads_count, writes, writes_word, writes_list, Known, MemberView, member, member_of, write_cause_in, Allows, AreSmall, IsTransfer, is_start_number, jobs_of, says_shape, attribute_of, built_in, are_cyclic, cases_Option}
-use Rattle.sercos_step.specs.declared.request.Request.TheVariants as request
+use Rattle.sercos_law_run.proofs.Words.{◌≡◌, ◌⊎◌, inl, inr, ℕ, zero, suc, ◌+◌, ◌<◌, ◌≤◌, true, false, List, [], ◌∷◌, ◌++◌, ◌-◌, length, map, Option, Some, None, refl, sym, ap, ◌∙◌, subst, arith, ◌==◌, is_some, option_map, slice_get, slice_index, option_or, and_parts, cases_lt, false≢true, same_Some, Code, Idn, Request, bytes_in, PlanView, built_in_block, row, cyclic_len, blocks_fault, find_block, store_of, DriveView, Block, Zero, CycleTime, Empty, idn, declared_times, reads, reads_count, writes, writes_word, writes_list, Known, MemberView, member, member_of, write_cause_in, Allows, AreSmall, IsTransfer, is_start_number, jobs_of, says_shape, attribute_of, built_in, are_cyclic, cases_Option}
 use Rattle.sercos_law_run.proofs.Start.BlockFinds.{find_store_of, carry_alike}
 use Rattle.sercos_law_run.proofs.Agenda.AgendaTasks.{IsIn, First, After, is_in, mapped}
 use Rattle.sercos_law_run.proofs.Agenda.StopCauses.{element_asked}
-use Rattle.sercos_law_run.proofs.Held.AnsweredRuns.{IsRead, Time, Attribute, is_read_request}
+use Rattle.sercos_law_run.proofs.Held.AnsweredRuns.{Time, Attribute, is_read_request}
 use Rattle.sercos_law_run.proofs.Undisturbed.JobPlaces.{reading, later}
 use Rattle.sercos_law_run.proofs.Undisturbed.Stops.RefusedSteps.{IsCaused, write_caused, always_3, data_reads_well, reads_well, command_well}
 use Rattle.sercos_law_run.proofs.Undisturbed.Stops.RefusedCauses.{number_free, cycle_refused, list_free, check_free_3, check_3, allows_3, found_3}
@@ -49,27 +48,26 @@ module _ (d : DriveView) (rules : blocks_fault [] d.blocks ≡ None) (small : Ar
   ]
 
   read_never : (n : ℕ) (q : Request) → slice_get (reads (member s k)) n ≡ Some q → IsRefused d q code 2 → ⊥
-  read_never n q got ref = by (is_read_request (member s k) n q got)
+  read_never n q got ref = elim (is_read_request (member s k) n q got) [
+    | Time raw built same ↦
+        let b = found_time raw (built d) in
+        never_both ref.e.answer.error ref.error (data_reads_well (idn raw) b.0 (store_of d) b.1 ref.e ref.entries ref.log (subst (λ (x : Request). IsTransfer x (store_of d) ref.e ref.entries ref.log) same ref.transfer))
+    | Attribute i same ↦ attribute (is_in (map (λ raw. Request.Read (idn raw) 7) declared_times) (map (λ i. Request.Read i 3) ((member s k).at ++ (member s k).mdt)) n q got) i same
+  ]
     where
-      attribute : IsIn (map (λ raw. request.Read (idn raw) 7) declared_times) (map (λ i. request.Read i 3) ((member s k).at ++ (member s k).mdt)) n q → (i : Idn) → q ≡ request.Read i 3 → ⊥
+      attribute : IsIn (map (λ raw. Request.Read (idn raw) 7) declared_times) (map (λ i. Request.Read i 3) ((member s k).at ++ (member s k).mdt)) n q → (i : Idn) → q ≡ Request.Read i 3 → ⊥
       attribute (First less is) i same =
-          let f = mapped (λ raw. request.Read (idn raw) 7) declared_times n q is in
+          let f = mapped (λ raw. Request.Read (idn raw) 7) declared_times n q is in
           let e : 7 ≡ 3 = sym (ap element_asked f.2) ∙ ap element_asked same in omega (arith, e)
       attribute (After j place is) i same =
-          let f = mapped (λ i. request.Read i 3) ((member s k).at ++ (member s k).mdt) j q is in
+          let f = mapped (λ i. Request.Read i 3) ((member s k).at ++ (member s k).mdt) j q is in
           let there : slice_get (d.at ++ d.mdt) j ≡ Some f.0 = sym (ap (λ (m : MemberView). slice_get (m.at ++ m.mdt) j) member_so) ∙ f.1 in
           let b = found_cyclic f.0 (cyclic_at d.blocks (d.at ++ d.mdt) j f.0 (cyclic_append d.blocks d.at d.mdt at mdt) there) in
           never_both ref.e.answer.error ref.error (reads_well f.0 3 b.0 (store_of d) b.1 refl always_3 ref.e ref.entries ref.log
           (subst (λ (x : Request). IsTransfer x (store_of d) ref.e ref.entries ref.log) f.2 ref.transfer))
 
-      by : IsRead q → ⊥
-      by (Time raw built same) =
-          let b = found_time raw (built d) in
-          never_both ref.e.answer.error ref.error (data_reads_well (idn raw) b.0 (store_of d) b.1 ref.e ref.entries ref.log (subst (λ (x : Request). IsTransfer x (store_of d) ref.e ref.entries ref.log) same ref.transfer))
-      by (Attribute i same) = attribute (is_in (map (λ raw. request.Read (idn raw) 7) declared_times) (map (λ i. request.Read i 3) ((member s k).at ++ (member s k).mdt)) n q got) i same
-
   -- A WRITE
-  caused_by : (raw : ℕ) (bytes : List ℕ) (b : Block) (q : Request) → find_block raw (store_of d) ≡ Some b → q ≡ request.Write (idn raw) 7 bytes → (ref : IsRefused d q code 2) → IsCaused (idn raw) bytes b ref.e
+  caused_by : (raw : ℕ) (bytes : List ℕ) (b : Block) (q : Request) → find_block raw (store_of d) ≡ Some b → q ≡ Request.Write (idn raw) 7 bytes → (ref : IsRefused d q code 2) → IsCaused (idn raw) bytes b ref.e
   caused_by raw bytes b q found same ref =
       write_caused (idn raw) bytes b (says_shape b (small raw b found)) (store_of d) found ref.e ref.entries ref.log (subst (λ (x : Request). IsTransfer x (store_of d) ref.e ref.entries ref.log) same ref.transfer) ref.error
 
@@ -82,12 +80,11 @@ module _ (d : DriveView) (rules : blocks_fault [] d.blocks ≡ None) (small : Ar
   unfolding attribute_of
   cycle_is q found same ref two = record {
     asks = same;
-    limit = by (cycle_refused d rules ref.e ref.stored s.cycle (cycle_block d) cycle_small two refl (caused_by 2 (bytes_in (s.cycle ∷ [])) (cycle_block d) q found same ref));
+    limit = elim (cycle_refused d rules ref.e ref.stored s.cycle (cycle_block d) cycle_small two refl (caused_by 2 (bytes_in (s.cycle ∷ [])) (cycle_block d) q found same ref)) [
+      | inl (low, is) ↦ inl (low, sym ref.code_is ∙ is)
+      | inr (high, is) ↦ inr (high, sym ref.code_is ∙ is)
+    ];
   }
-    where
-      by : ((s.cycle < d.cycle_min) × (ref.e.answer.word ≡ 0x7006)) ⊎ ((d.cycle_max < s.cycle) × (ref.e.answer.word ≡ 0x7007)) → ((s.cycle < d.cycle_min) × (code.raw ≡ 0x7006)) ⊎ ((d.cycle_max < s.cycle) × (code.raw ≡ 0x7007))
-      by (inl (low, is)) = inl (low, sym ref.code_is ∙ is)
-      by (inr (high, is)) = inr (high, sym ref.code_is ∙ is)
 
   list_never : (raw : ℕ) (idns : List Idn) (q : Request) → find_block raw (store_of d) ≡ Some (list_block d raw) → ((raw == 16) ≡ true) ⊎ ((raw == 24) ≡ true) → length idns ≤ 16 → q ≡ writes_list raw idns → (ref : IsRefused d q code 2) → ref.e.processed.phase ≡ 2 → IsCycle d s.cycle q code
   unfolding attribute_of
@@ -113,7 +110,7 @@ module _ (d : DriveView) (rules : blocks_fault [] d.blocks ≡ None) (small : Ar
   write_is p (suc (suc (suc (suc (suc (suc (suc (suc (suc (suc (suc i))))))))))) q got ref two = absurd (cc)
 
   -- THE CHECK is never refused.
-  check_never : (q : Request) → q ≡ request.Command (idn 127) → (ref : IsRefused d q code 2) → ref.e.processed.phase ≡ 2 → ⊥
+  check_never : (q : Request) → q ≡ Request.Command (idn 127) → (ref : IsRefused d q code 2) → ref.e.processed.phase ≡ 2 → ⊥
   unfolding attribute_of
   check_never q same ref two =
       never_both ref.e.answer.error ref.error
@@ -129,7 +126,7 @@ module _ (d : DriveView) (rules : blocks_fault [] d.blocks ≡ None) (small : Ar
     where
       by : (o : Option PlanView) → slice_get (jobs_of s o k) n ≡ Some q → IsCycle d s.cycle q code
       by None there = absurd (read_never n q there ref)
-      by (Some p) there = which (is_in (writes s p k) (request.Command (idn 127) ∷ request.Command (idn 128) ∷ request.Read (idn 22) 7 ∷ []) (n - reads_count (member s k)) q
+      by (Some p) there = which (is_in (writes s p k) (Request.Command (idn 127) ∷ Request.Command (idn 128) ∷ Request.Read (idn 22) 7 ∷ []) (n - reads_count (member s k)) q
           (sym (later s k p n (n - reads_count (member s k)) (omega (arith, late_place))) ∙ there))
         where
           late_place : reads_count (member s k) ≤ n
@@ -138,7 +135,7 @@ module _ (d : DriveView) (rules : blocks_fault [] d.blocks ≡ None) (small : Ar
             | inr late ↦ omega (arith, late)
           ]
 
-          which : IsIn (writes s p k) (request.Command (idn 127) ∷ request.Command (idn 128) ∷ request.Read (idn 22) 7 ∷ []) (n - reads_count (member s k)) q → IsCycle d s.cycle q code
+          which : IsIn (writes s p k) (Request.Command (idn 127) ∷ Request.Command (idn 128) ∷ Request.Read (idn 22) 7 ∷ []) (n - reads_count (member s k)) q → IsCycle d s.cycle q code
           which (First low is) = write_is p (n - reads_count (member s k)) q is ref two
-          which (After zero place is) = absurd (check_never q (sym (same_Some (request.Command (idn 127)) q is)) ref two)
-          which (After (suc j) place is) = let far = late_place in absurd (omega (arith, place, less, far))
+          which (After zero place is) = absurd (check_never q (sym (same_Some (Request.Command (idn 127)) q is)) ref two)
+          which (After (suc j) place is) = absurd (omega (arith, place, less, late_place))

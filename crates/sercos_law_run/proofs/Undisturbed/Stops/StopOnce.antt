@@ -1,5 +1,5 @@
 -- What tells a stop: a call leaves it as it is, once there is a stop; and at the end of a cycle nothing new is to tell.
-use Rattle.sercos_law_run.proofs.Words.{◌≡◌, inl, inr, ℕ, ◌+◌, Bool, true, false, List, [], ◌∷◌, length, refl, ap, ◌∙◌, if◌then◌else◌, is_some, cases_Bool, Job, RingView, CycleView, Known, known_of, Past, after_at, after_mdt, fall_of, first_trouble, goes_on, new_epoch, next_phase, still_waiting, with_due_plan, due_stopped, stop_stays, Carry, Restarts, looks_back, master_calls, at_start, behind_mdt}
+use Rattle.sercos_law_run.proofs.Words.{◌≡◌, inl, inr, ℕ, Bool, true, false, List, [], ◌∷◌, length, refl, ap, ◌∙◌, is_some, cases_Bool, Job, RingView, CycleView, Known, known_of, Past, after_at, after_mdt, fall_of, first_trouble, with_due_plan, due_stopped, stop_stays, Carry, Restarts, looks_back, master_calls, at_start, behind_mdt}
 use Rattle.sercos_law_run.proofs.Views.MasterSame.{begun_cycle}
 use Rattle.sercos_law_run.proofs.Views.ViewRuns.{started}
 use Rattle.sercos_law_run.proofs.Undisturbed.Arriving.AfterAt.{after_at_so}

@@ -1,15 +1,11 @@
 -- A stop stays as long as the ring doesn't fall and the master doesn't restart.
-use Rattle.sercos_law_run.proofs.Words.{◌≡◌, ℕ, true, List, [], ◌∷◌, length, Option, Some, None, refl, sym, ◌∙◌, ap, is_some, slice_index, Job, RingView, Stop, CycleView, Known, known_of, Past, Call, after_at, first_trouble, with_due_plan, after_mdt, fall_of, due_stopped, stop_stays, Carry, Restarts, heard, passage, mst_in, ats_in, station_of, with_at, at_calls, looks_back, master_calls, own_mst, begins, at_start, behind_mdt, behind_ats, cases_Option, inl, inr}
-use Rattle.sercos_telegram.specs.declared.layout.Kind.TheVariants as kinds
+use Rattle.sercos_law_run.proofs.Words.{◌≡◌, ℕ, true, List, ◌∷◌, length, Option, Some, None, refl, sym, ◌∙◌, ap, is_some, Job, RingView, Stop, CycleView, Known, known_of, Past, Call, first_trouble, with_due_plan, after_mdt, fall_of, due_stopped, stop_stays, Carry, Restarts, mst_in, ats_in, at_calls, looks_back, master_calls, own_mst, begins, at_start, behind_mdt, behind_ats, cases_Option, inl, inr}
 use Rattle.sercos_law_run.proofs.Undisturbed.PhaseCounts.{end_kept}
 use Rattle.sercos_law_run.proofs.Undisturbed.Arriving.AfterAt.{after_at_so}
 pub use Rattle.sercos_law_run.proofs.Undisturbed.Arriving.AfterAt.{ats_same}
 
-at_stop : (s : Known) (content : List ℕ) (p : Past) → (after_at s content p).stop ≡ p.stop
-at_stop s content p = after_at_so (λ q. q.stop ≡ p.stop) s content p refl (λ k. refl)
-
 pub ats_stop : (r : RingView) (jobs : List Job) (carry : Carry) (cycle : ℕ) (ats : List (List ℕ)) (h : List Call) → (looks_back r jobs (at_calls r carry cycle ats h)).stop ≡ (looks_back r jobs h).stop
-ats_stop = ats_same (λ (p : Past). p.stop) at_stop
+ats_stop = ats_same (λ (p : Past). p.stop) (λ s content p. after_at_so (λ q. q.stop ≡ p.stop) s content p refl (λ k. refl))
 
 pub mdt_stop : (s : Known) (p : Past) → is_some p.stop ≡ true → (after_mdt s p).stop ≡ p.stop
 mdt_stop s p some = ap (λ (q : Past). (with_due_plan s q).stop) (stop_stays (first_trouble s p) p some) ∙ ap (λ (q : Past). q.stop) (due_stopped s p some)

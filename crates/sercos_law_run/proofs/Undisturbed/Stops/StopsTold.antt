@@ -1,6 +1,5 @@
 -- Each stop was told in the record of a cycle of the run, so it is there for its cause.
-use Rattle.sercos_law_run.proofs.Words.{◌≡◌, ◌⊎◌, inl, inr, ◌+◌, Bool, true, false, List, [], ◌∷◌, length, Option, Some, None, refl, sym, ap, ◌∙◌, subst, if◌then◌else◌, is_some, option_or, false≢true, none-some, Job, RingView, CycleView, EventsView, Fall, Stop, Known, known_of, Past, after_mdt, fall_of, is_done, still_waiting, new_epoch, goes_on, after_end, stop_told, restart_told, settled_keeps, Carry, Restarts, mst_in, ats_in, own_mst, begins, master_calls, looks_back, no_events, IsNext, IsRun, IsClear, at_start, behind_ats, behind_mdt, IsOpened, StopsRight, HasTold, cases_Option}
-use Rattle.sercos_law_run.proofs.Views.MasterSame.{begun_cycle}
+use Rattle.sercos_law_run.proofs.Words.{◌≡◌, ◌⊎◌, inl, inr, ◌+◌, Bool, true, List, [], ◌∷◌, length, Option, Some, None, refl, sym, ap, ◌∙◌, subst, if◌then◌else◌, is_some, option_or, false≢true, none-some, Job, RingView, CycleView, EventsView, Fall, Stop, Known, known_of, Past, fall_of, is_done, still_waiting, new_epoch, goes_on, after_end, restart_told, settled_keeps, Carry, Restarts, mst_in, ats_in, own_mst, begins, master_calls, looks_back, no_events, IsNext, IsRun, IsClear, at_start, behind_ats, behind_mdt, IsOpened, StopsRight, HasTold, cases_Option, cases_Bool}
 use Rattle.sercos_law_run.proofs.Views.ViewRuns.{started}
 use Rattle.sercos_law_run.proofs.Headline.HeadlineRuns.{keeps_all}
 use Rattle.sercos_law_run.proofs.Undisturbed.Stops.StopStays.{ats_stop, mdt_stop, stop_after}
@@ -8,13 +7,6 @@ use Rattle.sercos_law_run.proofs.Undisturbed.Stops.StopStays.{ats_stop, mdt_stop
 -- A STOP THAT COMES is told.
 abbrev IsTold : Past → Type 0
 IsTold p = is_some p.stop ≡ true → p.now.stops ≡ true
-
-mdt_is_told : (s : Known) (p : Past) → p.stop ≡ None → IsTold (after_mdt s p)
-mdt_is_told s p none = settled_keeps IsTold s p (λ rests some. absurd (not_yet some)) (λ x free brings some. refl)
-    (λ plan makes some. absurd (not_yet some))
-  where
-    not_yet : is_some p.stop ≡ true → ⊥
-    not_yet some = false≢true (sym (ap (λ (o : Option Stop). is_some o) none) ∙ some)
 
 -- a ring that falls has no stop
 fallen_stop : (s : Known) (p : Past) (f : Fall) → fall_of s p ≡ Some f → (after_end s p).stop ≡ None
@@ -25,23 +17,21 @@ module _ (r : RingView) (jobs : List Job) (carry : Carry) (restarts : Restarts) 
   ats_kept t j = ats_stop r jobs carry (length j) (ats_in t.sent) (own_mst carry (length j) (mst_in t.sent) (begins r carry restarts j))
 
   begun_stop : (j : List CycleView) (x : Stop) → (at_start r jobs carry restarts j).stop ≡ Some x → (looks_back r jobs (master_calls r carry restarts j)).stop ≡ Some x
-  begun_stop j x is = by (restarts (length j) 0) (subst (λ (p : Past). p.stop ≡ Some x) (started r jobs (restarts (length j) 0) (master_calls r carry restarts j)) is)
-    where
-      by : (b : Bool) → (begun_cycle b (looks_back r jobs (master_calls r carry restarts j))).stop ≡ Some x → (looks_back r jobs (master_calls r carry restarts j)).stop ≡ Some x
-      by true is = absurd (none-some x is)
-      by false is = is
+  begun_stop j x is =
+      let begun = subst (λ (p : Past). p.stop ≡ Some x) (started r jobs (restarts (length j) 0) (master_calls r carry restarts j)) is in
+      elim (cases_Bool (restarts (length j) 0)) [ inl on ↦ absurd (none-some x (rw on at begun)) | inr off ↦ rw off at begun ]
 
   -- a stop of this cycle
   pub fresh : (t : CycleView) (j : List CycleView) (x : Stop) → IsNext r jobs carry restarts t j → (at_start r jobs carry restarts j).stop ≡ None → (behind_mdt r jobs carry restarts t.sent j).stop ≡ Some x → t.events.stop ≡ Some x
   fresh t j x next none is =
+      let stops = settled_keeps IsTold (known_of r) (behind_ats r jobs carry restarts t.sent j)
+      (λ rests some. absurd (false≢true (sym (ap (λ (o : Option Stop). is_some o) (ats_kept t j ∙ none)) ∙ some)))
+      (λ x free brings some. refl)
+      (λ plan makes some. absurd (false≢true (sym (ap (λ (o : Option Stop). is_some o) (ats_kept t j ∙ none)) ∙ some)))
+      (ap (λ (o : Option Stop). is_some o) is) in
+      let says = ap (λ (b : Bool). if b then (behind_mdt r jobs carry restarts t.sent j).stop else None) stops ∙ is in
       ap (λ (e : EventsView). e.stop) next.events
       ∙ ap (λ (o : Option Stop). option_or o (if restarts (length j) 0 then restart_told (known_of r) (looks_back r jobs (master_calls r carry restarts j)) no_events else no_events).stop) says
-    where
-      stops : (behind_mdt r jobs carry restarts t.sent j).now.stops ≡ true
-      stops = mdt_is_told (known_of r) (behind_ats r jobs carry restarts t.sent j) (ats_kept t j ∙ none) (ap (λ (o : Option Stop). is_some o) is)
-
-      says : stop_told (behind_mdt r jobs carry restarts t.sent j) ≡ Some x
-      says = ap (λ (b : Bool). if b then (behind_mdt r jobs carry restarts t.sent j).stop else None) stops ∙ is
 
   -- a stop that was there before, or one of this cycle
   pub stop_at : (t : CycleView) (j : List CycleView) (x : Stop) (Before : Type 0) → IsNext r jobs carry restarts t j
@@ -70,7 +60,7 @@ told_right : (r : RingView) (jobs : List Job) (carry : Carry) (restarts : Restar
 told_right r jobs carry restarts opened [] x run clear told = absurd told
 told_right r jobs carry restarts opened (t ∷ j) x run clear told = elim told [
   | inl here ↦ subst (StopsRight r) here (keeps_all r jobs carry restarts opened t j run clear).stops
-  | inr there ↦ (told_right r jobs carry restarts opened j x run.0 clear.0) there
+  | inr there ↦ told_right r jobs carry restarts opened j x run.0 clear.0 there
 ]
 
 pub stops_right : (r : RingView) (jobs : List Job) (carry : Carry) (restarts : Restarts) → IsOpened r jobs

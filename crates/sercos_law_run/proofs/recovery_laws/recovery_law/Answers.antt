@@ -1,11 +1,10 @@
 use Rattle.sercos_law_run.proofs.Recovery.AfterFalls.{after_fall}
 use Rattle.sercos_law_run.proofs.Recovery.ComesBack.{comes_back}
-use Rattle.sercos_law_run.proofs.Recovery.FallsSoon.{falls_soon}
 use Rattle.sercos_law_run.proofs.Recovery.LateDown.{falls_if_down}
 use Rattle.sercos_law_run.proofs.Recovery.Limits.{ages_to_limit}
 use Rattle.sercos_law_run.proofs.Recovery.Predicts.{is_predicted}
-use Rattle.sercos_law_run.proofs.Recovery.Returns.{recovers_in}
-use Rattle.sercos_law_run.proofs.Recovery.SpareStops.{falls_anyway}
+use Rattle.sercos_law_run.proofs.Recovery.Recovers.{recovers_in}
+use Rattle.sercos_law_run.proofs.Recovery.FallsInTime.{falls_anyway, falls_soon}
 use Rattle.sercos_law_run.proofs.Recovery.Stretches.{ages_down_in, keeps_up, stays_down_in}
 use Rattle.sercos_law_run.proofs.Recovery.UpInThree.{lasts_with_list}
 use Rattle.sercos_law_run.proofs.Words.{◌+◌, ◌*◌, slowest}
@@ -25,9 +24,9 @@ returns c =
       falls = λ r jobs carry restarts t u j opened run clear none stays late k below down.
           falls_if_down r jobs carry restarts opened t u j run clear none stays late k below down;
       in_time = λ r jobs carry restarts t cycles first before opened run clear stretch calm late falls d there down.
-          falls_anyway r jobs carry restarts opened d there t cycles first before run clear stretch calm late falls down;
+          falls_anyway r jobs carry restarts opened t cycles first before run clear stretch calm falls late d there down;
       soon = λ r jobs carry restarts t cycles first before opened run clear stretch calm late up falls.
-          falls_soon r jobs carry restarts opened t cycles first before run clear stretch calm late up falls;
+          falls_soon r jobs carry restarts opened t cycles first before run clear stretch calm falls up;
       comes_back = λ r jobs carry restarts t cycles first before opened run clear stretch late up long.
           comes_back r jobs carry restarts opened first before late up (41 * (slowest r.drives + 2))
           (lasts_with_list r jobs carry restarts opened) t cycles run clear stretch long;

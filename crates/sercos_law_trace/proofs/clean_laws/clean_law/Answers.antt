@@ -7,16 +7,11 @@ use Rattle.sercos_law_trace.proofs.Clean.WholeClean.{runs_are_clean}
 use Rattle.sercos_law_trace.proofs.clean_laws.clean_law.Goals as goal
 
 pub returns : goal.returns
-returns c =
-    let fit = runs_fit_lines in
-    let others = runs_fit_others c.totals_law.ensures.more in
-    let reports = runs_fit_reports c.counts_law.ensures.complete in
-    let traces = traces_are_clean c.test_law.ensures.follows c.reading_law.ensures.back in
-    record {
-      rules = runs_keep_rules;
-      fit = fit;
-      others = others;
-      reports = reports;
-      traces = traces;
-      clean = runs_are_clean others reports traces;
-    }
+returns c = let traces = traces_are_clean c.test_law.ensures.follows c.reading_law.ensures.back in record {
+  rules = runs_keep_rules;
+  fit = runs_fit_lines;
+  others = runs_fit_others;
+  reports = runs_fit_reports;
+  traces = traces;
+  clean = runs_are_clean traces;
+}

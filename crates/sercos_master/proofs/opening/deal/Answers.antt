@@ -8,20 +8,16 @@ loop-done-init c = none_dealt c.args.jobs.items c.args.seats.now.items c.require
 
 pub overflow_cast-len : goal.overflow_cast-len
 overflow_cast-len c =
-    let a : length c.loop-done.jobs.items + c.loop-done.done ≡ length c.args.jobs.items = c.loop-done.invariant.left in
-    let few : length c.args.jobs.items ≤ 4096 = c.requires.few in
     let one : length c.pop.new.self.items + 1 ≡ length c.loop-done.jobs.items = search rules in
     let is : c.len.result ≡ length c.pop.new.self.items = search rules in
-    let h : c.len.result < 65536 = omega (arith, a, few, one, is) in
+    let h : c.len.result < 65536 = omega (arith, c.loop-done.invariant.left, c.requires.few, one, is) in
     search rules
 
 pub overflow_add-len : goal.overflow_add-len
 overflow_add-len c =
-    let a : length c.loop-done.jobs.items + c.loop-done.done ≡ length c.args.jobs.items = c.loop-done.invariant.left in
-    let few : length c.args.jobs.items ≤ 4096 = c.requires.few in
     let one : length c.pop.new.self.items + 1 ≡ length c.loop-done.jobs.items = search rules in
     let is : c.len.result ≡ length c.pop.new.self.items = search rules in
-    let h : c.len.result + 1 < 65536 = omega (arith, a, few, one, is) in
+    let h : c.len.result + 1 < 65536 = omega (arith, c.loop-done.invariant.left, c.requires.few, one, is) in
     search rules
 
 pub give-requires : goal.give-requires
@@ -30,16 +26,13 @@ give-requires c = last_asks c.loop-done.jobs.items c.pop.new.self.items c.in-Som
 pub loop-done-preserved : goal.loop-done-preserved
 loop-done-preserved c = elim c.match-pop.branch [
   | in-Some+in_ok-give w ↦
-      let is : w.len.result ≡ length c.pop.new.self.items = search rules in
       rw w.seats-is
       (dealt_next c.args.jobs.items c.args.seats.now.items c.loop-done.jobs.items c.pop.new.self.items w.in-Some.job c.loop-done.seats.items w.give.new.seats.items c.loop-done.done (w.len.result + 1)
-      c.loop-done.invariant w.in-Some.ensures.items (ap (λ n. n + 1) is) w.in_ok-give.ensures.count w.in_ok-give.ensures.stand)
+      c.loop-done.invariant w.in-Some.ensures.items (ap (λ n. n + 1) (search rules)) w.in_ok-give.ensures.count w.in_ok-give.ensures.stand)
   | in_default w ↦
-      let a : length c.loop-done.jobs.items + c.loop-done.done ≡ length c.args.jobs.items = c.loop-done.invariant.left in
       let none : length c.loop-done.jobs.items ≡ 0 = search rules in
       let count : c.len-count.result ≡ length c.args.jobs.items = search rules in
-      let more : c.loop-done.done < c.len-count.result = c.loop-done-test.true in
-      absurd (omega (arith, a, none, count, more))
+      absurd (omega (arith, c.loop-done.invariant.left, none, count, c.loop-done-test.true))
 ]
 
 pub returns-clause-count : goal.returns-clause-count

@@ -1,4 +1,4 @@
-use Rattle.sercos_master.proofs.Words.{rules, ◌≡◌, ◌<◌, ◌≤◌, ◌-◌, ◌+◌, ℕ, true, false, length, sym, ◌∙◌, arith, is_some, member, SeatStandsFor, outcomes_seen}
+use Rattle.sercos_master.proofs.Words.{rules, ◌≡◌, ◌<◌, ◌≤◌, ◌-◌, ◌+◌, true, false, length, sym, ◌∙◌, arith, is_some, member, SeatStandsFor, outcomes_seen}
 use Rattle.sercos_seat.proofs.Longs.{last_long_stop-from}
 use Rattle.sercos_master.proofs.Wishes.{stop_more, stop_none, stop_there, none_is, some_is}
 use Rattle.sercos_master.proofs.seats.last_long_stop.Goals as goal
@@ -9,7 +9,6 @@ loop-i-init c = record { none = λ s seen count all. stop_none s (λ k. outcomes
 pub returns-then-is_some : goal.returns-then-is_some
 returns-then-is_some c = λ s seen count all.
     let below : c.loop-i.i < length c.args.seats.now = search rules in
-    let n : ℕ = length c.args.seats.now - 1 - c.loop-i.i in
     let here : SeatStandsFor c.index-seats-count.result (member s (length c.args.seats.now - 1 - c.loop-i.i)) (seen (length c.args.seats.now - 1 - c.loop-i.i)) = rw c.index-seats-count.is (all (length c.args.seats.now - 1 - c.loop-i.i) c.index-seats-count.result (omega (arith, below))) in
     let is = c.last_long-stop.ensures (member s (length c.args.seats.now - 1 - c.loop-i.i)) (seen (length c.args.seats.now - 1 - c.loop-i.i)) here in
     let known : is_some c.last_long-stop.result ≡ true = search rules in

@@ -8,6 +8,5 @@ returns-clause-stands c = λ s jobs h stands.
 
 pub returns-clause-told : goal.returns-clause-told
 returns-clause-told c = λ s jobs h stands short.
-    let known = c.into_ring.ensures.known s (past s (tasks_for s jobs) h) stands in
-    let few : length s.drives ≤ 64 = known.few in
+    let few : length s.drives ≤ 64 = (c.into_ring.ensures.known s (past s (tasks_for s jobs) h) stands).few in
     c.fallen.ensures.told s (past s (tasks_for s jobs) h) (c.into_ring.ensures.stands s (past s (tasks_for s jobs) h) stands) (omega (arith, short, few))

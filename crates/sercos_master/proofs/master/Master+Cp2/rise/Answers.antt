@@ -1,4 +1,4 @@
-use Rattle.sercos_master.proofs.Words.{rules, ◌≡◌, sym, ◌∙◌, past}
+use Rattle.sercos_master.proofs.Words.{rules, sym, ◌∙◌, past}
 use Rattle.sercos_master.proofs.Followed.{holds_plan}
 use Rattle.sercos_master.proofs.master.Master+Cp2.rise.Goals as goal
 
@@ -10,5 +10,4 @@ returns-else-is_done-clause-exactly c = λ s p stands. sym c.if-is_done.false �
 
 pub returns-then-is_done-clause-plan : goal.returns-then-is_done-clause-plan
 returns-then-is_done-clause-plan c = λ s requests h stands.
-    let kept : c.in_state.result.plan ≡ c.args.self.plan = search rules in
-    holds_plan s requests h kept stands (sym (c.is_done.ensures 2 s (past s requests h) stands) ∙ c.if-is_done.true)
+    holds_plan s requests h (search rules) stands (sym (c.is_done.ensures 2 s (past s requests h) stands) ∙ c.if-is_done.true)

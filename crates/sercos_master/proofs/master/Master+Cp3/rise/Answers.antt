@@ -1,4 +1,4 @@
-use Rattle.sercos_master.proofs.Words.{rules, ◌≡◌, sym, ◌∙◌, refl}
+use Rattle.sercos_master.proofs.Words.{rules, sym, ◌∙◌, refl}
 use Rattle.sercos_master.proofs.Configured.{all_configured}
 use Rattle.sercos_master.proofs.Followed.{holds_plan}
 use Rattle.sercos_master.proofs.master.Master+Cp3.rise.Goals as goal
@@ -11,5 +11,4 @@ returns-else-is_done-clause-exactly c = λ s p stands. sym c.if-is_done.false �
 
 pub returns-then-is_done-clause-plan : goal.returns-then-is_done-clause-plan
 returns-then-is_done-clause-plan c = λ s requests h stands.
-    let kept : c.in_state.result.plan ≡ c.args.self.plan = search rules in
-    holds_plan s requests h kept stands (all_configured s requests h (rw stands.phase_is refl))
+    holds_plan s requests h (search rules) stands (all_configured s requests h (rw stands.phase_is refl))

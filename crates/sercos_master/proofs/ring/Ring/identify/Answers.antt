@@ -5,9 +5,8 @@ use Rattle.sercos_master.proofs.ring.Ring.identify.Goals as goal
 
 pub returns-clause-stands : goal.returns-clause-stands
 returns-clause-stands c = λ s p one stands.
-    let t : CoreStandsFor (the_view c.self.inside) s p = rw c.self.view_is stands in
     let kept : c.first_unidentified-found.result ≡ position (λ seat. not seat.identified) (the_view c.self.inside).seats = rw (← c.as_slice.ensures.value) c.first_unidentified-found.ensures.value in
-    rw kept (sent_1 (the_view c.self.inside) s p t one)
+    rw kept (sent_1 (the_view c.self.inside) s p (rw c.self.view_is stands) one)
 
 pub returns-clause-start : goal.returns-clause-start
 returns-clause-start c = λ s p one stands.
@@ -25,18 +24,15 @@ returns-clause-content c = λ s p one stands.
 
 pub returns-in_default-clause-stands : goal.returns-in_default-clause-stands
 returns-in_default-clause-stands c = λ s p one stands.
-    let t : CoreStandsFor (the_view c.self.inside) s p = rw c.self.view_is stands in
     let kept : c.first_unidentified-found.result ≡ position (λ seat. not seat.identified) (the_view c.self.inside).seats = rw (← c.as_slice.ensures.value) c.first_unidentified-found.ensures.value in
-    rw kept (sent_1 (the_view c.self.inside) s p t one)
+    rw kept (sent_1 (the_view c.self.inside) s p (rw c.self.view_is stands) one)
 
 pub returns-in_default-clause-start : goal.returns-in_default-clause-start
 returns-in_default-clause-start c = λ s p one stands.
-    let t : CoreStandsFor (the_view c.self.inside) s p = rw c.self.view_is stands in
     let found : position (λ seat. not seat.identified) (the_view c.self.inside).seats ≡ None = rw (← c.as_slice.ensures.value) (sym c.first_unidentified-found.ensures.value ∙ c.in_default.is) in
-    start_none s (sent_now s p) (said_none_1 (the_view c.self.inside) s p t one found)
+    start_none s (sent_now s p) (said_none_1 (the_view c.self.inside) s p (rw c.self.view_is stands) one found)
 
 pub returns-in_default-clause-content : goal.returns-in_default-clause-content
 returns-in_default-clause-content c = λ s p one stands.
-    let t : CoreStandsFor (the_view c.self.inside) s p = rw c.self.view_is stands in
     let found : position (λ seat. not seat.identified) (the_view c.self.inside).seats ≡ None = rw (← c.as_slice.ensures.value) (sym c.first_unidentified-found.ensures.value ∙ c.in_default.is) in
-    content_none s (sent_now s p) c.args.out.now (said_none_1 (the_view c.self.inside) s p t one found)
+    content_none s (sent_now s p) c.args.out.now (said_none_1 (the_view c.self.inside) s p (rw c.self.view_is stands) one found)

@@ -5,9 +5,8 @@ use Rattle.sercos_master.proofs.ring.Ring.in_turn.Goals as goal
 
 pub returns-in-Some-clause-value : goal.returns-in-Some-clause-value
 returns-in-Some-clause-value c = λ s p stands.
-    let t : CoreStandsFor (the_view c.self.inside) s p = rw c.self.view_is stands in
     let found : position (λ seat. not (has_read seat)) (the_view c.self.inside).seats ≡ Some c.in-Some.place = rw (← c.as_slice.ensures.value) (sym c.first_unread.ensures.value ∙ c.in-Some.is) in
-    sym (turn _ _ c.in-Some.place (sym (unread (the_view c.self.inside) s p t) ∙ found))
+    sym (turn _ _ c.in-Some.place (sym (unread (the_view c.self.inside) s p (rw c.self.view_is stands)) ∙ found))
 
 pub returns-in-None-clause-value : goal.returns-in-None-clause-value
 returns-in-None-clause-value c = λ s p stands.

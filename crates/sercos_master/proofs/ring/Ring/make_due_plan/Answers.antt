@@ -16,8 +16,6 @@ returns c = λ s p known stands.
     let none : is_some c.first_unread.result ≡ false = search rules in
     let e : is_some (position (λ seat. not (has_read seat)) (the_view c.self.inside).seats) ≡ false = ap (λ o. is_some o) (sym (c.first_unread.ensures.value ∙ ap (position (λ seat. not (has_read seat))) c.as_slice.ensures.value)) ∙ none in
     let no_plan : is_some (the_view c.self.inside).plan ≡ false = search rules in
-    let two_kept : ((the_view c.self.inside).phase == 2) ≡ true = search rules in
-    let two : (p.now.phase == 2) ≡ true = subst (λ n. (n == 2) ≡ true) t.phase_is two_kept in
-    let go : (the_view c.self.inside).stopped ≡ false = search rules in
-    let no_stop = not_stopped (the_view c.self.inside) s p t go in
+    let two : (p.now.phase == 2) ≡ true = subst (λ n. (n == 2) ≡ true) t.phase_is (search rules) in
+    let no_stop = not_stopped (the_view c.self.inside) s p t (search rules) in
     rw (due (the_view c.self.inside) s p t two no_stop (ap is_some (sym t.plan_is) ∙ no_plan) e) (c.make_plan.ensures s p known no_stop stands)

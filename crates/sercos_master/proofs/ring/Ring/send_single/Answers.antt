@@ -27,18 +27,15 @@ returns-clause-content c = λ s p two stands.
 
 pub returns-in_default-clause-stands : goal.returns-in_default-clause-stands
 returns-in_default-clause-stands c = λ s p two stands.
-    let t : CoreStandsFor (the_view c.self.inside) s p = rw c.self.view_is stands in
     let found : position (λ seat. not (is_none seat.channel.transfer)) (the_view c.self.inside).seats ≡ None = rw (← c.as_slice.ensures.value) (sym c.first_working-found.ensures.value ∙ c.in_default.is) in
-    rw c.in_default.is (sent_none_2 (the_view c.self.inside) s p t two found)
+    rw c.in_default.is (sent_none_2 (the_view c.self.inside) s p (rw c.self.view_is stands) two found)
 
 pub returns-in_default-clause-start : goal.returns-in_default-clause-start
 returns-in_default-clause-start c = λ s p two stands.
-    let t : CoreStandsFor (the_view c.self.inside) s p = rw c.self.view_is stands in
     let found : position (λ seat. not (is_none seat.channel.transfer)) (the_view c.self.inside).seats ≡ None = rw (← c.as_slice.ensures.value) (sym c.first_working-found.ensures.value ∙ c.in_default.is) in
-    start_none s (sent_now s p) (said_none_2 (the_view c.self.inside) s p t two found)
+    start_none s (sent_now s p) (said_none_2 (the_view c.self.inside) s p (rw c.self.view_is stands) two found)
 
 pub returns-in_default-clause-content : goal.returns-in_default-clause-content
 returns-in_default-clause-content c = λ s p two stands.
-    let t : CoreStandsFor (the_view c.self.inside) s p = rw c.self.view_is stands in
     let found : position (λ seat. not (is_none seat.channel.transfer)) (the_view c.self.inside).seats ≡ None = rw (← c.as_slice.ensures.value) (sym c.first_working-found.ensures.value ∙ c.in_default.is) in
-    content_none s (sent_now s p) c.args.out.now (said_none_2 (the_view c.self.inside) s p t two found)
+    content_none s (sent_now s p) c.args.out.now (said_none_2 (the_view c.self.inside) s p (rw c.self.view_is stands) two found)
