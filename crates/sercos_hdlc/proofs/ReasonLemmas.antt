@@ -1,5 +1,5 @@
 -- The rules for reasons, and frames: no rule applies exactly where the bits are a frame of what they contain.
-use Rattle.std.proofs.Common.{◌≡◌, ◌≢◌, ℕ, suc, ◌+◌, ◌-◌, ◌/◌, ◌%◌, ◌<◌, ◌≤◌, Bool, true, false, not, eqb, ltb, leb, List, [], ◌∷◌, ◌++◌, length, take, drop, get_or, Option, Some, None, Result, Ok, Err, OnOk, IfOk, refl, sym, ap, subst, ◌∙◌, arith, ⊎_elim}
+use Rattle.std.proofs.Common.{◌≡◌, ◌≢◌, ℕ, suc, ◌+◌, ◌-◌, ◌/◌, ◌%◌, ◌<◌, ◌≤◌, Bool, true, false, not, eqb, ltb, leb, List, [], ◌∷◌, ◌++◌, length, take, drop, get_or, Option, Some, None, Result, Ok, Err, IfOk, refl, sym, ap, subst, ◌∙◌, arith, ⊎_elim}
 use Rattle.std.specs.Option.{option_or}
 use Rattle.std.specs.Result.{result_err}
 use Rattle.std.proofs.lemmas.List.{take_at, length-take-le, length-drop, length-append, get_or-drop, take-append-drop, get_or-append-add}
@@ -203,14 +203,8 @@ reason_of-IsFrame content bits h =
     subst (λ b. (reason_of b ≡ None) × (content_of (plain b) ≡ content)) (sym h.whole) (framed content h.out h.bytes h.some h.fits h.stuffed)
 
 -- an answer that is the first reason where there is one, and else the content, is right
-pub IsFrame-answer : (answer : Result ℕ BadFrame) (bits : List Bool) (out : List ℕ) → result_err answer ≡ reason_of bits → OnOk answer (out ≡ content_of (plain bits)) → OnOk answer (IsFrame out bits)
-IsFrame-answer (Ok count) bits out reason content =
+pub IsFrame-content : {A : Type 0} (answer : Result A BadFrame) (bits : List Bool) (of : A → List ℕ) → result_err answer ≡ reason_of bits
+    → IfOk answer (λ a. of a ≡ content_of (plain bits)) → IfOk answer (λ a. IsFrame (of a) bits)
+IsFrame-content (Ok a) bits of reason content =
     subst (λ bytes. IsFrame bytes bits) (sym content) (IsFrame-reason_none bits (sym reason))
-IsFrame-answer (Err bad) bits out reason content = tt
-
-pub answer-IsFrame : (answer : Result ℕ BadFrame) (bits : List Bool) (out content : List ℕ) → result_err answer ≡ reason_of bits → OnOk answer (out ≡ content_of (plain bits)) → IfOk answer (λ count. count ≡ length out) → IsFrame content bits → (answer ≡ Ok (length content)) × (out ≡ content)
-answer-IsFrame (Ok count) bits out content reason read counted is =
-    let same = read ∙ (reason_of-IsFrame content bits is).1 in
-    (ap Ok (counted ∙ ap length same), same)
-answer-IsFrame (Err bad) bits out content reason read counted is =
-    absurd (let e : Some bad ≡ None = reason ∙ (reason_of-IsFrame content bits is).0 in cc)
+IsFrame-content (Err bad) bits of reason content = tt

@@ -343,6 +343,17 @@ impl Deframer {
         }
     }
 
+    /// Returns the content of the frame that the bits taken are, 1 to 2048 bytes, as [`unframe`](crate::unframe) does for all pieces
+    /// together. If they are not a frame, the error is the first rule that applies (see [`BadFrame`]).
+    pub fn content(&self) -> Result<&[u8], BadFrame>
+        ensures frame { (bits : List Bool) → IsFed bits self.now → IfOk result (λ content. IsFrame content.now bits) }
+        ensures content { (bits : List Bool) → IsFed bits self.now → IfOk result (λ content. content.now ≡ content_of (plain bits)) }
+        ensures few { IfOk result (λ content. length content.now ≤ 2048) }
+        ensures reason { (bits : List Bool) → IsFed bits self.now → result_err result ≡ reason_of bits }
+    {
+        read_frame(&self.scan, &self.kept)
+    }
+
     /// Replaces `out` by the content of the frame that the bits taken are, and returns its number of bytes, as [`unframe`](crate::unframe)
     /// does for all pieces together. If they are not a frame, the error is the first rule that applies (see [`BadFrame`]), and `out` is
     /// empty. In both cases the reader then starts over.
@@ -357,10 +368,19 @@ impl Deframer {
         ensures anew { IsFed [] self.new }
         ensures taken { taken_of self.new ≡ 0 }
     {
-        out.clear();
-        let answer = read_frame(&self.scan, &self.kept, out);
-        self.restart();
-        answer
+        match self.content() {
+            Ok(content) => {
+                let count = content.len();
+                out.assign(content);
+                self.restart();
+                Ok(count)
+            },
+            Err(reason) => {
+                out.clear();
+                self.restart();
+                Err(reason)
+            },
+        }
     }
 }
 

@@ -65,21 +65,19 @@ fn content_in(bytes: &[u8]) -> Result<&[u8], BadFrame>
     Ok(content)
 }
 
-/// Replaces `out` by the content of the frame that was taken, and returns its number of bytes. `scan` and `kept` are the states after the
-/// same bits. The error is the first rule that applies; then `out` is unchanged.
-pub fn read_frame(scan: &Scan, kept: &Kept, out: &mut Content) -> Result<usize, BadFrame>
+/// Returns the content of the frame that was taken, at most 2048 bytes. `scan` and `kept` are the states after the same bits. The error is
+/// the first rule that applies.
+pub fn read_frame<'a>(scan: &Scan, kept: &'a Kept) -> Result<&'a [u8], BadFrame>
     ensures reason { (bits plain : List Bool) → IsScan bits plain scan.now → IsKept plain kept.now → result_err result ≡ reason_of bits }
     ensures content { (bits given : List Bool) → IsScan bits given scan.now → IsKept given kept.now
-        → OnOk result (out.new ≡ content_of (plain bits)) }
-    ensures count { IfOk result (λ count. count ≡ length out.new) }
-    ensures same { OnErr result (out.new ≡ out.old) }
+        → IfOk result (λ content. content.now ≡ content_of (plain bits)) }
+    ensures few { IfOk result (λ content. length content.now ≤ 2048) }
 {
     let len = scan.between()?;
     test_size(len)?;
     let content = content_in(kept.bytes.as_slice())?;
     scan.test_end()?;
-    out.assign(content);
-    Ok(content.len())
+    Ok(content)
 }
 
 /// States that no rule applies iff the bits are a frame, and that its content is then the one that its plain bits spell, and no other. The

@@ -6,7 +6,6 @@ use crate::digits::MOST_BYTES;
 use crate::line::{LineKind, read_line};
 use crate::text::{push_at, push_hex, push_layout, push_mst, push_refusal, push_single};
 use sercos_answer::{Reply, cut_line, push_number, push_text};
-use sercos_bits::Content;
 use sercos_hdlc::{BadFrame, Deframer};
 use sercos_io::Status;
 use sercos_telegram::{Layout, read_at, read_mst, read_single};
@@ -89,22 +88,14 @@ fn push_content(kind: LineKind, content: &[u8], out: &mut Vec<u8>) -> Result<(),
     }
 }
 
-// Appends the answer to a line of a kind whose bits the deframer has taken. The deframer then starts over, also after an error. `content`
-// is room for the content of the frame, and is unspecified afterwards. The error is `AllocError`.
+// Appends the answer to a line of a kind whose bits the deframer has taken. The error is `AllocError`.
 #[tactic(auto, unfolding(crate::specs::Show::frame_text))]
-fn push_answer(
-    kind: LineKind,
-    deframer: &mut Deframer,
-    content: &mut Content,
-    out: &mut Vec<u8>,
-) -> Result<(), AllocError>
-    ensures text { (bits : List Bool) → IsFed bits deframer.old
+fn push_answer(kind: LineKind, deframer: &Deframer, out: &mut Vec<u8>) -> Result<(), AllocError>
+    ensures { (bits : List Bool) → IsFed bits deframer.now
         → OnOk result (out.new.items ≡ out.old.items ++ frame_text kind bits (reason_of bits)) }
-    ensures anew { IsFed [] deframer.new }
-    ensures taken { taken_of deframer.new ≡ 0 }
 {
-    match deframer.finish(content) {
-        Ok(_) => push_content(kind, content.as_slice(), out)?,
+    match deframer.content() {
+        Ok(content) => push_content(kind, content, out)?,
         Err(bad) => {
             push_text("error ", out)?;
             push_refusal(bad, out)?;
@@ -121,14 +112,16 @@ pub fn show(alloc: Global, text: &[u8]) -> Result<Reply, AllocError>
 {
     let mut room = [0; MOST_BYTES];
     let mut deframer = Deframer::new();
-    let mut content = Content::new();
     let mut answers = Vec::new(alloc);
     let mut rest = text;
     let mut number = 1u64;
     while !rest.is_empty() {
         let (line, others) = cut_line(rest);
         match read_line(line, &mut room, &mut deframer) {
-            Ok(kind) => push_answer(kind, &mut deframer, &mut content, &mut answers)?,
+            Ok(kind) => {
+                push_answer(kind, &deframer, &mut answers)?;
+                deframer.restart();
+            },
             Err(place) => return refusal(alloc, number, place as u64 + 1),
         }
         rest = others;

@@ -1,4 +1,4 @@
-use Rattle.std.proofs.Common.{◌≤◌, refl, length, ◌∙◌}
+use Rattle.std.proofs.Common.{◌≤◌, refl, length}
 use Rattle.std.proofs.lemmas.Result.{err_from_is_err_and}
 use Rattle.sercos_hdlc.proofs.ContentLemmas.{whole_bytes}
 use Rattle.sercos_hdlc.proofs.reading.read_frame.Goals as goal
@@ -33,4 +33,4 @@ returns-clause-content c = λ bits given scan kept.
     let whole = whole_bytes bits given c.args.kept.now c.args.scan.now.closing c.in_ok-len.len (c.in_ok-len.ensures.plain bits given scan) kept c.in_ok-test_size.ensures.whole c.in_ok-test_size.ensures.low c.in_ok-test_size.ensures.high c.in_ok-test_size.ensures.check in
     let two : 2 ≤ length c.as_slice.result.now = rw c.as_slice.ensures.value whole.two in
     let read = rw c.as_slice.ensures.value at (c.in_ok-content.ensures.content two) in
-    c.assign.ensures ∙ (rw whole.plain_is read)
+    rw whole.plain_is read

@@ -1,4 +1,4 @@
-use Rattle.std.proofs.Common.{◌∙◌, ◌<◌, arith}
+use Rattle.std.proofs.Common.{◌∙◌}
 use Rattle.sercos_show.proofs.DigitLemmas.{below_by, byte_is}
 use Rattle.sercos_show.proofs.digits.byte_of.Goals as goal
 

@@ -28,11 +28,11 @@ loop-rest-preserved c =
     record { some = some; line_is = c.cut_line.ensures.line; others_are = c.cut_line.ensures.rest } in
     let good : line_fault c.cut_line.result.0.now ≡ None = sym c.in-Ok.ensures.fault in
     let bits = c.in-Ok.ensures.bits c.loop-rest.invariant.3 in (
-      answers-more _ _ _ _ _ _ _ cut c.in-Ok.ensures.kind (c.in_ok-push_answer-in-Ok.ensures.text (line_bits c.cut_line.result.0.now) bits) c.loop-rest.invariant.0,
+      answers-more _ _ _ _ _ _ _ cut c.in-Ok.ensures.kind (c.in_ok-push_answer-in-Ok.ensures (line_bits c.cut_line.result.0.now) bits) c.loop-rest.invariant.0,
       sym (first_fault-good _ _ _ _ cut good) ∙ c.loop-rest.invariant.1,
       omega (arith, c.cut_line.ensures.shorter some),
-      c.in_ok-push_answer-in-Ok.ensures.anew,
-      c.in_ok-push_answer-in-Ok.ensures.taken,
+      c.restart.ensures.fed,
+      c.restart.ensures.taken,
     )
 
 pub returns-clause-status : goal.returns-clause-status
