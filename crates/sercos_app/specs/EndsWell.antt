@@ -31,7 +31,8 @@ requests_to address jobs = length (filter (λ (job : Job). job.drive == address)
 -- The run of a ring is long enough for these requests: for each drive it has more cycles than the bound of a start-up, and the cycles of
 -- one request for each request to the drive.
 abbrev pub IsLongEnough : RingView → List Job → Type 0
-IsLongEnough r jobs = (k : ℕ) → k < length r.drives → startup_bound r + requests_to (drive_at r k).address jobs * request_cycles r k < r.cycles
+IsLongEnough r jobs = (k : ℕ) → k < length r.drives →
+    startup_bound r + requests_to (drive_at r k).address jobs * request_cycles r k < r.cycles
 
 -- the code of a refused request
 abbrev pub code_told : Option Outcome → ℕ
@@ -51,7 +52,8 @@ answered_line found t = if is_well false t.outcome then restored_text t.drive t.
 
 -- a drive refused one of these requests, which didn't end well
 abbrev pub HasRefusal : Bool → List Tracked → Type 0
-HasRefusal absent list = (n : ℕ) × (t : Tracked) × (code : Code) × (slice_get list n ≡ Some t) × (t.outcome ≡ Some (outcome.Refused code)) × (is_well absent t.outcome ≡ false)
+HasRefusal absent list = (n : ℕ) × (t : Tracked) × (code : Code) × (slice_get list n ≡ Some t) × (t.outcome ≡ Some (outcome.Refused code)) ×
+    (is_well absent t.outcome ≡ false)
 
 -- Each of these requests was answered. So if not all ended well, a drive refused one; and each line of a request that failed is that of a
 -- refusal, in a backup and in a restore.
@@ -64,4 +66,5 @@ pub record AreAnswered (list : List Tracked) : Type 0 where
 -- ENDS WELL. If the ring is right, the run is long enough for its requests, and nothing is disturbed in it, each request was complete, or
 -- its drive refused it.
 abbrev pub EndsWell : RingView → List Job → Carry → Restarts → Type 0
-EndsWell r jobs carry restarts = IsRight r → IsLongEnough r jobs → NeverDisturbed r carry restarts (run_of r jobs carry restarts r.cycles) → AreAnswered (run_tracked r jobs carry restarts)
+EndsWell r jobs carry restarts = IsRight r → IsLongEnough r jobs → NeverDisturbed r carry restarts (run_of r jobs carry restarts r.cycles) →
+    AreAnswered (run_tracked r jobs carry restarts)

@@ -32,11 +32,17 @@ gen_line n t = head_text n t.cycles ++ (first_text t.phase4 ++ (counts_text t ++
 
 -- the answer that is the summary of a ring's run, for its number of cycles
 abbrev pub run_summed : ℕ → RingView → List Job → Carry → Restarts → Answer
-run_summed n r jobs carry restarts = record { status = Done; output = gen_line n (totals_of (reverse (run_of r jobs carry restarts r.cycles))) }
+run_summed n r jobs carry restarts = record {
+  status = Done;
+  output = gen_line n (totals_of (reverse (run_of r jobs carry restarts r.cycles)));
+}
 
 -- the answer to a number of drives: the summary of the run of the document that is generated for it
 unfoldable pub gen_answer : Carry → Restarts → ℕ → Answer
-gen_answer carry restarts n = record { status = Done; output = gen_line n (totals_of (reverse (document_run carry restarts (generated n)))) }
+gen_answer carry restarts n = record {
+  status = Done;
+  output = gen_line n (totals_of (reverse (document_run carry restarts (generated n))));
+}
 
 -- what is summed is a run of the document, which keeps all that is promised of its cycles
 abbrev pub RunsGenerated : Carry → Restarts → ℕ → Type 0

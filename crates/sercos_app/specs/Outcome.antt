@@ -7,5 +7,7 @@ use Rattle.sercos_call.specs.Outcome.{Outcome, SinkChange, SourceChange}
 use Rattle.sercos_app.specs.Answer.{answer_of, SaysOf}
 
 -- with the answer of the command that the words name, if they name one
-pub record Ends (carry : Carry) (restarts : Restarts) (words : List (List ℕ)) (source : SourceChange) (sink : SinkChange) (Unread Unwritten : Type 0) (status : Status) : Type 0 where
-  pub how : Outcome (form_of words) (reads_input (form_of words)) (answer_of carry restarts words) (SaysOf carry restarts (form_of words)) source sink Unread Unwritten status
+pub record Ends (carry : Carry) (restarts : Restarts) (words : List (List ℕ)) (source : SourceChange) (sink : SinkChange)
+    (Unread Unwritten : Type 0) (status : Status) : Type 0 where
+  pub how : Outcome (form_of words) (reads_input (form_of words)) (answer_of carry restarts words) (SaysOf carry restarts (form_of words))
+      source sink Unread Unwritten status

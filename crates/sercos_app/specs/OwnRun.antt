@@ -41,17 +41,20 @@ pub record AgreesThroughout (address : ℕ) (input capture : List ℕ) : Type 0 
 
 -- This holds of what `run` writes of the document over any link, if no cycle of that run is disturbed.
 abbrev pub OwnRunAgrees : ℕ → List ℕ → Type 0
-OwnRunAgrees address input = (carry : Carry) (restarts : Restarts) (d : DocumentView) (own : IsOwnRun carry restarts address input d) → IsCalm carry restarts d → AgreesThroughout address input own.capture
+OwnRunAgrees address input = (carry : Carry) (restarts : Restarts) (d : DocumentView) (own : IsOwnRun carry restarts address input d) →
+    IsCalm carry restarts d → AgreesThroughout address input own.capture
 
 -- And whatever is disturbed or undetected in that run, the first place that differs is in none of its cycles before the first disturbed
 -- one.
 abbrev pub OwnRunDiffers : ℕ → List ℕ → Type 0
-OwnRunDiffers address input = (carry : Carry) (restarts : Restarts) (d : DocumentView) (own : IsOwnRun carry restarts address input d) (place : PlaceView) → station_differs own.station (cycles_in own.capture) ≡ Some place →
+OwnRunDiffers address input = (carry : Carry) (restarts : Restarts) (d : DocumentView) (own : IsOwnRun carry restarts address input d)
+    (place : PlaceView) → station_differs own.station (cycles_in own.capture) ≡ Some place →
     IsNoEarlier d.setup (carry_under d carry) (restarts_under d restarts) (document_run carry restarts d) place
 
 -- If nothing is undetected in it, `check` finds it clean.
 abbrev pub OwnRunIsClean : ℕ → List ℕ → Type 0
-OwnRunIsClean address input = (carry : Carry) (restarts : Restarts) (d : DocumentView) (own : IsOwnRun carry restarts address input d) → IsClear (document_run carry restarts d) → verdict_of own.capture ≡ Clean (length (lines_of own.capture))
+OwnRunIsClean address input = (carry : Carry) (restarts : Restarts) (d : DocumentView) (own : IsOwnRun carry restarts address input d) →
+    IsClear (document_run carry restarts d) → verdict_of own.capture ≡ Clean (length (lines_of own.capture))
 
 pub record OwnRunHolds (address : ℕ) (input : List ℕ) : Type 0 where
   pub agrees : OwnRunAgrees address input
@@ -59,7 +62,8 @@ pub record OwnRunHolds (address : ℕ) (input : List ℕ) : Type 0 where
   pub clean : OwnRunIsClean address input
 
 -- What was appended is the first place that differs in an own run. It is in no cycle before the first disturbed one.
-pub record DiffersNoEarlier {carry : Carry} {restarts : Restarts} {address : ℕ} {input : List ℕ} {d : DocumentView} (own : IsOwnRun carry restarts address input d) (held held' : Option (List ℕ)) : Type 0 where
+pub record DiffersNoEarlier {carry : Carry} {restarts : Restarts} {address : ℕ} {input : List ℕ} {d : DocumentView}
+    (own : IsOwnRun carry restarts address input d) (held held' : Option (List ℕ)) : Type 0 where
   pub place : PlaceView
   pub first : station_differs own.station (cycles_in own.capture) ≡ Some place
   pub no_earlier : IsNoEarlier d.setup (carry_under d carry) (restarts_under d restarts) (document_run carry restarts d) place

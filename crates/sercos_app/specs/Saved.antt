@@ -33,12 +33,14 @@ AreTypedIfFew jobs = length jobs ≤ 4096 → AreTypedJobs jobs
 
 -- the same of those of a backup's second run, if it is made
 abbrev pub ReadsTyped : RingView → Carry → Restarts → Type 0
-ReadsTyped r carry restarts = are_well true (run_tracked r (list_jobs r) carry restarts) ≡ true → AreTypedIfFew (second_jobs r carry restarts)
+ReadsTyped r carry restarts = are_well true (run_tracked r (list_jobs r) carry restarts) ≡ true →
+    AreTypedIfFew (second_jobs r carry restarts)
 
 -- If nothing was unseen in the run, the bytes of each complete request are those that the drive's store had in the one cycle in which
 -- the drive accepted the selection of that request's own transfer.
 abbrev pub AreReadFrom : RingView → List Job → Carry → Restarts → Type 0
-AreReadFrom r jobs carry restarts = IsClear (run_of r jobs carry restarts r.cycles) → (n : ℕ) (t : Tracked) (bytes : List ℕ) → slice_get (run_tracked r jobs carry restarts) n ≡ Some t → t.outcome ≡ Some (outcome.Complete bytes)
+AreReadFrom r jobs carry restarts = IsClear (run_of r jobs carry restarts r.cycles) → (n : ℕ) (t : Tracked) (bytes : List ℕ) →
+    slice_get (run_tracked r jobs carry restarts) n ≡ Some t → t.outcome ≡ Some (outcome.Complete bytes)
     → IsReadFrom r jobs carry restarts (run_of r jobs carry restarts r.cycles) n t.drive t.idn bytes
 
 -- A run of reads: it is one, in which all is kept that is promised; what is read in it is exact; and it ends well.
@@ -50,7 +52,8 @@ pub record IsReadRun (r : RingView) (jobs : List Job) (carry : Carry) (restarts 
 -- no arrival is unseen in either run of a backup; the second one is made only if the lists were read, and aren't too long
 pub record AreClear (r : RingView) (carry : Carry) (restarts : Restarts) : Type 0 where
   pub lists : IsClear (run_of r (list_jobs r) carry restarts r.cycles)
-  pub blocks : are_well true (run_tracked r (list_jobs r) carry restarts) ≡ true → length (second_jobs r carry restarts) ≤ 4096 → IsClear (run_of r (second_jobs r carry restarts) carry restarts r.cycles)
+  pub blocks : are_well true (run_tracked r (list_jobs r) carry restarts) ≡ true → length (second_jobs r carry restarts) ≤ 4096 →
+      IsClear (run_of r (second_jobs r carry restarts) carry restarts r.cycles)
 
 -- A run of a ring with these requests has cycles enough for them, and nothing is disturbed in it; and so each run of a backup that is made.
 pub record GoesWell (r : RingView) (jobs : List Job) (carry : Carry) (restarts : Restarts) : Type 0 where
@@ -59,26 +62,32 @@ pub record GoesWell (r : RingView) (jobs : List Job) (carry : Carry) (restarts :
 
 pub record GoWell (r : RingView) (carry : Carry) (restarts : Restarts) : Type 0 where
   pub lists : GoesWell r (list_jobs r) carry restarts
-  pub blocks : are_well true (run_tracked r (list_jobs r) carry restarts) ≡ true → length (second_jobs r carry restarts) ≤ 4096 → GoesWell r (second_jobs r carry restarts) carry restarts
+  pub blocks : are_well true (run_tracked r (list_jobs r) carry restarts) ≡ true → length (second_jobs r carry restarts) ≤ 4096 →
+      GoesWell r (second_jobs r carry restarts) carry restarts
 
 -- Both runs of a backup are such runs.
 pub record IsSaved (r : RingView) (carry : Carry) (restarts : Restarts) : Type 0 where
   pub lists : IsReadRun r (list_jobs r) carry restarts
-  pub blocks : are_well true (run_tracked r (list_jobs r) carry restarts) ≡ true → length (second_jobs r carry restarts) ≤ 4096 → IsReadRun r (second_jobs r carry restarts) carry restarts
+  pub blocks : are_well true (run_tracked r (list_jobs r) carry restarts) ≡ true → length (second_jobs r carry restarts) ≤ 4096 →
+      IsReadRun r (second_jobs r carry restarts) carry restarts
 
 abbrev pub SavesItsRing : List ℕ → Type 0
 SavesItsRing bytes = (d : DocumentView) → document_of bytes ≡ Ok d → IsSaved d.setup (script_carry d) (script_restarts d)
 
 -- The drive with this address has a block with this number. After the last cycle its store has these bytes as operation data of the block,
 -- filled as a write fills them; and so it is printed.
-pub record IsPrinted (r : RingView) (carry : Carry) (restarts : Restarts) (run : List CycleView) (address raw : ℕ) (bytes : List ℕ) : Type 0 where
+pub record IsPrinted (r : RingView) (carry : Carry) (restarts : Restarts) (run : List CycleView) (address raw : ℕ)
+    (bytes : List ℕ) : Type 0 where
   pub stored : IsRestored r carry restarts run address raw bytes
   pub printed : last_data r carry restarts run address raw ≡ filled stored.block bytes
 
 -- If nothing was unseen in the run: so it is with each complete write, if no later request to the drive writes to the block.
 abbrev pub AreWritesKept : RingView → List Job → Carry → Restarts → Type 0
-AreWritesKept r jobs carry restarts = IsClear (run_of r jobs carry restarts r.cycles) → (n : ℕ) (job : Job) (t : Tracked) (idn : Idn) (bytes whole : List ℕ) → slice_get jobs n ≡ Some job → job.request ≡ request.Write idn data_element bytes
-    → slice_get (run_tracked r jobs carry restarts) n ≡ Some t → t.outcome ≡ Some (outcome.Complete whole) → IsLastTo jobs n job.drive idn.raw
+AreWritesKept r jobs carry restarts = IsClear (run_of r jobs carry restarts r.cycles) →
+    (n : ℕ) (job : Job) (t : Tracked) (idn : Idn) (bytes whole : List ℕ) → slice_get jobs n ≡ Some job →
+    job.request ≡ request.Write idn data_element bytes
+    → slice_get (run_tracked r jobs carry restarts) n ≡ Some t → t.outcome ≡ Some (outcome.Complete whole) →
+    IsLastTo jobs n job.drive idn.raw
     → IsPrinted r carry restarts (run_of r jobs carry restarts r.cycles) job.drive idn.raw bytes
 
 -- A run of writes: it is one, in which all is kept that is promised; what is written in it is kept; and it ends well.

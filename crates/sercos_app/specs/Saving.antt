@@ -30,10 +30,12 @@ run_tracked r jobs carry restarts = tracked (told_in (run_of r jobs carry restar
 -- BACKUP. In a first run the lists of all drives are read; a drive without one has an empty list. If one can't be read, nothing more is
 -- done. Otherwise the blocks on these lists are read in a second run, if they aren't too many.
 unfoldable pub data_answer : RingView → Carry → Restarts → List Job → Answer
-data_answer r carry restarts jobs = if nat_le (length jobs) 4096 then saved_answer (run_tracked r jobs carry restarts) else many_answer (length jobs)
+data_answer r carry restarts jobs = if nat_le (length jobs) 4096 then saved_answer (run_tracked r jobs carry restarts)
+    else many_answer (length jobs)
 
 unfoldable pub lists_answer : RingView → Carry → Restarts → List Tracked → Answer
-lists_answer r carry restarts lists = if are_well true lists then data_answer r carry restarts (data_jobs (lists_told lists)) else failed_answer true lists
+lists_answer r carry restarts lists = if are_well true lists then data_answer r carry restarts (data_jobs (lists_told lists))
+    else failed_answer true lists
 
 abbrev pub ring_saved : RingView → List Job → Carry → Restarts → Answer
 ring_saved r jobs carry restarts = lists_answer r carry restarts (run_tracked r (list_jobs r) carry restarts)
@@ -57,7 +59,8 @@ last_data r carry restarts j address raw = data_of (r.cycles - 1) (find_block ra
 
 -- the answer to the requests of a document, of which one at a place, if there is one, writes no operation data
 unfoldable pub writes_answer : RingView → List Job → Carry → Restarts → Option ℕ → Answer
-writes_answer r jobs carry restarts None = restored_answer (last_data r carry restarts (run_of r jobs carry restarts r.cycles)) (run_tracked r jobs carry restarts)
+writes_answer r jobs carry restarts None = restored_answer (last_data r carry restarts (run_of r jobs carry restarts r.cycles))
+    (run_tracked r jobs carry restarts)
 writes_answer r jobs carry restarts (Some place) = other_answer place
 
 abbrev pub ring_restored : RingView → List Job → Carry → Restarts → Answer

@@ -162,16 +162,22 @@ pub record RunSummed (carry : Carry) (restarts : Restarts) (n : ℕ) (held held'
 -- Nothing is saved of a ring, and this text has the reason: the lists of some drives couldn't be read; the blocks on the lists are too
 -- many; or some of them couldn't be read.
 pub data IsUnsaved (r : RingView) (carry : Carry) (restarts : Restarts) : List ℕ → Type 0 where
-  lists_failed : are_well true (run_tracked r (list_jobs r) carry restarts) ≡ false → IsUnsaved r carry restarts (failed_lines true (run_tracked r (list_jobs r) carry restarts))
-  too_many : are_well true (run_tracked r (list_jobs r) carry restarts) ≡ true → 4096 < length (second_jobs r carry restarts) → IsUnsaved r carry restarts (many_answer (length (second_jobs r carry restarts))).output
-  blocks_failed : are_well true (run_tracked r (list_jobs r) carry restarts) ≡ true → length (second_jobs r carry restarts) ≤ 4096 → are_well false (run_tracked r (second_jobs r carry restarts) carry restarts) ≡ false
+  lists_failed : are_well true (run_tracked r (list_jobs r) carry restarts) ≡ false →
+      IsUnsaved r carry restarts (failed_lines true (run_tracked r (list_jobs r) carry restarts))
+  too_many : are_well true (run_tracked r (list_jobs r) carry restarts) ≡ true → 4096 < length (second_jobs r carry restarts) →
+      IsUnsaved r carry restarts (many_answer (length (second_jobs r carry restarts))).output
+  blocks_failed : are_well true (run_tracked r (list_jobs r) carry restarts) ≡ true → length (second_jobs r carry restarts) ≤ 4096 →
+      are_well false (run_tracked r (second_jobs r carry restarts) carry restarts) ≡ false
       → IsUnsaved r carry restarts (failed_lines false (run_tracked r (second_jobs r carry restarts) carry restarts))
 
 -- The same, if each request was answered: drives refused their lists, or some of the blocks on them; or these are too many.
 pub data IsRefused (r : RingView) (carry : Carry) (restarts : Restarts) : List ℕ → Type 0 where
-  lists_refused : HasRefusal true (run_tracked r (list_jobs r) carry restarts) → IsRefused r carry restarts (flat_map (refused_line true) (run_tracked r (list_jobs r) carry restarts))
-  many_listed : 4096 < length (second_jobs r carry restarts) → IsRefused r carry restarts (many_answer (length (second_jobs r carry restarts))).output
-  blocks_refused : HasRefusal false (run_tracked r (second_jobs r carry restarts) carry restarts) → IsRefused r carry restarts (flat_map (refused_line false) (run_tracked r (second_jobs r carry restarts) carry restarts))
+  lists_refused : HasRefusal true (run_tracked r (list_jobs r) carry restarts) →
+      IsRefused r carry restarts (flat_map (refused_line true) (run_tracked r (list_jobs r) carry restarts))
+  many_listed : 4096 < length (second_jobs r carry restarts) →
+      IsRefused r carry restarts (many_answer (length (second_jobs r carry restarts))).output
+  blocks_refused : HasRefusal false (run_tracked r (second_jobs r carry restarts) carry restarts) →
+      IsRefused r carry restarts (flat_map (refused_line false) (run_tracked r (second_jobs r carry restarts) carry restarts))
 
 -- The source was read to its end as the document of a ring. The lists of backup operation data of its drives were read in one run of the
 -- ring, and all blocks on them in a second one, both over its script. What was appended is the saved data of these blocks, in the order of
@@ -183,10 +189,13 @@ pub record BackupSaved (left left' held held' : Option (List ℕ)) : Type 0 wher
   pub document : document_of bytes ≡ Ok says
   pub lists : are_well true (run_tracked says.setup (list_jobs says.setup) (script_carry says) (script_restarts says)) ≡ true
   pub few : length (second_jobs says.setup (script_carry says) (script_restarts says)) ≤ 4096
-  pub blocks : are_well false (run_tracked says.setup (second_jobs says.setup (script_carry says) (script_restarts says)) (script_carry says) (script_restarts says)) ≡ true
+  pub blocks : are_well false (run_tracked says.setup (second_jobs says.setup (script_carry says) (script_restarts says))
+      (script_carry says) (script_restarts says)) ≡ true
   pub runs : IsSaved says.setup (script_carry says) (script_restarts says)
   pub clear : has_flip says.faults ≡ false → AreClear says.setup (script_carry says) (script_restarts says)
-  pub written : Appends held held' (saved_lines (run_tracked says.setup (second_jobs says.setup (script_carry says) (script_restarts says)) (script_carry says) (script_restarts says)))
+  pub written : Appends held held'
+      (saved_lines (run_tracked says.setup (second_jobs says.setup (script_carry says) (script_restarts says)) (script_carry says)
+      (script_restarts says)))
 
 -- The same input, but nothing is saved, and what was appended has the reason. If the ring is right, its cycles suffice for the requests of
 -- each run that is made, and nothing is disturbed in it, no line says that a request is open or broken.
@@ -197,7 +206,8 @@ pub record BackupFailed (left left' held held' : Option (List ℕ)) : Type 0 whe
   pub document : document_of bytes ≡ Ok says
   pub text : List ℕ
   pub why : IsUnsaved says.setup (script_carry says) (script_restarts says) text
-  pub refused : IsRight says.setup → GoWell says.setup (script_carry says) (script_restarts says) → IsRefused says.setup (script_carry says) (script_restarts says) text
+  pub refused : IsRight says.setup → GoWell says.setup (script_carry says) (script_restarts says) →
+      IsRefused says.setup (script_carry says) (script_restarts says) text
   pub runs : IsSaved says.setup (script_carry says) (script_restarts says)
   pub clear : has_flip says.faults ≡ false → AreClear says.setup (script_carry says) (script_restarts says)
   pub written : Appends held held' text
@@ -214,5 +224,7 @@ pub record RestoreTold (all : Bool) (left left' held held' : Option (List ℕ)) 
   pub run : IsRestoredRun says.setup says.jobs (script_carry says) (script_restarts says)
   pub clear : has_flip says.faults ≡ false → IsClear (script_run says)
   pub whole : are_well false (run_tracked says.setup says.jobs (script_carry says) (script_restarts says)) ≡ all
-  pub written : Appends held held' (flat_map (restored_line (last_data says.setup (script_carry says) (script_restarts says) (run_of says.setup says.jobs (script_carry says) (script_restarts says) says.setup.cycles)))
+  pub written : Appends held held'
+      (flat_map (restored_line (last_data says.setup (script_carry says) (script_restarts says)
+      (run_of says.setup says.jobs (script_carry says) (script_restarts says) says.setup.cycles)))
       (run_tracked says.setup says.jobs (script_carry says) (script_restarts says)))

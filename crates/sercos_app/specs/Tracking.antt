@@ -11,6 +11,7 @@ use Rattle.sercos_app.specs.Journals.{Journal}
 use Rattle.sercos_law_trace.specs.Told.Told.{told_in}
 
 -- a ring has made n cycles, and the outcomes that were reported in them are noted
-pub record HasNoted {R : Type 0} (stands : R → RingView → List Job → Carry → Restarts → List CycleView → Type 0) (old new : R) (n : ℕ) (before after : List Tracked) : Type 0 where
+pub record HasNoted {R : Type 0} (stands : R → RingView → List Job → Carry → Restarts → List CycleView → Type 0) (old new : R) (n : ℕ)
+    (before after : List Tracked) : Type 0 where
   pub journal : Journal stands old new n
   pub noted : (jobs : List Job) → before ≡ tracked [] jobs → after ≡ tracked (told_in journal.cycles) jobs

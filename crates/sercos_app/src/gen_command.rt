@@ -4,7 +4,7 @@ ghost use Rattle.sercos_app.specs.Clauses.{All, IsRequest, is_ring, Replies, cha
 ghost use Rattle.sercos_call.specs.Outcome.{Writes};
 
 use crate::counting::count_cycles;
-use sercos_block::{RingSetup, cycles_of, drives_of};
+use sercos_block::{cycles_of, drives_of};
 use sercos_call::fault_status;
 use sercos_config::{Document, generate};
 use sercos_io::{Sink, Status, write_all};
@@ -68,37 +68,10 @@ fn give_summary<K: Sink>(n: u8, totals: &Totals, sink: &mut K) -> Status
     }
 }
 
-// Runs a ring with these requests over a link, writes the summary line, and returns `Done`. The setup must be valid, and there must be at
-// most 4,096 requests, each a read of an element from 1 to 7, a write of one from 2 to 7, or a command. `n` is the number of drives that is
-// written. All memory is taken before anything is written: if it runs out, the status is `Memory`, and nothing is written. If the write
-// fails, it is `WriteFault`, and the sink has accepted a proper prefix of the line.
-fn sum_over<L: BitLink, K: Sink>(
-    alloc: Global,
-    n: u8,
-    setup: &RingSetup,
-    jobs: Vec<Job>,
-    link: L,
-    sink: &mut K,
-) -> Status
-    requires ring { is_ring setup.now ≡ true }
-    requires few { length jobs.items ≤ 4096 }
-    requires requests { All (λ job. IsRequest job.request) jobs.items }
-    ensures { Replies (run_summed n setup.now jobs.items (L.carry link) (L.restart link)) (Unit {0})
-        (changed K.held K.faults K.room sink.old sink.new) (sink.new ≡ sink.old) result }
-{
-    match Ring::open(alloc, setup, jobs, link) {
-        Ok(mut ring) => {
-            let totals = count_cycles(&mut ring, cycles_of(setup));
-            give_summary(n, &totals, sink)
-        }
-        Err(_) => Status::Memory,
-    }
-}
-
 // Runs the ring of a document under its script followed by the link handed in, writes the summary line, and returns `Done`. The setup must
 // be valid, and there must be at most 4,096 requests, each a read of an element from 1 to 7, a write of one from 2 to 7, or a command. `n`
-// is the number of drives that is written. If memory runs out, the status is `Memory`, and nothing is written. If the write fails, it is
-// `WriteFault`, and the sink has accepted a proper prefix of the line.
+// is the number of drives that is written. All memory is taken before the line is written: if it runs out, the status is `Memory`, and
+// nothing is written. If the write fails, it is `WriteFault`, and the sink has accepted a proper prefix of the line.
 fn sum_document<L: BitLink, K: Sink>(
     alloc: Global,
     n: u8,
@@ -118,7 +91,13 @@ fn sum_document<L: BitLink, K: Sink>(
         faults,
     } = document;
     let script = Scripted::new(faults, drives_of(&setup));
-    sum_over(alloc, n, &setup, jobs, Both::new(script, link), sink)
+    match Ring::open(alloc, &setup, jobs, Both::new(script, link)) {
+        Ok(mut ring) => {
+            let totals = count_cycles(&mut ring, cycles_of(&setup));
+            give_summary(n, &totals, sink)
+        }
+        Err(_) => Status::Memory,
+    }
 }
 
 /// Answers `gen N`: runs the document that is generated for `n` drives, 1 to 64, under its script followed by the link handed in, writes

@@ -4,7 +4,7 @@ ghost use Rattle.sercos_app.specs.Clauses.{All, Job, IsRequest, is_ring, RingSta
 ghost use Rattle.sercos_call.specs.Outcome.{Writes};
 
 use crate::running::write_run;
-use sercos_block::{RingSetup, cycles_of, drives_of};
+use sercos_block::{cycles_of, drives_of};
 use sercos_call::{fault_status, refuse};
 use sercos_config::{Document, read_ring};
 use sercos_io::{Sink, Status};
@@ -37,29 +37,8 @@ fn give_run<L: BitLink, K: Sink>(
     }
 }
 
-// Runs a ring with these requests over a link, and writes the trace. Returns `Done`, or `WriteFault` if a write failed. All memory is
-// taken before anything is written: if it runs out, the status is `Memory`.
-fn run_over<L: BitLink, K: Sink>(
-    alloc: Global,
-    setup: &RingSetup,
-    jobs: Vec<Job>,
-    link: L,
-    sink: &mut K,
-) -> Status
-    requires ring { is_ring setup.now ≡ true }
-    requires few { length jobs.items ≤ 4096 }
-    requires requests { All (λ job. IsRequest job.request) jobs.items }
-    ensures { Replies (run_traced setup.now jobs.items (L.carry link) (L.restart link)) (Unit {0})
-        (changed K.held K.faults K.room sink.old sink.new) (sink.new ≡ sink.old) result }
-{
-    match Ring::open(alloc, setup, jobs, link) {
-        Ok(mut ring) => give_run(&mut ring, &setup.wishes(), cycles_of(setup), sink),
-        Err(_) => Status::Memory,
-    }
-}
-
 // Runs the ring of a document under its script followed by the link handed in, and writes the trace. Returns `Done`, or `WriteFault` if a
-// write failed. If memory runs out, the status is `Memory`, and nothing is written.
+// write failed. All memory is taken before anything is written: if it runs out, the status is `Memory`, and nothing is written.
 fn run_document<L: BitLink, K: Sink>(
     alloc: Global,
     document: Document,
@@ -78,7 +57,10 @@ fn run_document<L: BitLink, K: Sink>(
         faults,
     } = document;
     let script = Scripted::new(faults, drives_of(&setup));
-    run_over(alloc, &setup, jobs, Both::new(script, link), sink)
+    match Ring::open(alloc, &setup, jobs, Both::new(script, link)) {
+        Ok(mut ring) => give_run(&mut ring, &setup.wishes(), cycles_of(&setup), sink),
+        Err(_) => Status::Memory,
+    }
 }
 
 /// Writes the answer to a ring document, and returns its status: `Done` and the trace of its run, under its script followed by the link

@@ -13,8 +13,10 @@ use Rattle.sercos_backup.specs.Tracking.{is_well, are_well, bytes_told}
 
 -- the five lines of a ring document that request a write of a block's operation data
 unfoldable pub saved_text : ℕ → ℕ → List ℕ → List ℕ
-saved_text address raw [] = line_text (codes "[[request]]\ndrive = D\nkind = \"write\"\nidn = \"I\"\ndata = \"\"\n") (number address ∷ ident raw ∷ [])
-saved_text address raw (byte ∷ content) = line_text (codes "[[request]]\ndrive = D\nkind = \"write\"\nidn = \"I\"\ndata = \"H\"\n") (number address ∷ ident raw ∷ bytes (byte ∷ content) ∷ [])
+saved_text address raw [] = line_text (codes "[[request]]\ndrive = D\nkind = \"write\"\nidn = \"I\"\ndata = \"\"\n")
+    (number address ∷ ident raw ∷ [])
+saved_text address raw (byte ∷ content) = line_text (codes "[[request]]\ndrive = D\nkind = \"write\"\nidn = \"I\"\ndata = \"H\"\n")
+    (number address ∷ ident raw ∷ bytes (byte ∷ content) ∷ [])
 
 abbrev pub saved_line : Tracked → List ℕ
 saved_line t = saved_text t.drive t.idn.raw (bytes_told t.outcome)
@@ -23,7 +25,8 @@ abbrev pub saved_lines : List Tracked → List ℕ
 saved_lines list = flat_map saved_line list
 
 abbrev pub refused_text : ℕ → ℕ → ℕ → List ℕ
-refused_text address raw code = line_text (codes "failed D I refused 0xC\n") (number address ∷ ident raw ∷ bytes ((code / 256) ∷ (code % 256) ∷ []) ∷ [])
+refused_text address raw code = line_text (codes "failed D I refused 0xC\n") (number address ∷ ident raw ∷
+    bytes ((code / 256) ∷ (code % 256) ∷ []) ∷ [])
 
 -- how a request failed: it was refused with a code, the ring fell before its end, or it has no outcome
 unfoldable pub failed_text : ℕ → ℕ → Option Outcome → List ℕ

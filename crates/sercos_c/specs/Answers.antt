@@ -54,7 +54,8 @@ pub record Promises (words : List (List ℕ)) (input : List ℕ) (status : Statu
 pub record IsCalled (words : List (List ℕ)) (input : List ℕ) (room : ℕ) (status : Status) (text : List ℕ) : Type 0 where
   pub no_form : form_of words ≡ None → (status ≡ Memory) ⊎ (status ≡ BadWords)
   pub too_long : (form_of words ≡ None → ⊥) → 1048577 ≤ length (input_of words input) → (status ≡ Memory) ⊎ (status ≡ TooLong)
-  pub answered : (form_of words ≡ None → ⊥) → length (input_of words input) ≤ 1048576 → (status ≡ Memory) ⊎ IsReturned (answer_to words input) room status text
+  pub answered : (form_of words ≡ None → ⊥) → length (input_of words input) ≤ 1048576 →
+      (status ≡ Memory) ⊎ IsReturned (answer_to words input) room status text
   pub nothing : IsTrue (writes_nothing status) → text ≡ []
   pub readable : status ≡ ReadFault → ⊥
   pub promises : Promises words input status text

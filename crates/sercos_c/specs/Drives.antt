@@ -55,7 +55,8 @@ arrival arrived content = if arrived then Some content else None
 
 -- The AT was written, if it has room, and its start; or none is sent, and the start stayed as it was.
 pub data IsSaid (said : Option Said) (before after : List ℕ) (count old start result : ℕ) : Type 0 where
-  an_at : {one : Said} → said ≡ Some one → IsPut one.content before after count result → start ≡ one.start → IsSaid said before after count old start result
+  an_at : {one : Said} → said ≡ Some one → IsPut one.content before after count result → start ≡ one.start →
+      IsSaid said before after count old start result
   no_at : said ≡ None → IsNothing answer_no before after count result → start ≡ old → IsSaid said before after count old start result
 
 -- the bytes of an element of a block, if there is one
@@ -64,7 +65,8 @@ bytes_in block element = option_and_then (λ b. element_of b element) block
 
 -- The bytes of the element were written, if they have room; or there are none, and the code says why.
 pub data IsElement (block : Option Block) (element : ℕ) (before after : List ℕ) (count code result : ℕ) : Type 0 where
-  an_element : {bytes : List ℕ} → bytes_in block element ≡ Some bytes → read_fault block element ≡ None → IsPut bytes before after count result
+  an_element : {bytes : List ℕ} → bytes_in block element ≡ Some bytes → read_fault block element ≡ None →
+      IsPut bytes before after count result
       → code ≡ 0 → IsElement block element before after count code result
   no_element : {why : ℕ} → read_fault block element ≡ Some why → IsNothing answer_no before after count result → code ≡ why
       → IsElement block element before after count code result

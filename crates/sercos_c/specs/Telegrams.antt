@@ -24,12 +24,27 @@ layout_of (Some (BadField place)) = record { kind = 3; found = place; wanted = 0
 
 -- the record of a control word and an information word
 abbrev pub record_of : Control → ℕ → SercosRecord
-record_of control info = record { mhs = control.mhs; write = control.write; last = control.last; element = control.element; cyclic = control.cyclic; info = info }
+record_of control info = record {
+  mhs = control.mhs;
+  write = control.write;
+  last = control.last;
+  element = control.element;
+  cyclic = control.cyclic;
+  info = info;
+}
 
 -- the AT of an address, a status word and an information word
 abbrev pub at_of : ℕ → Status → ℕ → SercosAt
 at_of address status info =
-    record { address = address; ahs = status.ahs; busy = status.busy; error = status.error; change = status.change; cyclic = status.cyclic; info = info }
+    record {
+      address = address;
+      ahs = status.ahs;
+      busy = status.busy;
+      error = status.error;
+      change = status.change;
+      cyclic = status.cyclic;
+      info = info;
+    }
 
 -- the fields are in their ranges, and the cyclic bits at their places: 15 to 6 in a record, and in an AT 3 and 4 too
 abbrev pub is_record : SercosRecord → Bool

@@ -28,20 +28,6 @@ fn feed(deframer: &mut Deframer, bits: &[u8], count: usize) -> u8
     DONE
 }
 
-// Feeds the first `count` bits of `bits` to a station, as `feed` does. Returns `CLOSED`, and changes nothing, if the station isn't a
-// deframer.
-fn feed_station(station: &mut Station, bits: &[u8], count: usize) -> u8
-    ensures closed { (result == closed) ≡ not (is_deframer (Some station.old)) }
-    ensures status { (before : List Bool) → HoldsFed before (Some station.old) → result ≡ feed_status (length before) (length bits.now) count }
-    ensures fed { (before : List Bool) → HoldsFed before (Some station.old) → result ≡ done → HoldsFed (before ++ take count (bits_of bits.now)) (Some station.new) }
-    ensures same { result ≢ done → station.new ≡ station.old }
-{
-    match station {
-        Station::Deframer(deframer) => feed(deframer, bits, count),
-        _ => CLOSED,
-    }
-}
-
 // Reads all bits so far as a frame, and begins a new one, with the result of `read_frame`. Returns `WRITE_FAULT` if `out` has fewer than
 // 2,048 bytes; then `written` and all fields of `why` are 0, and `out` and the bits stay.
 fn finish(
@@ -63,28 +49,6 @@ fn finish(
         return WRITE_FAULT;
     }
     read_frame(deframer, out, written, why)
-}
-
-// Reads all bits of a station as a frame, as `finish` does, and returns its status. Returns `CLOSED`, and changes nothing, if the station
-// isn't a deframer.
-fn finish_station(
-    station: &mut Station,
-    out: &mut [u8],
-    written: &mut usize,
-    why: &mut SercosBadFrame,
-) -> u8
-    ensures closed { (result == closed) ≡ not (is_deframer (Some station.old)) }
-    ensures fault { is_deframer (Some station.old) ≡ true → length out.old < 2048 → IsNothing write_fault out.old out.new written.new result × (why.new ≡ no_bad_frame) }
-    ensures read { (bits : List Bool) → HoldsFed bits (Some station.old) → 2048 ≤ length out.old
-        → IsUnframed bits out.old out.new written.new why.new result }
-    ensures anew { is_deframer (Some station.old) ≡ true → 2048 ≤ length out.old → HoldsFed [] (Some station.new) }
-    ensures same { (length out.old < 2048) ⊎ (result ≡ closed) → station.new ≡ station.old }
-    ensures nothing { result ≡ closed → (out.new ≡ out.old) × ((written.new ≡ written.old) × (why.new ≡ why.old)) }
-{
-    match station {
-        Station::Deframer(deframer) => finish(deframer, out, written, why),
-        _ => CLOSED,
-    }
 }
 
 /// Begins a frame: no bit of it has been taken. What the handle held before is closed. Returns `DONE`, or `MEMORY` if no memory was found;
@@ -117,7 +81,10 @@ pub extern "C" fn sercos_deframer_feed(
     let Some(mut station) = take_out(alloc, deframer) else {
         return CLOSED;
     };
-    let status = feed_station(&mut station, bits, count);
+    let status = match &mut *station {
+        Station::Deframer(held) => feed(held, bits, count),
+        _ => CLOSED,
+    };
     put_back(station, deframer);
     status
 }
@@ -146,7 +113,10 @@ pub extern "C" fn sercos_deframer_finish(
     let Some(mut station) = take_out(alloc, deframer) else {
         return CLOSED;
     };
-    let status = finish_station(&mut station, out, written, why);
+    let status = match &mut *station {
+        Station::Deframer(held) => finish(held, out, written, why),
+        _ => CLOSED,
+    };
     put_back(station, deframer);
     status
 }

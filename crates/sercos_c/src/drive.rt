@@ -20,73 +20,6 @@ pub(crate) fn arrival(arrived: bool, content: &[u8]) -> Option<&[u8]>
     if arrived { Some(content) } else { None }
 }
 
-// Passes what arrived at the MST's place of a cycle to a station: the content of a frame, or `None`. The cycle must not be below an earlier
-// one. Returns `DONE`. Returns `CLOSED`, and changes nothing, if the station isn't a drive.
-fn hear_mst(station: &mut Station, cycle: u32, content: Option<&[u8]>) -> u8
-    ensures status { result ≡ drive_status (Some station.old) }
-    ensures same { result ≡ closed → station.new ≡ station.old }
-    ensures stands { (d : DriveView) (rate : ℕ) (h : List DriveCall) → HoldsDrive (Some station.old) d rate h → cycle_at d rate h ≤ cycle
-        → HoldsDrive (Some station.new) d rate (Mst cycle (option_copied content.entry) ∷ h) }
-{
-    match station {
-        Station::Drive(drive) => {
-            drive.hear_mst(cycle, content);
-            DONE
-        }
-        _ => CLOSED,
-    }
-}
-
-// Passes what arrived at the MDT's place of a cycle to a station: the content of a frame, or `None`. Returns `DONE`. Returns `CLOSED`, and
-// changes nothing, if the station isn't a drive.
-fn hear_mdt(station: &mut Station, content: Option<&[u8]>) -> u8
-    ensures status { result ≡ drive_status (Some station.old) }
-    ensures same { result ≡ closed → station.new ≡ station.old }
-    ensures stands { (d : DriveView) (rate : ℕ) (h : List DriveCall) → HoldsDrive (Some station.old) d rate h
-        → HoldsDrive (Some station.new) d rate (Mdt (option_copied content.entry) ∷ h) }
-{
-    match station {
-        Station::Drive(drive) => {
-            drive.hear_mdt(content);
-            DONE
-        }
-        _ => CLOSED,
-    }
-}
-
-// Restarts a station, and returns `DONE`. Returns `CLOSED`, and changes nothing, if the station isn't a drive.
-fn restart(station: &mut Station) -> u8
-    ensures status { result ≡ drive_status (Some station.old) }
-    ensures same { result ≡ closed → station.new ≡ station.old }
-    ensures stands { (d : DriveView) (rate : ℕ) (h : List DriveCall) → HoldsDrive (Some station.old) d rate h
-        → HoldsDrive (Some station.new) d rate (Restart ∷ h) }
-{
-    match station {
-        Station::Drive(drive) => {
-            drive.restart();
-            DONE
-        }
-        _ => CLOSED,
-    }
-}
-
-// Writes the phase of a station, 0 to 4, to `phase`, and returns `DONE`. Returns `CLOSED`, and writes nothing, if the station isn't a
-// drive.
-fn phase(station: &Station, phase: &mut u8) -> u8
-    ensures status { result ≡ drive_status (Some station.now) }
-    ensures phase { (d : DriveView) (rate : ℕ) (h : List DriveCall) → HoldsDrive (Some station.now) d rate h → phase.new ≡ phase_at d rate h }
-    ensures bound { result ≡ done → phase.new ≤ 4 }
-    ensures nothing { result ≡ closed → phase.new ≡ phase.old }
-{
-    match station {
-        Station::Drive(drive) => {
-            *phase = drive.phase();
-            DONE
-        }
-        _ => CLOSED,
-    }
-}
-
 // Writes the content of this cycle's AT to the front of `out`, the number of its bytes to `written`, and its start, in microseconds after
 // the MST's end, to `start`, and returns `DONE`. Returns `NO` if the drive sends none, and then the start stays as it was; otherwise
 // `WRITE_FAULT` if there is too little room, and then the start is written anyway. After both `written` is 0, and `out` stays as it was.
@@ -105,19 +38,6 @@ fn at_of(drive: &Drive, out: &mut [u8], written: &mut usize, start: &mut u16) ->
             *written = 0;
             NO
         }
-    }
-}
-
-// Writes this cycle's AT of a station, as `at_of` does. Returns `CLOSED`, and writes nothing, if the station isn't a drive.
-fn at(station: &Station, out: &mut [u8], written: &mut usize, start: &mut u16) -> u8
-    ensures closed { (result == closed) ≡ not (is_drive (Some station.now)) }
-    ensures said { (d : DriveView) (rate : ℕ) (h : List DriveCall) → HoldsDrive (Some station.now) d rate h
-        → IsSaid (drive_says d rate h) out.old out.new written.new start.old start.new result }
-    ensures nothing { result ≡ closed → (out.new ≡ out.old) × ((written.new ≡ written.old) × (start.new ≡ start.old)) }
-{
-    match station {
-        Station::Drive(drive) => at_of(drive, out, written, start),
-        _ => CLOSED,
     }
 }
 
@@ -176,30 +96,6 @@ fn element_if(
     element_of(drive, idn, element, out, written, code)
 }
 
-// Writes the bytes of an element of a station's data block, as `element_if` does. Returns `CLOSED`, and writes nothing, if the station
-// isn't a drive.
-fn write_element(
-    station: &Station,
-    idn: u16,
-    element: u8,
-    out: &mut [u8],
-    written: &mut usize,
-    code: &mut u16,
-) -> u8
-    ensures closed { (result == closed) ≡ not (is_drive (Some station.now)) }
-    ensures bound { result ≢ closed → written.new ≤ 1024 }
-    ensures refused { is_drive (Some station.now) ≡ true → (element < 2) ⊎ (7 < element)
-        → IsNothing refused out.old out.new written.new result × (code.new ≡ 0) }
-    ensures read { (d : DriveView) (rate : ℕ) (h : List DriveCall) → HoldsDrive (Some station.now) d rate h → 2 ≤ element → element ≤ 7
-        → IsElement (find_block idn (store_at d rate h)) element out.old out.new written.new code.new result }
-    ensures nothing { result ≡ closed → (out.new ≡ out.old) × ((written.new ≡ written.old) × (code.new ≡ code.old)) }
-{
-    match station {
-        Station::Drive(drive) => element_if(drive, idn, element, out, written, code),
-        _ => CLOSED,
-    }
-}
-
 /// Closes a drive: drops it and frees its memory, if there is one. The handle then holds nothing; it may be closed again, or opened.
 #[unsafe(no_mangle)]
 pub extern "C" fn sercos_drive_close(alloc: Global, drive: &mut Handle)
@@ -226,7 +122,13 @@ pub extern "C" fn sercos_drive_hear_mst(
     let Some(mut station) = take_out(alloc, drive) else {
         return CLOSED;
     };
-    let status = hear_mst(&mut station, cycle, arrival(arrived, content));
+    let status = match &mut *station {
+        Station::Drive(held) => {
+            held.hear_mst(cycle, arrival(arrived, content));
+            DONE
+        }
+        _ => CLOSED,
+    };
     put_back(station, drive);
     status
 }
@@ -248,7 +150,13 @@ pub extern "C" fn sercos_drive_hear_mdt(
     let Some(mut station) = take_out(alloc, drive) else {
         return CLOSED;
     };
-    let status = hear_mdt(&mut station, arrival(arrived, content));
+    let status = match &mut *station {
+        Station::Drive(held) => {
+            held.hear_mdt(arrival(arrived, content));
+            DONE
+        }
+        _ => CLOSED,
+    };
     put_back(station, drive);
     status
 }
@@ -265,7 +173,13 @@ pub extern "C" fn sercos_drive_restart(alloc: Global, drive: &mut Handle) -> u8
     let Some(mut station) = take_out(alloc, drive) else {
         return CLOSED;
     };
-    let status = restart(&mut station);
+    let status = match &mut *station {
+        Station::Drive(held) => {
+            held.restart();
+            DONE
+        }
+        _ => CLOSED,
+    };
     put_back(station, drive);
     status
 }
@@ -283,7 +197,13 @@ pub extern "C" fn sercos_drive_phase(alloc: Global, drive: &mut Handle, phase: &
     let Some(station) = take_out(alloc, drive) else {
         return CLOSED;
     };
-    let status = self::phase(&station, phase);
+    let status = match &*station {
+        Station::Drive(held) => {
+            *phase = held.phase();
+            DONE
+        }
+        _ => CLOSED,
+    };
     put_back(station, drive);
     status
 }
@@ -309,7 +229,10 @@ pub extern "C" fn sercos_drive_at(
     let Some(station) = take_out(alloc, drive) else {
         return CLOSED;
     };
-    let status = at(&station, out, written, start);
+    let status = match &*station {
+        Station::Drive(held) => at_of(held, out, written, start),
+        _ => CLOSED,
+    };
     put_back(station, drive);
     status
 }
@@ -341,7 +264,10 @@ pub extern "C" fn sercos_drive_element(
     let Some(station) = take_out(alloc, drive) else {
         return CLOSED;
     };
-    let status = write_element(&station, idn, element, out, written, code);
+    let status = match &*station {
+        Station::Drive(held) => element_if(held, idn, element, out, written, code),
+        _ => CLOSED,
+    };
     put_back(station, drive);
     status
 }

@@ -10,115 +10,6 @@ use crate::station::Station;
 use crate::status::CLOSED;
 use std::alloc::Global;
 
-// Writes the content of a station's MST, as `MasterStation::mst` does. Returns `CLOSED`, and writes nothing, if the station isn't a master.
-fn mst(station: &Station, out: &mut [u8], written: &mut usize) -> u8
-    ensures closed { (result == closed) ≡ not (is_master (Some station.now)) }
-    ensures said { (d : DocumentView) (h : List Call) → HoldsMaster (Some station.now) d h → IsPut (mst_said (past_of d h)) out.old out.new written.new result }
-    ensures nothing { result ≡ closed → (out.new ≡ out.old) × (written.new ≡ written.old) }
-{
-    match station {
-        Station::Master(master) => master.mst(out, written),
-        _ => CLOSED,
-    }
-}
-
-// Passes what returned of a station's own MST to it: the content if a frame arrived, and otherwise nothing; then `content` is ignored.
-// Returns `DONE`. Returns `CLOSED`, and changes nothing, if the station isn't a master.
-fn hear_mst(station: &mut Station, arrived: bool, content: &[u8]) -> u8
-    ensures closed { (result == closed) ≡ not (is_master (Some station.old)) }
-    ensures status { (result ≡ done) ⊎ (result ≡ closed) }
-    ensures heard { (d : DocumentView) (h : List Call) → HoldsMaster (Some station.old) d h → HoldsMaster (Some station.new) d (HearMst (arrival arrived content.now) ∷ h) }
-    ensures same { result ≡ closed → (Some station.new) ≡ (Some station.old) }
-{
-    match station {
-        Station::Master(master) => master.hear_mst(arrival(arrived, content)),
-        _ => CLOSED,
-    }
-}
-
-// Passes the content of a frame at the place of an AT to a station, and returns `DONE`. Returns `CLOSED`, and changes nothing, if the
-// station isn't a master.
-fn hear_at(station: &mut Station, content: &[u8]) -> u8
-    ensures closed { (result == closed) ≡ not (is_master (Some station.old)) }
-    ensures status { (result ≡ done) ⊎ (result ≡ closed) }
-    ensures heard { (d : DocumentView) (h : List Call) → HoldsMaster (Some station.old) d h → HoldsMaster (Some station.new) d (HearAt content.now ∷ h) }
-    ensures same { result ≡ closed → (Some station.new) ≡ (Some station.old) }
-{
-    match station {
-        Station::Master(master) => master.hear_at(content),
-        _ => CLOSED,
-    }
-}
-
-// Writes the content and the start of a station's MDT, as `MasterStation::mdt` does. Returns `CLOSED`, and changes nothing, if the
-// station isn't a master.
-fn mdt(station: &mut Station, out: &mut [u8], written: &mut usize, start: &mut u16) -> u8
-    ensures closed { (result == closed) ≡ not (is_master (Some station.old)) }
-    ensures fault { is_master (Some station.old) ≡ true → length out.old < 2048 → IsNothing write_fault out.old out.new written.new result × ((start.new ≡ start.old) × ((Some station.new) ≡ (Some station.old))) }
-    ensures said { (d : DocumentView) (h : List Call) → HoldsMaster (Some station.old) d h → 2048 ≤ length out.old →
-        IsSent (mdt_said (known_of d.setup) (past_of d (Mdt ∷ h))) out.old out.new written.new start.old start.new result × HoldsMaster (Some station.new) d (Mdt ∷ h) }
-    ensures nothing { result ≡ closed → (out.new ≡ out.old) × ((written.new ≡ written.old) × ((start.new ≡ start.old) × ((Some station.new) ≡ (Some station.old)))) }
-{
-    match station {
-        Station::Master(master) => master.mdt(out, written, start),
-        _ => CLOSED,
-    }
-}
-
-// Ends the cycle of a station, and returns `DONE`. Returns `CLOSED`, and changes nothing, if the station isn't a master.
-fn end_cycle(station: &mut Station) -> u8
-    ensures closed { (result == closed) ≡ not (is_master (Some station.old)) }
-    ensures status { (result ≡ done) ⊎ (result ≡ closed) }
-    ensures ended { (d : DocumentView) (h : List Call) → HoldsMaster (Some station.old) d h → HoldsMaster (Some station.new) d (End ∷ h) }
-    ensures same { result ≡ closed → (Some station.new) ≡ (Some station.old) }
-{
-    match station {
-        Station::Master(master) => master.end_cycle(),
-        _ => CLOSED,
-    }
-}
-
-// Restarts a station, and returns `DONE`. Returns `CLOSED`, and changes nothing, if the station isn't a master.
-fn restart(station: &mut Station) -> u8
-    ensures closed { (result == closed) ≡ not (is_master (Some station.old)) }
-    ensures status { (result ≡ done) ⊎ (result ≡ closed) }
-    ensures restarted { (d : DocumentView) (h : List Call) → HoldsMaster (Some station.old) d h → HoldsMaster (Some station.new) d (Restart ∷ h) }
-    ensures same { result ≡ closed → (Some station.new) ≡ (Some station.old) }
-{
-    match station {
-        Station::Master(master) => master.restart(),
-        _ => CLOSED,
-    }
-}
-
-// Writes the phase that a station commands, 0 to 4, to `phase`, and returns `DONE`. Returns `CLOSED`, and writes nothing, if the station
-// isn't a master.
-fn command(station: &Station, phase: &mut u8) -> u8
-    ensures closed { (result == closed) ≡ not (is_master (Some station.now)) }
-    ensures status { (result ≡ done) ⊎ (result ≡ closed) }
-    ensures phase { (d : DocumentView) (h : List Call) → HoldsMaster (Some station.now) d h → phase.new ≡ (past_of d h).now.phase }
-    ensures bound { result ≡ done → phase.new ≤ 4 }
-    ensures nothing { result ≡ closed → phase.new ≡ phase.old }
-{
-    match station {
-        Station::Master(master) => master.command(phase),
-        _ => CLOSED,
-    }
-}
-
-// Writes the trace lines of what a station reports, as `MasterStation::events` does. Returns `CLOSED`, and writes nothing, also if the
-// station isn't a master.
-fn events(station: &Station, out: &mut [u8], written: &mut usize) -> u8
-    ensures closed { is_master (Some station.now) ≡ false → result ≡ closed }
-    ensures written { (d : DocumentView) (h : List Call) → HoldsMaster (Some station.now) d h → IsText (cycle_text (wishes_of d.setup) (silent_record (reported_in h) (reported d h))) out.old out.new written.new result }
-    ensures nothing { result ≡ closed → (out.new ≡ out.old) × (written.new ≡ written.old) }
-{
-    match station {
-        Station::Master(master) => master.events(out, written),
-        _ => CLOSED,
-    }
-}
-
 /// Writes the content of this cycle's MST to the front of `out`, and the number of its bytes to `written`, and returns `DONE`. The master
 /// stays as it was. Returns `CLOSED` if no master is held, and then nothing is written; otherwise `WRITE_FAULT` if there is too little
 /// room, and then `out` stays as it was, and `written` is 0.
@@ -137,7 +28,10 @@ pub extern "C" fn sercos_master_mst(
     let Some(station) = take_out(alloc, master) else {
         return CLOSED;
     };
-    let status = mst(&station, out, written);
+    let status = match &*station {
+        Station::Master(held) => held.mst(out, written),
+        _ => CLOSED,
+    };
     put_back(station, master);
     status
 }
@@ -159,7 +53,10 @@ pub extern "C" fn sercos_master_hear_mst(
     let Some(mut station) = take_out(alloc, master) else {
         return CLOSED;
     };
-    let status = hear_mst(&mut station, arrived, content);
+    let status = match &mut *station {
+        Station::Master(held) => held.hear_mst(arrival(arrived, content)),
+        _ => CLOSED,
+    };
     put_back(station, master);
     status
 }
@@ -176,7 +73,10 @@ pub extern "C" fn sercos_master_hear_at(alloc: Global, master: &mut Handle, cont
     let Some(mut station) = take_out(alloc, master) else {
         return CLOSED;
     };
-    let status = hear_at(&mut station, content);
+    let status = match &mut *station {
+        Station::Master(held) => held.hear_at(content),
+        _ => CLOSED,
+    };
     put_back(station, master);
     status
 }
@@ -202,7 +102,10 @@ pub extern "C" fn sercos_master_mdt(
     let Some(mut station) = take_out(alloc, master) else {
         return CLOSED;
     };
-    let status = mdt(&mut station, out, written, start);
+    let status = match &mut *station {
+        Station::Master(held) => held.mdt(out, written, start),
+        _ => CLOSED,
+    };
     put_back(station, master);
     status
 }
@@ -219,7 +122,10 @@ pub extern "C" fn sercos_master_end_cycle(alloc: Global, master: &mut Handle) ->
     let Some(mut station) = take_out(alloc, master) else {
         return CLOSED;
     };
-    let status = end_cycle(&mut station);
+    let status = match &mut *station {
+        Station::Master(held) => held.end_cycle(),
+        _ => CLOSED,
+    };
     put_back(station, master);
     status
 }
@@ -235,7 +141,10 @@ pub extern "C" fn sercos_master_restart(alloc: Global, master: &mut Handle) -> u
     let Some(mut station) = take_out(alloc, master) else {
         return CLOSED;
     };
-    let status = restart(&mut station);
+    let status = match &mut *station {
+        Station::Master(held) => held.restart(),
+        _ => CLOSED,
+    };
     put_back(station, master);
     status
 }
@@ -254,7 +163,10 @@ pub extern "C" fn sercos_master_command(alloc: Global, master: &mut Handle, phas
     let Some(station) = take_out(alloc, master) else {
         return CLOSED;
     };
-    let status = command(&station, phase);
+    let status = match &*station {
+        Station::Master(held) => held.command(phase),
+        _ => CLOSED,
+    };
     put_back(station, master);
     status
 }
@@ -279,7 +191,10 @@ pub extern "C" fn sercos_master_events(
     let Some(station) = take_out(alloc, master) else {
         return CLOSED;
     };
-    let status = events(&station, out, written);
+    let status = match &*station {
+        Station::Master(held) => held.events(out, written),
+        _ => CLOSED,
+    };
     put_back(station, master);
     status
 }

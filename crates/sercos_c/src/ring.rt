@@ -9,58 +9,6 @@ use crate::station::Station;
 use crate::status::CLOSED;
 use std::alloc::Global;
 
-// Writes the first lines of a station's trace, as `RingStation::head` does. Returns `CLOSED`, and writes nothing, if the station isn't a
-// ring.
-fn head(station: &Station, out: &mut [u8], written: &mut usize) -> u8
-    ensures closed { (result == closed) ≡ not (is_ring (Some station.now)) }
-    ensures written { (d : DocumentView) (j : List CycleView) → HoldsRing (Some station.now) d j → IsText (header_text (wishes_of d.setup)) out.old out.new written.new result }
-    ensures nothing { result ≡ closed → (out.new ≡ out.old) × (written.new ≡ written.old) }
-{
-    match station {
-        Station::Ring(ring) => ring.head(out, written),
-        _ => CLOSED,
-    }
-}
-
-// Makes the next cycle of a station, as `RingStation::cycle` does. Returns `CLOSED`, and changes nothing, if the station isn't a ring.
-fn cycle(station: &mut Station) -> u8
-    ensures closed { (result == closed) ≡ not (is_ring (Some station.old)) }
-    ensures status { (d : DocumentView) (j : List CycleView) → HoldsRing (Some station.old) d j → result ≡ (if nat_lt (length j) d.setup.cycles then done else answer_no) }
-    ensures goes { (d : DocumentView) (j : List CycleView) → HoldsRing (Some station.old) d j → result ≡ done → (v : CycleView) × HoldsRing (Some station.new) d (v ∷ j) }
-    ensures same { result ≢ done → (Some station.new) ≡ (Some station.old) }
-    ensures kept { (d : DocumentView) (j : List CycleView) → HoldsRing (Some station.new) d j → IsKept d.setup d.jobs (script_carry d) (script_restarts d) j }
-{
-    match station {
-        Station::Ring(ring) => ring.cycle(),
-        _ => CLOSED,
-    }
-}
-
-// Writes the trace lines of the cycle that a station made last, as `RingStation::lines` does. Returns `CLOSED`, and writes nothing, also if
-// the station isn't a ring.
-fn lines(station: &Station, out: &mut [u8], written: &mut usize) -> u8
-    ensures closed { is_ring (Some station.now) ≡ false → result ≡ closed }
-    ensures written { (d : DocumentView) (j : List CycleView) → HoldsRing (Some station.now) d j → IsText (lines_of_newest (wishes_of d.setup) j) out.old out.new written.new result }
-    ensures nothing { result ≡ closed → (out.new ≡ out.old) × (written.new ≡ written.old) }
-{
-    match station {
-        Station::Ring(ring) => ring.lines(out, written),
-        _ => CLOSED,
-    }
-}
-
-// Writes the last line of a station's trace, as `RingStation::end` does. Returns `CLOSED`, and writes nothing, if the station isn't a ring.
-fn end(station: &Station, out: &mut [u8], written: &mut usize) -> u8
-    ensures closed { (result == closed) ≡ not (is_ring (Some station.now)) }
-    ensures written { (d : DocumentView) (j : List CycleView) → HoldsRing (Some station.now) d j → IsText (end_text (totals_of (reverse j))) out.old out.new written.new result }
-    ensures nothing { result ≡ closed → (out.new ≡ out.old) × (written.new ≡ written.old) }
-{
-    match station {
-        Station::Ring(ring) => ring.end(out, written),
-        _ => CLOSED,
-    }
-}
-
 /// Writes the first lines of the trace, the version, the ring, the drives and the order, to the front of `out`, and the number of their
 /// bytes to `written`, and returns `DONE`. The ring stays as it was. Returns `CLOSED` if no ring is held, and then nothing is written;
 /// otherwise `WRITE_FAULT` if there is too little room, and then `written` is 0. Afterwards the bytes of `out` after the text are
@@ -80,7 +28,10 @@ pub extern "C" fn sercos_ring_head(
     let Some(station) = take_out(alloc, ring) else {
         return CLOSED;
     };
-    let status = head(&station, out, written);
+    let status = match &*station {
+        Station::Ring(held) => held.head(out, written),
+        _ => CLOSED,
+    };
     put_back(station, ring);
     status
 }
@@ -98,7 +49,10 @@ pub extern "C" fn sercos_ring_cycle(alloc: Global, ring: &mut Handle) -> u8
     let Some(mut station) = take_out(alloc, ring) else {
         return CLOSED;
     };
-    let status = cycle(&mut station);
+    let status = match &mut *station {
+        Station::Ring(held) => held.cycle(),
+        _ => CLOSED,
+    };
     put_back(station, ring);
     status
 }
@@ -123,7 +77,10 @@ pub extern "C" fn sercos_ring_lines(
     let Some(station) = take_out(alloc, ring) else {
         return CLOSED;
     };
-    let status = lines(&station, out, written);
+    let status = match &*station {
+        Station::Ring(held) => held.lines(out, written),
+        _ => CLOSED,
+    };
     put_back(station, ring);
     status
 }
@@ -147,7 +104,10 @@ pub extern "C" fn sercos_ring_end(
     let Some(station) = take_out(alloc, ring) else {
         return CLOSED;
     };
-    let status = end(&station, out, written);
+    let status = match &*station {
+        Station::Ring(held) => held.end(out, written),
+        _ => CLOSED,
+    };
     put_back(station, ring);
     status
 }

@@ -28,7 +28,8 @@ changed held faults room old new = record { held = held old; held' = held new; f
 -- how writing a text with its status ends: the whole text was appended, or a prefix of it, short of the whole
 pub data Writes (status : Status) (text : List ℕ) (sink : SinkChange) : Status → Type 0 where
   whole : Appends sink.held sink.held' text → sink.faults' ≡ sink.faults → Writes status text sink status
-  short : (count : ℕ) → count < length text → Appends sink.held sink.held' (take count text) → sink.faults ≤ sink.faults' → Rose sink.faults sink.faults' → (length text ≤ sink.room → ⊥) → Writes status text sink (fault_status status)
+  short : (count : ℕ) → count < length text → Appends sink.held sink.held' (take count text) → sink.faults ≤ sink.faults' →
+      Rose sink.faults sink.faults' → (length text ≤ sink.room → ⊥) → Writes status text sink (fault_status status)
 
 -- How answering an input ends: no memory was found, or the answer was written, with what it promises. Unwritten says that the sink is
 -- as it was.
@@ -40,9 +41,11 @@ pub data Replies (answer : Answer) (Says : Type 0) (sink : SinkChange) (Unwritte
 -- Unread says that the source is as it was.
 pub data Stops {F : Type 0} (form : Option F) (reads : Bool) (source : SourceChange) (Unread : Type 0) : Status → Type 0 where
   no_form : form ≡ None → Unread → source.left' ≡ source.left → source.faults' ≡ source.faults → Stops form reads source Unread BadWords
-  unreadable : reads ≡ true → source.faults ≤ source.faults' → Rose source.faults source.faults' → TakesAtMost 1048576 source.left source.left' → Stops form reads source Unread ReadFault
+  unreadable : reads ≡ true → source.faults ≤ source.faults' → Rose source.faults source.faults' →
+      TakesAtMost 1048576 source.left source.left' → Stops form reads source Unread ReadFault
   too_many : reads ≡ true → source.faults' ≡ source.faults → TakesTooMany source.left source.left' → Stops form reads source Unread TooLong
-  no_memory : source.faults' ≡ source.faults → TakesAtMost 1048576 source.left source.left' → (reads ≡ false → Unread) → Stops form reads source Unread Memory
+  no_memory : source.faults' ≡ source.faults → TakesAtMost 1048576 source.left source.left' → (reads ≡ false → Unread) →
+      Stops form reads source Unread Memory
 
 -- The bytes of the input: all those of the source, up to its end; none, if a command reads nothing.
 abbrev pub TakesInput : Bool → SourceChange → Type 0 → List ℕ → Type 0
@@ -50,9 +53,12 @@ TakesInput true source Unread bytes = ReadsWhole source.left source.left' bytes
 TakesInput false source Unread bytes = Unread × (source.left' ≡ source.left) × (bytes ≡ [])
 
 -- How the call ends. Unwritten says that the sink is as it was. `Says` is what the answer promises beside its text.
-pub data Outcome {F : Type 0} (form : Option F) (reads : Bool) (answer : List ℕ → Answer) (Says : List ℕ → Type 0) (source : SourceChange) (sink : SinkChange) (Unread Unwritten : Type 0) : Status → Type 0 where
-  stopped : (status : Status) → Stops form reads source Unread status → Unwritten → sink.faults' ≡ sink.faults → Outcome form reads answer Says source sink Unread Unwritten status
-  answered : (named : F) (bytes : List ℕ) (status : Status) → form ≡ Some named → Says bytes → source.faults' ≡ source.faults → TakesInput reads source Unread bytes → Writes (answer bytes).status (answer bytes).output sink status
+pub data Outcome {F : Type 0} (form : Option F) (reads : Bool) (answer : List ℕ → Answer) (Says : List ℕ → Type 0) (source : SourceChange)
+    (sink : SinkChange) (Unread Unwritten : Type 0) : Status → Type 0 where
+  stopped : (status : Status) → Stops form reads source Unread status → Unwritten → sink.faults' ≡ sink.faults →
+      Outcome form reads answer Says source sink Unread Unwritten status
+  answered : (named : F) (bytes : List ℕ) (status : Status) → form ≡ Some named → Says bytes → source.faults' ≡ source.faults →
+      TakesInput reads source Unread bytes → Writes (answer bytes).status (answer bytes).output sink status
       → Outcome form reads answer Says source sink Unread Unwritten status
 
 -- Properties of the form, of whether it reads its source, and of its answers: a form that reads nothing has one answer, and answers are

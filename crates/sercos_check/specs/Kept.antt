@@ -106,4 +106,11 @@ with_at v w s = record {
 }
 
 abbrev pub with_mdt : SeenState → WishesView → SentView → SeenState
-with_mdt v w s = record { command = v.command; newest = Some (note_of w s); mdt = true; heard = v.heard; marks = v.marks; free_at = v.free_at }
+with_mdt v w s = record {
+  command = v.command;
+  newest = Some (note_of w s);
+  mdt = true;
+  heard = v.heard;
+  marks = v.marks;
+  free_at = v.free_at;
+}

@@ -92,7 +92,8 @@ keeps_phase command s = not (is_mst s.kind) || is_next_phase command (slice_inde
 abbrev pub start_of : Kind → WishesView → ℕ → SentView → Bool
 start_of telegram.Mst w phase s = int_eq (end_of (mark_of s)) (pos 0)
 start_of telegram.At w phase s =
-    if nat_lt phase 3 then int_eq s.start (pos (w.rate * early_at)) else le_z (pos (w.rate * (wish_for w (address_of s)).times.t1min)) s.start
+    if nat_lt phase 3 then int_eq s.start (pos (w.rate * early_at))
+    else le_z (pos (w.rate * (wish_for w (address_of s)).times.t1min)) s.start
 start_of telegram.Mdt w phase s = not (nat_lt phase 3) || int_eq s.start (pos (w.rate * early_mdt))
 
 abbrev pub keeps_start : WishesView → ℕ → SentView → Bool

@@ -53,7 +53,14 @@ no_wishes = record { rate = 0; cycle = 0; control = 0; gap = 0; order = []; driv
 abbrev pub wishes_by : List Line → WishesView
 wishes_by [] = no_wishes
 wishes_by (line.Ring rate cycle control gap drives ∷ before) =
-    record { rate = rate; cycle = cycle; control = control; gap = gap; order = (wishes_by before).order; drives = (wishes_by before).drives }
+    record {
+      rate = rate;
+      cycle = cycle;
+      control = control;
+      gap = gap;
+      order = (wishes_by before).order;
+      drives = (wishes_by before).drives;
+    }
 wishes_by (line.Drive wish ∷ before) = record (wishes_by before) { drives = (wishes_by before).drives ++ wish ∷ [] }
 wishes_by (line.Order addresses ∷ before) = record (wishes_by before) { order = places (wishes_by before).drives addresses.items }
 wishes_by (_ ∷ before) = wishes_by before

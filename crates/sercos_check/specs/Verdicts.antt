@@ -29,7 +29,8 @@ IsClean (line ∷ before) = IsClean before × CanFollow before line × (rule_bro
 -- the trouble with a line after clean lines: it can't follow them, or it can and breaks a rule
 abbrev pub IsFault : List Line → Line → Trouble → Type 0
 IsFault before line (trouble.Grammar number) = (CanFollow before line → ⊥) × (number ≡ length before + 1)
-IsFault before line (trouble.Violation number rule) = CanFollow before line × (rule_broken before line ≡ Some rule) × (number ≡ length before + 1)
+IsFault before line (trouble.Violation number rule) = CanFollow before line × (rule_broken before line ≡ Some rule) ×
+    (number ≡ length before + 1)
 
 -- the first trouble among lines
 abbrev pub IsTrouble : List Line → Trouble → Type 0

@@ -43,7 +43,8 @@ capture_fault before (text ∷ texts) =
 unfoldable pub first_violation : List Line → List (List ℕ) → Option (ℕ × ℕ)
 first_violation before [] = None
 first_violation before (text ∷ texts) =
-    option_or (option_map (λ rule. (length before + 1, rule)) (rule_broken before (read_as text))) (first_violation (read_as text ∷ before) texts)
+    option_or (option_map (λ rule. (length before + 1, rule)) (rule_broken before (read_as text)))
+    (first_violation (read_as text ∷ before) texts)
 
 -- A fault goes before a violation, wherever they are.
 unfoldable pub verdict_by : Option (ℕ × ℕ) → Option (ℕ × ℕ) → ℕ → Verdict
@@ -69,7 +70,8 @@ rule_name rule =
     else codes "end"
 
 unfoldable pub violation_text : ℕ → ℕ → List ℕ
-violation_text line rule = codes "violation line " ++ decimal line ++ codes " rule " ++ decimal rule ++ codes " " ++ rule_name rule ++ line_feed
+violation_text line rule = codes "violation line " ++ decimal line ++ codes " rule " ++ decimal rule ++ codes " " ++ rule_name rule ++
+    line_feed
 
 unfoldable pub clean_text : ℕ → List ℕ
 clean_text lines = codes "clean " ++ decimal lines ++ line_feed

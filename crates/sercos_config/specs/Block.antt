@@ -80,7 +80,19 @@ block_of before t = do
   fixed ← boolean_or t (codes "fixed") false
   step ← step_under attribute min max t
   fails ← fails_under attribute t
-  Ok (record { idn = idn; attribute = attribute; name = name; unit = unit; min = min; max = max; value = value; max_len = max_len; fixed = fixed; step = step; fails = fails })
+  Ok (record {
+    idn = idn;
+    attribute = attribute;
+    name = name;
+    unit = unit;
+    min = min;
+    max = max;
+    value = value;
+    max_len = max_len;
+    fixed = fixed;
+    step = step;
+    fails = fails;
+  })
 
 -- the data blocks of these tables, after those
 unfoldable pub blocks_onto : ℕ → List Block → List Members → Answer (List Block)

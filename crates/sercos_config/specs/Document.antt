@@ -36,7 +36,15 @@ ring_of ring tables = do
   drives ← drives_onto [] tables
   demand (nat_le (mdt_len drives) most_records) (bad.Range (path place.Top (codes "ring")) (pos (mdt_len drives)))
   order ← order_of drives (of_ring ring)
-  Ok (record { rate = head.rate; cycle = head.cycle; control = head.control; gap = head.gap; cycles = head.cycles; order = order; drives = drives })
+  Ok (record {
+    rate = head.rate;
+    cycle = head.cycle;
+    control = head.control;
+    gap = head.gap;
+    cycles = head.cycles;
+    order = order;
+    drives = drives;
+  })
 
 -- what the table of a document says
 unfoldable pub document_in : Members → Answer DocumentView

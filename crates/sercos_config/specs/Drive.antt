@@ -49,7 +49,18 @@ times_of t = do
 -- a drive with these numbers
 abbrev pub with_lists : DriveNumbers → List Idn → List Idn → List Block → DriveView
 with_lists n at mdt blocks =
-    record { address = n.address; slave = n.slave; busy = n.busy; command = n.command; times = n.times; cycle_min = n.cycle_min; cycle_max = n.cycle_max; at = at; mdt = mdt; blocks = blocks }
+    record {
+      address = n.address;
+      slave = n.slave;
+      busy = n.busy;
+      command = n.command;
+      times = n.times;
+      cycle_min = n.cycle_min;
+      cycle_max = n.cycle_max;
+      at = at;
+      mdt = mdt;
+      blocks = blocks;
+    }
 
 unfoldable pub drive_keys : List (List ℕ)
 drive_keys =
@@ -73,7 +84,15 @@ drive_numbers_of before t = do
   times ← times_of t
   cycle_min ← number_or t (codes "cycle_min") 0 most_cycle least_cycle
   cycle_max ← number_or t (codes "cycle_max") 0 most_cycle most_cycle
-  Ok (record { address = address; slave = slave; busy = busy; command = command; times = times; cycle_min = cycle_min; cycle_max = cycle_max })
+  Ok (record {
+    address = address;
+    slave = slave;
+    busy = busy;
+    command = command;
+    times = times;
+    cycle_min = cycle_min;
+    cycle_max = cycle_max;
+  })
 
 -- The drive of a table, after these drives. Its blocks follow its own keys, and the items of `at` and `mdt` the blocks, in
 -- which they are looked up.

@@ -66,7 +66,8 @@ said address cycle phase blocks s = record {
 abbrev pub said_in : DriveView → ℕ → List Moment → Option Said
 said_in d rate past =
     if sends past
-    then Some (said d.address (cycle_in past) (phase_in past) (blocks_in d past) (channel_says d.busy (cycle_in past) (commands_in d rate past) (records_in past)))
+    then Some (said d.address (cycle_in past) (phase_in past) (blocks_in d past)
+    (channel_says d.busy (cycle_in past) (commands_in d rate past) (records_in past)))
     else None
 
 -- the AT of a drive after these calls; `None` if it sends none

@@ -12,7 +12,8 @@ use Rattle.sercos_drive.specs.declared.slot.Slot.{Slot}
 
 -- the feedback value of a block: what an AT needs to carry its operation data, if it is a number
 abbrev pub feedback_in : Block → Option FeedbackValue
-feedback_in b = if is_number b.attribute then Some (record { kind = b.attribute.length; bits = bits_in b.attribute b.value; step = b.step }) else None
+feedback_in b = if is_number b.attribute then Some (record { kind = b.attribute.length; bits = bits_in b.attribute b.value; step = b.step })
+    else None
 
 -- the feedback value of an identifier number
 abbrev pub feedback_of : List Block → Idn → Option FeedbackValue
@@ -31,4 +32,10 @@ feedback_bytes cycle (Some v) = bytes_at cycle v
 -- S-0-0010 is the length of the MDT, S-0-0009 the position of the record in it, and S-0-0024 lists
 -- the command values after the record's two words.
 abbrev pub slot_of : List Block → Slot
-slot_of blocks = record { start = number_at blocks 6; mdt_len = number_at blocks 10; position = number_at blocks 9; record_len = carried_len blocks 24; feedback = record { items = filter_map (feedback_of blocks) (idns_at blocks 16) } }
+slot_of blocks = record {
+  start = number_at blocks 6;
+  mdt_len = number_at blocks 10;
+  position = number_at blocks 9;
+  record_len = carried_len blocks 24;
+  feedback = record { items = filter_map (feedback_of blocks) (idns_at blocks 16) };
+}

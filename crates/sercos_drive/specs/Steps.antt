@@ -32,7 +32,8 @@ reset_in phase c = record { rate = c.rate; time = c.time; calls = with_reset pha
 -- The drive has moved to this phase.
 pub record IsEntered (v w : DriveState) (phase : ℕ) : Type 0 where
   pub same : w ≡ record v { phase = phase; commands = w.commands; channel = w.channel }
-  pub channel : (busy : ℕ) (h : List Processed) → ChannelStandsFor v.channel busy h → ChannelStandsFor w.channel busy (unless_phase_0 phase h)
+  pub channel : (busy : ℕ) (h : List Processed) → ChannelStandsFor v.channel busy h →
+      ChannelStandsFor w.channel busy (unless_phase_0 phase h)
   pub commands : (c : CommandHistory) → CommandsStandFor v.commands c → CommandsStandFor w.commands (reset_in phase c)
 
 -- the record of an MDT
@@ -52,7 +53,13 @@ counted_with (Some w) n = counted (n + 1)
 -- A record was processed after these records, if there was one. The procedure commands were those
 -- after the calls `c`.
 pub record IsProcessed (v w : DriveState) (busy : ℕ) (c : CommandHistory) (r : Option Processed) (h : List Processed) : Type 0 where
-  pub same : w ≡ record v { writes = counted_with (write_in r h) v.writes; channel = w.channel; commands = w.commands; blocks = blocks_after r h v.blocks; slot = w.slot }
+  pub same : w ≡ record v {
+    writes = counted_with (write_in r h) v.writes;
+    channel = w.channel;
+    commands = w.commands;
+    blocks = blocks_after r h v.blocks;
+    slot = w.slot;
+  }
   pub slot : IsSlot v.slot v.blocks → IsSlot w.slot w.blocks
   pub channel : ChannelStandsFor w.channel busy (with_record r h)
   pub commands : CommandsStandFor w.commands (commands_after r h c)

@@ -36,6 +36,10 @@ parts_of entry = (entry % 256, entry / 256 % 16, entry / 4096 % 8, entry / 32768
 -- 6, or 7 if a zero among these bits is an inserted one.
 abbrev pub given_of : Bool → ℕ → List Bool → ℕ × ℕ × ℕ × Bool
 given_of before k bits =
-    cond (has_six k bits)
-    (number_of (unstuffed k (before_sixth k bits)), length (unstuffed k (before_sixth k bits)), 6 + (sixth_at k bits - length (unstuffed k (before_sixth k bits))), cond (sixth_at k bits + k == 5) false (dropped_after k before (before_sixth k bits)))
+    cond (has_six k bits) (
+      number_of (unstuffed k (before_sixth k bits)),
+      length (unstuffed k (before_sixth k bits)),
+      6 + (sixth_at k bits - length (unstuffed k (before_sixth k bits))),
+      cond (sixth_at k bits + k == 5) false (dropped_after k before (before_sixth k bits)),
+    )
     (number_of (unstuffed k bits), length (unstuffed k bits), ones_after k bits, dropped_after k before bits)

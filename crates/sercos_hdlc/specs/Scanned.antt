@@ -9,4 +9,5 @@ pub record IsScan (bits plain : List Bool) (scan : Scan) : Type 0 where
   pub taken_all : scan.taken ≡ length bits
   pub flag_first : scan.agrees ≡ agree bits flag
   pub plain_all : scan.plain_len ≡ length plain
-  pub way : IsSought (drop 8 bits) scan.ones scan.dropped plain ⊎ IsFound (drop 8 bits) scan.ones scan.closing scan.seventh scan.dropped plain
+  pub way : IsSought (drop 8 bits) scan.ones scan.dropped plain ⊎
+      IsFound (drop 8 bits) scan.ones scan.closing scan.seventh scan.dropped plain

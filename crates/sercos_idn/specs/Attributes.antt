@@ -24,7 +24,8 @@ attribute_word a =
 
 -- the length and the display form with a code; for an unused code, the last one
 abbrev pub length_of : ℕ → Length
-length_of code = if code == 1 then Two else (if code == 2 then Four else (if code == 4 then List1 else (if code == 5 then List2 else List4)))
+length_of code = if code == 1 then Two
+    else (if code == 2 then Four else (if code == 4 then List1 else (if code == 5 then List2 else List4)))
 
 abbrev pub form_of : ℕ → Form
 form_of code =

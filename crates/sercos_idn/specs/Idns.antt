@@ -43,12 +43,14 @@ slot_fault text place slot = then_some (not (has_byte text place slot)) place
 
 -- the first fault in letter, dash, parameter set and dash
 unfoldable pub head_fault : List ℕ → Option ℕ
-head_fault text = option_or (slot_fault text 0 Letter) (option_or (slot_fault text 1 Dash) (option_or (slot_fault text 2 Octal) (slot_fault text 3 Dash)))
+head_fault text = option_or (slot_fault text 0 Letter)
+    (option_or (slot_fault text 1 Dash) (option_or (slot_fault text 2 Octal) (slot_fault text 3 Dash)))
 
 -- the first fault in the four digits of the number
 unfoldable pub digits_fault : List ℕ → Option ℕ
 digits_fault text =
-    option_or (slot_fault text 4 Decimal) (option_or (slot_fault text 5 Decimal) (option_or (slot_fault text 6 Decimal) (slot_fault text 7 Decimal)))
+    option_or (slot_fault text 4 Decimal)
+    (option_or (slot_fault text 5 Decimal) (option_or (slot_fault text 6 Decimal) (slot_fault text 7 Decimal)))
 
 -- the value of the digit at an index, and the number that the four digits spell
 abbrev pub digit_at : List ℕ → ℕ → ℕ

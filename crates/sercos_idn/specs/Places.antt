@@ -25,5 +25,6 @@ pub data Begins (bytes : List ℕ) : Type 0 where
 -- don't; or the text ends at the index and is incomplete.
 pub data IsRefusedAt (text : List ℕ) : ℕ → Type 0 where
   large : IsLarge (take 8 text) → IsRefusedAt text 4
-  at_byte : (place : ℕ) → (IsLarge (take 8 text) → ⊥) → place < length text → Begins (take place text) → (Begins (take (suc place) text) → ⊥) → IsRefusedAt text place
+  at_byte : (place : ℕ) → (IsLarge (take 8 text) → ⊥) → place < length text → Begins (take place text) →
+      (Begins (take (suc place) text) → ⊥) → IsRefusedAt text place
   at_end : (IsLarge (take 8 text) → ⊥) → Begins text → ((raw : ℕ) → idn_text raw ≢ text) → IsRefusedAt text (length text)

@@ -216,7 +216,8 @@ settled s p = with_due_plan s (with_stop (first_trouble s p) p)
 -- In phase 2 one drive after the other has its turn: the first with unfinished reads, and then the
 -- first whose check for phase 3 hasn't ended well.
 abbrev pub in_turn : Known → Past → Option ℕ
-in_turn s p = option_or (first_place s (λ k. not (is_read (member s k) (outcomes p k)))) (first_place s (λ k. not (is_checked (member s k) (outcomes p k))))
+in_turn s p = option_or (first_place s (λ k. not (is_read (member s k) (outcomes p k))))
+    (first_place s (λ k. not (is_checked (member s k) (outcomes p k))))
 
 abbrev pub has_turn : Known → Past → ℕ → Bool
 has_turn s p k = nat_le 3 p.now.phase || ((p.now.phase == 2) && is_place k (in_turn s p))

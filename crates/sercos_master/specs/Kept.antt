@@ -132,4 +132,5 @@ place_in number reports = unwrap_or (position (λ x. nat_lt number x.0) reports)
 
 -- each seat is that of its drive, before any telegram
 abbrev pub AreFresh : List SeatView → List MemberView → Type 0
-AreFresh seats members = (k : ℕ) (v : SeatView) (d : MemberView) → k < length seats → SeatStandsFor (slice_index_or seats k v) (slice_index_or members k d) (nothing_seen [])
+AreFresh seats members = (k : ℕ) (v : SeatView) (d : MemberView) → k < length seats →
+    SeatStandsFor (slice_index_or seats k v) (slice_index_or members k d) (nothing_seen [])

@@ -20,7 +20,7 @@ use Rattle.sercos_trace.proofs.WriteLemmas.{taken_none, taken_then, failed_early
 use Rattle.sercos_multi.specs.declared.part.Part.{Part}
 use Rattle.sercos_multi.specs.Merged.{Voice, all_timed, begun, head_lines, is_timed, lines_at, mark_of, over_by, rest_text, together_line}
 use Rattle.sercos_multi.specs.Going as going
-use Rattle.sercos_multi.specs.Going.{AllAre, AreFrom, Begins, Each, IsFrom, here_text, passed, timed_count}
+use Rattle.sercos_multi.specs.Going.{AreFrom, Begins, Each, IsFrom, here_text, passed, timed_count}
 use Rattle.sercos_multi.specs.Parts.{AllAt, AreOn, ArePassing, IsAt, IsEarliest, PassAll}
 use Rattle.sercos_multi.specs.Sooner.{sooner, soonest}
 use Rattle.sercos_multi.proofs.ListLemmas.{Turn, turn, turn_of, all_length, mapped_all, taken_all, text_next, text_whole, each_at, each_push, some_push, some_last, each_less}

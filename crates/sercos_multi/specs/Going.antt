@@ -25,7 +25,13 @@ AllAre R _ _ = ⊥
 -- a ring after its next cycle, and after its cycle that begins at a moment, if one does
 unfoldable pub gone_on : ℕ → Voice → List CycleView → Voice
 gone_on time v [] = record { number = v.number; wishes = v.wishes; totals = v.totals; at = v.at; later = [] }
-gone_on time v (t ∷ later) = record { number = v.number; wishes = v.wishes; totals = v.totals; at = v.at + span time t.phase; later = later }
+gone_on time v (t ∷ later) = record {
+  number = v.number;
+  wishes = v.wishes;
+  totals = v.totals;
+  at = v.at + span time t.phase;
+  later = later;
+}
 
 unfoldable pub passed : ℕ → ℕ → Voice → Voice
 passed time moment v = if v.at == moment then gone_on time v v.later else v
@@ -51,4 +57,5 @@ timed_count b = if b then 1 else 0
 -- the next n cycles of a ring after those of a journal, in their order
 unfoldable pub future : RingView → List Job → Carry → Restarts → List CycleView → ℕ → List CycleView
 future r jobs carry restarts j zero = []
-future r jobs carry restarts j (suc n) = next_record r jobs carry restarts j ∷ future r jobs carry restarts (next_record r jobs carry restarts j ∷ j) n
+future r jobs carry restarts j (suc n) = next_record r jobs carry restarts j ∷
+    future r jobs carry restarts (next_record r jobs carry restarts j ∷ j) n

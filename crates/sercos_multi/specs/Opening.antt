@@ -14,12 +14,14 @@ use Rattle.sercos_multi.specs.RingRuns.{AreRuns, IsRingRun}
 
 -- a ring of a part's contents
 abbrev pub OpensPart : {L : Type 0} → (L → Carry) → (L → Restarts) → ℕ → List ℕ → Result (Part L) Unopened → Type 0
-OpensPart carry_of restart_of n bytes (Ok p) = (d : DocumentView) × (document_of bytes ≡ Ok d) × IsAt carry_of restart_of p (voice_of n d) × IsRingRun d
+OpensPart carry_of restart_of n bytes (Ok p) = (d : DocumentView) × (document_of bytes ≡ Ok d) × IsAt carry_of restart_of p (voice_of n d) ×
+    IsRingRun d
 OpensPart carry_of restart_of n bytes (Err unopened.Memory) = Unit {0}
 OpensPart carry_of restart_of n bytes (Err (unopened.Refused m bad)) = (m ≡ n) × (document_of bytes ≡ Err bad) × (bad ≢ bads.Memory)
 
 -- the rings of all parts' contents
-pub record OpensAll {L : Type 0} (carry_of : L → Carry) (restart_of : L → Restarts) (parts : List (List ℕ)) (ps : List (Part L)) : Type 0 where
+pub record OpensAll {L : Type 0} (carry_of : L → Carry) (restart_of : L → Restarts) (parts : List (List ℕ))
+    (ps : List (Part L)) : Type 0 where
   pub documents : List DocumentView
   pub said : documents_from 1 parts ≡ Ok documents
   pub all : AllAt carry_of restart_of ps (voices_from 1 documents)
@@ -30,7 +32,8 @@ unfoldable pub joined : List DocumentView → Result (List DocumentView) (ℕ ×
 joined documents (Ok more) = Ok (documents ++ more)
 joined documents (Err refusal) = Err refusal
 
-pub record AreOpened {L : Type 0} (carry_of : L → Carry) (restart_of : L → Restarts) (parts : List (List ℕ)) (n : ℕ) (ps : List (Part L)) : Type 0 where
+pub record AreOpened {L : Type 0} (carry_of : L → Carry) (restart_of : L → Restarts) (parts : List (List ℕ)) (n : ℕ)
+    (ps : List (Part L)) : Type 0 where
   pub documents : List DocumentView
   pub count : length documents ≡ n
   pub left : documents_from 1 parts ≡ joined documents (documents_from (n + 1) (drop n parts))

@@ -27,4 +27,5 @@ AreTraces documents text = (i : ℕ) (d : DocumentView) → slice_get documents 
 
 -- So it is of the merged text of at most 8 documents whose rings each have a cycle.
 abbrev pub LinesAreTraces : Type 0
-LinesAreTraces = (time : ℕ) (documents : List DocumentView) → 0 < time → length documents ≤ 8 → All (λ d. 1 ≤ d.setup.cycles) documents → AreTraces documents (merged time (voices_from 1 documents))
+LinesAreTraces = (time : ℕ) (documents : List DocumentView) → 0 < time → length documents ≤ 8 → All (λ d. 1 ≤ d.setup.cycles) documents →
+    AreTraces documents (merged time (voices_from 1 documents))

@@ -40,25 +40,29 @@ abbrev pub AllAt : {L : Type 0} → (L → Carry) → (L → Restarts) → List 
 AllAt carry_of restart_of parts voices = AllAre (IsAt carry_of restart_of) parts voices
 
 -- its next cycle was made, and its lines were written
-pub record GoesOn {L E : Type 0} (carry_of : L → Carry) (restart_of : L → Restarts) (time : ℕ) (old new : Part L) (a b : Seen) (result : Result Bool E) (v : Voice) : Type 0 where
+pub record GoesOn {L E : Type 0} (carry_of : L → Carry) (restart_of : L → Restarts) (time : ℕ) (old new : Part L) (a b : Seen)
+    (result : Result Bool E) (v : Voice) : Type 0 where
   pub at : IfOk result (λ _. IsAt carry_of restart_of new (gone_on time v v.later))
   pub written : Writes a b result (first_text v.wishes v.totals v.later)
   pub timed : IfOk result (λ timed. timed ≡ is_timed v.later)
 
 -- a moment has passed, and the lines of the cycle that begins then, if one does, were written
-pub record Passes {L E : Type 0} (carry_of : L → Carry) (restart_of : L → Restarts) (time moment : ℕ) (new : Part L) (a b : plain.Seen) (result : Result Bool E) (v : Voice) : Type 0 where
+pub record Passes {L E : Type 0} (carry_of : L → Carry) (restart_of : L → Restarts) (time moment : ℕ) (new : Part L) (a b : plain.Seen)
+    (result : Result Bool E) (v : Voice) : Type 0 where
   pub at : IfOk result (λ _. IsAt carry_of restart_of new (passed time moment v))
   pub written : plain.Writes a b result (lines_at time moment v)
   pub timed : IfOk result (λ timed. timed ≡ is_timed (begun time moment v))
 
 -- the same of all rings, one after the other
-pub record PassAll {L E : Type 0} (carry_of : L → Carry) (restart_of : L → Restarts) (time moment : ℕ) (new : List (Part L)) (a b : plain.Seen) (result : Result Bool E) (voices : List Voice) (text : List ℕ) : Type 0 where
+pub record PassAll {L E : Type 0} (carry_of : L → Carry) (restart_of : L → Restarts) (time moment : ℕ) (new : List (Part L))
+    (a b : plain.Seen) (result : Result Bool E) (voices : List Voice) (text : List ℕ) : Type 0 where
   pub at : IfOk result (λ _. AllAt carry_of restart_of new (map (passed time moment) voices))
   pub written : plain.Writes a b result text
   pub timed : IfOk result (λ timed. timed ≡ all_timed time voices moment)
 
 -- the first n rings have passed it
-pub record ArePassing {L : Type 0} (carry_of : L → Carry) (restart_of : L → Restarts) (time moment : ℕ) (parts : List (Part L)) (a b : plain.Seen) (timed : Bool) (n : ℕ) (voices : List Voice) : Type 0 where
+pub record ArePassing {L : Type 0} (carry_of : L → Carry) (restart_of : L → Restarts) (time moment : ℕ) (parts : List (Part L))
+    (a b : plain.Seen) (timed : Bool) (n : ℕ) (voices : List Voice) : Type 0 where
   pub at : AllAt carry_of restart_of parts (map (passed time moment) (take n voices) ++ drop n voices)
   pub taken : plain.HasTaken a b (flat_map (lines_at time moment) (take n voices))
   pub timed_is : timed ≡ all_timed time (take n voices) moment
@@ -69,7 +73,8 @@ IsEarliest None voices = Each (λ v. length v.later ≡ 0) voices
 IsEarliest (Some moment) voices = AreFrom moment voices × Going.Some (Begins moment) voices
 
 -- rings of which the text up to a moment is written
-pub record AreOn {L : Type 0} (carry_of : L → Carry) (restart_of : L → Restarts) (time from count : ℕ) (parts : List (Part L)) (a b : plain.Seen) (text : List ℕ) : Type 0 where
+pub record AreOn {L : Type 0} (carry_of : L → Carry) (restart_of : L → Restarts) (time from count : ℕ) (parts : List (Part L))
+    (a b : plain.Seen) (text : List ℕ) : Type 0 where
   pub voices : List Voice
   pub left : ℕ
   pub front : List ℕ

@@ -26,7 +26,8 @@ AreRuns documents = All IsRingRun documents
 
 -- so it is of an input whose 2 to 8 documents aren't refused
 abbrev pub RunsItsRings : List ℕ → Type 0
-RunsItsRings bytes = 2 ≤ length (parts_of bytes) → length (parts_of bytes) ≤ 8 → (documents : List DocumentView) → documents_from 1 (parts_of bytes) ≡ Ok documents → AreRuns documents
+RunsItsRings bytes = 2 ≤ length (parts_of bytes) → length (parts_of bytes) ≤ 8 → (documents : List DocumentView) →
+    documents_from 1 (parts_of bytes) ≡ Ok documents → AreRuns documents
 
 -- Of any two rings: a moment at which one begins a cycle, and which lies in a cycle of the other that is commanded phase 3 or 4, is the
 -- one at which that cycle begins. So the MSTs of both end together then.

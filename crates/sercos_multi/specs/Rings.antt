@@ -8,7 +8,8 @@ use Rattle.sercos_script.specs.Links.{Carry, Restarts}
 use Rattle.sercos_trace.specs.Views.{CycleView}
 
 -- a ring of a valid setup, of which these are the wishes, with the cycles that it has made
-pub record IsRingOf {R : Type 0} (stands : R → RingView → List Job → Carry → Restarts → List CycleView → Type 0) (ring : R) (w : WishesView) (j : List CycleView) : Type 0 where
+pub record IsRingOf {R : Type 0} (stands : R → RingView → List Job → Carry → Restarts → List CycleView → Type 0) (ring : R) (w : WishesView)
+    (j : List CycleView) : Type 0 where
   pub setup : RingView
   pub jobs : List Job
   pub carry : Carry

@@ -6,7 +6,6 @@ use Rattle.sercos_script.specs.Links.{Carry, Restarts}
 use Rattle.sercos_script.specs.Cuts.{has_flip}
 use Rattle.sercos_script.proofs.CutLemmas.{unflipped_only_cuts}
 use Rattle.sercos_trace.specs.Views.{CycleView}
-use Rattle.sercos_law_run.specs.Held.Opened.{IsOpened}
 use Rattle.sercos_law_run.specs.Typed.Clear.{HarmlessIsClear}
 use Rattle.sercos_law_run.specs.Headline.Headline.{Headline}
 use Rattle.sercos_law_run.specs.Headline.Once.{OnceAlways}

@@ -48,16 +48,19 @@ script_run d = run_of d.setup d.jobs (script_carry d) (script_restarts d) d.setu
 -- Each cycle of a run, up to the first undetected damage, has all its promised properties: its telegrams are apart, no drive is in too
 -- high a phase, and transfers are exact.
 abbrev pub KeepsThroughout : RingView → List Job → Carry → Restarts → List CycleView → Type 0
-KeepsThroughout r jobs carry restarts run = (later : List CycleView) (t : CycleView) (j : List CycleView) → run ≡ later ++ t ∷ j → IsClear (t ∷ j) → KeepsAll r jobs carry restarts t j
+KeepsThroughout r jobs carry restarts run = (later : List CycleView) (t : CycleView) (j : List CycleView) → run ≡ later ++ t ∷ j →
+    IsClear (t ∷ j) → KeepsAll r jobs carry restarts t j
 
 -- And in each cycle up to the first that is disturbed, the start-up goes as it should: phase 4 comes in time, or a stop for its cause.
 abbrev pub StartsThroughout : RingView → List Job → Carry → Restarts → List CycleView → Type 0
-StartsThroughout r jobs carry restarts run = (later : List CycleView) (t : CycleView) (j : List CycleView) → run ≡ later ++ t ∷ j → NeverDisturbed r carry restarts (t ∷ j) → StartsUp r jobs carry restarts t j
+StartsThroughout r jobs carry restarts run = (later : List CycleView) (t : CycleView) (j : List CycleView) → run ≡ later ++ t ∷ j →
+    NeverDisturbed r carry restarts (t ∷ j) → StartsUp r jobs carry restarts t j
 
 -- And in each cycle up to the first undetected damage, regardless of losses and restarts: once no cycle is disturbed any more, the ring
 -- is back in time.
 abbrev pub RecoversThroughout : RingView → List Job → Carry → Restarts → List CycleView → Type 0
-RecoversThroughout r jobs carry restarts run = (later : List CycleView) (t : CycleView) (j : List CycleView) → run ≡ later ++ t ∷ j → IsClear (t ∷ j) → RecoversIn r jobs carry restarts t j
+RecoversThroughout r jobs carry restarts run = (later : List CycleView) (t : CycleView) (j : List CycleView) → run ≡ later ++ t ∷ j →
+    IsClear (t ∷ j) → RecoversIn r jobs carry restarts t j
 
 -- And while faults go on: in each such cycle the ring bears them, as long as the disturbed cycles are sparse.
 abbrev pub BearsThroughout : RingView → List Job → Carry → Restarts → List CycleView → Type 0
@@ -73,7 +76,8 @@ ReturnsThroughout r jobs carry restarts run = (later : List CycleView) (t : Cycl
 -- And in each such cycle the planner's answer to the ring's requirements predicts the run: the plan or the chain that is reported, how far
 -- the ring may rise, and the cause of a stop.
 abbrev pub PredictsThroughout : RingView → List CycleView → Type 0
-PredictsThroughout r run = (later : List CycleView) (t : CycleView) (j : List CycleView) → run ≡ later ++ t ∷ j → IsClear (t ∷ j) → IsPredicted r t
+PredictsThroughout r run = (later : List CycleView) (t : CycleView) (j : List CycleView) → run ≡ later ++ t ∷ j → IsClear (t ∷ j) →
+    IsPredicted r t
 
 -- In each cycle, whatever arrived, the requests that end in it are reported in the order of the file, and none a second time.
 abbrev pub OnceThroughout : List CycleView → Type 0
@@ -81,11 +85,13 @@ OnceThroughout run = (later : List CycleView) (t : CycleView) (j : List CycleVie
 
 -- In each cycle, whatever arrived, each drive's data are fit for its phase, and it rises and goes to phase 0 for its causes alone.
 abbrev pub DrivesThroughout : RingView → Carry → Restarts → List CycleView → Type 0
-DrivesThroughout r carry restarts run = (later : List CycleView) (t : CycleView) (j : List CycleView) → run ≡ later ++ t ∷ j → DrivesArePlain r carry restarts t j
+DrivesThroughout r carry restarts run = (later : List CycleView) (t : CycleView) (j : List CycleView) → run ≡ later ++ t ∷ j →
+    DrivesArePlain r carry restarts t j
 
 -- In each cycle, whatever arrived, a fall that is reported has its cause.
 abbrev pub FallsThroughout : RingView → List Job → Carry → Restarts → List CycleView → Type 0
-FallsThroughout r jobs carry restarts run = (later : List CycleView) (t : CycleView) (j : List CycleView) → run ≡ later ++ t ∷ j → FallsForCause r jobs carry restarts t j
+FallsThroughout r jobs carry restarts run = (later : List CycleView) (t : CycleView) (j : List CycleView) → run ≡ later ++ t ∷ j →
+    FallsForCause r jobs carry restarts t j
 
 -- And in each cycle up to the first undetected damage, at most one drive sends with phase 0, 1 or 2 commanded.
 abbrev pub AloneThroughout : List CycleView → Type 0
@@ -123,4 +129,5 @@ OpensIfTyped = (r : RingView) (jobs : List Job) → is_ring r ≡ true
 
 -- All this holds of a ring that may be opened with its requests, over any link, and for each number of cycles.
 abbrev pub OpenedIsKept : Type 0
-OpenedIsKept = (r : RingView) (jobs : List Job) (carry : Carry) (restarts : Restarts) (cycles : ℕ) → IsOpened r jobs → IsKept r jobs carry restarts (run_of r jobs carry restarts cycles)
+OpenedIsKept = (r : RingView) (jobs : List Job) (carry : Carry) (restarts : Restarts) (cycles : ℕ) → IsOpened r jobs →
+    IsKept r jobs carry restarts (run_of r jobs carry restarts cycles)

@@ -99,7 +99,8 @@ ended_if false end = None
 -- The sum and the bound of 8, 9 or 10 after the last link: 9 follows a link to T2, 8 the same
 -- drive's link to T3, and 10 follows no link.
 abbrev pub ends : WishesView → Option Inequality → ℕ → Option Link → Option (ℕ × ℕ)
-ends w (Some NextMst) drive (Some l) = ended_if (is_t2 (moment_of (of_number l.rule))) (option_map (λ s. (sum_9 w l.at s, bound_9 w)) (pause_of w drive))
+ends w (Some NextMst) drive (Some l) = ended_if (is_t2 (moment_of (of_number l.rule)))
+    (option_map (λ s. (sum_9 w l.at s, bound_9 w)) (pause_of w drive))
 ends w (Some Cycle) drive (Some l) = ended_if (is_t3 (moment_of (of_number l.rule)) && (drive == l.drive)) (Some (l.at, w.rate * w.cycle))
 ends w (Some Capture) drive None = option_map (λ k. (w.rate * (times w k).t4min, w.rate * w.cycle)) (head_of (up_to w drive (sent w)))
 ends w rule drive from = None
@@ -117,7 +118,8 @@ gives w (Some asked) time = time == w.rate * round_up w.rate asked
 
 abbrev pub are_linked : WishesView → Option Link → List Link → Bool
 are_linked w from [] = true
-are_linked w from (l ∷ links) = gives w (asked_after w (of_number l.rule) from (up_to w l.drive (sent w))) l.at && are_linked w (Some l) links
+are_linked w from (l ∷ links) = gives w (asked_after w (of_number l.rule) from (up_to w l.drive (sent w))) l.at &&
+    are_linked w (Some l) links
 
 -- the AT at an index of the order, with those before it
 abbrev pub ats_at : List ℕ → Option ℕ → List ℕ

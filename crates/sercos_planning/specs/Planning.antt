@@ -19,11 +19,13 @@ use Rattle.sercos_planning.specs.LeastTimes.{IsLeastChain}
 
 -- the times of all drives, and the length of the MDT
 unfoldable pub plan_line : PlanView → List ℕ
-plan_line p = two_numbers (codes "plan t2 ") p.t2 (codes " t3 ") p.t3 ++ two_numbers (codes " t4 ") p.t4 (codes " mdt ") p.mdt_len ++ line_feed
+plan_line p = two_numbers (codes "plan t2 ") p.t2 (codes " t3 ") p.t3 ++ two_numbers (codes " t4 ") p.t4 (codes " mdt ") p.mdt_len ++
+    line_feed
 
 -- the time slot of the drive at a place of the ring
 unfoldable pub slot_line : WishesView → PlanView → ℕ → List ℕ
-slot_line w p k = two_numbers (codes "slot ") (wish w k).address (codes " t1 ") (slice_index p.t1 k) ++ codes " position " ++ decimal (slice_index p.position k) ++ line_feed
+slot_line w p k = two_numbers (codes "slot ") (wish w k).address (codes " t1 ") (slice_index p.t1 k) ++ codes " position " ++
+    decimal (slice_index p.position k) ++ line_feed
 
 -- the time slots of the first n drives
 unfoldable pub slot_lines : WishesView → PlanView → ℕ → List ℕ
@@ -38,7 +40,8 @@ unfoldable pub link_line : Link → List ℕ
 link_line l = two_numbers (codes "rule ") l.rule (codes " drive ") l.drive ++ codes " at " ++ decimal l.at ++ line_feed
 
 unfoldable pub end_line : ChainView → List ℕ
-end_line c = two_numbers (codes "rule ") c.rule (codes " drive ") c.drive ++ two_numbers (codes " sum ") c.sum (codes " bound ") c.bound ++ line_feed
+end_line c = two_numbers (codes "rule ") c.rule (codes " drive ") c.drive ++ two_numbers (codes " sum ") c.sum (codes " bound ") c.bound ++
+    line_feed
 
 unfoldable pub chain_text : ChainView → List ℕ
 chain_text c = codes "no plan" ++ line_feed ++ flat_map link_line c.links ++ end_line c

@@ -23,7 +23,7 @@ use Rattle.sercos_script.specs.declared.link.Passage.{Passage}
 use Rattle.sercos_script.specs.Links.{Carry, Restarts}
 use Rattle.sercos_law_run.specs.Journal.Arrivals.{arrival, content_in, heard, passage, is_disturbed, disturbed_at, any_below, are_same}
 use Rattle.sercos_law_run.specs.Journal.Records.{mst_in, ats_in, mdt_in}
-use Rattle.sercos_law_run.specs.Journal.Runs.{drive_at, no_drive, with_restart, mdt_heard, station_of, station_from, sent_at, sent_mst, sent_mdt, inserted, with_said, said_below, ats_said, contents, given_mst, given_before, begins, middle, begin_calls, own_mst, is_disturbed_in, disturbs_mst, disturbs_mdt, disturbs_ats, mst_next, ats_next, mdt_next, IsNext, IsRun}
+use Rattle.sercos_law_run.specs.Journal.Runs.{drive_at, with_restart, mdt_heard, station_of, station_from, sent_at, sent_mst, sent_mdt, inserted, with_said, said_below, ats_said, contents, given_mst, begins, middle, own_mst, is_disturbed_in, disturbs_mst, disturbs_mdt, disturbs_ats, mst_next, ats_next, mdt_next, IsNext, IsRun}
 use Rattle.sercos_law_run.specs.Journal.Runs as journal
 use Rattle.sercos_law_run.specs.Views.Spelled.{IsSaid, IsWhole, IsSpelled}
 use Rattle.sercos_law_run.proofs.Theorems.{same_bits, ats_in-said, mdt_in-said, station_found, drives_so, AreSaid, all_said, said_address}

@@ -80,10 +80,12 @@ DriveReplayHasFinished v d rate lines = DriveEndsIn v d rate (cycles_of lines)
 
 -- after a line, and after the end
 pub record DriveAfterLine (old : DriveReplay) (l : Line) (new : DriveReplay) : Type 0 where
-  pub stands : (d : DriveView) (rate : ℕ) (lines : List Line) → DriveReplayStandsFor old d rate lines → GoesOn lines l → DriveReplayStandsFor new d rate (l ∷ lines)
+  pub stands : (d : DriveView) (rate : ℕ) (lines : List Line) → DriveReplayStandsFor old d rate lines → GoesOn lines l →
+      DriveReplayStandsFor new d rate (l ∷ lines)
 
 pub record DriveAfterEnd (old new : DriveReplay) : Type 0 where
-  pub finished : (d : DriveView) (rate : ℕ) (lines : List Line) → (DriveReplayStandsFor old d rate lines ⊎ DriveReplayHasFinished old d rate lines) →
+  pub finished : (d : DriveView) (rate : ℕ) (lines : List Line) →
+      (DriveReplayStandsFor old d rate lines ⊎ DriveReplayHasFinished old d rate lines) →
       DriveReplayHasFinished new d rate lines
 
 -- THE MASTER is there, and stands for its calls.
@@ -131,8 +133,10 @@ MasterReplayHasFinished v s jobs lines = MasterEndsIn v s jobs (cycles_of lines)
 
 -- after a line, and after the end
 pub record MasterAfterLine (old : MasterReplay) (l : Line) (new : MasterReplay) : Type 0 where
-  pub stands : (s : Known) (jobs : List Job) (lines : List Line) → MasterReplayStandsFor old s jobs lines → MasterReplayStandsFor new s jobs (l ∷ lines)
+  pub stands : (s : Known) (jobs : List Job) (lines : List Line) → MasterReplayStandsFor old s jobs lines →
+      MasterReplayStandsFor new s jobs (l ∷ lines)
 
 pub record MasterAfterEnd (old new : MasterReplay) : Type 0 where
-  pub finished : (s : Known) (jobs : List Job) (lines : List Line) → (MasterReplayStandsFor old s jobs lines ⊎ MasterReplayHasFinished old s jobs lines) →
+  pub finished : (s : Known) (jobs : List Job) (lines : List Line) →
+      (MasterReplayStandsFor old s jobs lines ⊎ MasterReplayHasFinished old s jobs lines) →
       MasterReplayHasFinished new s jobs lines

@@ -33,7 +33,8 @@ FitLines j = All (λ (t : CycleView). All (FitsLine t.cycle) t.sent) j
 -- The trace of a journal is read back as the telegrams of its cycles, regardless of its other
 -- lines.
 abbrev pub ReadsTraces : Type 0
-ReadsTraces = (w : WishesView) (j : List CycleView) (t : Totals) → FitLines j → telegrams (lines_read (trace_of w (reverse j) t)) ≡ telegrams (lines_of j)
+ReadsTraces = (w : WishesView) (j : List CycleView) (t : Totals) → FitLines j →
+    telegrams (lines_read (trace_of w (reverse j) t)) ≡ telegrams (lines_of j)
 
 -- A journal is a run of a document's contents, and the numbers of its telegrams fit their lines.
 pub record IsTraced (d : DocumentView) (carry : Carry) (restarts : Restarts) (j : List CycleView) : Type 0 where
@@ -45,5 +46,7 @@ pub record IsTraced (d : DocumentView) (carry : Carry) (restarts : Restarts) (j 
 
 -- The first place that differs in the trace of such a run is in no cycle before the first disturbed one, for every station.
 abbrev pub TracesDiffer : Type 0
-TracesDiffer = (address : ℕ) (d : DocumentView) (s : Station) (carry : Carry) (restarts : Restarts) (j : List CycleView) (t : Totals) (place : PlaceView) → station_of address d ≡ Some s →
-    IsTraced d carry restarts j → station_differs s (cycles_in (trace_of (wishes_of d.setup) (reverse j) t)) ≡ Some place → IsNoEarlier d.setup carry restarts j place
+TracesDiffer = (address : ℕ) (d : DocumentView) (s : Station) (carry : Carry) (restarts : Restarts) (j : List CycleView) (t : Totals)
+    (place : PlaceView) → station_of address d ≡ Some s →
+    IsTraced d carry restarts j → station_differs s (cycles_in (trace_of (wishes_of d.setup) (reverse j) t)) ≡ Some place →
+    IsNoEarlier d.setup carry restarts j place

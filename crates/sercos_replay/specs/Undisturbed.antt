@@ -25,9 +25,11 @@ pub record IsCaptured (d : DocumentView) (carry : Carry) (restarts : Restarts) (
 -- part is disturbed, the place is after that part.
 pub record IsNoEarlier (r : RingView) (carry : Carry) (restarts : Restarts) (j : List CycleView) (place : PlaceView) : Type 0 where
   pub within : place.cycle < length j
-  pub late : (later earlier : List CycleView) → j ≡ later ++ earlier → NeverDisturbed r carry restarts earlier → length earlier ≤ place.cycle
+  pub late : (later earlier : List CycleView) → j ≡ later ++ earlier → NeverDisturbed r carry restarts earlier →
+      length earlier ≤ place.cycle
 
 -- So is the first place that differs, for every station, over every link, regardless of losses, restarts and undetected damage.
 abbrev pub CapturesDiffer : Type 0
-CapturesDiffer = (address : ℕ) (d : DocumentView) (s : Station) (capture : List ℕ) (carry : Carry) (restarts : Restarts) (j : List CycleView) (place : PlaceView) → station_of address d ≡ Some s →
+CapturesDiffer = (address : ℕ) (d : DocumentView) (s : Station) (capture : List ℕ) (carry : Carry) (restarts : Restarts)
+    (j : List CycleView) (place : PlaceView) → station_of address d ≡ Some s →
     IsCaptured d carry restarts j capture → station_differs s (cycles_in capture) ≡ Some place → IsNoEarlier d.setup carry restarts j place

@@ -46,7 +46,8 @@ HasMaster (Some master) s jobs h = AnyStandsFor master s jobs h
 -- The state of a ring over a link after its opening with these arguments, and after the cycles of a
 -- journal, the newest first. The journal is a run, and the link, the drives and the master are as
 -- they are after it. `carry_of` and `restart_of` are the link's meanings.
-pub record RingStandsFor {L : Type 0} (carry_of : L → Carry) (restart_of : L → Restarts) (ring : Ring L) (r : RingView) (jobs : List Job) (carry : Carry) (restarts : Restarts)
+pub record RingStandsFor {L : Type 0} (carry_of : L → Carry) (restart_of : L → Restarts) (ring : Ring L) (r : RingView) (jobs : List Job)
+    (carry : Carry) (restarts : Restarts)
     (j : List CycleView) : Type 0 where
   pub valid : is_ring r ≡ true
   pub run : IsRun r jobs carry restarts j
@@ -77,18 +78,21 @@ pub record IsNextOf {L : Type 0} (carry_of : L → Carry) (restart_of : L → Re
 -- and nothing was undetected so far.
 pub record KeepsAllOf {L : Type 0} (carry_of : L → Carry) (restart_of : L → Restarts) (ring : Ring L) (made : CycleView) : Type 0 where
   pub keeps : (r : RingView) (jobs : List Job) (carry : Carry) (restarts : Restarts) (j : List CycleView)
-      → RingStandsFor carry_of restart_of ring r jobs carry restarts j → IsOpened r jobs → IsClear (made ∷ j) → KeepsAll r jobs carry restarts made j
+      → RingStandsFor carry_of restart_of ring r jobs carry restarts j → IsOpened r jobs → IsClear (made ∷ j) →
+      KeepsAll r jobs carry restarts made j
 
 -- And what is true of it if no cycle of the run was disturbed so far.
 pub record StartsUpOf {L : Type 0} (carry_of : L → Carry) (restart_of : L → Restarts) (ring : Ring L) (made : CycleView) : Type 0 where
   pub starts : (r : RingView) (jobs : List Job) (carry : Carry) (restarts : Restarts) (j : List CycleView)
-      → RingStandsFor carry_of restart_of ring r jobs carry restarts j → IsOpened r jobs → NeverDisturbed r carry restarts (made ∷ j) → StartsUp r jobs carry restarts made j
+      → RingStandsFor carry_of restart_of ring r jobs carry restarts j → IsOpened r jobs → NeverDisturbed r carry restarts (made ∷ j) →
+      StartsUp r jobs carry restarts made j
 
 -- And what is true of it regardless of losses and restarts, if nothing was undetected so far: once
 -- no further cycle is disturbed, the ring is back in time.
 pub record RecoversOf {L : Type 0} (carry_of : L → Carry) (restart_of : L → Restarts) (ring : Ring L) (made : CycleView) : Type 0 where
   pub recovers : (r : RingView) (jobs : List Job) (carry : Carry) (restarts : Restarts) (j : List CycleView)
-      → RingStandsFor carry_of restart_of ring r jobs carry restarts j → IsOpened r jobs → IsClear (made ∷ j) → RecoversIn r jobs carry restarts made j
+      → RingStandsFor carry_of restart_of ring r jobs carry restarts j → IsOpened r jobs → IsClear (made ∷ j) →
+      RecoversIn r jobs carry restarts made j
 
 -- And what is true of its drives and of the master's falls, regardless of what arrived; and of the
 -- ATs, if nothing was undetected so far.
@@ -104,7 +108,8 @@ pub record StationsOf {L : Type 0} (carry_of : L → Carry) (restart_of : L → 
 -- disturbed cycles are sparse, the ring tolerates them.
 pub record BearsOf {L : Type 0} (carry_of : L → Carry) (restart_of : L → Restarts) (ring : Ring L) (made : CycleView) : Type 0 where
   pub bears : (r : RingView) (jobs : List Job) (carry : Carry) (restarts : Restarts) (j : List CycleView)
-      → RingStandsFor carry_of restart_of ring r jobs carry restarts j → IsOpened r jobs → IsClear (made ∷ j) → BearsIn r jobs carry restarts made j
+      → RingStandsFor carry_of restart_of ring r jobs carry restarts j → IsOpened r jobs → IsClear (made ∷ j) →
+      BearsIn r jobs carry restarts made j
 
 -- And what is true of it after faults that aren't sparse, while sparse ones go on: at most one fall
 -- follows the last of them, and the ring is back in time.

@@ -17,7 +17,8 @@ use Rattle.sercos_ring.specs.Stations.{AllStand, addresses_below}
 -- addresses; the drives and the master. All are as they are after the ring's opening with these
 -- arguments, and after its cycles, the newest first.
 pub record PartsStandFor (carries : Carry) (restarting : Restarts) (cycle rate : ℕ)
-    (addresses : List ℕ) (drives : List DriveState) (master : AnyMaster) (r : RingView) (jobs : List Job) (carry : Carry) (restarts : Restarts) (j : List CycleView) : Type 0 where
+    (addresses : List ℕ) (drives : List DriveState) (master : AnyMaster) (r : RingView) (jobs : List Job) (carry : Carry)
+    (restarts : Restarts) (j : List CycleView) : Type 0 where
   pub carry_is : carries ≡ carry
   pub restarts_is : restarting ≡ restarts
   pub cycle_is : cycle ≡ length j

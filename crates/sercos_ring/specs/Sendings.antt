@@ -27,7 +27,8 @@ said_by d rate h (t ∷ turns) = with_first (drive_says (d t.place) rate (h t.pl
 pub record AreSent (r : RingView) (carry : Carry) (cycle rate : ℕ)
     (ats : List Said) (before after : List SentView) (old new : AnyMaster) (unseen : ℕ) : Type 0 where
   pub sent : after ≡ before ++ ats_said rate ats
-  pub heard : (s : Known) (jobs : List Job) (h : List Call) → AnyStandsFor old s jobs h → AnyStandsFor new s jobs (at_calls r carry cycle (contents ats) h)
+  pub heard : (s : Known) (jobs : List Job) (h : List Call) → AnyStandsFor old s jobs h →
+      AnyStandsFor new s jobs (at_calls r carry cycle (contents ats) h)
   pub count : unseen ≡ unseen_ats r carry cycle (contents ats)
 
 -- the drive at each of these turns sends something, and its address is that of its station

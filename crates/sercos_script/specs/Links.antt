@@ -24,7 +24,8 @@ never_restarts cycle station = false
 -- In a cycle a link doesn't change the telegram of a kind that a station sends: it arrives at each
 -- station as it was sent.
 abbrev pub IsQuiet : Carry → ℕ → Kind → ℕ → Type 0
-IsQuiet carry cycle kind from = (p : Passage) (bits : List Bool) → p.cycle ≡ cycle → p.kind ≡ kind → p.from ≡ from → carry p bits ≡ Some bits
+IsQuiet carry cycle kind from = (p : Passage) (bits : List Bool) → p.cycle ≡ cycle → p.kind ≡ kind → p.from ≡ from →
+    carry p bits ≡ Some bits
 
 -- One link after another: the second receives what the first lets through. If the first lets
 -- nothing through, nothing arrives.

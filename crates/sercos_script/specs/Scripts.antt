@@ -69,7 +69,8 @@ links_between stations from to = (if to == 0 then stations + 1 else to) - from
 -- path.
 abbrev pub carried_by : ℕ → List Fault → Passage → List Bool → Option (List Bool)
 carried_by stations faults p bits =
-    if list_any (λ (f : Fault). is_deaf p.to f.damage) faults then None else over_links faults p.from (links_between stations p.from p.to) bits
+    if list_any (λ (f : Fault). is_deaf p.to f.damage) faults then None
+    else over_links faults p.from (links_between stations p.from p.to) bits
 
 -- What arrives under a script: only the faults that concern the passage act on it.
 unfoldable pub carried : ℕ → List Fault → Carry

@@ -75,7 +75,8 @@ writes s p k =
 abbrev pub checking : ℕ → ℕ → ℕ → Option Outcome → List Task → List Task
 checking phase command list None next = startup phase (request.Command (idn command)) ∷ []
 checking phase command list (Some o) next =
-    startup phase (request.Command (idn command)) ∷ (if ended_well (bytes_of o) then next else startup phase (request.Read (idn list) data_element) ∷ [])
+    startup phase (request.Command (idn command)) ∷ (if ended_well (bytes_of o) then next
+    else startup phase (request.Read (idn list) data_element) ∷ [])
 
 -- The indices of the two checks among the tasks. That for phase 3 follows the reads and the eleven
 -- writes, and that for phase 4 is the next task.

@@ -222,7 +222,8 @@ seen_with_status identifies status word x = if identifies then identified_in x e
 -- the telegrams of a drive after a content was received
 abbrev pub at_in : Bool → ℕ → ℕ → List ℕ → Seen → Seen
 at_in identifies address wanted content x =
-    if not x.heard && is_none (at_fault address wanted content) then seen_with_status identifies (status_of (word_at content 1)) (word_at content 3) x else x
+    if not x.heard && is_none (at_fault address wanted content)
+    then seen_with_status identifies (status_of (word_at content 1)) (word_at content 3) x else x
 
 -- the length of a telegram after the address, in bytes, by the attributes that were read
 abbrev pub long_of : Words → ℕ
@@ -268,7 +269,16 @@ cycles_kept v = unwrap_or v.channel.age 0
 
 -- the telegrams of a drive when an epoch begins
 abbrev pub nothing_seen : List Task → Seen
-nothing_seen waiting = record { calls = []; tasks = []; heard = false; missed = false; identified = false; report = None; stopped = false; waiting = waiting }
+nothing_seen waiting = record {
+  calls = [];
+  tasks = [];
+  heard = false;
+  missed = false;
+  identified = false;
+  report = None;
+  stopped = false;
+  waiting = waiting;
+}
 
 abbrev pub forgotten : Seen → Seen
 forgotten x = nothing_seen (left_in x)

@@ -21,12 +21,20 @@ pub record Processed : Type 0 where
 
 -- a record by its step
 abbrev pub processed_step : ℕ → ℕ → Bool → Step → List Block → CommandHistory → Processed
-processed_step cycle phase mhs step blocks commands = record { cycle = cycle; phase = phase; mhs = mhs; step = step; blocks = blocks; commands = commands }
+processed_step cycle phase mhs step blocks commands = record {
+  cycle = cycle;
+  phase = phase;
+  mhs = mhs;
+  step = step;
+  blocks = blocks;
+  commands = commands;
+}
 
 -- a record by its control word and its information word
 abbrev pub processed_record : ℕ → ℕ → Control → ℕ → List Block → CommandHistory → Processed
 processed_record cycle phase control info blocks commands =
-    processed_step cycle phase control.mhs (record { write = control.write; last = control.last; element = control.element; word = info }) blocks commands
+    processed_step cycle phase control.mhs (record { write = control.write; last = control.last; element = control.element; word = info })
+    blocks commands
 
 -- the acknowledge bit AHS: the handshake bit of the last record that was processed; 0 before the
 -- first

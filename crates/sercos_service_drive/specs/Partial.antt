@@ -20,7 +20,8 @@ use Rattle.sercos_service_drive.specs.Kept.{SessionView, IsMidway, IsAnswered}
 unfoldable pub length_cause : Attribute → ℕ → Bool → ℕ → ℕ → Option ℕ
 length_cause a most last count first =
     option_or (then_some (last && nat_lt count (words_by a first)) 0x7002)
-    (option_or (then_some ((is_list a.length && ((count == 1) && nat_lt most first)) || (not last && nat_le (words_by a first) count)) 0x7003)
+    (option_or (then_some ((is_list a.length && ((count == 1) && nat_lt most first)) || (not last && nat_le (words_by a first) count))
+    0x7003)
     (then_some (is_list a.length && ((count == 1) && not (first % item_len a.length == 0))) 0x7008))
 
 -- the same, with the codes for which the block can't be written before it
@@ -50,8 +51,10 @@ write_by false code w = None
 
 -- The effect of a word of operation data, if with it the run has these words: the code against it,
 -- if there is one; otherwise the buffer has its bytes, and the last word writes them.
-pub record IsWord (raw cycle phase : ℕ) (b : Block) (last : Bool) (words : List ℕ) (code : Option ℕ) (buffer : List ℕ) (blocks blocks' : List Block) (commands commands' : CommandsView) : Type 0 where
+pub record IsWord (raw cycle phase : ℕ) (b : Block) (last : Bool) (words : List ℕ) (code : Option ℕ) (buffer : List ℕ)
+    (blocks blocks' : List Block) (commands commands' : CommandsView) : Type 0 where
   pub code_is : code ≡ write_cause b phase last words
   pub buffer_is : code ≡ None → buffer ≡ bytes_in words
   pub midway : code ≡ None → last ≡ false → IsMidway b words
-  pub effect : IsEffect (write_by last code (record { cycle = cycle; raw = raw; bytes = bytes_written b words })) cycle blocks blocks' commands commands'
+  pub effect : IsEffect (write_by last code (record { cycle = cycle; raw = raw; bytes = bytes_written b words })) cycle blocks blocks'
+      commands commands'

@@ -53,7 +53,8 @@ element_words e cycle b =
 -- otherwise those of the element at that moment
 abbrev pub words_at : ℕ → ℕ → ℕ → List Block → CommandHistory → List ℕ
 words_at raw e cycle blocks commands =
-    if e == identifier_element then status_in commands raw cycle ∷ [] else unwrap_or (option_map (element_words e cycle) (find_block raw blocks)) []
+    if e == identifier_element then status_in commands raw cycle ∷ []
+    else unwrap_or (option_map (element_words e cycle) (find_block raw blocks)) []
 
 -- the words that this selection copies
 abbrev pub copy : ℕ → Processed → List ℕ
@@ -100,7 +101,8 @@ is_uneven b words = is_list b.attribute.length && (is_first_word words && not (s
 -- last word
 abbrev pub is_no_command_value : Block → Bool → List ℕ → Bool
 is_no_command_value b last words =
-    b.attribute.command && (last && not ((bits_in b.attribute (bytes_written b words) == to_cancel) || (bits_in b.attribute (bytes_written b words) == to_set)))
+    b.attribute.command &&
+    (last && not ((bits_in b.attribute (bytes_written b words) == to_cancel) || (bits_in b.attribute (bytes_written b words) == to_set)))
 
 -- The first code for which a word of operation data is refused: the block is fixed (0x7004), at the
 -- first word; it is write protected in the phase of the step (0x7005), at any word; the last word
@@ -130,7 +132,8 @@ write_cause_in (Some b) phase last words = write_cause b phase last words
 abbrev pub reply_on : ℕ → Processed → List Processed → Answer
 reply_on raw t run =
     if t.step.write
-    then answer_by (if t.step.element == data_element then write_cause_in (find_block raw t.blocks) t.phase t.step.last (in_order run (t.step.word ∷ []))
+    then answer_by (if t.step.element == data_element
+    then write_cause_in (find_block raw t.blocks) t.phase t.step.last (in_order run (t.step.word ∷ []))
     else Some (0x1000 * t.step.element + 4)) 0
     else answer_by (read_cause raw (selection t run)) (slice_index (copy raw (selection t run)) (length run))
 

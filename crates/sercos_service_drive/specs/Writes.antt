@@ -24,7 +24,8 @@ takes_effect e = e.processed.step.write && ((e.processed.step.element == data_el
 -- the write of the words of a run
 abbrev pub written_by : Processed → List Processed → ℕ → Option Write
 written_by t run raw =
-    option_map (λ (b : Block). record { cycle = t.cycle; raw = raw; bytes = bytes_written b (in_order run (t.step.word ∷ [])) }) (find_block raw t.blocks)
+    option_map (λ (b : Block). record { cycle = t.cycle; raw = raw; bytes = bytes_written b (in_order run (t.step.word ∷ [])) })
+    (find_block raw t.blocks)
 
 -- the write that an entry adds after these
 abbrev pub added_by : Entry → List Entry → Option Write
@@ -53,7 +54,8 @@ command_value w = from_le_bytes w16 w.bytes
 abbrev pub blocks_with : Option Write → CommandHistory → List Block → List Block
 blocks_with None c blocks = blocks
 blocks_with (Some w) c blocks =
-    if is_command blocks w.raw then with_check_list c w.raw (command_value w) (with_data w.raw w.bytes blocks) else with_data w.raw w.bytes blocks
+    if is_command blocks w.raw then with_check_list c w.raw (command_value w) (with_data w.raw w.bytes blocks)
+    else with_data w.raw w.bytes blocks
 
 -- the call that a write is for the procedure commands, with the blocks before it
 abbrev pub call_of : Write → List Block → CommandCall

@@ -1,6 +1,6 @@
--- The lines of `show`: `KIND COUNT HEX` with single spaces. KIND is `raw`, `mst`, `single` or `at`. COUNT is a number of bits in decimal digits without
--- leading zeros, at most 19696. HEX has two digits of either case for each eight bits begun, the first bit being the
--- least significant one of the first byte; bits past the last one are zeros. For no bits HEX is `-`.
+-- The lines of `show`: `KIND COUNT HEX` with single spaces. KIND is `raw`, `mst`, `single` or `at`. COUNT is a number of bits in decimal
+-- digits without leading zeros, at most 19696. HEX has two digits of either case for each eight bits begun, the first bit being the least
+-- significant one of the first byte; bits past the last one are zeros. For no bits HEX is `-`.
 use Rattle.std.specs.Prelude.{ℕ, ◌+◌, ◌-◌, ◌*◌, ◌/◌, ◌^◌, ◌==◌, nat_eq, nat_lt, nat_le, max, Bool, not, if◌then◌else◌, List, [], ◌∷◌, length, take, drop, slice_index, codes, Option, Some, None}
 use Rattle.std.specs.Bool.{then_some}
 use Rattle.std.specs.Char.{is_ascii_hexdigit}

@@ -27,7 +27,9 @@ HasDigit line place = is_ascii_hexdigit (slice_index line place) ≡ true
 -- line ends at the place, and is incomplete. There are two exceptions. A COUNT that is too large is refused at its first digit.
 -- A pair of digits is refused at its first digit if only its second one shows that bits after the last one aren't zeros.
 pub data IsRefusedAt (line : List ℕ) : ℕ → Type 0 where
-  at_byte : (place : ℕ) → place < length line → BeginsLine (take place line) → (BeginsLine (take (suc place) line) → ⊥) → IsRefusedAt line place
+  at_byte : (place : ℕ) → place < length line → BeginsLine (take place line) → (BeginsLine (take (suc place) line) → ⊥) →
+      IsRefusedAt line place
   at_end : BeginsLine line → ((kind : LineKind) (bits : List Bool) → IsLine kind line bits → ⊥) → IsRefusedAt line (length line)
   too_large : (kind : LineKind) → IsLarge kind line → BeginsLine (kind_text kind) → IsRefusedAt line (length (kind_text kind))
-  in_pair : (place : ℕ) → HasDigit line place → HasDigit line (suc place) → BeginsLine (take (suc place) line) → (BeginsLine (take (suc (suc place)) line) → ⊥) → IsRefusedAt line place
+  in_pair : (place : ℕ) → HasDigit line place → HasDigit line (suc place) → BeginsLine (take (suc place) line) →
+      (BeginsLine (take (suc (suc place)) line) → ⊥) → IsRefusedAt line place

@@ -24,12 +24,15 @@ polls (status ∷ words) = 1 + (if status == running_status then polls words els
 -- cancelling.
 abbrev pub count_of : Request → List ℕ → ℕ
 count_of (request.Read idn e) words = steps_before e + words_in (shape_of e (attribute_read e words)) (slice_index words (steps_before e))
-count_of (request.Write idn e bytes) words = if e == data_element then 3 + length (words_told (shape_of data_element (attribute_read data_element words)) bytes) else 1 + length (words_told (shape_of e 0) bytes)
+count_of (request.Write idn e bytes) words = if e == data_element
+    then 3 + length (words_told (shape_of data_element (attribute_read data_element words)) bytes)
+    else 1 + length (words_told (shape_of e 0) bytes)
 count_of (request.Command idn) words = 3 + polls (drop 2 words)
 
 -- a complete transfer has exactly this number of answers
 abbrev pub CountsAnswers : Type 0
-CountsAnswers = (r : Request) (h : List Answer) (bytes : List ℕ) → AreAnswers r h → outcome_of r h ≡ Some (outcome.Complete bytes) → length h ≡ count_of r (answer_words h)
+CountsAnswers = (r : Request) (h : List Answer) (bytes : List ℕ) → AreAnswers r h → outcome_of r h ≡ Some (outcome.Complete bytes) →
+    length h ≡ count_of r (answer_words h)
 
 -- any transfer has at most this number
 abbrev pub HasAtMost : Type 0
@@ -42,34 +45,43 @@ AttributeTakes = (idn : Idn) (h : List Answer) → AreAnswers (request.Read idn 
 -- A read of a minimum, a maximum or operation data has at most four answers if its attribute has a
 -- length of one word. The attribute is known after three answers.
 abbrev pub ValueTakes : Type 0
-ValueTakes = (idn : Idn) (e : ℕ) (h : List Answer) → minimum_element ≤ e → AreAnswers (request.Read idn e) h → (3 ≤ length h → shape_of e (attribute_read e (answer_words h)) ≡ shape.One) → length h ≤ 4
+ValueTakes = (idn : Idn) (e : ℕ) (h : List Answer) → minimum_element ≤ e → AreAnswers (request.Read idn e) h →
+    (3 ≤ length h → shape_of e (attribute_read e (answer_words h)) ≡ shape.One) → length h ≤ 4
 
 -- A read of operation data has at most 5 + k answers if its attribute is that of a list, and the
 -- list has at most 2k bytes by its first word.
 abbrev pub ListTakes : Type 0
-ListTakes = (idn : Idn) (k : ℕ) (h : List Answer) → AreAnswers (request.Read idn data_element) h → (3 ≤ length h → shape_of data_element (attribute_read data_element (answer_words h)) ≡ shape.List) → slice_index (answer_words h) 3 ≤ 2 * k → length h ≤ 5 + k
+ListTakes = (idn : Idn) (k : ℕ) (h : List Answer) → AreAnswers (request.Read idn data_element) h →
+    (3 ≤ length h → shape_of data_element (attribute_read data_element (answer_words h)) ≡ shape.List) →
+    slice_index (answer_words h) 3 ≤ 2 * k → length h ≤ 5 + k
 
 -- A write of at most two bytes to operation data of one word has at most four answers.
 abbrev pub ValueWriteTakes : Type 0
-ValueWriteTakes = (idn : Idn) (bytes : List ℕ) (h : List Answer) → length bytes ≤ 2 → AreAnswers (request.Write idn data_element bytes) h → (3 ≤ length h → shape_of data_element (attribute_read data_element (answer_words h)) ≡ shape.One) → length h ≤ 4
+ValueWriteTakes = (idn : Idn) (bytes : List ℕ) (h : List Answer) → length bytes ≤ 2 → AreAnswers (request.Write idn data_element bytes) h →
+    (3 ≤ length h → shape_of data_element (attribute_read data_element (answer_words h)) ≡ shape.One) → length h ≤ 4
 
 -- A write of at most 2k bytes to operation data that is a list has at most 5 + k answers.
 abbrev pub ListWriteTakes : Type 0
-ListWriteTakes = (idn : Idn) (bytes : List ℕ) (k : ℕ) (h : List Answer) → length bytes ≤ 2 * k → AreAnswers (request.Write idn data_element bytes) h → (3 ≤ length h → shape_of data_element (attribute_read data_element (answer_words h)) ≡ shape.List) → length h ≤ 5 + k
+ListWriteTakes = (idn : Idn) (bytes : List ℕ) (k : ℕ) (h : List Answer) → length bytes ≤ 2 * k →
+    AreAnswers (request.Write idn data_element bytes) h →
+    (3 ≤ length h → shape_of data_element (attribute_read data_element (answer_words h)) ≡ shape.List) → length h ≤ 5 + k
 
 -- The data statuses of a command are read a period apart, the first of them a period after the
 -- setting, or later. The command ends within a time from the setting on, so each status of a
 -- running command was read before that.
 abbrev pub EndsInTime : ℕ → ℕ → List Answer → Type 0
-EndsInTime period time h = (k : ℕ) → k < polls (drop 2 (answer_words h)) → slice_index (drop 2 (answer_words h)) k ≡ running_status → (k + 1) * period < time
+EndsInTime period time h = (k : ℕ) → k < polls (drop 2 (answer_words h)) → slice_index (drop 2 (answer_words h)) k ≡ running_status →
+    (k + 1) * period < time
 
 -- then the answers of the command, one in each period, take at most its time and four periods
 abbrev pub CommandTakes : Type 0
-CommandTakes = (idn : Idn) (period time : ℕ) (h : List Answer) → AreAnswers (request.Command idn) h → EndsInTime period time h → period * length h ≤ time + 4 * period
+CommandTakes = (idn : Idn) (period time : ℕ) (h : List Answer) → AreAnswers (request.Command idn) h → EndsInTime period time h →
+    period * length h ≤ time + 4 * period
 
 -- so there is at most one answer for each whole period of its time, and four more
 abbrev pub CommandTakesSteps : Type 0
-CommandTakesSteps = (idn : Idn) (period time : ℕ) (h : List Answer) → 0 < period → AreAnswers (request.Command idn) h → EndsInTime period time h → length h ≤ time / period + 4
+CommandTakesSteps = (idn : Idn) (period time : ℕ) (h : List Answer) → 0 < period → AreAnswers (request.Command idn) h →
+    EndsInTime period time h → length h ≤ time / period + 4
 
 -- a write has at most 1,024 bytes, and a command ends in time
 abbrev pub IsBounded : ℕ → ℕ → Request → List Answer → Type 0
@@ -79,4 +91,5 @@ IsBounded period time (request.Command idn) h = EndsInTime period time h
 
 -- such a request has at most 520 answers, and one more for each unit of the time
 abbrev pub RequestTakes : Type 0
-RequestTakes = (period time : ℕ) (r : Request) (h : List Answer) → 0 < period → AreAnswers r h → IsBounded period time r h → length h ≤ 520 + time
+RequestTakes = (period time : ℕ) (r : Request) (h : List Answer) → 0 < period → AreAnswers r h → IsBounded period time r h →
+    length h ≤ 520 + time

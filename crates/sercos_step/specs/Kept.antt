@@ -35,7 +35,8 @@ most_kept _ first = 1024
 
 -- the bytes that are kept, with those of the word at an index
 abbrev pub kept_with : Shape → ℕ → ℕ → ℕ → List ℕ → List ℕ
-kept_with shape.List place first word bytes = if nat_le 2 place then take (min first 1024) (bytes ++ (word % 256) ∷ (word / 256) ∷ []) else bytes
+kept_with shape.List place first word bytes = if nat_le 2 place then take (min first 1024) (bytes ++ (word % 256) ∷ (word / 256) ∷ [])
+    else bytes
 kept_with _ place first word bytes = take 1024 (bytes ++ (word % 256) ∷ (word / 256) ∷ [])
 
 -- what is kept after these words of an element that is read, and whether the element is complete

@@ -44,13 +44,15 @@ writing s e bytes = run true e (words_told s bytes)
 -- the two steps that read the attribute, and then the steps that depend on it and on the words that
 -- follow
 abbrev pub attribute_then : (ℕ → List ℕ → List Step) → List ℕ → List Step
-attribute_then rest (low ∷ high ∷ words) = a_step false false attribute_element 0 ∷ a_step false true attribute_element 0 ∷ rest (low + 65536 * high) words
+attribute_then rest (low ∷ high ∷ words) = a_step false false attribute_element 0 ∷ a_step false true attribute_element 0 ∷
+    rest (low + 65536 * high) words
 attribute_then rest _ = a_step false false attribute_element 0 ∷ a_step false true attribute_element 0 ∷ []
 
 -- the data status is read until it isn't that of a running command; then the command is cancelled
 abbrev pub polling : List ℕ → List Step
 polling [] = a_step false true identifier_element 0 ∷ []
-polling (status ∷ words) = a_step false true identifier_element 0 ∷ (if status == running_status then polling words else a_step true true data_element to_cancel ∷ [])
+polling (status ∷ words) = a_step false true identifier_element 0 ∷ (if status == running_status then polling words
+    else a_step true true data_element to_cancel ∷ [])
 
 -- whether a read of an element reads the attribute first: for minimum, maximum and operation data.
 -- A write does so for operation data alone.
@@ -60,9 +62,12 @@ asks_attribute e = nat_le minimum_element e
 -- all steps of a request that are known from the words of the answers so far
 abbrev pub steps_of : Request → List ℕ → List Step
 steps_of (request.Read idn e) words =
-    opening idn ∷ (if asks_attribute e then attribute_then (λ attribute after. reading (shape_of e attribute) e after) (drop 1 words) else reading (shape_of e 0) e (drop 1 words))
+    opening idn ∷ (if asks_attribute e then attribute_then (λ attribute after. reading (shape_of e attribute) e after) (drop 1 words)
+    else reading (shape_of e 0) e (drop 1 words))
 steps_of (request.Write idn e bytes) words =
-    opening idn ∷ (if e == data_element then attribute_then (λ attribute after. writing (shape_of data_element attribute) data_element bytes) (drop 1 words) else writing (shape_of e 0) e bytes)
+    opening idn ∷ (if e == data_element
+    then attribute_then (λ attribute after. writing (shape_of data_element attribute) data_element bytes) (drop 1 words)
+    else writing (shape_of e 0) e bytes)
 steps_of (request.Command idn) words = opening idn ∷ a_step true true data_element to_set ∷ polling (drop 2 words)
 
 -- the number of steps before an element's own words, and the attribute that they read
@@ -92,7 +97,8 @@ abbrev pub outcome_of : Request → List Answer → Option Outcome
 outcome_of r [] = None
 outcome_of r (a ∷ h) =
     if a.error then Some (outcome.Refused (record { raw = a.word }))
-    else (if is_whole r (answer_words h ++ a.word ∷ []) then Some (outcome.Complete (result_of r (answer_words h ++ a.word ∷ []))) else None)
+    else (if is_whole r (answer_words h ++ a.word ∷ []) then Some (outcome.Complete (result_of r (answer_words h ++ a.word ∷ [])))
+    else None)
 
 -- the first step that has no answer
 abbrev pub next_step : Request → List Answer → Option Step

@@ -1,7 +1,5 @@
 -- A field without a fault spells its value, and the text of a value is read as it.
-use Rattle.std.proofs.Common.{◌≡◌, ℕ, zero, suc, ◌+◌, ◌*◌, ◌^◌, ◌<◌, ◌≤◌, Bool, true, false, ◌==◌, nat_lt, cond, lit<, List, [], ◌∷◌, ◌++◌, length, take, drop, Option, Some, None, refl, sym, ap, subst, ◌∙◌, arith, decimal}
-use Rattle.std.specs.Bool.{then_some}
-use Rattle.std.proofs.lemmas.Bool.Decides.{nat_tests}
+use Rattle.std.proofs.Common.{◌≡◌, ℕ, ◌*◌, ◌^◌, ◌<◌, ◌≤◌, Bool, true, false, ◌==◌, nat_lt, cond, lit<, List, ◌++◌, length, take, drop, Option, Some, None, refl, sym, ap, subst, ◌∙◌, arith, decimal}
 use Rattle.std.proofs.lemmas.List.{take-append-drop, length-take-le, take_at}
 use Rattle.std.proofs.lemmas.List.Sums.{prefix_len-le-length}
 use Rattle.std.specs.List.{prefix_len}
@@ -14,10 +12,9 @@ use Rattle.sercos_text.specs.Templates.Value.{number, signed, bytes, ident}
 use Rattle.sercos_text.specs.declared.template.Field.{Field}
 use Rattle.sercos_text.specs.declared.template.Field.TheVariants.{Number, Signed, Hex, Digits, Ident}
 use Rattle.sercos_text.specs.declared.list.Item.TheVariants as item
-use Rattle.sercos_text.specs.Lists.{item_fault, item_len, item_of, item_text, IsItem}
-use Rattle.sercos_text.specs.Fields.{is_hex, digits_fault, pairs_of, low_pairs, all_hex}
+use Rattle.sercos_text.specs.Fields.{is_hex, digits_fault, low_pairs}
 use Rattle.sercos_text.proofs.ListLaws.{ItemSpells, item_spells, ItemReads, item_reads}
-use Rattle.sercos_text.proofs.ValueLaws.{IsRest, IsGood, IsGood-number_fault, number_fault-IsGood, number_spelled, reads_number, signed_spelled, signed_reads, SpellsHex, hex_spelled, hex_reads, SpellsPairs, spells_pairs, taken_are_hex, text_of_some, hex_counted, encoded_are_hex, given_back, decodes, fewer_digits}
+use Rattle.sercos_text.proofs.ValueLaws.{IsRest, IsGood, IsGood-number_fault, number_fault-IsGood, number_spelled, reads_number, signed_spelled, signed_reads, hex_spelled, hex_reads, spells_pairs, text_of_some, hex_counted, encoded_are_hex, given_back, decodes, fewer_digits}
 
 -- ---- bytes of a fixed number
 

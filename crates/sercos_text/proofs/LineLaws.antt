@@ -1,22 +1,19 @@
 -- A line without a fault is one of its template, and each line of a template is read as its values.
-use Rattle.std.proofs.Common.{◌≡◌, ℕ, zero, suc, ◌+◌, ◌<◌, ◌≤◌, ◌^◌, Bool, true, false, not, ◌==◌, ◌&&◌, ◌||◌, nat_lt, List, [], ◌∷◌, ◌++◌, length, get_or, drop, Option, Some, None, is_none, refl, sym, ap, subst, ◌∙◌, arith, append_assoc}
-use Rattle.std.specs.Bool.{then_some}
+use Rattle.std.proofs.Common.{◌≡◌, ℕ, suc, true, false, not, ◌==◌, ◌&&◌, ◌||◌, nat_lt, List, [], ◌∷◌, ◌++◌, length, get_or, drop, Option, Some, None, is_none, refl, sym, ap, subst, arith, append_assoc}
 use Rattle.std.proofs.lemmas.Bool.{and_parts}
 use Rattle.std.proofs.lemmas.Bool.Decides.{nat_tests}
-use Rattle.std.proofs.lemmas.List.{drop_at, nil_from_length}
+use Rattle.std.proofs.lemmas.List.{drop_at}
 use Rattle.sercos_model.proofs.FaultLemmas.{none_of-or, none_of-then, none_of-map}
-use Rattle.sercos_text.specs.Fields.{behind}
 use Rattle.sercos_text.specs.Lists.{list_text}
 use Rattle.sercos_text.specs.Tails.{tail_of, tail_text, idents_text, IsTail}
 use Rattle.sercos_text.specs.declared.tail.Tail.{Tail}
 use Rattle.sercos_text.specs.declared.tail.Tail.TheVariants.{End, Addresses, Idents}
 use Rattle.sercos_text.proofs.TailLaws.{tail_spells, tail_reads}
-use Rattle.sercos_text.specs.Templates.{field_of, field_fault, field_len, byte_fault, part_fault, part_len, line_fault, Value, value_text, IsOf, IsLine, field_value, part_values, values_of, items_of, is_template, part_text, part_left, line_text, IsPart, AreOf}
-use Rattle.sercos_text.specs.Templates.Value.{number, signed, bytes, ident}
+use Rattle.sercos_text.specs.Templates.{field_of, field_len, byte_fault, part_fault, part_len, line_fault, Value, value_text, IsLine, field_value, part_values, values_of, items_of, is_template, part_text, part_left, line_text, IsPart, AreOf}
 use Rattle.sercos_text.specs.Templates.IsLine.{line_ends, byte_stands, field_stands}
 use Rattle.sercos_text.specs.declared.template.Field.{Field}
 use Rattle.sercos_text.proofs.ValueLaws.{IsRest}
-use Rattle.sercos_text.proofs.FieldLaws.{FieldSpells, field_spells, FieldReads, field_reads, is_field-found}
+use Rattle.sercos_text.proofs.FieldLaws.{field_spells, FieldReads, field_reads, is_field-found}
 
 same_byte : (byte : ℕ) → (byte == byte) ≡ true
 same_byte byte = grind (arith, nat_tests)

@@ -1,11 +1,10 @@
 -- A list without a fault spells its items, and the text of items is read as them.
-use Rattle.std.proofs.Common.{◌≡◌, ℕ, zero, suc, ◌+◌, ◌-◌, ◌<◌, ◌≤◌, ◌^◌, Bool, true, false, not, cond, ◌==◌, lit<, List, [], ◌∷◌, ◌++◌, length, take, drop, get_or, Option, Some, None, refl, sym, ap, ◌∙◌, subst, arith, add-zero, decimal, append_assoc, length-append}
+use Rattle.std.proofs.Common.{◌≡◌, ℕ, zero, suc, ◌+◌, ◌<◌, ◌≤◌, Bool, true, false, not, ◌==◌, lit<, List, [], ◌∷◌, ◌++◌, length, take, drop, get_or, None, refl, sym, ap, ◌∙◌, arith, add-zero, decimal, append_assoc, length-append}
 use Rattle.std.specs.Bool.{then_some}
-use Rattle.std.specs.Option.{option_or}
 use Rattle.std.proofs.lemmas.Bool.Decides.{nat_tests}
 use Rattle.std.proofs.lemmas.List.{take_at, drop_at, drop-drop, append-nil, take-append-drop}
 use Rattle.sercos_model.proofs.FaultLemmas.{none_of-or, none_of-then, none_of-map}
-use Rattle.sercos_idn.specs.Idns.{idn_fault, idn_text, four_digits, spelled_raw}
+use Rattle.sercos_idn.specs.Idns.{idn_text, four_digits}
 use Rattle.sercos_idn.proofs.IdnLemmas.{IsSpelled-idn_fault, spelled_raw-below, idn_text-spelled_raw, idn_fault-idn_text, spelled_raw-idn_text}
 use Rattle.sercos_text.specs.Fields.{behind}
 use Rattle.sercos_text.specs.Lists.{item_fault, item_len, item_of, item_text, IsItem, listed_fault, listed_len, goes_on, list_fault, list_len, list_of, list_text, AreItems}

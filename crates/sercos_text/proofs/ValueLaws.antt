@@ -1,12 +1,12 @@
 -- A number and bytes without a fault spell their value, and the text of a value is read as it.
-use Rattle.std.proofs.Common.{◌≡◌, ℕ, zero, suc, ◌+◌, ◌-◌, ◌*◌, ◌/◌, ◌%◌, ◌^◌, ◌<◌, ◌≤◌, Bool, true, false, not, ◌==◌, ◌&&◌, ◌||◌, nat_lt, nat_le, cond, unwrap_or, lit<, inl, inr, List, [], ◌∷◌, ◌++◌, length, take, drop, get_or, Option, Some, None, Ok, refl, sym, ap, subst, ◌∙◌, arith, decimal, length-append}
+use Rattle.std.proofs.Common.{◌≡◌, ℕ, zero, suc, ◌+◌, ◌-◌, ◌*◌, ◌/◌, ◌%◌, ◌^◌, ◌<◌, ◌≤◌, Bool, true, false, not, ◌==◌, ◌&&◌, ◌||◌, nat_lt, cond, unwrap_or, lit<, inl, inr, List, [], ◌∷◌, ◌++◌, length, take, drop, get_or, Option, Some, None, Ok, refl, sym, ap, subst, ◌∙◌, arith, decimal, length-append}
 use Rattle.std.specs.Bool.{then_some}
 use Rattle.std.specs.Char.{is_ascii_digit}
 use Rattle.std.specs.Fmt.{signed_decimal}
 use Rattle.std.specs.Prelude.{ℤ, pos, negsuc, ◌-ℤ◌}
 use Rattle.sercos_model.specs.Bits.{AreBytes}
 use Rattle.std.specs.Int.{IsInRange}
-use Rattle.hex.specs.Hex.{hex_digit_value, lower_digits, decode_of, decode_pairs, pair_value, encode_with}
+use Rattle.hex.specs.Hex.{hex_digit_value, lower_digits, decode_pairs, pair_value, encode_with}
 use Rattle.hex.proofs.Pairs.{cons_byte, decode_pairs-ok_pair}
 use Rattle.hex.proofs.HexLemmas.{decode_of-even, decode_of-encode_lower, length-encode_with}
 use Rattle.sercos_model.proofs.BitLemmas.{AreBytes-get_or}
@@ -19,10 +19,7 @@ use Rattle.std.proofs.lemmas.List.{take-append-drop, length-take-le, get_or-take
 use Rattle.std.proofs.lemmas.List.Sums.{prefix_len_passes, prefix_len_is, prefix_len-le-length}
 use Rattle.std.proofs.lemmas.Str.Parse.{IsNumeralModel, numerals_by_value, tells_by_index}
 use Rattle.sercos_model.proofs.FaultLemmas.{none_of-or, none_of-then, none_of-map, at_least, nat_lt-at_least}
-use Rattle.sercos_text.specs.Templates.{field_of, field_fault, field_len, Value, value_text, hex_text, IsSmall, IsOf, field_value}
-use Rattle.sercos_text.specs.Templates.Value.{number, signed, bytes}
-use Rattle.sercos_text.specs.declared.template.Field.{Field}
-use Rattle.sercos_text.specs.declared.template.Field.TheVariants.{Number, Signed, Hex}
+use Rattle.sercos_text.specs.Templates.{hex_text, IsSmall}
 use Rattle.sercos_text.specs.Fields.{behind, is_negative, is_hex, number_len, number_of, number_fault, negative_fault, signed_fault, signed_len, signed_of, hex_fault, hex_len, hex_of, pairs_fault, pairs_of, is_dash, digit_of, low_pairs, all_hex}
 
 -- what comes after a field: nothing, or a space

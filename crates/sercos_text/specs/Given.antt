@@ -1,5 +1,5 @@
 -- The values that are written.
-use Rattle.std.specs.Prelude.{ℕ, ◌*◌, List, length, max}
+use Rattle.std.specs.Prelude.{ℕ, ◌*◌, length, max}
 use Rattle.sercos_text.specs.Templates.{Value}
 use Rattle.sercos_text.specs.Templates.Value.{number, signed, bytes, ident}
 use Rattle.sercos_text.specs.declared.writer.Given.{Given}

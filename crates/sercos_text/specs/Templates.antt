@@ -113,8 +113,11 @@ IsOf _ _ = ⊥
 -- tail with the items.
 pub data IsLine : Tail → List ℕ → List Value → List ℕ → List ℕ → Type 0 where
   line_ends : {tail : Tail} {items : List ℕ} → IsTail tail items → IsLine tail [] [] items (tail_text tail items)
-  byte_stands : {tail : Tail} {letter : ℕ} {template items text : List ℕ} {values : List Value} → field_of letter ≡ None → IsLine tail template values items text → IsLine tail (letter ∷ template) values items (letter ∷ text)
-  field_stands : {tail : Tail} {letter : ℕ} {field : Field} {value : Value} {template items text : List ℕ} {values : List Value} → field_of letter ≡ Some field → IsOf field value → IsLine tail template values items text → IsLine tail (letter ∷ template) (value ∷ values) items (value_text value ++ text)
+  byte_stands : {tail : Tail} {letter : ℕ} {template items text : List ℕ} {values : List Value} → field_of letter ≡ None →
+      IsLine tail template values items text → IsLine tail (letter ∷ template) values items (letter ∷ text)
+  field_stands : {tail : Tail} {letter : ℕ} {field : Field} {value : Value} {template items text : List ℕ} {values : List Value} →
+      field_of letter ≡ Some field → IsOf field value → IsLine tail template values items text →
+      IsLine tail (letter ∷ template) (value ∷ values) items (value_text value ++ text)
 
 -- the value of a field
 unfoldable pub field_value : Field → List ℕ → Value

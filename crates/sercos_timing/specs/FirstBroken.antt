@@ -45,7 +45,8 @@ first_misplaced next (d ∷ drives) (place ∷ places) =
 -- an inequality, with the address of the drive whose AT is the first to break it
 unfoldable pub broken_by : WishesView → PlanView → Inequality → Option Broken
 broken_by w p rule =
-    option_map (λ k. record { rule = number_of rule; drive = (wish w k).address }) (first_unmet (asked_by w p rule) (has_by w p rule) (sent w))
+    option_map (λ k. record { rule = number_of rule; drive = (wish w k).address })
+    (first_unmet (asked_by w p rule) (has_by w p rule) (sent w))
 
 -- an inequality that concerns no single drive, unless it is kept
 abbrev pub broken_unless : Inequality → Bool → Option Broken

@@ -41,7 +41,8 @@ pub data IsBroken (w : WishesView) (p : PlanView) : ℕ → ℕ → Type 0 where
   broken_9 : bound_9 w < sum_9 w (w.rate * p.t2) (greatest_tmtsy w) → IsBroken w p 9 0
   broken_10 : (k : ℕ) → FailsFirstAt (asked_10 w p.t4) (λ j. w.cycle) (sent w) k → IsBroken w p 10 (wish w k).address
   -- k is the first drive of the ring whose position is wrong
-  misplaced : (k : ℕ) → k < length w.drives → take k p.position ≡ take k (positions 1 w.drives) → slice_index p.position k ≢ slice_index (positions 1 w.drives) k → IsBroken w p 12 (wish w k).address
+  misplaced : (k : ℕ) → k < length w.drives → take k p.position ≡ take k (positions 1 w.drives) →
+      slice_index p.position k ≢ slice_index (positions 1 w.drives) k → IsBroken w p 12 (wish w k).address
   -- the positions are right, and only the length of the MDT is wrong
   of_other_length : p.position ≡ positions 1 w.drives → p.mdt_len ≢ record_bytes w.drives → IsBroken w p 12 0
 

@@ -91,4 +91,5 @@ ReadsBack = (kind : LineKind) (values : List Value) (items : List ℕ) → AreOf
 
 -- A text that fits the template of a kind is a line of that kind, and of no other.
 abbrev pub HasOneKind : Type 0
-HasOneKind = (kind : LineKind) (text : List ℕ) → line_fault (tail_for kind) (template_of kind) text ≡ None → first_kind all_kinds text ≡ Some kind
+HasOneKind = (kind : LineKind) (text : List ℕ) → line_fault (tail_for kind) (template_of kind) text ≡ None →
+    first_kind all_kinds text ≡ Some kind

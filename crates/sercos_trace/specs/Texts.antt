@@ -68,7 +68,8 @@ abbrev pub plan_line : ℕ → PlanView → List ℕ
 plan_line cycle p = line_of kind.Plan (number cycle ∷ number p.t2 ∷ number p.t3 ∷ number p.t4 ∷ number p.mdt_len ∷ [])
 
 abbrev pub slot_text : ℕ → WishesView → PlanView → ℕ → List ℕ
-slot_text cycle w p k = line_of kind.Slot (number cycle ∷ number (address_at w k) ∷ number (slice_index p.t1 k) ∷ number (slice_index p.position k) ∷ [])
+slot_text cycle w p k = line_of kind.Slot (number cycle ∷ number (address_at w k) ∷ number (slice_index p.t1 k) ∷
+    number (slice_index p.position k) ∷ [])
 
 -- the slots of the first n drives
 abbrev pub slots_text : ℕ → WishesView → PlanView → ℕ → List ℕ
@@ -97,8 +98,10 @@ raws idns = map (λ i. i.raw) idns
 
 abbrev pub stopped_text : ℕ → Stop → List ℕ
 stopped_text cycle (stop.NoFit c) = chain_text cycle c
-stopped_text cycle (stop.Refused drive idn code) = line_of kind.StopRefused (number cycle ∷ number drive ∷ ident idn.raw ∷ bytes (big_endian code.raw) ∷ [])
-stopped_text cycle (stop.BadConfig drive idn attribute) = line_of kind.StopConfig (number cycle ∷ number drive ∷ ident idn.raw ∷ bytes (attribute_bytes attribute) ∷ [])
+stopped_text cycle (stop.Refused drive idn code) = line_of kind.StopRefused (number cycle ∷ number drive ∷ ident idn.raw ∷
+    bytes (big_endian code.raw) ∷ [])
+stopped_text cycle (stop.BadConfig drive idn attribute) = line_of kind.StopConfig (number cycle ∷ number drive ∷ ident idn.raw ∷
+    bytes (attribute_bytes attribute) ∷ [])
 stopped_text cycle (stop.Check127 drive list) = line_with kind.Check127 (number cycle ∷ number drive ∷ []) (raws list.items)
 stopped_text cycle (stop.Check128 drive list) = line_with kind.Check128 (number cycle ∷ number drive ∷ []) (raws list.items)
 
@@ -141,7 +144,8 @@ header_text w = line_of kind.Version [] ++ (ring_text w ++ (flat_map drive_text 
 
 abbrev pub end_text : Totals → List ℕ
 end_text t =
-    line_of kind.End (number t.cycles ∷ number t.phase ∷ number t.complete ∷ number t.refused ∷ number t.broken ∷ number t.falls ∷ number t.unseen ∷ [])
+    line_of kind.End (number t.cycles ∷ number t.phase ∷ number t.complete ∷ number t.refused ∷ number t.broken ∷ number t.falls ∷
+    number t.unseen ∷ [])
 
 -- the whole trace of a run, its cycles in order
 abbrev pub trace_of : WishesView → List CycleView → Totals → List ℕ

@@ -84,7 +84,8 @@ has_ten c past = (c.whole && not c.falls) && nat_le 9 (if c.master_restarts then
 
 abbrev pub rises_at : ℕ → Choice → List View → Bool
 rises_at busy c past =
-    (c.rises && is_none (open_in (begun_at busy c past))) && (nat_lt (silent_by c past).phase 4 && (nat_le 1 (silent_by c past).phase || has_ten c past))
+    (c.rises && is_none (open_in (begun_at busy c past))) &&
+    (nat_lt (silent_by c past).phase 4 && (nat_le 1 (silent_by c past).phase || has_ten c past))
 
 -- the cycle after these
 abbrev pub view_by : ℕ → Choice → List View → View

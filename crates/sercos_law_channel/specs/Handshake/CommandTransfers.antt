@@ -40,9 +40,11 @@ cancelled_by raw complete e = if complete then setting raw 0 e ∷ [] else []
 -- A transfer that sets a procedure command adds the setting with its second step, the cancel with the step that completes
 -- it, and nothing else.
 abbrev pub SetsAndCancels : Type 0
-SetsAndCancels = (idn : Idn) (blocks : List Block) (e : Entry) (entries log : List Entry) → IsTransfer (request.Command idn) blocks e entries log →
+SetsAndCancels = (idn : Idn) (blocks : List Block) (e : Entry) (entries log : List Entry) →
+    IsTransfer (request.Command idn) blocks e entries log →
     writes_of ((e ∷ entries) ++ log) ≡
-    cancelled_by idn.raw (is_complete (outcome_of (request.Command idn) (replies_of (e ∷ entries)))) e ++ (added_by_setting idn.raw (second_of (e ∷ entries)) ++ writes_of log)
+    cancelled_by idn.raw (is_complete (outcome_of (request.Command idn) (replies_of (e ∷ entries)))) e ++
+    (added_by_setting idn.raw (second_of (e ∷ entries)) ++ writes_of log)
 
 -- the operation data is write protected in the phase of each of these entries
 abbrev pub AreProtected : Attribute → List Entry → Type 0
@@ -53,20 +55,24 @@ AreProtected a (e ∷ entries) = AreProtected a entries × (is_protected a e.pro
 -- refusal, or was so at each step before. One of these holds if all steps come in one phase.
 abbrev pub RefusedAddsNothing : Type 0
 RefusedAddsNothing = (idn : Idn) (blocks : List Block) (b : Block) (e : Entry) (entries log : List Entry) (code : Code) →
-    find_block idn.raw blocks ≡ Some b → b.attribute.command ≡ true → (is_protected b.attribute e.processed.phase ≡ true → AreProtected b.attribute entries) →
-    IsTransfer (request.Command idn) blocks e entries log → outcome_of (request.Command idn) (replies_of (e ∷ entries)) ≡ Some (outcome.Refused code) →
+    find_block idn.raw blocks ≡ Some b → b.attribute.command ≡ true →
+    (is_protected b.attribute e.processed.phase ≡ true → AreProtected b.attribute entries) →
+    IsTransfer (request.Command idn) blocks e entries log →
+    outcome_of (request.Command idn) (replies_of (e ∷ entries)) ≡ Some (outcome.Refused code) →
     writes_of ((e ∷ entries) ++ log) ≡ writes_of log
 
 -- These entries end with the cancel of a command and, before it, the step that reads its data status the last time. Its status
 -- when the drive accepted that step is these bytes.
 abbrev pub GivesStatus : ℕ → List ℕ → List Entry → Type 0
 GivesStatus raw bytes part =
-    (cancel : Entry) × (poll : Entry) × (before : List Entry) × (part ≡ cancel ∷ poll ∷ before) × (poll.processed.step.write ≡ false) × (poll.processed.step.element ≡ 1)
+    (cancel : Entry) × (poll : Entry) × (before : List Entry) × (part ≡ cancel ∷ poll ∷ before) × (poll.processed.step.write ≡ false) ×
+    (poll.processed.step.element ≡ 1)
     × (bytes ≡ status_in poll.processed.commands raw poll.processed.cycle ∷ 0 ∷ [])
 
 -- Such a transfer that is complete returns the data status of the last step that reads it.
 abbrev pub EndsWithStatus : Type 0
-EndsWithStatus = (idn : Idn) (bytes : List ℕ) (blocks : List Block) (e : Entry) (entries log : List Entry) → IsTransfer (request.Command idn) blocks e entries log →
+EndsWithStatus = (idn : Idn) (bytes : List ℕ) (blocks : List Block) (e : Entry) (entries log : List Entry) →
+    IsTransfer (request.Command idn) blocks e entries log →
     outcome_of (request.Command idn) (replies_of (e ∷ entries)) ≡ Some (outcome.Complete bytes) → GivesStatus idn.raw bytes (e ∷ entries)
 
 -- the identifier number of a request
@@ -77,9 +83,11 @@ idn_of (request.Command idn) = idn
 
 -- Where the drive hasn't the data block, a transfer is refused at its opening, with 0x1001, and adds no write.
 abbrev pub RefusesUnknown : Type 0
-RefusesUnknown = (r : Request) (blocks : List Block) (e : Entry) (entries log : List Entry) → find_block (idn_of r).raw blocks ≡ None → IsTransfer r blocks e entries log →
+RefusesUnknown = (r : Request) (blocks : List Block) (e : Entry) (entries log : List Entry) → find_block (idn_of r).raw blocks ≡ None →
+    IsTransfer r blocks e entries log →
     (entries ≡ []) × (e.answer ≡ refused 0x1001)
 
 abbrev pub WritesNowhere : Type 0
-WritesNowhere = (r : Request) (blocks : List Block) (e : Entry) (entries log : List Entry) → find_block (idn_of r).raw blocks ≡ None → IsTransfer r blocks e entries log →
+WritesNowhere = (r : Request) (blocks : List Block) (e : Entry) (entries log : List Entry) → find_block (idn_of r).raw blocks ≡ None →
+    IsTransfer r blocks e entries log →
     writes_of ((e ∷ entries) ++ log) ≡ writes_of log

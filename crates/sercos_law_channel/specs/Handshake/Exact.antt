@@ -51,20 +51,25 @@ HasBlock blocks r = (block : Block) × (find_block (idn_of r).raw blocks ≡ Som
 -- These are the writes of a transfer. A complete one has written everything, and the drive has its block; a refused one nothing. One
 -- that is open or was broken has written the first of it: without these last ones, which come first.
 pub data AreWrites (blocks : List Block) (b : Begun) (own : List Write) : Type 0 where
-  Complete : (bytes : List ℕ) → outcome_of b.request b.answers ≡ Some (outcome.Complete bytes) → HasBlock blocks b.request → map given_of own ≡ given_by blocks b.request → AreWrites blocks b own
+  Complete : (bytes : List ℕ) → outcome_of b.request b.answers ≡ Some (outcome.Complete bytes) → HasBlock blocks b.request →
+      map given_of own ≡ given_by blocks b.request → AreWrites blocks b own
   Refused : (code : Code) → outcome_of b.request b.answers ≡ Some (outcome.Refused code) → own ≡ [] → AreWrites blocks b own
-  Broken : (later : ℕ) → outcome_of b.request b.answers ≡ None → map given_of own ≡ drop later (given_by blocks b.request) → AreWrites blocks b own
+  Broken : (later : ℕ) → outcome_of b.request b.answers ≡ None → map given_of own ≡ drop later (given_by blocks b.request) →
+      AreWrites blocks b own
 
 -- A complete read returns the bytes of the element as the drive had them in the one cycle in which it accepted the selection. The
 -- drive has the block.
 abbrev pub ReadsExactly : List Block → Begun → List Entry → Type 0
-ReadsExactly blocks b part = (idn : Idn) (e : ℕ) (bytes : List ℕ) → b.request ≡ request.Read idn e → outcome_of b.request b.answers ≡ Some (outcome.Complete bytes) →
-    (block : Block) × (find_block idn.raw blocks ≡ Some block) × (selection : Entry) × (entry_behind (steps_before e) part ≡ Some selection) × IsReadAt idn.raw e block bytes selection.processed
+ReadsExactly blocks b part = (idn : Idn) (e : ℕ) (bytes : List ℕ) → b.request ≡ request.Read idn e →
+    outcome_of b.request b.answers ≡ Some (outcome.Complete bytes) →
+    (block : Block) × (find_block idn.raw blocks ≡ Some block) × (selection : Entry) ×
+    (entry_behind (steps_before e) part ≡ Some selection) × IsReadAt idn.raw e block bytes selection.processed
 
 -- A complete setting of a procedure command returns the data status as the drive had it in the cycle in which it accepted the last
 -- step that reads it.
 abbrev pub EndsExactly : Begun → List Entry → Type 0
-EndsExactly b part = (idn : Idn) (bytes : List ℕ) → b.request ≡ request.Command idn → outcome_of b.request b.answers ≡ Some (outcome.Complete bytes) → GivesStatus idn.raw bytes part
+EndsExactly b part = (idn : Idn) (bytes : List ℕ) → b.request ≡ request.Command idn →
+    outcome_of b.request b.answers ≡ Some (outcome.Complete bytes) → GivesStatus idn.raw bytes part
 
 -- the entries of a transfer are all of one phase
 abbrev pub AreInPhase : ℕ → List Entry → Type 0
@@ -84,7 +89,8 @@ pub record IsExact (blocks : List Block) (b : Begun) (part : List Entry) (own : 
 abbrev pub AreExact : List Block → List Begun → List Entry → List Write → Type 0
 AreExact blocks [] entries writes = (entries ≡ []) × (writes ≡ [])
 AreExact blocks (b ∷ past) entries writes =
-    (part : List Entry) × (rest : List Entry) × (own : List Write) × (others : List Write) × (entries ≡ part ++ rest) × (writes ≡ own ++ others)
+    (part : List Entry) × (rest : List Entry) × (own : List Write) × (others : List Write) × (entries ≡ part ++ rest) ×
+    (writes ≡ own ++ others)
     × IsExact blocks b part own × AreExact blocks past rest others
 
 -- After every cycle of a run all transfers that were begun so far are exact, through all epochs.

@@ -20,7 +20,8 @@ replies_of (e ∷ log) = e.answer ∷ replies_of log
 pub data InStep («open» : Option Step) (steps : List Step) (answers : List Answer) (log : List Entry) : Type 0 where
   Idle : («open» ≡ None) → (steps ≡ log_steps log) → (answers ≡ replies_of log) → InStep «open» steps answers log
   Sent : (s : Step) → («open» ≡ Some s) → (steps ≡ s ∷ log_steps log) → (answers ≡ replies_of log) → InStep «open» steps answers log
-  Kept : (e : Entry) (past : List Entry) → («open» ≡ Some e.processed.step) → (log ≡ e ∷ past) → (steps ≡ log_steps log) → (answers ≡ replies_of past) →
+  Kept : (e : Entry) (past : List Entry) → («open» ≡ Some e.processed.step) → (log ≡ e ∷ past) → (steps ≡ log_steps log) →
+      (answers ≡ replies_of past) →
       InStep «open» steps answers log
 
 -- .. where these requests were begun

@@ -27,7 +27,8 @@ pub record IsRow (b : Begun) (e : Entry) (entries : List Entry) : Type 0 where
 -- what the drive has accepted of a request: nothing yet; or a row, whose answers were all taken, or all but the newest
 pub data IsPart (b : Begun) (part : List Entry) : Type 0 where
   Unsent : (part ≡ []) → (b.answers ≡ []) → IsPart b part
-  Heard : (e : Entry) (entries : List Entry) → (part ≡ e ∷ entries) → IsRow b e entries → (b.answers ≡ replies_of (e ∷ entries)) → IsPart b part
+  Heard : (e : Entry) (entries : List Entry) → (part ≡ e ∷ entries) → IsRow b e entries → (b.answers ≡ replies_of (e ∷ entries)) →
+      IsPart b part
   Unheard : (e : Entry) (entries : List Entry) → (part ≡ e ∷ entries) → IsRow b e entries → (b.answers ≡ replies_of entries) → IsPart b part
 
 -- the log is the parts of all requests, one after the other

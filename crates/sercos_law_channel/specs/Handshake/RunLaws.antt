@@ -20,7 +20,8 @@ StandsNoLater = (v : View) (past : List View) → stood_in v (standing past) ≤
 
 -- A drive that gets the MST is then in the commanded phase, or in 0.
 abbrev pub StandsAsCommanded : Type 0
-StandsAsCommanded = (v : View) (past : List View) → v.mst_comes ≡ true → (stood_in v (standing past) ≡ 0) ⊎ (stood_in v (standing past) ≡ v.phase)
+StandsAsCommanded = (v : View) (past : List View) → v.mst_comes ≡ true → (stood_in v (standing past) ≡ 0) ⊎
+    (stood_in v (standing past) ≡ v.phase)
 
 -- While 2 to 4 is commanded, a drive in phase 0 stays there.
 abbrev pub StaysDown : Type 0
@@ -28,7 +29,8 @@ StaysDown = (v : View) (past : List View) → (standing past).ended ≡ 0 → 2 
 
 -- While 0 or 1 is commanded, a drive that gets the MST is in that phase.
 abbrev pub ComesUp : ℕ → Type 0
-ComesUp busy = (v : View) (past : List View) → IsRun busy (v ∷ past) → v.phase ≤ 1 → v.mst_comes ≡ true → stood_in v (standing past) ≡ v.phase
+ComesUp busy = (v : View) (past : List View) → IsRun busy (v ∷ past) → v.phase ≤ 1 → v.mst_comes ≡ true →
+    stood_in v (standing past) ≡ v.phase
 
 -- A drive that is in the commanded phase, or in the one below with its check passed, keeps up with it in a cycle in which it
 -- doesn't restart and nothing for it is lost.
@@ -47,7 +49,8 @@ AcceptsInOrder = (past : List View) → AreBefore (length past) (all_entries pas
 
 -- A record is processed in the cycle in which it arrives, in the phase that is commanded in it.
 abbrev pub ProcessesInPhase : Type 0
-ProcessesInPhase = (v : View) (past : List View) (t : Processed) → processed_in v past ≡ Some t → (t.phase ≡ v.phase) × (t.cycle ≡ length past) × (2 ≤ t.phase)
+ProcessesInPhase = (v : View) (past : List View) (t : Processed) → processed_in v past ≡ Some t →
+    (t.phase ≡ v.phase) × (t.cycle ≡ length past) × (2 ≤ t.phase)
 
 -- how many cycles in a row, up to now, were commanded phase 0, in any epoch
 abbrev pub zero_run : List View → ℕ

@@ -64,5 +64,6 @@ is_silent (request.Write idn e bytes) = not (e == data_element)
 is_silent (request.Command idn) = false
 
 abbrev pub WritesNothing : Type 0
-WritesNothing = (r : Request) (blocks : List Block) (e : Entry) (entries log : List Entry) → is_silent r ≡ true → IsTransfer r blocks e entries log →
+WritesNothing = (r : Request) (blocks : List Block) (e : Entry) (entries log : List Entry) → is_silent r ≡ true →
+    IsTransfer r blocks e entries log →
     writes_of ((e ∷ entries) ++ log) ≡ writes_of log

@@ -40,7 +40,8 @@ HoldsNewest = (blocks : List Block) (past : List View) (raw : ℕ) (b : Block) �
 
 -- In a cycle commanded a phase in which a block is write protected, nothing is written to it.
 abbrev pub StaysProtected : Type 0
-StaysProtected = (blocks : List Block) (v : View) (past : List View) (raw : ℕ) (b : Block) → find_block raw blocks ≡ Some b → AreAlike v.blocks blocks → is_protected b.attribute v.phase ≡ true →
+StaysProtected = (blocks : List Block) (v : View) (past : List View) (raw : ℕ) (b : Block) → find_block raw blocks ≡ Some b →
+    AreAlike v.blocks blocks → is_protected b.attribute v.phase ≡ true →
     newest_to raw (all_writes (v ∷ past)) ≡ newest_to raw (all_writes past)
 
 -- In a cycle commanded 0 or 1 nothing is written at all.
@@ -49,16 +50,21 @@ StaysQuiet = (v : View) (past : List View) → v.phase ≤ 1 → all_writes (v �
 
 -- A fixed block is never written.
 abbrev pub StaysFixed : Type 0
-StaysFixed = (blocks : List Block) (past : List View) (raw : ℕ) (b : Block) → AreSound blocks past → find_block raw blocks ≡ Some b → is_fixed b ≡ true → newest_to raw (all_writes past) ≡ None
+StaysFixed = (blocks : List Block) (past : List View) (raw : ℕ) (b : Block) → AreSound blocks past → find_block raw blocks ≡ Some b →
+    is_fixed b ≡ true → newest_to raw (all_writes past) ≡ None
 
 -- these requests write nothing to an identifier number
 abbrev pub GiveElsewhere : ℕ → List Block → List Begun → Type 0
 GiveElsewhere raw blocks [] = Unit {0}
-GiveElsewhere raw blocks (b ∷ begun) = GiveElsewhere raw blocks begun × (list_all (λ (g : Given). not (g.raw == raw)) (given_by blocks b.request) ≡ true)
+GiveElsewhere raw blocks (b ∷ begun) = GiveElsewhere raw blocks begun ×
+    (list_all (λ (g : Given). not (g.raw == raw)) (given_by blocks b.request) ≡ true)
 
 -- What a complete write of this epoch wrote is the newest write to its block, as long as no later request writes to it: whether
 -- or not the drive has fallen or restarted since.
 abbrev pub StaysWritten : ℕ → Type 0
-StaysWritten busy = (blocks : List Block) (past : List View) (newer older : List Begun) (b : Begun) (idn : Idn) (bytes whole : List ℕ) (block : Block) → AreSmall blocks → IsRun busy past → AreSound blocks past →
-    epoch_begun past ≡ newer ++ b ∷ older → b.request ≡ request.Write idn data_element bytes → outcome_of b.request b.answers ≡ Some (outcome.Complete whole) → find_block idn.raw blocks ≡ Some block → GiveElsewhere idn.raw blocks newer →
+StaysWritten busy = (blocks : List Block) (past : List View) (newer older : List Begun) (b : Begun) (idn : Idn) (bytes whole : List ℕ)
+    (block : Block) → AreSmall blocks → IsRun busy past → AreSound blocks past →
+    epoch_begun past ≡ newer ++ b ∷ older → b.request ≡ request.Write idn data_element bytes →
+    outcome_of b.request b.answers ≡ Some (outcome.Complete whole) → find_block idn.raw blocks ≡ Some block →
+    GiveElsewhere idn.raw blocks newer →
     newest_to idn.raw (all_writes past) ≡ Some (stored block bytes)

@@ -117,7 +117,8 @@ kept_by v stood h = kept_in_phase stood (kept_unless v.drive_restarts h)
 
 abbrev pub since_reset : List View → List Processed
 since_reset [] = []
-since_reset (v ∷ past) = kept_in_phase (standing (v ∷ past)).ended (with_record (processed_in v past) (kept_by v (stood_in v (standing past)) (since_reset past)))
+since_reset (v ∷ past) = kept_in_phase (standing (v ∷ past)).ended
+    (with_record (processed_in v past) (kept_by v (stood_in v (standing past)) (since_reset past)))
 
 abbrev pub kept_in : View → List View → List Processed
 kept_in v past = kept_by v (stood_in v (standing past)) (since_reset past)

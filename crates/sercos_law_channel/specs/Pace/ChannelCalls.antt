@@ -48,22 +48,26 @@ AreSent (v ∷ past) = v.falls ≡ false → (v.master_restarts ≡ false → Ar
 
 -- The calls are allowed, and yield the requests that were begun.
 abbrev pub CallsBegin : ℕ → Type 0
-CallsBegin busy = (past : List View) → IsRun busy past → (AreCalls (channel_calls past)) × (begun_by (channel_calls past) ≡ epoch_begun past)
+CallsBegin busy = (past : List View) → IsRun busy past → (AreCalls (channel_calls past)) ×
+    (begun_by (channel_calls past) ≡ epoch_begun past)
 
 -- The channel counts the age of the open step at the end of a cycle ..
 abbrev pub age_if_open : Bool → ℕ → Option ℕ
 age_if_open is_open age = if is_open then Some age else None
 
 abbrev pub AgesAreThose : ℕ → Type 0
-AgesAreThose busy = (past : List View) → IsRun busy past → AreSent past → age_of (channel_calls past) ≡ age_if_open (is_some (open_in (epoch_begun past))) (age_in past)
+AgesAreThose busy = (past : List View) → IsRun busy past → AreSent past →
+    age_of (channel_calls past) ≡ age_if_open (is_some (open_in (epoch_begun past))) (age_in past)
 
 -- .. and one less before it.
 abbrev pub AgesBeforeEnd : ℕ → Type 0
 AgesBeforeEnd busy = (v : View) (past : List View) → IsRun busy (v ∷ past) → AreSent past → IsSent v past →
-    option_map (λ age. age + 1) (age_of (calls_in v (channel_calls past))) ≡ age_if_open (is_some (open_in (begun_in v past))) (age_in (staying v ∷ past))
+    option_map (λ age. age + 1) (age_of (calls_in v (channel_calls past))) ≡
+    age_if_open (is_some (open_in (begun_in v past))) (age_in (staying v ∷ past))
 
 -- From phase 0 of an epoch on, while every telegram arrives and the checks are passed, in each cycle before its end: the channel has
 -- counted no more than the busy time, and in phases 3 and 4 the drive is heard. So no fall is caused by this drive.
 abbrev pub NoneLate : ℕ → Type 0
-NoneLate busy = (v : View) (cycles past : List View) → IsRun busy (v ∷ (cycles ++ past)) → BeginsEpoch past → AreWhole cycles past → ArePassed cycles past → IsWhole (staying v) (cycles ++ past) → IsPassed v (cycles ++ past) →
+NoneLate busy = (v : View) (cycles past : List View) → IsRun busy (v ∷ (cycles ++ past)) → BeginsEpoch past → AreWhole cycles past →
+    ArePassed cycles past → IsWhole (staying v) (cycles ++ past) → IsPassed v (cycles ++ past) →
     (cycles_open (calls_in v (channel_calls (cycles ++ past))) ≤ busy) × (3 ≤ v.phase → is_some v.heard ≡ true)

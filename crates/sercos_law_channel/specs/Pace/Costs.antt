@@ -35,10 +35,11 @@ abbrev pub newest_at : ℕ → List Write → Option ℕ
 newest_at raw [] = None
 newest_at raw (w ∷ writes) = if w.raw == raw then Some w.cycle else newest_at raw writes
 
--- A procedure command that runs in a cycle, with the data status of a running command, was set by the newest write to it, and runs no longer than `time`
--- cycles.
+-- A procedure command that runs in a cycle, with the data status of a running command, was set by the newest write to it, and runs no
+-- longer than `time` cycles.
 abbrev pub IsTimed : ℕ → View → List View → Type 0
-IsTimed time v past = (raw : ℕ) → status_in v.commands raw (length past) ≡ running_status → (set : ℕ) × (newest_at raw (all_writes past) ≡ Some set) × (length past < set + time)
+IsTimed time v past = (raw : ℕ) → status_in v.commands raw (length past) ≡ running_status →
+    (set : ℕ) × (newest_at raw (all_writes past) ≡ Some set) × (length past < set + time)
 
 abbrev pub AreTimed : ℕ → List View → Type 0
 AreTimed time [] = Unit {0}
@@ -55,15 +56,18 @@ value_steps longest shape.List = 5 + longest
 
 abbrev pub read_steps : ℕ → ℕ → Option Block → ℕ
 read_steps longest e None = 1
-read_steps longest e (Some b) = if e == attribute_element then 3 else (if e == data_element then value_steps longest (shape_by b.attribute.length) else 517)
+read_steps longest e (Some b) = if e == attribute_element then 3
+    else (if e == data_element then value_steps longest (shape_by b.attribute.length) else 517)
 
 abbrev pub write_steps : ℕ → List ℕ → Option Block → ℕ
 write_steps e bytes None = 1
-write_steps e bytes (Some b) = if e == data_element then 3 + length (words_told (shape_by b.attribute.length) bytes) else 1 + length (words_told (shape_of e 0) bytes)
+write_steps e bytes (Some b) = if e == data_element then 3 + length (words_told (shape_by b.attribute.length) bytes)
+    else 1 + length (words_told (shape_of e 0) bytes)
 
 -- Each list has at most as many words as `longest` allows for its identifier number, or `longest` allows as many as any list has.
 abbrev pub IsListed : (ℕ → ℕ) → List Block → Type 0
-IsListed longest blocks = (raw : ℕ) (b : Block) → find_block raw blocks ≡ Some b → is_list b.attribute.length ≡ true → (length b.value ≤ 2 * longest raw) ⊎ (512 ≤ longest raw)
+IsListed longest blocks = (raw : ℕ) (b : Block) → find_block raw blocks ≡ Some b → is_list b.attribute.length ≡ true →
+    (length b.value ≤ 2 * longest raw) ⊎ (512 ≤ longest raw)
 
 abbrev pub AreListed : (ℕ → ℕ) → List View → Type 0
 AreListed longest [] = Unit {0}
@@ -82,12 +86,15 @@ cost_in cost (b ∷ begun) = cost b.request + cost_in cost begun
 
 -- The steps that the drive accepted in an epoch cost no more than its requests.
 abbrev pub StaysInCost : ℕ → Type 0
-StaysInCost busy = (time : ℕ) (longest : ℕ → ℕ) (blocks : List Block) (past : List View) → AreSmall blocks → IsRun busy past → AreSound blocks past → AreTimed time past → AreListed longest past →
+StaysInCost busy = (time : ℕ) (longest : ℕ → ℕ) (blocks : List Block) (past : List View) → AreSmall blocks → IsRun busy past →
+    AreSound blocks past → AreTimed time past → AreListed longest past →
     (busy + 1) * length (epoch_log past) ≤ cost_in (cost_of busy time longest blocks) (epoch_begun past)
 
 -- So do the cycles with an open step of a stretch in which nothing is lost, together with busy time and one for each answer before the
 -- stretch.
 abbrev pub OpensInCost : ℕ → Type 0
-OpensInCost busy = (time : ℕ) (longest : ℕ → ℕ) (blocks : List Block) (cycles past : List View) → AreSmall blocks → IsRun busy (cycles ++ past) → AreSound blocks (cycles ++ past) → AreTimed time (cycles ++ past) →
+OpensInCost busy = (time : ℕ) (longest : ℕ → ℕ) (blocks : List Block) (cycles past : List View) → AreSmall blocks →
+    IsRun busy (cycles ++ past) → AreSound blocks (cycles ++ past) → AreTimed time (cycles ++ past) →
     AreListed longest (cycles ++ past) → AreClean cycles past →
-    open_since cycles past + (busy + 1) * length (answers_in (epoch_begun past)) ≤ cost_in (cost_of busy time longest blocks) (epoch_begun (cycles ++ past))
+    open_since cycles past + (busy + 1) * length (answers_in (epoch_begun past)) ≤
+    cost_in (cost_of busy time longest blocks) (epoch_begun (cycles ++ past))

@@ -33,24 +33,30 @@ IsListBlock blocks idn = (b : Block) × (find_block idn.raw blocks ≡ Some b) �
 
 -- A read of one word costs four steps, of an attribute three, and of a list five and one for each of its words.
 abbrev pub WordReadCosts : ℕ → Type 0
-WordReadCosts busy = (time : ℕ) (longest : ℕ → ℕ) (blocks : List Block) (idn : Idn) → IsWord blocks idn → cost_of busy time longest blocks (request.Read idn data_element) ≡ (busy + 1) * 4
+WordReadCosts busy = (time : ℕ) (longest : ℕ → ℕ) (blocks : List Block) (idn : Idn) → IsWord blocks idn →
+    cost_of busy time longest blocks (request.Read idn data_element) ≡ (busy + 1) * 4
 
 abbrev pub AttributeCosts : ℕ → Type 0
-AttributeCosts busy = (time : ℕ) (longest : ℕ → ℕ) (blocks : List Block) (idn : Idn) → cost_of busy time longest blocks (request.Read idn attribute_element) ≤ (busy + 1) * 3
+AttributeCosts busy = (time : ℕ) (longest : ℕ → ℕ) (blocks : List Block) (idn : Idn) →
+    cost_of busy time longest blocks (request.Read idn attribute_element) ≤ (busy + 1) * 3
 
 abbrev pub ListReadCosts : ℕ → Type 0
-ListReadCosts busy = (time : ℕ) (longest : ℕ → ℕ) (blocks : List Block) (idn : Idn) → IsListBlock blocks idn → cost_of busy time longest blocks (request.Read idn data_element) ≡ (busy + 1) * (5 + longest idn.raw)
+ListReadCosts busy = (time : ℕ) (longest : ℕ → ℕ) (blocks : List Block) (idn : Idn) → IsListBlock blocks idn →
+    cost_of busy time longest blocks (request.Read idn data_element) ≡ (busy + 1) * (5 + longest idn.raw)
 
 -- A write of one word costs four steps, and of a list of k words five and k.
 abbrev pub WordWriteCosts : ℕ → Type 0
-WordWriteCosts busy = (time : ℕ) (longest : ℕ → ℕ) (blocks : List Block) (idn : Idn) (bytes : List ℕ) → IsWord blocks idn → length bytes ≤ 2 → cost_of busy time longest blocks (request.Write idn data_element bytes) ≤ (busy + 1) * 4
+WordWriteCosts busy = (time : ℕ) (longest : ℕ → ℕ) (blocks : List Block) (idn : Idn) (bytes : List ℕ) → IsWord blocks idn →
+    length bytes ≤ 2 → cost_of busy time longest blocks (request.Write idn data_element bytes) ≤ (busy + 1) * 4
 
 abbrev pub ListWriteCosts : ℕ → Type 0
-ListWriteCosts busy = (time : ℕ) (longest : ℕ → ℕ) (blocks : List Block) (idn : Idn) (bytes : List ℕ) (k : ℕ) → IsListBlock blocks idn → length bytes ≤ 2 * k → cost_of busy time longest blocks (request.Write idn data_element bytes) ≤ (busy + 1) * (5 + k)
+ListWriteCosts busy = (time : ℕ) (longest : ℕ → ℕ) (blocks : List Block) (idn : Idn) (bytes : List ℕ) (k : ℕ) → IsListBlock blocks idn →
+    length bytes ≤ 2 * k → cost_of busy time longest blocks (request.Write idn data_element bytes) ≤ (busy + 1) * (5 + k)
 
 -- The reads of phase 2: six values of a word, and the attribute of each identifier number of both lists.
 abbrev pub reads_of : List Idn → List Idn → List Request
-reads_of values idns = map (λ (idn : Idn). request.Read idn data_element) values ++ map (λ (idn : Idn). request.Read idn attribute_element) idns
+reads_of values idns = map (λ (idn : Idn). request.Read idn data_element) values ++
+    map (λ (idn : Idn). request.Read idn attribute_element) idns
 
 abbrev pub ReadsCost : ℕ → Type 0
 ReadsCost busy = (time : ℕ) (longest : ℕ → ℕ) (blocks : List Block) (values idns : List Idn) → AreWords blocks values → length values ≡ 6 →
@@ -70,9 +76,12 @@ AreWordWrites blocks (r ∷ rs) = AreWordWrites blocks rs × IsWordWrite blocks 
 
 -- The writes of phase 2 and its command: nine of a word, some before and the others after the two lists, which have k and m words.
 abbrev pub WritesCost : ℕ → Type 0
-WritesCost busy = (time : ℕ) (longest : ℕ → ℕ) (blocks : List Block) (before after : List Request) (ats mdts : Idn) (at_bytes mdt_bytes : List ℕ) (k m : ℕ) (command : Idn) →
-    AreWordWrites blocks before → AreWordWrites blocks after → length before + length after ≡ 9 → IsListBlock blocks ats → IsListBlock blocks mdts → length at_bytes ≤ 2 * k → length mdt_bytes ≤ 2 * m →
-    sum_by (cost_of busy time longest blocks) (before ++ request.Write ats data_element at_bytes ∷ request.Write mdts data_element mdt_bytes ∷ (after ++ request.Command command ∷ [])) ≤ (busy + 1) * (50 + (k + m)) + time
+WritesCost busy = (time : ℕ) (longest : ℕ → ℕ) (blocks : List Block) (before after : List Request) (ats mdts : Idn)
+    (at_bytes mdt_bytes : List ℕ) (k m : ℕ) (command : Idn) →
+    AreWordWrites blocks before → AreWordWrites blocks after → length before + length after ≡ 9 → IsListBlock blocks ats →
+    IsListBlock blocks mdts → length at_bytes ≤ 2 * k → length mdt_bytes ≤ 2 * m →
+    sum_by (cost_of busy time longest blocks) (before ++ request.Write ats data_element at_bytes ∷
+    request.Write mdts data_element mdt_bytes ∷ (after ++ request.Command command ∷ [])) ≤ (busy + 1) * (50 + (k + m)) + time
 
 -- Any request with at most 1,024 bytes costs no more than this profile allows a request.
 abbrev pub IsShort : Request → Type 0
@@ -81,4 +90,5 @@ IsShort (request.Write idn e bytes) = length bytes ≤ 1024
 IsShort (request.Command idn) = Unit {0}
 
 abbrev pub RequestCosts : ℕ → Type 0
-RequestCosts busy = (time : ℕ) (longest : ℕ → ℕ) (blocks : List Block) (r : Request) → ((raw : ℕ) → longest raw ≤ 512) → IsShort r → cost_of busy time longest blocks r ≤ (busy + 2) * (520 + time)
+RequestCosts busy = (time : ℕ) (longest : ℕ → ℕ) (blocks : List Block) (r : Request) → ((raw : ℕ) → longest raw ≤ 512) → IsShort r →
+    cost_of busy time longest blocks r ≤ (busy + 2) * (520 + time)

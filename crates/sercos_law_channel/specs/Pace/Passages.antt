@@ -25,7 +25,8 @@ pub record IsWhole (v : View) (past : List View) : Type 0 where
   pub mdt : is_some v.sent ≡ true → 1 ≤ stood_in v (standing past) → v.mdt_comes ≡ true
   -- a drive that isn't in phase 0 is heard in phases 3 and 4 always, and before that if a step is open and a record arrived at it in the
   -- cycle before
-  pub hears : is_some (open_in (epoch_begun past)) ≡ true → was_addressed past ≡ true → 1 ≤ stood_in v (standing past) → is_some v.heard ≡ true
+  pub hears : is_some (open_in (epoch_begun past)) ≡ true → was_addressed past ≡ true → 1 ≤ stood_in v (standing past) →
+      is_some v.heard ≡ true
   pub listens : 3 ≤ v.phase → 1 ≤ stood_in v (standing past) → is_some v.heard ≡ true
 
 -- .. and so is each cycle of a stretch
@@ -57,11 +58,13 @@ BeginsEpoch past = command past ≡ 0
 -- From phase 0 of an epoch on, regardless of the cycles before: if every cycle is whole and the checks are passed, the drive is in the
 -- commanded phase in every cycle ..
 abbrev pub StandsThroughout : ℕ → Type 0
-StandsThroughout busy = (cycles past : List View) → IsRun busy (cycles ++ past) → BeginsEpoch past → AreWhole cycles past → ArePassed cycles past → AreUp cycles past
+StandsThroughout busy = (cycles past : List View) → IsRun busy (cycles ++ past) → BeginsEpoch past → AreWhole cycles past →
+    ArePassed cycles past → AreUp cycles past
 
 -- .. nothing is lost ..
 abbrev pub StaysClean : ℕ → Type 0
-StaysClean busy = (cycles past : List View) → IsRun busy (cycles ++ past) → BeginsEpoch past → AreWhole cycles past → ArePassed cycles past → AreClean cycles past
+StaysClean busy = (cycles past : List View) → IsRun busy (cycles ++ past) → BeginsEpoch past → AreWhole cycles past →
+    ArePassed cycles past → AreClean cycles past
 
 -- .. and the master hears the drive in every cycle of phases 3 and 4.
 abbrev pub AreHeard : List View → List View → Type 0
@@ -69,20 +72,24 @@ AreHeard [] past = Unit {0}
 AreHeard (v ∷ cycles) past = AreHeard cycles past × (3 ≤ v.phase → is_some v.heard ≡ true)
 
 abbrev pub HearsThroughout : ℕ → Type 0
-HearsThroughout busy = (cycles past : List View) → IsRun busy (cycles ++ past) → BeginsEpoch past → AreWhole cycles past → ArePassed cycles past → AreHeard cycles past
+HearsThroughout busy = (cycles past : List View) → IsRun busy (cycles ++ past) → BeginsEpoch past → AreWhole cycles past →
+    ArePassed cycles past → AreHeard cycles past
 
 -- Regardless of losses, and of the phase of the drive: after a first whole cycle and more of them, either the drive is in phase 0 by now,
 -- or nothing was lost since the first.
 abbrev pub IsCleanOrDown : ℕ → Type 0
-IsCleanOrDown busy = (cycles : List View) (first : View) (past : List View) → IsRun busy (cycles ++ first ∷ past) → IsWhole first past → AreWhole cycles (first ∷ past) →
+IsCleanOrDown busy = (cycles : List View) (first : View) (past : List View) → IsRun busy (cycles ++ first ∷ past) → IsWhole first past →
+    AreWhole cycles (first ∷ past) →
     ((standing (cycles ++ first ∷ past)).ended ≡ 0) ⊎ AreClean cycles (first ∷ past)
 
 -- In the second case the cycles with an open step since the first are at most busy time and one for each step begun that had no answer
 -- by then.
 abbrev pub RecoversInTime : ℕ → Type 0
-RecoversInTime busy = (cycles : List View) (first : View) (past : List View) → IsRun busy (cycles ++ first ∷ past) → IsWhole first past → AreWhole cycles (first ∷ past) →
+RecoversInTime busy = (cycles : List View) (first : View) (past : List View) → IsRun busy (cycles ++ first ∷ past) → IsWhole first past →
+    AreWhole cycles (first ∷ past) →
     ((standing (cycles ++ first ∷ past)).ended ≡ 0)
-    ⊎ (open_since cycles (first ∷ past) + (busy + 1) * length (answers_in (epoch_begun (first ∷ past))) ≤ (busy + 1) * length (steps_in (epoch_begun (cycles ++ first ∷ past))))
+    ⊎ (open_since cycles (first ∷ past) + (busy + 1) * length (answers_in (epoch_begun (first ∷ past))) ≤
+    (busy + 1) * length (steps_in (epoch_begun (cycles ++ first ∷ past))))
 
 -- The drive is in phase 0 in a cycle and at its end, and the master receives nothing of it and takes no answer. A step that is open stays
 -- open.

@@ -14,18 +14,22 @@ sets_to raw value cycle = record { cycle = cycle; raw = raw; bytes = value ∷ 0
 
 -- A check that isn't set and would end well is set: then it counts as passed from its end on, no later than after the time of a command.
 abbrev pub PassesBySetting : Type 0
-PassesBySetting = (c : CommandHistory) (blocks : List Block) (cycle : ℕ) → is_command blocks 127 ≡ true → find_set 127 (set_in c) ≡ None → ends_well c.rate 127 (with_data 127 (to_set ∷ 0 ∷ []) blocks) ≡ true →
+PassesBySetting = (c : CommandHistory) (blocks : List Block) (cycle : ℕ) → is_command blocks 127 ≡ true → find_set 127 (set_in c) ≡ None →
+    ends_well c.rate 127 (with_data 127 (to_set ∷ 0 ∷ []) blocks) ≡ true →
     (first : ℕ) × (first_passed_in 127 (commands_with (Some (sets_to 127 to_set cycle)) blocks c) ≡ Some first) × (first ≤ cycle + c.time)
 
 abbrev pub PassesLast : Type 0
-PassesLast = (c : CommandHistory) (blocks : List Block) (cycle : ℕ) → is_command blocks 128 ≡ true → find_set 128 (set_in c) ≡ None → ends_well c.rate 128 (with_data 128 (to_set ∷ 0 ∷ []) blocks) ≡ true →
+PassesLast = (c : CommandHistory) (blocks : List Block) (cycle : ℕ) → is_command blocks 128 ≡ true → find_set 128 (set_in c) ≡ None →
+    ends_well c.rate 128 (with_data 128 (to_set ∷ 0 ∷ []) blocks) ≡ true →
     (first : ℕ) × (first_passed_in 128 (commands_with (Some (sets_to 128 to_set cycle)) blocks c) ≡ Some first) × (first ≤ cycle + c.time)
 
 -- Its cancel, once it counts, leaves it so.
 abbrev pub StaysPassed : Type 0
-StaysPassed = (c : CommandHistory) (blocks : List Block) (cycle first : ℕ) → is_command blocks 127 ≡ true → first_passed_in 127 c ≡ Some first → first ≤ cycle →
+StaysPassed = (c : CommandHistory) (blocks : List Block) (cycle first : ℕ) → is_command blocks 127 ≡ true →
+    first_passed_in 127 c ≡ Some first → first ≤ cycle →
     first_passed_in 127 (commands_with (Some (sets_to 127 to_cancel cycle)) blocks c) ≡ Some first
 
 abbrev pub StaysPassedLast : Type 0
-StaysPassedLast = (c : CommandHistory) (blocks : List Block) (cycle first : ℕ) → is_command blocks 128 ≡ true → first_passed_in 128 c ≡ Some first → first ≤ cycle →
+StaysPassedLast = (c : CommandHistory) (blocks : List Block) (cycle first : ℕ) → is_command blocks 128 ≡ true →
+    first_passed_in 128 c ≡ Some first → first ≤ cycle →
     first_passed_in 128 (commands_with (Some (sets_to 128 to_cancel cycle)) blocks c) ≡ Some first

@@ -32,18 +32,24 @@ spent_since busy cycles past = open_since cycles past + time_for busy (answers_i
 -- No step is open, and the answers so far account for the cycles spent. Or one is open: the drive accepted it at most its busy time ago,
 -- and the answers account for the cycles before that.
 pub data IsInTime (busy : ℕ) (cycles past : List View) : Type 0 where
-  RestsNow : open_in (epoch_begun (cycles ++ past)) ≡ None → spent_since busy cycles past ≤ time_for busy (answers_in (epoch_begun (cycles ++ past))) → IsInTime busy cycles past
-  WaitsNow : (e : Entry) (log : List Entry) → epoch_log (cycles ++ past) ≡ e ∷ log → open_in (epoch_begun (cycles ++ past)) ≡ Some e.processed.step → steps_in (epoch_begun (cycles ++ past)) ≡ log_steps (epoch_log (cycles ++ past)) →
+  RestsNow : open_in (epoch_begun (cycles ++ past)) ≡ None →
+      spent_since busy cycles past ≤ time_for busy (answers_in (epoch_begun (cycles ++ past))) → IsInTime busy cycles past
+  WaitsNow : (e : Entry) (log : List Entry) → epoch_log (cycles ++ past) ≡ e ∷ log →
+      open_in (epoch_begun (cycles ++ past)) ≡ Some e.processed.step →
+      steps_in (epoch_begun (cycles ++ past)) ≡ log_steps (epoch_log (cycles ++ past)) →
       e.processed.cycle < length (cycles ++ past) → length (cycles ++ past) ≤ e.processed.cycle + (busy + 1) →
-      spent_since busy cycles past + e.processed.cycle ≤ time_for busy (answers_in (epoch_begun (cycles ++ past))) + length (cycles ++ past) → IsInTime busy cycles past
+      spent_since busy cycles past + e.processed.cycle ≤ time_for busy (answers_in (epoch_begun (cycles ++ past))) +
+      length (cycles ++ past) → IsInTime busy cycles past
 
 -- The same holds after a stretch of one cycle or more, regardless of losses before it. A step that was open before it counts as one of
 -- the stretch.
 abbrev pub ComesInTime : ℕ → Type 0
-ComesInTime busy = (v : View) (cycles past : List View) → IsRun busy (v ∷ (cycles ++ past)) → AreClean (v ∷ cycles) past → IsInTime busy (v ∷ cycles) past
+ComesInTime busy = (v : View) (cycles past : List View) → IsRun busy (v ∷ (cycles ++ past)) → AreClean (v ∷ cycles) past →
+    IsInTime busy (v ∷ cycles) past
 
 -- So the cycles of the stretch in which a step was open are at most busy time and one for each step begun that had no answer before the
 -- stretch.
 abbrev pub TakesTimeSince : ℕ → Type 0
 TakesTimeSince busy = (cycles past : List View) → IsRun busy (cycles ++ past) → AreClean cycles past →
-    open_since cycles past + (busy + 1) * length (answers_in (epoch_begun past)) ≤ (busy + 1) * length (steps_in (epoch_begun (cycles ++ past)))
+    open_since cycles past + (busy + 1) * length (answers_in (epoch_begun past)) ≤
+    (busy + 1) * length (steps_in (epoch_begun (cycles ++ past)))

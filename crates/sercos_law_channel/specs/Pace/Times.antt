@@ -40,7 +40,9 @@ time_for busy (a ∷ answers) = time_for busy answers + (busy + 1)
 -- cycles before that went into the answers.
 pub data IsOnTime (busy : ℕ) (past : List View) : Type 0 where
   Rests : open_in (epoch_begun past) ≡ None → open_cycles past ≡ time_for busy (answers_in (epoch_begun past)) → IsOnTime busy past
-  Waits : (e : Entry) (log : List Entry) → epoch_log past ≡ e ∷ log → open_in (epoch_begun past) ≡ Some e.processed.step → steps_in (epoch_begun past) ≡ log_steps (epoch_log past) → e.processed.cycle < length past → length past ≤ e.processed.cycle + (busy + 1) →
+  Waits : (e : Entry) (log : List Entry) → epoch_log past ≡ e ∷ log → open_in (epoch_begun past) ≡ Some e.processed.step →
+      steps_in (epoch_begun past) ≡ log_steps (epoch_log past) → e.processed.cycle < length past →
+      length past ≤ e.processed.cycle + (busy + 1) →
       open_cycles past + e.processed.cycle ≡ time_for busy (answers_in (epoch_begun past)) + length past → IsOnTime busy past
 
 -- In an epoch in which nothing is lost a channel is on time.
@@ -49,9 +51,11 @@ AreOnTime busy = (past : List View) → IsRun busy past → AreUndisturbed past 
 
 -- An answer arrives busy time and one cycle after the cycle in which the drive accepted its step.
 abbrev pub AnswersOnTime : ℕ → Type 0
-AnswersOnTime busy = (v : View) (past : List View) (a : Heard) → IsRun busy (v ∷ past) → AreUndisturbed past → v.heard ≡ Some a → answers_it (unless_restart v (epoch_begun past)) a.status ≡ true →
+AnswersOnTime busy = (v : View) (past : List View) (a : Heard) → IsRun busy (v ∷ past) → AreUndisturbed past → v.heard ≡ Some a →
+    answers_it (unless_restart v (epoch_begun past)) a.status ≡ true →
     (e : Entry) × (log : List Entry) × (epoch_log past ≡ e ∷ log) × (length past ≡ e.processed.cycle + (busy + 1))
 
 -- So the cycles in which a step was open are at most busy time and one for each step that was begun.
 abbrev pub TakesTime : ℕ → Type 0
-TakesTime busy = (past : List View) → IsRun busy past → AreUndisturbed past → open_cycles past ≤ (busy + 1) * length (steps_in (epoch_begun past))
+TakesTime busy = (past : List View) → IsRun busy past → AreUndisturbed past →
+    open_cycles past ≤ (busy + 1) * length (steps_in (epoch_begun past))

@@ -4,8 +4,8 @@ use Rattle.sercos_trace.specs.declared.events.Stop.TheVariants as stop
 use Rattle.sercos_law_run.proofs.Views.Members.{member_is}
 use Rattle.sercos_law_run.proofs.Typed.Mdts.{phase_low}
 use Rattle.sercos_law_run.proofs.Recovery.EarlyStops.{early_in}
-use Rattle.sercos_law_run.proofs.Recovery.LateDown.{phase_now}
 use Rattle.sercos_law_run.proofs.Undisturbed.Cited.{fits_in_three, never_stops_in_four, own_fits_in_four, stops_in_three, stops_in_two}
+use Rattle.sercos_law_run.proofs.Undisturbed.ChannelsKept.{phase_now}
 
 -- A RING THAT IS RIGHT has no cause for a stop.
 pub never_right : (r : RingView) (x : Stop) → StopsForCause r x → IsRight r → ⊥

@@ -15,12 +15,12 @@ use Rattle.sercos_law_run.proofs.Undisturbed.Stops.StopStays.{none_before, stop_
 use Rattle.sercos_law_run.proofs.Undisturbed.Stops.StopOnce.{same_start}
 use Rattle.sercos_law_run.proofs.Undisturbed.NoFalls.{no_less, stays_at}
 use Rattle.sercos_law_run.proofs.Recovery.DownSince.{shorter, up_all}
-use Rattle.sercos_law_run.proofs.Recovery.LateDown.{phase_now}
 use Rattle.sercos_law_run.proofs.Recovery.Stretches.{whole_at}
 use Rattle.sercos_law_run.proofs.Recovery.UpInThree.{LastsInThree}
 use Rattle.sercos_law_run.proofs.Recovery.UpInTwo.{up_in_two}
 use Rattle.sercos_law_run.proofs.Recovery.UpSections.{no_lower_since}
 use Rattle.sercos_law_run.proofs.Bounds.BoundSums.{is_below_greatest}
+use Rattle.sercos_law_run.proofs.Undisturbed.ChannelsKept.{phase_now}
 
 module _ (r : RingView) (jobs : List Job) (carry : Carry) (restarts : Restarts) (opened : IsOpened r jobs) where
   -- the cycles of phase 3, cut off: those before them are few

@@ -3,9 +3,10 @@ use Rattle.sercos_law_run.proofs.Words.{◌≡◌, ℕ, ◌+◌, ◌<◌, ◌≤
 use Rattle.sercos_law_run.proofs.Undisturbed.Arriving.Comes.{calm_in}
 use Rattle.sercos_law_run.proofs.Undisturbed.JobsBegun.{begun_end}
 use Rattle.sercos_law_run.proofs.Undisturbed.Checks.PassedCycles.{views_split}
-use Rattle.sercos_law_run.proofs.Recovery.LateDown.{next_up, phase_now}
+use Rattle.sercos_law_run.proofs.Recovery.LateDown.{next_up}
 use Rattle.sercos_law_run.proofs.Recovery.Limits.{open_age}
 use Rattle.sercos_law_run.proofs.Recovery.Stretches.{ages_down_in, newest_up, stays_down_in}
+use Rattle.sercos_law_run.proofs.Undisturbed.ChannelsKept.{phase_now}
 
 -- where nothing is heard, no outcome comes
 quiet_outcomes : (o : Option Heard) (n : Option Request) (b : Bool) (begun : List Begun) → o ≡ None → b ≡ false → outcomes_in (with_begun n (with_heard o (if b then [] else begun))) ≡ outcomes_in begun

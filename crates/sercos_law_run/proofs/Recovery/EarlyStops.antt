@@ -7,9 +7,9 @@ use Rattle.sercos_law_run.proofs.Undisturbed.Stops.StopsTold.{fresh}
 use Rattle.sercos_law_run.proofs.Undisturbed.Stops.StopStays.{stop_after, stop_kept}
 use Rattle.sercos_law_run.proofs.Undisturbed.Stops.StopOnce.{same_start}
 use Rattle.sercos_law_run.proofs.Undisturbed.NoFalls.{no_less}
-use Rattle.sercos_law_run.proofs.Recovery.LateDown.{phase_now}
 use Rattle.sercos_law_run.proofs.Agenda.Requests.{are_requests}
 use Rattle.sercos_law_run.proofs.Cited.{begins_none}
+use Rattle.sercos_law_run.proofs.Undisturbed.ChannelsKept.{phase_now}
 
 -- NO STOP COMES in phases 0 and 1: no request is begun in them.
 no_trouble : (address : ℕ) (tasks : List Task) → trouble_by address tasks None ≡ None

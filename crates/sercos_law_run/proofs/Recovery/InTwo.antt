@@ -6,9 +6,10 @@ use Rattle.sercos_law_run.proofs.Undisturbed.Stops.StopStays.{none_before, stop_
 use Rattle.sercos_law_run.proofs.Undisturbed.Stops.StopOnce.{same_start}
 use Rattle.sercos_law_run.proofs.Undisturbed.NoFalls.{stays_at}
 use Rattle.sercos_law_run.proofs.Recovery.DownSince.{NeverRestarts, calm_quiet}
-use Rattle.sercos_law_run.proofs.Recovery.LateDown.{no_lower, phase_now}
+use Rattle.sercos_law_run.proofs.Recovery.LateDown.{no_lower}
 use Rattle.sercos_law_run.proofs.Recovery.Stretches.{stays_down_in}
 use Rattle.sercos_law_run.proofs.Recovery.UpSections.{no_lower_on}
+use Rattle.sercos_law_run.proofs.Undisturbed.ChannelsKept.{phase_now}
 
 -- the slowest drive is busy for at most 20 cycles
 pub greatest_low : (f : DriveView → ℕ) (most : ℕ) (drives : List DriveView) → ((k : ℕ) → k < length drives

@@ -9,7 +9,7 @@ use Rattle.sercos_law_run.proofs.Headline.HeadlineRuns.{all_stand}
 use Rattle.sercos_law_run.specs.Undisturbed.EpochStarts.{Falls}
 use Rattle.sercos_law_run.proofs.Undisturbed.Arriving.AfterAt.{after_at_so}
 use Rattle.sercos_law_run.proofs.Undisturbed.Arriving.Addressed.{finds}
-use Rattle.sercos_law_run.proofs.Undisturbed.ChannelsKept.{ats_leave}
+use Rattle.sercos_law_run.proofs.Undisturbed.ChannelsKept.{ats_leave, phase_now}
 use Rattle.sercos_law_run.proofs.Undisturbed.Arriving.Comes.{calm_in}
 use Rattle.sercos_law_run.proofs.Undisturbed.NoFalls.{heard_mdt}
 use Rattle.sercos_law_run.proofs.Undisturbed.Checks.PassedCycles.{passed_undisturbed}
@@ -80,9 +80,6 @@ module _ (r : RingView) (jobs : List Job) (carry : Carry) (restarts : Restarts) 
       ats_hear r jobs carry (length j) k (ats_in t.sent) (own_mst carry (length j) (mst_in t.sent) (begins r carry restarts j)) first in
       ap (λ (f : ℕ → Bool). f k) (heard_mdt (known_of r) (behind_ats r jobs carry restarts t.sent j))
       ∙ false_from_ne_true ((behind_ats r jobs carry restarts t.sent j).now.heard k) (λ is. false≢true (sym (ap (λ (o : Option Heard). is_some o) none) ∙ on.hears is))
-
-  pub phase_now : (t : CycleView) (j : List CycleView) → IsNext r jobs carry restarts t j → (behind_mdt r jobs carry restarts t.sent j).now.phase ≡ t.phase
-  phase_now t j next = (turn_mdt (known_of r) (behind_ats r jobs carry restarts t.sent j)).phase_is ∙ (ats_leave r jobs carry restarts t j 0).phase_is ∙ sym next.phase
 
   pub turns_now : (t u : CycleView) (j : List CycleView) → fall_of (known_of r) (behind_mdt r jobs carry restarts u.sent j) ≡ None → restarts (length (u ∷ j)) 0 ≡ false
       → (behind_mdt r jobs carry restarts t.sent (u ∷ j)).turns ≡ (behind_mdt r jobs carry restarts u.sent j).now ∷ (behind_mdt r jobs carry restarts u.sent j).turns

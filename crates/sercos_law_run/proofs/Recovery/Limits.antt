@@ -4,9 +4,9 @@ use Rattle.sercos_service_master.specs.Calls as channel
 use Rattle.sercos_law_channel.specs.Pace.ChannelCalls.{AreSent}
 use Rattle.sercos_law_run.proofs.Views.Members.{members_count}
 use Rattle.sercos_law_run.proofs.Headline.HeadlineRuns.{all_stand}
-use Rattle.sercos_law_run.proofs.Undisturbed.ChannelsKept.{calls_now}
+use Rattle.sercos_law_run.proofs.Undisturbed.ChannelsKept.{calls_now, phase_now}
 use Rattle.sercos_law_run.proofs.Undisturbed.Arriving.Sending.{sends_in}
-use Rattle.sercos_law_run.proofs.Recovery.LateDown.{not_one, phase_now}
+use Rattle.sercos_law_run.proofs.Recovery.LateDown.{not_one}
 use Rattle.sercos_law_run.proofs.Stations.Limits.{not_at_limit}
 
 -- THE RING FALLS if a step is at its limit.

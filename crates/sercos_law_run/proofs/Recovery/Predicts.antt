@@ -7,10 +7,10 @@ use Rattle.sercos_law_run.proofs.Headline.HeadlineRuns.{all_stand, first_store, 
 use Rattle.sercos_law_run.proofs.Headline.StopRuns.{IsFollowed, no_plan_made}
 use Rattle.sercos_law_run.proofs.Headline.WellRuns.{event_stop, told_once, or_none}
 use Rattle.sercos_law_run.proofs.Undisturbed.JobsBegun.{asked_now, begun_then}
-use Rattle.sercos_law_run.proofs.Recovery.LateDown.{phase_now}
 use Rattle.sercos_law_run.proofs.Recovery.CausedStops.{cause, caused, right_in}
 use Rattle.sercos_law_run.proofs.Cited.{reads_well}
 use Rattle.sercos_law_run.proofs.Undisturbed.Cited.{fits_in_three}
+use Rattle.sercos_law_run.proofs.Undisturbed.ChannelsKept.{phase_now}
 
 module _ (r : RingView) (jobs : List Job) (carry : Carry) (restarts : Restarts) (opened : IsOpened r jobs) (t : CycleView)
     (j : List CycleView) (run : IsRun r jobs carry restarts (t ∷ j)) (clear : IsClear (t ∷ j)) where

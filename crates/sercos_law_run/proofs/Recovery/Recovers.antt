@@ -12,7 +12,6 @@ use Rattle.sercos_law_run.proofs.Undisturbed.Stops.StopOnce.{same_start}
 use Rattle.sercos_law_run.proofs.Undisturbed.ToldInTime.{beyond, left_in_time, one_more_time, told_if_left, told_since}
 use Rattle.sercos_law_run.proofs.Recovery.AfterFalls.{after_fall}
 use Rattle.sercos_law_run.proofs.Recovery.InTwo.{greatest_low}
-use Rattle.sercos_law_run.proofs.Recovery.LateDown.{phase_now}
 use Rattle.sercos_law_run.proofs.Recovery.CausedStops.{right_in}
 use Rattle.sercos_law_run.proofs.Recovery.Stretches.{whole_at}
 use Rattle.sercos_law_run.proofs.Tolerance.Borne.{IsBase, borne_on, some_drive}
@@ -21,6 +20,7 @@ use Rattle.sercos_law_run.proofs.Tolerance.Ends.{ends_at}
 use Rattle.sercos_law_run.proofs.Tolerance.Reported.{some_times}
 use Rattle.sercos_law_run.proofs.Tolerance.Rises.{rises_sparse}
 use Rattle.sercos_law_run.proofs.Tolerance.Since.{IsBorneSince, IsSoon, back_since, borne_or_soon, right_four, tells_since}
+use Rattle.sercos_law_run.proofs.Undisturbed.ChannelsKept.{phase_now}
 
 -- WHAT ENDS ALIKE: of two ways to write a list, the longer end goes on from the shorter one.
 record IsSuffix (r : RingView) (carry : Carry) (restarts : Restarts) (base rest : List CycleView) : Type 0 where

@@ -15,12 +15,12 @@ use Rattle.sercos_law_run.proofs.Undisturbed.Stops.StopOnce.{same_start}
 use Rattle.sercos_law_run.proofs.Undisturbed.Checks.ShortLists.{few_blocks, lists_short, longest_list}
 use Rattle.sercos_law_run.proofs.Recovery.DownSince.{shorter, up_all, calm_quiet}
 use Rattle.sercos_law_run.proofs.Recovery.FallsSoon.{busy_slowest}
-use Rattle.sercos_law_run.proofs.Recovery.LateDown.{phase_now}
 use Rattle.sercos_law_run.proofs.Recovery.Stretches.{rest_clear, rest_runs}
 use Rattle.sercos_law_run.proofs.Recovery.UpSections.{ended_by, goes_on_since, none_lost}
 use Rattle.sercos_law_run.proofs.Cited.{tasks_end}
 use Rattle.sercos_law_run.proofs.Agenda.WritesDone.{some_at}
 use Rattle.sercos_law_run.proofs.Tolerance.CostsSparse.{recent_if}
+use Rattle.sercos_law_run.proofs.Undisturbed.ChannelsKept.{phase_now}
 
 some_plan_is : (o : Option PlanView) → is_some o ≡ true → (p : PlanView) × (o ≡ Some p)
 some_plan_is None some = cc

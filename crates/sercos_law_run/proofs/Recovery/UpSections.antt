@@ -7,7 +7,7 @@ use Rattle.sercos_law_run.proofs.Undisturbed.InOrder.{in_order}
 use Rattle.sercos_law_run.proofs.Undisturbed.JobPlaces.{some_plan}
 use Rattle.sercos_law_run.proofs.Undisturbed.JobsBegun.{begun_now, few_now, places_now}
 use Rattle.sercos_law_run.proofs.Recovery.DownSince.{NeverRestarts, calm_quiet, in_two, outcomes_stay}
-use Rattle.sercos_law_run.proofs.Recovery.LateDown.{no_lower, phase_now}
+use Rattle.sercos_law_run.proofs.Recovery.LateDown.{no_lower}
 use Rattle.sercos_law_run.proofs.Recovery.ReadsInOrder.{reads_in_order}
 use Rattle.sercos_law_run.proofs.Recovery.SectionCosts.{reads_within, writes_within}
 use Rattle.sercos_law_run.proofs.Recovery.Stretches.{rest_clear, rest_runs, clean_or_down}
@@ -17,6 +17,7 @@ use Rattle.sercos_law_run.proofs.Cited.{tasks_end}
 use Rattle.sercos_law_run.proofs.Tolerance.Losses.{none_lost_since}
 use Rattle.sercos_law_run.proofs.Tolerance.CostsSparse.{opens_if, recent_if}
 use Rattle.sercos_law_run.proofs.Undisturbed.PhaseTwo.{listed_all}
+use Rattle.sercos_law_run.proofs.Undisturbed.ChannelsKept.{phase_now}
 
 module _ (r : RingView) (jobs : List Job) (carry : Carry) (restarts : Restarts) (opened : IsOpened r jobs) where
   -- WHAT WAS BEGUN up to a request that has ended

@@ -11,7 +11,7 @@ use Rattle.sercos_law_run.proofs.Undisturbed.Checks.PassedRuns.{passed_in}
 use Rattle.sercos_law_run.proofs.Undisturbed.Arriving.Small.{never_both}
 use Rattle.sercos_law_run.proofs.Undisturbed.StaysUp.{addressed_once, begun_none, heard_then, idle_then, whole_now}
 use Rattle.sercos_law_run.proofs.Undisturbed.Arriving.WholeIn.{whole_in}
-use Rattle.sercos_law_run.proofs.Recovery.LateDown.{phase_after, phase_now, turns_now}
+use Rattle.sercos_law_run.proofs.Recovery.LateDown.{phase_after, turns_now}
 use Rattle.sercos_law_run.proofs.Recovery.Limits.{not_old}
 use Rattle.sercos_law_run.proofs.Recovery.Stretches.{whole_at}
 use Rattle.sercos_law_run.proofs.Tolerance.FirstCycles.{never_first}
@@ -19,6 +19,7 @@ use Rattle.sercos_law_run.proofs.Tolerance.Losses.{early_kept, none_lost_in}
 use Rattle.sercos_law_run.proofs.Tolerance.NoFallSo.{at_second, count_next, mst_second}
 use Rattle.sercos_law_run.proofs.Tolerance.Standing.{hears_whole, lost_so, stays_same, takes_whole, took_mdt, zero_up}
 use Rattle.sercos_law_run.proofs.Tolerance.Steps.{IsYoung, IsYoungSince, never_some, older, oldest, rested, young_both, young_lost, young_taken}
+use Rattle.sercos_law_run.proofs.Undisturbed.ChannelsKept.{phase_now}
 
 -- A cycle is disturbed or not.
 pub calm_or_not : (r : RingView) (carry : Carry) (restarts : Restarts) (t : CycleView) (j : List CycleView)

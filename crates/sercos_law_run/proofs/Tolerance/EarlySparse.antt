@@ -2,13 +2,13 @@
 use Rattle.sercos_law_run.proofs.Words.{cases_Option, cases_Bool, ◌≡◌, ◌⊎◌, inl, inr, ℕ, zero, suc, ◌+◌, ◌<◌, ◌≤◌, Bool, true, false, not, ◌&&◌, List, [], ◌∷◌, ◌++◌, length, Some, None, refl, sym, ap, ◌∙◌, arith, if◌then◌else◌, ◌==◌, cases_eq, false≢true, not-true, Job, RingView, CycleView, known_of, Past, Turn, first_place, has_identified, is_done, is_done_in, is_identified, whole_row, first_found, Carry, Restarts, is_disturbed_in, looks_back, master_calls, IsClear, IsDisturbed, IsRun, at_start, behind_ats, behind_mdt, behind_mst, IsOpened, came_back, IsUndisturbed, early_cost, early_costs, AreSparse, or_right}
 use Rattle.sercos_law_run.proofs.Views.MasterSame.{turn_mdt}
 use Rattle.sercos_law_run.proofs.Views.Members.{members_count}
-use Rattle.sercos_law_run.proofs.Undisturbed.ChannelsKept.{ats_leave}
+use Rattle.sercos_law_run.proofs.Undisturbed.ChannelsKept.{ats_leave, phase_now}
 use Rattle.sercos_law_run.proofs.Undisturbed.Identified.{heard_next}
 use Rattle.sercos_law_run.proofs.Undisturbed.NoFalls.{heard_mdt}
 use Rattle.sercos_law_run.proofs.Undisturbed.PhaseCounts.{end_kept}
 use Rattle.sercos_law_run.proofs.Undisturbed.PhasesRise.{phase_after}
 use Rattle.sercos_law_run.proofs.Undisturbed.PhaseZero.{few_back, stays_zero}
-use Rattle.sercos_law_run.proofs.Undisturbed.StaysUp.{addressed_first, found_passes, phase_now, stands_so, turns_now}
+use Rattle.sercos_law_run.proofs.Undisturbed.StaysUp.{addressed_first, found_passes, stands_so, turns_now}
 use Rattle.sercos_law_run.proofs.Tolerance.Borne.{IsBase, IsBorne, borne_on, calm_or_not}
 use Rattle.sercos_law_run.proofs.Undisturbed.Stops.StopOnce.{same_start}
 use Rattle.sercos_law_run.proofs.Undisturbed.Stops.StopStays.{none_before}
@@ -170,7 +170,7 @@ module _ (r : RingView) (jobs : List Job) (carry : Carry) (restarts : Restarts) 
       first : (k : ℕ) × (first_place (known_of r) (λ k. not (is_identified (now t j) k)) ≡ Some k)
       first = elim (cases_Option (first_place (known_of r) (λ k. not (is_identified (now t j) k)))) [
         | inl none ↦ let off = rw none at (sym (ap (λ (n : ℕ). is_done_in n (known_of r) (now t j))
-            (phase_now r jobs carry restarts opened t j run.1 ∙ one)) ∙ unfinished) in rw none (absurd (false≢true (sym off)))
+            (phase_now r jobs carry restarts t j run.1 ∙ one)) ∙ unfinished) in rw none (absurd (false≢true (sym off)))
         | inr some ↦ rw some.1 (some.0, refl)
       ]
 
@@ -179,13 +179,13 @@ module _ (r : RingView) (jobs : List Job) (carry : Carry) (restarts : Restarts) 
       → Borne u j → IsUndisturbed r carry restarts t (u ∷ j) → IsUndisturbed r carry restarts u j
       → t.phase ≡ 1 → u.phase ≡ 1 → is_done (known_of r) (now u j) ≡ false → known (back (u ∷ j)).turns + 1 ≤ known (back (t ∷ u ∷ j)).turns
   one_more t u j run clear is was calm calm_before one was_one unfinished =
-      let u_phase : (now u j).now.phase ≡ 1 = phase_now r jobs carry restarts opened u j run.0.1 ∙ was_one in
+      let u_phase : (now u j).now.phase ≡ 1 = phase_now r jobs carry restarts u j run.0.1 ∙ was_one in
       let x = unknown u j run.0 was was_one unfinished in
       let inside : x.place < length r.drives = let all = members_count r in let less = x.low in omega (arith, all, less) in
       count_more (length (known_of r).drives) x.place (λ k. has_identified k (back (u ∷ j)).turns)
       (λ k. has_identified k (back (t ∷ u ∷ j)).turns) stay x.low x.off (ap (has_identified x.place) (turns_after t (u ∷ j) run is)
       ∙ (rw (
-        (phase_now r jobs carry restarts opened t (u ∷ j) run.1 ∙ one),
+        (phase_now r jobs carry restarts t (u ∷ j) run.1 ∙ one),
         (ap (λ (f : ℕ → Bool). f x.place) (heard_mdt (known_of r) (behind_ats r jobs carry restarts t.sent (u ∷ j)))
             ∙ heard_next r jobs carry restarts opened t u j run calm calm_before x.place inside one u_phase
             (addressed_first (known_of r) (behind_ats r jobs carry restarts u.sent j) u_phase ∙ x.first)

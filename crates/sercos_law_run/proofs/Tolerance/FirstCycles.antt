@@ -12,8 +12,9 @@ use Rattle.sercos_law_run.proofs.Undisturbed.PhaseRuns.{fresh_at}
 use Rattle.sercos_law_run.proofs.Undisturbed.PhaseZero.{in_zero, none_addressed}
 use Rattle.sercos_law_run.proofs.Undisturbed.StaysUp.{begun_none}
 use Rattle.sercos_law_run.proofs.Undisturbed.StaysUp as undisturbed
-use Rattle.sercos_law_run.proofs.Recovery.LateDown.{phase_now, turns_now}
+use Rattle.sercos_law_run.proofs.Recovery.LateDown.{turns_now}
 use Rattle.sercos_law_run.proofs.Undisturbed.Stops.StopOnce.{same_start}
+use Rattle.sercos_law_run.proofs.Undisturbed.ChannelsKept.{phase_now}
 
 -- OUTCOMES: one that ended well is there, and there are no more than requests begun before the cycle.
 as_many : (b : Bool) (a : Heard) (begun : List Begun) → length (if b then with_answer (answer_in a.status a.word) begun else begun) ≡ length

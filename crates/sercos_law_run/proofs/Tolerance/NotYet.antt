@@ -4,9 +4,10 @@ use Rattle.sercos_law_run.proofs.Agenda.AtWork.{found_some}
 use Rattle.sercos_law_run.proofs.Views.Members.{members_count}
 use Rattle.sercos_law_run.proofs.Undisturbed.JobsBegun.{begun_now}
 use Rattle.sercos_law_run.proofs.Undisturbed.Stops.StopStays.{stop_after}
-use Rattle.sercos_law_run.proofs.Recovery.LateDown.{phase_now, no_lower}
+use Rattle.sercos_law_run.proofs.Recovery.LateDown.{no_lower}
 use Rattle.sercos_law_run.proofs.Tolerance.Borne.{IsBase, IsBorne, borne_on, some_drive}
 use Rattle.sercos_law_run.proofs.Tolerance.EarlySparse.{phase_is, rose, none_earlier}
+use Rattle.sercos_law_run.proofs.Undisturbed.ChannelsKept.{phase_now}
 
 -- What a disturbed cycle costs a channel is what it costs a start-up, up to phase 3.
 abbrev pub start_for : ℕ → ℕ

@@ -12,12 +12,12 @@ use Rattle.sercos_law_run.proofs.Undisturbed.Checks.PassedCycles.{views_split}
 use Rattle.sercos_law_run.proofs.Undisturbed.Checks.PassedRuns.{commands_so}
 use Rattle.sercos_law_run.proofs.Undisturbed.PhaseTwo.{listed_all}
 use Rattle.sercos_law_run.proofs.Undisturbed.ToldInTime.{IsQuiet, beyond, left_waiting, told_along, told_if_few, one_more_time}
-use Rattle.sercos_law_run.proofs.Recovery.LateDown.{phase_now}
 use Rattle.sercos_law_run.proofs.Tolerance.Borne.{IsBorne, all_borne}
 use Rattle.sercos_law_run.proofs.Tolerance.EarlySparse.{start_is}
 use Rattle.sercos_law_run.proofs.Tolerance.InARow.{AreInARow, row_lasts}
 use Rattle.sercos_law_run.proofs.Tolerance.Spared.{spared_in}
 use Rattle.sercos_law_run.proofs.Tolerance.Steps.{IsYoung}
+use Rattle.sercos_law_run.proofs.Undisturbed.ChannelsKept.{phase_now}
 
 pub some_times : (i c : ℕ) → c ≤ suc i * c
 some_times i c = grind arith

@@ -11,13 +11,14 @@ use Rattle.sercos_law_run.proofs.Undisturbed.Arriving.WholeIn.{whole_in}
 use Rattle.sercos_law_run.proofs.Undisturbed.Arriving.Small.{never_both}
 use Rattle.sercos_law_run.proofs.Recovery.DownSince.{NeverRestarts}
 use Rattle.sercos_law_run.proofs.Recovery.UpSections.{no_lower_on}
-use Rattle.sercos_law_run.proofs.Recovery.LateDown.{phase_after, phase_now}
+use Rattle.sercos_law_run.proofs.Recovery.LateDown.{phase_after}
 use Rattle.sercos_law_run.proofs.Recovery.Stretches.{whole_at}
 use Rattle.sercos_law_run.proofs.Tolerance.Borne.{HasStood, IsBorne, IsHeld, aged_after, aged_all, calm_or_not, next_held}
 use Rattle.sercos_law_run.proofs.Tolerance.FirstCycles.{never_first}
 use Rattle.sercos_law_run.proofs.Tolerance.Losses.{none_lost_in}
 use Rattle.sercos_law_run.proofs.Tolerance.Standing.{hears_whole, takes_whole}
 use Rattle.sercos_law_run.proofs.Tolerance.Steps.{IsYoungSince, young_at_last, young_first}
+use Rattle.sercos_law_run.proofs.Undisturbed.ChannelsKept.{phase_now}
 
 -- the master restarts in none of sparse cycles
 pub sparse_quiet : (r : RingView) (carry : Carry) (restarts : Restarts) (cycles before : List CycleView)

@@ -12,13 +12,13 @@ use Rattle.sercos_law_run.proofs.Undisturbed.PhaseTwo.{listed_all, section_two, 
 use Rattle.sercos_law_run.proofs.Undisturbed.Sections.{never_idle, more_or_same, sum_most}
 use Rattle.sercos_law_run.proofs.Undisturbed.Stops.StopStays.{stop_after}
 use Rattle.sercos_law_run.proofs.Views.Members.{member_is}
-use Rattle.sercos_law_run.proofs.Recovery.LateDown.{phase_now}
 use Rattle.sercos_law_run.proofs.Tolerance.Borne.{IsBase, IsBorne, borne_on}
 use Rattle.sercos_law_run.proofs.Tolerance.CostsShared.{all_few, sum_both}
 use Rattle.sercos_law_run.proofs.Tolerance.CostsSparse.{lost_few, lost_more, opens_so, spare_for}
 use Rattle.sercos_law_run.proofs.Tolerance.EarlySparse.{phase_is, rose, none_earlier}
 use Rattle.sercos_law_run.proofs.Tolerance.TwoLasts.{each_fits, low_before, two_counts}
 use Rattle.sercos_law_run.proofs.Tolerance.Losses.{more_if}
+use Rattle.sercos_law_run.proofs.Undisturbed.ChannelsKept.{phase_now}
 
 -- SUMS without one place
 abbrev pub without : ℕ → (ℕ → ℕ) → ℕ → ℕ

@@ -9,10 +9,10 @@ use Rattle.sercos_law_run.proofs.Undisturbed.PhaseTwo.{listed_all, section_two, 
 use Rattle.sercos_law_run.proofs.Undisturbed.Sections.{one_works}
 use Rattle.sercos_law_run.proofs.Undisturbed.Stops.StopStays.{stop_after}
 use Rattle.sercos_law_run.proofs.Undisturbed.NoFalls.{was_low}
-use Rattle.sercos_law_run.proofs.Recovery.LateDown.{phase_now}
 use Rattle.sercos_law_run.proofs.Tolerance.Borne.{IsBase, IsBorne, borne_on}
 use Rattle.sercos_law_run.proofs.Tolerance.CostsShared.{costs_shared}
 use Rattle.sercos_law_run.proofs.Tolerance.EarlySparse.{early_sparse, phase_is, phase_next, rose, none_earlier}
+use Rattle.sercos_law_run.proofs.Undisturbed.ChannelsKept.{phase_now}
 
 none_in : (n : ℕ) → sum_below n (λ k. 0) ≡ 0
 none_in zero = refl

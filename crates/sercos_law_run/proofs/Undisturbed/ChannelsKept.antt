@@ -1,5 +1,5 @@
 -- The calls of a master's channel are those that the views of its cycles give.
-use Rattle.sercos_law_run.proofs.Words.{◌≡◌, ℕ, ◌<◌, ◌≤◌, ◌||◌, Bool, true, false, ◌&&◌, List, [], ◌∷◌, length, Option, Some, None, refl, sym, ◌∙◌, ap, ap₂, subst, arith, if◌then◌else◌, ◌==◌, nat_le, is_some, nat_tests, Job, RingView, Send, EndCycle, PlanView, is_place, Known, Task, known_of, Past, settled, with_begin, addressed_in, ready_to_send, after_mdt, fall_of, leaves, CycleView, Carry, Restarts, unless_restart, calls_heard, calls_begun, calls_sent, calls_in, channel_calls, ats_in, master_calls, looks_back, IsRun, IsClear, at_start, behind_mst, behind_ats, behind_mdt, heard_last, is_told, told_to, request_of, view_of, views_of, IsOpened, inl, inr, cases_Bool}
+use Rattle.sercos_law_run.proofs.Words.{◌≡◌, ℕ, ◌<◌, ◌≤◌, ◌||◌, Bool, true, false, ◌&&◌, List, [], ◌∷◌, length, Option, Some, None, refl, sym, ◌∙◌, ap, ap₂, subst, arith, if◌then◌else◌, ◌==◌, nat_le, is_some, nat_tests, Job, RingView, Send, EndCycle, PlanView, is_place, Known, Task, known_of, Past, settled, with_begin, addressed_in, ready_to_send, after_mdt, fall_of, leaves, CycleView, Carry, Restarts, unless_restart, calls_heard, calls_begun, calls_sent, calls_in, channel_calls, ats_in, master_calls, looks_back, IsRun, IsNext, IsClear, at_start, behind_mst, behind_ats, behind_mdt, heard_last, is_told, told_to, request_of, view_of, views_of, IsOpened, inl, inr, cases_Bool}
 use Rattle.sercos_service_master.specs.Calls as channel
 use Rattle.sercos_master.specs.Annals.{begins}
 use Rattle.sercos_law_run.proofs.Views.MasterSame.{begun_cycle, HasHeard, Nothing, One, AfterAts, ats_none, turn_mdt, same_started}
@@ -51,6 +51,12 @@ pub ats_leave : (r : RingView) (jobs : List Job) (carry : Carry) (restarts : Res
     → AfterAts (known_of r) k (λ content. Unit {0}) (behind_mst r jobs carry restarts t.sent j) (behind_ats r jobs carry restarts t.sent j)
 ats_leave r jobs carry restarts t j k = ats_heard r jobs carry (length j) k (λ content. Unit {0}) (behind_mst r jobs carry restarts t.sent j) (ats_in t.sent) _
     (ats_none (known_of r) k (λ content. Unit {0}) (behind_mst r jobs carry restarts t.sent j)) (any_heard r carry (length j) (ats_in t.sent))
+
+-- the phase of a cycle is the one at its end
+pub phase_now : (r : RingView) (jobs : List Job) (carry : Carry) (restarts : Restarts) (t : CycleView) (j : List CycleView)
+    → IsNext r jobs carry restarts t j → (behind_mdt r jobs carry restarts t.sent j).now.phase ≡ t.phase
+phase_now r jobs carry restarts t j next =
+    (turn_mdt (known_of r) (behind_ats r jobs carry restarts t.sent j)).phase_is ∙ (ats_leave r jobs carry restarts t j 0).phase_is ∙ sym next.phase
 
 module _ (r : RingView) (jobs : List Job) (carry : Carry) (restarts : Restarts) (opened : IsOpened r jobs) where
   -- a channel has heard nothing of a cycle at its start

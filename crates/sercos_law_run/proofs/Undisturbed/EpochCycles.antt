@@ -5,9 +5,9 @@ use Rattle.sercos_law_run.proofs.Words.{◌≡◌, ℕ, zero, suc, ◌+◌, ◌<
 use Rattle.sercos_law_run.proofs.Held.Extended.{Extends}
 use Rattle.sercos_law_run.proofs.Undisturbed.Arriving.Comes.{calm_in}
 use Rattle.sercos_law_run.proofs.Undisturbed.Identified.{starts_so}
-use Rattle.sercos_law_run.proofs.Undisturbed.StaysUp.{phase_now}
 use Rattle.sercos_law_run.proofs.Undisturbed.Checks.PassedCycles.{views_split}
 use Rattle.sercos_law_run.proofs.Undisturbed.NeverFalls.{stays_throughout}
+use Rattle.sercos_law_run.proofs.Undisturbed.ChannelsKept.{phase_now}
 
 -- A CYCLE in which nothing is disturbed, in an epoch in which nothing was: the ring doesn't fall, the master doesn't restart, the cycle
 -- is whole for each drive, and each drive ends it in the commanded phase.
@@ -92,7 +92,7 @@ module _ (r : RingView) (jobs : List Job) (carry : Carry) (restarts : Restarts) 
   on_in t cycles before run clear starts calm =
       let all = stays_throughout r jobs carry restarts opened (t ∷ cycles) before run clear starts calm in
       record {
-        now = phase_now r jobs carry restarts opened t (cycles ++ before) run.1;
+        now = phase_now r jobs carry restarts t (cycles ++ before) run.1;
         stays = all.stays.1;
         quiet = (calm_in r carry restarts t (cycles ++ before) calm.1).stays 0 (omega arith);
         starts = starts_so r jobs carry restarts opened t (cycles ++ before) run.1 (calm_in r carry restarts t (cycles ++ before) calm.1);

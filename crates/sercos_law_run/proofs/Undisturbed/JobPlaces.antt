@@ -2,7 +2,7 @@
 use Rattle.sercos_law_run.proofs.Words.{◌≡◌, ◌⊎◌, inl, inr, ℕ, ◌+◌, ◌<◌, ◌≤◌, true, List, [], ◌∷◌, ◌++◌, length, Option, Some, None, refl, sym, ap, ◌∙◌, subst, arith, slice_get, unwrap_or, option_map, false≢true, slice_get_within, same_Some, Request, Outcome, outcome_of, PlanView, Begun, Known, Task, member, idn, reads, reads_count, writes, is_checked, ended_well, given, bytes_of, outcomes_in, with_outcome, AreWaiting, reads_length, get_left, get_right, IsTask, OfReads, OfWrites, Checks3, Lists3, Checks4, Lists4, OfWaiting, AreBegunTasks, HasEndedWell, jobs_of, AreAt}
 use Rattle.sercos_step.specs.declared.request.Request.TheVariants as request
 use Rattle.sercos_step.specs.declared.request.Outcome.TheVariants as outcome
-use Rattle.sercos_law_run.proofs.Agenda.ReadWell.{last_is}
+use Rattle.sercos_law_run.proofs.Agenda.ReadWell.{last_is, startup_until}
 
 -- each complete check for phase 3 among these has ended well
 abbrev pub Give3 : List Begun → Type 0
@@ -59,16 +59,6 @@ module _ (s : Known) (k : ℕ) where
   task_at (Some p) waiting by_then outs n t wait long early same checked few (Lists4 at failed is) = later p n 13 (sym long ∙ at) ∙ ap (λ (x : Task). Some x.request) (sym is)
   task_at plan waiting by_then outs n t wait long early same checked few (OfWaiting j at ready got) = let late = wait j t got in absurd (omega (arith, late, early))
 
-  -- a task of the start-up has no number
-  pub unnumbered : (by_then : Option PlanView) (waiting : List Task) (outs : List Outcome) (t : Task) → length outs ≤ reads_count (member s k) + 12 → IsTask s k by_then waiting outs t → t.number ≡ None
-  unnumbered by_then waiting outs t few (OfReads r less got is) = ap (λ (x : Task). x.number) is
-  unnumbered by_then waiting outs t few (OfWrites p i r has less at got is) = ap (λ (x : Task). x.number) is
-  unnumbered by_then waiting outs t few (Checks3 p has at is) = ap (λ (x : Task). x.number) is
-  unnumbered by_then waiting outs t few (Lists3 at failed is) = ap (λ (x : Task). x.number) is
-  unnumbered by_then waiting outs t few (Checks4 at well is) = ap (λ (x : Task). x.number) is
-  unnumbered by_then waiting outs t few (Lists4 at failed is) = ap (λ (x : Task). x.number) is
-  unnumbered by_then waiting outs t few (OfWaiting j at ready got) = absurd (omega (arith, few, at))
-
   -- THE CHECK FOR PHASE 3 has ended well, if something comes after it.
   checked_before : (plan : Option PlanView) (waiting : List Task) (phase : ℕ) (older : List Begun) (tasks : List Task) → AreBegunTasks s k plan waiting phase older tasks → HasEndedWell older tasks → AreAt (jobs_of s plan k) older → Give3 older
       → length older ≡ reads_count (member s k) + 12 → is_checked (member s k) (outcomes_in older) ≡ true
@@ -85,7 +75,7 @@ module _ (s : Known) (k : ℕ) where
       ended = are.1.ended ∙ (omega (arith, long))
 
       whole : (bytes : List ℕ) × (outcome_of c.request c.answers ≡ Some (outcome.Complete bytes))
-      whole = well (unnumbered are.1.by_then waiting (outcomes_in older) u (let e = ended in omega (arith, e)) are.1.task)
+      whole = well (startup_until s k are.1.by_then waiting (outcomes_in older) u (let e = ended in omega (arith, e)) are.1.task)
 
       bytes : List ℕ
       bytes = whole.0

@@ -13,11 +13,11 @@ use Rattle.sercos_law_run.proofs.Held.Runs.{drive_got, got_inside, small, wishes
 use Rattle.sercos_law_run.proofs.Headline.HeadlineRuns.{all_stand, first_store, keeps_all, spelled_in, stored_in}
 use Rattle.sercos_law_run.proofs.Headline.WellRuns.{AllWell, all_well}
 use Rattle.sercos_law_run.proofs.Undisturbed.JobPlaces.{Give3, begun_at, few_in_two, reading}
-use Rattle.sercos_law_run.proofs.Undisturbed.StaysUp.{phase_now}
 use Rattle.sercos_law_run.proofs.Undisturbed.PlanMade.{plan_made, read_same}
 use Rattle.sercos_law_run.proofs.Settings.NoCheck127.{next_still, stays}
 use Rattle.sercos_law_run.proofs.Cited.{begins_tasks, tasks_end}
 use Rattle.sercos_law_run.proofs.Start.WellLemmas.{ring_is_valid}
+use Rattle.sercos_law_run.proofs.Undisturbed.ChannelsKept.{phase_now}
 
 -- what stands in the middle of what was begun
 pub place_of : (all : List Request) (newer older : List Begun) (b : Begun) → AreAt all (newer ++ b ∷ older) → slice_get all (length older) ≡ Some b.request
@@ -141,7 +141,7 @@ module _ (r : RingView) (jobs : List Job) (carry : Carry) (restarts : Restarts) 
     -- without a stop the master goes on with phase 2, as long as that isn't done
     pub goes_in_two : t.phase ≡ 2 → now.stop ≡ None → is_done (known_of r) now ≡ false → GoesOnInTwo r now
     goes_in_two two none unfinished =
-        let phase : now.now.phase ≡ 2 = phase_now r jobs carry restarts opened t j run.1 ∙ two in
+        let phase : now.now.phase ≡ 2 = phase_now r jobs carry restarts t j run.1 ∙ two in
         record {
           phase = phase;
           goes_on = none;

@@ -7,9 +7,10 @@ use Rattle.sercos_law_run.proofs.Undisturbed.Arriving.Comes.{calm_in}
 use Rattle.sercos_law_run.proofs.Undisturbed.Arriving.AtsTaken.{unheard_ats}
 use Rattle.sercos_law_run.proofs.Undisturbed.Identified.{starts_so, goes_so, heard_next}
 use Rattle.sercos_law_run.proofs.Undisturbed.NoFalls.{heard_mdt}
-use Rattle.sercos_law_run.proofs.Undisturbed.StaysUp.{addressed_first, phase_now, turns_now, whole_now, stands_so}
+use Rattle.sercos_law_run.proofs.Undisturbed.StaysUp.{addressed_first, turns_now, whole_now, stands_so}
 use Rattle.sercos_law_run.proofs.Undisturbed.PhaseZero.{none_addressed, few_back, zero_waits}
 use Rattle.sercos_law_run.proofs.Undisturbed.PhaseCounts.{Waits, Identifies, LastTo, IsZero, IsOne, zero_next, tenth_next, first_unknown, one_next, one_done}
+use Rattle.sercos_law_run.proofs.Undisturbed.ChannelsKept.{phase_now}
 
 awaits_last : (m k : ℕ) (turns : List Turn) → LastTo m turns → (k + 1 == m) ≡ false → is_place k (addressed_before turns) ≡ false
 awaits_last zero k turns last other = ap (is_place k) last
@@ -46,7 +47,7 @@ module _ (r : RingView) (jobs : List Job) (carry : Carry) (restarts : Restarts) 
       (calm : IsUndisturbed r carry restarts t j) (stays : fall_of (known_of r) (behind_mdt r jobs carry restarts t.sent j) ≡ None) (n : ℕ)
       (waits : Waits n (looks_back r jobs (master_calls r carry restarts j))) where
     zero_is : (behind_mdt r jobs carry restarts t.sent j).now.phase ≡ 0
-    zero_is = phase_now r jobs carry restarts opened t j run.1 ∙ next_phase_is t j run calm ∙ waits.phase_is
+    zero_is = phase_now r jobs carry restarts t j run.1 ∙ next_phase_is t j run calm ∙ waits.phase_is
 
     in_zero : IsZero n (behind_mdt r jobs carry restarts t.sent j)
     in_zero = record {
@@ -69,7 +70,7 @@ module _ (r : RingView) (jobs : List Job) (carry : Carry) (restarts : Restarts) 
       (now : Identifies m (looks_back r jobs (master_calls r carry restarts j)))
       (hears : (k : ℕ) → (k + 1 == m) ≡ true → (behind_ats r jobs carry restarts t.sent j).now.heard k ≡ true) where
     one_is : (behind_mdt r jobs carry restarts t.sent j).now.phase ≡ 1
-    one_is = phase_now r jobs carry restarts opened t j run.1 ∙ next_phase_is t j run calm ∙ now.phase_is
+    one_is = phase_now r jobs carry restarts t j run.1 ∙ next_phase_is t j run calm ∙ now.phase_is
 
     start_is : at_start r jobs carry restarts j ≡ looks_back r jobs (master_calls r carry restarts j)
     start_is = starts_so r jobs carry restarts opened t j run.1 (calm_in r carry restarts t j calm)
@@ -115,7 +116,7 @@ module _ (r : RingView) (jobs : List Job) (carry : Carry) (restarts : Restarts) 
       subst (λ (p : Past). LastTo (suc i) p.turns)
       (sym (starts_so r jobs carry restarts opened t (c ∷ j) run.1 (calm_in r carry restarts t (c ∷ j) calm))
       ∙ goes_so r jobs carry restarts opened t c j run calm before (omega (arith, one))) now.last in
-      let first : c.phase ≡ 1 = sym (phase_now r jobs carry restarts opened c j run.0.1) ∙ last.0 in
+      let first : c.phase ≡ 1 = sym (phase_now r jobs carry restarts c j run.0.1) ∙ last.0 in
       subst (λ (n : ℕ). (behind_ats r jobs carry restarts t.sent (c ∷ j)).now.heard n ≡ true) (grind (arith, nat_tests, is))
       (heard_next r jobs carry restarts opened t c j run calm before i (omega (arith, most)) one last.0 last.1
       (stands_so r jobs carry restarts opened c j run.0 clear.0 before (omega (arith, first)) i (omega (arith, most)) ∙ first))

@@ -6,7 +6,7 @@ use Rattle.sercos_law_run.proofs.Views.MasterSame.{HasHeard, Nothing, One, turn_
 use Rattle.sercos_law_run.proofs.Views.Members.{in_ring}
 use Rattle.sercos_law_run.proofs.Held.Runs.{kept_at_mst, begun_then}
 use Rattle.sercos_law_run.proofs.Headline.HeadlineRuns.{first_store, stored_in, spelled_in, all_stand}
-use Rattle.sercos_law_run.proofs.Undisturbed.ChannelsKept.{ats_leave, unheard_first, calls_now}
+use Rattle.sercos_law_run.proofs.Undisturbed.ChannelsKept.{ats_leave, unheard_first, calls_now, phase_now}
 use Rattle.sercos_law_run.proofs.Undisturbed.Arriving.Comes.{calm_in}
 use Rattle.sercos_law_run.proofs.Undisturbed.Identified.{phase_comes, mst_whole, starts_so, goes_so, heard_next}
 use Rattle.sercos_law_run.proofs.Undisturbed.NoFalls.{heard_mdt, has_risen, no_fall}
@@ -67,9 +67,6 @@ unheard_addressed s p k one to =
 
 module _ (r : RingView) (jobs : List Job) (carry : Carry) (restarts : Restarts) (opened : IsOpened r jobs) where
   -- what a cycle's ATs and its MDT leave of the turn
-  pub phase_now : (t : CycleView) (j : List CycleView) → IsNext r jobs carry restarts t j → (behind_mdt r jobs carry restarts t.sent j).now.phase ≡ t.phase
-  phase_now t j next = (turn_mdt (known_of r) (behind_ats r jobs carry restarts t.sent j)).phase_is ∙ (ats_leave r jobs carry restarts t j 0).phase_is ∙ sym next.phase
-
   pub turns_now : (t : CycleView) (j : List CycleView) → (behind_mdt r jobs carry restarts t.sent j).turns ≡ (at_start r jobs carry restarts j).turns
   turns_now t j = (turn_mdt (known_of r) (behind_ats r jobs carry restarts t.sent j)).turns_are ∙ (ats_leave r jobs carry restarts t j 0).turns_are
 
@@ -114,9 +111,9 @@ module _ (r : RingView) (jobs : List Job) (carry : Carry) (restarts : Restarts) 
           → (if was && here then count_addressed k (behind_mdt r jobs carry restarts before.sent j).turns + 1 else 0) ≡ 0
       by true true was here =
           let was_one : (behind_mdt r jobs carry restarts before.sent j).now.phase ≡ 1 = eqb-true (behind_mdt r jobs carry restarts before.sent j).now.phase 1 was in
-          let first : before.phase ≡ 1 = sym (phase_now before j run.0.1) ∙ was_one in
+          let first : before.phase ≡ 1 = sym (phase_now r jobs carry restarts before j run.0.1) ∙ was_one in
           absurd (false≢true (sym (unheard_addressed (known_of r) (behind_ats r jobs carry restarts t.sent (before ∷ j)) k
-          (phase_now t (before ∷ j) run.1 ∙ one) to) ∙ (heard_next r jobs carry restarts opened t before j run now_calm then_calm k below
+          (phase_now r jobs carry restarts t (before ∷ j) run.1 ∙ one) to) ∙ (heard_next r jobs carry restarts opened t before j run now_calm then_calm k below
           one was_one (place_so k (behind_mdt r jobs carry restarts before.sent j).now.addressed here)
           (stands_so before j run.0 clear.0 then_calm (omega (arith, first)) k below ∙ first))))
       by true false was here = refl
@@ -132,8 +129,8 @@ module _ (r : RingView) (jobs : List Job) (carry : Carry) (restarts : Restarts) 
       no_fall (known_of r) (behind_mdt r jobs carry restarts t.sent (cycles ++ before)) (has_risen (known_of r) (tasks_for (known_of r) jobs) (middle r carry restarts t.sent (cycles ++ before))) (record {
         whole = whole_now t (cycles ++ before) run.1 now_calm;
         hears = λ late k below. ap (λ (f : ℕ → Bool). f k) (heard_mdt (known_of r) (behind_ats r jobs carry restarts t.sent (cycles ++ before)))
-            ∙ heard_then t (cycles ++ before) run clear k (in_ring r k below) (hears (subst (λ (n : ℕ). 3 ≤ n) (phase_now t (cycles ++ before) run.1) late) k (in_ring r k below));
-        identifies = λ one k below to. let none : count_addressed k (behind_mdt r jobs carry restarts t.sent (cycles ++ before)).turns ≡ 0 = once cycles run clear calm now_calm (sym (phase_now t (cycles ++ before) run.1) ∙ one) k (in_ring r k below) to in omega (arith, none);
+            ∙ heard_then t (cycles ++ before) run clear k (in_ring r k below) (hears (subst (λ (n : ℕ). 3 ≤ n) (phase_now r jobs carry restarts t (cycles ++ before) run.1) late) k (in_ring r k below));
+        identifies = λ one k below to. let none : count_addressed k (behind_mdt r jobs carry restarts t.sent (cycles ++ before)).turns ≡ 0 = once cycles run clear calm now_calm (sym (phase_now r jobs carry restarts t (cycles ++ before) run.1) ∙ one) k (in_ring r k below) to in omega (arith, none);
         answers = λ other k below. short k (in_ring r k below) (nat_le 2 t.phase) refl;
       })
     where

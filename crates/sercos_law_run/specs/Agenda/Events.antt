@@ -26,8 +26,10 @@ AreEquivalent a b = (a → b) × (b → a)
 abbrev pub AreTold : Type 0
 AreTold = (s : Known) (p : Past) (e : EventsView) (number : ℕ) (o : Outcome) →
     AreEquivalent (HasOutcome (events_told s p e).outcomes number o)
-    (HasOutcome e.outcomes number o ⊎ ((k : ℕ) × (k < length s.drives) × HasReport (told_at_end (is_some (fall_of s p)) (p.now.report k) (broken p k) []) number o))
+    (HasOutcome e.outcomes number o ⊎
+    ((k : ℕ) × (k < length s.drives) × HasReport (told_at_end (is_some (fall_of s p)) (p.now.report k) (broken p k) []) number o))
 
 abbrev pub AreToldAtRestart : Type 0
 AreToldAtRestart = (s : Known) (p : Past) (e : EventsView) (number : ℕ) (o : Outcome) →
-    AreEquivalent (HasOutcome (restart_told s p e).outcomes number o) (HasOutcome e.outcomes number o ⊎ ((k : ℕ) × (k < length s.drives) × HasReport (with_told (broken p k) []) number o))
+    AreEquivalent (HasOutcome (restart_told s p e).outcomes number o) (HasOutcome e.outcomes number o ⊎
+    ((k : ℕ) × (k < length s.drives) × HasReport (with_told (broken p k) []) number o))

@@ -21,7 +21,8 @@ Ascend i (t ∷ tasks) = (n : ℕ) × (t.number ≡ Some n) × (i ≤ n) × Asce
 
 -- THE REQUESTS TO A DRIVE are of phase 4 and have numbers, which ascend: so no number occurs twice.
 abbrev pub AreRequests : Type 0
-AreRequests = (s : Known) (jobs : List Job) (k : ℕ) → AreWaiting (tasks_for s jobs k) × AreNumbered (tasks_for s jobs k) × Ascend 1 (tasks_for s jobs k)
+AreRequests = (s : Known) (jobs : List Job) (k : ℕ) → AreWaiting (tasks_for s jobs k) × AreNumbered (tasks_for s jobs k) ×
+    Ascend 1 (tasks_for s jobs k)
 
 -- reports, with one more if there is one
 abbrev pub with_told : Option Report → List Report → List Report
@@ -31,14 +32,15 @@ with_told (Some r) reports = r ∷ reports
 abbrev pub told_at_end : Bool → Option Report → Option Report → List Report → List Report
 told_at_end falls ended broken reports = if falls then with_told broken (with_told ended reports) else with_told ended reports
 
--- What was reported of the requests to the drive at place k: at the end of each cycle the request that an AT ended in it, and after that, at a
--- fall, the broken one; at a restart the broken one.
+-- What was reported of the requests to the drive at place k: at the end of each cycle the request that an AT ended in it, and after that,
+-- at a fall, the broken one; at a restart the broken one.
 abbrev pub told : Known → (ℕ → List Task) → ℕ → List Call → List Report
 told s requests k [] = []
 told s requests k (HearMst content ∷ h) = told s requests k h
 told s requests k (HearAt content ∷ h) = told s requests k h
 told s requests k (Mdt ∷ h) = told s requests k h
-told s requests k (End ∷ h) = told_at_end (is_some (fall_of s (past s requests h))) ((past s requests h).now.report k) (broken (past s requests h) k) (told s requests k h)
+told s requests k (End ∷ h) = told_at_end (is_some (fall_of s (past s requests h))) ((past s requests h).now.report k)
+    (broken (past s requests h) k) (told s requests k h)
 told s requests k (Restart ∷ h) = with_told (broken (past s requests h) k) (told s requests k h)
 
 -- numbers with that of a report before them, if there is one; and with those of all reports before them, the newest last
@@ -84,7 +86,8 @@ RestartsAtStart (Restart ∷ h) = RestartsAtStart h × IsAtStart h
 -- reports, then the open one, then those that wait, are the requests to this drive in their order. So a request is reported at
 -- most once, and what is broken isn't begun again.
 abbrev pub TellsInOrder : Type 0
-TellsInOrder = (s : Known) (requests : ℕ → List Task) (h : List Call) (k : ℕ) → AreNumbered (requests k) → k < length s.drives → RestartsAtStart h →
+TellsInOrder = (s : Known) (requests : ℕ → List Task) (h : List Call) (k : ℕ) → AreNumbered (requests k) → k < length s.drives →
+    RestartsAtStart h →
     after_told (told s requests k h) (still_to_tell (channel_at (past s requests h) k)) ≡ task_numbers (requests k)
 
 -- the numbers of these reports rise from each to the newer one
@@ -95,14 +98,17 @@ Descend (r ∷ q ∷ reports) = (q.number < r.number) × Descend (q ∷ reports)
 
 -- So the numbers of what was reported to a drive rise, and no request is reported twice.
 abbrev pub TellsOnce : Type 0
-TellsOnce = (s : Known) (jobs : List Job) (h : List Call) (k : ℕ) → k < length s.drives → RestartsAtStart h → Descend (told s (tasks_for s jobs) k h)
+TellsOnce = (s : Known) (jobs : List Job) (h : List Call) (k : ℕ) → k < length s.drives → RestartsAtStart h →
+    Descend (told s (tasks_for s jobs) k h)
 
 -- One of the requests that were begun has the number of the report, and ended so. Requests and tasks have their newest item first.
 abbrev pub IsReportOf : Report → List Begun → List Task → Type 0
-IsReportOf r (b ∷ older) (t ∷ tasks) = ((t.number ≡ Some r.number) × (outcome_of b.request b.answers ≡ Some r.outcome)) ⊎ IsReportOf r older tasks
+IsReportOf r (b ∷ older) (t ∷ tasks) = ((t.number ≡ Some r.number) × (outcome_of b.request b.answers ≡ Some r.outcome)) ⊎
+    IsReportOf r older tasks
 IsReportOf r _ _ = ⊥
 
 -- RIGHT REPORTS. A request that is reported as ended was begun in this epoch, and ended so.
 abbrev pub TellsRight : Type 0
-TellsRight = (s : Known) (requests : ℕ → List Task) (h : List Call) (k : ℕ) (r : Report) → k < length s.drives → (channel_at (past s requests h) k).report ≡ Some r →
+TellsRight = (s : Known) (requests : ℕ → List Task) (h : List Call) (k : ℕ) (r : Report) → k < length s.drives →
+    (channel_at (past s requests h) k).report ≡ Some r →
     IsReportOf r (channel_at (past s requests h) k).begun (channel_at (past s requests h) k).tasks

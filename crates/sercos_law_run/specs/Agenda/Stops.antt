@@ -49,7 +49,8 @@ pub record IsBadAttribute (s : Known) (p : Past) (address : ℕ) (i : Idn) (word
 
 -- All attributes were read, and by them the data records are too long for an MDT. The stop names the last value of four bytes.
 abbrev pub AreTooLong : Known → Past → Stop → Type 0
-AreTooLong s p x = (all_read s p ≡ true) × (nat_le (record_bytes (wishes_given s (outcomes p)).drives) 2047 ≡ false) × (last_long_stop s.drives 0 (outcomes p) ≡ Some x)
+AreTooLong s p x = (all_read s p ≡ true) × (nat_le (record_bytes (wishes_given s (outcomes p)).drives) 2047 ≡ false) ×
+    (last_long_stop s.drives 0 (outcomes p) ≡ Some x)
 
 -- The check that is `after` requests after the reads is complete at the drive with this address, but hasn't ended well; and then
 -- the drive returned this list.
@@ -66,22 +67,27 @@ pub record HasFailedCheck (s : Known) (p : Past) (after address : ℕ) (list : L
 
 -- THE STOPS. With `NoFit` all reads have ended, and no plan fits what they gave.
 abbrev pub NoFitHasCause : Type 0
-NoFitHasCause = (s : Known) (requests : ℕ → List Task) (h : List Call) (chain : ChainView) → (past s requests h).stop ≡ Some (stop.NoFit chain) →
+NoFitHasCause = (s : Known) (requests : ℕ → List Task) (h : List Call) (chain : ChainView) →
+    (past s requests h).stop ≡ Some (stop.NoFit chain) →
     (all_read s (past s requests h) ≡ true) × (planned (wishes_given s (outcomes (past s requests h))) ≡ Err chain)
 
 abbrev pub RefusedHasCause : Type 0
-RefusedHasCause = (s : Known) (requests : ℕ → List Task) (h : List Call) (address : ℕ) (i : Idn) (code : Code) → (past s requests h).stop ≡ Some (stop.Refused address i code) →
+RefusedHasCause = (s : Known) (requests : ℕ → List Task) (h : List Call) (address : ℕ) (i : Idn) (code : Code) →
+    (past s requests h).stop ≡ Some (stop.Refused address i code) →
     HasRefused s (past s requests h) address i code
 
 abbrev pub BadConfigHasCause : Type 0
-BadConfigHasCause = (s : Known) (requests : ℕ → List Task) (h : List Call) (address : ℕ) (i : Idn) (word : ℕ) → (past s requests h).stop ≡ Some (stop.BadConfig address i word) →
+BadConfigHasCause = (s : Known) (requests : ℕ → List Task) (h : List Call) (address : ℕ) (i : Idn) (word : ℕ) →
+    (past s requests h).stop ≡ Some (stop.BadConfig address i word) →
     IsBadAttribute s (past s requests h) address i word ⊎ AreTooLong s (past s requests h) (stop.BadConfig address i word)
 
 -- The check for phase 3 is 11 requests after the reads, and that for phase 4 is 12 after them.
 abbrev pub Check127HasCause : Type 0
-Check127HasCause = (s : Known) (requests : ℕ → List Task) (h : List Call) (address : ℕ) (list : List Idn) → ((j : ℕ) → AreNumbered (requests j)) → (past s requests h).stop ≡ Some (stop.Check127 address (record { items = list })) →
+Check127HasCause = (s : Known) (requests : ℕ → List Task) (h : List Call) (address : ℕ) (list : List Idn) →
+    ((j : ℕ) → AreNumbered (requests j)) → (past s requests h).stop ≡ Some (stop.Check127 address (record { items = list })) →
     HasFailedCheck s (past s requests h) 11 address list
 
 abbrev pub Check128HasCause : Type 0
-Check128HasCause = (s : Known) (requests : ℕ → List Task) (h : List Call) (address : ℕ) (list : List Idn) → ((j : ℕ) → AreNumbered (requests j)) → (past s requests h).stop ≡ Some (stop.Check128 address (record { items = list })) →
+Check128HasCause = (s : Known) (requests : ℕ → List Task) (h : List Call) (address : ℕ) (list : List Idn) →
+    ((j : ℕ) → AreNumbered (requests j)) → (past s requests h).stop ≡ Some (stop.Check128 address (record { items = list })) →
     HasFailedCheck s (past s requests h) 12 address list

@@ -35,19 +35,25 @@ pub record IsWrittenLast (blocks : List Block) (begun : List Begun) (idn : Idn) 
 pub record IsConfigured (s : Known) (k : ℕ) (blocks : List Block) (made : Option PlanView) (begun : List Begun) : Type 0 where
   pub plan : PlanView
   pub plan_is : made ≡ Some plan
-  pub each : (i : ℕ) (idn : Idn) (bytes : List ℕ) → slice_get (writes s plan k) i ≡ Some (request.Write idn data_element bytes) → IsWrittenLast blocks begun idn bytes
+  pub each : (i : ℕ) (idn : Idn) (bytes : List ℕ) → slice_get (writes s plan k) i ≡ Some (request.Write idn data_element bytes) →
+      IsWrittenLast blocks begun idn bytes
 
 -- each write of a plan writes operation data
 abbrev pub WritesData : Type 0
-WritesData = (s : Known) (plan : PlanView) (k i : ℕ) → i < 11 → (idn : Idn) × (bytes : List ℕ) × (slice_get (writes s plan k) i ≡ Some (request.Write idn data_element bytes)) × (slice_get start_numbers i ≡ Some idn.raw)
+WritesData = (s : Known) (plan : PlanView) (k i : ℕ) → i < 11 → (idn : Idn) × (bytes : List ℕ) ×
+    (slice_get (writes s plan k) i ≡ Some (request.Write idn data_element bytes)) × (slice_get start_numbers i ≡ Some idn.raw)
 
 -- THE WRITES. From where the check for phase 3 has been begun, and up to phase 3, each write of the plan is complete, and nothing
 -- newer writes to its identifier number.
 abbrev pub ConfiguresFromCheck : Type 0
-ConfiguresFromCheck = (s : Known) (requests : ℕ → List Task) (h : List Call) (k : ℕ) (blocks : List Block) → ((j : ℕ) → AreWaiting (requests j)) → k < length s.drives → (past s requests h).now.phase ≤ 3 →
-    reads_count (member s k) + 11 < length (begun_by ((past s requests h).calls k)) → IsConfigured s k blocks (past s requests h).plan (begun_by ((past s requests h).calls k))
+ConfiguresFromCheck = (s : Known) (requests : ℕ → List Task) (h : List Call) (k : ℕ) (blocks : List Block) →
+    ((j : ℕ) → AreWaiting (requests j)) → k < length s.drives → (past s requests h).now.phase ≤ 3 →
+    reads_count (member s k) + 11 < length (begun_by ((past s requests h).calls k)) →
+    IsConfigured s k blocks (past s requests h).plan (begun_by ((past s requests h).calls k))
 
 -- So it is where the check for phase 3 has ended well, as it has in phase 3 and where the phase rises to 3.
 abbrev pub ConfiguresAtRise : Type 0
-ConfiguresAtRise = (s : Known) (requests : ℕ → List Task) (h : List Call) (k : ℕ) (blocks : List Block) → ((j : ℕ) → AreWaiting (requests j)) → k < length s.drives → (past s requests h).now.phase ≤ 3 →
-    is_checked (member s k) (outcomes (past s requests h) k) ≡ true → IsConfigured s k blocks (past s requests h).plan (begun_by ((past s requests h).calls k))
+ConfiguresAtRise = (s : Known) (requests : ℕ → List Task) (h : List Call) (k : ℕ) (blocks : List Block) →
+    ((j : ℕ) → AreWaiting (requests j)) → k < length s.drives → (past s requests h).now.phase ≤ 3 →
+    is_checked (member s k) (outcomes (past s requests h) k) ≡ true →
+    IsConfigured s k blocks (past s requests h).plan (begun_by ((past s requests h).calls k))

@@ -37,7 +37,8 @@ command_cycles d = (d.busy + 1) * 4 + d.command
 -- A command reads its status as long as it runs, and once more. With `polls` such reads the writes of phase 2 have 49 answers, and one
 -- for each identifier number and poll: they fit into their cycles. So does the command of phase 3, with three answers and the polls.
 abbrev pub FewWrites : Type 0
-FewWrites = (d : DriveView) (polls : ℕ) → (d.busy + 1) * polls ≤ d.command + (d.busy + 1) → (d.busy + 1) * (49 + listed d + polls) ≤ write_cycles d
+FewWrites = (d : DriveView) (polls : ℕ) → (d.busy + 1) * polls ≤ d.command + (d.busy + 1) →
+    (d.busy + 1) * (49 + listed d + polls) ≤ write_cycles d
 
 abbrev pub FewStatuses : Type 0
 FewStatuses = (d : DriveView) (polls : ℕ) → (d.busy + 1) * polls ≤ d.command + (d.busy + 1) → (d.busy + 1) * (3 + polls) ≤ command_cycles d
@@ -45,19 +46,22 @@ FewStatuses = (d : DriveView) (polls : ℕ) → (d.busy + 1) * polls ≤ d.comma
 -- Phase 2 is commanded first in a cycle `two`, phase 3 in `three` and phase 4 in `four`. In phase 2 one drive is read or written after
 -- the other; in phase 3 the commands of all drives run side by side. Then phase 4 begins within the bound of a start-up.
 abbrev pub IsStarted : Type 0
-IsStarted = (r : RingView) (two three four : ℕ) → two ≤ 12 + 2 * length r.drives → three ≤ two + sum_by read_cycles r.drives + sum_by write_cycles r.drives + 4 →
+IsStarted = (r : RingView) (two three four : ℕ) → two ≤ 12 + 2 * length r.drives →
+    three ≤ two + sum_by read_cycles r.drives + sum_by write_cycles r.drives + 4 →
     four ≤ three + greatest command_cycles r.drives + 4 → four ≤ startup_bound r
 
 -- A stop in phase 2, because no plan fits or a drive refuses a value, is within that bound too.
 abbrev pub IsRefusedEarly : Type 0
-IsRefusedEarly = (r : RingView) (two stop : ℕ) → two ≤ 12 + 2 * length r.drives → stop ≤ two + sum_by read_cycles r.drives + sum_by write_cycles r.drives + 4 → stop ≤ startup_bound r
+IsRefusedEarly = (r : RingView) (two stop : ℕ) → two ≤ 12 + 2 * length r.drives →
+    stop ≤ two + sum_by read_cycles r.drives + sum_by write_cycles r.drives + 4 → stop ≤ startup_bound r
 
 -- One in phase 3 follows the read of the list of the blocks that the check refuses: 36 identifier numbers, with 41 answers.
 abbrev pub refusal_cycles : DriveView → ℕ
 refusal_cycles d = command_cycles d + 41 * (d.busy + 1)
 
 abbrev pub IsRefusedLate : Type 0
-IsRefusedLate = (r : RingView) (two three stop : ℕ) → two ≤ 12 + 2 * length r.drives → three ≤ two + sum_by read_cycles r.drives + sum_by write_cycles r.drives + 4 →
+IsRefusedLate = (r : RingView) (two three stop : ℕ) → two ≤ 12 + 2 * length r.drives →
+    three ≤ two + sum_by read_cycles r.drives + sum_by write_cycles r.drives + 4 →
     stop ≤ three + greatest refusal_cycles r.drives + 4 → stop ≤ startup_bound r + 41 * (slowest r.drives + 2)
 
 -- The requests to a drive, one after the other from phase 4 on, have these numbers of answers: each at most 517, or those of a command,
@@ -69,13 +73,15 @@ AreShort d (n ∷ counts) = AreShort d counts × ((n ≤ 517) ⊎ ((d.busy + 1) 
 -- If phase 4 begins in a cycle `four` within a limit, each request adds the cycles that this profile allows it to the limit, up to the
 -- cycle in which the last of them is reported.
 abbrev pub IsReported : Type 0
-IsReported = (d : DriveView) (counts : List ℕ) (limit four cycle : ℕ) → AreShort d counts → four ≤ limit → cycle ≤ four + (d.busy + 1) * sum counts →
+IsReported = (d : DriveView) (counts : List ℕ) (limit four cycle : ℕ) → AreShort d counts → four ≤ limit →
+    cycle ≤ four + (d.busy + 1) * sum counts →
     cycle ≤ limit + length counts * ((d.busy + 2) * (520 + d.command))
 
 -- A recovery without a fall after the last disturbed cycle `lost`: what was left of the start-up took no longer than a whole one, or a
 -- refusal.
 abbrev pub IsBackAtOnce : Type 0
-IsBackAtOnce = (r : RingView) (lost cycle : ℕ) → cycle ≤ lost + startup_bound r + 41 * (slowest r.drives + 2) → 1 ≤ length r.drives → cycle ≤ lost + recovery_bound r
+IsBackAtOnce = (r : RingView) (lost cycle : ℕ) → cycle ≤ lost + startup_bound r + 41 * (slowest r.drives + 2) → 1 ≤ length r.drives →
+    cycle ≤ lost + recovery_bound r
 
 -- the longer of the two sections that a drive has in phase 2
 abbrev pub section_cycles : DriveView → ℕ
@@ -105,10 +111,12 @@ AreSections = (d : DriveView) → (read_cycles d ≤ section_cycles d) × (write
 -- A recovery with a fall, since drive `d` was in phase 0. Each other drive has had at most one of its sections before that was noticed;
 -- then a whole start-up follows, or a refusal. A drive is busy for at most 20 cycles.
 abbrev pub IsBackLater : Type 0
-IsBackLater = (r : RingView) (before after : List DriveView) (d : DriveView) (lost fall cycle : ℕ) → r.drives ≡ before ++ d ∷ after → slowest r.drives ≤ 20 →
+IsBackLater = (r : RingView) (before after : List DriveView) (d : DriveView) (lost fall cycle : ℕ) → r.drives ≡ before ++ d ∷ after →
+    slowest r.drives ≤ 20 →
     fall ≤ lost + 67 + sum_by section_cycles (before ++ after) →
     cycle ≤ fall + 1 + startup_bound r + 41 * (slowest r.drives + 2) → cycle ≤ lost + recovery_bound r
 
 -- Side by side: a number of cycles within the bound of one drive is within the largest of the bounds.
 abbrev pub IsBelowGreatest : Type 0
-IsBelowGreatest = (bound : DriveView → ℕ) (drives : List DriveView) (k : ℕ) (d : DriveView) (cycles : ℕ) → slice_get drives k ≡ Some d → cycles ≤ bound d → cycles ≤ greatest bound drives
+IsBelowGreatest = (bound : DriveView → ℕ) (drives : List DriveView) (k : ℕ) (d : DriveView) (cycles : ℕ) → slice_get drives k ≡ Some d →
+    cycles ≤ bound d → cycles ≤ greatest bound drives

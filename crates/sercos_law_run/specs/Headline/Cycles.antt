@@ -31,7 +31,8 @@ HaveRealBits sent = All (λ s. s.bits ≡ length (frame_of s.content)) sent
 -- each drive in phase 3 or 4 holds agrees with the MDT, which consists of these data records.
 abbrev pub AreApartIn : RingView → Carry → Restarts → CycleView → List CycleView → Type 0
 AreApartIn r carry restarts t j =
-    3 ≤ t.phase → (records : List (List ℕ)) × IsApart (wishes_of r) (held_by (takes_part r carry restarts t j) (store_in_cycle r carry restarts t j)) records t.sent
+    3 ≤ t.phase → (records : List (List ℕ)) ×
+    IsApart (wishes_of r) (held_by (takes_part r carry restarts t j) (store_in_cycle r carry restarts t j)) records t.sent
 
 -- the phase that was commanded in the cycle before; before the first cycle it is 0
 abbrev pub phase_before : List CycleView → ℕ

@@ -13,9 +13,10 @@ use Rattle.sercos_law_run.specs.Headline.Transfers.{IsExactAt, IsToldAt, AreRepo
 
 -- In a cycle commanded phase 3 or 4 all telegrams lie apart and keep every drive's declared times. No drive is in a higher phase than the
 -- later one commanded in this cycle or the one before. All transfers are exact, and reported once and in order: the numbers of the requests
--- that end in the cycle ascend in its record, and none of them ended in an earlier cycle. Both ends of each service channel are in step. The
--- master stops with `NoFit` only if no plan fits the ring's requirements, and never with `BadConfig` or `Check127`.
-pub record KeepsAll (r : RingView) (jobs : List Job) (carry : Carry) (restarts : Restarts) (t : CycleView) (j : List CycleView) : Type 0 where
+-- that end in the cycle ascend in its record, and none of them ended in an earlier cycle. Both ends of each service channel are in step.
+-- The master stops with `NoFit` only if no plan fits the ring's requirements, and never with `BadConfig` or `Check127`.
+pub record KeepsAll (r : RingView) (jobs : List Job) (carry : Carry) (restarts : Restarts) (t : CycleView)
+    (j : List CycleView) : Type 0 where
   pub apart : AreApartIn r carry restarts t j
   pub real : HaveRealBits t.sent
   pub no_later : (k : ℕ) → k < length r.drives → StandsNoLater r carry restarts t j k
@@ -28,5 +29,6 @@ pub record KeepsAll (r : RingView) (jobs : List Job) (carry : Carry) (restarts :
 
 -- This holds in the newest cycle of every run without undetected damage so far, regardless of losses and restarts.
 abbrev pub Headline : Type 0
-Headline = (r : RingView) (jobs : List Job) (carry : Carry) (restarts : Restarts) (t : CycleView) (j : List CycleView) → IsOpened r jobs → IsRun r jobs carry restarts (t ∷ j) → IsClear (t ∷ j) →
+Headline = (r : RingView) (jobs : List Job) (carry : Carry) (restarts : Restarts) (t : CycleView) (j : List CycleView) → IsOpened r jobs →
+    IsRun r jobs carry restarts (t ∷ j) → IsClear (t ∷ j) →
     KeepsAll r jobs carry restarts t j

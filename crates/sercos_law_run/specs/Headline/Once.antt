@@ -10,4 +10,5 @@ use Rattle.sercos_law_run.specs.Headline.Records.{AreOnce}
 
 -- In every run of a valid ring, whatever arrives, a request ends once by the records, and the numbers ascend in each.
 abbrev pub OnceAlways : Type 0
-OnceAlways = (r : RingView) (jobs : List Job) (carry : Carry) (restarts : Restarts) (t : CycleView) (j : List CycleView) → is_ring r ≡ true → IsRun r jobs carry restarts (t ∷ j) → AreOnce t j
+OnceAlways = (r : RingView) (jobs : List Job) (carry : Carry) (restarts : Restarts) (t : CycleView) (j : List CycleView) →
+    is_ring r ≡ true → IsRun r jobs carry restarts (t ∷ j) → AreOnce t j

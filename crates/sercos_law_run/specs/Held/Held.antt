@@ -16,7 +16,8 @@ use Rattle.sercos_law_channel.specs.Handshake.Values.{newest_to}
 -- A write is held if the newest of the drive's writes to its identifier number has its bytes.
 abbrev pub IsHeld : List Block → List Write → Request → Type 0
 IsHeld blocks writes (request.Read idn e) = Unit {0}
-IsHeld blocks writes (request.Write idn e bytes) = (b : Block) → find_block idn.raw blocks ≡ Some b → newest_to idn.raw writes ≡ Some (stored b bytes)
+IsHeld blocks writes (request.Write idn e bytes) = (b : Block) → find_block idn.raw blocks ≡ Some b →
+    newest_to idn.raw writes ≡ Some (stored b bytes)
 IsHeld blocks writes (request.Command idn) = Unit {0}
 
 abbrev pub AreHeld : List Block → List Write → List Request → Type 0
@@ -32,4 +33,5 @@ HoldsThePlan s k blocks p own = 3 ≤ p.now.phase → (plan : PlanView) × (p.pl
 abbrev pub AreProtected : List Block → List ℕ → Type 0
 AreProtected blocks [] = Unit {0}
 AreProtected blocks (raw ∷ numbers) =
-    ((b : Block) → find_block raw blocks ≡ Some b → (is_protected b.attribute 3 ≡ true) × (is_protected b.attribute 4 ≡ true)) × AreProtected blocks numbers
+    ((b : Block) → find_block raw blocks ≡ Some b → (is_protected b.attribute 3 ≡ true) × (is_protected b.attribute 4 ≡ true)) ×
+    AreProtected blocks numbers

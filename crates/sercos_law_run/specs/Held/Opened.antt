@@ -16,4 +16,5 @@ pub record IsOpened (r : RingView) (jobs : List Job) : Type 0 where
   pub valid : is_ring r ≡ true
   pub typed : AreTyped r
   pub jobs_typed : AreTypedJobs jobs
-  pub requests : (k i : ℕ) (t : Task) → k < length r.drives → slice_get (tasks_for (known_of r) jobs k) i ≡ Some t → IsSound (store_of (drive_at r k)) t.request
+  pub requests : (k i : ℕ) (t : Task) → k < length r.drives → slice_get (tasks_for (known_of r) jobs k) i ≡ Some t →
+      IsSound (store_of (drive_at r k)) t.request

@@ -8,12 +8,14 @@ use Rattle.sercos_script.specs.Cuts.{OnlyCuts}
 
 -- A link is harmless if what arrives of a frame is this frame, nothing, or bits that are not a frame.
 abbrev pub IsHarmless : Carry → Type 0
-IsHarmless carry = (p : Passage) (bits : List Bool) → reason_of bits ≡ None → IfSome (carry p bits) (λ came. reason_of came ≡ None → came ≡ bits)
+IsHarmless carry = (p : Passage) (bits : List Bool) → reason_of bits ≡ None →
+    IfSome (carry p bits) (λ came. reason_of came ≡ None → came ≡ bits)
 
 -- It is harmless after cuts if the same holds of the beginning of a frame, which is what a link before it may leave of one: it makes no
 -- frame of this. A whole frame is such a beginning too.
 abbrev pub IsHarmlessAfterCuts : Carry → Type 0
-IsHarmlessAfterCuts carry = (p : Passage) (bits rest : List Bool) → reason_of (bits ++ rest) ≡ None → IfSome (carry p bits) (λ came. reason_of came ≡ None → came ≡ bits)
+IsHarmlessAfterCuts carry = (p : Passage) (bits rest : List Bool) → reason_of (bits ++ rest) ≡ None →
+    IfSome (carry p bits) (λ came. reason_of came ≡ None → came ≡ bits)
 
 -- A link that changes nothing is harmless after cuts.
 abbrev pub QuietIsHarmless : Type 0

@@ -85,11 +85,13 @@ own_mst carry cycle mst h = HearMst (heard carry (passage cycle kinds.Mst 0 0) m
 
 -- up to the MDT's place of a cycle
 abbrev pub mid_calls : RingView → Carry → Restarts → ℕ → List ℕ → List (List ℕ) → List Call → List Call
-mid_calls r carry restarts cycle mst ats h = master.Mdt ∷ at_calls r carry cycle ats (own_mst carry cycle mst (begin_calls restarts cycle h))
+mid_calls r carry restarts cycle mst ats h = master.Mdt ∷
+    at_calls r carry cycle ats (own_mst carry cycle mst (begin_calls restarts cycle h))
 
 abbrev pub master_calls : RingView → Carry → Restarts → List CycleView → List Call
 master_calls r carry restarts [] = []
-master_calls r carry restarts (t ∷ j) = End ∷ mid_calls r carry restarts (length j) (mst_in t.sent) (ats_in t.sent) (master_calls r carry restarts j)
+master_calls r carry restarts (t ∷ j) = End ∷ mid_calls r carry restarts (length j) (mst_in t.sent) (ats_in t.sent)
+    (master_calls r carry restarts j)
 
 -- the telegrams of a cycle, in a ring of a rate
 abbrev pub sent_at : ℕ → ℕ → List ℕ → SentView
@@ -101,11 +103,21 @@ start_before zero = pos 0
 start_before (suc n) = negsuc n
 
 abbrev pub sent_mst : List ℕ → SentView
-sent_mst content = record { kind = kinds.Mst; start = start_before (length (frame_of content)); bits = length (frame_of content); content = content }
+sent_mst content = record {
+  kind = kinds.Mst;
+  start = start_before (length (frame_of content));
+  bits = length (frame_of content);
+  content = content;
+}
 
 abbrev pub sent_mdt : ℕ → Option Sent → List SentView
 sent_mdt rate None = []
-sent_mdt rate (Some s) = (record { kind = kinds.Mdt; start = pos (rate * s.start); bits = length (frame_of s.content); content = s.content }) ∷ []
+sent_mdt rate (Some s) = (record {
+  kind = kinds.Mdt;
+  start = pos (rate * s.start);
+  bits = length (frame_of s.content);
+  content = s.content;
+}) ∷ []
 
 -- The ATs of a cycle by their starts, and those of one start in the order of the ring.
 abbrev pub inserted : Said → List Said → List Said
@@ -139,7 +151,8 @@ move_of late address before after = if before == after then [] else (record { dr
 
 abbrev pub moves_below : Bool → ℕ → (ℕ → DriveView) → ℕ → (ℕ → List DriveCall) → (ℕ → List DriveCall) → List Move
 moves_below late zero d rate g h = []
-moves_below late (suc n) d rate g h = moves_below late n d rate g h ++ move_of late (d n).address (phase_at (d n) rate (g n)) (phase_at (d n) rate (h n))
+moves_below late (suc n) d rate g h = moves_below late n d rate g h ++
+    move_of late (d n).address (phase_at (d n) rate (g n)) (phase_at (d n) rate (h n))
 
 -- The unseen arrivals of a cycle: of the MST at each drive and at the master, of each AT at the master, and of the MDT at each
 -- drive. The drive at place k is station k + 1.
@@ -152,11 +165,13 @@ unseen_mdt carry cycle (Some mdt) k = unseen_at carry (passage cycle kinds.Mdt 0
 
 abbrev pub unseen_ats : RingView → Carry → ℕ → List (List ℕ) → ℕ
 unseen_ats r carry cycle [] = 0
-unseen_ats r carry cycle (at ∷ ats) = unseen_at carry (passage cycle kinds.At (station_of r (slice_index at 0)) 0) at + unseen_ats r carry cycle ats
+unseen_ats r carry cycle (at ∷ ats) = unseen_at carry (passage cycle kinds.At (station_of r (slice_index at 0)) 0) at +
+    unseen_ats r carry cycle ats
 
 abbrev pub unseen_in : RingView → Carry → ℕ → List ℕ → List (List ℕ) → Option (List ℕ) → ℕ
 unseen_in r carry cycle mst ats mdt =
-    sum_below (length r.drives) (unseen_mst carry cycle mst) + unseen_at carry (passage cycle kinds.Mst 0 0) mst + unseen_ats r carry cycle ats
+    sum_below (length r.drives) (unseen_mst carry cycle mst) + unseen_at carry (passage cycle kinds.Mst 0 0) mst +
+    unseen_ats r carry cycle ats
     + sum_below (length r.drives) (unseen_mdt carry cycle mdt)
 
 -- The next cycle of a run.
@@ -181,17 +196,20 @@ at_mdt carry cycle mdt h k = Mdt (mdt_heard carry cycle (k + 1) mdt) ∷ h k
 
 -- The record of a cycle, by the MST, the ATs and the MDT that are sent in it; the calls of the drives before it and up to the MST's
 -- place; what the master looks back on at the MDT's place; and the calls of the master before the cycle.
-abbrev pub cycle_record : RingView → List Job → Carry → Restarts → ℕ → ℕ → List ℕ → List Said → Option Sent → (ℕ → List DriveCall) → (ℕ → List DriveCall) → Past → List Call → CycleView
+abbrev pub cycle_record : RingView → List Job → Carry → Restarts → ℕ → ℕ → List ℕ → List Said → Option Sent → (ℕ → List DriveCall) →
+    (ℕ → List DriveCall) → Past → List Call → CycleView
 cycle_record r jobs carry restarts cycle phase mst ats mdt g h p calls = record {
   cycle = cycle;
   phase = phase;
   sent = sent_mst mst ∷ ats_said r.rate ats ++ sent_mdt r.rate mdt;
-  moves = moves_below false (length r.drives) (drive_at r) r.rate g h ++ moves_below true (length r.drives) (drive_at r) r.rate h (at_mdt carry cycle (content_of mdt) h);
+  moves = moves_below false (length r.drives) (drive_at r) r.rate g h ++
+      moves_below true (length r.drives) (drive_at r) r.rate h (at_mdt carry cycle (content_of mdt) h);
   events = events_told (known_of r) p (restart_events r jobs restarts cycle calls);
   unseen = unseen_in r carry cycle mst (contents ats) (content_of mdt);
 }
 
-abbrev pub next_from : RingView → List Job → Carry → Restarts → ℕ → Past → List ℕ → List Said → (ℕ → List DriveCall) → (ℕ → List DriveCall) → List Call → CycleView
+abbrev pub next_from : RingView → List Job → Carry → Restarts → ℕ → Past → List ℕ → List Said → (ℕ → List DriveCall) →
+    (ℕ → List DriveCall) → List Call → CycleView
 next_from r jobs carry restarts cycle now mst ats g h calls =
     let middle = looks_back r jobs (mid_calls r carry restarts cycle mst (contents ats) calls) in
     cycle_record r jobs carry restarts cycle now.now.phase mst ats (mdt_said (known_of r) middle) g h middle calls
@@ -239,15 +257,18 @@ mdt_next r jobs carry restarts sent j = sent_mdt r.rate (mdt_said (known_of r) (
 -- The drives whose phase after this MST is another than before the cycle have moved; late, those whose phase after the MDT's place
 -- is another than after the MST.
 abbrev pub moves_next : RingView → Carry → Restarts → List SentView → List CycleView → List Move
-moves_next r carry restarts sent j = moves_below false (length r.drives) (drive_at r) r.rate (given_before carry restarts j) (given_mst carry restarts sent j)
+moves_next r carry restarts sent j = moves_below false (length r.drives) (drive_at r) r.rate (given_before carry restarts j)
+    (given_mst carry restarts sent j)
 
 abbrev pub late_moves_next : RingView → Carry → Restarts → List SentView → List CycleView → List Move
-late_moves_next r carry restarts sent j = moves_below true (length r.drives) (drive_at r) r.rate (given_mst carry restarts sent j) (given_mdt carry restarts sent j)
+late_moves_next r carry restarts sent j = moves_below true (length r.drives) (drive_at r) r.rate (given_mst carry restarts sent j)
+    (given_mdt carry restarts sent j)
 
 -- What the master reports: at its restart, if it restarts, and at the end of the cycle.
 abbrev pub events_next : RingView → List Job → Carry → Restarts → List SentView → List CycleView → EventsView
 events_next r jobs carry restarts sent j =
-    events_told (known_of r) (looks_back r jobs (middle r carry restarts sent j)) (restart_events r jobs restarts (length j) (master_calls r carry restarts j))
+    events_told (known_of r) (looks_back r jobs (middle r carry restarts sent j))
+    (restart_events r jobs restarts (length j) (master_calls r carry restarts j))
 
 -- A cycle is the next one after these.
 pub record IsNext (r : RingView) (jobs : List Job) (carry : Carry) (restarts : Restarts) (t : CycleView) (j : List CycleView) : Type 0 where
@@ -285,7 +306,8 @@ disturbs_mdt carry cycle (Some mdt) k = disturbed_at carry (passage cycle kinds.
 
 abbrev pub disturbs_ats : RingView → Carry → ℕ → List (List ℕ) → Bool
 disturbs_ats r carry cycle [] = false
-disturbs_ats r carry cycle (at ∷ ats) = disturbed_at carry (passage cycle kinds.At (station_of r (slice_index at 0)) 0) at || disturbs_ats r carry cycle ats
+disturbs_ats r carry cycle (at ∷ ats) = disturbed_at carry (passage cycle kinds.At (station_of r (slice_index at 0)) 0) at ||
+    disturbs_ats r carry cycle ats
 
 abbrev pub is_disturbed_in : RingView → Carry → Restarts → ℕ → List SentView → Bool
 is_disturbed_in r carry restarts cycle sent =

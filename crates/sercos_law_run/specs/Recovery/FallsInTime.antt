@@ -20,10 +20,13 @@ pub record IsSpared (r : RingView) (limit cycles : ℕ) : Type 0 where
   pub are : r.drives ≡ earlier ++ one ∷ later
   pub few : cycles ≤ limit + sum_by section_cycles (earlier ++ later)
 
--- IF A DRIVE IS IN PHASE 0 at the end of an undisturbed cycle of phase 2 or later, and the ring falls at the end of an undisturbed one after
--- it: the cycles in between are at most the section of phase 2 that each other drive may still have, its reads or its writes, and 65 more.
--- They are undisturbed too, and the ring falls at the end of none of them.
+-- IF A DRIVE IS IN PHASE 0 at the end of an undisturbed cycle of phase 2 or later, and the ring falls at the end of an undisturbed one
+-- after it: the cycles in between are at most the section of phase 2 that each other drive may still have, its reads or its writes, and 65
+-- more. They are undisturbed too, and the ring falls at the end of none of them.
 abbrev pub FallsInTime : Type 0
-FallsInTime = (r : RingView) (jobs : List Job) (carry : Carry) (restarts : Restarts) (t : CycleView) (cycles : List CycleView) (first : CycleView) (before : List CycleView) → IsOpened r jobs →
-    IsRun r jobs carry restarts (t ∷ (cycles ++ first ∷ before)) → IsClear (t ∷ (cycles ++ first ∷ before)) → IsStretch r jobs carry restarts cycles first before → IsUndisturbed r carry restarts t (cycles ++ first ∷ before) → 2 ≤ first.phase →
-    Falls r jobs carry restarts t (cycles ++ first ∷ before) → (d : ℕ) → d < length r.drives → IsDown r jobs carry restarts d (first ∷ before) → IsSpared r 65 (length cycles)
+FallsInTime = (r : RingView) (jobs : List Job) (carry : Carry) (restarts : Restarts) (t : CycleView) (cycles : List CycleView)
+    (first : CycleView) (before : List CycleView) → IsOpened r jobs →
+    IsRun r jobs carry restarts (t ∷ (cycles ++ first ∷ before)) → IsClear (t ∷ (cycles ++ first ∷ before)) →
+    IsStretch r jobs carry restarts cycles first before → IsUndisturbed r carry restarts t (cycles ++ first ∷ before) → 2 ≤ first.phase →
+    Falls r jobs carry restarts t (cycles ++ first ∷ before) → (d : ℕ) → d < length r.drives →
+    IsDown r jobs carry restarts d (first ∷ before) → IsSpared r 65 (length cycles)

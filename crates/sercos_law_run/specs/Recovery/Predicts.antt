@@ -28,4 +28,5 @@ pub record IsPredicted (r : RingView) (t : CycleView) : Type 0 where
 
 -- So it is in each cycle of a run in which nothing was unseen so far, regardless of losses and restarts, and in a cycle of a fall too.
 abbrev pub Predicts : Type 0
-Predicts = (r : RingView) (jobs : List Job) (carry : Carry) (restarts : Restarts) (t : CycleView) (j : List CycleView) → IsOpened r jobs → IsRun r jobs carry restarts (t ∷ j) → IsClear (t ∷ j) → IsPredicted r t
+Predicts = (r : RingView) (jobs : List Job) (carry : Carry) (restarts : Restarts) (t : CycleView) (j : List CycleView) → IsOpened r jobs →
+    IsRun r jobs carry restarts (t ∷ j) → IsClear (t ∷ j) → IsPredicted r t

@@ -47,18 +47,26 @@ pub record ReturnsIn (r : RingView) (jobs : List Job) (carry : Carry) (restarts 
 
 -- What holds of the newest cycle. If no cycle is disturbed after one whose record has a fall, the ring has started up again since. If none
 -- is disturbed after the cycle `lost`, then from the bound of a recovery after `lost` on the ring is back, and no fall is reported, nor a
--- request as broken. And if phase 4 is commanded, the request to a drive at place i of those that weren't reported after `lost`, counted from
--- 0, has been reported since: at the latest i + 1 times the cycles of one request after that bound. The ring returns sooner, by the numbers
--- of its drives.
-pub record RecoversIn (r : RingView) (jobs : List Job) (carry : Carry) (restarts : Restarts) (t : CycleView) (j : List CycleView) : Type 0 where
-  pub after_fall : (cycles before : List CycleView) (f : CycleView) (x : Fall) → j ≡ cycles ++ f ∷ before → AreUndisturbed r carry restarts (t ∷ cycles) (f ∷ before) → f.events.fall ≡ Some x →
+-- request as broken. And if phase 4 is commanded, the request to a drive at place i of those that weren't reported after `lost`, counted
+-- from 0, has been reported since: at the latest i + 1 times the cycles of one request after that bound. The ring returns sooner, by the
+-- numbers of its drives.
+pub record RecoversIn (r : RingView) (jobs : List Job) (carry : Carry) (restarts : Restarts) (t : CycleView)
+    (j : List CycleView) : Type 0 where
+  pub after_fall : (cycles before : List CycleView) (f : CycleView) (x : Fall) → j ≡ cycles ++ f ∷ before →
+      AreUndisturbed r carry restarts (t ∷ cycles) (f ∷ before) → f.events.fall ≡ Some x →
       StartsAgain r jobs carry restarts t cycles (f ∷ before)
-  pub back : (cycles before : List CycleView) (lost : CycleView) → j ≡ cycles ++ lost ∷ before → AreUndisturbed r carry restarts (t ∷ cycles) (lost ∷ before) → length before + recovery_bound r ≤ length j → IsBack r t j
-  pub tells : (cycles before : List CycleView) (lost : CycleView) → j ≡ cycles ++ lost ∷ before → AreUndisturbed r carry restarts (t ∷ cycles) (lost ∷ before) → length before + recovery_bound r ≤ length j → TellsNoFall t
-  pub reports : (cycles before : List CycleView) (lost : CycleView) → j ≡ cycles ++ lost ∷ before → AreUndisturbed r carry restarts (t ∷ cycles) (lost ∷ before) → t.phase ≡ 4 → (k i : ℕ) (x : Option ℕ) → k < length r.drives
-      → slice_get (left_after r jobs carry restarts (lost ∷ before) k) i ≡ Some x → length before + recovery_bound r + (i + 1) * request_cycles r k ≤ length j → (number : ℕ) × (x ≡ Some number) × HaveTold (t ∷ cycles) number
+  pub back : (cycles before : List CycleView) (lost : CycleView) → j ≡ cycles ++ lost ∷ before →
+      AreUndisturbed r carry restarts (t ∷ cycles) (lost ∷ before) → length before + recovery_bound r ≤ length j → IsBack r t j
+  pub tells : (cycles before : List CycleView) (lost : CycleView) → j ≡ cycles ++ lost ∷ before →
+      AreUndisturbed r carry restarts (t ∷ cycles) (lost ∷ before) → length before + recovery_bound r ≤ length j → TellsNoFall t
+  pub reports : (cycles before : List CycleView) (lost : CycleView) → j ≡ cycles ++ lost ∷ before →
+      AreUndisturbed r carry restarts (t ∷ cycles) (lost ∷ before) → t.phase ≡ 4 → (k i : ℕ) (x : Option ℕ) → k < length r.drives
+      → slice_get (left_after r jobs carry restarts (lost ∷ before) k) i ≡ Some x →
+      length before + recovery_bound r + (i + 1) * request_cycles r k ≤ length j → (number : ℕ) × (x ≡ Some number) ×
+      HaveTold (t ∷ cycles) number
   pub sooner : ReturnsIn r jobs carry restarts t j
 
 -- RECOVERY. This holds in each cycle of a run, as long as nothing is undetected, regardless of losses and restarts.
 abbrev pub Recovers : Type 0
-Recovers = (r : RingView) (jobs : List Job) (carry : Carry) (restarts : Restarts) (t : CycleView) (j : List CycleView) → IsOpened r jobs → IsRun r jobs carry restarts (t ∷ j) → IsClear (t ∷ j) → RecoversIn r jobs carry restarts t j
+Recovers = (r : RingView) (jobs : List Job) (carry : Carry) (restarts : Restarts) (t : CycleView) (j : List CycleView) → IsOpened r jobs →
+    IsRun r jobs carry restarts (t ∷ j) → IsClear (t ∷ j) → RecoversIn r jobs carry restarts t j

@@ -14,7 +14,8 @@ use Rattle.sercos_law_run.specs.Undisturbed.StartUps.{NoneFalls}
 use Rattle.sercos_law_run.specs.Undisturbed.Undisturbed.{AreUndisturbed, IsUndisturbed}
 
 -- The cycle `first` and the later ones are undisturbed, and the ring falls at the end of none of them.
-pub record IsStretch (r : RingView) (jobs : List Job) (carry : Carry) (restarts : Restarts) (cycles : List CycleView) (first : CycleView) (before : List CycleView) : Type 0 where
+pub record IsStretch (r : RingView) (jobs : List Job) (carry : Carry) (restarts : Restarts) (cycles : List CycleView) (first : CycleView)
+    (before : List CycleView) : Type 0 where
   pub calm : AreUndisturbed r carry restarts cycles (first ∷ before)
   pub stays : NoneFalls r jobs carry restarts cycles (first ∷ before)
   pub first_calm : IsUndisturbed r carry restarts first before

@@ -17,8 +17,10 @@ use Rattle.sercos_law_run.specs.Settings.WellSet.{AreSetWell, StandWell, HaveSto
 -- In a run of a drive with these blocks: if the settings follow, and each check for phase 3 was set well, each complete check for
 -- phase 3 of the epoch returns 3.
 abbrev pub ChecksGive3 : ℕ → Type 0
-ChecksGive3 busy = (blocks : List Block) (past : List View) → IsRun busy past → AreSound blocks past → SettingsFollow past → AreSetWell past → HaveStores (λ blocks. is_command blocks 127 ≡ true) past →
-    (newer older : List Begun) (b : Begun) (bytes : List ℕ) → epoch_begun past ≡ newer ++ b ∷ older → b.request ≡ request.Command (idn 127) → outcome_of b.request b.answers ≡ Some (outcome.Complete bytes) → bytes ≡ 3 ∷ 0 ∷ []
+ChecksGive3 busy = (blocks : List Block) (past : List View) → IsRun busy past → AreSound blocks past → SettingsFollow past →
+    AreSetWell past → HaveStores (λ blocks. is_command blocks 127 ≡ true) past →
+    (newer older : List Begun) (b : Begun) (bytes : List ℕ) → epoch_begun past ≡ newer ++ b ∷ older →
+    b.request ≡ request.Command (idn 127) → outcome_of b.request b.answers ≡ Some (outcome.Complete bytes) → bytes ≡ 3 ∷ 0 ∷ []
 
 -- If each check for phase 3 was set well, each that is set ends well.
 abbrev pub StayWell : Type 0

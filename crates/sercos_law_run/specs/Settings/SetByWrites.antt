@@ -24,7 +24,8 @@ IsCommandAt raw (t ∷ h) = IsCommandAt raw h × (is_command t.blocks raw ≡ tr
 
 -- A procedure command is set if the newest write to it since then isn't 0.
 abbrev pub IsSetByWrites : Type 0
-IsSetByWrites = (raw : ℕ) (h : List Processed) (c : CommandHistory) (bytes : List ℕ) → AreSetBy h c → IsCommandAt raw h → newest_to raw (writes_of (log_of h)) ≡ Some bytes → (from_le_bytes w16 bytes == 0) ≡ false →
+IsSetByWrites = (raw : ℕ) (h : List Processed) (c : CommandHistory) (bytes : List ℕ) → AreSetBy h c → IsCommandAt raw h →
+    newest_to raw (writes_of (log_of h)) ≡ Some bytes → (from_le_bytes w16 bytes == 0) ≡ false →
     is_some (find_set raw (set_in c)) ≡ true
 
 -- the procedure commands at the end of a cycle, before phase 0 undoes the settings
@@ -39,7 +40,8 @@ settings_left (v ∷ past) = if (standing (v ∷ past)).ended == 0 then [] else 
 -- At the MST's place of each cycle the settings are those that the cycle before left, but none after a restart or in phase 0.
 abbrev pub SettingsFollow : List View → Type 0
 SettingsFollow [] = Unit {0}
-SettingsFollow (v ∷ past) = SettingsFollow past × (set_in v.commands ≡ (if stood_in v (standing past) == 0 then [] else (if v.drive_restarts then [] else settings_left past)))
+SettingsFollow (v ∷ past) = SettingsFollow past ×
+    (set_in v.commands ≡ (if stood_in v (standing past) == 0 then [] else (if v.drive_restarts then [] else settings_left past)))
 
 -- So the settings at each MST's place are what the records since the drive was last in phase 0 left.
 abbrev pub SetByKept : Type 0

@@ -27,7 +27,8 @@ KeepsSettings v (u ∷ past) = (set_in v.commands ≡ []) ⊎ (set_in v.commands
 -- If a check for phase 3 is set in a cycle, it ends well: it finds nothing in the drive's blocks, as the write that sets it leaves
 -- them.
 abbrev pub SetsWell : View → List View → Type 0
-SetsWell v past = (w : Write) → write_of (processed_in v past) (kept_in v past) ≡ Some w → w.raw ≡ 127 → (command_value w == 0) ≡ false → ends_well v.commands.rate 127 (with_data 127 w.bytes v.blocks) ≡ true
+SetsWell v past = (w : Write) → write_of (processed_in v past) (kept_in v past) ≡ Some w → w.raw ≡ 127 → (command_value w == 0) ≡ false →
+    ends_well v.commands.rate 127 (with_data 127 w.bytes v.blocks) ≡ true
 
 -- Both hold in each cycle.
 abbrev pub AreSetWell : List View → Type 0

@@ -52,7 +52,8 @@ pub record IsApart (w : WishesView) (held : ℕ → Option Held) (records : List
 
 -- an AT that is sent in this slot, with the address of its drive
 abbrev pub IsAtOf : WishesView → SentView → AtSlot → Type 0
-IsAtOf w s a = (s.kind ≡ At) × (s.start ≡ pos a.start) × (s.bits ≡ a.bits) × (slice_index s.content 0 ≡ (wish w a.drive).address) × (a.drive < length w.drives)
+IsAtOf w s a = (s.kind ≡ At) × (s.start ≡ pos a.start) × (s.bits ≡ a.bits) × (slice_index s.content 0 ≡ (wish w a.drive).address) ×
+    (a.drive < length w.drives)
 
 -- the ATs that are sent in these slots, in their order
 abbrev pub AreAtsOf : WishesView → List SentView → List AtSlot → Type 0
@@ -61,7 +62,8 @@ AreAtsOf w (s ∷ sent) (a ∷ ats) = IsAtOf w s a × AreAtsOf w sent ats
 AreAtsOf w _ _ = ⊥
 
 -- What a cycle sends: an MST that ends at 0, then the ATs of these slots, then the MDT of this slot.
-pub record IsSending (w : WishesView) (ats : List AtSlot) (mdt : MdtSlot) (mst : SentView) (sent : List SentView) (last : SentView) : Type 0 where
+pub record IsSending (w : WishesView) (ats : List AtSlot) (mdt : MdtSlot) (mst : SentView) (sent : List SentView)
+    (last : SentView) : Type 0 where
   pub mst_kind : mst.kind ≡ Mst
   pub mst_end : mst.start +ℤ pos mst.bits ≡ pos 0
   pub are_ats : AreAtsOf w sent ats
@@ -72,5 +74,6 @@ pub record IsSending (w : WishesView) (ats : List AtSlot) (mdt : MdtSlot) (mst :
 
 -- If the slots are apart, so are the telegrams.
 abbrev pub SendsSlots : Type 0
-SendsSlots = (w : WishesView) (held : ℕ → Option Held) (ats : List AtSlot) (mdt : MdtSlot) (mst : SentView) (sent : List SentView) (last : SentView) →
+SendsSlots = (w : WishesView) (held : ℕ → Option Held) (ats : List AtSlot) (mdt : MdtSlot) (mst : SentView) (sent : List SentView)
+    (last : SentView) →
     IsValid w → IsSending w ats mdt mst sent last → AreApart w held ats mdt → IsApart w held mdt.records (mst ∷ (sent ++ last ∷ []))

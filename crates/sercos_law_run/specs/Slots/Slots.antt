@@ -1,6 +1,6 @@
 -- The time slots of a cycle in which phase 3 or 4 is commanded, and what keeps them apart. Times without a unit are bit times
--- after the end of the cycle's MST; declared times, the gap, the cycle and what a drive holds of the plan are in microseconds, `w.rate` bits
--- each.
+-- after the end of the cycle's MST; declared times, the gap, the cycle and what a drive holds of the plan are in microseconds, `w.rate`
+-- bits each.
 use Rattle.std.specs.Prelude.{◌≡◌, ℕ, ◌+◌, ◌*◌, ◌≤◌, ◌<◌, ◌⊎◌, true, if◌then◌else◌, List, [], ◌∷◌, map, length, take, drop, Option, Some, slice_index_or}
 use Rattle.std.specs.List.{All, AllPairs, concat}
 use Rattle.sercos_model.specs.Frames.{wire_bits}

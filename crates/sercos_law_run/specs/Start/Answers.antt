@@ -53,5 +53,7 @@ SaysLength = (d : DriveView) (i : Idn) (o : Outcome) → blocks_fault [] d.block
 
 -- So the master stops at none of the attributes that are configured.
 abbrev pub NoAttributeStops : Type 0
-NoAttributeStops = (r : RingView) (k : ℕ) (d : DriveView) (address : ℕ) (i : Idn) (o : Outcome) → is_ring r ≡ true → slice_get r.drives k ≡ Some d → HaveFactors d →
-    list_any (λ (j : Idn). j.raw == i.raw) (d.at ++ d.mdt) ≡ true → IsAnswer d (request.Read i 3) o → attribute_stop address i (long_in (bytes_of o)) ≡ None
+NoAttributeStops = (r : RingView) (k : ℕ) (d : DriveView) (address : ℕ) (i : Idn) (o : Outcome) → is_ring r ≡ true →
+    slice_get r.drives k ≡ Some d → HaveFactors d →
+    list_any (λ (j : Idn). j.raw == i.raw) (d.at ++ d.mdt) ≡ true → IsAnswer d (request.Read i 3) o →
+    attribute_stop address i (long_in (bytes_of o)) ≡ None

@@ -33,18 +33,21 @@ abbrev pub is_start_number : ℕ → Bool
 is_start_number raw = list_any (λ n. n == raw) (1 ∷ 6 ∷ 7 ∷ 8 ∷ 9 ∷ 10 ∷ 15 ∷ 89 ∷ [])
 
 abbrev pub NumberHasNoCause : Type 0
-NumberHasNoCause = (d : DriveView) (blocks : List Block) (raw word : ℕ) → blocks_fault [] d.blocks ≡ None → IsStoreOf d blocks → is_start_number raw ≡ true →
+NumberHasNoCause = (d : DriveView) (blocks : List Block) (raw word : ℕ) → blocks_fault [] d.blocks ≡ None → IsStoreOf d blocks →
+    is_start_number raw ≡ true →
     write_cause_in (find_block raw blocks) 2 true (word ∷ []) ≡ None
 
 -- Nor is a word of a list of m identifier numbers, at most 16. Such a write has m + 2 words: the list's length in bytes, a zero,
 -- and the numbers.
 abbrev pub ListHasNoCause : Type 0
-ListHasNoCause = (d : DriveView) (blocks : List Block) (raw m n : ℕ) (words : List ℕ) → blocks_fault [] d.blocks ≡ None → IsStoreOf d blocks → ((raw == 16) ≡ true) ⊎ ((raw == 24) ≡ true) →
+ListHasNoCause = (d : DriveView) (blocks : List Block) (raw m n : ℕ) (words : List ℕ) → blocks_fault [] d.blocks ≡ None →
+    IsStoreOf d blocks → ((raw == 16) ≡ true) ⊎ ((raw == 24) ≡ true) →
     m ≤ 16 → length words ≡ n → n < 2 + m → write_cause_in (find_block raw blocks) 2 (n == 1 + m) (2 * m ∷ words) ≡ None
 
 -- A plan may be requested for a ring's input if no list of a drive has more than 16 entries.
 abbrev pub RingIsValid : Type 0
-RingIsValid = (r : RingView) → is_ring r ≡ true → ((k : ℕ) (d : DriveView) → slice_get r.drives k ≡ Some d → (length d.at ≤ 16) × (length d.mdt ≤ 16)) → IsValid (wishes_of r)
+RingIsValid = (r : RingView) → is_ring r ≡ true →
+    ((k : ℕ) (d : DriveView) → slice_get r.drives k ≡ Some d → (length d.at ≤ 16) × (length d.mdt ≤ 16)) → IsValid (wishes_of r)
 
 -- If a drive holds the start-up values of a plan that fits, its check for phase 3 (S-0-0127) ends well. With a cycle time within
 -- the drive's limits, its check for phase 4 (S-0-0128) ends well exactly if none of its own blocks is outside its limits.
@@ -58,5 +61,7 @@ ChecksEndWell = (r : RingView) (p : PlanView) (k : ℕ) (d : DriveView) (blocks 
 -- If the master reads the list of a check that failed, its stop has the whole list: no entry is cut off.
 abbrev pub StopsWithList : Type 0
 StopsWithList = (address rate : ℕ) (blocks : List Block) → IsStore blocks →
-    (list_stop address 21 (list_bytes (unfit_for_phase_3 rate blocks)) ≡ Some (stop.Check127 address (record { items = unfit_for_phase_3 rate blocks })))
-    × (list_stop address 22 (list_bytes (unfit_for_phase_4 blocks)) ≡ Some (stop.Check128 address (record { items = unfit_for_phase_4 blocks })))
+    (list_stop address 21 (list_bytes (unfit_for_phase_3 rate blocks)) ≡
+    Some (stop.Check127 address (record { items = unfit_for_phase_3 rate blocks })))
+    × (list_stop address 22 (list_bytes (unfit_for_phase_4 blocks)) ≡
+    Some (stop.Check128 address (record { items = unfit_for_phase_4 blocks })))

@@ -23,7 +23,8 @@ WritesKeep = (d : DriveView) (blocks : List Block) (raw phase : ℕ) (bytes : Li
 -- So does all that a step on the service channel makes of the store: the write, if it isn't refused, and the list of a check that
 -- it sets. And the blocks still ascend.
 abbrev pub BlocksKeep : Type 0
-BlocksKeep = (d : DriveView) (blocks : List Block) (w : Option Write) (c : CommandHistory) (phase : ℕ) → are_ascending blocks ≡ true → IsStoreOf d blocks →
+BlocksKeep = (d : DriveView) (blocks : List Block) (w : Option Write) (c : CommandHistory) (phase : ℕ) → are_ascending blocks ≡ true →
+    IsStoreOf d blocks →
     IfSome w (λ (w : Write). put_fault (find_block w.raw blocks) phase w.bytes ≡ None) →
     IsStoreOf d (blocks_with w c blocks) × (are_ascending (blocks_with w c blocks) ≡ true)
 
@@ -49,7 +50,8 @@ AreTaken blocks [] = Unit {0}
 AreTaken blocks (v ∷ values) = (((v.0 == 2) ≡ false → put_fault (find_block v.0 blocks) 2 v.1 ≡ None)) × AreTaken blocks values
 
 abbrev pub TakesStartUp : Type 0
-TakesStartUp = (d : DriveView) (blocks : List Block) (control cycle k : ℕ) (p : PlanView) → blocks_fault [] d.blocks ≡ None → IsStoreOf d blocks →
+TakesStartUp = (d : DriveView) (blocks : List Block) (control cycle k : ℕ) (p : PlanView) → blocks_fault [] d.blocks ≡ None →
+    IsStoreOf d blocks →
     length d.at ≤ 16 → length d.mdt ≤ 16 → AreTaken blocks (start_up control cycle p k d.at d.mdt)
 
 -- a block of the drive's own with operation data outside its limits
@@ -64,7 +66,8 @@ NamesOwn = (d : DriveView) (blocks : List Block) (cycle : ℕ) → IsStore block
 
 -- So it finds nothing iff there is none.
 abbrev pub PassesForPhase4 : Type 0
-PassesForPhase4 = (d : DriveView) (blocks : List Block) (cycle : ℕ) → IsStore blocks → blocks_fault [] d.blocks ≡ None → IsStoreOf d blocks →
+PassesForPhase4 = (d : DriveView) (blocks : List Block) (cycle : ℕ) → IsStore blocks → blocks_fault [] d.blocks ≡ None →
+    IsStoreOf d blocks →
     data_at blocks 2 ≡ to_le_bytes w16 cycle → cycle < 65536 → d.cycle_min ≤ cycle → cycle ≤ d.cycle_max →
     (unfit_for_phase_4 blocks ≡ []) ↔ (list_any is_own_outside blocks ≡ false)
 

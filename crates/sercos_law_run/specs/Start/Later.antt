@@ -19,7 +19,8 @@ NoneOf raw (v ∷ values) = ((v.0 == raw) ≡ false) × NoneOf raw values
 
 -- A write to another block leaves the values as they are.
 abbrev pub StayHeld : Type 0
-StayHeld = (blocks : List Block) (raw : ℕ) (bytes : List ℕ) (values : List (ℕ × List ℕ)) → NoneOf raw values → Holds blocks values → Holds (with_data raw bytes blocks) values
+StayHeld = (blocks : List Block) (raw : ℕ) (bytes : List ℕ) (values : List (ℕ × List ℕ)) → NoneOf raw values → Holds blocks values →
+    Holds (with_data raw bytes blocks) values
 
 -- If a drive's store holds the first n start-up values, and the next one is written, it holds the first n + 1.
 abbrev pub HoldsNext : Type 0
@@ -30,7 +31,8 @@ HoldsNext = (d : DriveView) (blocks : List Block) (control cycle k : ℕ) (p : P
 -- The block with this number is write protected in phases 3 and 4, and not in phase 2.
 abbrev pub IsProtectedLater : List Block → ℕ → Type 0
 IsProtectedLater blocks raw =
-    (a : Attribute) × (option_map (λ (b : Block). b.attribute) (find_block raw blocks) ≡ Some a) × (a.protect2 ≡ false) × (a.protect3 ≡ true) × (a.protect4 ≡ true)
+    (a : Attribute) × (option_map (λ (b : Block). b.attribute) (find_block raw blocks) ≡ Some a) × (a.protect2 ≡ false) ×
+    (a.protect3 ≡ true) × (a.protect4 ≡ true)
 
 abbrev pub AreProtectedLater : List Block → List (ℕ × List ℕ) → Type 0
 AreProtectedLater blocks [] = Unit {0}
@@ -38,13 +40,15 @@ AreProtectedLater blocks (v ∷ values) = IsProtectedLater blocks v.0 × AreProt
 
 -- So are the blocks of all start-up values.
 abbrev pub StartUpIsProtected : Type 0
-StartUpIsProtected = (d : DriveView) (blocks : List Block) (control cycle k : ℕ) (p : PlanView) → blocks_fault [] d.blocks ≡ None → IsStoreOf d blocks →
+StartUpIsProtected = (d : DriveView) (blocks : List Block) (control cycle k : ℕ) (p : PlanView) → blocks_fault [] d.blocks ≡ None →
+    IsStoreOf d blocks →
     AreProtectedLater blocks (start_up control cycle p k d.at d.mdt)
 
 -- The check for phase 3 can be set in phase 2 alone, and the check for phase 4 in phase 3 alone.
 abbrev pub IsProtectedBut3 : List Block → ℕ → Type 0
 IsProtectedBut3 blocks raw =
-    (a : Attribute) × (option_map (λ (b : Block). b.attribute) (find_block raw blocks) ≡ Some a) × (a.protect2 ≡ true) × (a.protect3 ≡ false) × (a.protect4 ≡ true)
+    (a : Attribute) × (option_map (λ (b : Block). b.attribute) (find_block raw blocks) ≡ Some a) × (a.protect2 ≡ true) ×
+    (a.protect3 ≡ false) × (a.protect4 ≡ true)
 
 abbrev pub ChecksAreProtected : Type 0
 ChecksAreProtected = (d : DriveView) (blocks : List Block) → blocks_fault [] d.blocks ≡ None → IsStoreOf d blocks →
@@ -54,15 +58,18 @@ ChecksAreProtected = (d : DriveView) (blocks : List Block) → blocks_fault [] d
 abbrev pub AreStoredWhole : List Block → List (ℕ × List ℕ) → Type 0
 AreStoredWhole blocks [] = Unit {0}
 AreStoredWhole blocks (v ∷ values) =
-    ((b : Block) → find_block v.0 blocks ≡ Some b → (if is_list b.attribute.length then v.1 else bytes_in (at_least_one (words_of v.1))) ≡ v.1) × AreStoredWhole blocks values
+    ((b : Block) → find_block v.0 blocks ≡ Some b → (if is_list b.attribute.length then v.1 else bytes_in (at_least_one (words_of v.1))) ≡
+    v.1) × AreStoredWhole blocks values
 
 -- So it is for all start-up values.
 abbrev pub StoresStartUpWhole : Type 0
-StoresStartUpWhole = (d : DriveView) (blocks : List Block) (control cycle k : ℕ) (p : PlanView) → blocks_fault [] d.blocks ≡ None → IsStoreOf d blocks →
+StoresStartUpWhole = (d : DriveView) (blocks : List Block) (control cycle k : ℕ) (p : PlanView) → blocks_fault [] d.blocks ≡ None →
+    IsStoreOf d blocks →
     AreStoredWhole blocks (start_up control cycle p k d.at d.mdt)
 
 -- The lists that the checks write change nothing that no write changes, and no value with another number.
 abbrev pub ListsStay : Type 0
 ListsStay = (d : DriveView) (c : CommandHistory) (blocks : List Block) (raw value : ℕ) → are_ascending blocks ≡ true →
     (IsStoreOf d blocks → IsStoreOf d (with_check_list c raw value blocks))
-    × ((values : List (ℕ × List ℕ)) → NoneOf 21 values → NoneOf 22 values → Holds blocks values → Holds (with_check_list c raw value blocks) values)
+    × ((values : List (ℕ × List ℕ)) → NoneOf 21 values → NoneOf 22 values → Holds blocks values →
+    Holds (with_check_list c raw value blocks) values)

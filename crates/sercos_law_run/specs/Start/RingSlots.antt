@@ -23,7 +23,8 @@ held_by takes_part stores k = if takes_part k then Some (held_in (stores k)) els
 -- What is sent in a cycle. Some of the drives that take part send, each at the T1 in its store, an AT with the address and the
 -- values of its list. The master sends the MDT at the plan's T2, with a data record for each drive of the ring, of the length
 -- that this drive requires.
-pub record AreSent (r : RingView) (p : PlanView) (takes_part : ℕ → Bool) (stores : ℕ → List Block) (ats : List AtSlot) (mdt : MdtSlot) : Type 0 where
+pub record AreSent (r : RingView) (p : PlanView) (takes_part : ℕ → Bool) (stores : ℕ → List Block) (ats : List AtSlot)
+    (mdt : MdtSlot) : Type 0 where
   pub senders : All (λ s. (s.drive < length r.drives) × (takes_part s.drive ≡ true)) ats
   pub starts : All (λ s. s.start ≡ r.rate * number_at (stores s.drive) 6) ats
   pub bits : All (λ s. s.bits ≤ wire_bits (1 + carried_len (stores s.drive) 16)) ats
@@ -40,12 +41,15 @@ AllHold r p takes_part stores = (k : ℕ) (d : DriveView) → slice_get r.drives
 -- If the plan fits the ring's requirements, the slots are apart.
 abbrev pub RingKeepsApart : Type 0
 RingKeepsApart = (r : RingView) (p : PlanView) (takes_part : ℕ → Bool) (stores : ℕ → List Block) (ats : List AtSlot) (mdt : MdtSlot) →
-    is_ring r ≡ true → IsValid (wishes_of r) → Fits (wishes_of r) p → AllHold r p takes_part stores → AreSent r p takes_part stores ats mdt →
+    is_ring r ≡ true → IsValid (wishes_of r) → Fits (wishes_of r) p → AllHold r p takes_part stores →
+    AreSent r p takes_part stores ats mdt →
     AreApart (wishes_of r) (held_by takes_part stores) ats mdt
 
 -- So the telegrams are apart that are sent in these slots.
 abbrev pub RingSendsApart : Type 0
 RingSendsApart = (r : RingView) (p : PlanView) (takes_part : ℕ → Bool) (stores : ℕ → List Block) (ats : List AtSlot) (mdt : MdtSlot)
     (mst : SentView) (sent : List SentView) (last : SentView) →
-    is_ring r ≡ true → IsValid (wishes_of r) → Fits (wishes_of r) p → AllHold r p takes_part stores → AreSent r p takes_part stores ats mdt →
-    IsSending (wishes_of r) ats mdt mst sent last → IsApart (wishes_of r) (held_by takes_part stores) mdt.records (mst ∷ (sent ++ last ∷ []))
+    is_ring r ≡ true → IsValid (wishes_of r) → Fits (wishes_of r) p → AllHold r p takes_part stores →
+    AreSent r p takes_part stores ats mdt →
+    IsSending (wishes_of r) ats mdt mst sent last →
+    IsApart (wishes_of r) (held_by takes_part stores) mdt.records (mst ∷ (sent ++ last ∷ []))

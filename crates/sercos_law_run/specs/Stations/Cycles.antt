@@ -33,7 +33,8 @@ given_start carry restarts j k = with_restart (restarts (length j) (k + 1)) (giv
 abbrev pub DrivesArePlain : RingView → Carry → Restarts → CycleView → List CycleView → Type 0
 DrivesArePlain r carry restarts t j =
     (k : ℕ) → k < length r.drives → ArePlain (drive_at r k) r.rate (given_start carry restarts j k)
-    × ArePlain (drive_at r k) r.rate (given_mst carry restarts t.sent j k) × ArePlain (drive_at r k) r.rate (given_mdt carry restarts t.sent j k)
+    × ArePlain (drive_at r k) r.rate (given_mst carry restarts t.sent j k) ×
+    ArePlain (drive_at r k) r.rate (given_mdt carry restarts t.sent j k)
 
 -- Whatever arrives, undetected damage too.
 abbrev pub AlwaysPlain : Type 0

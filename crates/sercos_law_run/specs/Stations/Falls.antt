@@ -124,5 +124,6 @@ FallsHaveCause = (r : RingView) (jobs : List Job) (carry : Carry) (restarts : Re
 -- OF SEVERAL CAUSES the own MST is the first: if the master misses it for the second time in a row, that is the fall, whatever else is
 -- missing.
 abbrev pub MstComesFirst : Type 0
-MstComesFirst = (r : RingView) (jobs : List Job) (carry : Carry) (restarts : Restarts) (t : CycleView) (j : List CycleView) → IsOpened r jobs
+MstComesFirst = (r : RingView) (jobs : List Job) (carry : Carry) (restarts : Restarts) (t : CycleView) (j : List CycleView) →
+    IsOpened r jobs
     → IsRun r jobs carry restarts (t ∷ j) → MissesMst carry t j → t.events.fall ≡ Some MstLost

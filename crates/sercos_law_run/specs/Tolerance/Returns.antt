@@ -22,8 +22,8 @@ HasFallen (t ∷ j) = ((x : Fall) × (t.events.fall ≡ Some x)) ⊎ HasFallen j
 -- What holds of the newest cycle t, after the cycles j. Take a cycle `lost` after which the disturbed cycles are sparse, and no station
 -- restarts. At most one fall comes after it: if the record of one of the cycles since has a fall, no later one has, nor reports a request
 -- as broken. If `lost` is disturbed itself, as the last cycle is that isn't sparse: from the bound of a recovery after `lost` on, and what
--- the cycles since cost a start-up, phase 4 is commanded, or the master is at a stop for its cause, and phase 4 if the ring is right; and no
--- fall is reported, nor a request as broken.
+-- the cycles since cost a start-up, phase 4 is commanded, or the master is at a stop for its cause, and phase 4 if the ring is right; and
+-- no fall is reported, nor a request as broken.
 pub record ReturnsSparse (r : RingView) (jobs : List Job) (carry : Carry) (restarts : Restarts) (t : CycleView) (j : List CycleView) :
     Type 0 where
   pub once : (cycles before : List CycleView) (lost : CycleView) → j ≡ cycles ++ lost ∷ before →

@@ -12,4 +12,5 @@ use Rattle.sercos_law_run.specs.Typed.Typed.{AreTyped}
 
 -- Every run of a typed ring with typed jobs is clear if its link is harmless, whichever stations restart.
 abbrev pub HarmlessIsClear : Type 0
-HarmlessIsClear = (r : RingView) (jobs : List Job) (carry : Carry) (restarts : Restarts) (j : List CycleView) → is_ring r ≡ true → AreTyped r → AreTypedJobs jobs → IsHarmless carry → IsRun r jobs carry restarts j → IsClear j
+HarmlessIsClear = (r : RingView) (jobs : List Job) (carry : Carry) (restarts : Restarts) (j : List CycleView) → is_ring r ≡ true →
+    AreTyped r → AreTypedJobs jobs → IsHarmless carry → IsRun r jobs carry restarts j → IsClear j

@@ -28,9 +28,11 @@ pub record Keeps (d : DriveView) (past : List Moment) : Type 0 where
 
 -- This holds at the end of every journal, whatever the links do to what is sent ..
 abbrev pub KeepsAlways : Type 0
-KeepsAlways = (r : RingView) (carry : Carry) (restarts : Restarts) (j : List CycleView) (k : ℕ) → is_ring r ≡ true → AreTyped r → k < length r.drives → Keeps (drive_at r k) (annals (drive_at r k) r.rate (given_before carry restarts j k))
+KeepsAlways = (r : RingView) (carry : Carry) (restarts : Restarts) (j : List CycleView) (k : ℕ) → is_ring r ≡ true → AreTyped r →
+    k < length r.drives → Keeps (drive_at r k) (annals (drive_at r k) r.rate (given_before carry restarts j k))
 
 -- .. and after the MST's place of each cycle.
 abbrev pub KeepsWithin : Type 0
-KeepsWithin = (r : RingView) (carry : Carry) (restarts : Restarts) (sent : List SentView) (j : List CycleView) (k : ℕ) → is_ring r ≡ true → AreTyped r → k < length r.drives →
+KeepsWithin = (r : RingView) (carry : Carry) (restarts : Restarts) (sent : List SentView) (j : List CycleView) (k : ℕ) → is_ring r ≡ true →
+    AreTyped r → k < length r.drives →
     Keeps (drive_at r k) (annals (drive_at r k) r.rate (given_mst carry restarts sent j k))

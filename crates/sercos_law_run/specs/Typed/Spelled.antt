@@ -13,5 +13,6 @@ use Rattle.sercos_law_run.specs.Typed.Typed.{AreTyped}
 -- In each next cycle of a typed ring with typed jobs the frames of MST, ATs and MDT return their contents. The words that drives
 -- show have sixteen bits, and so have those that the master sends; its elements have three.
 abbrev pub SpelledNext : Type 0
-SpelledNext = (r : RingView) (jobs : List Job) (carry : Carry) (restarts : Restarts) (t : CycleView) (j : List CycleView) → is_ring r ≡ true → AreTyped r → AreTypedJobs jobs → IsNext r jobs carry restarts t j →
+SpelledNext = (r : RingView) (jobs : List Job) (carry : Carry) (restarts : Restarts) (t : CycleView) (j : List CycleView) →
+    is_ring r ≡ true → AreTyped r → AreTypedJobs jobs → IsNext r jobs carry restarts t j →
     IsSpelled r jobs carry restarts t j

@@ -26,20 +26,28 @@ pub record HasBadCheck (r : RingView) (p : Past) : Type 0 where
 -- After the cycles of a start-up in an undisturbed epoch, phase 4 is commanded, or there is a stop, or one is to follow, since a check for
 -- phase 4 hasn't ended well.
 abbrev pub ComesToPhaseFour : Type 0
-ComesToPhaseFour = (r : RingView) (jobs : List Job) (carry : Carry) (restarts : Restarts) (t : CycleView) (cycles before : List CycleView) → IsOpened r jobs → IsRun r jobs carry restarts (t ∷ (cycles ++ before)) →
-    IsClear (t ∷ (cycles ++ before)) → StartsEpoch r jobs carry restarts before → AreUndisturbed r carry restarts (t ∷ cycles) before → startup_bound r ≤ length cycles →
-    (t.phase ≡ 4) ⊎ ((is_some (behind_mdt r jobs carry restarts t.sent (cycles ++ before)).stop ≡ true) ⊎ HasBadCheck r (looks_back r jobs (master_calls r carry restarts (cycles ++ before))))
+ComesToPhaseFour = (r : RingView) (jobs : List Job) (carry : Carry) (restarts : Restarts) (t : CycleView) (cycles before : List CycleView) →
+    IsOpened r jobs → IsRun r jobs carry restarts (t ∷ (cycles ++ before)) →
+    IsClear (t ∷ (cycles ++ before)) → StartsEpoch r jobs carry restarts before → AreUndisturbed r carry restarts (t ∷ cycles) before →
+    startup_bound r ≤ length cycles →
+    (t.phase ≡ 4) ⊎ ((is_some (behind_mdt r jobs carry restarts t.sent (cycles ++ before)).stop ≡ true) ⊎
+    HasBadCheck r (looks_back r jobs (master_calls r carry restarts (cycles ++ before))))
 
 -- And if that one has had its time, which is that of 41 steps more of the slowest drive, phase 4 is commanded, or there is a stop.
 abbrev pub ComesToAnEnd : Type 0
-ComesToAnEnd = (r : RingView) (jobs : List Job) (carry : Carry) (restarts : Restarts) (t : CycleView) (cycles before : List CycleView) → IsOpened r jobs → IsRun r jobs carry restarts (t ∷ (cycles ++ before)) →
-    IsClear (t ∷ (cycles ++ before)) → StartsEpoch r jobs carry restarts before → AreUndisturbed r carry restarts (t ∷ cycles) before → startup_bound r + 41 * (slowest r.drives + 2) ≤ length cycles →
+ComesToAnEnd = (r : RingView) (jobs : List Job) (carry : Carry) (restarts : Restarts) (t : CycleView) (cycles before : List CycleView) →
+    IsOpened r jobs → IsRun r jobs carry restarts (t ∷ (cycles ++ before)) →
+    IsClear (t ∷ (cycles ++ before)) → StartsEpoch r jobs carry restarts before → AreUndisturbed r carry restarts (t ∷ cycles) before →
+    startup_bound r + 41 * (slowest r.drives + 2) ≤ length cycles →
     (t.phase ≡ 4) ⊎ (is_some (behind_mdt r jobs carry restarts t.sent (cycles ++ before)).stop ≡ true)
 
 -- Both stay: phase 4 is commanded in each later cycle of the epoch, and a stop is the same in each.
 abbrev pub StaysAtItsEnd : Type 0
-StaysAtItsEnd = (r : RingView) (jobs : List Job) (carry : Carry) (restarts : Restarts) (t u : CycleView) (cycles before : List CycleView) → IsOpened r jobs → IsRun r jobs carry restarts (t ∷ u ∷ (cycles ++ before)) →
-    IsClear (t ∷ u ∷ (cycles ++ before)) → StartsEpoch r jobs carry restarts before → AreUndisturbed r carry restarts (t ∷ u ∷ cycles) before →
+StaysAtItsEnd = (r : RingView) (jobs : List Job) (carry : Carry) (restarts : Restarts) (t u : CycleView) (cycles before : List CycleView) →
+    IsOpened r jobs → IsRun r jobs carry restarts (t ∷ u ∷ (cycles ++ before)) →
+    IsClear (t ∷ u ∷ (cycles ++ before)) → StartsEpoch r jobs carry restarts before →
+    AreUndisturbed r carry restarts (t ∷ u ∷ cycles) before →
     (u.phase ≡ 4 → t.phase ≡ 4)
     × (is_some (behind_mdt r jobs carry restarts u.sent (cycles ++ before)).stop ≡ true →
-    (behind_mdt r jobs carry restarts t.sent (u ∷ (cycles ++ before))).stop ≡ (behind_mdt r jobs carry restarts u.sent (cycles ++ before)).stop)
+    (behind_mdt r jobs carry restarts t.sent (u ∷ (cycles ++ before))).stop ≡
+    (behind_mdt r jobs carry restarts u.sent (cycles ++ before)).stop)

@@ -24,12 +24,15 @@ Falls r jobs carry restarts t j = is_some (fall_of (known_of r) (behind_mdt r jo
 -- An epoch starts at the opening and after a fall, without an MST of it that came back; and with a cycle in which the master restarts, and
 -- after it phase 0 is commanded still, and its MST came back at most.
 abbrev pub StartsAtOpening : Type 0
-StartsAtOpening = (r : RingView) (jobs : List Job) (carry : Carry) (restarts : Restarts) → StartsEpoch r jobs carry restarts [] × (came_back r jobs carry restarts [] ≡ 0)
+StartsAtOpening = (r : RingView) (jobs : List Job) (carry : Carry) (restarts : Restarts) →
+    StartsEpoch r jobs carry restarts [] × (came_back r jobs carry restarts [] ≡ 0)
 
 abbrev pub StartsAtFall : Type 0
-StartsAtFall = (r : RingView) (jobs : List Job) (carry : Carry) (restarts : Restarts) (t : CycleView) (j : List CycleView) → Falls r jobs carry restarts t j →
+StartsAtFall = (r : RingView) (jobs : List Job) (carry : Carry) (restarts : Restarts) (t : CycleView) (j : List CycleView) →
+    Falls r jobs carry restarts t j →
     StartsEpoch r jobs carry restarts (t ∷ j) × (came_back r jobs carry restarts (t ∷ j) ≡ 0)
 
 abbrev pub StartsAtRestart : Type 0
-StartsAtRestart = (r : RingView) (jobs : List Job) (carry : Carry) (restarts : Restarts) (t : CycleView) (j : List CycleView) → restarts (length j) 0 ≡ true →
+StartsAtRestart = (r : RingView) (jobs : List Job) (carry : Carry) (restarts : Restarts) (t : CycleView) (j : List CycleView) →
+    restarts (length j) 0 ≡ true →
     StartsEpoch r jobs carry restarts (t ∷ j) × (came_back r jobs carry restarts (t ∷ j) ≤ 1)

@@ -21,9 +21,11 @@ pub record IsFit (r : RingView) : Type 0 where
 
 -- So it is of a ring that is commanded phase 3 or 4, in every run in which nothing was unseen.
 abbrev pub FitsInThree : Type 0
-FitsInThree = (r : RingView) (jobs : List Job) (carry : Carry) (restarts : Restarts) (t : CycleView) (j : List CycleView) → IsOpened r jobs → IsRun r jobs carry restarts (t ∷ j) → IsClear (t ∷ j) → 3 ≤ t.phase → IsFit r
+FitsInThree = (r : RingView) (jobs : List Job) (carry : Carry) (restarts : Restarts) (t : CycleView) (j : List CycleView) →
+    IsOpened r jobs → IsRun r jobs carry restarts (t ∷ j) → IsClear (t ∷ j) → 3 ≤ t.phase → IsFit r
 
 -- And in phase 4, none of the drives' own blocks was outside its limits at opening.
 abbrev pub OwnFitsInFour : Type 0
-OwnFitsInFour = (r : RingView) (jobs : List Job) (carry : Carry) (restarts : Restarts) (t : CycleView) (j : List CycleView) (k : ℕ) → IsOpened r jobs → IsRun r jobs carry restarts (t ∷ j) → IsClear (t ∷ j) → k < length r.drives → t.phase ≡ 4 →
+OwnFitsInFour = (r : RingView) (jobs : List Job) (carry : Carry) (restarts : Restarts) (t : CycleView) (j : List CycleView) (k : ℕ) →
+    IsOpened r jobs → IsRun r jobs carry restarts (t ∷ j) → IsClear (t ∷ j) → k < length r.drives → t.phase ≡ 4 →
     list_any is_outside (drive_at r k).blocks ≡ false

@@ -13,7 +13,8 @@ use Rattle.sercos_seat.specs.Agenda.{idn, reads, writes}
 -- hasn't ended well.
 abbrev pub jobs_of : Known → Option PlanView → ℕ → List Request
 jobs_of s None k = reads (member s k)
-jobs_of s (Some p) k = reads (member s k) ++ (writes s p k ++ request.Command (idn 127) ∷ request.Command (idn 128) ∷ request.Read (idn 22) data_element ∷ [])
+jobs_of s (Some p) k = reads (member s k) ++ (writes s p k ++ request.Command (idn 127) ∷ request.Command (idn 128) ∷
+    request.Read (idn 22) data_element ∷ [])
 
 -- Each of the requests that were begun is in the list at the place that those begun before it leave it.
 abbrev pub AreAt : List Request → List Begun → Type 0

@@ -15,8 +15,8 @@ use Rattle.sercos_law_run.specs.Held.Opened.{IsOpened}
 use Rattle.sercos_law_run.specs.Undisturbed.Undisturbed.{AreUndisturbed}
 use Rattle.sercos_law_run.specs.Undisturbed.EpochStarts.{StartsEpoch}
 
--- The requests to the drive at place k that haven't been begun, where an epoch begins after these cycles or is in phase 0 after them, in their
--- order. At the opening these are all requests to the drive.
+-- The requests to the drive at place k that haven't been begun, where an epoch begins after these cycles or is in phase 0 after them, in
+-- their order. At the opening these are all requests to the drive.
 abbrev pub waiting_after : RingView → List Job → Carry → Restarts → List CycleView → ℕ → List Task
 waiting_after r jobs carry restarts before k = (looks_back r jobs (master_calls r carry restarts before)).waiting k
 
@@ -38,7 +38,10 @@ request_cycles r k = ((drive_at r k).busy + 2) * (520 + (drive_at r k).command)
 -- from 0. If phase 4 is commanded, and the cycles from there on before this one are at least the bound of a start-up and i + 1 times the
 -- cycles of one request, this request has been reported in one of them, or in this one.
 abbrev pub ReportsInTime : Type 0
-ReportsInTime = (r : RingView) (jobs : List Job) (carry : Carry) (restarts : Restarts) (t : CycleView) (cycles before : List CycleView) → IsOpened r jobs → IsRun r jobs carry restarts (t ∷ (cycles ++ before)) →
-    IsClear (t ∷ (cycles ++ before)) → StartsEpoch r jobs carry restarts before → AreUndisturbed r carry restarts (t ∷ cycles) before → t.phase ≡ 4 →
-    (k i : ℕ) (x : Task) → k < length r.drives → slice_get (waiting_after r jobs carry restarts before k) i ≡ Some x → startup_bound r + (i + 1) * request_cycles r k ≤ length cycles →
+ReportsInTime = (r : RingView) (jobs : List Job) (carry : Carry) (restarts : Restarts) (t : CycleView) (cycles before : List CycleView) →
+    IsOpened r jobs → IsRun r jobs carry restarts (t ∷ (cycles ++ before)) →
+    IsClear (t ∷ (cycles ++ before)) → StartsEpoch r jobs carry restarts before → AreUndisturbed r carry restarts (t ∷ cycles) before →
+    t.phase ≡ 4 →
+    (k i : ℕ) (x : Task) → k < length r.drives → slice_get (waiting_after r jobs carry restarts before k) i ≡ Some x →
+    startup_bound r + (i + 1) * request_cycles r k ≤ length cycles →
     (number : ℕ) × (x.number ≡ Some number) × HaveTold (t ∷ cycles) number

@@ -25,13 +25,16 @@ pub record GoesOnInTwo (r : RingView) (p : Past) : Type 0 where
 -- .. and the same holds in each of these cycles, which are later than the others
 abbrev pub AreInTwo : RingView → List Job → Carry → Restarts → List CycleView → List CycleView → Type 0
 AreInTwo r jobs carry restarts [] before = Unit {0}
-AreInTwo r jobs carry restarts (t ∷ cycles) before = AreInTwo r jobs carry restarts cycles before × GoesOnInTwo r (behind_mdt r jobs carry restarts t.sent (cycles ++ before))
+AreInTwo r jobs carry restarts (t ∷ cycles) before = AreInTwo r jobs carry restarts cycles before ×
+    GoesOnInTwo r (behind_mdt r jobs carry restarts t.sent (cycles ++ before))
 
 -- Then no cycle is idle: they are at most as many as the sum, over the drives, of those in which a step to the drive is open.
 abbrev pub NoneIdleInTwo : Type 0
-NoneIdleInTwo = (r : RingView) (jobs : List Job) (carry : Carry) (restarts : Restarts) (cycles before : List CycleView) → IsOpened r jobs → IsRun r jobs carry restarts (cycles ++ before) → IsClear (cycles ++ before) →
+NoneIdleInTwo = (r : RingView) (jobs : List Job) (carry : Carry) (restarts : Restarts) (cycles before : List CycleView) → IsOpened r jobs →
+    IsRun r jobs carry restarts (cycles ++ before) → IsClear (cycles ++ before) →
     AreInTwo r jobs carry restarts cycles before →
-    length cycles ≤ sum_below (length r.drives) (λ k. open_since (views_since r jobs carry restarts k cycles before) (views_of r jobs carry restarts k before))
+    length cycles ≤ sum_below (length r.drives) (λ k. open_since (views_since r jobs carry restarts k cycles before)
+    (views_of r jobs carry restarts k before))
 
 -- The master goes on with phase 3 and the drive at place k: there is no stop but a plan, and its check for phase 4 hasn't ended well.
 pub record GoesOnInThree (r : RingView) (p : Past) (k : ℕ) : Type 0 where
@@ -42,10 +45,12 @@ pub record GoesOnInThree (r : RingView) (p : Past) (k : ℕ) : Type 0 where
 
 abbrev pub AreInThree : RingView → List Job → Carry → Restarts → ℕ → List CycleView → List CycleView → Type 0
 AreInThree r jobs carry restarts k [] before = Unit {0}
-AreInThree r jobs carry restarts k (t ∷ cycles) before = AreInThree r jobs carry restarts k cycles before × GoesOnInThree r (behind_mdt r jobs carry restarts t.sent (cycles ++ before)) k
+AreInThree r jobs carry restarts k (t ∷ cycles) before = AreInThree r jobs carry restarts k cycles before ×
+    GoesOnInThree r (behind_mdt r jobs carry restarts t.sent (cycles ++ before)) k
 
 -- Then a step to this drive is open in each of the cycles.
 abbrev pub NoneIdleInThree : Type 0
-NoneIdleInThree = (r : RingView) (jobs : List Job) (carry : Carry) (restarts : Restarts) (k : ℕ) (cycles before : List CycleView) → IsOpened r jobs → IsRun r jobs carry restarts (cycles ++ before) → IsClear (cycles ++ before) →
+NoneIdleInThree = (r : RingView) (jobs : List Job) (carry : Carry) (restarts : Restarts) (k : ℕ) (cycles before : List CycleView) →
+    IsOpened r jobs → IsRun r jobs carry restarts (cycles ++ before) → IsClear (cycles ++ before) →
     k < length r.drives → AreInThree r jobs carry restarts k cycles before →
     length cycles ≤ open_since (views_since r jobs carry restarts k cycles before) (views_of r jobs carry restarts k before)

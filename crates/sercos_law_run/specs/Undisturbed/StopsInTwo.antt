@@ -53,4 +53,6 @@ pub record StopsForTheCycleTime (r : RingView) (x : Stop) : Type 0 where
 
 -- So it is wherever the master has stopped in phase 2, in every run in which nothing was unseen.
 abbrev pub StopsInTwo : Type 0
-StopsInTwo = (r : RingView) (jobs : List Job) (carry : Carry) (restarts : Restarts) (t : CycleView) (j : List CycleView) (x : Stop) → IsOpened r jobs → IsRun r jobs carry restarts (t ∷ j) → IsClear (t ∷ j) → t.phase ≡ 2 → (behind_mdt r jobs carry restarts t.sent j).stop ≡ Some x → StopsForThePlan r x ⊎ StopsForTheCycleTime r x
+StopsInTwo = (r : RingView) (jobs : List Job) (carry : Carry) (restarts : Restarts) (t : CycleView) (j : List CycleView) (x : Stop) →
+    IsOpened r jobs → IsRun r jobs carry restarts (t ∷ j) → IsClear (t ∷ j) → t.phase ≡ 2 →
+    (behind_mdt r jobs carry restarts t.sent j).stop ≡ Some x → StopsForThePlan r x ⊎ StopsForTheCycleTime r x

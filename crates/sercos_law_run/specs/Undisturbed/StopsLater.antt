@@ -39,12 +39,16 @@ pub record StopsForTheCheck (r : RingView) (p : Past) (x : Stop) : Type 0 where
 
 -- So each stop in phase 3 is, in every run in which nothing was unseen.
 abbrev pub StopsInThree : Type 0
-StopsInThree = (r : RingView) (jobs : List Job) (carry : Carry) (restarts : Restarts) (t : CycleView) (j : List CycleView) (x : Stop) → IsOpened r jobs → IsRun r jobs carry restarts (t ∷ j) → IsClear (t ∷ j) →
-    t.phase ≡ 3 → (behind_mdt r jobs carry restarts t.sent j).stop ≡ Some x → StopsForTheCheck r (behind_mdt r jobs carry restarts t.sent j) x
+StopsInThree = (r : RingView) (jobs : List Job) (carry : Carry) (restarts : Restarts) (t : CycleView) (j : List CycleView) (x : Stop) →
+    IsOpened r jobs → IsRun r jobs carry restarts (t ∷ j) → IsClear (t ∷ j) →
+    t.phase ≡ 3 → (behind_mdt r jobs carry restarts t.sent j).stop ≡ Some x →
+    StopsForTheCheck r (behind_mdt r jobs carry restarts t.sent j) x
 
 -- And in phase 4 there is no stop.
 abbrev pub NoStopInFour : Type 0
-NoStopInFour = (r : RingView) (jobs : List Job) (carry : Carry) (restarts : Restarts) (t : CycleView) (j : List CycleView) → IsOpened r jobs → IsRun r jobs carry restarts (t ∷ j) → IsClear (t ∷ j) → t.phase ≡ 4 → (behind_mdt r jobs carry restarts t.sent j).stop ≡ None
+NoStopInFour = (r : RingView) (jobs : List Job) (carry : Carry) (restarts : Restarts) (t : CycleView) (j : List CycleView) →
+    IsOpened r jobs → IsRun r jobs carry restarts (t ∷ j) → IsClear (t ∷ j) → t.phase ≡ 4 →
+    (behind_mdt r jobs carry restarts t.sent j).stop ≡ None
 
 -- a plan fits, the cycle time lies within each drive's limits, and no own block of a drive was outside its limits at opening
 abbrev pub IsRight : RingView → Type 0
@@ -53,13 +57,18 @@ IsRight r = IsFit r × ((k : ℕ) → k < length r.drives → list_any is_outsid
 -- HOW AN UNDISTURBED START-UP ENDS. After the cycles of the bound, and 41 steps more of the slowest drive, phase 4 is commanded, there is
 -- no stop, and the ring is right; or the master has stopped for the plan, for the cycle time, or for a check.
 abbrev pub EndsStartUp : Type 0
-EndsStartUp = (r : RingView) (jobs : List Job) (carry : Carry) (restarts : Restarts) (t : CycleView) (cycles before : List CycleView) → IsOpened r jobs → IsRun r jobs carry restarts (t ∷ (cycles ++ before)) →
-    IsClear (t ∷ (cycles ++ before)) → StartsEpoch r jobs carry restarts before → AreUndisturbed r carry restarts (t ∷ cycles) before → startup_bound r + 41 * (slowest r.drives + 2) ≤ length cycles →
+EndsStartUp = (r : RingView) (jobs : List Job) (carry : Carry) (restarts : Restarts) (t : CycleView) (cycles before : List CycleView) →
+    IsOpened r jobs → IsRun r jobs carry restarts (t ∷ (cycles ++ before)) →
+    IsClear (t ∷ (cycles ++ before)) → StartsEpoch r jobs carry restarts before → AreUndisturbed r carry restarts (t ∷ cycles) before →
+    startup_bound r + 41 * (slowest r.drives + 2) ≤ length cycles →
     ((t.phase ≡ 4) × ((behind_mdt r jobs carry restarts t.sent (cycles ++ before)).stop ≡ None) × IsRight r)
     ⊎ ((x : Stop) × ((behind_mdt r jobs carry restarts t.sent (cycles ++ before)).stop ≡ Some x)
-    × (StopsForThePlan r x ⊎ (StopsForTheCycleTime r x ⊎ StopsForTheCheck r (behind_mdt r jobs carry restarts t.sent (cycles ++ before)) x)))
+    × (StopsForThePlan r x ⊎
+    (StopsForTheCycleTime r x ⊎ StopsForTheCheck r (behind_mdt r jobs carry restarts t.sent (cycles ++ before)) x)))
 
 -- IF THE RING IS RIGHT, phase 4 is commanded after the cycles of the bound of a start-up.
 abbrev pub RisesIfRight : Type 0
-RisesIfRight = (r : RingView) (jobs : List Job) (carry : Carry) (restarts : Restarts) (t : CycleView) (cycles before : List CycleView) → IsOpened r jobs → IsRun r jobs carry restarts (t ∷ (cycles ++ before)) →
-    IsClear (t ∷ (cycles ++ before)) → StartsEpoch r jobs carry restarts before → AreUndisturbed r carry restarts (t ∷ cycles) before → startup_bound r ≤ length cycles → IsRight r → t.phase ≡ 4
+RisesIfRight = (r : RingView) (jobs : List Job) (carry : Carry) (restarts : Restarts) (t : CycleView) (cycles before : List CycleView) →
+    IsOpened r jobs → IsRun r jobs carry restarts (t ∷ (cycles ++ before)) →
+    IsClear (t ∷ (cycles ++ before)) → StartsEpoch r jobs carry restarts before → AreUndisturbed r carry restarts (t ∷ cycles) before →
+    startup_bound r ≤ length cycles → IsRight r → t.phase ≡ 4

@@ -13,9 +13,11 @@ IsUndisturbed r carry restarts t j = is_disturbed_in r carry restarts (length j)
 -- .. and the same holds in each of these cycles, which are later than the others
 abbrev pub AreUndisturbed : RingView → Carry → Restarts → List CycleView → List CycleView → Type 0
 AreUndisturbed r carry restarts [] before = Unit {0}
-AreUndisturbed r carry restarts (t ∷ cycles) before = AreUndisturbed r carry restarts cycles before × IsUndisturbed r carry restarts t (cycles ++ before)
+AreUndisturbed r carry restarts (t ∷ cycles) before = AreUndisturbed r carry restarts cycles before ×
+    IsUndisturbed r carry restarts t (cycles ++ before)
 
 -- Where nothing is disturbed, nothing is unseen.
 abbrev pub StaysClear : Type 0
-StaysClear = (r : RingView) (jobs : List Job) (carry : Carry) (restarts : Restarts) (cycles before : List CycleView) → IsRun r jobs carry restarts (cycles ++ before) → IsClear before → AreUndisturbed r carry restarts cycles before →
+StaysClear = (r : RingView) (jobs : List Job) (carry : Carry) (restarts : Restarts) (cycles before : List CycleView) →
+    IsRun r jobs carry restarts (cycles ++ before) → IsClear before → AreUndisturbed r carry restarts cycles before →
     IsClear (cycles ++ before)

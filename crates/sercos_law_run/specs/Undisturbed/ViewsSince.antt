@@ -11,4 +11,5 @@ use Rattle.sercos_law_run.specs.Views.RingViews.{view_of}
 -- what these cycles are for the drive at a place
 abbrev pub views_since : RingView → List Job → Carry → Restarts → ℕ → List CycleView → List CycleView → List View
 views_since r jobs carry restarts k [] before = []
-views_since r jobs carry restarts k (t ∷ cycles) before = view_of r jobs carry restarts k t (cycles ++ before) ∷ views_since r jobs carry restarts k cycles before
+views_since r jobs carry restarts k (t ∷ cycles) before = view_of r jobs carry restarts k t (cycles ++ before) ∷
+    views_since r jobs carry restarts k cycles before

@@ -35,7 +35,9 @@ NeverDisturbed r carry restarts (t ∷ j) = NeverDisturbed r carry restarts j ×
 
 -- So it is over links that change nothing, if no station restarts.
 abbrev pub QuietIsUndisturbed : Type 0
-QuietIsUndisturbed = (r : RingView) (carry : Carry) (restarts : Restarts) (j : List CycleView) → ((cycle : ℕ) (kind : Kind) (from : ℕ) → IsQuiet carry cycle kind from) → ((cycle station : ℕ) → restarts cycle station ≡ false) → NeverDisturbed r carry restarts j
+QuietIsUndisturbed = (r : RingView) (carry : Carry) (restarts : Restarts) (j : List CycleView) →
+    ((cycle : ℕ) (kind : Kind) (from : ℕ) → IsQuiet carry cycle kind from) → ((cycle station : ℕ) → restarts cycle station ≡ false) →
+    NeverDisturbed r carry restarts j
 
 -- the record of one of these cycles has the stop
 abbrev pub HasTold : Stop → List CycleView → Type 0
@@ -47,7 +49,8 @@ HasTold x (t ∷ j) = (t.events.stop ≡ Some x) ⊎ HasTold x j
 pub record StopsForBlocks (r : RingView) (x : Stop) : Type 0 where
   pub place : ℕ
   pub there : place < length r.drives
-  pub is : x ≡ stop.Check128 (drive_at r place).address (record { items = map (λ (b : Block). b.idn) (filter is_outside (with_own [] (drive_at r place).blocks)) })
+  pub is : x ≡ stop.Check128 (drive_at r place).address
+      (record { items = map (λ (b : Block). b.idn) (filter is_outside (with_own [] (drive_at r place).blocks)) })
   pub outside : list_any is_outside (drive_at r place).blocks ≡ true
   pub fits : IsFit r
 
@@ -63,22 +66,27 @@ StopsForCause r x = StopsForThePlan r x ⊎ (StopsForTheCycleTime r x ⊎ StopsF
 -- busy time of its drive and one cycle, and its answer arrives exactly that long after the cycle in which it was begun, and first sent. If
 -- phase 4 is commanded, the request to a drive at place i, counted from 0, has been reported: at the latest i + 1 times the cycles of one
 -- request after the bound of a start-up.
-pub record StartsUp (r : RingView) (jobs : List Job) (carry : Carry) (restarts : Restarts) (t : CycleView) (j : List CycleView) : Type 0 where
+pub record StartsUp (r : RingView) (jobs : List Job) (carry : Carry) (restarts : Restarts) (t : CycleView)
+    (j : List CycleView) : Type 0 where
   pub clear : IsClear (t ∷ j)
   pub tells : TellsNoFall t
   pub rises : startup_bound r ≤ length j → IsRight r → t.phase ≡ 4
   pub right : t.phase ≡ 4 → IsRight r
   pub fit : 3 ≤ t.phase → IsFit r
   pub stays : (u : CycleView) (before : List CycleView) → j ≡ u ∷ before → u.phase ≡ 4 → t.phase ≡ 4
-  pub ends : startup_bound r + 41 * (slowest r.drives + 2) ≤ length j → ((t.phase ≡ 4) × IsRight r) ⊎ ((x : Stop) × HasTold x (t ∷ j) × StopsForCause r x)
+  pub ends : startup_bound r + 41 * (slowest r.drives + 2) ≤ length j → ((t.phase ≡ 4) × IsRight r) ⊎
+      ((x : Stop) × HasTold x (t ∷ j) × StopsForCause r x)
   pub once : (x y : Stop) → HasTold x j → t.events.stop ≡ Some y → ⊥
   pub ages : (k : ℕ) → k < length r.drives → age_in (views_of r jobs carry restarts k (t ∷ j)) ≤ (drive_at r k).busy + 1
-  pub answers : (k : ℕ) (a : Heard) → k < length r.drives → (view_of r jobs carry restarts k t j).heard ≡ Some a → answers_it (epoch_begun (views_of r jobs carry restarts k j)) a.status ≡ true →
+  pub answers : (k : ℕ) (a : Heard) → k < length r.drives → (view_of r jobs carry restarts k t j).heard ≡ Some a →
+      answers_it (epoch_begun (views_of r jobs carry restarts k j)) a.status ≡ true →
       age_in (views_of r jobs carry restarts k j) ≡ (drive_at r k).busy + 1
-  pub reports : t.phase ≡ 4 → (k i : ℕ) (x : Task) → k < length r.drives → slice_get (tasks_for (known_of r) jobs k) i ≡ Some x → startup_bound r + (i + 1) * request_cycles r k ≤ length j →
+  pub reports : t.phase ≡ 4 → (k i : ℕ) (x : Task) → k < length r.drives → slice_get (tasks_for (known_of r) jobs k) i ≡ Some x →
+      startup_bound r + (i + 1) * request_cycles r k ≤ length j →
       (number : ℕ) × (x.number ≡ Some number) × HaveTold (t ∷ j) number
 
 -- So it is in each cycle of a run in which nothing was disturbed.
 abbrev pub StartsUndisturbed : Type 0
-StartsUndisturbed = (r : RingView) (jobs : List Job) (carry : Carry) (restarts : Restarts) (t : CycleView) (j : List CycleView) → IsOpened r jobs → IsRun r jobs carry restarts (t ∷ j) → NeverDisturbed r carry restarts (t ∷ j) →
+StartsUndisturbed = (r : RingView) (jobs : List Job) (carry : Carry) (restarts : Restarts) (t : CycleView) (j : List CycleView) →
+    IsOpened r jobs → IsRun r jobs carry restarts (t ∷ j) → NeverDisturbed r carry restarts (t ∷ j) →
     StartsUp r jobs carry restarts t j

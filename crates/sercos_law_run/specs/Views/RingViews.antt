@@ -49,7 +49,8 @@ told_to p k = if is_told p k then Some (master_says (begun_by (p.calls k))) else
 
 -- the moments of a drive before the MST's place of a cycle, and after it
 abbrev pub before_mst : RingView → Carry → Restarts → List CycleView → ℕ → List Moment
-before_mst r carry restarts j k = annals (drive_at r k) r.rate (with_restart (restarts (length j) (k + 1)) (given_before carry restarts j k))
+before_mst r carry restarts j k = annals (drive_at r k) r.rate
+    (with_restart (restarts (length j) (k + 1)) (given_before carry restarts j k))
 
 abbrev pub after_mst : RingView → Carry → Restarts → List SentView → List CycleView → ℕ → List Moment
 after_mst r carry restarts sent j k = annals (drive_at r k) r.rate (given_mst carry restarts sent j k)
@@ -60,7 +61,8 @@ phase_got carry sent j k = mst_got (heard carry (passage (length j) kinds.Mst 0 
 
 abbrev pub gets_record : RingView → Carry → Restarts → List SentView → List CycleView → ℕ → Bool
 gets_record r carry restarts sent j k =
-    is_some (mdt_got (drive_at r k).address (phase_in (after_mst r carry restarts sent j k)) (blocks_in (drive_at r k) (after_mst r carry restarts sent j k))
+    is_some (mdt_got (drive_at r k).address (phase_in (after_mst r carry restarts sent j k))
+    (blocks_in (drive_at r k) (after_mst r carry restarts sent j k))
     (mdt_heard carry (length j) (k + 1) (mdt_in sent)))
 
 abbrev pub request_of : Option Task → Option Request
@@ -84,7 +86,8 @@ view_of r jobs carry restarts k t j = record {
   blocks = blocks_in (drive_at r k) (after_mst r carry restarts t.sent j k);
   commands = commands_in (drive_at r k) r.rate (after_mst r carry restarts t.sent j k);
   falls = is_some (fall_of (known_of r) (behind_mdt r jobs carry restarts t.sent j));
-  rises = not (is_some (fall_of (known_of r) (behind_mdt r jobs carry restarts t.sent j))) && is_done (known_of r) (behind_mdt r jobs carry restarts t.sent j);
+  rises = not (is_some (fall_of (known_of r) (behind_mdt r jobs carry restarts t.sent j))) &&
+      is_done (known_of r) (behind_mdt r jobs carry restarts t.sent j);
 }
 
 -- all cycles of a journal

@@ -34,7 +34,8 @@ abbrev pub IsSayable : Said → Type 0
 IsSayable said = (said.step.element < 8) × (said.step.word < 65536)
 
 -- In a cycle each telegram is whole, and the words that drives and master send fit into sixteen bits.
-pub record IsSpelled (r : RingView) (jobs : List Job) (carry : Carry) (restarts : Restarts) (t : CycleView) (j : List CycleView) : Type 0 where
+pub record IsSpelled (r : RingView) (jobs : List Job) (carry : Carry) (restarts : Restarts) (t : CycleView)
+    (j : List CycleView) : Type 0 where
   pub mst : IsWhole (mst_in t.sent)
   pub ats : (content : List ℕ) → IsSaid (length r.drives) (drive_at r) r.rate (given_mst carry restarts t.sent j) content → IsWhole content
   pub mdt : (m : Sent) → mdt_said (known_of r) (behind_mdt r jobs carry restarts t.sent j) ≡ Some m → IsWhole m.content

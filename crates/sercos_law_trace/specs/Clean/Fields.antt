@@ -35,25 +35,32 @@ FitsEnded cycle i (outcome.Refused code) = Fit kind.Refused (number cycle ∷ nu
 FitsEnded cycle i outcome.Broken = Fit kind.Broken (number cycle ∷ number i ∷ [])
 
 abbrev pub FitsSlot : ℕ → WishesView → PlanView → ℕ → Type 0
-FitsSlot cycle w p k = Fit kind.Slot (number cycle ∷ number (address_at w k) ∷ number (slice_index p.t1 k) ∷ number (slice_index p.position k) ∷ [])
+FitsSlot cycle w p k = Fit kind.Slot (number cycle ∷ number (address_at w k) ∷ number (slice_index p.t1 k) ∷
+    number (slice_index p.position k) ∷ [])
 
 abbrev pub FitsPlan : ℕ → WishesView → Option PlanView → Type 0
 FitsPlan cycle w None = Unit {0}
-FitsPlan cycle w (Some p) = Fit kind.Plan (number cycle ∷ number p.t2 ∷ number p.t3 ∷ number p.t4 ∷ number p.mdt_len ∷ []) × ((k : ℕ) → k < length w.drives → FitsSlot cycle w p k)
+FitsPlan cycle w (Some p) = Fit kind.Plan (number cycle ∷ number p.t2 ∷ number p.t3 ∷ number p.t4 ∷ number p.mdt_len ∷ []) ×
+    ((k : ℕ) → k < length w.drives → FitsSlot cycle w p k)
 
 abbrev pub FitsLink : ℕ → Link → Type 0
 FitsLink cycle l = Fit kind.RuleAt (number cycle ∷ number l.rule ∷ number l.drive ∷ number l.at ∷ [])
 
 abbrev pub FitsChain : ℕ → ChainView → Type 0
-FitsChain cycle c = Fit kind.NoFit (number cycle ∷ []) × All (FitsLink cycle) c.links × Fit kind.RuleSum (number cycle ∷ number c.rule ∷ number c.drive ∷ number c.sum ∷ number c.bound ∷ [])
+FitsChain cycle c = Fit kind.NoFit (number cycle ∷ []) × All (FitsLink cycle) c.links ×
+    Fit kind.RuleSum (number cycle ∷ number c.rule ∷ number c.drive ∷ number c.sum ∷ number c.bound ∷ [])
 
 abbrev pub FitsStop : ℕ → Option Stop → Type 0
 FitsStop cycle None = Unit {0}
 FitsStop cycle (Some (stop.NoFit c)) = FitsChain cycle c
-FitsStop cycle (Some (stop.Refused drive idn code)) = Fit kind.StopRefused (number cycle ∷ number drive ∷ ident idn.raw ∷ bytes (big_endian code.raw) ∷ [])
-FitsStop cycle (Some (stop.BadConfig drive idn attribute)) = Fit kind.StopConfig (number cycle ∷ number drive ∷ ident idn.raw ∷ bytes (attribute_bytes attribute) ∷ [])
-FitsStop cycle (Some (stop.Check127 drive list)) = Fit kind.Check127 (number cycle ∷ number drive ∷ []) × IsTail (tail_for kind.Check127) (raws list.items)
-FitsStop cycle (Some (stop.Check128 drive list)) = Fit kind.Check128 (number cycle ∷ number drive ∷ []) × IsTail (tail_for kind.Check128) (raws list.items)
+FitsStop cycle (Some (stop.Refused drive idn code)) = Fit kind.StopRefused (number cycle ∷ number drive ∷ ident idn.raw ∷
+    bytes (big_endian code.raw) ∷ [])
+FitsStop cycle (Some (stop.BadConfig drive idn attribute)) = Fit kind.StopConfig (number cycle ∷ number drive ∷ ident idn.raw ∷
+    bytes (attribute_bytes attribute) ∷ [])
+FitsStop cycle (Some (stop.Check127 drive list)) = Fit kind.Check127 (number cycle ∷ number drive ∷ []) ×
+    IsTail (tail_for kind.Check127) (raws list.items)
+FitsStop cycle (Some (stop.Check128 drive list)) = Fit kind.Check128 (number cycle ∷ number drive ∷ []) ×
+    IsTail (tail_for kind.Check128) (raws list.items)
 
 abbrev pub FitsFall : ℕ → Option Fall → Type 0
 FitsFall cycle None = Unit {0}
@@ -81,7 +88,8 @@ pub record FitsCycle (w : WishesView) (t : CycleView) : Type 0 where
   pub events : FitsEvents w t.cycle t.events
 
 abbrev pub FitTotals : Totals → Type 0
-FitTotals t = Fit kind.End (number t.cycles ∷ number t.phase ∷ number t.complete ∷ number t.refused ∷ number t.broken ∷ number t.falls ∷ number t.unseen ∷ [])
+FitTotals t = Fit kind.End (number t.cycles ∷ number t.phase ∷ number t.complete ∷ number t.refused ∷ number t.broken ∷ number t.falls ∷
+    number t.unseen ∷ [])
 
 -- So do all lines of a trace but those of its telegrams and its head.
 pub record FitOthers (w : WishesView) (j : List CycleView) (t : Totals) : Type 0 where

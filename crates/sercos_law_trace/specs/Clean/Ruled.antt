@@ -29,9 +29,11 @@ KeepRules w (t ∷ before) = KeepRules w before × (broken_rule w before t ≡ N
 
 -- The telegrams of every run without undetected damage keep them too, regardless of losses and restarts.
 abbrev pub RunsKeepRules : Type 0
-RunsKeepRules = (r : RingView) (jobs : List Job) (carry : Carry) (restarts : Restarts) (j : List CycleView) → IsOpened r jobs → IsRun r jobs carry restarts j → IsClear j → KeepRules (wishes_of r) (told_in j)
+RunsKeepRules = (r : RingView) (jobs : List Job) (carry : Carry) (restarts : Restarts) (j : List CycleView) → IsOpened r jobs →
+    IsRun r jobs carry restarts j → IsClear j → KeepRules (wishes_of r) (told_in j)
 
 -- The numbers of the telegrams of every run fit the fields of the lines of a trace, whatever arrives, if the cycles are no more than a
 -- field can count.
 abbrev pub RunsFitLines : Type 0
-RunsFitLines = (r : RingView) (jobs : List Job) (carry : Carry) (restarts : Restarts) (j : List CycleView) → IsOpened r jobs → IsRun r jobs carry restarts j → length j ≤ 4294967296 → FitLines j
+RunsFitLines = (r : RingView) (jobs : List Job) (carry : Carry) (restarts : Restarts) (j : List CycleView) → IsOpened r jobs →
+    IsRun r jobs carry restarts j → length j ≤ 4294967296 → FitLines j

@@ -24,21 +24,25 @@ pub record IsCleanTrace (w : WishesView) (j : List CycleView) (t : Totals) : Typ
 
 -- So it is in every run in which nothing was unseen, if the numbers of its moves, its events and its totals fit their fields ..
 abbrev pub TracesAreClean : Type 0
-TracesAreClean = (r : RingView) (jobs : List Job) (carry : Carry) (restarts : Restarts) (j : List CycleView) (t : Totals) → IsOpened r jobs → IsRun r jobs carry restarts j → IsClear j → length j ≤ 4294967296
+TracesAreClean = (r : RingView) (jobs : List Job) (carry : Carry) (restarts : Restarts) (j : List CycleView) (t : Totals) →
+    IsOpened r jobs → IsRun r jobs carry restarts j → IsClear j → length j ≤ 4294967296
     → FitOthers (wishes_of r) j t → IsCleanTrace (wishes_of r) j t
 
 -- .. and in a run of at most 50,000 cycles they do, if those of the outcomes of requests and of the stops do ..
 abbrev pub RunsFitOthers : Type 0
-RunsFitOthers = (r : RingView) (jobs : List Job) (carry : Carry) (restarts : Restarts) (j : List CycleView) → IsOpened r jobs → IsRun r jobs carry restarts j → IsClear j → length j ≤ 50000 → FitReports j
+RunsFitOthers = (r : RingView) (jobs : List Job) (carry : Carry) (restarts : Restarts) (j : List CycleView) → IsOpened r jobs →
+    IsRun r jobs carry restarts j → IsClear j → length j ≤ 50000 → FitReports j
     → FitOthers (wishes_of r) j (totals_of (reverse j))
 
 -- .. which holds if there are at most 65,535 requests.
 abbrev pub RunsFitReports : Type 0
-RunsFitReports = (r : RingView) (jobs : List Job) (carry : Carry) (restarts : Restarts) (j : List CycleView) → IsOpened r jobs → length jobs ≤ 65535 → IsRun r jobs carry restarts j → IsClear j → length j ≤ 4294967296 → FitReports j
+RunsFitReports = (r : RingView) (jobs : List Job) (carry : Carry) (restarts : Restarts) (j : List CycleView) → IsOpened r jobs →
+    length jobs ≤ 65535 → IsRun r jobs carry restarts j → IsClear j → length j ≤ 4294967296 → FitReports j
 
 -- Altogether: the trace of every run of at most 50,000 cycles in which nothing was unseen is clean, and begins with cycle 0.
 abbrev pub RunsAreClean : Type 0
-RunsAreClean = (r : RingView) (jobs : List Job) (carry : Carry) (restarts : Restarts) (j : List CycleView) → IsOpened r jobs → length jobs ≤ 65535 → IsRun r jobs carry restarts j → IsClear j → length j ≤ 50000
+RunsAreClean = (r : RingView) (jobs : List Job) (carry : Carry) (restarts : Restarts) (j : List CycleView) → IsOpened r jobs →
+    length jobs ≤ 65535 → IsRun r jobs carry restarts j → IsClear j → length j ≤ 50000
     → IsCleanTrace (wishes_of r) j (totals_of (reverse j))
 
 -- If nothing was unseen in a journal of a ring, the text that `run` writes of it is clean: `check` finds no fault and no violation in it,

@@ -28,7 +28,8 @@ use Rattle.sercos_law_trace.specs.Told.Told.{told_in}
 -- The request with number n + 1, a read of the operation data of a block of the drive with this address, has ended with these bytes. They
 -- are the operation data of the block in the drive's store, in the one cycle in which the drive accepted the selection of that request's
 -- own transfer.
-pub record IsReadFrom (r : RingView) (jobs : List Job) (carry : Carry) (restarts : Restarts) (run : List CycleView) (n address : ℕ) (idn : Idn) (bytes : List ℕ) : Type 0 where
+pub record IsReadFrom (r : RingView) (jobs : List Job) (carry : Carry) (restarts : Restarts) (run : List CycleView) (n address : ℕ)
+    (idn : Idn) (bytes : List ℕ) : Type 0 where
   -- the drive
   pub place : ℕ
   pub below : place < length r.drives
@@ -77,6 +78,8 @@ pub record IsReadFrom (r : RingView) (jobs : List Job) (carry : Carry) (restarts
 
 -- This holds of every complete read of operation data, in every run without undetected damage, regardless of losses and restarts.
 abbrev pub ReadsAreExact : Type 0
-ReadsAreExact = (r : RingView) (jobs : List Job) (carry : Carry) (restarts : Restarts) (run : List CycleView) (n : ℕ) (job : Job) (idn : Idn) (bytes : List ℕ) →
-    IsOpened r jobs → IsRun r jobs carry restarts run → IsClear run → slice_get jobs n ≡ Some job → job.request ≡ request.Read idn data_element →
+ReadsAreExact = (r : RingView) (jobs : List Job) (carry : Carry) (restarts : Restarts) (run : List CycleView) (n : ℕ) (job : Job)
+    (idn : Idn) (bytes : List ℕ) →
+    IsOpened r jobs → IsRun r jobs carry restarts run → IsClear run → slice_get jobs n ≡ Some job →
+    job.request ≡ request.Read idn data_element →
     told_of (told_in run) (n + 1) ≡ Some (outcome.Complete bytes) → IsReadFrom r jobs carry restarts run n job.drive idn bytes

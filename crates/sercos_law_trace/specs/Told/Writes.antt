@@ -27,11 +27,13 @@ writes_to raw (request.Command idn) = idn.raw == raw
 
 -- no request after this place, to the drive with this address, writes to that block
 abbrev pub IsLastTo : List Job → ℕ → ℕ → ℕ → Type 0
-IsLastTo jobs n address raw = (m : ℕ) (job : Job) → n < m → slice_get jobs m ≡ Some job → job.drive ≡ address → writes_to raw job.request ≡ false
+IsLastTo jobs n address raw = (m : ℕ) (job : Job) → n < m → slice_get jobs m ≡ Some job → job.drive ≡ address →
+    writes_to raw job.request ≡ false
 
 -- The drive with this address has a block with this number, and after the cycles of a run its store has these bytes as operation data of
 -- the block, filled as a write fills them. They don't change by themselves from cycle to cycle.
-pub record IsRestored (r : RingView) (carry : Carry) (restarts : Restarts) (run : List CycleView) (address raw : ℕ) (bytes : List ℕ) : Type 0 where
+pub record IsRestored (r : RingView) (carry : Carry) (restarts : Restarts) (run : List CycleView) (address raw : ℕ)
+    (bytes : List ℕ) : Type 0 where
   pub place : ℕ
   pub below : place < length r.drives
   pub drive : (drive_at r place).address ≡ address
@@ -41,9 +43,12 @@ pub record IsRestored (r : RingView) (carry : Carry) (restarts : Restarts) (run 
   pub holds : find_block raw (store_at (drive_at r place) r.rate (given_before carry restarts run place)) ≡ Some now
   pub written : (cycle : ℕ) → data_in cycle now ≡ stored block bytes
 
--- So it is with each complete write of operation data, if no later request to the drive writes to the block: in every run in which nothing was
--- unseen, through all falls, restarts and start-ups.
+-- So it is with each complete write of operation data, if no later request to the drive writes to the block: in every run in which nothing
+-- was unseen, through all falls, restarts and start-ups.
 abbrev pub WritesAreKept : Type 0
-WritesAreKept = (r : RingView) (jobs : List Job) (carry : Carry) (restarts : Restarts) (run : List CycleView) (n : ℕ) (job : Job) (idn : Idn) (bytes whole : List ℕ) →
-    IsOpened r jobs → IsRun r jobs carry restarts run → IsClear run → slice_get jobs n ≡ Some job → job.request ≡ request.Write idn data_element bytes →
-    told_of (told_in run) (n + 1) ≡ Some (outcome.Complete whole) → IsLastTo jobs n job.drive idn.raw → IsRestored r carry restarts run job.drive idn.raw bytes
+WritesAreKept = (r : RingView) (jobs : List Job) (carry : Carry) (restarts : Restarts) (run : List CycleView) (n : ℕ) (job : Job)
+    (idn : Idn) (bytes whole : List ℕ) →
+    IsOpened r jobs → IsRun r jobs carry restarts run → IsClear run → slice_get jobs n ≡ Some job →
+    job.request ≡ request.Write idn data_element bytes →
+    told_of (told_in run) (n + 1) ≡ Some (outcome.Complete whole) → IsLastTo jobs n job.drive idn.raw →
+    IsRestored r carry restarts run job.drive idn.raw bytes

@@ -1,12 +1,30 @@
-use Rattle.std.proofs.Common.{ap, sym, ◌∙◌}
+use Rattle.std.proofs.Common.{refl, ap, sym, ◌∙◌}
+use Rattle.sercos_block.specs.Rings.{is_ring, wishes_of}
 use Rattle.sercos_script.specs.Scripts.{carried, restarts_at}
 use Rattle.sercos_script.specs.declared.script.Scripted.{Scripted}
+use Rattle.sercos_config.specs.Views.{DocumentView}
+use Rattle.sercos_call.specs.Outcome.Replies.{none_found, replied}
 use Rattle.sercos_app.specs.Generating.{run_summed}
 use Rattle.sercos_app.proofs.RunLemmas.{run_under}
 use Rattle.sercos_app.proofs.gen_command.sum_document.Goals as goal
 
-pub returns : goal.returns
-returns g c =
+pub count_cycles-totals-requires-clause-ring : goal.count_cycles-totals-requires-clause-ring
+count_cycles-totals-requires-clause-ring g c = (
+  wishes_of c.document.inside.setup,
+  record {
+    setup = c.document.inside.setup;
+    jobs = c.document.inside.jobs.items;
+    carry = _;
+    restarts = _;
+    valid = ap (λ (d : DocumentView). is_ring d.setup) c.document.view_is ∙ c.requires.ring;
+    wishes = refl;
+    stands_for = c.in-Ok.ensures.stands;
+  },
+)
+
+pub returns-in-Ok : goal.returns-in-Ok
+returns-in-Ok g c =
+    let totals = c.count_cycles-totals.ensures _ _ _ _ c.in-Ok.ensures.stands in
     let pair = c.new.ensures in
     run_under (run_summed c.args.n) c.args.document c.document.inside.setup c.document.inside.jobs.items c.document.inside.faults.items
     (carried c.new.result.first.stations c.new.result.first.faults) (g.L.BitLink.carry c.new.result.second) (g.L.BitLink.carry c.args.link)
@@ -16,4 +34,7 @@ returns g c =
     (ap g.L.BitLink.carry pair.second)
     (ap (λ (s : Scripted). restarts_at s.faults) pair.first ∙ c.new-script.ensures.restart)
     (ap g.L.BitLink.restart pair.second)
-    c.sum_over.ensures
+    (replied _ tt (rw (← c.cycles_of.ensures.value, ← totals) c.give_summary.ensures))
+
+pub returns : goal.returns
+returns g c = none_found refl

@@ -4,13 +4,13 @@ use Rattle.sercos_law_run.proofs.Views.Members.{members_count}
 use Rattle.sercos_law_run.proofs.Held.AnsweredRuns.{Time, Attribute, is_read_request}
 use Rattle.sercos_law_run.proofs.Held.Runs.{small}
 use Rattle.sercos_law_run.proofs.Headline.HeadlineRuns.{all_stand, first_store, keeps_all}
-use Rattle.sercos_law_run.proofs.Undisturbed.StaysUp.{phase_now}
 use Rattle.sercos_law_run.proofs.Undisturbed.Checks.OwnSet.{AreBuiltIn}
 use Rattle.sercos_law_run.proofs.Agenda.WritesDone.{writes_data}
 use Rattle.sercos_law_run.proofs.Cited.{begins_tasks}
 use Rattle.sercos_law_run.proofs.Undisturbed.Arriving.Small.{first_is}
 use Rattle.sercos_law_run.proofs.Held.Agreed.{all_at}
 use Rattle.sercos_law_run.proofs.Settings.Givers.{exact_all}
+use Rattle.sercos_law_run.proofs.Undisturbed.ChannelsKept.{phase_now}
 
 -- A REQUEST names a built-in block, if it writes at all.
 abbrev pub is_built : Request → Bool
@@ -104,7 +104,7 @@ module _ (r : RingView) (jobs : List Job) (carry : Carry) (restarts : Restarts) 
       let v = view_of r jobs carry restarts k t j in
       let past = views_of r jobs carry restarts k j in
       let now = begun_built v.begins (with_heard v.heard (if v.master_restarts then [] else epoch_begun past))
-      (begins_built t j run clear (omega (arith, phase_now r jobs carry restarts opened t j run.1, low)))
+      (begins_built t j run clear (omega (arith, phase_now r jobs carry restarts t j run.1, low)))
       (heard_built v.heard (if v.master_restarts then [] else epoch_begun past)
       (elim (cases_Bool v.master_restarts) [ inl on ↦ rw on tt | inr off ↦ rw off before.0 ])) in
       let ago : AreBuilt (if v.master_restarts then epoch_begun past ++ begun_ago past else begun_ago past) = let both = built_append

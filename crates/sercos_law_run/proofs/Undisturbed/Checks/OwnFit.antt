@@ -7,13 +7,13 @@ use Rattle.sercos_law_run.proofs.Headline.HeadlineRuns.{all_stand, first_store, 
 use Rattle.sercos_law_run.proofs.Settings.Histories.{status_set}
 use Rattle.sercos_law_run.proofs.Undisturbed.Checks.CheckedViews.{status_3}
 use Rattle.sercos_law_run.proofs.Typed.Mdts.{phase_low}
-use Rattle.sercos_law_run.proofs.Undisturbed.StaysUp.{phase_now}
 use Rattle.sercos_law_run.proofs.Undisturbed.JobsBegun.{begun_now, begun_then}
 use Rattle.sercos_law_run.proofs.Undisturbed.Checks.PassedRuns.{rises_128}
 use Rattle.sercos_law_run.proofs.Held.EntriesAre.{EntriesSay, ViewsSay, entries_say}
 use Rattle.sercos_law_run.proofs.Undisturbed.Checks.OwnSet.{AreBuiltIn, IsOwn, SaysOwn, own_so}
 use Rattle.sercos_law_run.proofs.Undisturbed.Checks.BuiltInWrites.{NeverFour, writes_built}
 use Rattle.sercos_law_run.proofs.Undisturbed.Checks.OwnInside.{none_any}
+use Rattle.sercos_law_run.proofs.Undisturbed.ChannelsKept.{phase_now}
 
 well_status : (time cycle : ℕ) (o : Option SetCommand) → status_by time o cycle ≡ 3 → (s : SetCommand) × (o ≡ Some s) × (s.well ≡ true)
 well_status time cycle None is = absurd (omega (arith, is))
@@ -53,10 +53,10 @@ module _ (r : RingView) (jobs : List Job) (carry : Carry) (restarts : Restarts) 
   rise_own : (u : CycleView) (j : List CycleView) → IsRun r jobs carry restarts (u ∷ j) → IsClear (u ∷ j) → NeverFour (u ∷ j) → (looks_back r jobs (master_calls r carry restarts (u ∷ j))).now.phase ≡ 4 → FitsOwn
   rise_own u j run clear never four =
       let went = end_four (known_of r) (behind_mdt r jobs carry restarts u.sent j) four
-      (omega (arith, phase_now r jobs carry restarts opened u j run.1, never.1)) in
+      (omega (arith, phase_now r jobs carry restarts u j run.1, never.1)) in
       let newest = rises_128 r jobs carry restarts opened u j run clear k below
       (ap₂ (λ (f : Option Fall) (d : Bool). not (is_some f) && d) went.0 went.1.0)
-      (sym (phase_now r jobs carry restarts opened u j run.1) ∙ went.1.1) in
+      (sym (phase_now r jobs carry restarts u j run.1) ∙ went.1.1) in
       let begun = sym (begun_now r jobs carry restarts opened u j run clear went.0 k below)
       ∙ begun_then r jobs carry restarts opened u j run clear k below ∙ newest.split in
       let views = views_of r jobs carry restarts k (u ∷ j) in
@@ -85,7 +85,7 @@ module _ (r : RingView) (jobs : List Job) (carry : Carry) (restarts : Restarts) 
 
   low_phase : (t : CycleView) (j : List CycleView) → IsRun r jobs carry restarts (t ∷ j) → t.phase ≤ 4
   low_phase t j (run, next) =
-      let same = phase_now r jobs carry restarts opened t j next in
+      let same = phase_now r jobs carry restarts t j next in
       omega (arith, same, phase_low (known_of r) (tasks_for (known_of r) jobs) (middle r carry restarts t.sent j))
 
   pub never_or_own : (j : List CycleView) → IsRun r jobs carry restarts j → IsClear j → NeverFour j ⊎ FitsOwn

@@ -14,8 +14,8 @@ use Rattle.sercos_law_run.proofs.Undisturbed.Checks.CheckedViews.{check_counts}
 use Rattle.sercos_law_run.proofs.Undisturbed.Checks.CommandCalls.{keeps_before, check_passed}
 use Rattle.sercos_law_run.proofs.Undisturbed.Checks.CommandRuns.{first_commands, AreCommandsSo}
 use Rattle.sercos_law_run.proofs.Undisturbed.JobsBegun.{begun_then, tasks_then, wells}
-use Rattle.sercos_law_run.proofs.Undisturbed.StaysUp.{phase_now}
 use Rattle.sercos_law_run.proofs.Undisturbed.Checks.WellGiven.{is_command_128}
+use Rattle.sercos_law_run.proofs.Undisturbed.ChannelsKept.{phase_now}
 
 -- A drive that is a phase below the commanded one at the end of a cycle, and was so before, got no MST in it: so all stays.
 stays_below : (passed : CommandHistory → Option ℕ) (busy n : ℕ) (c : CommandHistory) (v : View) (past : List View) → IsNextView busy v past → CommandsFollow c (v ∷ past) → 1 ≤ n → v.phase ≡ n + 1 → (standing (v ∷ past)).ended ≡ n
@@ -55,7 +55,7 @@ module _ (r : RingView) (jobs : List Job) (carry : Carry) (restarts : Restarts) 
     p = behind_mdt r jobs carry restarts t.sent j
 
     phase_is : p.now.phase ≡ v.phase
-    phase_is = phase_now r jobs carry restarts opened t j run.1
+    phase_is = phase_now r jobs carry restarts t j run.1
 
     done : v.rises ≡ true → (n : ℕ) → v.phase ≡ n → is_done_in n (known_of r) p ≡ true
     done up n at = sym (ap (λ (m : ℕ). is_done_in m (known_of r) p) (phase_is ∙ at))

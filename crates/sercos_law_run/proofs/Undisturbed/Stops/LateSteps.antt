@@ -2,10 +2,10 @@
 use Rattle.sercos_law_run.proofs.Words.{cases_Bool, ◌≡◌, inl, inr, ℕ, ◌+◌, ◌<◌, ◌≤◌, Bool, true, false, List, [], ◌∷◌, length, Option, Some, None, sym, ap, ◌∙◌, subst, arith, if◌then◌else◌, length-append, none-some, cases_lt, beq, Job, Request, Idn, Answer, Step, RingView, Processed, Entry, ahs, accepted, answered, log_of, Begun, steps_begun, steps_in, step_at, answers_it, answer_in, with_answer, CycleView, reads_count, known_of, member, fall_of, Carry, Restarts, epoch_begun, begun_in, epoch_records, epoch_log, log_in, unless_restart, with_heard, with_begun, AreInStep, Idle, Kept, Heard, View, processed_in, IsRun, IsClear, behind_mdt, view_of, views_of, IsOpened, drive_at, length-steps_of, processes_in_phase, cases_Option}
 use Rattle.sercos_law_channel.specs.Handshake.InStep.{Sent}
 use Rattle.sercos_law_run.proofs.Headline.HeadlineRuns.{all_stand}
-use Rattle.sercos_law_run.proofs.Undisturbed.StaysUp.{phase_now}
 use Rattle.sercos_law_run.proofs.Undisturbed.JobsBegun.{few_then}
 use Rattle.sercos_law_run.proofs.Undisturbed.Arriving.Small.{first_is, nothing_there}
 use Rattle.sercos_law_channel.proofs.Handshake.EpochRuns.{in_step}
+use Rattle.sercos_law_run.proofs.Undisturbed.ChannelsKept.{phase_now}
 
 -- STEPS: an answer leaves those that were begun
 more_steps : (r : Request) (a : Answer) (h : List Answer) → length (steps_begun r h) ≤ length (steps_begun r (a ∷ h))
@@ -112,7 +112,7 @@ module _ (r : RingView) (jobs : List Job) (carry : Carry) (restarts : Restarts) 
       high : reads_count (member (known_of r) k) + 12 < length (begun_in (view_of r jobs carry restarts k t j) (views_of r jobs carry restarts k j)) → 3 ≤ t.phase
       high many = elim (cases_lt t.phase 3) [
         | inl low ↦
-            let same = phase_now r jobs carry restarts opened t j run.1 in
+            let same = phase_now r jobs carry restarts t j run.1 in
             let few = few_then r jobs carry restarts opened t j run clear k below (omega (arith, same, low)) in absurd (omega (arith, few, many))
         | inr there ↦ omega (arith, there)
       ]

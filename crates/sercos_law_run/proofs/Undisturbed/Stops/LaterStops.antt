@@ -1,13 +1,13 @@
 -- In phase 3 the master stops for a check for phase 4 alone, and in phase 4 for nothing.
 use Rattle.sercos_law_run.proofs.Words.{◌≡◌, ◌⊎◌, inl, inr, ℕ, suc, ◌+◌, ◌<◌, ◌≤◌, Bool, true, false, ◌&&◌, List, [], ◌∷◌, ◌++◌, length, Option, Some, None, refl, sym, ap, ap₂, ◌∙◌, subst, arith, if◌then◌else◌, append_assoc, length-append, map, slice_get, is_some, take, unwrap_or, option_map, cases_lt, and_parts, cases_eq, false≢true, same_Some, filter, list_any, Code, Idn, Job, Outcome, Request, next_step, outcome_of, PlanView, Block, find_block, store_of, with_own, DriveView, RingView, is_outside, write_cause_in, Begun, steps_begun, begun_by, CycleView, Stop, idn, idns_in, reads, reads_count, writes, is_checked, is_ready, ended_well, given, bytes_of, outcomes_in, with_outcome, Known, Task, known_of, member, tasks_for, ended_there, reads_length, before_end, Past, outcomes, Carry, Restarts, begun_in, log_in, AreInStep, IsTransfer, Allows, drive_at, middle, IsRun, IsClear, HasRefused, HasFailedCheck, HasEndedAt, AreBegunTasks, behind_mdt, view_of, views_of, IsOpened, jobs_of, AreAt, StopsForTheCheck, not_longer, in_step_in, attribute_of, cases_Option, cases_Bool}
-use Rattle.sercos_law_run.proofs.Agenda.ReadWell.{last_is}
+use Rattle.sercos_law_run.proofs.Agenda.ReadWell.{last_is, startup_until}
 use Rattle.sercos_law_run.proofs.Agenda.Requests.{are_requests, all_numbered}
 use Rattle.sercos_law_run.proofs.Agenda.WritesDone.{some_at}
 use Rattle.sercos_law_run.proofs.Views.Members.{members_count}
 use Rattle.sercos_law_run.proofs.Held.Runs.{small, drive_rules}
 use Rattle.sercos_law_run.proofs.Headline.HeadlineRuns.{all_stand, first_store}
 use Rattle.sercos_law_run.proofs.Undisturbed.CycleHeld.{fits_in}
-use Rattle.sercos_law_run.proofs.Undisturbed.JobPlaces.{at_most, later, some_plan, unnumbered}
+use Rattle.sercos_law_run.proofs.Undisturbed.JobPlaces.{at_most, later, some_plan}
 use Rattle.sercos_law_run.proofs.Undisturbed.JobsBegun.{begun_then, few_then, place_of, places_then, tasks_then}
 use Rattle.sercos_law_run.proofs.Undisturbed.Checks.WellGiven.{check_gives_3}
 use Rattle.sercos_law_run.proofs.Undisturbed.Checks.ListedRuns.{list_is}
@@ -17,12 +17,12 @@ use Rattle.sercos_law_run.proofs.Undisturbed.Reached.{all_checked_in, all_ready_
 use Rattle.sercos_law_run.proofs.Undisturbed.Stops.RefusedCauses.{allows_4, check_4, check_free_4, found_4, found_list, list_4}
 use Rattle.sercos_law_run.proofs.Undisturbed.Stops.RefusedRuns.{newest_refused}
 use Rattle.sercos_law_run.proofs.Undisturbed.Stops.RefusedSteps.{command_well, data_reads_well}
-use Rattle.sercos_law_run.proofs.Undisturbed.StaysUp.{phase_now}
 use Rattle.sercos_law_run.proofs.Undisturbed.Stops.StopsTold.{stops_right}
 use Rattle.sercos_law_run.proofs.Undisturbed.Arriving.Small.{first_is, never_both}
 use Rattle.sercos_law_run.proofs.Undisturbed.Answered.{outcome_unbroken}
 use Rattle.sercos_law_run.proofs.Cited.{check128_has_cause, refused_has_cause, tasks_end}
 use Rattle.sercos_law_run.proofs.Agenda.AgendaTasks.{late_waits}
+use Rattle.sercos_law_run.proofs.Undisturbed.ChannelsKept.{phase_now}
 
 -- A request that was refused is no check that ended well.
 refused_badly : (outs : List Outcome) (code : Code) (i : ℕ) → ended_well (given (outs ++ Outcome.Refused code ∷ []) i) ≡ true → i < length outs
@@ -49,7 +49,7 @@ complete_before : (s : Known) (k : ℕ) (plan : Option PlanView) (waiting : List
 complete_before s k plan waiting phase x newer one older [] are long = absurd are
 complete_before s k plan waiting phase x [] one older (t ∷ []) are long = absurd are.0
 complete_before s k plan waiting phase x [] one older (t ∷ u ∷ tasks) are long =
-    are.1.well (unnumbered s k are.0.1.by_then waiting (outcomes_in older) u (omega (arith, are.0.1.ended, long)) are.0.1.task)
+    are.1.well (startup_until s k are.0.1.by_then waiting (outcomes_in older) u (omega (arith, are.0.1.ended, long)) are.0.1.task)
 complete_before s k plan waiting phase x (y ∷ newer) one older (t ∷ tasks) are long = complete_before s k plan waiting phase y newer one older tasks are.0 long
 
 module _ (r : RingView) (jobs : List Job) (carry : Carry) (restarts : Restarts) (opened : IsOpened r jobs) (t : CycleView)
@@ -58,7 +58,7 @@ module _ (r : RingView) (jobs : List Job) (carry : Carry) (restarts : Restarts) 
   now = behind_mdt r jobs carry restarts t.sent j
 
   phase_is : (behind_mdt r jobs carry restarts t.sent j).now.phase ≡ t.phase
-  phase_is = phase_now r jobs carry restarts opened t j run.1
+  phase_is = phase_now r jobs carry restarts t j run.1
 
   -- a request of the start-up that was refused, the newest of its channel
   module _ (k : ℕ) (below : k < length r.drives) (there : k < length (known_of r).drives) (one : Begun) (older : List Begun) (code : Code)
@@ -222,7 +222,7 @@ module _ (r : RingView) (jobs : List Job) (carry : Carry) (restarts : Restarts) 
       newest (u ∷ tasks) same split are =
           let ended = are.1.ended in
           let place = at.place in
-          never_three k below there at.one at.older code split u tasks same (unnumbered (known_of r) k are.1.by_then ((behind_mdt r jobs carry restarts t.sent j).waiting k) (outcomes_in at.older) u (omega (arith, ended, place)) are.1.task) at.ended three
+          never_three k below there at.one at.older code split u tasks same (startup_until (known_of r) k are.1.by_then ((behind_mdt r jobs carry restarts t.sent j).waiting k) (outcomes_in at.older) u (omega (arith, ended, place)) are.1.task) at.ended three
 
       by : (newer : List Begun) → at.newer ≡ newer → ⊥
       by [] same = newest ((behind_mdt r jobs carry restarts t.sent j).tasks k) refl (at.split ∙ ap (λ (l : List Begun). l ++ at.one ∷ at.older) same)

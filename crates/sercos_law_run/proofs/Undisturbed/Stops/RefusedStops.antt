@@ -5,7 +5,6 @@ use Rattle.sercos_law_run.proofs.Views.Members.{members_count, member_is}
 use Rattle.sercos_law_run.proofs.Held.AnsweredRuns.{Time, Attribute, is_read_request}
 use Rattle.sercos_law_run.proofs.Held.Runs.{drive_got, small, s_known}
 use Rattle.sercos_law_run.proofs.Headline.HeadlineRuns.{all_stand, first_store}
-use Rattle.sercos_law_run.proofs.Undisturbed.StaysUp.{phase_now}
 use Rattle.sercos_law_run.proofs.Undisturbed.JobsBegun.{begun_then, few_then, places_then}
 use Rattle.sercos_law_run.proofs.Undisturbed.CycleHeld.{cycle_some, checked_within}
 use Rattle.sercos_law_run.proofs.Undisturbed.JobPlaces.{reading, some_plan}
@@ -14,6 +13,7 @@ use Rattle.sercos_law_run.proofs.Undisturbed.Stops.RefusedRuns.{IsRefused, IsCyc
 use Rattle.sercos_law_run.proofs.Undisturbed.Stops.RefusedJobs.{refused_job}
 use Rattle.sercos_law_run.proofs.Agenda.Requests.{are_requests}
 use Rattle.sercos_law_run.proofs.Cited.{refused_has_cause}
+use Rattle.sercos_law_run.proofs.Undisturbed.ChannelsKept.{phase_now}
 
 module _ (r : RingView) (jobs : List Job) (carry : Carry) (restarts : Restarts) (opened : IsOpened r jobs) (t : CycleView)
     (j : List CycleView) (run : IsRun r jobs carry restarts (t ∷ j)) (clear : IsClear (t ∷ j)) (two : t.phase ≡ 2) where
@@ -21,7 +21,7 @@ module _ (r : RingView) (jobs : List Job) (carry : Carry) (restarts : Restarts) 
   now = behind_mdt r jobs carry restarts t.sent j
 
   now_two : (behind_mdt r jobs carry restarts t.sent j).now.phase ≡ 2
-  now_two = phase_now r jobs carry restarts opened t j run.1 ∙ two
+  now_two = phase_now r jobs carry restarts t j run.1 ∙ two
 
   -- THE NEWEST REQUEST of a channel, refused
   pub refused_here : (k : ℕ) → k < length r.drives → (one : Begun) (older : List Begun) (code : Code) → begun_in (view_of r jobs carry restarts k t j) (views_of r jobs carry restarts k j) ≡ one ∷ older → (ref : IsRefused (drive_at r k) one.request code 2) → IsCycle (drive_at r k) r.cycle one.request code

@@ -3,11 +3,11 @@ use Rattle.sercos_law_run.proofs.Words.{◌≡◌, ◌⊎◌, inl, inr, ℕ, ◌
 use Rattle.sercos_law_run.proofs.Views.Members.{members_count}
 use Rattle.sercos_law_run.proofs.Held.Runs.{plan_is}
 use Rattle.sercos_law_run.proofs.Headline.HeadlineRuns.{first_store}
-use Rattle.sercos_law_run.proofs.Undisturbed.StaysUp.{phase_now}
 use Rattle.sercos_law_run.proofs.Undisturbed.JobsBegun.{begun_then, few_then, asked_now}
 use Rattle.sercos_law_run.proofs.Undisturbed.Stops.StopsTold.{stops_right}
 use Rattle.sercos_law_run.proofs.Agenda.Requests.{are_requests}
 use Rattle.sercos_law_run.proofs.Cited.{check128_has_cause, reads_well}
+use Rattle.sercos_law_run.proofs.Undisturbed.ChannelsKept.{phase_now}
 
 module _ (r : RingView) (jobs : List Job) (carry : Carry) (restarts : Restarts) (opened : IsOpened r jobs) (t : CycleView)
     (j : List CycleView) (run : IsRun r jobs carry restarts (t ∷ j)) (clear : IsClear (t ∷ j)) (two : t.phase ≡ 2)
@@ -17,7 +17,7 @@ module _ (r : RingView) (jobs : List Job) (carry : Carry) (restarts : Restarts) 
     now = behind_mdt r jobs carry restarts t.sent j
 
     now_two : (behind_mdt r jobs carry restarts t.sent j).now.phase ≡ 2
-    now_two = phase_now r jobs carry restarts opened t j run.1 ∙ two
+    now_two = phase_now r jobs carry restarts t j run.1 ∙ two
 
     -- a plan that there is fits what the ring asks
     fits : (plan : PlanView) → (behind_mdt r jobs carry restarts t.sent j).plan ≡ Some plan → Fits (wishes_of r) plan

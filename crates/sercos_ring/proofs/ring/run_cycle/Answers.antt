@@ -8,7 +8,7 @@ use Rattle.sercos_drive.specs.Kept.{DriveState}
 use Rattle.sercos_trace.specs.Views.{CycleView, EventsView}
 use Rattle.sercos_seat.specs.Ring.{known_of}
 use Rattle.sercos_master.specs.Any.{AnyStandsFor}
-use Rattle.sercos_master.specs.Annals.{Call, Past}
+use Rattle.sercos_master.specs.Annals.{Call}
 use Rattle.sercos_master.specs.Annals as master
 use Rattle.sercos_master.specs.Says.{Sent, sent_as, mst_said, mdt_said}
 use Rattle.sercos_master.specs.Reports.{AreOpen, events_told, restart_told}

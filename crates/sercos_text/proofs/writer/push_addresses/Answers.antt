@@ -1,4 +1,4 @@
-use Rattle.std.proofs.Common.{◌+◌, ◌*◌, ap, ◌∙◌, ◌++◌, arith}
+use Rattle.std.proofs.Common.{ap, ◌∙◌, ◌++◌, arith}
 use Rattle.sercos_text.specs.Lists.{list_text}
 use Rattle.sercos_text.specs.declared.list.Item.TheVariants.{Address}
 use Rattle.sercos_text.proofs.WriteSteps.{item_written, list_end, map_same}

@@ -1,5 +1,5 @@
 -- The digits of the pieces so far.
-use Rattle.std.proofs.Common.{◌≡◌, ◌+◌, ◌*◌, ◌≤◌, ◌++◌, length, drop}
+use Rattle.std.proofs.Common.{◌≡◌, ◌*◌, ◌++◌, length, drop}
 use Rattle.hex.specs.Hex.{encode_lower}
 use Rattle.sercos_text.proofs.writer.push_digits.Given as goal
 

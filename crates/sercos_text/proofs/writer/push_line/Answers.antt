@@ -1,4 +1,4 @@
-use Rattle.std.proofs.Common.{◌+◌, arith, drop, map, length-drop}
+use Rattle.std.proofs.Common.{arith, drop, map, length-drop}
 use Rattle.std.proofs.lemmas.List.{take_rest, drop-drop}
 use Rattle.sercos_text.specs.Given.{value_of}
 use Rattle.sercos_text.proofs.WriteSteps.{letter_written, line_end}

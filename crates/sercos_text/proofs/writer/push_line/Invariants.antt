@@ -1,5 +1,5 @@
 -- What was appended, and the text of what is left of the template, make up the line.
-use Rattle.std.proofs.Common.{◌≡◌, ◌+◌, ◌-◌, ◌≤◌, ◌++◌, length, drop, map, sum_by}
+use Rattle.std.proofs.Common.{◌≡◌, ◌+◌, ◌≤◌, ◌++◌, length, drop, map, sum_by}
 use Rattle.sercos_text.specs.Given.{value_of, most_bytes}
 use Rattle.sercos_text.specs.Templates.{line_text}
 use Rattle.sercos_text.proofs.writer.push_line.Given as goal

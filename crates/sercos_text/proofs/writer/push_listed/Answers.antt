@@ -1,4 +1,4 @@
-use Rattle.std.proofs.Common.{◌+◌, ◌*◌, arith}
+use Rattle.std.proofs.Common.{arith}
 use Rattle.sercos_idn.specs.declared.idn.Idn.{Idn}
 use Rattle.sercos_text.specs.declared.list.Item.TheVariants.{Ident}
 use Rattle.sercos_text.proofs.WriteSteps.{item_written, list_end}

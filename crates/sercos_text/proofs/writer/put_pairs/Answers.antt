@@ -1,4 +1,4 @@
-use Rattle.std.proofs.Common.{List, ℕ, ◌∙◌, ◌≡◌, ◌*◌, ◌++◌, ◌+◌, ◌∷◌, [], arith, ap, append-nil, drop, get_or, length, sym, take}
+use Rattle.std.proofs.Common.{List, ℕ, ◌∙◌, ◌≡◌, ◌*◌, ◌++◌, ◌+◌, ◌∷◌, [], arith, ap, drop, get_or, length, take}
 use Rattle.hex.specs.Hex.{encode_lower, lower_digits}
 use Rattle.hex.proofs.HexLemmas.{length-encode_with}
 use Rattle.sercos_text.proofs.WriteSteps.{no_pairs, pair_more, pair_put, pairs_end}

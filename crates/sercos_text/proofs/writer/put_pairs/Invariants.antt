@@ -1,5 +1,5 @@
 -- The digits of the bytes so far, and the rest of the room as it was.
-use Rattle.std.proofs.Common.{◌≡◌, ◌+◌, ◌*◌, ◌++◌, take, drop}
+use Rattle.std.proofs.Common.{◌≡◌, ◌*◌, ◌++◌, take, drop}
 use Rattle.hex.specs.Hex.{encode_lower}
 use Rattle.sercos_text.proofs.writer.put_pairs.Given as goal
 
