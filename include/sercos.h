@@ -205,8 +205,8 @@ typedef struct sercos_chain {
 } sercos_chain;
 
 /* The least plan of a ring with 1 to 64 drives in the order of the ring; `order` has the places of the drives, from 0 on, in the order
- * of their ATs. The slots are in the order of the ring. SERCOS_NO: no plan fits, and the chain proves it. SERCOS_REFUSED: the ring or a drive
- * is not valid. SERCOS_WRITE_FAULT: `slots` has fewer than `drives_len` items, or `links` fewer than 66. */
+ * of their ATs. The slots are in the order of the ring. SERCOS_NO: no plan fits, and the chain proves it. SERCOS_REFUSED: the ring, a
+ * drive or the order is not valid. SERCOS_WRITE_FAULT: `slots` has fewer than `drives_len` items, or `links` fewer than 66. */
 uint8_t sercos_plan(const sercos_ring_times *ring, const sercos_wish *drives, size_t drives_len, const uint8_t *order,
                     size_t order_len, sercos_plan_times *plan, sercos_slot *slots, size_t slots_len, sercos_chain *chain,
                     sercos_link *links, size_t links_len);
@@ -242,7 +242,8 @@ typedef struct sercos_drive {
 uint8_t sercos_drive_open(const uint8_t *document, size_t len, size_t place, sercos_drive *drive);
 /* Takes what arrived at the MST's place of a cycle: the content of a frame, if one arrived. The cycle isn't below an earlier one. */
 uint8_t sercos_drive_hear_mst(sercos_drive *drive, uint32_t cycle, bool arrived, const uint8_t *content, size_t len);
-/* The content of this cycle's AT, and its start in microseconds after the MST's end. SERCOS_NO: the drive sends none. */
+/* The content of this cycle's AT, and its start in microseconds after the MST's end. SERCOS_NO: the drive sends none: without this cycle's
+ * MST, in phase 0, and in phases 1 and 2 if it accepted no MDT in the cycle before. */
 uint8_t sercos_drive_at(sercos_drive *drive, uint8_t *out, size_t out_len, size_t *written, uint16_t *start);
 /* Takes what arrived at the MDT's place. */
 uint8_t sercos_drive_hear_mdt(sercos_drive *drive, bool arrived, const uint8_t *content, size_t len);
@@ -250,8 +251,9 @@ uint8_t sercos_drive_restart(sercos_drive *drive);
 /* The phase of the drive, 0 to 4. */
 uint8_t sercos_drive_phase(sercos_drive *drive, uint8_t *phase);
 /* The bytes of an element of a data block, 2 to 7 (name, attribute, unit, minimum, maximum, operation data), at most 1,024. A
- * number has its low byte first. SERCOS_NO: the block doesn't have it, and `*code` is the error that a service transfer gets (0x1001, 0x2001,
- * 0x4001, 0x5001, 0x6001). SERCOS_REFUSED: no element 2 to 7. */
+ * number has its low byte first. The operation data of a block with a step are those of cycle 0. SERCOS_NO: the drive has no such block, or
+ * the block no such element, and `*code` is the error that a service transfer gets (0x1001, 0x2001, 0x4001, 0x5001, 0x6001).
+ * SERCOS_REFUSED: no element 2 to 7. */
 uint8_t sercos_drive_element(sercos_drive *drive, uint16_t idn, uint8_t element, uint8_t *out, size_t out_len, size_t *written,
                              uint16_t *code);
 void sercos_drive_close(sercos_drive *drive);
@@ -270,8 +272,9 @@ uint8_t sercos_master_mst(sercos_master *master, uint8_t *out, size_t out_len, s
 uint8_t sercos_master_hear_mst(sercos_master *master, bool arrived, const uint8_t *content, size_t len);
 /* Takes the content of a frame at a place of ATs. */
 uint8_t sercos_master_hear_at(sercos_master *master, const uint8_t *content, size_t len);
-/* The content of this cycle's MDT, and its start in microseconds after the MST's end. SERCOS_NO: none is sent. SERCOS_WRITE_FAULT:
- * `out` has fewer than 2,048 bytes, and nothing was done. */
+/* The content of this cycle's MDT, and its start in microseconds after the MST's end. SERCOS_NO: none is sent: in phase 0, in 1 if each
+ * drive is identified, in 2 if no step is open, and in 3 and 4 without a plan. SERCOS_WRITE_FAULT: `out` has fewer than 2,048 bytes, and
+ * nothing was done. */
 uint8_t sercos_master_mdt(sercos_master *master, uint8_t *out, size_t out_len, size_t *written, uint16_t *start);
 /* Ends the cycle: the master falls, stays, or rises. */
 uint8_t sercos_master_end_cycle(sercos_master *master);

@@ -78,10 +78,12 @@ fn back_up<K: Sink>(alloc: Global, document: Document, sink: &mut K) -> Status
 /// Writes the answer to a ring document, and returns its status: `Done` and the saved data of the blocks on its drives' lists of backup
 /// operation data, `No` and the requests that failed or that the blocks are too many, or `Refused` and the document's first refusal. The
 /// ring is run over its script, from its first cycle, to read the lists, and once more in the same way to read the blocks on them. Each run
-/// has the properties of `kept_law`. If nothing is undetected in it, the bytes read are those of `told_law`. The requests of the document
-/// are ignored. All memory is taken before anything is written: if it runs out, the status is `Memory`, and the sink is as it was. If a
-/// write fails, the status is `Refused` for a refused document, otherwise `WriteFault`, and the sink has accepted a proper prefix of the
-/// answer. The stack is apart from that of the other commands.
+/// has the properties of `kept_law`. If nothing is undetected in it, the bytes read are those of `told_law`. If a run is long enough, the
+/// ring right, and no cycle disturbed, each request is complete or refused by its drive (`EndsWell`). The requests of the document are
+/// ignored. All memory is taken before anything is written: if it runs out, the status is `Memory`, and the sink is as it was. If a write
+/// fails, the status is `Refused` for a refused document, otherwise `WriteFault`; then the sink has accepted a proper prefix of the answer,
+/// and its count of faults has risen or is 2^64 - 1. A sink with room for the whole answer doesn't fail. The stack is apart from that of
+/// the other commands.
 #[inline(never)]
 pub fn answer_backup<K: Sink>(alloc: Global, bytes: &[u8], sink: &mut K) -> Status
     ensures { Replies (backup_answer bytes.now) (SavesItsRing bytes.now)

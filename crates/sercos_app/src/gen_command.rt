@@ -102,8 +102,9 @@ fn sum_document<L: BitLink, K: Sink>(
 
 /// Answers `gen N`: runs the document that is generated for `n` drives, 1 to 64, under its script followed by the link handed in, writes
 /// one line, the summary of the run, and returns `Done`. The run has the properties of `kept_law`. All memory is taken before the line is
-/// written: if it runs out, the status is `Memory`, and the sink is as it was. If writing fails, the status is `WriteFault`, and the sink
-/// has accepted a proper prefix of the line.
+/// written: if it runs out, the status is `Memory`, and the sink is as it was. If writing fails, the status is `WriteFault`, the sink has
+/// accepted a proper prefix of the line, and its count of faults has risen or is 2^64 - 1. A sink with room for the whole line doesn't
+/// fail.
 pub fn answer_gen<L: BitLink, K: Sink>(alloc: Global, n: u8, link: L, sink: &mut K) -> Status
     requires some { 1 ≤ n }
     requires few { n ≤ 64 }

@@ -48,14 +48,14 @@ fn reply_undivided(alloc: Global, address: u8) -> Result<Reply, BadDocument>
     }
 }
 
-/// Returns the reply of `replay` to an input of at most 1,048,576 bytes: a ring document, a line that is exactly `capture`, and a
-/// capture. It is `No` and the first place at which the station with an address deviated from its rules, given all that the capture has
-/// before that place; or `Done` and the number of cycles, if there is none. The master has the address 0.
+/// Returns the reply of `replay` to an input of at most 1,048,576 bytes: a ring document, a line that is exactly `capture`, and a capture.
+/// It is `No` and the first place at which the station with an address deviated from its rules, given all that the capture has before that
+/// place; or `Done` and the number of cycles, if there is none. The master has the address 0.
 ///
-/// These are refused, in this order: an input without such a line, an invalid document, an address without a drive, an invalid capture,
-/// and a capture that doesn't begin with cycle 0. A capture that breaks a rule is answered as `check` does. The error is the document's
-/// first refusal, or `Memory`. Unless it is `Memory`, the document of the input may be opened with its requests, if there is one that
-/// isn't refused.
+/// These are refused, in this order: an input without such a line, an invalid document, an address without a drive, an invalid capture, and
+/// a capture whose first MST isn't of cycle 0. A capture that breaks a rule is answered as `check` does. The error is the document's first
+/// refusal, or `Memory`. Unless it is `Memory`, the document of the input may be opened with its requests, if there is one that isn't
+/// refused.
 #[tactic(auto, unfolding(sercos_replay::specs::Replaying::replay_answer, sercos_replay::specs::Replaying::parts_answer, sercos_replay::specs::Divided::divided))]
 pub fn replay(alloc: Global, address: u8, bytes: &[u8]) -> Result<Reply, BadDocument>
     requires few { length bytes.now ≤ 1048576 }

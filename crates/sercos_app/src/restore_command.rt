@@ -41,8 +41,8 @@ fn put_shown(store: &Store, idn: Idn, cycle: u32, out: &mut Bytes)
     }
 }
 
-// Returns the operation data that the drive with an address has in a block in the last cycle of the ring, whose setup is `setup`, which
-// must be valid; no bytes, if there is no such drive or block.
+// Returns the operation data that a block of the drive with an address has after the cycles that the ring has made; a number with a step is
+// that of the last cycle of `setup`. There are no bytes if there is no such drive or block. `setup` must be that of the ring, and valid.
 fn last_data<L: BitLink>(ring: &Ring<L>, setup: &RingSetup, address: u8, idn: Idn) -> Bytes
     requires drives { drives_in ring.now ≡ length setup.now.drives }
     requires ring { is_ring setup.now ≡ true }
@@ -61,7 +61,7 @@ fn last_data<L: BitLink>(ring: &Ring<L>, setup: &RingSetup, address: u8, idn: Id
     shown
 }
 
-// Appends the lines of all writes, in order: the operation data that the drive has in the last cycle of the ring, or how the request
+// Appends the lines of all writes, in order: the operation data that the drive then has, as `last_data` returns it, or how the request
 // failed. `setup` must be that of the ring, and valid. The error is `AllocError`; then `out` is unspecified.
 fn push_lines<L: BitLink>(
     ring: &Ring<L>,
@@ -157,10 +157,13 @@ fn restore_document<K: Sink>(alloc: Global, document: Document, sink: &mut K) ->
 
 /// Writes the answer to a ring document whose requests all write operation data, and returns its status: runs the ring with them, over its
 /// script, and writes a line for each: what the drive has in the end, or how the request failed. The run has the properties of `kept_law`.
+/// If nothing is undetected in it, a complete write stays in the drive's block as `write_law` has it, unless a later request writes to the
+/// block. If a run is long enough, the ring right, and no cycle disturbed, each request is complete or refused by its drive (`EndsWell`).
 /// The status is `Done` if none failed, otherwise `No`. Any other document is `Refused`: by its first refusal, or by the number of the
 /// first request that doesn't write operation data. All memory is taken before anything is written: if it runs out, the status is `Memory`,
-/// and the sink is as it was. If a write fails, the status is `Refused` for a refused document, otherwise `WriteFault`, and the sink has
-/// accepted a proper prefix of the answer. The stack is apart from that of the other commands.
+/// and the sink is as it was. If a write fails, the status is `Refused` for a refused document, otherwise `WriteFault`; then the sink has
+/// accepted a proper prefix of the answer, and its count of faults has risen or is 2^64 - 1. A sink with room for the whole answer doesn't
+/// fail. The stack is apart from that of the other commands.
 #[inline(never)]
 pub fn answer_restore<K: Sink>(alloc: Global, bytes: &[u8], sink: &mut K) -> Status
     ensures { Replies (restore_answer bytes.now) (RestoresItsRing bytes.now)

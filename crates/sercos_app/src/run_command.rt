@@ -37,8 +37,10 @@ fn give_run<L: BitLink, K: Sink>(
     }
 }
 
-// Runs the ring of a document under its script followed by the link handed in, and writes the trace. Returns `Done`, or `WriteFault` if a
-// write failed. All memory is taken before anything is written: if it runs out, the status is `Memory`, and nothing is written.
+// Runs the ring of a document under its script followed by the link handed in, and writes the trace. The setup must be valid, and there
+// must be at most 4,096 requests, each a read of an element from 1 to 7, a write of one from 2 to 7, or a command. Returns `Done`, or
+// `WriteFault` if a write failed; then the sink has accepted a proper prefix of the trace. All memory is taken before anything is written:
+// if it runs out, the status is `Memory`, and nothing is written.
 fn run_document<L: BitLink, K: Sink>(
     alloc: Global,
     document: Document,
@@ -66,7 +68,8 @@ fn run_document<L: BitLink, K: Sink>(
 /// Writes the answer to a ring document, and returns its status: `Done` and the trace of its run, under its script followed by the link
 /// handed in, or `Refused` and its first refusal. The run has the properties of `kept_law`; if nothing is undetected in it, its trace is a
 /// clean capture. If memory runs out, the status is `Memory`, and the sink is as it was. If a write fails, the status is `Refused` for a
-/// refused document, otherwise `WriteFault`, and the sink has accepted a proper prefix of the answer.
+/// refused document, otherwise `WriteFault`; then the sink has accepted a proper prefix of the answer, and its count of faults has risen or
+/// is 2^64 - 1. A sink with room for the whole answer doesn't fail.
 pub fn answer_run<L: BitLink, K: Sink>(alloc: Global, bytes: &[u8], link: L, sink: &mut K) -> Status
     ensures { Replies (run_answer (L.carry link) (L.restart link) bytes.now) (RunsItsRing (L.carry link) (L.restart link) bytes.now)
         (changed K.held K.faults K.room sink.old sink.new) (sink.new ≡ sink.old) result }

@@ -77,7 +77,7 @@ fn reads_input(form: Form) -> bool
 }
 
 // Writes the answer of the command with this form to an input of at most 1,048,576 bytes, and returns the status. The number of drives of
-// `gen` must be 1 to 64. `gen` ignores the input, and only `run` and `gen` use the link.
+// `gen` must be 1 to 64, and the address of `replay` at most 254. `gen` ignores the input, and only `run` and `gen` use the link.
 #[tactic(auto, unfolding(crate::specs::Answer::command_answer))]
 fn answer<K: Sink, L: BitLink>(
     alloc: Global,

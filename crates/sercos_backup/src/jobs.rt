@@ -64,7 +64,7 @@ fn count_on(bytes: &[u8]) -> usize
     bytes.len() / 2
 }
 
-// Returns how many blocks are on some lists, at most 64, in all.
+// Returns how many blocks all of these lists have together, one for each whole pair of bytes of a list. There are at most 64 lists.
 fn count_all(lists: &[(u8, Bytes)]) -> u32
     requires { length lists.now ≤ 64 }
     ensures { result ≡ length (data_jobs lists.now) }

@@ -9,8 +9,8 @@ use sercos_io::Status;
 use sercos_text::{Given, Line, push_line};
 use std::alloc::{AllocError, Global};
 
-/// Returns the reply of a run in which requests failed: `No`, with the line of each that did. If `absent` is true, a request that was
-/// refused because the drive has no such block didn't fail. The error is `AllocError`.
+/// Returns the reply of a run in which requests failed: `No`, with the line of each that did, as `push_all_failed` appends it. If `absent`
+/// is true, a request that was refused because the drive has no such block didn't fail. The error is `AllocError`.
 pub fn failed_reply(alloc: Global, absent: bool, list: &[Tracked]) -> Result<Reply, AllocError>
     ensures status { IfOk result (λ reply. reply.status ≡ (failed_answer absent list.now).status) }
     ensures text { IfOk result (λ reply. reply.text.items ≡ (failed_answer absent list.now).output) }

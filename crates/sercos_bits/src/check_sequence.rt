@@ -174,7 +174,7 @@ fn with_fours(bytes: &[u8], count: usize) -> u16
     register
 }
 
-// Returns the register after the bytes from index `from` on, which is at most the number of bytes.
+// Returns what `register` becomes after the bytes from index `from` on. `from` is at most the number of bytes.
 fn with_rest(register: u16, bytes: &[u8], from: usize) -> u16
     requires { from ≤ length bytes.now }
     ensures { low_bits 16 result ≡ fold fed (low_bits 16 register) (bits_of (drop from bytes.now)) }

@@ -40,8 +40,8 @@ pub fn clear_from(words: &mut [u64], place: usize, end: usize)
     }
 }
 
-// Sets the bits of one word that are zeros, and ones in the mask. Bits that are zeros in the mask and those of all other words are
-// unchanged.
+// Sets the bits of one word that are ones in the mask. `word` is its index, below the number of words. Its bits that are zeros in the mask
+// and those of all other words are unchanged.
 fn set_ones(words: &mut [u64], word: usize, mask: u64)
     requires { word < length words.old }
     ensures there { (i : ℕ) → i / 64 ≡ word → bit_in words.old i ≡ false → bit_in words.new i ≡ is_odd (mask / 2 ^ (i % 64)) }

@@ -57,7 +57,7 @@ pub fn has_other_data(address: u8, idn: Idn, drives: &[DriveSetup]) -> bool
     })
 }
 
-// Returns whether each drive may follow those before it in the ring. The first follows none.
+// Returns whether `is_drive` accepts each drive after those before it in the ring. The first follows none.
 #[tactic(auto, unfolding(crate::specs::Rings::are_drives))]
 fn are_drives(drives: &[DriveSetup]) -> bool
     ensures { result ≡ are_drives [] drives.now }
@@ -161,8 +161,14 @@ impl RingSetup {
             && mdt_len(drives) <= MOST_RECORDS
     }
 
-    /// Returns whether the ring keeps all rules of this profile: for its own numbers, its drives and their data blocks, and its order,
-    /// which has the index of each drive once.
+    /// Returns whether the ring keeps all rules of this profile:
+    /// - [`valid`](sercos_timing::valid) accepts its rate, cycle time, control unit cycle time and gap. The control unit cycle time is at
+    ///   most 64,000 microseconds. The ring runs 1 to 50,000 cycles.
+    /// - It has 1 to 64 drives with distinct addresses. Each has both addresses from 1 to 254, at most 20 busy cycles, at most 200 command
+    ///   cycles, times within [`sercos_timing::limits`], and at most 64,000 microseconds for its shortest and its longest cycle time.
+    ///   [`check_blocks`](crate::check_blocks) accepts its at most 36 own data blocks, and its telegrams can carry what they are configured
+    ///   with. The data records have at most 2,047 bytes together.
+    /// - Its order has the index of each drive once.
     #[tactic(auto, unfolding(crate::specs::Rings::is_ring, crate::specs::Rings::is_order))]
     pub fn valid(&self) -> bool
         ensures { result ≡ is_ring self.now }

@@ -50,8 +50,8 @@ fn text_of<'a>(region: &'a [u8], part: &Option<Part>) -> Option<&'a [u8]>
     }
 }
 
-// Returns the bytes of a minimum or a maximum; `None` if absent. Its part is within the region, has at most 1024 bytes, and has the bytes
-// of its bits. `attribute` only serves the contract.
+// Returns the bytes of a minimum or a maximum; `None` if absent. Its part is within the region, has at most 1024 bytes, and has there the
+// bytes that `bytes_for` makes of the limit's bits. `attribute` only serves the contract.
 fn limit_of<'a>(region: &'a [u8], attribute: &Attribute, limit: &Option<Limit>) -> Option<&'a [u8]>
     requires inside { IfSome limit.now (λ l. (l.bytes.place + l.bytes.len ≤ length region.now) × (l.bytes.len ≤ 1024)) }
     requires bytes { IfSome limit.now (λ l. part_of region.now l.bytes ≡ bytes_for attribute.now l.bits) }
@@ -65,7 +65,8 @@ fn limit_of<'a>(region: &'a [u8], attribute: &Attribute, limit: &Option<Limit>) 
 }
 
 impl<'a> Stored<'a> {
-    // Returns the block of an entry whose bytes are all in the region.
+    // Returns the block of an entry whose bytes are all in the region (`IsWithin`): each part has at most 1024 bytes, that of the operation
+    // data comes after the others, with room for its most bytes, and those of the attribute and the limits have the bytes of their values.
     pub(crate) fn new(region: &'a [u8], entry: &'a Entry) -> Stored<'a>
         requires { IsWithin region.now entry.now }
         ensures { result ≡ block_of region.now entry.now }
@@ -108,7 +109,8 @@ impl<'a> Stored<'a> {
         self.entry.max_len
     }
 
-    // Returns whether the master can never write the operation data.
+    // Returns whether the block is set up so that the master can never write the operation data. It can't write those of a block with a
+    // step either.
     pub(crate) fn fixed(&self) -> bool
         ensures { result ≡ self.now.fixed }
     {

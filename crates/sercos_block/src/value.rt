@@ -58,7 +58,8 @@ fn meant(attribute: &Attribute, bits: u32) -> i64
     }
 }
 
-// Returns whether the number of the first bits is less than that of the second. Both are below `number_end` of the length in the attribute.
+// Returns whether the number that `first` spells, as `meant` returns it, is less than the one that `second` spells. Both are below
+// `number_end` of the length in the attribute.
 pub(crate) fn is_less(attribute: &Attribute, first: u32, second: u32) -> bool
     requires first { first < number_end attribute.now.length }
     requires second { second < number_end attribute.now.length }

@@ -20,8 +20,8 @@ fn is_protected(attribute: &Attribute, phase: u8) -> bool
     }
 }
 
-// Returns the first error for which the operation data of a block can't be written in a phase, for any bytes: 0x7004, it can never be
-// written; 0x7005, it is write protected in this phase. `None` if it can. Any phase but 2 and 3 counts as 4.
+// Returns the first error for which the operation data of a block can't be written in a phase, for any bytes: 0x7004, the block is fixed or
+// has a step; 0x7005, it is write protected in this phase. `None` if it can. Any phase but 2 and 3 counts as 4.
 #[tactic(auto, unfolding(crate::specs::Stores::write_fault))]
 pub(crate) fn write_fault(block: &Stored<'_>, phase: u8) -> Option<Code>
     ensures { option_map (λ code. code.raw) result ≡ write_fault (Some block.now) phase }
@@ -107,7 +107,7 @@ pub(crate) fn is_outside(block: &Stored<'_>) -> bool
 }
 
 // Returns the first error for which bytes can't be the operation data of a sound block: 0x7002, too short; 0x7003, too long; 0x7008,
-// invalid; 0x7006, below the minimum; 0x7007, above the maximum. `None` if they can.
+// invalid by `is_invalid`; 0x7006, below the minimum; 0x7007, above the maximum. `None` if they can.
 #[tactic(auto, using(crate::proofs::SoundLemmas::min_below, crate::proofs::SoundLemmas::max_below), unfolding(crate::specs::Stores::data_fault))]
 pub(crate) fn data_fault(block: &Stored<'_>, bytes: &[u8]) -> Option<Code>
     requires { is_sound block.now ≡ true }

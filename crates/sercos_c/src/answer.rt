@@ -8,7 +8,8 @@ use sercos_io::{Status, Words};
 use std::alloc::Global;
 
 // Runs the command of these words over an input, and writes its output to a sink. The sink must have taken nothing, and no write to it may
-// have failed. Returns the status of the command. The sink stays over the same slice.
+// have failed. Returns the status of the command; if the output doesn't fit, `Refused` for a refusal, and otherwise `WriteFault`. The sink
+// stays over the same slice.
 fn answer_into(alloc: Global, words: &Words, input: &[u8], sink: &mut SliceSink<'_>) -> Status
     requires fresh { sink.old.is_full ≡ false }
     requires empty { sink.old.place ≡ 0 }
@@ -20,7 +21,8 @@ fn answer_into(alloc: Global, words: &Words, input: &[u8], sink: &mut SliceSink<
 }
 
 /// Runs the command of these words over an input, and writes its output to the front of `output`. Returns its status, and the number of
-/// bytes of the output that were written. The bytes of `output` after these are unspecified.
+/// bytes of the output that were written. The bytes of `output` after these are unspecified. An output longer than `output` is cut at its
+/// end, and the status is then `Refused` for a refusal, otherwise `WriteFault`.
 pub(crate) fn answer(
     alloc: Global,
     words: &Words,

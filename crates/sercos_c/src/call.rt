@@ -8,8 +8,8 @@ use sercos_io::Status;
 use std::alloc::Global;
 
 // Runs the command whose words are the lines of `words` over an input, and writes its output to the front of `output`. Returns its status,
-// and the number of bytes that were written. The bytes of `output` after these are unspecified. If a word isn't UTF-8, the status is
-// `BadWords`, or `Memory` if no memory was found. It is never `ReadFault`.
+// and the number of bytes that were written, as `answer` does. The bytes of `output` after these are unspecified. If a word isn't UTF-8,
+// the status is `BadWords`, or `Memory` if no memory was found. It is never `ReadFault`.
 fn call(alloc: Global, words: &[u8], input: &[u8], output: &mut [u8]) -> (Status, usize)
     ensures within { result.1 ≤ length output.new }
     ensures called { IsCallOf (lines_of words.now) input.now (length output.old) (status_code result.0) (take result.1 output.new) }

@@ -21,8 +21,9 @@ pub(crate) fn arrival(arrived: bool, content: &[u8]) -> Option<&[u8]>
 }
 
 // Writes the content of this cycle's AT to the front of `out`, the number of its bytes to `written`, and its start, in microseconds after
-// the MST's end, to `start`, and returns `DONE`. Returns `NO` if the drive sends none, and then the start stays as it was; otherwise
-// `WRITE_FAULT` if there is too little room, and then the start is written anyway. After both `written` is 0, and `out` stays as it was.
+// the MST's end, to `start`, and returns `DONE`. Returns `NO` if the drive sends none: without this cycle's MST, in phase 0, and in phases
+// 1 and 2 if it accepted no MDT in the cycle before. Then the start stays as it was. Otherwise it returns `WRITE_FAULT` if there is too
+// little room, and then the start is written anyway. After `NO` and `WRITE_FAULT` `written` is 0, and `out` stays as it was.
 fn at_of(drive: &Drive, out: &mut [u8], written: &mut usize, start: &mut u16) -> u8
     ensures open { result ≢ closed }
     ensures said { (d : DriveView) (rate : ℕ) (h : List DriveCall) → DriveStandsFor drive.now d rate h
@@ -42,9 +43,9 @@ fn at_of(drive: &Drive, out: &mut [u8], written: &mut usize, start: &mut u16) ->
 }
 
 // Writes the bytes of an element, 2 to 7, of the drive's data block `idn` to the front of `out`, the number of them, at most 1,024, to
-// `written`, and 0 to `code`, and returns `DONE`. Returns `NO` if there is no such element, and then `code` is the error that a service
-// transfer gets; otherwise `WRITE_FAULT` if there is too little room, and then `code` is 0. In both cases `written` is 0, and `out` stays
-// as it was.
+// `written`, and 0 to `code`, and returns `DONE`. The operation data of a block with a step are those of cycle 0, not of the newest one.
+// Returns `NO` if the drive has no such block, or the block no such element, and then `code` is the error that a service transfer gets;
+// otherwise `WRITE_FAULT` if there is too little room, and then `code` is 0. In both cases `written` is 0, and `out` stays as it was.
 fn element_of(
     drive: &Drive,
     idn: u16,
@@ -161,8 +162,8 @@ pub extern "C" fn sercos_drive_hear_mdt(
     status
 }
 
-/// Restarts a drive between two cycles: it is in phase 0, and its data blocks stay. Returns `DONE`. Returns `CLOSED`, and changes nothing,
-/// if no drive is held.
+/// Restarts a drive between two cycles: it is in phase 0, its service channel and its procedure commands are cleared, and its data blocks
+/// stay. Returns `DONE`. Returns `CLOSED`, and changes nothing, if no drive is held.
 #[unsafe(no_mangle)]
 pub extern "C" fn sercos_drive_restart(alloc: Global, drive: &mut Handle) -> u8
     ensures status { result ≡ drive_status drive.old.held.value }
@@ -209,9 +210,11 @@ pub extern "C" fn sercos_drive_phase(alloc: Global, drive: &mut Handle, phase: &
 }
 
 /// Writes the content of this cycle's AT to the front of `out`, the number of its bytes to `written`, and its start, in microseconds after
-/// the MST's end, to `start`, and returns `DONE`. The drive stays as it was. Returns `CLOSED`, and writes nothing, if no drive is held.
-/// Otherwise it returns `NO` if the drive sends none, and then the start stays as it was; or `WRITE_FAULT` if there is too little room, and
-/// then the start is written anyway. After the last two `written` is 0, and `out` stays as it was.
+/// the MST's end, to `start`, and returns `DONE`. It is called between this cycle's `sercos_drive_hear_mst` and `sercos_drive_hear_mdt`.
+/// The drive stays as it was. Returns `CLOSED`, and writes nothing, if no drive is held; otherwise `NO` if the drive sends none: without
+/// this cycle's MST, in phase 0, and in phases 1 and 2 if it accepted no MDT in the cycle before. Then the start stays as it was. Otherwise
+/// it returns `WRITE_FAULT` if there is too little room, and then the start is written anyway. After `NO` and `WRITE_FAULT` `written` is 0,
+/// and `out` stays as it was.
 #[unsafe(no_mangle)]
 pub extern "C" fn sercos_drive_at(
     alloc: Global,
@@ -238,10 +241,11 @@ pub extern "C" fn sercos_drive_at(
 }
 
 /// Writes the bytes of an element, 2 to 7, of the data block `idn` to the front of `out`, and the number of them, at most 1,024, to
-/// `written`, and returns `DONE`. A number has its low byte first. The drive stays as it was. Returns `CLOSED`, and writes nothing, if no
-/// drive is held. Otherwise it returns `REFUSED` if the element isn't 2 to 7; `NO` if there is no such element, and then `code` is the
-/// error that a service transfer gets; or `WRITE_FAULT` if there is too little room. After the last three `written` is 0, and `out` stays
-/// as it was. Unless the result is `NO` or `CLOSED`, `code` is 0.
+/// `written`, and returns `DONE`. A number has its low byte first. The operation data of a block with a step are those of cycle 0, while an
+/// AT or a service transfer has those of its own cycle. The drive stays as it was. Returns `CLOSED`, and writes nothing, if no drive is
+/// held. Otherwise it returns `REFUSED` if the element isn't 2 to 7; `NO` if the drive has no such block, or the block no such element, and
+/// then `code` is the error that a service transfer gets; or `WRITE_FAULT` if there is too little room. After the last three `written` is
+/// 0, and `out` stays as it was. Unless the result is `NO` or `CLOSED`, `code` is 0.
 #[unsafe(no_mangle)]
 pub extern "C" fn sercos_drive_element(
     alloc: Global,

@@ -11,7 +11,7 @@ use sercos_hdlc::{Deframer, frame};
 /// The most bits that a reader of a frame takes.
 pub(crate) const MOST_BITS: usize = 0x8000_0000;
 
-/// Returns the frame check sequence of a content of any length.
+/// Returns the frame check sequence of a content of any length (ISO/IEC 3309). A frame carries its low byte first.
 #[unsafe(no_mangle)]
 pub extern "C" fn sercos_fcs(content: &[u8]) -> u16
     ensures { result ≡ fcs_of content.now }

@@ -83,8 +83,10 @@ pub extern "C" fn sercos_master_hear_at(alloc: Global, master: &mut Handle, cont
 
 /// Has the master send this cycle's MDT: writes its content to the front of `out`, the number of its bytes to `written`, and its start, in
 /// microseconds after the MST's end, to `start`, and returns `DONE`. Returns `CLOSED` if no master is held, and then nothing changes.
-/// Otherwise it returns `WRITE_FAULT` if `out` has fewer than 2,048 bytes, and then the master stays as it was; or `NO` if the master sends
-/// none. After the last two `written` is 0, and `out` and the start stay as they were.
+/// Otherwise it returns `WRITE_FAULT` if `out` has fewer than 2,048 bytes, and then the master stays as it was; or `NO` if there is no MDT
+/// in this cycle: in phase 0, in 1 if each drive is identified, in 2 if no step is open, and in 3 and 4 without a plan. With `NO`, too, the
+/// master has noted a stop, made its plan and begun its next tasks, if they were due. After `WRITE_FAULT` and `NO` `written` is 0, and
+/// `out` and the start stay as they were.
 #[unsafe(no_mangle)]
 pub extern "C" fn sercos_master_mdt(
     alloc: Global,
@@ -110,8 +112,8 @@ pub extern "C" fn sercos_master_mdt(
     status
 }
 
-/// Ends the cycle: the master falls to phase 0, stays in its phase, or rises to the next. Returns `DONE`. Returns `CLOSED`, and changes
-/// nothing, if no master is held.
+/// Ends the cycle: the master falls to phase 0, stays in its phase, or rises to the next. What it reports of the cycle takes the place of
+/// its earlier report, for `sercos_master_events`. Returns `DONE`. Returns `CLOSED`, and changes nothing, if no master is held.
 #[unsafe(no_mangle)]
 pub extern "C" fn sercos_master_end_cycle(alloc: Global, master: &mut Handle) -> u8
     ensures closed { (result == closed) ≡ not (is_master master.old.held.value) }
@@ -130,7 +132,8 @@ pub extern "C" fn sercos_master_end_cycle(alloc: Global, master: &mut Handle) ->
     status
 }
 
-/// Restarts the master between two cycles, and returns `DONE`. Returns `CLOSED`, and changes nothing, if no master is held.
+/// Restarts the master between two cycles, and returns `DONE`. It then commands phase 0 and has received nothing; its current requests are
+/// reported as broken, and those not begun still wait. Returns `CLOSED`, and changes nothing, if no master is held.
 #[unsafe(no_mangle)]
 pub extern "C" fn sercos_master_restart(alloc: Global, master: &mut Handle) -> u8
     ensures closed { (result == closed) ≡ not (is_master master.old.held.value) }
@@ -171,8 +174,9 @@ pub extern "C" fn sercos_master_command(alloc: Global, master: &mut Handle, phas
     status
 }
 
-/// Writes the trace lines of what the master reported in the cycle that ended last, or in a restart since, to the front of `out`, and the
-/// number of their bytes to `written`, and returns `DONE`. The master stays as it was. Returns `CLOSED` if no master is held, or if it
+/// Writes the trace lines of what the master reported in the cycle that ended last, or in a restart since, nothing before both, to the
+/// front of `out`, and the number of their bytes to `written`, and returns `DONE`. The number of the cycle in the lines is how many cycles
+/// had ended before, since the opening, at most 2^32 - 1. The master stays as it was. Returns `CLOSED` if no master is held, or if it
 /// reported a plan without a slot for each drive, and then nothing is written; a master that was opened from a document never reports such
 /// a plan. Otherwise it returns `WRITE_FAULT` if there is too little room, and then `written` is 0. Afterwards the bytes of `out` after the
 /// text are unspecified; after `WRITE_FAULT` all of them are.

@@ -85,8 +85,10 @@ impl MasterStation {
 
     /// Has the master send this cycle's MDT: writes its content to the front of `out`, the number of its bytes to `written`, and its start,
     /// in microseconds after the MST's end, to `start`, and returns `DONE`. Returns `CLOSED`, and changes nothing, if there is no master.
-    /// Otherwise it returns `WRITE_FAULT` if `out` has fewer than 2,048 bytes, and then the station is unchanged; or `NO` if the master
-    /// sends none. After the last two `written` is 0, and `out` and the start stay as they were.
+    /// Otherwise it returns `WRITE_FAULT` if `out` has fewer than 2,048 bytes, and then the station is unchanged; or `NO` if there is no
+    /// MDT in this cycle: in phase 0, in 1 if each drive is identified, in 2 if no step is open, and in 3 and 4 without a plan. With `NO`,
+    /// too, the master has noted a stop, made its plan and begun its next tasks, if they were due. After `WRITE_FAULT` and `NO` `written`
+    /// is 0, and `out` and the start stay as they were.
     pub(crate) fn mdt(&mut self, out: &mut [u8], written: &mut usize, start: &mut u16) -> u8
         ensures closed { (result == closed) ≡ not (has_master self.old.master) }
         ensures fault { has_master self.old.master ≡ true → length out.old < 2048 →
@@ -112,8 +114,8 @@ impl MasterStation {
         }
     }
 
-    /// Ends the cycle, keeps what the master reports in it, and returns `DONE`. Returns `CLOSED`, and changes nothing, if there is no
-    /// master.
+    /// Ends the cycle, keeps what the master reports in it instead of its earlier report, and returns `DONE`. Returns `CLOSED`, and changes
+    /// nothing, if there is no master.
     pub(crate) fn end_cycle(&mut self) -> u8
         ensures closed { (result == closed) ≡ not (has_master self.old.master) }
         ensures status { (result ≡ done) ⊎ (result ≡ closed) }
@@ -129,8 +131,8 @@ impl MasterStation {
         DONE
     }
 
-    /// Restarts the master, keeps what it reports of that, and returns `DONE`. Returns `CLOSED`, and changes nothing, if there is no
-    /// master.
+    /// Restarts the master, keeps what it reports of that instead of its earlier report, and returns `DONE`. Returns `CLOSED`, and changes
+    /// nothing, if there is no master.
     pub(crate) fn restart(&mut self) -> u8
         ensures closed { (result == closed) ≡ not (has_master self.old.master) }
         ensures status { (result ≡ done) ⊎ (result ≡ closed) }
@@ -160,8 +162,9 @@ impl MasterStation {
         DONE
     }
 
-    /// Writes the trace lines of what the master reported in the cycle that ended last, or in a restart since, to the front of `out`, and
-    /// the number of their bytes to `written`, and returns `DONE`. Returns `CLOSED`, and writes nothing, if there is no master, or if it
+    /// Writes the trace lines of what the master reported in the cycle that ended last, or in a restart since, nothing before both, to the
+    /// front of `out`, and the number of their bytes to `written`, and returns `DONE`. The number of the cycle in the lines is how many
+    /// cycles had ended before, since the opening, at most 2^32 - 1. Returns `CLOSED`, and writes nothing, if there is no master, or if it
     /// reported a plan without a slot for each drive; a master that was opened from a document never reports such a plan. Otherwise it
     /// returns `WRITE_FAULT` if there is too little room, and then `written` is 0. Afterwards the bytes of `out` after the text are
     /// unspecified; after `WRITE_FAULT` all of them are.

@@ -37,7 +37,7 @@ pub extern "C" fn sercos_ring_head(
 }
 
 /// Makes the next cycle, and returns `DONE`. Returns `CLOSED` if no ring is held; otherwise `NO` if all cycles of the document have been
-/// made. After these two nothing changes. The cycles made so far have all properties that are promised of a run.
+/// made. After these two nothing changes. The cycles made so far have the properties of `kept_law`.
 #[unsafe(no_mangle)]
 pub extern "C" fn sercos_ring_cycle(alloc: Global, ring: &mut Handle) -> u8
     ensures closed { (result == closed) ≡ not (is_ring ring.old.held.value) }

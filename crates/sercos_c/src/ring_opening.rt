@@ -17,7 +17,7 @@ use std::alloc::{AllocError, Global};
 
 // Opens the ring of a document, with its requests and under its script. The setup must be valid. There must be at most 4,096 requests, each
 // for an element that a transfer takes: 1 to 7 of a read, 2 to 7 of a write. The setup and the requests must be within the ranges of their
-// types, and what a request sets must be a procedure command of its drive, or a block that the drive lacks. The error is `AllocError`.
+// types, and a command must name a procedure command of its drive, or a block that the drive lacks. The error is `AllocError`.
 fn ring_of(alloc: Global, document: Document) -> Result<RingStation, AllocError>
     requires ring { is_ring document.setup ≡ true }
     requires few { length document.jobs ≤ 4096 }
@@ -55,8 +55,8 @@ fn ring_in(alloc: Global, document: &[u8]) -> Result<RingStation, BadDocument>
     }
 }
 
-/// Opens the ring of a document under its script, before its first cycle. What the handle held before is closed. Returns `DONE`, `REFUSED`
-/// if the document is refused, or `MEMORY` if no memory was found. After the last two nothing is held.
+/// Opens the ring of a document with its requests and under its script, before its first cycle. What the handle held before is closed.
+/// Returns `DONE`, `REFUSED` if the document is refused, or `MEMORY` if no memory was found. After the last two nothing is held.
 #[unsafe(no_mangle)]
 pub extern "C" fn sercos_ring_open(alloc: Global, document: &[u8], ring: &mut Handle) -> u8
     ensures status { (result ≡ no_memory) ⊎ (result ≡ document_status (document_of document.now)) }

@@ -83,7 +83,7 @@ impl RingStation {
     ghost use Rattle.sercos_c.specs.Rings.{lines_of_newest, RingGoes};
 
     /// Makes the next cycle, and returns `DONE`. Returns `NO`, and changes nothing, if all cycles have been made. The cycles made so far
-    /// have all properties that are promised of a run.
+    /// have the properties of `kept_law`.
     pub(crate) fn cycle(&mut self) -> u8
         ensures status { result ≡ (if nat_lt self.old.made self.old.cycles then done else answer_no) }
         ensures goes { (d : DocumentView) (j : List CycleView) → RingGoes self.old d j → result ≡ done → (v : CycleView) × RingGoes self.new d (v ∷ j) }

@@ -26,8 +26,8 @@ impl<'a> Source for SliceSource<'a> {
 
     ghost faults = { λ _. 0 };
 
-    /// Copies the next bytes to the front of `piece`, as many as it holds, or all that are left if these are fewer, and returns their number.
-    /// The other bytes of `piece` are unchanged. It never returns an error.
+    /// Copies the next bytes to the front of `piece`, as many as it holds, or all that are left if these are fewer, and returns their
+    /// number. The other bytes of `piece` are unchanged. It never returns an error.
     fn read(&mut self, piece: &mut [u8]) -> Result<usize, ReadFailed> {
         let count = copy_front(self.bytes, piece);
         self.bytes = &self.bytes[count..];
@@ -71,7 +71,7 @@ impl<'a> Sink for SliceSink<'a> {
     ghost room = { λ s. length s.room.now - s.place };
 
     /// Takes bytes from the front of the piece, as many as have room, and returns their number. The error is `WriteFailed` if there is no
-    /// room, and the piece isn't empty.
+    /// room, and the piece isn't empty. The sink is then full, and its count of faults is 2^64 - 1.
     fn write(&mut self, piece: &[u8]) -> Result<usize, WriteFailed> {
         let place = self.place;
         if place == self.room.len() && !piece.is_empty() {

@@ -181,7 +181,7 @@ fn write_slots(t1: &[u16], position: &[u16], slots: &mut [SercosSlot])
     }
 }
 
-// Returns the times of a plan, in microseconds, and the length of its MDT, in bytes.
+// Returns the times of a plan, in microseconds, and the length of its MDT in bytes after its address.
 fn times_of(p: &Plan) -> SercosPlanTimes
     ensures { result ≡ record { t2 = p.now.t2; t3 = p.now.t3; t4 = p.now.t4; mdt_len = p.now.mdt_len } }
 {
@@ -267,11 +267,13 @@ fn write_plan(
 }
 
 /// Writes the least plan of a ring, as its times and a slot for each drive in the order of the ring, and returns `DONE`. `order` has the
-/// indices of the drives, from 0, in the order of their ATs. Returns `REFUSED` if the ring, a drive or the order is not valid, or if there
-/// are not 1 to 64 drives. Otherwise it returns `WRITE_FAULT` if there are fewer slots than drives or fewer than 66 links. Otherwise it
-/// returns `NO` if no plan fits: `chain` and the first `chain.links` of `links`, at most 66, are then the chain of inequalities that proves
-/// it. `times` and `slots` change only if the result is `DONE`, and `chain` and `links` only if it is `NO`. Further slots and links stay as
-/// they were.
+/// indices of the drives, from 0, in the order of their ATs. Returns `REFUSED` unless there are 1 to 64 drives with distinct addresses from
+/// 1 to 254; `order` has each index once; the rate is 2, 4, 8 or 16; the cycle time is 125, or a multiple of 250 from 250 to 64,000; the
+/// control unit cycle time is a positive multiple of it; the gap is at most 1,000; each `at_len` and `record_len` is 4 to 68; and all
+/// records together have at most 2,047 bytes. Otherwise it returns `WRITE_FAULT` if there are fewer slots than drives or fewer than 66
+/// links. Otherwise it returns `NO` if no plan fits: `chain` and the first `chain.links` of `links`, at most 66, are then the chain of
+/// inequalities that proves it. `times` and `slots` change only if the result is `DONE`, and `chain` and `links` only if it is `NO`.
+/// Further slots and links stay as they were.
 #[unsafe(no_mangle)]
 pub extern "C" fn sercos_plan(
     ring: &SercosRingTimes,

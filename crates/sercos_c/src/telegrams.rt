@@ -67,8 +67,8 @@ pub struct SercosAt {
     pub info: u16,
 }
 
-/// Reads an MST into `mst`, and returns `DONE`. Returns `NO`, with the reason in `why`, if the content isn't one; then `mst` stays as it
-/// was. Otherwise all fields of `why` are 0.
+/// Reads an MST into `mst`, and returns `DONE`. Returns `NO`, with the reason in `why`, unless the content has two bytes, the first 255 and
+/// the second at most 4; then `mst` stays as it was. Unless the result is `NO`, all fields of `why` are 0.
 #[unsafe(no_mangle)]
 pub extern "C" fn sercos_mst_read(content: &[u8], mst: &mut SercosMst, why: &mut SercosLayout) -> u8
     ensures status { result ≡ read_status (mst_fault content.now) }
@@ -107,8 +107,8 @@ fn at_of(at: &At<'_>) -> SercosAt
 }
 
 /// Reads the AT of an address with `at_len` bytes after the address into `at`, and returns `DONE`. Its values are the bytes of the content
-/// from offset 5 on. Returns `REFUSED` if `at_len` is below 4; otherwise `NO`, with the reason in `why`, if the content isn't such an AT.
-/// After both `at` stays as it was. Unless the result is `NO`, all fields of `why` are 0.
+/// from offset 5 on. Returns `REFUSED` if `at_len` is below 4; otherwise `NO`, with the reason in `why`, unless the content has `at_len` +
+/// 1 bytes, the first of which is the address. After both `at` stays as it was. Unless the result is `NO`, all fields of `why` are 0.
 #[unsafe(no_mangle)]
 pub extern "C" fn sercos_at_read(
     address: u8,
@@ -157,7 +157,8 @@ fn record_of(control: &Control, info: u16) -> SercosRecord
 }
 
 /// Reads the MDT of phases 1 and 2 to the drive with this address into `part`, and returns `DONE`. Returns `NO`, with the reason in `why`,
-/// if the content isn't one; then `part` stays as it was. Otherwise all fields of `why` are 0.
+/// unless the content has five bytes, the first of which is the address; then `part` stays as it was. Unless the result is `NO`, all fields
+/// of `why` are 0.
 #[unsafe(no_mangle)]
 pub extern "C" fn sercos_single_read(
     address: u8,
@@ -198,8 +199,8 @@ fn has_record(mdt_len: u16, position: u16, record_len: u16) -> bool
 /// Reads the record of `record_len` bytes at a position of the MDT of phases 3 and 4, which has `mdt_len` bytes after its address, into
 /// `part`, and returns `DONE`. The first position is 1, and the values are at the offsets position + 4 to position + `record_len` - 1 of
 /// the content. Returns `REFUSED` if the position is 0, the record has fewer than 4 bytes, or it ends after the MDT; otherwise `NO`, with
-/// the reason in `why`, if the content isn't such an MDT. After both `part` stays as it was. Unless the result is `NO`, all fields of `why`
-/// are 0.
+/// the reason in `why`, unless the content has `mdt_len` + 1 bytes, the first of which is 255. After both `part` stays as it was. Unless
+/// the result is `NO`, all fields of `why` are 0.
 #[unsafe(no_mangle)]
 pub extern "C" fn sercos_joint_read(
     mdt_len: u16,
@@ -367,10 +368,10 @@ fn spell_record(part: &SercosRecord, values: &[u8], content: &mut Content)
     let _fits = joint_record(&record, content);
 }
 
-/// Writes the bytes of one record of the MDT of phases 3 and 4 to the front of `out`: four, and those of its values. Writes their number to
-/// `written`, and returns `DONE`. Returns `REFUSED` if the element is above 7, if the cyclic bits are not at their places, 15 to 6, or if
-/// the record has more than 2,047 bytes; otherwise `WRITE_FAULT` if there is too little room. After both `out` stays as it was, and
-/// `written` is 0.
+/// Writes the bytes of one record of the MDT of phases 3 and 4 to the front of `out`: the control word and the information word, each with
+/// its low byte first, and its values. Writes their number to `written`, and returns `DONE`. Returns `REFUSED` if the element is above 7,
+/// if the cyclic bits are not at their places, 15 to 6, or if the record has more than 2,047 bytes; otherwise `WRITE_FAULT` if there is too
+/// little room. After both `out` stays as it was, and `written` is 0.
 #[unsafe(no_mangle)]
 pub extern "C" fn sercos_record_write(
     part: &SercosRecord,

@@ -219,8 +219,8 @@ impl Seen {
         }
     }
 
-    // Notes an MST, which begins a cycle: the phase commanded is the second byte of its content. `found` must be what `found_for` returns
-    // for it.
+    // Notes an MST, which begins a cycle: the phase commanded is the second byte of its content, 0 if it has none. It is the newest
+    // telegram, and nothing else that was kept counts any more. `found` must be what `found_for` returns for it.
     fn note_mst(&mut self, cycle: u32, sent: &Sent, found: &Found)
         ensures { (w : WishesView) → found.now ≡ found_for w sent.now → IsBegun self.new w cycle sent.now }
     {

@@ -24,9 +24,11 @@ fn follows(shape: &mut Checker, line: &Line, other: &Line) -> bool
     }
 }
 
-// Gives the next line of a capture, `text`, to both checkers, which have taken fewer than 2^31 lines. Returns the column, from 1 on, at
-// which the line is refused; `None` if it isn't. If it is refused, the checkers are unspecified. `reader` is used to read the line, and is
-// unspecified afterwards. `other` is `Line::Other`.
+// Gives the next line of a capture, `text`, without its line feed, to both checkers. Both must have taken the same lines before, fewer than
+// 2^31, each of which can follow those before it, but `shape` each telegram among them as `other`, which is `Line::Other`. Returns the
+// column, from 1 on, at which the line is refused: that of `read_line` of `sercos_trace` if it is no line of a trace, otherwise 1 if it
+// can't follow those before it; `None` if it isn't refused. If it is refused, the checkers are unspecified. `reader` is used to read the
+// line, and is unspecified afterwards.
 fn take(
     shape: &mut Checker,
     rules: &mut Checker,
@@ -53,7 +55,9 @@ fn take(
     None
 }
 
-// Returns the verdict after the last line, if no line was refused. Both checkers have taken all lines.
+// Returns the verdict after the last line, if no line was refused: `Refused`, one line past the last, at column 1, if the head ends early;
+// otherwise `Violation` for the first line that breaks a rule; otherwise `Clean`. Both checkers must have taken all lines, but `shape` each
+// telegram as `Line::Other`.
 fn ended(shape: &Checker, rules: &Checker) -> Verdict
     ensures { (lines : List Line) → HasTaken shape.now rules.now lines → result ≡ verdict_after lines }
 {

@@ -30,15 +30,16 @@ fn add_if(unfit: &mut ArrayVec<Idn, 64>, idn: Idn, broken: bool)
 /// ascending. `rate` is that of the ring, in bits per microsecond. Each is listed if and only if its rule is broken:
 ///
 /// - S-0-0001: the cycle time is 0, or the control unit cycle time is not a positive multiple of it;
-/// - S-0-0002: the cycle time is not one of this profile;
+/// - S-0-0002: the cycle time is not one of this profile: 125 microseconds, or a multiple of 250 from 250 to 64,000;
 /// - S-0-0006: T1 is below T1min;
 /// - S-0-0007: T4 plus T4min is after the end of the cycle;
 /// - S-0-0008: T3 is 0, or after the end of the cycle;
 /// - S-0-0009: the position of the data record is 0, or the record passes the end of the MDT;
 /// - S-0-0010: the MDT has fewer than 4 bytes;
 /// - S-0-0015: the telegram type is not 7;
-/// - S-0-0016 and S-0-0024: the list has an identifier number that no telegram can carry;
-/// - S-0-0089: there is less than TATMT between the end of the longest AT and T2.
+/// - S-0-0016 and S-0-0024: the list has an identifier number that no telegram can carry: the drive has no such block, or it is a list or a
+///   procedure command;
+/// - S-0-0089: there is less than TATMT between T2 and the end of the drive's AT, sent at T1 with the most inserted zeros.
 pub fn check127(rate: u8, store: &Store) -> ArrayVec<Idn, 64>
     ensures { result.items ≡ unfit_for_phase_3 rate store.now }
 {

@@ -47,7 +47,7 @@ impl Model for Commands {
 
 impl Commands {
     /// Returns the commands of a drive in a ring with a rate in bits per microsecond. Each command runs for `time` cycles. No command is
-    /// set.
+    /// set, and no check counts as passed.
     #[tactic(auto, unfolding(crate::specs::Kept::are_distinct))]
     pub fn new(rate: u8, time: u16) -> Commands
         ensures stands { CommandsStandFor result (record { rate = rate; time = time; calls = [] }) }
@@ -73,7 +73,8 @@ impl Commands {
         remove_setting(&mut self.set, idn);
     }
 
-    // Processes the setting of a command that isn't set, in a cycle. Fewer than 64 are set before. `well` is whether it ends well.
+    // Processes the setting of a command that isn't set, in a cycle. Fewer than 64 are set before. `well` is whether it ends well. A check
+    // that does counts as passed from the cycle of its end on, or from an earlier one on if it did so before.
     #[tactic(auto, using(crate::proofs::SetLemmas::distinct_appended), unfolding(crate::specs::Kept::with_write))]
     fn set(&mut self, idn: Idn, cycle: u32, well: bool)
         requires new { find_set idn.raw self.old.set ≡ None }
@@ -86,8 +87,9 @@ impl Commands {
         self.set.push(SetCommand { idn, cycle, well });
     }
 
-    // Processes a write of 0 (cancel) or 3 (set) to a command, in a cycle. A check that is newly set writes its list to the store. All
-    // commands that are set are procedure commands of the store.
+    // Processes a write of 0 (cancel) or 3 (set) to a command, in a cycle. A 3 to a command that is set changes nothing. A check that is
+    // newly set writes its list to the store, which has the new value already; otherwise the store is unchanged. All commands that are set
+    // are procedure commands of the store.
     #[tactic(auto, using(crate::proofs::SetLemmas::has_room), unfolding(crate::specs::Kept::with_write, crate::specs::Kept::with_check_list_kept))]
     fn take(&mut self, idn: Idn, value: u16, cycle: u32, store: &mut Store)
         requires value { (value ≡ to_cancel) ⊎ (value ≡ to_set) }
@@ -106,7 +108,8 @@ impl Commands {
         self.set(idn, cycle, well);
     }
 
-    /// Processes a write of 0 (cancel) or 3 (set) to a procedure command of the drive, in a cycle. A 3 sets the command in that cycle; if
+    /// Processes a write of 0 (cancel) or 3 (set) to a procedure command of the drive, in a cycle. After a 0 the command isn't set; if it
+    /// is a check that doesn't count as passed in that cycle yet, its setting no longer makes it so. A 3 sets the command in that cycle; if
     /// it is set already, nothing changes. When it is newly set, the check for phase 3 writes what it finds unfit into S-0-0021, that for
     /// phase 4 into S-0-0022. A check ends well iff it finds nothing, any other command iff its block isn't set up to fail. `store` has the
     /// new value already. All commands that are set are procedure commands of the store, before and after. Apart from the check's list the
@@ -122,8 +125,8 @@ impl Commands {
         self.take(idn, value, cycle, store);
     }
 
-    /// Processes a write to operation data other than a command's: no check counts as passed any more. `cycle` only serves the contract.
-    /// The commands that are set remain.
+    /// Processes a write to operation data other than a command's: no check counts as passed any more, and one that is set and hasn't ended
+    /// won't count at its end. Only a new setting makes it so. `cycle` only serves the contract. The commands that are set remain.
     pub fn written(&mut self, cycle: u32)
         ensures stands { (c : CommandHistory) → CommandsStandFor self.old c → CommandsStandFor self.new (with_call (Other cycle) c) }
         ensures same { self.new.set ≡ self.old.set }
@@ -131,7 +134,7 @@ impl Commands {
         self.forget_checks();
     }
 
-    // Makes no check count as passed. All else is unchanged.
+    // Makes no check count as passed, neither now nor at the end of one that is set. All else is unchanged.
     fn forget_checks(&mut self)
         ensures { self.new ≡ without_checks self.old }
     {
@@ -139,7 +142,7 @@ impl Commands {
         self.passed_128 = None;
     }
 
-    /// Processes phase 0: no command is set any more, and no check counts as passed.
+    /// Processes phase 0 or a restart: no command is set any more, and no check counts as passed.
     #[tactic(auto, unfolding(crate::specs::Kept::are_distinct))]
     pub fn reset(&mut self)
         ensures stands { (c : CommandHistory) → CommandsStandFor self.old c → CommandsStandFor self.new (with_call Reset c) }
@@ -150,7 +153,8 @@ impl Commands {
     }
 
     /// Returns the data status of a command in a cycle (IEC 61491:1995): 0 not set, 7 running, 3 ended well, 15 ended with an error. A
-    /// command runs from the cycle in which it was set, for the drive's command time.
+    /// command that is set has ended from the cycle of its setting plus the drive's command time on; in any cycle before that, the status
+    /// is 7.
     #[tactic(auto, using(crate::proofs::CallLemmas::status_stands))]
     pub fn status(&self, idn: Idn, cycle: u32) -> u16
         ensures { (c : CommandHistory) → CommandsStandFor self.now c → result ≡ status_in c idn.raw cycle }
@@ -168,8 +172,8 @@ impl Commands {
 
     /// Returns whether the check for phase 3, S-0-0127, counts as passed in a cycle. `rule` holds if the calls are in the order of their
     /// cycles, and `cycle` isn't before the newest: some write set the check, which wasn't set, its end is reached, and it found nothing;
-    /// since that write the check wasn't cancelled before its end, no other operation data was written, and phase 0 wasn't entered. `kept`
-    /// holds for any calls: it counts as passed from the first such cycle on that was stored, or never if none was.
+    /// since that write the check wasn't cancelled before its end, no other operation data was written, and there was no `reset` (phase 0
+    /// or a restart). `kept` holds for any calls: it counts as passed from the first such cycle on that was stored, or never if none was.
     pub fn passed127(&self, cycle: u32) -> bool
         ensures rule { (c : CommandHistory) → CommandsStandFor self.now c → AreInOrder c.calls → newest_cycle c.calls ≤ cycle →
             result ≡ is_passed c.rate c.time 127 c.calls cycle }
@@ -180,8 +184,8 @@ impl Commands {
 
     /// Returns whether the check for phase 4, S-0-0128, counts as passed in a cycle. `rule` holds if the calls are in the order of their
     /// cycles, and `cycle` isn't before the newest: some write set the check, which wasn't set, its end is reached, and it found nothing;
-    /// since that write the check wasn't cancelled before its end, no other operation data was written, and phase 0 wasn't entered. `kept`
-    /// holds for any calls: it counts as passed from the first such cycle on that was stored, or never if none was.
+    /// since that write the check wasn't cancelled before its end, no other operation data was written, and there was no `reset` (phase 0
+    /// or a restart). `kept` holds for any calls: it counts as passed from the first such cycle on that was stored, or never if none was.
     pub fn passed128(&self, cycle: u32) -> bool
         ensures rule { (c : CommandHistory) → CommandsStandFor self.now c → AreInOrder c.calls → newest_cycle c.calls ≤ cycle →
             result ≡ is_passed c.rate c.time 128 c.calls cycle }

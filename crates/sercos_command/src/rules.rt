@@ -82,8 +82,8 @@ pub(crate) fn breaks_telegram_type(store: &Store) -> bool
     number_at(store, TELEGRAM_TYPE) != CONFIGURED
 }
 
-// Returns whether there is less than TATMT between the end of the longest AT and T2. The sums are in bit times, at a rate in bits per
-// microsecond.
+// Returns whether there is less than TATMT between T2 and the end of the drive's AT, sent at T1 with the most inserted zeros. The sums are
+// in bit times, at a rate in bits per microsecond.
 #[tactic(auto, unfolding(crate::specs::Checks::breaks_89))]
 pub(crate) fn breaks_t2(rate: u8, store: &Store) -> bool
     ensures { result ≡ breaks_89 rate store.now }

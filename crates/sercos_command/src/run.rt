@@ -37,9 +37,9 @@ fn write_list(store: &mut Store, list: Idn, unfit: &[Idn]) -> bool
     unfit.is_empty()
 }
 
-// Runs a command that is newly set, and returns whether it ends well. A check writes its list to the store, and ends well iff that is
-// empty. Any other command leaves the store unchanged, and ends well iff its block isn't set up to fail. By `store` the blocks kept the
-// invariant of a store before.
+// Runs a command that is newly set, in a ring with a rate in bits per microsecond, and returns whether it ends well. A check writes its
+// list to the store, and ends well iff that is empty. Any other command leaves the store unchanged, and ends well iff its block isn't set
+// up to fail. By `store` the blocks kept the invariant of a store before.
 pub(crate) fn run(rate: u8, idn: Idn, store: &mut Store) -> bool
     ensures well { result ≡ ends_well rate idn.raw store.old }
     ensures blocks { store.new ≡ with_list_of rate idn.raw store.old }

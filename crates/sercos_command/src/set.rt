@@ -26,7 +26,7 @@ pub(crate) fn remove_setting(set: &mut ArrayVec<SetCommand, 64>, idn: Idn)
     set.retain(|command| command.idn != idn);
 }
 
-// Returns whether a set command that runs for `time` cycles has ended in a cycle.
+// Returns whether a set command has ended in a cycle: it runs for `time` cycles from the one in which it was set.
 fn has_ended(time: u16, cycle: u32, command: &SetCommand) -> bool
     ensures { result ≡ has_ended time cycle command.now }
 {

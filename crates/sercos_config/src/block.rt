@@ -1,4 +1,5 @@
-// The data blocks of a drive. Any error may also be `Memory` instead of the refusal, as the path of a refusal takes memory.
+// The data blocks of a drive. Any error may also be `Memory` instead of the refusal, as the path of a refusal takes memory. `Missing` means
+// that a required key is absent, and `Kind` that a value has another TOML type.
 ghost use Rattle.std.specs.Prelude.{◌≡◌, ◌<◌, ◌≤◌, true, None, Some, [], ◌==◌, ◌&&◌, ◌||◌, not, is_none, length, map, IfOk, IfSome};
 ghost use Rattle.sercos_config.specs.Clauses.{list_all, table_view, is_number, is_built_in, has_block, is_text, block_fault, blocks_fault, is_typed, Gives, Shows, known, located, idn_of, idn_in, idn_under, attribute_under, text_under, step_under, fails_under, block_keys, block_of, blocks_onto};
 
@@ -12,8 +13,8 @@ use std::alloc::Global;
 use toml::Table;
 
 /// Reads the data blocks of a drive from its `block` tables, in their order. `drive` is the drive's index in the document, from 0; the
-/// paths of refusals name it. The error is the first refusal, or `Memory`. There is one block for each table. The blocks keep the rules of
-/// `check_blocks`, and their numbers are in the ranges of their types.
+/// paths of refusals name it. The error is the first refusal, or `Memory`. There is one block for each table. `check_blocks` of
+/// `sercos_block` accepts them, and their numbers are in the ranges of their types.
 #[tactic(auto, using(crate::proofs::BlockLemmas::blocks_none, crate::proofs::BlockLemmas::blocks_more), unfolding(crate::specs::Block::blocks_onto))]
 pub(crate) fn read_blocks(
     alloc: Global,
@@ -41,8 +42,10 @@ pub(crate) fn read_blocks(
 }
 
 // Reads a data block from its table. `before` has the drive's blocks of the tables before it: an identifier number of theirs or of a
-// built-in block is refused as `Twice`. The error is the first refusal, or `Memory`. The block keeps the rules of `check_blocks` after
-// those of `before`, and its numbers are in the ranges of their types.
+// built-in block is refused as `Twice`. The error is the first refusal, or `Memory`: an unknown key comes first, then the keys in the order
+// `idn`, `attribute`, `name`, `unit`, `min`, `max`, `max_len`, `data`, `fixed`, `step` and `fails`. `fails` is a `Range` with 1 if it is
+// true in a block that isn't a procedure command. The block keeps the rules of `check_blocks` of `sercos_block` after those of `before`,
+// and its numbers are in the ranges of their types.
 #[tactic(auto, unfolding(crate::specs::Block::block_of, crate::specs::Block::fails_under, sercos_block::specs::Rules::block_fault))]
 fn read_block(keys: &Keys<'_>, before: &[Block]) -> Result<Block, BadDocument>
     ensures value { Gives result (block_of before.now (located keys.now)) }
@@ -99,7 +102,8 @@ fn known(keys: &Keys<'_>) -> Result<(), BadDocument>
     ])
 }
 
-/// Returns the identifier number that a text such as `S-0-0127` spells; `None` if it spells none.
+/// Returns the identifier number that a text such as `S-0-0127` spells: `S` or `P`, the parameter set as a digit from 0 to 7, and the
+/// number, at most 4095, in four decimal digits, with `-` between them. `None` for any other text.
 #[tactic(auto, unfolding(crate::specs::Block::idn_of))]
 pub(crate) fn idn_of(text: &str) -> Option<Idn>
     ensures value { result ≡ idn_of text.now }
@@ -126,7 +130,8 @@ pub(crate) fn read_idn(keys: &Keys<'_>, key: &str) -> Result<Idn, BadDocument>
 }
 
 // Returns the attribute that the 32-bit word under `attribute` encodes. The error is `Missing`, `Kind`, or `Range` with the number if it
-// isn't one of 32 bits, or is no attribute's word.
+// isn't 0 to 2^32 - 1, or is no attribute's word: its length or display form is unused, it is a procedure command of another length than
+// two bytes, or bit 23 or 31 isn't 0.
 #[tactic(auto, unfolding(crate::specs::Block::attribute_under))]
 fn read_attribute(keys: &Keys<'_>) -> Result<Attribute, BadDocument>
     ensures value { Gives result (attribute_under (located keys.now)) }
@@ -140,7 +145,7 @@ fn read_attribute(keys: &Keys<'_>) -> Result<Attribute, BadDocument>
 }
 
 // Returns the name or unit under `key`; `None` if the key is absent. The error is `Kind`, or `Range` with the text's length in bytes unless
-// it has 1 to `most` bytes, all of them printable. `most` is at most 1024.
+// it has 1 to `most` bytes, all of them printable ASCII. `most` is at most 1024.
 #[tactic(auto, unfolding(crate::specs::Block::text_under))]
 fn read_text(keys: &Keys<'_>, key: &str, most: usize) -> Result<Option<Text>, BadDocument>
     requires { most ≤ 1024 }
@@ -159,8 +164,8 @@ fn read_text(keys: &Keys<'_>, key: &str, most: usize) -> Result<Option<Text>, Ba
 }
 
 // Returns how much the number of the block grows in each cycle, from `step`; 0 if the key is absent. `min` and `max` are the block's
-// limits. The error is `Kind`, or `Range` with the step if it isn't a number of 32 bits, or isn't 0 in a block that is not a number or has
-// a limit.
+// limits. The error is `Kind`, or `Range` with the step if it isn't 0 to 2^32 - 1, even if the block's number has a sign, or isn't 0 in a
+// block that has a limit, is a list or is a procedure command.
 #[tactic(auto, unfolding(crate::specs::Block::step_under))]
 fn read_step(
     keys: &Keys<'_>,

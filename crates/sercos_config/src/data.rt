@@ -1,5 +1,5 @@
 // The numbers and lists of a data block's keys. Any error may also be `Memory` instead of the refusal, as the path of a refusal takes
-// memory.
+// memory. `Missing` means that a required key is absent, and `Kind` that a value has another TOML type.
 ghost use Rattle.std.specs.Prelude.{◌≡◌, ◌≤◌, ◌<◌, ◌/◌, ◌%◌, ◌==◌, true, false, length, IfOk, IfSome};
 ghost use Rattle.sercos_config.specs.Clauses.{result_ok, decode_of, AreBytes, is_list, item_len, is_signed, number_end, is_limit, is_max_len, Gives, located, is_in_range, bits_of, limit_of, list_max_len, max_len_of, list_bytes, list_data, is_data, number_data, fits_data, data_of};
 
@@ -19,7 +19,8 @@ fn is_signed(form: Form) -> bool
     }
 }
 
-// Returns whether `number` fits the w bits of the attribute's length: from 0 to 2^w - 1, or with sign from -2^(w-1) to 2^(w-1) - 1.
+// Returns whether `number` fits the w bits of the attribute's length, 16 for two bytes and otherwise 32: from 0 to 2^w - 1, or, if its form
+// has a sign, from -2^(w-1) to 2^(w-1) - 1.
 #[tactic(auto, unfolding(crate::specs::Numbers::is_in_range))]
 fn is_in_range(attribute: Attribute, number: i64) -> bool
     ensures { result ≡ is_in_range attribute number }
@@ -49,7 +50,7 @@ fn bits_of(attribute: Attribute, number: i64) -> u32
 }
 
 /// Returns the bits of the minimum or maximum under `key`; `None` if the key is absent. The error is `Kind`, or `Range` with the limit if
-/// the block isn't a number or the limit is out of the attribute's range.
+/// the block is a list or a procedure command, or if the limit is out of the attribute's range.
 #[tactic(auto, unfolding(crate::specs::Numbers::limit_of))]
 pub(crate) fn read_limit(
     keys: &Keys<'_>,
@@ -90,7 +91,7 @@ pub(crate) fn read_max_len(keys: &Keys<'_>, attribute: Attribute) -> Result<u16,
 }
 
 /// Returns the bytes that hexadecimal digits of either case spell, two digits for each byte. There are at most 2,048 digits. `None` if
-/// `digits` aren't such pairs.
+/// their number is odd, or if a byte isn't such a digit.
 pub(crate) fn decoded(digits: &[u8]) -> Option<Text>
     requires { length digits.now ≤ 2048 }
     ensures value { result ≡ result_ok (decode_of digits.now) }
@@ -117,7 +118,7 @@ pub(crate) fn text_of(bytes: &[u8]) -> Text
 }
 
 // Returns the bytes of a list that hexadecimal digits spell, two digits for each byte. `None` if the text has other characters, if there
-// are more than `most` bytes, at most 1024, or if they aren't whole items.
+// are more than `most` bytes, or if they aren't whole items. `most` is at most 1024.
 #[tactic(auto, unfolding(crate::specs::Numbers::list_bytes))]
 fn list_bytes(most: u16, attribute: Attribute, text: &[u8]) -> Option<Text>
     requires { most ≤ 1024 }
@@ -147,7 +148,8 @@ fn is_data(attribute: Attribute, number: i64) -> bool
     }
 }
 
-// Returns the bits of `number` as operation data, which the block can have. Those of a procedure command are 0.
+// Returns the bits of `number` as operation data, as `bits_of` does; those of a procedure command are 0. `is_data` must be true for
+// `number`.
 #[tactic(auto, unfolding(crate::specs::Numbers::is_data, crate::specs::Numbers::is_in_range, crate::specs::Numbers::bits_of))]
 fn data_bits(attribute: Attribute, number: i64) -> u32
     requires { is_data attribute number ≡ true }
@@ -162,9 +164,11 @@ fn data_bits(attribute: Attribute, number: i64) -> u32
     }
 }
 
-/// Returns the bytes of the block's operation data, from `data`. If the key is absent, a list is empty and a number is 0. `most` is the
-/// most bytes of a list, 1 to 1,024 in whole items; 0 for other blocks. The error is `Kind`, or `Range` if the block can't have the data:
-/// with the text's length in bytes for a list, otherwise with the number.
+/// Returns the bytes of the block's operation data, from `data`. If the key is absent, a list is empty and a number is 0. A list is a text
+/// of hexadecimal digits, two for each byte; any other block has a number, whose bytes have the low byte first. `most` is the most bytes of
+/// a list, 1 to 1,024 in whole items; 0 for other blocks. The error is `Kind`, or `Range`: for a list with the text's length in bytes if it
+/// isn't such digits, or spells more than `most` bytes or no whole items; otherwise with the number if it is out of the attribute's range,
+/// or isn't 0 in a procedure command.
 #[tactic(auto, using(crate::proofs::BlockLemmas::is_typed_bytes, crate::proofs::BlockLemmas::none_typed), unfolding(crate::specs::Numbers::data_of, crate::specs::Numbers::list_data, crate::specs::Numbers::number_data))]
 pub(crate) fn read_data(
     keys: &Keys<'_>,

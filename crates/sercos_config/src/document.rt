@@ -35,13 +35,13 @@ impl Model for Document {
 }
 
 /// Reads a ring document (this profile), a TOML text in UTF-8. The error is its first refusal, or `Memory`; it is `Toml` if the bytes
-/// aren't UTF-8 or not TOML. The result is a valid ring, jobs that its master may be opened with, and faults whose `every` is at least 1.
-/// The numbers of the drives and the jobs are in the ranges of their types.
+/// aren't UTF-8 or not TOML. The result is a valid ring, at most 4,096 jobs as `read_requests` lists them, with which its master may be
+/// opened, and faults whose `every` is at least 1. The numbers of the drives and the jobs are in the ranges of their types.
 ///
 /// The tables are checked in this order: the top one, `ring`, each `drive` in turn with its `block` tables right after its own keys, each
 /// `request`, each `fault`. In each table unknown keys are checked first, and the least of them in the order of bytes is reported. Then
-/// each key is checked, in the order in which the rules list it, as `Missing`, `Kind`, `Range` or `Twice`. The items of `at` and `mdt` are
-/// checked after the drive's blocks, and the length of the MDT and `order` after all drives.
+/// each key is checked, in the order of the tables of docs/FORMATS.md, as `Missing`, `Kind`, `Range` or `Twice`. The items of `at` and
+/// `mdt` are checked after the drive's blocks, and the length of the MDT and `order` after all drives.
 #[tactic(auto, using(crate::proofs::TextLemmas::texts), unfolding(crate::specs::Document::document_of, crate::specs::Document::table_of))]
 pub fn read_ring(alloc: Global, bytes: &[u8]) -> Result<Document, BadDocument>
     ensures value { Gives result (document_of bytes.now) }

@@ -1,4 +1,5 @@
-// The drives of a ring. Any error may also be `Memory` instead of the refusal, as the path of a refusal takes memory.
+// The drives of a ring. Any error may also be `Memory` instead of the refusal, as the path of a refusal takes memory. `Missing` means that
+// a required key is absent, and `Kind` that a value has another TOML type.
 ghost use Rattle.std.specs.Prelude.{◌≡◌, ◌≤◌, true, false, [], length, map, IfOk};
 ghost use Rattle.sercos_config.specs.Clauses.{All, table_view, items_view, is_cyclic, are_cyclic, are_times, are_drive_numbers, has_address, are_drives, is_drive, IsTyped, item_path, Gives, Shows, known, located, idn_in, idn_at, idns_onto, idns_of, times_of, drive_keys, new_address, drive_numbers_of, drive_of, drives_onto};
 
@@ -18,7 +19,8 @@ use toml::{Table, Value};
 
 /// Reads the drives from their tables, in the order of the ring. The error is the first refusal, or `Memory`. There is one drive for each
 /// table. Each keeps the rules for a drive after those before it: another address, numbers in their ranges, at most 36 blocks that
-/// `check_blocks` accepts, and in `at` and `mdt` only what its telegrams can carry. Its numbers are in the ranges of their types.
+/// `check_blocks` of `sercos_block` accepts, and in `at` and in `mdt` at most 16 identifier numbers, of operation data that is one number
+/// of two or four bytes. Its numbers are in the ranges of their types.
 #[tactic(auto, using(crate::proofs::DriveLemmas::drives_none, crate::proofs::DriveLemmas::drives_more), unfolding(crate::specs::Drive::drives_onto))]
 pub(crate) fn read_drives(alloc: Global, tables: &[&Table]) -> Result<Vec<DriveSetup>, BadDocument>
     ensures value { Shows (λ v. v.items) result (drives_onto [] (map (λ t. table_view t.now) tables.now)) }
@@ -161,9 +163,9 @@ fn read_times(keys: &Keys<'_>) -> Result<Times, BadDocument>
     })
 }
 
-// Returns the identifier numbers that `items`, the list under `key`, spell. A telegram of a drive with these blocks can carry each of them.
-// The error is `Kind` at the first item that isn't a text. If all are texts, it is that of `read_item` at the first that it refuses. It can
-// be `Memory` too.
+// Returns the identifier numbers that `items`, the list under `key`, spell; there are at most 16. A telegram of a drive with these blocks
+// can carry each of them. The error is `Kind` at the first item that isn't a text. If all are texts, it is that of `read_item` at the first
+// that it refuses. It can be `Memory` too.
 #[tactic(auto, unfolding(crate::specs::Drive::idns_of))]
 fn read_idns(
     keys: &Keys<'_>,
@@ -181,8 +183,8 @@ fn read_idns(
     read_texts(keys, blocks, key, texts.as_slice())
 }
 
-// Returns the identifier numbers that the texts of the list under `key` spell. The error is that of `read_item` at the first text that it
-// refuses.
+// Returns the identifier numbers that the texts of the list under `key`, at most 16, spell. A telegram of a drive with these blocks can
+// carry each of them. The error is that of `read_item` at the first text that it refuses.
 #[tactic(auto, unfolding(crate::specs::Drive::idns_onto, sercos_block::specs::Rings::are_cyclic))]
 fn read_texts(
     keys: &Keys<'_>,
@@ -205,7 +207,8 @@ fn read_texts(
 }
 
 // Returns the identifier number that `text` spells, the item with index `item` of the list under `key`. The error is `Range`: with the
-// text's length in bytes if it spells none, or with the raw number if no telegram of a drive with these blocks can carry it; or `Memory`.
+// text's length in bytes if it spells none, or with the raw number if no telegram of a drive with these blocks can carry it, as none
+// carries a list, a procedure command or a block that the drive lacks. It can be `Memory` too.
 #[tactic(auto, unfolding(crate::specs::Drive::idn_at, crate::specs::Block::idn_in, sercos_document::specs::Answers::demand))]
 fn read_item(
     keys: &Keys<'_>,

@@ -1,4 +1,5 @@
-// The faults of a document. Any error may also be `Memory` instead of the refusal, as the path of a refusal takes memory.
+// The faults of a document. Any error may also be `Memory` instead of the refusal, as the path of a refusal takes memory. `Missing` means
+// that a required key is absent, and `Kind` that a value has another TOML type.
 ghost use Rattle.std.specs.Prelude.{◌≡◌, ◌≤◌, [], length, map, IfOk};
 ghost use Rattle.sercos_config.specs.Clauses.{All, table_view, Gives, Shows, known, located, glimpse, word, fault_kind, telegram_kind, has_telegram, has_from, has_link, has_bit, has_station, fault_keys, telegram_of, drive_station, any_station, from_of, hears, station_of, link_of, damage_of, fault_of, faults_onto};
 
@@ -123,7 +124,8 @@ fn has_telegram(kind: Option<FaultKind>) -> bool
     }
 }
 
-// Returns whether the key `from` is known: not in a restart, nor with an MST or MDT, which only the master sends.
+// Returns whether the key `from` is known: not in a restart, nor with an MST or MDT, which only the master sends. A kind of `None` makes it
+// known, and so does a telegram of `None` unless the fault is a restart.
 #[tactic(auto, unfolding(crate::specs::Fault::has_from))]
 fn has_from(kind: Option<FaultKind>, telegram: Option<Kind>) -> bool
     ensures { result ≡ has_from kind telegram }
@@ -135,7 +137,7 @@ fn has_from(kind: Option<FaultKind>, telegram: Option<Kind>) -> bool
     }
 }
 
-// Returns whether the key `link` is known: not in a restart, nor if a station is deaf.
+// Returns whether the key `link` is known: not in a restart, nor if a station is deaf. With `None` as in `has_from`.
 #[tactic(auto, unfolding(crate::specs::Fault::has_link))]
 fn has_link(kind: Option<FaultKind>, telegram: Option<Kind>) -> bool
     ensures { result ≡ has_link kind telegram }
@@ -147,7 +149,7 @@ fn has_link(kind: Option<FaultKind>, telegram: Option<Kind>) -> bool
     }
 }
 
-// Returns whether the key `bit` is known: if a bit is flipped, or if bits are cut off; not in a restart.
+// Returns whether the key `bit` is known: if a bit is flipped, or if bits are cut off; not in a restart. With `None` as in `has_from`.
 #[tactic(auto, unfolding(crate::specs::Fault::has_bit))]
 fn has_bit(kind: Option<FaultKind>, telegram: Option<Kind>) -> bool
     ensures { result ≡ has_bit kind telegram }
@@ -159,7 +161,7 @@ fn has_bit(kind: Option<FaultKind>, telegram: Option<Kind>) -> bool
     }
 }
 
-// Returns whether the key `station` is known: in a restart, and if a station is deaf.
+// Returns whether the key `station` is known: in a restart, and if a station is deaf. A kind or a telegram of `None` makes it known.
 #[tactic(auto, unfolding(crate::specs::Fault::has_station))]
 fn has_station(kind: Option<FaultKind>, telegram: Option<Kind>) -> bool
     ensures { result ≡ has_station kind telegram }
@@ -199,7 +201,7 @@ fn telegram_kind(text: &str) -> Option<Kind>
 }
 
 // Returns the kind of the telegrams that a fault acts on, from `telegram`. A restart has no such key, and counts as a fault of the MST. The
-// error is `Missing`, `Kind`, or `Range` with the text's length in bytes.
+// error is `Missing`, `Kind`, or `Range` with the text's length in bytes unless it is `mst`, `mdt` or `at`.
 #[tactic(auto, unfolding(crate::specs::Fault::telegram_of, crate::specs::Words::word))]
 fn read_telegram(keys: &Keys<'_>, kind: FaultKind) -> Result<Kind, BadDocument>
     ensures { Gives result (telegram_of kind (located keys.now)) }
@@ -292,8 +294,9 @@ fn read_station(keys: &Keys<'_>, drives: &[DriveSetup], telegram: Kind) -> Resul
     }
 }
 
-// Reads what a fault of a kind does, from `link`, `bit` and `station`. `telegram` is the kind of the telegrams that it acts on. A bit is 0
-// to 19,695. There are at most 64 drives. The error is `Missing`, `Kind`, or `Range` with the number under the key.
+// Reads what a fault of a kind does, from `link`, `bit` and `station`. `telegram` is the kind of the telegrams that it acts on. `bit`, 0 to
+// 19,695, is the place of the bit that is flipped, from 0, or the number of bits before a cut. There are at most 64 drives. The error is
+// `Missing`, `Kind`, or `Range` with the number under the key.
 #[tactic(auto, unfolding(crate::specs::Fault::damage_of))]
 fn read_damage(
     keys: &Keys<'_>,
@@ -330,8 +333,8 @@ fn read_damage(
     }
 }
 
-// Returns the link on which a fault acts, from `link`: 0 to the number of drives, at most 64. The error is `Missing`, `Kind`, or `Range`
-// with the number.
+// Returns the link on which a fault acts, from `link`: from 0, which leads from the master to the first drive, to the number of drives,
+// which leads from the last drive to the master. There are at most 64 drives. The error is `Missing`, `Kind`, or `Range` with the number.
 #[tactic(auto, unfolding(crate::specs::Fault::link_of))]
 fn read_link(keys: &Keys<'_>, drives: &[DriveSetup]) -> Result<u8, BadDocument>
     requires { length drives.now ≤ 64 }

@@ -55,8 +55,9 @@ fn one(idn: Idn) -> ArrayVec<Idn, 16>
 }
 
 // Returns drive k, counted from 1. Its address is k, and two drives in turn share a slave. It is busy for k % 3 cycles, and its procedure
-// commands take k % 4. Its blocks are the position command, which is 0, and the position feedback, which begins at 64,500 and grows by 10
-// in each cycle. The error is `AllocError`.
+// commands take k % 4. Its t1min is 20 + k % 7 microseconds; its other times don't depend on k. Its blocks are the position command, which
+// is 0 and which its record in the MDT carries, and the position feedback, which begins at 64,500, grows by 10 in each cycle, and is
+// carried by its AT. The error is `AllocError`.
 #[tactic(auto, unfolding(crate::specs::Generated::generated_drive))]
 fn generated_drive(alloc: Global, k: u8) -> Result<DriveSetup, AllocError>
     requires { 1 ≤ k }
@@ -127,7 +128,8 @@ fn generated_jobs(alloc: Global, n: u8) -> Result<Vec<Job>, AllocError>
     Ok(jobs)
 }
 
-// Returns the fault that loses the AT of drive k on link n, once, in cycle 37 * k.
+// Returns the fault that loses the AT of drive k on link n, once, in cycle 37 * k. n is the number of drives, so the link is the one to the
+// master.
 #[tactic(auto, unfolding(crate::specs::Generated::generated_fault))]
 fn generated_fault(n: u8, k: u8) -> Fault
     ensures { result ≡ generated_fault n k }
@@ -192,7 +194,8 @@ fn startup_of_all(drives: &[DriveSetup]) -> u32
     cycles
 }
 
-// Returns the ring of the drives 1 to n, whose ATs are in the order of the ring. n is at most 64. The error is `AllocError`.
+// Returns the ring of the drives 1 to n, whose ATs are in the order of the ring: at 4 Mbit/s, with a cycle time of 4,000 microseconds, a
+// gap of 5, and 100 cycles more than the bound of its start-up. n is at most 64. The error is `AllocError`.
 #[tactic(auto, unfolding(crate::specs::Generated::generated_ring, crate::specs::Generated::generated_cycles))]
 fn generated_ring(alloc: Global, n: u8) -> Result<RingSetup, AllocError>
     requires { n ≤ 64 }

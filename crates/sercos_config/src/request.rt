@@ -1,4 +1,5 @@
-// The requests of a document. Any error may also be `Memory` instead of the refusal, as the path of a refusal takes memory.
+// The requests of a document. Any error may also be `Memory` instead of the refusal, as the path of a refusal takes memory. `Missing` means
+// that a required key is absent, and `Kind` that a value has another TOML type.
 ghost use Rattle.std.specs.Prelude.{◌≡◌, true, ◌<◌, [], length, map, IfOk, IfSome};
 ghost use Rattle.sercos_config.specs.Clauses.{All, table_view, AreBytes, has_address, has_other_data, IsRequest, IsTypedRequest, AreTypedJobs, IsCommand, IsJob, Gives, Shows, known, located, address_under, glimpse, word, request_kind, has_element, has_data, request_keys, bytes_spelled, bytes_under, asked_of, request_of, requests_onto};
 

@@ -1,5 +1,5 @@
 // The ring's own keys, and the order of its drives. Any error may also be `Memory` instead of the refusal, as the path of a refusal takes
-// memory.
+// memory. `Missing` means that a required key is absent, and `Kind` that a value has another TOML type.
 ghost use Rattle.std.specs.Prelude.{◌≡◌, ◌≤◌, ◌<◌, ◌==◌, true, [], length, IfOk, IfSome};
 ghost use Rattle.sercos_config.specs.Clauses.{list_any, are_ring_numbers, is_turn, are_turns, is_order, Gives, Shows, known, located, ring_keys, head_of, place_from, turn_of, turns_onto, listed_order, places_below, order_of};
 

@@ -14,8 +14,8 @@ pub(crate) fn glance<'a>(keys: &Keys<'a>, key: &str) -> Option<&'a str>
     }
 }
 
-/// Returns `key` if it counts, and `kind` otherwise. In a list of known keys that has `kind` already, a key that doesn't count thus adds
-/// nothing.
+/// Returns `key` if `counts` is true, and `kind` otherwise. In a list of known keys that has `kind` already, a key that doesn't count thus
+/// adds nothing.
 #[tactic(auto, unfolding(crate::specs::Words::key_if))]
 pub(crate) fn key_if(counts: bool, key: &'static str) -> &'static str
     ensures { result.now ≡ key_if counts key.now }

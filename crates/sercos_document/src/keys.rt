@@ -79,8 +79,8 @@ impl<'a> Keys<'a> {
         )
     }
 
-    /// Returns `Ok` if the value under a key is allowed. Otherwise the error is `Range` with `value`, or `Memory` if there is no room for
-    /// the path.
+    /// Returns `Ok` if `allowed` is true: the value under a key is allowed. Otherwise the error is `Range` with `value`, or `Memory` if
+    /// there is no room for the path.
     #[tactic(auto, unfolding(crate::specs::Answers::demand))]
     pub fn demand(&self, allowed: bool, key: &str, value: i64) -> Result<(), BadDocument>
         ensures value { Gives result (demand allowed (BadDocument.Range (path self.now.place key.now) value)) }
@@ -93,7 +93,8 @@ impl<'a> Keys<'a> {
         }
     }
 
-    /// Returns `Ok` if the value under a key occurs once. Otherwise the error is `Twice`, or `Memory` if there is no room for the path.
+    /// Returns `Ok` if `once` is true: the value under a key occurs once. Otherwise the error is `Twice`, or `Memory` if there is no room
+    /// for the path.
     #[tactic(auto, unfolding(crate::specs::Answers::demand))]
     pub fn demand_once(&self, once: bool, key: &str) -> Result<(), BadDocument>
         ensures value { Gives result (demand once (BadDocument.Twice (path self.now.place key.now))) }

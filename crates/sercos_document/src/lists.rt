@@ -62,7 +62,7 @@ impl<'a> Keys<'a> {
     }
 
     /// Returns the list of `low` to `high` tables under a key. The error is `Missing` if the key is absent; `Kind` at the list if it or an
-    /// item has another type; `Range` with the number of tables; or `Memory`.
+    /// item has another type; `Range` with the number of tables if it is out of range; or `Memory`.
     #[tactic(auto, unfolding(crate::specs::Tables::required, crate::specs::Lists::required_tables))]
     pub fn required_tables(
         &self,
@@ -85,7 +85,7 @@ impl<'a> Keys<'a> {
     }
 
     /// Returns the list of `low` to `high` tables under a key, or no tables if the key is absent. The error is `Kind` at the list if it or
-    /// an item has another type, `Range` with the number of tables, or `Memory`.
+    /// an item has another type, `Range` with the number of tables if it is out of range, or `Memory`.
     #[tactic(auto, unfolding(crate::specs::Lists::tables))]
     pub fn tables(&self, key: &str, low: usize, high: usize) -> Result<Vec<&'a Table>, BadDocument>
         ensures value { Shows (λ v. map (λ t. table_view t.now) v.items) result
@@ -102,7 +102,7 @@ impl<'a> Keys<'a> {
     }
 
     /// Returns the list of at most `most` values under a key, or an empty list if the key is absent. The error is `Kind` if the value has
-    /// another type, `Range` with the number of values, or `Memory`.
+    /// another type, `Range` with the number of values if there are more, or `Memory`.
     #[tactic(auto, using(crate::proofs::Items::items_count), unfolding(crate::specs::Lists::short_list))]
     pub fn short_list(&self, key: &str, most: usize) -> Result<&'a [Value], BadDocument>
         ensures value { Shows (λ v. items_view v.now) result (short_list (located self.now) key.now most) }

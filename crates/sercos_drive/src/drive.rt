@@ -151,8 +151,8 @@ impl Drive {
 
     /// Processes what arrived in the MST's time slot of a cycle: the content of a frame, `None` if there was no frame. The phase then is
     /// the commanded one if that is the drive's or the next higher one (3 and 4 only with the check passed), otherwise 0. A content that is
-    /// no MST counts as none. Without an MST the phase is unchanged, but 0 after the second missing MST in a row. `cycle` isn't below that
-    /// of an earlier call.
+    /// no MST counts as none. Without an MST the phase is unchanged, but 0 after the second missing MST in a row. Phase 0 resets the
+    /// service channel and the procedure commands, passed checks too; the data blocks stay. `cycle` isn't below that of an earlier call.
     pub fn hear_mst(&mut self, cycle: u32, content: Option<&[u8]>)
         ensures { (d : DriveView) (rate : ℕ) (h : List DriveCall) → DriveStandsFor self.old d rate h → cycle_at d rate h ≤ cycle →
             DriveStandsFor self.new d rate (Mst cycle (option_copied content.entry) ∷ h) }
@@ -235,7 +235,9 @@ impl Drive {
         self.got && 1 <= self.phase && told.is_some()
     }
 
-    // Passes a record to the service channel, in phases 2 to 4, the phase of the drive, and updates the slot and the count of writes.
+    // Passes a record to the service channel. The drive must be in phase 2 or above. If the record completes a write of operation data, the
+    // store and the procedure commands change too, the slot is read anew from the store, and the count of writes, which stops at 2^32 - 1,
+    // rises by one. Otherwise only the service channel changes.
     fn process(&mut self, told: &Told)
         requires { 2 ≤ self.old.phase }
         ensures { (busy : ℕ) (h : List Processed) (c : CommandHistory) → ChannelStandsFor self.old.channel busy h → AreThose self.old.blocks h →
@@ -262,8 +264,8 @@ impl Drive {
         self.got && 2 <= self.phase
     }
 
-    // Passes the record of an MDT to the service channel, if there is one, this cycle's MST was received, and the phase is 2 to 4.
-    // Otherwise nothing changes.
+    // Processes the record of an MDT as `process` does, if there is one, this cycle's MST was received, and the phase is 2 to 4. Otherwise
+    // nothing changes.
     fn process_if(&mut self, told: Option<Told>)
         ensures { (busy : ℕ) (h : List Processed) (c : CommandHistory) → ChannelStandsFor self.old.channel busy h → AreThose self.old.blocks h →
             CommandsStandFor self.old.commands c → IsProcessed self.old self.new busy c (processed_by self.old c told) h }
@@ -275,8 +277,9 @@ impl Drive {
         }
     }
 
-    // Ends the MDT's time slot: stores whether an MDT was accepted, and falls to phase 0 after the second missing MDT in a row in phases 3
-    // and 4.
+    // Ends the MDT's time slot: stores whether an MDT was accepted, and whether it was missing in phase 3 or 4. After the second missing
+    // MDT in a row in these phases the drive falls to phase 0. In phase 0, with and without a fall, the service channel and the procedure
+    // commands are reset.
     fn end(&mut self, took: bool)
         ensures { IsEntered (record self.old { took = took; missed = nat_le 3 self.old.phase && not took }) self.new (ends_with self.old took) }
     {
@@ -291,7 +294,7 @@ impl Drive {
     /// Processes what arrived in the MDT's time slot of this cycle: the content of a frame, `None` if there was no frame. An MDT is
     /// accepted if this cycle's MST was received and the phase isn't 0: in phases 1 and 2 the MDT to the drive's address, in phases 3 and 4
     /// the drive's record at position S-0-0009. From phase 2 on the record is passed to the service channel. After two cycles in a row in
-    /// phases 3 and 4 without an accepted MDT the drive falls to phase 0.
+    /// phases 3 and 4 without an accepted MDT the drive falls to phase 0, which resets as in [`hear_mst`](Drive::hear_mst).
     pub fn hear_mdt(&mut self, content: Option<&[u8]>)
         ensures { (d : DriveView) (rate : ℕ) (h : List DriveCall) → DriveStandsFor self.old d rate h →
             DriveStandsFor self.new d rate (Mdt (option_copied content.entry) ∷ h) }

@@ -26,7 +26,8 @@ fn mst_in(content: &[u8]) -> Option<u8>
     }
 }
 
-// Returns the phase that the received MST commands; `None` if no MST was received.
+// Returns the phase, 0 to 4, that is commanded by what arrived in the MST's time slot; `None` if there is no content, or if it is not an
+// MST.
 pub(crate) fn mst_got(content: Option<&[u8]>) -> Option<u8>
     ensures value { result ≡ mst_got (option_copied content.entry) }
     ensures bound { IfSome result (λ phase. phase ≤ 4) }

@@ -72,8 +72,8 @@ impl Deframer {
         self.kept.clear();
     }
 
-    // Takes a plain bit: at least eight bits were taken before it, whether or not the first eight are the flag, and fewer than five ones in
-    // a row precede it.
+    // Takes a plain bit: at least eight bits were taken before it, whether or not the first eight are the flag, and of those after the
+    // eighth fewer than five ones in a row precede it.
     fn take_plain(&mut self, bit: bool)
         requires fits { taken_of self.old < 2147483648 }
         requires behind { 8 ≤ taken_of self.old }
@@ -85,7 +85,8 @@ impl Deframer {
         self.kept.push(u64::from(bit), 1);
     }
 
-    // Takes `len` bits, at least one, after the first six ones. Of these only the first, `bit`, matters.
+    // Takes `len` bits, at least one, after the first six ones, directly or later. Of these only the first, `bit`, matters, and only if it
+    // directly follows the six: then it may be a seventh one.
     #[inline(always)]
     fn take_later(&mut self, bit: bool, len: u32)
         requires some { 1 ≤ len }
@@ -139,8 +140,9 @@ impl Deframer {
         }
     }
 
-    // Takes the `len` lowest bits of a byte, at most eight, whose eight bits contain the sixth one in a row. The opening flag is complete.
-    // `given` is the result of `given_by` for the byte.
+    // Takes the `len` lowest bits of a byte, at most eight. Eight bits or more were taken before, those after the eighth without a sixth
+    // one in a row; the byte's eight bits contain one, among the `len` lowest or after them. `given` is the result of `given_by` for the
+    // reader's `ones` and the byte.
     #[inline(always)]
     fn take_end(&mut self, byte: u8, given: Given, len: u8)
         requires len { len ≤ 8 }
@@ -202,7 +204,8 @@ impl Deframer {
         self.kept.push(u64::from(given.bits), given.count);
     }
 
-    // Takes the `len` lowest bits of a byte, at most eight, as `take_low` does while the opening flag is incomplete.
+    // Takes the `len` lowest bits of a byte, at most eight, the least significant first. `take_low` calls it while fewer than eight bits
+    // were taken; its clauses hold after any number of bits.
     #[inline(always)]
     fn take_opening(&mut self, byte: u8, len: u8)
         requires few { len ≤ 8 }
@@ -217,8 +220,9 @@ impl Deframer {
         self.scan.take_first_byte(byte);
     }
 
-    // Takes the bits of a group, which has the first of these bytes, at most seven. The opening flag is complete, and no sixth one in a row
-    // is in the group or before it.
+    // Takes the bits of the first `group.len` of these bytes, at most seven. The group is what `Group::after` returns for them and the
+    // reader's `ones` and `dropped`. Eight bits or more were taken before, and no sixth one in a row is in the group or, after the eighth
+    // bit, before it.
     #[inline(always)]
     fn take_clear(&mut self, bytes: &[u8], group: Group)
         requires len { group.len ≤ length bytes.now }
@@ -235,8 +239,9 @@ impl Deframer {
         self.kept.push(group.bits, group.count);
     }
 
-    // Takes the first of 1 to 7 bytes, and returns how many it took, at least one. The opening flag is complete, and no sixth one in a row
-    // precedes the bytes.
+    // Takes the first of 1 to 7 bytes up to the one that has a sixth one in a row, included, or all if none has it, and returns how many it
+    // took, at least one. Eight bits or more were taken before, whether or not the first eight are the flag, and those after the eighth
+    // have no sixth one in a row.
     #[inline(always)]
     fn take_group(&mut self, bytes: &[u8]) -> usize
         requires some { 1 ≤ length bytes.now }
@@ -258,7 +263,8 @@ impl Deframer {
         group.len + 1
     }
 
-    // Takes the first of these bytes, of which there is at least one, and returns how many it took, at least one.
+    // Takes at least the first of these bytes, and returns how many it took. There must be at least one. It takes one byte while fewer than
+    // eight bits were taken, all after a sixth one in a row, and otherwise what `take_group` takes of at most the first seven.
     #[inline(always)]
     fn take_some(&mut self, bytes: &[u8]) -> usize
         requires some { 1 ≤ length bytes.now }

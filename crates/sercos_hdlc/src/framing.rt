@@ -34,9 +34,10 @@ fn write_frame(content: &[u8], out: &mut BitBuf)
 }
 
 /// Replaces `out` by the one frame of a content of at least one byte (ISO/IEC 3309), from the first bit of its opening flag to the last bit
-/// of its closing flag. It has at most `wire_bits` bits of the content's length. The error is `TooLong` iff the content has more than 2048
-/// bytes; then `out` is unchanged. [`unframe`](crate::unframe) returns the content again: by `ok` the bits are its frame, and `unframe`
-/// returns the content of every frame.
+/// of its closing flag. For n bytes of content it has at most `wire_bits` n bits: 16 of the flags, 8 (n + 2) of content and check sequence,
+/// and an inserted zero for each five of the latter. The error is `TooLong` iff the content has more than 2048 bytes; then `out` is
+/// unchanged. [`unframe`](crate::unframe) returns the content again: by `ok` the bits are its frame, and `unframe` returns the content of
+/// every frame.
 #[tactic(auto, unfolding(crate::specs::Stuffed::frame_of))]
 pub fn frame(content: &[u8], out: &mut BitBuf) -> Result<(), TooLong>
     requires { 0 < length content.now }
@@ -68,9 +69,9 @@ pub fn frame_len(content: &[u8]) -> u32
     len
 }
 
-/// States that every content of 1 to 2048 bytes has a frame, `frame_of`, and that a content has only one. A frame has at most `wire_bits`
-/// bits of its content's length, and at most 19,696: it fits into a [`BitBuf`]. No frame is a proper prefix of another, and none is that of
-/// two contents. The function does nothing.
+/// States that every content of 1 to 2048 bytes has a frame, `frame_of`, and that a content has only one. The frame of a content of n bytes
+/// has at most `wire_bits` n bits (see [`frame`]), and at most 19,696: it fits into a [`BitBuf`]. No frame is a proper prefix of another,
+/// and none is that of two contents. The function does nothing.
 pub fn framing_law()
     ensures some { (content : List ℕ) → AreBytes content → 0 < length content → length content ≤ 2048
         → (bits : List Bool) × IsFrame content bits }

@@ -43,8 +43,8 @@ impl Group {
         }
     }
 
-    // Appends a byte to a group of at most six bytes and 48 plain bits. `given` is the result of `given_by` for it, without a sixth one in
-    // a row.
+    // Appends a byte to a group of at most six bytes and 48 plain bits. `given` is the result of `given_by` for the group's `ones` and this
+    // byte, without a sixth one in a row.
     #[inline(always)]
     fn add(&mut self, byte: u8, given: Given)
         requires few { self.old.count ≤ 48 }
@@ -64,9 +64,9 @@ impl Group {
         self.ones = ending(byte);
     }
 
-    /// Returns a group of the first of at most seven bytes, with no sixth one in a row. The clauses don't say how far it goes: its user takes
-    /// the next byte itself. `ones` is the number of ones in a row before the bytes, 0 to 5, and `dropped` whether the last zero before them
-    /// is an inserted one.
+    /// Returns the group of those of at most seven bytes that come before the first with a sixth one in a row, or of all if none has it.
+    /// The clauses don't say how far it goes: its user takes the next byte itself. `ones` is the number of ones in a row before the bytes,
+    /// 0 to 5, and `dropped` whether the last zero before them is an inserted one.
     #[inline(always)]
     pub fn after(ones: u8, dropped: bool, bytes: &[u8]) -> Group
         requires few { ones ≤ 5 }

@@ -14,8 +14,8 @@ const CHECK_BYTES: usize = 2;
 // The fewest bytes between two flags: one of content, and the check sequence.
 const LEAST_BYTES: u32 = 3;
 
-// Tests that `len` plain bits are whole bytes, 3 to 2050 of them. The error is `Ragged`, `Short` or `Long`. After `Ok` only the check
-// sequence is left to test.
+// Tests that `len` plain bits are whole bytes, 3 to 2050 of them. The error is `Ragged` if they aren't whole bytes, otherwise `Short` or
+// `Long`. After `Ok`, of the rules on plain bits only that on the check sequence is left to test.
 #[tactic(auto, unfolding(crate::specs::Reason::unreadable, crate::specs::Reason::given))]
 fn test_size(len: u32) -> Result<(), BadFrame>
     ensures reason { (plain : List Bool) → len ≡ length plain → IfErr result (λ reason. unreadable plain ≡ Some reason) }
@@ -80,8 +80,8 @@ pub fn read_frame<'a>(scan: &Scan, kept: &'a Kept) -> Result<&'a [u8], BadFrame>
     Ok(content)
 }
 
-/// States that no rule applies iff the bits are a frame, and that its content is then the one that its plain bits spell, and no other. The
-/// function does nothing.
+/// States that no rule of [`BadFrame`] applies (`reason_of`) iff the bits are a frame, and that its content is then the one that its plain
+/// bits spell, those between the flags without the inserted zeros, and no other. The function does nothing.
 pub fn frame_law()
     ensures frame { (bits : List Bool) → reason_of bits ≡ None
         → IsFrame (content_of (plain bits)) bits }

@@ -87,7 +87,7 @@ impl Scan {
         self.taken += 1;
     }
 
-    /// Takes the inserted zero after five ones in a row.
+    /// Takes the inserted zero after five ones in a row. The first eight bits were taken.
     pub fn take_inserted(&mut self)
         requires fits { self.old.taken < 2147483648 }
         requires behind { 8 ≤ self.old.taken }
@@ -101,7 +101,7 @@ impl Scan {
         self.taken += 1;
     }
 
-    /// Takes a one after five ones in a row. The bit before the six begins the closing flag.
+    /// Takes a one after five ones in a row. The first eight bits were taken. The bit before the six ones begins the closing flag.
     pub fn take_sixth(&mut self)
         requires fits { self.old.taken < 2147483648 }
         requires behind { 8 ≤ self.old.taken }
@@ -116,7 +116,8 @@ impl Scan {
         self.taken += 1;
     }
 
-    /// Takes `len` bits, at least one, after the first six ones. Of these only the first, `bit`, matters.
+    /// Takes `len` bits, at least one, after the first six ones, directly or later. Of these only the first, `bit`, matters, and only if it
+    /// directly follows the six: then it may be a seventh one.
     #[inline(always)]
     pub fn take_later(&mut self, bit: bool, len: u32)
         requires some { 1 ≤ len }
@@ -131,8 +132,9 @@ impl Scan {
         self.taken += len;
     }
 
-    /// Takes `len` bits after the first eight, without a sixth one in a row among them or before them. Of these `count` are plain. They end
-    /// in `ones` ones in a row, 0 to 5, and `dropped` is whether the last zero is then an inserted one.
+    /// Takes `len` bits after the first eight, without a sixth one in a row among them or before them. Of these `count` are plain. `ones`,
+    /// 0 to 5, is then the number of ones in a row at the end, with those before the new bits if none of these is a zero, and `dropped` is
+    /// whether the last zero is then an inserted one.
     #[inline(always)]
     pub fn take_clear(&mut self, ones: u8, dropped: bool, count: u8, len: u32)
         requires fits { self.old.taken + len ≤ 2147483648 }
@@ -153,9 +155,9 @@ impl Scan {
         self.taken += len;
     }
 
-    /// Takes `len` bits after the first eight, with the first sixth one in a row at offset `place` among them. Of the bits before it,
-    /// `count` are plain. `dropped` is whether the last zero before it is an inserted one, and `seventh` whether a one follows it among
-    /// these bits.
+    /// Takes `len` bits after the first eight, with the first sixth one in a row at offset `place` among them. Of the `place` new bits
+    /// before it, `count` are plain. `dropped` is whether the last zero before it is an inserted one, and `seventh` whether the bit right
+    /// after it is among the new bits and is a one.
     #[inline(always)]
     pub fn take_end(&mut self, place: u8, dropped: bool, count: u8, seventh: bool, len: u32)
         requires within { place < len }

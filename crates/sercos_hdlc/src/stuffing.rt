@@ -6,7 +6,8 @@ use crate::tables::{counts_of, ones_at_end, sent_for};
 use sercos_bits::{BitBuf, Register, push_number};
 
 // Appends the bits that are sent for a byte after `ones` ones in a row, and returns the number of ones in a row at their end. Both numbers
-// are below 5. `out` must have room for a zero after each five bits, the ones before the byte included.
+// are below 5. Five times the free bits of `out` must be at least `ones` + 48: room for eight bits, and for a zero after each five bits,
+// the ones before the byte included.
 fn push_byte(byte: u8, ones: usize, out: &mut BitBuf) -> usize
     requires few { ones < 5 }
     requires room { 5 * length out.old + ones + 48 ≤ 5 * 19696 }
@@ -21,7 +22,8 @@ fn push_byte(byte: u8, ones: usize, out: &mut BitBuf) -> usize
 }
 
 /// Appends the bits that are sent for bytes after `ones` ones in a row, and returns the number of ones in a row at their end. Both numbers
-/// are below 5. `out` must have room for a zero after each five bits, the ones before the bytes included.
+/// are below 5. Five times the free bits of `out` must be at least `ones` plus 48 for each byte: room for its eight bits, and for a zero
+/// after each five bits, the ones before the bytes included.
 pub fn push_bytes(bytes: &[u8], ones: usize, out: &mut BitBuf) -> usize
     requires few { ones < 5 }
     requires room { 5 * length out.old + ones + 48 * length bytes.now ≤ 5 * 19696 }

@@ -135,7 +135,7 @@ impl Attribute {
             + placed(self.protect4, PROTECT4)
     }
 
-    // Returns the attribute of a word without a fault.
+    // Returns the attribute of a word for which `attribute_fault` returns `None`.
     fn of_word(word: u32) -> Attribute
         requires { attribute_fault word ≡ None }
         ensures word { attribute_word result ≡ word }

@@ -48,8 +48,8 @@ impl Code {
         }
     }
 
-    /// Returns the code of an element, 0 to 7, that can't be changed: 0x2004 for the name, up to 0x6004 for the maximum. For the operation
-    /// data it is `FIXED`.
+    /// Returns the code of an element, 0 to 7, that can't be changed, the element in bits 15 to 12 and 4 below them: 0x2004 for the name,
+    /// up to 0x6004 for the maximum. For the operation data it is `FIXED`.
     pub fn protected(element: u8) -> Code
         requires { element < 8 }
         ensures { result.raw ≡ 4096 * element + 4 }

@@ -145,7 +145,7 @@ fn letter_value(letter: u8) -> u16
     if letter == b'P' { LETTER_P } else { 0 }
 }
 
-// Returns the sixteen bits of the identifier number that a text without a fault spells.
+// Returns the sixteen bits of the identifier number that a text spells for which `idn_fault` returns `None`.
 fn spelled_raw(text: &[u8]) -> u16
     requires { idn_fault text.now ≡ None }
     ensures { result ≡ spelled_raw text.now }
@@ -192,7 +192,7 @@ impl Idn {
         }
     }
 
-    /// Returns the eight bytes of the text that `Display` prints.
+    /// Returns the eight bytes of the text that `Display` prints, such as `S-0-0127`.
     #[tactic(auto, unfolding(crate::specs::Idns::idn_text, crate::specs::Idns::four_digits))]
     pub fn text(self) -> [u8; 8]
         ensures { result ≡ idn_text self.raw }

@@ -14,8 +14,8 @@ pub fn place_law()
     ensures { (text : List ℕ) (place : ℕ) → idn_fault text ≡ Some place → IsRefusedAt text place }
 {}
 
-/// States that the word of an attribute is below 2^32 and has no fault, and that the attribute of this word is the same attribute. The
-/// conversion factor of the attribute has sixteen bits.
+/// States that the word of an attribute is below 2^32, that [`Attribute::read`](crate::Attribute::read) accepts it (it has no
+/// `attribute_fault`), and that the attribute of this word is the same attribute. The conversion factor of the attribute has sixteen bits.
 pub fn attribute_law()
     ensures small { (a : Attribute) → a.factor < 2 ^ 16 → attribute_word a < 2 ^ 32 }
     ensures sound { (a : Attribute) → a.factor < 2 ^ 16 → attribute_fault (attribute_word a) ≡ None }

@@ -18,7 +18,7 @@ pub fn handshake_law()
 {}
 
 /// A law on the requests of a channel and the steps that the drive accepted:
-/// - If the master's calls are allowed, each request is begun while no step is open, and what the master took for it are answers to it.
+/// - If the master's calls are allowed, so that it begins each request while no step is open, what it took for a request are answers to it.
 /// - Then, if both ends are in step, what the drive has accepted falls into the parts of the requests, one after the other. Each part has
 ///   the steps of one request, as far as it got, with the answers that the master took.
 /// - Each step of a part has the drive's reply to it, after the steps before it.
@@ -32,18 +32,18 @@ pub fn parts_law()
 {}
 
 /// A law on the transfer of a request, at a drive with these data blocks:
-/// - A write of operation data adds one entry to the drive's writes, with its bytes, and only with the step that completes it. The drive
-///   must have the block, with a factor of 16 bits.
+/// - A write of operation data adds one entry to the drive's writes, with its bytes, those of a number filled up with zeros to whole words,
+///   and only with the step that completes it. The drive must have the block, with a factor of 16 bits.
 /// - A read, and a write of another element, add none.
 /// - A transfer to a data block that the drive lacks adds none.
 /// - Such a transfer is refused at its opening, with the code 0x1001.
-/// - A transfer that sets a procedure command adds the setting with its second step, and the cancel with the step that completes it;
-///   nothing else.
+/// - A transfer that sets a procedure command adds the setting with its second step, if that isn't refused, and the cancel with the step
+///   that completes it; nothing else.
 /// - If such a transfer is refused, it adds nothing, if the block is a procedure command that isn't write protected at the refusal, or was
 ///   so at each step before.
 /// - If it is complete, it returns the data status of the last step that reads it.
 /// - A complete read of an element, 1 to 7, of a block that the drive has, with a factor of 16 bits, returns the element's bytes of the one
-///   cycle in which the drive accepted the selection of the element.
+///   cycle in which the drive accepted the selection of the element. For 2 to 7 its blocks must keep the rules of a store then.
 pub fn transfer_law()
     ensures writes_once { WritesOnce }
     ensures writes_nothing { WritesNothing }
@@ -62,8 +62,8 @@ pub fn transfer_law()
 /// - A record is processed in the cycle in which it arrives, in the phase commanded in it, which is 2 or above.
 /// - While 2 to 4 is commanded, a drive in phase 0 stays there.
 /// - While 0 or 1 is commanded, a drive that gets the MST is in that phase.
-/// - A drive in the commanded phase, or in the one below with its check passed, is in the commanded phase at the end of a cycle in which it
-///   doesn't restart, gets the MST, and in phases 3 and 4 its record.
+/// - A drive in the commanded phase or in the one below, with the check for the commanded one passed if that is 3 or 4, is in the commanded
+///   phase from the MST to the end of a cycle in which it doesn't restart, gets the MST, and in phases 3 and 4 its record.
 /// - The drive accepts at most one step in a cycle.
 /// - From the second cycle in a row commanded 0 on it is in phase 0.
 /// - While 0 or 1 is commanded next, nothing was begun or accepted in the epoch.
@@ -97,7 +97,8 @@ pub fn run_law()
 /// by side, transfer by transfer. The drive must have the same blocks in each cycle, except for their operation data, with factors of 16
 /// bits, and each request must be sound for them. The steps of a transfer are accepted in one phase. Its writes are whole if it is
 /// complete, none if it is refused, and the first of them if it is open or was broken. A complete read returns the element's bytes of the
-/// one cycle in which the drive accepted the selection, and a complete setting of a procedure command returns its data status.
+/// one cycle in which the drive accepted the selection, if its blocks, but for a read of the data status, keep the rules of a store then. A
+/// complete setting of a procedure command returns the data status of the last step that read it.
 pub fn exact_law()
     ensures { (busy : ℕ) → RunsAreExact busy }
 {}

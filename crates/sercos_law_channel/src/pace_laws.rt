@@ -2,7 +2,8 @@
 ghost use Rattle.std.specs.Prelude.{ℕ};
 ghost use Rattle.sercos_law_channel.specs.Clauses.{AreOnTime, AnswersOnTime, TakesTime, ComesInTime, TakesTimeSince, StandsThroughout, StaysClean, HearsThroughout, IsCleanOrDown, RecoversInTime, StaysDead, SpacesSteps, StaysInCost, OpensInCost, ComesTimed, CostsRequests, WordReadCosts, AttributeCosts, ListReadCosts, WordWriteCosts, ListWriteCosts, ReadsCost, WritesCost, RequestCosts, AgesInTime, AgesWhereDead, AnswersAtAge, OpensAlways, KeepsTime, StartsInCost, RecoversInCost, RecoversSince, StaysARun, CallsBegin, AgesAreThose, AgesBeforeEnd, NoneLate, PassesBySetting, PassesLast, StaysPassed, StaysPassedLast};
 
-/// A law, without code, over an epoch in which nothing is lost:
+/// A law, without code, over an epoch in which nothing is lost: if a step is open at the start of a cycle, the master hears the drive's AT,
+/// and if one is open at its end, the drive processes the record:
 /// - The cycles in which a step was open are the busy time and one for each answer, and those since the open step was accepted.
 /// - An answer arrives busy time and one cycle after the cycle in which the drive accepted its step.
 /// - So the cycles in which a step was open are at most busy time and one for each step that was begun.
@@ -12,7 +13,8 @@ pub fn time_law()
     ensures time { (busy : ℕ) → TakesTime busy }
 {}
 
-/// A law, without code, over a stretch of cycles in which nothing is lost, regardless of the cycles before:
+/// A law, without code, over a stretch of cycles in which nothing is lost, as in [`time_law`], and the master neither falls nor restarts,
+/// regardless of the cycles before:
 /// - After one cycle or more the cycles in which a step was open are at most busy time and one for each answer, and those since the open
 ///   step was accepted. A step that was open before the stretch counts as one of it.
 /// - So they are at most busy time and one for each step begun that had no answer before the stretch.
@@ -31,12 +33,15 @@ pub fn stretch_law()
     ensures keeps { (busy : ℕ) → KeepsTime busy }
 {}
 
-/// A law, without code, over cycles in which every telegram arrives and nothing restarts. The first three statements hold from phase 0 of
-/// an epoch on, if the drive's checks are passed; the last two hold in any run:
+/// A law, without code, over whole cycles: nothing restarts, the master doesn't fall at the end, it sends the drive a record if a step is
+/// open, in phases 3 and 4 always, and every telegram that is sent arrives. In phases 3 and 4, and before if a step is open and a record
+/// arrived in the cycle before, the master hears the drive, unless it is in phase 0. The first three statements hold from phase 0 of an
+/// epoch on, if the check for a commanded phase 3 or 4 counts as passed while the drive is in the phase below. The last two hold in any
+/// cycle of a run:
 /// - The drive is in the commanded phase in every cycle.
 /// - Nothing is lost.
 /// - The master hears the drive in every cycle of phases 3 and 4.
-/// - After any losses and a first such cycle, either the drive is in phase 0 by now, or nothing was lost since.
+/// - After any losses, a first whole cycle and only whole ones since, the drive is in phase 0 by now, or nothing was lost since the first.
 /// - If it isn't in phase 0, the cycles with an open step since the first are at most busy time and one for each step begun that had no
 ///   answer by then.
 /// - A drive in phase 0 stays there while 2 to 4 is commanded: the master receives nothing of it and takes no answer, and an open step
@@ -54,17 +59,17 @@ pub fn passage_law()
 
 /// A law on the cost of requests, in cycles. The drive must have the same blocks in each cycle, except for their operation data, with
 /// factors of 16 bits, each request must be sound for them, no list may be longer than its bound, and a procedure command that runs must
-/// have been set by the newest write to it:
+/// have been set by the newest write to it, less than the time of a command ago. Cycles are whole as in [`passage_law`]:
 /// - The steps that a drive accepts in an epoch are at least busy time and one apart. This holds in every run.
-/// - A procedure command that runs was set by the newest write to it, if what is set when an MDT arrives was set at the end of the cycle
-///   before. So its status is read only a bounded number of times.
+/// - A procedure command that runs was set so, if what is set when an MDT arrives was set at the end of the cycle before, and the drive's
+///   commands have that time. So its status is read only a bounded number of times.
 /// - The steps of an epoch cost no more than its requests.
-/// - In a stretch in which nothing is lost, neither do the cycles with an open step, together with busy time and one for each answer before
+/// - In a stretch as in [`stretch_law`], neither do the cycles with an open step, together with busy time and one for each answer before
 ///   the stretch.
-/// - In a start-up in which every telegram arrives and the checks are passed, neither do the cycles with an open step, and no step gets
-///   older than busy time and one cycle.
-/// - After any losses and a first cycle in which every telegram arrives, the drive is in phase 0 by now, or the same holds since that
-///   cycle. A step that was open at its end adds its age then.
+/// - In whole cycles from phase 0 of an epoch on, with the checks passed, neither do the cycles with an open step, and no step gets older
+///   than busy time and one cycle.
+/// - After any losses, a first whole cycle and only whole ones since, the drive is in phase 0 by now, or the same holds since the first. A
+///   step that was open at its end adds its age then.
 /// - Then the cost of the recent requests is enough, if those before them had all their answers in that first cycle.
 pub fn cost_law()
     ensures spaced { (busy : ℕ) → SpacesSteps busy }
@@ -105,8 +110,8 @@ pub fn jobs_law()
 /// - The calls are allowed, and yield the requests that were begun in the epoch.
 /// - If each open step is sent, the channel counts the age of the open step at the end of a cycle.
 /// - Before the end of the cycle it counts one less.
-/// - From phase 0 of an epoch on, while every telegram arrives and the checks are passed, the channel counts no more than the busy time
-///   before a cycle's end, and the drive is heard in phases 3 and 4. So no fall is caused by the drive.
+/// - From phase 0 of an epoch on, in cycles that are whole as in [`passage_law`], but for a fall of the newest, with the checks passed, the
+///   channel counts no more than the busy time before a cycle's end, and the drive is heard in phases 3 and 4. So no fall is caused by it.
 pub fn calls_law()
     ensures stays { (busy : ℕ) → StaysARun busy }
     ensures begin { (busy : ℕ) → CallsBegin busy }

@@ -1,7 +1,8 @@
 // The bounds on the cycles of a start-up, a refusal, requests and a recovery.
 ghost use Rattle.sercos_law_run.specs.Clauses.{FewWrites, FewStatuses, IsStarted, IsRefusedEarly, IsRefusedLate, IsReported, IsBackAtOnce, IsBackLater, AreSections, IsBelowGreatest};
 
-/// A law on the bounds of this profile, in cycles. The premises are bounds on each part:
+/// A law on the bounds of this profile, in cycles: `startup_bound` of `sercos_block`, and the others of `Bounds.antt`. The premises are
+/// bounds on each part:
 /// - If a procedure command is read at most once more than while it runs, the writes of phase 2 and their command fit into `write_cycles`.
 /// - So does the command of phase 3 into `command_cycles`.
 /// - If no part of a start-up takes longer than the answers of its requests, phase 4 begins within `startup_bound`.

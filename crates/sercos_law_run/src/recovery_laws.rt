@@ -13,7 +13,8 @@ ghost use Rattle.sercos_law_run.specs.Clauses.{AfterFall, ComesBack, FallsInTime
 /// - If the ring falls in an undisturbed cycle of phase 2 or later, after undisturbed ones without a fall, and no drive is in phase 0
 ///   before it, the cycles between the first of these and it are at most the busy time of the slowest drive and one.
 /// - If it doesn't fall in undisturbed cycles after a first one of phase 2 or later at whose end no drive is in phase 0, phase 4 is
-///   commanded, or the master has a stop, once the cycles of a start-up and 41 steps more of the slowest drive have passed.
+///   commanded, or the master has a stop, once the cycles of a start-up and 41 steps more of the slowest drive, each of busy time and two
+///   cycles, have passed.
 /// - If a record has a fall, a restart of the master included, and no cycle after it is disturbed, the ring starts up again as after its
 ///   opening.
 /// - In each cycle, of a fall too, a plan that is reported is the planner's for the ring's requirements, and so is the chain of a reported

@@ -5,10 +5,11 @@ ghost use Rattle.sercos_law_run.specs.Clauses.{IsSetByWrites, SetByKept, StayWel
 /// A law on the settings of a drive's procedure commands in a run:
 /// - If at each MST's place the settings are those that the cycle before left, or none after phase 0 or a restart, they are what the
 ///   records since the drive was last in phase 0 left.
-/// - A block is set if the newest write to it since then isn't 0, and it was a procedure command in each of these records.
-/// - If each check for phase 3 was set well, each that is set ends well.
-/// - Then each complete check for phase 3 of the epoch returns 3. The settings must be as in the first statement, the requests sound for
-///   the drive's blocks, and the check a procedure command in each cycle.
+/// - Then a block is set if the newest write to it by these records isn't 0, and it was a procedure command at each of them.
+/// - If at each MST's place no command is set, or those are that the cycle before left, and each check for phase 3 finds nothing in the
+///   blocks as the write that sets it leaves them, each that is set ends well.
+/// - Then each complete check for phase 3 of the epoch returns 3. The settings must be as in the first statement, the drive's blocks the
+///   same in each cycle but for their operation data, the requests sound for them, and the check a procedure command in each cycle.
 pub fn settings_law()
     ensures kept { SetByKept }
     ensures set { IsSetByWrites }

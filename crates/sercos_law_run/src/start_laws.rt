@@ -12,7 +12,8 @@ pub fn start_up_law()
     ensures passes { PlanPassesCheck }
 {}
 
-/// A law on the store of a drive whose own blocks are valid:
+/// A law on the store of a drive whose own blocks are valid. In the first two statements its blocks must ascend by identifier number, and
+/// in those on the check for phase 4 they must keep the rules of a store:
 /// - A write that isn't refused leaves the store that of the drive. So does a check that writes its list.
 /// - So does all that a step on the service channel makes of the store.
 /// - After a write, its block has the bytes, and each other block has what it had.
@@ -36,7 +37,8 @@ pub fn store_of_law()
     ensures steady { BuiltInIsSteady }
 {}
 
-/// A law on the start-up values and the store of a drive whose own blocks are valid:
+/// A law on the start-up values and the store of a drive whose own blocks are valid. In the third statement its blocks must ascend by
+/// identifier number:
 /// - If the store holds the first n values, and the next one is written, it holds the first n + 1.
 /// - A write to another block leaves the values as they are.
 /// - A list of a check leaves the store that of the drive, and the values, none of which is S-0-0021 or S-0-0022.
@@ -52,7 +54,7 @@ pub fn held_values_law()
     ensures whole { StoresStartUpWhole }
 {}
 
-/// A law on which of a drive's own blocks are outside their limits:
+/// A law on which of a drive's own blocks are outside their limits. In the second statement they must be valid:
 /// - A write to a built-in block, and a list of a check, leave them the same. So they are the same during the whole start-up.
 /// - At opening there is one iff a block of the drive's description is outside its limits.
 pub fn own_block_law()
@@ -60,7 +62,8 @@ pub fn own_block_law()
     ensures opening { OwnAtOpening }
 {}
 
-/// A law on refusals and checks at a drive whose own blocks are valid:
+/// A law on refusals and checks at a drive whose own blocks are valid. In the last two statements its blocks must keep the rules of a
+/// store:
 /// - Regardless of what was written, each word of a write on the service channel is refused as at opening, with the same code.
 /// - In phase 2 the word of the cycle time is refused iff it is outside the drive's limits: with 0x7006 if it is below them, with 0x7007 if
 ///   it is above.
@@ -80,10 +83,10 @@ pub fn cause_law()
     ensures whole { StopsWithList }
 {}
 
-/// If each drive has answered the first reads, the master's planner input is the ring's. The attribute that was read determines how many
-/// bytes a block adds to a telegram, so no configured attribute stops the master. This holds if the conversion factors of all the drives'
-/// blocks are below 65,536, as they are in blocks that keep their types' ranges. What the master then writes are the start-up values, and
-/// a drive that holds them holds the plan.
+/// A law on a valid ring. If each drive has answered the first reads, the master's planner input is the ring's. The attribute that was read
+/// determines how many bytes a block adds to a telegram, so no configured attribute stops the master. This holds if the conversion factors
+/// of all the drives' blocks are below 65,536, as they are in blocks that keep their types' ranges. If the planner's input is valid and a
+/// plan fits, what the master writes by it are the start-up values, and a drive that holds them holds the plan.
 pub fn answer_law()
     ensures asks { AsksAsRing }
     ensures says { SaysLength }
@@ -93,7 +96,8 @@ pub fn answer_law()
     ensures holds { HoldsPlan }
 {}
 
-/// A law on a valid ring with a valid planner's input, in which each drive in phase 3 or 4 holds the start-up values of a plan that fits:
+/// A law on a valid ring with a valid planner's input and one plan that fits. Each drive that takes part, in phase 3 or 4, holds the plan's
+/// start-up values for it. It sends an AT by them or none, and the master sends the MDT at the plan's T2, with a record for each drive:
 /// - The slots in which it sends are apart, and keep the times that the drives declare, even if ATs are missing.
 /// - So are the telegrams that are sent in these slots.
 pub fn ring_slot_law()

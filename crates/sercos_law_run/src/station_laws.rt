@@ -3,11 +3,12 @@ ghost use Rattle.sercos_law_run.specs.Clauses.{FallsHaveCause, MstComesFirst, Em
 
 use crate::typed_laws::typed_law;
 
-/// A law on the store of a drive whose own blocks are valid, whatever the drive was handed and whatever was written to it:
+/// A law on the store of a drive whose own blocks are valid, and whose blocks at opening keep the rules of a store, whatever the drive was
+/// handed and whatever was written to it:
 /// - A store in which the check for phase 3 finds nothing keeps these times: T1 is at least T1min; from the end of the drive's AT, as long
 ///   as it can be, to T2 there is TATMT; T3 lies in the cycle, and T4 with T4min; the data record lies within the MDT.
 /// - In phases 3 and 4 that check finds nothing in the drive's store.
-/// - So there a drive gets its record of each MDT that reads.
+/// - So there a drive gets its record of each MDT to all drives that has the right address and the length in S-0-0010.
 /// - In phase 4 no block has operation data outside its limits.
 /// - S-0-0021 and S-0-0022 contain what their check found when it was last set while it wasn't, and nothing before.
 pub fn fit_law()
@@ -23,7 +24,7 @@ pub fn fit_law()
 /// - A call leaves it as it is, or takes the drive to phase 0, or lets it rise by one: by an MST of the next phase, and into 3 and 4 only
 ///   if the check for that phase counts as passed.
 /// - It goes to 0 exactly for these causes: an MST of a phase that the drive can't take; no MST for the second time in a row; in phases 3
-///   and 4 no MDT for the second time in a row; a restart.
+///   and 4 no MDT taken for the second time in a row, as none is taken in a cycle without an MST; a restart.
 pub fn phase_law()
     ensures stands { StandsByMst }
     ensures rises { RisesByOne }
@@ -42,12 +43,12 @@ pub fn station_law()
     typed_law();
 }
 
-/// A fall that a ring reports has its cause, over every link and whatever arrives. `MstLost`: the own MST didn't come back as it was sent
-/// in this cycle, nor in the one before, both of phase 1 to 4. `AtLost`: in this cycle and in the one before, both of phase 3 or 4, no AT
-/// that arrived reads as that drive's. `StepLimit`: in phase 1 the MDT was to that drive in this cycle and in the 64 before it, and no
-/// longer; later a step to it was first sent 64 cycles ago, and no answer has been taken since. `Restart`: the master restarts in this
-/// cycle. And the cause of `MstLost` makes the ring fall, and is the one that is reported; that the other causes do, in which order,
-/// is how a master is defined (`fall_of`).
+/// A law over every run of a ring that may be opened with its requests, over every link and whatever arrives. Each reported fall has its
+/// cause. `MstLost`: the own MST didn't come back as it was sent in this cycle, nor in the one before, both of phase 1 to 4. `AtLost`: in
+/// this cycle and in the one before, both of phase 3 or 4, no AT that arrived reads as that drive's. `StepLimit`: in phase 1 the MDT was to
+/// that drive in this cycle and in the 64 before it, and no longer; later a step to it was first sent 64 cycles ago, and no answer has been
+/// taken since. `Restart`: the master restarts in this cycle. And the cause of `MstLost` makes the ring fall, and is the one that is
+/// reported; that the other causes do, in which order, is how a master is defined (`fall_of`).
 pub fn fall_law()
     ensures causes { FallsHaveCause }
     ensures first { MstComesFirst }

@@ -16,8 +16,8 @@ ghost use Rattle.sercos_law_run.specs.Clauses.{BearsSparse, Tolerates, EarlySpar
 /// - So it is in each cycle of a run, from its opening on or since one whose record has a fall.
 /// - In any cycles without a fall and without a restart of the master, a step costs busy time and one, and each cycle in which its record
 ///   or its answer is lost one more.
-/// - The cycles of such an epoch in which a step to a drive is open are at most the cost of the requests to it, and what the disturbed
-///   cycles cost: two cycles each in phase 2, one in 3 and 4.
+/// - The cycles of such an epoch in which a step to a drive is open are at most the cost of the requests to it, if no list of the drive is
+///   longer than its bound in this cost, and what the disturbed cycles cost: two cycles each in phase 2, one in 3 and 4.
 /// - Up to phase 2, where one channel works after the other, a disturbed cycle counts once for all of them.
 /// - Phases 0 and 1 last for eleven cycles and one for each drive at most, and ten for each cycle of phase 0 in which the own MST was lost,
 ///   and two for each disturbed one of phase 1.
@@ -28,14 +28,14 @@ ghost use Rattle.sercos_law_run.specs.Clauses.{BearsSparse, Tolerates, EarlySpar
 ///   disturbed one of phase 3; and once commanded, it stays.
 /// - In phase 4 the requests to a drive that waited when the epoch began are reported one after the other, each within the cycles that this
 ///   profile gives a request: as many as without faults.
-/// - From 41 steps of the slowest drive after that bound and these costs on, phase 4 is commanded, or a stop for its cause has been
-///   reported.
+/// - From 41 steps of the slowest drive, each of busy time and two cycles, after that bound and these costs on, phase 4 is commanded, or a
+///   stop for its cause has been reported.
 /// - If the ring is right, phase 4 is commanded, however many cycles are disturbed, within the bound of a start-up with each drive busy for
 ///   one cycle more, and ten cycles for each own MST that was lost in phase 0.
 /// - From 41 steps of the slowest drive after this bound on, phase 4 is commanded, or a stop for its cause has been reported.
 /// - After faults that aren't sparse, at most one fall comes after the last cycle that isn't, and no request is reported as broken after
-///   that fall. From twice the bound of a start-up and 200 cycles after it on, and what the disturbed cycles since cost a start-up, phase 4
-///   is commanded, or the master is at a stop for its cause, and no fall is reported any more, nor a request as broken.
+///   that fall. From twice the bound of a start-up and 200 cycles after that last cycle on, and what the disturbed cycles since cost a
+///   start-up, phase 4 is commanded, or the master is at a stop for its cause, and no fall is reported any more, nor a request as broken.
 pub fn tolerance_law()
     ensures calm { CalmIsSparse }
     ensures spaced { OneOfThreeIsSparse }

@@ -14,7 +14,8 @@ ghost use Rattle.sercos_law_run.specs.Clauses.{StartsAtFall, StartsAtOpening, St
 /// - No record has a fall or reports a request as broken.
 /// - No step is open for longer than the busy time of its drive and one cycle.
 /// - An answer arrives exactly then after the cycle in which its step was first sent.
-/// - The cycles in which a step to a drive is open are at most the cost of its requests.
+/// - The cycles in which a step to a drive is open are at most the cost of its requests, if no list of the drive is longer than its bound
+///   in this cost.
 /// - As long as the master goes on with phase 2, a step to some drive is open in each cycle, so the cycles are at most the sum of those of
 ///   the drives.
 /// - In phase 3 a step is open to each drive until its check has ended.
@@ -22,7 +23,7 @@ ghost use Rattle.sercos_law_run.specs.Clauses.{StartsAtFall, StartsAtOpening, St
 ///   than there are drives, and then phase 2.
 /// - After the cycles of a start-up phase 4 is commanded, or there is a stop, or one is to follow, since a check for phase 4 hasn't ended
 ///   well.
-/// - After 41 steps more of the slowest drive phase 4 is commanded, or there is a stop.
+/// - After 41 steps more of the slowest drive, each of busy time and two cycles, phase 4 is commanded, or there is a stop.
 /// - Both stay.
 /// - In every run phases 3 and 4 are commanded only if a plan fits the ring's requirements, and the cycle time is within each drive's
 ///   limits.

@@ -12,8 +12,8 @@ use sercos_trace::reading_law;
 /// - If nothing was undetected, and it has at most 50,000 cycles, so do the numbers of its moves, of its other events and of its totals, if
 ///   those of the outcomes and of the stops do.
 /// - These do if nothing was undetected, and there are at most 65,535 requests and 2^32 cycles.
-/// - If nothing was undetected, all these numbers fit, and it has at most 2^32 cycles, its trace is a clean capture, which begins with
-///   cycle 0.
+/// - If nothing was undetected, all these numbers fit, and it has at most 2^32 cycles, its trace is a clean capture, with each line in its
+///   place and no rule broken, which begins with cycle 0.
 /// - So it is in each such run of at most 50,000 cycles and 65,535 requests.
 pub fn clean_law()
     ensures rules { RunsKeepRules }

@@ -20,8 +20,8 @@ fn has_plan(w: &Wishes) -> bool
     }
 }
 
-// Returns whether some plan fits valid input with another value of one time of the drive at an index of the ring, which is below their
-// number.
+// Returns whether some plan fits valid input with another value, in microseconds, of one time of the drive at an index of the ring, which
+// is below their number.
 fn has_with_time(w: &Wishes, index: usize, t: Time, value: u16) -> bool
     requires valid { IsValid w.now }
     requires within { index < length w.now.drives }

@@ -14,9 +14,9 @@ use sercos_timing::Plan;
 use sercos_trace::{Fall, Reported, Stop};
 
 impl Ring {
-    // Returns whether everything required to leave the phase is done. Phase 0 is left after ten MSTs in a row that returned intact, phase 1
-    // once each drive is identified, phase 2 once each check for phase 3 has ended well, and phase 3 once each check for phase 4 has. Phase
-    // 4 is left only by a fall.
+    // Returns whether everything required to leave the phase is done. Phase 0 is left once the last ten MSTs, that of this cycle included,
+    // returned intact, phase 1 once each drive is identified, phase 2 once each check for phase 3 has ended well, and phase 3 once each
+    // check for phase 4 has. Phase 4 is left only by a fall.
     pub fn is_done(&self) -> bool
         ensures { (s : Known) (p : Past) → CoreStandsFor self.now s p → result ≡ is_done s p }
     {
@@ -29,9 +29,9 @@ impl Ring {
         }
     }
 
-    // Closes the cycle, which was of this phase. The next one is of the phase that is commanded now. The requests that ended are added to
-    // `reports`, which must have room for one more per drive, of 128. The stop found in this cycle is put into `told`; without one `told`
-    // is unchanged.
+    // Closes the cycle, which was of this phase. The next one is of the phase that is commanded now, and the count of cycles is one higher,
+    // modulo 2^32. The requests that ended are added to `reports`, which must have room for one more per drive, of 128. The stop found in
+    // this cycle is put into `told`; without one `told` is unchanged.
     pub fn close(
         &mut self,
         phase: u8,
@@ -90,8 +90,10 @@ impl Ring {
         }
     }
 
-    // Returns the fall at the end of the cycle; `None` if there is none. A lost MST takes precedence over a lost AT, and a lost AT over the
-    // step limit.
+    // Returns the fall at the end of the cycle, the first of these: `MstLost`, the own MST was lost in this cycle and in the one before, of
+    // phase 1 or above; `AtLost`, so was the AT of a drive, the one before being of phase 3 or above; `StepLimit`, a step or identification
+    // has no answer up to the 64th cycle after the one in which it was first sent. Otherwise `None`. The last two name the first such drive
+    // in ring order.
     pub fn fall(&self) -> Option<Fall>
         ensures { (s : Known) (p : Past) → CoreStandsFor self.now s p → result ≡ fall_of s p }
     {
@@ -115,8 +117,8 @@ impl Ring {
         self.seats[place].member().address()
     }
 
-    // Returns the index of the first drive whose open step or identification has reached the limit of 64 cycles without an answer; `None`
-    // if there is none.
+    // Returns the index of the first drive whose identification in phase 1, or whose open step in any other phase, has no answer up to the
+    // 64th cycle after the one in which it was first sent; `None` if there is none.
     fn first_at_limit(&self) -> Option<usize>
         ensures value { (s : Known) (p : Past) → CoreStandsFor self.now s p → result ≡ first_place s (is_at_limit p) }
         ensures bound { IfSome result (λ k. k < length self.now.seats) }

@@ -74,7 +74,7 @@ fn in_state<P>(ring: Box<Ring>) -> Master<P>
 impl<P> Master<P> {
     ghost use Rattle.sercos_master.specs.Any.{Closes};
 
-    // Returns whether everything required to leave the phase is done.
+    // Returns whether everything required to leave the phase is done, as `Ring::is_done` lists it.
     fn is_done(&self) -> bool
         ensures { (n : ℕ) (s : Known) (p : Past) → IsIn n self.now s p → result ≡ is_done_in n s p }
     {
@@ -92,8 +92,8 @@ impl<P> Master<P> {
         self.ring.mdt(out)
     }
 
-    // Returns the fall at the end of the cycle; `None` if there is none. A lost MST takes precedence over a lost AT, and a lost AT over the
-    // step limit.
+    // Returns the fall at the end of the cycle, or `None`, as `Ring::fall` does. A lost MST takes precedence over a lost AT, and a lost AT
+    // over the step limit.
     fn fall_due(&self) -> Option<Fall>
         ensures { (s : Known) (p : Past) → CoreStandsFor self.now s p → result ≡ fall_of s p }
     {
@@ -113,7 +113,8 @@ impl<P> Master<P> {
 }
 
 impl Master<Cp0> {
-    /// Commands phase 1. The error is the unchanged master, iff fewer than ten MSTs in a row returned intact (this profile).
+    /// Commands phase 1. The error is the unchanged master, iff fewer than ten MSTs in a row, that of this cycle being the last, returned
+    /// intact (this profile).
     pub fn rise(mut self) -> Result<Master<Cp1>, Master<Cp0>>
         ensures exactly { (s : Known) (p : Past) → IsIn 0 self s p → is_ok result ≡ is_closed p }
         ensures up { IfOk result (λ m. m ≡ record self { phase = 1 }) }
@@ -287,7 +288,8 @@ impl AnyMaster {
 
     /// Processes the content of a frame that arrived at the place of an AT. It is taken as the AT of the drive with its address if it has
     /// the length of that drive's AT in this phase, and is the first such content in the cycle. In phases 1 and 2 the drive must be the one
-    /// addressed in the cycle before; in phase 0 none is taken.
+    /// addressed in the cycle before; in phase 0 none is taken. In phase 1 it identifies the drive; later its status and information word
+    /// are passed to the drive's service channel, where they may end a task. Any other content is ignored.
     pub fn hear_at(&mut self, content: &[u8])
         ensures { (s : Known) (jobs : List Job) (h : List Call) → AnyStandsFor self.old s jobs h → AnyStandsFor self.new s jobs (HearAt content.now ∷ h) }
     {
@@ -300,8 +302,10 @@ impl AnyMaster {
         }
     }
 
-    /// Processes the answers of the cycle, begins the next tasks, and sends the MDT. Replaces the content by that of the MDT, and returns
-    /// its start in microseconds after the MST's end. If no MDT is sent in this cycle the result is `None`, and the content is unspecified.
+    /// Processes the answers of the cycle: notes a stop, makes the plan if it is due, and begins the next tasks if there is no stop. Then
+    /// replaces `out` by the content of the MDT, and returns its start in microseconds after the MST's end. In phase 1 the MDT is to the
+    /// first drive that isn't identified, in phase 2 to the drive whose step is open, in phases 3 and 4 to all. The result is `None`, and
+    /// `out` unspecified, in phase 0, in 1 if each drive is identified, in 2 if no step is open, and in 3 and 4 without a plan.
     pub fn mdt(&mut self, out: &mut Content) -> Option<u16>
         ensures stands { (s : Known) (jobs : List Job) (h : List Call) → AnyStandsFor self.old s jobs h → AnyStandsFor self.new s jobs (Mdt ∷ h) }
         ensures said { (s : Known) (jobs : List Job) (h : List Call) → AnyStandsFor self.old s jobs h →
@@ -368,9 +372,11 @@ impl AnyMaster {
         }
     }
 
-    /// Ends the cycle. After a fall the next one is of phase 0. Otherwise it is of the next phase, if everything required to leave this one
-    /// is done, or of the same phase. The requests that ended, the plan, the stop and the fall of the cycle are added to the events. These
-    /// must have no outcomes, or at most 64 if the master was restarted in this cycle.
+    /// Ends the cycle. The ring falls if the own MST was lost in this cycle and in the one before, both of phase 1 or above, or the AT of a
+    /// drive in both, of phase 3 or above, or if a step or an identification has no answer up to the 64th cycle after the one in which it
+    /// was first sent. Then the next cycle is of phase 0. Otherwise it is of the next phase, if what `rise` of this one requires is done,
+    /// or of the same phase. The requests that ended, the plan, the stop and the fall of the cycle are added to the events. These must have
+    /// no outcomes, or at most 64 if the master was restarted in this cycle.
     pub fn end_cycle(self, events: &mut Events) -> AnyMaster
         ensures stands { (s : Known) (jobs : List Job) (h : List Call) → AnyStandsFor self s jobs h → AnyStandsFor result s jobs (End ∷ h) }
         ensures told { (s : Known) (jobs : List Job) (h : List Call) → AnyStandsFor self s jobs h → AreOpen events.old.outcomes h →

@@ -46,8 +46,8 @@ pub fn open_seats(alloc: Global, drives: &[DriveSetup]) -> Result<Vec<Seat>, All
 
 // Gives each drive its requests, numbered from 1 in the order of `jobs`; one to an address without a drive is dropped. There must be at
 // most 4,096, each for an element that a transfer takes: 1 to 7 of a read, 2 to 7 of a write. There must be a seat for each drive, without
-// a request and with nothing received, and no two drives may have the same address. The requests are given from the last one on, since a
-// seat takes each before the others. The error is `AllocError`; then the seats are unspecified.
+// a request, with nothing received or sent and no task begun, and no two drives may have the same address. The requests are given from the
+// last one on, since a seat takes each before the others. The error is `AllocError`; then the seats are unspecified.
 pub fn deal(mut jobs: Vec<Job>, seats: &mut Vec<Seat>) -> Result<(), AllocError>
     requires few { length jobs.items ≤ 4096 }
     requires requests { All (λ job. IsRequest job.request) jobs.items }
@@ -66,8 +66,8 @@ pub fn deal(mut jobs: Vec<Job>, seats: &mut Vec<Seat>) -> Result<(), AllocError>
 
 // Gives a request to the drive with its address, before the requests that wait there; without such a drive it is dropped. `number` is its
 // number among all requests, counted from 1. The request must be for an element that a transfer takes: 1 to 7 of a read, 2 to 7 of a write.
-// There must be a seat for each drive, nothing received by any, and no two drives may have the same address. The error is `AllocError`;
-// then the seats are unspecified.
+// There must be a seat for each drive, with nothing received or sent and no task begun, and no two drives may have the same address. The
+// error is `AllocError`; then the seats are unspecified.
 fn give(number: u16, job: Job, seats: &mut Vec<Seat>) -> Result<(), AllocError>
     requires { IsRequest job.request }
     ensures count { OnOk result (length seats.new.items ≡ length seats.old.items) }

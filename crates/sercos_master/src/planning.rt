@@ -11,7 +11,8 @@ use sercos_timing::{Plan, Wishes, valid};
 use sercos_trace::Stop;
 
 impl Ring {
-    // Keeps the first stop, in ring order, that an answer causes, if there is no stop yet.
+    // Keeps the first stop, in ring order, that a drive's task that was begun last has caused by its outcome, if there is no stop yet; then
+    // the drive's seat has none any more.
     fn look_for_stop(&mut self)
         ensures { (s : Known) (p : Past) → CoreStandsFor self.old s p → CoreStandsFor self.new s (with_stop (first_trouble s p) p) }
     {
@@ -64,8 +65,9 @@ impl Ring {
         }
     }
 
-    // Makes the plan from the answers to the reads, or keeps the stop that none fits. If the data records are too long for an MDT, keeps
-    // the stop for the last value of four bytes instead. There must be no stop yet.
+    // Makes the plan from the answers to the reads, or keeps the stop that none fits. If the data records have more than 2047 bytes
+    // together, too many for an MDT, it keeps the stop for the last value of four bytes instead; without such a value nothing changes.
+    // There must be no stop yet.
     fn make_plan(&mut self)
         ensures { (s : Known) (p : Past) → IsKnown s → p.stop ≡ None → CoreStandsFor self.old s p → CoreStandsFor self.new s (planned_by s p) }
     {

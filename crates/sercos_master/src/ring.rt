@@ -105,10 +105,10 @@ impl Ring {
         })
     }
 
-    // Processes the answers of the cycle, begins the next tasks, and sends the MDT. Replaces the content by that of the MDT, and returns
-    // its start in microseconds after the MST's end. If no MDT is sent the result is `None`, and the content is unspecified. The ring must
-    // be one of a valid setup, the phase 0 to 4, and the tasks that wait of phase 4. For the result, a plan must be the least one for the
-    // values that were read in this epoch, with all reads ended and with data records that fit into an MDT.
+    // Processes the answers of the cycle, begins the next tasks if there is no stop, and sends the MDT. Replaces `out` by its content, and
+    // returns its start in microseconds after the MST's end. In the cases that `send` lists the result is `None`, and `out` unspecified.
+    // The ring must be one of a valid setup, the phase 0 to 4, and the tasks that wait of phase 4. For the result, a plan must be the least
+    // one for the values that were read in this epoch, with all reads ended and with data records that fit into an MDT.
     pub fn mdt(&mut self, out: &mut Content) -> Option<u16>
         ensures stands { (s : Known) (p : Past) → IsKnown s → ((k : ℕ) → AreWaiting (p.waiting k)) → p.now.phase ≤ 4 →
             CoreStandsFor self.old s p → CoreStandsFor self.new s (after_mdt s p) }

@@ -9,7 +9,7 @@ use sercos_seat::Seat;
 use sercos_timing::Wish;
 use sercos_trace::{Reported, Stop};
 
-// Returns the index of the first drive with a read that hasn't ended; `None` if there is none.
+// Returns the index of the first drive of which not all reads of the start-up have ended, begun or not; `None` if there is none.
 pub fn first_unread(seats: &[Seat]) -> Option<usize>
     ensures value { result ≡ position (λ v. not (has_read v)) seats.now }
     ensures bound { IfSome result (λ k. k < length seats.now) }
@@ -49,7 +49,8 @@ pub fn first_working(seats: &[Seat]) -> Option<usize>
     seats.iter().position(|seat| !seat.is_idle())
 }
 
-// Returns the index of the first drive whose newest outcome causes a stop; `None` if there is none.
+// Returns the index of the first drive whose task that was begun last has ended with an outcome that causes a stop, which wasn't taken out;
+// `None` if there is none.
 pub fn first_troubled(seats: &[Seat]) -> Option<usize>
     ensures value { result ≡ position (λ v. is_some v.trouble) seats.now }
     ensures bound { IfSome result (λ k. k < length seats.now) }
@@ -66,7 +67,7 @@ pub fn first_lost(seats: &[Seat]) -> Option<usize>
     seats.iter().position(|seat| seat.is_lost())
 }
 
-// Returns the index of the first drive whose step has been open for 64 cycles; `None` if there is none.
+// Returns the index of the first drive whose open step was first sent 64 cycles ago, or earlier; `None` if there is none.
 pub fn first_stuck(seats: &[Seat]) -> Option<usize>
     ensures value { result ≡ position (λ v. nat_le 64 (cycles_kept v)) seats.now }
     ensures bound { IfSome result (λ k. k < length seats.now) }

@@ -11,7 +11,8 @@ use sercos_timing::Plan;
 use sercos_timing::limits::EARLY_MDT;
 
 impl Ring {
-    // Sends the MDT of phase 1: zeros to the first drive that isn't identified; `None` if all are. The phase must be 1.
+    // Sends the MDT of phase 1: zeros to the first drive that isn't identified, and keeps that it addresses this drive; `None`, and no
+    // drive is addressed, if all are. The phase must be 1.
     fn identify(&mut self, out: &mut Content) -> Option<u16>
         ensures stands { (s : Known) (p : Past) → p.now.phase ≡ 1 → CoreStandsFor self.old s p → CoreStandsFor self.new s (sent_now s p) }
         ensures start { (s : Known) (p : Past) → p.now.phase ≡ 1 → CoreStandsFor self.old s p → result ≡ option_map (λ m. m.start) (mdt_said s (sent_now s p)) }
@@ -28,7 +29,8 @@ impl Ring {
         Some(EARLY_MDT)
     }
 
-    // Sends the MDT of phase 2: the open step, to the first drive with a current task; `None` if there is none. The phase must be 2.
+    // Sends the MDT of phase 2: the open step, to the first drive with a current task, and keeps that it addresses this drive, whose seat
+    // keeps that the step was sent; `None`, and no drive is addressed, if there is none. The phase must be 2.
     fn send_single(&mut self, out: &mut Content) -> Option<u16>
         ensures stands { (s : Known) (p : Past) → p.now.phase ≡ 2 → CoreStandsFor self.old s p → CoreStandsFor self.new s (sent_now s p) }
         ensures start { (s : Known) (p : Past) → p.now.phase ≡ 2 → CoreStandsFor self.old s p → result ≡ option_map (λ m. m.start) (mdt_said s (sent_now s p)) }
@@ -45,8 +47,9 @@ impl Ring {
         Some(EARLY_MDT)
     }
 
-    // Sends the MDT of phases 3 and 4: the data records of all drives. It starts at T2 of the plan; `None` without a plan. The phase must
-    // be at least 3. If there is a plan, the content with all records must have at most 2048 bytes.
+    // Sends the MDT of phases 3 and 4: the data records of all drives. It starts at T2 of the plan; `None` without a plan. In each case the
+    // seats keep that their records were sent, and the MDT addresses no single drive. The phase must be at least 3. If there is a plan, the
+    // content with all records must have at most 2048 bytes.
     fn send_joint(&mut self, out: &mut Content) -> Option<u16>
         ensures stands { (s : Known) (p : Past) → 3 ≤ p.now.phase → CoreStandsFor self.old s p → CoreStandsFor self.new s (sent_now s p) }
         ensures start { (s : Known) (p : Past) → 3 ≤ p.now.phase → CoreStandsFor self.old s p → result ≡ option_map (λ m. m.start) (mdt_said s (sent_now s p)) }
@@ -59,8 +62,10 @@ impl Ring {
         start_of(&self.plan)
     }
 
-    // Sends the MDT of the phase, 0 to 4. In phase 0 none is sent. In phases 3 and 4, if there is a plan, the content with the data records
-    // of all drives must have at most 2048 bytes.
+    // Sends the MDT of the phase, 0 to 4, and keeps which drive it addresses: one in phases 1 and 2, none in the others. The result is
+    // `None` in phase 0, in phase 1 if all drives are identified, in phase 2 if there is no current task (none is addressed then), and in
+    // phases 3 and 4 without a plan; there the seats keep their records as sent anyway. With a plan, the content with the data records of
+    // all drives must have at most 2048 bytes in phases 3 and 4.
     pub fn send(&mut self, out: &mut Content) -> Option<u16>
         ensures stands { (s : Known) (p : Past) → p.now.phase ≤ 4 → CoreStandsFor self.old s p → CoreStandsFor self.new s (sent_now s p) }
         ensures start { (s : Known) (p : Past) → p.now.phase ≤ 4 → CoreStandsFor self.old s p → result ≡ option_map (λ m. m.start) (mdt_said s (sent_now s p)) }

@@ -8,8 +8,8 @@ use crate::seats::{begin_requests, begin_seats, first_unchecked, first_unread};
 use sercos_seat::Numbers;
 
 impl Ring {
-    // Returns the index of the drive whose turn it is in phase 2: the first with a read that hasn't ended, otherwise the first whose check
-    // for phase 3 hasn't ended well; `None` if there is none.
+    // Returns the index of the drive whose turn it is in phase 2: the first of which not all reads of the start-up have ended, begun or
+    // not, otherwise the first whose check for phase 3 hasn't ended well; `None` if there is none.
     fn in_turn(&self) -> Option<usize>
         ensures value { (s : Known) (p : Past) → CoreStandsFor self.now s p → result ≡ in_turn s p }
         ensures bound { IfSome result (λ k. k < length self.now.seats) }

@@ -107,9 +107,9 @@ fn write_last<K: Sink>(
     Ok(())
 }
 
-// Makes the next cycle of a ring, which has one left, and writes its lines, and the end line after its last cycle. Returns whether the
-// cycle is commanded phase 3 or 4. `time` is the common cycle time, at most 1000 microseconds. After success `part` is the ring with this
-// cycle made. After an error `part` is unspecified. `line` is room for each line that is made.
+// Makes the next cycle of a ring, which must have at least one left, and writes its lines, and the end line after its last cycle. Returns
+// whether the cycle is commanded phase 3 or 4. `time` is the common cycle time, at most 1000 microseconds. After success `part` is the ring
+// with this cycle made. After an error `part` is unspecified. `line` is room for each line that is made.
 fn go_on<L: BitLink, K: Sink>(
     part: &mut Part<L>,
     time: u16,

@@ -67,7 +67,7 @@ trail_t2 w =
     then trail w (starts w) (sent w) (last_place w) ++ link_of w (number_of Last) (last_place w) (least_t2 w) ∷ []
     else trail_by_master w (first_tight w (bits_of_starts w) (least_t2 w) (sent w))
 
--- the address of the first drive of the ring with the greatest time
+-- the greatest time of these drives; 0 if there are none
 abbrev pub greatest_of : (Wish → ℕ) → List Wish → ℕ
 greatest_of f [] = 0
 greatest_of f (d ∷ drives) = max (f d) (greatest_of f drives)

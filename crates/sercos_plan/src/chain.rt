@@ -70,21 +70,21 @@ impl Chain {
         self.rule
     }
 
-    /// Returns the address of the drive that this inequality concerns; 0 in 9 if the gap is used in place of a drive's TMTSY.
+    /// Returns the address of the drive that the broken inequality concerns; 0 in 9 if the gap is used in place of a drive's TMTSY.
     pub fn drive(&self) -> u8
         ensures { result ≡ self.now.drive }
     {
         self.drive
     }
 
-    /// Returns what this inequality requires, in bit times.
+    /// Returns what the broken inequality requires, in bit times.
     pub fn sum(&self) -> u32
         ensures { result ≡ self.now.sum }
     {
         self.sum
     }
 
-    /// Returns the bound that the sum exceeds, in bit times.
+    /// Returns the bound of the broken inequality, in bit times. In a chain that proves something, the sum exceeds it.
     pub fn bound(&self) -> u32
         ensures { result ≡ self.now.bound }
     {

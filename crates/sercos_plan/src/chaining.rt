@@ -31,7 +31,7 @@ fn is_tight(w: &Wishes, asked: Option<u64>, t: u32) -> bool
     }
 }
 
-// Returns whether an inequality determines the T1 of the AT at index `at` of the order.
+// Returns whether an inequality determines the T1 of the AT at index `at` of the order, by `is_tight`. Only 1 to 4 can.
 fn is_start_tight(w: &Wishes, t1: &[u32], rule: Inequality, at: usize) -> bool
     requires valid { IsValid w.now }
     requires starts { AreStarts w.now t1.now }
@@ -45,7 +45,7 @@ fn is_start_tight(w: &Wishes, t1: &[u32], rule: Inequality, at: usize) -> bool
     )
 }
 
-// Returns the link by an inequality to the T1 of the AT at index `at` of the order.
+// Returns the link by an inequality to the T1 of the AT at index `at` of the order: with its drive's address, and this T1 in bit times.
 fn start_link(w: &Wishes, t1: &[u32], rule: Inequality, at: usize) -> Link
     requires valid { IsValid w.now }
     requires starts { AreStarts w.now t1.now }
@@ -61,8 +61,8 @@ fn start_link(w: &Wishes, t1: &[u32], rule: Inequality, at: usize) -> Link
     }
 }
 
-// Returns two parts of the way to the T1 of the AT at index `at` of the order: the index of the earlier AT whose T1 it depends on, if there
-// is one, and the last link.
+// Returns two parts of the way to the T1 of the AT at index `at` of the order: the index of the earlier AT whose T1 it depends on, and the
+// last link, which is by the first of 1 to 4 that determines this T1. The index is `None` for 1 and 2, which depend on no other AT.
 fn step(w: &Wishes, t1: &[u32], at: usize) -> (Option<usize>, Link)
     requires valid { IsValid w.now }
     requires starts { AreStarts w.now t1.now }
@@ -134,7 +134,7 @@ fn greatest_of(time: Time, drives: &[Wish]) -> u16
     most
 }
 
-// Returns the address of the first drive of the ring whose time has a value; 0 if there is none.
+// Returns the address of the first drive of the ring whose time is `value`, in microseconds; 0 if there is none.
 fn first_with(time: Time, value: u16, drives: &[Wish]) -> u8
     ensures { result ≡ first_with (time_of time) value drives.now }
 {
@@ -153,8 +153,8 @@ fn first_greatest(time: Time, drives: &[Wish]) -> u8
     first_with(time, greatest_of(time, drives), drives)
 }
 
-// Returns the bit time at which the AT of the drive at index `place` of the ring has ended, if it starts at its least T1, and `micros`
-// microseconds, below 65,536, have passed since. It is below 2^42.
+// Returns the bit time at which the AT of the drive at index `place` of the ring has ended at the latest (with the most inserted zeros), if
+// it starts at its least T1, and `micros` microseconds, below 65,536, have passed since. It is below 2^42.
 fn after_start(w: &Wishes, t1: &[u32], place: usize, micros: u32) -> u64
     requires valid { IsValid w.now }
     requires starts { AreStarts w.now t1.now }
@@ -166,7 +166,7 @@ fn after_start(w: &Wishes, t1: &[u32], place: usize, micros: u32) -> u64
     bits_after(w, t1, place, micros)
 }
 
-// Returns whether 5 determines T2.
+// Returns whether inequality 5 determines T2, by `is_tight`.
 fn is_last_tight(w: &Wishes, t1: &[u32], t2: u32) -> bool
     requires valid { IsValid w.now }
     requires starts { AreStarts w.now t1.now }
@@ -177,7 +177,7 @@ fn is_last_tight(w: &Wishes, t1: &[u32], t2: u32) -> bool
     is_tight(w, Some(after_start(w, t1, last, w.gap())), t2)
 }
 
-// Returns whether 6 for the AT at index `at` of the order determines T2.
+// Returns whether inequality 6 for the AT at index `at` of the order determines T2, by `is_tight`.
 fn is_master_tight(w: &Wishes, t1: &[u32], t2: u32, at: usize) -> bool
     requires valid { IsValid w.now }
     requires starts { AreStarts w.now t1.now }
@@ -205,7 +205,7 @@ fn first_tight(w: &Wishes, t1: &[u32], t2: u32) -> Option<usize>
     None
 }
 
-// Returns the link to T2 from the AT at index `at` of the order.
+// Returns the link by an inequality, 5 or 6, to T2 for the AT at index `at` of the order: with its drive's address, and T2 in bit times.
 fn t2_link(w: &Wishes, rule: Inequality, at: usize, t2: u32) -> Link
     requires valid { IsValid w.now }
     requires within { at < length w.now.order }
@@ -237,7 +237,8 @@ fn links_through(w: &Wishes, t1: &[u32], at: usize, rule: Inequality, t2: u32) -
     links
 }
 
-// Returns the links to T2, at most 65: by 5 if that determines T2, otherwise by 6 for the first AT for which that does.
+// Returns the links to T2, at most 65: by 5 if that determines T2, otherwise by 6 for the first AT for which that does; none if neither
+// does.
 fn t2_links(w: &Wishes, t1: &[u32], t2: u32) -> ArrayVec<Link, 66>
     requires valid { IsValid w.now }
     requires starts { AreStarts w.now t1.now }
@@ -277,7 +278,8 @@ fn t3_links(w: &Wishes, t1: &[u32], t2: u32, t3: u32) -> ArrayVec<Link, 66>
     links
 }
 
-// Returns the chain to the bound of 9. `links` are those to T2.
+// Returns the chain to the bound of 9. `links` are those to T2. The drive is 0 if no TMTSY is above the gap, otherwise the first of the
+// ring with the greatest TMTSY.
 fn mst_chain(w: &Wishes, links: ArrayVec<Link, 66>, t2: u32) -> Chain
     requires valid { IsValid w.now }
     requires t2 { t2 ≡ least_t2 w.now }
@@ -301,7 +303,7 @@ fn mst_chain(w: &Wishes, links: ArrayVec<Link, 66>, t2: u32) -> Chain
     }
 }
 
-// Returns the chain to the bound of 8. `links` are those to T3.
+// Returns the chain to the bound of 8. `links` are those to T3. The drive is the first of the ring with the greatest TMTSG.
 fn cycle_chain(w: &Wishes, links: ArrayVec<Link, 66>, t3: u32) -> Chain
     requires valid { IsValid w.now }
     requires t3 { t3 ≡ least_t3 w.now }
@@ -318,7 +320,7 @@ fn cycle_chain(w: &Wishes, links: ArrayVec<Link, 66>, t3: u32) -> Chain
     }
 }
 
-// Returns the chain to the bound of 10, which has no links.
+// Returns the chain to the bound of 10, which has no links. The drive is the first of the ring with the greatest T4min.
 fn capture_chain(w: &Wishes) -> Chain
     requires { IsValid w.now }
     ensures { result ≡ capture_chain w.now }

@@ -22,7 +22,7 @@ fn find(w: &Wishes, address: u8) -> Option<usize>
     found
 }
 
-// Returns whether a link by the inequality with this number bounds T1 of its drive.
+// Returns whether a link by the inequality with this number bounds T1 of its drive, as 1 to 4 do.
 fn is_t1(number: u8) -> bool
     ensures { result ≡ is_t1 (moment_of (of_number number)) }
 {
@@ -32,7 +32,7 @@ fn is_t1(number: u8) -> bool
     )
 }
 
-// Returns whether a link by the inequality with this number bounds T2.
+// Returns whether a link by the inequality with this number bounds T2, as 5 and 6 do.
 fn is_t2(number: u8) -> bool
     ensures { result ≡ is_t2 (moment_of (of_number number)) }
 {
@@ -67,8 +67,9 @@ fn is_t1_of(w: &Wishes, link: Link, place: Option<usize>) -> bool
     }
 }
 
-// Returns the bit time at which the AT of the drive at an index of the ring has ended, if it starts at the bit time of the link, and
-// `micros` microseconds, below 65,536, have passed since. The result is `None` unless the link bounds T1 of this drive.
+// Returns the bit time at which the AT of the drive at an index of the ring has ended at the latest (with the most inserted zeros), if it
+// starts at the bit time of the link, and `micros` microseconds, below 65,536, have passed since. The result is `None` unless the link
+// bounds T1 of this drive.
 fn after_start(w: &Wishes, link: Link, place: Option<usize>, micros: u32) -> Option<u64>
     requires valid { IsValid w.now }
     requires within { IfSome place (λ j. j < length w.now.drives) }
@@ -126,8 +127,8 @@ fn after_records(w: &Wishes, link: Link, at: usize) -> Option<u64>
     }
 }
 
-// Returns what the inequality of a first link requires, in bit times. `None` means that a chain can't begin with it: it is neither 1, nor 2
-// for the first AT of the order.
+// Returns what the inequality of a first link requires of the T1 of the AT at index `at` of the order, in bit times. `None` means that a
+// chain can't begin with it: it is neither 1, nor 2 for the first AT of the order.
 fn asked_first(w: &Wishes, rule: Option<Inequality>, at: usize) -> Option<u64>
     requires valid { IsValid w.now }
     requires within { at < length w.now.order }
@@ -142,8 +143,9 @@ fn asked_first(w: &Wishes, rule: Option<Inequality>, at: usize) -> Option<u64>
     }
 }
 
-// Returns what the inequality of a later link requires after the link before it, in bit times. `None` means that it can't follow this link:
-// it isn't one of 3 to 7, or the earlier time in it isn't the one that this link bounds.
+// Returns what the inequality of a later link requires after the link before it, `link`, in bit times. The drive of the later link sends
+// the AT at index `at` of the order. `None` means that it can't follow `link`: it isn't one of 3 to 7, or the earlier time in it isn't the
+// one that `link` bounds.
 fn asked_next(w: &Wishes, rule: Option<Inequality>, link: Link, at: usize) -> Option<u64>
     requires valid { IsValid w.now }
     requires within { at < length w.now.order }
@@ -180,7 +182,8 @@ fn gives(w: &Wishes, asked: Option<u64>, time: u32) -> bool
     }
 }
 
-// Returns whether a link follows from the planner's input and the link before it, if there is one. It doesn't if no drive has its address.
+// Returns whether a link follows from the planner's input and the link before it, if there is one: its bit time is what its inequality then
+// requires, rounded up to a whole microsecond. It doesn't if no drive has its address.
 fn follows(w: &Wishes, from: Option<Link>, link: Link) -> bool
     requires { IsValid w.now }
     ensures { result
@@ -264,7 +267,7 @@ fn end_mst(w: &Wishes, drive: u8, last: Option<Link>) -> Option<(u64, u64)>
     }
 }
 
-// Returns the sum and the bound of 8 after the last link, in bit times; `None` unless this link bounds T3 by the same drive.
+// Returns the sum and the bound of 8 after the last link, in bit times; `None` unless there is one, by 7 and for the same drive.
 fn end_cycle(w: &Wishes, drive: u8, last: Option<Link>) -> Option<(u64, u64)>
     requires { IsValid w.now }
     ensures { result ≡ ends w.now (Some Cycle) drive last }
@@ -299,7 +302,8 @@ fn end_capture(w: &Wishes, drive: u8, last: Option<Link>) -> Option<(u64, u64)>
     }
 }
 
-// Returns the sum and the bound of an inequality after the last link, in bit times; `None` if a chain can't end with it.
+// Returns the sum and the bound of an inequality after the last link, in bit times; `None` if it isn't 8, 9 or 10, or if `end_cycle`,
+// `end_mst` or `end_capture` returns it.
 fn end(w: &Wishes, rule: Option<Inequality>, drive: u8, last: Option<Link>) -> Option<(u64, u64)>
     requires { IsValid w.now }
     ensures { result ≡ ends w.now rule drive last }

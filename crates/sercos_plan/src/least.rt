@@ -165,7 +165,7 @@ pub fn greatest_t4min(w: &Wishes) -> u32
     most
 }
 
-// Returns whether inequality 9 holds at the least T2.
+// Returns whether inequality 9 holds at `t2`, the least T2 in microseconds.
 pub fn is_mst_roomy(w: &Wishes, t2: u32) -> bool
     requires valid { IsValid w.now }
     requires value { t2 ≡ least_t2 w.now }

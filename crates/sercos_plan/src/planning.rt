@@ -59,7 +59,7 @@ fn least_plan(w: &Wishes, t1: &[u32], t2: u32, t3: u32) -> Plan
     }
 }
 
-// Returns the plan of the least times if they keep their bounds; otherwise the chain to the first bound that they break.
+// Returns the plan of the least times if they keep the bounds of 9, 8 and 10; otherwise the chain to the first of these that they break.
 fn planned(w: &Wishes) -> Result<Plan, Chain>
     requires { IsValid w.now }
     ensures { result ≡ planned w.now }

@@ -103,8 +103,8 @@ fn answer_wishes(alloc: Global, wishes: &Wishes) -> Result<Reply, AllocError>
 }
 
 /// Returns the reply of `margin` to a ring document: `Done`, the least cycle time with which a plan fits, and the greatest value of each
-/// time of each drive, in microseconds; or `No`, that cycle time, and the chain that proves that no plan fits with the ring's own. The
-/// error is the document's first refusal, or `Memory`. By `ring` the reply is right about the ring that the document describes.
+/// time of each drive, in microseconds; or `No`, that cycle time or `none`, and the chain that proves that no plan fits with the ring's
+/// own. The error is the document's first refusal, or `Memory`. By `ring` the reply is right about the ring that the document describes.
 #[tactic(auto, unfolding(crate::specs::Margins::margin_answer, crate::specs::Margins::document_margins), using(crate::proofs::MarginLemmas::limited_wishes))]
 pub fn margins(alloc: Global, bytes: &[u8]) -> Result<Reply, BadDocument>
     ensures answer { MatchResult result

@@ -32,7 +32,8 @@ fn push_last_two(
 }
 
 // Appends the line of the drive at a place of the ring: its address, its T1 in microseconds, and the position of its data record in the
-// MDT. The place is one of the ring, and the plan has a T1 and a position for it.
+// MDT, in bytes, 1 being that of the first byte after the address. The place is one of the ring, and the plan has a T1 and a position for
+// it.
 #[tactic(auto, unfolding(crate::specs::Planning::slot_line))]
 fn push_slot(
     wishes: &Wishes,
@@ -70,8 +71,8 @@ fn push_slots(wishes: &Wishes, plan: &Plan, out: &mut Vec<u8>) -> Result<(), All
     Ok(())
 }
 
-/// Appends the lines of a plan: its times T2, T3 and T4, in microseconds, with the length of the MDT, in bytes, and the time slot of each
-/// drive in the order of the ring. The plan has a T1 and a position for each of them.
+/// Appends the lines of a plan: its times T2, T3 and T4, in microseconds, with the length of the MDT in bytes after its address, and the
+/// time slot of each drive in the order of the ring. The plan has a T1 and a position for each of them.
 #[tactic(auto, unfolding(crate::specs::Planning::plan_text, crate::specs::Planning::plan_line))]
 pub fn push_plan(wishes: &Wishes, plan: &Plan, out: &mut Vec<u8>) -> Result<(), AllocError>
     requires starts { length plan.now.t1 ≡ length wishes.now.drives }
@@ -95,7 +96,8 @@ pub fn push_plan(wishes: &Wishes, plan: &Plan, out: &mut Vec<u8>) -> Result<(), 
     push_slots(wishes, plan, out)
 }
 
-// Appends the lines of a chain's links, in their order: the inequality of each, the address of its drive, and the bit time that it requires.
+// Appends the lines of a chain's links, in their order: the inequality of each, the address of its drive, and the bit time after the MST's
+// end that it requires.
 #[tactic(auto, unfolding(crate::specs::Planning::link_line))]
 fn push_links(links: &[Link], out: &mut Vec<u8>) -> Result<(), AllocError>
     ensures { OnOk result (out.new.items ≡ out.old.items ++ flat_map link_line links.now) }

@@ -10,8 +10,8 @@ use std::io::ErrorKind;
 use std::rt::Env;
 use std::{env, io};
 
-// Returns the status if std can't read the words: `Memory` if it is out of memory, otherwise
-// `BadWords`, since a word that isn't UTF-8 text is not a word of a command.
+// Returns the status if std can't read the words: `Memory` if it is out of memory, otherwise `BadWords`, since a word that isn't UTF-8 text
+// is not a word of a command.
 fn unread(kind: ErrorKind) -> Status
     ensures no_memory { kind ≡ ErrorKind.OutOfMemory → result ≡ Status.Memory }
     ensures no_text { kind ≢ ErrorKind.OutOfMemory → result ≡ Status.BadWords }
@@ -52,8 +52,9 @@ fn words_of(alloc: Global, arguments: io::Result<Args>) -> Result<Words, Status>
     }
 }
 
-/// Returns the words after the program's name, in their order. The error is `BadWords` or `Memory`. This contract has neither the words nor
-/// the cause of an error, since std specifies nothing of what `args` returns. That of `words_of` relates them to it.
+/// Returns the words after the program's name, in their order. The error is `Memory` if memory runs out, and `BadWords` if std can't read
+/// the words for another reason, such as a word that isn't UTF-8 text. This contract has neither the words nor the cause of an error, since
+/// std specifies nothing of what `args` returns. That of `words_of` relates them to it.
 pub fn given_words(rt: &(impl Env + Alloc<A = Global>)) -> Result<Words, Status>
     ensures { IfErr result (λ status. (status ≡ Status.Memory) ⊎ (status ≡ Status.BadWords)) }
 {

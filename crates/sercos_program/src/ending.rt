@@ -6,8 +6,8 @@ ghost use Rattle.sercos_io.specs.Status.{status_code};
 use sercos_io::Status;
 use std::process::ExitCode;
 
-/// Returns the status of a command whose kept output couldn't be written: `WriteFault` for `Done`
-/// and `No`. Any other status stays, so a refusal remains one even if its line wasn't written.
+/// Returns the status of a command whose output, left in a buffer, couldn't be written: `WriteFault` for `Done` and `No`. Any other status
+/// stays, so a refusal remains one even if its line wasn't written.
 pub fn unwritten(status: Status) -> Status
     ensures done { status ≡ Status.Done → result ≡ Status.WriteFault }
     ensures no { status ≡ Status.No → result ≡ Status.WriteFault }

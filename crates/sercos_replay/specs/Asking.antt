@@ -12,7 +12,7 @@ use Rattle.sercos_replay.specs.Stations.{Station, station_of, station_differs, l
 use Rattle.sercos_replay.specs.Replaying.{late_start, verdict_answer, place_answer, replay_answer}
 
 -- An input is that of a replay of a station over a capture: its document has the station, and its capture is clean and begins with
--- cycle 0.
+-- cycle 0, if it has an MST.
 pub record Asks (address : ℕ) (bytes : List ℕ) (s : Station) (capture : List ℕ) : Type 0 where
   pub document : List ℕ
   pub divides : divided bytes ≡ Some (document, capture)
@@ -41,7 +41,7 @@ pub record Differs (address : ℕ) (bytes : List ℕ) : Type 0 where
   pub place : PlaceView
   pub first : station_differs s (cycles_in capture) ≡ Some place
 
--- Its document has the station, and its capture begins with cycle 0 and breaks a rule.
+-- Its document has the station, and its capture begins with cycle 0, if it has an MST, and breaks a rule.
 pub record Breaks (address : ℕ) (bytes : List ℕ) : Type 0 where
   pub document : List ℕ
   pub capture : List ℕ

@@ -170,8 +170,8 @@ impl DriveReplay {
         self.end(Some(sent.content.as_slice()));
     }
 
-    // Takes a telegram, before any difference was found. An MST begins `cycle`; an AT or an MDT counts for the newest cycle, regardless of
-    // `cycle`.
+    // Takes a telegram, before any difference was found. An MST begins `cycle`, which must not be below the newest one; an AT or an MDT
+    // counts for the newest cycle, regardless of `cycle`.
     fn take(&mut self, cycle: u32, sent: &Sent)
         ensures { (d : DriveView) (rate : ℕ) (j : List Cycle) → DriveGoes self.old d rate j → self.old.differs ≡ false → goes_on sent.now.kind cycle j →
             DriveStandsIn self.new d rate (with_telegram sent.now.kind cycle sent.now j) }

@@ -31,9 +31,10 @@ pub fn agreement_law()
     typed_law();
 }
 
-/// If the document of an input has the station, and its capture is clean and begins with cycle 0, the answer is `No` with the first place
-/// that differs, or `Done` with the number of cycles if there is none. The status is `Done` for no other input. It is `No` for no other
-/// input either, unless the capture begins with cycle 0 and breaks a rule; the answer is then that of `check`.
+/// If the document of an input isn't refused and has the station, and its capture is clean and begins with cycle 0 or has no MST, the
+/// answer is `No` with the first place that differs, or `Done` with the number of cycles if there is none. The status is `Done` for no
+/// other input. It is `No` for no other input either, unless the capture breaks a rule instead of being clean; the answer is then that of
+/// `check`.
 #[tactic(auto, using(crate::proofs::AskingLemmas::replays))]
 pub fn asking_law()
     ensures { (address : ℕ) (bytes : List ℕ) → Replays address bytes }

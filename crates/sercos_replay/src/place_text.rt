@@ -35,8 +35,8 @@ fn push_place(cycle: u32, kind: Kind, out: &mut Vec<u8>) -> Result<(), AllocErro
     push_text("\n", out)
 }
 
-// Appends the start of a telegram, in bit times, and its content in hexadecimal digits; `none` if there is no telegram. The error is
-// `AllocError`.
+// Appends the start of a telegram, in bit times after the MST's end, a space, and its content, two hexadecimal digits in lower case for
+// each byte; `none` if there is no telegram. The error is `AllocError`.
 #[tactic(auto, unfolding(crate::specs::Replaying::sent_text))]
 fn push_sent(alloc: Global, sent: &Option<Sent>, out: &mut Vec<u8>) -> Result<(), AllocError>
     ensures { OnOk result (out.new.items ≡ out.old.items ++ sent_text sent.now) }
@@ -109,8 +109,8 @@ fn difference_reply(alloc: Global, difference: &Difference) -> Result<Reply, All
     })
 }
 
-/// Returns the reply of a replay: `No` with the place that differs, if there is one, and otherwise `Done` with the number of cycles. The
-/// error is `AllocError`.
+/// Returns the reply of a replay: `No` with the place that differs, if there is one, and otherwise `Done` with the line `agrees N`, where N
+/// is `cycles`, the number of cycles. The error is `AllocError`.
 #[tactic(auto, unfolding(crate::specs::Replaying::place_answer))]
 pub fn place_reply(
     alloc: Global,

@@ -48,7 +48,7 @@ pub fn open_drive(alloc: Global, setup: &RingSetup, index: usize) -> Result<Repl
 }
 
 impl Replay {
-    /// Takes the next line of a capture; the cycle of an MST must not be below that of an earlier one.
+    /// Takes the next line of a capture. It is ignored after a difference. The cycle of an MST must not be below that of an earlier one.
     pub fn give(&mut self, line: &Line)
         ensures { (s : Station) (before : List Line) → ReplayStandsFor self.old s before → GoesOn before line.now → ReplayStandsFor self.new s (line.now ∷ before) }
     {

@@ -8,7 +8,7 @@ use sercos_trace::reading_law;
 /// - If the telegrams of a capture are those of a run of the document, over any link, the first place at which the station differs is in no
 ///   cycle before the first disturbed one. So nothing differs if nothing is disturbed.
 /// - The trace of cycles whose numbers fit their fields is read back as their telegrams.
-/// - So the first statement also holds if the capture is the trace of such a run.
+/// - So the first statement also holds if the capture is the trace of such a run, and the numbers fit their fields.
 pub fn undisturbed_law()
     ensures captured { CapturesDiffer }
     ensures reads { ReadsTraces }

@@ -68,9 +68,10 @@ struct CycleEnd {
     unseen: u32,
 }
 
-// Makes a cycle, and returns its end. The telegrams sent replace those in `list`. The moves and the events are added to `moves` and
-// `events`, which must be empty. `addresses` must be those of the drives, at most 64. `rate` is in bits per microsecond. Afterwards
-// `buffers` is unspecified.
+// Makes a cycle of a valid ring, and returns its end. `cycle` must be the number of cycles made before, 0 for the first, and link, drives
+// and master as these left them. The telegrams sent replace those in `list`. The moves and the events are added to `moves` and `events`,
+// which must be empty. `addresses` must be those of the drives, in ring order; there are at most 64. `rate` is the ring's, in bits per
+// microsecond. Afterwards `buffers` is unspecified.
 fn run_cycle<L: BitLink>(
     link: &mut L,
     drives: &mut Vec<Drive>,
@@ -226,7 +227,7 @@ impl<L: BitLink> Ring<L> {
     /// - No fall is reported, and no request as broken.
     /// - Phase 4 is commanded from the cycle `startup_bound` on at the latest, and stays, iff a plan fits, the cycle time is within each
     ///   drive's limits, and no own block of a drive was outside its limits at opening.
-    /// - Otherwise a stop for its cause is reported at most 41 steps of the slowest drive later.
+    /// - Otherwise a stop for its cause is reported at most 41 steps of the slowest drive later, each of busy time and two cycles.
     ///
     /// Regardless of earlier losses and damage, as long as nothing was undetected: after a fall, a restart of the master included, after
     /// which no cycle is disturbed, the ring starts up again as it does from its opening. From `recovery_bound` cycles after the last
@@ -243,8 +244,8 @@ impl<L: BitLink> Ring<L> {
     /// `recovery_bound` and these costs on, phase 4 is commanded, or the master is at a stop for its cause.
     ///
     /// Regardless of what arrives, undetected damage included:
-    /// - In phases 3 and 4 each drive's data keep its T1min, TATMT and T4min, and its data record
-    ///   is within the MDT. In phase 4 the data keep their limits, too.
+    /// - In phases 3 and 4 each drive's data keep its T1min, TATMT and T4min, and its data record is within the MDT. In phase 4 the data
+    ///   keep their limits, too.
     /// - Each drive rises, and goes to phase 0, only for its causes.
     /// - A fall that is reported has its cause.
     ///

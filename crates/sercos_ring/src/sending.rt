@@ -17,8 +17,8 @@ use sercos_script::{BitLink, Passage};
 use sercos_telegram::Kind;
 use sercos_trace::{Sent, put_sent};
 
-/// Passes the MST in `buffers` back to the master, which processes what arrives. `buffers` must have the frame of its content in this cycle,
-/// as `frame_said` makes it. Returns the number of undetected arrivals, 0 or 1. Afterwards `buffers` is unspecified.
+/// Passes the MST in `buffers` back to the master, which processes what arrives. `buffers` must have the frame of its content in this
+/// cycle, as `frame_said` makes it. Returns the number of undetected arrivals, 0 or 1. Afterwards `buffers` is unspecified.
 pub(crate) fn pass_own<L: BitLink>(
     link: &mut L,
     master: &mut AnyMaster,
@@ -44,8 +44,8 @@ pub(crate) fn pass_own<L: BitLink>(
     as_count(receipt.unseen)
 }
 
-// Passes the AT in `buffers` from its station to the master. `buffers` must have the frame of its content in this cycle, as `frame_said`
-// makes it. Returns the number of undetected arrivals, 0 or 1.
+// Passes the AT in `buffers` from its station to the master, which processes the frame that arrives, if one does. `buffers` must have the
+// frame of its content in this cycle, as `frame_said` makes it. Returns the number of undetected arrivals, 0 or 1.
 fn pass_at<L: BitLink>(
     link: &mut L,
     master: &mut AnyMaster,

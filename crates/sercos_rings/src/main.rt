@@ -11,7 +11,8 @@ use std::process::ExitCode;
 /// The bytes of output that are written at a time.
 const PIECE: usize = 32768;
 
-// The status with which the words end. The output is written in large pieces.
+// Runs the command of the words over standard input and standard output, and returns its status. If there is no memory for the buffer of
+// the output, the status is `Memory`. If what is left in the buffer can't be written at the end, `Done` and `No` become `WriteFault`.
 fn run(rt: &HostRuntime, words: &Words) -> Status {
     let Ok(mut writer) = BufWriter::with_capacity(rt.alloc(), PIECE, io::writer(rt)) else {
         return Status::Memory;
@@ -25,6 +26,7 @@ fn run(rt: &HostRuntime, words: &Words) -> Status {
     }
 }
 
+// Exits with the status of `run`; with `BadWords` or `Memory` if the words can't be read.
 fn main(rt: HostRuntime) -> ExitCode {
     let status = match given_words(&rt) {
         Ok(words) => run(&rt, &words),

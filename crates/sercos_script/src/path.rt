@@ -49,8 +49,8 @@ fn links_between(stations: u8, from: u8, to: u8) -> u16
     end.saturating_sub(u16::from(from))
 }
 
-// Applies faults to the bits of a passage, in a ring of `stations` drives. Returns whether anything arrives. The faults are sorted by the
-// number of bits that a frame needs to be affected.
+// Applies to the bits of a passage those faults that concern it, in a ring of `stations` drives. Returns whether anything arrives. The
+// faults are sorted by the number of bits that a frame needs to be affected.
 pub(crate) fn carry(faults: &[Fault], stations: u8, p: &Passage, bits: &mut BitBuf) -> bool
     requires { AreByReach faults.now }
     ensures { arrived result bits.new ≡ carried stations faults.now p.now bits.old }

@@ -132,8 +132,10 @@ fn is_before_all(cycle: u32, soonest: &[u32]) -> bool
 }
 
 // Appends the faults that act in a cycle from those stretches of a group, 0 to 31, in which one may act by then, and keeps for each of
-// these stretches when it may act next. The groups before it must have been searched. Returns whether there was room for all of them. If
-// not, `acting` is unspecified. `soonest` has 512 numbers.
+// these stretches when it may act next. Returns whether there was room for all of them. If not, `acting` is unspecified. `soonest` has 512
+// numbers. The groups before it must have been searched: `acting` has their faults that act, and no fault of their stretches acts after
+// this cycle and before the one that `soonest` has for the stretch. From this cycle on, no fault of any other stretch may act before the
+// one that it has for it; afterwards no fault acts after this cycle and before that one, in each case.
 fn gather_group(
     script: &[Fault],
     cycle: u32,

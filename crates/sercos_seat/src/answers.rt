@@ -160,8 +160,8 @@ pub fn low_at(words: &[Words], place: usize) -> u16
     }
 }
 
-// Appends a command value of `len` bytes, at most four: the low bytes of the number of the cycle. The list must have room for four bytes,
-// of 64. The lengths 2 and 4 have cases of their own, since a constant length makes the copy one store.
+// Appends a command value of `len` bytes, of four for a `len` above that: the low bytes of the number of the cycle, the lowest first. The
+// list must have room for four bytes, of 64. The lengths 2 and 4 have cases of their own, since a constant length makes the copy one store.
 fn push_count(count: u32, len: u8, values: &mut ArrayVec<u8, 64>)
     requires { length values.old.items + 4 ≤ 64 }
     ensures { values.new.items ≡ values.old.items ++ value_said count len }
@@ -174,9 +174,9 @@ fn push_count(count: u32, len: u8, values: &mut ArrayVec<u8, 64>)
     };
 }
 
-/// Puts the command values of a data record into an empty list. `count` is the number of the cycle. Each is the low bytes of this number.
-/// `lens` has the length of each value in bytes, 0 to 4, as [`lens_of`] returns them, at most 16. They are put in place, since a returned
-/// list would be copied.
+/// Puts the command values of a data record into an empty list. `count` is the number of the cycle. Each is the low bytes of this number,
+/// the lowest first. `lens` has the length of each value in bytes, 0 to 4, as [`lens_of`] returns them, at most 16. They are put in place,
+/// since a returned list would be copied.
 pub fn put_command_values(count: u32, lens: &[u8], values: &mut ArrayVec<u8, 64>)
     requires few { length lens.now ≤ 16 }
     requires none { values.old.items ≡ [] }
@@ -253,7 +253,8 @@ fn list_stop(address: u8, idn: Idn, bytes: &[u8]) -> Option<Stop>
 }
 
 impl Asked {
-    // Returns the stop that the bytes of a complete request of the start-up cause; `None` if they cause none.
+    // Returns the stop that the bytes of a complete request of the start-up cause: `BadConfig` for a read of an attribute that isn't that
+    // of a number, `Check127` or `Check128` for a read of the operation data of S-0-0021 or S-0-0022; otherwise `None`.
     fn stop_by_bytes(&self, address: u8, bytes: &[u8]) -> Option<Stop>
         ensures { result ≡ stop_by_bytes address self.now bytes.now }
     {

@@ -36,8 +36,8 @@ const PHASE_4_CHECK_AFTER_READS: usize = 12;
 // The telegram type that the start-up writes: a configured telegram, as this profile uses it.
 const CONFIGURED: u16 = 7;
 
-/// One drive as the master keeps it: its channel, its answers, its telegrams, and the requests that
-/// wait. Contracts see the record of what it keeps.
+/// One drive as the master keeps it: its channel, its answers, its telegrams, and the requests that wait. Contracts see the record of what
+/// it keeps.
 #[derive(Drop)]
 pub struct Seat {
     member: Member,
@@ -135,8 +135,8 @@ impl Seat {
     }
 
     /// Adds a request, before those that wait already. It must be for an element that a transfer takes: 1 to 7 of a read, 2 to 7 of a
-    /// write. `number` is its number among all requests, counted from 1. The effect is defined for a seat that has received nothing. The
-    /// error is `AllocError`; then the seat is unchanged.
+    /// write. `number` is its number among all requests, counted from 1. The effect is defined for a seat that has received and sent
+    /// nothing and has begun no task. The error is `AllocError`; then the seat is unchanged.
     #[tactic(auto, using(crate::proofs::Requests::is_one))]
     pub fn wait(&mut self, number: u16, request: Request) -> Result<(), AllocError>
         requires { IsRequest request }
@@ -148,8 +148,9 @@ impl Seat {
         Ok(())
     }
 
-    // Keeps the values of the next outcome: those of a read, and whether a check ended well. Outcomes are counted up to 100. `bytes` are
-    // those of the outcome, none if it isn't complete.
+    // Keeps the values of the next outcome, by its index, which is the count of those before it: of a read its first four bytes; at 11 and
+    // 12 after the reads, as the outcomes of the checks for phases 3 and 4, whether the check ended well, the second one only if the first
+    // did. Outcomes are counted up to 100. `bytes` are those of the outcome, none if it isn't complete.
     fn keep(&mut self, bytes: &[u8])
         ensures few { reads_count self.old.member ≤ 38 }
         ensures kept { self.new ≡ record self.old {
@@ -175,7 +176,8 @@ impl Seat {
         self.done = one_more(self.done);
     }
 
-    // Returns the stop that an outcome of the current task causes; `None` if it causes none. Only tasks of the start-up cause one.
+    // Returns the stop that an outcome of the current task causes, as [`Asked::stop_by`]; always `None` if the task is a request, which has
+    // a number. Only tasks of the start-up cause one.
     fn trouble_by(&self, outcome: &Outcome) -> Option<Stop>
         ensures { result ≡ stop_of_task self.now.member.address self.now.number self.now.asked outcome.now }
     {
@@ -405,8 +407,8 @@ impl Seat {
         }
     }
 
-    /// Replaces the content by an MDT of 5 bytes to this drive alone, in the layout of phases 1 and 2. It carries the open step; if there is
-    /// none, MHS is unchanged, and all other bits of the control and information words are 0. The seat keeps that it was sent.
+    /// Replaces the content by an MDT of 5 bytes to this drive alone, in the layout of phases 1 and 2. It carries the open step; if there
+    /// is none, MHS is unchanged, and all other bits of the control and information words are 0. The seat keeps that it was sent.
     pub fn send_single(&mut self, out: &mut Content)
         ensures stands { (d : MemberView) (x : Seen) → SeatStandsFor self.old d x → SeatStandsFor self.new d (sent_in x) }
         ensures bytes { (d : MemberView) (x : Seen) → SeatStandsFor self.old d x → out.new ≡ d.address ∷ record_said (master_says (begun_by x.calls)) [] }
@@ -437,14 +439,15 @@ impl Seat {
         let _full = joint_record(&record, out);
     }
 
-    /// Returns whether the newest outcome causes a stop.
+    /// Returns whether the task that was begun last has ended with an outcome that causes a stop, and the stop wasn't taken out.
     pub fn has_trouble(&self) -> bool
         ensures { result ≡ is_some self.now.trouble }
     {
         self.trouble.is_some()
     }
 
-    /// Takes out the stop that the newest outcome causes; `None` if it causes none. Afterwards the seat has none.
+    /// Takes out the stop that the task that was begun last has caused by its outcome; `None` if it has caused none yet, or if its stop was
+    /// taken out before. Afterwards the seat has none.
     pub fn take_trouble(&mut self) -> Option<Stop>
         ensures value { result ≡ self.old.trouble }
         ensures rest { self.new ≡ record self.old { trouble = None } }

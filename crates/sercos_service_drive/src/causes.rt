@@ -17,8 +17,8 @@ fn words_by(attribute: &Attribute, first: u16) -> u32
     }
 }
 
-// Returns whether the write is too long: the length of a list, at its first word, is above `most` bytes; or `count` words have arrived, and
-// the word that must be the last isn't.
+// Returns whether the write is too long at a word, with the parameters of `check_length`: the length of a list, at its first word, is above
+// `most` bytes; or with this word the write has all its words or more, and this isn't its last.
 fn is_over(attribute: &Attribute, most: u16, last: bool, count: u32, first: u16) -> bool
     ensures { result ≡ ((is_list attribute.now.length && ((count == 1) && nat_lt most first)) || (not last && nat_le (words_by attribute.now first) count)) }
 {
@@ -56,8 +56,9 @@ fn check_length(
     Ok(())
 }
 
-// Checks a word of the operation data of a block, in a phase from 2 to 4: first that the block can be written, then the word as
-// `check_length` does. The error is the first that applies: 0x7004, 0x7005, or an error of `check_length`.
+// Checks a word of the operation data of a block, in a phase from 2 to 4. The other parameters are those of `check_length`. The error is
+// the first that applies: 0x7004, the block is fixed or has a step; 0x7005, it is write protected in this phase; an error of
+// `check_length`.
 pub(crate) fn check_place(
     block: &Stored<'_>,
     phase: u8,

@@ -67,7 +67,8 @@ fn is_busy(cycle: u32, since: u32, busy: u8) -> bool
 }
 
 impl DriveChannel {
-    /// Returns a channel that has processed no record. The drive is busy with each step for `busy` cycles.
+    /// Returns a channel that has processed no record. The drive is busy with each step up to `busy` cycles after the one in which it was
+    /// accepted.
     pub fn new(busy: u8) -> DriveChannel
         ensures { ChannelStandsFor result busy [] }
     {
@@ -80,10 +81,10 @@ impl DriveChannel {
     }
 
     /// Processes a record in a cycle and in a phase from 2 to 4, and returns whether a step was accepted that completed a write of
-    /// operation data. Such a step changes the block in the store, and informs the procedure commands; if it newly sets a check, the check's
-    /// list of invalid operation data (S-0-0021 or S-0-0022) is written too. Otherwise the store is unchanged. `store` is always the drive's
-    /// store: except for their operation data, its blocks are those of each earlier record since the reset. All commands that are set are
-    /// procedure commands of the store, before and after.
+    /// operation data. Such a step changes the block in the store, and informs the procedure commands; if it newly sets a check, the
+    /// check's list of invalid operation data (S-0-0021 or S-0-0022) is written too. Otherwise the store and the procedure commands are
+    /// unchanged. `store` is always the drive's store: except for their operation data, its blocks are those of each earlier record since
+    /// the reset. All commands that are set are procedure commands of the store, before and after.
     pub fn take(
         &mut self,
         cycle: u32,
@@ -117,11 +118,11 @@ impl DriveChannel {
         adds(step, answer)
     }
 
-    /// Returns what the AT of a cycle shows: the service channel's bits of the status word, and the information word. The drive is busy as
-    /// long as the last step is no older than the busy time. Until then the error bit and the information word are 0. After that it shows
-    /// the reply to that step. Before the first step neither busy nor error is set, and the information word is 0. The bits for cyclic data
-    /// are always 0. In each case the handshake bit is that of the last step, 0 before the first, and the change bit is that of the
-    /// procedure commands.
+    /// Returns what the AT of a cycle shows: the service channel's bits of the status word, and the information word. In the cycle in which
+    /// the last step was accepted, and in as many cycles after it as the busy time has, the busy bit is set, and the error bit and the
+    /// information word are 0. After that the busy bit is 0, and the other two are those of the reply to that step. Before the first step
+    /// all three are 0. The bits for cyclic data are always 0. In each case the handshake bit is that of the last step, 0 before the first,
+    /// and the change bit is that of the procedure commands.
     pub fn say(&self, cycle: u32, commands: &Commands) -> (Status, u16)
         ensures shown { (busy : ℕ) (h : List Processed) (c : CommandHistory) → ChannelStandsFor self.now busy h → CommandsStandFor commands.now c →
             shown_by result.0 result.1 ≡ channel_says busy cycle c h }

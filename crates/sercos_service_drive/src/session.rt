@@ -123,7 +123,8 @@ fn first_word(buffer: &Buffer, place: u16, word: u16) -> u16
     }
 }
 
-// Returns the bytes that words write. Those of a list are the `count` bytes after its two lengths, or as many as there are.
+// Returns the bytes that words write: for a number all of them, for a list the `count` bytes after its two lengths, or as many as there
+// are.
 fn written(bytes: &[u8], list: bool, count: u16) -> &[u8]
     ensures { result.now ≡ (if list then take count (drop 4 bytes.now) else bytes.now) }
 {
@@ -134,7 +135,7 @@ fn written(bytes: &[u8], list: bool, count: u16) -> &[u8]
     &items[..items.len().min(usize::from(count))]
 }
 
-// Appends a word, the low byte first, if the buffer has at most 1,026 bytes.
+// Appends a word, the low byte first, if the buffer has at most 1,026 bytes; otherwise nothing changes.
 fn push_word(buffer: &mut Buffer, word: u16)
     ensures { length buffer.old ≤ 1026 → buffer.new ≡ buffer.old ++ (word % 256) ∷ (word / 256) ∷ [] }
 {
@@ -144,10 +145,10 @@ fn push_word(buffer: &mut Buffer, word: u16)
 }
 
 // Processes a word of operation data in a phase, 2 to 4. The buffer has the words of the run before it, `place` of them, counted up to
-// 65535. The last word writes the operation data to the store, and informs the procedure commands. The error is the first against the word:
-// 0x1001 without the block, otherwise an error of `check_place` or, at the last word, of `Store::put`. Then store and commands are
-// unchanged, and the buffer is unspecified. Without an error the buffer has the word too. All commands that are set are procedure commands
-// of the store, before and after.
+// 65535; they were accepted for the same block, except for its operation data. The last word writes the operation data to the store, and
+// informs the procedure commands. The error is the first against the word: 0x1001 without the block, otherwise an error of `check_place`
+// or, at the last word, of `Store::put`. Then store and commands are unchanged, and the buffer is unspecified. Without an error the buffer
+// has the word too. All commands that are set are procedure commands of the store, before and after.
 fn write_word(
     buffer: &mut Buffer,
     place: u16,
@@ -219,8 +220,9 @@ impl Session {
         Ok(0)
     }
 
-    // Reads the next word of an element, 1 to 7, of the open identifier number; 0 after the end of the element. The error is that of
-    // `copy_element`. The caller ends the run then.
+    // Returns the next word of an element, 1 to 7, of the open identifier number, as it was in the cycle of the run's first step; 0 after
+    // the end of the element. `step` is a read of this element. The error is that of `copy_element`, at the first step. The caller ends the
+    // run then.
     fn read(
         &mut self,
         idn: Idn,
@@ -291,9 +293,11 @@ impl Session {
         Ok(0)
     }
 
-    // Processes a step, and returns the word of the reply. The error is the code with which the step is refused; then the store and the
-    // procedure commands are unchanged, and the caller must set `selection` to `None`. Only the last word of operation data changes the
-    // store.
+    // Processes a step of an element below 8 in a phase from 2 to 4, and returns the word of the reply. The error is that of `open` for an
+    // opening, none for element 0, 0x0001 if no identifier number is open, otherwise that of `read` or `write`. After an error the store
+    // and the procedure commands are unchanged, and the caller must set `selection` to `None`. Only the last word of operation data changes
+    // the store. Except for their operation data, the blocks are those of the run's steps. All commands that are set are procedure commands
+    // of the store, before and after.
     fn reply(
         &mut self,
         cycle: u32,
@@ -328,9 +332,10 @@ impl Session {
         }
     }
 
-    // Processes a step that was accepted in a cycle, in a phase from 2 to 4, and returns the reply to it. An error ends the run. Its word
-    // is the error code then. Except for their operation data, the blocks are those of the run's steps. All commands that are set are
-    // procedure commands of the store, before and after.
+    // Processes a step of an element below 8 that was accepted in a cycle, in a phase from 2 to 4, and returns the reply to it. An error
+    // ends the run; then the word of the reply is the error code, and the store and the procedure commands are unchanged. Only the last
+    // word of operation data changes them, as `write_word` does. Except for their operation data, the blocks must be those of the run's
+    // steps. All commands that are set must be procedure commands of the store, and are so afterwards.
     pub(crate) fn answer(
         &mut self,
         cycle: u32,

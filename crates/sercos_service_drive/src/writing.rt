@@ -7,9 +7,9 @@ use sercos_command::Commands;
 use sercos_idn::Idn;
 use sercos_step::word_at;
 
-// Informs the procedure commands that operation data was written. `command` is whether it is that of a command; then `bytes` are its new
-// value, 0 or 3, and a check that is newly set writes its list to the store. Otherwise the store is unchanged. All commands that are set
-// are procedure commands of the store, before and after.
+// Informs the procedure commands that operation data was written, which the store has already. `command` is whether it is that of a
+// command; then `bytes` are its new value, 0 or 3, in two bytes, the low one first, and a check that is newly set writes its list to the
+// store. Otherwise the store is unchanged. All commands that are set are procedure commands of the store, before and after.
 #[tactic(auto, using(crate::proofs::WritingLemmas::setting_is))]
 pub(crate) fn tell(
     commands: &mut Commands,

@@ -21,8 +21,8 @@ fn one_more(age: u8) -> u8
     }
 }
 
-// Returns the count of cycles after a record was sent: it begins at 0 with the first record of the open step, and there is none for an idle
-// record.
+// Returns the count of cycles after a record was sent. `at_work` is whether a step is open. With one the count is unchanged, but begins at
+// 0 with the first record of the step; without one it is `None`.
 fn age_after(at_work: bool, age: Option<u8>) -> Option<u8>
     ensures { result ≡ (if at_work then Some (unwrap_or age 0) else None) }
 {
@@ -117,7 +117,8 @@ impl MasterChannel {
         self.transfer.is_none()
     }
 
-    /// Begins a request. No other is in progress. A read has an element from 1 to 7, a write from 2 to 7. Its first step is open at once.
+    /// Begins a request. No other is in progress. A read has an element from 1 to 7, a write from 2 to 7. Its first step is open at once,
+    /// and MHS changes.
     pub fn begin(&mut self, request: Request)
         requires idle { is_none self.old.transfer ≡ true }
         requires request { IsRequest request }
@@ -129,7 +130,8 @@ impl MasterChannel {
     }
 
     /// Returns the control word and the information word of the next MDT's record. With an open step they carry it; otherwise MHS is
-    /// unchanged, and all other bits are 0. The bits for cyclic data are 0. Whether a request is in progress is unchanged.
+    /// unchanged, and all other bits are 0. The bits for cyclic data are 0. Whether a request is in progress is unchanged. If the open step
+    /// wasn't sent before, the count of [`cycles_open`](MasterChannel::cycles_open) begins.
     pub fn send(&mut self) -> (Control, u16)
         ensures stands { (h : List Call) → MasterStandsFor self.old h → MasterStandsFor self.new (Send ∷ h) }
         ensures says { (h : List Call) → MasterStandsFor self.old h → said_by result.0 result.1 ≡ master_says (begun_by h) }

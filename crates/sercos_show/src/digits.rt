@@ -80,7 +80,8 @@ pub fn set_pairs(digits: &[u8], bytes: &mut [u8]) -> bool
     seen < 16
 }
 
-/// Feeds the first `count` bits of `bytes`, which has at least as many, to the deframer. With them it has taken at most 2^31 bits.
+/// Feeds the first `count` bits of `bytes`, which has at least as many, to the deframer, the least significant bit of each byte first. With
+/// them it has taken at most 2^31 bits.
 pub fn feed_first(bytes: &[u8], count: usize, deframer: &mut Deframer)
     requires long { count ≤ 8 * length bytes.now }
     requires fits { taken_of deframer.old + count ≤ 2147483648 }

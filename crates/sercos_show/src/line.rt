@@ -87,7 +87,8 @@ fn wanted_digits(count: usize) -> usize
     2 * count.div_ceil(8)
 }
 
-// Returns whether `byte`, the last one of `count` bits, 1 to 19696, has a one after the last bit.
+// Returns whether `byte`, the last one of `count` bits, 1 to 19696, has a one after the last bit. The first bit of a byte is its least
+// significant one.
 #[tactic(auto, unfolding(crate::specs::Line::has_spare))]
 fn has_spare(count: usize, byte: u8) -> bool
     requires some { 0 < count }

@@ -88,7 +88,8 @@ fn push_content(kind: LineKind, content: &[u8], out: &mut Vec<u8>) -> Result<(),
     }
 }
 
-// Appends the answer to a line of a kind whose bits the deframer has taken. The error is `AllocError`.
+// Appends the answer to a line of a kind whose bits the deframer has taken, with a line feed: the text of the content if the bits are a
+// frame, otherwise `error` and the reason why they are not. The error is `AllocError`.
 #[tactic(auto, unfolding(crate::specs::Show::frame_text))]
 fn push_answer(kind: LineKind, deframer: &Deframer, out: &mut Vec<u8>) -> Result<(), AllocError>
     ensures { (bits : List Bool) → IsFed bits deframer.now

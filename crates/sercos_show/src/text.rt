@@ -162,7 +162,8 @@ pub fn push_mst(phase: u8, out: &mut Vec<u8>) -> Result<(), AllocError>
     push_place("mst phase ", u64::from(phase), out)
 }
 
-/// Appends the fields of an MDT of phases 1 and 2: the address, those of the control word, and the word `info`.
+/// Appends the fields of an MDT of phases 1 and 2: the address, those of the service channel in the control word, the word `info`, and the
+/// control word's bits 15 to 6, at their places, as a word.
 #[tactic(auto, unfolding(crate::specs::Show::single_text))]
 pub fn push_single(
     address: u8,
@@ -215,8 +216,9 @@ fn at_words(info: u16, cyclic: u16) -> [u8; 32]
     text
 }
 
-/// Appends the fields of an AT: the address, those of the status word, the word `info`, and the data, at most 2048 bytes, as two
-/// hexadecimal digits in lower case each, or `-` if there are none.
+/// Appends the fields of an AT: the address, those of the service channel in the status word and its change bit, the word `info`, the
+/// status word's bits 3, 4 and 15 to 6, at their places, as a word, and the data, at most 2048 bytes, as two hexadecimal digits in lower
+/// case each, or `-` if there are none.
 #[tactic(auto, unfolding(crate::specs::Show::at_text, crate::specs::Show::data_text))]
 pub fn push_at(at: &At<'_>, out: &mut Vec<u8>) -> Result<(), AllocError>
     requires { length at.now.values.now ≤ 2048 }

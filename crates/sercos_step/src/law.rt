@@ -7,7 +7,7 @@ ghost use Rattle.sercos_step.specs.declared.request.Request.TheVariants as reque
 /// States facts about the steps of a transfer:
 /// - The first n + 1 steps are known from the words of n answers. They stay the same, regardless of the words that follow.
 /// - A transfer without an outcome has a next step.
-/// - If no answer follows the end of a transfer, a read and a write of at most 1024 bytes have at most 517 answers.
+/// - If no answer follows the end of a transfer, any read has at most 517 answers, and so has a write of at most 1024 bytes.
 /// - What is written reads back: a list of at most 1024 bytes, and a value of a positive even number of bytes.
 pub fn steps_law()
     ensures known { (r : Request) (words : List ℕ) (word k : ℕ) → k ≤ length words →
@@ -25,7 +25,8 @@ pub fn steps_law()
 /// - A complete one has exactly the number that its request, the attribute and the words read determine.
 /// - Any other has at most this number.
 /// - A read of an attribute has at most three.
-/// - A read of a minimum, a maximum or operation data has at most four if the attribute is one of a value of one word.
+/// - A read of a minimum, a maximum or operation data has at most four if that has one word by the attribute. This is one of a value of one
+///   word, an invalid one, or, for a minimum or a maximum, that of a list.
 /// - A read of operation data has at most 5 + k if the attribute is that of a list, and its first word is a length of at most 2k bytes.
 /// - A write of at most two bytes to operation data of one word has at most four.
 /// - A write of at most 2k bytes to operation data that is a list has at most 5 + k.

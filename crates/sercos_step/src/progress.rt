@@ -27,7 +27,7 @@ fn write_of(element: u8, word: u16) -> Step
     }
 }
 
-// Returns the step that reads a word of an element.
+// Returns the step that reads a word of an element. `last` is whether it is the element's last word.
 fn read_of(element: u8, last: bool) -> Step
     ensures { result ≡ a_step false last element 0 }
 {
@@ -131,7 +131,9 @@ impl Progress {
         u32::from(self.low) + 65536 * u32::from(self.high)
     }
 
-    // Keeps a word if it is one of the attribute: the answer to the second or the third step. Otherwise nothing changes.
+    // Keeps the word of the answer to the second step as `low`, and of that to the third as `high`. `count` is still the number of answers
+    // before this one. These are the words of the attribute if these steps read it; in a write of anything but operation data they are kept
+    // too, and never used. After any other answer nothing changes.
     fn keep_attribute(&mut self, word: u16)
         ensures { self.new ≡ with_attribute self.old word }
     {
@@ -143,7 +145,8 @@ impl Progress {
         }
     }
 
-    // Returns the next step of a read of an element, 0 to 7, that isn't complete. The step's element is also 0 to 7.
+    // Returns the next step of a read of an element, 0 to 7, that isn't complete. The first step opens the identifier number; for minimum,
+    // maximum and operation data two more read the attribute; then each reads a word of the element. The step's element is also 0 to 7.
     pub fn read_step(&self, idn: Idn, element: u8) -> Step
         requires { element < 8 }
         ensures next { (words : List ℕ) → IsAtRead self.now element words → is_whole (Request.Read idn element) words ≡ false →
@@ -161,7 +164,8 @@ impl Progress {
         reading_step(shape, element, self.count - before, self.first)
     }
 
-    // Returns the next step of a write of an element, 0 to 7, that isn't complete. The step's element is also 0 to 7.
+    // Returns the next step of a write of an element, 0 to 7, that isn't complete. The first step opens the identifier number; for
+    // operation data two more read the attribute; then each writes a word of the element. The step's element is also 0 to 7.
     pub fn write_step(&self, idn: Idn, element: u8, bytes: &Bytes) -> Step
         requires { element < 8 }
         ensures next { (words : List ℕ) → IsAtWrite self.now words → is_whole (Request.Write idn element bytes.now) words ≡ false →
@@ -190,7 +194,8 @@ impl Progress {
         )
     }
 
-    // Returns the next step of a command that isn't complete. Its element is 0 to 7.
+    // Returns the next step of a command that isn't complete: it opens the identifier number, sets the command, reads the data status while
+    // that is the one of a running command, and cancels the command. The step's element is 0 to 7.
     pub fn command_step(&self, idn: Idn) -> Step
         ensures next { (words : List ℕ) → IsAtCommand self.now words → is_whole (Request.Command idn) words ≡ false →
             Some result ≡ slice_get (steps_of (Request.Command idn) words) (length words) }
@@ -244,7 +249,8 @@ impl Progress {
         ends_write(element, attribute, bytes.as_slice(), count)
     }
 
-    // Keeps an answer to a command, and returns whether it was the last one, which is that to the cancelling.
+    // Keeps an answer to a command, and returns whether it was the last one, which is that to the cancelling. The word of that one isn't
+    // kept.
     pub fn command_answer(&mut self, word: u16) -> bool
         ensures { (idn : Idn) (words : List ℕ) → IsAtCommand self.old words → is_whole (Request.Command idn) words ≡ false →
             IsAfterCommand idn self.new (words ++ word ∷ []) result }

@@ -50,7 +50,8 @@ fn as_value(shape: Shape) -> Shape
     }
 }
 
-// Returns the shape of an element, 1 to 7, from the word of the attribute. The elements 1 to 4 don't use this word.
+// Returns the shape of an element, 1 to 7, from the word of the attribute. The elements 1 to 4 don't use this word. Any other number counts
+// as a minimum.
 pub fn shape_of(element: u8, word: u32) -> Shape
     ensures { result ≡ shape_of element word }
 {

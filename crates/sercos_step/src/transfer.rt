@@ -9,8 +9,8 @@ use sercos_bits::Bytes;
 use sercos_idn::Code;
 use std::marker::Model;
 
-// Returns the next step of a request that isn't complete. `progress` must be what is kept of its answers so far. The step's element is 0 to
-// 7.
+// Returns the next step of a request that isn't complete. A read names one of the elements 1 to 7, a write one of 2 to 7. `progress` must
+// be what is kept of its answers so far. The step's element is 0 to 7.
 fn step_at(request: &Request, progress: &Progress) -> Step
     requires { IsRequest request.now }
     ensures next { (words : List ℕ) → IsAt request.now progress.now words → is_whole request.now words ≡ false →
@@ -41,8 +41,9 @@ fn answer_at(request: &Request, progress: &mut Progress, word: u16) -> bool
     }
 }
 
-// Returns the result of a request whose steps are all answered. The bytes that were read are moved out of `progress`, not copied.
-// Afterwards `progress` is unspecified.
+// Returns the result of a request whose steps are all answered: the bytes of a read, none of a write, and of a command the two bytes of its
+// last data status, the low byte first. The bytes that were read are moved out of `progress`, not copied. Afterwards `progress` is
+// unspecified.
 fn result_at(request: &Request, progress: &mut Progress) -> Bytes
     ensures { result ≡ result_kept request.now progress.old }
 {
@@ -95,8 +96,9 @@ impl Transfer {
         step_at(&self.request, &self.progress)
     }
 
-    /// Takes the answer to the step, and returns the outcome if this answer ends the transfer: `Refused` with the code of an error, or
-    /// `Complete` if all steps are answered. Afterwards the transfer is done iff there is an outcome.
+    /// Takes the answer to the step of a transfer that isn't done, and returns the outcome if this answer ends the transfer: `Refused` with
+    /// the code of an error, or `Complete` if all steps are answered; otherwise `None`. Afterwards the transfer is done iff there is an
+    /// outcome.
     pub fn answer(&mut self, a: Answer) -> Option<Outcome>
         requires { self.old.done ≡ false }
         ensures stands { (request : Request) (h : List Answer) → TransferStandsFor self.old request h → TransferStandsFor self.new request (a ∷ h) }

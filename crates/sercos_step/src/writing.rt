@@ -15,7 +15,8 @@ pub fn word_at(bytes: &[u8], place: u16) -> u16
     u16::from_le_bytes([byte_at(bytes, low), byte_at(bytes, low + 1)])
 }
 
-// Returns the number of words that write at most 1024 bytes to an element: two more than the bytes have for a list, otherwise at least one.
+// Returns the number of words that write at most 1024 bytes to an element: one for each two bytes, a last odd byte included, and two more
+// for a list, otherwise at least one.
 pub fn told_count(shape: Shape, bytes: &[u8]) -> u16
     requires { length bytes.now ≤ 1024 }
     ensures { result ≡ length (words_told shape bytes.now) }
@@ -27,7 +28,8 @@ pub fn told_count(shape: Shape, bytes: &[u8]) -> u16
     }
 }
 
-// Returns the word at an index of those that write at most 1024 bytes to an element. The index is below their number.
+// Returns the word at an index of those that write at most 1024 bytes to an element. The index is below their number. Of a list word 0 is
+// the length in bytes, word 1 is 0, and the bytes follow two by two; of anything else there are only the bytes.
 fn told_at(shape: Shape, bytes: &[u8], place: u16) -> u16
     requires { length bytes.now ≤ 1024 }
     ensures { place < length (words_told shape bytes.now) → result ≡ slice_index (words_told shape bytes.now) place }

@@ -20,9 +20,9 @@ pub struct At<'a> {
     pub values: &'a [u8],
 }
 
-/// Reads the AT of the drive with an address, which has `len` bytes after the address, at least 4. Every such AT is accepted. The error is
-/// `Length` if the content doesn't have 1 + `len` bytes, otherwise `Address` if its first byte isn't the address. The values of the result
-/// borrow from the content.
+/// Reads the AT of the drive with an address, which has `len` bytes after the address, at least 4: the status word and the information
+/// word, each with its low byte first, and the values. Every such AT is accepted. The error is `Length` if the content doesn't have 1 +
+/// `len` bytes, otherwise `Address` if its first byte isn't the address. The values of the result borrow from the content.
 pub fn read_at(address: u8, len: u16, content: &[u8]) -> Result<At<'_>, Layout>
     requires { 4 ≤ len }
     ensures address { IfOk result (λ at. at.address ≡ address) }
@@ -45,7 +45,8 @@ pub fn read_at(address: u8, len: u16, content: &[u8]) -> Result<At<'_>, Layout>
     })
 }
 
-/// Replaces the content by an AT: its address, its two words and its values, which are at most 64 bytes.
+/// Replaces the content by an AT: its address, its status word and its information word, each with the low byte first, and its values,
+/// which are at most 64 bytes.
 pub fn write_at(at: &At<'_>, out: &mut Content)
     requires { length at.now.values.now ≤ 64 }
     ensures content { out.new ≡ at_content at.now.address at.now.status at.now.info at.now.values.now }

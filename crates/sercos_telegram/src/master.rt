@@ -51,7 +51,7 @@ pub fn read_mst(content: &[u8]) -> Result<Mst, Layout>
     Ok(Mst { phase })
 }
 
-/// Replaces the content by an MST, which has two bytes.
+/// Replaces the content by the two bytes of an MST: 255, the address of all drives, and the phase.
 pub fn write_mst(m: &Mst, out: &mut Content)
     ensures { out.new ≡ mst_content m.now.phase }
 {
@@ -76,7 +76,8 @@ pub fn read_single(address: u8, content: &[u8]) -> Result<(Control, u16), Layout
     Ok((Control::read(fields.word), fields.info))
 }
 
-/// Replaces the content by the MDT of phases 1 and 2 for the drive with an address, which has five bytes.
+/// Replaces the content by the five bytes of the MDT of phases 1 and 2 for the drive with an address: the address, the control word and the
+/// information word, each word with its low byte first.
 pub fn write_single(address: u8, control: &Control, info: u16, out: &mut Content)
     ensures content { out.new ≡ single_content address control.now info }
     ensures words { (control_word control.now < 2 ^ 16) × (info < 2 ^ 16) }
@@ -86,10 +87,10 @@ pub fn write_single(address: u8, control: &Control, info: u16, out: &mut Content
     push_fields(control.write(), info, &[], out);
 }
 
-/// Reads one record of an MDT of phases 3 and 4. The MDT has `mdt_len` bytes after its address. The record has `len` bytes, at least 4,
-/// from `position` on, at least 1; position 1 is the first byte after the address. The record must end within these `mdt_len` bytes. Every
-/// such MDT is accepted. The error is `Length` if the content doesn't have 1 + `mdt_len` bytes, otherwise `Address` if it doesn't begin
-/// with 255. The values of the result borrow from the content.
+/// Reads one record of an MDT of phases 3 and 4. The MDT has `mdt_len` bytes after its address. The record has `len` bytes, at least the 4
+/// of its two words, from `position` on, at least 1; position 1 is the first byte after the address. The record must end within these
+/// `mdt_len` bytes. Every such MDT is accepted. The error is `Length` if the content doesn't have 1 + `mdt_len` bytes, otherwise `Address`
+/// if it doesn't begin with 255. The values of the result borrow from the content.
 pub fn read_joint(
     mdt_len: u16,
     position: u16,
@@ -118,8 +119,8 @@ pub fn read_joint(
     })
 }
 
-/// Replaces the content by the beginning of an MDT of phases 3 and 4, which is the address of all drives. Records are then appended by
-/// `joint_record`.
+/// Replaces the content by the beginning of an MDT of phases 3 and 4: one byte, 255, which is the address of all drives. Records are then
+/// appended by `joint_record`.
 pub fn joint_begin(out: &mut Content)
     ensures { out.new ≡ all_drives ∷ [] }
 {
@@ -127,8 +128,9 @@ pub fn joint_begin(out: &mut Content)
     out.push_within(ALL_DRIVES);
 }
 
-/// Appends a record, 4 bytes and its values, to an MDT of phases 3 and 4. Of what `out` already has, only the length is looked at. The
-/// error is `Full` iff the MDT would be longer than 2048 bytes, its address included. Then nothing is appended.
+/// Appends a record to an MDT of phases 3 and 4: its control word and its information word, each with the low byte first, and its values.
+/// Of what `out` already has, only the length is looked at. The error is `Full` iff the MDT would be longer than 2048 bytes, its address
+/// included. Then nothing is appended.
 pub fn joint_record(r: &Record<'_>, out: &mut Content) -> Result<(), Full>
     ensures full { IsErr result ↔ (2048 < length out.old + 4 + length r.now.values.now) }
     ensures ok { OnOk result (out.new ≡ out.old ++ record_bytes r.now.control r.now.info r.now.values.now) }

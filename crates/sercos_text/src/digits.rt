@@ -209,7 +209,8 @@ pub(crate) fn set_pairs(digits: &[u8], bytes: &mut Room)
     }
 }
 
-/// Replaces the bytes by those at the front of a text that [`read_hex`] accepts and of which it takes `len` bytes, at most 4096.
+/// Replaces the bytes by those at the front of a text that [`read_hex`] accepts, no bytes for `-`. `len` is the number of bytes of the text
+/// that it returned, and must be at most 4096.
 #[tactic(auto, unfolding(crate::specs::Fields::hex_of, crate::specs::Fields::hex_len))]
 pub(crate) fn set_bytes(text: &[u8], len: usize, bytes: &mut Room)
     requires len { len ≡ hex_len text.now }

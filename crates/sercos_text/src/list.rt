@@ -103,7 +103,8 @@ fn keep(item: Item, value: u8, items: &mut Addresses)
 /// Reads 1 to `most` items at the front of a text, each after a space, and returns the number of bytes that they take. `most` is at most 64
 /// for addresses. `items` is replaced by the addresses read; identifier numbers are only checked, and leave it empty. The error is the
 /// index of the first byte that doesn't fit, at most one more than the text's length. Of an item too many and of an address above 255 that
-/// is its first byte after the space; if `most` is 0 it is 1. After an error `items` is unspecified.
+/// is its first byte after the space, of an identifier number above 4095 the first of its four digits; if `most` is 0 it is 1. After an
+/// error `items` is unspecified.
 pub fn read_list(
     item: Item,
     most: usize,

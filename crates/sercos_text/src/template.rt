@@ -159,8 +159,9 @@ fn take_digits(count: u16, text: &[u8], told: &mut Told) -> Result<usize, usize>
 }
 
 // Reads a field at the front of a text into `told`, and returns the number of bytes that it takes. A hexadecimal field must be of at most
-// 2048 decoded bytes, two digits each, and of at least one if their number is fixed. `told` must have fewer than 64 numbers, and keeps those before; its other values stay unless the field is
-// theirs. An identifier number changes nothing. The error is that of the field's reader.
+// 2048 decoded bytes, two digits each, and of at least one if their number is fixed. `told` must have fewer than 64 numbers, and keeps
+// those before; its other values stay unless the field is theirs. An identifier number changes nothing. The error is that of the field's
+// reader.
 #[tactic(auto, unfolding(crate::specs::Templates::field_fault, crate::specs::Templates::field_len, crate::specs::Templates::field_value, crate::specs::Templates::numbers_in, crate::specs::Templates::signed_by, crate::specs::Templates::bytes_by))]
 fn read_field(field: Field, text: &[u8], told: &mut Told) -> Result<usize, usize>
     requires few { length told.old.numbers.items < 64 }
@@ -218,7 +219,8 @@ fn read_part(letter: u8, text: &[u8], told: &mut Told) -> Result<usize, usize>
 
 /// Reads a line by its template, of at most 64 letters, and its tail. `told` is replaced by the values read. The error is the index, from
 /// 0, of the first byte of the line that doesn't fit, at most one more than the line's length: for a missing byte the line's length; for a
-/// number out of its range, and for a byte or an address too many, its first digit. After an error `told` is unspecified.
+/// number out of its range, also that of an identifier number above 4095, and for a byte or an address too many, its first digit. After an
+/// error `told` is unspecified.
 pub fn read_line(template: &[u8], tail: Tail, line: &[u8], told: &mut Told) -> Result<(), usize>
     requires { length template.now ≤ 64 }
     ensures fault { result_err result ≡ line_fault tail template.now line.now }

@@ -28,7 +28,7 @@ pub enum Given<'a> {
     Ident(Idn),
 }
 
-// Appends a number in decimal digits, at most ten bytes.
+// Appends a number in decimal digits, at most ten bytes. There must be room for ten, even if it has fewer digits.
 fn push_number(line: &mut Line, number: u32)
     requires { length line.old + 10 ≤ 4352 }
     ensures value { line.new ≡ line.old ++ decimal number }
@@ -38,7 +38,8 @@ fn push_number(line: &mut Line, number: u32)
     line.append_within(buffer.format(number).as_bytes());
 }
 
-// Appends a number in decimal digits, after a `-` if it is negative: at most eleven bytes.
+// Appends a number in decimal digits, after a `-` if it is negative: at most eleven bytes. There must be room for eleven, even if it has
+// fewer.
 fn push_signed(line: &mut Line, number: i32)
     requires { length line.old + 11 ≤ 4352 }
     ensures value { line.new ≡ line.old ++ signed_decimal number }
@@ -142,8 +143,8 @@ fn push_hex(line: &mut Line, bytes: &[u8])
     }
 }
 
-// Appends the text of a value: at most 10 bytes for an unsigned number, 11 for a signed one, two for each byte but at least one, and 8 for
-// an identifier number.
+// Appends the text of a value. There must be room for its most bytes, even if it has fewer: 10 for an unsigned number, 11 for a signed one,
+// two for each byte but at least one, and 8 for an identifier number.
 #[tactic(auto, unfolding(crate::specs::Templates::value_text, crate::specs::Lists::item_text))]
 fn push_value(line: &mut Line, value: Given<'_>)
     requires { length line.old + most_bytes (value_of value) ≤ 4352 }
@@ -184,7 +185,8 @@ fn push_part(line: &mut Line, letter: u8, values: &[Given<'_>]) -> usize
 
 /// Appends the line of a template, with these values for its fields, in order, and without a line feed. The line must have room for the
 /// template and all values: 10 bytes for an unsigned number, 11 for a signed one, two for each byte but at least one, and 8 for an
-/// identifier number. A field without a value is left out, and further values are ignored.
+/// identifier number. A value isn't compared with its field: its own text is appended. A field without a value is left out, and further
+/// values are ignored.
 pub fn push_line(template: &[u8], values: &[Given<'_>], line: &mut Line)
     requires { length line.old + length template.now + sum_by most_bytes (map value_of values.now) ≤ 4352 }
     ensures value { line.new ≡ line.old ++ line_text template.now (map value_of values.now) }
@@ -196,7 +198,7 @@ pub fn push_line(template: &[u8], values: &[Given<'_>], line: &mut Line)
     }
 }
 
-// Appends a space and an address, at most four bytes.
+// Appends a space and an address, at most four bytes. There must be room for four, even if it has fewer digits.
 #[tactic(auto, unfolding(crate::specs::Lists::item_text))]
 fn push_address(line: &mut Line, address: u8)
     requires { length line.old + 4 ≤ 4352 }
@@ -230,7 +232,7 @@ fn push_ident(line: &mut Line, idn: Idn)
     line.append_within(&idn.text());
 }
 
-// Appends identifier numbers, each after a space.
+// Appends identifier numbers, each after a space: nine bytes each.
 fn push_listed(idns: &[Idn], line: &mut Line)
     requires { length line.old + 9 * length idns.now ≤ 4352 }
     ensures value { line.new ≡ line.old ++ list_text kind.Ident (map (λ idn. idn.raw) idns.now) }

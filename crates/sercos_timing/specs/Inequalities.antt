@@ -72,8 +72,8 @@ asked_6 w b k before = Some (b k + (at_bits w k + w.rate * (times w k).tatmt))
 abbrev pub asked_7 : WishesView → ℕ → ℕ → List ℕ → Option ℕ
 asked_7 w b2 k before = Some (b2 + (mdt_bits w + w.rate * (times w k).tmtsg))
 
--- 9: if the MDT begins at `b2`, there is room after its end for the gap and each drive's TMTSY
--- before the next MST, which ends with the cycle. `switch` is the greatest TMTSY
+-- 9: if the MDT begins at `b2`, there is at least the gap, and at least each drive's TMTSY, between
+-- its end and the next MST, which ends with the cycle. `switch` is the greatest TMTSY
 abbrev pub sum_9 : WishesView → ℕ → ℕ → ℕ
 sum_9 w b2 switch = b2 + (mdt_bits w + w.rate * max w.gap switch)
 

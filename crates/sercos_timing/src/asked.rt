@@ -6,9 +6,9 @@ ghost use Rattle.sercos_timing.specs.Clauses.{first_sent, place_at, at_bits, bit
 use crate::inequality::Inequality;
 use crate::wishes::Wishes;
 
-/// Returns the bit time at which the AT of the drive at index `place` of the ring has ended, if it starts at its T1, and `micros`
-/// microseconds, below 65,536, have passed since. Bit times count from the MST's end. The result is below 2^42. For any n that is at least
-/// this T1, it is at most n + 66,300 microseconds in bit times.
+/// Returns the bit time at which the AT of the drive at index `place` of the ring has ended at the latest (with the most inserted zeros),
+/// if it starts at its T1, and `micros` microseconds, below 65,536, have passed since. Bit times count from the MST's end. The result is
+/// below 2^42. For any n that is at least this T1, it is at most n + 66,300 microseconds in bit times.
 pub fn bits_after(w: &Wishes, t1: &[u32], place: usize, micros: u32) -> u64
     requires valid { IsValid w.now }
     requires count { length t1.now ≡ length w.now.drives }

@@ -18,8 +18,9 @@ pub struct Broken {
     pub drive: u8,
 }
 
-// Returns what an inequality requires of the AT at index `at` of the order: in bit times after the MST's end, for 10 in microseconds.
-// `None` means that it requires nothing of this AT, as 5, 8, 9, 11 and 12 do.
+// Returns what an inequality requires for the AT at index `at` of the order: the least value that the time returned by `has` may have, in
+// bit times after the MST's end, for 10 in microseconds. `None` means that it requires nothing for this AT. It is the result for 5, 8, 9,
+// 11 and 12, and for 2 to 4 where `asked_of_start` returns it.
 fn asked(w: &Wishes, p: &Plan, t1: &[u32], rule: Inequality, at: usize) -> Option<u64>
     requires valid { IsValid w.now }
     requires count { length p.now.t1 ≡ length w.now.drives }
@@ -77,7 +78,8 @@ fn widened(times: &[u16]) -> ArrayVec<u32, 64>
     wide
 }
 
-// Returns the index in the ring of the drive of the first AT in the order that breaks an inequality; `None` if each AT keeps it.
+// Returns the index in the ring of the drive of the first AT in the order that breaks an inequality, 1 to 4, 6, 7 or 10; `None` if each AT
+// keeps it. For any other inequality the result is `None`, whether it is kept or not.
 fn unmet(w: &Wishes, p: &Plan, t1: &[u32], rule: Inequality) -> Option<usize>
     requires valid { IsValid w.now }
     requires count { length p.now.t1 ≡ length w.now.drives }
@@ -94,7 +96,8 @@ fn unmet(w: &Wishes, p: &Plan, t1: &[u32], rule: Inequality) -> Option<usize>
     None
 }
 
-// Returns an inequality with the address of the drive whose AT is the first to break it; `None` if each AT keeps it.
+// Returns an inequality, 1 to 4, 6, 7 or 10, with the address of the drive whose AT is the first in the order to break it; `None` if each
+// AT keeps it. For any other inequality the result is `None`, whether it is kept or not.
 #[tactic(auto, unfolding(crate::specs::FirstBroken::broken_by))]
 fn broken_by(w: &Wishes, p: &Plan, t1: &[u32], rule: Inequality) -> Option<Broken>
     requires valid { IsValid w.now }
@@ -111,7 +114,7 @@ fn broken_by(w: &Wishes, p: &Plan, t1: &[u32], rule: Inequality) -> Option<Broke
     }
 }
 
-// Returns an inequality that concerns no single drive; `None` if it is kept.
+// Returns an inequality that concerns no single drive, with 0 as the drive; `None` if it is kept.
 fn broken_unless(rule: Inequality, kept: bool) -> Option<Broken>
     ensures { result ≡ broken_unless rule kept }
 {
@@ -137,7 +140,7 @@ fn is_last_kept(w: &Wishes, p: &Plan, t1: &[u32]) -> bool
     bits_after(w, t1, last, w.gap()) <= w.bits(p.t2())
 }
 
-// Returns whether 9 is kept: between the end of the MDT and the next MST there is room for the gap and the recovery of each drive.
+// Returns whether 9 is kept: from the end of the MDT to the next MST there is at least the gap, and at least the TMTSY of each drive.
 fn is_mst_kept(w: &Wishes, p: &Plan) -> bool
     requires valid { IsValid w.now }
     ensures { result ≡ nat_le (sum_9 w.now (w.now.rate * p.now.t2) (greatest_tmtsy w.now)) (bound_9 w.now) }
@@ -181,7 +184,7 @@ fn broken_position(w: &Wishes, p: &Plan) -> Option<Broken>
     }
 }
 
-// Returns the first inequality that the plan breaks; `None` if it keeps all. Valid input keeps 11.
+// Returns the first inequality that the plan breaks, in the order that `fits` states; `None` if it keeps all. Valid input keeps 11.
 #[tactic(auto, unfolding(crate::specs::FirstBroken::first_broken))]
 fn first_broken(w: &Wishes, p: &Plan) -> Option<Broken>
     requires valid { IsValid w.now }

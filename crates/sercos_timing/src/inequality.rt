@@ -21,7 +21,7 @@ pub enum Inequality {
     Records,
     /// 8: T3 is within the cycle.
     Cycle,
-    /// 9: between the end of the MDT and the next MST there is room for the gap and for each drive's TMTSY.
+    /// 9: from the end of the MDT to the next MST there is at least the gap, and at least each drive's TMTSY.
     NextMst,
     /// 10: between T4 and the end of the cycle there is at least a drive's T4min.
     Capture,

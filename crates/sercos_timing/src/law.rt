@@ -13,7 +13,8 @@ pub fn first_broken_law()
         → first_broken w p ≡ Some b → IsFirstBroken w p b }
 {}
 
-/// States that a test which can be computed is true exactly for valid planner's input, so for that for which a plan may be requested.
+/// States that `is_valid` of `specs/Tests.antt`, a test that can be computed, is true exactly for valid planner's input (`IsValid`), so for
+/// that for which a plan may be requested.
 pub fn valid_law()
     ensures { TellsValid }
 {}

@@ -48,7 +48,7 @@ impl Model for Plan {
 }
 
 impl Plan {
-    /// Returns T1 of each drive, in microseconds, in the order of the ring.
+    /// Returns T1 of each drive, in microseconds after the MST's end, in the order of the ring.
     pub fn t1(&self) -> &[u16]
         ensures value { result.now ≡ self.now.t1 }
         ensures limit { length result.now ≤ 64 }
@@ -56,7 +56,7 @@ impl Plan {
         self.t1.as_slice()
     }
 
-    /// Returns T2, in microseconds.
+    /// Returns T2, in microseconds after the MST's end.
     pub fn t2(&self) -> u32
         ensures value { result ≡ self.now.t2 }
         ensures limit { result < 65536 }
@@ -64,7 +64,7 @@ impl Plan {
         u32::from(self.t2)
     }
 
-    /// Returns T3, in microseconds.
+    /// Returns T3, in microseconds after the MST's end.
     pub fn t3(&self) -> u32
         ensures value { result ≡ self.now.t3 }
         ensures limit { result < 65536 }
@@ -72,7 +72,7 @@ impl Plan {
         u32::from(self.t3)
     }
 
-    /// Returns T4, in microseconds.
+    /// Returns T4, in microseconds after the MST's end.
     pub fn t4(&self) -> u32
         ensures value { result ≡ self.now.t4 }
         ensures limit { result < 65536 }

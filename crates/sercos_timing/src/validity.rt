@@ -24,7 +24,7 @@ fn is_wish(wish: &Wish) -> bool
     address && at_len && record_len
 }
 
-// Returns whether each drive has such an input.
+// Returns whether `is_wish` accepts the input of each drive.
 fn are_wishes(drives: &[Wish]) -> bool
     ensures { IsTrue result ↔ ((k : ℕ) → k < length drives.now → IsWish (slice_index_or drives.now k no_wish)) }
 {

@@ -23,7 +23,8 @@ fn big_endian(word: u16) -> [u8; 2]
     word.to_be_bytes()
 }
 
-// Writes the line on how a request ended. `number` is that of the request, counted from 1.
+// Writes the line on how a request ended. `number` is that of the request, counted from 1. A refusal's code is written with its high byte
+// first.
 fn write_ended<K: Sink>(
     cycle: u32,
     number: u16,
@@ -146,7 +147,7 @@ fn write_chain<K: Sink>(
     write_bound(cycle, chain, mark, line, sink)
 }
 
-// Writes the line of a plan: T2, T3, T4, and the length of the MDT.
+// Writes the line of a plan: T2, T3 and T4 in microseconds, and the length of the MDT in bytes after its address.
 fn write_plan_line<K: Sink>(
     cycle: u32,
     plan: &Plan,
@@ -166,8 +167,8 @@ fn write_plan_line<K: Sink>(
     write_line(LineKind::Plan, &values, mark, line, sink)
 }
 
-// Writes the line of a drive's time slot: its address, its T1, and the position of its data record in the MDT. `place` is the drive's index
-// in ring order. The drive, its T1 and its position must be present.
+// Writes the line of a drive's time slot: its address, its T1 in microseconds, and the position of its data record in the MDT, 1 for the
+// first byte after the address. `place` is the drive's index in ring order. The drive, its T1 and its position must be present.
 fn write_slot<K: Sink>(
     cycle: u32,
     wishes: &Wishes,
@@ -248,7 +249,7 @@ fn write_plan<K: Sink>(
     }
 }
 
-// Writes the lines of a stop.
+// Writes the lines of a stop. A drive's code and an attribute are written with their high byte first.
 #[tactic(auto, unfolding(crate::specs::Kinds::tail_for))]
 fn write_stopped<K: Sink>(
     cycle: u32,

@@ -130,7 +130,7 @@ pub fn template_law()
     ensures { (kind : LineKind) → is_template (template_of kind) ≡ true }
 {}
 
-// Returns what follows the template of a kind: addresses, identifier numbers, or nothing.
+// Returns what follows the template of a kind: addresses for the order, identifier numbers for a failed check, otherwise nothing.
 #[tactic(auto, unfolding(crate::specs::Kinds::tail_for))]
 fn tail_for(kind: LineKind) -> Tail
     ensures { result ≡ tail_for kind }
@@ -143,8 +143,9 @@ fn tail_for(kind: LineKind) -> Tail
 }
 
 // Reads a line as the first of these kinds that it fits. Returns that kind, with the values of its fields in `told`. The error is the
-// offset of the first byte at which the line can't continue any of these kinds, at most one more than its length; then `told` is
-// unspecified. Without kinds it is 0.
+// offset of the first byte at which the line can't continue any of these kinds, at most one more than its length. For a number beyond its
+// field's type, and for a byte or an address too many, that is its first digit; for an identifier number above 4095 the first of its four
+// digits; for a missing byte the line's length. Without kinds it is 0. After an error `told` is unspecified.
 fn read_kinds(kinds: &[LineKind], line: &[u8], told: &mut Told) -> Result<LineKind, usize>
     ensures fault { result_err result ≡ kinds_fault kinds.now line.now }
     ensures bound { IfErr result (λ place. place ≤ length line.now + 1) }
@@ -166,7 +167,8 @@ fn read_kinds(kinds: &[LineKind], line: &[u8], told: &mut Told) -> Result<LineKi
 }
 
 /// Reads a line of a trace, without its line feed. Returns its kind, with the values of its fields in `told`. The error is the offset of
-/// the first byte at which the line can't continue any kind, at most one more than its length; then `told` is unspecified.
+/// the first byte at which the line can't continue any kind, as `read_kinds` has it, at most one more than its length; then `told` is
+/// unspecified.
 pub(crate) fn read_kind(line: &[u8], told: &mut Told) -> Result<LineKind, usize>
     ensures fault { result_err result ≡ kinds_fault all_kinds line.now }
     ensures bound { IfErr result (λ place. place ≤ length line.now + 1) }

@@ -29,7 +29,7 @@ impl Model for Reader {
     ghost view = { λ r. if r.is_telegram then r.telegram else r.other };
 }
 
-// Returns the kind of telegram that a line of this kind has; `None` if it has none.
+// Returns the kind of telegram that a line of this kind has; `None` for a line other than those of MSTs, ATs and MDTs.
 #[tactic(auto, unfolding(crate::specs::Lines::telegram_kind))]
 fn telegram_kind(kind: LineKind) -> Option<Kind>
     ensures { result ≡ telegram_kind kind }

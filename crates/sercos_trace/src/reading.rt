@@ -176,6 +176,7 @@ pub(crate) fn line_of(kind: LineKind, told: &Told) -> Line
 /// Reads a line of a trace, without its line feed. The error has the column, counted from 1, of the first byte at which the text can't
 /// continue any line of a trace:
 /// - for a number beyond its field's type, and for a byte or an address too many, its first digit;
+/// - for an identifier number above 4095, the first of its four digits;
 /// - for a missing byte, one past the end.
 pub fn read_line(line: &[u8]) -> Result<Line, BadLine>
     ensures ok { result_ok result ≡ line_in line.now }

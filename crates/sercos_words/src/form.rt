@@ -97,8 +97,8 @@ fn command_line<'a>(alloc: Global) -> Result<Command<'a>, AllocError>
         .arg(number)
 }
 
-// Returns the form of words; `None` if they are in none, as are all those that `clap` refuses. The number of `gen` is 1 to 64, that of
-// `replay` 0 to 254. The error is `AllocError`.
+// Returns the form of words, as `form_of` lists the forms; `None` for any other words, among them all those that `clap` refuses. One word
+// `--` may be anywhere among them. The number of `gen` is 1 to 64, that of `replay` 0 to 254. The error is `AllocError`.
 fn read_form(alloc: Global, words: &[&str]) -> Result<Option<Form>, AllocError>
     ensures value { IfOk result (λ form. form ≡ form_of (map (λ word. word.now) words.now)) }
     ensures range { IfOk result (λ form. IfSome form HasNumber) }
@@ -128,9 +128,10 @@ fn matched_form(word: Option<&str>, number: Option<&str>) -> Option<Form>
     }
 }
 
-/// Returns the form of the words; `None` if they are in none. One word `--` may be anywhere among them. The number of `gen` is 1 to 64,
-/// that of `replay` 0 to 254. Without words, and with more than three, the result is `None`. The error is `AllocError`; it is returned only
-/// for one to three words, since no other number of words needs memory.
+/// Returns the form of the words: one word, `show`, `plan`, `margin`, `run`, `check`, `backup` or `restore`; or `gen` and a number from 1
+/// to 64, or `replay` and one from 0 to 254, in decimal digits without leading zeros. One word `--` may be anywhere among them. The result
+/// is `None` for any other words. The error is `AllocError`; it is returned only for one to three words, since no other number of words
+/// needs memory.
 pub fn form_of(alloc: Global, words: &Words) -> Result<Option<Form>, AllocError>
     ensures count { (words.now ≡ []) ⊎ (3 < length words.now) → result ≡ Ok None }
     ensures value { IfOk result (λ form. form ≡ form_of words.now) }
