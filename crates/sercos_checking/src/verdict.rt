@@ -14,7 +14,7 @@ pub enum Verdict {
     Refused {
         /// The line; one past the last line if the head ends early.
         line: u32,
-        /// The column of the first byte that doesn't fit, counted from 1; 1 if the line can't follow.
+        /// The column as `BadLine` of `sercos_trace` has it; 1 if the line can't follow.
         column: usize,
     },
     /// A telegram breaks a rule.

@@ -50,7 +50,8 @@ pub enum Line {
 /// A text that is not a line of a trace.
 #[derive(Clone, Copy, Debug, PartialEq, Eq)]
 pub struct BadLine {
-    /// The column of the first byte that doesn't fit, counted from 1; one past the end if a byte is missing.
+    /// The column of the first byte that doesn't fit, counted from 1; one past the end if a byte is missing, and for a number out of its
+    /// range, or a byte or an address too many, that of its first digit.
     pub column: usize,
 }
 

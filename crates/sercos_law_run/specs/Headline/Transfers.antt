@@ -75,8 +75,8 @@ pub record AreReportedIn (r : RingView) (jobs : List Job) (carry : Carry) (resta
       ((behind_mdt r jobs carry restarts t.sent j).now.report k)
       (broken (behind_mdt r jobs carry restarts t.sent j) k) []) number o))
   pub at_restart : (number : ℕ) (o : Outcome) →
-      AreEquivalent (HasOutcome (restart_told (known_of r) (looks_back r jobs (master_calls r carry restarts j)) no_events).outcomes number
-      o)
+      AreEquivalent
+      (HasOutcome (restart_told (known_of r) (looks_back r jobs (master_calls r carry restarts j)) no_events).outcomes number o)
       ((k : ℕ) × (k < length (known_of r).drives) ×
       HasReport (with_told (broken (looks_back r jobs (master_calls r carry restarts j)) k) []) number o)
   pub right : (k : ℕ) (x : Report) → k < length r.drives → (behind_mdt r jobs carry restarts t.sent j).now.report k ≡ Some x
