@@ -42,9 +42,10 @@ enum sercos_status {
 /* ---- Commands ---- */
 
 /* Runs a command over an input: `words` are its words, one a line ("plan", "gen\n3", "replay\n0"). The status is that of the
- * program, never 4. `*written` is the number of bytes in `output`: after SERCOS_WRITE_FAULT, and after SERCOS_REFUSED with too
- * little room, a prefix of the output that fills it. The trace of a long `run` can be had cycle by cycle: `sercos_ring` below. It
- * takes memory, and gives all of it back. */
+ * program, never 4. `*written` is the number of bytes written to `output`. It is 0 after SERCOS_BAD_WORDS, SERCOS_MEMORY and
+ * SERCOS_TOO_LONG. After SERCOS_WRITE_FAULT, and after SERCOS_REFUSED with too little room, it is `output_len`, and `output` has as
+ * much of the text as fits. `sercos_call` takes memory, and gives all of it back. The trace of a long `run` can be had cycle by
+ * cycle: `sercos_ring` below. */
 uint8_t sercos_call(const uint8_t *words, size_t words_len, const uint8_t *input, size_t input_len,
                     uint8_t *output, size_t output_len, size_t *written);
 
@@ -243,7 +244,8 @@ uint8_t sercos_drive_open(const uint8_t *document, size_t len, size_t place, ser
 /* Takes what arrived at the MST's place of a cycle: the content of a frame, if one arrived. The cycle isn't below an earlier one. */
 uint8_t sercos_drive_hear_mst(sercos_drive *drive, uint32_t cycle, bool arrived, const uint8_t *content, size_t len);
 /* The content of this cycle's AT, and its start in microseconds after the MST's end. SERCOS_NO: the drive sends none: without this cycle's
- * MST, in phase 0, and in phases 1 and 2 if it accepted no MDT in the cycle before. */
+ * MST, in phase 0, and in phases 1 and 2 if it accepted no MDT in the cycle before. Then `*start` stays as it
+ * was; after SERCOS_WRITE_FAULT it is written anyway. */
 uint8_t sercos_drive_at(sercos_drive *drive, uint8_t *out, size_t out_len, size_t *written, uint16_t *start);
 /* Takes what arrived at the MDT's place. */
 uint8_t sercos_drive_hear_mdt(sercos_drive *drive, bool arrived, const uint8_t *content, size_t len);
@@ -253,7 +255,7 @@ uint8_t sercos_drive_phase(sercos_drive *drive, uint8_t *phase);
 /* The bytes of an element of a data block, 2 to 7 (name, attribute, unit, minimum, maximum, operation data), at most 1,024. A
  * number has its low byte first. The operation data of a block with a step are those of cycle 0. SERCOS_NO: the drive has no such block, or
  * the block no such element, and `*code` is the error that a service transfer gets (0x1001, 0x2001, 0x4001, 0x5001, 0x6001).
- * SERCOS_REFUSED: no element 2 to 7. */
+ * SERCOS_REFUSED: `element` isn't 2 to 7. Unless the status is SERCOS_NO or SERCOS_CLOSED, `*code` is 0. */
 uint8_t sercos_drive_element(sercos_drive *drive, uint16_t idn, uint8_t element, uint8_t *out, size_t out_len, size_t *written,
                              uint16_t *code);
 void sercos_drive_close(sercos_drive *drive);

@@ -13,7 +13,7 @@ use Rattle.sercos_law_run.proofs.Totals.Bounds.{HasEach, due_each, or_each, posi
 use Rattle.sercos_c.specs.Texts.{has_each, has_slots}
 use Rattle.sercos_c.specs.Records.{silent_record}
 use Rattle.sercos_c.proofs.RingLemmas.{slots_for}
-use Rattle.sercos_c.specs.Masters.{past_of, reported, reported_in, has_master, StandsFor}
+use Rattle.sercos_c.specs.Masters.{past_of, reported, reported_in, StandsFor}
 
 pub none_few : (outcomes : List (ℕ × Outcome)) → outcomes ≡ [] → length outcomes ≤ 64
 none_few outcomes none = omega (arith, ap length none)
@@ -43,7 +43,3 @@ slots_reported law d h w made is made_is =
 
 pub stands_so : (o : Option AnyMaster) (m : AnyMaster) (d : DocumentView) (h : List Call) → o ≡ Some m → StandsFor o d h → StandsFor (Some m) d h
 stands_so o m d h is stands = subst (λ (p : Option AnyMaster). StandsFor p d h) is stands
-
-pub there : (o : Option AnyMaster) (d : DocumentView) (h : List Call) → StandsFor o d h → has_master o ≡ true
-there (Some m) d h stands = refl
-there None d h stands = absurd stands

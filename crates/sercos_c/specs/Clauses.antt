@@ -28,9 +28,7 @@ pub use Rattle.sercos_drive.specs.Says.{drive_says}
 pub use Rattle.sercos_hdlc.specs.Fed.{IsFed, taken_of}
 pub use Rattle.sercos_hdlc.specs.Stuffed.{frame_of}
 pub use Rattle.sercos_idn.specs.Idns.{idn_fault, idn_text, spelled_raw}
-pub use Rattle.sercos_io.specs.Status.{status_code}
 pub use Rattle.sercos_law_run.specs.Held.Opened.{IsOpened}
-pub use Rattle.sercos_law_run.specs.Journal.Runs.{drive_at}
 pub use Rattle.sercos_law_run.specs.Totals.Totals.{totals_of}
 pub use Rattle.sercos_master.specs.Annals.{Call, End, HearAt, HearMst, past}
 pub use Rattle.sercos_master.specs.Any.{AnyStandsFor}

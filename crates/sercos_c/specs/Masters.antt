@@ -1,5 +1,5 @@
 -- A master that is held, or none.
-use Rattle.std.specs.Prelude.{◌≡◌, ◌⊎◌, Result, Ok, Err, ℕ, ◌+◌, Bool, false, List, [], ◌∷◌, Option, Some, None, is_some}
+use Rattle.std.specs.Prelude.{◌≡◌, ◌⊎◌, Result, Ok, Err, ℕ, ◌+◌, Bool, true, false, List, [], ◌∷◌, Option, Some, None}
 use Rattle.sercos_block.specs.Rings.{wishes_of}
 use Rattle.sercos_config.specs.Views.{DocumentView}
 use Rattle.sercos_config.specs.Document.{document_of}
@@ -52,9 +52,6 @@ reported_in (HearMst content ∷ h) = reported_in h
 reported_in (HearAt content ∷ h) = reported_in h
 reported_in (Mdt ∷ h) = reported_in h
 
-abbrev pub has_master : Option AnyMaster → Bool
-has_master m = is_some m
-
 abbrev pub StandsFor : Option AnyMaster → DocumentView → List Call → Type 0
 StandsFor None d h = ⊥
 StandsFor (Some m) d h = AnyStandsFor m (known_of d.setup) d.jobs h
@@ -66,8 +63,9 @@ pub record MasterStandsFor (m : MasterStation) (d : DocumentView) (h : List Call
   pub record_is : m.record.value ≡ silent_record (reported_in h) (reported d h)
   pub ended_is : m.ended ≡ counted (ends h)
 
+-- whether it is one
 abbrev pub is_master : Option Station → Bool
-is_master (Some (station.Master m)) = has_master m.master
+is_master (Some (station.Master m)) = true
 is_master _ = false
 
 -- a master is held, and it stands for these calls

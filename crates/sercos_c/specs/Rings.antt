@@ -43,6 +43,7 @@ abbrev pub lines_of_newest : WishesView → List CycleView → List ℕ
 lines_of_newest w [] = []
 lines_of_newest w (v ∷ j) = cycle_text w v
 
+-- whether it is one
 abbrev pub is_ring : Option Station → Bool
 is_ring (Some (station.Ring r)) = true
 is_ring _ = false

@@ -1,12 +1,12 @@
 //! A frame whose bits arrive in pieces.
-ghost use Rattle.std.specs.Prelude.{◌≡◌, ◌≢◌, ◌⊎◌, ◌==◌, ◌<◌, ◌≤◌, not, Bool, true, List, [], ◌++◌, length, take, Some, None};
+ghost use Rattle.std.specs.Prelude.{◌≡◌, ◌≢◌, ◌⊎◌, ◌==◌, ◌<◌, ◌≤◌, not, Bool, true, List, [], ◌++◌, length, take, None};
 ghost use Rattle.sercos_c.specs.Clauses.{bits_of, taken_of, IsFed, done, write_fault, no_memory, closed, IsNothing, no_bad_frame, IsUnframed, is_deframer, feed_status, HoldsFed};
 
 use crate::bad_frame::{SercosBadFrame, no_bad_frame};
 use crate::frames::{MOST_BITS, feed_bits, read_frame};
-use crate::handle::{Handle, close, open, put_back, take_out};
+use crate::handle::{Handle, close, on_station, open};
 use crate::station::Station;
-use crate::status::{CLOSED, DONE, REFUSED, TOO_LONG, WRITE_FAULT};
+use crate::status::{DONE, REFUSED, TOO_LONG, WRITE_FAULT};
 use sercos_bits::MAX_CONTENT;
 use sercos_hdlc::Deframer;
 use std::alloc::Global;
@@ -78,15 +78,7 @@ pub extern "C" fn sercos_deframer_feed(
         → HoldsFed (before ++ take count (bits_of bits.now)) deframer.new.held.value }
     ensures same { result ≢ done → deframer.new.held.value ≡ deframer.old.held.value }
 {
-    let Some(mut station) = take_out(alloc, deframer) else {
-        return CLOSED;
-    };
-    let status = match &mut *station {
-        Station::Deframer(held) => feed(held, bits, count),
-        _ => CLOSED,
-    };
-    put_back(station, deframer);
-    status
+    on_station!(alloc, deframer, Station::Deframer(held) => feed(held, bits, count))
 }
 
 /// Reads all bits so far as a frame, writes its content to the front of `out` and the number of its bytes to `written`, and begins a new
@@ -110,15 +102,7 @@ pub extern "C" fn sercos_deframer_finish(
     ensures same { (length out.old < 2048) ⊎ (result ≡ closed) → deframer.new.held.value ≡ deframer.old.held.value }
     ensures nothing { result ≡ closed → (out.new ≡ out.old) × ((written.new ≡ written.old) × (why.new ≡ why.old)) }
 {
-    let Some(mut station) = take_out(alloc, deframer) else {
-        return CLOSED;
-    };
-    let status = match &mut *station {
-        Station::Deframer(held) => finish(held, out, written, why),
-        _ => CLOSED,
-    };
-    put_back(station, deframer);
-    status
+    on_station!(alloc, deframer, Station::Deframer(held) => finish(held, out, written, why))
 }
 
 /// Closes a deframer: drops it and frees its memory, if there is one. The handle then holds nothing; it may be closed again, or opened.

@@ -1,12 +1,13 @@
-//! A drive whose calls a program in another language makes.
-ghost use Rattle.std.specs.Prelude.{◌≡◌, ◌≢◌, ℕ, ◌≤◌, ◌<◌, ◌⊎◌, ◌==◌, not, List, ◌∷◌, Option, Some, None, true};
+//! A drive whose calls a program in another language makes. The comments speak of one that was opened from a document and has had only
+//! these calls since.
+ghost use Rattle.std.specs.Prelude.{◌≡◌, ◌≢◌, ℕ, ◌≤◌, ◌<◌, ◌⊎◌, ◌==◌, not, List, ◌∷◌, None, true};
 ghost use Rattle.sercos_c.specs.Clauses.{option_copied, DriveView, find_block, DriveCall, Mst, cycle_at, phase_at, store_at, drive_says, DriveStandsFor, refused, closed, done, IsNothing, is_drive, drive_status, arrival, HoldsDrive, IsSaid, IsElement};
 ghost use Rattle.sercos_drive.specs.Heard.{Mdt, Restart};
 
-use crate::handle::{Handle, close, put_back, take_out};
+use crate::handle::{Handle, close, on_station};
 use crate::room::put;
 use crate::station::Station;
-use crate::status::{CLOSED, DONE, NO, REFUSED};
+use crate::status::{DONE, NO, REFUSED};
 use sercos_bits::Content;
 use sercos_drive::Drive;
 use sercos_idn::Idn;
@@ -21,9 +22,10 @@ pub(crate) fn arrival(arrived: bool, content: &[u8]) -> Option<&[u8]>
 }
 
 // Writes the content of this cycle's AT to the front of `out`, the number of its bytes to `written`, and its start, in microseconds after
-// the MST's end, to `start`, and returns `DONE`. Returns `NO` if the drive sends none: without this cycle's MST, in phase 0, and in phases
-// 1 and 2 if it accepted no MDT in the cycle before. Then the start stays as it was. Otherwise it returns `WRITE_FAULT` if there is too
-// little room, and then the start is written anyway. After `NO` and `WRITE_FAULT` `written` is 0, and `out` stays as it was.
+// the MST's end, to `start`, and returns `DONE`. The bytes of `out` after the content stay as they were. Returns `NO` if the drive sends
+// none: without this cycle's MST, in phase 0, and in phases 1 and 2 if it accepted no MDT in the cycle before. Then the start stays as it
+// was. Otherwise it returns `WRITE_FAULT` if there is too little room, and then the start is written anyway. After `NO` and `WRITE_FAULT`
+// `written` is 0, and `out` stays as it was.
 fn at_of(drive: &Drive, out: &mut [u8], written: &mut usize, start: &mut u16) -> u8
     ensures open { result ≢ closed }
     ensures said { (d : DriveView) (rate : ℕ) (h : List DriveCall) → DriveStandsFor drive.now d rate h
@@ -43,39 +45,11 @@ fn at_of(drive: &Drive, out: &mut [u8], written: &mut usize, start: &mut u16) ->
 }
 
 // Writes the bytes of an element, 2 to 7, of the drive's data block `idn` to the front of `out`, the number of them, at most 1,024, to
-// `written`, and 0 to `code`, and returns `DONE`. The operation data of a block with a step are those of cycle 0, not of the newest one.
-// Returns `NO` if the drive has no such block, or the block no such element, and then `code` is the error that a service transfer gets;
-// otherwise `WRITE_FAULT` if there is too little room, and then `code` is 0. In both cases `written` is 0, and `out` stays as it was.
+// `written`, and 0 to `code`, and returns `DONE`. The bytes of `out` after the element stay as they were. The operation data of a block
+// with a step are those of cycle 0, not of the newest one. Returns `REFUSED` if the element isn't 2 to 7, and then `code` is 0. Otherwise
+// it returns `NO` if the drive has no such block, or the block no such element, and then `code` is the error that a service transfer gets;
+// or `WRITE_FAULT` if there is too little room, and then `code` is 0. In these three cases `written` is 0, and `out` stays as it was.
 fn element_of(
-    drive: &Drive,
-    idn: u16,
-    element: u8,
-    out: &mut [u8],
-    written: &mut usize,
-    code: &mut u16,
-) -> u8
-    requires { (2 ≤ element) × (element ≤ 7) }
-    ensures open { result ≢ closed }
-    ensures bound { written.new ≤ 1024 }
-    ensures read { (d : DriveView) (rate : ℕ) (h : List DriveCall) → DriveStandsFor drive.now d rate h
-        → IsElement (find_block idn (store_at d rate h)) element out.old out.new written.new code.new result }
-{
-    match drive.store().element(Idn { raw: idn }, element) {
-        Ok(bytes) => {
-            *code = 0;
-            put(bytes, out, written)
-        }
-        Err(why) => {
-            *code = why.raw;
-            *written = 0;
-            NO
-        }
-    }
-}
-
-// Writes the bytes of an element, as `element_of` does. Returns `REFUSED` if the element isn't 2 to 7; then `written` and `code` are 0, and
-// `out` stays as it was.
-fn element_if(
     drive: &Drive,
     idn: u16,
     element: u8,
@@ -94,7 +68,17 @@ fn element_if(
         *written = 0;
         return REFUSED;
     }
-    element_of(drive, idn, element, out, written, code)
+    match drive.store().element(Idn { raw: idn }, element) {
+        Ok(bytes) => {
+            *code = 0;
+            put(bytes, out, written)
+        }
+        Err(why) => {
+            *code = why.raw;
+            *written = 0;
+            NO
+        }
+    }
 }
 
 /// Closes a drive: drops it and frees its memory, if there is one. The handle then holds nothing; it may be closed again, or opened.
@@ -120,18 +104,10 @@ pub extern "C" fn sercos_drive_hear_mst(
     ensures stands { (d : DriveView) (rate : ℕ) (h : List DriveCall) → HoldsDrive drive.old.held.value d rate h → cycle_at d rate h ≤ cycle
         → HoldsDrive drive.new.held.value d rate (Mst cycle (arrival arrived content.now) ∷ h) }
 {
-    let Some(mut station) = take_out(alloc, drive) else {
-        return CLOSED;
-    };
-    let status = match &mut *station {
-        Station::Drive(held) => {
-            held.hear_mst(cycle, arrival(arrived, content));
-            DONE
-        }
-        _ => CLOSED,
-    };
-    put_back(station, drive);
-    status
+    on_station!(alloc, drive, Station::Drive(held) => {
+        held.hear_mst(cycle, arrival(arrived, content));
+        DONE
+    })
 }
 
 /// Takes what arrived at the MDT's place of this cycle: `content` if a frame arrived, and otherwise nothing; then `content` is ignored.
@@ -148,18 +124,10 @@ pub extern "C" fn sercos_drive_hear_mdt(
     ensures stands { (d : DriveView) (rate : ℕ) (h : List DriveCall) → HoldsDrive drive.old.held.value d rate h
         → HoldsDrive drive.new.held.value d rate (Mdt (arrival arrived content.now) ∷ h) }
 {
-    let Some(mut station) = take_out(alloc, drive) else {
-        return CLOSED;
-    };
-    let status = match &mut *station {
-        Station::Drive(held) => {
-            held.hear_mdt(arrival(arrived, content));
-            DONE
-        }
-        _ => CLOSED,
-    };
-    put_back(station, drive);
-    status
+    on_station!(alloc, drive, Station::Drive(held) => {
+        held.hear_mdt(arrival(arrived, content));
+        DONE
+    })
 }
 
 /// Restarts a drive between two cycles: it is in phase 0, its service channel and its procedure commands are cleared, and its data blocks
@@ -171,18 +139,10 @@ pub extern "C" fn sercos_drive_restart(alloc: Global, drive: &mut Handle) -> u8
     ensures stands { (d : DriveView) (rate : ℕ) (h : List DriveCall) → HoldsDrive drive.old.held.value d rate h
         → HoldsDrive drive.new.held.value d rate (Restart ∷ h) }
 {
-    let Some(mut station) = take_out(alloc, drive) else {
-        return CLOSED;
-    };
-    let status = match &mut *station {
-        Station::Drive(held) => {
-            held.restart();
-            DONE
-        }
-        _ => CLOSED,
-    };
-    put_back(station, drive);
-    status
+    on_station!(alloc, drive, Station::Drive(held) => {
+        held.restart();
+        DONE
+    })
 }
 
 /// Writes the phase of a drive, 0 to 4, to `phase`, and returns `DONE`. Returns `CLOSED`, and writes nothing, if no drive is held. The
@@ -195,26 +155,18 @@ pub extern "C" fn sercos_drive_phase(alloc: Global, drive: &mut Handle, phase: &
     ensures bound { result ≡ done → phase.new ≤ 4 }
     ensures nothing { result ≡ closed → phase.new ≡ phase.old }
 {
-    let Some(station) = take_out(alloc, drive) else {
-        return CLOSED;
-    };
-    let status = match &*station {
-        Station::Drive(held) => {
-            *phase = held.phase();
-            DONE
-        }
-        _ => CLOSED,
-    };
-    put_back(station, drive);
-    status
+    on_station!(alloc, drive, Station::Drive(held) => {
+        *phase = held.phase();
+        DONE
+    })
 }
 
 /// Writes the content of this cycle's AT to the front of `out`, the number of its bytes to `written`, and its start, in microseconds after
-/// the MST's end, to `start`, and returns `DONE`. It is called between this cycle's `sercos_drive_hear_mst` and `sercos_drive_hear_mdt`.
-/// The drive stays as it was. Returns `CLOSED`, and writes nothing, if no drive is held; otherwise `NO` if the drive sends none: without
-/// this cycle's MST, in phase 0, and in phases 1 and 2 if it accepted no MDT in the cycle before. Then the start stays as it was. Otherwise
-/// it returns `WRITE_FAULT` if there is too little room, and then the start is written anyway. After `NO` and `WRITE_FAULT` `written` is 0,
-/// and `out` stays as it was.
+/// the MST's end, to `start`, and returns `DONE`. The bytes of `out` after the content stay as they were, and so does the drive. It is
+/// called between this cycle's `sercos_drive_hear_mst` and `sercos_drive_hear_mdt`. Returns `CLOSED`, and writes nothing, if no drive is
+/// held; otherwise `NO` if the drive sends none: without this cycle's MST, in phase 0, and in phases 1 and 2 if it accepted no MDT in the
+/// cycle before. Then the start stays as it was. Otherwise it returns `WRITE_FAULT` if there is too little room, and then the start is
+/// written anyway. After `NO` and `WRITE_FAULT` `written` is 0, and `out` stays as it was.
 #[unsafe(no_mangle)]
 pub extern "C" fn sercos_drive_at(
     alloc: Global,
@@ -229,23 +181,16 @@ pub extern "C" fn sercos_drive_at(
         → IsSaid (drive_says d rate h) out.old out.new written.new start.old start.new result }
     ensures nothing { result ≡ closed → (out.new ≡ out.old) × ((written.new ≡ written.old) × (start.new ≡ start.old)) }
 {
-    let Some(station) = take_out(alloc, drive) else {
-        return CLOSED;
-    };
-    let status = match &*station {
-        Station::Drive(held) => at_of(held, out, written, start),
-        _ => CLOSED,
-    };
-    put_back(station, drive);
-    status
+    on_station!(alloc, drive, Station::Drive(held) => at_of(held, out, written, start))
 }
 
 /// Writes the bytes of an element, 2 to 7, of the data block `idn` to the front of `out`, and the number of them, at most 1,024, to
-/// `written`, and returns `DONE`. A number has its low byte first. The operation data of a block with a step are those of cycle 0, while an
-/// AT or a service transfer has those of its own cycle. The drive stays as it was. Returns `CLOSED`, and writes nothing, if no drive is
-/// held. Otherwise it returns `REFUSED` if the element isn't 2 to 7; `NO` if the drive has no such block, or the block no such element, and
-/// then `code` is the error that a service transfer gets; or `WRITE_FAULT` if there is too little room. After the last three `written` is
-/// 0, and `out` stays as it was. Unless the result is `NO` or `CLOSED`, `code` is 0.
+/// `written`, and returns `DONE`. The bytes of `out` after the element stay as they were, and so does the drive. A number has its low byte
+/// first. The operation data of a block with a step are those of cycle 0, while an AT or a service transfer has those of its own cycle.
+/// Returns `CLOSED`, and writes nothing, if no drive is held. Otherwise it returns `REFUSED` if the element isn't 2 to 7. Otherwise it
+/// returns `NO` if the drive has no such block, or the block no such element, and then `code` is the error that a service transfer gets; or
+/// `WRITE_FAULT` if there is too little room. After the last three `written` is 0, and `out` stays as it was. Unless the result is `NO` or
+/// `CLOSED`, `code` is 0.
 #[unsafe(no_mangle)]
 pub extern "C" fn sercos_drive_element(
     alloc: Global,
@@ -265,13 +210,5 @@ pub extern "C" fn sercos_drive_element(
         → IsElement (find_block idn (store_at d rate h)) element out.old out.new written.new code.new result }
     ensures nothing { result ≡ closed → (out.new ≡ out.old) × ((written.new ≡ written.old) × (code.new ≡ code.old)) }
 {
-    let Some(station) = take_out(alloc, drive) else {
-        return CLOSED;
-    };
-    let status = match &*station {
-        Station::Drive(held) => element_if(held, idn, element, out, written, code),
-        _ => CLOSED,
-    };
-    put_back(station, drive);
-    status
+    on_station!(alloc, drive, Station::Drive(held) => element_of(held, idn, element, out, written, code))
 }

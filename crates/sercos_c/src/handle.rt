@@ -35,6 +35,26 @@ pub(crate) fn take_out(alloc: Global, handle: &mut Handle) -> Option<Box<Station
     }
 }
 
+/// Makes a call from C to a station: takes the station out of `$handle`, makes the call if the station matches `$kind`, and puts it back.
+/// `$kind` binds the station for `$call`, whose value is the status of the call. The value of the macro is that status, or `CLOSED` for a
+/// station of another kind, which is put back unchanged. If the handle holds nothing, the function that uses the macro returns `CLOSED`.
+/// `$call` must contain no `return` and no `?`: the station would be dropped, and the handle would hold nothing.
+macro_rules! on_station {
+    ($alloc:ident, $handle:ident, $kind:pat => $call:expr) => {{
+        let Some(mut station) = $crate::handle::take_out($alloc, $handle) else {
+            return $crate::status::CLOSED;
+        };
+        let status = match &mut *station {
+            $kind => $call,
+            _ => $crate::status::CLOSED,
+        };
+        $crate::handle::put_back(station, $handle);
+        status
+    }};
+}
+
+pub(crate) use on_station;
+
 /// Puts a station into a handle, in place of what it held.
 pub(crate) fn put_back(station: Box<Station>, handle: &mut Handle)
     ensures { handle.new.held.value ≡ Some station.value }

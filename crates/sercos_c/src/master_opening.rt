@@ -31,7 +31,7 @@ fn master_of(alloc: Global, document: Document) -> Result<MasterStation, AllocEr
     })
 }
 
-// Opens the master of the document that the bytes are. The error is its refusal, or `Memory`.
+// Opens the master of the document that the bytes are. The error may be `Memory`; any other error means that the document is refused.
 fn master_in(alloc: Global, document: &[u8]) -> Result<MasterStation, BadDocument>
     ensures { IsMasterOpening document.now result }
 {

@@ -43,7 +43,7 @@ fn ring_of(alloc: Global, document: Document) -> Result<RingStation, AllocError>
     })
 }
 
-// Opens the ring of the document that the bytes are. The error is its refusal, or `Memory`.
+// Opens the ring of the document that the bytes are. The error may be `Memory`; any other error means that the document is refused.
 fn ring_in(alloc: Global, document: &[u8]) -> Result<RingStation, BadDocument>
     ensures { IsRingOpening document.now result }
 {

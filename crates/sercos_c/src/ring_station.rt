@@ -1,26 +1,24 @@
-//! A ring whose cycles a program makes, one by one.
-ghost use Rattle.std.specs.Prelude.{◌≡◌, ◌≢◌, ◌==◌, ◌∷◌, ◌≤◌, ◌<◌, ◌+◌, ◌^◌, nat_lt, true, if◌then◌else◌, List, length, reverse};
+//! A ring whose cycles a program makes, one by one. The comments speak of one that was opened from a document.
+ghost use Rattle.std.specs.Prelude.{◌≡◌, ◌≢◌, ◌∷◌, ◌≤◌, ◌<◌, ◌^◌, nat_lt, true, if◌then◌else◌, List, length};
 ghost use Rattle.std.specs.List.{All};
 ghost use Rattle.sercos_ring.specs.Kept.{AfterCycle, IsNextOf, cycles_made, newest};
 ghost use Rattle.sercos_law_run.specs.Totals.Counting.{HasRoom, IsFew, with_cycle};
 ghost use Rattle.sercos_trace.specs.Views.{CycleView};
-ghost use Rattle.sercos_trace.specs.Texts.{header_text, end_text};
 ghost use Rattle.sercos_config.specs.Views.{DocumentView};
-ghost use Rattle.sercos_law_run.specs.Totals.Totals.{totals_of};
 ghost use Rattle.sercos_opened.specs.Kept.{script_carry, script_restarts, IsKept};
 ghost use Rattle.sercos_c.specs.Statuses.{done, answer_no, closed};
 ghost use Rattle.sercos_c.specs.Texts.{IsText};
 ghost use Rattle.sercos_block.specs.Rings.{wishes_of};
 
 use crate::status::{CLOSED, DONE, NO};
-use crate::texts::{has_slots, put_cycle, put_end, put_head};
+use crate::texts::{has_slots, put_cycle};
 use sercos_block::ring_law;
 use sercos_law_run::{plan_law, run_law, totals_law};
 use sercos_opened::kept_law;
 use sercos_ring::{Ring, count_cycle};
 use sercos_script::{BitLink, Scripted};
 use sercos_timing::Wishes;
-use sercos_trace::{CycleRecord, Totals};
+use sercos_trace::Totals;
 
 /// A ring under its document's script. `cycles` is the number of cycles that it makes in all, `made` the number made so far, and `totals`
 /// has the totals of the latter.
@@ -50,22 +48,10 @@ fn has_room(totals: &Totals) -> bool
         && totals.unseen < u32::MAX - 194
 }
 
-// Adds a cycle to the totals. Each count of the totals must have room below 2^32: for one more cycle and fall, 128 more requests of each
-// outcome, and 195 more undetected arrivals. The cycle must have at most 195 undetected arrivals. Then it has at most 128 requests of each
-// outcome. Without these premises the totals are unspecified.
-fn count(totals: &mut Totals, made: &CycleRecord)
-    ensures counted { HasRoom totals.old → made.now.unseen ≤ 195 → totals.new ≡ with_cycle totals.old made.now }
-    ensures few { HasRoom totals.old → made.now.unseen ≤ 195 → IsFew made.now }
-{
-    if has_room(totals) && made.unseen <= 195 {
-        count_cycle(totals, made);
-    }
-}
-
-// Makes the next cycle of a ring that has made fewer than 2^31. The cycle has at most 66 telegrams. It is added to the totals. Each count
-// of the totals must have room below 2^32: for one more cycle and fall, 128 more requests of each outcome, and 195 more undetected
-// arrivals. If the cycle has at most 195 undetected arrivals, it has at most 128 requests of each outcome. Without these premises the
-// totals are unspecified.
+// Makes the next cycle of a ring that has made fewer than 2^31. The cycle has at most 66 telegrams. Premises of the rest: each count of the
+// totals has room below 2^32 (for one more cycle and fall, 128 more requests of each outcome, and 195 more undetected arrivals), and the
+// cycle has at most 195 undetected arrivals. Then at most 128 requests of each outcome end in the cycle, and it is added to the totals.
+// Otherwise the totals are unspecified.
 fn make(ring: &mut Ring<Scripted>, totals: &mut Totals)
     requires { cycles_made ring.old < 2 ^ 31 }
     ensures after { AfterCycle ⟦<Scripted as BitLink>⟧.carry ⟦<Scripted as BitLink>⟧.restart ring.old ring.new }
@@ -76,7 +62,9 @@ fn make(ring: &mut Ring<Scripted>, totals: &mut Totals)
 {
     let made = ring.cycle();
     prove!(made.sent.len() <= 66);
-    count(totals, made);
+    if has_room(totals) && made.unseen <= 195 {
+        count_cycle(totals, made);
+    }
 }
 
 impl RingStation {
@@ -102,20 +90,10 @@ impl RingStation {
         DONE
     }
 
-    /// Writes the first lines of the trace, the version, the ring, the drives and the order, to the front of `out`, and the number of their
-    /// bytes to `written`, and returns `DONE`. Returns `WRITE_FAULT` if there is too little room, and then `written` is 0. Afterwards the
-    /// bytes of `out` after the text are unspecified; after `WRITE_FAULT` all of them are.
-    pub(crate) fn head(&self, out: &mut [u8], written: &mut usize) -> u8
-        ensures written { (d : DocumentView) (j : List CycleView) → RingGoes self.now d j → IsText (header_text (wishes_of d.setup)) out.old out.new written.new result }
-        ensures open { result ≢ closed }
-    {
-        put_head(&self.wishes, out, written)
-    }
-
     /// Writes the trace lines of the cycle that was made last, none before the first, to the front of `out`, and the number of their bytes
     /// to `written`, and returns `DONE`. Returns `WRITE_FAULT` if there is too little room, and then `written` is 0. Afterwards the bytes
-    /// of `out` after the text are unspecified; after `WRITE_FAULT` all of them are. Returns `CLOSED`, and writes nothing, if the cycle
-    /// reports a plan without a slot for each drive; a ring that was opened from a document never does.
+    /// of `out` after the text are unspecified; after `WRITE_FAULT` all of them are. With a ring that was opened from a document it never
+    /// returns `CLOSED`. After `CLOSED` nothing is written.
     pub(crate) fn lines(&self, out: &mut [u8], written: &mut usize) -> u8
         ensures written { (d : DocumentView) (j : List CycleView) → RingGoes self.now d j →
             IsText (lines_of_newest (wishes_of d.setup) j) out.old out.new written.new result }
@@ -130,15 +108,5 @@ impl RingStation {
             return CLOSED;
         }
         put_cycle(&self.wishes, self.ring.newest(), out, written)
-    }
-
-    /// Writes the last line of the trace, the totals of the cycles made so far, to the front of `out`, and the number of its bytes to
-    /// `written`, and returns `DONE`. Returns `WRITE_FAULT` if there is too little room, and then `written` is 0. Afterwards the bytes of
-    /// `out` after the text are unspecified; after `WRITE_FAULT` all of them are.
-    pub(crate) fn end(&self, out: &mut [u8], written: &mut usize) -> u8
-        ensures written { (d : DocumentView) (j : List CycleView) → RingGoes self.now d j → IsText (end_text (totals_of (reverse j))) out.old out.new written.new result }
-        ensures open { result ≢ closed }
-    {
-        put_end(&self.totals, out, written)
     }
 }

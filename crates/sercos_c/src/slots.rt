@@ -1,13 +1,13 @@
 //! The time slots of a ring: the least plan, or why there is none.
-ghost use Rattle.std.specs.Prelude.{◌≡◌, ◌≢◌, ◌<◌, ◌≤◌, ◌⊎◌, length, map, take, drop};
+ghost use Rattle.std.specs.Prelude.{◌≡◌, ◌≢◌, ◌≤◌, ◌⊎◌, length, map, take, drop};
 ghost use Rattle.sercos_c.specs.Clauses.{PlanView, IsValid, IsLeast, NoneFits, IsChain, chain_of, done, answer_no, refused, write_fault, wish_of, plan_of, link_of, chain_from, HaveRoom};
 ghost use Rattle.sercos_c.specs.Slots.{wishes_of};
 
 use crate::status::{DONE, NO, REFUSED, WRITE_FAULT};
 use arrayvec::ArrayVec;
-use sercos_plan::{Chain, Link, plan};
+use sercos_plan::{Link, plan};
 use sercos_timing::limits::MOST_DRIVES;
-use sercos_timing::{Plan, Times, Wish, Wishes, valid};
+use sercos_timing::{Times, Wish, Wishes, valid};
 
 // The most links of a chain.
 const MOST_LINKS: usize = 66;
@@ -136,31 +136,21 @@ fn drives_of(drives: &[SercosWish]) -> ArrayVec<Wish, 64>
     wishes
 }
 
-// Returns a copy of the order of the ATs: the indices of the drives in the ring, from 0, at most 64.
-fn order_of(order: &[u8]) -> ArrayVec<u8, 64>
-    requires { length order.now ≤ 64 }
-    ensures { result.items ≡ order.now }
-{
-    let mut places = ArrayVec::new();
-    for place in order {
-        places.push(*place);
-    }
-    places
-}
-
 // Returns the planner's input of a ring: its numbers, its drives, and the order of the ATs as the drives' indices, from 0. There must be at
-// most 64 of each.
+// most 64 drives and at most 64 indices.
 fn wishes_of(ring: &SercosRingTimes, drives: &[SercosWish], order: &[u8]) -> Wishes
     requires drives { length drives.now ≤ 64 }
     requires order { length order.now ≤ 64 }
     ensures { result ≡ wishes_of ring.now drives.now order.now }
 {
+    let mut places = ArrayVec::new();
+    let _fits = places.try_extend_from_slice(order);
     Wishes {
         rate: ring.rate,
         cycle: ring.cycle,
         control: ring.control,
         gap: ring.gap,
-        order: order_of(order),
+        order: places,
         drives: drives_of(drives),
     }
 }
@@ -178,18 +168,6 @@ fn write_slots(t1: &[u16], position: &[u16], slots: &mut [SercosSlot])
             t1: t1[place],
             position: position[place],
         };
-    }
-}
-
-// Returns the times of a plan, in microseconds, and the length of its MDT in bytes after its address.
-fn times_of(p: &Plan) -> SercosPlanTimes
-    ensures { result ≡ record { t2 = p.now.t2; t3 = p.now.t3; t4 = p.now.t4; mdt_len = p.now.mdt_len } }
-{
-    SercosPlanTimes {
-        t2: p.t2,
-        t3: p.t3,
-        t4: p.t4,
-        mdt_len: p.mdt_len,
     }
 }
 
@@ -214,22 +192,10 @@ fn write_links(from: &[Link], links: &mut [SercosLink])
     }
 }
 
-// Returns the inequality that a chain ends at, and the number of links before it.
-fn end_of(chain: &Chain) -> SercosChain
-    ensures { result ≡ record { rule = chain.now.rule; drive = chain.now.drive; sum = chain.now.sum; bound = chain.now.bound; links = length chain.now.links } }
-{
-    SercosChain {
-        rule: chain.rule(),
-        drive: chain.drive(),
-        sum: chain.sum(),
-        bound: chain.bound(),
-        links: chain.links().len(),
-    }
-}
-
 // Writes the times and slots of the least plan of a valid ring, and returns `DONE`. If no plan fits, writes the chain of inequalities that
-// proves it to `chain` and `links`, and returns `NO`. There must be as many slots as drives, and at least 66 links. `times` and `slots`
-// change only if the result is `DONE`, and `chain` and the first `chain.links` of `links` only if it is `NO`.
+// proves it, with at most 66 links, to `chain` and `links`, and returns `NO`. There must be as many slots as drives, and at least 66 links.
+// `times` and `slots` change only if the result is `DONE`, and `chain` and the first `chain.links` of `links` only if it is `NO`. Further
+// links stay as they were.
 fn write_plan(
     w: &Wishes,
     times: &mut SercosPlanTimes,
@@ -253,13 +219,24 @@ fn write_plan(
 {
     match plan(w) {
         Ok(found) => {
-            *times = times_of(&found);
+            *times = SercosPlanTimes {
+                t2: found.t2,
+                t3: found.t3,
+                t4: found.t4,
+                mdt_len: found.mdt_len,
+            };
             write_slots(found.t1(), found.position(), slots);
             DONE
         }
         Err(found) => {
-            *chain = end_of(&found);
             let count = found.links().len();
+            *chain = SercosChain {
+                rule: found.rule(),
+                drive: found.drive(),
+                sum: found.sum(),
+                bound: found.bound(),
+                links: count,
+            };
             write_links(found.links(), &mut links[..count]);
             NO
         }

@@ -17,11 +17,11 @@ pub returns-in-Ok-clause-bound : goal.returns-in-Ok-clause-bound
 returns-in-Ok-clause-bound c = few c.in-Ok.bytes.now _ _ _ _ c.put.ensures c.in-Ok.ensures.bound
 
 pub returns-in-Ok-clause-read : goal.returns-in-Ok-clause-read
-returns-in-Ok-clause-read c = λ d rate h stands.
+returns-in-Ok-clause-read c = λ d rate h stands low high.
     subst (λ (blocks : List Block). IsElement (find_block c.args.idn blocks) c.args.element c.args.out.now c.put.new.out c.put.new.written 0 c.put.result) (c.store.ensures d rate h stands)
     (an_element c.in-Ok.ensures.ok c.in-Ok.ensures.fault c.put.ensures refl)
 
 pub returns-in-Err-clause-read : goal.returns-in-Err-clause-read
-returns-in-Err-clause-read c = λ d rate h stands.
+returns-in-Err-clause-read c = λ d rate h stands low high.
     subst (λ (blocks : List Block). IsElement (find_block c.args.idn blocks) c.args.element c.args.out.now c.args.out.now 0 c.in-Err.why.raw 1) (c.store.ensures d rate h stands)
     (no_element c.in-Err.ensures.fault (record { status = refl; written = refl; out = refl }) refl)

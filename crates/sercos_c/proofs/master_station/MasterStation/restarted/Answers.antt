@@ -5,7 +5,7 @@ use Rattle.sercos_master.specs.Reports.{restart_told}
 use Rattle.sercos_seat.specs.Ring.{tasks_for}
 use Rattle.sercos_c.specs.Records.{no_events, of_nothing}
 use Rattle.sercos_c.proofs.MasterLemmas.{none_few}
-use Rattle.sercos_c.proofs.master_station.restart_in.Goals as goal
+use Rattle.sercos_c.proofs.master_station.MasterStation.restarted.Goals as goal
 
 pub returns-clause-told : goal.returns-clause-told
 returns-clause-told c s jobs h is =
