@@ -6,14 +6,16 @@ import ctypes
 import os
 import pathlib
 import re
+import resource
 import shutil
 import signal
 import subprocess
 import sys
 import time
 from collections.abc import Callable, Iterator
-from typing import TYPE_CHECKING, BinaryIO
+from typing import TYPE_CHECKING, BinaryIO, NamedTuple
 
+from .build_times import CrateTime, Times, seconds_left
 from .crates import Crates
 
 if TYPE_CHECKING:
@@ -21,12 +23,23 @@ if TYPE_CHECKING:
 
 # A check takes 2 GB for a start, and one more for each of its jobs.
 GB = 1 << 30
-MINUTES = "about 17 minutes on four processors, 31 on two"
+MINUTES = "15 to 35 minutes on four processors, 30 to 65 on two"
 LIBC = ctypes.CDLL(None)
 
 
 class Failed(Exception):
     """A crate that rt did not build, with the end of its log."""
+
+
+class Running(NamedTuple):
+    """A crate that is proved: the child that proves it, its lane, its number of jobs, its log, and when it began, in seconds since the build
+    began."""
+
+    child: subprocess.Popen[bytes]
+    lane: int
+    jobs: int
+    log: BinaryIO
+    began: float
 
 
 def number_in(path: str, pattern: str) -> int | None:
@@ -50,6 +63,15 @@ def free_memory() -> int:
     found = 1024 * (number_in("/proc/meminfo", r"MemAvailable:\s+(\d+)") or 4 << 20)
     limit, used = number_in("/sys/fs/cgroup/memory.max", r"^(\d+)"), number_in("/sys/fs/cgroup/memory.current", r"^(\d+)")
     return min(found, limit - used) if limit and used is not None else found
+
+
+def cost_if_ended(child: subprocess.Popen[bytes]) -> float | None:
+    """The seconds of a processor that a child took with all that it started, or None while it runs."""
+    before = resource.getrusage(resource.RUSAGE_CHILDREN)
+    if child.poll() is None:
+        return None
+    after = resource.getrusage(resource.RUSAGE_CHILDREN)
+    return after.ru_utime + after.ru_stime - before.ru_utime - before.ru_stime
 
 
 def end_with_parent() -> None:
@@ -80,17 +102,16 @@ class Proving:
         self.crates, self.product, self.top, self.log = crates, product, top, log
         self.left, self.number = crates.order(product.name), len(crates.order(product.name))
         self.weights = {name: crates.weight(name) for name in self.left}
-        # The time that a crate takes with the longest chain of those that wait for it.
+        # The work of a crate with the longest chain of those that wait for it.
         self.behind: dict[str, int] = {}
         for name in reversed(self.left):
             above = [self.behind[other] for other in self.behind if name in crates.libraries(other)]
             self.behind[name] = self.weights[name] + max(above, default=0)
         self.processors, self.memory = processors(), free_memory()
         self.built: set[str] = set()
-        # The child of each crate that is proved, with its lane, its number of jobs and its log.
-        self.running: dict[str, tuple[subprocess.Popen[bytes], int, int, BinaryIO]] = {}
+        self.running: dict[str, Running] = {}
         self.lanes, self.free = 1, [0]
-        self.began, self.new, self.shown = time.monotonic(), 0, ""
+        self.began, self.shown, self.times = time.monotonic(), "", Times()
 
     def __enter__(self) -> Proving:
         return self
@@ -99,14 +120,18 @@ class Proving:
         """Ends what still runs, and keeps what it has proved so far."""
         if sys.stderr.isatty():
             print(file=sys.stderr)
-        for child, _, _, _ in self.running.values():
-            child.terminate()
-        for child, _, _, _ in self.running.values():
-            child.wait()
+        for it in self.running.values():
+            it.child.terminate()
+        for it in self.running.values():
+            it.child.wait()
         # What rt has started is ended after it.
         time.sleep(0.5 if self.running else 0)
-        for name, (_, lane, _, _) in self.running.items():
-            self.keep(name, lane, "incremental")
+        for name, it in self.running.items():
+            self.keep(name, it.lane, "incremental")
+        self.times.write(self.product.out)
+
+    def spent(self) -> float:
+        return time.monotonic() - self.began
 
     def run(self, make_lane: Callable[[int], None]) -> pathlib.Path:
         """Builds every crate once its libraries are built, and returns the product. A lane beyond the first is made when it is needed."""
@@ -118,9 +143,10 @@ class Proving:
                     make_lane(self.lanes)
                     self.free, self.lanes = [self.lanes], self.lanes + 1
                 self.start(name, jobs, self.free.pop())
-            ended = {name: lane for name, (child, lane, *_) in self.running.items() if child.poll() is not None}
-            for name, lane in ended.items():
-                self.end(name)
+            ended = {name: cost for name, it in self.running.items() if (cost := cost_if_ended(it.child)) is not None}
+            for name, cost in ended.items():
+                lane = self.running[name].lane
+                self.end(name, cost)
                 self.show_line(name)
             if not ended:
                 self.show_line()
@@ -131,7 +157,7 @@ class Proving:
         """The crates to start now, each with its number of jobs: one, or more where fewer crates than processors can start."""
         ready = [name for name in self.left if self.built.issuperset(self.crates.libraries(name))]
         for place, name in enumerate(sorted(ready, key=self.behind.__getitem__, reverse=True)):
-            jobs_running = [jobs for _, _, jobs, _ in self.running.values()]
+            jobs_running = [it.jobs for it in self.running.values()]
             spare = self.processors - sum(jobs_running)
             room = (self.memory - sum((2 + jobs) * GB for jobs in jobs_running)) // GB - 2
             if spare < 1 or jobs_running and room < 1:
@@ -161,11 +187,11 @@ class Proving:
         log = open(self.out(name, lane).parent / "log", "w+b")
         child = subprocess.Popen(["rt", *words], cwd=self.out(name, lane).parent, stdin=source, stdout=log, stderr=log,
                                  preexec_fn=end_with_parent)
-        self.running[name] = child, lane, jobs, log
+        self.running[name] = Running(child, lane, jobs, log, self.spent())
 
-    def end(self, name: str) -> None:
+    def end(self, name: str, cost: float) -> None:
         """Takes what a lane has built to the crate, or tells of its failure."""
-        child, lane, _, log = self.running[name]
+        child, lane, jobs, log, began = self.running[name]
         with log:
             log.seek(0)
             text = log.read()
@@ -176,14 +202,12 @@ class Proving:
             raise Failed("\n".join([f"{name} failed with status {child.returncode}:", *end]))
         made = self.out(name, lane) / "rlib" / "stamp"
         kept = self.out(name) / "rlib" / "stamp"
+        was_kept = name != self.product.name and made.exists() and kept.exists() and made.samefile(kept)
         if name == self.product.name:
             self.keep(name, lane, "incremental", f"{name}.stamp")
-        elif not (made.exists() and kept.exists() and made.samefile(kept)):
-            self.new += self.weights[name]
+        elif not was_kept:
             self.keep(name, lane, "incremental", "rlib")
-        else:
-            # It was there, and says nothing of how long the others take.
-            self.weights[name] = 0
+        self.times.ended.append(CrateTime(name, began, self.spent(), jobs, cost, was_kept))
         del self.running[name]
         self.built.add(name)
         self.free.append(lane)
@@ -198,13 +222,20 @@ class Proving:
             if made.exists():
                 os.replace(made, kept)
 
+    def seconds_left(self) -> float | None:
+        """How long the build still takes by the pace of the crates so far, or None where too few have ended to tell."""
+        pace = self.times.pace(self.weights)
+        if pace is None:
+            return None
+        lengths = {name: pace * self.weights[name] for name in [*self.left, *self.running]}
+        running = {name: self.spent() - it.began for name, it in self.running.items()}
+        return seconds_left(self.crates, self.left, running, lengths, self.behind, self.processors)
+
     def show_line(self, ended: str | None = None) -> None:
         """Prints how far the build is: at a terminal in one line that is written anew, and else in a line for each crate."""
-        spent = (time.monotonic() - self.began) / 60
-        left = sum(self.weights[name] for name in [*self.left, *self.running])
-        so_far = f"crate {len(self.built)} of {self.number}, {spent:.0f} minutes so far"
-        if self.new and left:
-            so_far += f", about {spent * left / self.new:.0f} left"
+        so_far = f"crate {len(self.built)} of {self.number}, {self.spent() / 60:.0f} minutes so far"
+        if len(self.built) < self.number and (left := self.seconds_left()) is not None:
+            so_far += f", about {max(left / 60, 1):.0f} left"
         if sys.stderr.isatty():
             text = f"{so_far}: {', '.join(self.running)}"
             if not ended and text != self.shown:
