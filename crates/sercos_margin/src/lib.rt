@@ -5,6 +5,6 @@ mod changes;
 mod law;
 mod margins;
 
-pub use changes::Time;
+pub use changes::{Time, greatest};
 pub use law::margin_law;
 pub use margins::{least_cycle, margin};
