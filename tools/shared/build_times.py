@@ -71,19 +71,24 @@ def seconds_left(crates: Crates, left: Iterable[str], running: Mapping[str, floa
     return now
 
 
+def last_library(name: str, ended: Mapping[str, CrateTime], crates: Crates) -> CrateTime | None:
+    """The library of a crate that ended last: what the crate waited for."""
+    found = sorted((ended[it] for it in crates.libraries(name) if it in ended), key=lambda it: it.ended)
+    return found[-1] if found else None
+
+
 def table(times: Times, crates: Crates) -> str:
     """The crates as they began, each with what it waited for, then the sums, and the chain that the build waited for."""
     ended = {it.name: it for it in times.ended}
     lines = [f"{'crate':24}{'began':>8}{'ended':>8}{'took':>8}{'jobs':>6}{'processor':>11}  waited for"]
-    last = {name: max((ended[it] for it in crates.libraries(name) if it in ended), key=lambda it: it.ended, default=None) for name in ended}
-    for it in sorted(times.ended):
-        after = last[it.name]
-        waited = after.name if after and not it.was_kept else ""
-        lines.append(f"{it.name:24}{it.began:8.0f}{it.ended:8.0f}{it.ended - it.began:8.0f}{it.jobs:6}{it.cost:11.0f}  {'kept' if it.was_kept else waited}")
+    for it in sorted(times.ended, key=lambda it: it.began):
+        after = last_library(it.name, ended, crates)
+        waited = "kept" if it.was_kept else after.name if after else ""
+        lines.append(f"{it.name:24}{it.began:8.0f}{it.ended:8.0f}{it.ended - it.began:8.0f}{it.jobs:6}{it.cost:11.0f}  {waited}".rstrip())
     whole, cost = max(it.ended for it in times.ended), sum(it.cost for it in times.ended)
-    chain, at = [], times.ended[-1]
-    while at:
-        chain.append(f"{at.name} {at.ended - at.began:.0f}")
-        at = last[at.name]
-    lines += ["", f"all: {whole:.0f} seconds, {cost:.0f} of a processor ({whole / max(cost, 1):.2f})", f"chain: {', '.join(reversed(chain))}"]
+    chain = [times.ended[-1]]
+    while before := last_library(chain[-1].name, ended, crates):
+        chain.append(before)
+    lines += ["", f"all: {whole:.0f} seconds, {cost:.0f} of a processor ({whole / max(cost, 1):.2f})",
+              f"chain: {', '.join(f'{it.name} {it.ended - it.began:.0f}' for it in reversed(chain))}"]
     return "\n".join(lines)

@@ -25,6 +25,7 @@ if TYPE_CHECKING:
 GB = 1 << 30
 MINUTES = "15 to 35 minutes on four processors, 30 to 65 on two"
 LIBC = ctypes.CDLL(None)
+LIBRARY = pathlib.Path(__file__).resolve().parent / "library.py"
 
 
 class Failed(Exception):
@@ -177,16 +178,17 @@ class Proving:
                 shutil.copytree(self.out(library) / "rlib", self.out(library, lane) / "rlib", copy_function=link)
         if self.out(name).joinpath("incremental").is_dir():
             shutil.copytree(self.out(name) / "incremental", self.out(name, lane) / "incremental", copy_function=link_checked)
-        words = ["lib", "--jobs", str(jobs)]
+        words = [sys.executable, str(LIBRARY), str(jobs)]
         source: BinaryIO | int = subprocess.DEVNULL
-        if name == self.product.name and self.product.kind == "program":
-            # The program is run once, as its crate's files say.
-            folder = self.out(name, lane).parent
-            words = ["run", "--jobs", str(jobs), "--", *(folder / "args").read_text().split()]
-            source = open(folder / "stdin", "rb")
+        if name == self.product.name:
+            words = ["rt", "lib", "--jobs", str(jobs)]
+            if self.product.kind == "program":
+                # The program is run once, as its crate's files say.
+                folder = self.out(name, lane).parent
+                words = ["rt", "run", "--jobs", str(jobs), "--", *(folder / "args").read_text().split()]
+                source = open(folder / "stdin", "rb")
         log = open(self.out(name, lane).parent / "log", "w+b")
-        child = subprocess.Popen(["rt", *words], cwd=self.out(name, lane).parent, stdin=source, stdout=log, stderr=log,
-                                 preexec_fn=end_with_parent)
+        child = subprocess.Popen(words, cwd=self.out(name, lane).parent, stdin=source, stdout=log, stderr=log, preexec_fn=end_with_parent)
         self.running[name] = Running(child, lane, jobs, log, self.spent())
 
     def end(self, name: str, cost: float) -> None:
