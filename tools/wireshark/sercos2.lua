@@ -68,6 +68,7 @@ local TITLES = {
     ["S-0-0088"] = "receive to receive recovery time (TMTSY)",
     ["S-0-0089"] = "MDT starting time (T2)",
     ["S-0-0090"] = "command processing time (TMTSG)",
+    ["S-0-0104"] = "position loop Kv-factor",
     ["S-0-0127"] = "phase 3 transition check",
     ["S-0-0128"] = "phase 4 transition check",
     ["S-0-0192"] = "list of backup operation data",
