@@ -1,4 +1,4 @@
--- Dissects the telegrams of a SERCOS drive ring (IEC 61491:1995, with this profile's bits) for Wireshark and tshark.
+-- Dissects the telegrams of a SERCOS drive ring (IEC 61491:1995, with the bits as in docs/PROTOCOL.md) for Wireshark and tshark.
 --
 --     tshark -X lua_script:tools/wireshark/sercos2.lua -r RING.pcapng -Y 'sercos2.idn == "S-0-0127"'
 --
@@ -45,7 +45,7 @@ local ERRORS = {
     [0x7007] = "the operation data is above its maximum",
     [0x7008] = "the operation data is invalid",
 }
--- The titles of the standard's numbers. Those of the blocks that every drive has are in docs/PROTOCOL.md.
+-- The titles that this project gives to the standard's numbers. Those of the blocks that every drive has are in docs/PROTOCOL.md.
 local TITLES = {
     ["S-0-0001"] = "control unit cycle time",
     ["S-0-0002"] = "SERCOS cycle time",
@@ -68,6 +68,7 @@ local TITLES = {
     ["S-0-0088"] = "receive to receive recovery time (TMTSY)",
     ["S-0-0089"] = "MDT starting time (T2)",
     ["S-0-0090"] = "command processing time (TMTSG)",
+    ["S-0-0104"] = "position loop Kv-factor",
     ["S-0-0127"] = "phase 3 transition check",
     ["S-0-0128"] = "phase 4 transition check",
     ["S-0-0192"] = "list of backup operation data",
