@@ -14,7 +14,7 @@ import time
 from collections.abc import Callable, Iterator
 from typing import TYPE_CHECKING, BinaryIO
 
-from .crates import Crates
+from .crates import CPU, Crates
 
 if TYPE_CHECKING:
     from .building import Product
@@ -151,12 +151,12 @@ class Proving:
                 shutil.copytree(self.out(library) / "rlib", self.out(library, lane) / "rlib", copy_function=link)
         if self.out(name).joinpath("incremental").is_dir():
             shutil.copytree(self.out(name) / "incremental", self.out(name, lane) / "incremental", copy_function=link_checked)
-        words = ["lib", "--jobs", str(jobs)]
+        words = ["lib", "--jobs", str(jobs), *(CPU if name == self.product.name else [])]
         source: BinaryIO | int = subprocess.DEVNULL
         if name == self.product.name and self.product.kind == "program":
             # The program is run once, as its crate's files say.
             folder = self.out(name, lane).parent
-            words = ["run", "--jobs", str(jobs), "--", *(folder / "args").read_text().split()]
+            words = ["run", "--jobs", str(jobs), *CPU, "--", *(folder / "args").read_text().split()]
             source = open(folder / "stdin", "rb")
         log = open(self.out(name, lane).parent / "log", "w+b")
         child = subprocess.Popen(["rt", *words], cwd=self.out(name, lane).parent, stdin=source, stdout=log, stderr=log,
