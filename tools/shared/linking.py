@@ -2,6 +2,7 @@
 from __future__ import annotations
 
 import pathlib
+import re
 import shlex
 import shutil
 import subprocess
@@ -41,6 +42,52 @@ def link_library(cc: Sequence[str], ar: str, archive: pathlib.Path, to: pathlib.
     shutil.copyfile(archive, to / "libsercos.a")
     run([ar, "qsD", to / "libsercos.a", heap])
     heap.unlink()
+
+
+class Cross:
+    """The compilers of Debian for a processor, and its C library musl."""
+
+    def __init__(self, arch: str) -> None:
+        self.arch, self.triplet = arch, f"{arch}-linux-gnu"
+        self.musl, self.musl_headers = pathlib.Path(f"/usr/lib/{arch}-linux-musl"), pathlib.Path(f"/usr/include/{arch}-linux-musl")
+        debian = {"x86_64": "amd64", "aarch64": "arm64"}[arch]
+        needs = {self.tool("gcc"): "gcc libc6-dev" if arch == "x86_64" else f"gcc-{self.triplet} libc6-dev-{debian}-cross",
+                 str(self.musl / "libc.a"): f"musl-dev:{debian}"}
+        missing = [package for place, package in needs.items() if not shutil.which(place) and not pathlib.Path(place).exists()]
+        if missing:
+            raise Missing(f"a release for {arch} needs Debian's packages {' '.join(missing)}")
+        self.debian, self.version = debian, run([self.tool("gcc"), "-dumpfullversion"]).strip()
+
+    def tool(self, name: str) -> str:
+        return f"{self.triplet}-{name}"
+
+    def compile_parts(self, to: pathlib.Path, flags: Sequence[str]) -> list[pathlib.Path]:
+        """Compiles the C that a proved program calls."""
+        made = []
+        for name in ("words", "heap"):
+            made.append(to / f"{name}.o")
+            run([self.tool("gcc"), "-std=c11", *COMMON, "-fstack-clash-protection", *flags, "-c", TOP / f"library/{name}.c", "-o", made[-1]])
+        return made
+
+    def link_static(self, compiled: pathlib.Path, to: pathlib.Path, work: pathlib.Path) -> None:
+        """Links a program that needs nothing of the system: with musl, which has no need of a file at run time, and no name of its own."""
+        own = run([self.tool("gcc"), "-print-file-name=include"]).strip()
+        parts = self.compile_parts(work, ["-DWRAP_MAIN", "-fno-stack-protector", "-nostdinc", "-isystem", str(self.musl_headers), "-isystem", own])
+        libc = self.musl / "libc.a"
+        run([self.tool("gcc"), "-static", "-nostdlib", "-nostartfiles", "-Wl,--wrap=main", "-o", to, self.musl / "crt1.o", self.musl / "crti.o",
+             compiled, *parts, libc, "-lgcc", libc, self.musl / "crtn.o"])
+        run([self.tool("strip"), to])
+
+    def link_dynamic(self, compiled: pathlib.Path, to: pathlib.Path, work: pathlib.Path) -> None:
+        """Links a program with the system's glibc, as a distribution wants it."""
+        parts = self.compile_parts(work, ["-fPIE"])
+        run([self.tool("gcc"), "-pie", "-o", to, compiled, *parts, "-Wl,-z,relro,-z,now"])
+        run([self.tool("strip"), to])
+
+    def needed_glibc(self, file: pathlib.Path) -> tuple[int, ...]:
+        """The least version of glibc that has what a file takes of it."""
+        found = re.findall(r"GLIBC_(\d+(?:\.\d+)*)", run([self.tool("objdump"), "-T", file]))
+        return max((tuple(map(int, version.split("."))) for version in found), default=(0,))
 
 
 def pkg_config(prefix: str, lib: str) -> str:
