@@ -106,7 +106,9 @@ def write_package(package: Package, cross: Cross, licences: Mapping[str, bytes],
     top, control = package.top, package.top / "DEBIAN"
     doc = top / "usr/share/doc" / package.name
     doc.mkdir(parents=True, exist_ok=True)
-    others = "".join(f"\n{name}:\n{text.decode(errors='replace')}" for name, text in licences.items() if "Apache License" not in text.decode(errors="replace"))
+    texts = {name: text.decode(errors="replace") for name, text in licences.items()}
+    # Debian has the text of this one.
+    others = "".join(f"\n{name}:\n{text}" for name, text in texts.items() if "Apache License" not in text)
     (doc / "copyright").write_text(COPYRIGHT + others, encoding="utf-8")
     when = time.strftime("%a, %d %b %Y %H:%M:%S +0000", time.gmtime(epoch))
     change = f"{package.name} ({version()}) unstable; urgency=medium\n\n  * Release {version()}.\n\n -- {MAINTAINER}  {when}\n"
@@ -115,8 +117,8 @@ def write_package(package: Package, cross: Cross, licences: Mapping[str, bytes],
     files = [path for path in files_of(top) if not path.is_symlink()]
     control.mkdir()
     (control / "control").write_text(CONTROL.format(
-        name=package.name, version=version(), processor=cross.debian, maintainer=MAINTAINER, depends=package.depends, section=package.section,
-        summary=package.summary, size=sum(path.stat().st_size for path in files) // 1024 + 1), encoding="utf-8")
+        name=package.name, version=version(), processor=cross.debian, maintainer=MAINTAINER, depends=package.depends,
+        section=package.section, summary=package.summary, size=sum(path.stat().st_size for path in files) // 1024 + 1), encoding="utf-8")
     (control / "md5sums").write_text("".join(
         f"{hashlib.md5(path.read_bytes()).hexdigest()}  {path.relative_to(top)}\n" for path in files), encoding="utf-8")
     if package.name == "libsercos0":

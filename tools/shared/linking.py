@@ -66,16 +66,17 @@ class Cross:
         made = []
         for name in ("words", "heap"):
             made.append(to / f"{name}.o")
-            run([self.tool("gcc"), "-std=c11", *COMMON, "-fstack-clash-protection", *flags, "-c", TOP / f"library/{name}.c", "-o", made[-1]])
+            run([self.tool("gcc"), "-std=c11", *COMMON, "-fstack-clash-protection", *flags, "-c", TOP / f"library/{name}.c",
+                 "-o", made[-1]])
         return made
 
     def link_static(self, compiled: pathlib.Path, to: pathlib.Path, work: pathlib.Path) -> None:
-        """Links a program that needs nothing of the system: with musl, which has no need of a file at run time, and no name of its own."""
-        own = run([self.tool("gcc"), "-print-file-name=include"]).strip()
-        parts = self.compile_parts(work, ["-DWRAP_MAIN", "-fno-stack-protector", "-nostdinc", "-isystem", str(self.musl_headers), "-isystem", own])
-        libc = self.musl / "libc.a"
-        run([self.tool("gcc"), "-static", "-nostdlib", "-nostartfiles", "-Wl,--wrap=main", "-o", to, self.musl / "crt1.o", self.musl / "crti.o",
-             compiled, *parts, libc, "-lgcc", libc, self.musl / "crtn.o"])
+        """Links a program that needs nothing of the system: with musl, and nothing is loaded when it starts."""
+        headers = [str(self.musl_headers), run([self.tool("gcc"), "-print-file-name=include"]).strip()]
+        parts = self.compile_parts(work, ["-DWRAP_MAIN", "-fno-stack-protector", "-nostdinc", *(f"-isystem{it}" for it in headers)])
+        libc, first, last = self.musl / "libc.a", [self.musl / "crt1.o", self.musl / "crti.o"], self.musl / "crtn.o"
+        run([self.tool("gcc"), "-static", "-nostdlib", "-nostartfiles", "-Wl,--wrap=main", "-o", to, *first, compiled, *parts,
+             libc, "-lgcc", libc, last])
         run([self.tool("strip"), to])
 
     def link_dynamic(self, compiled: pathlib.Path, to: pathlib.Path, work: pathlib.Path) -> None:

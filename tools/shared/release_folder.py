@@ -10,10 +10,10 @@ from collections.abc import Iterable
 from .linking import SONAME, TOP, Missing, pkg_config, version
 
 # What is handed out, as git has it, and what of that is of no use without the sources.
-PARTS = ["README.md", "CHANGELOG.md", "CITATION.cff", "CONTRIBUTING.md", "LICENSE", "VERSION", "sercos", "sercos_rings", "tools", "examples",
-         "schema", "docs", "man", "completions", "include"]
-FOR_SOURCES = {f"tools/{name}" for name in ("build", "library", "release")} | {
-    f"tools/shared/{name}.py" for name in ("building", "compiled", "crates", "debian", "linking", "proving", "release_folder", "statements")}
+PARTS = ["README.md", "CHANGELOG.md", "CITATION.cff", "CONTRIBUTING.md", "LICENSE", "VERSION", "sercos", "sercos_rings",
+         "tools", "examples", "schema", "docs", "man", "completions", "include"]
+FOR_SOURCES = {"tools/build", "tools/library", "tools/release", *(f"tools/shared/{name}.py" for name in (
+    "building", "compiled", "crates", "debian", "linking", "proving", "release_folder", "statements"))}
 
 
 def git(*words: str) -> str:
@@ -41,7 +41,8 @@ class Linked:
     """The programs and the library for a processor, linked into a folder: static programs, and those for a distribution."""
 
     def __init__(self, folder: pathlib.Path) -> None:
-        self.static, self.dynamic, self.shared, self.archive = folder / "static", folder / "dynamic", folder / SONAME, folder / "libsercos.a"
+        self.static, self.dynamic = folder / "static", folder / "dynamic"
+        self.shared, self.archive = folder / SONAME, folder / "libsercos.a"
         for made in (self.static, self.dynamic):
             made.mkdir(parents=True)
 

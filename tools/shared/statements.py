@@ -27,8 +27,9 @@ class Kit:
         self.top = pathlib.Path(rt).resolve().parents[1]
         self.name = (self.top / "KIT-ID").read_text(encoding="utf-8").strip()
         self.sums = dict(line.split() for line in (self.top / "WHAT").read_text(encoding="utf-8").splitlines())
-        found = {use: None for row in crates.rows.values() for use in row.partition(":")[2].split() if use not in crates.rows} | {"std": None}
-        for name in (names := list(found)):
+        used = (use for row in crates.rows.values() for use in row.partition(":")[2].split())
+        names = list(dict.fromkeys(["std", *(use for use in used if use not in crates.rows)]))
+        for name in names:
             text = (self.top / "rlibs" / f"{name}.rlib/format").read_text(encoding="utf-8")
             names += [use for use in re.findall(r"(?m)^dep (\w+)$", text) if use not in names]
         self.crates = sorted(names)
@@ -77,10 +78,12 @@ def statement(subject: list[Json], kind: str, text: Json) -> Json:
 
 def provenance(kit: Kit, commit: str, subject: list[Json], crosses: dict[str, Cross]) -> Json:
     """How the files were built, in the form of SLSA."""
-    needs: list[Json] = [{"name": "lokbrez", "digest": {"gitCommit": commit.partition("-")[0]}}, {"name": kit.name, "digest": {"sha256": kit.sums["archive"]}}]
+    needs: list[Json] = [{"name": "lokbrez", "digest": {"gitCommit": commit.partition("-")[0]}},
+                         {"name": kit.name, "digest": {"sha256": kit.sums["archive"]}}]
     needs += [{"uri": purl(*row)} for cross in crosses.values() for row in debian_packages(cross)]
     return statement(subject, "https://slsa.dev/provenance/v1", {
-        "buildDefinition": {"buildType": OWN, "externalParameters": {"version": version(), "commit": commit}, "resolvedDependencies": needs},
+        "buildDefinition": {"buildType": OWN, "externalParameters": {"version": version(), "commit": commit},
+                            "resolvedDependencies": needs},
         "runDetails": {"builder": {"id": f"{OWN}/tools/release"}}})
 
 
@@ -102,11 +105,12 @@ def contents(kit: Kit, commit: str, epoch: int, crosses: dict[str, Cross]) -> Js
         for row in debian_packages(cross):
             refers = [{"referenceCategory": "PACKAGE-MANAGER", "referenceType": "purl", "referenceLocator": purl(*row)}]
             parts.append(package(f"{row[0]}-for-{arch}", row[1], "MIT" if "musl" in row[0] else "NOASSERTION", externalRefs=refers))
+    when = time.strftime("%Y-%m-%dT%H:%M:%SZ", time.gmtime(epoch))
     links = [{"spdxElementId": "SPDXRef-DOCUMENT", "relationshipType": "DESCRIBES", "relatedSpdxElement": whole["SPDXID"]}]
     links += [{"spdxElementId": whole["SPDXID"], "relationshipType": "STATIC_LINK", "relatedSpdxElement": part["SPDXID"]} for part in parts]
     return {"spdxVersion": "SPDX-2.3", "dataLicense": "CC0-1.0", "SPDXID": "SPDXRef-DOCUMENT", "name": f"lokbrez-{version()}",
             "documentNamespace": f"{OWN}/{version()}/{commit}",
-            "creationInfo": {"created": time.strftime("%Y-%m-%dT%H:%M:%SZ", time.gmtime(epoch)), "creators": ["Tool: lokbrez-tools-release"]},
+            "creationInfo": {"created": when, "creators": ["Tool: lokbrez-tools-release"]},
             "packages": [whole, *parts], "relationships": links}
 
 
