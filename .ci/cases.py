@@ -22,9 +22,11 @@ the same form, each with its answer, and `frames` sheets of lines for `show`; `r
 each with the address and the answer, its lines joined by commas; `rings` sheets of inputs that `sercos_rings run` refuses,
 each with its refusal. What a case of `run` writes is clean for `check`; if its document has no faults, the master and each
 drive agree in a replay of it. Of what a case of `sercos_rings run` writes, the lines of each ring, without its number, are
-what `run` writes of its document alone. Ends with 0 where each case passed.
+what `run` writes of its document alone. As many cases run at once as there are processors. Ends with 0 where each case passed.
 """
+import concurrent.futures
 import fnmatch
+import os
 import pathlib
 import re
 import subprocess
@@ -238,11 +240,11 @@ def main():
     first, folder, *others = sys.argv[1:]
     programs = {FIRST: first} | {pathlib.Path(other).name: other for other in others}
     passed = failed = 0
-    for name, *case in cases(pathlib.Path(folder)):
-        found = list(faults(programs, *case))
-        for fault in found:
-            print(f"case {name}: {fault}")
-        passed, failed = (passed, failed + 1) if found else (passed + 1, failed)
+    with concurrent.futures.ThreadPoolExecutor(len(os.sched_getaffinity(0))) as pool:
+        for name, found in pool.map(lambda case: (case[0], list(faults(programs, *case[1:]))), cases(pathlib.Path(folder))):
+            for fault in found:
+                print(f"case {name}: {fault}")
+            passed, failed = (passed, failed + 1) if found else (passed + 1, failed)
     print(f"cases: {passed} passed, {failed} failed")
     return 1 if failed or not passed else 0
 

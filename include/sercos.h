@@ -9,8 +9,8 @@
  * - Threads: one call at a time on a handle, and none from a signal handler. Calls on different handles, and those without one,
  *   may run in several threads at once: the library has no state of its own.
  * - Stack: free for the call are 128 KiB for frames, telegrams, identifier numbers, `sercos_plan`, deframers and drives; 1 MiB for
- *   masters; 2 MiB for rings and `sercos_call`; 2.25 MiB where a document may be nested a thousand tables deep. (Measured on
- *   x86-64: at most 48, 512 and 768 KiB.)
+ *   masters; 2 MiB for rings and `sercos_call`; 2.5 MiB where a document may be nested a thousand tables deep. (Measured: at most
+ *   48, 512 and 768 KiB; nested so deep, 1.5 MiB on x86-64 and 2.4 MiB on aarch64.)
  *
  * Memory is the program's malloc, realloc and free, and only the functions whose comments say so take any. A text or content is
  * written to the front of `out`. If it has no room there, the status is SERCOS_WRITE_FAULT, nothing is lost, and the call can be

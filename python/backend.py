@@ -3,8 +3,10 @@ from __future__ import annotations
 
 import base64
 import hashlib
+import os
 import pathlib
 import sysconfig
+import time
 import zipfile
 
 HERE = pathlib.Path(__file__).resolve().parent
@@ -19,21 +21,27 @@ Requires-Python: >=3.9
 WHEEL = """Wheel-Version: 1.0
 Generator: lokbrez
 Root-Is-Purelib: false
-Tag: {tag}
-"""
+{tags}"""
+# The first moment that a file of a wheel can have: 1980-01-01.
+FIRST = 315532800
 
 
-def files(version: str, tag: str) -> dict[str, bytes]:
+def moment() -> tuple[int, int, int, int, int, int]:
+    """The time of each file: that of SOURCE_DATE_EPOCH, else the first one. The same files are the same wheel."""
+    at = time.gmtime(max(int(os.environ.get("SOURCE_DATE_EPOCH", FIRST)), FIRST))
+    return at.tm_year, at.tm_mon, at.tm_mday, at.tm_hour, at.tm_min, at.tm_sec
+
+
+def files(version: str, tag: str, library: pathlib.Path) -> dict[str, bytes]:
     """The files of the wheel but its record, by their names."""
-    library = TOP / "build" / "libsercos.so"
-    if not library.exists():
-        raise SystemExit(f"{library} isn't there: run {TOP / 'tools' / 'library'} first")
     found = {f"lokbrez/{path.name}": path.read_bytes() for path in sorted((HERE / "lokbrez").iterdir()) if path.suffix in (".py", ".typed")}
     found["lokbrez/trace_lines.py"] = (TOP / "tools" / "shared" / "trace_lines.py").read_bytes()
     found["lokbrez/libsercos.so"] = library.read_bytes()
     folder = f"lokbrez-{version}.dist-info"
     found[f"{folder}/METADATA"] = METADATA.format(version=version).encode()
-    found[f"{folder}/WHEEL"] = WHEEL.format(tag=tag).encode()
+    language, abi, platforms = tag.split("-")
+    tags = "".join(f"Tag: {language}-{abi}-{platform}\n" for platform in platforms.split("."))
+    found[f"{folder}/WHEEL"] = WHEEL.format(tags=tags).encode()
     found[f"{folder}/LICENSE"] = (TOP / "LICENSE").read_bytes()
     return found
 
@@ -46,18 +54,28 @@ def record_of(found: dict[str, bytes], name: str) -> bytes:
     return ("".join(row(file, text) for file, text in found.items()) + f"{name},,\n").encode()
 
 
-def build_wheel(wheel_directory: str, config_settings: object = None, metadata_directory: object = None) -> str:
-    """Writes the wheel to a folder, and returns the name of its file."""
+def write_wheel(folder: pathlib.Path, tag: str, library: pathlib.Path, licences: dict[str, bytes]) -> str:
+    """Writes the wheel over a library to a folder, with the licences of others by their names, and returns the name of its file."""
     version = (TOP / "VERSION").read_text(encoding="utf-8").strip()
-    tag = "py3-none-" + sysconfig.get_platform().replace("-", "_").replace(".", "_")
-    found = files(version, tag)
-    record = f"lokbrez-{version}.dist-info/RECORD"
-    found[record] = record_of(found, record)
+    found, info = files(version, tag, library), f"lokbrez-{version}.dist-info"
+    found |= {f"{info}/licenses/{name}": text for name, text in licences.items()}
+    found[f"{info}/RECORD"] = record_of(found, f"{info}/RECORD")
     name = f"lokbrez-{version}-{tag}.whl"
-    with zipfile.ZipFile(pathlib.Path(wheel_directory) / name, "w", zipfile.ZIP_DEFLATED) as wheel:
+    with zipfile.ZipFile(folder / name, "w") as wheel:
         for file, text in found.items():
-            wheel.writestr(file, text)
+            row = zipfile.ZipInfo(file, moment())
+            row.external_attr, row.compress_type = 0o644 << 16, zipfile.ZIP_DEFLATED
+            wheel.writestr(row, text)
     return name
+
+
+def build_wheel(wheel_directory: str, config_settings: object = None, metadata_directory: object = None) -> str:
+    """Writes the wheel of this machine to a folder, over the library in build/."""
+    library = TOP / "build" / "libsercos.so"
+    if not library.exists():
+        raise SystemExit(f"{library} isn't there: run {TOP / 'tools' / 'library'} first")
+    tag = "py3-none-" + sysconfig.get_platform().replace("-", "_").replace(".", "_")
+    return write_wheel(pathlib.Path(wheel_directory), tag, library, {})
 
 
 def build_sdist(sdist_directory: str, config_settings: object = None) -> str:

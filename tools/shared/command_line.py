@@ -9,12 +9,23 @@ import pathlib
 import subprocess
 import sys
 from collections.abc import Callable, Iterator
-from typing import TextIO, TypeVar
+from typing import Any, TextIO, TypeVar
 
 from .trace_lines import BadInput
 
-PROGRAM = pathlib.Path(__file__).resolve().parents[2] / "crates" / "sercos" / "out" / "sercos"
+TOP = pathlib.Path(__file__).resolve().parents[2]
 Made = TypeVar("Made")
+
+
+def program_of(name: str) -> pathlib.Path:
+    """The program that ./sercos runs, too: tools/start says which one it is. None is built here."""
+    named, released = os.environ.get("LOKBREZ_PROGRAM"), TOP / "libexec" / name
+    if named:
+        return pathlib.Path(named, name) if pathlib.Path(named).is_dir() else pathlib.Path(named).absolute()
+    return released if released.exists() else TOP / "crates" / name / "out" / name
+
+
+PROGRAM = program_of("sercos")
 
 
 def parser_of(text: str, input_name: str, input_help: str) -> argparse.ArgumentParser:
@@ -39,6 +50,15 @@ def opened(name: str) -> Iterator[TextIO]:
 
 def read_bytes(name: str) -> bytes:
     return sys.stdin.buffer.read() if name == "-" else pathlib.Path(name).read_bytes()
+
+
+def toml_of(text: str) -> dict[str, Any]:
+    """The tables of a ring document. Text that isn't TOML 1.0 is a ValueError."""
+    try:
+        import tomllib
+    except ImportError as fault:
+        raise BadInput("a ring document is read by Python 3.11 or later; the other tools need 3.9") from fault
+    return tomllib.loads(text)
 
 
 def started(program: str | pathlib.Path, word: str) -> subprocess.Popen[bytes]:

@@ -8,6 +8,8 @@ from collections.abc import Iterable, Iterator
 
 PARTS = ("src", "specs", "proofs")
 STATIC = " staticlib:"
+# What is built runs on every processor of x86-64. Without it rattle builds for those from about 2009 on (x86-64-v2).
+CPU = ["--cpu", "x86-64"]
 
 
 class Crates:

@@ -5,9 +5,9 @@ docs/FORMATS.md, section 'Ring documents', has the keys; docs/PROTOCOL.md the at
 from __future__ import annotations
 
 import pathlib
-import tomllib
 from typing import Any
 
+from .command_line import toml_of
 from .trace_lines import BadInput, Head
 
 TIMES = ("t1min", "tatmt", "t4min", "tatat", "tmtsy", "tmtsg")
@@ -44,8 +44,8 @@ class RingDocument:
 
     def __init__(self, name: str, head: Head) -> None:
         try:
-            self.top = tomllib.loads(pathlib.Path(name).read_bytes().decode("utf-8"))
-        except (tomllib.TOMLDecodeError, UnicodeDecodeError) as fault:
+            self.top = toml_of(pathlib.Path(name).read_bytes().decode("utf-8"))
+        except ValueError as fault:
             raise BadInput(f"{name} isn't TOML 1.0: {fault}") from fault
         try:
             self.check(head)

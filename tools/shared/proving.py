@@ -16,7 +16,7 @@ from collections.abc import Callable, Iterator
 from typing import TYPE_CHECKING, BinaryIO, NamedTuple
 
 from .build_times import CrateTime, Times, seconds_left
-from .crates import Crates
+from .crates import CPU, Crates
 
 if TYPE_CHECKING:
     from .building import Product
@@ -181,11 +181,11 @@ class Proving:
         words = [sys.executable, str(LIBRARY), str(jobs)]
         source: BinaryIO | int = subprocess.DEVNULL
         if name == self.product.name:
-            words = ["rt", "lib", "--jobs", str(jobs)]
+            words = ["rt", "lib", "--jobs", str(jobs), *CPU]
             if self.product.kind == "program":
                 # The program is run once, as its crate's files say.
                 folder = self.out(name, lane).parent
-                words = ["rt", "run", "--jobs", str(jobs), "--", *(folder / "args").read_text().split()]
+                words = ["rt", "run", "--jobs", str(jobs), *CPU, "--", *(folder / "args").read_text().split()]
                 source = open(folder / "stdin", "rb")
         log = open(self.out(name, lane).parent / "log", "w+b")
         child = subprocess.Popen(words, cwd=self.out(name, lane).parent, stdin=source, stdout=log, stderr=log, preexec_fn=end_with_parent)
