@@ -5,7 +5,7 @@ ghost use Rattle.sercos_call.specs.Outcome.{Writes};
 
 use sercos_call::fault_status;
 use sercos_checking::capture::verdict;
-use sercos_checking::{Verdict, verdict_line, verdict_status};
+use sercos_checking::{verdict_line, verdict_status};
 use sercos_io::{Sink, Status, write_all};
 
 /// Writes the verdict on a capture of at most 1,048,576 bytes: the first fault of grammar or shape, otherwise the first violation,

@@ -11,7 +11,6 @@ use sercos_io::{Sink, Status, write_all};
 use sercos_opened::kept_law;
 use sercos_ring::Ring;
 use sercos_script::{BitLink, Both, Scripted};
-use sercos_step::Job;
 use sercos_text::{Given, Line, push_line};
 use sercos_trace::Totals;
 use std::alloc::Global;

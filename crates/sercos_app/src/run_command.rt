@@ -12,7 +12,6 @@ use sercos_law_trace::clean_law;
 use sercos_opened::kept_law;
 use sercos_ring::Ring;
 use sercos_script::{BitLink, Both, Scripted};
-use sercos_step::Job;
 use sercos_timing::Wishes;
 use std::alloc::Global;
 

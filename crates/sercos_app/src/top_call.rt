@@ -154,12 +154,13 @@ fn respond<S: Source, K: Sink, L: BitLink>(
 /// nothing is written. A refused input is `Refused`, also if its line couldn't be written whole. After any other failed write the status is
 /// `WriteFault`, and the sink has accepted a proper prefix of the output.
 ///
-/// Of each run that `run` traces and `gen` sums, up to the first undetected damage, regardless of losses and restarts: if no cycle after a
-/// fall is disturbed, the ring starts up again; and from twice the bound of a start-up and 200 cycles after the last disturbed one on,
-/// phase 4 is commanded, or the master is at a stop for its cause. While disturbed cycles are sparse the ring doesn't fall; and after
-/// others it falls at most once, and is back by the same bound and what the disturbed cycles since cost a start-up. No damage is undetected
-/// if the script has no flip and `link` changes nothing, or is harmless after cuts: it makes no other frame of a frame or of the beginning
-/// of one. Whatever arrives, each drive's data are fit for its phase, each drive moves for its causes alone, and each fall has its cause.
+/// Of each run that `run` traces and `gen` sums, up to the first undetected damage: regardless of losses and restarts before, if no cycle
+/// after a fall is disturbed, the ring starts up again; and from twice the bound of a start-up and 200 cycles after the last disturbed
+/// cycle on, phase 4 is commanded, or the master is at a stop for its cause. While disturbed cycles are sparse and no station restarts, the
+/// ring doesn't fall; and after other cycles it falls at most once while that holds, and is back by the same bound and what the disturbed
+/// cycles since cost a start-up. No damage is undetected if the script has no flip and `link` changes nothing, or is harmless after cuts:
+/// it makes no other frame of a frame or of the beginning of one. Whatever arrives, each drive's data are fit for its phase, each drive
+/// moves for its causes alone, and each fall has its cause.
 ///
 /// If no damage is undetected in a run, what `run` wrote of it is clean: `check` finds no fault and no violation in it.
 ///
