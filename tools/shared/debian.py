@@ -27,10 +27,10 @@ Depends: {depends}
 Section: {section}
 Priority: optional
 Description: {summary}
- Lokbrez plans the time slots of a SERCOS drive ring (IEC 61491:1995), simulates
- the ring under a script of faults, and checks and replays captures of one. Every
- function is proved by a checker, from the bits on the ring up to the transfers
- of the service channel.
+ Lokbrez plans the time slots of a SERCOS drive ring (IEC 61491:1995),
+ simulates the ring under a script of faults, and checks and replays captures
+ of one. Every function is proved by a checker, from the bits on the ring up
+ to the transfers of the service channel.
 """
 COPYRIGHT = """Format: https://www.debian.org/doc/packaging-manuals/copyright-format/1.0/
 Upstream-Name: lokbrez
