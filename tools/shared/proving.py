@@ -15,6 +15,7 @@ from collections.abc import Callable, Iterator
 from typing import TYPE_CHECKING, BinaryIO
 
 from .crates import Crates
+from .llvm_module import parts_of
 
 if TYPE_CHECKING:
     from .building import Product
@@ -151,15 +152,19 @@ class Proving:
                 shutil.copytree(self.out(library) / "rlib", self.out(library, lane) / "rlib", copy_function=link)
         if self.out(name).joinpath("incremental").is_dir():
             shutil.copytree(self.out(name) / "incremental", self.out(name, lane) / "incremental", copy_function=link_checked)
-        words = ["lib", "--jobs", str(jobs)]
+        words = ["rt", "lib", "--jobs", str(jobs)]
         source: BinaryIO | int = subprocess.DEVNULL
         if name == self.product.name and self.product.kind == "program":
             # The program is run once, as its crate's files say.
             folder = self.out(name, lane).parent
-            words = ["run", "--jobs", str(jobs), "--", *(folder / "args").read_text().split()]
+            words = ["rt", "run", "--jobs", str(jobs), "--", *(folder / "args").read_text().split()]
             source = open(folder / "stdin", "rb")
+        elif name == self.product.name:
+            # The LLVM module is kept, for tools/page.
+            keeper = pathlib.Path(__file__).with_name("llvm_module.py")
+            words = [sys.executable, str(keeper), str(self.out(name, lane) / self.product.file.name), *words[1:]]
         log = open(self.out(name, lane).parent / "log", "w+b")
-        child = subprocess.Popen(["rt", *words], cwd=self.out(name, lane).parent, stdin=source, stdout=log, stderr=log,
+        child = subprocess.Popen(words, cwd=self.out(name, lane).parent, stdin=source, stdout=log, stderr=log,
                                  preexec_fn=end_with_parent)
         self.running[name] = child, lane, jobs, log
 
@@ -177,7 +182,7 @@ class Proving:
         made = self.out(name, lane) / "rlib" / "stamp"
         kept = self.out(name) / "rlib" / "stamp"
         if name == self.product.name:
-            self.keep(name, lane, "incremental", f"{name}.stamp")
+            self.keep(name, lane, "incremental", f"{name}.stamp", *(part.name for part in parts_of(self.product.file)))
         elif not (made.exists() and kept.exists() and made.samefile(kept)):
             self.new += self.weights[name]
             self.keep(name, lane, "incremental", "rlib")
