@@ -35,6 +35,7 @@ class Page {
         this.check = new CheckView({part: get("view-check"), area: get("check-area"), go: get("check-go"), open: get("check-open"), file: get("check-file"), range: get("check-range"), first: get("check-first"), last: get("check-last"), answer: get("check-answer")}, this.words, this.program);
         this.bits = new BitsView({part: get("view-bits"), line: get("bits-line"), answer: get("bits-answer")}, this.words, this.program);
         await this.plan();
+        performance.measure("first plan", {start: 0});
         if (note) this.say(note);
     }
 

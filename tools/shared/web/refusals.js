@@ -13,6 +13,8 @@ function readRefusal(answer) {
 /** Where a refusal is: the node, or for a missing key the table that needs it. */
 function nodeOf(reading, refusal) {
     if (refusal.kind === "toml") return null;
+    // The path of a key without a name is that of the top table.
+    if (refusal.path === "") return reading.top.entries.get("") ?? null;
     if (refusal.kind !== "missing") return reading.get(refusal.path) ?? null;
     const cut = refusal.path.lastIndexOf(".");
     return cut < 0 ? reading.top : reading.get(refusal.path.slice(0, cut)) ?? reading.top;

@@ -126,13 +126,13 @@ class Grid {
         const editor = element("input", {"aria-label": label, spellcheck: "false", autocomplete: "off"});
         editor.value = first ?? old;
         this.old = old;
-        this.mark = `cell ${performance.now()}`;
+        this.session = `cell ${performance.now()}`;
         cell.firstChild.hidden = true;
         cell.append(editor);
         this.editor = editor;
         editor.focus();
-        if (first === null) editor.select(); else this.put(editor.value, this.mark);
-        editor.addEventListener("input", () => this.put(editor.value, this.mark));
+        if (first === null) editor.select(); else this.put(editor.value, this.session);
+        editor.addEventListener("input", () => this.put(editor.value, this.session));
         editor.addEventListener("blur", () => this.leave(false));
         editor.addEventListener("keydown", (event) => this.pressed(event));
     }
@@ -142,14 +142,14 @@ class Grid {
         event.stopPropagation();
         if (event.altKey && (key === "ArrowUp" || key === "ArrowDown")) {
             this.editor.value = String(Math.max((Number(this.editor.value) || 0) + (key === "ArrowUp" ? 1 : -1) * (event.shiftKey ? 10 : 1), 0));
-            this.put(this.editor.value, this.mark);
+            this.put(this.editor.value, this.session);
             event.preventDefault();
         } else if (key === "Enter" || key === "ArrowDown" || key === "ArrowUp") {
             this.leave(true);
             this.focus(Math.max(Math.min(row + (key === "ArrowUp" || event.shiftKey ? -1 : 1), this.rows.length - 1), 0), column);
             event.preventDefault();
         } else if (key === "Escape") {
-            if (this.editor.value !== this.old) this.put(this.old, this.mark);
+            if (this.editor.value !== this.old) this.put(this.old, this.session);
             this.leave(true);
         } else if (key === "Tab") {
             const next = column + (event.shiftKey ? -1 : 1);
