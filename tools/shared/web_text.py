@@ -47,11 +47,21 @@ def forms(cell: str) -> list[str]:
     return re.findall(r"`([^`]+)`", cell)
 
 
+def divided(cell: str, count: int) -> list[str]:
+    """What is said of each of some forms in one row: apart if the cell has as many parts, else of all the same."""
+    for pattern in (r"; ", r", (?![^(]*\))(?!and )"):
+        parts = re.split(pattern, cell)
+        if len(parts) == count:
+            return parts
+    return [cell] * count
+
+
 def messages() -> dict[str, Any]:
     """What each rule, refusal, fall and damage means, and what to look at first."""
     rules = {forms(row[0])[0].split(" ")[1]: {"begins": plain(row[1]), "shortens": plain(row[2])}
              for row in rows("Answers of `plan`") if forms(row[0])[0].startswith("rule ")}
-    allowed = {form: plain(row[1]) for row in rows("Values that aren't allowed") for form in forms(row[0])}
+    allowed = {form: words for row in rows("Values that aren't allowed")
+               for form, words in zip(forms(row[0]), divided(plain(row[1]), len(forms(row[0]))))}
     checks = {forms(row[0])[0].split(" ")[4]: {"means": plain(row[1]), "look": plain(row[2])}
               for row in rows("Answers of `check`") if forms(row[0])[0].startswith("violation ")}
     frames = {" ".join(forms(row[0])[0].split(" ")[:2]): {"means": plain(row[1]), "look": plain(row[2])}

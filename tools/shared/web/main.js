@@ -85,8 +85,8 @@ class Page {
     replace(text, note = "") {
         this.leave();
         this.change(text.replaceAll("\r\n", "\n"));
-        this.ringGrid.at = [0, 0];
-        this.driveGrid.at = [0, 0];
+        this.ringGrid.choose(0, 0);
+        this.driveGrid.choose(0, 0);
         this.say(note || (text.includes("\r\n") ? "The ends of its lines were carriage returns and line feeds, and are line feeds now." : ""));
     }
 

@@ -97,11 +97,11 @@ function stepRow(step, from, to, bound, words, goTo) {
     const lines = [{at: bound, class: "bound", title: `the bound: ${plain(bound)} µs`}, {at: step.end, class: "point", title: stepPlace(step)}];
     const own = step.parts.filter((it) => it.key in DECLARED || it.key === "gap");
     const links = own.map((it) => element("button", {class: "link", onclick: () => goTo(it.drive, it.key)}, `${it.name}${it.drive ? ` of drive ${it.drive}` : ""}`));
-    const rule = words.rules[step.rule];
+    const shorter = words.rules[step.rule].shortens.replaceAll(/\bA\b/g, step.drive ? `drive ${step.drive}` : "the drives");
     const what = step.bound === null ? `${stepPlace(step)} at ${plain(step.end)} µs or later` : `${ENDS[step.rule][0]} ${plain(step.end - bound)} µs ${ENDS[step.rule][1]}`;
     return element("tr", {"data-drive": step.drive, class: step.bound === null ? "" : "last"},
         element("th", {scope: "row"}, `rule ${step.rule}`), element("td", {class: "bars"}, bar(from, to, parts, lines)),
-        element("td", {class: "reason"}, `${what}: ${sumWords(step)}. `, ...(rule.shortens ? [element("span", {class: "muted"}, `Shorter by: ${rule.shortens}. `)] : []), ...links));
+        element("td", {class: "reason"}, `${what}: ${sumWords(step)}. `, ...(shorter ? [element("span", {class: "muted"}, `Shorter by: ${shorter}. `)] : []), ...links));
 }
 
 function drawChain(times, links, words, goTo) {

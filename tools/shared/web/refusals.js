@@ -90,7 +90,7 @@ function refusalWords(reading, refusal, words) {
     if (kind === "kind") {
         const wanted = schemaOf(words, path)?.type, is = node ? PRINTED[node.type] : "of another type";
         const type = /\[\d+\]$/.test(path) && /\.(at|mdt)\[/.test(path) ? "string" : /order\[/.test(path) ? "integer" : wanted;
-        return {what: `${subject} is ${is}.`, allowed: [type && [type].flat().map((it) => WANTED[it]).join(" or ") + " is needed", allowed && `allowed: ${allowed}`].filter(Boolean).join("; ")};
+        return {what: `${subject} is ${is}.`, allowed: [type && `It has to be ${[type].flat().map((it) => WANTED[it]).join(" or ")}.`, allowed && `Allowed: ${allowed}`].filter(Boolean).join(" ")};
     }
     return {what: `${subject} is ${valueWords(node, value)}.`, allowed: allowed ? `Allowed: ${allowed}` : "", hint: hintOf(reading, path, node)};
 }
