@@ -71,7 +71,7 @@ def keeping(archive: pathlib.Path) -> Iterator[None]:
                     other = toolchain_in(pathlib.Path(tempfile.mkdtemp(dir=folder)), pathlib.Path(words[place]), module)
                     words = [*words[:place], other, *words[place + 1:]]
                 super().__init__(words, *more, **options)
-        subprocess.Popen = Keeping  # type: ignore[misc]
+        subprocess.Popen = Keeping  # type: ignore[assignment, misc]
         try:
             yield
         finally:

@@ -13,14 +13,14 @@ function bar(from, to, parts, extra = []) {
     return shape("svg", {class: "bar", viewBox: `0 0 1000 ${BAR}`, preserveAspectRatio: "none", "aria-hidden": "true"}, ...shapes, ...lines);
 }
 
-function stepOf(span) {
-    const rough = span / 6, size = 10 ** Math.floor(Math.log10(rough));
+function stepOf(span, count) {
+    const rough = span / count, size = 10 ** Math.floor(Math.log10(rough));
     return [1, 2, 5, 10].map((it) => it * size).find((it) => it >= rough);
 }
 
-/** The ticks of an axis, in microseconds. */
-function axis(from, to) {
-    const step = stepOf(to - from), ticks = [];
+/** The ticks of an axis, about so many. */
+function axis(from, to, count = 3) {
+    const step = stepOf(to - from, count), ticks = [];
     for (let time = Math.ceil(from / step) * step; time <= to; time += step) {
         const tick = element("span", {}, plain(time));
         const share = (time - from) / (to - from);

@@ -21,7 +21,17 @@ function eventWords(words, line) {
     return [cycle, ...rest].join(" ");
 }
 
-/** Cycles in a row with the same kind of event of several drives are one entry. */
+/** Addresses as words, those in a row as a span: 1 to 12, 14. */
+function spanWords(addresses) {
+    const spans = [];
+    for (const address of addresses.map(Number)) {
+        const last = spans.at(-1);
+        if (last && last[1] + 1 === address) last[1] = address; else spans.push([address, address]);
+    }
+    return spans.map(([first, last]) => (last > first + 1 ? `${first} to ${last}` : last > first ? `${first}, ${last}` : String(first))).join(", ");
+}
+
+/** The same change of phase of several drives in a cycle is one entry. */
 function foldEvents(lines) {
     const found = [];
     for (const line of lines) {
@@ -112,7 +122,7 @@ class RunView {
         parts.part.dataset.cycles = this.cycles;
         parts.picture.replaceChildren(this.picture(Math.max(this.cycles, 1)));
         const rows = events.slice(0, SHOWN).map((it) => element("tr", {class: it.word}, element("td", {class: "number"}, it.cycle),
-            element("td", {}, it.word === "p" && it.drives.length > 1 ? `drives ${it.drives.join(", ")} are in phase ${it.phase}, ${PHASE_WORDS[it.phase]}` : eventWords(this.words, it.line))));
+            element("td", {}, it.word === "p" && it.drives.length > 1 ? `drives ${spanWords(it.drives)} are in phase ${it.phase}, ${PHASE_WORDS[it.phase]}` : eventWords(this.words, it.line))));
         parts.events.replaceChildren(element("tbody", {}, ...rows));
         parts.more.textContent = events.length > SHOWN ? `${SHOWN} of ${events.length} events; the saved trace has all.` : "";
         parts.raw.textContent = this.lines.slice(0, 2000).join("\n") + (this.end ? `\n${this.end}` : "");
@@ -128,7 +138,7 @@ class RunView {
         const line = shape("path", {class: "phases", d: path || "M0 46"});
         const svg = shape("svg", {viewBox: "0 0 1000 52", preserveAspectRatio: "none", role: "img", "aria-label": `phases over ${cycles} cycles, ${plural(falls.length, "fall")}`}, line, ...marks);
         const labels = element("div", {class: "axis", "aria-hidden": "true"});
-        labels.replaceChildren(...axis(0, cycles).children);
+        labels.replaceChildren(...axis(0, cycles, 6).children);
         return element("div", {}, element("div", {class: "phase-names", "aria-hidden": "true"}, ...[4, 3, 2, 1, 0].map((it) => element("span", {}, String(it)))), svg, labels);
     }
 
