@@ -288,11 +288,10 @@ class Page {
         if (!refusal && this.times && this.answer.status >= 0) {
             if (this.margins) for (const [address, margin] of this.margins.drives) for (const [key, value] of Object.entries(margin)) set(of(address, key), {note: `≤${value}`});
             if (this.chain) {
-                for (const step of this.chain) for (const it of step.parts) {
-                    if (!(it.key in DECLARED) && it.key !== "gap") continue;
-                    const path = of(it.drive, it.key);
-                    set(path, {chain: true, note: `+${plain(it.length)} in the chain`, title: `rule ${step.rule}: ${plain(it.length)} µs in the chain`});
-                }
+                const sums = new Map();
+                for (const {parts} of this.chain) for (const it of parts)
+                    if (it.key in DECLARED || it.key === "gap") sums.set(of(it.drive, it.key), (sums.get(of(it.drive, it.key)) ?? 0) + it.length);
+                for (const [path, sum] of sums) set(path, {chain: true, note: `+${plain(sum)} in the chain`, title: `${plain(sum)} µs in the chain`});
                 for (const path of marks.keys()) if (marks.get(path).chain && reading.get(path)) spans.push({...this.span(path), kind: "chain"});
                 if (this.chain.at(-1).rule < 10) set("ring.cycle", {chain: true, title: "the chain doesn't fit into this cycle"});
             } else {
@@ -391,7 +390,8 @@ class Page {
     fillDown() {
         const [place, column] = this.driveGrid.at, key = DRIVE_KEYS[column];
         this.leave();
-        if (key !== "address") this.change(new Edits(this.reading).filledDown(place, key));
+        if (key === "address") this.say("Each drive has an address of its own: choose another column to be filled down.");
+        else this.change(new Edits(this.reading).filledDown(place, key));
     }
 
     // ---- files, links, keys ----

@@ -282,14 +282,18 @@ class Reading {
             this.top = scanner.top;
             this.stumble = fault;
         }
-        this.note("", this.top);
+        this.note(this.top);
     }
 
-    note(path, node) {
-        if (!this.paths.has(path)) this.paths.set(path, node);
-        node.path = path;
-        for (const [key, inner] of node.entries ?? []) this.note(pathOf(path, key), inner);
-        node.items?.forEach((inner, place) => this.note(pathOf(path, place), inner));
+    /** Notes each node by its path. A list of what is left, since tables may be nested deeper than calls. */
+    note(top) {
+        const left = [["", top]];
+        while (left.length) {
+            const [path, node] = left.pop();
+            if (!this.paths.has(path)) this.paths.set(path, node);
+            for (const [key, inner] of node.entries ?? []) left.push([pathOf(path, key), inner]);
+            node.items?.forEach((inner, place) => left.push([pathOf(path, place), inner]));
+        }
     }
 
     get(path) {
