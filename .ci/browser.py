@@ -14,6 +14,44 @@ WORDS = ["--headless=new", "--no-sandbox", "--disable-gpu", "--disable-dev-shm-u
          "--disable-background-networking", "--disable-extensions", "--force-device-scale-factor=1",
          "--remote-debugging-pipe"]
 
+# The texts of a page whose contrast is below 4.5, each with what it is.
+CONTRAST = """(() => {
+    const pen = document.createElement("canvas").getContext("2d", {willReadFrequently: true});
+    const parts = (colour) => {
+        pen.clearRect(0, 0, 1, 1);
+        pen.fillStyle = colour;
+        pen.fillRect(0, 0, 1, 1);
+        return [...pen.getImageData(0, 0, 1, 1).data];
+    };
+    const light = (colour) => colour.slice(0, 3).map((it) => it / 255)
+        .map((it) => it <= 0.04045 ? it / 12.92 : ((it + 0.055) / 1.055) ** 2.4)
+        .reduce((sum, it, place) => sum + it * [0.2126, 0.7152, 0.0722][place], 0);
+    const ground = (part) => {
+        for (; part; part = part.parentElement) {
+            const colour = parts(getComputedStyle(part).backgroundColor);
+            if (colour[3] === 255) return colour;
+        }
+    };
+    const poor = [], walker = document.createTreeWalker(document.body, NodeFilter.SHOW_TEXT);
+    const compare = (what, ink, paper) => {
+        const [low, high] = [light(ink), light(paper)].sort((one, other) => one - other);
+        if ((high + 0.05) / (low + 0.05) < 4.5) poor.push(`${what}: ${ink} on ${paper}`);
+    };
+    for (let node = walker.nextNode(); node; node = walker.nextNode()) {
+        const part = node.parentElement, style = getComputedStyle(part);
+        if (!node.data.trim() || !part.getClientRects().length || part.disabled) continue;
+        const box = part.closest(".telegram:not(.missing)")?.querySelector("rect");
+        const ink = parts(part.closest("svg") ? style.fill : style.color);
+        compare(node.data.trim().slice(0, 30), ink, box ? parts(getComputedStyle(box).fill) : ground(part));
+    }
+    const probe = document.createElement("p");
+    document.body.append(probe);
+    const named = (name) => { probe.style.color = `var(--${name})`; return parts(getComputedStyle(probe).color); };
+    for (const phase of [0, 1, 2, 3, 4]) compare(`phase ${phase}`, named("on-phase"), named(`phase${phase}`));
+    for (const name of ["ink", "muted"]) compare(name, named(name), named("paper"));
+    probe.remove();
+    return poor;
+})()"""
 
 def browser_path():
     """The path of a browser, or None."""
@@ -124,16 +162,23 @@ class Browser:
     def size(self, width, height, mobile=False):
         self.call("Emulation.setDeviceMetricsOverride", width=width, height=height, deviceScaleFactor=1, mobile=mobile)
 
-    def colours(self, name):
-        self.call("Emulation.setEmulatedMedia", features=[{"name": "prefers-color-scheme", "value": name}])
+    def colours(self, name, forced="none"):
+        features = {"prefers-color-scheme": name, "forced-colors": forced}
+        self.call("Emulation.setEmulatedMedia", features=[{"name": key, "value": value} for key, value in features.items()])
 
     def click(self, x, y):
         for kind in ("mousePressed", "mouseReleased"):
             self.call("Input.dispatchMouseEvent", type=kind, x=x, y=y, button="left", clickCount=1)
 
-    def press(self, key, text=""):
-        self.call("Input.dispatchKeyEvent", type="keyDown", key=key, text=text)
-        self.call("Input.dispatchKeyEvent", type="keyUp", key=key)
+    def press(self, key, text="", modifiers=0):
+        """Presses a key: Alt is 1, Ctrl 2, Shift 8."""
+        code = {"Enter": 13, "Tab": 9, "Backspace": 8, "Delete": 46, "Escape": 27}.get(key, 0)
+        self.call("Input.dispatchKeyEvent", type="keyDown", key=key, text=text, modifiers=modifiers, windowsVirtualKeyCode=code)
+        self.call("Input.dispatchKeyEvent", type="keyUp", key=key, modifiers=modifiers, windowsVirtualKeyCode=code)
+
+    def write(self, words):
+        for letter in words:
+            self.press(letter, letter)
 
     def drawn(self):
         """Waits until the next picture is drawn."""

@@ -1,4 +1,4 @@
-"""What tools/build and tools/library share: a product of a crate, a program or a library, is built where it isn't that of its sources.
+"""What tools/build, tools/library and tools/page share: a product of a crate, a program or a library, is built where it isn't that of its sources.
 
 The stamp out/built holds a sum of the sources and one of the product. Where both are as they are now, nothing is built, and the stamp
 is dated anew. A product with another sum, or with no stamp, was built by rt itself: it fits if it is newer than its sources.
@@ -22,6 +22,7 @@ from types import FrameType
 from typing import NoReturn
 
 from .crates import PARTS, Crates
+from .llvm_module import module_of
 
 TOP = pathlib.Path(__file__).resolve().parents[2]
 # A file is written with the time of the system's last tick.
@@ -37,10 +38,11 @@ def sum_of(file: pathlib.Path) -> str:
 
 
 class Product:
-    """A program or a library of the repository as it was built last: a crate, and the file that rt makes of it."""
+    """A program or a library of the repository as it was built last: a crate, and the file that rt makes of it. Of a library the LLVM
+    module may be needed, too."""
 
-    def __init__(self, name: str, file: str | None = None) -> None:
-        self.name, self.kind = name, "library" if file else "program"
+    def __init__(self, name: str, file: str | None = None, with_module: bool = False) -> None:
+        self.name, self.kind, self.with_module = name, "library" if file else "program", with_module
         self.out = TOP / "crates" / name / "out"
         self.file, self.stamp, self.new = self.out / (file or name), self.out / "built", self.out / "built.new"
 
@@ -61,7 +63,7 @@ class Product:
 
     def fits(self) -> bool:
         """Whether the product is that of the present sources."""
-        if not os.access(self.file, os.X_OK if self.kind == "program" else os.R_OK):
+        if not os.access(self.file, os.X_OK if self.kind == "program" else os.R_OK) or self.with_module and not module_of(self.file):
             return False
         moment, crates = self.start_stamp(), Crates(TOP)
         names = crates.order(self.name)

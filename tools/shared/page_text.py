@@ -11,7 +11,7 @@ from .svg_shapes import plural
 from .trace_lines import Lines
 
 PARTS = pathlib.Path(__file__).resolve().parent / "page"
-SCRIPTS = ("data", "fields", "timeline", "cycle", "panels", "main")
+SCRIPTS = ("shapes", "data", "fields", "timeline", "cycle", "panels", "main")
 # A trace with more bytes takes long to read, and its page to open.
 MOST_BYTES = 10_000_000
 
@@ -48,7 +48,7 @@ def page_text(data: PageData) -> str:
     values = {
         "title": escape(f"Run of a ring of {plural(len(data.addresses), 'drive')}"),
         "summary": escape(summary(data)),
-        "style": (PARTS / "page.css").read_text(encoding="utf-8"),
+        "style": "".join((PARTS / f"{name}.css").read_text(encoding="utf-8") for name in ("colours", "page")),
         "script": "\n".join((PARTS / f"{name}.js").read_text(encoding="utf-8") for name in SCRIPTS),
         "data": data.packed(),
     }

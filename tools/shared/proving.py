@@ -17,6 +17,7 @@ from typing import TYPE_CHECKING, BinaryIO, NamedTuple
 
 from .build_times import CrateTime, Times, seconds_left
 from .crates import CPU, Crates
+from .llvm_module import parts_of
 
 if TYPE_CHECKING:
     from .building import Product
@@ -181,7 +182,9 @@ class Proving:
         words = [sys.executable, str(LIBRARY), str(jobs)]
         source: BinaryIO | int = subprocess.DEVNULL
         if name == self.product.name:
-            words = ["rt", "lib", "--jobs", str(jobs), *CPU]
+            # The LLVM module is kept, for tools/page.
+            keeper = pathlib.Path(__file__).with_name("llvm_module.py")
+            words = [sys.executable, str(keeper), str(self.out(name, lane) / self.product.file.name), "lib", "--jobs", str(jobs), *CPU]
             if self.product.kind == "program":
                 # The program is run once, as its crate's files say.
                 folder = self.out(name, lane).parent
@@ -206,7 +209,7 @@ class Proving:
         kept = self.out(name) / "rlib" / "stamp"
         was_kept = name != self.product.name and made.exists() and kept.exists() and made.samefile(kept)
         if name == self.product.name:
-            self.keep(name, lane, "incremental", f"{name}.stamp")
+            self.keep(name, lane, "incremental", f"{name}.stamp", *(part.name for part in parts_of(self.product.file)))
         elif not was_kept:
             self.keep(name, lane, "incremental", "rlib")
         self.times.ended.append(CrateTime(name, began, self.spent(), jobs, cost, was_kept))

@@ -1,33 +1,10 @@
 // One cycle, to scale: its telegrams, the points T3 and T4, and the declared times that hold a slot.
 
-const SVG = "http://www.w3.org/2000/svg";
 const LANES = {master: 30, drives: 64, waits: 97};
 // Where a declared time is drawn below the telegrams; those of T3 and T4 may lie over that of the next MST.
 const WAIT_LANES = {TMTSG: 12, T4min: 24};
 // Beside the axis there is room for the label of T4.
 const BOX = 26, LEFT = 10, RIGHT = 30;
-
-function shape(name, attributes, ...inner) {
-    const made = document.createElementNS(SVG, name);
-    for (const [key, value] of Object.entries(attributes)) made.setAttribute(key, value);
-    made.append(...inner);
-    return made;
-}
-
-function element(name, attributes = {}, ...inner) {
-    const made = document.createElement(name);
-    for (const [key, value] of Object.entries(attributes)) {
-        if (key.startsWith("on")) made.addEventListener(key.slice(2), value); else made.setAttribute(key, value);
-    }
-    made.append(...inner);
-    return made;
-}
-
-/** The most bits of a frame of a content of so many bytes. */
-function mostBits(bytes) {
-    const bits = 8 * (bytes + 2);
-    return 16 + bits + Math.floor(bits / 5);
-}
 
 /** The slots of one cycle, with one telegram chosen. */
 class Slots {

@@ -161,11 +161,3 @@ class Run {
 function milliseconds(time) {
     return `${Number((time / 1000).toFixed(4))} ms`;
 }
-
-function plain(number) {
-    return String(Number(number.toFixed(3)));
-}
-
-function plural(count, word) {
-    return `${count} ${word}${count === 1 ? "" : "s"}`;
-}
