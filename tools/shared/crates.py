@@ -74,11 +74,12 @@ class Crates:
         return max(os.stat(path).st_mtime_ns for path in paths)
 
     def weight(self, name: str) -> int:
-        """How long a crate takes, in lines of code. As measured, a line of code takes as long as 30 of proofs, and the start of a
-        check as 250."""
+        """How long a crate takes, in lines of code. As measured, a line of code takes as long as 30 of proofs, the start of a check as
+        250, and what a program links as 1,000."""
         lines = {"code": 0, "proofs": 0}
         for _, files in self.places(name):
             for file in files:
                 with open(file, "rb") as source:
                     lines["code" if file.endswith(".rt") else "proofs"] += source.read().count(b"\n")
-        return 250 + lines["code"] + lines["proofs"] // 30
+        links = (self.top / "crates" / name / "src/main.rt").exists()
+        return 250 + lines["code"] + lines["proofs"] // 30 + 1000 * links
