@@ -29,20 +29,18 @@ each bound that was taken. Ends with 0 if all is so of each.
 """
 from __future__ import annotations
 
-import argparse
 import collections
-import concurrent.futures
 import pathlib
 import random
 import re
 import subprocess
 import sys
-import time
 import tomllib
 from collections.abc import Iterator
 from typing import Any
 
 from random_rings import Rings, table
+from seeds import Judgement, judge_seeds, parser_of
 
 TOP = pathlib.Path(__file__).resolve().parent.parent
 PROGRAM = TOP / "crates/sercos/out/sercos"
@@ -381,30 +379,15 @@ def checked(program: str, seed: int) -> Judged:
 
 
 def main() -> int:
-    parser = argparse.ArgumentParser(description=__doc__, formatter_class=argparse.RawDescriptionHelpFormatter)
-    parser.add_argument("seed", type=int, help="the first seed")
-    parser.add_argument("count", type=int, help="the number of seeds")
-    parser.add_argument("--program", default=str(PROGRAM), help="the built program (%(default)s)")
-    parser.add_argument("--jobs", type=int, default=2, help="how many seeds at a time (%(default)s)")
-    words = parser.parse_args()
-    counts: collections.Counter[str] = collections.Counter()
+    words = parser_of(__doc__, program=str(PROGRAM)).parse_args()
     parts: dict[str, float] = {}
-    wrong, start = 0, time.monotonic()
-    with concurrent.futures.ThreadPoolExecutor(words.jobs) as pool:
-        seeds = range(words.seed, words.seed + words.count)
-        for judged in pool.map(lambda seed: checked(words.program, seed), seeds):
-            counts.update(judged.occurred)
-            for what, part in judged.parts.items():
-                parts[what] = max(parts.get(what, 0.0), part)
-            if judged.wrong:
-                wrong += 1
-                print(*(f"seed {judged.seed}: {fault}" for fault in judged.wrong[:4]), *judged.texts, sep="\n", flush=True)
-    for name in sorted(counts):
-        print(f"{counts[name]:6} {name}")
-    for what in sorted(parts):
-        print(f"{parts[what]:6.2f} of its bound, at most, took {what}")
-    print(f"{words.count} rings in {time.monotonic() - start:.0f} s, {wrong} wrong")
-    return 1 if wrong else 0
+
+    def judge(seed: int) -> Judgement:
+        judged = checked(words.program, seed)
+        for what, part in judged.parts.items():
+            parts[what] = max(parts.get(what, 0.0), part)
+        return judged.wrong[:4] + judged.texts * bool(judged.wrong), judged.occurred
+    return judge_seeds(words, judge, lambda: [f"{part:6.2f} of its bound, at most, took {what}" for what, part in sorted(parts.items())])
 
 
 if __name__ == "__main__":

@@ -22,8 +22,6 @@ cycles of the trace that RUN writes of it, in which up to two telegrams are chan
 output or status, the first line that differs is printed, and at the end what occurred in the outputs of ONE. Ends with 0
 where none differs.
 """
-import collections
-import concurrent.futures
 import re
 import shlex
 import subprocess
@@ -33,6 +31,7 @@ import random_lines
 from random_captures import capture, replayed
 from random_rings import LONGEST_TIMES, document, saved_document, tight_document
 from random_several import several
+from seeds import judge_seeds, parser_of
 
 SECONDS = 600
 
@@ -111,30 +110,18 @@ def source_of(words, seed):
 
 
 def compared(words, seed):
-    """Both answers to a seed. The words are those before FIRST."""
+    """How the answers to a seed differ, and what occurred. The words are those before FIRST."""
     word, source = source_of(words, seed)
     answers = [answer(f"{command} {word}", source) for command in words[-2:]]
-    return seed, difference(*answers), occurs_in(*answers[0])
+    found = difference(*answers)
+    return [found] * bool(found), occurs_in(*answers[0])
 
 
 def main():
     words = sys.argv[1:]
-    commands = {"--captures": 4, "--replays": 4, "--show": 3, "--tight": 3, "--saved": 3, "--rings": 3}.get(words[0], 2)
-    words, numbers = words[:commands], [int(word) for word in words[commands:]]
-    first, count = numbers[:2]
-    jobs = numbers[2] if len(numbers) > 2 else 2
-    counts = collections.Counter()
-    differ = 0
-    with concurrent.futures.ThreadPoolExecutor(jobs) as pool:
-        for seed, found, occurred in pool.map(lambda seed: compared(words, seed), range(first, first + count)):
-            counts.update(occurred)
-            if found:
-                differ += 1
-                print(f"seed {seed}: {found}", flush=True)
-    for name in sorted(counts):
-        print(f"{counts[name]:6} {name}")
-    print(f"{count} compared, {differ} differ")
-    return 1 if differ else 0
+    commands = {"--captures": 4, "--replays": 4, "--show": 3, "--tight": 3, "--saved": 3, "--rings": 3}.get(words[0], 2) if words else 0
+    given = parser_of(__doc__).parse_args([*words[commands:commands + 2], *(["--jobs", *words[commands + 2:]] if words[commands + 2:] else [])])
+    return judge_seeds(given, lambda seed: compared(words[:commands], seed))
 
 
 if __name__ == "__main__":

@@ -11,18 +11,15 @@ the trace of `run` ends with `unseen 0`, then
 Prints each document of which this isn't so, with its seed, and at the end how many documents had what. Ends with 0 if it is so of
 all.
 """
-import argparse
-import collections
-import concurrent.futures
 import pathlib
 import re
 import subprocess
 import sys
-import time
 from collections.abc import Iterator
 
 from random_captures import parts
 from random_rings import Rings, TightRings
+from seeds import Judgement, judge_seeds, parser_of
 
 PROGRAM = pathlib.Path(__file__).resolve().parent.parent / "crates/sercos/out/sercos"
 # The most bytes that `check` reads, and the most seconds of a run.
@@ -107,37 +104,20 @@ def occurred_in(document: str, trace: str, plan: str) -> set[str]:
     return found | {name for name, holds in more.items() if holds}
 
 
-def checked(program: str, seed: int) -> tuple[int, list[str], set[str]]:
-    """A seed, what is wrong of its document, and what occurred."""
+def checked(program: str, seed: int) -> Judgement:
+    """What is wrong of the document of a seed, and what occurred."""
     document = document_of(seed)
     trace, plan = output_of(program, "run", document), output_of(program, "plan", document)
     if not re.search(r"\nend .* unseen \d+\n\Z", trace):
-        return seed, [f"run ends with {trace[-200:]!r}"], set()
+        return [f"run ends with {trace[-200:]!r}"], set()
     occurred = occurred_in(document, trace, plan)
     wrong = [] if "run: something unseen" in occurred else list(wrong_in(program, trace, plan))
-    return seed, wrong, occurred
+    return wrong + [document] * bool(wrong), occurred
 
 
 def main() -> int:
-    parser = argparse.ArgumentParser(description=__doc__, formatter_class=argparse.RawDescriptionHelpFormatter)
-    parser.add_argument("seed", type=int, help="the first seed")
-    parser.add_argument("count", type=int, help="the number of seeds")
-    parser.add_argument("--program", default=str(PROGRAM), help="the built program (%(default)s)")
-    parser.add_argument("--jobs", type=int, default=2, help="how many seeds at a time (%(default)s)")
-    words = parser.parse_args()
-    counts: collections.Counter[str] = collections.Counter()
-    wrong, start = 0, time.monotonic()
-    with concurrent.futures.ThreadPoolExecutor(words.jobs) as pool:
-        seeds = range(words.seed, words.seed + words.count)
-        for seed, faults, occurred in pool.map(lambda seed: checked(words.program, seed), seeds):
-            counts.update(occurred)
-            if faults:
-                wrong += 1
-                print(*(f"seed {seed}: {fault}" for fault in faults), document_of(seed), sep="\n", flush=True)
-    for name in sorted(counts):
-        print(f"{counts[name]:6} {name}")
-    print(f"{words.count} rings in {time.monotonic() - start:.0f} s, {wrong} wrong")
-    return 1 if wrong else 0
+    words = parser_of(__doc__, program=str(PROGRAM)).parse_args()
+    return judge_seeds(words, lambda seed: checked(words.program, seed))
 
 
 if __name__ == "__main__":
