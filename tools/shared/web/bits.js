@@ -52,7 +52,6 @@ class BitsView {
         try {
             answer = await this.program.call(["show"], `${line}\n`);
         } catch (fault) {
-            this.program.answers.restart();
             answer = {output: `no answer: ${fault.message}\n`};
         }
         if (line !== this.parts.line.value.trim()) return;

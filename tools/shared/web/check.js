@@ -92,7 +92,6 @@ class CheckView {
         try {
             this.show(part, await this.program.call(["check"], part.text), capture, words);
         } catch (fault) {
-            this.program.answers.restart();
             parts.answer.replaceChildren(element("p", {class: "bad"}, `No answer: ${fault.message}. The program was started again.`));
         }
     }

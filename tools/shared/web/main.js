@@ -148,7 +148,10 @@ class Page {
         try {
             answer = {...await this.program.plan(text), text};
         } catch (fault) {
-            this.program.answers.restart();
+            if (fault.isLost) {
+                this.isAsking = false;
+                return void this.plan();
+            }
             answer = {text, status: -1, output: "", head: "", fault: fault.message};
         }
         this.isAsking = false;
@@ -184,7 +187,8 @@ class Page {
             }
             this.show();
         } catch (fault) {
-            if (fault instanceof NoAnswer) this.program.answers.restart(); else throw fault;
+            // The margins of a text that has a plan are left out, then.
+            if (!(fault instanceof NoAnswer)) throw fault;
         }
     }
 

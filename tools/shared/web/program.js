@@ -1,7 +1,12 @@
 // The program for the page: two workers, so that a run never delays a plan.
 
-/** What a question ended with in place of an answer. */
-class NoAnswer extends Error {}
+/** What a question ended with in place of an answer. If it was lost, the reason was another question, and it can be asked again. */
+class NoAnswer extends Error {
+    constructor(reason, isLost) {
+        super(reason);
+        this.isLost = isLost;
+    }
+}
 
 /** A worker with an instance of the module. */
 class Instance {
@@ -13,9 +18,11 @@ class Instance {
     start() {
         this.worker = new Worker(this.script);
         this.worker.onmessage = ({data}) => this.take(data);
-        this.worker.onerror = (event) => this.lose(event.message || "the worker ended");
+        this.worker.onerror = (event) => { if (this.hasBegun) this.restart(event.message); else this.lose(event.message || "the worker can't begin"); };
+        this.hasBegun = false;
         this.ready = this.ask("begin", {bytes: this.bytes});
-        this.ready.catch(() => {});
+        this.first = this.number;
+        this.ready.then(() => { this.hasBegun = true; }, () => {});
     }
 
     take({id, part, answer, trap}) {
@@ -26,11 +33,17 @@ class Instance {
             return;
         }
         this.waiting.delete(id);
-        if (trap === undefined) done(answer); else fail(new NoAnswer(trap));
+        if (trap === undefined) {
+            done(answer);
+            return;
+        }
+        // Its stack and memory are in an unknown state: a new worker begins with new ones.
+        if (id !== this.first) this.restart("it was begun anew");
+        fail(new NoAnswer(trap, false));
     }
 
     lose(reason) {
-        for (const {fail} of this.waiting.values()) fail(new NoAnswer(reason));
+        for (const {fail} of this.waiting.values()) fail(new NoAnswer(reason, true));
         this.waiting.clear();
     }
 
@@ -44,9 +57,9 @@ class Instance {
     }
 
     /** Ends whatever goes on, and begins anew. */
-    restart() {
+    restart(reason) {
         this.worker.terminate();
-        this.lose("it was ended");
+        this.lose(reason);
         this.start();
     }
 }

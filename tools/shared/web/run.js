@@ -93,7 +93,6 @@ class RunView {
     }
 
     fail(fault) {
-        this.program.runs.restart();
         this.parts.summary.textContent = `The run ended without an answer: ${fault.message}. The program was started again, and your text is kept.`;
     }
 
