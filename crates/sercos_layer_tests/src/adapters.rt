@@ -125,7 +125,7 @@ fn fails_once(interrupted: u32) -> bool {
     let first = StdSink::new(&mut writer).write(b"a");
     let calls = writer.calls;
     let second = StdSink::new(&mut writer).write(b"a");
-    first == Err(WriteFailed) && calls == interrupted + 1 && second == Ok(1)
+    first == Err(WriteFailed) && Some(calls) == interrupted.checked_add(1) && second == Ok(1)
 }
 
 #[test]
