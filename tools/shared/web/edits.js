@@ -113,7 +113,9 @@ class Edits {
         if (node) return this.replaced(node.from, node.to, value);
         if (table.made === "braces") return this.intoBraces(table, `${key} = ${value}`);
         const end = this.lineEnd(table.last), isOpen = this.text[end - 1] !== "\n";
-        return this.replaced(end, end, `${isOpen ? "\n" : ""}${key} = ${value}\n`);
+        // A table that is made by keys with points, as by ring.rate = 4, has no header under which its keys could stand.
+        const name = table.made === "header" ? key : `${table.key.name}.${key}`;
+        return this.replaced(end, end, `${isOpen ? "\n" : ""}${name} = ${value}\n`);
     }
 
     intoBraces(table, pair) {

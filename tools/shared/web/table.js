@@ -108,9 +108,13 @@ class Grid {
         event.preventDefault();
     }
 
+    isLocked() {
+        return this.place.getAttribute("aria-readonly") === "true";
+    }
+
     put(typed, mark = "") {
         const [row, column] = this.at;
-        this.act(this.paths[row], this.keys[column], typed, mark);
+        if (!this.isLocked()) this.act(this.paths[row], this.keys[column], typed, mark);
     }
 
     /** Changes a number by some units. */
@@ -121,7 +125,7 @@ class Grid {
 
     edit(first = null) {
         const [row, column] = this.at, cell = this.cell(), node = this.reading.get(`${this.paths[row]}.${this.keys[column]}`);
-        if (!cell || this.editor || this.place.getAttribute("aria-readonly") === "true") return;
+        if (!cell || this.editor || this.isLocked()) return;
         const old = cellText(this.reading, node), label = `${HEADS[this.keys[column]] ?? this.keys[column]}, ${this.words[this.keys[column]].title}`;
         const editor = element("input", {"aria-label": label, spellcheck: "false", autocomplete: "off"});
         editor.value = first ?? old;
@@ -167,7 +171,7 @@ class Grid {
         editor.remove();
         cell.firstChild.hidden = false;
         if (isKept) cell.focus();
-        this.show(this.reading, this.paths, this.place.getAttribute("aria-readonly") === "true");
+        this.show(this.reading, this.paths, this.isLocked());
     }
 
     /** Marks cells: `marks` has, by path and key, {class, title, note}. */
