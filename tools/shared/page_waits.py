@@ -2,11 +2,15 @@
 from __future__ import annotations
 
 import math
-from typing import NotRequired, TypedDict
+from typing import TYPE_CHECKING, TypedDict
 
 from .service_channel import Cycle
 from .slot_waits import Times, Wait, at_waits, holder, last_wait, mdt_waits, reason, t3_wait, t4_wait
 from .trace_lines import Head, address_of
+
+if TYPE_CHECKING:
+    # Python has it from 3.11 on, and the tools that read no ring document run on 3.9.
+    from typing import NotRequired
 
 
 class Plan(TypedDict):
