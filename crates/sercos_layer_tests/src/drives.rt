@@ -18,13 +18,19 @@ fn opened(alloc: Global, setup: &DriveSetup) -> Result<Option<Drive>, AllocError
     }
 }
 
-// The phase of the MST, the AT that is wanted, and the MDT.
-type Cycle = (u8, Option<[u8; 5]>, Option<[u8; 5]>);
+// The test's drive.
+fn started(alloc: Global) -> Result<Option<Drive>, AllocError> {
+    let setup = drive(alloc)?;
+    opened(alloc, &setup)
+}
+
+// A cycle, the phase of its MST, the AT that is wanted, and the MDT.
+type Cycle = (u32, u8, Option<[u8; 5]>, Option<[u8; 5]>);
 
 // Whether the drive is in the phase of the MST and sends the AT that is wanted.
-fn follows(drive: &mut Drive, at: &mut Content, number: u32, cycle: Cycle) -> bool {
-    let (phase, wanted, mdt) = cycle;
-    drive.hear_mst(number, Some(&[255, phase]));
+fn follows(drive: &mut Drive, at: &mut Content, row: Cycle) -> bool {
+    let (cycle, phase, wanted, mdt) = row;
+    drive.hear_mst(cycle, Some(&[255, phase]));
     let begins = drive.at(at);
     let sent = match wanted {
         None => begins.is_none(),
@@ -52,23 +58,21 @@ fn restarts(drive: &mut Drive, at: &mut Content) -> bool {
 // phase 0, where it sends nothing, and keeps what was written.
 #[test]
 fn writes_and_restarts(rt: HostRuntime) -> Result<(), Fail> {
-    let cycles: [Cycle; 8] = [
-        (0, None, None),
-        (1, None, Some([1, 0, 0, 0, 0])),
-        (1, Some([1, 0, 0, 0, 0]), None),
+    let rows: [Cycle; 8] = [
+        (0, 0, None, None),
+        (1, 1, None, Some([1, 0, 0, 0, 0])),
+        (2, 1, Some([1, 0, 0, 0, 0]), None),
         // the opening, the two words of the attribute, and the data
-        (2, None, Some([1, 15, 0, 6, 0])),
-        (2, Some([1, 1, 0, 0, 0]), Some([1, 24, 0, 0, 0])),
-        (2, Some([1, 0, 0, 1, 0]), Some([1, 29, 0, 0, 0])),
-        (2, Some([1, 1, 0, 17, 96]), Some([1, 62, 0, 10, 0])),
-        (2, Some([1, 0, 0, 0, 0]), None),
+        (3, 2, None, Some([1, 15, 0, 6, 0])),
+        (4, 2, Some([1, 1, 0, 0, 0]), Some([1, 24, 0, 0, 0])),
+        (5, 2, Some([1, 0, 0, 1, 0]), Some([1, 29, 0, 0, 0])),
+        (6, 2, Some([1, 1, 0, 17, 96]), Some([1, 62, 0, 10, 0])),
+        (7, 2, Some([1, 0, 0, 0, 0]), None),
     ];
-    let setup = drive(rt.alloc())?;
-    let mut drive = opened(rt.alloc(), &setup)?.expect(&rt, "the blocks can stand");
+    let mut drive = started(rt.alloc())?.expect(&rt, "the blocks can stand");
     let mut at = Content::new();
-    for number in 0..cycles.len() {
-        let follows = follows(&mut drive, &mut at, number as u32, cycles[number]);
-        assert!(rt; follows, "in cycle {number}");
+    for row in rows {
+        assert!(rt; follows(&mut drive, &mut at, row), "in cycle {}", row.0);
     }
     assert!(rt; restarts(&mut drive, &mut at), "the restart");
     Ok(())
