@@ -12,8 +12,10 @@ from .linking import SONAME, TOP, Missing, pkg_config, version
 # What is handed out, as git has it, and what of that is of no use without the sources.
 PARTS = ["README.md", "CHANGELOG.md", "CITATION.cff", "CONTRIBUTING.md", "LICENSE", "VERSION", "sercos", "sercos_rings",
          "tools", "examples", "schema", "docs", "man", "completions", "include"]
-FOR_SOURCES = {"tools/build", "tools/library", "tools/release", *(f"tools/shared/{name}.py" for name in (
-    "building", "compiled", "crates", "debian", "linking", "proving", "release_folder", "statements"))}
+FOR_SOURCES = {"tools/build", "tools/library", "tools/page", "tools/release", *(f"tools/shared/{name}.py" for name in (
+    "build_times", "building", "compiled", "crates", "debian", "library", "linking", "llvm_module", "proving", "release_folder", "statements",
+    "web_text", "webassembly"))}
+FOLDERS_FOR_SOURCES = ("tools/shared/web/",)
 
 
 def git(*words: str) -> str:
@@ -62,7 +64,7 @@ def stage_library(linked: Linked, to: pathlib.Path, lib: str) -> None:
 def stage(to: pathlib.Path, programs: pathlib.Path, parts: Iterable[str]) -> None:
     """The parts of the repository that are handed out, and the programs in libexec/."""
     for name in git("ls-files", "-z", "--", *parts).split("\0")[:-1]:
-        if name not in FOR_SOURCES:
+        if name not in FOR_SOURCES and not name.startswith(FOLDERS_FOR_SOURCES):
             copy(TOP / name, to / name)
     for program in sorted(programs.iterdir()):
         copy(program, to / "libexec" / program.name, 0o755)
