@@ -82,102 +82,89 @@ impl Write for Recovering {
     }
 }
 
-// Whether a reader that is interrupted this often gives its byte at the first call, and fails at the second; or the other way round.
-fn reads(interrupted: u32, gives: bool) -> bool {
-    let mut source = StdSource::new(Stuttering {
-        interrupted,
-        given: false,
-    });
-    let mut piece = [0u8; 4];
-    let first = source.read(&mut piece).is_ok();
-    let second = source.read(&mut piece).is_ok();
-    first == gives && second != gives && piece[0] == b'a'
-}
-
 #[test]
 fn interrupted_reads(rt: HostRuntime) {
     // How often the first call is interrupted, and whether it then returns the byte.
     for (interrupted, gives) in [(0, true), (999, true), (1000, false)] {
-        assert!(rt; reads(interrupted, gives), "after {interrupted}");
+        let mut source = StdSource::new(Stuttering {
+            interrupted,
+            given: false,
+        });
+        let mut piece = [0u8; 4];
+        assert_eq!(rt;
+            source.read(&mut piece).is_ok(),
+            gives,
+            "after {interrupted}"
+        );
+        // The next call returns the byte that the first one didn't reach, or fails.
+        assert_eq!(rt;
+            source.read(&mut piece).is_ok(),
+            !gives,
+            "after {interrupted}"
+        );
+        assert_eq!(rt; piece[0], b'a', "after {interrupted}");
     }
-}
-
-// Whether a writer that is interrupted this often takes its byte at the first call, or only at the second.
-fn writes(interrupted: u32, takes: bool) -> bool {
-    let mut sink = StdSink::new(Recovering::new(interrupted, 0, 1));
-    let first = sink.write(b"ab").is_ok();
-    // The next call isn't interrupted.
-    let second = sink.write(b"ab");
-    first == takes && second == Ok(1)
 }
 
 #[test]
 fn interrupted_writes(rt: HostRuntime) {
     // How often the first call is interrupted, and whether it then writes its byte.
     for (interrupted, takes) in [(0, true), (5, true), (999, true), (1000, false)] {
-        assert!(rt; writes(interrupted, takes), "after {interrupted}");
+        let mut sink = StdSink::new(Recovering::new(interrupted, 0, 1));
+        assert_eq!(rt; sink.write(b"ab").is_ok(), takes, "after {interrupted}");
+        // The next call isn't interrupted.
+        assert_eq!(rt; sink.write(b"ab"), Ok(1), "after {interrupted}");
     }
 }
 
 // A failed call isn't made again: the reader and the writer would succeed at their second call.
-fn fails_once(interrupted: u32) -> bool {
-    let mut writer = Recovering::new(interrupted, 1, 1);
-    let first = StdSink::new(&mut writer).write(b"a");
-    let calls = writer.calls;
-    let second = StdSink::new(&mut writer).write(b"a");
-    first == Err(WriteFailed) && Some(calls) == interrupted.checked_add(1) && second == Ok(1)
-}
-
-// A failed read isn't made again: the byte is that of the second call.
-fn reads_second() -> bool {
+#[test]
+fn failures(rt: HostRuntime) {
     let mut source = StdSource::new(FailsFirst { calls: 0 });
     let mut piece = [0u8; 4];
-    let first = source.read(&mut piece);
-    let second = source.read(&mut piece);
-    first == Err(ReadFailed) && second == Ok(1) && piece[0] == 2
-}
-
-#[test]
-fn failed_reads(rt: HostRuntime) {
-    assert!(rt; reads_second());
-}
-
-#[test]
-fn failed_writes(rt: HostRuntime) {
+    assert_eq!(rt; source.read(&mut piece), Err(ReadFailed));
+    assert_eq!(rt; source.read(&mut piece), Ok(1));
+    assert_eq!(rt; piece[0], 2);
     // How often the call is interrupted before the writer fails.
     for interrupted in [0, 5] {
-        assert!(rt; fails_once(interrupted), "after {interrupted}");
+        let mut writer = Recovering::new(interrupted, 1, 1);
+        assert_eq!(rt;
+            StdSink::new(&mut writer).write(b"a"),
+            Err(WriteFailed),
+            "after {interrupted}"
+        );
+        assert_eq!(rt; writer.calls, interrupted + 1);
+        assert_eq!(rt;
+            StdSink::new(&mut writer).write(b"a"),
+            Ok(1),
+            "after {interrupted}"
+        );
     }
-}
-
-// Whether a writer that takes nothing makes the call fail, after so many calls of its own.
-fn takes_nothing(interrupted: u32, calls: u32) -> bool {
-    let mut writer = Recovering::new(interrupted, 0, 0);
-    let wrote = StdSink::new(&mut writer).write(b"a");
-    wrote == Err(WriteFailed) && writer.calls == calls
 }
 
 #[test]
 fn writes_of_nothing(rt: HostRuntime) {
     // How often the call is interrupted before the writer takes nothing, and how many calls it gets.
     for (interrupted, calls) in [(0, 1), (5, 6), (1000, 1000)] {
-        assert!(rt; takes_nothing(interrupted, calls), "after {interrupted}");
+        let mut writer = Recovering::new(interrupted, 0, 0);
+        assert_eq!(rt;
+            StdSink::new(&mut writer).write(b"a"),
+            Err(WriteFailed),
+            "after {interrupted}"
+        );
+        assert_eq!(rt; writer.calls, calls);
     }
     let mut sink = StdSink::new(Recovering::new(0, 0, 0));
-    let wrote = sink.write(b"");
-    assert!(rt; wrote == Ok(0));
+    assert_eq!(rt; sink.write(b""), Ok(0));
 }
 
 #[test]
 fn over_memory(rt: HostRuntime) {
     let mut source = StdSource::new(b"abc".as_slice());
     let mut piece = [0u8; 2];
-    let reads = [
-        source.read(&mut piece),
-        source.read(&mut piece),
-        source.read(&mut piece),
-    ];
+    assert_eq!(rt; source.read(&mut piece), Ok(2));
+    assert_eq!(rt; source.read(&mut piece), Ok(1));
+    assert_eq!(rt; source.read(&mut piece), Ok(0));
     let mut sink = StdSink::new(Vec::new(rt.alloc()));
-    let wrote = sink.write(b"abc");
-    assert!(rt; reads == [Ok(2), Ok(1), Ok(0)] && wrote == Ok(3));
+    assert_eq!(rt; sink.write(b"abc"), Ok(3));
 }

@@ -70,15 +70,6 @@ pub fn drive(alloc: Global) -> Result<DriveSetup, AllocError> {
     })
 }
 
-// The same drive with one block more, if there is one.
-pub fn drive_with(alloc: Global, block: Option<Block>) -> Result<DriveSetup, AllocError> {
-    let mut setup = drive(alloc)?;
-    if let Some(block) = block {
-        setup.blocks.push(block)?;
-    }
-    Ok(setup)
-}
-
 // The store of a drive, if its blocks are valid.
 pub fn opened(alloc: Global, setup: &DriveSetup) -> Result<Option<Store>, AllocError> {
     if setup.blocks.len() > 36 {

@@ -5,7 +5,7 @@ ghost use Rattle.sercos_step.specs.Steps.{IsRequest};
 use crate::blocks::{SIGNED_FOUR, drive, letters, number};
 use crate::station::Station;
 use sercos_bits::Bytes;
-use sercos_block::{Block, DriveSetup};
+use sercos_block::DriveSetup;
 use sercos_idn::Idn;
 use sercos_service_master::MasterChannel;
 use sercos_step::{Outcome, Request};
@@ -58,6 +58,7 @@ impl Channel {
     // Begins a request in a cycle, and carries it on in the next 200 cycles. When and how it ended, if it did.
     fn carry(&mut self, request: Request, begin: u32) -> Option<(u32, Outcome)>
         requires request { IsRequest request }
+        requires early { begin < 1000 }
     {
         let earlier = self.answer(begin);
         if earlier.is_some() || !self.master.idle() {
@@ -65,7 +66,7 @@ impl Channel {
         }
         self.master.begin(request);
         self.ask(begin);
-        for cycle in begin.saturating_add(1)..begin.saturating_add(200) {
+        for cycle in begin + 1..begin + 200 {
             if let Some(outcome) = self.answer(cycle) {
                 return Some((cycle, outcome));
             }
@@ -73,16 +74,15 @@ impl Channel {
         }
         None
     }
+}
 
-    // Whether a request that begins in a cycle is complete in another one, with these bytes.
-    fn completes(&mut self, request: Request, begin: u32, end: u32, bytes: &[u8]) -> bool
-        requires request { IsRequest request }
-    {
-        match self.carry(request, begin) {
-            Some((cycle, Outcome::Complete(read))) => cycle == end && read.as_slice() == bytes,
-            _ => false,
-        }
+// An end with these bytes.
+fn complete(cycle: u32, bytes: &[u8]) -> Option<(u32, Outcome)> {
+    let mut read = Bytes::new();
+    for byte in bytes {
+        read.push(*byte).ok()?;
     }
+    Some((cycle, Outcome::Complete(read)))
 }
 
 fn read(raw: u16) -> Request
@@ -94,28 +94,12 @@ fn read(raw: u16) -> Request
     }
 }
 
-// The lost ATs and MDTs, the busy time, when the read is complete, and its bytes.
-type Growing = (Option<u32>, Option<u32>, u8, u32, [u8; 4]);
-
-fn grows(alloc: Global, row: Growing) -> Result<bool, AllocError> {
-    let (lost_at, lost_mdt, busy, end, bytes) = row;
-    let mut setup = drive(alloc)?;
-    setup.busy = busy;
-    match Channel::open(alloc, &setup)? {
-        None => Ok(false),
-        Some(mut channel) => {
-            channel.lost_at = lost_at;
-            channel.lost_mdt = lost_mdt;
-            Ok(channel.completes(read(51), 100, end, &bytes))
-        }
-    }
-}
-
 // A number that grows by 10 in each cycle is read whole, as it is in the cycle in which its selection, the fourth of five
 // steps, is accepted.
 #[test]
 fn growing_number(rt: HostRuntime) -> Result<(), Fail> {
-    let rows: [Growing; 6] = [
+    // The lost ATs and MDTs, the busy time, when the read is complete, and its bytes.
+    let rows: [(Option<u32>, Option<u32>, u8, u32, [u8; 4]); 6] = [
         // The steps are accepted in 100, 101, 102, 103 and 104; 64500 + 1030 is 65530.
         (None, None, 0, 105, [250, 255, 0, 0]),
         // 100, 102, 104, 106, 108; 65560.
@@ -129,79 +113,62 @@ fn growing_number(rt: HostRuntime) -> Result<(), Fail> {
         // 100, 103, 106, 109, 112; 65590.
         (None, None, 2, 115, [54, 0, 1, 0]),
     ];
-    for row in rows {
-        assert!(rt; grows(rt.alloc(), row)?, "{row:?}");
-    }
-    Ok(())
-}
-
-// Whether a write that begins in cycle 100 is complete in the cycle `wrote`, and the read that begins then in the cycle
-// `end`, with what was written once.
-fn writes(channel: &mut Channel, wrote: u32, end: u32) -> bool {
-    let mut bytes = Bytes::new();
-    bytes.assign(&[1, 0, 0, 0]);
-    let write = Request::Write {
-        idn: Idn { raw: 47 },
-        element: 7,
-        bytes,
-    };
-    let written = channel.completes(write, 100, wrote, &[]);
-    let kept = channel.drive.data(47) == [1u8, 0, 0, 0].as_slice();
-    let back = channel.completes(read(47), wrote, end, &[1, 0, 0, 0]);
-    written && kept && back && channel.writes == 1
-}
-
-// The same, of a channel at its reset that loses these ATs.
-fn writes_over(
-    alloc: Global,
-    lost_at: Option<u32>,
-    wrote: u32,
-    end: u32,
-) -> Result<bool, AllocError> {
-    let setup = drive(alloc)?;
-    match Channel::open(alloc, &setup)? {
-        None => Ok(false),
-        Some(mut channel) => {
-            channel.lost_at = lost_at;
-            Ok(writes(&mut channel, wrote, end))
-        }
-    }
-}
-
-// What is written is written once, and read back. Lost are no ATs, or those of the odd cycles.
-#[test]
-fn written_number(rt: HostRuntime) -> Result<(), Fail> {
-    // The lost ATs, when the write is complete, and when the read.
-    for (lost_at, wrote, end) in [(None, 105, 110), (Some(1), 110, 120)] {
-        assert!(rt;
-            writes_over(rt.alloc(), lost_at, wrote, end)?,
-            "{lost_at:?}"
+    for (lost_at, lost_mdt, busy, end, bytes) in rows {
+        let mut setup = drive(rt.alloc())?;
+        setup.busy = busy;
+        let mut channel = Channel::open(rt.alloc(), &setup)?.expect(&rt, "the blocks can stand");
+        channel.lost_at = lost_at;
+        channel.lost_mdt = lost_mdt;
+        assert_eq!(rt;
+            channel.carry(read(51), 100),
+            complete(end, &bytes),
+            "{lost_at:?} {lost_mdt:?} {busy}"
         );
     }
     Ok(())
 }
 
-// A channel whose drive has one more block, and whose commands run for three cycles.
-fn with_block(alloc: Global, block: Block) -> Result<Option<Channel>, AllocError> {
-    let mut setup = drive(alloc)?;
-    setup.command = 3;
-    setup.blocks.push(block)?;
-    Channel::open(alloc, &setup)
+// What is written is written once, and read back. Lost are no ATs, or those of the odd cycles.
+#[test]
+fn written_number(rt: HostRuntime) -> Result<(), Fail> {
+    let setup = drive(rt.alloc())?;
+    // The lost ATs, when the write is complete, and when the read.
+    for (lost_at, wrote, end) in [(None, 105, 110), (Some(1), 110, 120)] {
+        let mut channel = Channel::open(rt.alloc(), &setup)?.expect(&rt, "the blocks can stand");
+        channel.lost_at = lost_at;
+        let mut bytes = Bytes::new();
+        bytes.assign(&[1, 0, 0, 0]);
+        let write = Request::Write {
+            idn: Idn { raw: 47 },
+            element: 7,
+            bytes,
+        };
+        assert_eq!(rt; channel.carry(write, 100), complete(wrote, &[]));
+        assert_eq!(rt; channel.drive.data(47), [1u8, 0, 0, 0].as_slice());
+        assert_eq!(rt;
+            channel.carry(read(47), wrote),
+            complete(end, &[1, 0, 0, 0])
+        );
+        assert_eq!(rt; channel.writes, 1);
+    }
+    Ok(())
 }
 
 // A name of 60 letters has two lengths and 30 words: with the opening 33 steps of two cycles each.
 #[test]
 fn name(rt: HostRuntime) -> Result<(), Fail> {
     let name = letters(60).expect(&rt, "a name");
+    let mut setup = drive(rt.alloc())?;
     let mut block = number(60, SIGNED_FOUR, None, None, &[0; 4]).expect(&rt, "a block");
     block.name = letters(60);
-    let mut channel = with_block(rt.alloc(), block)?.expect(&rt, "the blocks can stand");
+    setup.blocks.push(block)?;
+    let mut channel = Channel::open(rt.alloc(), &setup)?.expect(&rt, "the blocks can stand");
     channel.lost_at = Some(1);
     let request = Request::Read {
         idn: Idn { raw: 60 },
         element: 2,
     };
-    assert!(rt; channel.completes(request, 100, 166, name.as_slice()));
+    assert_eq!(rt; channel.carry(request, 100), complete(166, name.as_slice()));
     Ok(())
 }
 
@@ -209,44 +176,31 @@ fn name(rt: HostRuntime) -> Result<(), Fail> {
 // has ended, and it is cancelled in 105.
 #[test]
 fn command(rt: HostRuntime) -> Result<(), Fail> {
-    let block = number(32788, 0x0009_0001, None, None, &[0, 0]).expect(&rt, "a block");
-    let mut channel = with_block(rt.alloc(), block)?.expect(&rt, "the blocks can stand");
+    let mut setup = drive(rt.alloc())?;
+    setup.command = 3;
+    setup.blocks.push(number(32788, 0x0009_0001, None, None, &[0, 0]).expect(&rt, "a block"))?;
+    let mut channel = Channel::open(rt.alloc(), &setup)?.expect(&rt, "the blocks can stand");
     let request = Request::Command {
         idn: Idn { raw: 32788 },
     };
-    let completes = channel.completes(request, 100, 106, &[3, 0]);
-    assert!(rt; completes && channel.writes == 2);
+    assert_eq!(rt; channel.carry(request, 100), complete(106, &[3, 0]));
+    assert_eq!(rt; channel.writes, 2);
     Ok(())
-}
-
-// Whether the next 70 cycles without an answer are counted up to 64.
-fn counts(master: &mut MasterChannel) -> bool {
-    let mut counted = master.cycles_open() == 0;
-    for count in 1..71u8 {
-        let _record = master.send();
-        master.end_cycle();
-        counted = counted && master.cycles_open() == count.min(64);
-    }
-    counted
 }
 
 // A step without an answer: its cycles are counted up to 64, and a reset breaks the request.
 #[test]
 fn broken(rt: HostRuntime) {
     let mut master = MasterChannel::new();
-    let before = master.reset();
+    assert_eq!(rt; master.reset(), None);
     master.begin(read(51));
-    let counted = counts(&mut master);
-    let broken = master.reset();
-    let idle = master.idle();
-    let after = master.reset();
-    assert!(rt;
-        before.is_none() && after.is_none(),
-        "a reset without a request"
-    );
-    assert!(rt; counted, "the cycles");
-    assert!(rt;
-        idle && broken == Some(Outcome::Broken),
-        "the reset of the request"
-    );
+    assert_eq!(rt; master.cycles_open(), 0);
+    for count in 1..71u8 {
+        let _record = master.send();
+        master.end_cycle();
+        assert_eq!(rt; master.cycles_open(), count.min(64));
+    }
+    assert_eq!(rt; master.reset(), Some(Outcome::Broken));
+    assert!(rt; master.idle());
+    assert_eq!(rt; master.reset(), None);
 }

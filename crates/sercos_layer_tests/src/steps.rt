@@ -149,38 +149,32 @@ const ROWS: [Row; 38] = [
     (CROSSED, 2, Does::Last, 50, 0x7006),
 ];
 
-// A drive with the further blocks, if they are valid.
-fn opened(alloc: Global) -> Result<Option<Station>, AllocError> {
-    let setup = setup(alloc)?;
-    Station::open(alloc, &setup)
-}
-
-// Whether a row's step is refused with its code, as the AT of the first cycle shows in which the drive isn't busy any more.
-fn refuses(drive: &mut Station, row: Row) -> bool {
-    let (opened, phase, does, word, wanted) = row;
+// The code that a row's step is refused with, as the AT of the first cycle shows in which the drive isn't busy any more.
+fn refusal(alloc: Global, setup: &DriveSetup, row: Row) -> Result<Option<u16>, AllocError> {
+    let (opened, phase, does, word, _) = row;
+    let Some(mut drive) = Station::open(alloc, setup)? else {
+        return Ok(None);
+    };
     if phase < 2 || phase > 4 {
-        return false;
+        return Ok(None);
     }
     if opened > 0 {
         let _wrote = drive.step(100, phase, step(Does::Open, opened));
     }
     let wrote = drive.step(101, phase, step(does, word));
     let (status, code) = drive.say(104);
-    status.error && !status.busy && !wrote && code == wanted
-}
-
-// The same, of a drive at its opening.
-fn refusal(alloc: Global, row: Row) -> Result<bool, AllocError> {
-    match opened(alloc)? {
-        None => Ok(false),
-        Some(mut drive) => Ok(refuses(&mut drive, row)),
+    if status.error && !status.busy && !wrote {
+        Ok(Some(code))
+    } else {
+        Ok(None)
     }
 }
 
 #[test]
 fn refusals(rt: HostRuntime) -> Result<(), Fail> {
+    let setup = setup(rt.alloc())?;
     for row in ROWS {
-        assert!(rt; refusal(rt.alloc(), row)?, "{row:?}");
+        assert_eq!(rt; refusal(rt.alloc(), &setup, row)?, Some(row.4), "{row:?}");
     }
     Ok(())
 }
@@ -306,62 +300,38 @@ fn take_all(drive: &mut Station, steps: &[(u8, Does, u16)]) {
     }
 }
 
-// Whether the last step of a story is answered as wanted, and the block has its data then.
-fn goes(drive: &mut Station, story: Story) -> bool {
-    let (steps, error, word, raw, data) = story;
-    take_all(drive, steps);
-    let (status, info) = drive.say(120);
-    status.error == error && info == word && drive.data(raw) == data
-}
-
-// The same, of a drive at its opening.
-fn told(alloc: Global, story: Story) -> Result<bool, AllocError> {
-    match opened(alloc)? {
-        None => Ok(false),
-        Some(mut drive) => Ok(goes(&mut drive, story)),
-    }
-}
-
 #[test]
 fn stories(rt: HostRuntime) -> Result<(), Fail> {
-    for story in STORIES {
-        assert!(rt; told(rt.alloc(), story)?, "{:?}", story.0);
+    let setup = setup(rt.alloc())?;
+    for (steps, error, word, raw, data) in STORIES {
+        let mut drive = Station::open(rt.alloc(), &setup)?.expect(&rt, "the blocks can stand");
+        take_all(&mut drive, steps);
+        let (status, info) = drive.say(120);
+        assert_eq!(rt; (status.error, info), (error, word), "{steps:?}");
+        assert_eq!(rt; drive.data(raw), data, "{steps:?}");
     }
     Ok(())
-}
-
-// A record of a read that is handed to the drive before a cycle, if one is: its cycle, and whether its handshake bit is the
-// last one. Then the cycle, and what its AT shows: whether the drive is busy, and the word.
-type Shown = (Option<(u32, bool)>, u32, bool, u16);
-
-fn shows(drive: &mut Station, row: Shown) -> bool {
-    let (record, cycle, busy, word) = row;
-    let read = step(Does::Read(7), 0);
-    let wrote = match record {
-        None => false,
-        Some((taken, true)) => drive.repeat(taken, 4, read),
-        Some((taken, false)) => drive.step(taken, 4, read),
-    };
-    let (status, info) = drive.say(cycle);
-    !wrote && status.busy == busy && info == word
 }
 
 // A record that is repeated with the same handshake bit is not a step: the drive isn't busy with it, and the read goes on
 // where it was. In cycle 110 the number is 65600.
 #[test]
 fn repeated_record(rt: HostRuntime) -> Result<(), Fail> {
-    let rows: [Shown; 5] = [
-        (Some((110, false)), 111, true, 0),
-        (None, 112, true, 0),
-        (None, 113, false, 64),
-        (Some((113, true)), 114, false, 64),
-        (Some((114, false)), 117, false, 1),
-    ];
-    let mut drive = opened(rt.alloc())?.expect(&rt, "the blocks can stand");
-    let wrote = drive.step(107, 4, step(Does::Open, 51));
-    for row in rows {
-        assert!(rt; !wrote && shows(&mut drive, row), "{row:?}");
+    let setup = setup(rt.alloc())?;
+    let mut drive = Station::open(rt.alloc(), &setup)?.expect(&rt, "the blocks can stand");
+    let read = step(Does::Read(7), 0);
+    assert!(rt; !drive.step(107, 4, step(Does::Open, 51)));
+    assert!(rt; !drive.step(110, 4, read));
+    for (cycle, busy, word) in [(111, true, 0), (112, true, 0), (113, false, 64)] {
+        let (status, info) = drive.say(cycle);
+        assert_eq!(rt; (status.busy, info), (busy, word), "{cycle}");
     }
+    assert!(rt; !drive.repeat(113, 4, read));
+    let (status, info) = drive.say(114);
+    assert_eq!(rt; (status.busy, info), (false, 64));
+    assert!(rt; !drive.step(114, 4, read));
+    let (status, info) = drive.say(117);
+    assert_eq!(rt; (status.busy, info), (false, 1));
     Ok(())
 }
 
@@ -386,30 +356,26 @@ fn set_command(rt: HostRuntime) -> Result<(), Fail> {
     Ok(())
 }
 
-// Whether a drive whose command runs and whose handshake bit is 1 has neither after a reset, and nothing open.
-fn resets(drive: &mut Station) -> bool {
+// After a reset nothing is set or open, and the handshake bit is 0.
+#[test]
+fn reset(rt: HostRuntime) -> Result<(), Fail> {
+    let setup = setup(rt.alloc())?;
+    let mut drive = Station::open(rt.alloc(), &setup)?.expect(&rt, "the blocks can stand");
     take_all(
-        drive,
+        &mut drive,
         &[
             (2, Does::Open, START),
             (2, Does::Last, 3),
             (2, Does::Open, START),
         ],
     );
-    let (before, _) = drive.say(110);
+    let (status, _) = drive.say(110);
+    assert_eq!(rt; (status.ahs, status.change), (true, true));
     drive.reset();
-    let (after, word) = drive.say(110);
-    take_all(drive, &[(2, Does::Status, 0)]);
-    let (next, code) = drive.say(110);
-    let was_set = before.ahs && before.change;
-    let is_reset = !after.ahs && !after.change && word == 0;
-    was_set && is_reset && next.ahs && next.error && code == 1
-}
-
-// After a reset nothing is set or open, and the handshake bit is 0.
-#[test]
-fn reset(rt: HostRuntime) -> Result<(), Fail> {
-    let mut drive = opened(rt.alloc())?.expect(&rt, "the blocks can stand");
-    assert!(rt; resets(&mut drive));
+    let (status, info) = drive.say(110);
+    assert_eq!(rt; (status.ahs, status.change, info), (false, false, 0));
+    take_all(&mut drive, &[(2, Does::Status, 0)]);
+    let (status, info) = drive.say(110);
+    assert_eq!(rt; (status.ahs, status.error, info), (true, true, 1));
     Ok(())
 }

@@ -1,5 +1,5 @@
 // A drive's data blocks: which it can have, and how its store is read and written.
-use crate::blocks::{SIGNED_FOUR, UNSIGNED_TWO, drive, drive_with, letters, number, opened};
+use crate::blocks::{SIGNED_FOUR, UNSIGNED_TWO, drive, letters, number, opened};
 use sercos_bits::Text;
 use sercos_block::{BadBlock, Block, DriveSetup, Field, Store, check_blocks};
 use sercos_idn::{Attribute, Code, Idn};
@@ -53,67 +53,18 @@ fn two_stores(alloc: Global, setup: &DriveSetup) -> Result<Option<(Store, Store)
     }
 }
 
-// The store of the drive at its opening, if its blocks are valid.
-fn plain(alloc: Global) -> Result<Option<Store>, AllocError> {
-    let setup = drive(alloc)?;
-    opened(alloc, &setup)
-}
-
-// Whether a store has the built-in blocks and the drive's own, ascending.
-fn is_complete(store: &Store) -> bool {
+// The built-in blocks and the drive's own, ascending, with the values at opening.
+#[test]
+fn opening(rt: HostRuntime) -> Result<(), Fail> {
+    let setup = drive(rt.alloc())?;
+    let store = opened(rt.alloc(), &setup)?.expect(&rt, "the blocks can stand");
     let numbers: [u16; 23] = [
         1, 2, 3, 4, 5, 6, 7, 8, 9, 10, 15, 16, 21, 22, 24, 47, 51, 87, 88, 89, 90, 127, 128,
     ];
-    let mut same = store.count() == numbers.len();
+    assert_eq!(rt; store.count(), numbers.len());
     for index in 0..store.count().min(numbers.len()) {
-        same = same && store.idn(index).raw == numbers[index];
+        assert_eq!(rt; store.idn(index).raw, numbers[index]);
     }
-    same
-}
-
-// Whether the cycle time has its attribute, its minimum and its maximum.
-fn has_cycle_time(store: &Store) -> bool {
-    let idn = Idn { raw: 2 };
-    let word = store.attribute(idn).map(|attribute| attribute.write());
-    let min = store.element(idn, 5) == Ok([125u8, 0].as_slice());
-    let max = store.element(idn, 6) == Ok([0u8, 250].as_slice());
-    let bytes = store.element(idn, 3) == Ok([1u8, 0, 0x11, 0x60].as_slice());
-    min && max && bytes && word == Ok(0x6011_0001)
-}
-
-// Whether the lists have their greatest lengths, the drive's block its step, and no check is set up to fail.
-fn has_properties(store: &Store) -> bool {
-    let lists = store.max_len(Idn { raw: 16 }) == 32 && store.max_len(Idn { raw: 21 }) == 128;
-    lists && store.step(Idn { raw: 51 }) == 10 && !store.fails(Idn { raw: 127 })
-}
-
-// Whether a store at its opening has all that.
-fn is_opened(alloc: Global) -> Result<bool, AllocError> {
-    match plain(alloc)? {
-        Some(store) => Ok(is_complete(&store) && has_cycle_time(&store) && has_properties(&store)),
-        None => Ok(false),
-    }
-}
-
-// Whether an element of a block has these bytes at opening, or can't be read, by its code.
-fn shows(
-    alloc: Global,
-    raw: u16,
-    element: u8,
-    wanted: Result<&[u8], Code>,
-) -> Result<bool, AllocError> {
-    match plain(alloc)? {
-        Some(store) if element >= 2 && element <= 7 => {
-            Ok(store.element(Idn { raw }, element) == wanted)
-        }
-        _ => Ok(false),
-    }
-}
-
-// The blocks, with the values at opening.
-#[test]
-fn opening(rt: HostRuntime) -> Result<(), Fail> {
-    assert!(rt; is_opened(rt.alloc())?);
     let values: [(u16, &'static [u8]); 9] = [
         (2, &[0, 0]),
         (3, &[10, 0]),
@@ -126,22 +77,32 @@ fn opening(rt: HostRuntime) -> Result<(), Fail> {
         (90, &[20, 0]),
     ];
     for (raw, bytes) in values {
-        assert!(rt; shows(rt.alloc(), raw, 7, Ok(bytes))?, "{raw}");
+        assert_eq!(rt; store.element(Idn { raw }, 7), Ok(bytes), "{raw}");
     }
+    let cycle = Idn { raw: 2 };
+    assert_eq!(rt; store.element(cycle, 5), Ok([125u8, 0].as_slice()));
+    assert_eq!(rt; store.element(cycle, 6), Ok([0u8, 250].as_slice()));
+    assert_eq!(rt;
+        store.element(cycle, 3),
+        Ok([1u8, 0, 0x11, 0x60].as_slice())
+    );
+    assert_eq!(rt;
+        store.attribute(cycle).map(|attribute| attribute.write()),
+        Ok(0x6011_0001)
+    );
+    assert_eq!(rt; store.attribute(Idn { raw: 99 }), Err(Code::NO_IDN));
+    assert_eq!(rt; store.max_len(Idn { raw: 16 }), 32);
+    assert_eq!(rt; store.max_len(Idn { raw: 21 }), 128);
+    assert_eq!(rt; store.step(Idn { raw: 51 }), 10);
+    assert!(rt; !store.fails(Idn { raw: 127 }));
     Ok(())
-}
-
-// Whether a block that the drive doesn't have has no attribute.
-fn has_no_attribute(alloc: Global) -> Result<bool, AllocError> {
-    match plain(alloc)? {
-        Some(store) => Ok(store.attribute(Idn { raw: 99 }) == Err(Code::NO_IDN)),
-        None => Ok(false),
-    }
 }
 
 // What can't be read, by its code.
 #[test]
 fn missing_elements(rt: HostRuntime) -> Result<(), Fail> {
+    let setup = drive(rt.alloc())?;
+    let store = opened(rt.alloc(), &setup)?.expect(&rt, "the blocks can stand");
     let rows: [(u16, u8, u16); 6] = [
         (6, 2, 0x2001),
         (6, 4, 0x4001),
@@ -151,10 +112,12 @@ fn missing_elements(rt: HostRuntime) -> Result<(), Fail> {
         (99, 2, 0x1001),
     ];
     for (raw, element, code) in rows {
-        let wanted = Err(Code { raw: code });
-        assert!(rt; shows(rt.alloc(), raw, element, wanted)?, "{raw} {element}");
+        assert_eq!(rt;
+            store.element(Idn { raw }, element),
+            Err(Code { raw: code }),
+            "{raw} {element}"
+        );
     }
-    assert!(rt; has_no_attribute(rt.alloc())?, "the attribute");
     Ok(())
 }
 
@@ -179,41 +142,29 @@ fn limited(alloc: Global) -> Result<DriveSetup, AllocError> {
 // An identifier number, the bytes, the phase, and the code, 0 for none.
 type Write = (u16, &'static [u8], u8, u16);
 
-// Returns whether a write to a store has this answer: with a code nothing changes from the second store, which is the same, otherwise
-// the operation data of that block alone.
-fn answers(
-    alloc: Global,
-    store: &mut Store,
-    before: &Store,
-    write: Write,
-) -> Result<bool, AllocError> {
+// Returns whether a write has this answer: with a code nothing changes, otherwise the operation data of that block alone.
+fn is_answered(alloc: Global, setup: &DriveSetup, write: Write) -> Result<bool, AllocError> {
     let (raw, bytes, phase, code) = write;
     let idn = Idn { raw };
+    let Some((mut store, before)) = two_stores(alloc, setup)? else {
+        return Ok(false);
+    };
     if phase < 2 || phase > 4 {
         return Ok(false);
     }
     let answer = store.put(idn, bytes, phase);
-    let others = are_same(alloc, store, before, Some(idn))?;
-    let (wanted, data) = match code {
-        0 => (Ok(()), Ok(bytes)),
-        _ => (Err(Code { raw: code }), before.element(idn, 7)),
-    };
-    Ok(answer == wanted && others && store.element(idn, 7) == data)
-}
-
-// The same for the drive with limits.
-fn is_answered(alloc: Global, write: Write) -> Result<bool, AllocError> {
-    let setup = limited(alloc)?;
-    match two_stores(alloc, &setup)? {
-        Some((mut store, before)) => answers(alloc, &mut store, &before, write),
-        None => Ok(false),
+    if code != 0 {
+        return Ok(answer == Err(Code { raw: code }) && are_same(alloc, &store, &before, None)?);
     }
+    let others = are_same(alloc, &store, &before, Some(idn))?;
+    Ok(answer == Ok(()) && others && store.element(idn, 7) == Ok(bytes))
 }
 
-// What may be written in which phase, with the whole store compared.
+// Each code of a write, and the pairs whose order decides, with the whole store compared.
 #[test]
-fn protected_writes(rt: HostRuntime) -> Result<(), Fail> {
-    let rows: [Write; 10] = [
+fn writes(rt: HostRuntime) -> Result<(), Fail> {
+    let setup = limited(rt.alloc())?;
+    let rows: [Write; 30] = [
         (6, &[10, 0], 2, 0),
         (99, &[10, 0], 2, 0x1001),
         (3, &[10, 0], 2, 0x7004),
@@ -222,20 +173,6 @@ fn protected_writes(rt: HostRuntime) -> Result<(), Fail> {
         (6, &[10, 0], 4, 0x7005),
         (128, &[3, 0], 2, 0x7005),
         (128, &[3, 0], 3, 0),
-        // The first cause counts.
-        (3, &[10], 4, 0x7004),
-        (6, &[10], 4, 0x7005),
-    ];
-    for row in rows {
-        assert!(rt; is_answered(rt.alloc(), row)?, "{row:?}");
-    }
-    Ok(())
-}
-
-// How many bytes can be written, and which of a list and of a procedure command, with the whole store compared.
-#[test]
-fn writes_of_lengths(rt: HostRuntime) -> Result<(), Fail> {
-    let rows: [Write; 10] = [
         (6, &[10], 2, 0x7002),
         (6, &[], 2, 0x7002),
         (6, &[10, 0, 0], 2, 0x7003),
@@ -246,17 +183,6 @@ fn writes_of_lengths(rt: HostRuntime) -> Result<(), Fail> {
         (127, &[1, 0], 2, 0x7008),
         (127, &[3, 0], 2, 0),
         (127, &[0, 0], 2, 0),
-    ];
-    for row in rows {
-        assert!(rt; is_answered(rt.alloc(), row)?, "{row:?}");
-    }
-    Ok(())
-}
-
-// Writes at the minimum and the maximum, with the whole store compared.
-#[test]
-fn writes_at_limits(rt: HostRuntime) -> Result<(), Fail> {
-    let rows: [Write; 10] = [
         (2, &[124, 0], 2, 0x7006),
         (2, &[125, 0], 2, 0),
         (2, &[0, 250], 2, 0),
@@ -267,76 +193,46 @@ fn writes_at_limits(rt: HostRuntime) -> Result<(), Fail> {
         (0x800a, &[245, 255], 2, 0x7006),
         (0x800a, &[255, 255], 2, 0),
         (0x800a, &[11, 0], 2, 0x7007),
-        // The minimum is tested first.
+        // The first cause counts.
+        (3, &[10], 4, 0x7004),
+        (6, &[10], 4, 0x7005),
         (0x800b, &[7, 0], 2, 0x7006),
     ];
     for row in rows {
-        assert!(rt; is_answered(rt.alloc(), row)?, "{row:?}");
+        assert!(rt; is_answered(rt.alloc(), &setup, row)?, "{row:?}");
     }
     Ok(())
-}
-
-// Returns whether the test of a write, apart from the bytes, has this answer.
-fn is_tested(
-    alloc: Global,
-    raw: u16,
-    phase: u8,
-    wanted: Result<(), Code>,
-) -> Result<bool, AllocError> {
-    match plain(alloc)? {
-        Some(store) if phase >= 2 && phase <= 4 => {
-            Ok(store.may_write(Idn { raw }, phase) == wanted)
-        }
-        _ => Ok(false),
-    }
 }
 
 // What may be written, apart from the bytes.
 #[test]
 fn protection(rt: HostRuntime) -> Result<(), Fail> {
-    let rows: [(u16, u8, Result<(), Code>); 5] = [
-        (6, 2, Ok(())),
-        (6, 4, Err(Code::PROTECTED_NOW)),
-        (51, 2, Err(Code::FIXED)),
-        (47, 4, Ok(())),
-        (99, 2, Err(Code::NO_IDN)),
-    ];
-    for (raw, phase, wanted) in rows {
-        assert!(rt; is_tested(rt.alloc(), raw, phase, wanted)?, "{raw} {phase}");
-    }
+    let setup = drive(rt.alloc())?;
+    let store = opened(rt.alloc(), &setup)?.expect(&rt, "the blocks can stand");
+    assert_eq!(rt; store.may_write(Idn { raw: 6 }, 2), Ok(()));
+    assert_eq!(rt;
+        store.may_write(Idn { raw: 6 }, 4),
+        Err(Code::PROTECTED_NOW)
+    );
+    assert_eq!(rt; store.may_write(Idn { raw: 51 }, 2), Err(Code::FIXED));
+    assert_eq!(rt; store.may_write(Idn { raw: 47 }, 4), Ok(()));
+    assert_eq!(rt; store.may_write(Idn { raw: 99 }, 2), Err(Code::NO_IDN));
     Ok(())
-}
-
-// Returns whether such a list takes its bytes, and all other blocks stay as those of the second store.
-fn takes_list(
-    alloc: Global,
-    store: &mut Store,
-    before: &Store,
-    raw: u16,
-) -> Result<bool, AllocError> {
-    if raw != 21 && raw != 22 {
-        return Ok(false);
-    }
-    let idn = Idn { raw };
-    store.set_list(idn, &[9; 128]);
-    let others = are_same(alloc, store, before, Some(idn))?;
-    Ok(others && store.element(idn, 7) == Ok([9u8; 128].as_slice()))
-}
-
-// The same for the drive of the tests.
-fn is_given(alloc: Global, raw: u16) -> Result<bool, AllocError> {
-    let setup = drive(alloc)?;
-    match two_stores(alloc, &setup)? {
-        Some((mut store, before)) => takes_list(alloc, &mut store, &before, raw),
-        None => Ok(false),
-    }
 }
 
 // The lists of invalid operation data are the drive's own to write.
 #[test]
 fn given_lists(rt: HostRuntime) -> Result<(), Fail> {
+    let setup = drive(rt.alloc())?;
     for raw in [21u16, 22] {
-        assert!(rt; is_given(rt.alloc(), raw)?, "{raw}");
+        let (mut store, before) = two_stores(rt.alloc(), &setup)?.expect(
+            &rt,
+            "the blocks can stand",
+        );
+        let idn = Idn { raw };
+        store.set_list(idn, &[9; 128]);
+        assert_eq!(rt; store.element(idn, 7), Ok([9u8; 128].as_slice()));
+        assert!(rt; are_same(rt.alloc(), &store, &before, Some(idn))?);
     }
     Ok(())
 }
@@ -386,46 +282,7 @@ fn breaking(field: Field) -> Option<Block> {
     Some(block)
 }
 
-// Returns whether the drive with this block more, if there is one, has this answer.
-fn is_checked(
-    alloc: Global,
-    block: Option<Block>,
-    wanted: Result<(), BadBlock>,
-) -> Result<bool, AllocError> {
-    let setup = drive_with(alloc, block)?;
-    Ok(check_blocks(&setup) == wanted)
-}
-
-// Returns whether the drive's third block breaks this rule first.
-fn breaks(alloc: Global, field: Field) -> Result<bool, AllocError> {
-    let wanted = Err(BadBlock { index: 2, field });
-    is_checked(alloc, breaking(field), wanted)
-}
-
-// Returns whether the same identifier number twice is found at the second.
-fn is_found_twice(alloc: Global) -> Result<bool, AllocError> {
-    let wanted = Err(BadBlock {
-        index: 2,
-        field: Field::Idn,
-    });
-    is_checked(alloc, number(47, SIGNED_FOUR, None, None, &[0; 4]), wanted)
-}
-
-// Returns whether a unit of thirteen letters in the first block counts before the same identifier number twice.
-fn is_in_order(alloc: Global) -> Result<bool, AllocError> {
-    let mut setup = drive_with(alloc, number(47, SIGNED_FOUR, None, None, &[0; 4]))?;
-    if let Some(mut block) = number(47, SIGNED_FOUR, None, None, &[0; 4]) {
-        block.unit = letters(13);
-        setup.blocks.insert(0, block)?;
-    }
-    let wanted = BadBlock {
-        index: 0,
-        field: Field::Unit,
-    };
-    Ok(check_blocks(&setup) == Err(wanted))
-}
-
-// The first rule that a drive's blocks break.
+// The first rule that a drive's blocks break, and where.
 #[test]
 fn rules(rt: HostRuntime) -> Result<(), Fail> {
     let fields = [
@@ -440,19 +297,30 @@ fn rules(rt: HostRuntime) -> Result<(), Fail> {
         Field::Fails,
     ];
     for field in fields {
-        assert!(rt; breaks(rt.alloc(), field)?, "{field:?}");
+        let mut setup = drive(rt.alloc())?;
+        assert_eq!(rt; check_blocks(&setup), Ok(()));
+        setup.blocks.push(breaking(field).expect(&rt, "a block"))?;
+        assert_eq!(rt; check_blocks(&setup), Err(BadBlock { index: 2, field }));
     }
-    Ok(())
-}
-
-// Blocks that break no rule, and the first that breaks one.
-#[test]
-fn first_bad_block(rt: HostRuntime) -> Result<(), Fail> {
-    assert!(rt;
-        is_checked(rt.alloc(), None, Ok(()))?,
-        "without a further block"
+    // The same identifier number twice, and a unit of thirteen letters in the first block.
+    let mut setup = drive(rt.alloc())?;
+    setup.blocks.push(number(47, SIGNED_FOUR, None, None, &[0; 4]).expect(&rt, "a block"))?;
+    assert_eq!(rt;
+        check_blocks(&setup),
+        Err(BadBlock {
+            index: 2,
+            field: Field::Idn
+        })
     );
-    assert!(rt; is_found_twice(rt.alloc())?, "the same number twice");
-    assert!(rt; is_in_order(rt.alloc())?, "two bad blocks");
+    let mut block = number(47, SIGNED_FOUR, None, None, &[0; 4]).expect(&rt, "a block");
+    block.unit = letters(13);
+    setup.blocks.insert(0, block)?;
+    assert_eq!(rt;
+        check_blocks(&setup),
+        Err(BadBlock {
+            index: 0,
+            field: Field::Unit
+        })
+    );
     Ok(())
 }
