@@ -10,7 +10,7 @@ before_first-more : (byte : ℕ) (bytes : List ℕ) → is_feed byte ≡ false �
 before_first-more byte bytes e =
     let next : 1 + position_or_len is_feed bytes ≡ suc (position_or_len is_feed bytes) = omega arith in rw (e, next) refl
 
-after_first-more : (byte : ℕ) (bytes : List ℕ) → is_feed byte ≡ false → after_first is_feed (byte ∷ bytes) ≡ after_first is_feed bytes
+pub after_first-more : (byte : ℕ) (bytes : List ℕ) → is_feed byte ≡ false → after_first is_feed (byte ∷ bytes) ≡ after_first is_feed bytes
 after_first-more byte bytes e =
     let next : 1 + position_or_len is_feed bytes + 1 ≡ suc (position_or_len is_feed bytes + 1) = omega arith in rw (e, next) refl
 

@@ -5,6 +5,7 @@ use Rattle.std.specs.Prelude.{slice_get}
 use Rattle.std.specs.List.{find}
 use Rattle.std.specs.Option.{option_or}
 use Rattle.std.proofs.lemmas.List.Folds.{find-append}
+use Rattle.sercos_model.proofs.OptionLemmas.{option_or-none}
 use Rattle.sercos_step.specs.declared.request.Job.{Job}
 use Rattle.sercos_step.specs.declared.request.Outcome.{Outcome}
 use Rattle.sercos_backup.specs.declared.tracked.Tracked.{Tracked}
@@ -33,12 +34,8 @@ told_more told n m o =
     ∙ map_or (λ (x : ℕ × Outcome). x.1) (find (λ (x : ℕ × Outcome). x.0 == m) told) (find (λ (x : ℕ × Outcome). x.0 == m) ((n, o) ∷ []))
     ∙ ap (option_or (told_of told m)) (one_found n m o)
 
-or_none : {A : Type 0} (x : Option A) → option_or x None ≡ x
-or_none None = refl
-or_none (Some a) = refl
-
 told_other : (told : List (ℕ × Outcome)) (n m : ℕ) (o : Outcome) → (n == m) ≡ false → told_of (told ++ (n, o) ∷ []) m ≡ told_of told m
-told_other told n m o differs = told_more told n m o ∙ ap (λ b. option_or (told_of told m) (if b then Some o else None)) differs ∙ or_none (told_of told m)
+told_other told n m o differs = told_more told n m o ∙ ap (λ b. option_or (told_of told m) (if b then Some o else None)) differs ∙ option_or-none (told_of told m)
 
 told_own : (told : List (ℕ × Outcome)) (n : ℕ) (o : Outcome) → told_of (told ++ (n, o) ∷ []) n ≡ option_or (told_of told n) (Some o)
 told_own told n o = told_more told n n o ∙ ap (λ b. option_or (told_of told n) (if b then Some o else None)) (let same : (n == n) ≡ true = grind (arith) in same)

@@ -1,24 +1,15 @@
 -- What a valid ring asks of its plan may be asked.
 use Rattle.std.proofs.Common.{◌≡◌, ◌≢◌, ℕ, zero, suc, ◌+◌, ◌<◌, ◌≤◌, ◌%◌, ◌==◌, ◌⊎◌, inl, inr, nat_lt, nat_le, Bool, true, false, ◌&&◌, ◌||◌, not, List, [], ◌∷◌, ◌++◌, length, map, slice_index, slice_index_or, sum_by, refl, sym, ◌∙◌, ap, arith}
 use Rattle.std.specs.List.{list_any, All, fold}
-use Rattle.std.proofs.lemmas.Bool.{and_parts}
+use Rattle.std.proofs.lemmas.Bool.{and_parts, or_parts, not-true}
 use Rattle.std.proofs.lemmas.Bool.Decides.{nat_tests}
 use Rattle.std.proofs.lemmas.List.Elements.{All-tail}
 use Rattle.sercos_timing.specs.declared.wishes.Wish.{Wish}
 use Rattle.sercos_timing.specs.Order.{no_wish, record_bytes}
 use Rattle.sercos_timing.specs.Limits.{most_drives, most_address, most_records, most_cycle, most_gap}
 use Rattle.sercos_timing.specs.Valid.{AreDistinct, addresses, IsWish, AreDrives, IsOrder, is_rate, AreCycles, IsValid, is_cycle, is_control, is_address}
-use Rattle.sercos_block.proofs.OpenLemmas.{either_none}
 use Rattle.sercos_block.specs.Views.{DriveView, RingView}
 use Rattle.sercos_block.specs.Rings.{HasLens, are_ring_numbers, has_ring_numbers, are_drive_numbers, has_drive_numbers, has_address, is_drive, are_drives, is_turn, are_turns, is_order, has_drives, is_ring, mdt_len, record_len, wish_of, wishes_of}
-
-not_false : (b : Bool) → not b ≡ true → b ≡ false
-not_false false h = refl
-not_false true h = cc
-
-or_cases : (x y : Bool) → (x || y) ≡ true → (x ≡ true) ⊎ (y ≡ true)
-or_cases true y h = inl refl
-or_cases false y h = inr h
 
 -- a test of some element of a list with one more at its end
 any_appended : {A : Type 0} (p : A → Bool) (xs : List A) (x : A) → list_any p (xs ++ x ∷ []) ≡ (list_any p xs || p x)
@@ -44,11 +35,11 @@ turn_at drives before [] ok i in' = absurd (omega arith)
 turn_at drives before (place ∷ order) ok zero in' =
     let (here, rest) = and_parts (is_turn drives before place) (are_turns drives (before ++ place ∷ []) order) ok in
     let (below, new) = and_parts (nat_lt place drives) (not (list_any (λ k. k == place) before)) here in
-    (grind (arith, nat_tests), not_false _ new)
+    (grind (arith, nat_tests), not-true _ new)
 turn_at drives before (place ∷ order) ok (suc i) in' =
     let (here, rest) = and_parts (is_turn drives before place) (are_turns drives (before ++ place ∷ []) order) ok in
     let (below, new) = turn_at drives (before ++ place ∷ []) order rest i (omega arith) in
-    (below, (either_none _ _ (sym (any_appended (λ k. k == slice_index order i) before place) ∙ new)).0)
+    (below, (or_parts _ _ (sym (any_appended (λ k. k == slice_index order i) before place) ∙ new)).0)
 
 turns_apart : (drives : ℕ) (before order : List ℕ) → are_turns drives before order ≡ true → AreDistinct order
 unfolding are_turns
@@ -57,7 +48,7 @@ turns_apart drives before (place ∷ order) ok i zero less in' = absurd (omega a
 turns_apart drives before (place ∷ order) ok zero (suc j) less in' =
     let (here, rest) = and_parts (is_turn drives before place) (are_turns drives (before ++ place ∷ []) order) ok in
     let (below, new) = turn_at drives (before ++ place ∷ []) order rest j (omega arith) in
-    apart_from place (slice_index order j) (either_none _ _ (sym (any_appended (λ k. k == slice_index order j) before place) ∙ new)).1
+    apart_from place (slice_index order j) (or_parts _ _ (sym (any_appended (λ k. k == slice_index order j) before place) ∙ new)).1
 turns_apart drives before (place ∷ order) ok (suc i) (suc j) less in' =
     let (here, rest) = and_parts (is_turn drives before place) (are_turns drives (before ++ place ∷ []) order) ok in
     turns_apart drives (before ++ place ∷ []) order rest i j (omega arith) (omega arith)
@@ -95,11 +86,11 @@ unfolding are_drives is_drive has_address
 address_new before [] ok k in' = absurd (omega arith)
 address_new before (d ∷ drives) ok zero in' =
     let (here, rest) = and_parts (is_drive before d) (are_drives (before ++ d ∷ []) drives) ok in
-    not_false _ (and_parts (not (has_address d.address before)) _ here).0
+    not-true _ (and_parts (not (has_address d.address before)) _ here).0
 address_new before (d ∷ drives) ok (suc k) in' =
     let (here, rest) = and_parts (is_drive before d) (are_drives (before ++ d ∷ []) drives) ok in
     let new = address_new (before ++ d ∷ []) drives rest k (omega arith) in
-    (either_none _ _ (sym (any_appended (λ (e : DriveView). e.address == slice_index (addresses (map wish_of drives)) k) before d) ∙ new)).0
+    (or_parts _ _ (sym (any_appended (λ (e : DriveView). e.address == slice_index (addresses (map wish_of drives)) k) before d) ∙ new)).0
 
 pub addresses_apart : (before drives : List DriveView) → are_drives before drives ≡ true → AreDistinct (addresses (map wish_of drives))
 unfolding are_drives has_address
@@ -108,7 +99,7 @@ addresses_apart before (d ∷ drives) ok i zero less in' = absurd (omega arith)
 addresses_apart before (d ∷ drives) ok zero (suc j) less in' =
     let (here, rest) = and_parts (is_drive before d) (are_drives (before ++ d ∷ []) drives) ok in
     let new = address_new (before ++ d ∷ []) drives rest j (omega arith) in
-    apart_from d.address _ (either_none _ _ (sym (any_appended (λ (e : DriveView). e.address == slice_index (addresses (map wish_of drives)) j) before d) ∙ new)).1
+    apart_from d.address _ (or_parts _ _ (sym (any_appended (λ (e : DriveView). e.address == slice_index (addresses (map wish_of drives)) j) before d) ∙ new)).1
 addresses_apart before (d ∷ drives) ok (suc i) (suc j) less in' =
     let (here, rest) = and_parts (is_drive before d) (are_drives (before ++ d ∷ []) drives) ok in
     addresses_apart (before ++ d ∷ []) drives rest i j (omega arith) (omega arith)

@@ -139,8 +139,8 @@ impl<'a> Stored<'a> {
         bytes_of(self.region, &self.entry.value)
     }
 
-    /// Tests that the operation data can be written in a phase, 2 to 4. The error is the first that applies (IEC 61491:1995): 0x7004, the
-    /// block is fixed or has a step; 0x7005, it is write protected in this phase.
+    /// Tests that the operation data can be written in a phase, 2 to 4. The error is the first that applies (the codes are taken
+    /// after IEC 61491:1995, their order is this profile's): 0x7004, the block is fixed or has a step; 0x7005, it is write protected in this phase.
     pub fn may_write(&self, phase: u8) -> Result<(), Code>
         requires { (2 ≤ phase) × (phase ≤ 4) }
         ensures { MatchResult result

@@ -3,6 +3,7 @@ use Rattle.std.proofs.Common.{◌≡◌, ◌<◌, ◌≤◌, ◌⊎◌, inl, inr
 use Rattle.std.specs.Prelude.{IsTrue, if◌then◌else◌}
 use Rattle.std.proofs.lemmas.List.{append_cancel_left, length-take, take_all}
 use Rattle.std.proofs.lemmas.Bool.{le-leb, lt-leb}
+use Rattle.sercos_model.proofs.StreamLemmas.{not_risen}
 use Rattle.sercos_model.specs.Streams.{Rose, last_count}
 use Rattle.sercos_io.specs.declared.status.Status.{Status}
 use Rattle.sercos_io.specs.declared.status.Status.TheVariants.{Done, No, BadWords, Refused, ReadFault, WriteFault, Memory, TooLong}
@@ -44,11 +45,6 @@ told T input left held held' text is says = (Some left, held, subst (λ (h : Lis
 pub told_without : (T : Option (List ℕ) → Option (List ℕ) → Type 0) (held held' text : List ℕ) → held' ≡ held ++ text → T (Some held) (Some held')
     → (h : List ℕ) × T (Some h) (Some (h ++ text))
 told_without T held held' text is says = (held, subst (λ (h : List ℕ). T (Some held) (Some h)) is says)
-
--- a count that stays where it was hasn't risen
-pub still : (a b : ℕ) → b ≡ a → a < 18446744073709551615 → Rose a b → ⊥
-still a b same below (inl more) = omega arith
-still a b same below (inr last) = omega arith
 
 -- a slice has its bytes, whether they are read or not
 pub has_input : (reads : Bool) (bytes : List ℕ) → HasInput reads (Some bytes) (if reads then bytes else [])
@@ -145,7 +141,7 @@ faults_if full = if full then last_count else 0
 pub faultless : (a b : Bool) → a ≡ false → b ≡ false → Rose (faults_if a) (faults_if b) → ⊥
 faultless true b none same rose = absurd (cc)
 faultless false true none same rose = absurd (cc)
-faultless false false none same rose = still 0 0 refl (omega arith) rose
+faultless false false none same rose = not_risen 0 0 refl (omega arith) rose
 
 pub unequal : (a b : Bool) → a ≡ false → b ≡ true → faults_if b ≡ faults_if a → ⊥
 unequal true b none full is = absurd (cc)

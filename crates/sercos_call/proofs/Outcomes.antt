@@ -2,6 +2,7 @@
 use Rattle.std.proofs.Common.{◌≡◌, ◌≢◌, ℕ, ◌<◌, ◌≤◌, ◌⊎◌, inl, inr, Bool, true, false, IsTrue, List, [], ◌++◌, length, take, Option, Some, None, refl, sym, ◌∙◌, ap, subst, arith, ◌+◌, append-nil, length-append}
 use Rattle.std.proofs.lemmas.Bool.{false≢true}
 use Rattle.std.specs.Io.KnownBytes.{Appends, Consumes}
+use Rattle.std.proofs.lemmas.Option.{same_Some}
 use Rattle.sercos_model.specs.Streams.{Rose}
 use Rattle.sercos_io.specs.declared.status.Status.{Status}
 use Rattle.sercos_io.specs.declared.status.Status.TheVariants.{Done, No, BadWords, Refused, ReadFault, WriteFault, Memory, TooLong}
@@ -35,15 +36,12 @@ writes_nothing-Writes given (short count below appends kept rose full) = IsGiven
 not_before : {status other : Status} → writes_nothing status ≡ false → writes_nothing other ≡ true → status ≡ other → ⊥
 not_before after before same = false≢true (sym after ∙ ap writes_nothing same ∙ before)
 
-pub some_same : {A : Type 0} {x y : A} → Some x ≡ Some y → x ≡ y
-some_same e = cc
-
 -- what was read from a source that told its bytes
 pub told_whole : (bytes read : List ℕ) (left left' : Option (List ℕ)) → left ≡ Some bytes → ReadsWhole left left' read → read ≡ bytes
 told_whole bytes read None left' told reads = absurd (cc)
 told_whole bytes read (Some xs) None told reads = absurd reads.consumed
 told_whole bytes read (Some xs) (Some ys) told reads =
-    let all : xs ≡ bytes = some_same told in
+    let all : xs ≡ bytes = same_Some _ _ told in
     let none : ys ≡ [] = reads.ended in
     let front : xs ≡ read ++ ys = reads.consumed in
     sym (append-nil read) ∙ ap (λ zs. read ++ zs) (sym none) ∙ sym front ∙ all
@@ -53,7 +51,7 @@ many_told : (bytes : List ℕ) (left left' : Option (List ℕ)) → left ≡ Som
 many_told bytes None left' told takes = absurd (cc)
 many_told bytes (Some xs) None told takes = absurd takes.consumed
 many_told bytes (Some xs) (Some ys) told takes =
-    let all : xs ≡ bytes = some_same told in
+    let all : xs ≡ bytes = same_Some _ _ told in
     let front : xs ≡ takes.taken ++ ys = takes.consumed in
     let lengths : length xs ≡ length takes.taken + length ys = ap length front ∙ length-append takes.taken ys in
     omega (arith, takes.many, lengths, ap length all)

@@ -1,6 +1,7 @@
 -- A capture's lines, one by one.
 use Rattle.std.proofs.Common.{◌≡◌, ℕ, ◌+◌, inl, inr, true, false, List, [], ◌∷◌, length, Option, Some, None, refl, sym, ◌∙◌, ap, subst, unwrap_or, arith}
 use Rattle.std.proofs.lemmas.Bool.{false≢true}
+use Rattle.std.proofs.lemmas.Option.{none-some}
 use Rattle.sercos_timing.specs.Views.{WishesView}
 use Rattle.sercos_trace.specs.Views.{SentView}
 use Rattle.sercos_trace.specs.declared.reading.Line.{Line}
@@ -52,15 +53,12 @@ other_seen lines (line.Telegram cycle sent) seen not can stand w same = absurd (
 other_seen lines line.Other seen not can stand w same = stand w (λ past. same refl)
 other_seen lines line.End seen not can stand w same = stand w (λ past. same refl)
 
-pub none≢some : {A : Type 0} {x : A} → None ≡ Some x → ⊥
-none≢some e = cc
-
 some_same : {A : Type 0} (x y : A) → Some x ≡ Some y → x ≡ y
 some_same x y e = ap (λ o. unwrap_or o x) e
 
 pub no_fault : (lines : List Line) (l : Line) (t : Trouble) → CanFollow lines l → rule_broken lines l ≡ None → IsFault lines l t → ⊥
 no_fault lines l (trouble.Grammar number) can kept fault = fault.0 can
-no_fault lines l (trouble.Violation number rule) can kept fault = none≢some (sym kept ∙ fault.1)
+no_fault lines l (trouble.Violation number rule) can kept fault = none-some _ (sym kept ∙ fault.1)
 
 -- clean lines have no trouble
 pub no_trouble : (lines : List Line) (t : Trouble) → IsClean lines → IsTrouble lines t → ⊥
@@ -87,7 +85,7 @@ pub stopped : (v now : CheckerState) (lines : List Line) (t : Trouble) → v ≡
 stopped v now lines t view is stands = by v.trouble is (subst (λ u. CheckerStandsFor u lines) (sym view) stands).stands
   where
     by : (o : Option Trouble) → o ≡ Some t → StandsBy o v lines → IsTrouble lines t
-    by None e s = absurd (none≢some e)
+    by None e s = absurd (none-some _ e)
     by (Some u) e s = subst (IsTrouble lines) (some_same u t e) s
 
 pub running : (v now : CheckerState) (lines : List Line) → v ≡ now → v.trouble ≡ None → CheckerStandsFor now lines → IsRunning v lines
@@ -95,7 +93,7 @@ running v now lines view is stands = by v.trouble is (subst (λ u. CheckerStands
   where
     by : (o : Option Trouble) → o ≡ None → StandsBy o v lines → IsRunning v lines
     by None e s = s
-    by (Some u) e s = absurd (none≢some (sym e))
+    by (Some u) e s = absurd (none-some _ (sym e))
 
 pub count : (v now : CheckerState) (lines : List Line) → v ≡ now → CheckerStandsFor now lines → v.lines ≡ length lines
 count v now lines view stands = (subst (λ u. CheckerStandsFor u lines) (sym view) stands).count
@@ -121,4 +119,4 @@ going v lines is number now = record { count = number; stands = by v.trouble is 
   where
     by : (o : Option Trouble) → o ≡ None → StandsBy o v lines
     by None e = now
-    by (Some u) e = absurd (none≢some (sym e))
+    by (Some u) e = absurd (none-some _ (sym e))

@@ -1,5 +1,6 @@
 -- The shape of a capture, apart from its telegrams.
 use Rattle.std.proofs.Common.{◌≡◌, ℕ, ◌+◌, ◌-◌, inl, inr, List, [], ◌∷◌, length, map, ◌++◌, None, refl, sym, ◌∙◌, ap, subst, arith}
+use Rattle.std.proofs.lemmas.Option.{none-some}
 use Rattle.sercos_timing.specs.Views.{WishesView}
 use Rattle.sercos_timing.specs.Valid.{IsValid}
 use Rattle.sercos_trace.specs.declared.reading.Line.{Line}
@@ -8,7 +9,6 @@ use Rattle.sercos_check.specs.declared.trouble.Trouble.{Trouble}
 use Rattle.sercos_check.specs.declared.trouble.Trouble.TheVariants as trouble
 use Rattle.sercos_check.specs.Shape.{drives_left, drive_or_order, awaited_after, places, wishes_by, CanFollow, HasShape, is_past_head}
 use Rattle.sercos_check.specs.Verdicts.{rule_broken, IsClean, IsTrouble, plain, IsShapeFault, ArePlainClean, ArePlainFaults, IsPlainHead, BreakRules}
-use Rattle.sercos_check.proofs.CheckerLemmas.{none≢some}
 
 same_length : (lines : List Line) → length (map plain lines) ≡ length lines
 same_length [] = refl
@@ -91,7 +91,7 @@ fault_of [] t first = absurd first
 fault_of (l ∷ before) t (inl earlier) = inl (fault_of before t earlier)
 fault_of (l ∷ before) (trouble.Grammar number) (inr first) =
     inr (shape_of before first.0, (λ can. first.1.0 (can_plain before l can), first.1.1 ∙ ap (λ (n : ℕ). n + 1) (same_length before)))
-fault_of (l ∷ before) (trouble.Violation number rule) (inr first) = absurd (none≢some (sym (no_rule (map plain before) l) ∙ first.1.1))
+fault_of (l ∷ before) (trouble.Violation number rule) (inr first) = absurd (none-some _ (sym (no_rule (map plain before) l) ∙ first.1.1))
 
 fault_by : (lines : List Line) (t : Trouble) → IsShapeFault lines t → IsTrouble (map plain lines) t
 fault_by [] t first = absurd first

@@ -1,6 +1,6 @@
 -- What the test of a capture's shape tells.
 use Rattle.std.proofs.Common.{◌≡◌, Bool, true, false, ◌&&◌, List, refl}
-use Rattle.std.proofs.lemmas.Bool.{false≢true}
+use Rattle.std.proofs.lemmas.Bool.{false≢true, and_parts, and_from}
 use Rattle.sercos_timing.specs.Tests.{TellsValid}
 use Rattle.sercos_trace.specs.declared.reading.Line.{Line}
 use Rattle.sercos_trace.specs.declared.reading.Line.TheVariants as line
@@ -8,14 +8,6 @@ use Rattle.sercos_check.specs.declared.awaited.Awaited.{Awaited}
 use Rattle.sercos_check.specs.declared.awaited.Awaited.TheVariants as awaited
 use Rattle.sercos_check.specs.Shape.{part_of, IsHeadValid, CanFollow}
 use Rattle.sercos_check.specs.Tests.{is_same_part, is_head_valid, can_follow, TellsFollowing}
-
--- both of two tests
-both : (a b : Bool) → (a && b) ≡ true → (a ≡ true) × (b ≡ true)
-both true b e = (refl, e)
-both false b e = absurd (false≢true e)
-
-join : (a b : Bool) → a ≡ true → b ≡ true → (a && b) ≡ true
-join a b first second = rw (first, second) refl
 
 part_by : (a b : Awaited) → is_same_part a b ≡ true → a ≡ b
 part_by awaited.Version awaited.Version e = refl
@@ -54,11 +46,11 @@ test_head tells before line.End is = refl
 
 follow_by : TellsValid → (before : List Line) (l : Line) → can_follow before l ≡ true → CanFollow before l
 unfolding can_follow
-follow_by tells before l e = (part_by _ _ (both _ _ e).0, head_by tells before l (both _ _ e).1)
+follow_by tells before l e = (part_by _ _ (and_parts _ _ e).0, head_by tells before l (and_parts _ _ e).1)
 
 test_follow : TellsValid → (before : List Line) (l : Line) → CanFollow before l → can_follow before l ≡ true
 unfolding can_follow
-test_follow tells before l can = join _ _ (rw can.0 (same_part (part_of l))) (test_head tells before l can.1)
+test_follow tells before l can = and_from _ _ (rw can.0 (same_part (part_of l))) (test_head tells before l can.1)
 
 pub tells_following : TellsValid → TellsFollowing
 tells_following tells before l = (follow_by tells before l, test_follow tells before l)

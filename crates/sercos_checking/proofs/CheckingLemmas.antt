@@ -4,6 +4,8 @@ use Rattle.std.specs.Option.{option_or, option_map}
 use Rattle.std.proofs.lemmas.Bool.{false≢true}
 use Rattle.std.proofs.lemmas.Bool.Decides.{same_from_decides}
 use Rattle.std.proofs.lemmas.List.{length-map}
+use Rattle.std.proofs.lemmas.Option.{none-some}
+use Rattle.sercos_model.proofs.OptionLemmas.{option_or-none}
 use Rattle.sercos_trace.specs.declared.reading.BadLine.{BadLine}
 use Rattle.sercos_trace.specs.declared.reading.Line.{Line}
 use Rattle.sercos_trace.specs.declared.reading.Line.TheVariants as line
@@ -20,9 +22,6 @@ use Rattle.sercos_checking.specs.Checking.{read_as, grammar_fault, shape_fault, 
 use Rattle.sercos_checking.specs.Taken.{HasTaken, violation_in, verdict_after, verdict_on}
 use Rattle.sercos_answer.proofs.CutLemmas.{Cut, lines_of-cut}
 
-none≢some : {A : Type 0} {x : A} → None ≡ Some x → ⊥
-none≢some e = cc
-
 -- ---- a text, read
 
 pub read_good : (text : List ℕ) (l : Line) → Some l ≡ line_in text → read_as text ≡ l
@@ -38,14 +37,14 @@ grammar-none text e = by (kinds_fault all_kinds text) e
   where
     by : (o : Option ℕ) → None ≡ option_map bad_at o → option_map (λ (place : ℕ). place + 1) o ≡ None
     by None e = refl
-    by (Some place) e = absurd (none≢some e)
+    by (Some place) e = absurd (none-some _ e)
 
 pub grammar-bad : (text : List ℕ) (bad : BadLine) → Some bad ≡ option_map bad_at (kinds_fault all_kinds text) → grammar_fault text ≡ Some bad.column
 unfolding grammar_fault
 grammar-bad text bad e = by (kinds_fault all_kinds text) e
   where
     by : (o : Option ℕ) → Some bad ≡ option_map bad_at o → option_map (λ (place : ℕ). place + 1) o ≡ Some bad.column
-    by None e = absurd (none≢some (sym e))
+    by None e = absurd (none-some _ (sym e))
     by (Some place) e = sym (ap (option_map (λ (b : BadLine). b.column)) e)
 
 -- ---- where it is refused
@@ -183,10 +182,6 @@ pub taking-refused : (shape rules : CheckerState) (number column : ℕ) (rest li
 taking-refused shape rules number column rest line others text now cut bad =
     rw now.number_is (refused_by text _ column (sym now.fault ∙ fault-here now.before rest line others column cut (sym bad)))
 
-or_none : {A : Type 0} (a : Option A) → option_or a None ≡ a
-or_none None = refl
-or_none (Some x) = refl
-
 ended-by : (before : List Line) (texts : List (List ℕ)) (text : List ℕ) → texts ≡ [] → capture_fault before texts ≡ capture_fault [] (lines_of text)
     → option_or (violation_in before) (first_violation before texts) ≡ first_violation [] (lines_of text) → length before ≡ length (lines_of text)
     → verdict_after before ≡ verdict_of text
@@ -195,7 +190,7 @@ ended-by before texts text none fault violation count =
     let f : capture_fault before [] ≡ capture_fault [] (lines_of text) = subst (λ t. capture_fault before t ≡ capture_fault [] (lines_of text)) none fault in
     let v : option_or (violation_in before) (first_violation before []) ≡ first_violation [] (lines_of text) =
     subst (λ t. option_or (violation_in before) (first_violation before t) ≡ first_violation [] (lines_of text)) none violation in
-    rw (← f, ← v, ← count, or_none (violation_in before)) refl
+    rw (← f, ← v, ← count, option_or-none (violation_in before)) refl
 
 no_lines : (rest : List ℕ) → length rest ≡ 0 → lines_of rest ≡ []
 unfolding lines_of

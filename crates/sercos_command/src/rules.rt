@@ -10,7 +10,7 @@ use sercos_block::numbers::{
 };
 use sercos_timing::{is_cycle, wire};
 
-// The telegram type of this profile: configured telegrams.
+// The telegram type that a drive works with: the application telegram.
 const CONFIGURED: u32 = 7;
 
 // Returns whether the cycle time is 0, or the control unit cycle time is not a positive multiple of it.
@@ -74,7 +74,7 @@ pub(crate) fn breaks_mdt_length(store: &Store) -> bool
     number_at(store, MDT_LENGTH) < WORDS
 }
 
-// Returns whether the telegram type is not 7, that of this profile.
+// Returns whether the telegram type is not 7, the application telegram.
 #[tactic(auto, unfolding(crate::specs::Checks::breaks_15))]
 pub(crate) fn breaks_telegram_type(store: &Store) -> bool
     ensures { result ≡ breaks_15 store.now }

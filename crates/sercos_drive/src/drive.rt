@@ -14,7 +14,7 @@ use sercos_timing::limits::EARLY_AT;
 use std::alloc::{AllocError, Global};
 use std::marker::Model;
 
-/// A drive of a ring (IEC 61491:1995; the rules for its falls to phase 0 and for the transition checks are this profile's). Contracts state
+/// A drive of a ring (IEC 61491:1995; the rules for its falls to phase 0 and for the transition checks are taken after it). Contracts state
 /// what it does by the calls of [`hear_mst`](Drive::hear_mst), [`hear_mdt`](Drive::hear_mdt) and [`restart`](Drive::restart) since it was
 /// opened, and hold for every list of them.
 ///

@@ -6,7 +6,7 @@ use crate::bad_frame::BadFrame;
 use crate::kept::Kept;
 use crate::plain_bytes::MOST_BYTES;
 use crate::scan::Scan;
-use sercos_bits::{BitBuf, Content, byte_at, fcs};
+use sercos_bits::{byte_at, fcs};
 
 // The length of the check sequence, in bytes.
 const CHECK_BYTES: usize = 2;

@@ -10,7 +10,8 @@ const MISSING: u16 = 1;
 // Bits 11 to 0 of the code of an element that can't be changed.
 const PROTECTED: u16 = 4;
 
-/// The code of an error, which a drive sends as information word if it refuses a step of the service channel. The codes are this profile's.
+/// The code of an error, which a drive sends as information word if it refuses a step of the service channel. Their meanings
+/// are taken after IEC 61491:1995; which cause gives which code is this profile's.
 #[derive(Clone, Copy, Debug, PartialEq, Eq)]
 pub struct Code {
     /// The sixteen bits of the information word. Bits 15 to 12 are the [`element`](crate::element) that the code refers to.

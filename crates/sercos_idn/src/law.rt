@@ -22,7 +22,7 @@ pub fn attribute_law()
     ensures back { (a : Attribute) → a.factor < 2 ^ 16 → attribute_of (attribute_word a) ≡ a }
 {}
 
-/// States the information word of each constant of [`Code`]. The words are this profile's.
+/// States the information word of each constant of [`Code`]. The words are taken after IEC 61491:1995.
 pub fn code_law()
     ensures not_open { Code.NOT_OPEN.raw ≡ 0x0001 }
     ensures no_idn { Code.NO_IDN.raw ≡ 0x1001 }

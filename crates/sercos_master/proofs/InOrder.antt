@@ -1,4 +1,5 @@
 -- A request that begins is the first one that still waits.
+use Rattle.std.proofs.lemmas.Option.{same_Some}
 use Rattle.sercos_master.proofs.Words.{inr, inl, cases_Bool, ◌≡◌, ℕ, zero, suc, ◌+◌, ◌<◌, ◌≤◌, Bool, true, false, List, [], ◌∷◌, ◌++◌, length, refl, sym, ap, ◌∙◌, subst, arith, if◌then◌else◌, length-append, none-some, ◌==◌, nat_lt, Option, Some, None, is_some, map, drop, slice_get, false≢true, nat_tests, drop-drop, Job, Request, Outcome, outcome_of, PlanView, Begun, begun_by, Known, Task, member, startup, request_task, tasks_from, tasks_for, agenda, checking, reads, reads_count, writes, bytes_of, ended_well, is_ready, with_outcome, outcomes_in, of_phase, count_requests, ready_long, ready_stays, next_request, none_4, Call, Past, past, outcomes, is_idle, next_task, begins, settled, still_waiting}
 use Rattle.sercos_step.specs.declared.request.Request.TheVariants as request
 use Rattle.sercos_seat.specs.Agenda.{idn}
@@ -6,9 +7,6 @@ use Rattle.sercos_master.proofs.Keeping.{begins_next, past_keeps}
 use Rattle.sercos_master.proofs.Laws.{get_dropped, waiting_settled}
 use Rattle.sercos_master.proofs.Followed.{unplanned_at, AllFollow, Followed, Follows, followed, settled_follows, all_ended}
 use Rattle.sercos_master.proofs.Configured.{leaves}
-
-inside : {A : Type 0} {a b : A} → Some a ≡ Some b → a ≡ b
-inside e = cc
 
 -- REQUESTS ARE OF PHASE 4, and nothing else is.
 abbrev Tells : Task → Type 0
@@ -21,7 +19,7 @@ tell_nil : AllTell []
 tell_nil i t e = absurd (none-some _ e)
 
 tell_more : (x : Task) (xs : List Task) → Tells x → AllTell xs → AllTell (x ∷ xs)
-tell_more x xs one all zero t e = subst Tells (inside e) one
+tell_more x xs one all zero t e = subst Tells (same_Some _ _ e) one
 tell_more x xs one all (suc i) t e = all i t e
 
 tell_both : (xs ys : List Task) → AllTell xs → AllTell ys → AllTell (xs ++ ys)
@@ -64,7 +62,7 @@ tasks_numbered address i (job ∷ jobs) = elim (cases_Bool (job.drive == address
 ]
   where
     one_more : AreNumbered (tasks_from address (i + 1) jobs) → AreNumbered (request_task i job.request ∷ tasks_from address (i + 1) jobs)
-    one_more all zero t e = (ap (λ x. x.phase) (sym (inside e)), ap (λ x. is_some x.number) (sym (inside e)))
+    one_more all zero t e = (ap (λ x. x.phase) (sym (same_Some _ _ e)), ap (λ x. is_some x.number) (sym (same_Some _ _ e)))
     one_more all (suc j) t e = all j t e
 
 dropped_numbered : (n : ℕ) (xs : List Task) → AreNumbered xs → AreNumbered (drop n xs)
@@ -142,7 +140,7 @@ pub still_left : (s : Known) (requests : ℕ → List Task) (h : List Call) (k :
 still_left s requests h k = past_keeps (λ p. (n : ℕ) × (p.waiting k ≡ drop n (requests k))) s requests (record {
   first = (0, refl);
   mst = λ h whole before. before;
-  taken = λ h i content inside is before. before;
+  taken = λ h i content same_Some _ _ is before. before;
   mdt = λ h before. (before.0, ap (λ w. w k) (waiting_settled s (past s requests h)) ∙ before.1);
   on = λ h done is before. before;
   new = λ h cycle before.

@@ -6,7 +6,7 @@ use Rattle.sercos_model.specs.CheckSequence.{added, generator, sixteen_zeros, si
 use Rattle.sercos_model.specs.Frames.{plain_of}
 use Rattle.sercos_model.proofs.BitLemmas.{bytes_of-bits_of, length-low_bits, length-bits_of, number_of-low_bits, number_of-below}
 
-length-added : (xs ys : List Bool) → length (added xs ys) ≡ length ys
+pub length-added : (xs ys : List Bool) → length (added xs ys) ≡ length ys
 unfolding added
 length-added [] ys = refl
 length-added (x ∷ xs) [] = refl

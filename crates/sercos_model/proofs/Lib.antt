@@ -3,3 +3,5 @@ pub mod CheckVectors
 pub mod FaultLemmas
 pub mod FrameLemmas
 pub mod KnownBytes
+pub mod OptionLemmas
+pub mod StreamLemmas

@@ -3,7 +3,7 @@ use Rattle.std.proofs.Common.{◌≡◌, ℕ, suc, ◌+◌, ◌-◌, ◌<◌, �
 use Rattle.std.specs.Prelude.{nat_lt}
 use Rattle.std.specs.List.{All, flat_map, list_all, sum_by}
 use Rattle.std.proofs.Math.ListN.{set}
-use Rattle.std.proofs.lemmas.Bool.{cases_lt}
+use Rattle.std.proofs.lemmas.Bool.{cases_lt, or_parts}
 use Rattle.std.proofs.lemmas.Bool.Decides.{nat_tests}
 use Rattle.std.proofs.lemmas.List.{length-map}
 use Rattle.std.proofs.lemmas.List.Elements.{All-from_get_or}
@@ -104,13 +104,6 @@ moment_then carry_of restart_of time moment new a b c r voices first text taken 
 }
 
 -- ---- the first moment
-or_cases : (a b : Bool) → (a || b) ≡ true → (a ≡ true) ⊎ (b ≡ true)
-or_cases true b is = inl refl
-or_cases false b is = inr is
-
-or_false : (a b : Bool) → (a || b) ≡ false → (a ≡ false) × (b ≡ false)
-or_false true b is = absurd (cc)
-or_false false b is = (refl, is)
 
 -- a ring that doesn't count
 earliest_same : (best : Option ℕ) (front : List Voice) (v : Voice) → IsEarliest best front → length v.later ≡ 0 → IsEarliest best (front ++ v ∷ [])
@@ -149,7 +142,7 @@ earliest_step best front v left at from left_is at_is after is = by ((left == 0)
 
     by : (b : Bool) → ((left == 0) || nat_lt at from) ≡ b → IsEarliest (if b then best else soonest best at) (front ++ v ∷ [])
     by true why = earliest_same best front v is (elim (or_cases (left == 0) (nat_lt at from) why) [ inl a ↦ none a | inr b ↦ early b ])
-    by false why = subst (λ m. IsEarliest (soonest best m) (front ++ v ∷ [])) at_is (earliest_one best front v is (some (or_false (left == 0) (nat_lt at from) why).0))
+    by false why = subst (λ m. IsEarliest (soonest best m) (front ++ v ∷ [])) at_is (earliest_one best front v is (some (or_parts (left == 0) (nat_lt at from) why).0))
 
 pub earliest_next : {L : Type 0} (carry_of : L → Carry) (restart_of : L → Restarts) (parts : List (Part L)) (voices : List Voice) (k from : ℕ) (x : Part L) (best best' : Option ℕ)
     → k < length parts → x ≡ get_or parts k x → AllAt carry_of restart_of parts voices → AreFrom from voices → IsEarliest best (take k voices) → best' ≡ sooner best x.left x.at from → IsEarliest best' (take (k + 1) voices)
@@ -175,7 +168,7 @@ soon_one carry_of restart_of x v best from is before = by ((x.left == 0) || nat_
     by : (b : Bool) → ((x.left == 0) || nat_lt x.at from) ≡ b → IfSome (if b then best else soonest best x.at) (λ m. m < 50000000)
     by true why = before
     by false why =
-        let more : 0 < x.left = let test = (or_false (x.left == 0) (nat_lt x.at from) why).0 in grind (arith, nat_tests, test) in
+        let more : 0 < x.left = let test = (or_parts (x.left == 0) (nat_lt x.at from) why).0 in grind (arith, nat_tests, test) in
         let soon = is.soon in let most = is.most in
         least best before (omega (arith, more, soon, most))
 

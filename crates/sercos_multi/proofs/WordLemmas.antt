@@ -2,6 +2,7 @@
 use Rattle.std.proofs.Common.{◌≡◌, ℕ, Bool, true, false, if◌then◌else◌, List, [], ◌∷◌, length, Option, Some, None, refl, ◌∙◌, ap, arith}
 use Rattle.std.specs.Prelude.{codes, slice_get, is_none}
 use Rattle.std.specs.Str.{bytes_eq}
+use Rattle.std.proofs.lemmas.Option.{same_Some}
 use Rattle.sercos_multi.specs.declared.words.Form.{Form}
 use Rattle.sercos_multi.specs.Words.{form_of, run_form, without_dashes}
 
@@ -25,18 +26,15 @@ pub pair_other : (a b : List ℕ) → bytes_eq a (codes "--") ≡ false → byte
 unfolding form_of without_dashes run_form
 pair_other a b is next = ap (λ (x : Bool). run_form (if x then b ∷ [] else a ∷ (if bytes_eq b (codes "--") then [] else b ∷ []))) is ∙ ap (λ (x : Bool). run_form (a ∷ (if x then [] else b ∷ []))) next
 
-some_same : {A : Type 0} {x y : A} → Some x ≡ Some y → x ≡ y
-some_same e = cc
-
 pub one_word : (words : List (List ℕ)) (a : List ℕ) → length words ≡ 1 → slice_get words 0 ≡ Some a → words ≡ a ∷ []
 one_word [] a len is = absurd (omega (arith, len))
-one_word (x ∷ []) a len is = ap (λ w. w ∷ []) (some_same is)
+one_word (x ∷ []) a len is = ap (λ w. w ∷ []) (same_Some _ _ is)
 one_word (x ∷ y ∷ words) a len is = absurd (omega (arith, len))
 
 pub two_words : (words : List (List ℕ)) (a b : List ℕ) → length words ≡ 2 → slice_get words 0 ≡ Some a → slice_get words 1 ≡ Some b → words ≡ a ∷ b ∷ []
 two_words [] a b len is next = absurd (omega (arith, len))
 two_words (x ∷ []) a b len is next = absurd (omega (arith, len))
-two_words (x ∷ y ∷ []) a b len is next = ap (λ w. w ∷ y ∷ []) (some_same is) ∙ ap (λ w. a ∷ w ∷ []) (some_same next)
+two_words (x ∷ y ∷ []) a b len is next = ap (λ w. w ∷ y ∷ []) (same_Some _ _ is) ∙ ap (λ w. a ∷ w ∷ []) (same_Some _ _ next)
 two_words (x ∷ y ∷ z ∷ words) a b len is next = absurd (omega (arith, len))
 
 pub other_words : (words : List (List ℕ)) → (length words ≡ 1 → ⊥) → (length words ≡ 2 → ⊥) → form_of words ≡ None

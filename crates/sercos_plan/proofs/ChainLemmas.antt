@@ -5,6 +5,7 @@ use Rattle.std.specs.Option.{option_or}
 use Rattle.std.proofs.Math.Nat.{mul-le-mul_left, mul-lt-mul_of_pos_left}
 use Rattle.std.proofs.lemmas.Bool.{cases_Bool, cases_order, cond-true, cond-false, eq-eqb, ne_eqb, and_from, false≢true, leb-true, leb-false}
 use Rattle.std.proofs.lemmas.Option.{same_Some}
+use Rattle.sercos_timing.proofs.BreakLemmas.{none_of-or}
 use Rattle.sercos_timing.specs.Views.{WishesView, PlanView}
 use Rattle.sercos_timing.specs.Order.{wish, times, sent, first_sent, at_bits, mdt_bits}
 use Rattle.sercos_timing.specs.Inequalities.{of_number, asked_5, asked_6, asked_7, greatest, greatest_tmtsy, sum_9, bound_9}
@@ -53,10 +54,6 @@ or_either : {A : Type 0} (o p : Option A) (x : A) → option_or o p ≡ Some x �
 or_either None p x h = inr h
 or_either (Some y) p x h = inl h
 
-or_none : {A : Type 0} (o p : Option A) → option_or o p ≡ None → (o ≡ None) × (p ≡ None)
-or_none None p h = (refl, h)
-or_none (Some x) p h = cc
-
 if_some : (b : Bool) (k x : ℕ) → (if b then Some k else None) ≡ Some x → (b ≡ true) × (k ≡ x)
 if_some true k x h = (refl, same_Some k x h)
 if_some false k x h = cc
@@ -78,11 +75,11 @@ some_tight w b t2 x (k ∷ before) h = elim (or_either (first_tight w b t2 befor
 none_tight : (w : WishesView) (b : ℕ → ℕ) (t2 x : ℕ) (ats : List ℕ) → first_tight w b t2 ats ≡ None → Among x ats → is_tight w (asked_6 w b x []) t2 ≡ false
 none_tight w b t2 x [] h among = absurd among
 none_tight w b t2 x (k ∷ before) h (inl e) =
-    let parts = or_none (first_tight w b t2 before) (if is_tight w (asked_6 w b k before) t2 then Some k else None) h in
+    let parts = none_of-or (first_tight w b t2 before) (if is_tight w (asked_6 w b k before) t2 then Some k else None) h in
     let P : ℕ → Type 0 = λ i. is_tight w (asked_6 w b i []) t2 ≡ false in
     subst P (sym e) (if_none (is_tight w (asked_6 w b k before) t2) k parts.1)
 none_tight w b t2 x (k ∷ before) h (inr e) =
-    let parts = or_none (first_tight w b t2 before) (if is_tight w (asked_6 w b k before) t2 then Some k else None) h in
+    let parts = none_of-or (first_tight w b t2 before) (if is_tight w (asked_6 w b k before) t2 then Some k else None) h in
     none_tight w b t2 x before parts.0 e
 
 -- links that follow from the wishes and end at T2

@@ -8,6 +8,7 @@ use Rattle.sercos_timing.specs.Inequalities.{asked_1, asked_2, asked_3, asked_5,
 use Rattle.sercos_plan.specs.LeastTimes.{least_t2}
 use Rattle.sercos_plan.specs.Chains.{last_place}
 use Rattle.std.specs.Option.{option_or}
+use Rattle.sercos_timing.proofs.BreakLemmas.{option_or-some}
 use Rattle.sercos_timing.specs.Valid.{IsValid}
 use Rattle.sercos_plan.specs.ChainOf.{trail_t2, trail_by_master, is_tight, first_tight, is_tight_at, link_of, back_of, trail_at, trail, starts, bits_of_starts, trail_to, trail_to_some}
 use Rattle.sercos_plan.specs.declared.chain.Link.{Link}
@@ -68,15 +69,11 @@ step_slave w valid i within o below is one two three =
     ∙ ap (λ ls. ls ++ link_of w 4 (slice_index w.order i) (starts w (slice_index w.order i)) ∷ []) (ap (back_of (trail w (starts w) (first_sent w.order i))) (sym is) ∙ back_is w valid i within o below)
 
 -- the first tight AT stays the first in the whole order
-or_some : {A : Type 0} (o p : Option A) (x : A) → o ≡ Some x → option_or o p ≡ Some x
-or_some None p x h = cc
-or_some (Some y) p x h = h
-
 tight_stays : (w : WishesView) (b : ℕ → ℕ) (t2 m n x : ℕ) → first_tight w b t2 (first_sent w.order m) ≡ Some x → m ≤ n → first_tight w b t2 (first_sent w.order n) ≡ Some x
 tight_stays w b t2 m zero x h below = let e : m ≡ 0 = omega arith in rw e at h
 tight_stays w b t2 m (suc n) x h below = elim (cases_eq m (suc n)) [
   | inl same ↦ rw same at h
-  | inr other ↦ or_some (first_tight w b t2 (first_sent w.order n)) _ x (tight_stays w b t2 m n x h (omega (arith, other)))
+  | inr other ↦ option_or-some (first_tight w b t2 (first_sent w.order n)) _ x (tight_stays w b t2 m n x h (omega (arith, other)))
 ]
 
 pub tight_at : (w : WishesView) (b : ℕ → ℕ) (t2 i n : ℕ) → first_tight w b t2 (first_sent w.order i) ≡ None →

@@ -3,7 +3,7 @@
 use Rattle.std.proofs.Common.{◌≡◌, inl, inr, ℕ, suc, zero, ◌+◌, ◌<◌, ◌==◌, nat_lt, Bool, true, false, not, cond, ◌||◌, List, [], ◌∷◌, ◌++◌, length, Option, Some, None, option_map, refl, sym, ◌∙◌, ap, subst, arith, append_assoc}
 use Rattle.std.specs.Prelude.{slice_index, option_and_then}
 use Rattle.std.specs.List.{find}
-use Rattle.std.proofs.lemmas.Bool.{cases_eq, eqb-true, eq-eqb}
+use Rattle.std.proofs.lemmas.Bool.{cases_eq, eqb-true, eq-eqb, not-false}
 use Rattle.std.proofs.lemmas.Bool.Decides.{Decides-int_eq}
 use Rattle.std.proofs.lemmas.Slice.Eq.{bytes_eq-Decides}
 use Rattle.sercos_hdlc.specs.Stuffed.{frame_of}
@@ -180,13 +180,6 @@ drives_apart r k valid below i low not = by ((drive_at r i).address == (drive_at
     by true is = absurd (not (stations (eqb-true _ _ is)))
 
 -- AN UNDISTURBED CYCLE.
-or_parts : (a b : Bool) → (a || b) ≡ false → (a ≡ false) × (b ≡ false)
-or_parts true b none = cc
-or_parts false b none = (refl, none)
-
-not_false : (a : Bool) → not a ≡ false → a ≡ true
-not_false true is = refl
-not_false false is = cc
 
 none_below : (n : ℕ) (test : ℕ → Bool) → any_below n test ≡ false → (i : ℕ) → i < n → test i ≡ false
 none_below zero test none i below = absurd (omega (arith, below))
@@ -229,7 +222,7 @@ comes carry p content whole still = by (arrival carry p content) still
   where
     by : (o : Option (List Bool)) → is_disturbed (frame_of content) o ≡ false → option_and_then content_in o ≡ Some content
     by None still = cc
-    by (Some came) still = ap content_in (same_bits came (frame_of content) (not_false (are_same came (frame_of content)) still)) ∙ whole
+    by (Some came) still = ap content_in (same_bits came (frame_of content) (not-false (are_same came (frame_of content)) still)) ∙ whole
 
 mdt_comes : (carry : Carry) (cycle rate k : ℕ) (m : Option Sent) → AreFramed (sent_mdt rate m) → disturbs_mdt carry cycle (journal.content_of m) k ≡ false
     → mdt_heard carry cycle (k + 1) (journal.content_of m) ≡ option_map content_of (option_map (mdt_at rate) m)

@@ -4,6 +4,7 @@ use Rattle.std.specs.Option.{option_or}
 use Rattle.std.proofs.lemmas.Bool.{false≢true}
 use Rattle.std.proofs.lemmas.Option.{none-some}
 use Rattle.std.proofs.lemmas.List.Folds.{find-append}
+use Rattle.sercos_model.proofs.OptionLemmas.{option_or-none, option_or-some}
 use Rattle.sercos_block.specs.Views.{DriveView}
 use Rattle.sercos_trace.specs.Views.{SentView}
 use Rattle.sercos_drive.specs.Heard.{DriveCall, Mdt}
@@ -14,7 +15,7 @@ use Rattle.sercos_replay.specs.Cycles.{Cycle, with_at}
 use Rattle.sercos_replay.specs.Places.{PlaceView, if_differs, if_told}
 use Rattle.sercos_replay.specs.Differences.{content_of, is_of, mst_calls, at_found, at_place_of, at_place, drive_differs, if_passed, drive_tells}
 use Rattle.sercos_replay.specs.Kept.{drive_kept, DriveAwaits, DriveHasPassed, DriveRests, DriveGoes, DriveStandsIn, DriveEndsIn}
-use Rattle.sercos_replay.proofs.OptionLemmas.{or-none, or-some, or-right, or-stays}
+use Rattle.sercos_replay.proofs.OptionLemmas.{or-none, or-stays}
 use Rattle.sercos_replay.proofs.SharedLemmas.{with_ats, Tells, AnyReplay, kept-stands, kept-ends, awaits-stands}
 use Rattle.sercos_replay.proofs.SharedLemmas as shared
 
@@ -45,7 +46,7 @@ awaits-none v d rate t j a =
 
 -- with each telegram more it is told again
 found-before : (d : DriveView) (t : Cycle) (sent x : SentView) → at_found d t ≡ Some x → at_found d (with_ats t sent) ≡ Some x
-found-before d t sent x some = find-append (is_of d.address) t.ats (sent ∷ []) ∙ or-some (at_found d t) _ x some
+found-before d t sent x some = find-append (is_of d.address) t.ats (sent ∷ []) ∙ option_or-some (at_found d t) _ x some
 
 tells-differs : (d : DriveView) (rate : ℕ) (t : Cycle) (j : List Cycle) (x : PlaceView) → drive_tells d rate (t ∷ j) ≡ Some x → drive_differs d rate (t ∷ j) ≡ Some x
 tells-differs d rate t j x told = or-stays (drive_differs d rate j) _ _ x (by (is_some (at_found d t) || is_some t.mdt)) told
@@ -70,7 +71,7 @@ at-stays d rate t j sent x none told = or-stays (drive_differs d rate j) _ _ x (
 pub drive_telling : (d : DriveView) (rate : ℕ) → Tells (drive_tells d rate) (drive_differs d rate)
 drive_telling d rate = record {
   none = refl;
-  before = λ t j x some. or-some (drive_differs d rate j) _ x some;
+  before = λ t j x some. option_or-some (drive_differs d rate j) _ x some;
   after = tells-differs d rate;
   whole = tells-mdt d rate;
   at = at-stays d rate;
@@ -151,7 +152,7 @@ found-other : (d : DriveView) (t : Cycle) (sent : SentView) → is_of d.address 
 found-other d t sent other =
     find-append (is_of d.address) t.ats (sent ∷ [])
     ∙ ap (λ b. option_or (at_found d t) (cond b (Some sent) None)) other
-    ∙ or-right (at_found d t)
+    ∙ option_or-none (at_found d t)
 
 -- it is the one that is awaited
 pub own-at : (v w : DriveReplay) (d : DriveView) (rate : ℕ) (t : Cycle) (j : List Cycle) (sent : SentView) → DriveAwaits v d rate t j → v.found ≡ false

@@ -1,7 +1,7 @@
 -- What a replay tells of a clean capture is the first place that differs, if its telegram is there or one of a later place was given.
 use Rattle.std.proofs.Common.{◌≡◌, ℕ, ◌+◌, ◌<◌, ◌≤◌, ◌==◌, nat_lt, Bool, true, false, cond, ◌&&◌, ◌||◌, if◌then◌else◌, unwrap_or, List, [], ◌∷◌, Option, Some, None, is_some, refl, sym, ◌∙◌, ap, subst, arith}
 use Rattle.std.specs.Option.{option_or}
-use Rattle.std.proofs.lemmas.Bool.{eqb-true, eq-eqb, false≢true}
+use Rattle.std.proofs.lemmas.Bool.{eqb-true, eq-eqb, false≢true, false_from_ne_true}
 use Rattle.std.proofs.lemmas.Bool.Decides.{Decides-ltb}
 use Rattle.std.proofs.lemmas.Option.{none-some}
 use Rattle.sercos_telegram.specs.declared.layout.Kind.{Kind}
@@ -27,10 +27,6 @@ use Rattle.sercos_replay.proofs.CleanLemmas.{number_of, at-newest, mdt-newest, n
 first_true : (a b : Bool) → (a && b) ≡ true → a ≡ true
 first_true true b is = refl
 first_true false b is = is
-
-not_true : (b : Bool) → (b ≡ true → ⊥) → b ≡ false
-not_true true not = absurd (not refl)
-not_true false not = refl
 
 -- THE NUMBERS of the cycles of a clean capture.
 abbrev NumberOf : Kind → ℕ → Option Command → Type 0
@@ -105,8 +101,8 @@ below (line.End ∷ lines) all n next = below lines all n next
 -- WHICH PLACES ARE PASSED.
 not_later : (p : PlaceView) (cycle : ℕ) (kind : Kind) → cycle < p.cycle → is_later p cycle kind ≡ false
 not_later p cycle kind low =
-    let before : nat_lt p.cycle cycle ≡ false = not_true _ (λ is. let up = (Decides-ltb p.cycle cycle).0 is in omega (arith, up, low)) in
-    let other : (cycle == p.cycle) ≡ false = not_true _ (λ is. let same = eqb-true cycle p.cycle is in omega (arith, same, low)) in
+    let before : nat_lt p.cycle cycle ≡ false = false_from_ne_true _ (λ is. let up = (Decides-ltb p.cycle cycle).0 is in omega (arith, up, low)) in
+    let other : (cycle == p.cycle) ≡ false = false_from_ne_true _ (λ is. let same = eqb-true cycle p.cycle is in omega (arith, same, low)) in
     rw (before, other) refl
 
 not_passed : (lines : List Line) (p : PlaceView) → AreBelow p.cycle lines → is_passed lines p ≡ false
@@ -178,7 +174,7 @@ and_false true = refl
 and_false false = refl
 
 not_above : (n : ℕ) → nat_lt n n ≡ false
-not_above n = not_true _ (λ is. let up = (Decides-ltb n n).0 is in omega (arith, up))
+not_above n = false_from_ne_true _ (λ is. let up = (Decides-ltb n n).0 is in omega (arith, up))
 
 or_false : (b : Bool) → (b || false) ≡ b
 or_false true = refl

@@ -2,6 +2,7 @@
 use Rattle.std.proofs.Common.{◌≡◌, ℕ, ◌+◌, ◌<◌, ◌≤◌, Bool, true, false, List, [], ◌∷◌, length, Option, Some, None, is_some, if◌then◌else◌, not, refl, sym, ◌∙◌, ap, subst, arith}
 use Rattle.std.specs.Option.{option_or, option_map}
 use Rattle.std.specs.Bool.{then_some}
+use Rattle.std.proofs.lemmas.Option.{none-some}
 use Rattle.sercos_trace.specs.declared.reading.Line.{Line}
 use Rattle.sercos_trace.specs.declared.reading.Line.TheVariants as line
 use Rattle.sercos_trace.specs.Lines.{line_in}
@@ -18,9 +19,6 @@ use Rattle.sercos_replay.specs.Cycles.{Cycle, cycles_of, with_at, with_mdt, with
 use Rattle.sercos_replay.specs.declared.station.Replay.{Replay}
 use Rattle.sercos_replay.specs.Stations.{Station, ReplayStandsFor, IsGiven, kind_cycle, mst_cycle, lines_after, lines_read}
 use Rattle.sercos_replay.specs.Replaying.{first_cycle}
-
-none≢some : {A : Type 0} {x : A} → None ≡ Some x → ⊥
-none≢some e = cc
 
 -- ---- the first MST
 
@@ -119,7 +117,7 @@ pub clean_line : TellsFollowing → (before : List Line) (text : List ℕ) → I
 clean_line tells before text clean good kept = (clean, (tells before (read_as text)).0 (good_shape before text good), kept)
 
 pub unread_refused : (before : List Line) (text : List ℕ) (column : ℕ) → column_of before text ≡ None → grammar_fault text ≡ Some column → ⊥
-unread_refused before text column good bad = none≢some (sym (good_grammar before text good) ∙ bad)
+unread_refused before text column good bad = none-some _ (sym (good_grammar before text good) ∙ bad)
 
 pub line_given : TellsFollowing → (before : List Line) (text : List ℕ) (l : Line) (old new : Replay) (begun : ℕ) → IsClean before → column_of before text ≡ None → rule_broken before (read_as text) ≡ None → read_as text ≡ l
     → ((s : Station) (before : List Line) → ReplayStandsFor old s before → IsClean (l ∷ before) → ReplayStandsFor new s (l ∷ before))

@@ -2,6 +2,7 @@
 use Rattle.std.proofs.Common.{◌≡◌, ℕ, Bool, true, false, List, [], ◌∷◌, ◌++◌, Option, Some, None, is_some, refl, sym, ◌∙◌, ap, subst}
 use Rattle.std.specs.Option.{option_or}
 use Rattle.std.proofs.lemmas.Option.{none-some}
+use Rattle.sercos_model.proofs.OptionLemmas.{option_or-none, option_or-some}
 use Rattle.sercos_step.specs.declared.request.Job.{Job}
 use Rattle.sercos_trace.specs.Views.{SentView}
 use Rattle.sercos_seat.specs.Ring.{Known}
@@ -14,7 +15,7 @@ use Rattle.sercos_replay.specs.Cycles.{Cycle, begun}
 use Rattle.sercos_replay.specs.Places.{PlaceView, if_differs}
 use Rattle.sercos_replay.specs.Differences.{at_calls, heard_calls, mdt_calls, master_calls, looks_back, mst_place_of, mst_place, mdt_place_of, mdt_place, master_differs, if_passed, master_tells}
 use Rattle.sercos_replay.specs.Kept.{HasMaster, master_kept, MasterAwaits, MasterRests, MasterStandsIn, MasterEndsIn}
-use Rattle.sercos_replay.proofs.OptionLemmas.{or-none, or-some, or-right, or-stays}
+use Rattle.sercos_replay.proofs.OptionLemmas.{or-none, or-stays}
 use Rattle.sercos_replay.proofs.SharedLemmas.{with_ats, Tells, AnyReplay, kept-stands, kept-ends}
 
 -- WHAT IS TOLD of the newest cycle.
@@ -53,7 +54,7 @@ mdt-stays s jobs t j sent x none told =
 pub master_telling : (s : Known) (jobs : List Job) → Tells (master_tells s jobs) (master_differs s jobs)
 master_telling s jobs = record {
   none = refl;
-  before = λ t j x some. or-some (master_differs s jobs j) _ x some;
+  before = λ t j x some. option_or-some (master_differs s jobs j) _ x some;
   after = tells-differs s jobs;
   whole = tells-mdt s jobs;
   at = λ t j sent x none told. tells-open s jobs (with_ats t sent) j none ∙ sym (tells-open s jobs t j none) ∙ told;
@@ -111,7 +112,7 @@ began v w s jobs cycle sent j r rate cycle_is opened place has = kept-stands (re
     (λ none. record { rate_is = rate ∙ r.rate_is; cycle_is = cycle_is; open_is = opened; mdt_is = refl; stands = has; before = r.before; agrees = sym told ∙ none })
   where
     told : master_tells s jobs (begun cycle sent ∷ j) ≡ if_differs (mst_place s jobs (begun cycle sent) j)
-    told = or-none (master_differs s jobs j) _ r.before ∙ or-right (if_differs (mst_place s jobs (begun cycle sent) j))
+    told = or-none (master_differs s jobs j) _ r.before ∙ option_or-none (if_differs (mst_place s jobs (begun cycle sent) j))
 
 -- AN AT COMES.
 at_calls-more : (ats : List SentView) (sent : SentView) (h : List Call) → at_calls (ats ++ sent ∷ []) h ≡ HearAt sent.content ∷ at_calls ats h

@@ -5,13 +5,6 @@ use Rattle.std.specs.Option.{option_or}
 pub or-none : {A : Type 0} (a b : Option A) → a ≡ None → option_or a b ≡ b
 or-none a b none = ap (λ o. option_or o b) none
 
-pub or-some : {A : Type 0} (a b : Option A) (x : A) → a ≡ Some x → option_or a b ≡ Some x
-or-some a b x some = ap (λ o. option_or o b) some
-
-pub or-right : {A : Type 0} (o : Option A) → option_or o None ≡ o
-or-right None = refl
-or-right (Some x) = refl
-
 -- where the first of two is told later too
 pub or-stays : {A : Type 0} (a b c : Option A) (x : A) → (b ≡ Some x → c ≡ Some x) → option_or a b ≡ Some x → option_or a c ≡ Some x
 or-stays None b c x stays told = stays told

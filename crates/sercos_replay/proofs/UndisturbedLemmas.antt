@@ -5,6 +5,7 @@ use Rattle.std.specs.List.{position}
 use Rattle.std.specs.Option.{option_or}
 use Rattle.std.proofs.lemmas.List.Quantifiers.{position-Some}
 use Rattle.std.proofs.lemmas.Option.{none-some}
+use Rattle.sercos_model.proofs.OptionLemmas.{option_or-some}
 use Rattle.sercos_step.specs.declared.request.Job.{Job}
 use Rattle.sercos_block.specs.Views.{RingView}
 use Rattle.sercos_block.specs.Rings.{is_ring}
@@ -23,7 +24,7 @@ use Rattle.sercos_replay.specs.Differences.{at_place, drive_differs, mst_place, 
 use Rattle.sercos_replay.specs.Stations.{Station, has, drive_of, station_of, station_differs, lines_read}
 use Rattle.sercos_replay.specs.Stations.Station.{master, drive}
 use Rattle.sercos_replay.specs.Undisturbed.{CapturesDiffer}
-use Rattle.sercos_replay.proofs.OptionLemmas.{or-none, or-some}
+use Rattle.sercos_replay.proofs.OptionLemmas.{or-none}
 use Rattle.sercos_replay.proofs.AgreeLemmas.{cycle_next, cycles_next}
 
 -- the laws on undisturbed runs, of drives and of the master; and that other lines say nothing
@@ -83,8 +84,8 @@ newest_place (drive d rate) c cs p none is = of_place (at_place d rate c cs) p (
 
 older_place : (s : Station) (c : Cycle) (cs : List Cycle) (p : PlaceView) → station_differs s cs ≡ Some p → station_differs s (c ∷ cs) ≡ Some p
 unfolding station_differs
-older_place (master known jobs) c cs p is = or-some (master_differs known jobs cs) _ p is
-older_place (drive d rate) c cs p is = or-some (drive_differs d rate cs) _ p is
+older_place (master known jobs) c cs p is = option_or-some (master_differs known jobs cs) _ p is
+older_place (drive d rate) c cs p is = option_or-some (drive_differs d rate cs) _ p is
 
 module _ (r : RingView) (jobs : List Job) (carry : Carry) (restarts : Restarts) where
   run_before : (later earlier : List CycleView) → IsRun r jobs carry restarts (later ++ earlier) → IsRun r jobs carry restarts earlier

@@ -3,6 +3,7 @@ use Rattle.std.proofs.Common.{◌≡◌, ℕ, Bool, true, false, List, [], ◌�
 use Rattle.std.specs.Prelude.{is_some, map, ◌&&◌, not}
 use mathlib.Core.Bool.{beq}
 use Rattle.std.proofs.lemmas.Bool.{false≢true}
+use Rattle.std.proofs.lemmas.Option.{none-some}
 use Rattle.sercos_telegram.specs.declared.words.Status.{Status}
 use Rattle.sercos_step.specs.declared.step.Answer.{Answer}
 use Rattle.sercos_step.specs.declared.step.Step.{Step}
@@ -11,9 +12,6 @@ use Rattle.sercos_step.specs.Steps.{outcome_of, next_step}
 use Rattle.sercos_service_master.specs.Begun.{Begun, open_in, answers_it, answer_in, with_answer, outcome_with, mhs_in}
 use Rattle.sercos_service_master.specs.Calls.{Call, Hear, begun_by, outcome_at}
 use Rattle.sercos_seat.specs.Channel.{outcomes_in, with_outcome, last_outcome}
-
-pub none≢some : {A : Type 0} {x : A} → None ≡ Some x → ⊥
-none≢some e = cc
 
 -- where a step is open, the transfer has no outcome yet
 open_none : (o : Option Outcome) (s : Option Step) → is_some (if is_some o then None else s) ≡ true → o ≡ None
@@ -55,7 +53,7 @@ heard_by : (begun : List Begun) (status : Status) (word : ℕ) (answers : Bool) 
     × (last_outcome (if answers then with_answer (answer_in status word) begun else begun) ≡ (if is_some o then o else last_outcome begun))
     × (map (λ b. b.request) (if answers then with_answer (answer_in status word) begun else begun) ≡ map (λ b. b.request) begun)
 heard_by begun status word false None opened e = (refl, refl, refl)
-heard_by begun status word false (Some o) opened e = absurd (none≢some e)
+heard_by begun status word false (Some o) opened e = absurd (none-some _ e)
 heard_by begun status word true None opened e =
     let kept = goes_on begun (answer_in status word) (opened refl) e in (kept.0, kept.1, same_requests begun (answer_in status word))
 heard_by begun status word true (Some o) opened e =

@@ -4,6 +4,7 @@ use Rattle.std.proofs.lemmas.Bool.Decides.{nat_tests}
 use Rattle.std.specs.Prelude.{◌-◌, min, nat_lt, is_some, is_none, map, drop, reverse, slice_get, ◌&&◌, option_map, unwrap_or}
 use Rattle.std.proofs.lemmas.Bool.{false≢true}
 use Rattle.std.proofs.lemmas.List.{reverse-append}
+use Rattle.std.proofs.lemmas.Option.{none-some}
 use Rattle.sercos_step.specs.declared.request.Outcome.{Outcome}
 use Rattle.sercos_step.specs.declared.request.Request.{Request}
 use Rattle.sercos_step.specs.declared.request.Request.TheVariants as request
@@ -15,7 +16,6 @@ use Rattle.sercos_seat.specs.Ring.{Known, MemberView, Task, member, startup}
 use Rattle.sercos_seat.specs.Agenda.{idn, agenda, reads, writes, checking, given, ended_well, bytes_of, reads_count, is_ready}
 use Rattle.sercos_seat.specs.Channel.{count_requests, of_phase}
 use Rattle.sercos_seat.specs.Seats.{next_write, next_in_2, next_in_3, Seen, SeatView, SeatStandsFor, IsQueue, waiting_task, left_in, is_idle_in, outcomes_seen, begun_in, nothing_seen}
-use Rattle.sercos_seat.proofs.Channels.{none≢some}
 use Rattle.sercos_seat.proofs.Seats.{length_more, before_end}
 use Rattle.sercos_seat.proofs.Agendas.{ended_there, planned_task, at_check, checks}
 
@@ -200,7 +200,7 @@ pub unready_2 : (v : SeatView) (x : Seen) (s : Known) (plan : Option PlanView) (
 unready_2 v x s plan k r stands e = by (is_ready (member s k) (outcomes_seen x)) refl
   where
     by : (b : Bool) → is_ready (member s k) (outcomes_seen x) ≡ b → b ≡ false
-    by true f = absurd (none≢some (sym (late_2 s plan k v.done v.checked (done_late v (member s k) x stands f)) ∙ e))
+    by true f = absurd (none-some _ (sym (late_2 s plan k v.done v.checked (done_late v (member s k) x stands f)) ∙ e))
     by false f = refl
 
 pub unready_3 : (v : SeatView) (x : Seen) (s : Known) (k : ℕ) (planned : Bool) (r : Request) → SeatStandsFor v (member s k) x → next_in_3 (reads_count v.member) planned v.done v.checked v.ready ≡ Some r →
@@ -211,7 +211,7 @@ unready_3 v x s k planned r stands e = by (is_ready (member s k) (outcomes_seen 
     by true f =
         let is : v.ready ≡ true = stands.ready_is ∙ f in
         let late : reads_count v.member + 13 ≤ v.done = rw stands.member_is (done_late v (member s k) x stands f) in
-        absurd (none≢some (sym (late_3 (reads_count v.member) v.done planned v.checked late) ∙ rw is at e))
+        absurd (none-some _ (sym (late_3 (reads_count v.member) v.done planned v.checked late) ∙ rw is at e))
     by false f = refl
 
 -- what an idle channel begins in phase 4, by what its seat keeps

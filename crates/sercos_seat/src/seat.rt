@@ -18,7 +18,7 @@ use sercos_idn::Idn;
 use sercos_idn::element::DATA;
 use sercos_service_master::MasterChannel;
 use sercos_step::{Outcome, Request};
-use sercos_telegram::{Control, Record, Status, joint_record, read_at, write_single};
+use sercos_telegram::{Record, Status, joint_record, read_at, write_single};
 use sercos_timing::{Plan, Times, Wish};
 use sercos_trace::{Reported, Stop};
 use std::alloc::{AllocError, Global};
@@ -33,7 +33,7 @@ const PHASE_3_CHECK_AFTER_READS: usize = 11;
 // The number of tasks between the reads and the check for phase 4.
 const PHASE_4_CHECK_AFTER_READS: usize = 12;
 
-// The telegram type that the start-up writes: a configured telegram, as this profile uses it.
+// The telegram type that the start-up writes: the application telegram.
 const CONFIGURED: u16 = 7;
 
 /// One drive as the master keeps it: its channel, its answers, its telegrams, and the requests that wait. Contracts see the record of what

@@ -66,10 +66,6 @@ those_accepted blocks (t ∷ h) those = by (beq t.mhs (ahs h)) (those_accepted b
 
 -- Words of operation data that were accepted may go on.
 
-no_error : (e : Bool) → not e ≡ true → e ≡ false
-no_error true is = cc
-no_error false is = refl
-
 pub no_cause : (code : Option ℕ) (word : ℕ) → (answer_by code word).error ≡ false → code ≡ None
 no_cause None word well = refl
 no_cause (Some code) word well = cc

@@ -11,6 +11,7 @@ use Rattle.std.proofs.lemmas.Bool.{false≢true, cases_lt}
 use Rattle.std.proofs.lemmas.Bool.Decides.{nat_tests}
 use Rattle.std.proofs.lemmas.List.{get_or-take, get_or-drop, get_or_past, get_or_append_left, get_or-append_right, get_or-replicate, length-take, length-take-le, length-replicate, take-append-drop, take-take, take_at, take_all, take_more, drop-take}
 use Rattle.std.proofs.lemmas.List.Sums.{prefix_len_passes, prefix_len_stops, prefix_len_is, prefix_len-le-length, common_prefix_len-le}
+use Rattle.std.proofs.lemmas.Option.{same_Some}
 use Rattle.sercos_text.specs.Fields.{behind, number_len, number_of, number_fault, pairs_of}
 use Rattle.sercos_show.specs.declared.line.LineKind.{LineKind}
 use Rattle.sercos_show.specs.declared.line.LineKind.TheVariants.{Raw, Mst, Single, At}
@@ -24,16 +25,13 @@ use Rattle.sercos_show.proofs.SpelledLines.{IsGoodCount, IsGoodCount-count_fault
 use Rattle.sercos_show.proofs.WrittenLines.{written_hex}
 use Rattle.hex.proofs.OnLiterals.{hex_on_literals}
 
--- which rule of a chain finds a fault
-some_same : {A : Type 0} {x y : A} → Some x ≡ Some y → x ≡ y
-some_same e = cc
-
 either : (o rest : Option ℕ) (p : ℕ) → option_or o rest ≡ Some p → (o ≡ Some p) ⊎ ((o ≡ None) × (rest ≡ Some p))
 either (Some x) rest p e = inl e
 either None rest p e = inr (refl, e)
 
+-- which rule of a chain finds a fault
 then_is : (test : Bool) (x p : ℕ) → then_some test x ≡ Some p → (test ≡ true) × (x ≡ p)
-then_is true x p e = (refl, some_same e)
+then_is true x p e = (refl, same_Some _ _ e)
 then_is false x p e = cc
 
 then_not : (test : Bool) (x : ℕ) → then_some test x ≡ None → test ≡ false
@@ -41,7 +39,7 @@ then_not true x e = cc
 then_not false x e = refl
 
 behind_is : (n : ℕ) (o : Option ℕ) (p : ℕ) → behind n o ≡ Some p → (q : ℕ) × (o ≡ Some q) × (n + q ≡ p)
-behind_is n (Some q) p e = (q, refl, some_same e)
+behind_is n (Some q) p e = (q, refl, same_Some _ _ e)
 behind_is n None p e = cc
 
 -- two texts that share their first n bytes
@@ -620,7 +618,7 @@ refused_at line p is = by (kind_of line) refl is
         (begun (kind_text kind) (codes "0 -") (line_good kind (codes "0 -") no_bits)))
 
     by : (found : Option LineKind) → kind_of line ≡ found → fault_by found line ≡ Some p → IsRefusedAt line p
-    by None none e = refused line p is (subst (Placed line_fault line) (some_same e) (placed (kind_fault line) (kind_split line none)))
+    by None none e = refused line p is (subst (Placed line_fault line) (same_Some _ _ e) (placed (kind_fault line) (kind_split line none)))
     by (Some kind) found e =
         let (q, numbers, sum) = behind_is (length (kind_text kind)) (numbers_fault (count_text kind line)) p e in
         subst (IsRefusedAt line) sum (by_numbers kind q found (numbers_judged (count_text kind line) q numbers) (is ∙ ap Some (sym sum)))

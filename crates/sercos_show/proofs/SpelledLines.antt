@@ -10,6 +10,7 @@ use Rattle.sercos_text.specs.Fields.{number_len, number_of, number_fault}
 use Rattle.sercos_show.specs.declared.line.LineKind.{LineKind}
 use Rattle.sercos_show.specs.declared.line.LineKind.TheVariants.{Raw, Mst, Single, At}
 use Rattle.std.proofs.Math.Seq.{drop-append_seam}
+use Rattle.std.proofs.lemmas.Option.{same_Some}
 use Rattle.sercos_show.specs.SpelledLine.{IsLine}
 use Rattle.sercos_show.proofs.LineLemmas.{common_prefix_len-nil}
 use Rattle.sercos_model.proofs.FaultLemmas.{none_of-or, none_of-then, none_of-map}
@@ -79,12 +80,9 @@ reads_count count hex most =
       rest = rest;
     })
 
-some_same : {A : Type 0} {x y : A} → Some x ≡ Some y → x ≡ y
-some_same e = cc
-
 -- what is found passes
 found_passes : {A : Type 0} (p : A → Bool) (y : A) (xs : List A) (x : A) (test : Bool) → p y ≡ test → cond test (Some y) (find p xs) ≡ Some x → (find p xs ≡ Some x → p x ≡ true) → p x ≡ true
-found_passes p y xs x true is found rest = let same : y ≡ x = some_same found in rw (← same) is
+found_passes p y xs x true is found rest = let same : y ≡ x = same_Some _ _ found in rw (← same) is
 found_passes p y xs x false is found rest = rest found
 
 find_passes : {A : Type 0} (p : A → Bool) (xs : List A) (x : A) → find p xs ≡ Some x → p x ≡ true

@@ -43,7 +43,7 @@ fn placed(set: bool, bit: u16) -> u16
     if set { bit } else { 0 }
 }
 
-/// The control word, with which a record of an MDT begins (IEC 61491:1995). The places of its bits are this profile's.
+/// The control word, with which a record of an MDT begins (IEC 61491:1995). The places of its bits are taken after the standard.
 #[derive(Clone, Copy, Debug, PartialEq, Eq)]
 pub struct Control {
     /// MHS, the master's handshake bit of the service channel: bit 0.
@@ -91,7 +91,7 @@ impl Control {
     }
 }
 
-/// The status word, which follows the address of an AT (IEC 61491:1995). The places of its bits are this profile's.
+/// The status word, which follows the address of an AT (IEC 61491:1995). The places of its bits are taken after the standard.
 #[derive(Clone, Copy, Debug, PartialEq, Eq)]
 pub struct Status {
     /// AHS, the drive's handshake bit of the service channel: bit 0.

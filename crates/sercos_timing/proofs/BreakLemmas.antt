@@ -3,6 +3,8 @@ use Rattle.std.proofs.Common.{◌≡◌, ℕ, zero, suc, ◌+◌, ◌≤◌, ◌
 use Rattle.std.specs.Prelude.{Option, Some, None, option_map, ◌==◌, if◌then◌else◌}
 use Rattle.std.specs.Option.{option_or}
 use Rattle.std.proofs.lemmas.Bool.{leb-true, le-leb, eqb-true, eq-eqb, cases_eq}
+pub use Rattle.sercos_model.proofs.OptionLemmas.{option_or-some}
+pub use Rattle.sercos_model.proofs.FaultLemmas.{none_of-or}
 use Rattle.sercos_timing.specs.Views.{WishesView, PlanView}
 use Rattle.sercos_timing.specs.Order.{sent, first_sent}
 use Rattle.sercos_timing.specs.Inequalities.{positions, Meets, Keeps, Fits}
@@ -19,11 +21,6 @@ meets-met (Some a) has h = leb-true a has h
 pub met-meets : (o : Option ℕ) (has : ℕ) → Meets o has → is_met o has ≡ true
 met-meets None has h = refl
 met-meets (Some a) has h = le-leb a has h
-
--- nothing of either
-pub neither : {A : Type 0} (o p : Option A) → option_or o p ≡ None → (o ≡ None) × (p ≡ None)
-neither None p h = (refl, h)
-neither (Some x) p h = cc
 
 pub either_none : {A : Type 0} (o p : Option A) → o ≡ None → p ≡ None → option_or o p ≡ None
 either_none None p h g = g
@@ -48,7 +45,7 @@ none_if false x h = cc
 pub keeps-unmet : (asked : ℕ → List ℕ → Option ℕ) (has : ℕ → ℕ) (ats : List ℕ) → first_unmet asked has ats ≡ None → Keeps asked has ats
 keeps-unmet asked has [] h = tt
 keeps-unmet asked has (k ∷ before) h =
-    let both = neither (first_unmet asked has before) (if is_met (asked k before) (has k) then None else Some k) h in
+    let both = none_of-or (first_unmet asked has before) (if is_met (asked k before) (has k) then None else Some k) h in
     (meets-met (asked k before) (has k) (if_none (is_met (asked k before) (has k)) k both.1), keeps-unmet asked has before both.0)
 
 pub unmet-keeps : (asked : ℕ → List ℕ → Option ℕ) (has : ℕ → ℕ) (ats : List ℕ) → Keeps asked has ats → first_unmet asked has ats ≡ None
@@ -85,17 +82,17 @@ none_by w p rule h = none_mapped _ _ (unmet-keeps (asked_by w p rule) (has_by w 
 pub fits_from : (w : WishesView) (p : PlanView) → IsValid w → length p.t1 ≡ length w.drives → length p.position ≡ length w.drives → first_broken w p ≡ None → Fits w p
 unfolding first_broken broken_position
 fits_from w p valid times places h =
-    let r1 = neither _ _ h in
-    let r2 = neither _ _ r1.1 in
-    let r3 = neither _ _ r2.1 in
-    let r4 = neither _ _ r3.1 in
-    let r5 = neither _ _ r4.1 in
-    let r6 = neither _ _ r5.1 in
-    let r7 = neither _ _ r6.1 in
-    let r8 = neither _ _ r7.1 in
-    let r9 = neither _ _ r8.1 in
-    let r10 = neither _ _ r9.1 in
-    let r12 = neither _ _ r10.1 in
+    let r1 = none_of-or _ _ h in
+    let r2 = none_of-or _ _ r1.1 in
+    let r3 = none_of-or _ _ r2.1 in
+    let r4 = none_of-or _ _ r3.1 in
+    let r5 = none_of-or _ _ r4.1 in
+    let r6 = none_of-or _ _ r5.1 in
+    let r7 = none_of-or _ _ r6.1 in
+    let r8 = none_of-or _ _ r7.1 in
+    let r9 = none_of-or _ _ r8.1 in
+    let r10 = none_of-or _ _ r9.1 in
+    let r12 = none_of-or _ _ r10.1 in
     record {
       times = times;
       places = places;
@@ -122,15 +119,11 @@ from_fits w p fits =
     (either_none _ _ (none_by w p Capture fits.rule_10) (either_none _ _ (none_mapped _ _ (rw (fits.rule_12.0) (misplaced 1 w.drives))) (none_if _ _ (eq-eqb _ _ fits.rule_12.1))))))))))))
 
 -- the first AT for which it isn't met stays the first in the whole order
-or_some : {A : Type 0} (o p : Option A) (x : A) → o ≡ Some x → option_or o p ≡ Some x
-or_some None p x h = cc
-or_some (Some y) p x h = h
-
 unmet_stays : (asked : ℕ → List ℕ → Option ℕ) (has : ℕ → ℕ) (order : List ℕ) (m n x : ℕ) → first_unmet asked has (first_sent order m) ≡ Some x → m ≤ n → first_unmet asked has (first_sent order n) ≡ Some x
 unmet_stays asked has order m zero x h below = let e : m ≡ 0 = omega arith in rw e at h
 unmet_stays asked has order m (suc n) x h below = elim (cases_eq m (suc n)) [
   | inl same ↦ rw same at h
-  | inr other ↦ or_some (first_unmet asked has (first_sent order n)) _ x (unmet_stays asked has order m n x h (omega (arith, other)))
+  | inr other ↦ option_or-some (first_unmet asked has (first_sent order n)) _ x (unmet_stays asked has order m n x h (omega (arith, other)))
 ]
 
 pub unmet_at : (asked : ℕ → List ℕ → Option ℕ) (has : ℕ → ℕ) (order : List ℕ) (i n : ℕ) → first_unmet asked has (first_sent order i) ≡ None →

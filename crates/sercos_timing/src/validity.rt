@@ -102,7 +102,7 @@ fn are_drives(w: &Wishes) -> bool
     some && wishes && apart && fit
 }
 
-/// Returns whether a ring can have the rate, in bits per microsecond: 2, 4, 8 or 16 (this profile).
+/// Returns whether a ring can have the rate, in bits per microsecond: 2, 4, 8 or 16: 8 and 16 are of SERCOS II.
 #[tactic(auto, unfolding(crate::specs::Valid::is_rate))]
 pub fn is_rate(rate: u8) -> bool
     ensures { result ≡ is_rate rate }

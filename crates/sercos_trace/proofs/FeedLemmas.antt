@@ -3,6 +3,7 @@ use Rattle.std.proofs.Common.{◌≡◌, ℕ, ℤ, pos, negsuc, zero, suc, ◌+�
 use Rattle.std.specs.List.{after_first, list_all, position_or_len}
 use Rattle.std.specs.Fmt.{digits, digits_onto, digit_glyph, signed_decimal}
 use Rattle.std.proofs.lemmas.Bool.Decides.{nat_tests}
+use Rattle.sercos_answer.proofs.CutLemmas.{after_first-more}
 use Rattle.hex.specs.Hex.{encode_with, lower_digits}
 use Rattle.sercos_idn.specs.Idns.{idn_text, set_of, number_of, four_digits}
 use Rattle.sercos_text.specs.declared.list.Item.{Item}
@@ -188,14 +189,10 @@ filled_no_feed k values template old new is none filled =
 pub after_feed : (byte : ℕ) (text : List ℕ) → is_feed byte ≡ true → after_first is_feed (byte ∷ text) ≡ text
 after_feed byte text e = rw e refl
 
-pub after_more : (byte : ℕ) (text : List ℕ) → is_feed byte ≡ false → after_first is_feed (byte ∷ text) ≡ after_first is_feed text
-after_more byte text e =
-    let next : 1 + position_or_len is_feed text + 1 ≡ suc (position_or_len is_feed text + 1) = omega arith in rw (e, next) refl
-
 pub after_short : (text : List ℕ) → length (after_first is_feed text) ≤ length text
 after_short [] = omega arith
 after_short (byte ∷ text) = by (is_feed byte) refl (after_short text)
   where
     by : (feed : Bool) → is_feed byte ≡ feed → length (after_first is_feed text) ≤ length text → length (after_first is_feed (byte ∷ text)) ≤ length (byte ∷ text)
     by true e rest = rw (after_feed byte text e) (omega arith)
-    by false e rest = rw (after_more byte text e) (omega (arith, rest))
+    by false e rest = rw (after_first-more byte text e) (omega (arith, rest))

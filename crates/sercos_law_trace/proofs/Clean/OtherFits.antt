@@ -1,11 +1,12 @@
 -- The numbers of moves, plans, falls and totals fit the fields of their lines.
+use Rattle.sercos_model.proofs.OptionLemmas.{option_or-none}
 use Rattle.sercos_law_trace.proofs.Words.{cases_Option, ◌≡◌, ℕ, zero, suc, ◌+◌, ◌*◌, ◌<◌, ◌≤◌, ◌==◌, Bool, true, false, List, [], ◌∷◌, length, reverse, Option, Some, None, is_some, slice_index_or, refl, sym, ◌∙◌, ap, subst, arith, if◌then◌else◌, slice_index, All, option_or, reverse_onto, All-nil, All-cons, All-head, All-tail, All-append, length-filter, count_by-le-length, wish, IsValid, WishesView, Job, Outcome, wishes_of, DriveView, RingView, DriveCall, phase_at, Move, Totals, Fall, EventsView, CycleView, Known, IsKnown, MemberView, no_member, known_of, tasks_for, Past, IsPlanned, fall_of, fall_at, has_lost_mst, has_lost_at, first_place, is_at_limit, outcomes, with_reports, broken, plan_told, outcomes_told, restart_told, Carry, Restarts, drive_at, move_of, moves_below, given_before, given_mst, given_mdt, master_calls, middle, looks_back, no_events, restart_events, IsNext, IsRun, IsClear, behind_mdt, address_of, plan_words, s_known, first_store, IsOpened, ended, is_complete, is_refused, is_broken, FitsMove, FitsPlan, FitsFall, FitsCycle, FitTotals, FitsReports, FitReports, RunsFitOthers, phase_below, is_planned, fell_once, field_of, AreOf, IsOf, part_left, template_of, totals_of, inl, inr, cases_Bool}
 use Rattle.sercos_text.specs.Templates.Value.{number as counted}
 use Rattle.sercos_text.specs.Templates.{IsPart}
 use Rattle.sercos_trace.specs.declared.kind.LineKind.TheVariants as kind
 use Rattle.sercos_trace.specs.declared.events.Fall.TheVariants as fall
 use Rattle.sercos_law_trace.proofs.Clean.RunRules.{low}
-use Rattle.sercos_law_trace.proofs.Clean.TraceClean.{or_nothing, valid}
+use Rattle.sercos_law_trace.proofs.Clean.TraceClean.{valid}
 use Rattle.sercos_master.proofs.Told.{reports_length}
 use Rattle.sercos_law_run.proofs.Totals.TotalsLemmas.{totals_more}
 
@@ -38,7 +39,7 @@ slot_line_fits cycle a b c number pa pb pc = (tt, (tt, (tt, (tt, (tt, (number, (
 
 told_fits : (w : WishesView) (s : Known) (p : Past) (cycle : ℕ) → IsValid w → IsKnown s → IsPlanned s p → cycle ≤ 4294967295 → FitsPlan cycle w (option_or (plan_told p) None)
 told_fits w s p cycle is_valid known planned number = elim (cases_Bool p.now.plans) [
-  | inl on ↦ rw on (subst (FitsPlan cycle w) (sym (or_nothing p.plan)) (elim (cases_Option p.plan) [
+  | inl on ↦ rw on (subst (FitsPlan cycle w) (sym (option_or-none p.plan)) (elim (cases_Option p.plan) [
     | inl has ↦ rw has tt
     | inr has ↦ rw has.1 (let made = planned has.0 has.1 in
         let words = λ (k : ℕ). plan_words s (outcomes p) has.0 k known made.fits made.planned_is in (

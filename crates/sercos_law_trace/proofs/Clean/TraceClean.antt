@@ -1,4 +1,5 @@
 -- The trace of a run is a clean capture that begins with cycle 0.
+use Rattle.sercos_model.proofs.OptionLemmas.{option_or-none}
 use Rattle.sercos_law_trace.proofs.Words.{◌≡◌, ℕ, zero, suc, ◌<◌, ◌≤◌, nat_le, true, false, not, List, [], ◌∷◌, ◌++◌, length, map, reverse, Option, Some, None, slice_index_or, refl, sym, ◌∙◌, ap, subst, arith, append-nil, option_and_then, All, flat_map, option_or, and_parts, nat_tests, All-nil, All-cons, IsValid, IsWish, is_address, WishesView, Job, has_address, has_drive_numbers, wish_of, AreWithinLimits, DriveView, RingView, Line, Totals, ReadsBack, cycle_text, header_text, end_text, trace_of, SentView, CycleView, has_head, TellsFollowing, Clean, read_as, wish_is, drives_so, address_of, ring_timed, s_known, drive_got, got_inside, first_store, wishes_count, Carry, Restarts, mst_said, no_drive, drive_at, sent_mst, looks_back, begins, ats_next, mdt_next, IsRun, IsOpened, lines_with, lines_of, FitLines, ReadsTraces, reads_traces, told_in, KeepRules, FitOthers, TracesAreClean, IsRing-is_ring, ring_is_valid, are_drives, are_drive_numbers, wishes_of, capture_fault, first_violation, verdict_by, verdict_of, lines_after, lines_read, kind_cycle, mst_cycle, first_cycle, late, late_start}
 use Rattle.sercos_block.specs.Rings.{is_drive}
 use Rattle.sercos_trace.specs.declared.reading.Line.TheVariants as line
@@ -45,29 +46,25 @@ abbrev oldest : List Line → Option ℕ
 oldest [] = None
 oldest (l ∷ before) = option_or (oldest before) (mst_cycle l)
 
-pub or_nothing : {A : Type 0} (o : Option A) → option_or o None ≡ o
-or_nothing None = refl
-or_nothing (Some x) = refl
-
 or_more : (a b c : Option ℕ) → option_or a (option_or b c) ≡ option_or (option_or a b) c
 or_more None b c = refl
 or_more (Some x) b c = refl
 
 first_after : (texts : List (List ℕ)) (before : List Line) → option_or (oldest before) (first_cycle texts) ≡ oldest (lines_after before texts)
 unfolding first_cycle lines_after
-first_after [] before = or_nothing (oldest before)
+first_after [] before = option_or-none (oldest before)
 first_after (text ∷ texts) before = or_more (oldest before) (mst_cycle (read_as text)) (first_cycle texts) ∙ first_after texts (read_as text ∷ before)
 
 oldest_telegrams : (lines : List Line) → oldest lines ≡ oldest (telegrams lines)
 unfolding telegrams mst_cycle
 oldest_telegrams [] = refl
-oldest_telegrams (line.Version ∷ lines) = or_nothing (oldest lines) ∙ oldest_telegrams lines
-oldest_telegrams (line.Ring rate cycle control gap drives ∷ lines) = or_nothing (oldest lines) ∙ oldest_telegrams lines
-oldest_telegrams (line.Drive wish ∷ lines) = or_nothing (oldest lines) ∙ oldest_telegrams lines
-oldest_telegrams (line.Order addresses ∷ lines) = or_nothing (oldest lines) ∙ oldest_telegrams lines
+oldest_telegrams (line.Version ∷ lines) = option_or-none (oldest lines) ∙ oldest_telegrams lines
+oldest_telegrams (line.Ring rate cycle control gap drives ∷ lines) = option_or-none (oldest lines) ∙ oldest_telegrams lines
+oldest_telegrams (line.Drive wish ∷ lines) = option_or-none (oldest lines) ∙ oldest_telegrams lines
+oldest_telegrams (line.Order addresses ∷ lines) = option_or-none (oldest lines) ∙ oldest_telegrams lines
 oldest_telegrams (line.Telegram cycle sent ∷ lines) = ap (λ (o : Option ℕ). option_or o (kind_cycle sent.kind cycle)) (oldest_telegrams lines)
-oldest_telegrams (line.Other ∷ lines) = or_nothing (oldest lines) ∙ oldest_telegrams lines
-oldest_telegrams (line.End ∷ lines) = or_nothing (oldest lines) ∙ oldest_telegrams lines
+oldest_telegrams (line.Other ∷ lines) = option_or-none (oldest lines) ∙ oldest_telegrams lines
+oldest_telegrams (line.End ∷ lines) = option_or-none (oldest lines) ∙ oldest_telegrams lines
 
 stays_oldest : (cycle x : ℕ) (sent : List SentView) (lines : List Line) → oldest lines ≡ Some x → oldest (lines_with cycle sent lines) ≡ Some x
 stays_oldest cycle x [] lines is = is

@@ -1,11 +1,12 @@
 use Rattle.std.proofs.Common.{◌≡◌, inl, inr, true, false, ℕ, List, Option, Some, ◌∷◌, ◌++◌, take, length, [], refl, ap, ◌∙◌, arith}
+use Rattle.sercos_model.proofs.StreamLemmas.{not_risen}
 use Rattle.sercos_words.specs.Form.{form_of, reads_input}
 use Rattle.sercos_script.specs.Links.{carried_clean, never_restarts}
 use Rattle.sercos_app.specs.Answer.{answer_of}
 use Rattle.sercos_c.specs.declared.slices.SliceSink.{SliceSink}
 use Rattle.sercos_app.specs.TopCall.{NonePlanned, LeastPlanned, MarginsTold, ChainTold, ViolationTold, CleanTold, PlaceTold, AgreementTold, BreachTold, RunTraced, RunSummed, BackupSaved, BackupFailed, RestoreTold}
 use Rattle.sercos_c.specs.Answers.{input_of, Told}
-use Rattle.sercos_c.proofs.AnswerLemmas.{HasMore, appended, marks, whole, told, told_without, still, has_input, is_read, answered, take_none, taken_few, taken_full, faultless, unequal}
+use Rattle.sercos_c.proofs.AnswerLemmas.{HasMore, appended, marks, whole, told, told_without, has_input, is_read, answered, take_none, taken_few, taken_full, faultless, unequal}
 use Rattle.sercos_c.proofs.answer.answer_into.Goals as goal
 use Rattle.sercos_c.proofs.answer.answer_into.Goals.{After-sercos}
 
@@ -45,16 +46,16 @@ returns-clause-called c =
       no_form = e.no_form;
       too_long = λ some long.
           let (reads, more_bytes) = is_read (reads_input (form_of words)) input long in
-          e.exceeds input refl more_bytes reads (still 0 0 refl (omega arith));
+          e.exceeds input refl more_bytes reads (not_risen 0 0 refl (omega arith));
       answered = λ some few.
           answered (answer_of carried_clean never_restarts words) (reads_input (form_of words)) input c.sercos.new.source.bytes.now (held c.args.sink.now) (held s) (front s) _ s.is_full c.sercos.result
           (all c) (taken_few _ _ _ room) (λ full. taken_full _ _ _ room (s.full full))
-          (λ free. e.answers (input_of words input) (has_input _ input) few some (still 0 0 refl (omega arith)) (faultless _ _ c.requires.fresh free))
+          (λ free. e.answers (input_of words input) (has_input _ input) few some (not_risen 0 0 refl (omega arith)) (faultless _ _ c.requires.fresh free))
           (λ is. (e.write_fault is).1)
           (λ full is. elim (e.refused is) [ inl same ↦ absurd (unequal _ _ c.requires.fresh full same.0) | inr short ↦ short.1 ])
           (λ full no_fault no_refusal. unequal _ _ c.requires.fresh full (e.write_well no_fault no_refusal));
       nothing = λ is. ap front (e.unwritten is) ∙ empty c;
-      readable = λ is. still 0 0 refl (omega arith) (e.read_fault is);
+      readable = λ is. not_risen 0 0 refl (omega arith) (e.read_fault is);
       promises = record {
         none_fits = λ is form. tell c NonePlanned (e.none_fits is form);
         least = λ is form. tell c LeastPlanned (e.least is form);

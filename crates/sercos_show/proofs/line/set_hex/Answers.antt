@@ -3,7 +3,7 @@ use Rattle.std.proofs.lemmas.List.{take_at}
 use Rattle.sercos_text.specs.Fields.{pairs_of}
 use Rattle.sercos_show.specs.Line.{wanted_digits, has_spare}
 use Rattle.sercos_show.proofs.HexLines.{bytes_before, length-hex_fault}
-use Rattle.sercos_show.proofs.SetHex.{hex_fault-set, IsWhole-hex_fault, last_of, not-true}
+use Rattle.sercos_show.proofs.SetHex.{hex_fault-set, IsWhole-hex_fault, last_of}
 use Rattle.sercos_show.proofs.line.set_hex.Goals as goal
 
 pub returns-then-text-wanted_digits-clause-none : goal.returns-then-text-wanted_digits-clause-none

@@ -3,9 +3,10 @@ use Rattle.std.specs.Prelude.{is_none, is_some, ◌||◌}
 use Rattle.sercos_service_master.specs.Calls.{Hear}
 use Rattle.sercos_seat.specs.Seats.{IsQueue, Seen, heard_in, is_idle_in}
 use Rattle.sercos_seat.proofs.Seats.{idle_same, idle_of}
-use Rattle.sercos_seat.proofs.Channels.{Heard, heard, none≢some}
+use Rattle.sercos_seat.proofs.Channels.{Heard, heard}
 use Rattle.sercos_seat.proofs.Queues.{queue_more, queue_same}
 use Rattle.std.specs.Prelude.{Some, None}
+use Rattle.std.proofs.lemmas.Option.{none-some}
 use Rattle.sercos_service_master.specs.Calls.{outcome_at}
 use Rattle.sercos_seat.specs.Agenda.{reads_count}
 use Rattle.sercos_seat.specs.Seats.{SeatStandsFor}
@@ -26,7 +27,7 @@ returns-in-Some c = λ d x s.
     rw c.take_outcome.ensures.kept (hears_outcome (the_view c.self.inside) d x c.hear.new.self c.args.status.now c.args.info c.in-Some.outcome few t (c.hear.ensures.stands x.calls t.channel_is) e queue)
   where
     at_work : (b i : Bool) → is_none (the_view c.self.inside).channel.transfer ≡ b → i ≡ is_none (the_view c.self.inside).channel.transfer → i ≡ false
-    at_work true i f g = absurd (none≢some (sym (c.hear.ensures.silent f) ∙ c.in-Some.is))
+    at_work true i f g = absurd (none-some _ (sym (c.hear.ensures.silent f) ∙ c.in-Some.is))
     at_work false i f g = g ∙ f
 
     ended : (b : Bool) → (b || is_some c.hear.result) ≡ true
