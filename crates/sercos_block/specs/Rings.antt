@@ -57,9 +57,14 @@ is_cyclic blocks raw = is_some (cyclic_len blocks raw)
 abbrev pub value_len : List Block → ℕ → ℕ
 value_len blocks raw = unwrap_or (cyclic_len blocks raw) 0
 
--- the number of bytes of two words and of the operation data of a list of identifier numbers
+-- the number of bytes of a telegram after its address, or of a data record: two words, and what each
+-- of these values adds
+abbrev pub telegram_len : {X : Type 0} → (X → Option ℕ) → List X → ℕ
+telegram_len len_of values = 4 + sum_by (λ value. unwrap_or (len_of value) 0) values
+
+-- the same for a list of identifier numbers
 unfoldable pub listed_len : List Block → List Idn → ℕ
-listed_len blocks idns = 4 + sum_by (λ idn. value_len blocks idn.raw) idns
+listed_len blocks idns = telegram_len (λ idn. cyclic_len blocks idn.raw) idns
 
 -- the number of bytes of a drive's AT after its address
 abbrev pub at_len : DriveView → ℕ

@@ -1,6 +1,6 @@
 // The lengths of a drive's telegrams: what each identifier number adds.
-ghost use Rattle.std.specs.Prelude.{◌≡◌, ◌≤◌, length, IfSome};
-ghost use Rattle.sercos_block.specs.Clauses.{attribute_in, row_in, built_in_attribute, own_attribute, block_attribute, number_len, cyclic_len, value_len, listed_len, at_len, record_len, mdt_len, are_cyclic};
+ghost use Rattle.std.specs.Prelude.{◌≡◌, ◌≤◌, length, unwrap_or, IfSome};
+ghost use Rattle.sercos_block.specs.Clauses.{attribute_in, row_in, built_in_attribute, own_attribute, block_attribute, number_len, cyclic_len, listed_len, at_len, record_len, mdt_len, are_cyclic};
 
 use crate::block::Block;
 use crate::built_in::{BUILT_IN, BuiltIn};
@@ -91,13 +91,13 @@ pub fn cyclic_len(blocks: &[Block], idn: Idn) -> Option<usize>
     }
 }
 
-// Returns the number of bytes that an identifier number adds to a telegram of a drive with these own blocks: at most 4, and 0 if no
-// telegram can carry it.
-fn value_len(blocks: &[Block], idn: Idn) -> u16
-    ensures value { result ≡ value_len blocks.now idn.raw }
+/// Returns the number of bytes that a value adds to a telegram: its length, at most 4, or 0 for one that no telegram can carry.
+pub fn added_len(len: Option<usize>) -> u16
+    requires { IfSome len (λ n. n ≤ 4) }
+    ensures value { result ≡ unwrap_or len 0 }
     ensures bound { result ≤ 4 }
 {
-    match cyclic_len(blocks, idn) {
+    match len {
         Some(len) => len as u16,
         None => 0,
     }
@@ -113,7 +113,7 @@ fn listed_len(blocks: &[Block], idns: &[Idn]) -> u16
 {
     let mut len = 4;
     for idn in idns {
-        len += value_len(blocks, *idn);
+        len += added_len(cyclic_len(blocks, *idn));
     }
     len
 }

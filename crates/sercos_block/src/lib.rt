@@ -20,7 +20,7 @@ mod write;
 
 pub use block::Block;
 pub use built_in::is_built_in;
-pub use carried::{attribute_in, cyclic_len, mdt_len, number_len};
+pub use carried::{added_len, attribute_in, cyclic_len, mdt_len, number_len};
 pub use check::{BadBlock, Field, check_blocks, has_block, is_text};
 pub use law::{ring_law, store_law};
 pub use ring::{cycles_of, drives_of, has_address, has_other_data};

@@ -1,6 +1,6 @@
 // The rules for a ring and its drives.
 ghost use Rattle.std.specs.Prelude.{◌≡◌, ◌==◌, ◌≤◌, [], length, true};
-ghost use Rattle.sercos_block.specs.Clauses.{list_any, has_ring_numbers, are_times, has_drive_numbers, has_address, is_no_command, has_other_data, is_drive, are_drives, is_turn, are_turns, has_drives, is_ring};
+ghost use Rattle.sercos_block.specs.Clauses.{has_ring_numbers, are_times, has_drive_numbers, has_address, is_no_command, has_other_data, is_drive, are_drives, is_turn, are_turns, has_drives, is_ring};
 
 use crate::carried::{are_cyclic, block_attribute, mdt_len};
 use crate::check::check_blocks;
@@ -75,15 +75,7 @@ fn are_drives(drives: &[DriveSetup]) -> bool
 fn is_turn(drives: usize, before: &[u8], place: u8) -> bool
     ensures { result ≡ is_turn drives before.now place }
 {
-    let is_among = is_among(before, place);
-    usize::from(place) < drives && !is_among
-}
-
-// Returns whether the index is one of those before it.
-fn is_among(before: &[u8], place: u8) -> bool
-    ensures { result ≡ list_any (λ k. k == place) before.now }
-{
-    before.iter().any(|k| *k == place)
+    usize::from(place) < drives && !before.contains(&place)
 }
 
 // Returns whether the indices in the order are distinct and below the number of drives.

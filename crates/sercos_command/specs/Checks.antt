@@ -6,7 +6,7 @@ use Rattle.sercos_model.specs.Frames.{wire_bits}
 use Rattle.sercos_idn.specs.declared.idn.Idn.{Idn}
 use Rattle.sercos_block.specs.declared.block.Block.{Block}
 use Rattle.sercos_timing.specs.Valid.{is_cycle}
-use Rattle.sercos_block.specs.Rings.{number_len}
+use Rattle.sercos_block.specs.Rings.{number_len, telegram_len}
 use Rattle.sercos_block.specs.Stores.{find_block, is_below, is_above}
 
 -- the operation data of the block with the identifier number; no bytes if there is no such block
@@ -39,7 +39,7 @@ is_cyclic blocks idn = is_some (cyclic_len blocks idn.raw)
 -- the number of bytes of a telegram after its address, or of a data record, by its configuration
 -- list
 unfoldable pub carried_len : List Block → ℕ → ℕ
-carried_len blocks list = 4 + sum_by (λ (idn : Idn). unwrap_or (cyclic_len blocks idn.raw) 0) (idns_at blocks list)
+carried_len blocks list = telegram_len (λ (idn : Idn). cyclic_len blocks idn.raw) (idns_at blocks list)
 
 -- What the check for phase 3 finds unfit, each rule named by the identifier number of the block
 -- that breaks it. 1 is the control unit cycle time, 2 the cycle time, 3 T1min, 4 TATMT, 5 T4min, 6

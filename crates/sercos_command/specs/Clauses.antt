@@ -1,4 +1,5 @@
 -- The words that the contracts of this crate use, each from where it is defined.
+pub use Rattle.sercos_block.specs.Rings.{telegram_len}
 pub use Rattle.sercos_block.specs.Stores.{IsStore, with_data}
 pub use Rattle.sercos_block.specs.declared.block.Block.{Block}
 pub use Rattle.sercos_command.specs.Calls.{CommandHistory, Other, Reset, Wrote, change_in, is_passed, status_in, with_call, with_check_list}

@@ -1,10 +1,10 @@
 // Numbers and lists of identifier numbers among the operation data of a store.
-ghost use Rattle.std.specs.Prelude.{◌≡◌, ◌≤◌, ◌<◌, ◌⊎◌, ◌+◌, length, unwrap_or, IfSome};
-ghost use Rattle.sercos_command.specs.Clauses.{list_all, sum_by, number_at, idns_in, idns_at, cyclic_len, is_cyclic, carried_len, breaks_list};
+ghost use Rattle.std.specs.Prelude.{◌≡◌, ◌≤◌, ◌<◌, ◌⊎◌, ◌+◌, length, IfSome};
+ghost use Rattle.sercos_command.specs.Clauses.{list_all, telegram_len, number_at, idns_in, idns_at, cyclic_len, is_cyclic, carried_len, breaks_list};
 
 use arrayvec::ArrayVec;
 use sercos_bits::byte_at;
-use sercos_block::{Store, number_len};
+use sercos_block::{Store, added_len, number_len};
 use sercos_idn::Idn;
 
 // The number of bytes of the two words that a telegram or a data record begins with.
@@ -57,27 +57,16 @@ fn cyclic_len(store: &Store, idn: Idn) -> Option<usize>
     }
 }
 
-// Returns the number of bytes that an identifier number adds to a telegram: at most 4, and 0 if no telegram can carry it.
-fn value_len(store: &Store, idn: Idn) -> u32
-    ensures value { result ≡ unwrap_or (cyclic_len store.now idn.raw) 0 }
-    ensures bound { result ≤ 4 }
-{
-    match cyclic_len(store, idn) {
-        Some(len) => len as u32,
-        None => 0,
-    }
-}
-
 // Returns the number of bytes of two words and of the values of a list of at most 16 identifier numbers: 4 to 68. An identifier number that
 // no telegram can carry adds nothing.
 fn listed_len(store: &Store, idns: &[Idn]) -> u32
     requires { length idns.now ≤ 16 }
-    ensures value { result ≡ 4 + sum_by (λ idn. unwrap_or (cyclic_len store.now idn.raw) 0) idns.now }
+    ensures value { result ≡ telegram_len (λ idn. cyclic_len store.now idn.raw) idns.now }
     ensures bounds { (4 ≤ result) × (result ≤ 68) }
 {
     let mut len = WORDS;
     for idn in idns {
-        len += value_len(store, *idn);
+        len += u32::from(added_len(cyclic_len(store, *idn)));
     }
     len
 }

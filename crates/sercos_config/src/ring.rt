@@ -1,7 +1,7 @@
 // The ring's own keys, and the order of its drives. Any error may also be `Memory` instead of the refusal, as the path of a refusal takes
 // memory. `Missing` means that a required key is absent, and `Kind` that a value has another TOML type.
 ghost use Rattle.std.specs.Prelude.{◌≡◌, ◌≤◌, ◌<◌, ◌==◌, true, [], length, IfOk, IfSome};
-ghost use Rattle.sercos_config.specs.Clauses.{list_any, are_ring_numbers, is_turn, are_turns, is_order, Gives, Shows, known, located, ring_keys, head_of, place_from, turn_of, turns_onto, listed_order, places_below, order_of};
+ghost use Rattle.sercos_config.specs.Clauses.{are_ring_numbers, is_turn, are_turns, is_order, Gives, Shows, known, located, ring_keys, head_of, place_from, turn_of, turns_onto, listed_order, places_below, order_of};
 
 use arrayvec::ArrayVec;
 use sercos_block::DriveSetup;
@@ -140,20 +140,13 @@ fn read_turn(
     match place_of(address, drives) {
         None => Err(keys.item_range(key, done.len(), address)),
         Some(place) => {
-            if is_among(place as u8, done) {
+            if done.contains(&(place as u8)) {
                 Err(keys.item_twice(key, done.len()))
             } else {
                 Ok(place as u8)
             }
         }
     }
-}
-
-// Returns whether `done` has the index `place`.
-fn is_among(place: u8, done: &[u8]) -> bool
-    ensures { result ≡ list_any (λ k. k == place) done.now }
-{
-    done.iter().any(|k| *k == place)
 }
 
 /// Returns the index, from 0, of the first drive that has this address; `None` if none has it.

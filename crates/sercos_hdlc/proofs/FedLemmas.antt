@@ -2,14 +2,9 @@
 use Rattle.std.proofs.Common.{◌≡◌, ℕ, zero, suc, ◌+◌, ◌*◌, ◌<◌, Bool, true, false, List, [], ◌∷◌, ◌++◌, length, take, drop, get_or, refl, sym, ap, subst, ◌∙◌, arith, append_assoc}
 use mir.Val.{bool_byte}
 use Rattle.std.proofs.lemmas.List.{append-nil, take_more}
-use Rattle.sercos_bits.proofs.PackedLemmas.{one_bit}
 use Rattle.sercos_model.specs.Bits.{is_odd, low_bits}
 use Rattle.sercos_hdlc.specs.Fed.{IsFed}
 use Rattle.sercos_hdlc.specs.declared.deframer.Deframer.{Deframer}
-
-unfolding low_bits is_odd
-one_bit true = refl
-one_bit false = refl
 
 -- Some of these bits were taken since a reader was as at first, and the others are left.
 pub record IsTaking (first now : Deframer) (all left : List Bool) : Type 0 where

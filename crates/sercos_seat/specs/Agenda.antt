@@ -12,7 +12,7 @@ use Rattle.sercos_step.specs.Words.{bytes_in}
 use Rattle.sercos_timing.specs.Views.{WishesView, PlanView}
 use Rattle.sercos_timing.specs.declared.wishes.Wish.{Wish}
 use Rattle.sercos_timing.specs.declared.wishes.Times.{Times}
-use Rattle.sercos_block.specs.Rings.{attribute_in, number_len}
+use Rattle.sercos_block.specs.Rings.{attribute_in, number_len, telegram_len}
 use Rattle.sercos_trace.specs.declared.events.Stop.{Stop}
 use Rattle.sercos_trace.specs.declared.events.Stop.TheVariants as stop
 use Rattle.sercos_seat.specs.declared.answers.Asked.{Asked}
@@ -131,10 +131,10 @@ len_or_none word = unwrap_or (len_said word) 0
 -- the length of a drive's AT after the address, and that of its data record, in bytes: two words,
 -- and the configured values
 abbrev pub at_len : MemberView → List Outcome → ℕ
-at_len d outcomes = 4 + sum_by len_or_none (at_attributes d outcomes)
+at_len d outcomes = telegram_len len_said (at_attributes d outcomes)
 
 abbrev pub record_len : MemberView → List Outcome → ℕ
-record_len d outcomes = 4 + sum_by len_or_none (mdt_attributes d outcomes)
+record_len d outcomes = telegram_len len_said (mdt_attributes d outcomes)
 
 abbrev pub times_given : List Outcome → Times
 times_given outcomes = record {

@@ -16,12 +16,13 @@ use Rattle.sercos_service_master.specs.Calls.{Begin, Send, Hear, EndCycle, begun
 use Rattle.sercos_service_master.specs.Begun.{open_in, master_says}
 use Rattle.sercos_service_master.specs.Calls as channel
 use Rattle.sercos_timing.specs.Views.{PlanView}
+use Rattle.sercos_block.specs.Rings.{telegram_len}
 use Rattle.sercos_trace.specs.declared.events.Stop.{Stop}
 use Rattle.sercos_trace.specs.declared.events.Stop.TheVariants as stop
 use Rattle.sercos_seat.specs.declared.answers.Words.{Words}
 use Rattle.sercos_seat.specs.declared.answers.Asked.{Asked}
 use Rattle.sercos_seat.specs.declared.queue.Waiting.{Waiting}
-use Rattle.sercos_seat.specs.Agenda.{agenda, asked_by, bytes_of, ended_well, given, idn, is_checked, is_ready, len_or_none, mdt_attributes, reads, reads_count, short_in, stop_of_task, writes}
+use Rattle.sercos_seat.specs.Agenda.{agenda, asked_by, bytes_of, ended_well, given, idn, is_checked, is_ready, len_or_none, len_said, mdt_attributes, reads, reads_count, short_in, stop_of_task, writes}
 use Rattle.sercos_seat.specs.Channel.{Report, broken_number, count_requests, last_outcome, number_in, of_phase, outcomes_in, report_of, trouble_by}
 use Rattle.sercos_seat.specs.Records.{record_said, values_said}
 use Rattle.sercos_seat.specs.Ring.{Known, MemberView, Task, member, request_task}
@@ -233,7 +234,7 @@ abbrev pub len_of_words : Words → ℕ
 len_of_words w = len_or_none (long_of w)
 
 abbrev pub listed_len : List Words → ℕ
-listed_len words = 4 + sum_by len_of_words words
+listed_len words = telegram_len (λ w. len_said (long_of w)) words
 
 abbrev pub at_len_kept : SeatView → ℕ
 at_len_kept v = listed_len (take (length v.member.at) (drop 6 v.given))

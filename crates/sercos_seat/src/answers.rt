@@ -5,7 +5,7 @@ ghost use Rattle.sercos_step.specs.declared.request.Outcome.TheVariants as outco
 
 use arrayvec::ArrayVec;
 use sercos_block::numbers::{INVALID_FOR_PHASE_2, INVALID_FOR_PHASE_3};
-use sercos_block::{attribute_in, number_len};
+use sercos_block::{added_len, attribute_in, number_len};
 use sercos_idn::Idn;
 use sercos_idn::command::ENDED_WELL;
 use sercos_idn::element::{ATTRIBUTE, DATA};
@@ -105,10 +105,7 @@ pub fn len_of(words: &Words) -> u16
     ensures value { result ≡ len_of_words words.now }
     ensures bound { result ≤ 4 }
 {
-    match len_said(words.long()) {
-        Some(len) => len as u16,
-        None => 0,
-    }
+    added_len(len_said(words.long()))
 }
 
 /// Returns how many bytes a value with each of these attributes adds to a telegram, 0 to 4; 0 if the attribute isn't that of a number.

@@ -1,5 +1,6 @@
 use Rattle.std.proofs.Common.{◌≡◌, ◌-◌, not, get_or, length-take-le, ap, sym, ◌∙◌, arith}
 use Rattle.std.proofs.lemmas.List.{take_at}
+use Rattle.std.proofs.lemmas.Bool.{not-true}
 use Rattle.sercos_text.specs.Fields.{pairs_of}
 use Rattle.sercos_show.specs.Line.{wanted_digits, has_spare}
 use Rattle.sercos_show.proofs.HexLines.{bytes_before, length-hex_fault}
