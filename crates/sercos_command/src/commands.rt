@@ -1,6 +1,6 @@
 // The procedure commands of a drive.
 ghost use Rattle.std.specs.Prelude.{◌≡◌, ◌==◌, ◌<◌, ◌≤◌, ◌⊎◌, List, [], length, None, true};
-ghost use Rattle.sercos_command.specs.Clauses.{to_cancel, to_set, Block, is_command, ends_well, Wrote, Other, Reset, CommandHistory, with_call, is_passed, status_in, change_in, with_check_list, newest_cycle, AreInOrder, first_passed_in, find_set, is_from, with_write, without_checks, with_check_list_kept, are_commands_of, CommandsStandFor};
+ghost use Rattle.sercos_command.specs.Clauses.{to_cancel, to_set, Block, is_command, ends_well, Wrote, Other, Reset, CommandHistory, with_call, is_passed, status_in, change_in, with_check_list, newest_cycle, AreInOrder, first_passed_in, find_set, is_from, with_write, without_checks, without_settings, status_kept, change_kept, with_check_list_kept, are_commands_of, CommandsStandFor};
 
 use crate::passed::{after_cancel, after_setting, is_from};
 use crate::run::run;
@@ -24,7 +24,8 @@ pub struct SetCommand {
 }
 
 /// The procedure commands of a drive (IEC 61491:1995): which are set, and since when a transition check counts as passed. Contracts state
-/// what it returns by the calls on it: writes to commands, writes to other operation data, and phase 0.
+/// what it returns by the calls on it (writes to commands, writes to other operation data, and phase 0), and, as `view`, by what is seen of
+/// it: the commands that are set, and the first cycle in which each check counts as passed.
 #[derive(Drop)]
 pub struct Commands {
     rate: u8,
@@ -51,6 +52,7 @@ impl Commands {
     #[tactic(auto, unfolding(crate::specs::Kept::are_distinct))]
     pub fn new(rate: u8, time: u16) -> Commands
         ensures stands { CommandsStandFor result (record { rate = rate; time = time; calls = [] }) }
+        ensures view { result ≡ record { rate = rate; time = time; set = []; passed_127 = None; passed_128 = None } }
         ensures none { result.set ≡ [] }
     {
         Commands {
@@ -119,7 +121,9 @@ impl Commands {
         requires value { (value ≡ to_cancel) ⊎ (value ≡ to_set) }
         requires set { are_commands_of store.old self.old ≡ true }
         ensures stands { (c : CommandHistory) → CommandsStandFor self.old c → CommandsStandFor self.new (with_call (Wrote idn.raw value cycle store.old) c) }
+        ensures view { self.new ≡ with_write idn.raw value cycle store.old self.old }
         ensures blocks { (c : CommandHistory) → CommandsStandFor self.old c → store.new ≡ with_check_list c idn.raw value store.old }
+        ensures blocks_by_view { store.new ≡ with_check_list_kept self.old idn.raw value store.old }
         ensures set { are_commands_of store.new self.new ≡ true }
     {
         self.take(idn, value, cycle, store);
@@ -129,6 +133,7 @@ impl Commands {
     /// won't count at its end. Only a new setting makes it so. `cycle` only serves the contract. The commands that are set remain.
     pub fn written(&mut self, cycle: u32)
         ensures stands { (c : CommandHistory) → CommandsStandFor self.old c → CommandsStandFor self.new (with_call (Other cycle) c) }
+        ensures view { self.new ≡ without_checks self.old }
         ensures same { self.new.set ≡ self.old.set }
     {
         self.forget_checks();
@@ -146,6 +151,7 @@ impl Commands {
     #[tactic(auto, unfolding(crate::specs::Kept::are_distinct))]
     pub fn reset(&mut self)
         ensures stands { (c : CommandHistory) → CommandsStandFor self.old c → CommandsStandFor self.new (with_call Reset c) }
+        ensures view { self.new ≡ without_settings self.old }
         ensures none { self.new.set ≡ [] }
     {
         self.set.clear();
@@ -157,7 +163,8 @@ impl Commands {
     /// is 7.
     #[tactic(auto, using(crate::proofs::CallLemmas::status_stands))]
     pub fn status(&self, idn: Idn, cycle: u32) -> u16
-        ensures { (c : CommandHistory) → CommandsStandFor self.now c → result ≡ status_in c idn.raw cycle }
+        ensures stands { (c : CommandHistory) → CommandsStandFor self.now c → result ≡ status_in c idn.raw cycle }
+        ensures view { result ≡ status_kept self.now idn.raw cycle }
     {
         status_by(self.time, find_set(idn, self.set.as_slice()), cycle)
     }
@@ -165,7 +172,8 @@ impl Commands {
     /// Returns the change bit of procedure commands in a cycle (IEC 61491:1995): whether some command that is set has ended.
     #[tactic(auto, using(crate::proofs::CallLemmas::change_stands))]
     pub fn change(&self, cycle: u32) -> bool
-        ensures { (c : CommandHistory) → CommandsStandFor self.now c → result ≡ change_in c cycle }
+        ensures stands { (c : CommandHistory) → CommandsStandFor self.now c → result ≡ change_in c cycle }
+        ensures view { result ≡ change_kept self.now cycle }
     {
         any_ended(self.set.as_slice(), self.time, cycle)
     }
@@ -178,6 +186,7 @@ impl Commands {
         ensures rule { (c : CommandHistory) → CommandsStandFor self.now c → AreInOrder c.calls → newest_cycle c.calls ≤ cycle →
             result ≡ is_passed c.rate c.time 127 c.calls cycle }
         ensures kept { (c : CommandHistory) → CommandsStandFor self.now c → result ≡ is_from (first_passed_in 127 c) cycle }
+        ensures view { result ≡ is_from self.now.passed_127 cycle }
     {
         is_from(self.passed_127, cycle)
     }
@@ -190,6 +199,7 @@ impl Commands {
         ensures rule { (c : CommandHistory) → CommandsStandFor self.now c → AreInOrder c.calls → newest_cycle c.calls ≤ cycle →
             result ≡ is_passed c.rate c.time 128 c.calls cycle }
         ensures kept { (c : CommandHistory) → CommandsStandFor self.now c → result ≡ is_from (first_passed_in 128 c) cycle }
+        ensures view { result ≡ is_from self.now.passed_128 cycle }
     {
         is_from(self.passed_128, cycle)
     }
