@@ -62,7 +62,8 @@ impl Model for Drive {
     ghost invariant = { λ d. (d.phase ≤ 4) × (are_commands_of d.store d.commands ≡ true) × (4 ≤ d.slot.record_len) };
 }
 
-// Replaces the content by an AT without values: its address, status word and information word, five bytes.
+// Replaces the content by the front of an AT, five bytes: its address, status word and information word. With any values behind them it is
+// the AT of these values.
 fn begin_at(address: u8, status: Status, info: u16, out: &mut Content)
     ensures begun { (values : List ℕ) → out.new ++ values ≡ at_content address status info values }
     ensures len { length out.new ≡ 5 }

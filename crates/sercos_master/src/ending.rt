@@ -29,26 +29,26 @@ impl Ring {
         }
     }
 
-    // Closes the cycle, which was of this phase. The next one is of the phase that is commanded now, and the count of cycles is one higher,
-    // modulo 2^32. The requests that ended are added to `reports`, which must have room for one more per drive, of 128. The stop found in
+    // Closes the cycle, which was of the phase `closed`. The ring's own phase is already that of the next cycle, which is commanded now: so
+    // the contract sees the ring before the call with `closed` as its phase. The count of cycles is one higher, modulo 2^32. The requests that ended are added to `reports`, which must have room for one more per drive, of 128. The stop found in
     // this cycle is put into `told`; without one `told` is unchanged.
     pub fn close(
         &mut self,
-        phase: u8,
+        closed: u8,
         reports: &mut ArrayVec<Reported, 128>,
         told: &mut Option<Stop>,
     )
         ensures stop { told.new ≡ option_or self.old.stop told.old }
-        ensures told { (s : Known) (p : Past) → CoreStandsFor (record self.old { phase = phase }) s p →
+        ensures told { (s : Known) (p : Past) → CoreStandsFor (record self.old { phase = closed }) s p →
             length reports.old.items + length s.drives ≤ 128 →
             reports.new.items ≡ with_reports p.now.report (length s.drives) reports.old.items }
-        ensures stands { (s : Known) (p : Past) → CoreStandsFor (record self.old { phase = phase }) s p →
+        ensures stands { (s : Known) (p : Past) → CoreStandsFor (record self.old { phase = closed }) s p →
             CoreStandsFor self.new s (goes_on self.old.phase p) }
     {
-        end_seats(phase, &mut self.seats, reports);
+        end_seats(closed, &mut self.seats, reports);
         self.row = row_with(self.whole, self.row);
-        self.lost = lost_with(phase, self.whole);
-        self.waited = waited_with(phase, self.addressed, self.before, self.waited);
+        self.lost = lost_with(closed, self.whole);
+        self.waited = waited_with(closed, self.addressed, self.before, self.waited);
         self.before = self.addressed;
         self.addressed = None;
         self.whole = false;

@@ -84,7 +84,8 @@ fn open_document(
 }
 
 // Reads a part of the input as a document, and opens its ring over its script. `number`, below 10, is the part's number. The run of the
-// ring has the properties of `kept_law`. The error is the document's first refusal, with this number, or `Memory`.
+// ring has the properties of `kept_law`. The error is the refusal of the document, by the
+// first of its faults, with this number, or `Memory`.
 fn open_part(alloc: Global, number: u8, bytes: &[u8]) -> Result<Part<Scripted>, Unopened>
     requires { number < 10 }
     ensures { OpensPart ⟦<Scripted as BitLink>⟧.carry ⟦<Scripted as BitLink>⟧.restart number bytes.now result }

@@ -126,7 +126,8 @@ fn agree(content: &Content, start: Option<i32>, found: Option<&Sent>) -> bool
 
 /// Compares what a station was to send at a place with `found`, the telegram of the capture, and returns whether they differ. The station
 /// was to send `content`, which must not be empty, at `start`, in bit times after the MST's end; nothing if there is no start. `cycle` and
-/// `kind` are those of the place, and are not compared. If they differ, the place is put into `told`, otherwise `told` is unspecified.
+/// `kind` are those of the place, and are not compared. If they differ, the place is put into `told`, otherwise `told` is unspecified: in
+/// the contract `if_differs` is the place, or `None` where both agree, and `if_told` is `told`, or `None` for the result false.
 pub(crate) fn compare(
     told: &mut Difference,
     cycle: u32,

@@ -245,7 +245,8 @@ impl Seat {
     }
 
     // Begins a task on an idle channel. The request must be for an element that a transfer takes: 1 to 7 of a read, 2 to 7 of a write. It
-    // must no longer be among those that wait. `number` is that of a request; a task of the start-up has none.
+    // must no longer be among those that wait, which are `waiting` in the contract before it was taken. `number` is that of a request; a
+    // task of the start-up has none.
     fn begin(&mut self, request: Request, number: Option<u16>)
         requires idle { is_none self.old.channel.transfer ≡ true }
         requires request { IsRequest request }

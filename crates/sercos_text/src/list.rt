@@ -40,8 +40,8 @@ pub(crate) fn read_ident(text: &[u8]) -> Result<usize, usize>
     }
 }
 
-// Reads an item at the front of a text, and returns the number of bytes that it takes, and its value if it is an address. The value of an
-// identifier number is unspecified. The error is that of `read_number` with 255, or of `read_ident`, at most the text's length.
+// Reads an item at the front of a text, and returns the number of bytes that it takes, and its value if it is an address. Of identifier
+// numbers no value is kept (`kept_of`), so the value returned for one is unspecified. The error is that of `read_number` with 255, or of `read_ident`, at most the text's length.
 #[tactic(auto, unfolding(crate::specs::Lists::item_fault, crate::specs::Lists::item_len, crate::specs::Lists::item_of, crate::specs::Lists::kept_of))]
 fn read_item(item: Item, text: &[u8]) -> Result<(usize, u8), usize>
     ensures fault { result_err result ≡ item_fault item text.now }
