@@ -21,7 +21,7 @@ fn master_of(alloc: Global, document: Document) -> Result<MasterStation, AllocEr
     ensures { IfOk result (λ m. MasterStandsFor m document []) }
 {
     let Document { setup, jobs, .. } = document;
-    let record = Box::new(alloc, CycleRecord::new())?;
+    let record = CycleRecord::new_boxed(alloc)?;
     let master = AnyMaster::open(alloc, &setup, jobs)?;
     Ok(MasterStation {
         master: Some(master),

@@ -7,7 +7,7 @@ use crate::ring::all_drives;
 use arrayvec::ArrayVec;
 use sercos_block::{Block, DriveSetup, RingSetup, attribute_in, bytes_for};
 use sercos_idn::element::DATA;
-use sercos_idn::{Attribute, Idn};
+use sercos_idn::Idn;
 use sercos_script::{Damage, Fault};
 use sercos_step::{Job, Request};
 use sercos_telegram::Kind;

@@ -9,7 +9,6 @@ use sercos_block::limits::MOST_CYCLES;
 use sercos_document::{BadDocument, Keys};
 use sercos_timing::limits::{LEAST_CYCLE, MOST_CYCLE, MOST_GAP};
 use sercos_timing::{is_cycle, is_rate};
-use toml::Value;
 
 /// The numbers of a ring: the rate in Mbit/s, times in microseconds, and how many cycles it runs.
 #[derive(Clone, Copy, Debug, PartialEq, Eq)]

@@ -1,5 +1,5 @@
--- How far the times of a ring of one drive can go, worked out by hand.
-use Rattle.std.proofs.Common.{◌≡◌, ℕ, zero, suc, ◌+◌, ◌<◌, ◌≤◌, inl, inr, true, false, [], ◌∷◌, slice_index, refl, arith}
+-- The limits of a drive's times, and how far those of a ring of one drive can go, worked out by hand.
+use Rattle.std.proofs.Common.{◌≡◌, ℕ, zero, suc, ◌+◌, ◌<◌, ◌≤◌, inl, inr, true, false, [], ◌∷◌, map, slice_index, refl, arith}
 use Rattle.sercos_timing.specs.Views.{WishesView}
 use Rattle.sercos_timing.specs.Order.{wish}
 use Rattle.sercos_timing.specs.Valid.{IsWish, IsValid}
@@ -13,6 +13,10 @@ use Rattle.sercos_margin.specs.declared.changes.Time.{Time}
 use Rattle.sercos_margin.specs.declared.changes.Time.TheVariants.{T1min, Tatmt, T4min, Tatat, Tmtsy, Tmtsg}
 use Rattle.sercos_margin.proofs.EasierLemmas.{less_time, valid_time, valid_cycle, some_plan}
 use Rattle.sercos_margin.proofs.MarginLemmas.{shortest_cycle}
+
+-- the greatest value of each time that a drive may declare, in microseconds
+six_greatest : map greatest (T1min ∷ Tatmt ∷ T4min ∷ Tatat ∷ Tmtsy ∷ Tmtsg ∷ []) ≡ 300 ∷ 300 ∷ 64000 ∷ 64000 ∷ 250 ∷ 64000 ∷ []
+six_greatest = refl
 
 -- the drive declares 10, 6, 20, 5, 10 and 20 microseconds, in a cycle of 250
 abbrev one_drive : WishesView

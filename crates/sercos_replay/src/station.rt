@@ -6,7 +6,7 @@ use crate::drive_replay::DriveReplay;
 use crate::master_replay::MasterReplay;
 use crate::place_text::place_reply;
 use sercos_answer::Reply;
-use sercos_block::{DriveSetup, RingSetup};
+use sercos_block::RingSetup;
 use sercos_step::Job;
 use sercos_trace::Line;
 use std::alloc::{AllocError, Global};

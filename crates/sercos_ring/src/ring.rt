@@ -170,7 +170,7 @@ impl<L: BitLink> Ring<L> {
     {
         let drives = open_drives(alloc, setup)?;
         let master = AnyMaster::open(alloc, setup, jobs)?;
-        let made = Box::new(alloc, CycleRecord::new())?;
+        let made = CycleRecord::new_boxed(alloc)?;
         let buffers = Box::new(alloc, Buffers::new())?;
         Ok(Ring {
             link,

@@ -6,7 +6,7 @@ use crate::digits::MOST_BYTES;
 use crate::line::{LineKind, read_line};
 use crate::text::{push_at, push_hex, push_layout, push_mst, push_refusal, push_single};
 use sercos_answer::{Reply, cut_line, push_number, push_text};
-use sercos_hdlc::{BadFrame, Deframer};
+use sercos_hdlc::Deframer;
 use sercos_io::Status;
 use sercos_telegram::{Layout, read_at, read_mst, read_single};
 use std::alloc::{AllocError, Global};

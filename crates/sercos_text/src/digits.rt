@@ -4,7 +4,7 @@ ghost use Rattle.sercos_text.specs.Clauses.{result_err, is_hex, hex_digits, pair
 
 use crate::room::Room;
 
-// The value of each byte as a hexadecimal digit in lower case; 255 for any other byte.
+// The value of each byte as a hexadecimal digit in lower case; 255 for any other byte, also for a digit in upper case.
 const VALUES: [u8; 256] = [
     255, 255, 255, 255, 255, 255, 255, 255, 255, 255, 255, 255, 255, 255, 255, 255, 255, 255, 255,
     255, 255, 255, 255, 255, 255, 255, 255, 255, 255, 255, 255, 255, 255, 255, 255, 255, 255, 255,
@@ -62,7 +62,7 @@ fn are_digits(bytes: &[u8]) -> bool
     all
 }
 
-// Returns the index after the whole sixteens of hexadecimal digits at the front of a text.
+// Returns an index before which a text has hexadecimal digits alone, found by testing sixteen bytes at a time. More digits can follow it.
 fn after_sixteens(text: &[u8]) -> usize
     ensures value { hex_digits text.now ≡ result + hex_digits (drop result text.now) }
     ensures bound { result ≤ length text.now }
@@ -91,7 +91,7 @@ fn are_eight(bytes: &[u8]) -> bool
     front + back < 255
 }
 
-// Returns the index after the whole eights of hexadecimal digits at the front of a text.
+// Returns an index before which a text has hexadecimal digits alone, found by testing eight bytes at a time. More digits can follow it.
 fn after_eights(text: &[u8]) -> usize
     ensures value { hex_digits text.now ≡ result + hex_digits (drop result text.now) }
     ensures bound { result ≤ length text.now }

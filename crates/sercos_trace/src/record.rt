@@ -1,11 +1,12 @@
 // The record of a cycle.
-ghost use Rattle.std.specs.Prelude.{◌≡◌, ◌++◌, ◌<◌, ◌≤◌, ◌+◌, [], ◌∷◌, None, length, take};
+ghost use Rattle.std.specs.Prelude.{◌≡◌, ◌++◌, ◌<◌, ◌≤◌, ◌+◌, [], ◌∷◌, None, IfOk, length, take};
 ghost use Rattle.sercos_trace.specs.Clauses.{Kind};
 
 use crate::events::Events;
 use arrayvec::ArrayVec;
 use sercos_bits::Content;
 use sercos_telegram::Kind;
+use std::alloc::{AllocError, Global};
 use std::marker::Model;
 
 /// A telegram that was sent. Contracts see the record of its fields.
@@ -116,23 +117,27 @@ pub fn put_sent(
 }
 
 impl CycleRecord {
-    /// Returns the record of cycle 0 before anything has happened in it.
-    pub fn new() -> CycleRecord
-        ensures { result ≡ record { cycle = 0; phase = 0; sent = []; moves = []; events = record { outcomes = []; plan = None; stop = None; fall = None }; unseen = 0 } }
+    /// Returns the record of cycle 0 before anything has happened in it, in memory of its own, since it is large. The error is `AllocError`.
+    pub fn new_boxed(alloc: Global) -> Result<Box<CycleRecord>, AllocError>
+        ensures { IfOk result (λ made. made.value ≡ record { cycle = 0; phase = 0; sent = []; moves = []; events = record { outcomes = []; plan = None; stop = None; fall = None }; unseen = 0 }) }
     {
-        CycleRecord {
-            cycle: 0,
-            phase: 0,
-            sent: ArrayVec::new(),
-            moves: ArrayVec::new(),
-            events: Events {
-                outcomes: ArrayVec::new(),
-                plan: None,
-                stop: None,
-                fall: None,
+        let made = Box::new(
+            alloc,
+            CycleRecord {
+                cycle: 0,
+                phase: 0,
+                sent: ArrayVec::new(),
+                moves: ArrayVec::new(),
+                events: Events {
+                    outcomes: ArrayVec::new(),
+                    plan: None,
+                    stop: None,
+                    fall: None,
+                },
+                unseen: 0,
             },
-            unseen: 0,
-        }
+        )?;
+        Ok(made)
     }
 
     /// Makes it the record of a cycle before anything has happened in it. Only the telegrams stay as they are, to be replaced by
