@@ -1,8 +1,12 @@
-"""What the tests of the bounds share: rings, the bounds of PROTOCOL.md, which are worked out here from a document by themselves, and runs."""
+"""What the tests of the bounds share: rings, the bounds of PROTOCOL.md, and runs."""
 import re
+import sys
 import tomllib
 
 from tool_tests import TOP, sercos
+
+sys.path.insert(0, str(TOP / "tools"))
+from shared.bounds import Bounds
 
 ONE = (TOP / "examples/one_drive.toml").read_text()
 TWO = (TOP / "examples/two_drives.toml").read_text()
@@ -34,19 +38,8 @@ def busy(document, cycles):
 def bounds(document):
     """S of a ring, the cycles of a refusal after it, and for each request the cycle in which it is reported at the latest."""
     ring = tomllib.loads(document)
-    parts = []
-    latest = {}
-    begun = {}
-    for drive in ring["drive"]:
-        busy, command = drive.get("busy", 0), drive.get("command", 0)
-        parts.append((busy + 2) * (82 + 4 * (len(drive["at"]) + len(drive["mdt"])) + 2 * command))
-    start = 20 + 2 * len(ring["drive"]) + sum(parts)
-    drives = {drive["address"]: drive for drive in ring["drive"]}
-    for number, request in enumerate(ring.get("request", []), 1):
-        drive = drives[request["drive"]]
-        begun[request["drive"]] = begun.get(request["drive"], 0) + 1
-        latest[number] = start + begun[request["drive"]] * (drive.get("busy", 0) + 2) * (520 + drive.get("command", 0))
-    return start, 41 * (2 + max(drive.get("busy", 0) for drive in ring["drive"])), latest
+    of = Bounds(ring["drive"])
+    return of.start, of.stop, of.latest(ring.get("request", []))
 
 
 def ran(document, cycles):
