@@ -1,12 +1,14 @@
--- Worked examples, computed from the definitions: a drive with the blocks S-0-0047 and S-0-0051.
-use Rattle.std.proofs.Common.{◌≡◌, ℕ, false, List, [], ◌∷◌, map, Option, Some, None, codes, refl}
+-- Worked examples, computed from the definitions: a drive with the blocks S-0-0047 and S-0-0051, and the steps of a start-up.
+use Rattle.std.proofs.Common.{◌≡◌, ℕ, ◌+◌, ◌*◌, false, List, [], ◌∷◌, map, length, Option, Some, None, codes, refl}
+use Rattle.std.specs.List.{sum_by}
 use Rattle.sercos_idn.specs.Attributes.{attribute_of}
 use Rattle.sercos_block.specs.declared.block.Block.{Block}
 use Rattle.sercos_block.specs.declared.check.Field.TheVariants as fields
-use Rattle.sercos_block.specs.Views.{DriveView}
+use Rattle.sercos_block.specs.Views.{DriveView, RingView}
 use Rattle.sercos_block.specs.Blocks.{element_of}
 use Rattle.sercos_block.specs.BuiltIns.{built_in}
 use Rattle.sercos_block.specs.Rules.{block_fault, blocks_fault}
+use Rattle.sercos_block.specs.Startup.{read_steps, write_steps, start_steps, listed_steps, stop_steps, request_steps, startup_of, startup_bound}
 use Rattle.sercos_block.specs.Stores.{find_block, inserted, with_own, store_of, read_fault, data_fault, put_fault}
 
 abbrev four : ℕ → Option (List ℕ) → List ℕ → ℕ → Block
@@ -101,3 +103,13 @@ good = refl
 long_unit : blocks_fault [] (own (Some (codes "increments of"))) ≡ Some (record { index = 0; field = fields.Unit })
 unfolding blocks_fault block_fault attribute_of
 long_unit = refl
+
+-- the steps that a start-up, a stop and a request are allowed, each a sum
+steps : (read_steps ≡ 24) × (write_steps ≡ 50) × (start_steps ≡ 82) × (listed_steps ≡ 4) × (stop_steps ≡ 41) × (request_steps ≡ 520)
+steps = (refl, refl, refl, refl, refl, refl)
+
+startup_steps : (d : DriveView) → startup_of d ≡ (d.busy + 2) * (82 + 4 * (length d.at + length d.mdt) + 2 * d.command)
+startup_steps d = refl
+
+startup_cycles : (r : RingView) → startup_bound r ≡ 20 + 2 * length r.drives + sum_by startup_of r.drives
+startup_cycles r = refl

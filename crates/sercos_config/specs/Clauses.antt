@@ -4,7 +4,7 @@ pub use Rattle.sercos_block.specs.Blocks.{is_number, is_signed, number_end}
 pub use Rattle.sercos_block.specs.BuiltIns.{is_built_in}
 pub use Rattle.sercos_block.specs.Rings.{are_cyclic, are_drive_numbers, are_drives, are_ring_numbers, are_times, are_turns, has_address, has_other_data, is_cyclic, is_drive, is_order, is_ring, is_turn}
 pub use Rattle.sercos_block.specs.Rules.{block_fault, blocks_fault, has_block, is_limit, is_max_len, is_text}
-pub use Rattle.sercos_block.specs.Startup.{startup_of}
+pub use Rattle.sercos_block.specs.Startup.{start_steps_of, startup_of}
 pub use Rattle.sercos_block.specs.Stores.{IsTyped, is_typed}
 pub use Rattle.sercos_config.specs.Block.{attribute_under, block_keys, block_of, blocks_onto, fails_under, idn_in, idn_of, idn_under, step_under, text_under}
 pub use Rattle.sercos_config.specs.Document.{document_in, document_of, ring_of, top_keys}

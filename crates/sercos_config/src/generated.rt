@@ -1,13 +1,13 @@
 // The document that this profile generates for a number of drives.
 ghost use Rattle.std.specs.Prelude.{◌≡◌, ◌≤◌, ◌+◌, ◌*◌, ◌^◌, true, false, [], ◌∷◌, length, map, IfOk};
-ghost use Rattle.sercos_config.specs.Clauses.{All, range_with_len, sum_by, attribute_of, is_list, number_end, has_address, has_other_data, is_ring, startup_of, IsTyped, AreJobs, AreTypedJobs, position_command, position_feedback, position_block, generated_times, generated_drive, generated_job, generated_fault, generated_ring, generated_cycles, generated};
+ghost use Rattle.sercos_config.specs.Clauses.{All, range_with_len, sum_by, attribute_of, is_list, number_end, has_address, has_other_data, is_ring, start_steps_of, startup_of, IsTyped, AreJobs, AreTypedJobs, position_command, position_feedback, position_block, generated_times, generated_drive, generated_job, generated_fault, generated_ring, generated_cycles, generated};
 
 use crate::document::Document;
 use crate::ring::all_drives;
 use arrayvec::ArrayVec;
 use sercos_block::{Block, DriveSetup, RingSetup, attribute_in, bytes_for};
-use sercos_idn::element::DATA;
 use sercos_idn::Idn;
+use sercos_idn::element::DATA;
 use sercos_script::{Damage, Fault};
 use sercos_step::{Job, Request};
 use sercos_telegram::Kind;
@@ -19,6 +19,11 @@ use std::alloc::{AllocError, Global};
 const POSITION_COMMAND: Idn = Idn { raw: 47 };
 
 const POSITION_FEEDBACK: Idn = Idn { raw: 51 };
+
+// The steps that are counted for a start-up, and those that each identifier number of a telegram adds.
+const START_STEPS: u32 = 82;
+
+const LISTED_STEPS: u32 = 4;
 
 // The number of cycles that a generated ring runs beyond its start-up.
 const CYCLES_AFTER_STARTUP: u32 = 100;
@@ -158,15 +163,15 @@ fn generated_faults(alloc: Global, n: u8) -> Result<Vec<Fault>, AllocError>
     Ok(faults)
 }
 
-// Returns the steps that are counted for the start-up of a drive: 82, four for each identifier number that its AT and its record in the MDT
-// carry, and two for each cycle that its procedure commands take.
+// Returns the steps that are counted for the start-up of a drive: those of its reads, writes and checks, four for each identifier number
+// that its AT and its record in the MDT carry, and two for each cycle that its procedure commands take.
 fn steps_of(drive: &DriveSetup) -> u32
-    ensures value { result ≡ 82 + 4 * (length drive.now.at + length drive.now.mdt) + 2 * drive.now.command }
+    ensures value { result ≡ start_steps_of drive.now }
     ensures bound { result ≤ 131280 }
 {
     let command = u32::from(drive.command);
     let lists = drive.at.as_slice().len() + drive.mdt.as_slice().len();
-    82 + 4 * lists as u32 + 2 * command
+    START_STEPS + LISTED_STEPS * lists as u32 + 2 * command
 }
 
 // Returns the cycles that are counted for the start-up of a drive: for each step its busy cycles and two more. The result is at most

@@ -235,7 +235,7 @@ pub use Rattle.sercos_law_run.specs.Agenda.Stops.{AreTooLong, Check127HasCause, 
 pub use Rattle.sercos_law_run.specs.Agenda.Tasks.{AreBegunTasks, BeginsNoneEarly, BeginsTasks, Checks3, Checks4, EndsTasks, HasBegunTasks, HasEndedAt, HasEndedWell, IsBegunTask, IsTask, Lists3, Lists4, OfReads, OfWaiting, OfWrites}
 pub use Rattle.sercos_law_run.specs.Agenda.Turns.{HasTurn, WorkInTurn, WorksInFour, WorksInThree, WorksInTwo}
 pub use Rattle.sercos_law_run.specs.Agenda.Writes.{ConfiguresAtRise, ConfiguresFromCheck, IsConfigured, IsWrittenLast, WritesData, start_numbers}
-pub use Rattle.sercos_law_run.specs.Bounds.Bounds.{AreSections, AreShort, FewStatuses, FewWrites, IsBackAtOnce, IsBackLater, IsBelowGreatest, IsRefusedEarly, IsRefusedLate, IsReported, IsStarted, command_cycles, fall_cycles, greatest, least, listed, read_cycles, recovery_bound, refusal_cycles, return_cycles, section_cycles, slowest, spared_cycles, write_cycles}
+pub use Rattle.sercos_law_run.specs.Bounds.Bounds.{AreSections, AreShort, FewStatuses, FewWrites, IsBackAtOnce, IsBackLater, IsBelowGreatest, IsRefusedEarly, IsRefusedLate, IsReported, IsStarted, command_cycles, fall_cycles, greatest, least, listed, read_cycles, recovery_bound, refusal_cycles, return_cycles, section_cycles, slowest, spared_cycles, write_cycles, stop_cycles}
 pub use Rattle.sercos_law_run.specs.Headline.Cycles.{AreApartIn, HaveRealBits, StandsNoLater, phase_before, store_in_cycle, takes_part}
 pub use Rattle.sercos_law_run.specs.Headline.Headline.{KeepsAll}
 pub use Rattle.sercos_law_run.specs.Headline.Records.{AreOnce, HasEnded, NumbersAscend}

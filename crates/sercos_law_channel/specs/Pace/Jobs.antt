@@ -9,6 +9,7 @@ use Rattle.sercos_step.specs.declared.request.Request.{Request}
 use Rattle.sercos_step.specs.declared.request.Request.TheVariants as request
 use Rattle.sercos_block.specs.declared.block.Block.{Block}
 use Rattle.sercos_block.specs.Stores.{find_block}
+use Rattle.sercos_block.specs.Startup.{attribute_steps, list_steps, read_steps, request_steps, word_steps, write_steps}
 use Rattle.sercos_service_master.specs.Begun.{Begun}
 use Rattle.sercos_law_channel.specs.Pace.Costs.{cost_of, cost_in}
 
@@ -34,24 +35,24 @@ IsListBlock blocks idn = (b : Block) × (find_block idn.raw blocks ≡ Some b) �
 -- A read of one word costs four steps, of an attribute three, and of a list five and one for each of its words.
 abbrev pub WordReadCosts : ℕ → Type 0
 WordReadCosts busy = (time : ℕ) (longest : ℕ → ℕ) (blocks : List Block) (idn : Idn) → IsWord blocks idn →
-    cost_of busy time longest blocks (request.Read idn data_element) ≡ (busy + 1) * 4
+    cost_of busy time longest blocks (request.Read idn data_element) ≡ (busy + 1) * word_steps
 
 abbrev pub AttributeCosts : ℕ → Type 0
 AttributeCosts busy = (time : ℕ) (longest : ℕ → ℕ) (blocks : List Block) (idn : Idn) →
-    cost_of busy time longest blocks (request.Read idn attribute_element) ≤ (busy + 1) * 3
+    cost_of busy time longest blocks (request.Read idn attribute_element) ≤ (busy + 1) * attribute_steps
 
 abbrev pub ListReadCosts : ℕ → Type 0
 ListReadCosts busy = (time : ℕ) (longest : ℕ → ℕ) (blocks : List Block) (idn : Idn) → IsListBlock blocks idn →
-    cost_of busy time longest blocks (request.Read idn data_element) ≡ (busy + 1) * (5 + longest idn.raw)
+    cost_of busy time longest blocks (request.Read idn data_element) ≡ (busy + 1) * (list_steps + longest idn.raw)
 
 -- A write of one word costs four steps, and of a list of k words five and k.
 abbrev pub WordWriteCosts : ℕ → Type 0
 WordWriteCosts busy = (time : ℕ) (longest : ℕ → ℕ) (blocks : List Block) (idn : Idn) (bytes : List ℕ) → IsWord blocks idn →
-    length bytes ≤ 2 → cost_of busy time longest blocks (request.Write idn data_element bytes) ≤ (busy + 1) * 4
+    length bytes ≤ 2 → cost_of busy time longest blocks (request.Write idn data_element bytes) ≤ (busy + 1) * word_steps
 
 abbrev pub ListWriteCosts : ℕ → Type 0
 ListWriteCosts busy = (time : ℕ) (longest : ℕ → ℕ) (blocks : List Block) (idn : Idn) (bytes : List ℕ) (k : ℕ) → IsListBlock blocks idn →
-    length bytes ≤ 2 * k → cost_of busy time longest blocks (request.Write idn data_element bytes) ≤ (busy + 1) * (5 + k)
+    length bytes ≤ 2 * k → cost_of busy time longest blocks (request.Write idn data_element bytes) ≤ (busy + 1) * (list_steps + k)
 
 -- The reads of phase 2: six values of a word, and the attribute of each identifier number of both lists.
 abbrev pub reads_of : List Idn → List Idn → List Request
@@ -60,7 +61,7 @@ reads_of values idns = map (λ (idn : Idn). request.Read idn data_element) value
 
 abbrev pub ReadsCost : ℕ → Type 0
 ReadsCost busy = (time : ℕ) (longest : ℕ → ℕ) (blocks : List Block) (values idns : List Idn) → AreWords blocks values → length values ≡ 6 →
-    sum_by (cost_of busy time longest blocks) (reads_of values idns) ≤ (busy + 1) * (24 + 3 * length idns)
+    sum_by (cost_of busy time longest blocks) (reads_of values idns) ≤ (busy + 1) * (read_steps + attribute_steps * length idns)
 
 -- Writes of one word each: at most two bytes to operation data of one word.
 pub record IsWordWrite (blocks : List Block) (r : Request) : Type 0 where
@@ -81,7 +82,7 @@ WritesCost busy = (time : ℕ) (longest : ℕ → ℕ) (blocks : List Block) (be
     AreWordWrites blocks before → AreWordWrites blocks after → length before + length after ≡ 9 → IsListBlock blocks ats →
     IsListBlock blocks mdts → length at_bytes ≤ 2 * k → length mdt_bytes ≤ 2 * m →
     sum_by (cost_of busy time longest blocks) (before ++ request.Write ats data_element at_bytes ∷
-    request.Write mdts data_element mdt_bytes ∷ (after ++ request.Command command ∷ [])) ≤ (busy + 1) * (50 + (k + m)) + time
+    request.Write mdts data_element mdt_bytes ∷ (after ++ request.Command command ∷ [])) ≤ (busy + 1) * (write_steps + (k + m)) + time
 
 -- Any request with at most 1,024 bytes costs no more than this profile allows a request.
 abbrev pub IsShort : Request → Type 0
@@ -91,4 +92,4 @@ IsShort (request.Command idn) = Unit {0}
 
 abbrev pub RequestCosts : ℕ → Type 0
 RequestCosts busy = (time : ℕ) (longest : ℕ → ℕ) (blocks : List Block) (r : Request) → ((raw : ℕ) → longest raw ≤ 512) → IsShort r →
-    cost_of busy time longest blocks r ≤ (busy + 2) * (520 + time)
+    cost_of busy time longest blocks r ≤ (busy + 2) * (request_steps + time)

@@ -1,5 +1,5 @@
 -- The bounds, from sums over the drives.
-use Rattle.sercos_law_run.proofs.Words.{◌≡◌, ◌⊎◌, inl, inr, ℕ, zero, suc, ◌+◌, ◌*◌, ◌≤◌, List, [], ◌∷◌, ◌++◌, length, refl, ap, arith, max, ◌∙◌, sum_by, sum, sum_by-cons, DriveView, RingView, startup_bound, startup_of, listed, greatest, slowest, read_cycles, write_cycles, command_cycles, refusal_cycles, section_cycles, recovery_bound, FewWrites, FewStatuses, IsStarted, IsRefusedEarly, IsRefusedLate, AreShort, IsReported, IsBackAtOnce, IsBackLater, AreSections, IsBelowGreatest, times_le, one_of, times_suc}
+use Rattle.sercos_law_run.proofs.Words.{stop_cycles, ◌≡◌, ◌⊎◌, inl, inr, ℕ, zero, suc, ◌+◌, ◌*◌, ◌≤◌, List, [], ◌∷◌, ◌++◌, length, refl, ap, arith, max, ◌∙◌, sum_by, sum, sum_by-cons, DriveView, RingView, startup_bound, startup_of, listed, greatest, slowest, read_cycles, write_cycles, command_cycles, refusal_cycles, section_cycles, recovery_bound, FewWrites, FewStatuses, IsStarted, IsRefusedEarly, IsRefusedLate, AreShort, IsReported, IsBackAtOnce, IsBackLater, AreSections, IsBelowGreatest, times_le, one_of, times_suc}
 
 -- Products over plain numbers, each by itself, so that everything else is linear.
 pub times_sum : (p n k : ℕ) → p * (n + k) ≡ p * n + p * k
@@ -111,7 +111,7 @@ spared_or_none (d ∷ ring) = inr (spared_some (d ∷ ring) (omega arith))
 
 -- The sections of all drives but one, with a whole start-up and a refusal: that one leaves room for 140 cycles more.
 pub spared_back : (r : RingView) (before after : List DriveView) (d : DriveView) → r.drives ≡ before ++ d ∷ after → slowest r.drives ≤ 20
-    → sum_by section_cycles (before ++ after) + 140 + startup_bound r + 41 * (slowest r.drives + 2) ≤ recovery_bound r
+    → sum_by section_cycles (before ++ after) + 140 + startup_bound r + stop_cycles r ≤ recovery_bound r
 spared_back r before after d same slow =
     let shares = ap (sum_by startup_of) same ∙ sum_by-middle startup_of before after d in
     let slowest_of = ap (greatest (λ x. x.busy)) same ∙ greatest-middle (λ x. x.busy) before after d in

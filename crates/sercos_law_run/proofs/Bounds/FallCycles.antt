@@ -1,5 +1,5 @@
 -- In how many cycles a ring falls, if it does: what the sum over all drives but one says, and that this is within the fixed bound.
-use Rattle.sercos_law_run.proofs.Words.{◌≡◌, inl, inr, ℕ, zero, suc, ◌+◌, ◌*◌, ◌<◌, ◌≤◌, List, [], ◌∷◌, ◌++◌, length, refl, ap, ◌∙◌, arith, slice_index_or, sum_by, cases_lt, sum_by-cons, startup_bound, DriveView, RingView, fall_cycles, least, listed, recovery_bound, section_cycles, slowest, spared_cycles, no_drive, IsSpared}
+use Rattle.sercos_law_run.proofs.Words.{stop_cycles, ◌≡◌, inl, inr, ℕ, zero, suc, ◌+◌, ◌*◌, ◌<◌, ◌≤◌, List, [], ◌∷◌, ◌++◌, length, refl, ap, ◌∙◌, arith, slice_index_or, sum_by, cases_lt, sum_by-cons, startup_bound, DriveView, RingView, fall_cycles, least, listed, recovery_bound, section_cycles, slowest, spared_cycles, no_drive, IsSpared}
 use Rattle.sercos_law_run.proofs.Bounds.BoundSums.{are_sections, spared_back, sum_by-middle}
 
 -- THE LEAST is that of one of the drives, and no other has less.
@@ -52,12 +52,12 @@ spared_so r limit n some few =
 
 -- The fixed bound is no less than that of a fall, a start-up and a refusal: it leaves room for 72 cycles more.
 pub spared_room : (r : RingView) → 1 ≤ length r.drives → slowest r.drives ≤ 20 →
-    spared_cycles r + 140 + startup_bound r + 41 * (slowest r.drives + 2) ≤ recovery_bound r
+    spared_cycles r + 140 + startup_bound r + stop_cycles r ≤ recovery_bound r
 spared_room r some slow =
     let x = has_least section_cycles r.drives some in
     let sum = ap (sum_by section_cycles) x.are ∙ sum_by-middle section_cycles x.earlier x.later x.one in
     omega (arith, sum, x.is, spared_back r x.earlier x.later x.one x.are slow)
 
 pub fixed_room : (r : RingView) → 1 ≤ length r.drives → slowest r.drives ≤ 20 →
-    fall_cycles r + startup_bound r + 41 * (slowest r.drives + 2) ≤ recovery_bound r
+    fall_cycles r + startup_bound r + stop_cycles r ≤ recovery_bound r
 fixed_room r some slow = omega (arith, spared_room r some slow)

@@ -1,5 +1,5 @@
 -- So the ring is back in time after the last disturbed cycle: by the numbers of its drives, and within the fixed bound.
-use Rattle.sercos_law_run.proofs.Words.{◌≡◌, ◌⊎◌, inl, inr, ℕ, suc, ◌+◌, ◌*◌, ◌<◌, ◌≤◌, List, [], ◌∷◌, ◌++◌, length, Option, Some, sym, ap, ◌∙◌, subst, arith, length-append, slice_get, Job, startup_bound, RingView, slowest, CycleView, Carry, Restarts, IsClear, IsDisturbed, IsRun, IsOpened, HaveTold, left_after, request_cycles, fall_cycles, return_cycles, recovery_bound, TellsNoFall, AreUndisturbed, IsUndisturbed, drive_at, IsBack, IsRight, RecoversIn, start_costs}
+use Rattle.sercos_law_run.proofs.Words.{stop_cycles, ◌≡◌, ◌⊎◌, inl, inr, ℕ, suc, ◌+◌, ◌*◌, ◌<◌, ◌≤◌, List, [], ◌∷◌, ◌++◌, length, Option, Some, sym, ap, ◌∙◌, subst, arith, length-append, slice_get, Job, startup_bound, RingView, CycleView, Carry, Restarts, IsClear, IsDisturbed, IsRun, IsOpened, HaveTold, left_after, request_cycles, fall_cycles, return_cycles, recovery_bound, TellsNoFall, AreUndisturbed, IsUndisturbed, drive_at, IsBack, IsRight, RecoversIn, start_costs}
 use Rattle.sercos_law_run.proofs.Bounds.FallCycles.{fixed_room}
 use Rattle.sercos_law_run.proofs.Undisturbed.Arriving.Small.{first_is, never_both}
 use Rattle.sercos_law_run.proofs.Undisturbed.Cited.{never_stops_in_four}
@@ -58,10 +58,10 @@ module _ (r : RingView) (jobs : List Job) (carry : Carry) (restarts : Restarts) 
     tells_after long = tells_since r jobs carry restarts opened Calm (calm_is_sparse r carry restarts) lost before 66 at_most
         (λ first is late. is) never t cycles run clear those (let free = none in omega (arith, free, long))
 
-    back_after : length before + return_cycles r + 41 * (slowest r.drives + 2) ≤ length (cycles ++ lost ∷ before)
+    back_after : length before + return_cycles r + stop_cycles r ≤ length (cycles ++ lost ∷ before)
         → IsBack r t (cycles ++ lost ∷ before)
     back_after long = back_since r jobs carry restarts opened Calm (calm_is_sparse r carry restarts) lost before 66 at_most
-        (λ first is late. is) never t cycles run clear those (41 * (slowest r.drives + 2)) (ends_at r jobs carry restarts opened t)
+        (λ first is late. is) never t cycles run clear those (stop_cycles r) (ends_at r jobs carry restarts opened t)
         (let free = none in omega (arith, free, long))
 
     rises_after : IsRight r → length before + return_cycles r ≤ length (cycles ++ lost ∷ before) → t.phase ≡ 4
@@ -197,7 +197,7 @@ module _ (r : RingView) (jobs : List Job) (carry : Carry) (restarts : Restarts) 
     tells_now : length before + fall_cycles r ≤ length j → TellsNoFall t
     tells_now long = tells_after lost before t cycles run_is clear_is calm (let same = ap length is in omega (arith, same, long))
 
-    back_now : length before + return_cycles r + 41 * (slowest r.drives + 2) ≤ length j → IsBack r t j
+    back_now : length before + return_cycles r + stop_cycles r ≤ length j → IsBack r t j
     back_now long = subst (IsBack r t) (sym is) (back_after lost before t cycles run_is clear_is calm
         (let same = ap length is in omega (arith, same, long)))
 
@@ -215,7 +215,7 @@ module _ (r : RingView) (jobs : List Job) (carry : Carry) (restarts : Restarts) 
         (let same = ap length is in let times = one_more_time i (request_cycles r k) in omega (arith, same, times, long)) most)
 
   -- THE FIXED BOUND is longer.
-  fixed : fall_cycles r + startup_bound r + 41 * (slowest r.drives + 2) ≤ recovery_bound r
+  fixed : fall_cycles r + startup_bound r + stop_cycles r ≤ recovery_bound r
   fixed = fixed_room r (some_drive r jobs carry restarts opened)
       (greatest_low (λ x. x.busy) 20 r.drives (λ k low. busy_low r k opened.valid low))
 

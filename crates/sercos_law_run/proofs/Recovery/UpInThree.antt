@@ -1,5 +1,5 @@
 -- How long phase 3 lasts for a drive that isn't in phase 0.
-use Rattle.sercos_law_run.proofs.Words.{◌≡◌, ℕ, suc, ◌+◌, ◌*◌, ◌<◌, ◌≤◌, true, List, [], ◌∷◌, ◌++◌, length, Option, Some, None, refl, sym, ap, ◌∙◌, subst, arith, is_some, slice_get, Job, Outcome, PlanView, blocks_fault, RingView, command_cycles, slowest, Begun, open_in, CycleView, is_checked, reads_count, known_of, member, tasks_for, ended_there, Past, outcomes, Carry, Restarts, epoch_begun, drive_at, looks_back, master_calls, middle, IsClear, IsRun, behind_mdt, views_of, IsOpened, jobs_of, AreAt, AreInThree, IsDown, IsStretch, list_read_costs}
+use Rattle.sercos_law_run.proofs.Words.{stop_cycles, ◌≡◌, ℕ, suc, ◌+◌, ◌*◌, ◌<◌, ◌≤◌, true, List, [], ◌∷◌, ◌++◌, length, Option, Some, None, refl, sym, ap, ◌∙◌, subst, arith, is_some, slice_get, Job, Outcome, PlanView, blocks_fault, RingView, command_cycles, slowest, Begun, open_in, CycleView, is_checked, reads_count, known_of, member, tasks_for, ended_there, Past, outcomes, Carry, Restarts, epoch_begun, drive_at, looks_back, master_calls, middle, IsClear, IsRun, behind_mdt, views_of, IsOpened, jobs_of, AreAt, AreInThree, IsDown, IsStretch, list_read_costs}
 use Rattle.sercos_law_run.proofs.Start.CheckPasses.{ring_drive}
 use Rattle.sercos_law_run.proofs.Views.Members.{members_count}
 use Rattle.sercos_law_run.proofs.Held.Runs.{drive_got}
@@ -104,7 +104,7 @@ LastsInThree r jobs carry restarts tail = (k : ℕ) → k < length r.drives → 
 
 module _ (r : RingView) (jobs : List Job) (carry : Carry) (restarts : Restarts) (opened : IsOpened r jobs) where
   -- these are 41 steps of the slowest drive, in which a check's list is read
-  pub lasts_with_list : LastsInThree r jobs carry restarts (41 * (slowest r.drives + 2))
+  pub lasts_with_list : LastsInThree r jobs carry restarts (stop_cycles r)
   lasts_with_list k below [] first before run clear stretch three up = omega arith
   lasts_with_list k below (t ∷ cycles) first before run clear stretch three up =
       let lasts = with_list r jobs carry restarts opened k below t cycles first before run clear stretch three up in

@@ -1,5 +1,5 @@
 -- How a start-up ends while disturbed cycles are sparse.
-use Rattle.sercos_law_run.proofs.Words.{cases_Option, ◌≡◌, inl, inr, ℕ, suc, ◌+◌, ◌*◌, ◌<◌, ◌≤◌, List, [], ◌∷◌, ◌++◌, length, None, refl, subst, arith, cases_lt, Job, startup_bound, store_of, RingView, CycleView, known_of, Carry, Restarts, epoch_begun, cost_in, cost_of, command_cycles, slowest, drive_at, looks_back, master_calls, IsClear, IsRun, behind_mdt, views_of, IsOpened, StartsEpoch, NoneFalls, IsRight, early_costs, IsUpOrStopped, disturbances, start_costs, AreSparse, list_read_costs}
+use Rattle.sercos_law_run.proofs.Words.{stop_cycles, cases_Option, ◌≡◌, inl, inr, ℕ, suc, ◌+◌, ◌*◌, ◌<◌, ◌≤◌, List, [], ◌∷◌, ◌++◌, length, None, refl, subst, arith, cases_lt, Job, startup_bound, store_of, RingView, CycleView, known_of, Carry, Restarts, epoch_begun, cost_in, cost_of, command_cycles, slowest, drive_at, looks_back, master_calls, IsClear, IsRun, behind_mdt, views_of, IsOpened, StartsEpoch, NoneFalls, IsRight, early_costs, IsUpOrStopped, disturbances, start_costs, AreSparse, list_read_costs}
 use Rattle.sercos_law_run.proofs.Start.CheckPasses.{ring_drive}
 use Rattle.sercos_law_run.proofs.Held.Runs.{drive_got}
 use Rattle.sercos_law_run.proofs.Headline.HeadlineRuns.{first_store}
@@ -109,16 +109,16 @@ module _ (r : RingView) (jobs : List Job) (carry : Carry) (restarts : Restarts) 
   -- THE END
   pub ends_at : (t : CycleView) (cycles before : List CycleView) → IsRun r jobs carry restarts (t ∷ (cycles ++ before))
       → IsClear (t ∷ (cycles ++ before)) → Base before → AreSparse r carry restarts (t ∷ cycles) before
-      → startup_bound r + 41 * (slowest r.drives + 2) + start_costs r jobs carry restarts cycles before ≤ length cycles
+      → startup_bound r + stop_cycles r + start_costs r jobs carry restarts cycles before ≤ length cycles
       → IsAtEnd r jobs carry restarts t (cycles ++ before)
   ends_at t cycles before run clear starts sparse long = end_at t (cycles ++ before) run clear
-      (never_late (41 * (slowest r.drives + 2)) t cycles before run clear starts sparse long ⊥ three_long)
+      (never_late (stop_cycles r) t cycles before run clear starts sparse long ⊥ three_long)
     where
       three_long : (u : CycleView) (rest : List CycleView) → cycles ≡ u ∷ rest → Epoch (u ∷ rest) before → u.phase ≡ 3
           → (looks_back r jobs (master_calls r carry restarts (u ∷ (rest ++ before)))).now.phase ≡ 3
           → (looks_back r jobs (master_calls r carry restarts (u ∷ (rest ++ before)))).stop ≡ None
           → IsUnready r jobs carry restarts opened u (rest ++ before)
-          → startup_bound r + 41 * (slowest r.drives + 2) + (early_costs r jobs carry restarts (u ∷ rest) before + disturbances r carry
+          → startup_bound r + stop_cycles r + (early_costs r jobs carry restarts (u ∷ rest) before + disturbances r carry
           restarts (u ∷ rest) before) ≤ suc (length rest) → ⊥
       three_long u rest is e was_three then_three none last enough =
           let most = is_below_greatest command_cycles r.drives last.place (drive_at r last.place) (command_cycles (drive_at r last.place))
@@ -153,7 +153,7 @@ module _ (r : RingView) (jobs : List Job) (carry : Carry) (restarts : Restarts) 
 
   pub ends_sparse : (t : CycleView) (cycles before : List CycleView) → IsRun r jobs carry restarts (t ∷ (cycles ++ before))
       → IsClear (t ∷ (cycles ++ before)) → StartsEpoch r jobs carry restarts before → AreSparse r carry restarts (t ∷ cycles) before
-      → startup_bound r + 41 * (slowest r.drives + 2) + start_costs r jobs carry restarts cycles before ≤ length cycles
+      → startup_bound r + stop_cycles r + start_costs r jobs carry restarts cycles before ≤ length cycles
       → IsUpOrStopped r t cycles
   ends_sparse t cycles before run clear starts sparse long = since_told t cycles before run clear starts sparse
       (ends_at t cycles before run clear (inl starts) sparse long)

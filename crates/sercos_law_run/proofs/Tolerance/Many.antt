@@ -1,5 +1,5 @@
 -- Phase 4 begins in time while disturbed cycles are sparse, however many they are, if the ring is right; else a stop is reported.
-use Rattle.sercos_law_run.proofs.Words.{◌≡◌, inl, ℕ, suc, ◌+◌, ◌*◌, ◌<◌, ◌≤◌, List, [], ◌∷◌, ◌++◌, length, None, refl, sym, ◌∙◌, subst, arith, sum_by, Job, times_le, store_of, DriveView, RingView, CycleView, known_of, is_done, Carry, Restarts, epoch_begun, epoch_log, listed, slowest, drive_at, looks_back, master_calls, IsClear, IsRun, behind_mdt, views_of, IsOpened, StartsEpoch, IsRight, IsUpOrStopped, own_costs, slow_bound, slow_startup_of, AreSparse, in_cost, AreListed, cost_in, cost_of, command_cycles}
+use Rattle.sercos_law_run.proofs.Words.{stop_cycles, ◌≡◌, inl, ℕ, suc, ◌+◌, ◌*◌, ◌<◌, ◌≤◌, List, [], ◌∷◌, ◌++◌, length, None, refl, sym, ◌∙◌, subst, arith, sum_by, Job, times_le, store_of, DriveView, RingView, CycleView, known_of, is_done, Carry, Restarts, epoch_begun, epoch_log, listed, drive_at, looks_back, master_calls, IsClear, IsRun, behind_mdt, views_of, IsOpened, StartsEpoch, IsRight, IsUpOrStopped, own_costs, slow_bound, slow_startup_of, AreSparse, in_cost, AreListed, cost_in, cost_of, command_cycles}
 use Rattle.sercos_law_run.proofs.Start.CheckPasses.{ring_drive}
 use Rattle.sercos_law_run.proofs.Held.Runs.{drive_got, small}
 use Rattle.sercos_law_run.proofs.Headline.HeadlineRuns.{all_stand, first_store}
@@ -187,15 +187,15 @@ module _ (r : RingView) (jobs : List Job) (carry : Carry) (restarts : Restarts) 
   -- THE END in any case
   pub ends_anyway : (t : CycleView) (cycles before : List CycleView) → IsRun r jobs carry restarts (t ∷ (cycles ++ before))
       → IsClear (t ∷ (cycles ++ before)) → StartsEpoch r jobs carry restarts before → AreSparse r carry restarts (t ∷ cycles) before
-      → slow_bound r + 41 * (slowest r.drives + 2) + own_costs r jobs carry restarts cycles before ≤ length cycles
+      → slow_bound r + stop_cycles r + own_costs r jobs carry restarts cycles before ≤ length cycles
       → IsUpOrStopped r t cycles
   ends_anyway t cycles before run clear starts sparse long =
       let epoch : Epoch (t ∷ cycles) before = record { run = run; clear = clear; sparse = sparse } in
       since_told r jobs carry restarts opened t cycles before run clear starts sparse
-      (end_at r jobs carry restarts opened t (cycles ++ before) run clear (λ low none. never_so_late 42 (41 * (slowest r.drives + 2)) room t cycles before starts epoch few long (λ is_two. none)
+      (end_at r jobs carry restarts opened t (cycles ++ before) run clear (λ low none. never_so_late 42 (stop_cycles r) room t cycles before starts epoch few long (λ is_two. none)
       (not_yet r jobs carry restarts opened t cycles before run clear (inl starts) sparse (omega (arith, long)) low (λ is_three. none))))
     where
-      room : (k : ℕ) → k < length r.drives → ((drive_at r k).busy + 2) * 42 ≤ 41 * (slowest r.drives + 2) + (drive_at r k).busy + 2
+      room : (k : ℕ) → k < length r.drives → ((drive_at r k).busy + 2) * 42 ≤ stop_cycles r + (drive_at r k).busy + 2
       room k below = omega (
         arith,
         (is_below_greatest (λ d. d.busy) r.drives k (drive_at r k)

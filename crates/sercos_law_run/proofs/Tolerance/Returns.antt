@@ -1,5 +1,5 @@
 -- After the last faults that aren't sparse the ring returns in time, while sparse ones go on.
-use Rattle.sercos_law_run.proofs.Words.{◌≡◌, inl, inr, ◌+◌, ◌*◌, ◌≤◌, List, [], ◌∷◌, ◌++◌, length, refl, sym, ap, ◌∙◌, subst, arith, cases_lt, Job, startup_bound, RingView, CycleView, Carry, Restarts, recovery_bound, slowest, spared_cycles, IsClear, IsDisturbed, IsRun, IsOpened, TellsNoFall, IsUndisturbed, BeginsAnew, HasFallen, ReturnsSparse, start_costs, AreSparse, IsSparse, IsBack}
+use Rattle.sercos_law_run.proofs.Words.{stop_cycles, ◌≡◌, inl, inr, ◌+◌, ◌*◌, ◌≤◌, List, [], ◌∷◌, ◌++◌, length, refl, sym, ap, ◌∙◌, subst, arith, cases_lt, Job, startup_bound, RingView, CycleView, Carry, Restarts, recovery_bound, spared_cycles, IsClear, IsDisturbed, IsRun, IsOpened, TellsNoFall, IsUndisturbed, BeginsAnew, HasFallen, ReturnsSparse, start_costs, AreSparse, IsSparse, IsBack}
 use Rattle.sercos_law_run.proofs.Bounds.FallCycles.{spared_room}
 use Rattle.sercos_law_run.proofs.Undisturbed.Arriving.Small.{never_both}
 use Rattle.sercos_law_run.proofs.Undisturbed.GoingCycles.{AreAll}
@@ -46,7 +46,7 @@ each_sparse r carry restarts (t ∷ cycles) before sparse = (each_sparse r carry
 
 module _ (r : RingView) (jobs : List Job) (carry : Carry) (restarts : Restarts) (opened : IsOpened r jobs) where
   -- all of this has room in the bound
-  room : spared_cycles r + 140 + startup_bound r + 41 * (slowest r.drives + 2) ≤ recovery_bound r
+  room : spared_cycles r + 140 + startup_bound r + stop_cycles r ≤ recovery_bound r
   room = spared_room r (some_drive r jobs carry restarts opened) (greatest_low (λ x. x.busy) 20 r.drives (λ k low. busy_low r k opened.valid low))
 
   -- AFTER A DISTURBED CYCLE
@@ -75,7 +75,7 @@ module _ (r : RingView) (jobs : List Job) (carry : Carry) (restarts : Restarts) 
       pub back_again : IsBack r t (cycles ++ lost ∷ before)
       back_again = back_since r jobs carry restarts opened (IsSparse r carry restarts) (λ u j is. is) lost before 67 (omega arith)
           first_calm
-          second_so t cycles run clear (each_sparse r carry restarts (t ∷ cycles) (lost ∷ before) sparse) (41 * (slowest r.drives + 2))
+          second_so t cycles run clear (each_sparse r carry restarts (t ∷ cycles) (lost ∷ before) sparse) (stop_cycles r)
           (ends_at r jobs carry restarts opened t) (let some_room = room in omega (arith, some_room, long))
 
       pub tells_again : TellsNoFall t

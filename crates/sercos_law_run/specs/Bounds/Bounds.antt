@@ -2,7 +2,7 @@
 use Rattle.std.specs.Prelude.{◌≡◌, ℕ, ◌+◌, ◌*◌, ◌≤◌, ◌-◌, ◌⊎◌, List, [], ◌∷◌, ◌++◌, length, max, min, Some, slice_get}
 use Rattle.std.specs.List.{sum_by, sum}
 use Rattle.sercos_block.specs.Views.{DriveView, RingView}
-use Rattle.sercos_block.specs.Startup.{startup_bound}
+use Rattle.sercos_block.specs.Startup.{attribute_steps, change_cycles, command_steps, early_cycles, identifying_cycles, read_steps, request_steps, startup_bound, stop_steps, write_steps}
 
 -- how many identifier numbers the lists of a drive's two telegrams have together
 abbrev pub listed : DriveView → ℕ
@@ -24,15 +24,15 @@ recovery_bound r = 2 * startup_bound r + 200
 -- In how many cycles a drive's channel has an open step, where each answer takes its busy time and one cycle more. In phase 2 it
 -- reads six values of a word, with four answers each, and the attribute of each listed block, with three.
 abbrev pub read_cycles : DriveView → ℕ
-read_cycles d = (d.busy + 1) * (24 + 3 * listed d)
+read_cycles d = (d.busy + 1) * (read_steps + attribute_steps * listed d)
 
 -- Then it writes nine values of a word and the two lists, with five answers and one for each of their identifier numbers, and sets
 -- the first check. In phase 3 it sets the second check.
 abbrev pub write_cycles : DriveView → ℕ
-write_cycles d = (d.busy + 1) * (50 + listed d) + d.command
+write_cycles d = (d.busy + 1) * (write_steps + listed d) + d.command
 
 abbrev pub command_cycles : DriveView → ℕ
-command_cycles d = (d.busy + 1) * 4 + d.command
+command_cycles d = (d.busy + 1) * command_steps + d.command
 
 -- A command reads its status as long as it runs, and once more. With `polls` such reads the writes of phase 2 have 49 answers, and one
 -- for each identifier number and poll: they fit into their cycles. So does the command of phase 3, with three answers and the polls.
@@ -46,23 +46,27 @@ FewStatuses = (d : DriveView) (polls : ℕ) → (d.busy + 1) * polls ≤ d.comma
 -- Phase 2 is commanded first in a cycle `two`, phase 3 in `three` and phase 4 in `four`. In phase 2 one drive is read or written after
 -- the other; in phase 3 the commands of all drives run side by side. Then phase 4 begins within the bound of a start-up.
 abbrev pub IsStarted : Type 0
-IsStarted = (r : RingView) (two three four : ℕ) → two ≤ 12 + 2 * length r.drives →
-    three ≤ two + sum_by read_cycles r.drives + sum_by write_cycles r.drives + 4 →
-    four ≤ three + greatest command_cycles r.drives + 4 → four ≤ startup_bound r
+IsStarted = (r : RingView) (two three four : ℕ) → two ≤ early_cycles + identifying_cycles * length r.drives →
+    three ≤ two + sum_by read_cycles r.drives + sum_by write_cycles r.drives + change_cycles →
+    four ≤ three + greatest command_cycles r.drives + change_cycles → four ≤ startup_bound r
 
 -- A stop in phase 2, because no plan fits or a drive refuses a value, is within that bound too.
 abbrev pub IsRefusedEarly : Type 0
-IsRefusedEarly = (r : RingView) (two stop : ℕ) → two ≤ 12 + 2 * length r.drives →
-    stop ≤ two + sum_by read_cycles r.drives + sum_by write_cycles r.drives + 4 → stop ≤ startup_bound r
+IsRefusedEarly = (r : RingView) (two stop : ℕ) → two ≤ early_cycles + identifying_cycles * length r.drives →
+    stop ≤ two + sum_by read_cycles r.drives + sum_by write_cycles r.drives + change_cycles → stop ≤ startup_bound r
 
--- One in phase 3 follows the read of the list of the blocks that the check refuses: 36 identifier numbers, with 41 answers.
+-- One in phase 3 follows the read of the list of the blocks that the check refuses.
 abbrev pub refusal_cycles : DriveView → ℕ
-refusal_cycles d = command_cycles d + 41 * (d.busy + 1)
+refusal_cycles d = command_cycles d + stop_steps * (d.busy + 1)
+
+-- what this profile allows it after the bound of a start-up: the steps of that read, each with the longest busy time and two cycles more
+abbrev pub stop_cycles : RingView → ℕ
+stop_cycles r = stop_steps * (slowest r.drives + 2)
 
 abbrev pub IsRefusedLate : Type 0
-IsRefusedLate = (r : RingView) (two three stop : ℕ) → two ≤ 12 + 2 * length r.drives →
-    three ≤ two + sum_by read_cycles r.drives + sum_by write_cycles r.drives + 4 →
-    stop ≤ three + greatest refusal_cycles r.drives + 4 → stop ≤ startup_bound r + 41 * (slowest r.drives + 2)
+IsRefusedLate = (r : RingView) (two three stop : ℕ) → two ≤ early_cycles + identifying_cycles * length r.drives →
+    three ≤ two + sum_by read_cycles r.drives + sum_by write_cycles r.drives + change_cycles →
+    stop ≤ three + greatest refusal_cycles r.drives + change_cycles → stop ≤ startup_bound r + stop_cycles r
 
 -- The requests to a drive, one after the other from phase 4 on, have these numbers of answers: each at most 517, or those of a command,
 -- which reads its status while it runs.
@@ -75,17 +79,17 @@ AreShort d (n ∷ counts) = AreShort d counts × ((n ≤ 517) ⊎ ((d.busy + 1) 
 abbrev pub IsReported : Type 0
 IsReported = (d : DriveView) (counts : List ℕ) (limit four cycle : ℕ) → AreShort d counts → four ≤ limit →
     cycle ≤ four + (d.busy + 1) * sum counts →
-    cycle ≤ limit + length counts * ((d.busy + 2) * (520 + d.command))
+    cycle ≤ limit + length counts * ((d.busy + 2) * (request_steps + d.command))
 
 -- A recovery without a fall after the last disturbed cycle `lost`: what was left of the start-up took no longer than a whole one, or a
 -- refusal.
 abbrev pub IsBackAtOnce : Type 0
-IsBackAtOnce = (r : RingView) (lost cycle : ℕ) → cycle ≤ lost + startup_bound r + 41 * (slowest r.drives + 2) → 1 ≤ length r.drives →
+IsBackAtOnce = (r : RingView) (lost cycle : ℕ) → cycle ≤ lost + startup_bound r + stop_cycles r → 1 ≤ length r.drives →
     cycle ≤ lost + recovery_bound r
 
 -- the longer of the two sections that a drive has in phase 2
 abbrev pub section_cycles : DriveView → ℕ
-section_cycles d = (d.busy + 1) * max (24 + 3 * listed d) (50 + listed d) + d.command
+section_cycles d = (d.busy + 1) * max (read_steps + attribute_steps * listed d) (write_steps + listed d) + d.command
 
 -- the least of a number of each drive, and 0 without drives
 abbrev pub least : (DriveView → ℕ) → List DriveView → ℕ
@@ -114,7 +118,7 @@ abbrev pub IsBackLater : Type 0
 IsBackLater = (r : RingView) (before after : List DriveView) (d : DriveView) (lost fall cycle : ℕ) → r.drives ≡ before ++ d ∷ after →
     slowest r.drives ≤ 20 →
     fall ≤ lost + 67 + sum_by section_cycles (before ++ after) →
-    cycle ≤ fall + 1 + startup_bound r + 41 * (slowest r.drives + 2) → cycle ≤ lost + recovery_bound r
+    cycle ≤ fall + 1 + startup_bound r + stop_cycles r → cycle ≤ lost + recovery_bound r
 
 -- Side by side: a number of cycles within the bound of one drive is within the largest of the bounds.
 abbrev pub IsBelowGreatest : Type 0

@@ -3,7 +3,7 @@ use Rattle.std.specs.Prelude.{◌≡◌, ◌⊎◌, ℕ, ◌+◌, ◌*◌, ◌<�
 use Rattle.sercos_step.specs.declared.request.Job.{Job}
 use Rattle.sercos_block.specs.Startup.{startup_bound}
 use Rattle.sercos_block.specs.Views.{RingView}
-use Rattle.sercos_law_run.specs.Bounds.Bounds.{slowest}
+use Rattle.sercos_law_run.specs.Bounds.Bounds.{stop_cycles}
 use Rattle.sercos_service_master.specs.Begun.{answers_it}
 use Rattle.sercos_trace.specs.Views.{CycleView}
 use Rattle.sercos_trace.specs.declared.events.Fall.{Fall}
@@ -38,7 +38,7 @@ pub record StartsAgain (r : RingView) (jobs : List Job) (carry : Carry) (restart
   pub right : t.phase ≡ 4 → IsRight r
   pub fit : 3 ≤ t.phase → IsFit r
   pub stays : (u : CycleView) (older : List CycleView) → cycles ≡ u ∷ older → u.phase ≡ 4 → t.phase ≡ 4
-  pub ends : startup_bound r + 41 * (slowest r.drives + 2) ≤ length cycles → ((t.phase ≡ 4) × IsRight r) ⊎
+  pub ends : startup_bound r + stop_cycles r ≤ length cycles → ((t.phase ≡ 4) × IsRight r) ⊎
       ((x : Stop) × HasTold x (t ∷ cycles) × StopsForCause r x)
   pub once : (x y : Stop) → HasTold x cycles → t.events.stop ≡ Some y → ⊥
   pub ages : (k : ℕ) → k < length r.drives → age_in (views_of r jobs carry restarts k (t ∷ (cycles ++ before))) ≤ (drive_at r k).busy + 1

@@ -3,7 +3,7 @@ use Rattle.std.specs.Prelude.{◌≡◌, ◌⊎◌, ℕ, ◌+◌, ◌*◌, ◌<�
 use Rattle.sercos_step.specs.declared.request.Job.{Job}
 use Rattle.sercos_block.specs.Startup.{startup_bound}
 use Rattle.sercos_block.specs.Views.{RingView}
-use Rattle.sercos_law_run.specs.Bounds.Bounds.{slowest}
+use Rattle.sercos_law_run.specs.Bounds.Bounds.{stop_cycles}
 use Rattle.sercos_trace.specs.Views.{CycleView}
 use Rattle.sercos_script.specs.Links.{Carry, Restarts}
 use Rattle.sercos_law_run.specs.Journal.Runs.{IsClear, IsRun}
@@ -19,5 +19,5 @@ ComesBack = (r : RingView) (jobs : List Job) (carry : Carry) (restarts : Restart
     IsRun r jobs carry restarts (t ∷ (cycles ++ first ∷ before)) → IsClear (t ∷ (cycles ++ first ∷ before)) →
     IsStretch r jobs carry restarts (t ∷ cycles) first before → 2 ≤ first.phase →
     ((k : ℕ) → k < length r.drives → IsDown r jobs carry restarts k (first ∷ before) → ⊥) →
-    startup_bound r + 41 * (slowest r.drives + 2) ≤ length cycles + 1 →
+    startup_bound r + stop_cycles r ≤ length cycles + 1 →
     (t.phase ≡ 4) ⊎ (is_some (behind_mdt r jobs carry restarts t.sent (cycles ++ first ∷ before)).stop ≡ true)

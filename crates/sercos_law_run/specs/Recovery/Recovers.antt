@@ -2,7 +2,7 @@
 use Rattle.std.specs.Prelude.{◌≡◌, ◌⊎◌, ℕ, ◌+◌, ◌*◌, ◌<◌, ◌≤◌, List, [], ◌∷◌, ◌++◌, length, Option, Some, None, slice_get}
 use Rattle.sercos_step.specs.declared.request.Job.{Job}
 use Rattle.sercos_block.specs.Views.{RingView}
-use Rattle.sercos_law_run.specs.Bounds.Bounds.{fall_cycles, recovery_bound, return_cycles, slowest}
+use Rattle.sercos_law_run.specs.Bounds.Bounds.{fall_cycles, recovery_bound, return_cycles, stop_cycles}
 use Rattle.sercos_trace.specs.Views.{CycleView}
 use Rattle.sercos_trace.specs.declared.events.Fall.{Fall}
 use Rattle.sercos_trace.specs.declared.events.Stop.{Stop}
@@ -38,7 +38,7 @@ pub record ReturnsIn (r : RingView) (jobs : List Job) (carry : Carry) (restarts 
       AreUndisturbed r carry restarts (t ∷ cycles) (lost ∷ before) → length before + return_cycles r ≤ length j → IsRight r → t.phase ≡ 4
   pub back : (cycles before : List CycleView) (lost : CycleView) → j ≡ cycles ++ lost ∷ before →
       AreUndisturbed r carry restarts (t ∷ cycles) (lost ∷ before) →
-      length before + return_cycles r + 41 * (slowest r.drives + 2) ≤ length j → IsBack r t j
+      length before + return_cycles r + stop_cycles r ≤ length j → IsBack r t j
   pub reports : (cycles before : List CycleView) (lost : CycleView) → j ≡ cycles ++ lost ∷ before →
       AreUndisturbed r carry restarts (t ∷ cycles) (lost ∷ before) → t.phase ≡ 4 → (k i : ℕ) (x : Option ℕ) → k < length r.drives →
       slice_get (left_after r jobs carry restarts (lost ∷ before) k) i ≡ Some x →

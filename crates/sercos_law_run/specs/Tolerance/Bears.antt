@@ -12,7 +12,7 @@ use Rattle.sercos_law_channel.specs.Handshake.Epochs.{epoch_begun}
 use Rattle.sercos_law_channel.specs.Handshake.Views.{Heard, View, standing, stood_in}
 use Rattle.sercos_law_channel.specs.Pace.Ages.{age_in}
 use Rattle.sercos_law_channel.specs.Pace.Passages.{IsUp}
-use Rattle.sercos_law_run.specs.Bounds.Bounds.{slowest}
+use Rattle.sercos_law_run.specs.Bounds.Bounds.{stop_cycles}
 use Rattle.sercos_law_run.specs.Journal.Runs.{drive_at, IsClear, IsRun}
 use Rattle.sercos_law_run.specs.Views.RingViews.{view_of, views_of}
 use Rattle.sercos_law_run.specs.Held.Opened.{IsOpened}
@@ -70,9 +70,9 @@ pub record Bears (r : RingView) (jobs : List Job) (carry : Carry) (restarts : Re
   pub rises : IsRight r → startup_bound r + start_costs r jobs carry restarts cycles before ≤ length cycles → t.phase ≡ 4
   pub stays : (u : CycleView) (older : List CycleView) → cycles ≡ u ∷ older → u.phase ≡ 4 → t.phase ≡ 4
   pub rises_anyway : IsRight r → slow_bound r + own_costs r jobs carry restarts cycles before ≤ length cycles → t.phase ≡ 4
-  pub ends : startup_bound r + 41 * (slowest r.drives + 2) + start_costs r jobs carry restarts cycles before ≤ length cycles →
+  pub ends : startup_bound r + stop_cycles r + start_costs r jobs carry restarts cycles before ≤ length cycles →
       IsUpOrStopped r t cycles
-  pub ends_anyway : slow_bound r + 41 * (slowest r.drives + 2) + own_costs r jobs carry restarts cycles before ≤ length cycles →
+  pub ends_anyway : slow_bound r + stop_cycles r + own_costs r jobs carry restarts cycles before ≤ length cycles →
       IsUpOrStopped r t cycles
   pub reports : (k i : ℕ) (x : Task) → k < length r.drives → slice_get (waiting_after r jobs carry restarts before k) i ≡ Some x →
       (i + 1) * request_cycles r k ≤ cycles_commanded 4 cycles → (number : ℕ) × (x.number ≡ Some number) × HaveTold (t ∷ cycles) number

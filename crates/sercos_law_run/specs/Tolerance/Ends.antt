@@ -6,7 +6,7 @@ use Rattle.sercos_block.specs.Views.{RingView}
 use Rattle.sercos_trace.specs.Views.{CycleView}
 use Rattle.sercos_trace.specs.declared.events.Stop.{Stop}
 use Rattle.sercos_script.specs.Links.{Carry, Restarts}
-use Rattle.sercos_law_run.specs.Bounds.Bounds.{slowest}
+use Rattle.sercos_law_run.specs.Bounds.Bounds.{stop_cycles}
 use Rattle.sercos_law_run.specs.Journal.Runs.{IsClear, IsRun}
 use Rattle.sercos_law_run.specs.Held.Opened.{IsOpened}
 use Rattle.sercos_law_run.specs.Undisturbed.EpochStarts.{StartsEpoch}
@@ -26,5 +26,5 @@ abbrev pub EndsSparse : Type 0
 EndsSparse = (r : RingView) (jobs : List Job) (carry : Carry) (restarts : Restarts) (t : CycleView) (cycles before : List CycleView) →
     IsOpened r jobs → IsRun r jobs carry restarts (t ∷ (cycles ++ before)) → IsClear (t ∷ (cycles ++ before)) →
     StartsEpoch r jobs carry restarts before → AreSparse r carry restarts (t ∷ cycles) before →
-    startup_bound r + 41 * (slowest r.drives + 2) + start_costs r jobs carry restarts cycles before ≤ length cycles
+    startup_bound r + stop_cycles r + start_costs r jobs carry restarts cycles before ≤ length cycles
     → IsUpOrStopped r t cycles

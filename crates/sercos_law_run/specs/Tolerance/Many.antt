@@ -3,10 +3,11 @@
 use Rattle.std.specs.Prelude.{◌≡◌, ℕ, ◌+◌, ◌*◌, ◌≤◌, ◌==◌, if◌then◌else◌, List, [], ◌∷◌, ◌++◌, length}
 use Rattle.std.specs.List.{sum_by}
 use Rattle.sercos_step.specs.declared.request.Job.{Job}
+use Rattle.sercos_block.specs.Startup.{change_cycles, early_cycles, identifying_cycles, start_steps_of}
 use Rattle.sercos_block.specs.Views.{DriveView, RingView}
 use Rattle.sercos_trace.specs.Views.{CycleView}
 use Rattle.sercos_script.specs.Links.{Carry, Restarts}
-use Rattle.sercos_law_run.specs.Bounds.Bounds.{slowest}
+use Rattle.sercos_law_run.specs.Bounds.Bounds.{stop_cycles}
 use Rattle.sercos_law_run.specs.Journal.Runs.{IsClear, IsRun}
 use Rattle.sercos_law_run.specs.Views.RingViews.{behind_mst}
 use Rattle.sercos_law_run.specs.Held.Opened.{IsOpened}
@@ -17,10 +18,10 @@ use Rattle.sercos_law_run.specs.Tolerance.Sparse.{AreSparse}
 
 -- the bound of a start-up, with each drive busy for one cycle more
 abbrev pub slow_startup_of : DriveView → ℕ
-slow_startup_of d = (d.busy + 3) * (82 + 4 * (length d.at + length d.mdt) + 2 * d.command)
+slow_startup_of d = (d.busy + 3) * start_steps_of d
 
 abbrev pub slow_bound : RingView → ℕ
-slow_bound r = 20 + 2 * length r.drives + sum_by slow_startup_of r.drives
+slow_bound r = early_cycles + 2 * change_cycles + identifying_cycles * length r.drives + sum_by slow_startup_of r.drives
 
 -- ten cycles for each cycle of phase 0 whose MST doesn't come back whole to the master
 abbrev pub own_cost : RingView → List Job → Carry → Restarts → CycleView → List CycleView → ℕ
@@ -45,4 +46,4 @@ abbrev pub EndsAnyway : Type 0
 EndsAnyway = (r : RingView) (jobs : List Job) (carry : Carry) (restarts : Restarts) (t : CycleView) (cycles before : List CycleView) →
     IsOpened r jobs → IsRun r jobs carry restarts (t ∷ (cycles ++ before)) → IsClear (t ∷ (cycles ++ before)) →
     StartsEpoch r jobs carry restarts before → AreSparse r carry restarts (t ∷ cycles) before →
-    slow_bound r + 41 * (slowest r.drives + 2) + own_costs r jobs carry restarts cycles before ≤ length cycles → IsUpOrStopped r t cycles
+    slow_bound r + stop_cycles r + own_costs r jobs carry restarts cycles before ≤ length cycles → IsUpOrStopped r t cycles

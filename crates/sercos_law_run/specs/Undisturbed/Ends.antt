@@ -3,7 +3,7 @@ use Rattle.std.specs.Prelude.{◌≡◌, ◌⊎◌, ℕ, ◌+◌, ◌*◌, ◌<�
 use Rattle.sercos_step.specs.declared.request.Job.{Job}
 use Rattle.sercos_block.specs.Startup.{startup_bound}
 use Rattle.sercos_block.specs.Views.{RingView}
-use Rattle.sercos_law_run.specs.Bounds.Bounds.{slowest}
+use Rattle.sercos_law_run.specs.Bounds.Bounds.{stop_cycles}
 use Rattle.sercos_trace.specs.Views.{CycleView}
 use Rattle.sercos_seat.specs.Agenda.{reads_count, is_ready}
 use Rattle.sercos_seat.specs.Ring.{known_of, member}
@@ -38,7 +38,7 @@ abbrev pub ComesToAnEnd : Type 0
 ComesToAnEnd = (r : RingView) (jobs : List Job) (carry : Carry) (restarts : Restarts) (t : CycleView) (cycles before : List CycleView) →
     IsOpened r jobs → IsRun r jobs carry restarts (t ∷ (cycles ++ before)) →
     IsClear (t ∷ (cycles ++ before)) → StartsEpoch r jobs carry restarts before → AreUndisturbed r carry restarts (t ∷ cycles) before →
-    startup_bound r + 41 * (slowest r.drives + 2) ≤ length cycles →
+    startup_bound r + stop_cycles r ≤ length cycles →
     (t.phase ≡ 4) ⊎ (is_some (behind_mdt r jobs carry restarts t.sent (cycles ++ before)).stop ≡ true)
 
 -- Both stay: phase 4 is commanded in each later cycle of the epoch, and a stop is the same in each.

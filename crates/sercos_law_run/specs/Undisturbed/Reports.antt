@@ -2,7 +2,7 @@
 use Rattle.std.specs.Prelude.{◌≡◌, ◌⊎◌, ℕ, ◌+◌, ◌*◌, ◌<◌, ◌≤◌, List, [], ◌∷◌, ◌++◌, length, Option, Some, slice_get}
 use Rattle.sercos_step.specs.declared.request.Job.{Job}
 use Rattle.sercos_step.specs.declared.request.Outcome.{Outcome}
-use Rattle.sercos_block.specs.Startup.{startup_bound}
+use Rattle.sercos_block.specs.Startup.{request_steps, startup_bound}
 use Rattle.sercos_block.specs.Views.{RingView}
 use Rattle.sercos_trace.specs.Views.{CycleView}
 use Rattle.sercos_seat.specs.Ring.{Task}
@@ -32,7 +32,7 @@ HaveTold (t ∷ cycles) number = ((o : Outcome) × HasOutcome t.events.outcomes 
 
 -- the cycles that this profile allows one request to the drive at place k, by its busy time and the time of its commands
 abbrev pub request_cycles : RingView → ℕ → ℕ
-request_cycles r k = ((drive_at r k).busy + 2) * (520 + (drive_at r k).command)
+request_cycles r k = ((drive_at r k).busy + 2) * (request_steps + (drive_at r k).command)
 
 -- THE REQUESTS ARE REPORTED IN TIME. Of the requests to a drive that wait where phase 0 is commanded next, take the one at place i, counted
 -- from 0. If phase 4 is commanded, and the cycles from there on before this one are at least the bound of a start-up and i + 1 times the

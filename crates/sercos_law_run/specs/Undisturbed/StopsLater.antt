@@ -7,7 +7,7 @@ use Rattle.sercos_block.specs.declared.block.Block.{Block}
 use Rattle.sercos_block.specs.Startup.{startup_bound}
 use Rattle.sercos_block.specs.Stores.{with_own}
 use Rattle.sercos_block.specs.Views.{RingView}
-use Rattle.sercos_law_run.specs.Bounds.Bounds.{slowest}
+use Rattle.sercos_law_run.specs.Bounds.Bounds.{stop_cycles}
 use Rattle.sercos_command.specs.Checks.{is_outside}
 use Rattle.sercos_trace.specs.Views.{CycleView}
 use Rattle.sercos_trace.specs.declared.events.Stop.{Stop}
@@ -60,7 +60,7 @@ abbrev pub EndsStartUp : Type 0
 EndsStartUp = (r : RingView) (jobs : List Job) (carry : Carry) (restarts : Restarts) (t : CycleView) (cycles before : List CycleView) →
     IsOpened r jobs → IsRun r jobs carry restarts (t ∷ (cycles ++ before)) →
     IsClear (t ∷ (cycles ++ before)) → StartsEpoch r jobs carry restarts before → AreUndisturbed r carry restarts (t ∷ cycles) before →
-    startup_bound r + 41 * (slowest r.drives + 2) ≤ length cycles →
+    startup_bound r + stop_cycles r ≤ length cycles →
     ((t.phase ≡ 4) × ((behind_mdt r jobs carry restarts t.sent (cycles ++ before)).stop ≡ None) × IsRight r)
     ⊎ ((x : Stop) × ((behind_mdt r jobs carry restarts t.sent (cycles ++ before)).stop ≡ Some x)
     × (StopsForThePlan r x ⊎

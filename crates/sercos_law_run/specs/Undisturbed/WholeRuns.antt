@@ -6,7 +6,7 @@ use Rattle.sercos_block.specs.Startup.{startup_bound}
 use Rattle.sercos_block.specs.Stores.{with_own}
 use Rattle.sercos_block.specs.Views.{RingView}
 use Rattle.sercos_block.specs.declared.block.Block.{Block}
-use Rattle.sercos_law_run.specs.Bounds.Bounds.{slowest}
+use Rattle.sercos_law_run.specs.Bounds.Bounds.{stop_cycles}
 use Rattle.sercos_command.specs.Checks.{is_outside}
 use Rattle.sercos_service_master.specs.Begun.{answers_it}
 use Rattle.sercos_trace.specs.Views.{CycleView}
@@ -74,7 +74,7 @@ pub record StartsUp (r : RingView) (jobs : List Job) (carry : Carry) (restarts :
   pub right : t.phase ≡ 4 → IsRight r
   pub fit : 3 ≤ t.phase → IsFit r
   pub stays : (u : CycleView) (before : List CycleView) → j ≡ u ∷ before → u.phase ≡ 4 → t.phase ≡ 4
-  pub ends : startup_bound r + 41 * (slowest r.drives + 2) ≤ length j → ((t.phase ≡ 4) × IsRight r) ⊎
+  pub ends : startup_bound r + stop_cycles r ≤ length j → ((t.phase ≡ 4) × IsRight r) ⊎
       ((x : Stop) × HasTold x (t ∷ j) × StopsForCause r x)
   pub once : (x y : Stop) → HasTold x j → t.events.stop ≡ Some y → ⊥
   pub ages : (k : ℕ) → k < length r.drives → age_in (views_of r jobs carry restarts k (t ∷ j)) ≤ (drive_at r k).busy + 1

@@ -7,7 +7,7 @@ use Rattle.sercos_law_run.proofs.Recovery.Recovers.{recovers_in}
 use Rattle.sercos_law_run.proofs.Recovery.FallsInTime.{falls_anyway, falls_soon}
 use Rattle.sercos_law_run.proofs.Recovery.Stretches.{ages_down_in, keeps_up, stays_down_in}
 use Rattle.sercos_law_run.proofs.Recovery.UpInThree.{lasts_with_list}
-use Rattle.sercos_law_run.proofs.Words.{◌+◌, ◌*◌, slowest}
+use Rattle.sercos_law_run.proofs.Words.{stop_cycles, ◌+◌, ◌*◌, slowest}
 use Rattle.sercos_law_run.proofs.recovery_laws.recovery_law.Goals as goal
 
 pub returns : goal.returns
@@ -28,7 +28,7 @@ returns c =
       soon = λ r jobs carry restarts t cycles first before opened run clear stretch calm late up falls.
           falls_soon r jobs carry restarts opened t cycles first before run clear stretch calm falls up;
       comes_back = λ r jobs carry restarts t cycles first before opened run clear stretch late up long.
-          comes_back r jobs carry restarts opened first before late up (41 * (slowest r.drives + 2))
+          comes_back r jobs carry restarts opened first before late up (stop_cycles r)
           (lasts_with_list r jobs carry restarts opened) t cycles run clear stretch long;
       after_fall = after_fall;
       predicts = λ r jobs carry restarts t j opened run clear.
