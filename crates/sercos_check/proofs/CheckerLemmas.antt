@@ -1,5 +1,5 @@
 -- A capture's lines, one by one.
-use Rattle.std.proofs.Common.{◌≡◌, ℕ, ◌+◌, inl, inr, true, false, List, [], ◌∷◌, length, Option, Some, None, refl, sym, ◌∙◌, ap, subst, unwrap_or, arith}
+use Rattle.std.proofs.Common.{◌≡◌, ℕ, ◌+◌, inl, inr, true, false, List, [], ◌∷◌, length, Option, Some, None, option_map, refl, sym, ◌∙◌, ap, subst, unwrap_or, arith}
 use Rattle.std.proofs.lemmas.Bool.{false≢true}
 use Rattle.std.proofs.lemmas.Option.{none-some}
 use Rattle.sercos_timing.specs.Views.{WishesView}
@@ -10,6 +10,8 @@ use Rattle.sercos_check.specs.declared.trouble.Trouble.{Trouble}
 use Rattle.sercos_check.specs.declared.trouble.Trouble.TheVariants as trouble
 use Rattle.sercos_check.specs.declared.awaited.Awaited.{Awaited}
 use Rattle.sercos_check.specs.declared.awaited.Awaited.TheVariants as awaited
+use Rattle.sercos_check.specs.declared.rule.Rule.{Rule}
+use Rattle.sercos_check.specs.Names.{rule_number}
 use Rattle.sercos_check.specs.Seen.{Told}
 use Rattle.sercos_check.specs.Rules.{broken_rule}
 use Rattle.sercos_check.specs.Kept.{SeenState, SeenStandsFor}
@@ -20,10 +22,10 @@ use Rattle.sercos_check.specs.Verdicts.{told, rule_broken, IsClean, IsFault, IsT
 abbrev pub telegram : ℕ → SentView → Told
 telegram cycle sent = record { cycle = cycle; sent = sent }
 
-pub telegram_rule : (lines : List Line) (cycle : ℕ) (sent : SentView) (w : WishesView) (seen : SeenState) (rule : Option ℕ)
+pub telegram_rule : (lines : List Line) (cycle : ℕ) (sent : SentView) (w : WishesView) (seen : SeenState) (rule : Option Rule)
     → w ≡ wishes_by lines → ((before : List Told) → SeenStandsFor seen w before → rule ≡ broken_rule w before (telegram cycle sent))
-    → AreSeen seen lines → rule ≡ rule_broken lines (line.Telegram cycle sent)
-telegram_rule lines cycle sent w seen rule is broken stand = rw (← is) (broken (told lines) (stand w (λ _. is)))
+    → AreSeen seen lines → option_map rule_number rule ≡ rule_broken lines (line.Telegram cycle sent)
+telegram_rule lines cycle sent w seen rule is broken stand = rw (← is) (ap (option_map rule_number) (broken (told lines) (stand w (λ _. is))))
 
 pub telegram_seen : (lines : List Line) (cycle : ℕ) (sent : SentView) (w : WishesView) (seen seen' : SeenState)
     → w ≡ wishes_by lines → ((before : List Told) → SeenStandsFor seen w before → SeenStandsFor seen' w (telegram cycle sent ∷ before))

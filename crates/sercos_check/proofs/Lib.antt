@@ -3,6 +3,7 @@ mod CheckerLemmas
 mod FoundLemmas
 mod LawLemmas
 mod RoundLemmas
+mod RuleLemmas
 mod ShapeLemmas
 mod StandsLemmas
 mod TestLemmas

@@ -13,6 +13,7 @@ use Rattle.sercos_trace.specs.declared.reading.Line.TheVariants as line
 use Rattle.sercos_check.specs.declared.trouble.Trouble.TheVariants as trouble
 use Rattle.sercos_check.specs.declared.awaited.Awaited.{Awaited}
 use Rattle.sercos_check.specs.declared.awaited.Awaited.TheVariants as awaited
+use Rattle.sercos_check.specs.Rules.{first_broken}
 use Rattle.sercos_check.specs.Shape.{wishes_by}
 use Rattle.sercos_check.specs.Verdicts.{IsClean, IsTrouble, IsWhole, IsShort}
 
@@ -83,28 +84,28 @@ second_end = inr (end_clean, (λ can. false≢true (ap is_cycle can.0), refl))
 
 -- two ATs after an MST
 mst_clean : IsClean (mst ∷ head)
-unfolding frame_of stuffed low_bits bits_of number_of is_odd fcs_of divided added sum_of mst_fault head_fault
+unfolding frame_of stuffed low_bits bits_of number_of is_odd fcs_of divided added sum_of mst_fault head_fault first_broken
 mst_clean = (head_clean, (refl, tt), refl)
 
 at_clean : IsClean (at 1 40 105 ∷ mst ∷ head)
-unfolding frame_of stuffed low_bits bits_of number_of is_odd fcs_of divided added sum_of mst_fault head_fault
+unfolding frame_of stuffed low_bits bits_of number_of is_odd fcs_of divided added sum_of mst_fault head_fault first_broken
 at_clean = (mst_clean, (refl, tt), refl)
 
 ats_are_whole : IsWhole (at 2 184 104 ∷ at 1 40 105 ∷ mst ∷ head) 8
-unfolding frame_of stuffed low_bits bits_of number_of is_odd fcs_of divided added sum_of mst_fault head_fault
+unfolding frame_of stuffed low_bits bits_of number_of is_odd fcs_of divided added sum_of mst_fault head_fault first_broken
 ats_are_whole = ((at_clean, (refl, tt), refl), refl, refl)
 
 -- the second within the gap after the first
 too_near : IsTrouble (at 2 140 104 ∷ at 1 40 105 ∷ mst ∷ head) (trouble.Violation 8 6)
-unfolding frame_of stuffed low_bits bits_of number_of is_odd fcs_of divided added sum_of mst_fault head_fault
+unfolding frame_of stuffed low_bits bits_of number_of is_odd fcs_of divided added sum_of mst_fault head_fault first_broken
 too_near = inr (at_clean, ((refl, tt), refl, refl))
 
 -- the first a bit longer than its frame; the line after it changes nothing
 too_long : IsTrouble (at 2 184 104 ∷ at 1 40 106 ∷ mst ∷ head) (trouble.Violation 7 2)
-unfolding frame_of stuffed low_bits bits_of number_of is_odd fcs_of divided added sum_of mst_fault head_fault
+unfolding frame_of stuffed low_bits bits_of number_of is_odd fcs_of divided added sum_of mst_fault head_fault first_broken
 too_long = inl (inr (mst_clean, ((refl, tt), refl, refl)))
 
 -- the second of one byte: not the length of its frame
 too_short : IsTrouble (line.Telegram 0 (record { kind = telegram.At; start = pos 184; bits = 104; content = 2 ∷ [] }) ∷ at 1 40 105 ∷ mst ∷ head) (trouble.Violation 8 2)
-unfolding frame_of stuffed low_bits bits_of number_of is_odd fcs_of divided added sum_of mst_fault head_fault
+unfolding frame_of stuffed low_bits bits_of number_of is_odd fcs_of divided added sum_of mst_fault head_fault first_broken
 too_short = inr (at_clean, ((refl, tt), refl, refl))

@@ -9,6 +9,8 @@ use Rattle.sercos_trace.specs.Views.{SentView}
 use Rattle.sercos_check.specs.declared.marks.Command.{Command}
 use Rattle.sercos_check.specs.declared.marks.Mark.{Mark}
 use Rattle.sercos_check.specs.declared.marks.Note.{Note}
+use Rattle.sercos_check.specs.declared.rule.Rule.{Rule}
+use Rattle.sercos_check.specs.declared.rule.Rule.TheVariants as rule
 use Rattle.sercos_check.specs.Seen.{Told, command_of, command_before, phase_of, newest_in, has_mdt, has_at_from, mark_before, address_of, wish_for, slave_of, mark_of, end_of, note_of}
 use Rattle.sercos_check.specs.Rules.{is_next_cycle, goes_on, keeps_frame, keeps_layout, keeps_phase, keeps_start, keeps_gap, is_cyclic_at, is_after_mark, is_cyclic_mdt, keeps_end, is_after_all}
 
@@ -63,17 +65,18 @@ recovery_by v w s =
 abbrev pub transition_by : SeenState → SentView → Bool
 transition_by v s = not (is_cyclic_mdt (phase_of v.command) s.kind) || is_from v.free_at s.start
 
-abbrev pub kept_by : SeenState → WishesView → ℕ → SentView → List Bool
+-- each rule, and whether it is kept
+abbrev pub kept_by : SeenState → WishesView → ℕ → SentView → List (Rule × Bool)
 kept_by v w cycle s =
-    order_by s.kind v cycle s
-    ∷ keeps_frame s
-    ∷ keeps_layout w (phase_of v.command) s
-    ∷ keeps_phase v.command s
-    ∷ keeps_start w (phase_of v.command) s
-    ∷ keeps_gap w (phase_of v.command) v.newest s
-    ∷ recovery_by v w s
-    ∷ transition_by v s
-    ∷ keeps_end w (phase_of v.command) s
+    (rule.Order, order_by s.kind v cycle s)
+    ∷ (rule.Frame, keeps_frame s)
+    ∷ (rule.Layout, keeps_layout w (phase_of v.command) s)
+    ∷ (rule.Phase, keeps_phase v.command s)
+    ∷ (rule.Start, keeps_start w (phase_of v.command) s)
+    ∷ (rule.Gap, keeps_gap w (phase_of v.command) v.newest s)
+    ∷ (rule.Recovery, recovery_by v w s)
+    ∷ (rule.Transition, transition_by v s)
+    ∷ (rule.End, keeps_end w (phase_of v.command) s)
     ∷ []
 
 -- What is kept after an MST, which begins a cycle.

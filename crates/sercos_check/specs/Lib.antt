@@ -1,6 +1,7 @@
 pub mod Clauses
 pub mod Found
 pub mod Kept
+pub mod Names
 pub mod Rounds
 pub mod Rules
 pub mod Seen

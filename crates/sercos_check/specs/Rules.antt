@@ -1,6 +1,6 @@
 -- The nine rules for the telegrams of a capture, and the lowest one that a telegram breaks.
 use Rattle.std.specs.Prelude.{ℕ, ℤ, pos, ◌+◌, ◌*◌, ◌+ℤ◌, ◌==◌, nat_lt, nat_le, Bool, true, false, not, ◌&&◌, ◌||◌, if◌then◌else◌, List, [], ◌∷◌, length, max, Option, Some, None, is_none, option_map, slice_index}
-use Rattle.std.specs.List.{list_all, position}
+use Rattle.std.specs.List.{list_all, find}
 use Rattle.std.specs.Int.Signed.{le_z}
 use Rattle.std.specs.Ordering.{int_eq}
 use Rattle.sercos_hdlc.specs.Stuffed.{frame_of}
@@ -15,6 +15,8 @@ use Rattle.sercos_trace.specs.Views.{SentView}
 use Rattle.sercos_check.specs.declared.marks.Command.{Command}
 use Rattle.sercos_check.specs.declared.marks.Mark.{Mark}
 use Rattle.sercos_check.specs.declared.marks.Note.{Note}
+use Rattle.sercos_check.specs.declared.rule.Rule.{Rule}
+use Rattle.sercos_check.specs.declared.rule.Rule.TheVariants as rule
 use Rattle.sercos_check.specs.Seen.{Told, is_mst, is_at, is_mdt, command_before, phase_before, in_cycle, address_of, wish_for, is_drive, slave_of, mark_of, end_of, sender_of, newest_in, has_mdt, has_at_from, mark_before}
 
 -- a start is at least n bit times after the end of a telegram
@@ -156,20 +158,20 @@ has_room w s = le_z (end_of (mark_of s) +ℤ pos (w.rate * max w.gap (greatest_t
 abbrev pub keeps_end : WishesView → ℕ → SentView → Bool
 keeps_end w phase s = not (is_cyclic_mdt phase s.kind) || has_room w s
 
--- the number of the first rule that is not kept, counted from 1
-abbrev pub first_broken : List Bool → Option ℕ
-first_broken kept = option_map (λ place. place + 1) (position not kept)
+-- the first rule of a list that is not kept; with each rule comes whether it is
+unfoldable pub first_broken : List (Rule × Bool) → Option Rule
+first_broken tests = option_map (λ (test : Rule × Bool). test.0) (find (λ (test : Rule × Bool). not test.1) tests)
 
 -- the lowest rule that a telegram breaks after those before
-abbrev pub broken_rule : WishesView → List Told → Told → Option ℕ
+abbrev pub broken_rule : WishesView → List Told → Told → Option Rule
 broken_rule w before t = first_broken
-    (keeps_order w before t
-    ∷ keeps_frame t.sent
-    ∷ keeps_layout w (phase_before before) t.sent
-    ∷ keeps_phase (command_before before) t.sent
-    ∷ keeps_start w (phase_before before) t.sent
-    ∷ keeps_gap w (phase_before before) (newest_in w before) t.sent
-    ∷ keeps_recovery w before t.sent
-    ∷ keeps_transition w before t.sent
-    ∷ keeps_end w (phase_before before) t.sent
+    ((rule.Order, keeps_order w before t)
+    ∷ (rule.Frame, keeps_frame t.sent)
+    ∷ (rule.Layout, keeps_layout w (phase_before before) t.sent)
+    ∷ (rule.Phase, keeps_phase (command_before before) t.sent)
+    ∷ (rule.Start, keeps_start w (phase_before before) t.sent)
+    ∷ (rule.Gap, keeps_gap w (phase_before before) (newest_in w before) t.sent)
+    ∷ (rule.Recovery, keeps_recovery w before t.sent)
+    ∷ (rule.Transition, keeps_transition w before t.sent)
+    ∷ (rule.End, keeps_end w (phase_before before) t.sent)
     ∷ [])

@@ -1,11 +1,13 @@
 -- The result of a checker for a capture, whose lines are listed newest first.
-use Rattle.std.specs.Prelude.{◌≡◌, ℕ, ◌+◌, ◌⊎◌, ◌↔◌, true, false, List, [], ◌∷◌, length, map, Option, Some, None}
+use Rattle.std.specs.Prelude.{◌≡◌, ℕ, ◌+◌, ◌⊎◌, ◌↔◌, true, false, List, [], ◌∷◌, length, map, Option, Some, None, option_map}
 use Rattle.sercos_timing.specs.Views.{WishesView}
 use Rattle.sercos_trace.specs.declared.reading.Line.{Line}
 use Rattle.sercos_trace.specs.declared.reading.Line.TheVariants as line
 use Rattle.sercos_check.specs.declared.trouble.Trouble.{Trouble}
 use Rattle.sercos_check.specs.declared.trouble.Trouble.TheVariants as trouble
 use Rattle.sercos_check.specs.Seen.{Told}
+use Rattle.sercos_check.specs.declared.rule.Rule.{Rule}
+use Rattle.sercos_check.specs.Names.{rule_number, rule_with}
 use Rattle.sercos_check.specs.Rules.{broken_rule}
 use Rattle.sercos_check.specs.Kept.{SeenState, SeenStandsFor}
 use Rattle.sercos_check.specs.Shape.{CanFollow, HasShape, HeadView, HeadStandsFor, has_head, wishes_by}
@@ -16,9 +18,10 @@ told [] = []
 told (line.Telegram cycle sent ∷ before) = (record { cycle = cycle; sent = sent }) ∷ told before
 told (_ ∷ before) = told before
 
--- the lowest rule that a line breaks after those before it; only telegrams can break one
+-- the number of the lowest rule that a line breaks after those before it; only telegrams can break one
 abbrev pub rule_broken : List Line → Line → Option ℕ
-rule_broken before (line.Telegram cycle sent) = broken_rule (wishes_by before) (told before) (record { cycle = cycle; sent = sent })
+rule_broken before (line.Telegram cycle sent) =
+    option_map rule_number (broken_rule (wishes_by before) (told before) (record { cycle = cycle; sent = sent }))
 rule_broken before _ = None
 
 -- each line can follow those before it, and breaks no rule
@@ -76,6 +79,10 @@ IsPlainHead = (lines : List Line) → has_head (map plain lines) ≡ has_head li
 -- Lines of the right shape have no fault of grammar, so that their first trouble is a rule.
 abbrev pub BreakRules : Type 0
 BreakRules = (lines : List Line) (number : ℕ) → HasShape lines → IsTrouble lines (trouble.Grammar number) → ⊥
+
+-- A rule has the number that a first trouble names.
+abbrev pub NumberRules : Type 0
+NumberRules = (lines : List Line) (number rule : ℕ) → IsTrouble lines (trouble.Violation number rule) → (r : Rule) × (rule_with rule ≡ Some r)
 
 -- what is kept of the lines of a capture
 pub record CheckerState : Type 0 where

@@ -1,8 +1,9 @@
 // The checker of captures.
-ghost use Rattle.std.specs.Prelude.{◌≡◌, ℕ, ◌+◌, ◌^◌, ◌<◌, ◌↔◌, List, [], ◌∷◌, length, Some, IsOk, IfOk, IfErr, IfSome, IfNone};
-ghost use Rattle.sercos_check.specs.Clauses.{result_ok, result_err, Line, Trouble, CanFollow, HeadStandsFor, IsReady, rule_broken, IsClean, IsFault, IsTrouble, IsWhole, IsRefused, IsNext, AreSeen, CheckerStandsFor};
+ghost use Rattle.std.specs.Prelude.{◌≡◌, ℕ, ◌+◌, ◌^◌, ◌<◌, ◌↔◌, List, [], ◌∷◌, length, Some, option_map, IsOk, IfOk, IfErr, IfSome, IfNone};
+ghost use Rattle.sercos_check.specs.Clauses.{result_ok, result_err, Line, Trouble, CanFollow, HeadStandsFor, IsReady, rule_number, rule_broken, IsClean, IsFault, IsTrouble, IsWhole, IsRefused, IsNext, AreSeen, CheckerStandsFor};
 
 use crate::drives::found_for;
+use crate::rule::Rule;
 use crate::seen::Seen;
 use crate::shape::Head;
 use crate::trouble::Trouble;
@@ -35,9 +36,9 @@ impl Model for Checker {
 // Notes a line that can follow the lines so far. `head` has this line already; if it is a telegram, the head must be complete and the
 // totals not read. Returns the lowest rule that it breaks; `None` if it breaks none, or isn't a telegram. Afterwards `seen` is that of the
 // lines with it.
-fn keep(head: &Head, seen: &mut Seen, line: &Line) -> Option<u8>
+fn keep(head: &Head, seen: &mut Seen, line: &Line) -> Option<Rule>
     requires { IsReady head.now line.now }
-    ensures rule { (lines : List Line) → HeadStandsFor head.now (line.now ∷ lines) → CanFollow lines line.now → AreSeen seen.old lines → result ≡ rule_broken lines line.now }
+    ensures rule { (lines : List Line) → HeadStandsFor head.now (line.now ∷ lines) → CanFollow lines line.now → AreSeen seen.old lines → option_map rule_number result ≡ rule_broken lines line.now }
     ensures seen { (lines : List Line) → HeadStandsFor head.now (line.now ∷ lines) → CanFollow lines line.now → AreSeen seen.old lines → AreSeen seen.new (line.now ∷ lines) }
 {
     match line {
@@ -63,7 +64,10 @@ fn take(head: &mut Head, seen: &mut Seen, line: &Line, number: u32) -> Option<Tr
         return Some(Trouble::Grammar { line: number });
     }
     match keep(head, seen, line) {
-        Some(rule) => Some(Trouble::Violation { line: number, rule }),
+        Some(rule) => {
+            let rule = rule.number();
+            Some(Trouble::Violation { line: number, rule })
+        }
         None => None,
     }
 }

@@ -1,5 +1,5 @@
 // How the shape of a capture and its rules are related.
-ghost use Rattle.sercos_check.specs.Clauses.{TellsValid, TellsFollowing, ArePlainClean, ArePlainFaults, IsPlainHead, BreakRules};
+ghost use Rattle.sercos_check.specs.Clauses.{TellsValid, TellsFollowing, ArePlainClean, ArePlainFaults, IsPlainHead, BreakRules, NumberRules};
 
 use sercos_timing::valid_law;
 
@@ -27,3 +27,8 @@ pub fn test_law()
 {
     valid_law();
 }
+
+/// A law: the rule of a `Violation` that is the first trouble of a capture is the number of a [`Rule`](crate::Rule).
+pub fn rule_law()
+    ensures { NumberRules }
+{}

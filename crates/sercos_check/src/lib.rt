@@ -6,11 +6,13 @@ mod checker;
 mod drives;
 mod law;
 mod marks;
+mod rule;
 mod rules;
 mod seen;
 mod shape;
 mod trouble;
 
 pub use checker::Checker;
-pub use law::{shape_law, test_law};
+pub use law::{rule_law, shape_law, test_law};
+pub use rule::Rule;
 pub use trouble::Trouble;

@@ -1,11 +1,12 @@
 // The rules for one telegram. Each is tested with what was kept of the telegrams before it. `w` is the planner's input of the ring, `phase`
 // is the phase commanded, `command` is what the newest MST commands, `newest` is the newest telegram of its cycle, and `found` is what
 // `found_for` returns for the telegram.
-ghost use Rattle.std.specs.Prelude.{◌≡◌, ◌<◌, ◌≤◌, length, not, IfSome};
-ghost use Rattle.sercos_check.specs.Clauses.{position, IsValid, WishesView, phase_of, found_for, is_next_cycle, is_same_cycle, starts_later, goes_on, keeps_frame, is_single, is_joint, keeps_layout, is_next_phase, keeps_phase, start_of, keeps_start, is_cyclic_at, is_cyclic_mdt, is_same_sender, gap_between, is_after_gap, keeps_gap, has_room, keeps_end, first_broken};
+ghost use Rattle.std.specs.Prelude.{◌≡◌};
+ghost use Rattle.sercos_check.specs.Clauses.{IsValid, WishesView, phase_of, found_for, is_next_cycle, is_same_cycle, starts_later, goes_on, keeps_frame, is_single, is_joint, keeps_layout, is_next_phase, keeps_phase, start_of, keeps_start, is_cyclic_at, is_cyclic_mdt, is_same_sender, gap_between, is_after_gap, keeps_gap, has_room, keeps_end, first_broken};
 
 use crate::drives::{Found, address_of, bit_times, mark_of};
 use crate::marks::{Command, Note};
+use crate::rule::Rule;
 use sercos_bits::{MAX_CONTENT, byte_at};
 use sercos_hdlc::frame_len;
 use sercos_telegram::{Kind, read_mst};
@@ -76,7 +77,7 @@ pub fn goes_on(
     is_same_cycle(command, cycle) && starts_no_earlier(newest, start) && !mdt
 }
 
-// Returns whether rule 2 is kept: the content has 1 to 2048 bytes, and `bits` is the length of its frame.
+// Returns whether `Rule::Frame` is kept: the content has 1 to 2048 bytes, and `bits` is the length of its frame.
 pub fn keeps_frame(sent: &Sent) -> bool
     ensures { result ≡ keeps_frame sent.now }
 {
@@ -101,9 +102,9 @@ fn is_joint(w: &Wishes, sent: &Sent) -> bool
     sent.content.len() as u64 == len && address_of(sent) == ALL_DRIVES
 }
 
-// Returns whether rule 3 is kept: the content has the layout of its kind in this phase. In every phase an MST has two bytes: 255, and a
-// phase from 0 to 4. In phase 0 no AT and no MDT keeps the rule. In phases 1 and 2 they are as `is_single` tests. An AT of phases 3 and 4
-// has the address and the AT length of a drive, and an MDT is as `is_joint` tests.
+// Returns whether `Rule::Layout` is kept: the content has the layout of its kind in this phase. In every phase an MST has two bytes: 255,
+// and a phase from 0 to 4. In phase 0 no AT and no MDT keeps the rule. In phases 1 and 2 they are as `is_single` tests. An AT of phases 3
+// and 4 has the address and the AT length of a drive, and an MDT is as `is_joint` tests.
 pub fn keeps_layout(w: &Wishes, phase: u8, sent: &Sent, found: &Found) -> bool
     requires { found.now ≡ found_for w.now sent.now }
     ensures { result ≡ keeps_layout w.now phase sent.now }
@@ -138,8 +139,8 @@ fn is_next_phase(command: Option<Command>, phase: u8) -> bool
     }
 }
 
-// Returns whether rule 4 is kept: an MST commands the same phase as the MST before, the next one, or phase 0. The first MST, each AT and
-// each MDT keep it.
+// Returns whether `Rule::Phase` is kept: an MST commands the same phase as the MST before, the next one, or phase 0. The first MST, each AT
+// and each MDT keep it.
 pub fn keeps_phase(command: Option<Command>, sent: &Sent) -> bool
     ensures { result ≡ keeps_phase command sent.now }
 {
@@ -160,8 +161,8 @@ fn starts_at(w: &Wishes, phase: u8, sent: &Sent, found: &Found) -> bool
     }
 }
 
-// Returns whether rule 5 is kept: an MST ends at bit time 0, an AT starts when it may in this phase, and an MDT starts at 650 microseconds
-// before phase 3. From phase 3 on each MDT keeps it.
+// Returns whether `Rule::Start` is kept: an MST ends at bit time 0, an AT starts when it may in this phase, and an MDT starts at 650
+// microseconds before phase 3. From phase 3 on each MDT keeps it.
 pub fn keeps_start(w: &Wishes, phase: u8, sent: &Sent, found: &Found) -> bool
     requires { found.now ≡ found_for w.now sent.now }
     ensures { result ≡ keeps_start w.now phase sent.now }
@@ -225,8 +226,8 @@ fn is_after_gap(w: &Wishes, newest: Option<Note>, sent: &Sent, found: &Found) ->
     }
 }
 
-// Returns whether rule 6 is kept: in phases 3 and 4 an AT or MDT keeps the gap after the telegram before it, or no distance if both are ATs
-// of one slave. Telegrams of earlier phases, and each MST, keep the rule.
+// Returns whether `Rule::Gap` is kept: in phases 3 and 4 an AT or MDT keeps the gap after the telegram before it, or no distance if both
+// are ATs of one slave. Telegrams of earlier phases, and each MST, keep the rule.
 pub fn keeps_gap(w: &Wishes, phase: u8, newest: Option<Note>, sent: &Sent, found: &Found) -> bool
     requires { found.now ≡ found_for w.now sent.now }
     ensures { result ≡ keeps_gap w.now phase newest sent.now }
@@ -244,8 +245,8 @@ fn has_room(w: &Wishes, sent: &Sent) -> bool
     mark_of(sent).is_after(bit_times(w, pause), i64::from(w.recovered_by() as u32))
 }
 
-// Returns whether rule 9 is kept: in phases 3 and 4 the time between the end of the MDT and the next MST is at least the gap, and at least
-// each drive's TMTSY. Other telegrams keep it. The planner's input must be valid.
+// Returns whether `Rule::End` is kept: in phases 3 and 4 the time between the end of the MDT and the next MST is at least the gap, and at
+// least each drive's TMTSY. Other telegrams keep it. The planner's input must be valid.
 pub fn keeps_end(w: &Wishes, phase: u8, sent: &Sent) -> bool
     requires { IsValid w.now }
     ensures { result ≡ keeps_end w.now phase sent.now }
@@ -253,21 +254,10 @@ pub fn keeps_end(w: &Wishes, phase: u8, sent: &Sent) -> bool
     !is_cyclic_mdt(phase, sent.kind) || has_room(w, sent)
 }
 
-// Returns the index of the first rule that isn't kept; `None` if all are.
-fn first_place(kept: &[bool]) -> Option<usize>
-    ensures value { result ≡ position not kept.now }
-    ensures within { IfSome result (λ place. place < length kept.now) }
+// Returns the first rule of a list that isn't kept; `None` if all are. With each rule comes whether it is kept.
+#[tactic(auto, unfolding(crate::specs::Rules::first_broken))]
+pub fn first_broken(tests: &[(Rule, bool)]) -> Option<Rule>
+    ensures { result ≡ first_broken tests.now }
 {
-    kept.iter().position(|kept| !*kept)
-}
-
-// Returns the number of the first rule that isn't kept, counted from 1; `None` if all are. There must be at most 9 rules.
-pub fn first_broken(kept: &[bool]) -> Option<u8>
-    requires { length kept.now ≤ 9 }
-    ensures { result ≡ first_broken kept.now }
-{
-    match first_place(kept) {
-        Some(place) => Some(place as u8 + 1),
-        None => None,
-    }
+    tests.iter().find(|(_, kept)| !*kept).map(|(rule, _)| *rule)
 }

@@ -5,6 +5,7 @@ ghost use Rattle.sercos_telegram.specs.declared.layout.Kind.TheVariants as teleg
 
 use crate::drives::{Found, address_of, bit_times};
 use crate::marks::{Command, Mark, Note, Noted, is_after_mark};
+use crate::rule::Rule;
 use crate::rules::{
     first_broken, goes_on, is_cyclic_at, is_cyclic_mdt, is_next_cycle, keeps_end, keeps_frame,
     keeps_gap, keeps_layout, keeps_phase, keeps_start, phase_of,
@@ -109,8 +110,8 @@ impl Seen {
         goes_on(self.command, self.newest, self.mdt, cycle, start)
     }
 
-    // Returns whether rule 1 is kept: an MST has the next cycle, an AT or MDT can follow in its cycle, and an AT is the first one of its
-    // address byte in its cycle. An AT without content has no address byte.
+    // Returns whether `Rule::Order` is kept: an MST has the next cycle, an AT or MDT can follow in its cycle, and an AT is the first one of
+    // its address byte in its cycle. An AT without content has no address byte.
     fn keeps_order(&self, cycle: u32, sent: &Sent) -> bool
         ensures { result ≡ order_by sent.now.kind self.now cycle sent.now }
     {
@@ -137,9 +138,9 @@ impl Seen {
         }
     }
 
-    // Returns whether rule 7 is kept: in phases 3 and 4 an AT starts at least its drive's TATAT after the end of the last AT of the same
-    // slave in its cycle. Other telegrams keep it. `phase` must be the phase commanded, and `found` what `found_for` returns for the
-    // telegram.
+    // Returns whether `Rule::Recovery` is kept: in phases 3 and 4 an AT starts at least its drive's TATAT after the end of the last AT of
+    // the same slave in its cycle. Other telegrams keep it. `phase` must be the phase commanded, and `found` what `found_for` returns for
+    // the telegram.
     fn keeps_recovery(&self, w: &Wishes, phase: u8, sent: &Sent, found: &Found) -> bool
         requires phase { phase ≡ phase_of self.now.command }
         requires found { found.now ≡ found_for w.now sent.now }
@@ -161,8 +162,8 @@ impl Seen {
         }
     }
 
-    // Returns whether rule 8 is kept: in phases 3 and 4 an MDT starts, for each AT of its cycle, at least that drive's TATMT after the AT's
-    // end. Other telegrams keep it. `phase` must be the phase commanded.
+    // Returns whether `Rule::Transition` is kept: in phases 3 and 4 an MDT starts, for each AT of its cycle, at least that drive's TATMT
+    // after the AT's end. Other telegrams keep it. `phase` must be the phase commanded.
     fn keeps_transition(&self, phase: u8, sent: &Sent) -> bool
         requires { phase ≡ phase_of self.now.command }
         ensures { result ≡ transition_by self.now sent.now }
@@ -170,32 +171,31 @@ impl Seen {
         !is_cyclic_mdt(phase, sent.kind) || self.is_free(sent.start)
     }
 
-    // Returns the lowest rule, 1 to 9, that a telegram breaks; `None` if it keeps all. The premises are those of `broken`.
-    fn broken_by(&self, w: &Wishes, cycle: u32, sent: &Sent, found: &Found) -> Option<u8>
+    // Returns the lowest rule that a telegram breaks; `None` if it keeps all. The premises are those of `broken`.
+    fn broken_by(&self, w: &Wishes, cycle: u32, sent: &Sent, found: &Found) -> Option<Rule>
         requires valid { IsValid w.now }
         requires found { found.now ≡ found_for w.now sent.now }
         ensures { result ≡ first_broken (kept_by self.now w.now cycle sent.now) }
     {
         let phase = phase_of(self.command);
-        let kept = [
-            self.keeps_order(cycle, sent),
-            keeps_frame(sent),
-            keeps_layout(w, phase, sent, found),
-            keeps_phase(self.command, sent),
-            keeps_start(w, phase, sent, found),
-            keeps_gap(w, phase, self.newest, sent, found),
-            self.keeps_recovery(w, phase, sent, found),
-            self.keeps_transition(phase, sent),
-            keeps_end(w, phase, sent),
+        let tests = [
+            (Rule::Order, self.keeps_order(cycle, sent)),
+            (Rule::Frame, keeps_frame(sent)),
+            (Rule::Layout, keeps_layout(w, phase, sent, found)),
+            (Rule::Phase, keeps_phase(self.command, sent)),
+            (Rule::Start, keeps_start(w, phase, sent, found)),
+            (Rule::Gap, keeps_gap(w, phase, self.newest, sent, found)),
+            (Rule::Recovery, self.keeps_recovery(w, phase, sent, found)),
+            (Rule::Transition, self.keeps_transition(phase, sent)),
+            (Rule::End, keeps_end(w, phase, sent)),
         ];
-        first_broken(&kept)
+        first_broken(&tests)
     }
 
-    /// Returns the lowest rule, 1 to 9, that a telegram breaks after those so far; `None` if it keeps all. The rules are those of this
-    /// profile on order, frame, layout, phase, start, gap, recovery, transition and end. `w` is the planner's input of the ring, which must
-    /// be valid. `cycle` is the telegram's cycle. `found` must be what [`found_for`](crate::found_for) returns for it.
+    /// Returns the lowest rule that a telegram breaks after those so far; `None` if it keeps all. `w` is the planner's input of the ring,
+    /// which must be valid. `cycle` is the telegram's cycle. `found` must be what [`found_for`](crate::found_for) returns for it.
     #[tactic(auto, using(crate::proofs::StandsLemmas::broken_stands))]
-    pub fn broken(&self, w: &Wishes, cycle: u32, sent: &Sent, found: &Found) -> Option<u8>
+    pub fn broken(&self, w: &Wishes, cycle: u32, sent: &Sent, found: &Found) -> Option<Rule>
         requires valid { IsValid w.now }
         requires found { found.now ≡ found_for w.now sent.now }
         ensures { (before : List Told) → SeenStandsFor self.now w.now before → result ≡ broken_rule w.now before (record { cycle = cycle; sent = sent.now }) }

@@ -7,7 +7,7 @@ pub enum Trouble {
     Violation {
         /// Its line.
         line: u32,
-        /// The lowest rule that it breaks, 1 to 9.
+        /// The number of the lowest [`Rule`](crate::Rule) that it breaks.
         rule: u8,
     },
     /// A line can't follow those before it, or the text ends within the head.

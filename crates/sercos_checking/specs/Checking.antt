@@ -1,5 +1,5 @@
 -- What `check` answers to a capture.
-use Rattle.std.specs.Prelude.{ℕ, ◌+◌, ◌==◌, not, if◌then◌else◌, List, [], ◌∷◌, ◌++◌, length, codes, decimal, Option, Some, None, unwrap_or}
+use Rattle.std.specs.Prelude.{ℕ, ◌+◌, not, List, [], ◌∷◌, ◌++◌, length, codes, decimal, Option, Some, None, unwrap_or}
 use Rattle.std.specs.Bool.{then_some}
 use Rattle.std.specs.Option.{option_or, option_map}
 use Rattle.sercos_io.specs.declared.status.Status.{Status}
@@ -8,6 +8,7 @@ use Rattle.sercos_trace.specs.declared.reading.Line.{Line}
 use Rattle.sercos_trace.specs.declared.reading.Line.TheVariants as line
 use Rattle.sercos_trace.specs.Kinds.{all_kinds, kinds_fault}
 use Rattle.sercos_trace.specs.Lines.{line_in}
+use Rattle.sercos_check.specs.Names.{rule_name, rule_with}
 use Rattle.sercos_check.specs.Shape.{has_head}
 use Rattle.sercos_check.specs.Tests.{can_follow}
 use Rattle.sercos_check.specs.Verdicts.{rule_broken}
@@ -56,21 +57,12 @@ verdict_by None None lines = verdict.Clean lines
 unfoldable pub verdict_of : List ℕ → Verdict
 verdict_of text = let lines = lines_of text in verdict_by (capture_fault [] lines) (first_violation [] lines) (length lines)
 
--- the names of the rules, by their numbers
-unfoldable pub rule_name : ℕ → List ℕ
-rule_name rule =
-    if rule == 1 then codes "order"
-    else if rule == 2 then codes "frame"
-    else if rule == 3 then codes "layout"
-    else if rule == 4 then codes "phase"
-    else if rule == 5 then codes "start"
-    else if rule == 6 then codes "gap"
-    else if rule == 7 then codes "recovery"
-    else if rule == 8 then codes "transition"
-    else codes "end"
+-- the name of the rule with a number; no text if no rule has it
+unfoldable pub name_with : ℕ → List ℕ
+name_with number = unwrap_or (option_map rule_name (rule_with number)) []
 
 unfoldable pub violation_text : ℕ → ℕ → List ℕ
-violation_text line rule = codes "violation line " ++ decimal line ++ codes " rule " ++ decimal rule ++ codes " " ++ rule_name rule ++
+violation_text line rule = codes "violation line " ++ decimal line ++ codes " rule " ++ decimal rule ++ codes " " ++ name_with rule ++
     line_feed
 
 unfoldable pub clean_text : ℕ → List ℕ

@@ -1,10 +1,10 @@
 // The verdict on a capture, and its line.
 ghost use Rattle.std.specs.Prelude.{◌≡◌, ◌≤◌, ◌+◌, ◌++◌, length, decimal};
-ghost use Rattle.sercos_checking.specs.Clauses.{rule_name, violation_text, clean_text, verdict_text, verdict_status, verdict_on};
+ghost use Rattle.sercos_checking.specs.Clauses.{name_with, violation_text, clean_text, verdict_text, verdict_status, verdict_on};
 
 use itoa::Buffer;
 use sercos_bits::ByteList;
-use sercos_check::Trouble;
+use sercos_check::{Rule, Trouble};
 use sercos_io::Status;
 
 /// The verdict of `check` on a capture. Lines are counted from 1.
@@ -21,7 +21,7 @@ pub enum Verdict {
     Violation {
         /// Its line.
         line: u32,
-        /// The lowest rule that it breaks, 1 to 9.
+        /// The number of the lowest [`Rule`] that it breaks.
         rule: u8,
     },
     /// Each line can follow and breaks no rule.
@@ -69,22 +69,15 @@ fn push_place(text: &str, number: u64, line: &mut VerdictLine)
     line.append_within(buffer.format(number).as_bytes());
 }
 
-// Returns the name of a rule, 1 to 9. Any other number counts as 9.
-#[tactic(auto, unfolding(crate::specs::Checking::rule_name))]
-fn rule_name(rule: u8) -> &'static str
-    ensures value { result.now ≡ rule_name rule }
+// Returns the name of the rule with a number, at most 10 bytes; an empty text if no rule has it.
+#[tactic(auto, unfolding(crate::specs::Checking::name_with))]
+fn name_with(number: u8) -> &'static str
+    ensures value { result.now ≡ name_with number }
     ensures bound { length result.now ≤ 10 }
 {
-    match rule {
-        1 => "order",
-        2 => "frame",
-        3 => "layout",
-        4 => "phase",
-        5 => "start",
-        6 => "gap",
-        7 => "recovery",
-        8 => "transition",
-        _ => "end",
+    match Rule::of_number(number) {
+        Some(rule) => rule.name(),
+        None => "",
     }
 }
 
@@ -98,7 +91,7 @@ fn push_violation(number: u32, rule: u8, line: &mut VerdictLine)
     push_place("violation line ", u64::from(number), line);
     push_place(" rule ", u64::from(rule), line);
     line.push_within(b' ');
-    line.append_within(rule_name(rule).as_bytes());
+    line.append_within(name_with(rule).as_bytes());
     line.push_within(b'\n');
 }
 

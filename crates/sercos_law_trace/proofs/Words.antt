@@ -94,13 +94,16 @@ pub use Rattle.sercos_trace.specs.declared.kind.LineKind.{LineKind}
 pub use Rattle.sercos_trace.specs.declared.reading.Line.{Line}
 pub use Rattle.sercos_trace.specs.declared.record.Move.{Move}
 pub use Rattle.sercos_trace.specs.declared.record.Totals.{Totals}
-pub use Rattle.sercos_check.specs.Rules.{broken_rule, first_broken, goes_on, has_room, is_after_gap, is_after_mark, is_after_transition, is_cyclic, is_cyclic_at, is_cyclic_mdt, is_next_cycle, is_next_phase, keeps_frame, layout_of, start_of, starts_later}
+pub use Rattle.sercos_check.specs.Names.{rule_number}
+unfoldable pub use Rattle.sercos_check.specs.Rules.{first_broken}
+pub use Rattle.sercos_check.specs.Rules.{broken_rule, goes_on, has_room, is_after_gap, is_after_mark, is_after_transition, is_cyclic, is_cyclic_at, is_cyclic_mdt, is_next_cycle, is_next_phase, keeps_frame, layout_of, start_of, starts_later}
 pub use Rattle.sercos_check.specs.Seen.{Told, command_before, in_cycle, is_at_from, is_at_of, is_drive, is_mdt, is_mst, mark_of, newest_of, note_of, phase_of, slave_of, wish_for}
 pub use Rattle.sercos_check.specs.Shape.{CanFollow, awaited_after, drive_or_order, drives_left, has_head, places, wishes_by}
 pub use Rattle.sercos_check.specs.Tests.{TellsFollowing}
 pub use Rattle.sercos_check.specs.Verdicts.{rule_broken, told}
 pub use Rattle.sercos_check.specs.declared.marks.Command.{Command}
 pub use Rattle.sercos_check.specs.declared.marks.Note.{Note}
+pub use Rattle.sercos_check.specs.declared.rule.Rule.{Rule}
 pub use Rattle.sercos_drive.proofs.RecordLemmas.{phase_below}
 pub use Rattle.sercos_drive.proofs.Worked.{drive}
 pub use Rattle.sercos_drive.specs.Annals.{annals, phase_at, store_at}

@@ -1,7 +1,6 @@
 -- In a clean capture no cycle goes back.
-use Rattle.std.proofs.Common.{◌≡◌, ℕ, ◌+◌, ◌≤◌, nat_lt, length, Bool, true, false, cond, List, [], ◌∷◌, if◌then◌else◌, Option, Some, None, option_map, refl, sym, ◌∙◌, ap, subst, arith}
+use Rattle.std.proofs.Common.{◌≡◌, ℕ, ◌+◌, ◌≤◌, Bool, true, false, List, [], ◌∷◌, if◌then◌else◌, Option, Some, None, option_map, refl, sym, ◌∙◌, ap, subst, arith}
 use Rattle.std.proofs.lemmas.Bool.{eqb-true}
-use Rattle.std.proofs.lemmas.Bool.Decides.{Decides-ltb}
 use Rattle.std.proofs.lemmas.Option.{none-some}
 use Rattle.sercos_telegram.specs.declared.layout.Kind.{Kind}
 use Rattle.sercos_telegram.specs.declared.layout.Kind.TheVariants as telegram
@@ -9,6 +8,9 @@ use Rattle.sercos_trace.specs.Views.{SentView}
 use Rattle.sercos_trace.specs.declared.reading.Line.{Line}
 use Rattle.sercos_trace.specs.declared.reading.Line.TheVariants as line
 use Rattle.sercos_check.specs.declared.marks.Command.{Command}
+use Rattle.sercos_check.specs.declared.rule.Rule.{Rule}
+use Rattle.sercos_check.specs.declared.rule.Rule.TheVariants as rule
+use Rattle.sercos_check.specs.Names.{rule_number}
 use Rattle.sercos_timing.specs.Views.{WishesView}
 use Rattle.sercos_check.specs.Seen.{Told, is_mst, command_of, command_before, phase_before, newest_in}
 use Rattle.sercos_check.specs.Rules.{is_next_cycle, order_of, keeps_order, keeps_frame, keeps_layout, keeps_phase, keeps_start, keeps_gap, keeps_recovery, keeps_transition, keeps_end, first_broken, broken_rule}
@@ -55,23 +57,21 @@ newest-command (line.Other ∷ lines) = newest-command lines
 newest-command (line.End ∷ lines) = newest-command lines
 
 -- the first rule is kept, if none is broken
-first-kept : (b : Bool) (kept : List Bool) → first_broken (b ∷ kept) ≡ None → b ≡ true
-first-kept true kept none = refl
-first-kept false kept none =
-    let more : nat_lt 0 (length (false ∷ kept)) ≡ true = (Decides-ltb 0 (length (false ∷ kept))).1 (omega arith) in
-    let first : Some (0 + 1) ≡ None = ap (λ b. option_map (λ (place : ℕ). place + 1) (cond b (Some 0) None)) (sym more) ∙ none in
-    absurd (none-some (0 + 1) (sym first))
+first-kept : (b : Bool) (tests : List (Rule × Bool)) → option_map rule_number (first_broken ((rule.Order, b) ∷ tests)) ≡ None → b ≡ true
+unfolding first_broken
+first-kept true tests none = refl
+first-kept false tests none = absurd (none-some 1 (sym none))
 
-pub order-kept : (w : WishesView) (before : List Told) (t : Told) → broken_rule w before t ≡ None → keeps_order w before t ≡ true
+pub order-kept : (w : WishesView) (before : List Told) (t : Told) → option_map rule_number (broken_rule w before t) ≡ None → keeps_order w before t ≡ true
 order-kept w before t none = first-kept (keeps_order w before t) (
-    keeps_frame t.sent
-    ∷ keeps_layout w (phase_before before) t.sent
-    ∷ keeps_phase (command_before before) t.sent
-    ∷ keeps_start w (phase_before before) t.sent
-    ∷ keeps_gap w (phase_before before) (newest_in w before) t.sent
-    ∷ keeps_recovery w before t.sent
-    ∷ keeps_transition w before t.sent
-    ∷ keeps_end w (phase_before before) t.sent
+    (rule.Frame, keeps_frame t.sent)
+    ∷ (rule.Layout, keeps_layout w (phase_before before) t.sent)
+    ∷ (rule.Phase, keeps_phase (command_before before) t.sent)
+    ∷ (rule.Start, keeps_start w (phase_before before) t.sent)
+    ∷ (rule.Gap, keeps_gap w (phase_before before) (newest_in w before) t.sent)
+    ∷ (rule.Recovery, keeps_recovery w before t.sent)
+    ∷ (rule.Transition, keeps_transition w before t.sent)
+    ∷ (rule.End, keeps_end w (phase_before before) t.sent)
     ∷ []) none
 
 later : (command : Option Command) (cycle : ℕ) → is_next_cycle command cycle ≡ true → number_of command ≤ cycle

@@ -1,5 +1,5 @@
 -- The lines of a trace that are no telegrams pass a check of captures.
-use Rattle.sercos_law_trace.proofs.Words.{◌≡◌, ℕ, ℤ, zero, suc, ◌<◌, ◌≤◌, Bool, true, false, List, [], ◌∷◌, ◌++◌, length, take, drop, reverse, Option, Some, None, refl, sym, ◌∙◌, ap, ap₂, subst, arith, if◌then◌else◌, All, flat_map, beq, flat_map-append, reverse_onto, All-head, All-tail, All-take, All-drop, Kind, Outcome, WishesView, PlanView, ChainView, Value, number, signed, bytes, LineKind, Line, Move, Totals, Stop, Fall, line_of, line_with, SentView, EventsView, CycleView, ReadsBack, sent_kind, sent_text, move_text, ended_text, outcome_text, plan_line, slot_text, slots_text, link_text, bound_text, chain_text, events_text, moves_text, cycle_text, end_text, Told, broken_rule, awaited_after, wishes_by, has_head, TellsFollowing, told, FitsLine, FitLines, told_after, told_in, KeepRules, FitsMove, FitsEnded, FitsSlot, FitsPlan, FitsLink, FitsChain, FitsStop, FitsFall, FitsEvents, FitsCycle, FitTotals, tail_text, IsTail, field_of, AreOf, IsOf, part_left, numbers_in, signed_by, bytes_by, template_of, tail_for, line_by, plan_text, stop_text, fall_text}
+use Rattle.sercos_law_trace.proofs.Words.{◌≡◌, ℕ, ℤ, zero, suc, ◌<◌, ◌≤◌, Bool, true, false, List, [], ◌∷◌, ◌++◌, length, take, drop, reverse, Option, Some, None, option_map, refl, sym, ◌∙◌, ap, ap₂, subst, arith, if◌then◌else◌, All, flat_map, beq, flat_map-append, reverse_onto, All-head, All-tail, All-take, All-drop, Kind, Outcome, WishesView, PlanView, ChainView, Value, number, signed, bytes, LineKind, Line, Move, Totals, Stop, Fall, line_of, line_with, SentView, EventsView, CycleView, ReadsBack, sent_kind, sent_text, move_text, ended_text, outcome_text, plan_line, slot_text, slots_text, link_text, bound_text, chain_text, events_text, moves_text, cycle_text, end_text, Told, rule_number, broken_rule, awaited_after, wishes_by, has_head, TellsFollowing, told, FitsLine, FitLines, told_after, told_in, KeepRules, FitsMove, FitsEnded, FitsSlot, FitsPlan, FitsLink, FitsChain, FitsStop, FitsFall, FitsEvents, FitsCycle, FitTotals, tail_text, IsTail, field_of, AreOf, IsOf, part_left, numbers_in, signed_by, bytes_by, template_of, tail_for, line_by, plan_text, stop_text, fall_text}
 use Rattle.sercos_telegram.specs.declared.layout.Kind.TheVariants as telegram
 use Rattle.sercos_step.specs.declared.request.Outcome.TheVariants as outcome
 use Rattle.sercos_text.specs.Templates.{IsPart}
@@ -106,8 +106,9 @@ module _ (tells : TellsFollowing) (law : ReadsBack) where
     abbrev with_told : ℕ → SentView → List Told → List Told
     with_told cycle s before = (record { cycle = cycle; sent = s }) ∷ before
 
-    rule_so : (before : List Told) (lines : List Line) (cycle : ℕ) (s : SentView) → Stands w before lines → broken_rule w before (record { cycle = cycle; sent = s }) ≡ None → broken_rule (wishes_by lines) (told lines) (record { cycle = cycle; sent = s }) ≡ None
-    rule_so before lines cycle s stands kept = ap₂ (λ (v : WishesView) (l : List Told). broken_rule v l (record { cycle = cycle; sent = s })) stands.wishes stands.telegrams ∙ kept
+    rule_so : (before : List Told) (lines : List Line) (cycle : ℕ) (s : SentView) → Stands w before lines → broken_rule w before (record { cycle = cycle; sent = s }) ≡ None → option_map rule_number (broken_rule (wishes_by lines) (told lines) (record { cycle = cycle; sent = s })) ≡ None
+    rule_so before lines cycle s stands kept =
+        ap (option_map rule_number) (ap₂ (λ (v : WishesView) (l : List Told). broken_rule v l (record { cycle = cycle; sent = s })) stands.wishes stands.telegrams ∙ kept)
 
     next_stands : (before : List Told) (lines : List Line) (cycle : ℕ) (s : SentView) → Stands w before lines → Stands w (with_told cycle s before) (line.Telegram cycle s ∷ lines)
     next_stands before lines cycle s stands = record { awaits = refl; wishes = stands.wishes; telegrams = ap (λ (l : List Told). with_told cycle s l) stands.telegrams }

@@ -1,6 +1,7 @@
 -- The telegrams of one cycle keep the rules, if each does after those before it in the cycle.
-use Rattle.sercos_law_trace.proofs.Words.{◌≡◌, ℕ, ℤ, pos, ◌*◌, nat_lt, Bool, true, false, not, ◌&&◌, ◌||◌, List, [], ◌∷◌, ◌++◌, length, Option, Some, None, option_map, refl, ◌∙◌, ap, slice_index, list_all, list_any, find, frame_of, Kind, WishesView, SentView, Said, Sent, Command, Note, Told, is_mdt, is_mst, command_before, phase_of, in_cycle, newest_of, wish_for, slave_of, mark_of, note_of, is_at_from, is_at_of, is_next_cycle, goes_on, keeps_frame, layout_of, is_next_phase, start_of, is_cyclic, is_cyclic_at, is_cyclic_mdt, is_after_gap, is_after_mark, is_after_transition, has_room, first_broken, broken_rule, sent_at, sent_mst, sent_mdt, ats_said, told_after, KeepRules}
+use Rattle.sercos_law_trace.proofs.Words.{◌≡◌, ℕ, ℤ, pos, ◌*◌, nat_lt, Bool, true, false, not, ◌&&◌, ◌||◌, List, [], ◌∷◌, ◌++◌, length, Option, Some, None, option_map, refl, ◌∙◌, ap, slice_index, list_all, list_any, find, frame_of, Kind, WishesView, SentView, Said, Sent, Command, Note, Rule, Told, is_mdt, is_mst, command_before, phase_of, in_cycle, newest_of, wish_for, slave_of, mark_of, note_of, is_at_from, is_at_of, is_next_cycle, goes_on, keeps_frame, layout_of, is_next_phase, start_of, is_cyclic, is_cyclic_at, is_cyclic_mdt, is_after_gap, is_after_mark, is_after_transition, has_room, first_broken, broken_rule, sent_at, sent_mst, sent_mdt, ats_said, told_after, KeepRules}
 use Rattle.sercos_telegram.specs.declared.layout.Kind.TheVariants as kinds
+use Rattle.sercos_check.specs.declared.rule.Rule.TheVariants as rules
 use Rattle.sercos_check.specs.Seen.{address_of}
 
 -- THE RULES of a telegram, by the newest MST before it and the telegrams of its cycle before it, the newest first.
@@ -38,27 +39,41 @@ phase_by command s = not (is_mst s.kind) || is_next_phase command (slice_index s
 abbrev pub end_by : WishesView → Option Command → SentView → Bool
 end_by w command s = not (is_cyclic_mdt (phase_of command) s.kind) || has_room w s
 
-abbrev pub broken_by : WishesView → Option Command → List SentView → ℕ → SentView → Option ℕ
-broken_by w command seen cycle s = first_broken
-    (order_by s.kind w command seen cycle s
-    ∷ keeps_frame s
-    ∷ layout_of s.kind w (phase_of command) s
-    ∷ phase_by command s
-    ∷ start_of s.kind w (phase_of command) s
-    ∷ gap_by w command seen s
-    ∷ recovery_by w command seen s
-    ∷ transition_by w command seen s
-    ∷ end_by w command s
-    ∷ [])
+-- the nine rules, with whether each is kept
+abbrev pub tests_by : Bool → Bool → Bool → Bool → Bool → Bool → Bool → Bool → Bool → List (Rule × Bool)
+tests_by a b c d e f g h i =
+    (rules.Order, a)
+    ∷ (rules.Frame, b)
+    ∷ (rules.Layout, c)
+    ∷ (rules.Phase, d)
+    ∷ (rules.Start, e)
+    ∷ (rules.Gap, f)
+    ∷ (rules.Recovery, g)
+    ∷ (rules.Transition, h)
+    ∷ (rules.End, i)
+    ∷ []
+
+abbrev pub broken_by : WishesView → Option Command → List SentView → ℕ → SentView → Option Rule
+broken_by w command seen cycle s = first_broken (tests_by
+    (order_by s.kind w command seen cycle s)
+    (keeps_frame s)
+    (layout_of s.kind w (phase_of command) s)
+    (phase_by command s)
+    (start_of s.kind w (phase_of command) s)
+    (gap_by w command seen s)
+    (recovery_by w command seen s)
+    (transition_by w command seen s)
+    (end_by w command s))
 
 -- none is broken, if each is kept, those of the cyclic telegrams also because none is sent
 pub none_early : {a b c d e late : Bool} (f g h i w x y z : Bool) → a ≡ true → b ≡ true → c ≡ true → d ≡ true → e ≡ true → late ≡ false
-    → first_broken (a ∷ b ∷ c ∷ d ∷ e ∷ (not (late && w) || f) ∷ (not (late && x) || g) ∷ (not (late && y) || h)
-    ∷ (not (late && z) || i) ∷ []) ≡ None
+    → first_broken (tests_by a b c d e (not (late && w) || f) (not (late && x) || g) (not (late && y) || h) (not (late && z) || i)) ≡ None
+unfolding first_broken
 none_early f g h i w x y z ka kb kc kd ke none = rw (ka, kb, kc, kd, ke, none) refl
 
 pub none_broken : (a b c d e f g h i : Bool) → a ≡ true → b ≡ true → c ≡ true → d ≡ true → e ≡ true → f ≡ true → g ≡ true → h ≡ true → i ≡ true
-    → first_broken (a ∷ b ∷ c ∷ d ∷ e ∷ f ∷ g ∷ h ∷ i ∷ []) ≡ None
+    → first_broken (tests_by a b c d e f g h i) ≡ None
+unfolding first_broken
 none_broken a b c d e f g h i ka kb kc kd ke kf kg kh ki = rw (ka, kb, kc, kd, ke, kf, kg, kh, ki) refl
 
 pub rule_so : (w : WishesView) (before : List Told) (cycle : ℕ) (k : Kind) (start : ℤ) (bits : ℕ) (content : List ℕ)

@@ -1,5 +1,5 @@
 -- A worked run whose trace is clean, and an altered journal whose trace isn't, computed from the definitions, down to the bytes of each line.
-use Rattle.sercos_law_trace.proofs.Words.{◌≡◌, ℕ, List, [], ◌∷◌, ◌++◌, None, codes, length, refl, reverse, subst, sym, ◌∙◌, pos, RingView, wishes_of, Deaf, Fault, trace_of, SentView, CycleView, Clean, Violation, drive, IsClear, run_of, IsCleanIfClear, IsCleanTrace, item_fault, item_len, item_of, item_text, kept_of, listed_fault, list_fault, list_len, list_of, list_text, end_fault, list_end_fault, tail_fault, tail_of, addresses_in, idents_text, tail_text, field_of, field_fault, field_len, byte_fault, part_fault, part_len, line_fault, hex_text, value_text, field_value, part_values, values_of, items_of, is_template, numbers_in, signed_by, bytes_by, part_text, part_left, line_text, template_of, tail_for, later, kinds_fault, first_kind, line_by, telegram_kind, plan_text, stop_text, fall_text, read_as, grammar_fault, shape_fault, column_of, capture_fault, first_violation, verdict_by, verdict_of, kind_cycle, mst_cycle, first_cycle, late, late_start, totals_of}
+use Rattle.sercos_law_trace.proofs.Words.{◌≡◌, ℕ, List, [], ◌∷◌, ◌++◌, None, codes, length, refl, reverse, subst, sym, ◌∙◌, pos, RingView, wishes_of, Deaf, Fault, trace_of, SentView, CycleView, Clean, Violation, drive, IsClear, run_of, IsCleanIfClear, IsCleanTrace, item_fault, item_len, item_of, item_text, kept_of, listed_fault, list_fault, list_len, list_of, list_text, end_fault, list_end_fault, tail_fault, tail_of, addresses_in, idents_text, tail_text, field_of, field_fault, field_len, byte_fault, part_fault, part_len, line_fault, hex_text, value_text, field_value, part_values, values_of, items_of, is_template, numbers_in, signed_by, bytes_by, part_text, part_left, line_text, template_of, tail_for, later, kinds_fault, first_kind, line_by, telegram_kind, plan_text, stop_text, fall_text, read_as, grammar_fault, shape_fault, column_of, capture_fault, first_broken, first_violation, verdict_by, verdict_of, kind_cycle, mst_cycle, first_cycle, late, late_start, totals_of}
 use Rattle.std.specs.Fmt.{digits}
 use Rattle.hex.specs.Hex.{decode_pairs, encode_with}
 use Rattle.sercos_idn.specs.Idns.{idn_text, four_digits}
@@ -64,7 +64,7 @@ texts = (refl, refl)
 verdicts : (verdict_of (text (codes "1200")) ≡ Clean (length (lines_of (text (codes "1200")))))
     × (late_start (text (codes "1200")) ≡ None)
     × (verdict_of (text (codes "1199")) ≡ Violation 19 5)
-unfolding verdict_of verdict_by lines_of capture_fault first_violation column_of grammar_fault shape_fault read_as can_follow kinds_fault first_kind later line_fault part_fault part_len field_fault field_len byte_fault end_fault tail_fault line_by values_of part_values field_value items_of tail_of numbers_in signed_by bytes_by late_start first_cycle late number_fault negative_fault signed_fault signed_len signed_of pairs_fault hex_fault hex_len pairs_of hex_of digits_fault digit_of low_pairs all_hex item_fault item_len item_of kept_of listed_fault list_fault list_len list_of list_end_fault addresses_in telegram_kind is_template template_of tail_for field_of digits decode_pairs is_valid Valid.is_rate Valid.is_cycle Valid.is_control Bits.bits_of Bits.low_bits Bits.is_odd Bits.number_of CheckSequence.fcs_of CheckSequence.divided CheckSequence.added CheckSequence.sum_of Stuffed.stuffed Stuffed.frame_of Faults.mst_fault Faults.head_fault kind_cycle mst_cycle
+unfolding verdict_of verdict_by lines_of capture_fault first_violation first_broken column_of grammar_fault shape_fault read_as can_follow kinds_fault first_kind later line_fault part_fault part_len field_fault field_len byte_fault end_fault tail_fault line_by values_of part_values field_value items_of tail_of numbers_in signed_by bytes_by late_start first_cycle late number_fault negative_fault signed_fault signed_len signed_of pairs_fault hex_fault hex_len pairs_of hex_of digits_fault digit_of low_pairs all_hex item_fault item_len item_of kept_of listed_fault list_fault list_len list_of list_end_fault addresses_in telegram_kind is_template template_of tail_for field_of digits decode_pairs is_valid Valid.is_rate Valid.is_cycle Valid.is_control Bits.bits_of Bits.low_bits Bits.is_odd Bits.number_of CheckSequence.fcs_of CheckSequence.divided CheckSequence.added CheckSequence.sum_of Stuffed.stuffed Stuffed.frame_of Faults.mst_fault Faults.head_fault kind_cycle mst_cycle
 verdicts = (refl, refl, refl)
 
 is_clean : IsCleanTrace (wishes_of ring) run (totals_of (reverse run))
