@@ -83,7 +83,7 @@ def stage_programs(top: pathlib.Path, linked: Linked) -> None:
         (top / "usr/bin" / program.name).symlink_to(f"../share/lokbrez/{program.name}")
         page = top / "usr/share/man/man1" / f"{program.name}.1.gz"
         page.parent.mkdir(parents=True, exist_ok=True)
-        page.write_bytes(packed((top / f"parts/man/{program.name}.1").read_bytes()))
+        page.write_bytes(packed((top / f"parts/man/man1/{program.name}.1").read_bytes()))
     for name, place in COMPLETIONS.items():
         copy(top / "parts/completions" / name, top / place)
     (top / "usr/share/bash-completion/completions/sercos_rings").symlink_to("sercos")
