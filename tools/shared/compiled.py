@@ -81,8 +81,9 @@ def crate_lines(crates: Crates, lines: Iterable[str]) -> list[dict[str, str]]:
             # What is compiled after the check says the same again.
             verdict = verdict or line
         elif said and said[1] in crates.rows:
-            found.append({"crate": said[1], "of": "its tests" if said[2] else "the crate", "said": line} | ({"verdict": verdict} if verdict else {}))
-            verdict = ""
+            found.append({"crate": said[1], "of": "its tests" if said[2] else "the crate", "said": line})
+            if verdict:
+                found[-1]["verdict"], verdict = verdict, ""
     unnamed = set(crates.rows) - {row["crate"] for row in found if row["of"] == "the crate"}
     if unnamed:
         raise Stale(f"the gate's log has no line on {', '.join(sorted(unnamed))}")
@@ -108,4 +109,4 @@ def page_part() -> dict[str, Any] | None:
         if sum_of(module) in of_module and of_page[:-2] == [of_module[-1], *own] and of_page[-1] == sum_of(PAGE):
             return {"sha256": sum_of(PAGE), "crate": LIBRARY, "compiled": made.file.name, "linked_with": ["library/linear_heap.c"],
                     "by_way_of": "the LLVM module of that archive, retargeted to WebAssembly by tools/page"}
-    raise Stale(f"{PAGE.relative_to(TOP)} isn't made of the library and the texts as they are: tools/page makes it")
+    raise Stale(f"build/{PAGE.name} isn't made of the library and the texts as they are: tools/page makes it")
