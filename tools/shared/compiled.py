@@ -63,8 +63,8 @@ def gate_said(crates: Crates) -> dict[str, Any]:
     if int(count[1]) != len(crates.rows) + refused:
         raise Stale(f"the gate counts {count[1]}, which isn't {len(crates.rows)} crates and {refused} edits")
     return {"command": "rt ci", "last_line": lines[-1], "line_before": ends[-1] if ends else "",
-            "counts": f"{len(crates.rows)} crates, each proved with its tests, and {refused} edits of must-fail/, each a wrong body or statement that "
-                      "was refused. What ran, below, adds nothing when it passes, and a failure each when it doesn't.",
+            "counts": f"{len(crates.rows)} crates, each proved with its tests, and {refused} edits of must-fail/, each a wrong body or statement "
+                      "that was refused. What ran, below, adds nothing when it passes, and a failure each when it doesn't.",
             "crates": crate_lines(crates, lines),
             "ran": [line for line in lines if re.match(r"rt: \w+(: its tests passed$| ran\b)", line)]}
 
