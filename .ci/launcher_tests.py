@@ -9,7 +9,7 @@ import sys
 
 from tool_tests import TOP
 
-SHARED = ["sercos", "sercos_rings", "try", "VERSION", "man/sercos.1", "tools/start", "tools/build", "tools/library",
+SHARED = ["sercos", "sercos_rings", "try", "VERSION", "man/man1/sercos.1", "tools/start", "tools/build", "tools/library",
           *(f"tools/shared/{name}.py" for name in ("__init__", "build_times", "building", "crates", "library", "linking", "llvm_module", "proving")),
           "library/heap.c", "library/exports.map", "include/sercos.h"]
 NO_RT = "{}: the program is missing or older than a source, and there is no rt to build it\n"

@@ -1,5 +1,6 @@
 """What the tests of the tools share: counting, running a command, and skipping what the machine lacks."""
 import pathlib
+import re
 import subprocess
 import sys
 
@@ -31,6 +32,11 @@ class Tests:
         """Prints the number of tests that passed, and ends with 0 only if none failed."""
         print(f"{self.name}: {self.passed} passed" + (f", {self.failed} failed" if self.failed else ""))
         sys.exit(1 if self.failed else 0)
+
+
+def links(text):
+    """Where the links of a document lead, but those in blocks of code."""
+    return re.findall(r"\]\(([^)\s]+)\)", re.sub(r"(?ms)^```.*?^```$", "", text))
 
 
 def run(words, source=b"", **options):

@@ -1,9 +1,9 @@
 /* A drive in this program's own process: opens drive 1 of a ring document, sends it the telegrams of a master from phase 0 to
  * phase 2, and reads its T1min (S-0-0003) over the service channel.
  *
- * At the top of the repository, after tools/library:
+ * At the top of the repository, after tools/library, or in the folder of a release, which has the library in lib/:
  *
- *   cc -Ibuild/include -o build/drive_c examples/embed/drive.c build/libsercos.a
+ *   mkdir -p build && cc -Iinclude -o build/drive_c examples/embed/drive.c -Lbuild -Llib -l:libsercos.a
  *   build/drive_c examples/one_read.toml
  */
 #include "sercos.h"

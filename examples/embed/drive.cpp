@@ -1,8 +1,8 @@
 // A drive in this program's own process: as drive.c, by the objects of sercos.hpp.
 //
-// At the top of the repository, after tools/library:
+// At the top of the repository, after tools/library, or in the folder of a release, which has the library in lib/:
 //
-//   c++ -std=c++17 -Ibuild/include -o build/drive_cpp examples/embed/drive.cpp build/libsercos.a
+//   mkdir -p build && c++ -std=c++17 -Iinclude -o build/drive_cpp examples/embed/drive.cpp -Lbuild -Llib -l:libsercos.a
 //   build/drive_cpp examples/one_read.toml
 #include "sercos.hpp"
 

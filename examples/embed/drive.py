@@ -1,6 +1,7 @@
 """A drive in this program's own process: as drive.c, by the package of python/.
 
-At the top of the repository, after tools/library:
+At the top of the repository, after tools/library, in a virtual environment (python3 -m venv FOLDER). With a release its wheel is installed,
+in place of ./python:
 
     pip install ./python
     python3 examples/embed/drive.py examples/one_read.toml
@@ -23,6 +24,9 @@ CYCLES: list[tuple[int, Record | None]] = [
 
 
 def main() -> None:
+    if len(sys.argv) != 2:
+        print("usage: drive.py RING.toml", file=sys.stderr)
+        sys.exit(2)
     document = pathlib.Path(sys.argv[1]).read_bytes()
     with Drive(document, 0) as drive:
         for number, (phase, step) in enumerate(CYCLES):

@@ -1,9 +1,9 @@
 /* A master and its drives in this program's own process, coupled without bits: what one sends is handed to the others as it is.
  * Runs 300 cycles of a ring document, and prints what the master reports: the plan, the slots, and how its requests end.
  *
- * At the top of the repository, after tools/library:
+ * At the top of the repository, after tools/library, or in the folder of a release, which has the library in lib/:
  *
- *   cc -Ibuild/include -o build/ring_c examples/embed/ring.c build/libsercos.a
+ *   mkdir -p build && cc -Iinclude -o build/ring_c examples/embed/ring.c -Lbuild -Llib -l:libsercos.a
  *   build/ring_c examples/one_read.toml
  */
 #include "sercos.h"

@@ -1,8 +1,8 @@
 // A master and its drives, coupled without bits: as ring.c, by the objects of sercos.hpp.
 //
-// At the top of the repository, after tools/library:
+// At the top of the repository, after tools/library, or in the folder of a release, which has the library in lib/:
 //
-//   c++ -std=c++17 -Ibuild/include -o build/ring_cpp examples/embed/ring.cpp build/libsercos.a
+//   mkdir -p build && c++ -std=c++17 -Iinclude -o build/ring_cpp examples/embed/ring.cpp -Lbuild -Llib -l:libsercos.a
 //   build/ring_cpp examples/one_read.toml
 #include "sercos.hpp"
 

@@ -1,6 +1,7 @@
 """A master and its drives, coupled without bits: as ring.c, by the package of python/.
 
-At the top of the repository, after tools/library:
+At the top of the repository, after tools/library, in a virtual environment (python3 -m venv FOLDER). With a release its wheel is installed,
+in place of ./python:
 
     pip install ./python
     python3 examples/embed/ring.py examples/one_read.toml
@@ -39,6 +40,9 @@ def run_cycle(master: Master, drives: list[Drive], cycle: int) -> None:
 
 
 def main() -> None:
+    if len(sys.argv) != 2:
+        print("usage: ring.py RING.toml", file=sys.stderr)
+        sys.exit(2)
     document = pathlib.Path(sys.argv[1]).read_bytes()
     with contextlib.ExitStack() as stack:
         master = stack.enter_context(Master(document))

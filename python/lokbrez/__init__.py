@@ -25,6 +25,8 @@ from .telegrams import (At, Record, at_read, at_write, idn_parse, idn_text, join
                         single_write)
 from .trace_lines import name_of
 
+__version__ = "0.1.0"
+
 __all__ = [
     "Answer", "At", "BadFrame", "BadTelegram", "BadWords", "Bits", "Chain", "Clean", "Closed", "Cycle", "Deframer", "Drive", "Error", "Link",
     "Master", "NoElement", "NoSuchDrive", "OutOfMemory", "Plan", "Record", "Refused", "Ring", "Run", "Slot", "Status", "Timed", "TooLong",

@@ -16,6 +16,10 @@ from .release_folder import Linked, copy, files_of, set_times, stage, stage_libr
 MAINTAINER = "Lokbrez maintainers <maintainers@users.noreply.lokbrez.example>"
 # Where a release's folder is there, and its programs.
 SHARE, LIBEXEC = "usr/share/lokbrez", "usr/libexec/lokbrez"
+# The documents, and what they name by links.
+READ = ["README.md", "CHANGELOG.md", "CONTRIBUTING.md", "docs", "examples", "include", "schema", "tools"]
+# The text that Debian has of the licence.
+LICENCE = "usr/share/common-licenses/Apache-2.0"
 COMPLETIONS = {"sercos.bash": "usr/share/bash-completion/completions/sercos", "_sercos": "usr/share/zsh/vendor-completions/_sercos",
                "sercos.fish": "usr/share/fish/vendor_completions.d/sercos.fish"}
 CONTROL = """Package: {name}
@@ -73,7 +77,7 @@ def packages(linked: Linked, cross: Cross, work: pathlib.Path) -> list[Package]:
 
 def stage_programs(top: pathlib.Path, linked: Linked) -> None:
     """The release's folder in /usr/share, and what the system looks for elsewhere: programs, manual pages, completions."""
-    stage(top / SHARE, linked.dynamic, ["README.md", "VERSION", "sercos", "sercos_rings", "tools", "examples", "schema", "docs"])
+    stage(top / SHARE, linked.dynamic, [*READ, "VERSION", "sercos", "sercos_rings"])
     (top / LIBEXEC).parent.mkdir(parents=True)
     os.replace(top / SHARE / "libexec", top / LIBEXEC)
     (top / SHARE / "libexec").symlink_to(os.path.relpath(LIBEXEC, SHARE))
@@ -83,15 +87,17 @@ def stage_programs(top: pathlib.Path, linked: Linked) -> None:
         (top / "usr/bin" / program.name).symlink_to(f"../share/lokbrez/{program.name}")
         page = top / "usr/share/man/man1" / f"{program.name}.1.gz"
         page.parent.mkdir(parents=True, exist_ok=True)
-        page.write_bytes(packed((top / f"parts/man/{program.name}.1").read_bytes()))
+        page.write_bytes(packed((top / f"parts/man/man1/{program.name}.1").read_bytes()))
     for name, place in COMPLETIONS.items():
         copy(top / "parts/completions" / name, top / place)
     (top / "usr/share/bash-completion/completions/sercos_rings").symlink_to("sercos")
     shutil.rmtree(top / "parts")
     documents = top / "usr/share/doc/lokbrez"
     documents.mkdir(parents=True)
-    for name in ("README.md", "docs"):
+    for name in READ:
         (documents / name).symlink_to(f"../../lokbrez/{name}")
+    for folder in (top / SHARE, documents):
+        (folder / "LICENSE").symlink_to(os.path.relpath(top / LICENCE, folder))
 
 
 def stage_libraries(runtime: pathlib.Path, development: pathlib.Path, linked: Linked, cross: Cross) -> None:

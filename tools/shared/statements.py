@@ -8,11 +8,13 @@ import time
 from typing import Any
 
 from .building import sum_of
-from .compiled import FLAGS, LIBRARY, PROGRAMS, Compiled, gate_line
+from .compiled import FLAGS, LIBRARY, PROGRAMS, Compiled, gate_said
 from .crates import Crates
 from .linking import Cross, Missing, run, version
 
 Json = dict[str, Any]
+VERDICTS = ("What counts are the lines of rt ci, in 'gate': it reuses no part of a check. A line in 'compiled' is of the check over which that file "
+            "was compiled, which took over what was checked before (incremental=trusted). Each rests on the contracts of the C functions in 'axioms'.")
 # Names of our own in the statements.
 OWN = "https://lokbrez.example/release/v1"
 
@@ -66,8 +68,8 @@ def proved(crates: Crates, kit: Kit, commit: str, subject: list[Json], crosses: 
     """Which files are made of which proved crate, by which compiler, and what rattle and the gate said of it."""
     products = [Compiled(name, arch).noted(crates) for arch in FLAGS for name in (*PROGRAMS, LIBRARY)]
     return statement(subject, f"{OWN}/proved", {
-        "version": version(), "commit": commit, "kit": kit.name, "kit_sums": kit.sums, "gate": gate_line(crates),
-        "sources": {"crates": len(crates.rows), "sha256": crates.sum(crates.rows)}, "compiled": products,
+        "version": version(), "commit": commit, "kit": kit.name, "kit_sums": kit.sums, "gate": gate_said(crates),
+        "sources": {"crates": len(crates.rows), "sha256": crates.sum(crates.rows)}, "compiled": products, "verdicts": VERDICTS,
         "linked_by": {arch: f"gcc {cross.version}" for arch, cross in crosses.items()}, "files": inside})
 
 

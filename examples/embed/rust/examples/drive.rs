@@ -1,6 +1,6 @@
 //! A drive in this program's own process: as drive.c, by the crate of this folder.
 //!
-//! At the top of the repository, after tools/library:
+//! At the top of the repository, after tools/library, or in the folder of a release, which has the library in lib/:
 //!
 //!   export CARGO_TARGET_DIR=build/rust
 //!   cargo run -q --manifest-path examples/embed/rust/Cargo.toml --example drive -- examples/one_read.toml

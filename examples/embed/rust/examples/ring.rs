@@ -1,6 +1,6 @@
 //! A master and its drives, coupled without bits: as ring.c, by the crate of this folder.
 //!
-//! At the top of the repository, after tools/library:
+//! At the top of the repository, after tools/library, or in the folder of a release, which has the library in lib/:
 //!
 //!   export CARGO_TARGET_DIR=build/rust
 //!   cargo run -q --manifest-path examples/embed/rust/Cargo.toml --example ring -- examples/one_read.toml
