@@ -10,7 +10,7 @@ import sys
 from tool_tests import TOP
 
 SHARED = ["sercos", "sercos_rings", "try", "VERSION", "man/man1/sercos.1", "tools/start", "tools/build", "tools/library",
-          *(f"tools/shared/{name}.py" for name in ("__init__", "build_times", "building", "crates", "library", "linking", "llvm_module", "proving")),
+          *(f"tools/shared/{name}.py" for name in ("__init__", "build_times", "building", "crates", "linking", "llvm_module", "proving")),
           "library/heap.c", "library/exports.map", "include/sercos.h"]
 NO_RT = "{}: the program is missing or older than a source, and there is no rt to build it\n"
 # All that the launcher may use beside rt.
@@ -61,7 +61,6 @@ class Repository:
             (self.tools / name).symlink_to(shutil.which(name))
         (self.tools / "python3").symlink_to(os.path.realpath(sys.executable))
         shutil.copy(TOP / ".ci/fake_rt", self.tools / "rt")
-        shutil.copy(TOP / ".ci/fake_rtlib.py", self.tools / "rtlib.py")
         (self.tools / "program").write_text(PROGRAM)
         (self.tools / "program").chmod(0o755)
         self.env = {"PATH": str(self.tools), "TOOLS": str(self.tools)}

@@ -26,7 +26,6 @@ if TYPE_CHECKING:
 GB = 1 << 30
 MINUTES = "15 to 35 minutes on four processors, 30 to 65 on two"
 LIBC = ctypes.CDLL(None)
-LIBRARY = pathlib.Path(__file__).resolve().parent / "library.py"
 
 
 class Failed(Exception):
@@ -95,6 +94,11 @@ def link_checked(one: str, other: str) -> None:
         link(one, other)
     else:
         shutil.copy2(one, other)
+
+
+def library_words(jobs: int) -> list[str]:
+    """What proves and builds a library in its folder, and keeps what it has checked: so an interrupted build goes on where it was."""
+    return ["rt", "lib", "--jobs", str(jobs)]
 
 
 class Proving:
@@ -179,7 +183,7 @@ class Proving:
                 shutil.copytree(self.out(library) / "rlib", self.out(library, lane) / "rlib", copy_function=link)
         if self.out(name).joinpath("incremental").is_dir():
             shutil.copytree(self.out(name) / "incremental", self.out(name, lane) / "incremental", copy_function=link_checked)
-        words = [sys.executable, str(LIBRARY), str(jobs)]
+        words = library_words(jobs)
         source: BinaryIO | int = subprocess.DEVNULL
         if name == self.product.name:
             # The LLVM module is kept, for tools/page.

@@ -13,7 +13,7 @@ from .linking import SONAME, TOP, Missing, pkg_config, version
 PARTS = ["README.md", "CHANGELOG.md", "CITATION.cff", "CONTRIBUTING.md", "LICENSE", "VERSION", "sercos", "sercos_rings",
          "tools", "examples", "schema", "docs", "man", "completions", "include"]
 FOR_SOURCES = {"tools/build", "tools/library", "tools/page", "tools/release", *(f"tools/shared/{name}.py" for name in (
-    "build_times", "building", "compiled", "crates", "debian", "library", "linking", "llvm_module", "proving", "release_folder", "statements",
+    "build_times", "building", "compiled", "crates", "debian", "linking", "llvm_module", "proving", "release_folder", "statements",
     "web_text", "webassembly"))}
 FOLDERS_FOR_SOURCES = ("tools/shared/web/",)
 
