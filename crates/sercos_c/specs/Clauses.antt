@@ -9,6 +9,7 @@ pub use Rattle.sercos_c.specs.Drives.{HoldsDrive, IsElement, IsOpening, IsSaid, 
 pub use Rattle.sercos_c.specs.Frames.{IsUnframed, bad_frame_of, bytes_for, frame_status, no_bad_frame, padded}
 pub use Rattle.sercos_c.specs.Holding.{held_owns}
 pub use Rattle.sercos_c.specs.Idns.{fault_place, parse_status}
+pub use Rattle.sercos_c.specs.Links.{AreLinksOf, HoldsLinks, IsLinksOpening, IsPassed, IsUnpassed, OpensLinks, how_of, is_links, pass_status, way_of}
 pub use Rattle.sercos_c.specs.Masters.{HoldsMaster, IsMasterOpening, IsSent, MasterStandsFor, OpensMaster, is_master, past_of, reported, reported_in}
 pub use Rattle.sercos_c.specs.Records.{no_events, of_nothing, silent_record}
 pub use Rattle.sercos_c.specs.Rings.{HoldsRing, IsRingOpening, OpensRing, RingGoes, lines_of_newest}
@@ -26,6 +27,7 @@ pub use Rattle.sercos_drive.specs.Heard.{DriveCall, Mst}
 pub use Rattle.sercos_drive.specs.Kept.{DriveStandsFor}
 pub use Rattle.sercos_drive.specs.Says.{drive_says}
 pub use Rattle.sercos_hdlc.specs.Fed.{IsFed, taken_of}
+pub use Rattle.sercos_hdlc.specs.Reason.{reason_of}
 pub use Rattle.sercos_hdlc.specs.Stuffed.{frame_of}
 pub use Rattle.sercos_idn.specs.Idns.{idn_fault, idn_text, spelled_raw}
 pub use Rattle.sercos_law_run.specs.Held.Opened.{IsOpened}

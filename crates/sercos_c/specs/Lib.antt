@@ -6,6 +6,7 @@ pub mod Drives
 pub mod Frames
 pub mod Holding
 pub mod Idns
+pub mod Links
 pub mod Masters
 pub mod Records
 pub mod Rings

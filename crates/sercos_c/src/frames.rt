@@ -19,16 +19,16 @@ pub extern "C" fn sercos_fcs(content: &[u8]) -> u16
     fcs(content)
 }
 
-// Appends zeros up to a whole byte, at most seven.
-fn pad(bits: &mut BitBuf)
+/// Appends zeros up to a whole byte, at most seven.
+pub(crate) fn pad(bits: &mut BitBuf)
     ensures { bits.new ≡ padded bits.old }
 {
     let rest = bits.len() % 8;
     push_number(0, (8 - rest) % 8, bits);
 }
 
-// Writes the bits to `out`, which must have one byte for each eight of them.
-fn fill(bits: &BitBuf, out: &mut [u8])
+/// Writes the bits to `out`, which must have one byte for each eight of them.
+pub(crate) fn fill(bits: &BitBuf, out: &mut [u8])
     requires { length bits.now ≡ 8 * length out.old }
     ensures { bits_of out.new ≡ bits.now }
 {

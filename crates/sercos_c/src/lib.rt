@@ -12,6 +12,8 @@ mod handle;
 mod held;
 mod idns;
 mod layouts;
+mod links;
+mod links_opening;
 mod master;
 mod master_opening;
 mod master_station;

@@ -140,7 +140,7 @@ pub still_left : (s : Known) (requests : ℕ → List Task) (h : List Call) (k :
 still_left s requests h k = past_keeps (λ p. (n : ℕ) × (p.waiting k ≡ drop n (requests k))) s requests (record {
   first = (0, refl);
   mst = λ h whole before. before;
-  taken = λ h i content same_Some _ _ is before. before;
+  taken = λ h i content inside is before. before;
   mdt = λ h before. (before.0, ap (λ w. w k) (waiting_settled s (past s requests h)) ∙ before.1);
   on = λ h done is before. before;
   new = λ h cycle before.
