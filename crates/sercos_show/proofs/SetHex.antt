@@ -61,4 +61,3 @@ pub last_of : (room set behind bytes : List ℕ) (len place : ℕ) → length se
 last_of room set behind bytes len place long inside is before =
     let all : length set ≡ len = long ∙ length-take-le len room inside in
     sym (get_or-take len (set ++ behind) place 0 before) ∙ ap (λ b. get_or b place 0) (take_at set behind len all ∙ is)
-
