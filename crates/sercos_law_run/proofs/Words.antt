@@ -64,7 +64,7 @@ unfoldable pub use Rattle.sercos_timing.specs.Valid.{is_control, is_cycle, is_ra
 pub use Rattle.sercos_timing.specs.Views.{PlanView, WishesView}
 pub use Rattle.sercos_timing.specs.declared.wishes.Times.{Times}
 pub use Rattle.sercos_timing.specs.declared.wishes.Wish.{Wish}
-pub use Rattle.sercos_block.proofs.OpenLemmas.{IsNew, IsNew-block_fault, IsStore-store_of, all_inserted, either_none, store_of-permutes}
+pub use Rattle.sercos_block.proofs.OpenLemmas.{IsNew, IsNew-block_fault, IsStore-store_of, all_inserted, store_of-permutes}
 pub use Rattle.sercos_block.proofs.PutLemmas.{IsWritten-at, find_block-at, find_block-nowhere, fits-given, fits-is_len, fits-put_fault, with_data-nowhere}
 pub use Rattle.sercos_block.proofs.RingLemmas.{IsRing-is_ring}
 pub use Rattle.sercos_block.proofs.SoundLemmas.{SoundParts, SoundParts-is_sound, found-carried, found_sound, max_len_bound}

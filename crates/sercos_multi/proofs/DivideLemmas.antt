@@ -4,7 +4,8 @@ use Rattle.std.proofs.Math.Seq.{take-add}
 use Rattle.std.specs.List.{after_first}
 use Rattle.sercos_answer.specs.Lines.{with_front}
 use Rattle.sercos_trace.specs.Marked.{is_feed}
-use Rattle.sercos_trace.proofs.FeedLemmas.{after_short, after_feed, after_more}
+use Rattle.sercos_trace.proofs.FeedLemmas.{after_short, after_feed}
+use Rattle.sercos_answer.proofs.CutLemmas.{after_first-more}
 use Rattle.sercos_multi.specs.Divided.{lines_in, is_next, onto, parts_in, parts_of}
 use Rattle.sercos_multi.proofs.ListLemmas.{taken_all, dropped_all}
 
@@ -21,7 +22,7 @@ rest_line byte (c ∷ bytes) len is = by (is_feed c) refl (rest_line c bytes)
         let one : len ≡ 1 = omega (arith, here) in
         rw (e, one) refl
     by false e rest =
-        let here : len + length (after_first is_feed bytes) ≡ suc (length bytes) = ap (λ (x : List ℕ). len + length x) (sym (after_more c bytes e)) ∙ is in
+        let here : len + length (after_first is_feed bytes) ≡ suc (length bytes) = ap (λ (x : List ℕ). len + length x) (sym (after_first-more c bytes e)) ∙ is in
         let short = after_short bytes in
         let one : len ≡ suc (len - 1) = omega (arith, here, short) in
         let less : (len - 1) + length (after_first is_feed bytes) ≡ length bytes = omega (arith, here, short) in
@@ -38,7 +39,7 @@ first_line (byte ∷ bytes) len some is = by (is_feed byte) refl
         let one : len ≡ 1 = omega (arith, here) in
         rw (e, one) refl
     by false e =
-        let here : len + length (after_first is_feed bytes) ≡ suc (length bytes) = ap (λ (x : List ℕ). len + length x) (sym (after_more byte bytes e)) ∙ is in
+        let here : len + length (after_first is_feed bytes) ≡ suc (length bytes) = ap (λ (x : List ℕ). len + length x) (sym (after_first-more byte bytes e)) ∙ is in
         let short = after_short bytes in
         let one : len ≡ suc (len - 1) = omega (arith, here, short) in
         let less : (len - 1) + length (after_first is_feed bytes) ≡ length bytes = omega (arith, here, short) in

@@ -3,7 +3,8 @@ use Rattle.std.proofs.Common.{◌≡◌, ℕ, suc, ◌+◌, ◌-◌, ◌<◌, �
 use Rattle.std.specs.Prelude.{option_map}
 use Rattle.std.specs.List.{after_first}
 use Rattle.sercos_replay.specs.Divided.{is_feed, begins_capture, capture_place}
-use Rattle.sercos_trace.proofs.FeedLemmas.{after_feed, after_more, after_short}
+use Rattle.sercos_trace.proofs.FeedLemmas.{after_feed, after_short}
+use Rattle.sercos_answer.proofs.CutLemmas.{after_first-more}
 
 -- a place counted from k bytes earlier on
 abbrev pub shifted : ℕ → Option ℕ → Option ℕ
@@ -34,11 +35,11 @@ after_place (byte ∷ bytes) k is = by (is_feed byte) refl (after_place bytes)
         let one : k ≡ 1 = omega (arith, here) in
         rw (after_feed byte bytes e, one, e) (shift_one (capture_place true bytes))
     by false e rest =
-        let here : k + length (after_first is_feed bytes) ≡ suc (length bytes) = ap (λ (x : List ℕ). k + length x) (sym (after_more byte bytes e)) ∙ is in
+        let here : k + length (after_first is_feed bytes) ≡ suc (length bytes) = ap (λ (x : List ℕ). k + length x) (sym (after_first-more byte bytes e)) ∙ is in
         let short = after_short bytes in
         let one : k ≡ suc (k - 1) = omega (arith, here, short) in
         let less : (k - 1) + length (after_first is_feed bytes) ≡ length bytes = omega (arith, here, short) in
-        rw (after_more byte bytes e, e, rest (k - 1) less) (shift_suc (k - 1) (capture_place true (after_first is_feed bytes)) ∙ ap (λ (n : ℕ). shifted n (capture_place true (after_first is_feed bytes))) (sym one))
+        rw (after_first-more byte bytes e, e, rest (k - 1) less) (shift_suc (k - 1) (capture_place true (after_first is_feed bytes)) ∙ ap (λ (n : ℕ). shifted n (capture_place true (after_first is_feed bytes))) (sym one))
 
 other_line : (text : List ℕ) → 0 < length text → begins_capture text ≡ false → capture_place true text ≡ capture_place false text
 unfolding capture_place

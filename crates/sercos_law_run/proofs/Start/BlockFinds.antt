@@ -1,11 +1,11 @@
 -- Which block of a drive's store is found by an identifier number, and with which attribute.
-use Rattle.sercos_law_run.proofs.Words.{◌≡◌, ℕ, ◌==◌, nat_lt, Bool, true, false, cond, not, ◌&&◌, ◌||◌, List, [], ◌∷◌, ◌++◌, map, length, Option, Some, None, is_none, option_map, option_and_then, refl, sym, ◌∙◌, ap, arith, list_all, option_or, and_parts, nat_tests, none_of-or, Block, BuiltIn, Field, BadBlock, DriveView, is_fixed, built_ins, is_built_in, built_in_block, has_block, block_fault, find_block, number_len, either_none, IsNew, IsNew-block_fault, is_given, kept, IsStoreOf, CarryAlike, attribute_fault, built_in, blocks_fault, with_own, store_of, attribute_in, row_in, built_in_attribute, own_attribute, block_attribute, cases_Bool, cases_Option, inl, inr, cyclic_len, inserted}
+use Rattle.sercos_law_run.proofs.Words.{◌≡◌, ℕ, ◌==◌, nat_lt, Bool, true, false, cond, not, ◌&&◌, ◌||◌, List, [], ◌∷◌, ◌++◌, map, length, Option, Some, None, is_none, option_map, option_and_then, refl, sym, ◌∙◌, ap, arith, list_all, option_or, and_parts, nat_tests, none_of-or, Block, BuiltIn, Field, BadBlock, DriveView, is_fixed, built_ins, is_built_in, built_in_block, has_block, block_fault, find_block, number_len, or_parts, IsNew, IsNew-block_fault, is_given, kept, IsStoreOf, CarryAlike, attribute_fault, built_in, blocks_fault, with_own, store_of, attribute_in, row_in, built_in_attribute, own_attribute, block_attribute, cases_Bool, cases_Option, inl, inr, cyclic_len, inserted}
 
 -- if no block has the number, none is found
 nowhere : (raw : ℕ) (blocks : List Block) → has_block raw blocks ≡ false → find_block raw blocks ≡ None
 nowhere raw [] none = refl
 nowhere raw (b ∷ blocks) none =
-    let (here, rest) = either_none (b.idn.raw == raw) (has_block raw blocks) none in rw here (nowhere raw blocks rest)
+    let (here, rest) = or_parts (b.idn.raw == raw) (has_block raw blocks) none in rw here (nowhere raw blocks rest)
 
 -- what is found with one more block, whose number is new
 swap_found : (x y : Bool) (b c : Option Block) (o : Option Block) → (x ≡ true → y ≡ true → ⊥) → cond y c (cond x b o) ≡ cond x b (cond y c o)
@@ -17,7 +17,7 @@ find_inserted : (raw : ℕ) (b : Block) (blocks : List Block) → has_block b.id
 unfolding inserted
 find_inserted raw b [] new = refl
 find_inserted raw b (c ∷ blocks) new =
-    let (other, new') = either_none (c.idn.raw == b.idn.raw) (has_block b.idn.raw blocks) new in
+    let (other, new') = or_parts (c.idn.raw == b.idn.raw) (has_block b.idn.raw blocks) new in
     elim (cases_Bool (nat_lt b.idn.raw c.idn.raw)) [
       | inl on ↦ rw on
       | inr off ↦
@@ -30,16 +30,16 @@ none_inserted : (n : ℕ) (b : Block) (blocks : List Block) → (b.idn.raw == n)
 unfolding inserted
 none_inserted n b [] other none = rw other refl
 none_inserted n b (c ∷ blocks) other none =
-    let (here, rest) = either_none (c.idn.raw == n) (has_block n blocks) none in
+    let (here, rest) = or_parts (c.idn.raw == n) (has_block n blocks) none in
     (elim (cases_Bool (nat_lt b.idn.raw c.idn.raw)) [
       | inl on ↦ rw on (rw other none)
       | inr off ↦ rw off (rw (here, (none_inserted n b blocks other rest)) refl)
     ])
 
 none_appended : (n : ℕ) (b : Block) (before : List Block) → has_block n (before ++ b ∷ []) ≡ false → ((b.idn.raw == n) ≡ false) × (has_block n before ≡ false)
-none_appended n b [] none = ((either_none (b.idn.raw == n) false none).0, refl)
+none_appended n b [] none = ((or_parts (b.idn.raw == n) false none).0, refl)
 none_appended n b (c ∷ before) none =
-    let (here, rest) = either_none (c.idn.raw == n) (has_block n (before ++ b ∷ [])) none in
+    let (here, rest) = or_parts (c.idn.raw == n) (has_block n (before ++ b ∷ [])) none in
     let (other, free) = none_appended n b before rest in (other, rw (here, free) refl)
 
 -- With the drive's own blocks, the built-in ones are found first.
@@ -78,13 +78,13 @@ find_with_own raw before (b ∷ own) blocks none has =
   where
     free : (n : ℕ) → (is_built_in n || has_block n (before ++ b ∷ [])) ≡ false → has_block n (inserted b blocks) ≡ false
     free n none =
-        let (built, rest) = either_none (is_built_in n) (has_block n (before ++ b ∷ [])) none in
+        let (built, rest) = or_parts (is_built_in n) (has_block n (before ++ b ∷ [])) none in
         let (other, before_none) = none_appended n b before rest in
         none_inserted n b blocks other (has n (rw (built, before_none) refl))
 
 pub find_store_of : (raw : ℕ) (d : DriveView) → blocks_fault [] d.blocks ≡ None → find_block raw (store_of d) ≡ option_or (find_block raw (built_in d)) (find_block raw d.blocks)
 unfolding store_of built_in
-find_store_of raw d none = find_with_own raw [] d.blocks (built_in d) none (λ n free. (either_none (is_built_in n) false free).0)
+find_store_of raw d none = find_with_own raw [] d.blocks (built_in d) none (λ n free. (or_parts (is_built_in n) false free).0)
 
 -- a built-in block is found by its row of the table, with the attribute of the row
 find_rows : (d : DriveView) (raw : ℕ) (rows : List BuiltIn) → find_block raw (map (built_in_block d) rows) ≡ option_map (built_in_block d) (row_in rows raw)

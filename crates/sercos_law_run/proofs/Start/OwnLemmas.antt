@@ -1,5 +1,5 @@
 -- Which of a drive's own blocks are outside their limits, during the start-up.
-use Rattle.sercos_law_run.proofs.Words.{◌≡◌, ℕ, ◌==◌, true, false, cond, ◌||◌, List, [], ◌∷◌, ◌++◌, None, refl, sym, ◌∙◌, ap, list_any, filter, eqb-true, list_any-append, list_any-IsPermutation, Block, is_built_in, has_block, blocks_fault, with_data, store_of, DriveView, either_none, store_of-permutes, is_outside, is_command, command_value, is_own_outside, OwnStay, OwnAtOpening, built_in, cases_Bool, inl, inr}
+use Rattle.sercos_law_run.proofs.Words.{◌≡◌, ℕ, ◌==◌, true, false, cond, ◌||◌, List, [], ◌∷◌, ◌++◌, None, refl, sym, ◌∙◌, ap, list_any, filter, eqb-true, list_any-append, list_any-IsPermutation, Block, is_built_in, has_block, blocks_fault, with_data, store_of, DriveView, or_parts, store_of-permutes, is_outside, is_command, command_value, is_own_outside, OwnStay, OwnAtOpening, built_in, cases_Bool, inl, inr}
 use Rattle.sercos_law_run.proofs.Start.BlockFinds.{first_is_new}
 use Rattle.sercos_law_run.proofs.Start.LaterLemmas.{after_check}
 
@@ -31,7 +31,7 @@ own_outside : (before own : List Block) → blocks_fault before own ≡ None →
 own_outside before [] none = refl
 own_outside before (b ∷ own) none =
     let (new, rest) = first_is_new before b own none in
-    let (own_number, _) = either_none (is_built_in b.idn.raw) (has_block b.idn.raw before) new.number in
+    let (own_number, _) = or_parts (is_built_in b.idn.raw) (has_block b.idn.raw before) new.number in
     (elim (cases_Bool (is_built_in b.idn.raw)) [
       | inl on ↦ rw on (let e = sym on ∙ own_number in let more = own_outside (before ++ b ∷ []) own rest in cc)
       | inr off ↦ rw off (ap (λ x. is_outside b || x) (own_outside (before ++ b ∷ []) own rest))

@@ -1,5 +1,5 @@
 -- What an empty list of the check for phase 3 says of a store, in times and places.
-use Rattle.sercos_law_run.proofs.Words.{◌≡◌, ℕ, ◌+◌, ◌-◌, ◌%◌, ◌==◌, nat_lt, Bool, true, false, not, ◌||◌, List, [], refl, arith, nat_le, list_all, not-false, nat_tests, Idn, is_cycle, either_none, number_at, idns_at, is_cyclic, carried_len, listed_if, EmptyKeepsTimes, breaks_1, breaks_2, breaks_6, breaks_7, breaks_8, breaks_9, breaks_10, breaks_15, breaks_list, breaks_89, unfit_for_phase_3}
+use Rattle.sercos_law_run.proofs.Words.{◌≡◌, ℕ, ◌+◌, ◌-◌, ◌%◌, ◌==◌, nat_lt, Bool, true, false, not, ◌||◌, List, [], refl, arith, nat_le, list_all, not-false, nat_tests, Idn, is_cycle, or_parts, number_at, idns_at, is_cyclic, carried_len, listed_if, EmptyKeepsTimes, breaks_1, breaks_2, breaks_6, breaks_7, breaks_8, breaks_9, breaks_10, breaks_15, breaks_list, breaks_89, unfit_for_phase_3}
 
 -- an empty list names none
 unnamed : (raw : ℕ) (broken : Bool) (rest : List Idn) → listed_if raw broken rest ≡ [] → (broken ≡ false) × (rest ≡ [])
@@ -21,11 +21,11 @@ empty_keeps_times rate blocks e =
     let (b16, r16) = unnamed 16 (breaks_list 16 blocks) _ r15 in
     let (b24, r24) = unnamed 24 (breaks_list 24 blocks) _ r16 in
     let (b89, _) = unnamed 89 (breaks_89 rate blocks) _ r24 in
-    let (no_2, one) = either_none (n 2 == 0) ((n 1 == 0) || not (n 1 % n 2 == 0)) b1 in
-    let (no_1, whole) = either_none (n 1 == 0) (not (n 1 % n 2 == 0)) one in
+    let (no_2, one) = or_parts (n 2 == 0) ((n 1 == 0) || not (n 1 % n 2 == 0)) b1 in
+    let (no_1, whole) = or_parts (n 1 == 0) (not (n 1 % n 2 == 0)) one in
     let multiple = not-false (n 1 % n 2 == 0) whole in
-    let (no_8, inside) = either_none (n 8 == 0) (nat_lt (n 2) (n 8)) b8 in
-    let (no_9, within) = either_none (n 9 == 0) (nat_lt (n 10) (n 9 + carried_len blocks 24 - 1)) b9 in
+    let (no_8, inside) = or_parts (n 8 == 0) (nat_lt (n 2) (n 8)) b8 in
+    let (no_9, within) = or_parts (n 9 == 0) (nat_lt (n 10) (n 9 + carried_len blocks 24 - 1)) b9 in
     let place : nat_le 1 (n 9) ≡ true = grind (arith, nat_tests, no_9) in
     let ends : nat_le (n 9 + carried_len blocks 24) (n 10 + 1) ≡ true = grind (arith, nat_tests, no_9, within) in
     record {

@@ -1,6 +1,6 @@
 -- The own blocks of a drive in its store are those of its description, ascending by identifier number; and the master takes the list of those
 -- that are outside from its bytes.
-use Rattle.sercos_law_run.proofs.Words.{◌≡◌, ℕ, Bool, true, not, ◌&&◌, List, [], ◌∷◌, ◌++◌, None, refl, sym, ap, ◌∙◌, arith, ◌≤◌, nat_le, nat_lt, cond, length, map, take, filter, list_all, and_from, and_parts, nat_tests, take_all, length-filter_both, is_built_in, blocks_fault, has_block, DriveView, Block, all_inserted, either_none, is_outside, list_bytes, idns_in, length_map, is_own_outside, built_in, with_own, store_of, cases_Bool, inl, inr, inserted}
+use Rattle.sercos_law_run.proofs.Words.{◌≡◌, ℕ, Bool, true, not, ◌&&◌, List, [], ◌∷◌, ◌++◌, None, refl, sym, ap, ◌∙◌, arith, ◌≤◌, nat_le, nat_lt, cond, length, map, take, filter, list_all, and_from, and_parts, nat_tests, take_all, length-filter_both, is_built_in, blocks_fault, has_block, DriveView, Block, all_inserted, or_parts, is_outside, list_bytes, idns_in, length_map, is_own_outside, built_in, with_own, store_of, cases_Bool, inl, inr, inserted}
 use Rattle.sercos_law_run.proofs.Start.BlockFinds.{first_is_new}
 use Rattle.sercos_law_run.proofs.Start.WellLemmas.{read_back}
 
@@ -82,7 +82,7 @@ all_own : (before own : List Block) → blocks_fault before own ≡ None → lis
 all_own before [] none = refl
 all_own before (b ∷ own) none =
     let (new, rest) = first_is_new before b own none in
-    and_from (is_own b) (list_all is_own own) (ap not (either_none (is_built_in b.idn.raw) (has_block b.idn.raw before) new.number).0) (all_own (before ++ b ∷ []) own rest)
+    and_from (is_own b) (list_all is_own own) (ap not (or_parts (is_built_in b.idn.raw) (has_block b.idn.raw before) new.number).0) (all_own (before ++ b ∷ []) own rest)
 
 both_tests : (blocks : List Block) → filter is_own_outside blocks ≡ filter is_outside (filter is_own blocks)
 both_tests [] = refl
