@@ -307,6 +307,40 @@ uint8_t sercos_ring_lines(sercos_ring *ring, uint8_t *out, size_t out_len, size_
 uint8_t sercos_ring_end(sercos_ring *ring, uint8_t *out, size_t out_len, size_t *written);
 void sercos_ring_close(sercos_ring *ring);
 
+/* The links of a document's ring under its script: what arrives of a telegram at a station, and which stations restart. Station 0 is
+ * the master, station k + 1 the drive at place k. A trace has what was sent; with the links it is known what each station received. */
+typedef struct sercos_links {
+    bool is_open;
+    void *at;
+} sercos_links;
+
+/* The kinds of telegrams. */
+enum sercos_kind {
+    SERCOS_MST = 0,
+    SERCOS_AT = 1,
+    SERCOS_MDT = 2
+};
+
+/* How the bits of a telegram arrive. */
+enum sercos_arrival {
+    SERCOS_AS_SENT = 0,
+    SERCOS_OTHER_FRAME = 1, /* damaged, and a frame all the same: the check sequence doesn't tell */
+    SERCOS_DAMAGED = 2,     /* damaged, and no frame: it is discarded */
+    SERCOS_NOTHING = 3      /* none arrive */
+};
+
+/* Opens the links of the ring of a document. SERCOS_REFUSED: the document is refused. */
+uint8_t sercos_links_open(const uint8_t *document, size_t len, sercos_links *links);
+/* Passes the first `count` bits of a telegram of `kind` from one station to another in a cycle. The bits that arrive are written to `out`
+ * with zeros up to a whole byte, their number to `*arrived`, and to `*how` one of `sercos_arrival`. The master receives its own MST: from
+ * 0 to 0. SERCOS_REFUSED: no such kind, or fewer than `count` bits; SERCOS_TOO_LONG: more than 19,696 bits; SERCOS_WRITE_FAULT: `out`
+ * has fewer than 2,462 bytes. After these three `*arrived` is 0, and `*how` SERCOS_NOTHING. */
+uint8_t sercos_links_pass(sercos_links *links, uint32_t cycle, uint8_t kind, uint8_t from, uint8_t to, const uint8_t *bits, size_t len,
+                          size_t count, uint8_t *out, size_t out_len, uint32_t *arrived, uint8_t *how);
+/* Whether a station restarts in a cycle, before its MST. */
+uint8_t sercos_links_restart(sercos_links *links, uint32_t cycle, uint8_t station, bool *restarts);
+void sercos_links_close(sercos_links *links);
+
 #ifdef __cplusplus
 }
 #endif

@@ -18,6 +18,10 @@ static void test_closed(void) {
     sercos_drive drive = {0};
     sercos_master master = {0};
     sercos_ring ring = {0};
+    sercos_links links = {0};
+    uint32_t arrived = 12345;
+    uint8_t how = 77;
+    bool restarts = true;
     memset(out, 0xa5, sizeof out);
     memcpy(before, out, sizeof out);
     for (int round = 0; round < 2; round++) {
@@ -41,18 +45,22 @@ static void test_closed(void) {
         CHECK(sercos_ring_cycle(&ring) == SERCOS_CLOSED);
         CHECK(sercos_ring_lines(&ring, out, sizeof out, &written) == SERCOS_CLOSED);
         CHECK(sercos_ring_end(&ring, out, sizeof out, &written) == SERCOS_CLOSED);
+        CHECK(sercos_links_pass(&links, 0, SERCOS_MST, 0, 1, none, 1, 8, out, sizeof out, &arrived, &how) == SERCOS_CLOSED);
+        CHECK(sercos_links_restart(&links, 0, 0, &restarts) == SERCOS_CLOSED && restarts && arrived == 12345 && how == 77);
         CHECK(memcmp(out, before, sizeof out) == 0);
-        CHECK(!deframer.is_open && !drive.is_open && !master.is_open && !ring.is_open);
+        CHECK(!deframer.is_open && !drive.is_open && !master.is_open && !ring.is_open && !links.is_open);
         /* The second round is after an open and two closes. */
         CHECK(sercos_deframer_open(&deframer) == SERCOS_DONE && deframer.is_open);
         CHECK(sercos_drive_open(document, document_len, 0, &drive) == SERCOS_DONE && drive.is_open);
         CHECK(sercos_master_open(document, document_len, &master) == SERCOS_DONE && master.is_open);
         CHECK(sercos_ring_open(document, document_len, &ring) == SERCOS_DONE && ring.is_open);
+        CHECK(sercos_links_open(document, document_len, &links) == SERCOS_DONE && links.is_open);
         for (int k = 0; k < 2; k++) {
             sercos_deframer_close(&deframer);
             sercos_drive_close(&drive);
             sercos_master_close(&master);
             sercos_ring_close(&ring);
+            sercos_links_close(&links);
         }
     }
 }
@@ -71,6 +79,18 @@ static void test_refused(void) {
     CHECK(sercos_master_open(bad, sizeof bad - 1, &master) == SERCOS_REFUSED && !master.is_open);
     CHECK(sercos_ring_open(document, document_len, &ring) == SERCOS_DONE);
     CHECK(sercos_ring_open(bad, 0, &ring) == SERCOS_REFUSED && !ring.is_open);
+    /* Links take bits up to the last bit of their room, and no kind but the three. */
+    uint8_t bits[2462] = {0}, out[2462], how = 77;
+    uint32_t arrived = 12345;
+    sercos_links links = {0};
+    CHECK(sercos_links_open(document, document_len, &links) == SERCOS_DONE);
+    CHECK(sercos_links_pass(&links, 0, SERCOS_MDT + 1, 0, 1, bits, 2, 16, out, sizeof out, &arrived, &how) == SERCOS_REFUSED);
+    CHECK(arrived == 0 && how == SERCOS_NOTHING);
+    CHECK(sercos_links_pass(&links, 0, SERCOS_MST, 0, 1, bits, 2, 17, out, sizeof out, &arrived, &how) == SERCOS_REFUSED);
+    CHECK(sercos_links_pass(&links, 0, SERCOS_MST, 0, 1, bits, 2, 16, out, sizeof out - 1, &arrived, &how) == SERCOS_WRITE_FAULT);
+    CHECK(sercos_links_pass(&links, 0, SERCOS_MST, 0, 1, bits, sizeof bits, 19696, out, sizeof out, &arrived, &how) == SERCOS_DONE);
+    CHECK(arrived == 19696 && how == SERCOS_AS_SENT && memcmp(bits, out, sizeof out) == 0);
+    CHECK(sercos_links_open(bad, sizeof bad - 1, &links) == SERCOS_REFUSED && !links.is_open);
 }
 
 /* Opens, opens again over what is held, works a little, and closes. */
@@ -87,7 +107,15 @@ static void open_and_close(void) {
     CHECK(sercos_drive_hear_mst(&drive, 0, true, mst, 2) == SERCOS_DONE);
     CHECK(sercos_master_open(document, document_len, &master) == SERCOS_DONE);
     CHECK(sercos_master_mst(&master, out, sizeof out, &written) == SERCOS_DONE);
+    sercos_links links = {0};
+    uint8_t room[2462], how;
+    uint32_t arrived;
+    bool restarts;
+    CHECK(sercos_links_open(document, document_len, &links) == SERCOS_DONE);
+    CHECK(sercos_links_pass(&links, 0, SERCOS_MST, 0, 0, flag, 1, 8, room, sizeof room, &arrived, &how) == SERCOS_DONE);
+    CHECK(sercos_links_restart(&links, 0, 0, &restarts) == SERCOS_DONE);
     if (draw(2)) {
+        CHECK(sercos_links_open(document, document_len, &links) == SERCOS_DONE);
         CHECK(sercos_deframer_open(&deframer) == SERCOS_DONE);
         CHECK(sercos_drive_open(document, document_len, 0, &drive) == SERCOS_DONE);
         CHECK(sercos_master_open(document, document_len, &master) == SERCOS_DONE);
@@ -95,6 +123,7 @@ static void open_and_close(void) {
     sercos_deframer_close(&deframer);
     sercos_drive_close(&drive);
     sercos_master_close(&master);
+    sercos_links_close(&links);
 }
 
 /* The bytes that are taken: from the heap, and as blocks of their own. */

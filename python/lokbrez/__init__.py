@@ -7,8 +7,8 @@
     for cycle in lokbrez.run(document):
         ...
 
-Ring documents are TOML texts (docs/FORMATS.md). An object that holds memory of the library is a context manager: Deframer, Drive, Master,
-Ring, and what `run` returns. What is refused is an exception below `Error`, whose message says why. Each object may be used by several
+Ring documents are TOML texts (docs/FORMATS.md). An object that holds memory of the library is a context manager: Deframer, Drive, Links,
+Master, Ring, and what `run` returns. What is refused is an exception below `Error`, whose message says why. Each object may be used by several
 threads: its calls are made one after the other.
 """
 import pathlib
@@ -19,6 +19,7 @@ __path__.append(str(pathlib.Path(__file__).resolve().parents[2] / "tools" / "sha
 from .commands import Answer, Chain, Clean, Link, Plan, Slot, Violation, call, check, plan
 from .errors import BadFrame, BadTelegram, BadWords, Closed, Error, NoSuchDrive, OutOfMemory, Refused, Status, TooLong
 from .frames import Bits, Deframer, fcs, frame, unframe
+from .links import Arrival, Arrived, Links
 from .rings import Cycle, Ring, Run, run
 from .stations import Drive, Master, NoElement, Timed
 from .telegrams import (At, Record, at_read, at_write, idn_parse, idn_text, joint_read, mst_read, mst_write, record_write, single_read,
@@ -28,8 +29,8 @@ from .trace_lines import name_of
 __version__ = "0.1.0"
 
 __all__ = [
-    "Answer", "At", "BadFrame", "BadTelegram", "BadWords", "Bits", "Chain", "Clean", "Closed", "Cycle", "Deframer", "Drive", "Error", "Link",
-    "Master", "NoElement", "NoSuchDrive", "OutOfMemory", "Plan", "Record", "Refused", "Ring", "Run", "Slot", "Status", "Timed", "TooLong",
-    "Violation", "at_read", "at_write", "call", "check", "fcs", "frame", "idn_parse", "idn_text", "joint_read", "mst_read", "mst_write",
-    "name_of", "plan", "record_write", "run", "single_read", "single_write", "unframe",
+    "Answer", "Arrival", "Arrived", "At", "BadFrame", "BadTelegram", "BadWords", "Bits", "Chain", "Clean", "Closed", "Cycle", "Deframer",
+    "Drive", "Error", "Link", "Links", "Master", "NoElement", "NoSuchDrive", "OutOfMemory", "Plan", "Record", "Refused", "Ring", "Run",
+    "Slot", "Status", "Timed", "TooLong", "Violation", "at_read", "at_write", "call", "check", "fcs", "frame", "idn_parse", "idn_text",
+    "joint_read", "mst_read", "mst_write", "name_of", "plan", "record_write", "run", "single_read", "single_write", "unframe",
 ]

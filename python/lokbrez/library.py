@@ -64,6 +64,7 @@ PARAMETERS: dict[str, list[Any]] = {
     "W": [POINTER(c_uint16)],
     "D": [POINTER(c_uint32)],
     "h": [POINTER(Handle)],
+    "T": [POINTER(c_bool)],
     "F": [POINTER(BadFrameStruct)],
     "L": [POINTER(LayoutStruct)],
     "M": [POINTER(MstStruct)],
@@ -82,8 +83,10 @@ FUNCTIONS = {
     "master_open": "th", "master_mst": "hos", "master_hear_mst": "hft", "master_hear_at": "ht", "master_mdt": "hosW", "master_end_cycle": "h",
     "master_events": "hos", "master_command": "hB", "master_restart": "h", "master_close": "h",
     "ring_open": "th", "ring_head": "hos", "ring_cycle": "h", "ring_lines": "hos", "ring_end": "hos", "ring_close": "h",
+    "links_open": "th", "links_pass": "hdbbbtnoDB", "links_restart": "hdbT", "links_close": "h",
 }
-RESULTS: dict[str, Any] = {"fcs": c_uint16, "deframer_close": None, "drive_close": None, "master_close": None, "ring_close": None}
+RESULTS: dict[str, Any] = {"fcs": c_uint16, "deframer_close": None, "drive_close": None, "master_close": None, "ring_close": None,
+                            "links_close": None}
 
 
 def load() -> dict[str, Callable[..., int]]:

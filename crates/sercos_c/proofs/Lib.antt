@@ -2,6 +2,7 @@ pub mod AnswerLemmas
 pub mod FrameLemmas
 pub mod HeldValues
 pub mod IdnLemmas
+pub mod LinkLemmas
 pub mod MasterLemmas
 pub mod RingLemmas
 pub mod SlotLemmas

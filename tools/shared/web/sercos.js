@@ -3,8 +3,12 @@
 // It keeps what include/sercos.h asks of a caller. Addresses and lengths of the module have 64 bits, so they are BigInts here, whether
 // the module's memory has 64-bit addresses or was lowered to 32 bits.
 
+const KINDS = ["mst", "at", "mdt"];
+// How the bits of a telegram arrive.
+const ARRIVAL = ["as sent", "other frame", "damaged", "nothing"];
 const STATUS = ["Done", "No", "BadWords", "Refused", "ReadFault", "WriteFault", "Memory", "TooLong", "Closed"];
 const DONE = 0, REFUSED = 3, WRITE_FAULT = 5;
+const MOST_FRAME = 2462;
 const FIRST_ROOM = 1 << 20, MOST_ROOM = 1 << 29;
 
 /** What ended an instance of the module: the call gave no answer, and the next one begins with a new instance. */
@@ -43,6 +47,10 @@ class Sercos {
 
     number(at) {
         return Number(new DataView(this.exports.memory.buffer).getBigUint64(Number(at), true));
+    }
+
+    short(at) {
+        return new DataView(this.exports.memory.buffer).getUint32(Number(at), true);
     }
 
     take(length) {
@@ -103,9 +111,26 @@ class Sercos {
         });
     }
 
+    /** The frame of a content of 1 to 2,048 bytes: its bits, packed into bytes, and their number. */
+    frame(content) {
+        return this.guarded(() => {
+            const places = [this.placed(content), this.take(MOST_FRAME), this.take(8)], [at, out, count] = places;
+            const status = this.status("sercos_frame", at, BigInt(content.length), out, BigInt(MOST_FRAME), count);
+            const length = this.short(count), packed = this.memory(out, Math.ceil(length / 8)).slice();
+            this.give(...places);
+            if (status !== DONE) throw new Error(`a content has 1 to 2,048 bytes, and this one ${content.length}`);
+            return {packed, length};
+        });
+    }
+
     /** Opens the ring of a document. */
     ring(document) {
         return new Ring(this, document);
+    }
+
+    /** Opens the links of the ring of a document. */
+    links(document) {
+        return new Links(this, document);
     }
 }
 
@@ -173,4 +198,60 @@ class Ring {
     }
 }
 
-if (typeof module !== "undefined") module.exports = {Sercos, Ring, Trap, STATUS};
+/**
+ * The links of a document's ring under its script: what each station receives. `status` is 0 if they are open, and otherwise says why not.
+ * Station 0 is the master, station k + 1 the drive at place k.
+ */
+class Links {
+    constructor(sercos, document) {
+        this.sercos = sercos;
+        sercos.guarded(() => {
+            const text = bytesOf(document), at = sercos.placed(text);
+            Object.assign(this, {instance: sercos.instance, handle: sercos.placed(new Uint8Array(16)), told: sercos.take(8)});
+            this.bits = sercos.take(MOST_FRAME);
+            this.out = sercos.take(MOST_FRAME);
+            this.status = sercos.status("sercos_links_open", at, BigInt(text.length), this.handle);
+            sercos.give(at);
+        });
+    }
+
+    check() {
+        if (this.instance !== this.sercos.instance) throw new Trap("the links were lost when their instance of the module ended");
+    }
+
+    /** What arrives at a station of the bits that another one, or the master itself, sends as an "mst", "at" or "mdt". */
+    passed(cycle, kind, from, to, {packed, length}) {
+        this.check();
+        if (packed.length > MOST_FRAME) throw new Error(`at most ${8 * MOST_FRAME} bits`);
+        return this.sercos.guarded(() => {
+            const {sercos} = this, how = this.told + 4n;
+            sercos.memory(this.bits, packed.length).set(packed);
+            const status = sercos.status("sercos_links_pass", this.handle, cycle, KINDS.indexOf(kind), from, to, this.bits,
+                BigInt(packed.length), BigInt(length), this.out, BigInt(MOST_FRAME), this.told, how);
+            if (status !== DONE) throw new Error(`sercos_links_pass has status ${status}`);
+            const count = sercos.short(this.told);
+            return {arrival: ARRIVAL[sercos.memory(how, 1)[0]], packed: sercos.memory(this.out, Math.ceil(count / 8)).slice(), length: count};
+        });
+    }
+
+    /** Whether a station restarts in a cycle, before its MST. */
+    restarts(cycle, station) {
+        this.check();
+        return this.sercos.guarded(() => {
+            const status = this.sercos.status("sercos_links_restart", this.handle, cycle, station, this.told);
+            if (status !== DONE) throw new Error(`sercos_links_restart has status ${status}`);
+            return this.sercos.memory(this.told, 1)[0] !== 0;
+        });
+    }
+
+    close() {
+        if (this.instance !== this.sercos.instance) return;
+        this.instance = 0;
+        this.sercos.guarded(() => {
+            this.sercos.exports.sercos_links_close(this.handle);
+            this.sercos.give(this.handle, this.told, this.bits, this.out);
+        });
+    }
+}
+
+if (typeof module !== "undefined") module.exports = {Sercos, Ring, Links, Trap, ARRIVAL, STATUS};
