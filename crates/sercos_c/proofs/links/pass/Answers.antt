@@ -14,8 +14,11 @@ returns-clause-passed c = λ d links _.
     let is : script_carry d c.in-Some.p (take c.args.count (bits_of c.args.bits.now)) ≡ Some c.pass.new.bits =
     passes_as (carried c.args.links.now.stations c.args.links.now.faults) (script_carry d) c.in-Some.p c.assign.new.self _ c.pass.new.bits
     links.carries (c.assign.ensures ∙ sent) (search rules) c.pass.ensures.bits in
-    rw (c.in-Some.is, is)
-    (c.len.ensures.value,
-      (ap (λ (n : ℕ). take n (bits_of (c.fill.new.out ++ drop (c.len-bytes.result / 8) c.args.out.now))) c.len.ensures.value
-      ∙ frame_there c.fill.new.out (drop (c.len-bytes.result / 8) c.args.out.now) c.pass.new.bits (c.fill.ensures ∙ c.pad.ensures),
-      c.how_of.ensures ∙ ap (λ (bits : List Bool). how_of bits c.pass.new.bits) sent))
+    rw (c.in-Some.is, is) (
+      c.len.ensures.value,
+      (
+        ap (λ (n : ℕ). take n (bits_of (c.fill.new.out ++ drop (c.len-bytes.result / 8) c.args.out.now))) c.len.ensures.value
+            ∙ frame_there c.fill.new.out (drop (c.len-bytes.result / 8) c.args.out.now) c.pass.new.bits (c.fill.ensures ∙ c.pad.ensures),
+        c.how_of.ensures ∙ ap (λ (bits : List Bool). how_of bits c.pass.new.bits) sent,
+      ),
+    )
