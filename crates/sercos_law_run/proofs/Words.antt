@@ -236,7 +236,7 @@ pub use Rattle.sercos_law_run.specs.Agenda.Tasks.{AreBegunTasks, BeginsNoneEarly
 pub use Rattle.sercos_law_run.specs.Agenda.Turns.{HasTurn, WorkInTurn, WorksInFour, WorksInThree, WorksInTwo}
 pub use Rattle.sercos_law_run.specs.Agenda.Writes.{ConfiguresAtRise, ConfiguresFromCheck, IsConfigured, IsWrittenLast, WritesData, start_numbers}
 pub use Rattle.sercos_law_run.specs.Bounds.Bounds.{AreSections, AreShort, FewStatuses, FewWrites, IsBackAtOnce, IsBackLater, IsBelowGreatest, IsRefusedEarly, IsRefusedLate, IsReported, IsStarted, command_cycles, fall_cycles, greatest, least, listed, read_cycles, recovery_bound, refusal_cycles, return_cycles, section_cycles, slowest, spared_cycles, write_cycles, stop_cycles}
-pub use Rattle.sercos_law_run.specs.Headline.Cycles.{AreApartIn, HaveRealBits, StandsNoLater, phase_before, store_in_cycle, takes_part}
+pub use Rattle.sercos_law_run.specs.Headline.Cycles.{AreApartIn, AreOnPlanIn, HaveRealBits, IsOnPlan, StandsNoLater, StartOnPlan, phase_before, store_in_cycle, takes_part}
 pub use Rattle.sercos_law_run.specs.Headline.Headline.{KeepsAll}
 pub use Rattle.sercos_law_run.specs.Headline.Records.{AreOnce, HasEnded, NumbersAscend}
 pub use Rattle.sercos_law_run.specs.Headline.Stops.{StopsRight}

@@ -12,6 +12,8 @@ use Rattle.sercos_script.specs.Links.{Carry, Restarts}
 use Rattle.sercos_law_run.specs.Journal.Runs.{drive_at, master_calls, given_before, IsNext, IsRun, IsClear}
 use Rattle.sercos_law_run.specs.Held.Opened.{IsOpened}
 use Rattle.sercos_law_run.specs.Headline.Headline.{KeepsAll}
+use Rattle.sercos_law_run.specs.Headline.Records.{AreOnce}
+use Rattle.sercos_law_run.specs.Recovery.Predicts.{IsPredicted}
 use Rattle.sercos_law_run.specs.Undisturbed.WholeRuns.{NeverDisturbed, StartsUp}
 use Rattle.sercos_law_run.specs.Recovery.Recovers.{RecoversIn}
 use Rattle.sercos_law_run.specs.Stations.Cycles.{DrivesArePlain}
@@ -80,6 +82,17 @@ pub record KeepsAllOf {L : Type 0} (carry_of : L → Carry) (restart_of : L → 
   pub keeps : (r : RingView) (jobs : List Job) (carry : Carry) (restarts : Restarts) (j : List CycleView)
       → RingStandsFor carry_of restart_of ring r jobs carry restarts j → IsOpened r jobs → IsClear (made ∷ j) →
       KeepsAll r jobs carry restarts made j
+
+-- And a plan, or the chain of a stop without one, that is told in it is the planner's for the ring.
+pub record PredictsOf {L : Type 0} (carry_of : L → Carry) (restart_of : L → Restarts) (ring : Ring L) (made : CycleView) : Type 0 where
+  pub predicts : (r : RingView) (jobs : List Job) (carry : Carry) (restarts : Restarts) (j : List CycleView)
+      → RingStandsFor carry_of restart_of ring r jobs carry restarts j → IsOpened r jobs → IsClear (made ∷ j) → IsPredicted r made
+
+-- What is true of it regardless of what arrived: a request ends once by the records, and the
+-- numbers ascend in each.
+pub record OnceOf {L : Type 0} (carry_of : L → Carry) (restart_of : L → Restarts) (ring : Ring L) (made : CycleView) : Type 0 where
+  pub once : (r : RingView) (jobs : List Job) (carry : Carry) (restarts : Restarts) (j : List CycleView)
+      → RingStandsFor carry_of restart_of ring r jobs carry restarts j → AreOnce made j
 
 -- And what is true of it if no cycle of the run was disturbed so far.
 pub record StartsUpOf {L : Type 0} (carry_of : L → Carry) (restart_of : L → Restarts) (ring : Ring L) (made : CycleView) : Type 0 where

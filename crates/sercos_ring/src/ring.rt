@@ -21,7 +21,7 @@ use arrayvec::ArrayVec;
 use sercos_block::RingSetup;
 use sercos_drive::Drive;
 use sercos_law_run::{
-    fall_law, headline_law, recovery_law, station_law, tolerance_law, undisturbed_law,
+    fall_law, headline_law, once_law, recovery_law, station_law, tolerance_law, undisturbed_law,
 };
 use sercos_master::AnyMaster;
 use sercos_script::BitLink;
@@ -150,7 +150,7 @@ impl<L: BitLink> Ring<L> {
     ghost use Rattle.sercos_ring.specs.Clauses.{All, IsRequest, is_ring, drive_at, given_before, DriveStandsFor};
     ghost use mathlib.Core.Option.{none};
     ghost use Rattle.sercos_ring.specs.contracts.ring.Ring.{the_row};
-    ghost use Rattle.sercos_ring.specs.Kept.{AfterCycle, BearsOf, IsNextOf, KeepsAllOf, RecoversOf, ReturnsOf, RingStandsFor, StartsUpOf, StationsOf, cycles_made, drives_in, newest};
+    ghost use Rattle.sercos_ring.specs.Kept.{AfterCycle, BearsOf, IsNextOf, KeepsAllOf, OnceOf, PredictsOf, RecoversOf, ReturnsOf, RingStandsFor, StartsUpOf, StationsOf, cycles_made, drives_in, newest};
 
     /// Opens a ring of a valid setup, over a link, with at most 4,096 requests, each for an element that a transfer takes: 1 to 7 of a
     /// read, 2 to 7 of a write. The ring has made no cycle. A request to an address without a drive in the setup is never begun. The error
@@ -219,7 +219,9 @@ impl<L: BitLink> Ring<L> {
     /// procedure command of its drive, or a block that the drive lacks.
     ///
     /// Over any link, as long as nothing was undetected:
-    /// - If phase 3 or 4 is commanded, the telegrams are apart and keep the times that the drives declare.
+    /// - If phase 3 or 4 is commanded, the telegrams are apart and keep the times that the drives declare. They start by the plan that the
+    ///   planner makes of the ring, which each drive in phase 3 or 4 holds. It is the plan that is reported, and the chain of a reported
+    ///   `NoFit` is the planner's, too.
     /// - No drive is in a higher phase than the later one commanded in this cycle or the one before.
     /// - All transfers so far are exact, and reported once and in order.
     ///
@@ -248,6 +250,7 @@ impl<L: BitLink> Ring<L> {
     ///   keep their limits, too.
     /// - Each drive rises, and goes to phase 0, only for its causes.
     /// - A fall that is reported has its cause.
+    /// - The numbers of the requests that end in the cycle ascend in its record, and none of them ended in an earlier cycle.
     ///
     /// As long as nothing was undetected, at most one AT is sent with phase 0, 1 or 2 commanded, by the drive that the MDT before was
     /// addressed to.
@@ -256,6 +259,8 @@ impl<L: BitLink> Ring<L> {
         ensures* after { sem 𝓛 (follows_so (the_row L.row) (the_row L.row) self.entry.ghost_name none (λ _ _. ⊤) (λ new. AfterCycle L.carry L.restart self.old new × (result.now ≡ newest new))) }
         ensures next { IsNextOf L.carry L.restart self.old result.now }
         ensures headline { KeepsAllOf L.carry L.restart self.old result.now }
+        ensures predicts { PredictsOf L.carry L.restart self.old result.now }
+        ensures once { OnceOf L.carry L.restart self.old result.now }
         ensures undisturbed { StartsUpOf L.carry L.restart self.old result.now }
         ensures recovers { RecoversOf L.carry L.restart self.old result.now }
         ensures bears { BearsOf L.carry L.restart self.old result.now }
@@ -263,6 +268,7 @@ impl<L: BitLink> Ring<L> {
         ensures stations { StationsOf L.carry L.restart self.old result.now }
     {
         headline_law();
+        once_law();
         undisturbed_law();
         recovery_law();
         tolerance_law();

@@ -1,5 +1,5 @@
 -- In a cycle commanded 3 or 4 the telegrams are apart.
-use Rattle.sercos_law_run.proofs.Words.{◌≡◌, ◌⊎◌, inl, inr, ℕ, ◌+◌, ◌*◌, ◌<◌, ◌≤◌, Bool, true, false, List, ◌∷◌, ◌++◌, map, length, Option, Some, refl, sym, ◌∙◌, ap, ap₂, subst, arith, if◌then◌else◌, ◌==◌, nat_le, slice_index, pos, nat_tests, wire_bits, frame_of, all_drives, Job, WishesView, PlanView, record_bytes, Wish, IsStore, store_of, DriveView, RingView, number_at, carried_len, phase_in, cycle_in, blocks_in, Said, values_in, SentView, CycleView, AtSlot, MdtSlot, IsSending, IsApart, Known, known_of, fields_length, IsStoreOf, start_up, Holds, held_by, AreSent, AllHold, Past, Sent, records_from, joint, mdt_said, Carry, Restarts, standing, stood_in, drive_at, given_mst, sent_mdt, ats_said, mst_next, IsNext, at_start, behind_mdt, after_mst, view_of, views_of, IsSaid, IsSpelled, IsOpened, IsStored, takes_part, store_in_cycle, AreApartIn, stands_as_commanded, wishes_of, same_Some}
+use Rattle.sercos_law_run.proofs.Words.{◌≡◌, ◌⊎◌, inl, inr, ℕ, ◌+◌, ◌*◌, ◌<◌, ◌≤◌, Bool, true, false, List, ◌∷◌, ◌++◌, map, length, Option, Some, refl, sym, ◌∙◌, ap, ap₂, subst, arith, if◌then◌else◌, ◌==◌, nat_le, slice_index, pos, nat_tests, wire_bits, frame_of, all_drives, Job, WishesView, PlanView, record_bytes, Wish, IsStore, store_of, DriveView, RingView, number_at, carried_len, phase_in, cycle_in, blocks_in, Said, values_in, SentView, CycleView, AtSlot, MdtSlot, IsSending, IsApart, Known, known_of, fields_length, IsStoreOf, start_up, Holds, held_by, AreSent, AllHold, Past, Sent, records_from, joint, mdt_said, Carry, Restarts, standing, stood_in, drive_at, given_mst, sent_mdt, ats_said, mst_next, IsNext, at_start, behind_mdt, after_mst, view_of, views_of, IsSaid, IsSpelled, IsOpened, IsStored, takes_part, store_in_cycle, AreApartIn, stands_as_commanded, wishes_of, same_Some, [], AreOnPlanIn, IsOnPlan, StartOnPlan}
 use Rattle.sercos_telegram.specs.declared.layout.Kind.TheVariants as kinds
 use Rattle.sercos_law_run.proofs.Slots.Places.{length_records}
 use Rattle.sercos_law_run.proofs.Start.CheckPasses.{wish_is}
@@ -10,7 +10,9 @@ use Rattle.sercos_law_run.proofs.Headline.Placed.{Placed, placed_below, placed_s
 use Rattle.sercos_law_run.proofs.Headline.AtLengths.{carried_length}
 use Rattle.sercos_law_run.proofs.Headline.ApartRuns.{ends_at_0, slot_of, all_slots, slots_ordered, Sends, sent_by, ats_sent}
 use Rattle.sercos_law_run.proofs.Held.Agreed.{wishes_count}
-use Rattle.sercos_law_run.proofs.Start.RingSlotLemmas.{ring_sends_apart}
+use Rattle.sercos_law_run.proofs.Slots.SendingLemmas.{starts_on_plan}
+use Rattle.sercos_law_run.proofs.Start.HeldLemmas.{holds_plan}
+use Rattle.sercos_law_run.proofs.Start.RingSlotLemmas.{on_plan, ring_sends_apart}
 use Rattle.sercos_law_run.proofs.Start.RingSlotLemmas.{lengths as wish_lengths}
 
 -- no frame is longer than its content may need
@@ -131,16 +133,34 @@ module _ (r : RingView) (jobs : List Job) (carry : Carry) (restarts : Restarts) 
       mdt_is = ap (λ (l : List ℕ). all_drives ∷ l) (sym (records_concat (known_of r) (behind_mdt r jobs carry restarts t.sent j) 0 (length (known_of r).drives)));
     }
 
+    abbrev all_sent : List SentView
+    all_sent = mst_next r jobs carry restarts j ∷ (ats_said r.rate (map (λ (x : Placed). x.says) placed) ++ last ∷ [])
+
+    sent_is : t.sent ≡ all_sent
+    sent_is = next.sent
+        ∙ ap₂ (λ (l : List Said) (m : Option Sent). mst_next r jobs carry restarts j ∷ (ats_said r.rate l ++ sent_mdt r.rate m))
+        (sym (placed_said (length r.drives) (drive_at r) r.rate (given_mst carry restarts t.sent j))) said
+
     pub apart_with : (records : List (List ℕ)) × IsApart (wishes_of r) (held_by (takes_part r carry restarts t j) (store_in_cycle r carry restarts t j)) records t.sent
     apart_with = (
       records_of (known_of r) (behind_mdt r jobs carry restarts t.sent j) 0 (length (known_of r).drives),
       subst (λ (l : List SentView). IsApart (wishes_of r) (held_by (takes_part r carry restarts t j) (store_in_cycle r carry restarts t j))
-          (records_of (known_of r) (behind_mdt r jobs carry restarts t.sent j) 0 (length (known_of r).drives)) l) (sym (next.sent
-          ∙ ap₂ (λ (l : List Said) (m : Option Sent). mst_next r jobs carry restarts j ∷ (ats_said r.rate l ++ sent_mdt r.rate m))
-          (sym (placed_said (length r.drives) (drive_at r) r.rate (given_mst carry restarts t.sent j))) said))
+          (records_of (known_of r) (behind_mdt r jobs carry restarts t.sent j) 0 (length (known_of r).drives)) l) (sym sent_is)
           (ring_sends_apart r plan (takes_part r carry restarts t j) (store_in_cycle r carry restarts t j) ats mdt (mst_next r jobs carry restarts j) (ats_said r.rate (map (λ (x : Placed). x.says) placed)) last opened.valid planned.of.valid planned.of.least.fits
           holds sent sending),
     )
+
+    pub on_plan_with : IsOnPlan r carry restarts t j plan
+    on_plan_with = record {
+      made = planned.of.made;
+      held = λ k low takes.
+          let got = drive_got r k low in
+          holds_plan r plan k (drive_at r k) (store_in_cycle r carry restarts t j k) planned.of.valid planned.of.least.fits got (holds k (drive_at r k) got takes).1;
+      starts = subst (λ (l : List SentView). StartOnPlan (wishes_of r) plan l) (sym sent_is)
+          (starts_on_plan (wishes_of r) plan (held_by (takes_part r carry restarts t j) (store_in_cycle r carry restarts t j)) ats mdt (mst_next r jobs carry restarts j)
+          (ats_said r.rate (map (λ (x : Placed). x.says) placed)) last planned.of.valid sending
+          (on_plan r plan (takes_part r carry restarts t j) (store_in_cycle r carry restarts t j) ats mdt opened.valid planned.of.valid planned.of.least.fits holds sent));
+    }
 
   some : 0 < length r.drives
   some = let most = (s_known r jobs carry restarts opened first).some in let count = members_count r in omega (arith, most, count)
@@ -150,3 +170,9 @@ module _ (r : RingView) (jobs : List Job) (carry : Carry) (restarts : Restarts) 
       let early : 3 ≤ (at_start r jobs carry restarts j).now.phase = subst (λ n. 3 ≤ n) next.phase late in
       let (plan, planned, holds) = holding r jobs carry restarts opened first t j next clear spelled stored all early 0 some in
       apart_with framed early plan planned
+
+  pub on_plan_in : AreFramed r jobs carry restarts t j → AreOnPlanIn r carry restarts t j
+  on_plan_in framed late =
+      let early : 3 ≤ (at_start r jobs carry restarts j).now.phase = subst (λ n. 3 ≤ n) next.phase late in
+      let (plan, planned, holds) = holding r jobs carry restarts opened first t j next clear spelled stored all early 0 some in
+      (plan, on_plan_with framed early plan planned)

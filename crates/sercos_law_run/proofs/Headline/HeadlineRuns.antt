@@ -8,7 +8,7 @@ use Rattle.sercos_law_run.proofs.Views.Received.{address_of}
 use Rattle.sercos_law_run.proofs.Held.AnsweredRuns.{EntriesStored, entries_stored}
 use Rattle.sercos_law_run.proofs.Held.StoreOf.{store_of_so}
 use Rattle.sercos_law_run.proofs.Held.Runs.{AllStand, all_first, all_next, s_known, small, kept_at_mst, begun_then}
-use Rattle.sercos_law_run.proofs.Headline.ApartCycles.{AreFramed, apart_in}
+use Rattle.sercos_law_run.proofs.Headline.ApartCycles.{AreFramed, apart_in, on_plan_in}
 use Rattle.sercos_law_run.proofs.Headline.WellRuns.{AllWell, all_well, stops_in}
 use Rattle.sercos_law_run.proofs.Settings.WellSets.{well_first}
 use Rattle.sercos_law_run.proofs.Headline.OnceRuns.{are_once, restarts_so}
@@ -93,6 +93,7 @@ module _ (r : RingView) (jobs : List Job) (carry : Carry) (restarts : Restarts) 
   pub keeps_all : (t : CycleView) (j : List CycleView) → IsRun r jobs carry restarts (t ∷ j) → IsClear (t ∷ j) → KeepsAll r jobs carry restarts t j
   keeps_all t j (run, next) (before, clear) = record {
     apart = apart_in r jobs carry restarts opened first_store t j next clear (spelled_in t j next) (stored_in t j) (all_stand j run before) (framed_in t j);
+    on_plan = on_plan_in r jobs carry restarts opened first_store t j next clear (spelled_in t j next) (stored_in t j) (all_stand j run before) (framed_in t j);
     real = subst (λ (l : List SentView). HaveRealBits l) (sym next.sent) (real_bits r.rate (mst_said (looks_back r jobs (begins r carry restarts j))) (said_below (length r.drives) (drive_at r) r.rate (given_mst carry restarts t.sent j))
         (mdt_said (known_of r) (behind_mdt r jobs carry restarts t.sent j)));
     no_later = λ k below. let kept = kept_at_mst r jobs carry restarts opened first_store t j next clear (spelled_in t j next)

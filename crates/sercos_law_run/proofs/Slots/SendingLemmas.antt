@@ -1,5 +1,5 @@
 -- The slots of a cycle are those of the telegrams that are sent in it.
-use Rattle.sercos_law_run.proofs.Words.{◌≡◌, ◌≢◌, ℕ, zero, suc, ◌<◌, ◌==◌, List, [], ◌∷◌, ◌++◌, length, slice_index, slice_index_or, refl, sym, ◌∙◌, ap, subst, arith, All, filter, position_or_len, eq-eqb, ne_eqb, All-cons, All-nil, All-push, Kind, Wish, WishesView, no_wish, AreDistinct, addresses, IsValid, AtSlot, SentView, is_mdt, bit_time, at_slot, mdt_slot, IsInCycleBy, IsInCycle, IsAtOf, AreAtsOf, SendsSlots}
+use Rattle.sercos_law_run.proofs.Words.{IsSending, MdtSlot, ◌≡◌, ◌≢◌, ℕ, zero, suc, ◌<◌, ◌==◌, List, [], ◌∷◌, ◌++◌, length, slice_index, slice_index_or, refl, sym, ◌∙◌, ap, subst, arith, All, filter, position_or_len, eq-eqb, ne_eqb, All-cons, All-nil, All-push, Kind, Wish, WishesView, no_wish, AreDistinct, addresses, IsValid, AtSlot, SentView, is_mdt, bit_time, at_slot, mdt_slot, IsInCycleBy, IsInCycle, IsAtOf, AreAtsOf, SendsSlots, ◌*◌, Option, PlanView, Held, AreOnPlan, StartOnPlan}
 use Rattle.sercos_telegram.specs.declared.layout.Kind.TheVariants.{Mdt}
 use Rattle.sercos_telegram.specs.Kinds.{is_mst}
 use Rattle.sercos_law_run.specs.Slots.Sending.{place_of, ats_in}
@@ -55,4 +55,20 @@ sends_slots w held ats mdt mst sent last valid is apart =
       one_mdt = rw is.mst_kind one;
       content = is.mdt_is;
       apart = rw (at_mst, slot) apart;
+    }
+
+-- so what is sent in slots on a plan starts by it
+pub starts_on_plan : (w : WishesView) (p : PlanView) (held : ℕ → Option Held) (ats : List AtSlot) (mdt : MdtSlot) (mst : SentView) (sent : List SentView) (last : SentView)
+    → IsValid w → IsSending w ats mdt mst sent last → AreOnPlan w p held ats mdt → StartOnPlan w p (mst ∷ (sent ++ last ∷ []))
+starts_on_plan w p held ats mdt mst sent last valid is on =
+    let (are, none, one, cycle) = ats_of w sent ats last valid is.are_ats is.mdt_kind in
+    let at_mst : ats_in w (mst ∷ (sent ++ last ∷ [])) ≡ ats = rw is.mst_kind are in
+    let one_mdt : filter (λ (s : SentView). is_mdt s.kind) (mst ∷ (sent ++ last ∷ [])) ≡ last ∷ [] = rw is.mst_kind one in
+    let A : AtSlot → Type 0 = λ s. s.start ≡ w.rate * slice_index p.t1 s.drive in
+    let M : SentView → Type 0 = λ s. bit_time s.start ≡ w.rate * p.t2 in
+    record {
+      ats = subst (λ (l : List AtSlot). All A l) (sym at_mst) (λ i d inside.
+          let (h, got, start) = on.starts i d inside in
+          start ∙ ap (λ (x : Held). w.rate * x.t1) (on.holds (slice_index_or ats i d).drive h (on.drives i d inside) got));
+      mdt = subst (λ (l : List SentView). All M l) (sym one_mdt) (All-cons M last [] (ap bit_time is.mdt_start ∙ on.mdt_start) (All-nil M));
     }

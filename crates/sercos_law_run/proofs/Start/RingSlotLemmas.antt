@@ -30,7 +30,7 @@ held_is : (b : Bool) (g h : Held) → cond b (Some g) None ≡ Some h → (b ≡
 held_is true g h e = (refl, cc)
 held_is false g h e = cc
 
-on_plan : (r : RingView) (p : PlanView) (takes_part : ℕ → Bool) (stores : ℕ → List Block) (ats : List AtSlot) (mdt : MdtSlot) → is_ring r ≡ true → IsValid (wishes_of r) → Fits (wishes_of r) p
+pub on_plan : (r : RingView) (p : PlanView) (takes_part : ℕ → Bool) (stores : ℕ → List Block) (ats : List AtSlot) (mdt : MdtSlot) → is_ring r ≡ true → IsValid (wishes_of r) → Fits (wishes_of r) p
     → AllHold r p takes_part stores → AreSent r p takes_part stores ats mdt → AreOnPlan (wishes_of r) p (held_by takes_part stores) ats mdt
 on_plan r p takes_part stores ats mdt ok valid fits hold sent =
     record {

@@ -1,12 +1,18 @@
 -- What holds in each cycle of a run without undetected damage so far. The newest cycle of a journal comes first.
-use Rattle.std.specs.Prelude.{◌≡◌, ℕ, ◌≤◌, nat_le, Bool, List, [], ◌∷◌, length, max}
-use Rattle.std.specs.List.{All}
+use Rattle.std.specs.Prelude.{◌≡◌, ℕ, ◌*◌, ◌<◌, ◌≤◌, nat_le, Bool, true, List, [], ◌∷◌, length, max, slice_index, Ok}
+use Rattle.std.specs.List.{All, filter}
 use Rattle.sercos_hdlc.specs.Stuffed.{frame_of}
+use Rattle.sercos_telegram.specs.Kinds.{is_mdt}
+use Rattle.sercos_timing.specs.Views.{PlanView, WishesView}
+use Rattle.sercos_plan.specs.ChainOf.{planned}
 use Rattle.sercos_block.specs.declared.block.Block.{Block}
 use Rattle.sercos_block.specs.Rings.{wishes_of}
 use Rattle.sercos_block.specs.Views.{RingView}
 use Rattle.sercos_drive.specs.Annals.{phase_at, store_at}
-use Rattle.sercos_law_run.specs.Slots.Sending.{IsApart}
+use Rattle.sercos_law_run.specs.Slots.Slots.{AtSlot}
+use Rattle.sercos_law_run.specs.Slots.OnPlan.{held_of}
+use Rattle.sercos_law_run.specs.Slots.Sending.{IsApart, ats_in, bit_time}
+use Rattle.sercos_law_run.specs.Start.Held.{held_in}
 use Rattle.sercos_law_run.specs.Start.RingSlots.{held_by}
 use Rattle.sercos_trace.specs.Views.{SentView, CycleView}
 use Rattle.sercos_script.specs.Links.{Carry, Restarts}
@@ -33,6 +39,23 @@ abbrev pub AreApartIn : RingView → Carry → Restarts → CycleView → List C
 AreApartIn r carry restarts t j =
     3 ≤ t.phase → (records : List (List ℕ)) ×
     IsApart (wishes_of r) (held_by (takes_part r carry restarts t j) (store_in_cycle r carry restarts t j)) records t.sent
+
+-- The telegrams start by a plan, in bit times after the MST's end: each AT at the T1 of its drive, and the MDT at T2.
+pub record StartOnPlan (w : WishesView) (p : PlanView) (sent : List SentView) : Type 0 where
+  pub ats : All (λ (s : AtSlot). s.start ≡ w.rate * slice_index p.t1 s.drive) (ats_in w sent)
+  pub mdt : All (λ (s : SentView). bit_time s.start ≡ w.rate * p.t2) (filter (λ (s : SentView). is_mdt s.kind) sent)
+
+-- ON THE PLAN. In a cycle commanded phase 3 or 4 a plan fits the ring's requirements, and it is the one that is made of them: each drive
+-- in phase 3 or 4 holds its values of it, and the telegrams start by it.
+pub record IsOnPlan (r : RingView) (carry : Carry) (restarts : Restarts) (t : CycleView) (j : List CycleView) (p : PlanView)
+    : Type 0 where
+  pub made : planned (wishes_of r) ≡ Ok p
+  pub held : (k : ℕ) → k < length r.drives → takes_part r carry restarts t j k ≡ true →
+      held_in (store_in_cycle r carry restarts t j k) ≡ held_of p k
+  pub starts : StartOnPlan (wishes_of r) p t.sent
+
+abbrev pub AreOnPlanIn : RingView → Carry → Restarts → CycleView → List CycleView → Type 0
+AreOnPlanIn r carry restarts t j = 3 ≤ t.phase → (p : PlanView) × IsOnPlan r carry restarts t j p
 
 -- the phase that was commanded in the cycle before; before the first cycle it is 0
 abbrev pub phase_before : List CycleView → ℕ
