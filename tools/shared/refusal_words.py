@@ -406,7 +406,7 @@ def words_of(reading: Reading, refusal: Refusal) -> Words:
     if refusal.kind == "twice":
         what, hint = twice_words(reading, refusal, node)
         return Words(what, "", hint, span)
-    known, (table, key) = ALLOWED.get(form_of(refusal.path)), divided(refusal.path)
+    known, (table, _) = ALLOWED.get(form_of(refusal.path)), divided(refusal.path)
     if refusal.kind == "kind":
         return kind_words(reading, refusal, node)
     hint = hint_of(reading, refusal.path, node, refusal.value)
