@@ -131,7 +131,8 @@ def violation_text(part: Part, number: int, rule: int) -> Iterator[str]:
 
 def stop_text(lines: list[str], reading: Reading) -> Iterator[str]:
     """What kept a run from phase 4: its last stop or fall, or its too few cycles."""
-    last, phase, chain = "", "", []
+    last, phase = "", ""
+    chain: list[str] = []
     for line in lines:
         word = line.partition(" ")[0]
         if word in ("stop", "fall"):
@@ -194,10 +195,16 @@ def too_long_text(source: bytes, words: list[str]) -> Iterator[str]:
         yield "  a replay needs a capture from cycle 0 on: cut its end, by `tools/trace-part 0 TO`"
 
 
-def other_refusal(answer: str) -> Iterator[str]:
+def other_refusal(answer: str, source: bytes) -> Iterator[str]:
     found = re.match(r"(?:document (\d+) )?refused (\d+) \w+(?: (\d+))?\n?\Z", answer)
     if found and int(found[2]) in OTHERS:
         yield (f"document {found[1]}: " if found[1] else "") + OTHERS[int(found[2])].format(found[3])
+        # What nearly divides: the line with blanks, or with a carriage return.
+        mark = {9: b"capture", 11: b"next"}.get(int(found[2]))
+        near = re.search(rb"(?m)^[ \t]*" + mark + rb"[ \t\r]+$", source) if mark else None
+        if near:
+            yield (f"  line {source.count(10, 0, near.start()) + 1} has " + ("a carriage return: `tr -d '\\r'` takes all out" if b"\r" in near[0]
+                                                                          else "blanks"))
 
 
 def idle_text(name: str, source: bytes) -> Iterator[str]:
@@ -229,7 +236,7 @@ def explained(name: str, words: list[str], status: int, source: bytes, answer: s
     elif read_refusal(answer):
         yield from refusal_text(part, answer)
     elif answer.startswith(("refused", "document")):
-        yield from other_refusal(answer)
+        yield from other_refusal(answer, source)
     elif re.match(r"(cycle \S+\n)?no plan\n", answer):
         lines = read_answer(re.sub(r"\Acycle .*\n", "", answer))
         yield from chain_text(part.document(), [line for line in lines if name_of(line) != "NoPlan"])

@@ -3,7 +3,7 @@
 from __future__ import annotations
 
 import copy
-from collections.abc import Callable, Iterator
+from collections.abc import Callable
 from typing import Any
 
 from .chain_words import KEYS
@@ -24,7 +24,8 @@ def in_cycle(document: dict[str, Any], cycle: int) -> dict[str, Any]:
 
 
 def drive_of(document: dict[str, Any], address: int) -> dict[str, Any]:
-    return next(table for table in document["drive"] if table["address"] == address)
+    found: dict[str, Any] = next(table for table in document["drive"] if table["address"] == address)
+    return found
 
 
 def parts_of(document: dict[str, Any], chain: list[Line]) -> dict[str, list[int]]:

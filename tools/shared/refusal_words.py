@@ -384,9 +384,9 @@ def missing_words(reading: Reading, refusal: Refusal) -> Words:
         near = next((f"{other} isn't {key}" for other in reading.top.entries if difflib.get_close_matches(key, [other.lower()], 1, 0.6)), "")
         return Words(f"there is no {wanted}", "a ring document has one [ring], and a [[drive]] for each drive", near, span)
     names = [] if node is None else list(node.entries)
-    near = difflib.get_close_matches(key, [name for name in names if name not in keys_of(re.sub(r"\[\d+\]", "", table.rpartition(".")[2]))], 1, 0.6)
+    nearest = difflib.get_close_matches(key, [name for name in names if name not in keys_of(re.sub(r"\[\d+\]", "", table.rpartition(".")[2]))], 1, 0.6)
     return Words(f"{key} of {named(reading, table)} is missing", f"wanted: {KINDS[known.kind]}; allowed: {known.text()}" if known else "",
-                 f"is {near[0]} meant for it?" if near else "", span)
+                 f"is {nearest[0]} meant for it?" if nearest else "", span)
 
 
 def words_of(reading: Reading, refusal: Refusal) -> Words:

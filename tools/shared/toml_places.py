@@ -277,7 +277,7 @@ class Scanner:
             if self.depth == MOST_DEPTH:
                 raise Unreadable
             self.depth += 1
-            found = self.list() if self.is_at("[") else self.braces()
+            found = self.listed() if self.is_at("[") else self.braces()
             self.depth -= 1
             return found
         return self.plain(start)
@@ -309,7 +309,7 @@ class Scanner:
         shown = word if len(word) <= 40 else word[:40] + ".."
         self.stumble(f"{shown} is no value", start, hint_for_word(word))
 
-    def list(self) -> Node:
+    def listed(self) -> Node:
         found = Node("list", self.place, self.place)
         self.taken("[")
         self.space()
