@@ -104,7 +104,10 @@ def run_beside(program: str, words: "list[str]", source: Input) -> int:
     if source.is_stream:
         os.close(ends[0])
         source.relay(ends[1])
-    return os.waitpid(child, 0)[1]
+    ended = os.waitpid(child, 0)[1]
+    for number in (signal.SIGINT,) + FORWARDED:
+        signal.signal(number, signal.SIG_DFL)
+    return ended
 
 
 def explain(name: str, program: str, words: "list[str]", status: int, source: bytes) -> None:
@@ -134,7 +137,8 @@ def main() -> None:
     if os.WIFSIGNALED(ended):
         import resource
         resource.setrlimit(resource.RLIMIT_CORE, (0, 0))
-        signal.signal(os.WTERMSIG(ended), signal.SIG_DFL)
+        if os.WTERMSIG(ended) not in (signal.SIGKILL, signal.SIGSTOP):
+            signal.signal(os.WTERMSIG(ended), signal.SIG_DFL)
         os.kill(os.getpid(), os.WTERMSIG(ended))
     status = os.WEXITSTATUS(ended)
     try:

@@ -19,7 +19,8 @@ PLAIN = {'"': re.compile(r'[^"\\\0-\x08\x0a-\x1f\x7f]+'), "'": re.compile(r"[^'\
 CONTROL = re.compile(r"[\0-\x08\x0a-\x1f\x7f]")
 COMMENT_CONTROL = re.compile(r"[\0-\x08\x0b-\x1f\x7f](?!\Z)|[\0-\x08\x0b\x0c\x0e-\x1f\x7f]\Z")
 ESCAPES = {"b": "\b", "t": "\t", "n": "\n", "f": "\f", "r": "\r", "e": "\x1b", '"': '"', "\\": "\\"}
-MOST_DEPTH = 200
+# So many lists and tables may be in one another, and so many parts in a key.
+MOST_DEPTH = 80
 MARK = "\ufeff"
 
 
@@ -29,10 +30,6 @@ class Stumble(Exception):
     def __init__(self, place: int, words: str, hint: str = "") -> None:
         super().__init__(words)
         self.place, self.words, self.hint = place, words, hint
-
-
-class Unreadable(Exception):
-    """The text is nested deeper than this reader goes."""
 
 
 class Node:
@@ -177,6 +174,8 @@ class Scanner:
         while True:
             self.match(BLANK)
             found.append(self.key())
+            if len(found) > MOST_DEPTH:
+                self.stumble(f"a key of more than {MOST_DEPTH} parts", found[0][1])
             self.match(BLANK)
             if not self.taken("."):
                 return found
@@ -275,7 +274,7 @@ class Scanner:
             return Node("text", start, self.place, value)
         if self.is_at("[") or self.is_at("{"):
             if self.depth == MOST_DEPTH:
-                raise Unreadable
+                self.stumble(f"more than {MOST_DEPTH} lists and tables in one another")
             self.depth += 1
             found = self.listed() if self.is_at("[") else self.braces()
             self.depth -= 1
@@ -403,8 +402,8 @@ class Scanner:
 
 
 class Reading:
-    """A document that was read: its top table, and each node by its path. If it isn't TOML, `stumble` says where that is seen. What is
-    nested too deep, or isn't UTF-8 from some byte on, has no places."""
+    """A document that was read: its top table, and each node by its path. If it isn't TOML, `stumble` says where that is seen. From
+    there on nothing has a place."""
 
     def __init__(self, source: bytes) -> None:
         self.stumble: Stumble | None = None
@@ -417,15 +416,12 @@ class Reading:
                 hint = "the file has letters of 16 bits: save it as UTF-8"
             self.stumble = Stumble(len(self.text), f"the byte 0x{source[fault.start]:02x} isn't UTF-8", hint)
         scanner = Scanner(self.text)
-        self.is_whole = True
         try:
             scanner.document()
         except Stumble as found:
             # What ends before the bad byte isn't a fault of its own.
             if self.stumble is None or found.place < len(self.text) - 1:
                 self.stumble = found
-        except Unreadable:
-            self.is_whole = False
         self.top = scanner.top
         self.paths: dict[str, Node] = {}
         self.note()
