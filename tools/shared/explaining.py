@@ -87,10 +87,22 @@ def line_text(source: bytes, number: int) -> str:
     return lines[number - 1].decode(errors="replace") if number <= len(lines) else ""
 
 
+def why_no_bits(text: str, column: int) -> str:
+    """What is probably wrong with a line that isn't one of `show`."""
+    if not text:
+        return "the line is empty"
+    kind, count, digits = (text.split(" ") + ["", ""])[:3]
+    if column <= len(kind) + 1:
+        return "a line is KIND COUNT HEX, with single blanks; KIND is raw, mst, single or at"
+    if column <= len(kind) + len(count) + 2:
+        return "COUNT is the number of bits, 0 to 19696, without zeros before it, and a single blank follows"
+    wanted = 2 * -(-int(count) // 8) if count.isdecimal() else 0
+    return (f"HEX has two hexadecimal digits for each eight bits begun, here {wanted}, with zeros in the spare bits; - for no bits. "
+            f"These are {len(digits)}")
+
+
 def why_no_line(text: str, column: int, number: int, source: bytes) -> str:
-    """What is probably wrong with a line that no capture, or no input of `show`, has."""
-    if "\r" in text:
-        return "the line ends in a carriage return: `tr -d '\\r'` takes all out"
+    """What is probably wrong with a line that no capture has."""
     if text.lstrip("\ufeff").lstrip().startswith(("[", "#")) and number <= 2 and not text.startswith("[pcap"):
         return "this is a ring document: `plan`, `margin`, `run`, `backup` and `restore` read one"
     if source[:4] in (b"\x0a\x0d\x0d\x0a", b"\xd4\xc3\xb2\xa1"):
@@ -107,9 +119,12 @@ def why_no_line(text: str, column: int, number: int, source: bytes) -> str:
     return "the first byte that doesn't fit; numbers have no sign, no point and no zeros before them, and a content has two digits a byte"
 
 
-def line_refusal(part: Part, number: int, column: int) -> Iterator[str]:
+def line_refusal(part: Part, number: int, column: int, is_show: bool) -> Iterator[str]:
     text = line_text(part.source, number)
-    why = why_no_line(text, column, number, part.source)
+    if "\r" in text:
+        why = "the line ends in a carriage return: `tr -d '\\r'` takes all out"
+    else:
+        why = why_no_bits(text, column) if is_show else why_no_line(text, column, number, part.source)
     yield f"line {number + part.before}, column {column}: {why}"
     if text:
         yield from marked(text, column)
@@ -208,7 +223,7 @@ def other_refusal(answer: str, source: bytes) -> Iterator[str]:
 
 
 def idle_text(name: str, source: bytes) -> Iterator[str]:
-    """A warning for each fault of a document, or of several, that can act on nothing."""
+    """A warning for each fault of a document, or of several, that has no effect."""
     for part in parts_of(source, b"next") if name == "sercos_rings" else [Part(source)]:
         yield from (f"warning: {line}" for line in warnings(part.document(), part.before))
 
@@ -221,7 +236,9 @@ def explained(name: str, words: list[str], status: int, source: bytes, answer: s
         return
     rings = re.match(r"document (\d+) (refused [1-6] .*)", answer, re.S)
     if rings:
-        yield from refusal_text(list(parts_of(source, b"next"))[int(rings[1]) - 1], rings[2])
+        first, *others = refusal_text(list(parts_of(source, b"next"))[int(rings[1]) - 1], rings[2])
+        yield f"document {rings[1]}{', ' if first.startswith('line ') else ': '}{first}"
+        yield from others
         return
     part = Part(source)
     if words[:1] == ["replay"]:
@@ -232,7 +249,10 @@ def explained(name: str, words: list[str], status: int, source: bytes, answer: s
     else:
         capture = part
     if found := LINE_AT.match(answer):
-        yield from line_refusal(capture, int(found[2]), int(found[3])) if found[1] == "refused" else violation_text(capture, int(found[2]), int(found[4]))
+        if found[1] == "refused":
+            yield from line_refusal(capture, int(found[2]), int(found[3]), words[:1] == ["show"])
+        else:
+            yield from violation_text(capture, int(found[2]), int(found[4]))
     elif read_refusal(answer):
         yield from refusal_text(part, answer)
     elif answer.startswith(("refused", "document")):

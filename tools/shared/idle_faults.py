@@ -1,4 +1,4 @@
-"""The faults of a document's script that can act on nothing: on a link that the telegram doesn't take, after the last cycle, past the last
+"""The faults of a document's script that have no effect: on a link that the telegram doesn't take, after the last cycle, past the last
 bit. The program takes them and says nothing of them."""
 from __future__ import annotations
 
@@ -25,7 +25,7 @@ def longest(reading: Reading, telegram: str, sender: int) -> int:
 
 
 def why_idle(reading: Reading, path: str) -> str:
-    """Why a fault can act on nothing; empty if it can."""
+    """Why a fault has no effect; empty if it may have one."""
     kind, telegram = reading.value(f"{path}.kind", "text"), reading.value(f"{path}.telegram", "text") or ""
     cycle, cycles = reading.number(f"{path}.cycle", 0), reading.number("ring.cycles", 50000)
     drives = len(reading.items("drive"))
@@ -48,8 +48,8 @@ def why_idle(reading: Reading, path: str) -> str:
 
 
 def warnings(reading: Reading, before: int = 0) -> Iterator[str]:
-    """A line for each fault that can act on nothing. So many lines of the input are before the document."""
+    """A line for each fault that has no effect. So many lines of the input are before the document."""
     for place, node in enumerate(reading.items("fault")):
         path = f"fault[{place}]"
         if why := why_idle(reading, path):
-            yield f"line {reading.line_column(node.start)[0] + before}: {named(reading, path)} can act on nothing: {why}"
+            yield f"line {reading.line_column(node.start)[0] + before}: {named(reading, path)} has no effect: {why}"

@@ -381,6 +381,9 @@ def missing_words(reading: Reading, refusal: Refusal) -> Words:
     known = ALLOWED.get(form_of(refusal.path))
     if not table:
         wanted = f"[{key}]" if key == "ring" else f"[[{key}]]"
+        if not reading.text.strip():
+            return Words(f"there is no {wanted}: the text is empty", "a ring document has one [ring], and a [[drive]] for each drive",
+                         "is the file empty, or did the command before it fail?", span)
         near = next((f"{other} isn't {key}" for other in reading.top.entries if difflib.get_close_matches(key, [other.lower()], 1, 0.6)), "")
         return Words(f"there is no {wanted}", "a ring document has one [ring], and a [[drive]] for each drive", near, span)
     names = [] if node is None else list(node.entries)
