@@ -5,6 +5,7 @@ import io
 import re
 from collections.abc import Callable, Iterator
 
+from .allowed import CODES
 from .capture_rules import Judged, finding_words
 from .chain_words import chain_text
 from .idle_faults import warnings
@@ -13,7 +14,7 @@ from .toml_places import Reading
 from .trace_lines import name_of, read_answer
 
 LONGEST = 1048576
-MOST_SHOWN = 100
+MOST_SHOWN, MOST_CODES = 100, 20
 # Runs the program with words on an input: its status and output; none where there is no program.
 Run = Callable[[list[str], bytes], "tuple[int, str] | None"]
 LINE_AT = re.compile(r"(refused|violation) line (\d+) (?:column (\d+)|rule (\d+) (\w+))\n?")
@@ -177,7 +178,8 @@ def stop_words(parts: list[str]) -> str:
         return "no plan fits the times that the drives answered"
     if kind == "refused":
         limits = {"0x7006": ": the cycle time is below its cycle_min", "0x7007": ": the cycle time is above its cycle_max"}
-        return f"drive {drive} refused {parts[2]} with {parts[3]}" + (limits.get(parts[3], "") if parts[2] == "S-0-0002" else "")
+        why = limits.get(parts[3]) if parts[2] == "S-0-0002" else None
+        return f"drive {drive} refused {parts[2]} with {parts[3]}{why or ': ' + CODES.get(parts[3], 'no code of this profile')}"
     if kind == "config":
         return f"by the attribute {parts[3]} {parts[2]} of drive {drive} is no number, or all data records have more than 2047 bytes"
     checks = {"check127": "the check for phase 3", "check128": "the check for phase 4 (data below its minimum or above its maximum)"}
@@ -188,6 +190,8 @@ def failed_text(part: Part, answer: str, run: Run) -> Iterator[str]:
     """What kept `backup` or `restore` from its requests, in place of a line for each."""
     lines = answer.splitlines()
     left = [line for line in lines if line.endswith((" open", " broken"))]
+    for found in list(filter(None, (re.fullmatch(r"failed (\d+) (\S+) refused (0x\w+)", line) for line in lines)))[:MOST_CODES]:
+        yield f"drive {found[1]} refused {found[2]} with {found[3]}: {CODES.get(found[3], 'no code of this profile')}"
     if left:
         yield f"{len(left)} of {len(lines)} requests weren't answered:"
         ran = run(["run"], part.source)

@@ -7,7 +7,9 @@ from collections.abc import Iterator
 from typing import NamedTuple
 
 from .allowed import ALLOWED, KINDS, form_of, keys_of
-from .toml_places import Node, Reading
+from .command_line import toml_of
+from .toml_places import Node, Reading, Stumble
+from .trace_lines import BadInput
 
 REFUSAL = re.compile(r"refused (\d+) (\w+)(?: (.*))?", re.S)
 IDN = re.compile(r"[SP]-[0-7]-(?:[0-3]\d{3}|40[0-8]\d|409[0-5])")
@@ -392,12 +394,26 @@ def missing_words(reading: Reading, refusal: Refusal) -> Words:
                  f"is {nearest[0]} meant for it?" if nearest else "", span)
 
 
+def python_stumble(reading: Reading) -> Stumble | None:
+    """Where Python's reader of TOML sees the first fault, if there is one: it also knows which dates there are."""
+    try:
+        toml_of(reading.text)
+    except BadInput:
+        return None
+    except ValueError as fault:
+        found = re.fullmatch(r"(.*) \(at line (\d+), column (\d+)\)", str(fault))
+        if found:
+            start = sum(len(line) + 1 for line in reading.text.split("\n")[:int(found[2]) - 1])
+            return Stumble(start + int(found[3]) - 1, f"{found[1][:1].lower()}{found[1][1:]}")
+    return None
+
+
 def words_of(reading: Reading, refusal: Refusal) -> Words:
     """A refusal in words. Of one that isn't TOML the place is where the reader of this folder sees it."""
     if refusal.kind == "toml":
-        if reading.stumble is None:
+        found = reading.stumble or python_stumble(reading)
+        if found is None:
             return Words("the text is not TOML; its place can't be told", "", "", None)
-        found = reading.stumble
         return Words(f"the text is not TOML: {found.words}", "", found.hint, (found.place, found.place + 1))
     if refusal.kind == "missing":
         return missing_words(reading, refusal)
