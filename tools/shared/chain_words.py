@@ -36,6 +36,12 @@ def key_text(reading: Reading, rule: int, address: int) -> str:
     return f" ({key} = {node.value}, line {reading.line_column(node.start)[0]})"
 
 
+def shorter_text(reading: Reading, shortens: str, rule: int, address: int) -> str:
+    """What shortens a link, its own time with the line of the document."""
+    first, *others = with_drive(shortens, address).split("; ")
+    return f"{' ' * 25}shorter by: {'; '.join([first + key_text(reading, rule, address), *others])}"
+
+
 def chain_text(reading: Reading, lines: list[Line]) -> Iterator[str]:
     """The chain: of each link when it begins, how much later than the one before that is, and what shortens it."""
     rate = reading.number("ring.rate", 0)
@@ -44,20 +50,20 @@ def chain_text(reading: Reading, lines: list[Line]) -> Iterator[str]:
     if last is None or rate <= 0:
         return
     excess = last.sum - last.bound
-    yield (f"no plan fits in a cycle of {reading.number('ring.cycle', 0)} us: {excess / rate:g} us ({excess} bit times) are too many. "
+    yield (f"no plan fits in a cycle of {reading.number('ring.cycle', 0)} us: the chain is {excess / rate:g} us ({excess} bit times) too long. "
            "Each of these can't begin earlier, given the one before:")
     before = 0
     for link in links:
         words = LINKS[link.rule]
         yield f"  {link.at / rate:>9.6g} us  +{(link.at - before) / rate:<8.6g} {with_drive(words.begins, link.address)}"
-        yield f"{' ' * 25}shorter by: {with_drive(words.shortens, link.address)}{key_text(reading, link.rule, link.address)}"
+        yield shorter_text(reading, words.shortens, link.rule, link.address)
         before = link.at
     words = LINKS[last.rule]
     begins = words.begins
     if last.rule == 9:
         begins = "after the MDT there is no room for the " + ("gap" if last.address == 0 else f"TMTSY of drive {last.address}") + " before the next MST"
     yield f"  {last.sum / rate:>9.6g} us  of {last.bound / rate:<7.6g} {with_drive(begins, last.address)}"
-    shortens = "gap; fewer bytes in the MDT" if last.rule == 9 and last.address == 0 else with_drive(words.shortens, last.address)
-    yield f"{' ' * 25}shorter by: {shortens}{key_text(reading, last.rule, last.address)}"
+    shortens = "gap; fewer bytes in the MDT" if last.rule == 9 and last.address == 0 else words.shortens
+    yield shorter_text(reading, shortens, last.rule, last.address)
     whole = -(-excess // rate)
     yield f"take {whole} us or more from these together, or a longer cycle: `sercos margin` has the shortest"

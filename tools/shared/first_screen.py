@@ -77,7 +77,7 @@ def what_fits(document: dict[str, Any], chain: list[Line], excess: int, ask: Ask
         changed["ring"]["order"] = in_turns(document)
         if ask("plan", changed)[0] == 0:
             return f"order = {changed['ring']['order']} fits"
-    return f"take it from {', '.join(parts)}, and from the bytes of at and mdt, together"
+    return f"shorten {', '.join(parts)}, and at and mdt, together"
 
 
 def lacking(document: dict[str, Any], lines: list[str], ask: Ask) -> str:
@@ -85,7 +85,7 @@ def lacking(document: dict[str, Any], lines: list[str], ask: Ask) -> str:
     chain = [line for line in read_answer("\n".join(lines)) if name_of(line) != "NoPlan"]
     last = chain[-1]
     excess, rate = last.sum - last.bound, document["ring"]["rate"]
-    return f"{document['ring']['cycle']} us lack {excess / rate:g}: {what_fits(document, chain, excess, ask)}"
+    return f"{document['ring']['cycle']} us are {excess / rate:g} us too short: {what_fits(document, chain, excess, ask)}"
 
 
 def limits_told(document: dict[str, Any], ask: Ask) -> str:
