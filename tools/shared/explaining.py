@@ -79,8 +79,6 @@ def refusal_text(part: Part, answer: str) -> Iterator[str]:
     for more in (words.allowed, words.hint):
         if more:
             yield f"  {more}"
-    if refusal.kind == "toml":
-        yield "  the place is that of the first fault that this tool sees; the program has none"
 
 
 def line_text(source: bytes, number: int) -> str:

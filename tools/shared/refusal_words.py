@@ -350,7 +350,9 @@ def twice_words(reading: Reading, refusal: Refusal, node: Node | None) -> tuple[
     for other, found in reading.paths.items():
         if other != refusal.path and form_of(other) == form_of(refusal.path) and found.kind == node.kind and found.value == node.value \
                 and (not key.startswith("idn") or other.rpartition(".block[")[0] == table.rpartition(".block[")[0]) and found.start < node.start:
-            return f"{subject} is {value_of(node, str(node.value))}, as in line {reading.line_column(found.start)[0]}", ""
+            once = {"address": "each drive has an address of its own, 1 to 254", "idn": "each number has one block in a drive"}
+            return (f"{subject} is {value_of(node, str(node.value))}, as in line {reading.line_column(found.start)[0]}",
+                    once.get(key, "each address is in the order once"))
     idn = str(node.value)
     if key == "idn" and IDN.fullmatch(idn):
         return f'{subject} is "{idn}", which is a built-in block', "built-in blocks need no table; take this one out"
