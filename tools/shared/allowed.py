@@ -1,4 +1,4 @@
-"""What a ring document may have, what each link of a chain, each rule of a capture and each code means: the one table of these words.
+"""What a ring document may have, what each link of a chain and each rule of a capture means: the one table of these words.
 
 docs/MESSAGES.md and the words of the page are compared with it by `.ci/tools.d/explain`.
 """
@@ -128,15 +128,6 @@ RULES = {
     7: Rule("recovery", "an AT too early after one of its slave", "TATAT of its drive"),
     8: Rule("transition", "the MDT too early after an AT", "TATMT of each drive"),
     9: Rule("end", "the MDT ends too late for the next MST", "GAP, the largest TMTSY, CYCLE"),
-}
-
-# What each code of the service channel means.
-CODES = {
-    "0x0001": "no identifier number is open", "0x1001": "the drive has no such identifier number",
-    **{f"0x{element}001": f"the block has no {name}" for element, name in ((2, "name"), (4, "unit"), (5, "minimum"), (6, "maximum"))},
-    **{f"0x{element}004": f"{name} can't be written" for element, name in ((2, "name"), (3, "attribute"), (4, "unit"), (5, "minimum"), (6, "maximum"))},
-    "0x7002": "too few bytes", "0x7003": "too many bytes", "0x7004": "it can't be written", "0x7005": "it is write protected in this phase",
-    "0x7006": "below the minimum", "0x7007": "above the maximum", "0x7008": "it is invalid",
 }
 
 # What each type of TOML is called.

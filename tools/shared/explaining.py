@@ -5,9 +5,9 @@ import io
 import re
 from collections.abc import Callable, Iterator
 
-from .allowed import CODES
 from .capture_rules import Judged, finding_words
 from .chain_words import chain_text
+from .channel_steps import ERRORS, FALLS
 from .idle_faults import warnings
 from .refusal_words import read_refusal, shown, words_of
 from .toml_places import Reading
@@ -164,10 +164,20 @@ def stop_text(lines: list[str], reading: Reading) -> Iterator[str]:
         if chain:
             yield from chain_text(reading, read_answer("\n".join(chain)))
     elif parts[0] == "fall":
-        yield f"the ring fell in cycle {parts[1]} ({' '.join(parts[2:])}) and wasn't back at the end, in phase {phase or '0'}"
+        yield f"the ring fell in cycle {parts[1]}: {fall_words(parts[2:])}; at the end it was in phase {phase or '0'}"
     else:
         yield (f"the run ended in phase {phase or '0'}: {reading.number('ring.cycles', 0)} cycles are too few for the start-up, or no MST returned "
                "(`tools/ring-bears` says how many it takes)")
+
+
+def code_words(code: str) -> str:
+    return ERRORS.get(int(code, 16), "no code of this profile")
+
+
+def fall_words(parts: list[str]) -> str:
+    """A fall in words: those after its cycle."""
+    kind = {"mst": "FallMst", "at": "FallAt", "step": "FallStep", "restart": "FallRestart"}[parts[0]]
+    return FALLS[kind].format(address=parts[-1])
 
 
 def stop_words(parts: list[str]) -> str:
@@ -177,7 +187,7 @@ def stop_words(parts: list[str]) -> str:
     if kind == "refused":
         limits = {"0x7006": ": the cycle time is below its cycle_min", "0x7007": ": the cycle time is above its cycle_max"}
         why = limits.get(parts[3]) if parts[2] == "S-0-0002" else None
-        return f"drive {drive} refused {parts[2]} with {parts[3]}{why or ': ' + CODES.get(parts[3], 'no code of this profile')}"
+        return f"drive {drive} refused {parts[2]} with {parts[3]}{why or ': ' + code_words(parts[3])}"
     if kind == "config":
         return f"by the attribute {parts[3]} {parts[2]} of drive {drive} is no number, or all data records have more than 2047 bytes"
     checks = {"check127": "the check for phase 3", "check128": "the check for phase 4 (data below its minimum or above its maximum)"}
@@ -189,7 +199,7 @@ def failed_text(part: Part, answer: str, run: Run) -> Iterator[str]:
     lines = answer.splitlines()
     left = [line for line in lines if line.endswith((" open", " broken"))]
     for found in list(filter(None, (re.fullmatch(r"failed (\d+) (\S+) refused (0x\w+)", line) for line in lines)))[:MOST_CODES]:
-        yield f"drive {found[1]} refused {found[2]} with {found[3]}: {CODES.get(found[3], 'no code of this profile')}"
+        yield f"drive {found[1]} refused {found[2]} with {found[3]}: {code_words(found[3])}"
     if left:
         yield f"{len(left)} of {len(lines)} requests weren't answered:"
         ran = run(["run"], part.source)
