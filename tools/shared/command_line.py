@@ -61,9 +61,9 @@ def toml_of(text: str) -> dict[str, Any]:
     return tomllib.loads(text)
 
 
-def started(program: str | pathlib.Path, word: str) -> subprocess.Popen[bytes]:
+def started(program: str | pathlib.Path, *words: str) -> subprocess.Popen[bytes]:
     try:
-        return subprocess.Popen([program, word], stdin=subprocess.PIPE, stdout=subprocess.PIPE,
+        return subprocess.Popen([program, *words], stdin=subprocess.PIPE, stdout=subprocess.PIPE,
                                 stderr=subprocess.DEVNULL)
     except OSError as fault:
         raise BadInput(f"the program {program} can't be started ({fault.strerror}); build it with ./sercos, "
@@ -72,7 +72,12 @@ def started(program: str | pathlib.Path, word: str) -> subprocess.Popen[bytes]:
 
 def answer_of(program: str | pathlib.Path, word: str, source: bytes) -> tuple[int, str]:
     """The status and the whole output of the program."""
-    with started(program, word) as process:
+    return output_of(program, [word], source)
+
+
+def output_of(program: str | pathlib.Path, words: list[str], source: bytes) -> tuple[int, str]:
+    """The status and the whole output of the program, to the words of a command."""
+    with started(program, *words) as process:
         output, _ = process.communicate(source)
     return process.returncode, output.decode(errors="backslashreplace")
 

@@ -31,6 +31,7 @@ pub use Rattle.sercos_hdlc.specs.Reason.{reason_of}
 pub use Rattle.sercos_hdlc.specs.Stuffed.{frame_of}
 pub use Rattle.sercos_idn.specs.Idns.{idn_fault, idn_text, spelled_raw}
 pub use Rattle.sercos_law_run.specs.Held.Opened.{IsOpened}
+pub use Rattle.sercos_law_run.specs.Journal.Arrivals.{are_same}
 pub use Rattle.sercos_law_run.specs.Totals.Totals.{totals_of}
 pub use Rattle.sercos_master.specs.Annals.{Call, End, HearAt, HearMst, past}
 pub use Rattle.sercos_master.specs.Any.{AnyStandsFor}
